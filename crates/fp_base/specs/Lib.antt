@@ -1,0 +1,5 @@
+pub mod Bytes
+pub mod Count
+pub mod Json
+pub mod Tests
+pub mod Whole

@@ -1,0 +1,23 @@
+//! Members of a JSON object.
+
+ghost use Rattle.std.specs.Prelude.{◌≡◌, option_map};
+ghost use Rattle.serde_json.specs.Find.{get, get_member};
+ghost use Rattle.serde_json.specs.View.{view, members_view};
+
+use serde_json::{Map, Value};
+
+/// A member of an object, by value; the rest is dropped. Values of other kinds have none.
+pub fn take_member(value: Value, name: &str) -> Option<Value>
+    ensures { option_map view result ≡ get name.now (view value) }
+{
+    match value {
+        Value::Object(mut members) => take(&mut members, name),
+        _ => None,
+    }
+}
+
+fn take(members: &mut Map<String, Value>, name: &str) -> Option<Value>
+    ensures { option_map view result ≡ get_member name.now (members_view members.old.entries) }
+{
+    members.remove(name)
+}

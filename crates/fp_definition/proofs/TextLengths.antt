@@ -1,0 +1,53 @@
+-- The least that a text can take.
+use Rattle.std.proofs.Common.{ℕ, ◌+◌, ◌≤◌, ◌<◌, List, [], ◌∷◌, ◌++◌, length, Bool, true, false, arith, rules, length-append}
+use Rattle.json.specs.Print.{escape, escape_byte, quoted}
+use Rattle.serde_json.specs.Data.{Data, null, boolean, number, string, array, object, Items, no_items, item, Members, no_members, member}
+use Rattle.serde_json.specs.Written.{compact_text, items_text, members_text, comma_if}
+use Rattle.fp_definition.specs.Weight.{weight, items_weight, members_weight}
+
+some_bytes : (b : ℕ) → 0 < length (escape_byte b)
+unfolding escape_byte
+some_bytes b = search rules
+
+pub length-escape : (s : List ℕ) → length s ≤ length (escape s)
+length-escape [] = omega arith
+length-escape (b ∷ s) =
+    let rest = length-escape s in
+    let here = some_bytes b in
+    let both = length-append (escape_byte b) (escape s) in omega arith
+
+length-quoted : (s : List ℕ) → length s + 2 ≤ length (quoted s)
+length-quoted s = let inside = length-escape s in let both = length-append (escape s) (34 ∷ []) in omega arith
+
+mutual
+  pub weight-text : (d : Data) → weight d ≤ length (compact_text d)
+  weight-text null = omega arith
+  weight-text (boolean b) = omega arith
+  weight-text (number n) = omega arith
+  weight-text (string s) = let all = length-quoted s in omega arith
+  weight-text (array ds) = let all = items-text-first ds in omega arith
+  weight-text (object ms) = let all = members-text false ms in omega arith
+
+  items-text-first : (ds : Items) → items_weight ds ≤ length (items_text false ds)
+  items-text-first no_items = omega arith
+  items-text-first (item d ds) =
+      let here = weight-text d in
+      let rest = items-text-later ds in
+      let both = length-append (compact_text d) (items_text true ds) in omega arith
+
+  items-text-later : (ds : Items) → 1 + items_weight ds ≤ length (items_text true ds)
+  items-text-later no_items = omega arith
+  items-text-later (item d ds) =
+      let here = weight-text d in
+      let rest = items-text-later ds in
+      let both = length-append (compact_text d) (items_text true ds) in omega arith
+
+  members-text : (later : Bool) (ms : Members) → members_weight ms ≤ length (members_text later ms)
+  members-text later no_members = omega arith
+  members-text later (member k d ms) =
+      let name = length-quoted k in
+      let here = weight-text d in
+      let rest = members-text true ms in
+      let all = length-append (comma_if later) (quoted k ++ 58 ∷ (compact_text d ++ members_text true ms)) in
+      let front = length-append (quoted k) (58 ∷ (compact_text d ++ members_text true ms)) in
+      let both = length-append (compact_text d) (members_text true ms) in omega arith

@@ -1,0 +1,106 @@
+-- Which JSON data are a flag's definition.
+use Rattle.std.specs.Prelude.{◌≡◌, ℕ, List, [], ◌∷◌, length, codes, Bool, true, false, ◌&&◌, ◌||◌, nat_le, Option, Some, None, is_some, bytes_eq, ◌==◌}
+use Rattle.serde_json.specs.Data.{Data, null, boolean, number, string, object, Members, no_members, member, depth}
+use Rattle.serde_json.specs.Find.{get, as_object}
+use Rattle.serde_json.specs.Events.{members_len}
+use Rattle.serde_json.specs.Written.{compact_text}
+use Rattle.fp_base.specs.Tests.{first_failed}
+use Rattle.fp_base.specs.Whole.{is_whole}
+use Rattle.fp_definition.specs.declared.members.Kind.{Kind}
+use Rattle.fp_definition.specs.declared.members.Kind.TheVariants.{Boolean, Text, Number, Object}
+
+-- what is wrong with data that are no definition
+pub data Fault : Type 0 where
+  too_deep : Fault
+  whole_numbers_only : Fault
+  too_large : Fault
+  not_object : Fault
+  bad_state : Fault
+  bad_variants : Fault
+  bad_default : Fault
+  bad_metadata : Fault
+  unsupported_operator : List ℕ → Fault
+  bad_rule : Fault
+
+-- `state`: absent, or one of two texts
+abbrev pub is_state : Option Data → Bool
+is_state None = true
+is_state (Some (string s)) = bytes_eq s (codes "ENABLED") || bytes_eq s (codes "DISABLED")
+is_state (Some d) = false
+
+abbrev pub is_kind : Kind → Data → Bool
+is_kind Boolean (boolean b) = true
+is_kind Text (string s) = true
+is_kind Number (number n) = true
+is_kind Object (object ms) = true
+is_kind k d = false
+
+abbrev pub all_kind : Kind → Members → Bool
+all_kind k no_members = true
+all_kind k (member name d ms) = is_kind k d && all_kind k ms
+
+abbrev pub is_between : ℕ → ℕ → ℕ → Bool
+is_between least most n = nat_le least n && nat_le n most
+
+abbrev pub one_kind : Members → Bool
+one_kind ms = all_kind Boolean ms || (all_kind Text ms || (all_kind Number ms || all_kind Object ms))
+
+unfoldable pub variant_members : Members → Bool
+variant_members ms = is_between 1 64 (members_len ms) && one_kind ms
+
+-- `variants`: an object of 1 to 64 values, all booleans, all texts, all numbers or all objects
+abbrev pub are_variants : Option Data → Bool
+are_variants (Some (object ms)) = variant_members ms
+are_variants d = false
+
+-- `defaultVariant`: a text that names a variant
+abbrev pub names_variant : Option Data → Option Data → Bool
+names_variant (Some (string s)) (Some variants) = is_some (get s variants)
+names_variant d variants = false
+
+abbrev pub all_scalars : Members → Bool
+all_scalars no_members = true
+all_scalars (member name d ms) = (is_kind Boolean d || is_kind Text d || is_kind Number d) && all_scalars ms
+
+unfoldable pub metadata_members : Members → Bool
+metadata_members ms = is_between 0 32 (members_len ms) && all_scalars ms
+
+-- `metadata`: absent, or an object of at most 32 booleans, texts and numbers
+abbrev pub is_metadata : Option Data → Bool
+is_metadata None = true
+is_metadata (Some (object ms)) = metadata_members ms
+is_metadata (Some d) = false
+
+-- `targeting`, until there are rules: absent, null or an object of no members
+abbrev pub is_no_rule : Option Data → Bool
+is_no_rule None = true
+is_no_rule (Some null) = true
+is_no_rule (Some (object ms)) = members_len ms == 0
+is_no_rule (Some d) = false
+
+-- the tests of an object's members
+abbrev pub member_tests : Data → List (Bool × Fault)
+member_tests d =
+    (is_some (as_object d), not_object)
+    ∷ (is_state (get (codes "state") d), bad_state)
+    ∷ (are_variants (get (codes "variants") d), bad_variants)
+    ∷ (names_variant (get (codes "defaultVariant") d) (get (codes "variants") d), bad_default)
+    ∷ (is_metadata (get (codes "metadata") d), bad_metadata)
+    ∷ (is_no_rule (get (codes "targeting") d), bad_rule)
+    ∷ []
+
+-- what a definition has to meet, in the order of the tests, each with the fault where it isn't met
+abbrev pub tests : Data → List (Bool × Fault)
+tests d =
+    (nat_le (depth d) 32, too_deep)
+    ∷ (is_whole d, whole_numbers_only)
+    ∷ (nat_le (length (compact_text d)) 16384, too_large)
+    ∷ member_tests d
+
+-- the fault of the first test that the data don't meet
+abbrev pub first_fault : Data → Option Fault
+first_fault d = first_failed (tests d)
+
+-- data are a definition where they meet each test
+abbrev pub IsValid : Data → Type 0
+IsValid d = first_fault d ≡ None

@@ -1,0 +1,48 @@
+//! Keys of flags.
+
+ghost use Rattle.std.specs.Prelude.{◌<◌, ◌≤◌, length, string_bytes};
+
+use crate::faults::KeyFault;
+use std::alloc::{AllocError, Global};
+
+/// The name of a flag: a text of 1 to 256 bytes. Keys are ordered by their bytes.
+#[derive(Debug, Drop, PartialEq, Eq, PartialOrd, Ord)]
+pub struct FlagKey {
+    text: String,
+    ghost filled: { 0 < length (string_bytes text) },
+    ghost short: { length (string_bytes text) ≤ 256 },
+}
+
+impl FlagKey {
+    ghost use Rattle.std.specs.Prelude.{◌≡◌, ◌↔◌, true, false, Err, IfOk};
+    ghost use Rattle.fp_definition.specs.Key.{key_bytes, is_key};
+    ghost use Rattle.fp_definition.specs.declared.faults.KeyFault.TheVariants.{BadKey};
+
+    /// The key that a text spells.
+    pub fn new(alloc: Global, text: &str) -> Result<FlagKey, KeyFault>
+        ensures key { IfOk result (λ k. key_bytes k ≡ text.now) }
+        ensures ok { IfOk result (λ _. is_key text.now ≡ true) }
+        ensures bad_key { result ≡ Err BadKey → is_key text.now ≡ false }
+    {
+        if text.is_empty() || text.len() > 256 {
+            return Err(KeyFault::BadKey);
+        }
+        let text = String::from_str(alloc, text)?;
+        Ok(FlagKey { text })
+    }
+
+    /// The text.
+    pub fn as_str(&self) -> &str
+        ensures { result.now ≡ key_bytes self.now }
+    {
+        self.text.as_str()
+    }
+
+    /// An equal key.
+    pub fn try_copy(&self) -> Result<FlagKey, AllocError>
+        ensures { IfOk result (λ k. key_bytes k ≡ key_bytes self.now) }
+    {
+        let text = self.text.clone()?;
+        Ok(FlagKey { text })
+    }
+}

@@ -1,0 +1,12 @@
+//! One flag: its key, and its definition, tested and made canonical once and shared from then on.
+#![tactic(auto)]
+
+mod definition;
+mod faults;
+mod key;
+mod members;
+mod size;
+
+pub use definition::Definition;
+pub use faults::{DefFault, KeyFault};
+pub use key::FlagKey;
