@@ -1,3 +1,4 @@
 pub mod Known
-pub mod WholeData
 pub mod Reading
+pub mod TextLengths
+pub mod WholeData

@@ -1,5 +1,5 @@
 -- Which bytes are JSON.
-use Rattle.std.proofs.Common.{◌≡◌, ℕ, List, true, false, Some, None, refl}
+use Rattle.std.proofs.Common.{◌≡◌, ℕ, List, true, false, Some, None, refl, rules}
 use Rattle.std.specs.Prelude.{if◌then◌else◌}
 use Rattle.std.specs.Str.{IsUtf8, is_utf8}
 use Rattle.std.proofs.lemmas.Str.{IsUtf8-from_is_utf8, is_utf8-from_IsUtf8}
@@ -20,3 +20,15 @@ json_of-refused bytes none =
       | true ↦ λ e. none (IsUtf8-from_is_utf8 bytes e)
       | false ↦ λ e. refl
     ] refl
+
+-- what is JSON reads
+pub read-json_of : (bytes : List ℕ) (d : Data) → json_of bytes ≡ Some d → read bytes ≡ Some d
+unfolding json_of
+read-json_of bytes d h =
+    elim (is_utf8 bytes) as (λ b. (if b then read bytes else None) ≡ Some d → read bytes ≡ Some d) [
+      | true ↦ λ e. e
+      | false ↦ λ e. absurd (none_some d e)
+    ] h
+  where
+    none_some : (e : Data) → None ≡ Some e → ⊥
+    none_some e p = search (rules, p)

@@ -1,2 +1,1 @@
-pub mod FirstFault
-pub mod TextLengths
+pub mod Canonical

@@ -1,13 +1,13 @@
 -- What all shares of a definition have in common.
 use Rattle.std.specs.Prelude.{◌≡◌, Some}
 use Rattle.serde_json.specs.View.{view}
-use Rattle.serde_json.specs.Read.{read}
 use Rattle.serde_json.specs.Written.{compact_text}
+use Rattle.fp_base.specs.Json.{json_of}
 use Rattle.fp_definition.specs.Valid.{IsValid}
 use Rattle.fp_definition.specs.declared.definition.Kept.{Kept}
 
--- the value is a definition, and the text its canonical one
+-- the value is a definition, and the text its canonical one, which spells it
 pub record IsDefinition (k : Kept) : Type 0 where
   pub valid : IsValid (view k.value)
   pub text : k.text.items ≡ compact_text (view k.value)
-  pub reads : read k.text.items ≡ Some (view k.value)
+  pub reads : json_of k.text.items ≡ Some (view k.value)

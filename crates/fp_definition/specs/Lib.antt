@@ -1,5 +1,5 @@
 pub mod Faults
 pub mod Key
 pub mod Kept
+pub mod Kinds
 pub mod Valid
-pub mod Weight

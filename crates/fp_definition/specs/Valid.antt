@@ -1,13 +1,13 @@
 -- Which JSON data are a flag's definition.
-use Rattle.std.specs.Prelude.{◌≡◌, ℕ, List, [], ◌∷◌, length, codes, Bool, true, false, ◌&&◌, ◌||◌, nat_le, Option, Some, None, is_some, bytes_eq, ◌==◌}
-use Rattle.serde_json.specs.Data.{Data, null, boolean, number, string, object, Members, no_members, member, depth}
+use Rattle.std.specs.Prelude.{◌≡◌, ℕ, List, [], ◌∷◌, length, codes, Bool, true, false, ◌&&◌, ◌||◌, nat_le, if◌then◌else◌, Option, Some, None, is_some, is_none, bytes_eq, ◌==◌}
+use Rattle.serde_json.specs.Data.{Data, null, string, object, Members, depth}
 use Rattle.serde_json.specs.Find.{get, as_object}
 use Rattle.serde_json.specs.Events.{members_len}
 use Rattle.serde_json.specs.Written.{compact_text}
+use Rattle.fp_base.specs.Json.{json_of}
 use Rattle.fp_base.specs.Tests.{first_failed}
 use Rattle.fp_base.specs.Whole.{is_whole}
-use Rattle.fp_definition.specs.declared.members.Kind.{Kind}
-use Rattle.fp_definition.specs.declared.members.Kind.TheVariants.{Boolean, Text, Number, Object}
+use Rattle.fp_definition.specs.Kinds.{one_kind, all_scalars}
 
 -- what is wrong with data that are no definition
 pub data Fault : Type 0 where
@@ -28,27 +28,13 @@ is_state None = true
 is_state (Some (string s)) = bytes_eq s (codes "ENABLED") || bytes_eq s (codes "DISABLED")
 is_state (Some d) = false
 
-abbrev pub is_kind : Kind → Data → Bool
-is_kind Boolean (boolean b) = true
-is_kind Text (string s) = true
-is_kind Number (number n) = true
-is_kind Object (object ms) = true
-is_kind k d = false
-
-abbrev pub all_kind : Kind → Members → Bool
-all_kind k no_members = true
-all_kind k (member name d ms) = is_kind k d && all_kind k ms
-
 abbrev pub is_between : ℕ → ℕ → ℕ → Bool
 is_between least most n = nat_le least n && nat_le n most
-
-abbrev pub one_kind : Members → Bool
-one_kind ms = all_kind Boolean ms || (all_kind Text ms || (all_kind Number ms || all_kind Object ms))
 
 unfoldable pub variant_members : Members → Bool
 variant_members ms = is_between 1 64 (members_len ms) && one_kind ms
 
--- `variants`: an object of 1 to 64 values, all booleans, all texts, all numbers or all objects
+-- `variants`: an object of 1 to 64 members, all booleans, all texts, all numbers or all objects
 abbrev pub are_variants : Option Data → Bool
 are_variants (Some (object ms)) = variant_members ms
 are_variants d = false
@@ -57,10 +43,6 @@ are_variants d = false
 abbrev pub names_variant : Option Data → Option Data → Bool
 names_variant (Some (string s)) (Some variants) = is_some (get s variants)
 names_variant d variants = false
-
-abbrev pub all_scalars : Members → Bool
-all_scalars no_members = true
-all_scalars (member name d ms) = (is_kind Boolean d || is_kind Text d || is_kind Number d) && all_scalars ms
 
 unfoldable pub metadata_members : Members → Bool
 metadata_members ms = is_between 0 32 (members_len ms) && all_scalars ms
@@ -71,14 +53,14 @@ is_metadata None = true
 is_metadata (Some (object ms)) = metadata_members ms
 is_metadata (Some d) = false
 
--- `targeting`, until there are rules: absent, null or an object of no members
+-- `targeting`, as long as there are no rules: absent, null or an object without members
 abbrev pub is_no_rule : Option Data → Bool
 is_no_rule None = true
 is_no_rule (Some null) = true
 is_no_rule (Some (object ms)) = members_len ms == 0
 is_no_rule (Some d) = false
 
--- the tests of an object's members
+-- the tests from the object on
 abbrev pub member_tests : Data → List (Bool × Fault)
 member_tests d =
     (is_some (as_object d), not_object)
@@ -104,3 +86,21 @@ first_fault d = first_failed (tests d)
 -- data are a definition where they meet each test
 abbrev pub IsValid : Data → Type 0
 IsValid d = first_fault d ≡ None
+
+-- ---- from bytes
+
+-- the bytes are the canonical text of the data, and these are a definition
+unfoldable pub is_text_of : List ℕ → Data → Bool
+is_text_of text d = is_none (first_fault d) && bytes_eq (compact_text d) text
+
+abbrev pub is_text_of_some : List ℕ → Option Data → Bool
+is_text_of_some text None = false
+is_text_of_some text (Some d) = is_text_of text d
+
+-- the bytes are the canonical text of a definition
+abbrev pub is_definition_text : List ℕ → Bool
+is_definition_text text = is_text_of_some text (json_of text)
+
+-- the definition whose canonical text the bytes are, seen as this text
+abbrev pub definition_in : List ℕ → Option (List ℕ)
+definition_in text = if is_definition_text text then Some text else None

@@ -1,21 +1,24 @@
 //! A flag's definition.
 
-ghost use Rattle.std.specs.Prelude.{◌≡◌, true, Some, IfOk, IfErr};
-ghost use Rattle.serde_json.specs.Read.{read};
+ghost use Rattle.std.specs.Prelude.{◌≡◌, true, Some, None, IfOk, IfErr, if◌then◌else◌};
 ghost use Rattle.serde_json.specs.View.{view};
 ghost use Rattle.serde_json.specs.Written.{compact_text};
+ghost use Rattle.fp_base.specs.Json.{json_of};
 ghost use Rattle.fp_base.specs.Whole.{is_whole};
 ghost use Rattle.fp_definition.specs.Faults.{IsFault};
-ghost use Rattle.fp_definition.specs.Valid.{first_fault, IsValid};
+ghost use Rattle.fp_definition.specs.Valid.{first_fault, IsValid, is_definition_text, definition_in, is_text_of};
 
 use crate::faults::DefFault;
 use crate::members::member_fault;
-use crate::size::is_heavy;
-use fp_base::{canonical_text, nests_within, whole_numbers};
+use fp_base::{canonical_text_within, nests_within, read_json, whole_numbers};
 use serde_json::Value;
 use std::alloc::{AllocError, Global};
 use std::marker::Model;
 use std::sync::Arc;
+
+const DEEPEST: u32 = 32;
+
+const LONGEST_TEXT: usize = 16_384;
 
 #[derive(Drop)]
 struct Kept {
@@ -46,7 +49,7 @@ impl Definition {
     pub fn from_value(alloc: Global, value: Value) -> Result<Definition, DefFault>
         ensures valid { IfOk result (λ _. IsValid (view value)) }
         ensures text { IfOk result (λ d. d ≡ compact_text (view value)) }
-        ensures reads { IfOk result (λ d. read d ≡ Some (view value)) }
+        ensures reads { IfOk result (λ d. json_of d ≡ Some (view value)) }
         ensures refused { IfErr result (λ e. IsFault e (first_fault (view value))) }
     {
         let text = tested_text(alloc, &value)?;
@@ -54,16 +57,27 @@ impl Definition {
         Ok(Definition { share })
     }
 
+    /// The definition whose canonical text the bytes are, or `None` where they are no such text.
+    pub fn from_text(alloc: Global, text: &[u8]) -> Result<Option<Definition>, AllocError>
+        ensures { IfOk result (λ o. o ≡ definition_in text.now) }
+    {
+        match read_json(alloc, text)? {
+            Some(value) => from_read(alloc, value, text),
+            None => Ok(None),
+        }
+    }
+
     /// The canonical text.
     pub fn text(&self) -> &[u8]
-        ensures { result.now ≡ self.now }
+        ensures text { result.now ≡ self.now }
+        ensures canonical { is_definition_text self.now ≡ true }
     {
         self.share.text.as_slice()
     }
 
     /// The value that the text spells.
     pub fn value(&self) -> &Value
-        ensures reads { read self.now ≡ Some (view result.now) }
+        ensures reads { json_of self.now ≡ Some (view result.now) }
         ensures text { self.now ≡ compact_text (view result.now) }
         ensures valid { IsValid (view result.now) }
         ensures whole { is_whole (view result.now) ≡ true }
@@ -84,24 +98,38 @@ impl Definition {
 fn tested_text(alloc: Global, value: &Value) -> Result<Vec<u8>, DefFault>
     ensures valid { IfOk result (λ _. IsValid (view value.now)) }
     ensures text { IfOk result (λ t. t.items ≡ compact_text (view value.now)) }
-    ensures reads { IfOk result (λ t. read t.items ≡ Some (view value.now)) }
+    ensures reads { IfOk result (λ t. json_of t.items ≡ Some (view value.now)) }
     ensures refused { IfErr result (λ e. IsFault e (first_fault (view value.now))) }
 {
-    if !nests_within(value, 32) {
+    if !nests_within(value, DEEPEST) {
         return Err(DefFault::TooDeep);
     }
     if !whole_numbers(value) {
         return Err(DefFault::WholeNumbersOnly);
     }
-    if is_heavy(value) {
+    let Some(text) = canonical_text_within(alloc, value, LONGEST_TEXT)? else {
         return Err(DefFault::TooLarge);
-    }
-    let text = canonical_text(alloc, value)?;
-    if text.len() > 16384 {
-        return Err(DefFault::TooLarge);
-    }
+    };
     match member_fault(value) {
         Some(fault) => Err(fault),
         None => Ok(text),
+    }
+}
+
+// The definition that a value is, where the text that it was read from is its canonical one.
+#[tactic(auto, unfolding(crate::specs::Valid::is_text_of))]
+fn from_read(alloc: Global, value: Value, text: &[u8]) -> Result<Option<Definition>, AllocError>
+    ensures { IfOk result (λ o. o ≡ (if is_text_of text.now (view value) then Some text.now else None)) }
+{
+    match Definition::from_value(alloc, value) {
+        Err(DefFault::Memory) => Err(AllocError),
+        Err(_) => Ok(None),
+        Ok(definition) => {
+            if definition.text() == text {
+                Ok(Some(definition))
+            } else {
+                Ok(None)
+            }
+        }
     }
 }

@@ -3,6 +3,7 @@
 ghost use Rattle.std.specs.Prelude.{◌≡◌};
 
 use std::alloc::{AllocError, AllocFailed};
+use std::fmt;
 
 /// Why there is no key.
 #[derive(Debug, Drop, Clone, Copy, PartialEq, Eq)]
@@ -69,3 +70,39 @@ impl<T: Drop> From<AllocFailed<T>> for DefFault {
         DefFault::Memory
     }
 }
+
+impl DefFault {
+    ghost use Rattle.fp_definition.specs.Faults.{text_of};
+
+    /// The word by which replies name the fault.
+    pub fn as_str(&self) -> &'static str
+        ensures { result.now ≡ text_of self.now }
+    {
+        match self {
+            DefFault::TooDeep => "too-deep",
+            DefFault::WholeNumbersOnly => "whole-numbers-only",
+            DefFault::TooLarge => "too-large",
+            DefFault::NotObject => "not-object",
+            DefFault::BadState => "bad-state",
+            DefFault::BadVariants => "bad-variants",
+            DefFault::BadDefault => "bad-default",
+            DefFault::BadMetadata => "bad-metadata",
+            DefFault::UnsupportedOperator(_) => "unsupported-operator",
+            DefFault::BadRule => "bad-rule",
+            DefFault::Memory => "out-of-memory",
+        }
+    }
+}
+
+impl fmt::Display for DefFault {
+    ghost use Rattle.std.specs.Prelude.{Some};
+    ghost use Rattle.fp_definition.specs.Faults.{text_of};
+
+    ghost output = { λ e. Some (text_of e) };
+
+    fn fmt<W: fmt::Write>(&self, f: &mut fmt::Formatter<W>) -> fmt::Result {
+        f.write_str(self.as_str())
+    }
+}
+
+impl std::error::Error for DefFault {}

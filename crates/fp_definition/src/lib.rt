@@ -4,8 +4,8 @@
 mod definition;
 mod faults;
 mod key;
+mod kind;
 mod members;
-mod size;
 
 pub use definition::Definition;
 pub use faults::{DefFault, KeyFault};

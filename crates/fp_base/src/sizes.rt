@@ -1,21 +1,21 @@
-//! Whether a value's text would be too long, seen before any of it is printed.
+//! A lower bound of a text's length, found without printing any of it.
 
 ghost use Rattle.std.specs.Prelude.{◌≡◌, nat_le, true, false, length};
 ghost use Rattle.serde_json.specs.View.{view, items_view, members_view};
 ghost use Rattle.serde_json.specs.Written.{compact_text};
 ghost use Rattle.fp_base.specs.Count.{spend};
-ghost use Rattle.fp_definition.specs.Weight.{weight, items_weight, members_weight};
+ghost use Rattle.fp_base.specs.Weight.{weight, items_weight, members_weight};
 
 use serde_json::{Map, Value};
 
-// Whether the text is too long for sure.
-pub(crate) fn is_heavy(value: &Value) -> bool
-    ensures { result ≡ true → nat_le (length (compact_text (view value.now))) 16384 ≡ false }
+// Whether the value's text is surely longer than the limit.
+pub(crate) fn is_longer(value: &Value, limit: usize) -> bool
+    ensures { result ≡ true → nat_le (length (compact_text (view value.now))) limit ≡ false }
 {
-    bytes_left(value, 16384).is_none()
+    bytes_left(value, limit).is_none()
 }
 
-// What remains of a budget of bytes after those that the value's text surely takes.
+// What remains of a budget of bytes after those that the value's text takes at least.
 #[cycle(weighs)]
 fn bytes_left(value: &Value, budget: usize) -> Option<usize>
     ensures { result ≡ spend budget (weight (view value.now)) }

@@ -1,8 +1,9 @@
--- A number of bytes that a text surely takes.
+-- A number of bytes that the canonical text of data has at least.
 use Rattle.std.specs.Prelude.{ℕ, ◌+◌, length}
 use Rattle.serde_json.specs.Data.{Data, null, boolean, number, string, array, object, Items, no_items, item, Members, no_members, member}
 
 abbrev mutual
+  -- the bytes of all texts and names in it, and one for each item and member
   pub weight : Data → ℕ
   weight null = 0
   weight (boolean b) = 0

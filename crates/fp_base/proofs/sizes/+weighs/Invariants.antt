@@ -1,8 +1,8 @@
 use Rattle.std.proofs.Common.{◌≡◌, drop}
 use Rattle.serde_json.specs.View.{items_view, members_view}
 use Rattle.fp_base.specs.Count.{spend}
-use Rattle.fp_definition.specs.Weight.{items_weight, members_weight}
-use Rattle.fp_definition.proofs.size.+weighs.Given as goal
+use Rattle.fp_base.specs.Weight.{items_weight, members_weight}
+use Rattle.fp_base.proofs.sizes.+weighs.Given as goal
 
 abbrev pub invariant-items_left-loop-item : goal.invariant-items_left-loop-item
 invariant-items_left-loop-item l =

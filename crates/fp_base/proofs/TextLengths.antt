@@ -1,9 +1,11 @@
--- The least that a text can take.
-use Rattle.std.proofs.Common.{ℕ, ◌+◌, ◌≤◌, ◌<◌, List, [], ◌∷◌, ◌++◌, length, Bool, true, false, arith, rules, length-append}
+-- How short a canonical text can be.
+use Rattle.std.proofs.Common.{◌≡◌, ℕ, ◌+◌, ◌≤◌, ◌<◌, List, [], ◌∷◌, ◌++◌, length, Bool, true, false, arith, rules, length-append}
 use Rattle.json.specs.Print.{escape, escape_byte, quoted}
 use Rattle.serde_json.specs.Data.{Data, null, boolean, number, string, array, object, Items, no_items, item, Members, no_members, member}
 use Rattle.serde_json.specs.Written.{compact_text, items_text, members_text, comma_if}
-use Rattle.fp_definition.specs.Weight.{weight, items_weight, members_weight}
+use Rattle.std.specs.Prelude.{nat_le, is_some}
+use Rattle.fp_base.specs.Count.{spend}
+use Rattle.fp_base.specs.Weight.{weight, items_weight, members_weight}
 
 some_bytes : (b : ℕ) → 0 < length (escape_byte b)
 unfolding escape_byte
@@ -51,3 +53,10 @@ mutual
       let all = length-append (comma_if later) (quoted k ++ 58 ∷ (compact_text d ++ members_text true ms)) in
       let front = length-append (quoted k) (58 ∷ (compact_text d ++ members_text true ms)) in
       let both = length-append (compact_text d) (members_text true ms) in omega arith
+
+no_room : (limit w n : ℕ) → w ≤ n → is_some (spend limit w) ≡ false → nat_le n limit ≡ false
+no_room limit w n more h = grind arith
+
+-- where a limit doesn't cover the weight, the text is longer
+pub too_heavy : (d : Data) (limit : ℕ) → is_some (spend limit (weight d)) ≡ false → nat_le (length (compact_text d)) limit ≡ false
+too_heavy d limit h = no_room limit (weight d) (length (compact_text d)) (weight-text d) h

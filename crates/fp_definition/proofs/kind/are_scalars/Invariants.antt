@@ -1,0 +1,7 @@
+use Rattle.std.proofs.Common.{◌≡◌}
+use Rattle.serde_json.specs.View.{members_view}
+use Rattle.fp_definition.specs.Kinds.{all_scalars}
+use Rattle.fp_definition.proofs.kind.are_scalars.Given as goal
+
+abbrev pub invariant-loop-name : goal.invariant-loop-name
+invariant-loop-name l = all_scalars (members_view l._name-iterator) ≡ all_scalars (members_view l.members.entries)
