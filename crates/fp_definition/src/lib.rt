@@ -10,3 +10,6 @@ mod members;
 pub use definition::Definition;
 pub use faults::{DefFault, KeyFault};
 pub use key::FlagKey;
+
+#[cfg(test)]
+mod tests;
