@@ -1,0 +1,10 @@
+pub mod Contained
+pub mod Equalities
+pub mod Numbers
+pub mod Numerals
+pub mod Orders
+pub mod Paths
+pub mod Texts
+pub mod Variants
+pub mod Versions
+pub mod Views

@@ -1,0 +1,12 @@
+pub mod Data
+pub mod View
+pub mod FromJson
+pub mod Truth
+pub mod Numeral
+pub mod Equality
+pub mod Order
+pub mod Arithmetic
+pub mod Text
+pub mod Path
+pub mod Version
+pub mod Laws

@@ -1,0 +1,111 @@
+ghost use Rattle.std.specs.Prelude.{◌≡◌, IfOk};
+ghost use Rattle.serde_json.specs.View.{view as json_view, items_view as json_items, members_view as json_members};
+ghost use Rattle.fp_operators.specs.View.{view, items_view, members_view};
+ghost use Rattle.fp_operators.specs.FromJson.{data_of, items_from, members_from};
+
+use serde_json::{Map, Value};
+use std::alloc::{AllocError, Global};
+use std::collections::BTreeMap;
+
+/// Data of rules: what JSON writes, with whole numbers from -2^63 to 2^63-1 alone.
+///
+/// Data nest no deeper than the JSON that they were read from, which the reader limits to 127
+/// levels, and a rule's result than the rule and its data: so the recursion over them is bounded.
+#[derive(Debug, Drop, PartialEq, Eq)]
+pub enum Datum {
+    Null,
+    Bool(bool),
+    Whole(i64),
+    Text(String),
+    List(Vec<Datum>),
+    Object(BTreeMap<String, Datum>),
+}
+
+impl Datum {
+    /// The datum that a JSON value writes. A number that isn't whole becomes null, so callers
+    /// refuse such a value first.
+    #[cycle(from_value)]
+    pub fn from_value(alloc: Global, value: &Value) -> Result<Datum, AllocError>
+        ensures { IfOk result (λ d. view d ≡ data_of (json_view value.now)) }
+    {
+        match value {
+            Value::Null => Ok(Datum::Null),
+            Value::Bool(b) => Ok(Datum::Bool(*b)),
+            Value::Number(n) => match n.as_i64() {
+                Some(z) => Ok(Datum::Whole(z)),
+                None => Ok(Datum::Null),
+            },
+            Value::String(s) => Ok(Datum::Text(s.clone()?)),
+            Value::Array(items) => Ok(Datum::List(from_items(alloc, items)?)),
+            Value::Object(members) => Ok(Datum::Object(from_members(alloc, members)?)),
+        }
+    }
+
+    /// An equal datum.
+    #[cycle(copy)]
+    pub fn try_copy(&self, alloc: Global) -> Result<Datum, AllocError>
+        ensures { IfOk result (λ d. view d ≡ view self.now) }
+    {
+        match self {
+            Datum::Null => Ok(Datum::Null),
+            Datum::Bool(b) => Ok(Datum::Bool(*b)),
+            Datum::Whole(z) => Ok(Datum::Whole(*z)),
+            Datum::Text(s) => Ok(Datum::Text(s.clone()?)),
+            Datum::List(items) => Ok(Datum::List(copy_items(alloc, items)?)),
+            Datum::Object(members) => Ok(Datum::Object(copy_members(alloc, members)?)),
+        }
+    }
+}
+
+#[cycle(from_value)]
+fn from_items(alloc: Global, items: &Vec<Value>) -> Result<Vec<Datum>, AllocError>
+    ensures { IfOk result (λ v. items_view v.items ≡ items_from (json_items items.now.items)) }
+{
+    let mut found = Vec::with_capacity(alloc, items.len())?;
+    for item in items {
+        found.push(Datum::from_value(alloc, item)?)?;
+    }
+    Ok(found)
+}
+
+#[cycle(from_value)]
+fn from_members(
+    alloc: Global,
+    members: &Map<String, Value>,
+) -> Result<BTreeMap<String, Datum>, AllocError>
+    ensures { IfOk result
+        (λ m. members_view m.entries ≡ members_from (json_members members.now.entries)) }
+{
+    let mut found = BTreeMap::new(alloc);
+    for (key, member) in members.iter() {
+        let name = key.clone()?;
+        drop(found.insert(name, Datum::from_value(alloc, member)?)?);
+    }
+    Ok(found)
+}
+
+#[cycle(copy)]
+fn copy_items(alloc: Global, items: &Vec<Datum>) -> Result<Vec<Datum>, AllocError>
+    ensures { IfOk result (λ v. items_view v.items ≡ items_view items.now.items) }
+{
+    let mut copies = Vec::with_capacity(alloc, items.len())?;
+    for item in items {
+        copies.push(item.try_copy(alloc)?)?;
+    }
+    Ok(copies)
+}
+
+#[cycle(copy)]
+fn copy_members(
+    alloc: Global,
+    members: &BTreeMap<String, Datum>,
+) -> Result<BTreeMap<String, Datum>, AllocError>
+    ensures { IfOk result (λ m. members_view m.entries ≡ members_view members.now.entries) }
+{
+    let mut copies = BTreeMap::new(alloc);
+    for (key, member) in members.iter() {
+        let name = key.clone()?;
+        drop(copies.insert(name, member.try_copy(alloc)?)?);
+    }
+    Ok(copies)
+}

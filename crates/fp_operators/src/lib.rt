@@ -1,0 +1,27 @@
+//! The data that rules compute with, and what each operator gives for it.
+#![tactic(auto)]
+
+mod arithmetic;
+mod datum;
+mod equality;
+pub mod laws;
+mod numeral;
+mod order;
+mod path;
+mod text;
+mod truth;
+mod version;
+
+pub use arithmetic::remainder;
+pub use datum::Datum;
+pub use equality::{loosely_equal, loosely_unequal, strictly_equal, strictly_unequal};
+pub use order::{
+    between_exclusive, between_inclusive, greater, greater_or_equal, less, less_or_equal,
+};
+pub use path::variable;
+pub use text::{concatenate, ends_with, is_in, starts_with};
+pub use truth::{is_falsy, is_truthy};
+pub use version::sem_ver;
+
+#[cfg(test)]
+mod tests;

@@ -1,0 +1,98 @@
+ghost use Rattle.std.specs.Prelude.{◌≡◌, eqb, IfOk, option_map, string_bytes, map};
+ghost use Rattle.std.specs.List.{starts_with as begins, ends_with as finishes};
+ghost use Rattle.fp_operators.specs.View.{view, items_view};
+ghost use Rattle.fp_operators.specs.Text.{occurs, is_among, is_part, has_prefix, has_suffix, joined, concatenation};
+
+use crate::datum::Datum;
+use crate::equality::strictly_equal;
+use std::alloc::{AllocError, Global};
+
+/// `in`: whether a text is a part of another, or a datum strictly equals an item of a list.
+pub fn is_in(part: &Datum, whole: &Datum) -> bool
+    ensures { result ≡ is_part (view part.now) (view whole.now) }
+{
+    match (part, whole) {
+        (Datum::Text(s), Datum::Text(t)) => text_occurs(s.as_str(), t.as_str()),
+        (_, Datum::List(items)) => item_occurs(part, items),
+        _ => false,
+    }
+}
+
+fn text_occurs(needle: &str, text: &str) -> bool
+    ensures { result ≡ occurs needle.now text.now }
+{
+    text.contains(needle)
+}
+
+fn item_occurs(datum: &Datum, items: &Vec<Datum>) -> bool
+    ensures { result ≡ is_among (view datum.now) (items_view items.now.items) }
+{
+    for item in items {
+        if strictly_equal(datum, item) {
+            return true;
+        }
+    }
+    false
+}
+
+/// `starts_with`: whether the first text begins with the second.
+pub fn starts_with(text: &Datum, prefix: &Datum) -> bool
+    ensures { result ≡ has_prefix (view text.now) (view prefix.now) }
+{
+    match (text, prefix) {
+        (Datum::Text(s), Datum::Text(t)) => text_begins(s.as_str(), t.as_str()),
+        _ => false,
+    }
+}
+
+fn text_begins(text: &str, prefix: &str) -> bool
+    ensures { result ≡ begins eqb text.now prefix.now }
+{
+    text.starts_with(prefix)
+}
+
+/// `ends_with`: whether the first text ends with the second.
+pub fn ends_with(text: &Datum, suffix: &Datum) -> bool
+    ensures { result ≡ has_suffix (view text.now) (view suffix.now) }
+{
+    match (text, suffix) {
+        (Datum::Text(s), Datum::Text(t)) => text_finishes(s.as_str(), t.as_str()),
+        _ => false,
+    }
+}
+
+fn text_finishes(text: &str, suffix: &str) -> bool
+    ensures { result ≡ finishes eqb text.now suffix.now }
+{
+    text.ends_with(suffix)
+}
+
+/// `cat`: the texts of the arguments joined, or null where a list or an object is among them.
+pub fn concatenate(alloc: Global, parts: &[Datum]) -> Result<Datum, AllocError>
+    ensures { IfOk result (λ d. view d ≡ concatenation (map view parts.now)) }
+{
+    match joined_text(alloc, parts)? {
+        Some(text) => Ok(Datum::Text(text)),
+        None => Ok(Datum::Null),
+    }
+}
+
+fn joined_text(alloc: Global, parts: &[Datum]) -> Result<Option<String>, AllocError>
+    ensures { IfOk result (λ t. option_map string_bytes t ≡ joined (map view parts.now)) }
+{
+    let mut out = String::new(alloc);
+    for datum in parts {
+        match datum {
+            Datum::Null => {}
+            Datum::Bool(true) => out.push_str("true")?,
+            Datum::Bool(false) => out.push_str("false")?,
+            Datum::Whole(z) => {
+                let digits = z.to_string(alloc)?;
+                out.push_str(digits.as_str())?;
+            }
+            Datum::Text(s) => out.push_str(s.as_str())?,
+            Datum::List(_) | Datum::Object(_) => return Ok(None),
+        }
+    }
+    Ok(Some(out))
+}
