@@ -1,0 +1,4 @@
+pub mod Keeping
+pub mod Writing
+pub mod Answering
+pub mod Crashing

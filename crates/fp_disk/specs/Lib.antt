@@ -1,0 +1,6 @@
+pub mod Outcomes
+pub mod Memory
+pub mod MemoryLaws
+pub mod Crash
+pub mod Checked
+pub mod Moments

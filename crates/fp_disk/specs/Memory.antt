@@ -1,0 +1,145 @@
+-- A disk in memory, by what it held at first and the calls that it recorded since.
+use Rattle.std.specs.Prelude.{◌≡◌, ◌⊎◌, ◌≤◌, ◌<◌, ◌+◌, ◌-◌, ◌/◌, ◌^◌, ℕ, max, Bool, true, false, nat_lt, if◌then◌else◌, List, [], ◌∷◌, ◌++◌, length, take, drop, replicate, Result, IsTrue, OnOk, OnErr}
+use Rattle.fp_disk.specs.Outcomes.{Unsynced, IsOutcome}
+use Rattle.fp_disk.specs.declared.disk.DiskFault.{DiskFault}
+use Rattle.fp_disk.specs.declared.failing.Failing.{Failing}
+use Rattle.fp_disk.specs.declared.failing.Failing.TheVariants.{Never, From, At}
+use Rattle.fp_disk.specs.declared.failing.FailedWrite.{FailedWrite}
+use Rattle.fp_disk.specs.declared.failing.FailedWrite.TheVariants as Failed
+use Rattle.fp_disk.specs.declared.call.Progress.{Progress}
+use Rattle.fp_disk.specs.declared.call.Progress.TheVariants.{Whole, Half, Nothing}
+use Rattle.fp_disk.specs.declared.call.Request.{Request}
+use Rattle.fp_disk.specs.declared.call.Request.TheVariants.{Len, Read, Write, Sync}
+use Rattle.fp_disk.specs.declared.call.Call.{Call}
+
+-- does the next call pass
+abbrev pub passes : Failing → Bool
+passes Never = true
+passes (From left) = nat_lt 0 left
+passes (At left) = nat_lt 0 left
+
+-- which calls fail, counted from after this one
+abbrev pub after_call : Failing → Failing
+after_call Never = Never
+after_call (From left) = From (left - 1)
+after_call (At left) = (if nat_lt 0 left then At (left - 1) else Never)
+
+-- how much the next call does, if it is a write
+abbrev pub write_progress : FailedWrite → Failing → Progress
+write_progress Failed.Nothing failing = (if passes failing then Whole else Nothing)
+write_progress Failed.Half failing = (if passes failing then Whole else Half)
+
+-- the same of any other call
+abbrev pub call_progress : Failing → Progress
+call_progress failing = (if passes failing then Whole else Nothing)
+
+-- what a read gives, what the last sync made sure of, and the writes since, the last of them first
+pub record State : Type 0 where
+  pub bytes : List ℕ
+  pub synced : List ℕ
+  pub writes : List (ℕ × List ℕ)
+
+-- these bytes with `more` at this place, and zeros in a gap
+abbrev pub overwritten : List ℕ → ℕ → List ℕ → List ℕ
+overwritten old at more = take at (old ++ replicate (at - length old) 0) ++ more ++ drop (at + length more) old
+
+-- these bytes after so much of a write
+abbrev pub written : Progress → List ℕ → ℕ → List ℕ → List ℕ
+written Whole old at more = overwritten old at more
+written Half old at more = overwritten old at (take (length more / 2) more)
+written Nothing old at more = old
+
+abbrev pub synced_after : Progress → State → State
+synced_after Whole s = record { bytes = s.bytes; synced = s.bytes; writes = [] }
+synced_after Half s = s
+synced_after Nothing s = s
+
+-- the state after a call; a write that failed is one that a crash may show all the same
+abbrev pub after_request : Request → Progress → State → State
+after_request Len p s = s
+after_request (Read at n) p s = s
+after_request (Write at more) p s = record { bytes = written p s.bytes at more; synced = s.synced; writes = (at, more) ∷ s.writes }
+after_request Sync p s = synced_after p s
+
+abbrev pub after : State → Call → State
+after s c = after_request c.request c.progress s
+
+abbrev pub replay : State → List Call → State
+replay s [] = s
+replay s (c ∷ cs) = replay (after s c) cs
+
+abbrev pub at_first : List ℕ → State
+at_first bytes = record { bytes = bytes; synced = bytes; writes = [] }
+
+-- where was written
+abbrev pub ranges_of : List (ℕ × List ℕ) → List (ℕ × ℕ)
+ranges_of [] = []
+ranges_of (w ∷ ws) = (w.0, length w.1) ∷ ranges_of ws
+
+-- how far the writes reach, or so far
+abbrev pub reach_of : ℕ → List (ℕ × List ℕ) → ℕ
+reach_of n [] = n
+reach_of n (w ∷ ws) = max (reach_of n ws) (w.0 + length w.1)
+
+abbrev pub unsynced_of : State → Unsynced
+unsynced_of s = record { synced = s.synced; ranges = ranges_of s.writes; reach = reach_of (length s.synced) s.writes }
+
+-- the state after the first k calls
+abbrev pub state_at : List ℕ → List Call → ℕ → State
+state_at first calls k = replay (at_first first) (take k calls)
+
+-- a crash after one of the calls since the t-th might have left this
+abbrev pub LeftSince : List ℕ → List Call → ℕ → List ℕ → Type 0
+LeftSince first calls t c = (k : ℕ) × (t ≤ k) × (k ≤ length calls) × IsOutcome (unsynced_of (state_at first calls k)) c
+
+-- a disk in memory, as contracts see it
+pub record Memory : Type 0 where
+  pub first : List ℕ
+  pub calls : List Call
+  pub failing : Failing
+  pub failed_writes : FailedWrite
+  pub faults : ℕ
+
+abbrev pub state : Memory → State
+state m = replay (at_first m.first) m.calls
+
+-- a disk that holds this, with nothing pending and no call made
+abbrev pub fresh : List ℕ → Memory
+fresh bytes = record { first = bytes; calls = []; failing = Never; failed_writes = Failed.Nothing; faults = 0 }
+
+-- a call that was recorded
+abbrev pub recorded : Memory → Call → Memory
+recorded m c = record { first = m.first; calls = m.calls ++ c ∷ []; failing = after_call m.failing; failed_writes = m.failed_writes; faults = m.faults }
+
+-- a call that failed as it was told to
+abbrev pub failed : Memory → Call → Memory
+failed m c = record { first = m.first; calls = m.calls ++ c ∷ []; failing = after_call m.failing; failed_writes = m.failed_writes; faults = m.faults + 1 }
+
+-- a call that failed since there was no memory to record it
+abbrev pub refused : Memory → Memory
+refused m = record { first = m.first; calls = m.calls; failing = after_call m.failing; failed_writes = m.failed_writes; faults = m.faults + 1 }
+
+-- What a call did. It succeeds only if it passes; one that is to fail, fails; and one that leaves no record found no memory for it.
+pub record Answered {T : Type 0} (old new : Memory) (request : Request) (progress : Progress) (result : Result T DiskFault) : Type 0 where
+  pub ok : OnOk result (IsTrue (passes old.failing) × (new ≡ recorded old (record { request = request; progress = Whole })))
+  pub err : OnErr result ((((IsTrue (passes old.failing)) → ⊥) × (new ≡ failed old (record { request = request; progress = progress }))) ⊎ (new ≡ refused old))
+
+-- the writes with one more, if this is a write
+abbrev pub with_request : List (ℕ × List ℕ) → Request → List (ℕ × List ℕ)
+with_request ws Len = ws
+with_request ws (Read at n) = ws
+with_request ws (Write at more) = (at, more) ∷ ws
+with_request ws Sync = ws
+
+-- the writes of these calls, the last first, before these
+abbrev pub writes_after : List (ℕ × List ℕ) → List Call → List (ℕ × List ℕ)
+writes_after ws [] = ws
+writes_after ws (c ∷ cs) = writes_after (with_request ws c.request) cs
+
+-- the fields of a disk in memory are those of its state, and the calls from the settled ones on made its pending writes
+pub record Keeps (first bytes synced : List ℕ) (calls : List Call) (settled reach : ℕ) : Type 0 where
+  pub bytes_are : bytes ≡ (replay (at_first first) calls).bytes
+  pub synced_are : synced ≡ (replay (at_first first) calls).synced
+  pub pending : writes_after [] (drop settled calls) ≡ (replay (at_first first) calls).writes
+  pub within : settled ≤ length calls
+  pub reach_is : reach ≡ reach_of (length synced) (replay (at_first first) calls).writes

@@ -1,0 +1,133 @@
+-- What holds of every disk in memory.
+use Rattle.std.specs.Prelude.{◌≡◌, ◌⊎◌, ◌≤◌, ◌<◌, ◌+◌, ◌-◌, ◌/◌, ℕ, max, List, [], ◌∷◌, ◌++◌, length, take, drop, replicate, refl, slice_index}
+use Rattle.std.proofs.lemmas.Grind.{common_steps}
+use Rattle.std.proofs.lemmas.Bool.{cases_lt}
+use Rattle.std.proofs.lemmas.List.{get_or-append_right, get_or-drop}
+use Rattle.std.proofs.Common.{inl, inr, length-append, sym, ap, ◌∙◌, subst, arith, zero, suc}
+use Rattle.fp_disk.specs.Outcomes.{Unsynced, IsOutcome, Elapses, ChangesWithin, settled}
+use Rattle.fp_disk.specs.declared.call.Call.{Call}
+use Rattle.fp_disk.specs.declared.call.Progress.{Progress}
+use Rattle.fp_disk.specs.declared.call.Progress.TheVariants.{Whole, Half, Nothing}
+use Rattle.fp_disk.specs.declared.call.Request.{Request}
+use Rattle.fp_disk.specs.declared.call.Request.TheVariants.{Len, Read, Write, Sync}
+use Rattle.fp_disk.specs.Memory.{State, Memory, state, overwritten, written, after, after_request, replay, at_first, unsynced_of, ranges_of, reach_of, state_at, LeftSince}
+
+-- all of a list, and a front of a list with one more
+
+take_whole : (cs : List Call) (k : ℕ) → length cs ≤ k → take k cs ≡ cs
+take_whole [] zero le = refl
+take_whole [] (suc k) le = refl
+take_whole (c ∷ cs) zero le = absurd (omega arith)
+take_whole (c ∷ cs) (suc k) le = ap (λ (l : List Call). c ∷ l) (take_whole cs k (omega arith))
+
+take_front : (k : ℕ) (cs : List Call) (c : Call) → k ≤ length cs → take k (cs ++ c ∷ []) ≡ take k cs
+take_front zero cs c le = refl
+take_front (suc k) [] c le = absurd (omega arith)
+take_front (suc k) (d ∷ cs) c le = ap (λ (l : List Call). d ∷ l) (take_front k cs c (omega arith))
+
+-- the outcomes at the last call are those of now
+
+pub counts : (first : List ℕ) (calls : List Call) (t : ℕ) (c : List ℕ) → t ≤ length calls → IsOutcome (unsynced_of (replay (at_first first) calls)) c → LeftSince first calls t c
+counts first calls t c le out = (length calls, le, omega arith, subst (λ (l : List Call). IsOutcome (unsynced_of (replay (at_first first) l)) c) (sym (take_whole calls (length calls) (omega arith))) out)
+
+pub only : (first : List ℕ) (calls : List Call) (c : List ℕ) → LeftSince first calls (length calls) c → IsOutcome (unsynced_of (replay (at_first first) calls)) c
+only first calls c left = subst (λ (l : List Call). IsOutcome (unsynced_of (replay (at_first first) l)) c) (take_whole calls left.0 left.1) left.3
+
+-- what a write changes
+
+length-overwritten : (old more : List ℕ) (at : ℕ) → length (overwritten old at more) ≡ max (length old) (at + length more)
+length-overwritten old more at = grind (arith, common_steps)
+
+overwritten_before : (old more : List ℕ) (at k : ℕ) → k < at → k < length old → slice_index (overwritten old at more) k ≡ slice_index old k
+overwritten_before old more at k lt in_old = grind (arith, common_steps)
+
+overwritten_behind : (old more : List ℕ) (at k : ℕ) → at + length more ≤ k → slice_index (overwritten old at more) k ≡ slice_index old k
+overwritten_behind old more at k le =
+    let front = take at (old ++ replicate (at - length old) 0) ++ more in
+    let len : length front ≡ at + length more = grind (arith, common_steps) in
+    let there : (at + length more) + (k - (at + length more)) ≡ k = omega arith in
+    get_or-append_right front (drop (at + length more) old) (at + length more) k 0 len le ∙ (get_or-drop (at + length more) old (k - (at + length more)) 0 ∙ ap (λ (j : ℕ). slice_index old j) there)
+
+-- a part of a write changes no more than the whole
+
+changes_less : (old new : List ℕ) (at m n : ℕ) → m ≤ n → ChangesWithin old at m new → ChangesWithin old at n new
+changes_less old new at m n le c = let a = c.no_longer in record {
+  no_shorter = c.no_shorter;
+  no_longer = omega (arith, a, le);
+  outside = λ k lt out. c.outside k lt (λ inside. out (inside.0, (let h = inside.1 in omega (arith, h, le))));
+}
+
+overwritten_changes : (old more : List ℕ) (at : ℕ) → ChangesWithin old at (length more) (overwritten old at more)
+overwritten_changes old more at = let len = length-overwritten old more at in record {
+  no_shorter = omega (arith, len);
+  no_longer = omega (arith, len);
+  outside = λ k lt out. elim (cases_lt k at) [
+    | inl less ↦ overwritten_before old more at k less lt
+    | inr no_less ↦ elim (cases_lt k (at + length more)) [
+      | inl inside ↦ absurd (out (no_less, inside))
+      | inr behind ↦ overwritten_behind old more at k behind
+    ]
+  ];
+}
+
+pub written_changes : (p : Progress) (old more : List ℕ) (at : ℕ) → ChangesWithin old at (length more) (written p old at more)
+written_changes Whole old more at = overwritten_changes old more at
+written_changes Half old more at = let half = overwritten_changes old (take (length more / 2) more) at in
+    changes_less old _ at (length (take (length more / 2) more)) (length more) (grind (arith, common_steps)) half
+written_changes Nothing old more at = record { no_shorter = omega arith; no_longer = omega arith; outside = λ k lt out. refl }
+
+-- what a read gives is an outcome, at first and after each call
+
+wrote_real : (p : Progress) (s : State) (at : ℕ) (more : List ℕ) → IsOutcome (unsynced_of s) s.bytes → IsOutcome (unsynced_of (after_request (Write at more) p s)) (written p s.bytes at more)
+wrote_real p s at more r = let c = written_changes p s.bytes more at in let a = r.no_shorter in let b = r.no_longer in let x = c.no_shorter in let y = c.no_longer in record {
+  no_shorter = omega (arith, a, x);
+  no_longer = omega (arith, b, y);
+  kept = λ k lt out. c.outside k (omega (arith, a, lt)) (λ inside. out (inl inside)) ∙ r.kept k lt (λ covers. out (inr covers));
+}
+
+settled_real : (bytes : List ℕ) → IsOutcome (settled bytes) bytes
+settled_real bytes = record { no_shorter = omega arith; no_longer = omega arith; kept = λ k lt out. refl }
+
+after_real : (request : Request) (p : Progress) (s : State) → IsOutcome (unsynced_of s) s.bytes → IsOutcome (unsynced_of (after_request request p s)) (after_request request p s).bytes
+after_real Len p s r = r
+after_real (Read at n) p s r = r
+after_real (Write at more) p s r = wrote_real p s at more r
+after_real Sync Whole s r = settled_real s.bytes
+after_real Sync Half s r = r
+after_real Sync Nothing s r = r
+
+replay_real : (s : State) (cs : List Call) → IsOutcome (unsynced_of s) s.bytes → IsOutcome (unsynced_of (replay s cs)) (replay s cs).bytes
+replay_real s [] r = r
+replay_real s (c ∷ cs) r = replay_real (after s c) cs (after_real c.request c.progress s r)
+
+pub has_present : (m : Memory) → IsOutcome (unsynced_of (state m)) (state m).bytes
+has_present m = replay_real (at_first m.first) m.calls (settled_real m.first)
+
+-- one call more
+
+pub replay_more : (s : State) (cs : List Call) (c : Call) → replay s (cs ++ c ∷ []) ≡ after (replay s cs) c
+replay_more s [] c = refl
+replay_more s (d ∷ cs) c = replay_more (after s d) cs c
+
+pub elapses_call : (first : List ℕ) (calls : List Call) (c : Call) (u : Unsynced) → ((o : List ℕ) → IsOutcome (unsynced_of (after (replay (at_first first) calls) c)) o → IsOutcome u o)
+    → Elapses (length calls) (length (calls ++ c ∷ [])) (LeftSince first calls) (LeftSince first (calls ++ c ∷ [])) (IsOutcome u)
+elapses_call first calls c u fits = record {
+    later = omega (arith, len);
+    nothing_else = λ t o le left. elim (cases_lt (length calls) left.0) [
+      | inl past ↦ inr (fits o (subst (λ (s : State). IsOutcome (unsynced_of s) o) (whole left.0 (omega (arith, past))) left.3))
+      | inr within ↦ inl (left.0, left.1, within, subst (λ (l : List Call). IsOutcome (unsynced_of (replay (at_first first) l)) o) (take_front left.0 calls c within) left.3)
+    ];
+    keeps = λ t o le left. (left.0, left.1, (let h = left.2 in omega (arith, len, h)), subst (λ (l : List Call). IsOutcome (unsynced_of (replay (at_first first) l)) o) (sym (take_front left.0 calls c left.2)) left.3);
+  }
+  where
+    len : length (calls ++ c ∷ []) ≡ length calls + 1
+    len = length-append calls (c ∷ [])
+
+    whole : (k : ℕ) → length calls + 1 ≤ k → state_at first (calls ++ c ∷ []) k ≡ after (replay (at_first first) calls) c
+    whole k le = ap (λ (l : List Call). replay (at_first first) l) (take_whole (calls ++ c ∷ []) k (omega (arith, len, le))) ∙ replay_more (at_first first) calls c
+
+-- a sync leaves an outcome from before it
+pub synced_fits : (m : Memory) (o : List ℕ) → IsOutcome (settled (state m).bytes) o → IsOutcome (unsynced_of (state m)) o
+synced_fits m o out =
+    let p = has_present m in let a = p.no_shorter in let b = p.no_longer in let x = out.no_shorter in let y = out.no_longer in
+    record { no_shorter = omega (arith, a, x); no_longer = omega (arith, b, y); kept = λ k lt apart. out.kept k (omega (arith, a, lt)) (λ none. none) ∙ p.kept k lt apart }

@@ -1,0 +1,129 @@
+ghost use Rattle.std.specs.Prelude.{◌≡◌, ◌+◌, ℕ, List, [], length};
+ghost use Rattle.fp_disk.specs.Outcomes.{Answers, settled};
+
+use crate::disk::{Disk, DiskFault};
+use crate::failures::{fault, Failures};
+use std::fs::{OpenFile, OpenOptions};
+use std::io;
+use std::io::{Read, Seek, SeekFrom, Write};
+use std::marker::Model;
+use std::rt::Files;
+
+/// A disk over a file of a runtime. It counts its failures; what a real file keeps over a crash, nothing here shows, so that
+/// it is never honest. It never makes a file shorter.
+#[derive(Drop)]
+pub struct FileDisk<F: Drop> {
+    file: F,
+    failures: Failures,
+}
+
+impl<F: Drop> Model for FileDisk<F> {
+    ghost Value = { ℕ };
+
+    ghost view = { λ d. length d.failures.log };
+}
+
+impl<F: Drop> FileDisk<F> {
+    /// The disk over a file that was opened to be read and written.
+    pub fn over(file: F) -> FileDisk<F>
+        ensures { result ≡ 0 }
+    {
+        FileDisk {
+            file,
+            failures: Failures::new().0,
+        }
+    }
+}
+
+/// The disk over the file at this path, made where there is none. What is in it stays.
+pub fn create_file<R: Files>(rt: &R, path: &str) -> Result<FileDisk<R::File>, DiskFault> {
+    open_as(rt, path, true)
+}
+
+/// The disk over the file at this path. It is a fault where there is none.
+pub fn open_file<R: Files>(rt: &R, path: &str) -> Result<FileDisk<R::File>, DiskFault> {
+    open_as(rt, path, false)
+}
+
+fn open_as<R: Files>(
+    rt: &R,
+    path: &str,
+    may_create: bool,
+) -> Result<FileDisk<R::File>, DiskFault> {
+    let mut how = OpenOptions::new();
+    how.read(true).write(true).create(may_create);
+    match how.open(rt, path) {
+        Ok(file) => Ok(FileDisk::over(file)),
+        Err(_) => Err(DiskFault::Device),
+    }
+}
+
+// The answer of the system, counted.
+fn counted<T>(failures: &mut Failures, done: io::Result<T>) -> Result<T, DiskFault>
+    ensures { Answers (length failures.old.log) (length failures.new.log) result }
+{
+    match done {
+        Ok(value) => Ok(value),
+        Err(_) => Err(fault(failures)),
+    }
+}
+
+fn read<F: Read + Seek>(file: &mut F, at: u64, into: &mut [u8]) -> io::Result<()> {
+    file.seek(SeekFrom::Start(at))?;
+    file.read_exact(into)
+}
+
+// A write of nothing past the end reaches as far as any other.
+fn write<F: Write + Seek + OpenFile>(file: &mut F, at: u64, from: &[u8]) -> io::Result<()> {
+    if !from.is_empty() {
+        file.seek(SeekFrom::Start(at))?;
+        return file.write_all(from);
+    }
+    if file.seek(SeekFrom::End(0))? < at {
+        file.set_len(at)?;
+    }
+    Ok(())
+}
+
+impl<F: Read + Write + Seek + OpenFile + Drop> Disk for FileDisk<F> {
+    ghost honest = { λ d. ⊥ };
+
+    ghost bytes = { λ d. [] };
+
+    ghost unsynced = { λ d. settled [] };
+
+    ghost moment = { λ d. 0 };
+
+    ghost left_since = { λ d t c. ⊥ };
+
+    ghost faults = { λ d. d };
+
+    ghost present = { λ d h. absurd h };
+
+    ghost counts_now = { λ d t c h le out. absurd h };
+
+    ghost only_now = { λ d c h left. absurd h };
+
+    fn len(&mut self) -> Result<u64, DiskFault> {
+        let end = self.file.seek(SeekFrom::End(0));
+        counted(&mut self.failures, end)
+    }
+
+    fn read_at(&mut self, at: u64, into: &mut [u8]) -> Result<(), DiskFault> {
+        let done = read(&mut self.file, at, into);
+        counted(&mut self.failures, done)
+    }
+
+    fn write_at(&mut self, at: u64, from: &[u8]) -> Result<(), DiskFault> {
+        let done = write(&mut self.file, at, from);
+        counted(&mut self.failures, done)
+    }
+
+    fn sync(&mut self) -> Result<(), DiskFault> {
+        let done = self.file.sync_data();
+        counted(&mut self.failures, done)
+    }
+}
+
+#[cfg(test)]
+mod tests;

@@ -1,0 +1,7 @@
+use denote.RattleType.{RattleType}
+use denote.Param.Send.{IsSend}
+use Rattle.fp_fronts.proofs.Sent as sent
+use Rattle.fp_fronts.specs.contracts.growing.Growing.{the_row}
+
+pub send : (E : RattleType) → IsSend (the_row E)
+send = sent.growing_send
