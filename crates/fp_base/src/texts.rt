@@ -31,7 +31,8 @@ pub fn canonical_text_within(
 ) -> Result<Option<Vec<u8>>, AllocError>
     requires whole { is_whole (view value.now) ≡ true }
     requires flat { depth (view value.now) ≤ 127 }
-    ensures text { IfOk result (λ o. option_map (λ t. t.items) o ≡ text_within limit (view value.now)) }
+    ensures text { IfOk result (λ o.
+        option_map (λ t. t.items) o ≡ text_within limit (view value.now)) }
     ensures reads { IfOk result (λ o. IfSome o (λ t. json_of t.items ≡ Some (view value.now))) }
 {
     if is_longer(value, limit) {

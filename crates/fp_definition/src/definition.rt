@@ -119,7 +119,8 @@ fn tested_text(alloc: Global, value: &Value) -> Result<Vec<u8>, DefFault>
 // The definition that a value is, where the text that it was read from is its canonical one.
 #[tactic(auto, unfolding(crate::specs::Valid::is_text_of))]
 fn from_read(alloc: Global, value: Value, text: &[u8]) -> Result<Option<Definition>, AllocError>
-    ensures { IfOk result (λ o. o ≡ (if is_text_of text.now (view value) then Some text.now else None)) }
+    ensures { IfOk result (λ o.
+        o ≡ (if is_text_of text.now (view value) then Some text.now else None)) }
 {
     match Definition::from_value(alloc, value) {
         Err(DefFault::Memory) => Err(AllocError),

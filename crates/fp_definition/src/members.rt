@@ -68,7 +68,8 @@ fn are_variant_members(members: &Map<String, Value>) -> bool
 }
 
 fn has_default(value: &Value) -> bool
-    ensures { result ≡ names_variant (get (codes "defaultVariant") (view value.now)) (get (codes "variants") (view value.now)) }
+    ensures { result ≡ names_variant
+        (get (codes "defaultVariant") (view value.now)) (get (codes "variants") (view value.now)) }
 {
     match (value.get("defaultVariant"), value.get("variants")) {
         (Some(Value::String(name)), Some(variants)) => variants.get(name.as_str()).is_some(),
