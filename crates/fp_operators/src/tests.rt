@@ -1,6 +1,9 @@
 //! Results worked out by hand: from JsonLogic's page of operations, from the precedence that the
 //! page of Semantic Versioning 2.0.0 lists, and from the README's rules where those leave a choice.
 
+mod texts;
+mod versions;
+
 use super::*;
 use serde_json::Value;
 use std::alloc::{AllocError, Global};
@@ -228,56 +231,6 @@ fn orders(rt: HostRuntime) -> Result<(), Fail> {
 }
 
 #[test]
-fn texts(rt: HostRuntime) -> Result<(), Fail> {
-    check(
-        &rt,
-        rt.alloc(),
-        &[
-            ("in", r#"["Spring","Springfield"]"#, "true"),
-            (
-                "in",
-                r#"["Ringo",["John","Paul","George","Ringo"]]"#,
-                "true",
-            ),
-            ("in", r#"["","abc"]"#, "true"),
-            ("in", r#"["",""]"#, "true"),
-            ("in", r#"["aab","aaab"]"#, "true"),
-            ("in", r#"["ac","abc"]"#, "false"),
-            ("in", r#"["abc","ab"]"#, "false"),
-            ("in", "[1,[2,1]]", "true"),
-            ("in", r#"["1",[2,1]]"#, "false"),
-            ("in", "[null,[null]]", "true"),
-            ("in", "[[],[[]]]", "false"),
-            ("in", "[1,[]]", "false"),
-            ("in", r#"[1,"123"]"#, "false"),
-            ("in", r#"["a",{"a":1}]"#, "false"),
-            ("cat", r#"["I love"," pie"]"#, r#""I love pie""#),
-            ("cat", r#"["v",-3,true,null]"#, r#""v-3true""#),
-            ("cat", "[]", r#""""#),
-            ("cat", "[null,false]", r#""false""#),
-            (
-                "cat",
-                "[9223372036854775807,0,-9223372036854775808]",
-                r#""92233720368547758070-9223372036854775808""#,
-            ),
-            ("cat", r#"["a",[]]"#, "null"),
-            ("cat", r#"[{},"a"]"#, "null"),
-            ("starts_with", r#"["abc","ab"]"#, "true"),
-            ("starts_with", r#"["abc","bc"]"#, "false"),
-            ("starts_with", r#"["abc",""]"#, "true"),
-            ("starts_with", r#"["ab","abc"]"#, "false"),
-            ("starts_with", r#"[12,"1"]"#, "false"),
-            ("starts_with", r#"["12",1]"#, "false"),
-            ("ends_with", r#"["ann@example.com","@example.com"]"#, "true"),
-            ("ends_with", r#"["abc","ab"]"#, "false"),
-            ("ends_with", r#"["abc",""]"#, "true"),
-            ("ends_with", r#"["bc","abc"]"#, "false"),
-            ("ends_with", r#"[["a"],"a"]"#, "false"),
-        ],
-    )
-}
-
-#[test]
 fn remainders(rt: HostRuntime) -> Result<(), Fail> {
     check(
         &rt,
@@ -304,138 +257,6 @@ fn remainders(rt: HostRuntime) -> Result<(), Fail> {
             ("%", "[null,3]", "null"),
         ],
     )
-}
-
-#[test]
-fn paths(rt: HostRuntime) -> Result<(), Fail> {
-    check(
-        &rt,
-        rt.alloc(),
-        &[
-            ("var", "[]", ROOT),
-            ("var", "[null]", ROOT),
-            ("var", r#"["",5]"#, ROOT),
-            ("var", r#"["n"]"#, "-3"),
-            ("var", r#"["a.b.c"]"#, "1"),
-            ("var", r#"["a.b",5]"#, r#"{"c":1}"#),
-            ("var", r#"["a..b",5]"#, "5"),
-            ("var", r#"["a.",6]"#, "6"),
-            ("var", r#"["."]"#, "5"),
-            ("var", r#"["x.y",6]"#, "6"),
-            ("var", r#"["z",6]"#, "null"),
-            ("var", r#"["missing"]"#, "null"),
-            ("var", r#"["missing",[1]]"#, "[1]"),
-            ("var", r#"["l"]"#, "[7]"),
-            ("var", r#"["l.0"]"#, "7"),
-            ("var", r#"["l.00",5]"#, "5"),
-            ("var", r#"["l.01",5]"#, "5"),
-            ("var", r#"["l.1",5]"#, "5"),
-            ("var", r#"["l.-0",5]"#, "5"),
-            ("var", r#"["l.+0",5]"#, "5"),
-            ("var", r#"["l.",5]"#, "5"),
-            ("var", r#"["l.0.x",5]"#, "5"),
-            ("var", r#"["l.18446744073709551616",5]"#, "5"),
-            ("var", r#"["t.0",5]"#, "5"),
-            ("var", "[0]", r#""zero""#),
-            ("var", "[-1]", r#""minus""#),
-            ("var", "[7,5]", "5"),
-            ("var", "[true,5]", "5"),
-            ("var", "[[],5]", "5"),
-            ("var", "[{},5]", "5"),
-        ],
-    )
-}
-
-#[test]
-fn paths_into_lists(rt: HostRuntime) -> Result<(), Fail> {
-    let alloc = rt.alloc();
-    let pies = datum(alloc, r#"["apple","banana","carrot"]"#)?;
-    let carrot = datum(alloc, r#""carrot""#)?;
-    assert_eq!(rt; variable(alloc, &pies, &[Datum::Whole(2)])?, carrot);
-    assert_eq!(rt; variable(alloc, &pies, &[Datum::Whole(3)])?, Datum::Null);
-    Ok(())
-}
-
-#[test]
-fn versions(rt: HostRuntime) -> Result<(), Fail> {
-    check(
-        &rt,
-        rt.alloc(),
-        &[
-            ("sem_ver", r#"["1.10.0",">","1.9.0"]"#, "true"),
-            ("sem_ver", r#"["1.0.0-alpha","<","1.0.0"]"#, "true"),
-            ("sem_ver", r#"["v1.2","~","1.2.9"]"#, "true"),
-            ("sem_ver", r#"["1.2.3","~","1.3.3"]"#, "false"),
-            ("sem_ver", r#"["1.2.3","^","2.0.0"]"#, "false"),
-            ("sem_ver", r#"["0.1.0","^","0.2.0"]"#, "true"),
-            ("sem_ver", r#"["1.0.0+a","=","1.0.0+b"]"#, "true"),
-            ("sem_ver", r#"["1.0.0+a","!=","1.0.0+b"]"#, "false"),
-            ("sem_ver", r#"["x","=","x"]"#, "false"),
-            ("sem_ver", r#"["x","!=","1.0.0"]"#, "false"),
-            ("sem_ver", r#"["1","=","1.0.0"]"#, "true"),
-            ("sem_ver", r#"["v1.2","=","1.2.0"]"#, "true"),
-            ("sem_ver", r#"["vv1.2.0","=","1.2.0"]"#, "false"),
-            ("sem_ver", r#"["1.02","=","1.2.0"]"#, "false"),
-            ("sem_ver", r#"["1.","=","1.0.0"]"#, "false"),
-            ("sem_ver", r#"["1.2.3.4","=","1.2.3"]"#, "false"),
-            ("sem_ver", r#"["1.2-a","=","1.2.0-a"]"#, "false"),
-            ("sem_ver", r#"["1.2.3-01","=","1.2.3-01"]"#, "false"),
-            ("sem_ver", r#"["","=",""]"#, "false"),
-            (
-                "sem_ver",
-                r#"["18446744073709551615.0.0",">","1.0.0"]"#,
-                "true",
-            ),
-            (
-                "sem_ver",
-                r#"["18446744073709551616.0.0",">","1.0.0"]"#,
-                "false",
-            ),
-            ("sem_ver", r#"["1.0.0","==","1.0.0"]"#, "false"),
-            ("sem_ver", r#"["1.0.0","","1.0.0"]"#, "false"),
-            ("sem_ver", r#"["1.0.0",null,"1.0.0"]"#, "false"),
-            ("sem_ver", r#"[1,"=",1]"#, "false"),
-        ],
-    )
-}
-
-#[test]
-fn precedence(rt: HostRuntime) -> Result<(), Fail> {
-    let alloc = rt.alloc();
-    let chain = datum(
-        alloc,
-        r#"["1.0.0-alpha","1.0.0-alpha.1","1.0.0-alpha.beta","1.0.0-beta","1.0.0-beta.2","1.0.0-beta.11","1.0.0-rc.1","1.0.0"]"#,
-    )?;
-    let Datum::List(versions) = chain else {
-        return Err(Fail::from("no list"));
-    };
-    for (operator, below, equal, above) in [
-        ("<", true, false, false),
-        ("<=", true, true, false),
-        ("=", false, true, false),
-        ("!=", true, false, true),
-        (">=", false, true, true),
-        (">", false, false, true),
-    ] {
-        let name = Datum::Text(String::from_str(alloc, operator)?);
-        for (i, first) in versions.iter().enumerate() {
-            for (j, second) in versions.iter().enumerate() {
-                let expected = if i < j {
-                    below
-                } else if i == j {
-                    equal
-                } else {
-                    above
-                };
-                assert_eq!(rt;
-                    sem_ver(alloc, first, &name, second)?,
-                    expected,
-                    "{i} {operator} {j}"
-                );
-            }
-        }
-    }
-    Ok(())
 }
 
 #[test]
