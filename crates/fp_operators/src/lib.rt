@@ -18,7 +18,7 @@ pub use equality::{loosely_equal, loosely_unequal, strictly_equal, strictly_uneq
 pub use order::{
     between_exclusive, between_inclusive, greater, greater_or_equal, less, less_or_equal,
 };
-pub use path::variable;
+pub use path::{named, variable};
 pub use text::{concatenate, ends_with, is_in, starts_with};
 pub use truth::{is_falsy, is_truthy};
 pub use version::sem_ver;

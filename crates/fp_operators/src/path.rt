@@ -25,8 +25,13 @@ pub fn variable(alloc: Global, root: &Datum, arguments: &[Datum]) -> Result<Datu
     }
 }
 
-/// What the first argument's result names.
-fn named<'d>(alloc: Global, root: &'d Datum, path: &Datum) -> Result<Option<&'d Datum>, AllocError>
+/// What a datum names in the data: a text or a number its path, null all of them. The data are lent, so that a
+/// caller copies no more than it keeps.
+pub fn named<'d>(
+    alloc: Global,
+    root: &'d Datum,
+    path: &Datum,
+) -> Result<Option<&'d Datum>, AllocError>
     ensures { IfOk result
         (λ o. option_map (λ d. view d.now) o ≡ named_by (view path.now) (view root.now)) }
 {
