@@ -3,3 +3,5 @@ pub mod Key
 pub mod Kept
 pub mod Kinds
 pub mod Valid
+pub mod Resolving
+pub mod Targeting

@@ -7,6 +7,7 @@ use Rattle.serde_json.specs.Written.{compact_text}
 use Rattle.fp_base.specs.Json.{json_of}
 use Rattle.fp_base.specs.Tests.{first_failed}
 use Rattle.fp_base.specs.Whole.{is_whole}
+use Rattle.fp_targeting.specs.Compile.{Verdict, too_deep as verdict_too_deep, unsupported, bad, accepted, verdict}
 use Rattle.fp_definition.specs.Kinds.{one_kind, all_scalars}
 
 -- what is wrong with data that are no definition
@@ -53,12 +54,19 @@ is_metadata None = true
 is_metadata (Some (object ms)) = metadata_members ms
 is_metadata (Some d) = false
 
--- `targeting`, as long as there are no rules: absent, null or an object without members
-abbrev pub is_no_rule : Option Data → Bool
-is_no_rule None = true
-is_no_rule (Some null) = true
-is_no_rule (Some (object ms)) = members_len ms == 0
-is_no_rule (Some d) = false
+-- a verdict on a rule as a test, where the rule isn't accepted
+abbrev pub verdict_tests : Verdict → List (Bool × Fault)
+verdict_tests verdict_too_deep = (false, too_deep) ∷ []
+verdict_tests (unsupported name) = (false, unsupported_operator name) ∷ []
+verdict_tests bad = (false, bad_rule) ∷ []
+verdict_tests (accepted r) = []
+
+-- `targeting`: absent, null, or an object that is a rule
+unfoldable pub targeting_tests : Option Data → List (Bool × Fault)
+targeting_tests None = []
+targeting_tests (Some null) = []
+targeting_tests (Some (object ms)) = verdict_tests (verdict (object ms))
+targeting_tests (Some d) = (false, bad_rule) ∷ []
 
 -- the tests from the object on
 abbrev pub member_tests : Data → List (Bool × Fault)
@@ -68,8 +76,7 @@ member_tests d =
     ∷ (are_variants (get (codes "variants") d), bad_variants)
     ∷ (names_variant (get (codes "defaultVariant") d) (get (codes "variants") d), bad_default)
     ∷ (is_metadata (get (codes "metadata") d), bad_metadata)
-    ∷ (is_no_rule (get (codes "targeting") d), bad_rule)
-    ∷ []
+    ∷ targeting_tests (get (codes "targeting") d)
 
 -- what a definition has to meet, in the order of the tests, each with the fault where it isn't met
 abbrev pub tests : Data → List (Bool × Fault)

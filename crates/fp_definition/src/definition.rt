@@ -1,16 +1,19 @@
 //! A flag's definition.
 
-ghost use Rattle.std.specs.Prelude.{◌≡◌, true, Some, None, IfOk, IfErr, if◌then◌else◌};
+ghost use Rattle.std.specs.Prelude.{◌≡◌, true, Some, None, IfOk, IfErr, if◌then◌else◌, codes};
+ghost use Rattle.serde_json.specs.Find.{get};
 ghost use Rattle.serde_json.specs.View.{view};
 ghost use Rattle.serde_json.specs.Written.{compact_text};
 ghost use Rattle.fp_base.specs.Json.{json_of};
 ghost use Rattle.fp_base.specs.Whole.{is_whole};
 ghost use Rattle.fp_definition.specs.Faults.{IsFault};
+ghost use Rattle.fp_definition.specs.Targeting.{rule_in};
 ghost use Rattle.fp_definition.specs.Valid.{first_fault, IsValid, is_definition_text, definition_in, is_text_of};
 
 use crate::faults::DefFault;
-use crate::members::member_fault;
+use crate::members::tested_members;
 use fp_base::{canonical_text_within, nests_within, read_json, whole_numbers};
+use fp_targeting::Rule;
 use serde_json::Value;
 use std::alloc::{AllocError, Global};
 use std::marker::Model;
@@ -24,6 +27,7 @@ const LONGEST_TEXT: usize = 16_384;
 struct Kept {
     text: Vec<u8>,
     value: Value,
+    rule: Option<Rule>,
 }
 
 /// A share of a definition. The value was tested and its text made once, for all shares.
@@ -52,8 +56,8 @@ impl Definition {
         ensures reads { IfOk result (λ d. json_of d ≡ Some (view value)) }
         ensures refused { IfErr result (λ e. IsFault e (first_fault (view value))) }
     {
-        let text = tested_text(alloc, &value)?;
-        let share = Arc::new(alloc, Kept { text, value })?;
+        let (text, rule) = tested_parts(alloc, &value)?;
+        let share = Arc::new(alloc, Kept { text, value, rule })?;
         Ok(Definition { share })
     }
 
@@ -85,6 +89,14 @@ impl Definition {
         &self.share.value
     }
 
+    // The value, and the rule of its `targeting`, compiled when the definition was made.
+    pub(crate) fn value_and_rule(&self) -> (&Value, &Option<Rule>)
+        ensures value { (json_of self.now ≡ Some (view result.0.now)) × (is_whole (view result.0.now) ≡ true) }
+        ensures rule { result.1.now ≡ rule_in (get (codes "targeting") (view result.0.now)) }
+    {
+        (&self.share.value, &self.share.rule)
+    }
+
     /// Another share of the same definition.
     pub fn try_copy(&self) -> Result<Definition, AllocError>
         ensures { IfOk result (λ d. d ≡ self.now) }
@@ -94,11 +106,12 @@ impl Definition {
     }
 }
 
-// The canonical text of a value that is a definition.
-fn tested_text(alloc: Global, value: &Value) -> Result<Vec<u8>, DefFault>
+// The canonical text and the rule of a value that is a definition.
+fn tested_parts(alloc: Global, value: &Value) -> Result<(Vec<u8>, Option<Rule>), DefFault>
     ensures valid { IfOk result (λ _. IsValid (view value.now)) }
-    ensures text { IfOk result (λ t. t.items ≡ compact_text (view value.now)) }
-    ensures reads { IfOk result (λ t. json_of t.items ≡ Some (view value.now)) }
+    ensures text { IfOk result (λ p. p.0.items ≡ compact_text (view value.now)) }
+    ensures reads { IfOk result (λ p. json_of p.0.items ≡ Some (view value.now)) }
+    ensures rule { IfOk result (λ p. p.1 ≡ rule_in (get (codes "targeting") (view value.now))) }
     ensures refused { IfErr result (λ e. IsFault e (first_fault (view value.now))) }
 {
     if !nests_within(value, DEEPEST) {
@@ -110,10 +123,8 @@ fn tested_text(alloc: Global, value: &Value) -> Result<Vec<u8>, DefFault>
     let Some(text) = canonical_text_within(alloc, value, LONGEST_TEXT)? else {
         return Err(DefFault::TooLarge);
     };
-    match member_fault(value) {
-        Some(fault) => Err(fault),
-        None => Ok(text),
-    }
+    let rule = tested_members(alloc, value)?;
+    Ok((text, rule))
 }
 
 // The definition that a value is, where the text that it was read from is its canonical one.

@@ -6,10 +6,13 @@ mod faults;
 mod key;
 mod kind;
 mod members;
+mod resolving;
+mod rules;
 
 pub use definition::Definition;
 pub use faults::{DefFault, KeyFault};
 pub use key::FlagKey;
+pub use resolving::{EvalFault, Reason, Resolved};
 
 #[cfg(test)]
 mod tests;

@@ -1,44 +1,47 @@
 //! The tests that each member of a definition has to meet.
 
-ghost use Rattle.std.specs.Prelude.{◌≡◌, codes, option_and_then};
+ghost use Rattle.std.specs.Prelude.{◌≡◌, codes, None, IfOk, IfErr};
 ghost use Rattle.serde_json.specs.Events.{members_len};
 ghost use Rattle.serde_json.specs.Find.{get};
 ghost use Rattle.serde_json.specs.View.{view, members_view};
 ghost use Rattle.fp_base.specs.Tests.{first_failed};
-ghost use Rattle.fp_definition.specs.Faults.{tells};
-ghost use Rattle.fp_definition.specs.Valid.{member_tests, is_state, are_variants, variant_members, is_between, names_variant, is_metadata, metadata_members, is_no_rule};
+ghost use Rattle.fp_definition.specs.Faults.{IsFault};
+ghost use Rattle.fp_definition.specs.Targeting.{rule_in};
+ghost use Rattle.fp_definition.specs.Valid.{member_tests, is_state, are_variants, variant_members, is_between, names_variant, is_metadata, metadata_members};
 
 use crate::faults::DefFault;
 use crate::kind::{are_of_one_kind, are_scalars};
+use crate::rules::rule_of;
+use fp_targeting::Rule;
 use serde_json::{Map, Value};
+use std::alloc::Global;
 
 const MOST_VARIANTS: usize = 64;
 
 const MOST_METADATA: usize = 32;
 
-// The fault of the first of these tests that the value doesn't meet.
-pub(crate) fn member_fault(value: &Value) -> Option<DefFault>
-    ensures { option_and_then tells result ≡ first_failed (member_tests (view value.now)) }
+// The rule of a value that meets each of these tests, if it has one; else the fault of the first that it doesn't meet.
+pub(crate) fn tested_members(alloc: Global, value: &Value) -> Result<Option<Rule>, DefFault>
+    ensures met { IfOk result (λ _. first_failed (member_tests (view value.now)) ≡ None) }
+    ensures rule { IfOk result (λ r. r ≡ rule_in (get (codes "targeting") (view value.now))) }
+    ensures refused { IfErr result (λ e. IsFault e (first_failed (member_tests (view value.now)))) }
 {
     if !value.is_object() {
-        return Some(DefFault::NotObject);
+        return Err(DefFault::NotObject);
     }
     if !has_state(value) {
-        return Some(DefFault::BadState);
+        return Err(DefFault::BadState);
     }
     if !has_variants(value) {
-        return Some(DefFault::BadVariants);
+        return Err(DefFault::BadVariants);
     }
     if !has_default(value) {
-        return Some(DefFault::BadDefault);
+        return Err(DefFault::BadDefault);
     }
     if !has_metadata(value) {
-        return Some(DefFault::BadMetadata);
+        return Err(DefFault::BadMetadata);
     }
-    if !has_no_rule(value) {
-        return Some(DefFault::BadRule);
-    }
-    None
+    rule_of(alloc, value)
 }
 
 fn has_state(value: &Value) -> bool
@@ -94,16 +97,6 @@ fn are_metadata_members(members: &Map<String, Value>) -> bool
     count_is_within(members, 0, MOST_METADATA) && are_scalars(members)
 }
 
-fn has_no_rule(value: &Value) -> bool
-    ensures { result ≡ is_no_rule (get (codes "targeting") (view value.now)) }
-{
-    match value.get("targeting") {
-        None | Some(Value::Null) => true,
-        Some(Value::Object(members)) => count_of(members) == 0,
-        Some(_) => false,
-    }
-}
-
 fn count_is_within(members: &Map<String, Value>, least: usize, most: usize) -> bool
     ensures { result ≡ is_between least most (members_len (members_view members.now.entries)) }
 {
@@ -111,7 +104,7 @@ fn count_is_within(members: &Map<String, Value>, least: usize, most: usize) -> b
     least <= count && count <= most
 }
 
-fn count_of(members: &Map<String, Value>) -> usize
+pub(crate) fn count_of(members: &Map<String, Value>) -> usize
     ensures { result ≡ members_len (members_view members.now.entries) }
 {
     members.len()

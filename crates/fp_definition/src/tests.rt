@@ -1,3 +1,5 @@
+mod resolving;
+
 use crate::{DefFault, Definition, FlagKey, KeyFault};
 use fp_base::read_json;
 use serde_json::Value;
@@ -104,7 +106,7 @@ fn members_that_no_rule_speaks_of_stay(rt: HostRuntime) -> Result<(), Fail> {
     Ok(())
 }
 
-const MEMBERS: [(&str, &str); 22] = [
+const MEMBERS: [(&str, &str); 28] = [
     (r#""state":"ENABLED""#, "valid"),
     (r#""state":"DISABLED""#, "valid"),
     (r#""state":"enabled""#, "bad-state"),
@@ -118,7 +120,19 @@ const MEMBERS: [(&str, &str); 22] = [
     (r#""targeting":null"#, "valid"),
     (r#""targeting":{}"#, "valid"),
     (r#""targeting":[]"#, "bad-rule"),
-    (r#""targeting":{"if":[]}"#, "bad-rule"),
+    (r#""targeting":"on""#, "bad-rule"),
+    (r#""targeting":{"if":[]}"#, "valid"),
+    (r#""targeting":{"if":1,"or":2}"#, "valid"),
+    (r#""targeting":{"!!":[]}"#, "bad-rule"),
+    (r#""targeting":{"map":[]}"#, "unsupported-operator"),
+    (
+        r#""targeting":{"!!":[1,{"$ref":"staff"}]}"#,
+        "unsupported-operator",
+    ),
+    (
+        r#""targeting":{"and":[{"!!":[]},{"none":[]}]}"#,
+        "unsupported-operator",
+    ),
     (r#""defaultVariant":null"#, "bad-default"),
     (r#""defaultVariant":1"#, "bad-default"),
     (r#""defaultVariant":"b""#, "bad-default"),

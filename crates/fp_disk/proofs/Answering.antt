@@ -12,10 +12,13 @@ use Rattle.fp_disk.specs.MemoryLaws.{replay_more, elapses_call, synced_fits, wri
 
 pub answers_of : {T : Type 0} (old new : Memory) (request : Request) (p : Progress) (result : Result T DiskFault) → Answered old new request p result → Answers old.faults new.faults result
 answers_of old new request p (Ok x) a = record { well = λ ok. ap (λ (m : Memory). m.faults) (a.ok.1); ill = λ err. absurd (cc err) }
-answers_of old new request p (Err e) a = record { well = λ ok. absurd (cc ok); ill = λ err. elim a.err [
+answers_of old new request p (Err e) a = record {
+  well = λ ok. absurd (cc ok);
+  ill = λ err. elim a.err [
     | inl fails ↦ rose (failed old (record { request = request; progress = p })) fails.1 refl
     | inr none ↦ rose (refused old) none refl
-  ] }
+  ];
+}
   where
     rose : (there : Memory) → new ≡ there → there.faults ≡ old.faults + 1 → old.faults < new.faults
     rose there is one = let e : new.faults ≡ there.faults = ap (λ (m : Memory). m.faults) is in omega (arith, e, one)
@@ -29,10 +32,10 @@ pub elapses_of : {T : Type 0} (old new : Memory) (request : Request) (p : Progre
 elapses_of old new request p u fits (Ok x) a = subst (λ (m : Memory). Elapses (length old.calls) (length m.calls) (LeftSince old.first old.calls) (LeftSince m.first m.calls) (IsOutcome u)) (sym a.ok.1)
     (elapses_call old.first old.calls (record { request = request; progress = Whole }) u (fits Whole))
 elapses_of old new request p u fits (Err e) a = elim a.err [
-    | inl fails ↦ subst (λ (m : Memory). Elapses (length old.calls) (length m.calls) (LeftSince old.first old.calls) (LeftSince m.first m.calls) (IsOutcome u)) (sym fails.1)
+  | inl fails ↦ subst (λ (m : Memory). Elapses (length old.calls) (length m.calls) (LeftSince old.first old.calls) (LeftSince m.first m.calls) (IsOutcome u)) (sym fails.1)
       (elapses_call old.first old.calls (record { request = request; progress = p }) u (fits p))
-    | inr none ↦ subst (λ (m : Memory). Elapses (length old.calls) (length m.calls) (LeftSince old.first old.calls) (LeftSince m.first m.calls) (IsOutcome u)) (sym none) (elapses_none old.first old.calls u)
-  ]
+  | inr none ↦ subst (λ (m : Memory). Elapses (length old.calls) (length m.calls) (LeftSince old.first old.calls) (LeftSince m.first m.calls) (IsOutcome u)) (sym none) (elapses_none old.first old.calls u)
+]
 
 -- the state after a call that succeeded, and after one that failed
 
@@ -43,17 +46,17 @@ state_ok old new request p (Err e) a = tt
 pub state_err : {T : Type 0} (old new : Memory) (request : Request) (p : Progress) (result : Result T DiskFault) → Answered old new request p result → IsErr result → (state new ≡ after_request request p (state old)) ⊎ (state new ≡ state old)
 state_err old new request p (Ok x) a err = absurd (cc err)
 state_err old new request p (Err e) a err = elim a.err [
-    | inl fails ↦ inl (ap state fails.1 ∙ replay_more (at_first old.first) old.calls (record { request = request; progress = p }))
-    | inr none ↦ inr (ap state none)
-  ]
+  | inl fails ↦ inl (ap state fails.1 ∙ replay_more (at_first old.first) old.calls (record { request = request; progress = p }))
+  | inr none ↦ inr (ap state none)
+]
 
 -- a call that reads changes nothing
 pub state_same : {T : Type 0} (old new : Memory) (request : Request) (p : Progress) → ((q : Progress) → after_request request q (state old) ≡ state old) → (result : Result T DiskFault) → Answered old new request p result → state new ≡ state old
 state_same old new request p quiet (Ok x) a = state_ok old new request p (Ok x) a ∙ quiet Whole
 state_same old new request p quiet (Err e) a = elim (state_err old new request p (Err e) a refl) [
-    | inl there ↦ there ∙ quiet p
-    | inr same ↦ same
-  ]
+  | inl there ↦ there ∙ quiet p
+  | inr same ↦ same
+]
 
 -- a write
 
@@ -68,15 +71,15 @@ touched_ok old new at more p (Err e) a = tt
 pub touched_err : {T : Type 0} (old new : Memory) (at : ℕ) (more : List ℕ) (p : Progress) (result : Result T DiskFault) → Answered old new (Write at more) p result
     → IsErr result → (unsynced_of (state new) ≡ unsynced_of (state old)) ⊎ (unsynced_of (state new) ≡ touched (unsynced_of (state old)) at (length more))
 touched_err old new at more p result a err = elim (state_err old new (Write at more) p result a err) [
-    | inl there ↦ inr (ap unsynced_of there)
-    | inr same ↦ inl (ap unsynced_of same)
-  ]
+  | inl there ↦ inr (ap unsynced_of there)
+  | inr same ↦ inl (ap unsynced_of same)
+]
 
 pub written_partly : {T : Type 0} (old new : Memory) (at : ℕ) (more : List ℕ) (p : Progress) (result : Result T DiskFault) → Answered old new (Write at more) p result → IsErr result → ChangesWithin (state old).bytes at (length more) (state new).bytes
 written_partly old new at more p result a err = elim (state_err old new (Write at more) p result a err) [
-    | inl there ↦ subst (λ (s : State). ChangesWithin (state old).bytes at (length more) s.bytes) (sym there) (written_changes p (state old).bytes more at)
-    | inr same ↦ subst (λ (s : State). ChangesWithin (state old).bytes at (length more) s.bytes) (sym same) (record { no_shorter = omega arith; no_longer = omega arith; outside = λ k lt out. refl })
-  ]
+  | inl there ↦ subst (λ (s : State). ChangesWithin (state old).bytes at (length more) s.bytes) (sym there) (written_changes p (state old).bytes more at)
+  | inr same ↦ subst (λ (s : State). ChangesWithin (state old).bytes at (length more) s.bytes) (sym same) (record { no_shorter = omega arith; no_longer = omega arith; outside = λ k lt out. refl })
+]
 
 -- a sync
 
@@ -86,9 +89,9 @@ settled_ok old new p (Err e) a = tt
 
 pub settled_err : {T : Type 0} (old new : Memory) (result : Result T DiskFault) → Answered old new Sync Nothing result → IsErr result → state new ≡ state old
 settled_err old new result a err = elim (state_err old new Sync Nothing result a err) [
-    | inl there ↦ there
-    | inr same ↦ same
-  ]
+  | inl there ↦ there
+  | inr same ↦ same
+]
 
 pub bytes_stay : {T : Type 0} (old new : Memory) (result : Result T DiskFault) → Answered old new Sync Nothing result → (state new).bytes ≡ (state old).bytes
 bytes_stay old new (Ok x) a = ap (λ (s : State). s.bytes) (state_ok old new Sync Nothing (Ok x) a)

@@ -16,12 +16,12 @@ use Rattle.fp_disk.proofs.Keeping.{writes_after_more}
 
 apart : (at n k : ℕ) → ((at ≤ k) × (k < at + n) → ⊥) → (nat_le at k && nat_lt k (at + n)) ≡ false
 apart at n k out = elim (cases_lt k at) [
-    | inl less ↦ grind (arith, nat_tests)
-    | inr le ↦ elim (cases_lt k (at + n)) [
-      | inl lt ↦ absurd (out (le, lt))
-      | inr past ↦ grind (arith, nat_tests)
-    ]
+  | inl less ↦ grind (arith, nat_tests)
+  | inr le ↦ elim (cases_lt k (at + n)) [
+    | inl lt ↦ absurd (out (le, lt))
+    | inr past ↦ grind (arith, nat_tests)
   ]
+]
 
 -- a place that no write reaches keeps its byte
 laid_apart : (fills : List Fill) (rest : Fill) (ws : List (ℕ × List ℕ)) (k byte : ℕ) → (Covers (ranges_of ws) k → ⊥) → laid fills rest ws k byte ≡ byte
@@ -64,4 +64,4 @@ laid_more fills rest fill ws at number bytes first before now is chosen len so_f
     let before_k : slice_index before k ≡ laid fills rest ws k (slice_index first k) = so_far k lt in
     let fill_is : fill ≡ fill_of fills rest (length ws) = chosen ∙ ap (λ (n : ℕ). fill_of fills rest n) is in
     one k (omega (arith, len, lt)) ∙ (ap (λ (old : ℕ). (if reaches (at, bytes) k then filled fill k old (slice_index bytes (k - at)) else old)) before_k
-        ∙ ap (λ (f : Fill). (if reaches (at, bytes) k then filled f k (laid fills rest ws k (slice_index first k)) (slice_index bytes (k - at)) else laid fills rest ws k (slice_index first k))) fill_is)
+    ∙ ap (λ (f : Fill). (if reaches (at, bytes) k then filled f k (laid fills rest ws k (slice_index first k)) (slice_index bytes (k - at)) else laid fills rest ws k (slice_index first k))) fill_is)

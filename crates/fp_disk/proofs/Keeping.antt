@@ -59,9 +59,9 @@ module _ (first bytes synced : List ℕ) (calls : List Call) (settled reach : �
   pub keeps_sync : (synced' : List ℕ) (calls' : List Call) (settled' : ℕ) → synced' ≡ bytes → calls' ≡ calls ++ (record { request = Sync; progress = Whole }) ∷ [] → settled' ≡ length calls' → Keeps first bytes synced' calls' settled' (length bytes)
   keeps_sync synced' calls' settled' same is all = let more = replay_more (at_first first) calls (record { request = Sync; progress = Whole }) in
       let there : replay (at_first first) calls' ≡ after (replay (at_first first) calls) (record { request = Sync; progress = Whole }) = ap (λ (cs : List Call). replay (at_first first) cs) is ∙ more in record {
-    bytes_are = kept.bytes_are ∙ ap (λ (s : State). s.bytes) (sym there);
-    synced_are = same ∙ (kept.bytes_are ∙ ap (λ (s : State). s.synced) (sym there));
-    pending = ap (λ (cs : List Call). writes_after [] cs) (drop_all settled' calls' (omega (arith, all))) ∙ ap (λ (s : State). s.writes) (sym there);
-    within = omega (arith, all);
-    reach_is = sym (ap (λ (b : List ℕ). length b) same) ∙ ap (λ (s : State). reach_of (length synced') s.writes) (sym there);
-  }
+        bytes_are = kept.bytes_are ∙ ap (λ (s : State). s.bytes) (sym there);
+        synced_are = same ∙ (kept.bytes_are ∙ ap (λ (s : State). s.synced) (sym there));
+        pending = ap (λ (cs : List Call). writes_after [] cs) (drop_all settled' calls' (omega (arith, all))) ∙ ap (λ (s : State). s.writes) (sym there);
+        within = omega (arith, all);
+        reach_is = sym (ap (λ (b : List ℕ). length b) same) ∙ ap (λ (s : State). reach_of (length synced') s.writes) (sym there);
+      }

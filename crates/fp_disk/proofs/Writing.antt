@@ -1,8 +1,8 @@
 -- Bytes put over others past the end, where room for them is filled up first.
 use Rattle.std.proofs.Common.{◌≡◌, ◌≤◌, ◌<◌, ◌+◌, ◌-◌, ℕ, List, [], ◌∷◌, ◌++◌, length, take, drop, replicate, refl, arith, sym, ap, ◌∙◌, zero, suc, length-append}
 use Rattle.std.proofs.lemmas.Grind.{common_steps}
+use Rattle.fp_disk.specs.Outcomes.{overwritten}
 use Rattle.std.proofs.lemmas.List.{append-nil, take-replicate, drop_all}
-use Rattle.fp_disk.specs.Memory.{overwritten}
 
 -- however many zeros are behind, so long as there are enough
 same_front : (at : ℕ) (old : List ℕ) (n m : ℕ) → at ≤ length old + n → at ≤ length old + m → take at (old ++ replicate n 0) ≡ take at (old ++ replicate m 0)
@@ -15,7 +15,7 @@ overwritten-filled old more at end is lt =
     let len : length (old ++ replicate (end - length old) 0) ≡ end = grind (arith, common_steps) in
     let none : at - length (old ++ replicate (end - length old) 0) ≡ 0 = omega (arith, len, is) in
     let front : take at ((old ++ replicate (end - length old) 0) ++ replicate (at - length (old ++ replicate (end - length old) 0)) 0) ≡ take at (old ++ replicate (at - length old) 0) =
-        ap (λ (k : ℕ). take at ((old ++ replicate (end - length old) 0) ++ replicate k 0)) none ∙ (ap (λ (l : List ℕ). take at l) (append-nil (old ++ replicate (end - length old) 0)) ∙ same_front at old (end - length old) (at - length old) (omega (arith, is)) (omega arith)) in
+    ap (λ (k : ℕ). take at ((old ++ replicate (end - length old) 0) ++ replicate k 0)) none ∙ (ap (λ (l : List ℕ). take at l) (append-nil (old ++ replicate (end - length old) 0)) ∙ same_front at old (end - length old) (at - length old) (omega (arith, is)) (omega arith)) in
     let behind : drop (at + length more) (old ++ replicate (end - length old) 0) ≡ drop (at + length more) old = drop_all (at + length more) (old ++ replicate (end - length old) 0) (omega (arith, len, is)) ∙ sym (drop_all (at + length more) old (omega (arith, is))) in
     ap (λ (l : List ℕ). l ++ more ++ drop (at + length more) (old ++ replicate (end - length old) 0)) front ∙ ap (λ (l : List ℕ). take at (old ++ replicate (at - length old) 0) ++ more ++ l) behind
 

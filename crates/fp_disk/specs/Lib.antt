@@ -1,4 +1,5 @@
 pub mod Outcomes
+pub mod Writes
 pub mod Memory
 pub mod MemoryLaws
 pub mod Crash

@@ -1,6 +1,6 @@
 -- A disk in memory, by what it held at first and the calls that it recorded since.
 use Rattle.std.specs.Prelude.{◌≡◌, ◌⊎◌, ◌≤◌, ◌<◌, ◌+◌, ◌-◌, ◌/◌, ◌^◌, ℕ, max, Bool, true, false, nat_lt, if◌then◌else◌, List, [], ◌∷◌, ◌++◌, length, take, drop, replicate, Result, IsTrue, OnOk, OnErr}
-use Rattle.fp_disk.specs.Outcomes.{Unsynced, IsOutcome}
+use Rattle.fp_disk.specs.Outcomes.{Unsynced, IsOutcome, overwritten}
 use Rattle.fp_disk.specs.declared.disk.DiskFault.{DiskFault}
 use Rattle.fp_disk.specs.declared.failing.Failing.{Failing}
 use Rattle.fp_disk.specs.declared.failing.Failing.TheVariants.{Never, From, At}
@@ -38,10 +38,6 @@ pub record State : Type 0 where
   pub bytes : List ℕ
   pub synced : List ℕ
   pub writes : List (ℕ × List ℕ)
-
--- these bytes with `more` at this place, and zeros in a gap
-abbrev pub overwritten : List ℕ → ℕ → List ℕ → List ℕ
-overwritten old at more = take at (old ++ replicate (at - length old) 0) ++ more ++ drop (at + length more) old
 
 -- these bytes after so much of a write
 abbrev pub written : Progress → List ℕ → ℕ → List ℕ → List ℕ

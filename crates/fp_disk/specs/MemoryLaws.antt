@@ -4,13 +4,14 @@ use Rattle.std.proofs.lemmas.Grind.{common_steps}
 use Rattle.std.proofs.lemmas.Bool.{cases_lt}
 use Rattle.std.proofs.lemmas.List.{get_or-append_right, get_or-drop}
 use Rattle.std.proofs.Common.{inl, inr, length-append, sym, ap, ◌∙◌, subst, arith, zero, suc}
-use Rattle.fp_disk.specs.Outcomes.{Unsynced, IsOutcome, Elapses, ChangesWithin, settled}
+use Rattle.fp_disk.specs.Outcomes.{Unsynced, IsOutcome, Elapses, ChangesWithin, settled, overwritten}
+use Rattle.fp_disk.specs.Writes.{length-overwritten, overwritten_before, overwritten_behind}
 use Rattle.fp_disk.specs.declared.call.Call.{Call}
 use Rattle.fp_disk.specs.declared.call.Progress.{Progress}
 use Rattle.fp_disk.specs.declared.call.Progress.TheVariants.{Whole, Half, Nothing}
 use Rattle.fp_disk.specs.declared.call.Request.{Request}
 use Rattle.fp_disk.specs.declared.call.Request.TheVariants.{Len, Read, Write, Sync}
-use Rattle.fp_disk.specs.Memory.{State, Memory, state, overwritten, written, after, after_request, replay, at_first, unsynced_of, ranges_of, reach_of, state_at, LeftSince}
+use Rattle.fp_disk.specs.Memory.{State, Memory, state, written, after, after_request, replay, at_first, unsynced_of, ranges_of, reach_of, state_at, LeftSince}
 
 -- all of a list, and a front of a list with one more
 
@@ -32,21 +33,6 @@ counts first calls t c le out = (length calls, le, omega arith, subst (λ (l : L
 
 pub only : (first : List ℕ) (calls : List Call) (c : List ℕ) → LeftSince first calls (length calls) c → IsOutcome (unsynced_of (replay (at_first first) calls)) c
 only first calls c left = subst (λ (l : List Call). IsOutcome (unsynced_of (replay (at_first first) l)) c) (take_whole calls left.0 left.1) left.3
-
--- what a write changes
-
-length-overwritten : (old more : List ℕ) (at : ℕ) → length (overwritten old at more) ≡ max (length old) (at + length more)
-length-overwritten old more at = grind (arith, common_steps)
-
-overwritten_before : (old more : List ℕ) (at k : ℕ) → k < at → k < length old → slice_index (overwritten old at more) k ≡ slice_index old k
-overwritten_before old more at k lt in_old = grind (arith, common_steps)
-
-overwritten_behind : (old more : List ℕ) (at k : ℕ) → at + length more ≤ k → slice_index (overwritten old at more) k ≡ slice_index old k
-overwritten_behind old more at k le =
-    let front = take at (old ++ replicate (at - length old) 0) ++ more in
-    let len : length front ≡ at + length more = grind (arith, common_steps) in
-    let there : (at + length more) + (k - (at + length more)) ≡ k = omega arith in
-    get_or-append_right front (drop (at + length more) old) (at + length more) k 0 len le ∙ (get_or-drop (at + length more) old (k - (at + length more)) 0 ∙ ap (λ (j : ℕ). slice_index old j) there)
 
 -- a part of a write changes no more than the whole
 
@@ -112,13 +98,13 @@ replay_more s (d ∷ cs) c = replay_more (after s d) cs c
 pub elapses_call : (first : List ℕ) (calls : List Call) (c : Call) (u : Unsynced) → ((o : List ℕ) → IsOutcome (unsynced_of (after (replay (at_first first) calls) c)) o → IsOutcome u o)
     → Elapses (length calls) (length (calls ++ c ∷ [])) (LeftSince first calls) (LeftSince first (calls ++ c ∷ [])) (IsOutcome u)
 elapses_call first calls c u fits = record {
-    later = omega (arith, len);
-    nothing_else = λ t o le left. elim (cases_lt (length calls) left.0) [
-      | inl past ↦ inr (fits o (subst (λ (s : State). IsOutcome (unsynced_of s) o) (whole left.0 (omega (arith, past))) left.3))
-      | inr within ↦ inl (left.0, left.1, within, subst (λ (l : List Call). IsOutcome (unsynced_of (replay (at_first first) l)) o) (take_front left.0 calls c within) left.3)
-    ];
-    keeps = λ t o le left. (left.0, left.1, (let h = left.2 in omega (arith, len, h)), subst (λ (l : List Call). IsOutcome (unsynced_of (replay (at_first first) l)) o) (sym (take_front left.0 calls c left.2)) left.3);
-  }
+  later = omega (arith, len);
+  nothing_else = λ t o le left. elim (cases_lt (length calls) left.0) [
+    | inl past ↦ inr (fits o (subst (λ (s : State). IsOutcome (unsynced_of s) o) (whole left.0 (omega (arith, past))) left.3))
+    | inr within ↦ inl (left.0, left.1, within, subst (λ (l : List Call). IsOutcome (unsynced_of (replay (at_first first) l)) o) (take_front left.0 calls c within) left.3)
+  ];
+  keeps = λ t o le left. (left.0, left.1, (let h = left.2 in omega (arith, len, h)), subst (λ (l : List Call). IsOutcome (unsynced_of (replay (at_first first) l)) o) (sym (take_front left.0 calls c left.2)) left.3);
+}
   where
     len : length (calls ++ c ∷ []) ≡ length calls + 1
     len = length-append calls (c ∷ [])

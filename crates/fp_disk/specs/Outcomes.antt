@@ -28,9 +28,13 @@ settled bytes = record { synced = bytes; ranges = []; reach = length bytes }
 abbrev pub touched : Unsynced → ℕ → ℕ → Unsynced
 touched u at n = record { synced = u.synced; ranges = (at, n) ∷ u.ranges; reach = max u.reach (at + n) }
 
--- new is old with these bytes at this place, and zeros in a gap
+-- these bytes with others at this place, and zeros in a gap
+abbrev pub overwritten : List ℕ → ℕ → List ℕ → List ℕ
+overwritten old at more = take at (old ++ replicate (at - length old) 0) ++ more ++ drop (at + length more) old
+
+-- new is old with these bytes at this place
 abbrev pub Written : List ℕ → ℕ → List ℕ → List ℕ → Type 0
-Written old at more new = new ≡ take at (old ++ replicate (at - length old) 0) ++ more ++ drop (at + length more) old
+Written old at more new = new ≡ overwritten old at more
 
 -- new is old but for these places, and ends no later than it or they do: what a write leaves that did a part of its work
 pub record ChangesWithin (old : List ℕ) (at n : ℕ) (new : List ℕ) : Type 0 where

@@ -1,4 +1,4 @@
-ghost use Rattle.std.specs.Prelude.{◌≡◌, ◌≤◌, ◌+◌, ◌⊎◌, length, slice_range, IfOk, OnOk, IsErr};
+ghost use Rattle.std.specs.Prelude.{◌≡◌, ◌↔◌, ◌≤◌, ◌+◌, ◌⊎◌, length, slice_range, IfOk, OnOk, IsErr};
 ghost use Rattle.fp_disk.specs.Outcomes.{Answers, ChangesWithin, Elapses, IsOutcome, Written, settled, touched};
 
 use crate::disk::{Disk, DiskFault};
@@ -58,10 +58,14 @@ impl<D: Disk> Checked<D> {
     /// How many bytes there are.
     pub fn len(&mut self) -> Result<u64, DiskFault>
         ensures name { self.new.name ≡ self.old.name }
-        ensures answer { D.honest self.old.disk → IfOk result (λ n. n ≡ length (D.bytes self.old.disk)) }
-        ensures honest { (D.honest self.old.disk → D.honest self.new.disk) × (D.honest self.new.disk → D.honest self.old.disk) }
-        ensures same { D.honest self.old.disk → (D.bytes self.new.disk ≡ D.bytes self.old.disk) × (D.unsynced self.new.disk ≡ D.unsynced self.old.disk) }
-        ensures time { D.honest self.old.disk → Elapses (D.moment self.old.disk) (D.moment self.new.disk) (D.left_since self.old.disk) (D.left_since self.new.disk) (IsOutcome (D.unsynced self.old.disk)) }
+        ensures answer { D.honest self.old.disk →
+            IfOk result (λ n. n ≡ length (D.bytes self.old.disk)) }
+        ensures honest { D.honest self.old.disk ↔ D.honest self.new.disk }
+        ensures same { D.honest self.old.disk → (D.bytes self.new.disk ≡ D.bytes self.old.disk)
+            × (D.unsynced self.new.disk ≡ D.unsynced self.old.disk) }
+        ensures time { D.honest self.old.disk →
+            Elapses (D.moment self.old.disk) (D.moment self.new.disk) (D.left_since self.old.disk)
+            (D.left_since self.new.disk) (IsOutcome (D.unsynced self.old.disk)) }
         ensures cause { Answers (D.faults self.old.disk) (D.faults self.new.disk) result }
     {
         self.disk.len()
@@ -71,10 +75,14 @@ impl<D: Disk> Checked<D> {
     pub fn read_at(&mut self, at: u64, into: &mut [u8]) -> Result<(), DiskFault>
         requires { D.honest self.old.disk → at + length into.old ≤ length (D.bytes self.old.disk) }
         ensures name { self.new.name ≡ self.old.name }
-        ensures answer { D.honest self.old.disk → OnOk result (into.new ≡ slice_range (D.bytes self.old.disk) at (at + length into.old)) }
-        ensures honest { (D.honest self.old.disk → D.honest self.new.disk) × (D.honest self.new.disk → D.honest self.old.disk) }
-        ensures same { D.honest self.old.disk → (D.bytes self.new.disk ≡ D.bytes self.old.disk) × (D.unsynced self.new.disk ≡ D.unsynced self.old.disk) }
-        ensures time { D.honest self.old.disk → Elapses (D.moment self.old.disk) (D.moment self.new.disk) (D.left_since self.old.disk) (D.left_since self.new.disk) (IsOutcome (D.unsynced self.old.disk)) }
+        ensures answer { D.honest self.old.disk →
+            OnOk result (into.new ≡ slice_range (D.bytes self.old.disk) at (at + length into.old)) }
+        ensures honest { D.honest self.old.disk ↔ D.honest self.new.disk }
+        ensures same { D.honest self.old.disk → (D.bytes self.new.disk ≡ D.bytes self.old.disk)
+            × (D.unsynced self.new.disk ≡ D.unsynced self.old.disk) }
+        ensures time { D.honest self.old.disk →
+            Elapses (D.moment self.old.disk) (D.moment self.new.disk) (D.left_since self.old.disk)
+            (D.left_since self.new.disk) (IsOutcome (D.unsynced self.old.disk)) }
         ensures cause { Answers (D.faults self.old.disk) (D.faults self.new.disk) result }
     {
         self.disk.read_at(at, into)
@@ -83,12 +91,21 @@ impl<D: Disk> Checked<D> {
     /// Writes over what is there, and past the end.
     pub fn write_at(&mut self, at: u64, from: &[u8]) -> Result<(), DiskFault>
         ensures name { self.new.name ≡ self.old.name }
-        ensures written { D.honest self.old.disk → OnOk result (Written (D.bytes self.old.disk) at from.now (D.bytes self.new.disk)) }
-        ensures honest { (D.honest self.old.disk → D.honest self.new.disk) × (D.honest self.new.disk → D.honest self.old.disk) }
-        ensures unsynced { D.honest self.old.disk → OnOk result (D.unsynced self.new.disk ≡ touched (D.unsynced self.old.disk) at (length from.now)) }
-        ensures partly { D.honest self.old.disk → IsErr result → ChangesWithin (D.bytes self.old.disk) at (length from.now) (D.bytes self.new.disk) }
-        ensures failed { D.honest self.old.disk → IsErr result → (D.unsynced self.new.disk ≡ D.unsynced self.old.disk) ⊎ (D.unsynced self.new.disk ≡ touched (D.unsynced self.old.disk) at (length from.now)) }
-        ensures time { D.honest self.old.disk → Elapses (D.moment self.old.disk) (D.moment self.new.disk) (D.left_since self.old.disk) (D.left_since self.new.disk) (IsOutcome (touched (D.unsynced self.old.disk) at (length from.now))) }
+        ensures written { D.honest self.old.disk →
+            OnOk result (Written (D.bytes self.old.disk) at from.now (D.bytes self.new.disk)) }
+        ensures honest { D.honest self.old.disk ↔ D.honest self.new.disk }
+        ensures unsynced { D.honest self.old.disk →
+            OnOk result
+            (D.unsynced self.new.disk ≡ touched (D.unsynced self.old.disk) at (length from.now)) }
+        ensures partly { D.honest self.old.disk → IsErr result →
+            ChangesWithin (D.bytes self.old.disk) at (length from.now) (D.bytes self.new.disk) }
+        ensures failed { D.honest self.old.disk → IsErr result →
+            (D.unsynced self.new.disk ≡ D.unsynced self.old.disk)
+            ⊎ (D.unsynced self.new.disk ≡ touched (D.unsynced self.old.disk) at (length from.now)) }
+        ensures time { D.honest self.old.disk →
+            Elapses (D.moment self.old.disk) (D.moment self.new.disk) (D.left_since self.old.disk)
+            (D.left_since self.new.disk)
+            (IsOutcome (touched (D.unsynced self.old.disk) at (length from.now))) }
         ensures cause { Answers (D.faults self.old.disk) (D.faults self.new.disk) result }
     {
         self.disk.write_at(at, from)
@@ -96,13 +113,18 @@ impl<D: Disk> Checked<D> {
 
     /// Syncs, and tells it by a token.
     pub fn sync(&mut self) -> Result<Synced<D>, DiskFault>
-        ensures token { IfOk result (λ s. (s.disk ≡ self.new.name) × (s.moment ≡ D.moment self.new.disk)) }
+        ensures token { IfOk result
+            (λ s. (s.disk ≡ self.new.name) × (s.moment ≡ D.moment self.new.disk)) }
         ensures name { self.new.name ≡ self.old.name }
-        ensures durable { D.honest self.old.disk → OnOk result (D.unsynced self.new.disk ≡ settled (D.bytes self.old.disk)) }
-        ensures failed { D.honest self.old.disk → IsErr result → D.unsynced self.new.disk ≡ D.unsynced self.old.disk }
-        ensures honest { (D.honest self.old.disk → D.honest self.new.disk) × (D.honest self.new.disk → D.honest self.old.disk) }
+        ensures durable { D.honest self.old.disk →
+            OnOk result (D.unsynced self.new.disk ≡ settled (D.bytes self.old.disk)) }
+        ensures failed { D.honest self.old.disk → IsErr result →
+            D.unsynced self.new.disk ≡ D.unsynced self.old.disk }
+        ensures honest { D.honest self.old.disk ↔ D.honest self.new.disk }
         ensures same { D.honest self.old.disk → D.bytes self.new.disk ≡ D.bytes self.old.disk }
-        ensures time { D.honest self.old.disk → Elapses (D.moment self.old.disk) (D.moment self.new.disk) (D.left_since self.old.disk) (D.left_since self.new.disk) (IsOutcome (D.unsynced self.old.disk)) }
+        ensures time { D.honest self.old.disk →
+            Elapses (D.moment self.old.disk) (D.moment self.new.disk) (D.left_since self.old.disk)
+            (D.left_since self.new.disk) (IsOutcome (D.unsynced self.old.disk)) }
         ensures cause { Answers (D.faults self.old.disk) (D.faults self.new.disk) result }
     {
         self.disk.sync()?;

@@ -17,7 +17,9 @@ fn synced_and_more(
 ) -> Result<Vec<u8>, AllocError>
     requires { length synced.now ≤ len }
     ensures len { IfOk result (λ v. length v.items ≡ len) }
-    ensures places { IfOk result (λ v. (k : ℕ) → k < len → slice_index v.items k ≡ slice_index_or synced.now k (filled rest k 0 0)) }
+    ensures places { IfOk result
+        (λ v. (k : ℕ) → k < len →
+        slice_index v.items k ≡ slice_index_or synced.now k (filled rest k 0 0)) }
 {
     let mut left = synced.to_vec(alloc)?;
     for place in synced.len()..len {
@@ -29,7 +31,10 @@ fn synced_and_more(
 // One write, as it was chosen.
 fn lay(left: &mut [u8], at: u64, bytes: &[u8], fill: Fill)
     ensures len { length left.new ≡ length left.old }
-    ensures places { (k : ℕ) → k < length left.old → slice_index left.new k ≡ (if reaches (at, bytes.now) k then filled fill k (slice_index left.old k) (slice_index bytes.now (k - at)) else slice_index left.old k) }
+    ensures places { (k : ℕ) → k < length left.old →
+        slice_index left.new k ≡
+        (if reaches (at, bytes.now) k then filled fill k (slice_index left.old k)
+        (slice_index bytes.now (k - at)) else slice_index left.old k) }
 {
     let first = at as usize;
     let end = left.len().min(first.saturating_add(bytes.len()));
@@ -48,7 +53,9 @@ fn nth(fills: &[Fill], number: usize, rest: Fill) -> Fill
 // All writes of these calls, as they were chosen.
 fn lay_all(left: &mut [u8], calls: &[Call], fills: &[Fill], rest: Fill)
     ensures len { length left.new ≡ length left.old }
-    ensures places { (k : ℕ) → k < length left.old → slice_index left.new k ≡ laid fills.now rest (writes_after [] calls.now) k (slice_index left.old k) }
+    ensures places { (k : ℕ) → k < length left.old →
+        slice_index left.new k ≡ laid fills.now rest (writes_after [] calls.now) k
+        (slice_index left.old k) }
 {
     let mut number = 0usize;
     for call in calls {
@@ -62,17 +69,30 @@ fn lay_all(left: &mut [u8], calls: &[Call], fills: &[Fill], rest: Fill)
 impl MemoryDisk {
     // The bytes that a crash leaves at this moment.
     fn left_by(&self, choice: &Choice<'_>) -> Result<Vec<u8>, AllocError>
-        ensures { IfOk result (λ v. IsLeft choice.now.length choice.now.writes.now choice.now.rest (state self.now) v.items) }
+        ensures { IfOk result
+            (λ v. IsLeft choice.now.length choice.now.writes.now choice.now.rest
+            (state self.now) v.items) }
     {
-        let len = self.synced.len().max(choice.length.min(self.reach) as usize);
+        let len = self
+            .synced
+            .len()
+            .max(choice.length.min(self.reach) as usize);
         let mut left = synced_and_more(self.alloc, &self.synced, len, choice.rest)?;
-        lay_all(&mut left, &self.calls[self.settled..], choice.writes, choice.rest);
+        lay_all(
+            &mut left,
+            &self.calls[self.settled..],
+            choice.writes,
+            choice.rest,
+        );
         Ok(left)
     }
 
-    /// The disk after a crash at this moment: it holds what the choice says, with nothing pending, and none of its calls fails.
+    /// The disk after a crash at this moment: it holds what the choice says, with nothing pending,
+    /// and none of its calls fails.
     pub fn crash(self, choice: Choice<'_>) -> Result<MemoryDisk, AllocError>
-        ensures left { IfOk result (λ m. IsLeft choice.entry.length choice.entry.writes.now choice.entry.rest (state self) m.first) }
+        ensures left { IfOk result
+            (λ m. IsLeft choice.entry.length choice.entry.writes.now choice.entry.rest
+            (state self) m.first) }
         ensures outcome { IfOk result (λ m. IsOutcome (unsynced_of (state self)) m.first) }
         ensures fresh { IfOk result (λ m. m ≡ fresh m.first) }
     {

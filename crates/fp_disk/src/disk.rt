@@ -1,4 +1,4 @@
-ghost use Rattle.std.specs.Prelude.{◌≡◌, ◌⊎◌, ◌≤◌, ◌<◌, ◌+◌, ◌∷◌, List, ℕ, length, slice_range, IfOk, OnOk, IsOk, IsErr};
+ghost use Rattle.std.specs.Prelude.{◌≡◌, ◌↔◌, ◌⊎◌, ◌≤◌, ◌<◌, ◌+◌, ◌∷◌, List, ℕ, length, slice_range, IfOk, OnOk, IsOk, IsErr};
 ghost use Rattle.fp_disk.specs.Outcomes.{Unsynced, IsOutcome, Written, ChangesWithin, settled, touched, Elapses, Answers};
 
 /// Why a disk's call failed.
@@ -8,6 +8,7 @@ pub enum DiskFault {
     Device,
 }
 
+/// A list of bytes whose writes count only after a sync. A call that fails may have done a part of its work.
 pub trait Disk {
     /// That it keeps what is said here. Nothing shows it of a real file.
     ghost honest: { Self → Type 0 };
@@ -30,45 +31,63 @@ pub trait Disk {
     /// How many bytes there are.
     fn len(&mut self) -> Result<u64, DiskFault>
         ensures answer { honest self.old → IfOk result (λ n. n ≡ length (bytes self.old)) }
-        ensures honest { (honest self.old → honest self.new) × (honest self.new → honest self.old) }
-        ensures same { honest self.old → (bytes self.new ≡ bytes self.old) × (unsynced self.new ≡ unsynced self.old) }
-        ensures time { honest self.old → Elapses (moment self.old) (moment self.new) (left_since self.old) (left_since self.new) (IsOutcome (unsynced self.old)) }
+        ensures honest { honest self.old ↔ honest self.new }
+        ensures same { honest self.old → (bytes self.new ≡ bytes self.old)
+            × (unsynced self.new ≡ unsynced self.old) }
+        ensures time { honest self.old →
+            Elapses (moment self.old) (moment self.new) (left_since self.old) (left_since self.new)
+            (IsOutcome (unsynced self.old)) }
         ensures cause { Answers (faults self.old) (faults self.new) result };
 
-    /// Reads the bytes from there on.
+    /// Reads the bytes from a place on.
     fn read_at(&mut self, at: u64, into: &mut [u8]) -> Result<(), DiskFault>
         requires { honest self.old → at + length into.old ≤ length (bytes self.old) }
-        ensures answer { honest self.old → OnOk result (into.new ≡ slice_range (bytes self.old) at (at + length into.old)) }
-        ensures honest { (honest self.old → honest self.new) × (honest self.new → honest self.old) }
-        ensures same { honest self.old → (bytes self.new ≡ bytes self.old) × (unsynced self.new ≡ unsynced self.old) }
-        ensures time { honest self.old → Elapses (moment self.old) (moment self.new) (left_since self.old) (left_since self.new) (IsOutcome (unsynced self.old)) }
+        ensures answer { honest self.old →
+            OnOk result (into.new ≡ slice_range (bytes self.old) at (at + length into.old)) }
+        ensures honest { honest self.old ↔ honest self.new }
+        ensures same { honest self.old → (bytes self.new ≡ bytes self.old)
+            × (unsynced self.new ≡ unsynced self.old) }
+        ensures time { honest self.old →
+            Elapses (moment self.old) (moment self.new) (left_since self.old) (left_since self.new)
+            (IsOutcome (unsynced self.old)) }
         ensures cause { Answers (faults self.old) (faults self.new) result };
 
-    /// Writes over what is there, and past the end. A gap reads as zeros.
+    /// Puts these bytes at a place, over what is there and past the end. A gap reads as zeros.
     fn write_at(&mut self, at: u64, from: &[u8]) -> Result<(), DiskFault>
-        ensures written { honest self.old → OnOk result (Written (bytes self.old) at from.now (bytes self.new)) }
-        ensures honest { (honest self.old → honest self.new) × (honest self.new → honest self.old) }
-        ensures unsynced { honest self.old → OnOk result (unsynced self.new ≡ touched (unsynced self.old) at (length from.now)) }
-        ensures partly { honest self.old → IsErr result → ChangesWithin (bytes self.old) at (length from.now) (bytes self.new) }
-        ensures failed { honest self.old → IsErr result → (unsynced self.new ≡ unsynced self.old) ⊎ (unsynced self.new ≡ touched (unsynced self.old) at (length from.now)) }
-        ensures time { honest self.old → Elapses (moment self.old) (moment self.new) (left_since self.old) (left_since self.new) (IsOutcome (touched (unsynced self.old) at (length from.now))) }
+        ensures written { honest self.old →
+            OnOk result (Written (bytes self.old) at from.now (bytes self.new)) }
+        ensures honest { honest self.old ↔ honest self.new }
+        ensures unsynced { honest self.old →
+            OnOk result (unsynced self.new ≡ touched (unsynced self.old) at (length from.now)) }
+        ensures partly { honest self.old → IsErr result →
+            ChangesWithin (bytes self.old) at (length from.now) (bytes self.new) }
+        ensures failed { honest self.old → IsErr result → (unsynced self.new ≡ unsynced self.old)
+            ⊎ (unsynced self.new ≡ touched (unsynced self.old) at (length from.now)) }
+        ensures time { honest self.old →
+            Elapses (moment self.old) (moment self.new) (left_since self.old) (left_since self.new)
+            (IsOutcome (touched (unsynced self.old) at (length from.now))) }
         ensures cause { Answers (faults self.old) (faults self.new) result };
 
     /// After it, a crash leaves what a read gives.
     fn sync(&mut self) -> Result<(), DiskFault>
-        ensures durable { honest self.old → OnOk result (unsynced self.new ≡ settled (bytes self.old)) }
+        ensures durable { honest self.old →
+            OnOk result (unsynced self.new ≡ settled (bytes self.old)) }
         ensures failed { honest self.old → IsErr result → unsynced self.new ≡ unsynced self.old }
-        ensures honest { (honest self.old → honest self.new) × (honest self.new → honest self.old) }
+        ensures honest { honest self.old ↔ honest self.new }
         ensures same { honest self.old → bytes self.new ≡ bytes self.old }
-        ensures time { honest self.old → Elapses (moment self.old) (moment self.new) (left_since self.old) (left_since self.new) (IsOutcome (unsynced self.old)) }
+        ensures time { honest self.old →
+            Elapses (moment self.old) (moment self.new) (left_since self.old) (left_since self.new)
+            (IsOutcome (unsynced self.old)) }
         ensures cause { Answers (faults self.old) (faults self.new) result };
 
     /// The bytes are an outcome.
     ghost present: { (d : Self) → honest d → IsOutcome (unsynced d) (bytes d) };
 
     /// This moment is one of those since an earlier one.
-    ghost counts_now: { (d : Self) (t : ℕ) (c : List ℕ) → honest d → t ≤ moment d → IsOutcome (unsynced d) c → left_since d t c };
+    ghost counts_now: { (d : Self) (t : ℕ) (c : List ℕ) →
+        honest d → t ≤ moment d → IsOutcome (unsynced d) c → left_since d t c };
 
     /// Since this moment there is no other.
-    ghost only_now: { (d : Self) (c : List ℕ) → honest d → left_since d (moment d) c → IsOutcome (unsynced d) c };
+    ghost only_now: { (d : Self) (c : List ℕ) →
+        honest d → left_since d (moment d) c → IsOutcome (unsynced d) c };
 }

@@ -2,7 +2,7 @@ ghost use Rattle.std.specs.Prelude.{◌≡◌, ◌+◌, ℕ, List, [], length};
 ghost use Rattle.fp_disk.specs.Outcomes.{Answers, settled};
 
 use crate::disk::{Disk, DiskFault};
-use crate::failures::{fault, Failures};
+use crate::failures::{Failures, fault};
 use std::fs::{OpenFile, OpenOptions};
 use std::io;
 use std::io::{Read, Seek, SeekFrom, Write};
@@ -45,11 +45,7 @@ pub fn open_file<R: Files>(rt: &R, path: &str) -> Result<FileDisk<R::File>, Disk
     open_as(rt, path, false)
 }
 
-fn open_as<R: Files>(
-    rt: &R,
-    path: &str,
-    may_create: bool,
-) -> Result<FileDisk<R::File>, DiskFault> {
+fn open_as<R: Files>(rt: &R, path: &str, may_create: bool) -> Result<FileDisk<R::File>, DiskFault> {
     let mut how = OpenOptions::new();
     how.read(true).write(true).create(may_create);
     match how.open(rt, path) {

@@ -17,5 +17,5 @@ pub use checked::{Checked, Synced};
 pub use choice::{Choice, Fill};
 pub use disk::{Disk, DiskFault};
 pub use failing::{FailedWrite, Failing};
-pub use file::{create_file, open_file, FileDisk};
+pub use file::{FileDisk, create_file, open_file};
 pub use memory::MemoryDisk;

@@ -1,5 +1,6 @@
 ghost use Rattle.std.specs.Prelude.{◌≡◌, ◌≤◌, ◌<◌, ◌+◌, ◌^◌, ◌-◌, ℕ, List, [], ◌∷◌, ◌++◌, length, slice_range, IfOk, OnOk, OnErr};
-ghost use Rattle.fp_disk.specs.Memory.{Memory, Answered, Keeps, state, unsynced_of, LeftSince, fresh, written, overwritten, write_progress};
+ghost use Rattle.fp_disk.specs.Outcomes.{overwritten};
+ghost use Rattle.fp_disk.specs.Memory.{Memory, Answered, Keeps, state, unsynced_of, LeftSince, fresh, written, write_progress};
 ghost use Rattle.fp_disk.specs.MemoryLaws.{counts, only, has_present};
 ghost use Rattle.fp_disk.specs.declared.call.Request.TheVariants.{Len, Read, Write, Sync};
 ghost use Rattle.fp_disk.specs.declared.call.Progress.TheVariants.{Nothing};
@@ -7,13 +8,14 @@ ghost use Rattle.fp_disk.specs.declared.call.Progress.TheVariants.{Nothing};
 use crate::call::{Bytes, Call, Progress, Request};
 use crate::disk::{Disk, DiskFault};
 use crate::failing::{FailedWrite, Failing};
-use crate::failures::{fault, Failures};
+use crate::failures::{Failures, fault};
 use std::alloc::{AllocError, Global};
 use std::marker::Model;
 use std::snapshot::Snapshot;
 
-/// A disk in memory. It records each call, so that what a crash leaves can be chosen later, and fails as it is told to. A
-/// call for which there is no memory fails too, and leaves no record.
+/// A disk in memory. It records each call, so that what a crash leaves can be chosen later, and fails
+/// as it is told to. A call for which there is no memory, or a write that would end past 2^64, fails
+/// too, and leaves no record.
 #[derive(Drop)]
 pub struct MemoryDisk {
     pub(crate) alloc: Global,
@@ -33,9 +35,16 @@ pub struct MemoryDisk {
 impl Model for MemoryDisk {
     ghost Value = { Memory };
 
-    ghost view = { λ m. record { first = m.first.value.items; calls = m.calls.items; failing = m.failing; failed_writes = m.failed_writes; faults = length m.failures.log } };
+    ghost view = { λ m. record {
+      first = m.first.value.items;
+      calls = m.calls.items;
+      failing = m.failing;
+      failed_writes = m.failed_writes;
+      faults = length m.failures.log;
+    } };
 
-    ghost invariant = { λ m. Keeps m.first.value.items m.bytes.items m.synced.items m.calls.items m.settled m.reach };
+    ghost invariant = { λ m. Keeps m.first.value.items m.bytes.items m.synced.items m.calls.items
+        m.settled m.reach };
 }
 
 impl MemoryDisk {
@@ -118,12 +127,7 @@ fn overwrite(bytes: &mut Vec<u8>, at: usize, from: &[u8]) -> Result<(), AllocErr
 }
 
 // So much of a write.
-fn put(
-    bytes: &mut Vec<u8>,
-    at: usize,
-    from: &[u8],
-    progress: Progress,
-) -> Result<(), AllocError>
+fn put(bytes: &mut Vec<u8>, at: usize, from: &[u8], progress: Progress) -> Result<(), AllocError>
     requires { at + length from.now < 2 ^ 64 }
     ensures ok { OnOk result (bytes.new.items ≡ written progress bytes.old.items at from.now) }
     ensures err { OnErr result (bytes.new.items ≡ bytes.old.items) }
@@ -146,8 +150,11 @@ fn put_and_record(
 ) -> Result<u64, AllocError>
     ensures end { IfOk result (λ end. end ≡ at + length from.now) }
     ensures bytes { OnOk result (bytes.new.items ≡ written progress bytes.old.items at from.now) }
-    ensures calls { OnOk result (calls.new.items ≡ calls.old.items ++ (record { request = Write at from.now; progress = progress }) ∷ []) }
-    ensures err { OnErr result ((bytes.new.items ≡ bytes.old.items) × (calls.new.items ≡ calls.old.items)) }
+    ensures calls { OnOk result
+        (calls.new.items ≡ calls.old.items ++
+        (record { request = Write at from.now; progress = progress }) ∷ []) }
+    ensures err { OnErr result
+        ((bytes.new.items ≡ bytes.old.items) × (calls.new.items ≡ calls.old.items)) }
 {
     let end = at.checked_add(from.len() as u64).ok_or(AllocError)?;
     let copy = Bytes::copy_of(alloc, from)?;
@@ -162,7 +169,9 @@ fn put_and_record(
 
 // The record of a call that wrote nothing.
 fn note(calls: &mut Vec<Call>, request: Request, progress: Progress) -> Result<(), AllocError>
-    ensures ok { OnOk result (calls.new.items ≡ calls.old.items ++ (record { request = request; progress = progress }) ∷ []) }
+    ensures ok { OnOk result
+        (calls.new.items ≡ calls.old.items ++
+        (record { request = request; progress = progress }) ∷ []) }
     ensures err { OnErr result (calls.new.items ≡ calls.old.items) }
 {
     calls.push(Call { request, progress })?;
@@ -206,7 +215,8 @@ impl Disk for MemoryDisk {
     fn read_at(&mut self, at: u64, into: &mut [u8]) -> Result<(), DiskFault>
         requires { at + length into.old ≤ length (state self.old).bytes }
         ensures recorded { Answered self.old self.new (Read at (length into.old)) Nothing result }
-        ensures answer { OnOk result (into.new ≡ slice_range (state self.old).bytes at (at + length into.old)) }
+        ensures answer { OnOk result
+            (into.new ≡ slice_range (state self.old).bytes at (at + length into.old)) }
     {
         let progress = self.failing.progress();
         self.failing = self.failing.after_call();
@@ -226,7 +236,8 @@ impl Disk for MemoryDisk {
     }
 
     fn write_at(&mut self, at: u64, from: &[u8]) -> Result<(), DiskFault>
-        ensures recorded { Answered self.old self.new (Write at from.now) (write_progress self.old.failed_writes self.old.failing) result }
+        ensures recorded { Answered self.old self.new (Write at from.now)
+            (write_progress self.old.failed_writes self.old.failing) result }
     {
         let progress = self.failed_writes.progress(self.failing);
         self.failing = self.failing.after_call();

@@ -59,7 +59,9 @@ impl<E> Growing<E> {
 
     /// Puts the elements of `more` behind the list, and gives the whole list as a beginning of what it will be.
     pub fn lengthen<X, M: Lists<X, E>>(&mut self, more: &X) -> Front<E>
-        ensures { (self.new.name ≡ self.old.name) × (self.new.log ≡ self.old.log ++ M.items more.now) × (result.name ≡ self.old.name) × (result.log ≡ self.new.log) }
+        ensures { (self.new.name ≡ self.old.name)
+            × (self.new.log ≡ self.old.log ++ M.items more.now) × (result.name ≡ self.old.name)
+            × (result.log ≡ self.new.log) }
     {
         let _ = more;
         Front {

@@ -1,12 +1,11 @@
 use super::*;
 use crate::checked::Checked;
 use std::alloc::Global;
-use std::env;
-use std::fs;
 use std::fs::{File, Metadata};
 use std::path::PathBuf;
 use std::string::String;
 use std::test::Fail;
+use std::{env, fs};
 
 fn in_temp(rt: &HostRuntime, name: &str) -> Result<PathBuf, Fail> {
     let mut path = env::temp_dir(rt)?;

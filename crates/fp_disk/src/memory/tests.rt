@@ -38,7 +38,10 @@ fn after_crash(
 #[test]
 fn a_write_shows_at_once_and_a_gap_reads_as_zeros(rt: HostRuntime) -> Result<(), Fail> {
     let mut disk = pending(rt.alloc())?;
-    assert_eq!(rt; all_of(rt.alloc(), &mut disk)?.as_slice(), b"aXYd\0\0Z".as_slice());
+    assert_eq!(rt;
+        all_of(rt.alloc(), &mut disk)?.as_slice(),
+        b"aXYd\0\0Z".as_slice()
+    );
     Ok(())
 }
 
@@ -52,7 +55,12 @@ fn a_crash_leaves_what_is_chosen(rt: HostRuntime) -> Result<(), Fail> {
         (most, [old, new].as_slice(), old, b"abcd\0\0Z".as_slice()),
         (most, [new, old].as_slice(), old, b"aXYd\0\0\0".as_slice()),
         (5, [gate].as_slice(), old, b"a\xa5\xa5d\0".as_slice()),
-        (most, [new, gate].as_slice(), Fill::Byte(9), b"aXYd\x09\x09\xa5".as_slice()),
+        (
+            most,
+            [new, gate].as_slice(),
+            Fill::Byte(9),
+            b"aXYd\x09\x09\xa5".as_slice(),
+        ),
         (6, [].as_slice(), Fill::Byte(b'.'), b"a..d..".as_slice()),
     ] {
         let left = after_crash(rt.alloc(), pending(rt.alloc())?, length, writes, rest)?;
@@ -86,7 +94,13 @@ fn a_seed_fills_what_is_open_and_nothing_else(rt: HostRuntime) -> Result<(), Fai
     for seed in 0..64u64 {
         let left = after_crash(rt.alloc(), pending(rt.alloc())?, 7, &[], Fill::Seed(seed))?;
         let again = after_crash(rt.alloc(), pending(rt.alloc())?, 7, &[], Fill::Seed(seed))?;
-        let next = after_crash(rt.alloc(), pending(rt.alloc())?, 7, &[], Fill::Seed(seed + 1))?;
+        let next = after_crash(
+            rt.alloc(),
+            pending(rt.alloc())?,
+            7,
+            &[],
+            Fill::Seed(seed + 1),
+        )?;
         assert_eq!(rt; left.as_slice(), again.as_slice());
         assert_eq!(rt; (left.first(), left.get(3)), (Some(&b'a'), Some(&b'd')));
         for (one, other) in left.iter().zip(next.iter()) {
@@ -112,7 +126,13 @@ fn nothing_is_open_after_a_sync_or_a_crash(rt: HostRuntime) -> Result<(), Fail> 
         writes: &[Fill::New],
         rest: Fill::Old,
     };
-    let left = after_crash(rt.alloc(), pending(rt.alloc())?.crash(choice)?, 0, &[], Fill::Byte(7))?;
+    let left = after_crash(
+        rt.alloc(),
+        pending(rt.alloc())?.crash(choice)?,
+        0,
+        &[],
+        Fill::Byte(7),
+    )?;
     assert_eq!(rt; left.as_slice(), b"aXYd\0".as_slice());
     Ok(())
 }
@@ -123,12 +143,21 @@ fn a_write_that_fails_does_half_or_nothing(rt: HostRuntime) -> Result<(), Fail> 
         (FailedWrite::Nothing, b"abcd".as_slice()),
         (FailedWrite::Half, b"abWX".as_slice()),
     ] {
-        for (fill, want) in [(Fill::Old, b"abcd".as_slice()), (Fill::New, b"abWXYZ!".as_slice())] {
+        for (fill, want) in [
+            (Fill::Old, b"abcd".as_slice()),
+            (Fill::New, b"abWXYZ!".as_slice()),
+        ] {
             let mut disk = MemoryDisk::holding(rt.alloc(), b"abcd".to_vec(rt.alloc())?)?;
             disk.set_failing(Failing::At(0), failed);
             assert!(rt; disk.write_at(2, b"WXYZ!").is_err());
             assert_eq!(rt; all_of(rt.alloc(), &mut disk)?.as_slice(), present);
-            let left = after_crash(rt.alloc(), disk, if fill == Fill::Old { 0 } else { 9 }, &[fill], fill)?;
+            let left = after_crash(
+                rt.alloc(),
+                disk,
+                if fill == Fill::Old { 0 } else { 9 },
+                &[fill],
+                fill,
+            )?;
             assert_eq!(rt; left.as_slice(), want);
         }
     }
@@ -153,11 +182,31 @@ fn six_calls<D: Disk>(disk: &mut D) -> [bool; 6]
 fn calls_fail_from_one_on_or_alone(rt: HostRuntime) -> Result<(), Fail> {
     for (call, from, at) in [
         (0, [true; 6], [true, false, false, false, false, false]),
-        (1, [false, true, true, true, true, true], [false, true, false, false, false, false]),
-        (2, [false, false, true, true, true, true], [false, false, true, false, false, false]),
-        (3, [false, false, false, true, true, true], [false, false, false, true, false, false]),
-        (4, [false, false, false, false, true, true], [false, false, false, false, true, false]),
-        (5, [false, false, false, false, false, true], [false, false, false, false, false, true]),
+        (
+            1,
+            [false, true, true, true, true, true],
+            [false, true, false, false, false, false],
+        ),
+        (
+            2,
+            [false, false, true, true, true, true],
+            [false, false, true, false, false, false],
+        ),
+        (
+            3,
+            [false, false, false, true, true, true],
+            [false, false, false, true, false, false],
+        ),
+        (
+            4,
+            [false, false, false, false, true, true],
+            [false, false, false, false, true, false],
+        ),
+        (
+            5,
+            [false, false, false, false, false, true],
+            [false, false, false, false, false, true],
+        ),
         (6, [false; 6], [false; 6]),
     ] {
         for (failing, want) in [(Failing::From(call), from), (Failing::At(call), at)] {
@@ -195,6 +244,9 @@ fn a_write_that_ends_past_all_places_fails(rt: HostRuntime) -> Result<(), Fail> 
     let mut disk = pending(rt.alloc())?;
     assert!(rt; disk.write_at(u64::MAX, b"ab").is_err());
     assert!(rt; disk.write_at(u64::MAX - 2, b"ab").is_err());
-    assert_eq!(rt; all_of(rt.alloc(), &mut disk)?.as_slice(), b"aXYd\0\0Z".as_slice());
+    assert_eq!(rt;
+        all_of(rt.alloc(), &mut disk)?.as_slice(),
+        b"aXYd\0\0Z".as_slice()
+    );
     Ok(())
 }

@@ -7,5 +7,5 @@ invariant-loop-place l = record {
   len : length l.left ≡ length l.initial.left;
   laid : (k : ℕ) → l.first ≤ k → k < l.place → slice_index l.left k ≡ filled l.fill k (slice_index l.initial.left k) (slice_index l.bytes (k - l.first));
   before : (k : ℕ) → k < l.first → slice_index l.left k ≡ slice_index l.initial.left k;
-  behind : (k : ℕ) → l.place ≤ k → slice_index l.left k ≡ slice_index l.initial.left k
+  behind : (k : ℕ) → l.place ≤ k → slice_index l.left k ≡ slice_index l.initial.left k;
 }

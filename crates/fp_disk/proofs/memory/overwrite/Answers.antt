@@ -1,6 +1,6 @@
 use Rattle.std.proofs.Common.{rules, ◌≡◌, ◌+◌, ◌-◌, ℕ, List, ◌++◌, length, take, drop, replicate, ap, ◌∙◌, arith}
 use Rattle.std.proofs.lemmas.Grind.{common_steps}
-use Rattle.fp_disk.specs.Memory.{overwritten}
+use Rattle.fp_disk.specs.Outcomes.{overwritten}
 use Rattle.fp_disk.proofs.Writing.{overwritten-filled, take-lent}
 use Rattle.fp_disk.proofs.memory.overwrite.Goals as goal
 

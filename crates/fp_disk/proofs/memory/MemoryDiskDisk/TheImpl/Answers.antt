@@ -10,22 +10,22 @@ use Rattle.fp_disk.proofs.memory.MemoryDiskDisk.TheImpl.Goals as goal
 pub len-tells : goal.len-tells
 len-tells c = let old = c.args.self.now in let new = c.new.self.now in
     let same = state_same old new Len Nothing (λ q. refl) c.result c.ensures.recorded in record {
-  answer = λ h. c.ensures.answer;
-  honest = (λ h. h, λ h. h);
-  same = λ h. (ap (λ (s : State). s.bytes) same, ap unsynced_of same);
-  time = λ h. elapses_of old new Len Nothing (unsynced_of (state old)) (λ q o out. out) c.result c.ensures.recorded;
-  cause = answers_of old new Len Nothing c.result c.ensures.recorded;
-}
+      answer = λ h. c.ensures.answer;
+      honest = (λ h. h, λ h. h);
+      same = λ h. (ap (λ (s : State). s.bytes) same, ap unsynced_of same);
+      time = λ h. elapses_of old new Len Nothing (unsynced_of (state old)) (λ q o out. out) c.result c.ensures.recorded;
+      cause = answers_of old new Len Nothing c.result c.ensures.recorded;
+    }
 
 pub read_at-tells : goal.read_at-tells
 read_at-tells c = let old = c.args.self.now in let new = c.new.self.now in let request = Read c.args.at (length c.args.into.now) in
     let same = state_same old new request Nothing (λ q. refl) c.result c.ensures.recorded in record {
-  answer = λ h. c.ensures.answer;
-  honest = (λ h. h, λ h. h);
-  same = λ h. (ap (λ (s : State). s.bytes) same, ap unsynced_of same);
-  time = λ h. elapses_of old new request Nothing (unsynced_of (state old)) (λ q o out. out) c.result c.ensures.recorded;
-  cause = answers_of old new request Nothing c.result c.ensures.recorded;
-}
+      answer = λ h. c.ensures.answer;
+      honest = (λ h. h, λ h. h);
+      same = λ h. (ap (λ (s : State). s.bytes) same, ap unsynced_of same);
+      time = λ h. elapses_of old new request Nothing (unsynced_of (state old)) (λ q o out. out) c.result c.ensures.recorded;
+      cause = answers_of old new request Nothing c.result c.ensures.recorded;
+    }
 
 pub write_at-tells : goal.write_at-tells
 write_at-tells c = let old = c.args.self.now in let new = c.new.self.now in let at = c.args.at in let more = c.args.from.now in let p = write_progress old.failed_writes old.failing in record {

@@ -1,0 +1,28 @@
+//! The program: its words, standard input, output and errors, and its status.
+#![tactic(auto)]
+
+use fp_plane::command;
+use std::alloc::AllocGlobal;
+use std::env;
+use std::process::ExitCode;
+
+fn words(rt: &HostRuntime) -> Option<Vec<String>> {
+    let mut words = Vec::new(rt.alloc());
+    for word in env::args(rt).ok()?.skip(1) {
+        words.push(word).ok()?;
+    }
+    Some(words)
+}
+
+fn main(rt: HostRuntime) -> ExitCode {
+    // Words that aren't text name no command, as no words don't.
+    let given = words(&rt);
+    let words: &[String] = match &given {
+        Some(words) => words.as_slice(),
+        None => &[],
+    };
+    let mut input = rt.reader();
+    let mut output = rt.stdout();
+    let mut errors = rt.stderr();
+    ExitCode::from(command(&rt, words, &mut input, &mut output, &mut errors))
+}

@@ -1,0 +1,26 @@
+use Rattle.std.proofs.Common.{◌≡◌, List, ℕ, Option, Some, true, String, BTreeMap, Global, codes, sym, ap, subst, ◌∙◌}
+use Rattle.serde_json.specs.Data.{Data, object}
+use Rattle.serde_json.specs.Find.{get, get_member}
+use Rattle.serde_json.specs.View.{view, members_view}
+use Rattle.serde_json.specs.declared.value.Value.{Value}
+use Rattle.serde_json.proofs.Views.{view-Object}
+use Rattle.fp_base.specs.Whole.{members_whole}
+use Rattle.fp_base.proofs.WholeData.{whole-get}
+use Rattle.fp_definition.specs.Resolving.{Gives, named, said_or_none}
+use Rattle.fp_definition.proofs.resolving.variant_named.Goals as goal
+
+pub returns-in-Some-Object-clause-resolves : goal.returns-in-Some-Object-clause-resolves
+returns-in-Some-Object-clause-resolves c =
+    let found : get (codes "variants") (view c.args.value.now) ≡ Some (object (members_view c.in-Some-Object.variants.entries)) =
+    sym c.in-Some-Object.ensures ∙ ap Some (ap view c.in-Some-Object.field-0-is ∙ view-Object c.in-Some-Object.variants) in
+    let same = ap (λ (m : BTreeMap (String Global) Value). said_or_none c.args.name.now c.args.reason (get_member c.args.name.now (members_view m.entries))) c.in-Some-Object.variants-is in
+    let whole = same ∙ ap (λ (o : Option Data). named c.args.name.now c.args.reason o) (sym found) in
+    subst (λ o. Gives (λ r. (r.variant.now, view r.value.now, r.reason)) c.variant_among.result o) whole c.variant_among.ensures.resolves
+
+pub returns-in-Some-Object-clause-printable : goal.returns-in-Some-Object-clause-printable
+returns-in-Some-Object-clause-printable c = λ w.
+    let found : get (codes "variants") (view c.args.value.now) ≡ Some (object (members_view c.in-Some-Object.variants.entries)) =
+    sym c.in-Some-Object.ensures ∙ ap Some (ap view c.in-Some-Object.field-0-is ∙ view-Object c.in-Some-Object.variants) in
+    c.variant_among.ensures.printable
+    (subst (λ (m : BTreeMap (String Global) Value). members_whole (members_view m.entries) ≡ true) (sym c.in-Some-Object.variants-is)
+    (whole-get (codes "variants") (view c.args.value.now) (object (members_view c.in-Some-Object.variants.entries)) w found))

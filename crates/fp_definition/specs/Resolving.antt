@@ -1,0 +1,78 @@
+-- What a definition resolves to.
+use Rattle.std.specs.Prelude.{◌≡◌, ℕ, List, codes, Bool, true, false, bytes_eq, Option, Some, None, unwrap_or, Result, Ok, Err}
+use Rattle.serde_json.specs.Data.{Data, null, string}
+use Rattle.serde_json.specs.Find.{get}
+use Rattle.fp_base.specs.Json.{json_of}
+use Rattle.fp_operators.specs.Data as value
+use Rattle.fp_targeting.specs.Rule.{Rule}
+use Rattle.fp_targeting.specs.Means.{Means}
+use Rattle.fp_targeting.specs.RuleData.{rule_data}
+use Rattle.fp_definition.specs.Targeting.{rule_in}
+use Rattle.fp_definition.specs.declared.resolving.Reason.{Reason}
+use Rattle.fp_definition.specs.declared.resolving.Reason.TheVariants.{Static, Default, TargetingMatch}
+use Rattle.fp_definition.specs.declared.resolving.EvalFault.{EvalFault}
+use Rattle.fp_definition.specs.declared.resolving.EvalFault.TheVariants.{Disabled, NoVariant, Memory}
+
+-- the data that a canonical text spells
+abbrev pub data_of : List ℕ → Data
+data_of text = unwrap_or (json_of text) null
+
+-- a variant's name, its value, and why it was taken
+abbrev pub Said : Type 0
+Said = List ℕ × Data × Reason
+
+abbrev pub is_disabled : Option Data → Bool
+is_disabled (Some (string s)) = bytes_eq s (codes "DISABLED")
+is_disabled d = false
+
+abbrev pub said_or_none : List ℕ → Reason → Option Data → Result Said EvalFault
+said_or_none name reason None = Err NoVariant
+said_or_none name reason (Some d) = Ok (name, d, reason)
+
+-- the variant of that name among these
+abbrev pub named : List ℕ → Reason → Option Data → Result Said EvalFault
+named name reason None = Err NoVariant
+named name reason (Some variants) = said_or_none name reason (get name variants)
+
+abbrev pub default_named : Reason → Option Data → Option Data → Result Said EvalFault
+default_named reason (Some (string name)) variants = named name reason variants
+default_named reason other variants = Err NoVariant
+
+-- the default variant
+abbrev pub by_default : Reason → Data → Result Said EvalFault
+by_default reason d = default_named reason (get (codes "defaultVariant") d) (get (codes "variants") d)
+
+-- what a rule's result names: null the default, a text the variant of that name, and so true and false
+abbrev pub by_result : Data → value.Data → Result Said EvalFault
+by_result d value.null = by_default Default d
+by_result d (value.text name) = named name TargetingMatch (get (codes "variants") d)
+by_result d (value.boolean true) = named (codes "true") TargetingMatch (get (codes "variants") d)
+by_result d (value.boolean false) = named (codes "false") TargetingMatch (get (codes "variants") d)
+by_result d (value.whole z) = Err NoVariant
+by_result d (value.list xs) = Err NoVariant
+by_result d (value.object ms) = Err NoVariant
+
+-- without a rule the default variant; with one what its result names
+abbrev pub ByRule : Data → Option Rule → value.Data → Result Said EvalFault → Type 0
+ByRule d None env outcome = outcome ≡ by_default Static d
+ByRule d (Some r) env outcome = (x : value.Data) × Means r env x × (outcome ≡ by_result d x)
+
+abbrev pub ByState : Bool → Type 0 → Result Said EvalFault → Type 0
+ByState true Enabled outcome = outcome ≡ Err Disabled
+ByState false Enabled outcome = Enabled
+
+-- a definition, for a key, a context and a moment in seconds since 1970, has this outcome
+abbrev pub Resolves : Data → List ℕ → Data → ℕ → Result Said EvalFault → Type 0
+Resolves d key context now outcome = ByState (is_disabled (get (codes "state") d)) (ByRule d (rule_in (get (codes "targeting") d)) (rule_data context key now) outcome) outcome
+
+-- what the code answers has that outcome; want of memory says nothing
+abbrev pub Answers : {X : Type 0} → (X → Said) → Result X EvalFault → (Result Said EvalFault → Type 0) → Type 0
+Answers seen (Ok x) Has = Has (Ok (seen x))
+Answers seen (Err Disabled) Has = Has (Err Disabled)
+Answers seen (Err NoVariant) Has = Has (Err NoVariant)
+Answers seen (Err Memory) Has = Unit {0}
+
+-- what a call that takes no memory answers is that outcome
+abbrev pub Gives : {X : Type 0} → (X → Said) → Result X EvalFault → Result Said EvalFault → Type 0
+Gives seen (Ok x) outcome = outcome ≡ Ok (seen x)
+Gives seen (Err e) outcome = outcome ≡ Err e

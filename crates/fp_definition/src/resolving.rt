@@ -1,0 +1,165 @@
+//! What a definition resolves to.
+
+ghost use Rattle.std.specs.Prelude.{◌≡◌, ◌<◌, ◌^◌, true, IfOk, IsSome, codes};
+ghost use Rattle.serde_json.specs.Find.{as_object, get, get_member};
+ghost use Rattle.serde_json.specs.View.{view, members_view};
+ghost use Rattle.fp_base.specs.Whole.{is_whole, members_whole};
+ghost use Rattle.fp_definition.specs.Key.{key_bytes};
+ghost use Rattle.fp_definition.specs.Resolving.{Answers, Gives, Resolves, by_default, by_result, data_of, is_disabled, named, said_or_none};
+ghost use Rattle.fp_operators.specs.Data as values;
+ghost use Rattle.fp_operators.specs.View.{view as datum_view};
+ghost use Rattle.fp_targeting.specs.Means.{Means};
+
+use crate::definition::Definition;
+use crate::key::FlagKey;
+use fp_operators::Datum;
+use fp_targeting::{Data, Rule};
+use serde_json::{Map, Value};
+use std::alloc::{AllocError, Global};
+
+/// Why a variant was taken.
+#[derive(Debug, Clone, Copy, PartialEq, Eq)]
+pub enum Reason {
+    /// The definition has no rule.
+    Static,
+    /// The rule gave null.
+    Default,
+    /// The rule named the variant.
+    TargetingMatch,
+}
+
+/// Why a definition resolves to no variant.
+#[derive(Debug, Clone, Copy, PartialEq, Eq)]
+pub enum EvalFault {
+    /// The flag is disabled.
+    Disabled,
+    /// The rule's result names no variant.
+    NoVariant,
+    /// Memory ran out.
+    Memory,
+}
+
+impl From<AllocError> for EvalFault {
+    ghost use Rattle.fp_definition.specs.declared.resolving.EvalFault.TheVariants.{Memory};
+
+    ghost from_gives = { λ _ e. e ≡ Memory };
+
+    fn from(_: AllocError) -> EvalFault {
+        EvalFault::Memory
+    }
+}
+
+/// A variant, lent by its definition.
+#[derive(Drop)]
+pub struct Resolved<'d> {
+    pub variant: &'d str,
+    pub value: &'d Value,
+    pub reason: Reason,
+}
+
+impl Definition {
+    /// What the flag of this key resolves to in a context, an object of whole numbers, at a moment in seconds since 1970.
+    pub fn resolve(
+        &self,
+        alloc: Global,
+        key: &FlagKey,
+        context: &Value,
+        now: u64,
+    ) -> Result<Resolved<'_>, EvalFault>
+        requires object { IsSome (as_object (view context.now)) }
+        requires whole { is_whole (view context.now) ≡ true }
+        requires moment { now < 2 ^ 63 }
+        ensures resolves { Answers (λ r. (r.variant.now, view r.value.now, r.reason)) result (Resolves (data_of self.now) (key_bytes key.now) (view context.now) now) }
+        ensures printable { IfOk result (λ r. is_whole (view r.value.now) ≡ true) }
+    {
+        let (value, rule) = self.value_and_rule();
+        if is_disabled_in(value) {
+            return Err(EvalFault::Disabled);
+        }
+        match rule {
+            None => default_of(value, Reason::Static),
+            Some(rule) => {
+                let data = Data::new(alloc, context, key.as_str(), now)?;
+                by_rule(alloc, value, rule, &data)
+            }
+        }
+    }
+}
+
+fn is_disabled_in(value: &Value) -> bool
+    ensures { result ≡ is_disabled (get (codes "state") (view value.now)) }
+{
+    match value.get("state") {
+        Some(Value::String(text)) => text.as_str() == "DISABLED",
+        _ => false,
+    }
+}
+
+fn by_rule<'d>(
+    alloc: Global,
+    value: &'d Value,
+    rule: &Rule,
+    data: &Data,
+) -> Result<Resolved<'d>, EvalFault>
+    ensures resolves { Answers (λ r. (r.variant.now, view r.value.now, r.reason)) result (λ outcome. (x : values.Data) × Means rule.now «data».now x × (outcome ≡ by_result (view value.now) x)) }
+    ensures printable { is_whole (view value.now) ≡ true → IfOk result (λ r. is_whole (view r.value.now) ≡ true) }
+{
+    let given = rule.eval(alloc, data)?;
+    named_by(value, &given)
+}
+
+// The variant that a rule's result names.
+fn named_by<'d>(value: &'d Value, given: &Datum) -> Result<Resolved<'d>, EvalFault>
+    ensures resolves { Gives (λ r. (r.variant.now, view r.value.now, r.reason)) result (by_result (view value.now) (datum_view given.now)) }
+    ensures printable { is_whole (view value.now) ≡ true → IfOk result (λ r. is_whole (view r.value.now) ≡ true) }
+{
+    match given {
+        Datum::Null => default_of(value, Reason::Default),
+        Datum::Text(name) => variant_named(value, name.as_str(), Reason::TargetingMatch),
+        Datum::Bool(true) => variant_named(value, "true", Reason::TargetingMatch),
+        Datum::Bool(false) => variant_named(value, "false", Reason::TargetingMatch),
+        Datum::Whole(_) | Datum::List(_) | Datum::Object(_) => Err(EvalFault::NoVariant),
+    }
+}
+
+fn default_of(value: &Value, reason: Reason) -> Result<Resolved<'_>, EvalFault>
+    ensures resolves { Gives (λ r. (r.variant.now, view r.value.now, r.reason)) result (by_default reason (view value.now)) }
+    ensures printable { is_whole (view value.now) ≡ true → IfOk result (λ r. is_whole (view r.value.now) ≡ true) }
+{
+    match value.get("defaultVariant") {
+        Some(Value::String(name)) => variant_named(value, name.as_str(), reason),
+        _ => Err(EvalFault::NoVariant),
+    }
+}
+
+fn variant_named<'d>(
+    value: &'d Value,
+    name: &str,
+    reason: Reason,
+) -> Result<Resolved<'d>, EvalFault>
+    ensures resolves { Gives (λ r. (r.variant.now, view r.value.now, r.reason)) result (named name.now reason (get (codes "variants") (view value.now))) }
+    ensures printable { is_whole (view value.now) ≡ true → IfOk result (λ r. is_whole (view r.value.now) ≡ true) }
+{
+    match value.get("variants") {
+        Some(Value::Object(variants)) => variant_among(variants, name, reason),
+        _ => Err(EvalFault::NoVariant),
+    }
+}
+
+fn variant_among<'d>(
+    variants: &'d Map<String, Value>,
+    name: &str,
+    reason: Reason,
+) -> Result<Resolved<'d>, EvalFault>
+    ensures resolves { Gives (λ r. (r.variant.now, view r.value.now, r.reason)) result (said_or_none name.now reason (get_member name.now (members_view variants.now.entries))) }
+    ensures printable { members_whole (members_view variants.now.entries) ≡ true → IfOk result (λ r. is_whole (view r.value.now) ≡ true) }
+{
+    match variants.get_key_value(name) {
+        Some((variant, value)) => Ok(Resolved {
+            variant: variant.as_str(),
+            value,
+            reason,
+        }),
+        None => Err(EvalFault::NoVariant),
+    }
+}

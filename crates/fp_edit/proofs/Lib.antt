@@ -1,0 +1,6 @@
+pub mod Changed
+pub mod Kept
+pub mod Maps
+pub mod Runs
+pub mod Sizes
+pub mod Texts

@@ -1,0 +1,39 @@
+use Rattle.std.proofs.Common.{◌≡◌, ◌+◌, ◌-◌, true, sym, subst, arith}
+use Rattle.std.specs.FinMap as fin
+use Rattle.fp_definition.specs.Key.{key_bytes}
+use Rattle.fp_edit.specs.Admits.{has_revision, flags_after}
+use Rattle.fp_edit.specs.Edits.{delete}
+use Rattle.fp_edit.specs.Entries.{flags_of}
+use Rattle.fp_edit.specs.Flags.{State, IsKept, size, cost_found}
+use Rattle.fp_edit.proofs.Kept.{kept-delete}
+use Rattle.fp_edit.proofs.Sizes.{size-remove}
+use Rattle.fp_edit.proofs.flag_set.FlagSet.remove.Goals as goal
+
+pub overflow_cast-gone : goal.overflow_cast-gone
+overflow_cast-gone c =
+    let es = c.self.inside.flags.entries in
+    let k = key_bytes c.args.key.now in
+    let all = size-remove (flags_of es) k in
+    let gone : c.cost_at-gone.result ≡ cost_found k (fin.get (flags_of es) k) = c.cost_at-gone.ensures in
+    let kept : c.self.inside.size ≡ size (flags_of es) = c.self.invariant.1.size in
+    grind (arith, c.self.ranges.0, c.self.ranges.1)
+
+pub overflow_sub-self : goal.overflow_sub-self
+overflow_sub-self c =
+    let es = c.self.inside.flags.entries in
+    let k = key_bytes c.args.key.now in
+    let all = size-remove (flags_of es) k in
+    let gone : c.cost_at-gone.result ≡ cost_found k (fin.get (flags_of es) k) = c.cost_at-gone.ensures in
+    let kept : c.self.inside.size ≡ size (flags_of es) = c.self.invariant.1.size in
+    omega arith
+
+pub invariant_of-self : goal.invariant_of-self
+invariant_of-self c =
+    let k = key_bytes c.args.key.now in
+    let s : State = record { flags = flags_of c.self.inside.flags.entries; revision = c.self.inside.revision; limit = c.self.inside.limit } in
+    let more : has_revision s ≡ true = subst (λ (t : State). has_revision t ≡ true) (sym c.self.view_is) c.requires in
+    let kept = kept-delete s c.self.inside.size k c.self.invariant.1 more in (
+      c.take.ensures.ordered,
+      subst (λ m. IsKept m (s.revision + 1) s.limit (c.self.inside.size - c.cost_at-gone.result)) (sym c.take.ensures.taken)
+          (subst (λ n. IsKept (flags_after s (delete k)) (s.revision + 1) s.limit (c.self.inside.size - n)) (sym c.cost_at-gone.ensures) kept),
+    )

@@ -1,0 +1,9 @@
+pub mod Admits
+pub mod Document
+pub mod Edits
+pub mod Entries
+pub mod Flags
+pub mod Laws
+pub mod Line
+pub mod Log
+pub mod Spelled

@@ -1,0 +1,101 @@
+-- What a line says: an edit, or the first fault that the line has.
+use Rattle.std.specs.Prelude.{ℕ, ◌^◌, List, length, codes, Bool, true, ◌&&◌, ◌||◌, nat_le, nat_lt, bytes_eq, if◌then◌else◌, Option, Some, None, Result, Ok, Err}
+use Rattle.serde_json.specs.Data.{Data, null, number, string, object, Members, no_members, member}
+use Rattle.serde_json.specs.Find.{get, as_u64}
+use Rattle.serde_json.specs.Written.{compact_text}
+use Rattle.fp_base.specs.Json.{json_of}
+use Rattle.fp_definition.specs.Key.{is_key}
+use Rattle.fp_definition.specs.Valid as valid
+use Rattle.fp_definition.specs.Valid.{first_fault}
+use Rattle.fp_edit.specs.Edits.{put, delete, Proposal}
+use Rattle.fp_edit.specs.declared.edit.Expect.{Expect}
+use Rattle.fp_edit.specs.declared.edit.Expect.TheVariants.{Any, Absent, At}
+use Rattle.fp_edit.specs.declared.line.Op.{Op}
+use Rattle.fp_edit.specs.declared.line.Op.TheVariants.{Put, Delete}
+
+-- what is wrong with a line
+pub data Fault : Type 0 where
+  too_long : Fault
+  not_json : Fault
+  not_object : Fault
+  bad_member : Fault
+  bad_op : Fault
+  bad_key : Fault
+  bad_if : Fault
+  bad_flag : valid.Fault → Fault
+
+-- a fault stops what would come after it
+infixl 10 ◌>>=◌
+abbrev pub ◌>>=◌ : {A B : Type 0} → Result A Fault → (A → Result B Fault) → Result B Fault
+(Ok x) >>= f = f x
+(Err e) >>= f = Err e
+
+abbrev pub must : {A : Type 0} → Option A → Fault → Result A Fault
+must (Some x) e = Ok x
+must None e = Err e
+
+-- the four names of members
+abbrev pub is_known : List ℕ → Bool
+is_known name = bytes_eq name (codes "flag") || (bytes_eq name (codes "if") || (bytes_eq name (codes "key") || bytes_eq name (codes "op")))
+
+abbrev pub all_known : Members → Bool
+all_known no_members = true
+all_known (member name d ms) = is_known name && all_known ms
+
+-- `op`: one of two texts
+abbrev pub op_named : List ℕ → Result Op Fault
+op_named s = if bytes_eq s (codes "put") then Ok Put else if bytes_eq s (codes "delete") then Ok Delete else Err bad_op
+
+abbrev pub op_of : Option Data → Result Op Fault
+op_of (Some (string s)) = op_named s
+op_of d = Err bad_op
+
+-- `key`: a text that is a key
+abbrev pub key_of : Option Data → Result (List ℕ) Fault
+key_of (Some (string s)) = if is_key s then Ok s else Err bad_key
+key_of d = Err bad_key
+
+-- `if`: absent, null, one of two texts, or a revision from 1 to 2^63-1
+abbrev pub expect_named : List ℕ → Result Expect Fault
+expect_named s = if bytes_eq s (codes "any") then Ok Any else if bytes_eq s (codes "absent") then Ok Absent else Err bad_if
+
+abbrev pub expect_at : Option ℕ → Result Expect Fault
+expect_at None = Err bad_if
+expect_at (Some n) = if nat_lt 0 n && nat_lt n (2 ^ 63) then Ok (At n) else Err bad_if
+
+abbrev pub expect_of : Option Data → Result Expect Fault
+expect_of None = Ok Any
+expect_of (Some null) = Ok Any
+expect_of (Some (string s)) = expect_named s
+expect_of (Some (number n)) = expect_at (as_u64 n)
+expect_of (Some d) = Err bad_if
+
+abbrev pub text_unless : Option valid.Fault → List ℕ → Result (List ℕ) Fault
+text_unless None text = Ok text
+text_unless (Some f) text = Err (bad_flag f)
+
+-- `flag`, of a put: a definition, taken as its canonical text
+unfoldable pub flag_of : Option Data → Result (List ℕ) Fault
+flag_of None = Err (bad_flag valid.not_object)
+flag_of (Some d) = text_unless (first_fault d) (compact_text d)
+
+abbrev pub edit_with : Op → List ℕ → Expect → Option Data → Result Proposal Fault
+edit_with Delete key expect flag = Ok (record { change = delete key; expect = expect })
+edit_with Put key expect flag = flag_of flag >>= λ text. Ok (record { change = put key text; expect = expect })
+
+-- the members in the order in which they are looked at
+unfoldable pub parts_of : Data → Result Proposal Fault
+parts_of d =
+    op_of (get (codes "op") d) >>= λ op.
+    key_of (get (codes "key") d) >>= λ key.
+    expect_of (get (codes "if") d) >>= λ expect.
+    edit_with op key expect (get (codes "flag") d)
+
+-- an object without other members
+abbrev pub edit_in : Data → Result Proposal Fault
+edit_in (object ms) = if all_known ms then parts_of (object ms) else Err bad_member
+edit_in d = Err not_object
+
+-- JSON of at most 32,768 bytes
+unfoldable pub line_of : List ℕ → Result Proposal Fault
+line_of line = if nat_le (length line) 32768 then must (json_of line) not_json >>= edit_in else Err too_long

@@ -1,0 +1,48 @@
+//! Edits of a set of flags.
+
+use fp_definition::{Definition, FlagKey};
+use thiserror::Error;
+
+/// What has to stand at an edit's key for the edit to be made.
+#[derive(Debug, Clone, Copy, PartialEq, Eq)]
+pub enum Expect {
+    /// Anything or nothing.
+    Any,
+    /// No flag.
+    Absent,
+    /// A flag that this revision changed last.
+    At(u64),
+}
+
+/// A change to one flag, and what its editor expects to find there.
+#[derive(Drop)]
+pub enum Edit {
+    /// The key's flag gets this definition.
+    Put {
+        key: FlagKey,
+        flag: Definition,
+        expect: Expect,
+    },
+    /// The key's flag goes.
+    Delete {
+        key: FlagKey,
+        expect: Expect,
+    },
+}
+
+/// Why an edit isn't made, in the order of the tests.
+#[derive(Debug, Clone, Copy, PartialEq, Eq, Error)]
+pub enum EditFault {
+    /// The key isn't as expected: `current` is the revision that changed its flag last, `None` where there is no flag.
+    #[error("the key isn't as expected")]
+    Conflict { current: Option<u64> },
+    /// The set would have too many flags, or too large an image.
+    #[error("the set would grow too large")]
+    SetTooLarge,
+    /// The set is at the greatest revision.
+    #[error("all revisions are used")]
+    RevisionsUsed,
+    /// Memory ran out.
+    #[error("memory ran out")]
+    Memory,
+}

@@ -1,0 +1,313 @@
+//! Sets of flags.
+
+ghost use Rattle.std.specs.Prelude.{◌≡◌, ◌≢◌, ◌+◌, ◌<◌, ◌≤◌, ◌^◌, ◌↔◌, nat_lt, ℕ, true, None, IsTrue, All, IfSome, IfOk, OnOk, OnErr, IfErr};
+ghost use Rattle.std.specs.Option.{option_copied};
+ghost use Rattle.std.specs.FinMap as map;
+ghost use Rattle.fp_definition.specs.Key.{key_bytes};
+ghost use Rattle.fp_edit.specs.Admits.{Admits, accepted, IsRefused, changed_at, has_revision, has_room, is_met, is_within, next, refusal};
+ghost use Rattle.fp_edit.specs.Document.{document};
+ghost use Rattle.fp_edit.specs.Entries.{entries_of};
+ghost use Rattle.fp_edit.specs.Edits.{put, delete, proposal_of};
+ghost use Rattle.fp_edit.specs.Flags.{IsChangedBy, size as size_of};
+ghost use Rattle.fp_edit.specs.declared.flags.Flag.{Flag};
+
+use crate::document::document_of;
+use crate::edit::{Edit, EditFault, Expect};
+use crate::flags::{Flag, copy_of, cost_at, cost_of, count, count_at, find, store, take};
+use fp_definition::{Definition, FlagKey};
+use std::alloc::{AllocError, Global};
+use std::collections::BTreeMap;
+use std::collections::btree_map::Iter;
+use std::marker::Model;
+
+const MOST_FLAGS: u128 = 4096;
+
+const GREATEST_REVISION: u64 = 0x7fff_ffff_ffff_ffff;
+
+/// Flags by their keys, the revision that they are at, and the limit of the image that they take.
+#[derive(Drop)]
+pub struct FlagSet {
+    flags: BTreeMap<FlagKey, Flag>,
+    revision: u64,
+    limit: u64,
+    size: u64,
+    alloc: Global,
+}
+
+impl Model for FlagSet {
+    ghost use Rattle.fp_edit.specs.Flags.{State, coded_state, IsKept, size as size_of};
+    ghost use Rattle.fp_edit.specs.Entries.{flags_of};
+
+    ghost Value = { State };
+
+    ghost coded = { coded_state };
+
+    ghost view = { λ a. record { flags = flags_of a.flags.entries; revision = a.revision; limit = a.limit } };
+
+    ghost use Rattle.std.specs.BTreeMap.{IsOrdered};
+    ghost use Rattle.fp_definition.specs.Key.{flag_cmp};
+
+    ghost invariant = { λ a. IsOrdered flag_cmp a.flags × IsKept (flags_of a.flags.entries) a.revision a.limit a.size };
+}
+
+impl FlagSet {
+    /// No flags, at revision 0. The limit of the image is in bytes; below 22 it leaves room for no flag.
+    pub fn new(alloc: Global, limit: u64) -> FlagSet
+        ensures { result ≡ record { flags = map.empty; revision = 0; limit = limit } }
+    {
+        FlagSet::at_revision(alloc, 0, limit)
+    }
+
+    /// No flags, at a revision that was made before. `restore` brings back the flags of that revision.
+    pub fn at_revision(alloc: Global, revision: u64, limit: u64) -> FlagSet
+        requires { revision < 2 ^ 63 }
+        ensures { result ≡ record { flags = map.empty; revision = revision; limit = limit } }
+    {
+        FlagSet {
+            flags: BTreeMap::new(alloc),
+            revision,
+            limit,
+            size: 4,
+            alloc,
+        }
+    }
+
+    /// The number of edits that were accepted so far.
+    pub fn revision(&self) -> u64
+        ensures revision { result ≡ self.now.revision }
+        ensures bounded { result < 2 ^ 63 }
+    {
+        self.revision
+    }
+
+    /// The limit of the image, in bytes.
+    pub fn limit(&self) -> u64
+        ensures { result ≡ self.now.limit }
+    {
+        self.limit
+    }
+
+    /// The bytes of the image. It is kept as edits come, and costs nothing to ask for.
+    pub fn size(&self) -> u64
+        ensures size { result ≡ size_of self.now.flags }
+        ensures within { 4 ≤ self.now.limit → result ≤ self.now.limit }
+    {
+        self.size
+    }
+
+    /// The number of flags.
+    pub fn len(&self) -> usize
+        ensures len { result ≡ map.len self.now.flags }
+        ensures bounded { result ≤ 4096 }
+    {
+        count(&self.flags)
+    }
+
+    pub fn is_empty(&self) -> bool
+        ensures { IsTrue result ↔ (map.len self.now.flags ≡ 0) }
+    {
+        self.len() == 0
+    }
+
+    /// A key's flag.
+    pub fn get(&self, key: &FlagKey) -> Option<&Flag>
+        ensures flag { option_copied result ≡ map.get self.now.flags (key_bytes key.now) }
+        ensures changed { IfSome result (λ f. IsChangedBy self.now.revision f.now) }
+    {
+        find(&self.flags, key)
+    }
+
+    /// The flags with their keys, in ascending order of the keys' bytes.
+    pub fn iter(&self) -> Iter<'_, FlagKey, Flag>
+        ensures entries { entries_of result ≡ map.entries self.now.flags }
+        ensures changed { All (λ e. IsChangedBy self.now.revision e.1) result }
+    {
+        self.flags.iter()
+    }
+
+    /// The set as canonical JSON: an object whose one member, `flags`, has each definition under its key.
+    pub fn document(&self) -> Result<Vec<u8>, AllocError>
+        ensures { IfOk result (λ text. text.items ≡ document self.now.flags) }
+    {
+        document_of(self.alloc, &self.flags)
+    }
+
+    /// An equal set, which shares the definitions.
+    pub fn try_copy(&self) -> Result<FlagSet, AllocError>
+        ensures { IfOk result (λ copy. copy ≡ self.now) }
+    {
+        Ok(FlagSet {
+            flags: copy_of(self.alloc, &self.flags)?,
+            revision: self.revision,
+            limit: self.limit,
+            size: self.size,
+            alloc: self.alloc,
+        })
+    }
+
+    /// Makes an edit, and answers the revision that it made. Otherwise the edit comes back with what stands against it.
+    pub fn admit(&mut self, edit: Edit) -> Result<u64, (EditFault, Edit)>
+        ensures admitted { OnOk result (Admits self.old (proposal_of edit) (accepted self.new)) }
+        ensures revision { IfOk result (λ r. r ≡ self.new.revision) }
+
+        ensures refused { IfErr result (λ p. IsRefused self.old (proposal_of edit) p.0) }
+        ensures given_back { IfErr result (λ p. p.1 ≡ edit) }
+        ensures unchanged { OnErr result (self.new ≡ self.old) }
+    {
+        if let Some(fault) = self.judge(&edit) {
+            return Err((fault, edit));
+        }
+        match edit {
+            Edit::Put { key, flag, expect } => match self.put(key, flag) {
+                Ok(()) => Ok(self.revision),
+                Err((key, flag)) => Err((EditFault::Memory, Edit::Put { key, flag, expect })),
+            },
+            Edit::Delete { key, .. } => {
+                self.remove(&key);
+                Ok(self.revision)
+            }
+        }
+    }
+
+    /// Brings back a flag that an image holds, with the revision that changed it last. This is no edit: the revision stays.
+    pub fn restore(&mut self, key: FlagKey, flag: Flag) -> Result<(), AllocError>
+        requires changed { IsChangedBy self.old.revision flag }
+        requires room { is_within (map.insert self.old.flags (key_bytes key) flag) self.old.limit ≡ true }
+        ensures restored { OnOk result (self.new ≡ record { flags = map.insert self.old.flags (key_bytes key) flag; revision = self.old.revision; limit = self.old.limit }) }
+        ensures unchanged { OnErr result (self.new ≡ self.old) }
+    {
+        let size = self.size_with(&key, &flag.definition);
+        store(&mut self.flags, key, flag)?;
+        self.size = size as u64;
+        Ok(())
+    }
+
+    /// Whether the set keeps within its limits with a definition under a key, whatever is there now.
+    pub fn has_room_for(&self, key: &FlagKey, definition: &Definition) -> bool
+        ensures { (changed : ℕ) → result ≡ is_within (map.insert self.now.flags (key_bytes key.now) (record { definition = definition.now; changed = changed })) self.now.limit }
+    {
+        self.count_with(key) <= MOST_FLAGS && self.size_with(key, definition) <= self.limit as u128
+    }
+
+    /// What stands against an edit, if anything but want of memory does.
+    pub fn judge(&self, edit: &Edit) -> Option<EditFault>
+        ensures { result ≡ refusal self.now (proposal_of edit.now) }
+    {
+        match edit {
+            Edit::Put { key, flag, expect } => self.judge_put(key, flag, *expect),
+            Edit::Delete { key, expect } => self.judge_delete(key, *expect),
+        }
+    }
+
+    fn judge_put(&self, key: &FlagKey, flag: &Definition, expect: Expect) -> Option<EditFault>
+        ensures { result ≡ refusal self.now (record { change = put (key_bytes key.now) flag.now; expect = expect }) }
+    {
+        let current = self.changed(key);
+        if !meets(expect, current) {
+            return Some(EditFault::Conflict { current });
+        }
+        if !self.has_room_for(key, flag) {
+            return Some(EditFault::SetTooLarge);
+        }
+        if !self.has_revision() {
+            return Some(EditFault::RevisionsUsed);
+        }
+        None
+    }
+
+    fn judge_delete(&self, key: &FlagKey, expect: Expect) -> Option<EditFault>
+        ensures { result ≡ refusal self.now (record { change = delete (key_bytes key.now); expect = expect }) }
+    {
+        let current = self.changed(key);
+        if !(current.is_some() && meets(expect, current)) {
+            return Some(EditFault::Conflict { current });
+        }
+        if !self.has_revision() {
+            return Some(EditFault::RevisionsUsed);
+        }
+        None
+    }
+
+    fn changed(&self, key: &FlagKey) -> Option<u64>
+        ensures { result ≡ changed_at self.now (key_bytes key.now) }
+    {
+        match self.get(key) {
+            Some(flag) => Some(flag.changed),
+            None => None,
+        }
+    }
+
+    fn has_revision(&self) -> bool
+        ensures { result ≡ has_revision self.now }
+    {
+        self.revision < GREATEST_REVISION
+    }
+
+    fn count_with(&self, key: &FlagKey) -> u128
+        ensures { (flag : Flag) → result ≡ map.len (map.insert self.now.flags (key_bytes key.now) flag) }
+    {
+        self.len() as u128 + 1 - count_at(&self.flags, key)
+    }
+
+    fn size_with(&self, key: &FlagKey, definition: &Definition) -> u128
+        ensures { (changed : ℕ) → result ≡ size_of (map.insert self.now.flags (key_bytes key.now) (record { definition = definition.now; changed = changed })) }
+    {
+        self.size as u128 + cost_of(key, definition) - cost_at(&self.flags, key)
+    }
+
+    fn next_flag(&self, definition: Definition) -> Flag
+        requires { has_revision self.now ≡ true }
+        ensures { result ≡ record { definition = definition; changed = self.now.revision + 1 } }
+    {
+        Flag {
+            definition,
+            changed: self.revision + 1,
+        }
+    }
+
+    fn put(&mut self, key: FlagKey, flag: Definition) -> Result<(), (FlagKey, Definition)>
+        requires revision { has_revision self.old ≡ true }
+        requires room { has_room self.old (put (key_bytes key) flag) ≡ true }
+        ensures put { OnOk result (self.new ≡ next self.old (put (key_bytes key) flag)) }
+        ensures unchanged { OnErr result (self.new ≡ self.old) }
+        ensures given_back { IfErr result (λ p. p ≡ (key, flag)) }
+    {
+        let size = self.size_with(&key, &flag);
+        let flag = self.next_flag(flag);
+        match store(&mut self.flags, key, flag) {
+            Ok(()) => {
+                self.size = size as u64;
+                self.revision += 1;
+                Ok(())
+            }
+            Err(e) => {
+                let (key, flag) = e.value;
+                Err((key, flag.definition))
+            }
+        }
+    }
+
+    fn remove(&mut self, key: &FlagKey)
+        requires { has_revision self.old ≡ true }
+        ensures { self.new ≡ next self.old (delete (key_bytes key.now)) }
+    {
+        let gone = cost_at(&self.flags, key) as u64;
+        take(&mut self.flags, key);
+        self.size -= gone;
+        self.revision += 1;
+    }
+}
+
+fn meets(expect: Expect, current: Option<u64>) -> bool
+    ensures { result ≡ is_met expect current }
+{
+    match (expect, current) {
+        (Expect::Any, _) => true,
+        (Expect::Absent, current) => current.is_none(),
+        (Expect::At(_), None) => false,
+        (Expect::At(revision), Some(current)) => current == revision,
+    }
+}
+
+#[cfg(test)]
+mod tests;

@@ -1,0 +1,105 @@
+//! Flags by their keys.
+
+ghost use Rattle.std.specs.Prelude.{◌≡◌, ◌+◌, ◌<◌, ◌^◌, IfOk, OnOk, OnErr, IfErr, length};
+ghost use Rattle.std.specs.Option.{option_copied};
+ghost use Rattle.std.specs.BTreeMap.{IsOrdered};
+ghost use Rattle.std.specs.FinMap as map;
+ghost use Rattle.fp_definition.specs.Key.{key_bytes, flag_cmp};
+ghost use Rattle.fp_edit.specs.Entries.{flags_of};
+ghost use Rattle.fp_edit.specs.Flags.{cost, cost_found, one_found};
+
+use fp_definition::{Definition, FlagKey};
+use std::alloc::{AllocError, AllocFailed, Global};
+use std::collections::BTreeMap;
+
+/// A flag of a set.
+#[derive(Drop)]
+pub struct Flag {
+    /// What the flag is.
+    pub definition: Definition,
+    /// The revision that put this definition here.
+    pub changed: u64,
+}
+
+pub(crate) fn find<'a>(flags: &'a BTreeMap<FlagKey, Flag>, key: &FlagKey) -> Option<&'a Flag>
+    ensures { option_copied result ≡ map.get (flags_of flags.now.entries) (key_bytes key.now) }
+{
+    flags.get(key)
+}
+
+pub(crate) fn store(
+    flags: &mut BTreeMap<FlagKey, Flag>,
+    key: FlagKey,
+    flag: Flag,
+) -> Result<(), AllocFailed<(FlagKey, Flag)>>
+    ensures stored { OnOk result (flags_of flags.new.entries ≡ map.insert (flags_of flags.old.entries) (key_bytes key) flag) }
+    ensures given_back { IfErr result (λ e. e.value ≡ (key, flag)) }
+    ensures unchanged { OnErr result (flags_of flags.new.entries ≡ flags_of flags.old.entries) }
+    ensures ordered { IsOrdered flag_cmp flags.new }
+{
+    match flags.insert(key, flag) {
+        Ok(_) => Ok(()),
+        Err(e) => Err(e),
+    }
+}
+
+pub(crate) fn take(flags: &mut BTreeMap<FlagKey, Flag>, key: &FlagKey)
+    requires { IsOrdered flag_cmp flags.old }
+    ensures taken { flags_of flags.new.entries ≡ map.remove (flags_of flags.old.entries) (key_bytes key.now) }
+    ensures ordered { IsOrdered flag_cmp flags.new }
+{
+    flags.remove(key);
+}
+
+pub(crate) fn count(flags: &BTreeMap<FlagKey, Flag>) -> usize
+    ensures { result ≡ map.len (flags_of flags.now.entries) }
+{
+    flags.len()
+}
+
+/// The bytes of an image that a key and its definition take.
+pub(crate) fn cost_of(key: &FlagKey, definition: &Definition) -> u128
+    ensures cost { result ≡ 14 + length (key_bytes key.now) + length definition.now }
+    ensures small { result < 2 ^ 66 }
+{
+    14 + key.as_str().len() as u128 + definition.text().len() as u128
+}
+
+/// The bytes of an image that a key's flag takes, 0 without one.
+pub(crate) fn cost_at(flags: &BTreeMap<FlagKey, Flag>, key: &FlagKey) -> u128
+    ensures { result ≡ cost_found (key_bytes key.now) (map.get (flags_of flags.now.entries) (key_bytes key.now)) }
+{
+    match find(flags, key) {
+        Some(flag) => cost_of(key, &flag.definition),
+        None => 0,
+    }
+}
+
+/// How many flags a key has: one or none.
+pub(crate) fn count_at(flags: &BTreeMap<FlagKey, Flag>, key: &FlagKey) -> u128
+    ensures { result ≡ one_found (map.get (flags_of flags.now.entries) (key_bytes key.now)) }
+{
+    match find(flags, key) {
+        Some(_) => 1,
+        None => 0,
+    }
+}
+
+/// Another map of the same keys and shares of the same definitions.
+pub(crate) fn copy_of(
+    alloc: Global,
+    flags: &BTreeMap<FlagKey, Flag>,
+) -> Result<BTreeMap<FlagKey, Flag>, AllocError>
+    ensures copied { IfOk result (λ copy. flags_of copy.entries ≡ flags_of flags.now.entries) }
+    ensures ordered { IfOk result (λ copy. IsOrdered flag_cmp copy) }
+{
+    let mut copy = BTreeMap::new(alloc);
+    for (key, flag) in flags.iter() {
+        let shared = Flag {
+            definition: flag.definition.try_copy()?,
+            changed: flag.changed,
+        };
+        store(&mut copy, key.try_copy()?, shared)?;
+    }
+    Ok(copy)
+}

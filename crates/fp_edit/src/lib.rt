@@ -1,0 +1,17 @@
+//! Sets of flags, the edits that they admit, the lines that spell edits, and the documents that show sets.
+#![tactic(auto)]
+
+mod document;
+mod edit;
+mod flag_set;
+mod flags;
+mod laws;
+mod line;
+
+pub use edit::{Edit, EditFault, Expect};
+pub use flag_set::FlagSet;
+pub use flags::Flag;
+pub use laws::{
+    one_outcome, refusals_leave_no_trace, revisions_count_edits, sets_keep_their_limit,
+};
+pub use line::{LineFault, parse_line};

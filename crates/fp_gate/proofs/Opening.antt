@@ -1,0 +1,74 @@
+-- What the byte of a gate adds to what a crash may leave.
+use Rattle.std.proofs.Common.{◌≡◌, ◌≢◌, ◌⊎◌, ◌≤◌, ◌<◌, ◌+◌, ℕ, List, [], ◌∷◌, length, refl, arith, sym, ◌∙◌, ap, inl, inr, slice_index, slice_set}
+use Rattle.std.proofs.lemmas.Grind.{common_steps}
+use Rattle.std.proofs.lemmas.Bool.{cases_lt, cases_eq}
+use Rattle.fp_disk.specs.Outcomes.{Unsynced, IsOutcome, Covers, Elapses, LeavesOnly, Written, touched}
+use Rattle.fp_disk.specs.Writes.{overwritten_inside}
+use Rattle.fp_disk.specs.Moments.{leaves_call, leaves_map, leaves_then}
+use Rattle.fp_gate.specs.Gates.{Gated, IsShut, IsFirm, Agrees, Guards, HasBehind, IsButFor}
+
+-- an outcome after a write of one byte that was there is one from before, but for that byte
+pub touched_but_for : (u : Unsynced) (bytes : List ℕ) (at : ℕ) (c : List ℕ) → IsOutcome u bytes → at < length bytes → IsOutcome (touched u at 1) c → IsButFor u at c
+touched_but_for u bytes at c present there out = let len = length-put c at (slice_index u.synced at) in let a = out.no_shorter in let b = out.no_longer in let p = present.no_longer in record {
+  before = slice_set c at (slice_index u.synced at);
+  outcome = record {
+    no_shorter = omega (arith, len, a);
+    no_longer = omega (arith, len, b, p, there);
+    kept = λ k lt apart. elim (cases_eq k at) [
+      | inl same ↦ same_place c at k (slice_index u.synced at) same (omega (arith, a, lt, same)) ∙ ap (λ (j : ℕ). slice_index u.synced j) (sym same)
+      | inr other ↦ other_place c at k (slice_index u.synced at) other ∙ out.kept k lt (λ covers. elim covers [
+        | inl here ↦ other (let h = here.0 in let h' = here.1 in omega (arith, h, h'))
+        | inr more ↦ apart more
+      ])
+    ];
+  };
+  same_length = sym len;
+  elsewhere = λ k other. sym (other_place c at k (slice_index u.synced at) other);
+}
+  where
+    length-put : (xs : List ℕ) (at x : ℕ) → length (slice_set xs at x) ≡ length xs
+    length-put xs at x = grind (arith, common_steps)
+
+    same_place : (xs : List ℕ) (at k x : ℕ) → k ≡ at → at < length xs → slice_index (slice_set xs at x) k ≡ x
+    same_place xs at k x same there = grind (arith, common_steps)
+
+    other_place : (xs : List ℕ) (at k x : ℕ) → (k ≡ at → ⊥) → slice_index (slice_set xs at x) k ≡ slice_index xs k
+    other_place xs at k x other = grind (arith, common_steps)
+
+-- what a gate guards is there where it is open, since it is there in every outcome from before
+pub but_for_guards : (g : Gated) (u : Unsynced) (bytes c : List ℕ) → (g.at < g.from) ⊎ (g.to ≤ g.at) → IsShut u g.at → IsFirm u bytes g.from g.to → IsButFor u g.at c → Guards g bytes c
+but_for_guards g u bytes c apart shut firm b = let same = b.same_length in let in_it = (shut b.before b.outcome).0 in
+    (omega (arith, same, in_it), λ is_open k le lt. let f = firm b.before b.outcome k le lt in let f0 = f.0 in (omega (arith, same, f0), b.elsewhere k (elsewhere k le lt) ∙ f.1))
+  where
+    elsewhere : (k : ℕ) → g.from ≤ k → k < g.to → k ≡ g.at → ⊥
+    elsewhere k le lt is = elim apart [
+      | inl before ↦ omega (arith, is, le, before)
+      | inr behind ↦ omega (arith, is, lt, behind)
+    ]
+
+module _ {D : Type 0} (honest : D → Type 0) (bytes : D → List ℕ) (unsynced : D → Unsynced) (moment : D → ℕ) (left_since : D → ℕ → List ℕ → Type 0)
+    (present : (d : D) → honest d → IsOutcome (unsynced d) (bytes d))
+    (only_now : (d : D) (c : List ℕ) → honest d → left_since d (moment d) c → IsOutcome (unsynced d) c)
+    (old new : D) (g : Gated) (h : honest old) (shut : IsShut (unsynced old) g.at)
+    (time : Elapses (moment old) (moment new) (left_since old) (left_since new) (IsOutcome (touched (unsynced old) g.at 1))) where
+  pub each : LeavesOnly moment left_since old new (IsButFor (unsynced old) g.at)
+  each = leaves_call moment left_since old new (IsOutcome (unsynced old)) (IsOutcome (touched (unsynced old) g.at 1)) (IsButFor (unsynced old) g.at) time
+      (λ c left. only_now old c h left)
+      (λ c out. record { before = c; outcome = out; same_length = refl; elsewhere = λ k other. refl })
+      (λ c out. touched_but_for (unsynced old) (bytes old) g.at c (present old h) (shut (bytes old) (present old h)).0 out)
+
+  pub guards : (g.at < g.from) ⊎ (g.to ≤ g.at) → IsFirm (unsynced old) (bytes old) g.from g.to → LeavesOnly moment left_since old new (Guards g (bytes old))
+  guards apart firm = leaves_map moment left_since old new (IsButFor (unsynced old) g.at) (Guards g (bytes old)) (λ c b. but_for_guards g (unsynced old) (bytes old) c apart shut firm b) each
+
+module _ {D : Type 0} (honest : D → Type 0) (unsynced : D → Unsynced) (moment : D → ℕ) (left_since : D → ℕ → List ℕ → Type 0)
+    (counts_now : (d : D) (t : ℕ) (c : List ℕ) → honest d → t ≤ moment d → IsOutcome (unsynced d) c → left_since d t c)
+    (only_now : (d : D) (c : List ℕ) → honest d → left_since d (moment d) c → IsOutcome (unsynced d) c)
+    (old between new : D) (h : honest between) where
+  -- a call that adds no outcome
+  pub leaves_still : (P : List ℕ → Type 0) → LeavesOnly moment left_since old between P → Elapses (moment between) (moment new) (left_since between) (left_since new) (IsOutcome (unsynced between)) → LeavesOnly moment left_since old new P
+  leaves_still P leaves time = let all : (c : List ℕ) → IsOutcome (unsynced between) c → P c = λ c out. leaves.each c (counts_now between (moment old) c h leaves.later out) in
+      leaves_then moment left_since old between new P leaves (leaves_call moment left_since between new (IsOutcome (unsynced between)) (IsOutcome (unsynced between)) P time (λ c left. only_now between c h left) all all)
+
+-- where the gate guards what was written, it stands behind the gate
+pub guards_behind : (gate at : ℕ) (old more bytes c : List ℕ) → Written old at more bytes → Guards (record { at = gate; from = at; to = at + length more }) bytes c → HasBehind gate at more c
+guards_behind gate at old more bytes c put behind = (behind.0, λ is_open k lt. let there = behind.1 is_open (at + k) (omega arith) (omega arith) in (there.0, there.1 ∙ (ap (λ (b : List ℕ). slice_index b (at + k)) put ∙ overwritten_inside old more at k lt)))

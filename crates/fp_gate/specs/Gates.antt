@@ -1,0 +1,50 @@
+-- What holds at the place of a gate, and at those that it guards, whatever a crash leaves.
+use Rattle.std.specs.Prelude.{◌≡◌, ◌≢◌, ◌<◌, ◌≤◌, ◌+◌, ℕ, List, length, slice_index}
+use Rattle.fp_disk.specs.Outcomes.{Unsynced, IsOutcome, Covers}
+
+-- the place of a gate, and the first that it guards and the one behind the last
+pub record Gated : Type 0 where
+  pub at : ℕ
+  pub from : ℕ
+  pub to : ℕ
+
+-- its byte is there and isn't a5, whatever a crash leaves
+abbrev pub IsShut : Unsynced → ℕ → Type 0
+IsShut u at = (c : List ℕ) → IsOutcome u c → (at < length c) × (slice_index c at ≢ 165)
+
+-- its byte is a5, whatever a crash leaves
+abbrev pub IsOpen : Unsynced → ℕ → Type 0
+IsOpen u at = (c : List ℕ) → IsOutcome u c → (at < length c) × (slice_index c at ≡ 165)
+
+-- these places are there
+abbrev pub Agrees : ℕ → ℕ → List ℕ → List ℕ → Type 0
+Agrees from to bytes c = (k : ℕ) → from ≤ k → k < to → (k < length c) × (slice_index c k ≡ slice_index bytes k)
+
+-- these places are there and as they are read, whatever a crash leaves
+abbrev pub IsFirm : Unsynced → List ℕ → ℕ → ℕ → Type 0
+IsFirm u bytes from to = (c : List ℕ) → IsOutcome u c → Agrees from to bytes c
+
+-- where the gate is open, what it guards is there
+abbrev pub Guards : Gated → List ℕ → List ℕ → Type 0
+Guards g bytes c = (g.at < length c) × (slice_index c g.at ≡ 165 → Agrees g.from g.to bytes c)
+
+-- an outcome, but for the byte at one place
+pub record IsButFor (u : Unsynced) (at : ℕ) (c : List ℕ) : Type 0 where
+  pub before : List ℕ
+  pub outcome : IsOutcome u before
+  pub same_length : length c ≡ length before
+  pub elsewhere : (k : ℕ) → (k ≡ at → ⊥) → slice_index c k ≡ slice_index before k
+
+-- its byte is synced, closed, and was not written since
+pub record IsClosedAt (u : Unsynced) (at : ℕ) : Type 0 where
+  pub there : at < length u.synced
+  pub untouched : Covers u.ranges at → ⊥
+  pub closed : slice_index u.synced at ≢ 165
+
+-- these bytes stand at a place
+abbrev pub HasAt : ℕ → List ℕ → List ℕ → Type 0
+HasAt at bytes c = (k : ℕ) → k < length bytes → (at + k < length c) × (slice_index c (at + k) ≡ slice_index bytes k)
+
+-- where the gate is open, these bytes stand behind it
+abbrev pub HasBehind : ℕ → ℕ → List ℕ → List ℕ → Type 0
+HasBehind gate at bytes c = (gate < length c) × (slice_index c gate ≡ 165 → HasAt at bytes c)

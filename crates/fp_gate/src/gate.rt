@@ -1,0 +1,169 @@
+ghost use Rattle.std.specs.Prelude.{◌≡◌, ◌↔◌, ◌⊎◌, ◌≤◌, ◌<◌, ℕ, List, [], ◌∷◌, length, slice_index, IfOk, OnOk, IsErr};
+ghost use Rattle.fp_disk.specs.Outcomes.{Answers, ChangesWithin, Elapses, IsOutcome, LeavesOnly, Written as HasWritten, touched};
+ghost use Rattle.fp_gate.specs.Gates.{Gated, IsShut, IsOpen, IsFirm, Guards, IsButFor};
+
+use fp_disk::{Checked, Disk, DiskFault, Synced};
+use std::marker::{Model, PhantomData};
+
+/// The byte of a gate that is open.
+const OPEN: u8 = 0xa5;
+
+/// A byte of a gate that is closed. Each byte but `OPEN` is one.
+const CLOSED: u8 = 0;
+
+/// Its byte isn't a5, whatever a crash leaves.
+pub struct Closed;
+
+/// Its byte was written as a5, and a crash may leave another.
+pub struct Written;
+
+/// Its byte is a5, whatever a crash leaves.
+pub struct Open;
+
+/// A gate: the place of its byte, and the places that it guards, which are none until `guarding` says which.
+#[derive(Drop)]
+pub struct Gate<S> {
+    at: u64,
+    from: u64,
+    to: u64,
+    state: PhantomData<S>,
+}
+
+impl<S> Model for Gate<S> {
+    ghost Value = { Gated };
+
+    ghost view = { λ g. record { at = g.at; from = g.from; to = g.to } };
+
+    ghost invariant = { λ g. (g.at < g.from) ⊎ (g.to ≤ g.at) };
+}
+
+impl<S> Gate<S> {
+    /// The place of its byte.
+    pub fn at(&self) -> u64
+        ensures { result ≡ self.now.at }
+    {
+        self.at
+    }
+}
+
+impl Gate<Closed> {
+    /// Writes a closed byte. After the next sync that succeeds a gate may adopt the place.
+    pub fn place_closed<D: Disk>(disk: &mut Checked<D>, at: u64) -> Result<(), DiskFault>
+        ensures name { disk.new.name ≡ disk.old.name }
+        ensures written { D.honest disk.old.disk →
+            OnOk result (HasWritten (D.bytes disk.old.disk) at (0 ∷ []) (D.bytes disk.new.disk)) }
+        ensures honest { D.honest disk.old.disk ↔ D.honest disk.new.disk }
+        ensures unsynced { D.honest disk.old.disk →
+            OnOk result (D.unsynced disk.new.disk ≡ touched (D.unsynced disk.old.disk) at 1) }
+        ensures partly { D.honest disk.old.disk → IsErr result →
+            ChangesWithin (D.bytes disk.old.disk) at 1 (D.bytes disk.new.disk) }
+        ensures failed { D.honest disk.old.disk → IsErr result →
+            (D.unsynced disk.new.disk ≡ D.unsynced disk.old.disk)
+            ⊎ (D.unsynced disk.new.disk ≡ touched (D.unsynced disk.old.disk) at 1) }
+        ensures time { D.honest disk.old.disk →
+            Elapses (D.moment disk.old.disk) (D.moment disk.new.disk) (D.left_since disk.old.disk)
+            (D.left_since disk.new.disk) (IsOutcome (touched (D.unsynced disk.old.disk) at 1)) }
+        ensures cause { Answers (D.faults disk.old.disk) (D.faults disk.new.disk) result }
+    {
+        disk.write_at(at, &[CLOSED])
+    }
+
+    /// The gate at a place whose byte is closed whatever a crash leaves.
+    pub fn adopt<D: Disk>(disk: &Checked<D>, at: u64) -> Gate<Closed>
+        requires { D.honest disk.now.disk → IsShut (D.unsynced disk.now.disk) at }
+        ensures { result ≡ record { at = at; from = 0; to = 0 } }
+    {
+        let _ = disk;
+        Gate {
+            at,
+            from: 0,
+            to: 0,
+            state: PhantomData,
+        }
+    }
+
+    /// The same gate, which guards the places from one on and before another.
+    pub fn guarding(self, from: u64, to: u64) -> Gate<Closed>
+        requires { (self.at < from) ⊎ (to ≤ self.at) }
+        ensures { result ≡ record { at = self.at; from = from; to = to } }
+    {
+        Gate {
+            at: self.at,
+            from,
+            to,
+            state: PhantomData,
+        }
+    }
+
+    /// Writes the open byte, for a sync made after what the gate guards was written.
+    pub fn open<D: Disk>(
+        self,
+        disk: &mut Checked<D>,
+        synced: Synced<D>,
+    ) -> Result<Gate<Written>, DiskFault>
+        requires shut { D.honest disk.old.disk → IsShut (D.unsynced disk.old.disk) self.at }
+        requires firm { D.honest disk.old.disk →
+            IsFirm (D.unsynced disk.old.disk) (D.bytes disk.old.disk) self.from self.to }
+        requires token { (synced.disk ≡ disk.old.name) × (synced.moment ≤ D.moment disk.old.disk) }
+
+        ensures gate { IfOk result (λ g. g ≡ self) }
+        ensures name { disk.new.name ≡ disk.old.name }
+
+        // A crash at any moment since leaves what it might have left before, but for the gate's byte; and where that is open,
+        // what it guards is there.
+        ensures each { D.honest disk.old.disk →
+            LeavesOnly D.moment D.left_since disk.old.disk disk.new.disk
+            (IsButFor (D.unsynced disk.old.disk) self.at) }
+        ensures guards { D.honest disk.old.disk →
+            LeavesOnly D.moment D.left_since disk.old.disk disk.new.disk
+            (Guards self (D.bytes disk.old.disk)) }
+
+        // The disk is as after a write of that byte.
+        ensures written { D.honest disk.old.disk →
+            OnOk result
+            (HasWritten (D.bytes disk.old.disk) self.at (165 ∷ []) (D.bytes disk.new.disk)) }
+        ensures shown { D.honest disk.old.disk →
+            OnOk result
+            ((self.at < length (D.bytes disk.new.disk))
+            × (slice_index (D.bytes disk.new.disk) self.at ≡ 165)) }
+        ensures honest { D.honest disk.old.disk ↔ D.honest disk.new.disk }
+        ensures unsynced { D.honest disk.old.disk →
+            OnOk result (D.unsynced disk.new.disk ≡ touched (D.unsynced disk.old.disk) self.at 1) }
+        ensures partly { D.honest disk.old.disk → IsErr result →
+            ChangesWithin (D.bytes disk.old.disk) self.at 1 (D.bytes disk.new.disk) }
+        ensures failed { D.honest disk.old.disk → IsErr result →
+            (D.unsynced disk.new.disk ≡ D.unsynced disk.old.disk)
+            ⊎ (D.unsynced disk.new.disk ≡ touched (D.unsynced disk.old.disk) self.at 1) }
+        ensures time { D.honest disk.old.disk →
+            Elapses (D.moment disk.old.disk) (D.moment disk.new.disk) (D.left_since disk.old.disk)
+            (D.left_since disk.new.disk)
+            (IsOutcome (touched (D.unsynced disk.old.disk) self.at 1)) }
+        ensures cause { Answers (D.faults disk.old.disk) (D.faults disk.new.disk) result }
+    {
+        let _ = synced;
+        disk.write_at(self.at, &[OPEN])?;
+        Ok(Gate {
+            at: self.at,
+            from: self.from,
+            to: self.to,
+            state: PhantomData,
+        })
+    }
+}
+
+impl Gate<Written> {
+    /// The gate as open for good, for a sync made after its own byte was written.
+    pub fn seal<D: Disk>(self, disk: &Checked<D>, synced: Synced<D>) -> Gate<Open>
+        requires token { (synced.disk ≡ disk.now.name) × (synced.moment ≤ D.moment disk.now.disk) }
+        requires open { D.honest disk.now.disk → IsOpen (D.unsynced disk.now.disk) self.at }
+        ensures { result ≡ self }
+    {
+        let _ = (disk, synced);
+        Gate {
+            at: self.at,
+            from: self.from,
+            to: self.to,
+            state: PhantomData,
+        }
+    }
+}

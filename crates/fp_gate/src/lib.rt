@@ -1,0 +1,11 @@
+//! One byte of a disk as a gate: what it guards counts only where it is a5, and opening it costs a sync.
+#![tactic(auto)]
+
+mod behind;
+mod gate;
+
+pub use behind::write_behind;
+pub use gate::{Closed, Gate, Open, Written};
+
+#[cfg(test)]
+mod tests;

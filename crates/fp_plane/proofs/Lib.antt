@@ -1,0 +1,4 @@
+pub mod LineLemmas
+pub mod RunLemmas
+pub mod ProgressLemmas
+pub mod RunOverLemmas

@@ -1,0 +1,73 @@
+use Rattle.std.proofs.Common.{◌≡◌, ◌+◌, ◌-◌, ◌≤◌, ℕ, List, [], ◌∷◌, ◌++◌, length, take, drop, position, ◌==◌, Some, refl, sym, ap, subst, ◌∙◌, append_assoc, take_all, length-drop, arith}
+use Rattle.fp_edit.specs.Flags.{State}
+use Rattle.fp_plane.specs.Lines.{lines}
+use Rattle.fp_plane.specs.Progress.{IsSoFar, cut}
+use Rattle.fp_plane.proofs.LineLemmas.{IsCutAt, newline_found, newline_none}
+use Rattle.fp_plane.proofs.ProgressLemmas.{so_far-more, so_far-newline, within-here, within-line}
+use Rattle.fp_plane.proofs.exchange.Exchange.take.Goals as goal
+
+-- what came before, a line and what stands behind its newline
+regroup : (before rest all : List ℕ) (at : ℕ) → IsCutAt rest at → before ++ rest ≡ all → (before ++ take at rest) ++ 10 ∷ drop (at + 1) rest ≡ all
+regroup before rest all at cut whole = append_assoc before (take at rest) (10 ∷ drop (at + 1) rest) ∙ ap (λ l. before ++ l) cut.parts ∙ whole
+
+rest_is : (rest : List ℕ) (at : ℕ) → take (length rest - (at + 1)) (drop (at + 1) rest) ≡ drop (at + 1) rest
+rest_is rest at =
+    let within : length (drop (at + 1) rest) ≤ length rest - (at + 1) = omega (arith, length-drop (at + 1) rest) in
+    take_all (length rest - (at + 1)) (drop (at + 1) rest) within
+
+pub returns-in_err-extend-clause-within : goal.returns-in_err-extend-clause-within
+returns-in_err-extend-clause-within g c = λ start seen sent h.
+    let inv = c.loop-at.invariant start seen sent h in
+    let now = g.E.Edits.state c.loop-at.edits in
+    within-here start inv.0 c.loop-at.rest.now (seen ++ c.args.bytes.now) now now inv.1 refl inv.2.reached
+
+pub returns-in_err-end_line-clause-within : goal.returns-in_err-end_line-clause-within
+returns-in_err-end_line-clause-within g c = λ start seen sent h.
+    let inv = c.loop-at.invariant start seen sent h in
+    let s = g.E.Edits.state c.loop-at.edits in
+    let t = g.E.Edits.state c.end_line.new.edits in
+    let rest = c.loop-at.rest.now in
+    let at = c.in-Some.at in
+    let found = newline_found rest at (sym c.newline_in.ensures.first ∙ c.in-Some.is) in
+    let so_far = so_far-more start inv.0 sent (take at rest) c.loop-at.self c.extend.new.self s inv.2 found.one
+    (c.in_ok-extend.ensures.grown inv.2.reached.line inv.2.kept) c.extend.ensures.same_replies c.extend.ensures.same_told in
+    within-line start (inv.0 ++ take at rest) (drop (at + 1) rest) (seen ++ c.args.bytes.now) s t (regroup inv.0 rest (seen ++ c.args.bytes.now) at found inv.1) so_far.reached
+    (c.end_line.ensures.stopped so_far.reached.line so_far.kept)
+
+pub loop-at-preserved : goal.loop-at-preserved
+loop-at-preserved g c = λ start seen sent h.
+    let inv = c.loop-at.invariant start seen sent h in
+    let s = g.E.Edits.state c.loop-at.edits in
+    let t = g.E.Edits.state c.end_line.new.edits in
+    let rest = c.loop-at.rest.now in
+    let at = c.in-Some.at in
+    let found = newline_found rest at (sym c.newline_in.ensures.first ∙ c.in-Some.is) in
+    let so_far = so_far-more start inv.0 sent (take at rest) c.loop-at.self c.extend.new.self s inv.2 found.one
+    (c.in_ok-extend.ensures.grown inv.2.reached.line inv.2.kept) c.extend.ensures.same_replies c.extend.ensures.same_told in
+    let before = inv.0 ++ take at rest in (
+      before ++ 10 ∷ [],
+      ap (λ l. (before ++ 10 ∷ []) ++ l) (rest_is rest at) ∙ append_assoc before (10 ∷ []) (drop (at + 1) rest) ∙ regroup inv.0 rest (seen ++ c.args.bytes.now) at found inv.1,
+      so_far-newline start before sent c.extend.new.self c.end_line.new.self s t so_far (c.in_ok-end_line.ensures.ended so_far.reached.line so_far.kept),
+    )
+
+pub returns-in_err-extend-2-clause-within : goal.returns-in_err-extend-2-clause-within
+returns-in_err-extend-2-clause-within g c = λ start seen sent h.
+    let inv = c.loop-at.invariant start seen sent h in
+    let now = g.E.Edits.state c.loop-at.edits in
+    within-here start inv.0 c.loop-at.rest.now (seen ++ c.args.bytes.now) now now inv.1 refl inv.2.reached
+
+pub returns-clause-taken : goal.returns-clause-taken
+returns-clause-taken g c = λ start seen sent h.
+    let inv = c.loop-at.invariant start seen sent h in
+    let now = g.E.Edits.state c.loop-at.edits in
+    let rest = c.loop-at.rest.now in
+    let one : lines rest ≡ rest ∷ [] = newline_none rest (sym c.newline_in.ensures.first ∙ c.in_default.is) in
+    subst (λ bs. IsSoFar start bs sent c.extend-2.new.self now) inv.1
+    (so_far-more start inv.0 sent rest c.loop-at.self c.extend-2.new.self now inv.2 one
+    (c.in_ok-extend-2.ensures.grown inv.2.reached.line inv.2.kept) c.extend-2.ensures.same_replies c.extend-2.ensures.same_told)
+
+pub returns-clause-within : goal.returns-clause-within
+returns-clause-within g c = λ start seen sent h.
+    let inv = c.loop-at.invariant start seen sent h in
+    let now = g.E.Edits.state c.loop-at.edits in
+    within-here start inv.0 c.loop-at.rest.now (seen ++ c.args.bytes.now) now now inv.1 refl inv.2.reached

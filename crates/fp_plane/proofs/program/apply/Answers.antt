@@ -1,0 +1,15 @@
+use Rattle.std.proofs.Common.{◌≡◌, ℕ, List, IfSome, IfOk, subst, Result, Ok}
+use Rattle.std.proofs.lemmas.Option.{IfSome_then}
+use Rattle.fp_plane.specs.Run.{IsRunOver, IsApplied}
+use Rattle.fp_plane.specs.Task.{no_flags}
+use Rattle.fp_plane.proofs.program.apply.Goals as goal
+
+pub returns : goal.returns
+returns g c =
+    let told = c.in_ok-_told._told in
+    let now = c.apply_lines-flags.result.0 in
+    let left = g.R.Read.remaining c.args.r.now in
+    let old = g.W.Write.contents c.args.w.now in
+    let new = g.W.Write.contents c.apply_lines-flags.new.w in
+    let run : IfSome left (λ input. IsRunOver c.new.result input told old new now) = subst (λ o. IfOk o (λ b. IfSome left (λ input. IsRunOver c.new.result input b old new now))) c.in_ok-_told.was c.apply_lines-flags.ensures.run in
+    IfSome_then left run (λ input r. (told, now, subst (λ s. IsRunOver s input told old new now) c.new.ensures r))

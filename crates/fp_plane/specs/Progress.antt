@@ -1,0 +1,50 @@
+-- How far an input was answered.
+use Rattle.std.specs.Prelude.{◌≡◌, ℕ, ◌+◌, List, [], ◌∷◌, ◌++◌, take, ◌&&◌, ◌⊎◌}
+use Rattle.std.specs.List.{list_all}
+use Rattle.fp_edit.specs.Flags.{State}
+use Rattle.fp_plane.specs.Lines.{lines, answered, line_limit}
+use Rattle.fp_plane.specs.Reply.{Reply, texts_of, is_told}
+use Rattle.fp_plane.specs.Script.{IsRun, show_line}
+use Rattle.fp_plane.specs.declared.exchange.Exchange.{Exchange}
+
+-- each line that ended in `seen` was answered, and the last one hasn't ended
+pub record IsReached (start : State) (seen : List ℕ) (now : State) : Type 0 where
+  pub done : List (List ℕ)
+  pub line : List ℕ
+  pub replies : List Reply
+  pub split : lines seen ≡ done ++ line ∷ []
+  pub run : IsRun start (answered done) replies now
+
+-- a line, or one byte more of it than is looked at
+abbrev pub cut : List ℕ → List ℕ
+cut line = take (line_limit + 1) line
+
+-- the same, with what was sent of the replies and what waits
+pub record IsSoFar (start : State) (seen sent : List ℕ) (x : Exchange) (now : State) : Type 0 where
+  pub reached : IsReached start seen now
+  pub kept : x.line.items ≡ cut reached.line
+  pub written : sent ++ x.replies.items ≡ texts_of reached.replies
+  pub told : x.is_told ≡ list_all is_told reached.replies
+
+-- some beginning of the input was reached
+abbrev pub IsReachedWithin : State → List ℕ → State → Type 0
+IsReachedWithin start input now = (front back : List ℕ) × (front ++ back ≡ input) × IsReached start front now
+
+-- each line of the input was answered, and the flags are shown
+pub record IsAnswered (start : State) (input sent : List ℕ) (x : Exchange) (now : State) : Type 0 where
+  pub replies : List Reply
+  pub run : IsRun start (answered (lines input)) replies now
+  pub written : sent ++ x.replies.items ≡ texts_of replies ++ show_line now
+  pub told : x.is_told ≡ list_all is_told replies
+
+-- a line was answered, and the next one begins
+pub record EndsLine (s : State) (line : List ℕ) (old new : Exchange) (t : State) : Type 0 where
+  pub replies : List Reply
+  pub run : IsRun s (answered (line ∷ [])) replies t
+  pub written : new.replies.items ≡ old.replies.items ++ texts_of replies
+  pub told : new.is_told ≡ (old.is_told && list_all is_told replies)
+  pub empty : new.line.items ≡ []
+
+-- a line was answered, or nothing was done
+abbrev pub EndsOrStays : State → List ℕ → State → Type 0
+EndsOrStays s line t = ((replies : List Reply) × IsRun s (answered (line ∷ [])) replies t) ⊎ (t ≡ s)

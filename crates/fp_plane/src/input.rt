@@ -1,0 +1,99 @@
+//! A run over an input.
+
+ghost use Rattle.std.specs.Prelude.{◌≡◌, ℕ, List, Option, true, IfOk, IfSome};
+ghost use Rattle.std.specs.Io.KnownBytes.{Appends};
+ghost use Rattle.fp_edit.specs.Flags.{State};
+ghost use Rattle.fp_plane.specs.Script.{script, after_input};
+ghost use Rattle.fp_plane.specs.Run.{IsRunOver, IsLeftBy};
+ghost use Rattle.fp_plane.specs.Progress.{IsSoFar};
+
+use crate::exchange::Exchange;
+use crate::{ApplyFault, Edits};
+use std::alloc::Global;
+use std::io::{ErrorKind, Read, Write};
+
+const CHUNK: usize = 65_536;
+
+/// Answers each line of the reader in order, and shows the flags behind the last reply.
+///
+/// The replies to what was read are sent before the next read, and no more than a chunk of the
+/// input and its replies is held. `Ok(false)` says that a reply told of wanting memory.
+/// A reader or a writer that fails is `Device`.
+pub fn apply_lines<R: Read, W: Write, E: Edits>(
+    alloc: Global,
+    r: &mut R,
+    w: &mut W,
+    edits: E,
+) -> (E, Result<bool, ApplyFault>)
+    // What is written is the script of what was read, and the flags are as it leaves them.
+    ensures script { IfOk result.1 (λ told. told ≡ true → IfSome (R.remaining r.old) (λ input.
+        Appends (W.contents w.old) (W.contents w.new) (script (E.state edits) input))) }
+    ensures flags { IfOk result.1 (λ told. told ≡ true → IfSome (R.remaining r.old) (λ input.
+        E.state result.0 ≡ after_input (E.state edits) input)) }
+
+    // Where a reply tells of wanting memory, its line changed nothing, and all else is as before.
+    ensures run { IfOk result.1 (λ told. IfSome (R.remaining r.old) (λ input.
+        IsRunOver (E.state edits) input told (W.contents w.old) (W.contents w.new)
+        (E.state result.0))) }
+
+    // At a fault too the flags are as some first lines of the input leave them.
+    ensures left { IfSome (R.remaining r.old) (λ input.
+        IsLeftBy (E.state edits) input (E.state result.0)) }
+{
+    let mut edits = edits;
+    let outcome = answer_input(alloc, r, w, &mut edits);
+    (edits, outcome)
+}
+
+fn answer_input<R: Read, W: Write, E: Edits>(
+    alloc: Global,
+    r: &mut R,
+    w: &mut W,
+    edits: &mut E,
+) -> Result<bool, ApplyFault>
+    ensures run { IfOk result (λ told. IfSome (R.remaining r.old) (λ input.
+        IsRunOver (E.state edits.old) input told (W.contents w.old) (W.contents w.new)
+        (E.state edits.new))) }
+    ensures left { IfSome (R.remaining r.old) (λ input.
+        IsLeftBy (E.state edits.old) input (E.state edits.new)) }
+{
+    let mut exchange = Exchange::new(alloc);
+    let mut chunk = [0; CHUNK];
+    for _turn in 0..u64::MAX {
+        let count = match r.read(&mut chunk) {
+            Ok(count) => count,
+            Err(e) if e.kind() == ErrorKind::Interrupted => continue,
+            Err(_) => return Err(ApplyFault::Device),
+        };
+        if count == 0 {
+            let told = finish(alloc, w, &mut exchange, edits)?;
+            return Ok(told);
+        }
+        let taken = exchange.take(alloc, edits, &chunk[..count]);
+        exchange.send(w)?;
+        taken?;
+    }
+    Err(ApplyFault::Device)
+}
+
+// Answers the last line, and shows the flags.
+fn finish<W: Write, E: Edits>(
+    alloc: Global,
+    w: &mut W,
+    exchange: &mut Exchange,
+    edits: &mut E,
+) -> Result<bool, ApplyFault>
+    ensures run { IfOk result (λ told.
+        (start : State) (input sent : List ℕ) (before : Option (List ℕ))
+        → IsSoFar start input sent exchange.old (E.state edits.old)
+        → Appends before (W.contents w.old) sent
+        → IsRunOver start input told before (W.contents w.new) (E.state edits.new)) }
+    ensures left { (start : State) (input sent : List ℕ)
+        → IsSoFar start input sent exchange.old (E.state edits.old)
+        → IsLeftBy start input (E.state edits.new) }
+{
+    let ended = exchange.end(alloc, edits);
+    exchange.send(w)?;
+    ended?;
+    Ok(exchange.is_told())
+}

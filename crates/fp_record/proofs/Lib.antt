@@ -1,0 +1,12 @@
+pub mod Batches
+pub mod Images
+pub mod Keyed
+pub mod Lengths
+pub mod Loop
+pub mod Many
+pub mod Places
+pub mod Sets
+pub mod Texts
+pub mod Utf8
+pub mod Whole
+pub mod Written

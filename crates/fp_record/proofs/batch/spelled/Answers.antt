@@ -1,0 +1,17 @@
+use Rattle.std.proofs.Common.{◌≡◌, ◌++◌, ap, sym, ◌∙◌, length, take}
+use Rattle.std.specs.Int.{w16, w64, to_be_bytes}
+use Rattle.std.specs.List.{flat_map}
+use Rattle.std.proofs.lemmas.List.{take_all, length-map}
+use Rattle.fp_edit.specs.declared.edit.Edit.{Edit}
+use Rattle.std.specs.Prelude.{List}
+use Rattle.fp_record.specs.Edits.{change_of, changes_of}
+use Rattle.fp_record.specs.Spelling.{spelling_of_change}
+use Rattle.fp_record.proofs.Written.{batch_written}
+use Rattle.fp_record.proofs.batch.spelled.Goals as goal
+
+pub returns-clause-spelled : goal.returns-clause-spelled
+returns-clause-spelled c =
+    let edits = c.args.edits.now in
+    let all : take c.loop-edit.edit-index edits ≡ edits = take_all _ _ c.loop-edit-test.false in
+    batch_written c.args.first (length edits) (changes_of edits) c.loop-edit.out.items (sym (length-map edits change_of))
+    (c.loop-edit.invariant.0 ∙ ap (λ (done : List Edit). (to_be_bytes w64 c.args.first ++ to_be_bytes w16 (length edits)) ++ flat_map spelling_of_change (changes_of done)) all)

@@ -1,0 +1,92 @@
+-- Reading batches and images forward, field by field.
+use Rattle.std.specs.Prelude.{ℕ, zero, suc, ◌+◌, ◌^◌, Bool, ◌&&◌, List, [], ◌∷◌, length, nat_le, ◌==◌, Result, Ok, Err, if◌then◌else◌}
+use Rattle.std.specs.Int.{w8, w16, w32, w64}
+use Rattle.std.specs.Ordering.{is_lt}
+use Rattle.fp_base.specs.Bytes.{bytes_cmp}
+use Rattle.fp_edit.specs.Edits.{Change, put, delete}
+use Rattle.fp_edit.specs.declared.flags.Flag.{Flag}
+use Rattle.fp_record.specs.Group.{Group}
+use Rattle.fp_record.specs.Fields.{◌>>=◌, number_at, key_at, definition_at}
+
+unfoldable pub put_at : List ℕ → ℕ → Result (Change × ℕ) ℕ
+put_at bytes at = do
+  key ← key_at bytes at
+  text ← definition_at bytes key.1
+  Ok (put key.0 text.0, text.1)
+
+unfoldable pub delete_at : List ℕ → ℕ → Result (Change × ℕ) ℕ
+delete_at bytes at = do
+  key ← key_at bytes at
+  Ok (delete key.0, key.1)
+
+unfoldable pub change_at : List ℕ → ℕ → Result (Change × ℕ) ℕ
+change_at bytes at = do
+  kind ← number_at w8 bytes at
+  if kind.0 == 1 then put_at bytes kind.1 else if kind.0 == 2 then delete_at bytes kind.1 else Err at
+
+-- that many of what step reads, one after the other
+unfoldable pub many_from : {A S : Type 0} → (S → Result (A × S) ℕ) → ℕ → S → Result (List A × S) ℕ
+many_from step zero s = Ok ([], s)
+many_from step (suc n) s = do
+  one ← step s
+  others ← many_from step n one.1
+  Ok (one.0 ∷ others.0, others.1)
+
+abbrev pub changes_at : ℕ → List ℕ → ℕ → Result (List Change × ℕ) ℕ
+changes_at count bytes at = many_from (change_at bytes) count at
+
+-- so many changes can follow that first revision
+abbrev pub can_count : ℕ → ℕ → Bool
+can_count first count = nat_le 1 count && nat_le count 64 && nat_le (first + count) (2 ^ 63)
+
+-- the batch at the front, and where it ends
+unfoldable pub batch_at : List ℕ → Result (Group × ℕ) ℕ
+batch_at bytes = do
+  first ← number_at w64 bytes 0
+  count ← number_at w16 bytes first.1
+  changes ← if can_count first.0 count.0 then changes_at count.0 bytes count.1 else Err first.1
+  Ok (record { first = first.0; changes = changes.0 }, changes.1)
+
+-- what was read, where nothing is left over
+abbrev pub whole : {A : Type 0} → List ℕ → Result (A × ℕ) ℕ → Result A ℕ
+whole bytes read = read >>= λ found. if found.1 == length bytes then Ok found.0 else Err found.1
+
+unfoldable pub batch_in : List ℕ → Result Group ℕ
+batch_in bytes = whole bytes (batch_at bytes)
+
+-- ---- images
+
+-- a key above the one before; one that isn't is wrong at its first byte, which is behind the two of its length
+unfoldable pub key_above_at : List ℕ → List ℕ → ℕ → Result (List ℕ × ℕ) ℕ
+key_above_at before bytes at = do
+  key ← key_at bytes at
+  if is_lt (bytes_cmp before key.0) then Ok key else Err (at + 2)
+
+-- the revision of a flag's last put, from 1 on
+unfoldable pub changed_at : List ℕ → ℕ → Result (ℕ × ℕ) ℕ
+changed_at bytes at = do
+  changed ← number_at w64 bytes at
+  if nat_le 1 changed.0 then Ok changed else Err at
+
+-- a flag, from the key before and an offset on to its own key and the offset behind it
+unfoldable pub flag_at : List ℕ → List ℕ × ℕ → Result ((List ℕ × Flag) × (List ℕ × ℕ)) ℕ
+flag_at bytes from = do
+  key ← key_above_at from.0 bytes from.1
+  changed ← changed_at bytes key.1
+  text ← definition_at bytes changed.1
+  Ok ((key.0, record { definition = text.0; changed = changed.0 }), (key.0, text.1))
+
+-- that many flags; each key is above the one of no bytes
+unfoldable pub flags_at : ℕ → List ℕ → ℕ → Result (List (List ℕ × Flag) × ℕ) ℕ
+flags_at count bytes at = do
+  flags ← many_from (flag_at bytes) count ([], at)
+  Ok (flags.0, flags.1.1)
+
+-- the image at the front, and where it ends
+unfoldable pub image_at : List ℕ → Result (List (List ℕ × Flag) × ℕ) ℕ
+image_at bytes = do
+  count ← number_at w32 bytes 0
+  if nat_le count.0 4096 then flags_at count.0 bytes count.1 else Err 0
+
+unfoldable pub image_in : List ℕ → Result (List (List ℕ × Flag)) ℕ
+image_in bytes = whole bytes (image_at bytes)

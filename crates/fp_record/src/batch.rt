@@ -1,0 +1,216 @@
+//! Batches: edits under consecutive revisions.
+
+ghost use Rattle.std.specs.Prelude.{◌≡◌, ◌+◌, ◌<◌, ◌≤◌, ◌^◌, ◌++◌, ◌⊎◌, length, vec_len, IfOk, OnOk, Ok, Err};
+ghost use Rattle.std.specs.List.{AllByRecursion};
+ghost use Rattle.fp_record.specs.Group.{Group};
+ghost use Rattle.fp_record.specs.Edits.{change_of, changes_of};
+ghost use Rattle.fp_record.specs.Fields.{Gives};
+ghost use Rattle.fp_record.specs.declared.fault.RecordFault.TheVariants.{Memory};
+ghost use Rattle.fp_record.specs.Lawful.{IsBatch, IsChange};
+ghost use Rattle.fp_record.specs.Reading.{change_at, put_at, delete_at, changes_at, batch_at, batch_in};
+ghost use Rattle.fp_record.specs.Spelling.{spelling_of_batch, spelling_of_change};
+
+use crate::fault::RecordFault;
+use crate::fields::{definition_from, key_from, u8_at, u16_at, u64_at};
+use crate::writing::{put_definition, put_key, put_u16, put_u64};
+use fp_edit::{Edit, Expect};
+use std::alloc::{AllocError, Global};
+use std::marker::Model;
+
+/// Edits that are written and read together. What their editors expected isn't part of it.
+#[derive(Drop)]
+pub struct Batch {
+    first: u64,
+    edits: Vec<Edit>,
+}
+
+impl Model for Batch {
+    ghost use Rattle.std.specs.Prelude.{ℕ, ◌+◌, ◌<◌, ◌≤◌, ◌^◌, length};
+    ghost use Rattle.std.specs.List.{AllByRecursion};
+    ghost use Rattle.fp_record.specs.Group.{Group};
+    ghost use Rattle.fp_record.specs.Edits.{changes_of};
+
+    ghost Value = { Group };
+
+    ghost view = { λ a. record { first = a.first; changes = changes_of a.edits.items } };
+
+    ghost invariant = { λ a. (0 < length a.edits.items) × (length a.edits.items ≤ 64) × (a.first + length a.edits.items ≤ 2 ^ 63) };
+}
+
+impl Batch {
+    /// The batch of these edits, whose revisions are `first` and those that follow it.
+    pub fn new(first: u64, edits: Vec<Edit>) -> Batch
+        requires some { 0 < vec_len edits }
+        requires few { vec_len edits ≤ 64 }
+        requires revisions { first + vec_len edits ≤ 2 ^ 63 }
+        ensures { result ≡ record { first = first; changes = changes_of edits.items } }
+    {
+        Batch { first, edits }
+    }
+
+    /// The revision of the first edit.
+    pub fn first(&self) -> u64
+        ensures { result ≡ self.now.first }
+    {
+        self.first
+    }
+
+    /// The edits in the order of their revisions.
+    pub fn edits(&self) -> &[Edit]
+        ensures { changes_of result.now ≡ self.now.changes }
+    {
+        &self.edits
+    }
+
+    /// The edits by value.
+    pub fn into_edits(self) -> Vec<Edit>
+        ensures { changes_of result.items ≡ self.changes }
+    {
+        self.edits
+    }
+
+    /// The batch's spelling.
+    pub fn encode(&self, alloc: Global) -> Result<Vec<u8>, AllocError>
+        ensures lawful { IfOk result (λ _. IsBatch self.now) }
+        ensures spelled { IfOk result (λ bytes. bytes.items ≡ spelling_of_batch self.now) }
+    {
+        spelled(alloc, self.first, &self.edits)
+    }
+
+    /// The batch that the bytes spell, all of them.
+    pub fn decode(alloc: Global, bytes: &[u8]) -> Result<Batch, RecordFault>
+        ensures spelled { IfOk result (λ batch. IsBatch batch × (bytes.now ≡ spelling_of_batch batch)) }
+        // What spells a batch is decoded, unless memory runs out.
+        ensures found { (batch : Group) → IsBatch batch → bytes.now ≡ spelling_of_batch batch → (result ≡ Ok batch) ⊎ (result ≡ Err Memory) }
+        // Where the first fault is.
+        ensures place { Gives (λ batch. batch) result (batch_in bytes.now) }
+    {
+        whole_batch(alloc, bytes)
+    }
+}
+
+/// How many bytes an edit takes in a batch.
+pub fn spelled_len(edit: &Edit) -> usize
+    ensures len { result ≡ length (spelling_of_change (change_of edit.now)) }
+    ensures small { result ≤ 16647 }
+{
+    match edit {
+        Edit::Put { key, flag, .. } => 7 + key.as_str().len() + flag.text().len(),
+        Edit::Delete { key, .. } => 3 + key.as_str().len(),
+    }
+}
+
+#[tactic(auto, unfolding(crate::specs::Spelling::spelling_of_change))]
+fn put_edit(out: &mut Vec<u8>, edit: &Edit) -> Result<(), AllocError>
+    ensures written { OnOk result (out.new.items ≡ out.old.items ++ spelling_of_change (change_of edit.now)) }
+    ensures lawful { OnOk result (IsChange (change_of edit.now)) }
+{
+    match edit {
+        Edit::Put { key, flag, .. } => {
+            out.push(1)?;
+            put_key(out, key)?;
+            put_definition(out, flag)
+        }
+        Edit::Delete { key, .. } => {
+            out.push(2)?;
+            put_key(out, key)
+        }
+    }
+}
+
+fn spelled(alloc: Global, first: u64, edits: &[Edit]) -> Result<Vec<u8>, AllocError>
+    requires { length edits.now ≤ 64 }
+    ensures changes { IfOk result (λ _. AllByRecursion IsChange (changes_of edits.now)) }
+    ensures spelled { IfOk result (λ bytes. bytes.items ≡ spelling_of_batch (record { first = first; changes = changes_of edits.now })) }
+{
+    let mut out = Vec::new(alloc);
+    put_u64(&mut out, first)?;
+    put_u16(&mut out, edits.len() as u16)?;
+    for edit in edits {
+        put_edit(&mut out, edit)?;
+    }
+    Ok(out)
+}
+
+#[tactic(auto, unfolding(crate::specs::Reading::put_at))]
+fn put_from(alloc: Global, bytes: &[u8], at: usize) -> Result<(Edit, usize), RecordFault>
+    requires { at ≤ length bytes.now }
+    ensures value { Gives (λ x. (change_of x.0, x.1)) result (put_at bytes.now at) }
+    ensures within { IfOk result (λ x. x.1 ≤ length bytes.now) }
+{
+    let (key, next) = key_from(alloc, bytes, at)?;
+    let (flag, next) = definition_from(alloc, bytes, next)?;
+    let expect = Expect::Any;
+    Ok((Edit::Put { key, flag, expect }, next))
+}
+
+#[tactic(auto, unfolding(crate::specs::Reading::delete_at))]
+fn delete_from(alloc: Global, bytes: &[u8], at: usize) -> Result<(Edit, usize), RecordFault>
+    requires { at ≤ length bytes.now }
+    ensures value { Gives (λ x. (change_of x.0, x.1)) result (delete_at bytes.now at) }
+    ensures within { IfOk result (λ x. x.1 ≤ length bytes.now) }
+{
+    let (key, next) = key_from(alloc, bytes, at)?;
+    let expect = Expect::Any;
+    Ok((Edit::Delete { key, expect }, next))
+}
+
+#[tactic(auto, unfolding(crate::specs::Reading::change_at))]
+fn edit_from(alloc: Global, bytes: &[u8], at: usize) -> Result<(Edit, usize), RecordFault>
+    requires { at ≤ length bytes.now }
+    ensures value { Gives (λ x. (change_of x.0, x.1)) result (change_at bytes.now at) }
+    ensures within { IfOk result (λ x. x.1 ≤ length bytes.now) }
+{
+    let (kind, next) = u8_at(bytes, at)?;
+    match kind {
+        1 => put_from(alloc, bytes, next),
+        2 => delete_from(alloc, bytes, next),
+        _ => Err(RecordFault::BadRecord { at }),
+    }
+}
+
+fn edits_from(
+    alloc: Global,
+    bytes: &[u8],
+    count: u16,
+    at: usize,
+) -> Result<(Vec<Edit>, usize), RecordFault>
+    requires { at ≤ length bytes.now }
+    ensures value { Gives (λ x. (changes_of x.0.items, x.1)) result (changes_at count bytes.now at) }
+    ensures count { IfOk result (λ x. length x.0.items ≡ count) }
+    ensures within { IfOk result (λ x. x.1 ≤ length bytes.now) }
+{
+    let mut edits = Vec::new(alloc);
+    let mut place = at;
+    for _ in 0..count {
+        let (edit, next) = edit_from(alloc, bytes, place)?;
+        edits.push(edit)?;
+        place = next;
+    }
+    Ok((edits, place))
+}
+
+#[tactic(auto, unfolding(crate::specs::Reading::batch_at))]
+fn batch_from(alloc: Global, bytes: &[u8]) -> Result<(Batch, usize), RecordFault>
+    ensures value { Gives (λ x. x) result (batch_at bytes.now) }
+    ensures within { IfOk result (λ x. x.1 ≤ length bytes.now) }
+{
+    let (first, count_at) = u64_at(bytes, 0)?;
+    let (count, next) = u16_at(bytes, count_at)?;
+    if count == 0 || count > 64 || first > (1 << 63) - count as u64 {
+        return Err(RecordFault::BadRecord { at: count_at });
+    }
+    let (edits, next) = edits_from(alloc, bytes, count, next)?;
+    Ok((Batch { first, edits }, next))
+}
+
+#[tactic(auto, unfolding(crate::specs::Reading::batch_in))]
+fn whole_batch(alloc: Global, bytes: &[u8]) -> Result<Batch, RecordFault>
+    ensures { Gives (λ batch. batch) result (batch_in bytes.now) }
+{
+    let (batch, next) = batch_from(alloc, bytes)?;
+    if next < bytes.len() {
+        return Err(RecordFault::BadRecord { at: next });
+    }
+    Ok(batch)
+}

@@ -1,0 +1,260 @@
+//! Images: all flags of a set.
+
+ghost use Rattle.std.specs.Prelude.{◌≡◌, ◌+◌, ◌<◌, ◌≤◌, ◌++◌, ◌⊎◌, List, ℕ, [], length, map, IfOk, OnOk, Ok, Err};
+ghost use Rattle.std.specs.List.{AllByRecursion};
+ghost use Rattle.std.specs.List.Sorted.{IsStrictlySortedBy};
+ghost use Rattle.std.specs.Ordering.{is_lt};
+ghost use Rattle.std.specs.FinMap.{entries as map_entries};
+ghost use Rattle.fp_base.specs.Bytes.{bytes_cmp};
+ghost use Rattle.fp_definition.specs.Key.{key_bytes};
+ghost use Rattle.fp_edit.specs.Entries.{entry_of, entries_of};
+ghost use Rattle.fp_edit.specs.declared.flags.Flag.{Flag};
+ghost use Rattle.fp_record.specs.declared.fault.RecordFault.TheVariants.{Memory};
+ghost use Rattle.fp_record.specs.Fields.{Gives, key_at};
+ghost use Rattle.fp_record.specs.Lawful.{IsFlag, IsImage, IsOrdered};
+ghost use Rattle.fp_record.specs.Reading.{key_above_at, changed_at, flag_at, flags_at, image_at, image_in};
+ghost use Rattle.fp_record.specs.Spelling.{spelling_of_image, spelling_of_flag};
+
+use crate::fault::RecordFault;
+use crate::fields::{definition_from, key_of, key_text_at, u32_at, u64_at};
+use crate::writing::{put_definition, put_key, put_u32, put_u64};
+use fp_definition::FlagKey;
+use fp_edit::{Flag, FlagSet};
+use std::alloc::{AllocError, Global};
+use std::marker::Model;
+
+/// Flags under their keys, in ascending order of the keys' bytes.
+#[derive(Drop)]
+pub struct Image {
+    flags: Vec<(FlagKey, Flag)>,
+}
+
+impl Model for Image {
+    ghost use Rattle.std.specs.Prelude.{List, ℕ};
+    ghost use Rattle.std.specs.Coded.{coded×, coded_ℕ, coded_list};
+    ghost use Rattle.fp_edit.specs.Entries.{entries_of};
+    ghost use Rattle.fp_edit.specs.Flags.{coded_flag};
+    ghost use Rattle.fp_edit.specs.declared.flags.Flag.{Flag};
+    ghost use Rattle.fp_record.specs.Lawful.{IsOrdered};
+
+    ghost Value = { List (List ℕ × Flag) };
+
+    ghost coded = { coded_list (coded× (coded_list coded_ℕ) coded_flag) };
+
+    ghost view = { λ a. entries_of a.flags.items };
+
+    ghost invariant = { λ a. IsOrdered (entries_of a.flags.items) };
+}
+
+impl Image {
+    /// The image of these flags.
+    pub fn new(flags: Vec<(FlagKey, Flag)>) -> Image
+        requires { IsOrdered (entries_of flags.items) }
+        ensures { result ≡ entries_of flags.items }
+    {
+        Image { flags }
+    }
+
+    /// The image of all flags of a set. It shares their definitions.
+    pub fn of(alloc: Global, set: &FlagSet) -> Result<Image, AllocError>
+        ensures { IfOk result (λ image. image ≡ map_entries set.now.flags) }
+    {
+        let flags = shared(alloc, set)?;
+        Ok(Image { flags })
+    }
+
+    /// The flags with their keys, in ascending order.
+    pub fn flags(&self) -> &[(FlagKey, Flag)]
+        ensures flags { entries_of result.now ≡ self.now }
+        ensures ordered { IsOrdered self.now }
+    {
+        &self.flags
+    }
+
+    /// The flags by value.
+    pub fn into_flags(self) -> Vec<(FlagKey, Flag)>
+        ensures flags { entries_of result.items ≡ self }
+        ensures ordered { IsOrdered self }
+    {
+        self.flags
+    }
+
+    /// The image's spelling.
+    pub fn encode(&self, alloc: Global) -> Result<Vec<u8>, AllocError>
+        ensures lawful { IfOk result (λ _. IsImage self.now) }
+        ensures spelled { IfOk result (λ bytes. bytes.items ≡ spelling_of_image self.now) }
+    {
+        spelled(alloc, &self.flags)
+    }
+
+    /// The image that the bytes spell, all of them.
+    pub fn decode(alloc: Global, bytes: &[u8]) -> Result<Image, RecordFault>
+        ensures spelled { IfOk result (λ image. IsImage image × (bytes.now ≡ spelling_of_image image)) }
+        // What spells an image is decoded, unless memory runs out.
+        ensures found { (image : List (List ℕ × Flag)) → IsImage image → bytes.now ≡ spelling_of_image image → (result ≡ Ok image) ⊎ (result ≡ Err Memory) }
+        // Where the first fault is.
+        ensures place { Gives (λ image. image) result (image_in bytes.now) }
+    {
+        whole_image(alloc, bytes)
+    }
+}
+
+fn shared(alloc: Global, set: &FlagSet) -> Result<Vec<(FlagKey, Flag)>, AllocError>
+    ensures entries { IfOk result (λ flags. entries_of flags.items ≡ map_entries set.now.flags) }
+    ensures ordered { IfOk result (λ flags. IsOrdered (entries_of flags.items)) }
+{
+    let count = set.len();
+    let mut flags = Vec::with_capacity(alloc, count)?;
+    for (key, flag) in set.iter() {
+        let definition = flag.definition.try_copy()?;
+        let changed = flag.changed;
+        flags.push((
+            key.try_copy()?,
+            Flag {
+                definition,
+                changed,
+            },
+        ))?;
+    }
+    Ok(flags)
+}
+
+#[tactic(auto, unfolding(crate::specs::Spelling::spelling_of_flag))]
+fn put_flag(out: &mut Vec<u8>, key: &FlagKey, flag: &Flag) -> Result<(), AllocError>
+    ensures written { OnOk result (out.new.items ≡ out.old.items ++ spelling_of_flag (key_bytes key.now, flag.now)) }
+    ensures lawful { OnOk result (0 < flag.now.changed → IsFlag (key_bytes key.now, flag.now)) }
+{
+    put_key(out, key)?;
+    put_u64(out, flag.changed)?;
+    put_definition(out, &flag.definition)
+}
+
+fn spelled(alloc: Global, flags: &[(FlagKey, Flag)]) -> Result<Vec<u8>, AllocError>
+    requires { IsOrdered (entries_of flags.now) }
+    ensures lawful { IfOk result (λ _. IsImage (entries_of flags.now)) }
+    ensures spelled { IfOk result (λ bytes. bytes.items ≡ spelling_of_image (entries_of flags.now)) }
+{
+    let mut out = Vec::new(alloc);
+    put_u32(&mut out, flags.len() as u32)?;
+    for flag in flags {
+        put_flag(&mut out, &flag.0, &flag.1)?;
+    }
+    Ok(out)
+}
+
+fn is_above(text: &str, before: &[u8]) -> bool
+    ensures { result ≡ is_lt (bytes_cmp before.now text.now) }
+{
+    before.cmp(text.as_bytes()).is_lt()
+}
+
+#[tactic(auto, unfolding(crate::specs::Reading::key_above_at))]
+fn key_text_above<'a>(
+    bytes: &'a [u8],
+    before: &[u8],
+    at: usize,
+) -> Result<(&'a str, usize), RecordFault>
+    requires { at ≤ length bytes.now }
+    ensures value { Gives (λ x. (x.0.now, x.1)) result (key_above_at before.now bytes.now at) }
+    ensures within { IfOk result (λ x. x.1 ≤ length bytes.now) }
+    ensures short { IfOk result (λ x. (0 < length x.0.now) × (length x.0.now ≤ 256)) }
+{
+    let (text, next) = key_text_at(bytes, at)?;
+    if !is_above(text, before) {
+        return Err(RecordFault::BadRecord { at: at + 2 });
+    }
+    Ok((text, next))
+}
+
+#[tactic(auto, unfolding(crate::specs::Reading::changed_at))]
+fn changed_from(bytes: &[u8], at: usize) -> Result<(u64, usize), RecordFault>
+    requires { at ≤ length bytes.now }
+    ensures value { Gives (λ x. x) result (changed_at bytes.now at) }
+    ensures within { IfOk result (λ x. x.1 ≤ length bytes.now) }
+{
+    let (changed, next) = u64_at(bytes, at)?;
+    if changed == 0 {
+        return Err(RecordFault::BadRecord { at });
+    }
+    Ok((changed, next))
+}
+
+/// A flag that was read, its key's text, and the offset behind it.
+#[derive(Drop)]
+struct Found<'a> {
+    flag: (FlagKey, Flag),
+    text: &'a str,
+    next: usize,
+}
+
+#[tactic(auto, unfolding(crate::specs::Reading::flag_at))]
+fn flag_from<'a>(
+    alloc: Global,
+    bytes: &'a [u8],
+    before: &[u8],
+    at: usize,
+) -> Result<Found<'a>, RecordFault>
+    requires { at ≤ length bytes.now }
+    ensures value { Gives (λ x. (entry_of x.flag, (x.text.now, x.next))) result (flag_at bytes.now (before.now, at)) }
+    ensures within { IfOk result (λ x. x.next ≤ length bytes.now) }
+{
+    let (text, next) = key_text_above(bytes, before, at)?;
+    let (changed, next) = changed_from(bytes, next)?;
+    let (definition, next) = definition_from(alloc, bytes, next)?;
+    let key = key_of(alloc, text)?;
+    let flag = (
+        key,
+        Flag {
+            definition,
+            changed,
+        },
+    );
+    Ok(Found { flag, text, next })
+}
+
+fn flags_from(
+    alloc: Global,
+    bytes: &[u8],
+    count: u32,
+    at: usize,
+) -> Result<(Vec<(FlagKey, Flag)>, usize), RecordFault>
+    requires { at ≤ length bytes.now }
+    ensures value { Gives (λ x. (entries_of x.0.items, x.1)) result (flags_at count bytes.now at) }
+    ensures count { IfOk result (λ x. length x.0.items ≡ count) }
+    ensures within { IfOk result (λ x. x.1 ≤ length bytes.now) }
+{
+    let mut flags = Vec::new(alloc);
+    let mut before: &[u8] = &[];
+    let mut place = at;
+    for _ in 0..count {
+        let found = flag_from(alloc, bytes, before, place)?;
+        flags.push(found.flag)?;
+        before = found.text.as_bytes();
+        place = found.next;
+    }
+    Ok((flags, place))
+}
+
+#[tactic(auto, unfolding(crate::specs::Reading::image_at))]
+fn image_from(alloc: Global, bytes: &[u8]) -> Result<(Image, usize), RecordFault>
+    ensures value { Gives (λ x. x) result (image_at bytes.now) }
+    ensures within { IfOk result (λ x. x.1 ≤ length bytes.now) }
+{
+    let (count, next) = u32_at(bytes, 0)?;
+    if count > 4096 {
+        return Err(RecordFault::BadRecord { at: 0 });
+    }
+    let (flags, next) = flags_from(alloc, bytes, count, next)?;
+    Ok((Image { flags }, next))
+}
+
+#[tactic(auto, unfolding(crate::specs::Reading::image_in))]
+fn whole_image(alloc: Global, bytes: &[u8]) -> Result<Image, RecordFault>
+    ensures { Gives (λ image. image) result (image_in bytes.now) }
+{
+    let (image, next) = image_from(alloc, bytes)?;
+    if next < bytes.len() {
+        return Err(RecordFault::BadRecord { at: next });
+    }
+    Ok(image)
+}

@@ -1,0 +1,20 @@
+//! Batches and images as bytes: each value has one spelling, and a decoder takes spellings alone.
+#![tactic(auto)]
+
+mod batch;
+mod fault;
+mod fields;
+mod image;
+mod laws;
+mod writing;
+
+pub use batch::{Batch, spelled_len};
+pub use fault::RecordFault;
+pub use image::Image;
+pub use laws::{
+    batches_stand_alone, batches_take_their_changes, images_stand_alone,
+    images_take_their_sets_size,
+};
+
+#[cfg(test)]
+mod tests;

@@ -1,0 +1,5 @@
+pub mod Arguments
+pub mod OneResult
+pub mod WellFormed
+pub mod Counts
+pub mod MeaningLaws

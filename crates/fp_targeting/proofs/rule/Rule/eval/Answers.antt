@@ -1,0 +1,17 @@
+use Rattle.std.proofs.Common.{◌≡◌, sym, ap, ◌∙◌, subst, true}
+use Rattle.std.proofs.lemmas.Result.{IfOk-weaker}
+use Rattle.fp_operators.specs.View.{view}
+use Rattle.fp_targeting.specs.Means.{Means}
+use Rattle.fp_targeting.specs.Meaning.{meaning}
+use Rattle.fp_targeting.specs.Operators.{well_formed}
+use Rattle.fp_targeting.specs.View.{rule_view}
+use Rattle.fp_targeting.proofs.OneResult.{Means-exists}
+use Rattle.fp_targeting.proofs.rule.Rule.eval.Goals as goal
+
+pub returns : goal.returns
+returns c =
+    let r = c.args.self.now in
+    let d = c.args.data.now in
+    let formed : well_formed r ≡ true = ap well_formed (sym c.self.view_is) ∙ c.self.invariant in
+    let made = c.in_ok-evaluate.ensures ∙ ap (λ e. meaning e (rule_view c.self.inside.tree)) c.datum.ensures ∙ ap (meaning d) c.self.view_is in
+    IfOk-weaker c.into_datum.result _ (λ x. Means r d (view x)) (λ x e. subst (λ y. Means r d y) (sym (e ∙ made)) (Means-exists d r formed)) c.into_datum.ensures

@@ -1,0 +1,80 @@
+-- What compiling a JSON value answers.
+use Rattle.std.specs.Prelude.{ℕ, List, [], ◌∷◌, length, ◌&&◌, Option, Some, None, option_map, option_and_then, is_some, nat_le, if◌then◌else◌}
+use Rattle.serde_json.specs.Data.{Data, null, boolean, number, string, array, object, Items, no_items, item, no_members, member, depth}
+use Rattle.fp_base.specs.Count.{count}
+use Rattle.fp_base.specs.Whole.{is_whole}
+use Rattle.fp_operators.specs.FromJson.{data_of}
+use Rattle.fp_targeting.specs.Rule as tree
+use Rattle.fp_targeting.specs.Rule.{Rule}
+use Rattle.fp_targeting.specs.Operators.{operator_of, takes}
+use Rattle.fp_targeting.specs.View.{rules_of}
+
+abbrev pub first_of : Option (List ℕ) → Option (List ℕ) → Option (List ℕ)
+first_of None other = other
+first_of (Some name) other = Some name
+
+-- the first name that no operator has, in reading order
+abbrev mutual
+  pub first_unknown : Data → Option (List ℕ)
+  first_unknown null = None
+  first_unknown (boolean b) = None
+  first_unknown (number n) = None
+  first_unknown (string s) = None
+  first_unknown (array ds) = items_unknown ds
+  first_unknown (object no_members) = None
+  first_unknown (object (member k d no_members)) = if is_some (operator_of k) then first_unknown d else Some k
+  first_unknown (object (member k d (member l e ms))) = None
+
+  pub items_unknown : Items → Option (List ℕ)
+  items_unknown no_items = None
+  items_unknown (item d ds) = first_of (first_unknown d) (items_unknown ds)
+
+abbrev pub one_more : Option Rule → Option (List Rule) → Option (List Rule)
+one_more first others = option_and_then (λ r. option_map (λ rs. r ∷ rs) others) first
+
+-- the operator of a name at its arguments, if it takes that many
+abbrev pub formed : List ℕ → Option (List Rule) → Option Rule
+formed name arguments =
+    option_and_then (λ o. option_and_then (λ rs. if takes o (length rs) then Some (tree.apply o (rules_of rs)) else None) arguments) (operator_of name)
+
+-- the rule that a value writes: an object of one member is an operator, with a list of arguments or
+-- an only one; a list is a list of rules; all else stands for itself
+abbrev mutual
+  pub rule_of : Data → Option Rule
+  rule_of null = Some (tree.literal (data_of null))
+  rule_of (boolean b) = Some (tree.literal (data_of (boolean b)))
+  rule_of (number n) = Some (tree.literal (data_of (number n)))
+  rule_of (string s) = Some (tree.literal (data_of (string s)))
+  rule_of (array ds) = option_map (λ rs. tree.list (rules_of rs)) (rules_from ds)
+  rule_of (object no_members) = Some (tree.literal (data_of (object no_members)))
+  rule_of (object (member k (array ds) no_members)) = formed k (rules_from ds)
+  rule_of (object (member k d no_members)) = formed k (one_more (rule_of d) (Some []))
+  rule_of (object (member k d (member l e ms))) = Some (tree.literal (data_of (object (member k d (member l e ms)))))
+
+  pub rules_from : Items → Option (List Rule)
+  rules_from no_items = Some []
+  rules_from (item d ds) = one_more (rule_of d) (rules_from ds)
+
+-- a list of arguments, or an only one
+abbrev pub arguments_of : Data → Option (List Rule)
+arguments_of (array ds) = rules_from ds
+arguments_of d = one_more (rule_of d) (Some [])
+
+-- the answer owed for a value
+pub data Verdict : Type 0 where
+  too_deep : Verdict
+  unsupported : List ℕ → Verdict
+  bad : Verdict
+  accepted : Rule → Verdict
+
+abbrev pub accepted_or_bad : Option Rule → Verdict
+accepted_or_bad None = bad
+accepted_or_bad (Some r) = accepted r
+
+abbrev pub known_verdict : Data → Option (List ℕ) → Verdict
+known_verdict d (Some name) = unsupported name
+known_verdict d None = if nat_le (count d) 1024 && is_whole d then accepted_or_bad (rule_of d) else bad
+
+-- too deep, else the first unknown operator, else a bad rule, else the rule that the value writes
+abbrev pub verdict : Data → Verdict
+verdict d = if nat_le (depth d) 32 then known_verdict d (first_unknown d) else too_deep

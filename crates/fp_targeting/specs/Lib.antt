@@ -1,0 +1,11 @@
+pub mod Operators
+pub mod Rule
+pub mod View
+pub mod Compile
+pub mod Answer
+pub mod Means
+pub mod Meaning
+pub mod Found
+pub mod RuleData
+pub mod Codes
+pub mod Laws

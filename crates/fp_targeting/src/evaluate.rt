@@ -1,0 +1,281 @@
+ghost use Rattle.std.specs.Prelude.{◌≡◌, IfOk, map};
+ghost use Rattle.fp_operators.specs.Data.{null};
+ghost use Rattle.fp_operators.specs.View.{view};
+ghost use Rattle.fp_targeting.specs.Operators.{unary, binary};
+ghost use Rattle.fp_targeting.specs.Meaning.{meaning, meanings, applied, chosen, first_false, first_true};
+ghost use Rattle.fp_targeting.specs.View.{rule_view, rules_view};
+ghost use Rattle.fp_targeting.specs.Found.{found_view};
+
+use crate::operator::{BinaryOperator, ChainOperator, Operator, UnaryOperator};
+use crate::tree::Tree;
+use fp_operators::{
+    Datum, between_exclusive, between_inclusive, concatenate, ends_with, greater, greater_or_equal,
+    is_falsy, is_in, is_truthy, less, less_or_equal, loosely_equal, loosely_unequal, named,
+    remainder, sem_ver, starts_with, strictly_equal, strictly_unequal,
+};
+use std::alloc::{AllocError, Global};
+
+/// A result: lent where it stands in the rule or in the data, else made for it.
+#[derive(Drop)]
+pub enum Found<'d> {
+    Lent(&'d Datum),
+    Made(Datum),
+}
+
+impl<'d> Found<'d> {
+    fn datum(&self) -> &Datum
+        ensures { view result.now ≡ found_view self.now }
+    {
+        match self {
+            Found::Lent(datum) => datum,
+            Found::Made(datum) => datum,
+        }
+    }
+
+    /// The result itself, copied where it is only lent.
+    pub fn into_datum(self, alloc: Global) -> Result<Datum, AllocError>
+        ensures { IfOk result (λ d. view d ≡ found_view self.entry) }
+    {
+        match self {
+            Found::Lent(datum) => datum.try_copy(alloc),
+            Found::Made(datum) => Ok(datum),
+        }
+    }
+}
+
+/// What a rule gives for data.
+#[cycle(evaluate)]
+pub fn evaluate<'d>(alloc: Global, rule: &'d Tree, root: &'d Datum) -> Result<Found<'d>, AllocError>
+    ensures { IfOk result (λ x. found_view x ≡ meaning (view root.now) (rule_view rule.now)) }
+{
+    match rule {
+        Tree::Literal(datum) => Ok(Found::Lent(datum)),
+        Tree::List(rules) => Ok(Found::Made(Datum::List(evaluate_each(alloc, rules, root)?))),
+        Tree::Apply(operator, arguments) => apply(alloc, *operator, arguments, root),
+    }
+}
+
+#[cycle(evaluate)]
+fn evaluate_each(alloc: Global, rules: &Vec<Tree>, root: &Datum) -> Result<Vec<Datum>, AllocError>
+    ensures { IfOk result (λ v. map view v.items ≡ meanings (view root.now) (rules_view rules.now.items)) }
+{
+    let mut results = Vec::with_capacity(alloc, rules.len())?;
+    for rule in rules {
+        results.push(evaluate(alloc, rule, root)?.into_datum(alloc)?)?;
+    }
+    Ok(results)
+}
+
+#[cycle(evaluate)]
+fn apply<'d>(
+    alloc: Global,
+    operator: Operator,
+    arguments: &'d Vec<Tree>,
+    root: &'d Datum,
+) -> Result<Found<'d>, AllocError>
+    ensures { IfOk result (λ x. found_view x ≡ applied operator (view root.now) (meanings (view root.now) (rules_view arguments.now.items))) }
+{
+    match operator {
+        Operator::If => evaluate_if(alloc, arguments, root),
+        Operator::And => evaluate_and(alloc, arguments, root),
+        Operator::Or => evaluate_or(alloc, arguments, root),
+        Operator::Var => evaluate_var(alloc, arguments, root),
+        Operator::Cat => {
+            let parts = evaluate_each(alloc, arguments, root)?;
+            Ok(Found::Made(concatenate(alloc, &parts)?))
+        }
+        Operator::SemVer => Ok(Found::Made(evaluate_version(alloc, arguments, root)?)),
+        Operator::Unary(unary) => Ok(Found::Made(evaluate_one(alloc, unary, arguments, root)?)),
+        Operator::Binary(binary) => Ok(Found::Made(evaluate_two(alloc, binary, arguments, root)?)),
+        Operator::Chain(chain) => Ok(Found::Made(evaluate_chain(alloc, chain, arguments, root)?)),
+    }
+}
+
+#[cycle(evaluate)]
+fn evaluate_if<'d>(
+    alloc: Global,
+    rules: &'d Vec<Tree>,
+    root: &'d Datum,
+) -> Result<Found<'d>, AllocError>
+    ensures { IfOk result (λ x. found_view x ≡ chosen (meanings (view root.now) (rules_view rules.now.items))) }
+{
+    let mut i = 0;
+    'pairs: while rules.len() - i > 1 {
+        if is_truthy(evaluate(alloc, &rules[i], root)?.datum()) {
+            return evaluate(alloc, &rules[i + 1], root);
+        }
+        i += 2;
+    }
+    if i < rules.len() {
+        return evaluate(alloc, &rules[i], root);
+    }
+    Ok(Found::Made(Datum::Null))
+}
+
+#[cycle(evaluate)]
+fn evaluate_and<'d>(
+    alloc: Global,
+    rules: &'d Vec<Tree>,
+    root: &'d Datum,
+) -> Result<Found<'d>, AllocError>
+    ensures { IfOk result (λ x. found_view x ≡ first_false null (meanings (view root.now) (rules_view rules.now.items))) }
+{
+    let mut last = Found::Made(Datum::Null);
+    for rule in rules {
+        last = evaluate(alloc, rule, root)?;
+        if is_falsy(last.datum()) {
+            return Ok(last);
+        }
+    }
+    Ok(last)
+}
+
+#[cycle(evaluate)]
+fn evaluate_or<'d>(
+    alloc: Global,
+    rules: &'d Vec<Tree>,
+    root: &'d Datum,
+) -> Result<Found<'d>, AllocError>
+    ensures { IfOk result (λ x. found_view x ≡ first_true null (meanings (view root.now) (rules_view rules.now.items))) }
+{
+    let mut last = Found::Made(Datum::Null);
+    for rule in rules {
+        last = evaluate(alloc, rule, root)?;
+        if is_truthy(last.datum()) {
+            return Ok(last);
+        }
+    }
+    Ok(last)
+}
+
+#[cycle(evaluate)]
+fn evaluate_var<'d>(
+    alloc: Global,
+    arguments: &'d Vec<Tree>,
+    root: &'d Datum,
+) -> Result<Found<'d>, AllocError>
+    ensures { IfOk result (λ x. found_view x ≡ applied Operator.Var (view root.now) (meanings (view root.now) (rules_view arguments.now.items))) }
+{
+    match arguments.as_slice() {
+        [] => Ok(Found::Lent(root)),
+        [path] => match named(alloc, root, evaluate(alloc, path, root)?.datum())? {
+            Some(found) => Ok(Found::Lent(found)),
+            None => Ok(Found::Made(Datum::Null)),
+        },
+        [path, default] => match named(alloc, root, evaluate(alloc, path, root)?.datum())? {
+            Some(found) => Ok(Found::Lent(found)),
+            None => evaluate(alloc, default, root),
+        },
+        _ => Ok(Found::Made(Datum::Null)),
+    }
+}
+
+#[cycle(evaluate)]
+fn evaluate_version(alloc: Global, arguments: &Vec<Tree>, root: &Datum) -> Result<Datum, AllocError>
+    ensures { IfOk result (λ x. view x ≡ applied Operator.SemVer (view root.now) (meanings (view root.now) (rules_view arguments.now.items))) }
+{
+    match arguments.as_slice() {
+        [first, operator, second] => {
+            let first = evaluate(alloc, first, root)?;
+            let operator = evaluate(alloc, operator, root)?;
+            let second = evaluate(alloc, second, root)?;
+            Ok(Datum::Bool(sem_ver(alloc, first.datum(), operator.datum(), second.datum())?))
+        }
+        _ => Ok(Datum::Null),
+    }
+}
+
+#[cycle(evaluate)]
+fn evaluate_one(
+    alloc: Global,
+    operator: UnaryOperator,
+    arguments: &Vec<Tree>,
+    root: &Datum,
+) -> Result<Datum, AllocError>
+    ensures { IfOk result (λ x. view x ≡ applied (Operator.Unary operator) (view root.now) (meanings (view root.now) (rules_view arguments.now.items))) }
+{
+    match arguments.as_slice() {
+        [only] => {
+            let only = evaluate(alloc, only, root)?;
+            Ok(of_one(operator, only.datum()))
+        }
+        _ => Ok(Datum::Null),
+    }
+}
+
+#[cycle(evaluate)]
+fn evaluate_two(
+    alloc: Global,
+    operator: BinaryOperator,
+    arguments: &Vec<Tree>,
+    root: &Datum,
+) -> Result<Datum, AllocError>
+    ensures { IfOk result (λ x. view x ≡ applied (Operator.Binary operator) (view root.now) (meanings (view root.now) (rules_view arguments.now.items))) }
+{
+    match arguments.as_slice() {
+        [first, second] => {
+            let first = evaluate(alloc, first, root)?;
+            let second = evaluate(alloc, second, root)?;
+            Ok(of_two(operator, first.datum(), second.datum()))
+        }
+        _ => Ok(Datum::Null),
+    }
+}
+
+#[cycle(evaluate)]
+fn evaluate_chain(
+    alloc: Global,
+    operator: ChainOperator,
+    arguments: &Vec<Tree>,
+    root: &Datum,
+) -> Result<Datum, AllocError>
+    ensures { IfOk result (λ x. view x ≡ applied (Operator.Chain operator) (view root.now) (meanings (view root.now) (rules_view arguments.now.items))) }
+{
+    match arguments.as_slice() {
+        [first, second] => {
+            let first = evaluate(alloc, first, root)?;
+            let second = evaluate(alloc, second, root)?;
+            Ok(Datum::Bool(match operator {
+                ChainOperator::Less => less(first.datum(), second.datum()),
+                ChainOperator::LessOrEqual => less_or_equal(first.datum(), second.datum()),
+            }))
+        }
+        [low, middle, high] => {
+            let low = evaluate(alloc, low, root)?;
+            let middle = evaluate(alloc, middle, root)?;
+            let high = evaluate(alloc, high, root)?;
+            let (low, middle, high) = (low.datum(), middle.datum(), high.datum());
+            Ok(Datum::Bool(match operator {
+                ChainOperator::Less => between_exclusive(low, middle, high),
+                ChainOperator::LessOrEqual => between_inclusive(low, middle, high),
+            }))
+        }
+        _ => Ok(Datum::Null),
+    }
+}
+
+fn of_one(operator: UnaryOperator, only: &Datum) -> Datum
+    ensures { view result ≡ unary operator (view only.now) }
+{
+    match operator {
+        UnaryOperator::Not => Datum::Bool(is_falsy(only)),
+        UnaryOperator::Truth => Datum::Bool(is_truthy(only)),
+    }
+}
+
+fn of_two(operator: BinaryOperator, first: &Datum, second: &Datum) -> Datum
+    ensures { view result ≡ binary operator (view first.now) (view second.now) }
+{
+    match operator {
+        BinaryOperator::StrictlyEqual => Datum::Bool(strictly_equal(first, second)),
+        BinaryOperator::StrictlyUnequal => Datum::Bool(strictly_unequal(first, second)),
+        BinaryOperator::LooselyEqual => Datum::Bool(loosely_equal(first, second)),
+        BinaryOperator::LooselyUnequal => Datum::Bool(loosely_unequal(first, second)),
+        BinaryOperator::Greater => Datum::Bool(greater(first, second)),
+        BinaryOperator::GreaterOrEqual => Datum::Bool(greater_or_equal(first, second)),
+        BinaryOperator::In => Datum::Bool(is_in(first, second)),
+        BinaryOperator::Remainder => remainder(first, second),
+        BinaryOperator::StartsWith => Datum::Bool(starts_with(first, second)),
+        BinaryOperator::EndsWith => Datum::Bool(ends_with(first, second)),
+    }
+}

@@ -1,0 +1,116 @@
+ghost use Rattle.std.specs.Prelude.{◌≡◌, ◌↔◌, IfOk};
+ghost use Rattle.serde_json.specs.View.{view as json_view};
+ghost use Rattle.fp_operators.specs.View.{view};
+ghost use Rattle.fp_targeting.specs.Compile.{rule_of, accepted_or_bad, verdict};
+ghost use Rattle.fp_targeting.specs.Answer.{Answers};
+ghost use Rattle.fp_operators.specs.Data as values;
+ghost use Rattle.fp_targeting.specs.Means.{Means};
+ghost use Rattle.fp_targeting.specs.Meaning.{meaning};
+
+use crate::build::{build, unknown_operator};
+use crate::data::Data;
+use crate::evaluate::evaluate;
+use crate::tree::Tree;
+use fp_base::{nests_within, values_left, whole_numbers};
+use fp_operators::Datum;
+use serde_json::Value;
+use std::alloc::{AllocError, Global};
+use std::marker::Model;
+
+/// Lists and objects of a rule stand in one another at most this deep.
+const MAX_DEPTH: u32 = 32;
+
+/// The most JSON values that a rule has, its literals' insides and its operators' objects included.
+const MAX_VALUES: usize = 1024;
+
+/// A compiled rule.
+#[derive(Drop)]
+pub struct Rule {
+    tree: Tree,
+}
+
+impl Model for Rule {
+    ghost use Rattle.std.specs.Prelude.{true, ◌≡◌};
+    ghost use Rattle.fp_targeting.specs.Rule as rules;
+    ghost use Rattle.fp_targeting.specs.Codes.{coded_rule};
+    ghost use Rattle.fp_targeting.specs.Operators.{well_formed};
+
+    ghost Value = { rules.Rule };
+
+    ghost coded = { coded_rule };
+
+    ghost use Rattle.fp_targeting.specs.View.{rule_view};
+
+    ghost view = { λ r. rule_view r.tree };
+
+    ghost invariant = { λ r. well_formed (rule_view r.tree) ≡ true };
+}
+
+/// Why a value is no rule, in the order in which the faults are looked for.
+#[derive(Debug, Drop)]
+pub enum RuleFault {
+    /// Lists and objects stand in one another more than 32 deep.
+    TooDeep,
+    /// There is no operator of this name: the first such in reading order.
+    UnsupportedOperator(String),
+    /// An operator has another number of arguments than it takes, the rule has more than 1,024
+    /// values, or a number in it isn't whole.
+    BadRule,
+    /// Memory ran out.
+    Memory,
+}
+
+impl From<AllocError> for RuleFault {
+    ghost use Rattle.fp_targeting.specs.declared.rule.RuleFault.TheVariants.{Memory};
+
+    ghost from_gives = { λ _ e. e ≡ Memory };
+
+    fn from(_: AllocError) -> RuleFault {
+        RuleFault::Memory
+    }
+}
+
+impl Rule {
+    /// The rule that a JSON value writes.
+    pub fn compile(alloc: Global, value: &Value) -> Result<Rule, RuleFault>
+        ensures { Answers result (verdict (json_view value.now)) }
+    {
+        if !nests_within(value, MAX_DEPTH) {
+            return Err(RuleFault::TooDeep);
+        }
+        if let Some(name) = unknown_operator(value) {
+            return Err(RuleFault::UnsupportedOperator(String::from_str(alloc, name)?));
+        }
+        if values_left(value, MAX_VALUES).is_none() || !whole_numbers(value) {
+            return Err(RuleFault::BadRule);
+        }
+        Rule::built(alloc, value)
+    }
+
+    /// The rule of a value whose operators are known and whose numbers are whole.
+    fn built(alloc: Global, value: &Value) -> Result<Rule, RuleFault>
+        ensures { Answers result (accepted_or_bad (rule_of (json_view value.now))) }
+    {
+        match build(alloc, value)? {
+            Some(tree) => Ok(Rule { tree }),
+            None => Err(RuleFault::BadRule),
+        }
+    }
+
+    /// What the rule gives for the data.
+    pub fn eval(&self, alloc: Global, data: &Data) -> Result<Datum, AllocError>
+        ensures { IfOk result (λ x. Means self.now «data».now (view x)) }
+    {
+        evaluate(alloc, &self.tree, data.datum())?.into_datum(alloc)
+    }
+
+    /// Exactly one result: on any data there is one that the rule gives, and only one, which
+    /// `eval` answers where memory suffices. Does nothing when it runs.
+    pub fn one_result(&self)
+        ensures exists { (d : values.Data) → (x : values.Data) × Means self.now d x }
+        ensures unique { (d x y : values.Data) → Means self.now d x → Means self.now d y → x ≡ y }
+        ensures computed { (d x : values.Data) → Means self.now d x ↔ (x ≡ meaning d self.now) }
+    {
+        let _tree = &self.tree;
+    }
+}
