@@ -1,5 +1,5 @@
 -- The lines of an input that comes in pieces.
-use Rattle.std.proofs.Common.{◌≡◌, ℕ, ◌+◌, ◌-◌, ◌≤◌, ◌<◌, zero, suc, min, List, [], ◌∷◌, ◌++◌, length, take, drop, position, Option, Some, None, Bool, true, false, cond, not, nat_lt, nat_le, ◌==◌, refl, sym, ap, subst, ◌∙◌, append_assoc, append-nil, length-append, length-take, take_all, arith, rules}
+use Rattle.std.proofs.Common.{◌≡◌, ℕ, ◌+◌, ◌-◌, ◌≤◌, ◌<◌, zero, suc, min, List, [], ◌∷◌, ◌++◌, length, take, drop, position, Some, None, Bool, true, false, cond, not, nat_lt, ◌==◌, refl, sym, ap, subst, ◌∙◌, length-take, take_all, arith}
 use Rattle.std.proofs.lemmas.List.{take_min}
 use Rattle.std.proofs.lemmas.Bool.{eqb-true}
 use borrow.Author.Tests.{ltb-true, ltb-false}

@@ -1,5 +1,5 @@
 -- Runs over lines: joined, over cut lines, and where no reply tells of wanting memory.
-use Rattle.std.proofs.Common.{◌≡◌, ℕ, ◌+◌, ◌<◌, List, [], ◌∷◌, ◌++◌, length, Option, Some, None, IfSome, Result, Ok, Err, Bool, true, false, cond, not, ◌&&◌, nat_le, true≢false, refl, sym, ap, subst, ◌∙◌, append_assoc, arith}
+use Rattle.std.proofs.Common.{◌≡◌, ℕ, ◌+◌, ◌<◌, List, [], ◌∷◌, ◌++◌, length, Option, Some, None, IsSomeAnd, Ok, Err, Bool, true, false, cond, not, ◌&&◌, nat_le, true≢false, refl, sym, ap, subst, ◌∙◌, append_assoc}
 use Rattle.std.proofs.lemmas.List.Elements.{filter-append}
 use borrow.Author.Tests.{leb-true, leb-false, lt-leb}
 use Rattle.std.specs.List.{list_all}
@@ -108,8 +108,8 @@ no_edit-answers s t l e fault stays = by_fault e fault
     stands : (f : line.Fault) → line_of l ≡ Err f → verdict s l ≡ (no_edit f, t)
     stands f h = ap (judged s) h ∙ ap (λ u. (no_edit f, u)) (sym stays)
 
-    of_flag : (o : Option flag.Fault) → IfSome o (λ f. line_of l ≡ Err (line.bad_flag f)) → Answers s l (bad_flag_or_memory o) t
-    of_flag None h = stays
+    of_flag : (o : Option flag.Fault) → IsSomeAnd o (λ f. line_of l ≡ Err (line.bad_flag f)) → Answers s l (bad_flag_or_memory o) t
+    of_flag None h = absurd h
     of_flag (Some f) h = stands (line.bad_flag f) h
 
     by_fault : (e : LineFault) → IsFault e (line_of l) → Answers s l (fault_of e) t

@@ -1,4 +1,4 @@
-use Rattle.std.proofs.Common.{◌≡◌, ℕ, List, Option, take, refl, sym, subst, arith}
+use Rattle.std.proofs.Common.{take, subst, arith}
 use Rattle.fp_base.proofs.Known.{IfSome-each}
 use Rattle.fp_plane.specs.Run.{IsRunOver, IsLeftBy}
 use Rattle.fp_plane.proofs.RunOverLemmas.{going-start, going-kept, going-more, going-ended, going-left, going-within}

@@ -1,7 +1,6 @@
-use Rattle.std.proofs.Common.{◌≡◌, ℕ, List, IfSome, IfOk, subst, Result, Ok}
+use Rattle.std.proofs.Common.{IfSome, IfOk, subst}
 use Rattle.std.proofs.lemmas.Option.{IfSome_then}
-use Rattle.fp_plane.specs.Run.{IsRunOver, IsApplied}
-use Rattle.fp_plane.specs.Task.{no_flags}
+use Rattle.fp_plane.specs.Run.{IsRunOver}
 use Rattle.fp_plane.proofs.program.apply.Goals as goal
 
 pub returns : goal.returns

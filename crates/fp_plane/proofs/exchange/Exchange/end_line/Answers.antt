@@ -1,4 +1,4 @@
-use Rattle.std.proofs.Common.{◌≡◌, [], ◌∷◌, inl, inr, subst, ◌∙◌}
+use Rattle.std.proofs.Common.{[], ◌∷◌, inl, inr, subst, ◌∙◌}
 use Rattle.fp_plane.specs.Lines.{answered}
 use Rattle.fp_plane.specs.Reply.{replies_of}
 use Rattle.fp_plane.specs.Script.{IsRun}

@@ -1,5 +1,4 @@
-use Rattle.std.proofs.Common.{◌≡◌, ◌+◌, ◌-◌, ◌≤◌, ℕ, List, [], ◌∷◌, ◌++◌, length, take, drop, position, ◌==◌, Some, refl, sym, ap, subst, ◌∙◌, append_assoc, take_all, length-drop, arith}
-use Rattle.fp_edit.specs.Flags.{State}
+use Rattle.std.proofs.Common.{◌≡◌, ◌+◌, ◌-◌, ◌≤◌, ℕ, List, [], ◌∷◌, ◌++◌, length, take, drop, refl, sym, ap, subst, ◌∙◌, append_assoc, take_all, length-drop, arith}
 use Rattle.fp_plane.specs.Lines.{lines}
 use Rattle.fp_plane.specs.Progress.{IsSoFar, cut}
 use Rattle.fp_plane.proofs.LineLemmas.{IsCutAt, newline_found, newline_none}
