@@ -1,0 +1,3 @@
+pub mod Document
+pub mod Faults
+pub mod References

@@ -1,0 +1,167 @@
+//! References in a targeting, replaced by the evaluators that they name.
+
+ghost use Rattle.std.specs.Prelude.{◌≡◌, map, option_map, Ok};
+ghost use Rattle.serde_json.specs.Find.{get_member};
+ghost use Rattle.serde_json.specs.View.{view, items_view, members_view};
+ghost use Rattle.fp_imports.specs.References.{reference as reference_of, counted, walked, items_walked, members_walked, replaced, expanded};
+ghost use Rattle.fp_imports.specs.Faults.{Gives, with_rest};
+
+use crate::faults::ReferenceFault;
+use serde_json::{Map, Value};
+use std::alloc::Global;
+
+const MOST_REPLACEMENTS: u32 = 8;
+
+const MOST_VALUES: usize = 16_384;
+
+// A targeting with its references replaced, and how many more values it might have had.
+pub(crate) fn expand(
+    alloc: Global,
+    evaluators: &Map<String, Value>,
+    targeting: &Value,
+) -> Result<(Value, usize), ReferenceFault>
+    ensures { Gives (with_rest view) result
+        (expanded (members_view evaluators.now.entries) (view targeting.now) 16384) }
+{
+    expand_value(
+        alloc,
+        evaluators,
+        targeting,
+        MOST_REPLACEMENTS,
+        MOST_VALUES,
+    )
+}
+
+// `more` replacements may still stand in one another, and `left` values may still be counted.
+#[cycle(expands)]
+fn expand_value(
+    alloc: Global,
+    evaluators: &Map<String, Value>,
+    value: &Value,
+    more: u32,
+    left: usize,
+) -> Result<(Value, usize), ReferenceFault>
+    ensures { Gives (with_rest view) result
+        (walked (replaced (members_view evaluators.now.entries) more) (view value.now) left) }
+{
+    match value {
+        Value::Object(members) => match reference(members) {
+            Some(name) => {
+                if more == 0 {
+                    return Err(ReferenceFault::TooDeep);
+                }
+                match member_named(evaluators, name) {
+                    Some(evaluator) => expand_value(alloc, evaluators, evaluator, more - 1, left),
+                    None => Err(ReferenceFault::Unknown(String::from_str(alloc, name)?)),
+                }
+            }
+            None => {
+                if left == 0 {
+                    return Err(ReferenceFault::TooLarge);
+                }
+                match expand_members(alloc, evaluators, members, more, left - 1) {
+                    Ok((found, rest)) => Ok((Value::Object(found), rest)),
+                    Err(fault) => Err(fault),
+                }
+            }
+        },
+        Value::Array(items) => {
+            if left == 0 {
+                return Err(ReferenceFault::TooLarge);
+            }
+            match expand_items(alloc, evaluators, items, more, left - 1) {
+                Ok((found, rest)) => Ok((Value::Array(found), rest)),
+                Err(fault) => Err(fault),
+            }
+        }
+        Value::Null => counted_alone(Value::Null, left),
+        Value::Bool(truth) => counted_alone(Value::Bool(*truth), left),
+        Value::Number(number) => counted_alone(Value::Number(*number), left),
+        Value::String(text) => counted_alone(Value::String(text.clone()?), left),
+    }
+}
+
+#[cycle(expands)]
+fn expand_items(
+    alloc: Global,
+    evaluators: &Map<String, Value>,
+    items: &Vec<Value>,
+    more: u32,
+    left: usize,
+) -> Result<(Vec<Value>, usize), ReferenceFault>
+    ensures { Gives (with_rest (λ v. map view v.items)) result
+        (items_walked (replaced (members_view evaluators.now.entries) more) (items_view items.now.items) left) }
+{
+    let mut found = Vec::with_capacity(alloc, items.len())?;
+    let mut unused = left;
+    for item in items {
+        match expand_value(alloc, evaluators, item, more, unused) {
+            Ok((made, rest)) => {
+                found.push(made)?;
+                unused = rest;
+            }
+            Err(fault) => return Err(fault),
+        }
+    }
+    Ok((found, unused))
+}
+
+#[cycle(expands)]
+fn expand_members(
+    alloc: Global,
+    evaluators: &Map<String, Value>,
+    members: &Map<String, Value>,
+    more: u32,
+    left: usize,
+) -> Result<(Map<String, Value>, usize), ReferenceFault>
+    ensures { Gives (with_rest (λ m. members_view m.entries)) result
+        (members_walked (replaced (members_view evaluators.now.entries) more) (members_view members.now.entries) left) }
+{
+    let mut found = Map::new(alloc);
+    let mut unused = left;
+    for (key, member) in members.iter() {
+        let name = key.clone()?;
+        match expand_value(alloc, evaluators, member, more, unused) {
+            Ok((made, rest)) => {
+                drop(found.insert(name, made)?);
+                unused = rest;
+            }
+            Err(fault) => return Err(fault),
+        }
+    }
+    Ok((found, unused))
+}
+
+// A value that holds no others, if it may be counted.
+fn counted_alone(value: Value, left: usize) -> Result<(Value, usize), ReferenceFault>
+    ensures { Gives (with_rest view) result (counted left (λ n. Ok (view value, n))) }
+{
+    if left == 0 {
+        Err(ReferenceFault::TooLarge)
+    } else {
+        Ok((value, left - 1))
+    }
+}
+
+// The name that an object refers to, if it is a reference.
+fn reference(members: &Map<String, Value>) -> Option<&str>
+    ensures { option_map (λ s. s.now) result ≡ reference_of (members_view members.now.entries) }
+{
+    let mut pairs = members.iter();
+    match (pairs.next(), pairs.next()) {
+        (Some((key, Value::String(name))), None) => {
+            if key.as_str() == "$ref" {
+                Some(name.as_str())
+            } else {
+                None
+            }
+        }
+        _ => None,
+    }
+}
+
+pub(crate) fn member_named<'m>(members: &'m Map<String, Value>, name: &str) -> Option<&'m Value>
+    ensures { option_map (λ v. view v.now) result ≡ get_member name.now (members_view members.now.entries) }
+{
+    members.get(name)
+}

@@ -1,0 +1,6 @@
+pub mod Holds
+pub mod Gates
+pub mod Calls
+pub mod Stays
+pub mod Steps
+pub mod Links

@@ -1,0 +1,220 @@
+-- What each call of a journal does to its invariant, and what it leaves at each moment.
+use Rattle.std.proofs.Common.{◌≡◌, ◌⊎◌, ◌≤◌, ◌<◌, ◌+◌, ◌-◌, inl, inr, ⊎_elim, ℕ, List, [], ◌∷◌, ◌++◌, length, refl, arith, sym, ◌∙◌, ap, subst, length-append}
+use Rattle.std.specs.List.{AllByRecursion}
+use Rattle.std.proofs.lemmas.List.{take_at}
+use Rattle.fp_disk.specs.Outcomes.{Elapses, IsOutcome, LeavesOnly, Unsynced, Written, settled, touched}
+use Rattle.fp_disk.specs.Moments.{leaves_map, leaves_then}
+use Rattle.fp_journal.specs.declared.slot.Slot.{Slot}
+use Rattle.fp_journal.specs.declared.journal.Phase.{Phase}
+use Rattle.fp_journal.specs.declared.journal.Phase.TheVariants.{Idle, Staged, BodySynced, GateOpened, Failed}
+use Rattle.fp_journal.specs.Holds.{Apart}
+use Rattle.fp_journal.specs.Chain.{framed, with_gate, body_of, spell}
+use Rattle.fp_journal.specs.Moments.{KeepsFirm}
+use Rattle.fp_journal.specs.State.{JournalState, HasChain, HasChainOrNext, Claims, Outside, IsQuiet, IsBetween, IsAt, IsFrame, InFlight, AllShort, IsKept, SameSlot, room}
+use Rattle.fp_journal.proofs.Gates.{text-more, ready_written}
+use Rattle.fp_journal.proofs.Calls as calls
+use Rattle.fp_journal.proofs.Stays as stays
+
+-- ---- the bytes of a body on its way
+pub body_of-with_gate : (b : List ℕ) → body_of (with_gate b) ≡ b
+body_of-with_gate b = let e = length-append b (0 ∷ []) in take_at b (0 ∷ []) (length (with_gate b) - 1 - 4) (omega (arith, e))
+
+pub length_with_gate : (b : List ℕ) → length (with_gate b) ≡ length b + 5
+length_with_gate b = let e = length-append b (0 ∷ []) in omega (arith, e)
+
+pub All-push : {X : Type 0} (P : X → Type 0) (xs : List X) (x : X) → AllByRecursion P xs → P x → AllByRecursion P (xs ++ x ∷ [])
+All-push P [] x all p = (p, tt)
+All-push P (y ∷ ys) x all p = (all.0, All-push P ys x all.1 p)
+
+longer_text : (t b : List ℕ) → length (t ++ 165 ∷ framed b) ≡ length t + 5 + length b
+longer_text t b = let e = length-append t (165 ∷ framed b) in omega (arith, e)
+
+module _ {D : Type 0} (honest : D → Type 0) (bytes : D → List ℕ) (unsynced : D → Unsynced) (moment : D → ℕ) (left_since : D → ℕ → List ℕ → Type 0)
+    (present : (d : D) → honest d → IsOutcome (unsynced d) (bytes d))
+    (only_now : (d : D) (c : List ℕ) → honest d → left_since d (moment d) c → IsOutcome (unsynced d) c)
+    {k : JournalState D} {end : ℕ} {in_flight : List ℕ} (kept : IsKept honest bytes unsynced k end in_flight) where
+  abbrev text : List ℕ
+  text = k.front ++ spell k.sealed
+
+  abbrev next : List ℕ → List ℕ
+  next body = k.front ++ spell (k.sealed ++ body ∷ [])
+
+  abbrev State : Phase → List ℕ → D → Type 0
+  State p body d = IsAt p (unsynced d) (bytes d) k.slot.start k.slot.stop text (framed body) (next body)
+
+  abbrev Kept : D → List ℕ → Phase → List ℕ → Type 0
+  Kept d body p written = IsKept honest bytes unsynced (record k { disk = d; staged = body; phase = p }) end written
+
+  abbrev Time : D → Unsynced → Type 0
+  Time new u = Elapses (moment k.disk) (moment new) (left_since k.disk) (left_since new) (IsOutcome u)
+
+  abbrev Leaves : D → (List ℕ → Type 0) → Type 0
+  Leaves new P = LeavesOnly moment left_since k.disk new P
+
+  -- the outcomes now
+  pub outcomes : honest k.disk → (c : List ℕ) → IsOutcome (unsynced k.disk) c → Claims k.phase k.slot k.front k.sealed k.staged c
+  outcomes h c o = stays.at_claims k.slot k.front k.sealed k.staged k.phase (bytes k.disk) (unsynced k.disk) c (kept.state h) o
+
+  state_is : (p : Phase) → k.phase ≡ p → honest k.disk → State p k.staged k.disk
+  state_is p is h = subst (λ (q : Phase). State q k.staged k.disk) is (kept.state h)
+
+  flight_is : (p : Phase) → k.phase ≡ p → InFlight p k.slot.most (k.slot.stop - end) k.staged in_flight
+  flight_is p is = subst (λ (q : Phase). InFlight q k.slot.most (k.slot.stop - end) k.staged in_flight) is kept.flight
+
+  goes_on : (d : D) (body : List ℕ) (p : Phase) (written : List ℕ) → InFlight p k.slot.most (k.slot.stop - end) body written → (honest d → State p body d) → Kept d body p written
+  goes_on d body p written flight state = record { place = kept.place; within = kept.within; short = kept.short; flight = flight; state = state }
+
+  module _ (new : D) where
+    -- ---- stage
+    module _ (idle : k.phase ≡ Idle) where
+      quiet : honest k.disk → IsQuiet k.slot.start k.slot.stop text (unsynced k.disk)
+      quiet h = state_is Idle idle h
+
+      behind : k.slot.start + length text < end + 1
+      behind = let p = kept.place in omega (arith, p)
+
+      pub stage_leaves : (n : ℕ) → (honest k.disk → Time new (touched (unsynced k.disk) (end + 1) n)) → honest k.disk → Leaves new (HasChain k.slot k.front k.sealed)
+      stage_leaves n time h = calls.stage_leaves honest bytes unsynced moment left_since present only_now k.disk new h k.slot.start k.slot.stop text [] (text ++ 165 ∷ []) refl (quiet h) (end + 1) n behind (time h)
+
+      pub stage_failed : (body written : List ℕ) (n : ℕ) → (honest new → honest k.disk) → (honest k.disk → (unsynced new ≡ unsynced k.disk) ⊎ (unsynced new ≡ touched (unsynced k.disk) (end + 1) n)) → Kept new body Failed written
+      stage_failed body written n back failed = goes_on new body Failed written tt
+          (λ h. let h0 = back h in calls.stage_failed honest bytes unsynced moment left_since present only_now k.disk new h0 k.slot.start k.slot.stop text (framed body) (next body) (text-more k.front k.sealed body) (quiet h0) (end + 1) n behind (failed h0))
+
+      -- the body lies in the frame's bytes, of which the piece is what was written
+      module _ (body written piece : List ℕ) (frame : written ≡ with_gate body) (shape : piece ≡ with_gate body) (fits : length body + 6 ≤ room k) where
+        pub stage_done : length body ≤ k.slot.most → (honest new → honest k.disk)
+            → (honest k.disk → Written (bytes k.disk) (end + 1) piece (bytes new)) → (honest k.disk → unsynced new ≡ touched (unsynced k.disk) (end + 1) (length piece)) → Kept new (body_of written) Staged written
+        stage_done short back wrote touch =
+            let place = kept.place in let within = kept.within in
+            let is : body_of written ≡ body = ap body_of frame ∙ body_of-with_gate body in
+            subst (λ (b : List ℕ). Kept new b Staged written) (sym is) (goes_on new body Staged written (record { shape = frame; short = short; fits = omega (arith, fits, place) }) (λ h. let h0 = back h in (
+              calls.stage_quiet honest bytes unsynced moment left_since present only_now k.disk new h0 k.slot.start k.slot.stop text (framed body) (next body) (text-more k.front k.sealed body) (quiet h0) (end + 1) (length piece) behind (touch h0),
+              ready_written k.slot.start k.slot.stop text (framed body) (bytes k.disk) (bytes new) (end + 1) (omega (arith, place)) (omega (arith, place, fits, within)) (subst (λ (t : List ℕ). Written (bytes k.disk) (end + 1) t (bytes new)) shape (wrote h0)),
+            )))
+
+        pub stage_apart : (honest k.disk → Time new (touched (unsynced k.disk) (end + 1) (length piece)))
+            → (honest k.disk → (unsynced new ≡ unsynced k.disk) ⊎ (unsynced new ≡ touched (unsynced k.disk) (end + 1) (length piece))) → honest k.disk → KeepsFirm moment left_since unsynced k.disk new (Outside k.slot)
+        stage_apart time failed h =
+            let place = kept.place in let size : length piece ≡ length body + 5 = ap length shape ∙ length_with_gate body in
+            calls.frame_write honest bytes unsynced moment left_since present only_now k.disk new h (end + 1) (length piece) (Outside k.slot)
+            (λ at m out. ⊎_elim (λ before. inr (omega (arith, before, place))) (λ after. inl (omega (arith, after, place, size, fits))) out) (time h) (failed h)
+
+    -- ---- body_synced
+    module _ (staged : k.phase ≡ Staged) where
+      pub body_leaves : (honest k.disk → Time new (unsynced k.disk)) → honest k.disk → Leaves new (HasChain k.slot k.front k.sealed)
+      body_leaves time h = calls.body_leaves honest bytes unsynced moment left_since present only_now k.disk new h k.slot.start k.slot.stop text [] (text ++ 165 ∷ []) refl (state_is Staged staged h).0 (time h)
+
+      pub body_failed : (honest new → honest k.disk) → (honest k.disk → unsynced new ≡ unsynced k.disk) → Kept new k.staged Failed in_flight
+      body_failed back same = goes_on new k.staged Failed in_flight tt
+          (λ h. let h0 = back h in calls.body_failed honest bytes unsynced moment left_since present only_now k.disk new h0 k.slot.start k.slot.stop text (framed k.staged) (next k.staged) (text-more k.front k.sealed k.staged) (state_is Staged staged h0).0 (same h0))
+
+      pub body_done : (honest new → honest k.disk) → (honest k.disk → unsynced new ≡ settled (bytes k.disk)) → Kept new k.staged BodySynced in_flight
+      body_done back sure = goes_on new k.staged BodySynced in_flight (flight_is Staged staged)
+          (λ h. let h0 = back h in let s = state_is Staged staged h0 in calls.body_sure honest bytes unsynced moment left_since present only_now k.disk new h0 k.slot.start k.slot.stop text (framed k.staged) (next k.staged) (text-more k.front k.sealed k.staged) s.0 s.1 (sure h0))
+
+    -- ---- open_gate
+    module _ (synced : k.phase ≡ BodySynced) where
+      pub gate_leaves : (honest k.disk → Time new (touched (unsynced k.disk) end 1)) → honest k.disk → Leaves new (HasChainOrNext k.slot k.front k.sealed k.staged)
+      gate_leaves time h = calls.gate_leaves honest bytes unsynced moment left_since present only_now k.disk new h k.slot.start k.slot.stop text (framed k.staged) (next k.staged) (text-more k.front k.sealed k.staged) (state_is BodySynced synced h) end kept.place (time h)
+
+      pub gate_failed : (honest new → honest k.disk) → (honest k.disk → (unsynced new ≡ unsynced k.disk) ⊎ (unsynced new ≡ touched (unsynced k.disk) end 1)) → Kept new k.staged Failed in_flight
+      gate_failed back failed = goes_on new k.staged Failed in_flight tt
+          (λ h. let h0 = back h in calls.gate_failed honest bytes unsynced moment left_since present only_now k.disk new h0 k.slot.start k.slot.stop text (framed k.staged) (next k.staged) (text-more k.front k.sealed k.staged) (state_is BodySynced synced h0) end kept.place (failed h0))
+
+      pub gate_done : (honest new → honest k.disk) → (honest k.disk → Written (bytes k.disk) end (165 ∷ []) (bytes new)) → (honest k.disk → unsynced new ≡ touched (unsynced k.disk) end 1) → Kept new k.staged GateOpened in_flight
+      gate_done back wrote touch = goes_on new k.staged GateOpened in_flight (flight_is BodySynced synced)
+          (λ h. let h0 = back h in calls.gate_open honest bytes unsynced moment left_since present only_now k.disk new h0 k.slot.start k.slot.stop text (framed k.staged) (next k.staged) (text-more k.front k.sealed k.staged) (state_is BodySynced synced h0) end kept.place (wrote h0) (touch h0))
+
+      pub gate_apart : (honest k.disk → Time new (touched (unsynced k.disk) end 1)) → (honest k.disk → (unsynced new ≡ unsynced k.disk) ⊎ (unsynced new ≡ touched (unsynced k.disk) end 1)) → honest k.disk → KeepsFirm moment left_since unsynced k.disk new (Outside k.slot)
+      gate_apart time failed h = let place = kept.place in let within = kept.within in
+          calls.frame_write honest bytes unsynced moment left_since present only_now k.disk new h end 1 (Outside k.slot)
+          (λ at m out. ⊎_elim (λ before. inr (omega (arith, before, place))) (λ after. inl (omega (arith, after, within))) out) (time h) (failed h)
+
+    -- ---- gate_synced
+    module _ (opened : k.phase ≡ GateOpened) where
+      pub sealed_leaves : (honest k.disk → Time new (unsynced k.disk)) → honest k.disk → Leaves new (HasChainOrNext k.slot k.front k.sealed k.staged)
+      sealed_leaves time h = calls.sealed_leaves honest bytes unsynced moment left_since present only_now k.disk new h k.slot.start k.slot.stop text (framed k.staged) (next k.staged) (text-more k.front k.sealed k.staged) (state_is GateOpened opened h).1 (time h)
+
+      pub sealed_failed : (honest new → honest k.disk) → (honest k.disk → unsynced new ≡ unsynced k.disk) → Kept new k.staged Failed in_flight
+      sealed_failed back same = goes_on new k.staged Failed in_flight tt
+          (λ h. let h0 = back h in calls.sealed_failed honest bytes unsynced moment left_since present only_now k.disk new h0 k.slot.start k.slot.stop text (framed k.staged) (next k.staged) (text-more k.front k.sealed k.staged) (state_is GateOpened opened h0).1 (same h0))
+
+      pub sealed_done : (name : ℕ) (all : List (List ℕ)) (n : ℕ) → all ≡ k.sealed ++ k.staged ∷ [] → n ≡ length in_flight → (honest new → honest k.disk) → (honest k.disk → unsynced new ≡ settled (bytes k.disk))
+          → IsKept honest bytes unsynced (record k { disk = new; name = name; sealed = all; phase = Idle }) (end + n) in_flight
+      sealed_done name all n is len back sure =
+          let f : IsFrame k.slot.most (k.slot.stop - end) k.staged in_flight = flight_is GateOpened opened in let place = kept.place in let fits = f.fits in let w = kept.within in
+          let size : length in_flight ≡ length k.staged + 5 = ap length f.shape ∙ length_with_gate k.staged in
+          let long : length (k.front ++ spell all) ≡ length text + 5 + length k.staged = ap (λ (bs : List (List ℕ)). length (k.front ++ spell bs)) is ∙ ap length (text-more k.front k.sealed k.staged) ∙ longer_text text k.staged in
+          record {
+            place = omega (arith, place, len, size, long);
+            within = omega (arith, len, size, fits, w);
+            short = subst (λ (bs : List (List ℕ)). AllShort k.slot.most bs) (sym is) (All-push (λ (b : List ℕ). length b ≤ k.slot.most) k.sealed k.staged kept.short f.short);
+            flight = tt;
+            state = λ h. let h0 = back h in subst (λ (bs : List (List ℕ)). IsQuiet k.slot.start k.slot.stop (k.front ++ spell bs) (unsynced new)) (sym is)
+                (calls.sealed_quiet honest bytes unsynced moment left_since present only_now k.disk new h0 k.slot.start k.slot.stop text (framed k.staged) (next k.staged) (text-more k.front k.sealed k.staged) (state_is GateOpened opened h0).0 (sure h0));
+          }
+
+    -- ---- syncs
+    pub sync_apart : (Out : ℕ → ℕ → Type 0) → (honest k.disk → Time new (unsynced k.disk)) → (honest k.disk → (unsynced new ≡ unsynced k.disk) ⊎ (unsynced new ≡ settled (bytes k.disk))) → honest k.disk → KeepsFirm moment left_since unsynced k.disk new Out
+    sync_apart Out time is h = calls.frame_sync honest bytes unsynced moment left_since present only_now k.disk new h Out (time h) (is h)
+
+    pub sync_leaves : (honest k.disk → Time new (unsynced k.disk)) → honest k.disk → Leaves new (Claims k.phase k.slot k.front k.sealed k.staged)
+    sync_leaves time h = calls.goes honest bytes unsynced moment left_since present only_now k.disk new h (unsynced k.disk) (Claims k.phase k.slot k.front k.sealed k.staged) (time h) (outcomes h) (outcomes h)
+
+    pub sync_failed : (honest new → honest k.disk) → (honest k.disk → unsynced new ≡ unsynced k.disk) → Kept new k.staged Failed in_flight
+    sync_failed back same = goes_on new k.staged Failed in_flight tt
+        (λ h. let h0 = back h in subst (λ (u : Unsynced). IsQuiet k.slot.start k.slot.stop text u ⊎ IsBetween k.slot.start k.slot.stop text (framed k.staged) u) (sym (same h0)) (stays.broken k.slot.start k.slot.stop text (framed k.staged) (next k.staged) (bytes k.disk) (unsynced k.disk) k.phase (kept.state h0)))
+
+    pub sync_done : (honest new → honest k.disk) → (honest k.disk → bytes new ≡ bytes k.disk) → (honest k.disk → unsynced new ≡ settled (bytes k.disk)) → Kept new k.staged k.phase in_flight
+    sync_done back same sure = goes_on new k.staged k.phase in_flight kept.flight
+        (λ h. let h0 = back h in subst (λ (b : List ℕ). IsAt k.phase (unsynced new) b k.slot.start k.slot.stop text (framed k.staged) (next k.staged)) (sym (same h0))
+        (subst (λ (u : Unsynced). IsAt k.phase u (bytes k.disk) k.slot.start k.slot.stop text (framed k.staged) (next k.staged)) (sym (sure h0)) (stays.at_synced k.slot.start k.slot.stop text (framed k.staged) (next k.staged) (bytes k.disk) (unsynced k.disk) (present k.disk h0) k.phase (kept.state h0))))
+
+    -- ---- write_outside
+    module _ (from : ℕ) (piece : List ℕ) (out : Outside k.slot from (length piece)) where
+      abbrev Tried : Unsynced
+      Tried = touched (unsynced k.disk) from (length piece)
+
+      pub outside_leaves : (honest k.disk → Time new Tried) → honest k.disk → Leaves new (Claims k.phase k.slot k.front k.sealed k.staged)
+      outside_leaves time h = calls.goes honest bytes unsynced moment left_since present only_now k.disk new h Tried (Claims k.phase k.slot k.front k.sealed k.staged) (time h) (outcomes h)
+          (λ c o. stays.outside_claims k.slot k.front k.sealed k.staged from (length piece) out k.phase (bytes k.disk) (unsynced k.disk) c (kept.state h) o)
+
+      pub outside_apart : (honest k.disk → Time new Tried) → (honest k.disk → (unsynced new ≡ unsynced k.disk) ⊎ (unsynced new ≡ Tried)) → honest k.disk → KeepsFirm moment left_since unsynced k.disk new (Apart from (length piece))
+      outside_apart time is h = calls.frame_write honest bytes unsynced moment left_since present only_now k.disk new h from (length piece) (Apart from (length piece)) (λ at m apart. apart) (time h) (is h)
+
+      pub outside_failed : (honest new → honest k.disk) → (honest k.disk → (unsynced new ≡ unsynced k.disk) ⊎ (unsynced new ≡ Tried)) → Kept new k.staged Failed in_flight
+      outside_failed back failed = goes_on new k.staged Failed in_flight tt (λ h. let h0 = back h in ⊎_elim
+          (λ same. subst (λ (u : Unsynced). IsQuiet k.slot.start k.slot.stop text u ⊎ IsBetween k.slot.start k.slot.stop text (framed k.staged) u) (sym same) (stays.broken k.slot.start k.slot.stop text (framed k.staged) (next k.staged) (bytes k.disk) (unsynced k.disk) k.phase (kept.state h0)))
+          (λ touch. subst (λ (u : Unsynced). IsQuiet k.slot.start k.slot.stop text u ⊎ IsBetween k.slot.start k.slot.stop text (framed k.staged) u) (sym touch) (stays.broken_outside k.slot.start k.slot.stop text (framed k.staged) (next k.staged) from (length piece) out k.phase (bytes k.disk) (unsynced k.disk) (kept.state h0))) (failed h0))
+
+      pub outside_done : (honest new → honest k.disk) → (honest k.disk → Written (bytes k.disk) from piece (bytes new)) → (honest k.disk → unsynced new ≡ Tried) → Kept new k.staged k.phase in_flight
+      outside_done back wrote touch = goes_on new k.staged k.phase in_flight kept.flight
+          (λ h. let h0 = back h in subst (λ (u : Unsynced). IsAt k.phase u (bytes new) k.slot.start k.slot.stop text (framed k.staged) (next k.staged)) (sym (touch h0)) (stays.at_outside k.slot.start k.slot.stop text (framed k.staged) (next k.staged) from (length piece) out (bytes k.disk) (bytes new) piece refl (wrote h0) k.phase (unsynced k.disk) (kept.state h0)))
+
+-- ---- four calls in turn
+module _ {D : Type 0} (moment : D → ℕ) (left_since : D → ℕ → List ℕ → Type 0) (first : JournalState D) (body : List ℕ) where
+  abbrev Sealing : List ℕ → Type 0
+  Sealing c = HasChainOrNext first.slot first.front first.sealed body c
+
+  -- a journal with this body on its way
+  pub record IsSealing (k : JournalState D) : Type 0 where
+    pub same : SameSlot first k
+    pub sealed : k.sealed ≡ first.sealed
+    pub staged : k.staged ≡ body
+
+  pub sealing_on : (k l : JournalState D) → IsSealing k → SameSlot k l → (l.sealed ≡ k.sealed) × (l.staged ≡ k.staged) → IsSealing l
+  sealing_on k l s same bodies = record { same = (same.0 ∙ s.same.0, same.1 ∙ s.same.1, same.2 ∙ s.same.2); sealed = bodies.0 ∙ s.sealed; staged = bodies.1 ∙ s.staged }
+
+  claim : (k : JournalState D) (c : List ℕ) → IsSealing k → HasChainOrNext k.slot k.front k.sealed k.staged c → Sealing c
+  claim k c s p = subst (λ (x : Slot). HasChainOrNext x first.front first.sealed body c) s.same.1 (subst (λ (x : List ℕ). HasChainOrNext k.slot x first.sealed body c) s.same.2
+      (subst (λ (x : List (List ℕ)). HasChainOrNext k.slot k.front x body c) s.sealed (subst (λ (x : List ℕ). HasChainOrNext k.slot k.front k.sealed x c) s.staged p)))
+
+  pub sealing_more : (k : JournalState D) (new : D) → IsSealing k → LeavesOnly moment left_since first.disk k.disk Sealing
+      → LeavesOnly moment left_since k.disk new (HasChainOrNext k.slot k.front k.sealed k.staged) → LeavesOnly moment left_since first.disk new Sealing
+  sealing_more k new s before now = leaves_then moment left_since first.disk k.disk new Sealing before (leaves_map moment left_since k.disk new (HasChainOrNext k.slot k.front k.sealed k.staged) Sealing (λ c p. claim k c s p) now)
+
+  pub sealing_first : (new : D) → LeavesOnly moment left_since first.disk new (HasChain first.slot first.front first.sealed) → LeavesOnly moment left_since first.disk new Sealing
+  sealing_first new l = leaves_map moment left_since first.disk new (HasChain first.slot first.front first.sealed) Sealing (λ c p. inl p) l
+
+  pub sealing_body : (k : JournalState D) (new : D) → IsSealing k → LeavesOnly moment left_since first.disk k.disk Sealing → LeavesOnly moment left_since k.disk new (HasChain k.slot k.front k.sealed) → LeavesOnly moment left_since first.disk new Sealing
+  sealing_body k new s before now = sealing_more k new s before (leaves_map moment left_since k.disk new (HasChain k.slot k.front k.sealed) (HasChainOrNext k.slot k.front k.sealed k.staged) (λ c p. inl p) now)

@@ -1,0 +1,5 @@
+pub mod Holds
+pub mod Chain
+pub mod Moments
+pub mod State
+pub mod Reading

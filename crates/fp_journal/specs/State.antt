@@ -1,0 +1,113 @@
+-- A journal as its callers see it, and what its slot holds at each phase.
+use Rattle.std.specs.Prelude.{◌≡◌, ◌≢◌, ◌⊎◌, ◌<◌, ◌≤◌, ◌+◌, ◌-◌, ℕ, List, [], ◌∷◌, ◌++◌, length}
+use Rattle.std.specs.List.{AllByRecursion}
+use Rattle.fp_disk.specs.Outcomes.{Unsynced}
+use Rattle.fp_journal.specs.declared.slot.Slot.{Slot}
+use Rattle.fp_journal.specs.declared.journal.Phase.{Phase}
+use Rattle.fp_journal.specs.declared.journal.Phase.TheVariants.{Idle, Staged, BodySynced, GateOpened, Failed}
+use Rattle.fp_journal.specs.Holds.{Holds, IsFirm}
+use Rattle.fp_journal.specs.Chain.{Ends, framed, with_gate, spell}
+
+-- what a journal had sealed, and which one it was
+pub record SealedBodies : Type 0 where
+  pub name : ℕ
+  pub bodies : List (List ℕ)
+
+-- In its slot lie the front, which was there when the journal began, and the bodies sealed since; one body more may be on its way
+pub record JournalState (D : Type 0) : Type 0 where
+  pub disk : D
+  pub name : ℕ
+  pub slot : Slot
+  pub front : List ℕ
+  pub sealed : List (List ℕ)
+  pub staged : List ℕ
+  pub phase : Phase
+
+-- ---- what a list of bytes stands for
+-- the slot has the front and the bodies, and a closed gate behind them
+abbrev pub HasChain : Slot → List ℕ → List (List ℕ) → List ℕ → Type 0
+HasChain slot front bodies c = Ends slot.start slot.stop (front ++ spell bodies) c
+
+-- the same, or with one body more
+abbrev pub HasChainOrNext : Slot → List ℕ → List (List ℕ) → List ℕ → List ℕ → Type 0
+HasChainOrNext slot front bodies body c = HasChain slot front bodies c ⊎ HasChain slot front (bodies ++ body ∷ []) c
+
+-- what each outcome is at each phase
+abbrev pub Claims : Phase → Slot → List ℕ → List (List ℕ) → List ℕ → List ℕ → Type 0
+Claims Idle slot front bodies body c = HasChain slot front bodies c
+Claims Staged slot front bodies body c = HasChain slot front bodies c
+Claims BodySynced slot front bodies body c = HasChain slot front bodies c
+Claims GateOpened slot front bodies body c = HasChainOrNext slot front bodies body c
+Claims Failed slot front bodies body c = HasChainOrNext slot front bodies body c
+
+-- the n bytes from this place on are none of the slot's
+abbrev pub Outside : Slot → ℕ → ℕ → Type 0
+Outside slot at n = (at + n ≤ slot.start) ⊎ (slot.stop ≤ at)
+
+-- how many bytes lie from the closed gate to the slot's end
+abbrev pub room : {D : Type 0} → JournalState D → ℕ
+room k = k.slot.stop - (k.slot.start + length (k.front ++ spell k.sealed))
+
+-- the journal, its slot and the front are the same
+abbrev pub SameSlot : {D : Type 0} → JournalState D → JournalState D → Type 0
+SameSlot old new = (new.name ≡ old.name) × (new.slot ≡ old.slot) × (new.front ≡ old.front)
+
+-- ---- what the disk may be at each phase; text is the front and the bodies, more the staged one behind its length
+-- the text and its closed gate are firm
+pub record IsQuiet (start stop : ℕ) (text : List ℕ) (u : Unsynced) : Type 0 where
+  pub gate : ℕ
+  pub shut : gate ≢ 165
+  pub firm : IsFirm u start (text ++ gate ∷ [])
+  pub within : start + length text < stop
+
+-- behind the text's gate stand more and a closed gate
+pub record IsReady (start stop : ℕ) (text more b : List ℕ) : Type 0 where
+  pub gate : ℕ
+  pub shut : gate ≢ 165
+  pub holds : Holds b (start + length text + 1) (more ++ gate ∷ [])
+  pub within : start + length text + 1 + length more < stop
+
+-- and are firm
+pub record IsSure (start stop : ℕ) (text more : List ℕ) (u : Unsynced) : Type 0 where
+  pub gate : ℕ
+  pub shut : gate ≢ 165
+  pub firm : IsFirm u (start + length text + 1) (more ++ gate ∷ [])
+  pub within : start + length text + 1 + length more < stop
+
+-- all is firm but the gate between the text and more
+pub record IsBetween (start stop : ℕ) (text more : List ℕ) (u : Unsynced) : Type 0 where
+  pub front : IsFirm u start text
+  pub back : IsSure start stop text more u
+
+abbrev pub IsAt : Phase → Unsynced → List ℕ → ℕ → ℕ → List ℕ → List ℕ → List ℕ → Type 0
+IsAt Idle u b start stop text more next = IsQuiet start stop text u
+IsAt Staged u b start stop text more next = IsQuiet start stop text u × IsReady start stop text more b
+IsAt BodySynced u b start stop text more next = IsQuiet start stop text u × IsSure start stop text more u
+IsAt GateOpened u b start stop text more next = Ends start stop next b × IsBetween start stop text more u
+IsAt Failed u b start stop text more next = IsQuiet start stop text u ⊎ IsBetween start stop text more u
+
+-- ---- what holds of the numbers alone
+-- the bytes of a body on its way
+pub record IsFrame (most left : ℕ) (body bytes : List ℕ) : Type 0 where
+  pub shape : bytes ≡ with_gate body
+  pub short : length body ≤ most
+  pub fits : length body + 6 ≤ left
+
+abbrev pub InFlight : Phase → ℕ → ℕ → List ℕ → List ℕ → Type 0
+InFlight Idle most left body bytes = Unit {0}
+InFlight Staged most left body bytes = IsFrame most left body bytes
+InFlight BodySynced most left body bytes = IsFrame most left body bytes
+InFlight GateOpened most left body bytes = IsFrame most left body bytes
+InFlight Failed most left body bytes = Unit {0}
+
+-- no body is longer than that
+abbrev pub AllShort : ℕ → List (List ℕ) → Type 0
+AllShort most bodies = AllByRecursion (λ (b : List ℕ). length b ≤ most) bodies
+
+-- ---- the invariant of a journal whose closed gate lies at this end, and whose body on its way has these bytes
+pub record IsKept {D : Type 0} (honest : D → Type 0) (bytes : D → List ℕ) (unsynced : D → Unsynced) (k : JournalState D) (end : ℕ) (in_flight : List ℕ) : Type 0 where
+  pub place : end ≡ k.slot.start + length (k.front ++ spell k.sealed)
+  pub within : end < k.slot.stop
+  pub short : AllShort k.slot.most k.sealed
+  pub flight : InFlight k.phase k.slot.most (k.slot.stop - end) k.staged in_flight
+  pub state : honest k.disk → IsAt k.phase (unsynced k.disk) (bytes k.disk) k.slot.start k.slot.stop (k.front ++ spell k.sealed) (framed k.staged) (k.front ++ spell (k.sealed ++ k.staged ∷ []))

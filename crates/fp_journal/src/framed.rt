@@ -1,0 +1,54 @@
+ghost use Rattle.std.specs.Prelude.{◌≡◌, ◌<◌, ◌+◌, ◌^◌, length, IfOk};
+ghost use Rattle.fp_journal.specs.Chain.{with_gate};
+
+use std::alloc::{AllocError, Global};
+use std::marker::Model;
+
+/// A body behind its length and before a closed gate, as one write puts it down.
+#[derive(Drop)]
+pub struct Framed {
+    bytes: Vec<u8>,
+}
+
+impl Model for Framed {
+    ghost use Rattle.std.specs.Coded.{coded_list, coded_ℕ};
+    ghost use Rattle.std.specs.Prelude.{◌≡◌, ◌<◌, ◌^◌, List, ℕ, length};
+    ghost use Rattle.fp_journal.specs.Chain.{with_gate, body_of};
+
+    ghost Value = { List ℕ };
+
+    ghost coded = { coded_list coded_ℕ };
+
+    ghost view = { λ f. body_of f.bytes.items };
+
+    ghost invariant = { λ f. (f.bytes.items ≡ with_gate (body_of f.bytes.items)) × (length (body_of f.bytes.items) < 2 ^ 32) };
+}
+
+impl Framed {
+    /// Takes all the memory that writing this body costs, so that no later call needs any.
+    pub fn new(alloc: Global, body: &[u8]) -> Result<Framed, AllocError>
+        requires { length body.now < 2 ^ 32 }
+        ensures { IfOk result (λ f. f ≡ body.now) }
+    {
+        let len = body.len() as u32;
+        let mut bytes = Vec::from_slice(alloc, &len.to_be_bytes())?;
+        bytes.extend_from_slice(body)?;
+        bytes.push(0)?;
+        Ok(Framed { bytes })
+    }
+
+    /// How many bytes of a slot the body takes, with its own gate in front of its length and the closed gate behind it.
+    pub fn cost(&self) -> u64
+        ensures { result ≡ length self.now + 6 }
+    {
+        self.bytes.len() as u64 + 1
+    }
+
+    pub(crate) fn into_bytes(self) -> Vec<u8>
+        ensures bytes { result.items ≡ with_gate self }
+        ensures short { length self < 2 ^ 32 }
+    {
+        let Framed { bytes } = self;
+        bytes
+    }
+}

@@ -1,0 +1,244 @@
+ghost use Rattle.std.specs.Prelude.{◌≡◌};
+
+use crate::{
+    BodyFault, ChainFault, Framed, Journal, Phase, Reader, Slot, read_chain, resume, synced_bytes,
+};
+use fp_disk::{Choice, Fill, MemoryDisk};
+use std::alloc::Global;
+use std::test::Fail;
+
+// Copies the bodies, and refuses one that begins with 255.
+#[derive(Drop)]
+struct Copies {
+    alloc: Global,
+    bodies: Vec<Vec<u8>>,
+}
+
+impl Reader for Copies {
+    ghost takes = { λ _ _ _. Unit {0} };
+
+    ghost refuses = { λ _ _ _. Unit {0} };
+
+    fn take(&mut self, body: &[u8]) -> Result<(), BodyFault> {
+        if !body.is_empty() && body[0] == 255 {
+            return Err(BodyFault::BadBody { at: 0 });
+        }
+        let Ok(copy) = Vec::from_slice(self.alloc, body) else {
+            return Err(BodyFault::Memory);
+        };
+        match self.bodies.push(copy) {
+            Ok(()) => Ok(()),
+            Err(_) => Err(BodyFault::Memory),
+        }
+    }
+}
+
+fn empty_reader(alloc: Global) -> Copies {
+    Copies {
+        alloc,
+        bodies: Vec::new(alloc),
+    }
+}
+
+// Two bytes outside, a front of two bytes, a closed gate, room for more, and three bytes outside.
+const EMPTY: [u8; 23] = [
+    1, 2, 3, 4, 0, 9, 9, 9, 9, 9, 9, 9, 9, 9, 9, 9, 9, 9, 9, 9, 5, 6, 7,
+];
+
+fn slot() -> Slot
+    ensures { result ≡ record { start = 2; stop = 20; most = 8 } }
+{
+    Slot {
+        start: 2,
+        stop: 20,
+        most: 8,
+    }
+}
+
+// A journal behind the two bytes of a front.
+fn opened(alloc: Global, bytes: &[u8]) -> Result<Journal<MemoryDisk>, Fail> {
+    let mut disk = MemoryDisk::holding(alloc, bytes.to_vec(alloc)?)?;
+    let all = synced_bytes(alloc, &mut disk)?;
+    if all.len() < 4 {
+        return Err(Fail::new("too short"));
+    }
+    match resume(alloc, disk, &all, slot(), 4, &mut empty_reader(alloc)) {
+        Ok(journal) => Ok(journal),
+        Err(_) => Err(Fail::new("refused")),
+    }
+}
+
+// Seals a body, where there is room for it.
+fn put(alloc: Global, journal: &mut Journal<MemoryDisk>, body: &[u8]) -> Result<bool, Fail> {
+    if body.len() > 8 {
+        return Ok(false);
+    }
+    let framed = Framed::new(alloc, body)?;
+    let Slot {
+        start: _,
+        stop: _,
+        most,
+    } = journal.slot();
+    match journal.phase() {
+        Phase::Idle => {}
+        _ => return Ok(false),
+    }
+    if framed.cost() > journal.room() || framed.cost() > u64::from(most) + 6 {
+        return Ok(false);
+    }
+    journal.seal(framed)?;
+    Ok(true)
+}
+
+// What a read of the whole disk gives.
+fn all_of(alloc: Global, disk: MemoryDisk) -> Result<Vec<u8>, Fail> {
+    let mut disk = disk;
+    Ok(synced_bytes(alloc, &mut disk)?)
+}
+
+#[test]
+fn bodies_are_sealed_behind_one_another(rt: HostRuntime) -> Result<(), Fail> {
+    let alloc = rt.alloc();
+    let mut journal = opened(alloc, EMPTY.as_slice())?;
+    assert_eq!(rt; journal.room(), 16);
+    assert!(rt; put(alloc, &mut journal, b"ab")?);
+    assert_eq!(rt; journal.room(), 9);
+    assert!(rt; !put(alloc, &mut journal, b"wxyz")?, "a byte too many");
+    assert!(rt; put(alloc, &mut journal, b"xyz")?, "the last byte");
+    assert_eq!(rt; journal.room(), 1);
+    let bytes = all_of(alloc, journal.into_disk())?;
+    let want: [u8; 23] = [
+        1, 2, 3, 4, 165, 0, 0, 0, 2, b'a', b'b', 165, 0, 0, 0, 3, b'x', b'y', b'z', 0, 5, 6, 7,
+    ];
+    assert_eq!(rt; bytes.as_slice(), want.as_slice());
+    let mut read = empty_reader(alloc);
+    assert_eq!(rt; read_chain(&bytes, 4, slot(), &mut read), Ok(19));
+    assert_eq!(rt; read.bodies.len(), 2);
+    assert_eq!(rt; read.bodies[0].as_slice(), b"ab".as_slice());
+    assert_eq!(rt; read.bodies[1].as_slice(), b"xyz".as_slice());
+    Ok(())
+}
+
+#[test]
+fn the_first_wrong_byte_is_named(rt: HostRuntime) -> Result<(), Fail> {
+    let end = |at: u64| -> Result<u64, ChainFault> { Ok(at) };
+    let bad = |at: u64| -> Result<u64, ChainFault> { Err(ChainFault::Damaged { at }) };
+    for (bytes, stop, want) in [
+        ([37].as_slice(), 9, end(0)),
+        ([165, 0, 0, 0, 0, 37].as_slice(), 9, end(5)),
+        (
+            [165, 0, 0, 0, 8, 1, 2, 3, 4, 5, 6, 7, 8, 0].as_slice(),
+            14,
+            end(13),
+        ),
+        ([].as_slice(), 9, bad(0)),
+        ([0].as_slice(), 0, bad(0)),
+        ([165, 0, 0, 0].as_slice(), 9, bad(1)),
+        ([165, 0, 0, 0, 0, 0].as_slice(), 4, bad(1)),
+        (
+            [165, 0, 0, 0, 9, 1, 2, 3, 4, 5, 6, 7, 8, 9, 0].as_slice(),
+            15,
+            bad(1),
+        ),
+        (
+            [165, 8, 0, 0, 0, 1, 2, 3, 4, 5, 6, 7, 8, 0].as_slice(),
+            14,
+            bad(1),
+        ),
+        ([165, 0, 0, 0, 2, 7].as_slice(), 9, bad(5)),
+        ([165, 0, 0, 0, 2, 7, 7, 0].as_slice(), 6, bad(5)),
+        ([165, 0, 0, 0, 0].as_slice(), 9, bad(5)),
+        ([165, 0, 0, 0, 0, 0].as_slice(), 5, bad(5)),
+        ([165, 0, 0, 0, 1, 255, 0].as_slice(), 9, bad(5)),
+        (
+            [165, 0, 0, 0, 1, 7, 165, 0, 0, 0, 1, 255, 0].as_slice(),
+            13,
+            bad(11),
+        ),
+    ] {
+        let slot = Slot {
+            start: 0,
+            stop,
+            most: 8,
+        };
+        let found = read_chain(bytes, 0, slot, &mut empty_reader(rt.alloc()));
+        assert_eq!(rt; found, want, "{bytes:?} {stop}");
+    }
+    Ok(())
+}
+
+// How many bodies a crash leaves of a journal.
+fn left(
+    alloc: Global,
+    journal: Journal<MemoryDisk>,
+    writes: &[Fill],
+    rest: Fill,
+) -> Result<(usize, Vec<u8>), Fail> {
+    let disk = journal.into_disk().crash(Choice {
+        length: 23,
+        writes,
+        rest,
+    })?;
+    let bytes = all_of(alloc, disk)?;
+    let mut read = empty_reader(alloc);
+    if bytes.len() < 4 {
+        return Err(Fail::new("too short"));
+    }
+    match read_chain(&bytes, 4, slot(), &mut read) {
+        Ok(_) => Ok((read.bodies.len(), bytes)),
+        Err(_) => Err(Fail::new("no chain")),
+    }
+}
+
+#[test]
+fn a_crash_leaves_the_body_or_not(rt: HostRuntime) -> Result<(), Fail> {
+    let alloc = rt.alloc();
+    // The gate's byte as it is chosen, and the bodies that are there once the gate is written.
+    let gates = [(0xa5, 1), (0, 0), (0x37, 0)];
+    for (calls, any) in [(1u8, false), (2, false), (3, true), (4, true)] {
+        for (gate, bodies) in gates {
+            for seed in 0..20u64 {
+                let mut journal = opened(alloc, EMPTY.as_slice())?;
+                match journal.phase() {
+                    Phase::Idle => {}
+                    _ => return Err(Fail::new("not idle")),
+                }
+                let framed = Framed::new(alloc, b"ab")?;
+                let Slot {
+                    start: _,
+                    stop: _,
+                    most,
+                } = journal.slot();
+                assert!(rt;
+                    framed.cost() <= journal.room() && framed.cost() <= u64::from(most) + 6
+                );
+                journal.stage(framed)?;
+                if 1 < calls {
+                    journal.body_synced()?;
+                    if 2 < calls {
+                        journal.open_gate()?;
+                        if 3 < calls {
+                            journal.gate_synced()?;
+                        }
+                    }
+                }
+                let pending = if calls == 1 {
+                    Fill::Seed(seed)
+                } else {
+                    Fill::Byte(gate)
+                };
+                let (found, bytes) = left(alloc, journal, [pending].as_slice(), Fill::Old)?;
+                let want = if calls == 4 {
+                    1
+                } else if any {
+                    bodies
+                } else {
+                    0
+                };
+                assert_eq!(rt; found, want, "{calls} {gate} {seed}");
+                assert!(rt; bytes.starts_with(&EMPTY[..2]) && bytes.ends_with(&EMPTY[20..]));
+            }
+        }
+    }
+    Ok(())
+}

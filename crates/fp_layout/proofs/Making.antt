@@ -1,0 +1,215 @@
+-- A disk in the making: until the header's gate is open it is none, and then it is whole.
+use Rattle.std.proofs.Common.{◌≡◌, inl, inr, ⊎_elim, ℕ, ◌+◌, ◌-◌, ◌<◌, ◌≤◌, List, [], ◌∷◌, ◌++◌, length, refl, sym, ◌∙◌, ap, subst, arith, replicate, lit<, lit≤}
+use Rattle.std.specs.Prelude.{slice_index}
+use Rattle.std.proofs.lemmas.Bool.{cases_eq}
+use Rattle.std.specs.Int.{w32, w64, to_be_bytes}
+use Rattle.std.proofs.lemmas.List.{get_or-replicate}
+use Rattle.fp_journal.specs.Chain.{Ends}
+use Rattle.fp_layout.specs.Size.{IsSlotSize}
+use Rattle.fp_disk.specs.Outcomes.{Elapses, IsOutcome, LeavesOnly, Unsynced, Written, settled, touched}
+use Rattle.fp_journal.specs.Holds.{Holds, IsFirm}
+use Rattle.fp_journal.proofs.Holds.{holds_append, holds_front, holds_back, holds_byte, byte_held, holds_written, holds_apart, written_after, written_gap, written_long, firm_outcome, firm_touched, firm_settled}
+use Rattle.fp_disk.specs.Moments.{leaves_call, leaves_then, leaves_map}
+use Rattle.fp_layout.specs.Layout.{magic, IsFormatted, IsHeader, IsFirstSlot}
+use Rattle.fp_layout.specs.NewDisk.{header_text, slot_text, empty_image, new_front, IsMade, IsNewDisk, IsNewOrNone}
+
+pub no_bytes : (c : List ℕ) → length c ≡ 0 → c ≡ []
+no_bytes [] is = refl
+no_bytes (x ∷ xs) is = absurd (omega (arith, is))
+
+-- ---- none yet
+none_short : (c : List ℕ) → length c < 64 → IsFormatted c → ⊥
+none_short c lt f = let l = f.long in omega (arith, lt, l)
+
+none_shut : (c : List ℕ) → Holds c 0 (0 ∷ []) → IsFormatted c → ⊥
+none_shut c h f = let zero : slice_index c 0 ≡ 0 = byte_held c 0 0 [] h in let gate = f.gate in omega (arith, zero, gate)
+
+-- a write behind the closed gate of the header leaves none
+pub shut_none : (size : ℕ) (u : Unsynced) (from n : ℕ) (c : List ℕ) → 1 ≤ from → IsFirm u 0 (0 ∷ []) → IsOutcome (touched u from n) c → IsNewOrNone size c
+shut_none size u from n c le f o = inl (none_shut c (firm_outcome (touched u from n) 0 (0 ∷ []) c (firm_touched u 0 from n (0 ∷ []) (inr (omega (arith, le))) f) o))
+
+-- the first write leaves a byte at most
+pub first_none : (size : ℕ) (c : List ℕ) → IsOutcome (touched (settled []) 0 1) c → IsNewOrNone size c
+first_none size c o = let l = o.no_longer in inl (none_short c (omega (arith, l)))
+
+-- ---- the bytes after each write
+module _ (size : ℕ) (b1 b2 b3 b4 : List ℕ) (large : 64 ≤ size) where
+  abbrev tail : List ℕ
+  tail = slot_text 1 0 empty_image
+
+  abbrev Written1 : Type 0
+  Written1 = Written [] 0 (0 ∷ []) b1
+
+  abbrev Written2 : Type 0
+  Written2 = Written b1 1 (header_text size ++ 0 ∷ (tail ++ 0 ∷ [])) b2
+
+  abbrev Written3 : Type 0
+  Written3 = Written b2 (64 + size) (0 ∷ []) b3
+
+  abbrev Written4 : Type 0
+  Written4 = Written b3 64 (165 ∷ []) b4
+
+  pub made : Written1 → Written2 → Written3 → Written4 → IsMade size b4
+  made w1 w2 w3 w4 =
+      let n1 = written_long [] (0 ∷ []) b1 0 w1 in
+      let n2 = written_long b1 (header_text size ++ 0 ∷ (tail ++ 0 ∷ [])) b2 1 w2 in
+      let n3 = written_long b2 (0 ∷ []) b3 (64 + size) w3 in
+      let n4 = written_long b3 (165 ∷ []) b4 64 w4 in
+      let long2 : length b2 ≡ 91 = omega (arith, n1, n2) in
+      let piece : Holds b3 1 (header_text size ++ 0 ∷ (tail ++ 0 ∷ [])) = holds_apart b2 (0 ∷ []) b3 (header_text size ++ 0 ∷ (tail ++ 0 ∷ [])) (64 + size) 1 w3 (inr (omega (arith, large))) (holds_written b1 (header_text size ++ 0 ∷ (tail ++ 0 ∷ [])) b2 1 w2) in
+      let back : Holds b3 64 (0 ∷ (tail ++ 0 ∷ [])) = holds_back b3 1 (header_text size) (0 ∷ (tail ++ 0 ∷ [])) piece in
+      let header : Holds b4 1 (header_text size) = holds_apart b3 (165 ∷ []) b4 (header_text size) 64 1 w4 (inr (omega arith)) (holds_front b3 1 (header_text size) (0 ∷ (tail ++ 0 ∷ [])) piece) in
+      let rest : Holds b4 65 (tail ++ 0 ∷ []) = holds_apart b3 (165 ∷ []) b4 (tail ++ 0 ∷ []) 64 65 w4 (inl (omega arith)) (holds_back b3 64 (0 ∷ []) (tail ++ 0 ∷ []) back) in
+      let last : slice_index b4 90 ≡ 0 = byte_held b4 90 0 [] (holds_back b4 65 tail (0 ∷ []) rest) in
+      record {
+        long = omega (arith, long2, n3, n4);
+        text = holds_append b4 1 (header_text size) new_front header (holds_append b4 64 (165 ∷ []) tail (holds_written b3 (165 ∷ []) b4 64 w4) (holds_front b4 65 tail (0 ∷ []) rest));
+        zeros = λ k low high. elim (cases_eq k 90) [
+          | inl is ↦ ap (λ (j : ℕ). slice_index b4 j) is ∙ last
+          | inr not_is ↦ written_after b3 (165 ∷ []) b4 64 k w4 (omega (arith, low)) ∙ elim (cases_eq k (64 + size)) [
+            | inl is ↦ ap (λ (j : ℕ). slice_index b3 j) is ∙ byte_held b3 (64 + size) 0 [] (holds_written b2 (0 ∷ []) b3 (64 + size) w3)
+            | inr before ↦ written_gap b2 (0 ∷ []) b3 (64 + size) k w3 (omega (arith, long2, low, not_is)) (omega (arith, high, before))
+          ]
+        ];
+      }
+
+-- the last write leaves all but the gate as it is
+pub made_outcome : (size : ℕ) (b c : List ℕ) → IsMade size b → IsOutcome (touched (settled b) 0 1) c → IsMade size c
+made_outcome size b c m o =
+    let low = o.no_shorter in let high = o.no_longer in let long = m.long in record {
+      long = omega (arith, low, high, long);
+      text = firm_outcome (touched (settled b) 0 1) 1 (header_text size ++ new_front) c (firm_touched (settled b) 1 0 1 (header_text size ++ new_front) (inl (omega arith)) (firm_settled b 1 (header_text size ++ new_front) m.text)) o;
+      zeros = λ k le lt. o.kept k (omega (arith, long, lt)) (λ covers. ⊎_elim (λ here. let x = here.1 in omega (arith, x, le)) (λ none. none) covers) ∙ m.zeros k le lt;
+    }
+
+pub last_new : (size : ℕ) (b c : List ℕ) → IsMade size b → IsOutcome (touched (settled b) 0 1) c → IsNewOrNone size c
+last_new size b c m o = elim (cases_eq (slice_index c 0) 165) [
+  | inl opened ↦ inr (record { gate = opened; made = made_outcome size b c m o })
+  | inr shut ↦ inl (λ f. shut f.gate)
+]
+
+pub new_written : (size : ℕ) (b new : List ℕ) → IsMade size b → Written b 0 (165 ∷ []) new → IsNewDisk size new
+new_written size b new m w = let n = written_long b (165 ∷ []) new 0 w in let long = m.long in record {
+  gate = byte_held new 0 165 [] (holds_written b (165 ∷ []) new 0 w);
+  made = record {
+    long = omega (arith, n, long);
+    text = holds_apart b (165 ∷ []) new (header_text size ++ new_front) 0 1 w (inl (omega arith)) m.text;
+    zeros = λ k le lt. written_after b (165 ∷ []) new 0 k w (omega (arith, le)) ∙ m.zeros k le lt;
+  };
+}
+
+-- ---- the calls in turn
+module _ {D : Type 0} (honest : D → Type 0) (bytes : D → List ℕ) (unsynced : D → Unsynced) (moment : D → ℕ) (left_since : D → ℕ → List ℕ → Type 0)
+    (present : (d : D) → honest d → IsOutcome (unsynced d) (bytes d))
+    (only_now : (d : D) (c : List ℕ) → honest d → left_since d (moment d) c → IsOutcome (unsynced d) c)
+    (size : ℕ) (start : D) where
+  abbrev Leaves : D → D → (List ℕ → Type 0) → Type 0
+  Leaves d e P = LeavesOnly moment left_since d e P
+
+  -- since the start a crash left none or a new disk, and now the header's gate is closed for sure
+  pub record IsShut (d : D) : Type 0 where
+    pub leaves : Leaves start d (IsNewOrNone size)
+    pub firm : IsFirm (unsynced d) 0 (0 ∷ [])
+    pub honest_now : honest d
+
+  pub empty_bytes : honest start → unsynced start ≡ settled [] → bytes start ≡ []
+  empty_bytes h is = let o : IsOutcome (settled []) (bytes start) = subst (λ (u : Unsynced). IsOutcome u (bytes start)) is (present start h) in let high = o.no_longer in no_bytes (bytes start) (omega (arith, high))
+
+  pub first_leaves : (d : D) → unsynced start ≡ settled [] → Leaves start d (IsOutcome (touched (unsynced start) 0 1)) → Leaves start d (IsNewOrNone size)
+  first_leaves d is l = leaves_map moment left_since start d (IsOutcome (touched (unsynced start) 0 1)) (IsNewOrNone size) (λ c o. first_none size c (subst (λ (u : Unsynced). IsOutcome (touched u 0 1) c) is o)) l
+
+  pub first_shut : (d : D) → unsynced start ≡ settled [] → Leaves start d (IsOutcome (touched (unsynced start) 0 1)) → honest d → Written (bytes start) 0 (0 ∷ []) (bytes d) → unsynced d ≡ settled (bytes d) → IsShut d
+  first_shut d is l h w sure = record {
+    leaves = first_leaves d is l;
+    firm = subst (λ (u : Unsynced). IsFirm u 0 (0 ∷ [])) (sym sure) (firm_settled (bytes d) 0 (0 ∷ []) (holds_written (bytes start) (0 ∷ []) (bytes d) 0 w));
+    honest_now = h;
+  }
+
+  module _ (d e : D) (s : IsShut d) (from n : ℕ) (behind : 1 ≤ from) where
+    all_none : (c : List ℕ) → IsOutcome (touched (unsynced d) from n) c → IsNewOrNone size c
+    all_none c o = shut_none size (unsynced d) from n c behind s.firm o
+
+    now_none : (c : List ℕ) → IsOutcome (unsynced d) c → IsNewOrNone size c
+    now_none c o = inl (none_shut c (firm_outcome (unsynced d) 0 (0 ∷ []) c s.firm o))
+
+    abbrev Time : Type 0
+    Time = Elapses (moment d) (moment e) (left_since d) (left_since e) (IsOutcome (touched (unsynced d) from n))
+
+    pub write_leaves : Time → Leaves start e (IsNewOrNone size)
+    write_leaves time = leaves_then moment left_since start d e (IsNewOrNone size) s.leaves
+        (leaves_call moment left_since d e (IsOutcome (unsynced d)) (IsOutcome (touched (unsynced d) from n)) (IsNewOrNone size) time (λ c left. only_now d c s.honest_now left) now_none all_none)
+
+    pub write_shut : Time → honest e → unsynced e ≡ touched (unsynced d) from n → IsShut e
+    write_shut time h touch = record { leaves = write_leaves time; firm = subst (λ (u : Unsynced). IsFirm u 0 (0 ∷ [])) (sym touch) (firm_touched (unsynced d) 0 from n (0 ∷ []) (inr (omega (arith, behind))) s.firm); honest_now = h }
+
+    module _ (l : Leaves d e (IsOutcome (touched (unsynced d) from n))) where
+      pub sync_leaves : Leaves start e (IsNewOrNone size)
+      sync_leaves = leaves_then moment left_since start d e (IsNewOrNone size) s.leaves (leaves_map moment left_since d e (IsOutcome (touched (unsynced d) from n)) (IsNewOrNone size) all_none l)
+
+      pub sync_shut : (piece : List ℕ) → honest e → Written (bytes d) from piece (bytes e) → unsynced e ≡ settled (bytes e) → IsShut e
+      sync_shut piece h w sure = record {
+        leaves = sync_leaves;
+        firm = subst (λ (u : Unsynced). IsFirm u 0 (0 ∷ [])) (sym sure) (firm_settled (bytes e) 0 (0 ∷ []) (holds_apart (bytes d) piece (bytes e) (0 ∷ []) from 0 w (inr (omega (arith, behind))) (firm_outcome (unsynced d) 0 (0 ∷ []) (bytes d) s.firm (present d s.honest_now))));
+        honest_now = h;
+      }
+
+  pub last_leaves : (d e : D) → IsShut d → IsMade size (bytes d) → unsynced d ≡ settled (bytes d) → Leaves d e (IsOutcome (touched (unsynced d) 0 1)) → Leaves start e (IsNewOrNone size)
+  last_leaves d e s m sure l = leaves_then moment left_since start d e (IsNewOrNone size) s.leaves
+      (leaves_map moment left_since d e (IsOutcome (touched (unsynced d) 0 1)) (IsNewOrNone size) (λ c o. last_new size (bytes d) c m (subst (λ (u : Unsynced). IsOutcome (touched u 0 1) c) sure o)) l)
+
+  pub empty_leaves : (d : D) → honest start → unsynced start ≡ settled [] → Elapses (moment start) (moment d) (left_since start) (left_since d) (IsOutcome (unsynced start)) → Leaves start d (IsNewOrNone size)
+  empty_leaves d h is time = leaves_call moment left_since start d (IsOutcome (unsynced start)) (IsOutcome (unsynced start)) (IsNewOrNone size) time (λ c left. only_now start c h left) none none
+    where
+      none : (c : List ℕ) → IsOutcome (unsynced start) c → IsNewOrNone size c
+      none c o = let p : IsOutcome (settled []) c = subst (λ (u : Unsynced). IsOutcome u c) is o in let high = p.no_longer in inl (none_short c (omega (arith, high)))
+
+-- ---- what a new disk stands for
+module _ (size : ℕ) (c : List ℕ) (allowed : IsSlotSize size) (n : IsNewDisk size c) where
+  header : Holds c 1 (header_text size)
+  header = holds_front c 1 (header_text size) new_front n.made.text
+
+  front : Holds c 64 new_front
+  front = holds_back c 1 (header_text size) new_front n.made.text
+
+  behind_magic : Holds c 9 (1 ∷ (to_be_bytes w64 size ++ replicate 46 0))
+  behind_magic = holds_back c 1 magic (1 ∷ (to_be_bytes w64 size ++ replicate 46 0)) header
+
+  size_and_zeros : Holds c 10 (to_be_bytes w64 size ++ replicate 46 0)
+  size_and_zeros = holds_back c 9 (1 ∷ []) (to_be_bytes w64 size ++ replicate 46 0) behind_magic
+
+  pub new_header : IsHeader c size
+  new_header = let long = n.made.long in let least = allowed.least in let zeros : Holds c 18 (replicate 46 0) = holds_back c 10 (to_be_bytes w64 size) (replicate 46 0) size_and_zeros in record {
+    formatted = record { long = omega (arith, long, least); gate = n.gate; magic_text = holds_front c 1 magic (1 ∷ (to_be_bytes w64 size ++ replicate 46 0)) header };
+    version = byte_held c 9 1 (to_be_bytes w64 size ++ replicate 46 0) behind_magic;
+    size_text = holds_front c 10 (to_be_bytes w64 size) (replicate 46 0) size_and_zeros;
+    allowed = allowed;
+    zeros = λ k low high. let there : 18 + (k - 18) ≡ k = omega (arith, low) in ap (λ (j : ℕ). slice_index c j) (sym there) ∙ zeros.same (k - 18) (omega (arith, low, high)) ∙ get_or-replicate 46 (k - 18) 0 0 (omega (arith, low, high));
+    long = omega (arith, long);
+  }
+
+  pub new_slot : IsFirstSlot c size 1 0 empty_image
+  new_slot = let least = allowed.least in
+      let rest : Holds c 65 (slot_text 1 0 empty_image) = holds_back c 64 (165 ∷ []) (slot_text 1 0 empty_image) front in
+      let version : Holds c 73 (1 ∷ (to_be_bytes w64 0 ++ (to_be_bytes w32 4 ++ empty_image))) = holds_back c 65 (to_be_bytes w64 1) (1 ∷ (to_be_bytes w64 0 ++ (to_be_bytes w32 4 ++ empty_image))) rest in
+      let base : Holds c 74 (to_be_bytes w64 0 ++ (to_be_bytes w32 4 ++ empty_image)) = holds_back c 73 (1 ∷ []) (to_be_bytes w64 0 ++ (to_be_bytes w32 4 ++ empty_image)) version in
+      let len : Holds c 82 (to_be_bytes w32 4 ++ empty_image) = holds_back c 74 (to_be_bytes w64 0) (to_be_bytes w32 4 ++ empty_image) base in
+      let zero : slice_index c (64 + size) ≡ 0 = n.made.zeros (64 + size) (omega (arith, least)) (omega arith) in record {
+        other = λ e. omega (arith, zero, e);
+        gate = byte_held c 64 165 (slot_text 1 0 empty_image) front;
+        generation_text = holds_front c 65 (to_be_bytes w64 1) (1 ∷ (to_be_bytes w64 0 ++ (to_be_bytes w32 4 ++ empty_image))) rest;
+        version = byte_held c 73 1 (to_be_bytes w64 0 ++ (to_be_bytes w32 4 ++ empty_image)) version;
+        base_text = holds_front c 74 (to_be_bytes w64 0) (to_be_bytes w32 4 ++ empty_image) base;
+        base_small = lit< tt;
+        length_text = holds_front c 82 (to_be_bytes w32 4) empty_image len;
+        image_small = omega (arith, least);
+        image_text = holds_back c 82 (to_be_bytes w32 4) empty_image len;
+      }
+
+  pub new_ends : Ends 64 (64 + size) new_front c
+  new_ends = let long = n.made.long in let least = allowed.least in
+      let zero : slice_index c 90 ≡ 0 = n.made.zeros 90 (lit≤ tt) (omega (arith, least)) in record {
+        gate = 0;
+        shut = λ e. omega (arith, e);
+        holds = holds_append c 64 new_front (0 ∷ []) front (subst (λ (x : ℕ). Holds c 90 (x ∷ [])) zero (holds_byte c 90 (omega (arith, long, least))));
+        within = omega (arith, least);
+      }

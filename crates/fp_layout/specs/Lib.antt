@@ -1,0 +1,5 @@
+pub mod Size
+pub mod Layout
+pub mod Faults
+pub mod Opening
+pub mod NewDisk

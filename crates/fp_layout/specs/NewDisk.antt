@@ -1,0 +1,39 @@
+-- A disk as it is made.
+use Rattle.std.specs.Prelude.{◌≡◌, ◌⊎◌, ◌+◌, ℕ, List, [], ◌∷◌, ◌++◌, length, replicate, slice_index}
+use Rattle.std.specs.Int.{w32, w64, to_be_bytes}
+use Rattle.fp_journal.specs.Holds.{Holds}
+use Rattle.fp_layout.specs.Layout.{magic, AreZeros, IsFormatted}
+
+-- ---- the texts behind the gates of header and slot
+abbrev pub header_text : ℕ → List ℕ
+header_text size = magic ++ 1 ∷ (to_be_bytes w64 size ++ replicate 46 0)
+
+abbrev pub slot_text : ℕ → ℕ → List ℕ → List ℕ
+slot_text generation base image = to_be_bytes w64 generation ++ 1 ∷ (to_be_bytes w64 base ++ (to_be_bytes w32 (length image) ++ image))
+
+-- an image of no flags
+abbrev pub empty_image : List ℕ
+empty_image = to_be_bytes w32 0
+
+-- what stands in a new slot in front of the first batch's gate
+abbrev pub new_front : List ℕ
+new_front = 165 ∷ slot_text 1 0 empty_image
+
+-- the bytes up to that gate, it included, as they are while all gates are closed
+abbrev pub closed_bytes : ℕ → List ℕ
+closed_bytes size = 0 ∷ (header_text size ++ 0 ∷ (slot_text 1 0 empty_image ++ 0 ∷ []))
+
+-- ---- the whole disk, but for the header's gate
+pub record IsMade (size : ℕ) (c : List ℕ) : Type 0 where
+  pub long : length c ≡ 65 + size
+  pub text : Holds c 1 (header_text size ++ new_front)
+  pub zeros : AreZeros c 90 (65 + size)
+
+-- and with it
+pub record IsNewDisk (size : ℕ) (c : List ℕ) : Type 0 where
+  pub gate : slice_index c 0 ≡ 165
+  pub made : IsMade size c
+
+-- what a crash may leave of a disk in the making
+abbrev pub IsNewOrNone : ℕ → List ℕ → Type 0
+IsNewOrNone size c = (IsFormatted c → ⊥) ⊎ IsNewDisk size c

@@ -1,0 +1,41 @@
+ghost use Rattle.std.specs.Prelude.{◌≡◌};
+ghost use Rattle.fp_layout.specs.Faults.{fault_of_bytes, fault_of_chain};
+
+use fp_journal::{BytesFault, ChainFault};
+
+/// Why a disk can't be opened.
+#[derive(Clone, Copy, Debug, PartialEq, Eq)]
+pub enum OpenFault {
+    /// It doesn't begin as a disk of this layout.
+    Unformatted,
+    /// It is of another version.
+    UnknownVersion(u8),
+    /// This byte is the first to show it.
+    Damaged { at: u64 },
+    /// The device refused.
+    Device,
+    /// Memory ran out.
+    Memory,
+}
+
+impl From<BytesFault> for OpenFault {
+    ghost from_gives = { λ f e. e ≡ fault_of_bytes f };
+
+    fn from(fault: BytesFault) -> OpenFault {
+        match fault {
+            BytesFault::Device => OpenFault::Device,
+            BytesFault::Memory => OpenFault::Memory,
+        }
+    }
+}
+
+impl From<ChainFault> for OpenFault {
+    ghost from_gives = { λ f e. e ≡ fault_of_chain f };
+
+    fn from(fault: ChainFault) -> OpenFault {
+        match fault {
+            ChainFault::Damaged { at } => OpenFault::Damaged { at },
+            ChainFault::Memory => OpenFault::Memory,
+        }
+    }
+}

@@ -1,0 +1,102 @@
+ghost use Rattle.std.specs.Prelude.{◌≡◌, ◌≢◌, ◌<◌, ◌+◌, ◌∷◌, [], List, ℕ, length, IfOk, IfErr, OnOk, IsOk, IsErr, MatchResult};
+ghost use Rattle.fp_disk.specs.Outcomes.{Answers, IsOutcome, LeavesOnly, Written, settled, touched};
+ghost use Rattle.fp_journal.specs.declared.journal.Phase.TheVariants.{Idle};
+ghost use Rattle.fp_layout.specs.Size.{IsSlotSize, first_slot};
+ghost use Rattle.fp_layout.specs.Layout.{IsHeader, IsFirstSlot};
+ghost use Rattle.fp_layout.specs.NewDisk.{IsNewDisk, IsNewOrNone, closed_bytes, empty_image, new_front};
+ghost use Rattle.fp_layout.specs.declared.format.CreateFault.TheVariants.{NotEmpty, Device, Memory};
+
+use crate::size::SlotSize;
+use fp_disk::{Disk, DiskFault};
+use fp_journal::Journal;
+use std::alloc::{AllocError, Global};
+
+/// Why a disk wasn't made.
+#[derive(Clone, Copy, Debug, PartialEq, Eq)]
+pub enum CreateFault {
+    /// There are bytes already.
+    NotEmpty,
+    /// The device refused.
+    Device,
+    /// Memory ran out.
+    Memory,
+}
+
+// The bytes up to the first batch's gate, with every gate closed.
+fn closed(alloc: Global, size: SlotSize) -> Result<Vec<u8>, AllocError>
+    ensures { IfOk result (λ v. v.items ≡ closed_bytes size) }
+{
+    let mut bytes = Vec::with_capacity(alloc, 91)?;
+    bytes.push(0)?;
+    bytes.extend_from_slice(b"FLAGPLN1")?;
+    bytes.push(1)?;
+    bytes.extend_from_slice(&size.bytes().to_be_bytes())?;
+    bytes.extend_from_slice(&[0; 46])?;
+    bytes.push(0)?;
+    bytes.extend_from_slice(&1u64.to_be_bytes())?;
+    bytes.push(1)?;
+    bytes.extend_from_slice(&0u64.to_be_bytes())?;
+    bytes.extend_from_slice(&4u32.to_be_bytes())?;
+    bytes.extend_from_slice(&0u32.to_be_bytes())?;
+    bytes.push(0)?;
+    Ok(bytes)
+}
+
+// Writes, and makes sure of it.
+fn write_synced<D: Disk>(disk: &mut D, at: u64, from: &[u8]) -> Result<(), DiskFault>
+    ensures written { D.honest disk.old → OnOk result (Written (D.bytes disk.old) at from.now (D.bytes disk.new)) }
+    ensures settled { D.honest disk.old → OnOk result (D.unsynced disk.new ≡ settled (D.bytes disk.new)) }
+    ensures any_moment { D.honest disk.old → LeavesOnly D.moment D.left_since disk.old disk.new (IsOutcome (touched (D.unsynced disk.old) at (length from.now))) }
+    ensures honest { (D.honest disk.old → D.honest disk.new) × (D.honest disk.new → D.honest disk.old) }
+    ensures cause { Answers (D.faults disk.old) (D.faults disk.new) result }
+{
+    disk.write_at(at, from)?;
+    disk.sync()
+}
+
+// Writes the layout onto an empty disk: the header's gate, which comes last, opens over what is synced.
+fn format<D: Disk>(disk: &mut D, size: SlotSize, closed: &[u8]) -> Result<(), DiskFault>
+    requires { closed.now ≡ closed_bytes size }
+    ensures made { D.honest disk.old → D.bytes disk.old ≡ [] → OnOk result (IsNewDisk size (D.bytes disk.new)) }
+    ensures settled { D.honest disk.old → OnOk result (D.unsynced disk.new ≡ settled (D.bytes disk.new)) }
+    ensures any_moment { D.honest disk.old → D.unsynced disk.old ≡ settled [] → LeavesOnly D.moment D.left_since disk.old disk.new (IsNewOrNone size) }
+    ensures honest { (D.honest disk.old → D.honest disk.new) × (D.honest disk.new → D.honest disk.old) }
+    ensures cause { Answers (D.faults disk.old) (D.faults disk.new) result }
+{
+    write_synced(disk, 0, &[0])?;
+    disk.write_at(1, &closed[1..])?;
+    write_synced(disk, 64 + size.bytes(), &[0])?;
+    write_synced(disk, 64, &[165])?;
+    write_synced(disk, 0, &[165])
+}
+
+/// Makes an empty disk one of this layout, with no flag and revision 0, and a journal over its first slot.
+pub fn create<D: Disk>(
+    alloc: Global,
+    mut disk: D,
+    size: SlotSize,
+) -> Result<Journal<D>, (CreateFault, D)>
+    ensures journal { IfOk result (λ j. (j.slot ≡ first_slot size) × (j.front ≡ new_front) × (j.sealed ≡ []) × (j.phase ≡ Idle)) }
+    ensures made { D.honest disk → IfOk result (λ j. IsNewDisk size (D.bytes j.disk)) }
+    ensures settled { D.honest disk → IfOk result (λ j. D.unsynced j.disk ≡ settled (D.bytes j.disk)) }
+    ensures stands { D.honest disk → IfOk result (λ j. IsHeader (D.bytes j.disk) size × IsFirstSlot (D.bytes j.disk) size 1 0 empty_image) }
+    ensures not_empty { D.honest disk → IfErr result (λ e. e.0 ≡ NotEmpty → (D.bytes disk ≢ []) × (D.bytes e.1 ≡ D.bytes disk) × (D.unsynced e.1 ≡ D.unsynced disk)) }
+    ensures empty { D.honest disk → IsOk result → D.bytes disk ≡ [] }
+    ensures any_moment { D.honest disk → D.unsynced disk ≡ settled [] → MatchResult result (λ j. LeavesOnly D.moment D.left_since disk j.disk (IsNewOrNone size)) (λ e. LeavesOnly D.moment D.left_since disk e.1 (IsNewOrNone size)) }
+    ensures honest { MatchResult result (λ j. (D.honest disk → D.honest j.disk) × (D.honest j.disk → D.honest disk)) (λ e. (D.honest disk → D.honest e.1) × (D.honest e.1 → D.honest disk)) }
+    ensures cause { IfErr result (λ e. e.0 ≡ Device → D.faults disk < D.faults e.1) }
+{
+    match disk.len() {
+        Ok(0) => {}
+        Ok(_) => return Err((CreateFault::NotEmpty, disk)),
+        Err(_) => return Err((CreateFault::Device, disk)),
+    }
+    let Ok(mut bytes) = closed(alloc, size) else {
+        return Err((CreateFault::Memory, disk));
+    };
+    let Ok(()) = format(&mut disk, size, &bytes) else {
+        return Err((CreateFault::Device, disk));
+    };
+    bytes[64] = 165;
+    Ok(Journal::adopt(alloc, disk, size.first_slot(), &bytes, 90))
+}

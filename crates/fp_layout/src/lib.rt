@@ -1,0 +1,17 @@
+//! The bytes of a flagplane disk: its header and its first slot, made and read.
+#![tactic(auto)]
+
+mod fault;
+mod field;
+mod format;
+mod head;
+mod header;
+mod opening;
+mod size;
+
+pub use fault::OpenFault;
+pub use format::{CreateFault, create};
+pub use head::{Head, read_head};
+pub use header::read_header;
+pub use opening::{SlotReader, open};
+pub use size::SlotSize;

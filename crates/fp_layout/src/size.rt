@@ -1,0 +1,68 @@
+ghost use Rattle.std.specs.Prelude.{◌≡◌, ◌<◌, ◌≤◌, ◌+◌, ◌-◌, ◌/◌, ◌^◌, ◌↔◌, IsSome, IfSome};
+ghost use Rattle.fp_layout.specs.Size.{IsSlotSize, first_slot};
+
+use fp_journal::Slot;
+use std::marker::Model;
+
+/// How many bytes a slot has: a power of two from 2^18 to 2^30.
+#[derive(Clone, Copy, Debug)]
+pub struct SlotSize {
+    bytes: u64,
+}
+
+impl Model for SlotSize {
+    ghost use Rattle.std.specs.Prelude.{ℕ};
+    ghost use Rattle.std.specs.Coded.{coded_ℕ};
+    ghost use Rattle.fp_layout.specs.Size.{IsSlotSize};
+
+    ghost Value = { ℕ };
+
+    ghost coded = { coded_ℕ };
+
+    ghost view = { λ s. s.bytes };
+
+    ghost invariant = { λ s. IsSlotSize s.bytes };
+
+    ghost inverse = { λ n. record { bytes = n } };
+}
+
+impl SlotSize {
+    /// The size that the program gives a new disk.
+    pub const fn standard() -> SlotSize
+        ensures { result ≡ 2 ^ 24 }
+    {
+        SlotSize { bytes: 1 << 24 }
+    }
+
+    /// The size of this many bytes, if it is one.
+    pub fn new(bytes: u64) -> Option<SlotSize>
+        ensures allowed { IsSome result ↔ IsSlotSize bytes }
+        ensures value { IfSome result (λ s. s ≡ bytes) }
+    {
+        if bytes.is_power_of_two() && bytes >= 1 << 18 && bytes <= 1 << 30 {
+            Some(SlotSize { bytes })
+        } else {
+            None
+        }
+    }
+
+    /// How many bytes that is.
+    pub fn bytes(self) -> u64
+        ensures bytes { result ≡ self }
+        ensures allowed { IsSlotSize result }
+    {
+        self.bytes
+    }
+
+    /// The first slot, which begins behind the header.
+    pub fn first_slot(self) -> Slot
+        ensures slot { result ≡ first_slot self }
+        ensures allowed { IsSlotSize self }
+    {
+        Slot {
+            start: 64,
+            stop: 64 + self.bytes,
+            most: (self.bytes / 8 - 6) as u32,
+        }
+    }
+}
