@@ -1,13 +1,13 @@
 -- What a disk in memory does, in the words that hold of every disk.
-use Rattle.std.proofs.Common.{◌≡◌, ◌⊎◌, ◌≤◌, ◌<◌, ◌+◌, ◌-◌, ℕ, max, List, [], ◌∷◌, ◌++◌, length, refl, arith, sym, ap, ◌∙◌, subst, inl, inr, Result, Ok, Err, IsOk, IsErr, OnOk}
+use Rattle.std.proofs.Common.{◌≡◌, ◌⊎◌, ◌<◌, ◌+◌, ℕ, List, length, refl, arith, sym, ap, ◌∙◌, subst, inl, inr, Result, Ok, Err, IsErr, OnOk}
 use Rattle.fp_disk.specs.declared.disk.DiskFault.{DiskFault}
 use Rattle.fp_disk.specs.declared.call.Call.{Call}
 use Rattle.fp_disk.specs.declared.call.Progress.{Progress}
 use Rattle.fp_disk.specs.declared.call.Progress.TheVariants.{Whole, Half, Nothing}
 use Rattle.fp_disk.specs.declared.call.Request.{Request}
-use Rattle.fp_disk.specs.declared.call.Request.TheVariants.{Len, Read, Write, Sync}
+use Rattle.fp_disk.specs.declared.call.Request.TheVariants.{Write, Sync}
 use Rattle.fp_disk.specs.Outcomes.{Unsynced, IsOutcome, Elapses, Answers, settled, touched, Written, ChangesWithin}
-use Rattle.fp_disk.specs.Memory.{State, Memory, state, after, after_request, replay, at_first, unsynced_of, LeftSince, recorded, failed, refused, Answered}
+use Rattle.fp_disk.specs.Memory.{State, Memory, state, after_request, at_first, unsynced_of, LeftSince, failed, refused, Answered}
 use Rattle.fp_disk.specs.MemoryLaws.{replay_more, elapses_call, synced_fits, written_changes}
 
 pub answers_of : {T : Type 0} (old new : Memory) (request : Request) (p : Progress) (result : Result T DiskFault) → Answered old new request p result → Answers old.faults new.faults result

@@ -1,5 +1,5 @@
 -- What a crash leaves, by whatever choice, is an outcome.
-use Rattle.std.proofs.Common.{◌≡◌, ◌≤◌, ◌<◌, ◌+◌, ◌-◌, ℕ, Bool, true, false, nat_le, nat_lt, ◌&&◌, min, max, List, [], ◌∷◌, ◌++◌, length, take, refl, arith, sym, ap, ◌∙◌, inl, inr, slice_index, slice_index_or, subst, Result, Ok, Err, IfOk, if◌then◌else◌}
+use Rattle.std.proofs.Common.{◌≡◌, ◌≤◌, ◌<◌, ◌+◌, ◌-◌, ℕ, false, nat_le, nat_lt, ◌&&◌, List, [], ◌∷◌, length, take, refl, arith, sym, ap, ◌∙◌, inl, inr, slice_index, slice_index_or, subst, Result, Ok, Err, IfOk, if◌then◌else◌}
 use Rattle.std.proofs.lemmas.Grind.{common_steps}
 use Rattle.std.proofs.lemmas.Bool.{cases_lt}
 use Rattle.std.proofs.lemmas.List.{take_more}
@@ -9,7 +9,7 @@ use Rattle.fp_disk.specs.declared.call.Request.{Request}
 use Rattle.fp_disk.specs.declared.call.Request.TheVariants.{Len, Read, Write, Sync}
 use Rattle.fp_disk.specs.declared.choice.Fill.{Fill}
 use Rattle.fp_disk.specs.Outcomes.{IsOutcome, Covers}
-use Rattle.fp_disk.specs.Memory.{Memory, fresh, state, unsynced_of, ranges_of, reach_of, with_request, writes_after}
+use Rattle.fp_disk.specs.Memory.{Memory, fresh, state, unsynced_of, ranges_of, with_request, writes_after}
 use Rattle.fp_disk.specs.MemoryLaws.{has_present}
 use Rattle.fp_disk.specs.Crash.{IsLeft, laid, fill_of, filled, reaches}
 use Rattle.fp_disk.proofs.Keeping.{writes_after_more}

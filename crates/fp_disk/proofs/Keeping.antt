@@ -1,11 +1,10 @@
 -- What the fields of a disk in memory owe, after a call.
-use Rattle.std.proofs.Common.{◌≡◌, ◌≤◌, ◌<◌, ◌+◌, ◌-◌, ℕ, max, List, [], ◌∷◌, ◌++◌, length, take, drop, refl, arith, sym, ap, ◌∙◌, subst, length-append, zero, suc}
+use Rattle.std.proofs.Common.{◌≡◌, ◌≤◌, ◌+◌, ℕ, max, List, [], ◌∷◌, ◌++◌, length, drop, refl, arith, sym, ap, ◌∙◌, subst, length-append, zero, suc}
 use Rattle.fp_disk.specs.declared.call.Call.{Call}
 use Rattle.fp_disk.specs.declared.call.Progress.{Progress}
 use Rattle.fp_disk.specs.declared.call.Progress.TheVariants.{Whole, Half, Nothing}
-use Rattle.fp_disk.specs.declared.call.Request.{Request}
 use Rattle.fp_disk.specs.declared.call.Request.TheVariants.{Len, Read, Write, Sync}
-use Rattle.fp_disk.specs.Memory.{State, after, after_request, replay, at_first, reach_of, with_request, writes_after, written, Keeps}
+use Rattle.fp_disk.specs.Memory.{State, after, replay, at_first, reach_of, with_request, writes_after, written, Keeps}
 use Rattle.fp_disk.specs.MemoryLaws.{replay_more}
 
 pub writes_after_more : (ws : List (ℕ × List ℕ)) (cs : List Call) (c : Call) → writes_after ws (cs ++ c ∷ []) ≡ with_request (writes_after ws cs) c.request

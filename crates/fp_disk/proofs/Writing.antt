@@ -1,5 +1,5 @@
 -- Bytes put over others past the end, where room for them is filled up first.
-use Rattle.std.proofs.Common.{◌≡◌, ◌≤◌, ◌<◌, ◌+◌, ◌-◌, ℕ, List, [], ◌∷◌, ◌++◌, length, take, drop, replicate, refl, arith, sym, ap, ◌∙◌, zero, suc, length-append}
+use Rattle.std.proofs.Common.{◌≡◌, ◌≤◌, ◌<◌, ◌+◌, ◌-◌, ℕ, List, [], ◌∷◌, ◌++◌, length, take, drop, replicate, refl, arith, sym, ap, ◌∙◌, zero, suc}
 use Rattle.std.proofs.lemmas.Grind.{common_steps}
 use Rattle.fp_disk.specs.Outcomes.{overwritten}
 use Rattle.std.proofs.lemmas.List.{append-nil, take-replicate, drop_all}

@@ -1,6 +1,5 @@
 -- Which of its outcomes a crash leaves, as it was chosen.
-use Rattle.std.specs.Prelude.{◌≡◌, ◌<◌, ◌+◌, ◌-◌, ◌*◌, ◌/◌, ◌%◌, ◌^◌, ◌&&◌, nat_le, nat_lt, ℕ, min, max, Bool, true, false, if◌then◌else◌, List, [], ◌∷◌, length, slice_index, slice_index_or, slice_get, unwrap_or}
-use Rattle.fp_disk.specs.Outcomes.{Unsynced}
+use Rattle.std.specs.Prelude.{◌≡◌, ◌<◌, ◌+◌, ◌-◌, ◌*◌, ◌/◌, ◌%◌, ◌^◌, ◌&&◌, nat_le, nat_lt, ℕ, min, max, Bool, if◌then◌else◌, List, [], ◌∷◌, length, slice_index, slice_index_or, slice_get, unwrap_or}
 use Rattle.fp_disk.specs.declared.choice.Fill.{Fill}
 use Rattle.fp_disk.specs.declared.choice.Fill.TheVariants.{Old, New, Byte, Seed}
 use Rattle.fp_disk.specs.Memory.{State, unsynced_of}

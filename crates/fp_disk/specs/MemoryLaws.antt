@@ -1,8 +1,7 @@
 -- What holds of every disk in memory.
-use Rattle.std.specs.Prelude.{◌≡◌, ◌⊎◌, ◌≤◌, ◌<◌, ◌+◌, ◌-◌, ◌/◌, ℕ, max, List, [], ◌∷◌, ◌++◌, length, take, drop, replicate, refl, slice_index}
+use Rattle.std.specs.Prelude.{◌≡◌, ◌≤◌, ◌+◌, ◌/◌, ℕ, List, [], ◌∷◌, ◌++◌, length, take, refl}
 use Rattle.std.proofs.lemmas.Grind.{common_steps}
 use Rattle.std.proofs.lemmas.Bool.{cases_lt}
-use Rattle.std.proofs.lemmas.List.{get_or-append_right, get_or-drop}
 use Rattle.std.proofs.Common.{inl, inr, length-append, sym, ap, ◌∙◌, subst, arith, zero, suc}
 use Rattle.fp_disk.specs.Outcomes.{Unsynced, IsOutcome, Elapses, ChangesWithin, settled, overwritten}
 use Rattle.fp_disk.specs.Writes.{length-overwritten, overwritten_before, overwritten_behind}
@@ -11,7 +10,7 @@ use Rattle.fp_disk.specs.declared.call.Progress.{Progress}
 use Rattle.fp_disk.specs.declared.call.Progress.TheVariants.{Whole, Half, Nothing}
 use Rattle.fp_disk.specs.declared.call.Request.{Request}
 use Rattle.fp_disk.specs.declared.call.Request.TheVariants.{Len, Read, Write, Sync}
-use Rattle.fp_disk.specs.Memory.{State, Memory, state, written, after, after_request, replay, at_first, unsynced_of, ranges_of, reach_of, state_at, LeftSince}
+use Rattle.fp_disk.specs.Memory.{State, Memory, state, written, after, after_request, replay, at_first, unsynced_of, state_at, LeftSince}
 
 -- all of a list, and a front of a list with one more
 

@@ -1,5 +1,5 @@
 -- What the calls of a disk add to what a crash may leave.
-use Rattle.std.specs.Prelude.{◌≡◌, ◌⊎◌, ◌≤◌, ℕ, List}
+use Rattle.std.specs.Prelude.{ℕ, List}
 use Rattle.std.proofs.Common.{inl, inr, ⊎_elim, arith}
 use Rattle.fp_disk.specs.Outcomes.{Elapses, LeavesOnly}
 

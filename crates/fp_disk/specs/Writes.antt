@@ -2,7 +2,7 @@
 use Rattle.std.specs.Prelude.{◌≡◌, ◌≤◌, ◌<◌, ◌+◌, ◌-◌, ℕ, max, List, ◌++◌, length, take, drop, replicate, slice_index}
 use Rattle.std.proofs.lemmas.Grind.{common_steps}
 use Rattle.std.proofs.lemmas.List.{get_or-append_right, get_or_append_left, get_or-drop}
-use Rattle.std.proofs.Common.{sym, ap, ◌∙◌, arith, length-append}
+use Rattle.std.proofs.Common.{ap, ◌∙◌, arith}
 use Rattle.fp_disk.specs.Outcomes.{overwritten}
 
 pub length-overwritten : (old more : List ℕ) (at : ℕ) → length (overwritten old at more) ≡ max (length old) (at + length more)

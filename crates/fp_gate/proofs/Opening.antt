@@ -1,11 +1,11 @@
 -- What the byte of a gate adds to what a crash may leave.
-use Rattle.std.proofs.Common.{◌≡◌, ◌≢◌, ◌⊎◌, ◌≤◌, ◌<◌, ◌+◌, ℕ, List, [], ◌∷◌, length, refl, arith, sym, ◌∙◌, ap, inl, inr, slice_index, slice_set}
+use Rattle.std.proofs.Common.{◌≡◌, ◌⊎◌, ◌≤◌, ◌<◌, ◌+◌, ℕ, List, length, refl, arith, sym, ◌∙◌, ap, inl, inr, slice_index, slice_set}
 use Rattle.std.proofs.lemmas.Grind.{common_steps}
-use Rattle.std.proofs.lemmas.Bool.{cases_lt, cases_eq}
-use Rattle.fp_disk.specs.Outcomes.{Unsynced, IsOutcome, Covers, Elapses, LeavesOnly, Written, touched}
+use Rattle.std.proofs.lemmas.Bool.{cases_eq}
+use Rattle.fp_disk.specs.Outcomes.{Unsynced, IsOutcome, Elapses, LeavesOnly, Written, touched}
 use Rattle.fp_disk.specs.Writes.{overwritten_inside}
 use Rattle.fp_disk.specs.Moments.{leaves_call, leaves_map, leaves_then}
-use Rattle.fp_gate.specs.Gates.{Gated, IsShut, IsFirm, Agrees, Guards, HasBehind, IsButFor}
+use Rattle.fp_gate.specs.Gates.{Gated, IsShut, IsFirm, Guards, HasBehind, IsButFor}
 
 -- an outcome after a write of one byte that was there is one from before, but for that byte
 pub touched_but_for : (u : Unsynced) (bytes : List ℕ) (at : ℕ) (c : List ℕ) → IsOutcome u bytes → at < length bytes → IsOutcome (touched u at 1) c → IsButFor u at c

@@ -1,5 +1,5 @@
 -- An operator at another number of arguments than it takes gives nothing.
-use Rattle.std.proofs.Common.{◌≡◌, ℕ, ◌+◌, ◌≤◌, suc, List, [], ◌∷◌, length, Bool, map, refl, ap, ◌∙◌, arith}
+use Rattle.std.proofs.Common.{◌≡◌, ◌≤◌, suc, List, [], ◌∷◌, length, Bool, refl, ap, arith}
 use Rattle.fp_operators.specs.Data.{Data, null}
 use Rattle.fp_targeting.specs.Operators.{at_most_two, one, two, three, neighbours}
 use Rattle.fp_targeting.specs.Meaning.{meanings, or_null}

@@ -1,16 +1,15 @@
 -- What `!!` and `!` of a rule mean, and rules that name nothing.
-use Rattle.std.proofs.Common.{◌≡◌, ◌↔◌, List, [], ◌∷◌, Bool, true, false, not, ◌&&◌, Some, refl, sym, ap, ◌∙◌, subst}
+use Rattle.std.proofs.Common.{◌≡◌, List, [], ◌∷◌, Bool, true, false, not, Some, refl, sym, ap, ◌∙◌}
 use Rattle.fp_operators.specs.Data.{Data, boolean}
 use Rattle.fp_operators.specs.Truth.{truth}
-use Rattle.fp_targeting.specs.Rule.{Rule, Rules, literal, list, apply, no_rules, rule}
+use Rattle.fp_targeting.specs.Rule.{Rule, Rules, apply, no_rules, rule}
 use Rattle.fp_targeting.specs.Operators.{result_of}
 use Rattle.fp_targeting.specs.Means as is
 use Rattle.fp_targeting.specs.Means.{Means, AllMean}
-use Rattle.fp_targeting.specs.Laws.{truth_rule, not_rule, TruthIsOfTheResult, NotTwiceIsTruth, DataUnnamedAreUnused, looks_at_nothing, names_nothing, all_name_nothing}
+use Rattle.fp_targeting.specs.Laws.{TruthIsOfTheResult, NotTwiceIsTruth, DataUnnamedAreUnused, looks_at_nothing, names_nothing, all_name_nothing}
 use Rattle.fp_targeting.specs.declared.operator.Operator.{Operator}
-use Rattle.fp_targeting.specs.declared.operator.Operator.TheVariants.{If, And, Or, Var, Cat, SemVer, Unary, Binary, Chain}
+use Rattle.fp_targeting.specs.declared.operator.Operator.TheVariants.{Var, Unary}
 use Rattle.fp_targeting.specs.declared.operator.UnaryOperator.{UnaryOperator}
-use Rattle.fp_targeting.specs.declared.operator.UnaryOperator.TheVariants.{Not, Truth}
 use Rattle.fp_targeting.proofs.OneResult.{both}
 
 -- an operator of one argument looks at that argument's result

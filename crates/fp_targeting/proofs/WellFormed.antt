@@ -1,11 +1,11 @@
 -- A rule that a value writes is well formed.
-use Rattle.std.proofs.Common.{◌≡◌, ℕ, ◌+◌, List, [], ◌∷◌, length, Bool, true, false, ◌&&◌, Option, Some, None, option_map, option_and_then, refl, sym, ap, ◌∙◌, arith, if◌then◌else◌}
+use Rattle.std.proofs.Common.{◌≡◌, List, [], ◌∷◌, length, Bool, true, false, Option, Some, None, option_map, option_and_then, refl, sym, ap, ◌∙◌, arith, if◌then◌else◌}
 use Rattle.serde_json.specs.Data.{Data, null, boolean, number, string, array, object, Items, no_items, item, no_members, member}
 use Rattle.fp_targeting.specs.Rule as tree
 use Rattle.fp_targeting.specs.Rule.{Rule}
 use Rattle.fp_targeting.specs.Operators.{operator_of, takes, count_of, well_formed, all_well_formed}
 use Rattle.fp_targeting.specs.View.{rules_of}
-use Rattle.fp_targeting.specs.Compile.{one_more, formed, rule_of, rules_from}
+use Rattle.fp_targeting.specs.Compile.{one_more, rule_of, rules_from}
 use Rattle.fp_targeting.specs.declared.operator.Operator.{Operator}
 
 -- nothing, or well formed

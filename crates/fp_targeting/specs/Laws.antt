@@ -5,7 +5,7 @@ use Rattle.fp_operators.specs.Truth.{truth}
 use Rattle.fp_targeting.specs.Rule.{Rule, Rules, literal, list, apply, no_rules, rule}
 use Rattle.fp_targeting.specs.Means.{Means}
 use Rattle.fp_targeting.specs.declared.operator.Operator.{Operator}
-use Rattle.fp_targeting.specs.declared.operator.Operator.TheVariants.{If, And, Or, Var, Cat, SemVer, Unary, Binary, Chain}
+use Rattle.fp_targeting.specs.declared.operator.Operator.TheVariants.{Var, Unary}
 use Rattle.fp_targeting.specs.declared.operator.UnaryOperator.TheVariants.{Not, Truth}
 
 -- `{"!!":[r]}`

@@ -1,5 +1,5 @@
 -- The operators: their names, how many arguments each takes, and what each gives.
-use Rattle.std.specs.Prelude.{ℕ, ◌+◌, List, [], ◌∷◌, length, Bool, true, not, ◌&&◌, ◌||◌, ◌==◌, nat_le, Option, Some, None, bytes_eq, codes, if◌then◌else◌}
+use Rattle.std.specs.Prelude.{ℕ, ◌+◌, List, [], ◌∷◌, Bool, true, not, ◌&&◌, ◌||◌, ◌==◌, nat_le, Option, Some, None, bytes_eq, codes, if◌then◌else◌}
 use Rattle.fp_operators.specs.Data.{Data, boolean}
 use Rattle.fp_operators.specs.Truth.{truth}
 use Rattle.fp_operators.specs.Equality.{strict_equality, loose_equality}

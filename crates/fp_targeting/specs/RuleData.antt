@@ -1,7 +1,7 @@
 -- What a rule is evaluated on.
 use Rattle.std.specs.Prelude.{ℕ, List, pos, codes}
 use Rattle.serde_json.specs.Data as json
-use Rattle.fp_operators.specs.Data.{Data, whole, text, object, Members, no_members, member, put}
+use Rattle.fp_operators.specs.Data.{Data, whole, text, object, no_members, member, put}
 use Rattle.fp_operators.specs.FromJson.{data_of}
 
 -- the flag that is evaluated, and when, in seconds since 1970

@@ -1,4 +1,4 @@
-use Rattle.std.proofs.Common.{rules, ◌≡◌, ◌+◌, ◌∷◌, [], length, take, arith, ap, ◌∙◌, subst, ℕ, List, slice_index, ◌<◌, sym, add-one, suc}
+use Rattle.std.proofs.Common.{rules, ◌≡◌, ◌+◌, ◌∷◌, [], length, take, arith, ap, ◌∙◌, ℕ, List, slice_index, sym, add-one, suc}
 use Rattle.fp_disk.specs.Crash.{laid}
 use Rattle.fp_disk.specs.Memory.{with_request, writes_after}
 use Rattle.fp_disk.specs.declared.call.Request.{Request}

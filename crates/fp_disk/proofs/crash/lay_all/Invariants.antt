@@ -1,4 +1,4 @@
-use Rattle.std.proofs.Common.{◌≡◌, ◌≤◌, ◌<◌, ◌+◌, ◌-◌, ℕ, [], length, take, slice_index}
+use Rattle.std.proofs.Common.{◌≡◌, ◌≤◌, ◌<◌, ℕ, [], length, take, slice_index}
 use Rattle.fp_disk.specs.Crash.{laid}
 use Rattle.fp_disk.specs.Memory.{writes_after}
 use Rattle.fp_disk.proofs.crash.lay_all.Given as goal

@@ -1,4 +1,4 @@
-use Rattle.std.proofs.Common.{rules, ◌≡◌, ◌≢◌, ◌<◌, ◌+◌, ℕ, List, length, slice_index, subst, ◌∙◌}
+use Rattle.std.proofs.Common.{rules, ◌≡◌, ◌≢◌, ◌<◌, ◌+◌, length, slice_index, subst}
 use Rattle.fp_disk.specs.Outcomes.{LeavesOnly, Written}
 use Rattle.fp_disk.specs.Moments.{leaves_map, leaves_then}
 use Rattle.fp_gate.specs.Gates.{Gated, Guards, HasBehind}

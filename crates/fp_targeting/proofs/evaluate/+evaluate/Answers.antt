@@ -1,4 +1,4 @@
-use Rattle.std.proofs.Common.{◌≡◌, ◌+◌, ◌≤◌, ◌∷◌, [], length, drop, get_or, false, sym, ap, ◌∙◌, arith}
+use Rattle.std.proofs.Common.{◌≡◌, ◌+◌, ◌∷◌, [], length, drop, get_or, false, sym, ap, ◌∙◌, arith}
 use borrow.Author.Tests.{tests}
 use Rattle.std.proofs.lemmas.List.{drop_more, drop_all}
 use Rattle.fp_operators.specs.Truth.{truth}

@@ -1,6 +1,5 @@
-use Rattle.std.proofs.Common.{rules, ◌≡◌, List, ℕ, length, refl, ap}
-use Rattle.fp_disk.specs.Outcomes.{IsOutcome, touched}
-use Rattle.fp_disk.specs.declared.call.Progress.{Progress}
+use Rattle.std.proofs.Common.{length, refl, ap}
+use Rattle.fp_disk.specs.Outcomes.{touched}
 use Rattle.fp_disk.specs.declared.call.Progress.TheVariants.{Nothing}
 use Rattle.fp_disk.specs.declared.call.Request.TheVariants.{Len, Read, Write, Sync}
 use Rattle.fp_disk.specs.Memory.{State, state, unsynced_of, write_progress}

@@ -1,4 +1,3 @@
-use Rattle.std.proofs.Common.{rules}
 use Rattle.fp_disk.proofs.Keeping.{keeps_len}
 use Rattle.fp_disk.proofs.memory.MemoryDiskDisk.len.Goals as goal
 

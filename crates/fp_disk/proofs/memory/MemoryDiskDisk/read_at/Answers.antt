@@ -1,4 +1,3 @@
-use Rattle.std.proofs.Common.{rules}
 use Rattle.fp_disk.proofs.Keeping.{keeps_read}
 use Rattle.fp_disk.proofs.memory.MemoryDiskDisk.read_at.Goals as goal
 

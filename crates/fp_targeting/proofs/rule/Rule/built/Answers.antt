@@ -1,4 +1,4 @@
-use Rattle.std.proofs.Common.{◌≡◌, option_map, sym, ap, ◌∙◌}
+use Rattle.std.proofs.Common.{option_map, sym, ap, ◌∙◌}
 use Rattle.serde_json.specs.View.{view as json_view}
 use Rattle.fp_targeting.specs.View.{rule_view}
 use Rattle.fp_targeting.proofs.WellFormed.{rule_of-well_formed}
