@@ -1,4 +1,4 @@
-ghost use Rattle.std.specs.Prelude.{◌≡◌, ◌+◌, ℕ, List, [], length};
+ghost use Rattle.std.specs.Prelude.{◌≡◌, ◌+◌, ℕ, List, [], length, IfOk};
 ghost use Rattle.fp_disk.specs.Outcomes.{Answers, settled};
 
 use crate::disk::{Disk, DiskFault};
@@ -35,17 +35,23 @@ impl<F: Drop> FileDisk<F> {
     }
 }
 
-/// The disk over the file at this path, made where there is none. What is in it stays.
-pub fn create_file<R: Files>(rt: &R, path: &str) -> Result<FileDisk<R::File>, DiskFault> {
+/// The disk, of no failure yet, over the file at this path, made where there is none. What is in it stays.
+pub fn create_file<R: Files>(rt: &R, path: &str) -> Result<FileDisk<R::File>, DiskFault>
+    ensures { IfOk result (λ d. d ≡ 0) }
+{
     open_as(rt, path, true)
 }
 
 /// The disk over the file at this path. It is a fault where there is none.
-pub fn open_file<R: Files>(rt: &R, path: &str) -> Result<FileDisk<R::File>, DiskFault> {
+pub fn open_file<R: Files>(rt: &R, path: &str) -> Result<FileDisk<R::File>, DiskFault>
+    ensures { IfOk result (λ d. d ≡ 0) }
+{
     open_as(rt, path, false)
 }
 
-fn open_as<R: Files>(rt: &R, path: &str, may_create: bool) -> Result<FileDisk<R::File>, DiskFault> {
+fn open_as<R: Files>(rt: &R, path: &str, may_create: bool) -> Result<FileDisk<R::File>, DiskFault>
+    ensures { IfOk result (λ d. d ≡ 0) }
+{
     let mut how = OpenOptions::new();
     how.read(true).write(true).create(may_create);
     match how.open(rt, path) {

@@ -115,15 +115,21 @@ member_found_depth k (member l d ms) e h = by_order (slice_cmp nat_cmp k l) (get
 pub falls_part : (a d i t : ℕ) → t ≡ 2 * (a + i) + 1 → d ≤ i → 2 * (a + d) < t
 falls_part a d i t h k = omega arith
 
-pub falls_replaced : (m n top d v t : ℕ) → m ≡ n + 1 → t ≡ 2 * (m * suc top + v) → d ≤ top → 2 * (n * suc top + d) < t
-falls_replaced m n top d v t h k l = let more : (n + 1) * suc top ≡ n * suc top + suc top = grind arith in let t_is : t ≡ 2 * ((n + 1) * suc top + v) = k ∙ ap (λ x. 2 * (x * suc top + v)) h in omega arith
+pub falls_reference : (a d v t : ℕ) → t ≡ 2 * (a + v) → v ≡ suc d → 2 * a + 1 < t
+falls_reference a d v t h k = omega arith
 
--- a reference
-pub at_reference : (evaluators ms : Members) (name : List ℕ) (m more left : ℕ) (r : Option Data) → reference ms ≡ Some name → get_member name evaluators ≡ r → m ≡ suc more
-    → walked (replaced evaluators m) (object ms) left ≡ put_in (walked (replaced evaluators more)) name r left
-at_reference evaluators ms name m more left r h k e =
-    ap (λ x. placed (λ n. replaced evaluators m n left) x (counted left (λ n. onward (members_walked (replaced evaluators m) ms n) (λ es p. Ok (object es, p))))) h
-    ∙ ap (λ x. replaced evaluators x name left) e ∙ ap (λ x. put_in (walked (replaced evaluators more)) name x left) k
+pub falls_replaced : (m n top d t : ℕ) → m ≡ n + 1 → t ≡ 2 * (m * suc top) + 1 → d ≤ top → 2 * (n * suc top + d) < t
+falls_replaced m n top d t h k l =
+    let more : (n + 1) * suc top ≡ n * suc top + suc top = grind arith in
+    let t_is : t ≡ 2 * ((n + 1) * suc top) + 1 = k ∙ ap (λ x. 2 * (x * suc top) + 1) h in omega arith
+
+-- a reference, and what stands for its name
+pub at_reference : (at : List ℕ → ℕ → Walked Data) (ms : Members) (name : List ℕ) (left : ℕ) → reference ms ≡ Some name → walked at (object ms) left ≡ at name left
+at_reference at ms name left h = ap (λ r. placed (λ n. at n left) r (counted left (λ n. onward (members_walked at ms n) (λ es m. Ok (object es, m))))) h
+
+pub at_name : (evaluators : Members) (name : List ℕ) (m more left : ℕ) (r : Option Data) → get_member name evaluators ≡ r → m ≡ suc more
+    → replaced evaluators m name left ≡ put_in (walked (replaced evaluators more)) name r left
+at_name evaluators name m more left r e k = ap (λ x. replaced evaluators x name left) k ∙ ap (λ x. put_in (walked (replaced evaluators more)) name x left) e
 
 -- a list, and an object that is no reference
 pub at_array : (at : List ℕ → ℕ → Walked Data) (ds : Items) (left n : ℕ) → left ≡ suc n → walked at (array ds) left ≡ onward (items_walked at ds n) (λ es m. Ok (array (items_of es), m))

@@ -157,7 +157,8 @@ fn expand_targeting(
     evaluators: &Map<String, Value>,
     members: &Map<String, Value>,
 ) -> Result<Option<Value>, ReferenceFault>
-    ensures { Gives (option_map view) result (targeting_expanded (members_view evaluators.now.entries)
+    ensures { Gives (option_map view) result
+        (targeting_expanded (members_view evaluators.now.entries)
         (get_member (codes "targeting") (members_view members.now.entries))) }
 {
     match member_named(members, "targeting") {

@@ -23,13 +23,7 @@ pub(crate) fn expand(
     ensures { Gives (with_rest view) result
         (expanded (members_view evaluators.now.entries) (view targeting.now) 16384) }
 {
-    expand_value(
-        alloc,
-        evaluators,
-        targeting,
-        MOST_REPLACEMENTS,
-        MOST_VALUES,
-    )
+    expand_value(alloc, evaluators, targeting, MOST_REPLACEMENTS, MOST_VALUES)
 }
 
 // `more` replacements may still stand in one another, and `left` values may still be counted.
@@ -46,15 +40,7 @@ fn expand_value(
 {
     match value {
         Value::Object(members) => match reference(members) {
-            Some(name) => {
-                if more == 0 {
-                    return Err(ReferenceFault::TooDeep);
-                }
-                match member_named(evaluators, name) {
-                    Some(evaluator) => expand_value(alloc, evaluators, evaluator, more - 1, left),
-                    None => Err(ReferenceFault::Unknown(String::from_str(alloc, name)?)),
-                }
-            }
+            Some(name) => expand_reference(alloc, evaluators, name, more, left),
             None => {
                 if left == 0 {
                     return Err(ReferenceFault::TooLarge);
@@ -81,6 +67,27 @@ fn expand_value(
     }
 }
 
+// What stands for a name.
+#[cycle(expands)]
+fn expand_reference(
+    alloc: Global,
+    evaluators: &Map<String, Value>,
+    name: &str,
+    more: u32,
+    left: usize,
+) -> Result<(Value, usize), ReferenceFault>
+    ensures { Gives (with_rest view) result
+        (replaced (members_view evaluators.now.entries) more name.now left) }
+{
+    if more == 0 {
+        return Err(ReferenceFault::TooDeep);
+    }
+    match member_named(evaluators, name) {
+        Some(evaluator) => expand_value(alloc, evaluators, evaluator, more - 1, left),
+        None => Err(ReferenceFault::Unknown(String::from_str(alloc, name)?)),
+    }
+}
+
 #[cycle(expands)]
 fn expand_items(
     alloc: Global,
@@ -90,7 +97,8 @@ fn expand_items(
     left: usize,
 ) -> Result<(Vec<Value>, usize), ReferenceFault>
     ensures { Gives (with_rest (λ v. map view v.items)) result
-        (items_walked (replaced (members_view evaluators.now.entries) more) (items_view items.now.items) left) }
+        (items_walked (replaced (members_view evaluators.now.entries) more)
+        (items_view items.now.items) left) }
 {
     let mut found = Vec::with_capacity(alloc, items.len())?;
     let mut unused = left;
@@ -115,7 +123,8 @@ fn expand_members(
     left: usize,
 ) -> Result<(Map<String, Value>, usize), ReferenceFault>
     ensures { Gives (with_rest (λ m. members_view m.entries)) result
-        (members_walked (replaced (members_view evaluators.now.entries) more) (members_view members.now.entries) left) }
+        (members_walked (replaced (members_view evaluators.now.entries) more)
+        (members_view members.now.entries) left) }
 {
     let mut found = Map::new(alloc);
     let mut unused = left;
@@ -161,7 +170,8 @@ fn reference(members: &Map<String, Value>) -> Option<&str>
 }
 
 pub(crate) fn member_named<'m>(members: &'m Map<String, Value>, name: &str) -> Option<&'m Value>
-    ensures { option_map (λ v. view v.now) result ≡ get_member name.now (members_view members.now.entries) }
+    ensures { option_map (λ v. view v.now) result
+        ≡ get_member name.now (members_view members.now.entries) }
 {
     members.get(name)
 }

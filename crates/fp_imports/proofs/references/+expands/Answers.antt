@@ -9,7 +9,7 @@ use Rattle.serde_json.proofs.Views.{Entry, view-Array, view-Object, members_view
 use Rattle.serde_json.specs.declared.value.Value.{Value}
 use Rattle.fp_imports.specs.References.{unknown, onward, walked, items_walked, members_walked, replaced, reference}
 use Rattle.fp_imports.specs.Faults.{Gives, with_rest}
-use Rattle.fp_imports.proofs.Walks.{append, append-nil, names, names-append_one, names-view_one, Above, put_above, above_those, after_items, after_members, after_items-one, after_members-one, gives_err, item_depth, member_depth, member_found_depth, falls_part, falls_replaced, at_reference, at_array, at_object, items_err, items_ok, members_ok}
+use Rattle.fp_imports.proofs.Walks.{append, append-nil, names, names-append_one, names-view_one, Above, put_above, above_those, after_items, after_members, after_items-one, after_members-one, gives_err, item_depth, member_depth, member_found_depth, falls_part, falls_reference, falls_replaced, at_reference, at_name, at_array, at_object, items_err, items_ok, members_ok}
 use Rattle.fp_imports.proofs.references.+expands.Goals as goal
 
 pub expand_items-expand_value-requires : goal.expand_items-expand_value-requires
@@ -94,31 +94,40 @@ expand_members-returns t c =
     let over : l.key-iterator ≡ [] = search rules in
     sym l.invariant.3 ∙ ap (λ es. after_members (members_view l.found.entries) (walk (members_view es) l.unused)) over ∙ ap (λ (ms : Members). Ok (ms, l.unused)) (append-nil (members_view l.found.entries))
 
-pub expand_value-expand_value-requires : goal.expand_value-expand_value-requires
-expand_value-expand_value-requires t c =
-    let found : get_member c.in-Some.name.now (members_view c.args.evaluators.now.entries) ≡ Some (view c.in-Some-member_named.evaluator.now) = sym c.member_named.ensures ∙ ap (option_map (λ v. view v.now)) c.in-Some-member_named.is in
-    (falls_replaced c.args.more (c.args.more - 1) (members_depth (members_view c.args.evaluators.now.entries)) (depth (view c.in-Some-member_named.evaluator.now)) (depth (view c.args.value.now)) t (omega arith) (sym c.decreases) (member_found_depth c.in-Some.name.now (members_view c.args.evaluators.now.entries) (view c.in-Some-member_named.evaluator.now) found), tt)
+pub expand_value-expand_reference-requires : goal.expand_value-expand_reference-requires
+expand_value-expand_reference-requires t c =
+    let top = members_depth (members_view c.args.evaluators.now.entries) in
+    let ms = members_view c.in-Object.members.entries in
+    let deep : depth (view c.args.value.now) ≡ suc (members_depth ms) = ap (λ v. depth (view v)) c.in-Object.is ∙ ap depth (view-Object c.in-Object.members) in
+    (falls_reference (c.args.more * suc top) (members_depth ms) (depth (view c.args.value.now)) t (sym c.decreases) deep, tt)
 
-pub expand_value-returns-in-Some-member_named : goal.expand_value-returns-in-Some-member_named
-expand_value-returns-in-Some-member_named t c =
-    let evs = members_view c.args.evaluators.now.entries in
-    let ms = c.in-Object.members.entries in
-    let named : reference (members_view ms) ≡ Some c.in-Some.name.now = sym c.reference.ensures ∙ ap (option_map (λ s. s.now)) c.in-Some.is in
-    let found : get_member c.in-Some.name.now evs ≡ Some (view c.in-Some-member_named.evaluator.now) = sym c.member_named.ensures ∙ ap (option_map (λ v. view v.now)) c.in-Some-member_named.is in
-    let seen : view c.args.value.now ≡ object (members_view ms) = ap view c.in-Object.is ∙ view-Object c.in-Object.members in
-    let same : walked (replaced evs c.args.more) (view c.args.value.now) c.args.left ≡ walked (replaced evs (c.args.more - 1)) (view c.in-Some-member_named.evaluator.now) c.args.left =
-    ap (λ d. walked (replaced evs c.args.more) d c.args.left) seen ∙ at_reference evs (members_view ms) c.in-Some.name.now c.args.more (c.args.more - 1) c.args.left _ named found (omega arith) in
-    subst (λ w. Gives (with_rest view) c.expand_value.result w) (sym same) c.expand_value.ensures
+pub expand_value-returns-in-Some : goal.expand_value-returns-in-Some
+expand_value-returns-in-Some t c =
+    let at = replaced (members_view c.args.evaluators.now.entries) c.args.more in
+    let ms = members_view c.in-Object.members.entries in
+    let named : reference ms ≡ Some c.in-Some.name.now = sym c.reference.ensures ∙ ap (option_map (λ s. s.now)) c.in-Some.is in
+    let seen : view c.args.value.now ≡ object ms = ap view c.in-Object.is ∙ view-Object c.in-Object.members in
+    let same : walked at (view c.args.value.now) c.args.left ≡ at c.in-Some.name.now c.args.left = ap (λ d. walked at d c.args.left) seen ∙ at_reference at ms c.in-Some.name.now c.args.left named in
+    subst (λ w. Gives (with_rest view) c.expand_reference.result w) (sym same) c.expand_reference.ensures
 
-pub expand_value-returns-in_ok-from_str-in-None-member_named : goal.expand_value-returns-in_ok-from_str-in-None-member_named
-expand_value-returns-in_ok-from_str-in-None-member_named t c =
-    let evs = members_view c.args.evaluators.now.entries in
-    let ms = c.in-Object.members.entries in
-    let named : reference (members_view ms) ≡ Some c.in-Some.name.now = sym c.reference.ensures ∙ ap (option_map (λ s. s.now)) c.in-Some.is in
-    let found : get_member c.in-Some.name.now evs ≡ None = sym c.member_named.ensures ∙ ap (option_map (λ v. view v.now)) c.in-None-member_named.is in
-    let seen : view c.args.value.now ≡ object (members_view ms) = ap view c.in-Object.is ∙ view-Object c.in-Object.members in
-    ap (λ d. walked (replaced evs c.args.more) d c.args.left) seen ∙ at_reference evs (members_view ms) c.in-Some.name.now c.args.more (c.args.more - 1) c.args.left _ named found (omega arith)
-    ∙ ap (λ n. Err (unknown n)) (sym c.in_ok-from_str-in-None-member_named.ensures.ok)
+pub expand_reference-expand_value-requires : goal.expand_reference-expand_value-requires
+expand_reference-expand_value-requires t c =
+    let evaluators = members_view c.args.evaluators.now.entries in
+    let found : get_member c.args.name.now evaluators ≡ Some (view c.in-Some.evaluator.now) = sym c.member_named.ensures ∙ ap (option_map (λ v. view v.now)) c.in-Some.is in
+    let first : 2 * (c.args.more * suc (members_depth evaluators)) + 1 ≡ t = c.requires.1.0 in
+    (falls_replaced c.args.more (c.args.more - 1) (members_depth evaluators) (depth (view c.in-Some.evaluator.now)) t (omega arith) (sym first) (member_found_depth c.args.name.now evaluators (view c.in-Some.evaluator.now) found), tt)
+
+pub expand_reference-returns-in-Some : goal.expand_reference-returns-in-Some
+expand_reference-returns-in-Some t c =
+    let evaluators = members_view c.args.evaluators.now.entries in
+    let found : get_member c.args.name.now evaluators ≡ Some (view c.in-Some.evaluator.now) = sym c.member_named.ensures ∙ ap (option_map (λ v. view v.now)) c.in-Some.is in
+    subst (λ w. Gives (with_rest view) c.expand_value.result w) (sym (at_name evaluators c.args.name.now c.args.more (c.args.more - 1) c.args.left _ found (omega arith))) c.expand_value.ensures
+
+pub expand_reference-returns-in_ok-from_str-in-None : goal.expand_reference-returns-in_ok-from_str-in-None
+expand_reference-returns-in_ok-from_str-in-None t c =
+    let evaluators = members_view c.args.evaluators.now.entries in
+    let found : get_member c.args.name.now evaluators ≡ None = sym c.member_named.ensures ∙ ap (option_map (λ v. view v.now)) c.in-None.is in
+    at_name evaluators c.args.name.now c.args.more (c.args.more - 1) c.args.left _ found (omega arith) ∙ ap (λ n. Err (unknown n)) (sym c.in_ok-from_str-in-None.ensures.ok)
 
 pub expand_value-returns-in-Ok : goal.expand_value-returns-in-Ok
 expand_value-returns-in-Ok t c =

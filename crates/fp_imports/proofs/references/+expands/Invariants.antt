@@ -10,6 +10,9 @@ use Rattle.fp_imports.proofs.references.+expands.Given as goal
 abbrev pub decreases-expand_value : goal.decreases-expand_value
 decreases-expand_value l = 2 * (l.more * suc (members_depth (members_view l.evaluators.now.entries)) + depth (view l.value.now))
 
+abbrev pub decreases-expand_reference : goal.decreases-expand_reference
+decreases-expand_reference l = 2 * (l.more * suc (members_depth (members_view l.evaluators.now.entries))) + 1
+
 abbrev pub decreases-expand_items : goal.decreases-expand_items
 decreases-expand_items l = 2 * (l.more * suc (members_depth (members_view l.evaluators.now.entries)) + items_depth (items_view l.items.now.items)) + 1
 
