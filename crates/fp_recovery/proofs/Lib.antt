@@ -1,0 +1,7 @@
+pub mod Cases
+pub mod Restored
+pub mod Agreed
+pub mod Kept
+pub mod Single
+pub mod One
+pub mod Refused

@@ -1,0 +1,57 @@
+use Rattle.std.proofs.Common.{◌≡◌, ◌+◌, ◌≤◌, ◌++◌, ◌∷◌, [], ℕ, List, length, refl, sym, ap, ◌∙◌, arith}
+use Rattle.fp_edit.specs.Edits.{proposal_of}
+use Rattle.fp_disk.specs.Outcomes.{IsOutcome}
+use Rattle.fp_journal.specs.State.{HasChain}
+use Rattle.fp_journal.specs.declared.slot.Slot.{Slot}
+use Rattle.fp_journal.specs.declared.journal.Phase.TheVariants.{Idle}
+use Rattle.fp_record.specs.Edits.{change_of}
+use Rattle.fp_recovery.specs.Durable.{IsKept, KeepsOutside, single}
+use Rattle.fp_recovery.specs.Stands.{TakesBatch}
+use Rattle.fp_recovery.proofs.Cases.{ok_by, ok_known}
+use Rattle.fp_recovery.proofs.Kept.{kept_more, kept_stands}
+use Rattle.fp_recovery.proofs.Single.{length_single, takes_single}
+use Rattle.fp_recovery.proofs.durable.DurableSet.admit.Goals.{in-Ok-seal, in-Err-seal}
+use Rattle.fp_recovery.proofs.durable.DurableSet.admit.Goals as goal
+
+pub seal-requires-clause-short : goal.seal-requires-clause-short
+seal-requires-clause-short g c =
+    let x = change_of c.args.edit in let len = ap length c.in-Ok.ensures.spelled ∙ length_single (single (c.revision.result + 1) x) x refl in
+    let fits = c.if-len-from.false in let most = c.from.ensures in let slot = ap (λ (s : Slot). s.most) c.slot.ensures.slot in let size = c.spelled_len.ensures.len in
+    omega (arith, len, fits, most, slot, size)
+
+pub seal-requires-clause-room : goal.seal-requires-clause-room
+seal-requires-clause-room g c =
+    let x = change_of c.args.edit in let len = ap length c.in-Ok.ensures.spelled ∙ length_single (single (c.revision.result + 1) x) x refl in
+    let fits = c.if-len-room.false in let left = c.room.ensures in let size = c.spelled_len.ensures.len in
+    omega (arith, len, fits, left, size)
+
+pub invariant_of-self-2 : goal.invariant_of-self-2
+invariant_of-self-2 g c = λ h idle.
+    let D = g.D.Disk in let s = c.self.inside.set in let j = c.self.inside.journal in let e = c.seal.ensures in let new = c.seal.new.journal in let r = c.seal.result in
+    let h0 = e.honest.1 h in let was : j.phase ≡ Idle = sym c.phase.ensures.phase ∙ c.in-Idle.is in
+    let x = change_of c.args.edit in let len = ap length c.in-Ok.ensures.spelled ∙ length_single (single (c.revision.result + 1) x) x refl in
+    let fits = c.if-len-from.false in let most = c.from.ensures in let slot = ap (λ (z : Slot). z.most) c.slot.ensures.slot in let size = c.spelled_len.ensures.len in
+    let short : length c.in-Ok.framed ≤ j.slot.most = omega (arith, len, fits, most, slot, size) in
+    let sealed : new.sealed ≡ j.sealed ++ c.in-Ok.framed ∷ [] = ok_by r (new.sealed ≡ j.sealed ++ c.in-Ok.framed ∷ []) (new.phase ≡ Idle) e.phase.1 idle e.sealed in
+    let outside : KeepsOutside j.slot (D.unsynced j.disk) (D.unsynced new.disk) = ok_by r (KeepsOutside j.slot (D.unsynced j.disk) (D.unsynced new.disk)) (new.phase ≡ Idle) e.phase.1 idle (e.outside h0) in
+    let takes : TakesBatch s c.in-Ok.framed c.admit.new.self = takes_single s c.admit.new.self (proposal_of c.args.edit) (c.revision.result + 1) c.in-Ok.framed c.in-Ok-admit.ensures.admitted (ap (λ (n : ℕ). n + 1) c.revision.ensures.revision) c.in-Ok.ensures.lawful c.in-Ok.ensures.spelled in
+    kept_more (D.unsynced j.disk) s j (c.self.invariant h0 was) (D.unsynced new.disk) c.admit.new.self new c.in-Ok.framed takes short e.same.1 e.same.2 sealed outside
+
+pub returns-clause-sure : goal.returns-clause-sure
+returns-clause-sure g c = λ h.
+    let D = g.D.Disk in let s = c.self.inside.set in let j = c.self.inside.journal in let e = c.seal.ensures in let new = c.seal.new.journal in let r = c.seal.result in
+    let h0 = e.honest.1 h in let was : j.phase ≡ Idle = sym c.phase.ensures.phase ∙ c.in-Idle.is in
+    let x = change_of c.args.edit in let len = ap length c.in-Ok.ensures.spelled ∙ length_single (single (c.revision.result + 1) x) x refl in
+    let fits = c.if-len-from.false in let most = c.from.ensures in let slot = ap (λ (z : Slot). z.most) c.slot.ensures.slot in let size = c.spelled_len.ensures.len in
+    let short : length c.in-Ok.framed ≤ j.slot.most = omega (arith, len, fits, most, slot, size) in
+    let takes : TakesBatch s c.in-Ok.framed c.admit.new.self = takes_single s c.admit.new.self (proposal_of c.args.edit) (c.revision.result + 1) c.in-Ok.framed c.in-Ok-admit.ensures.admitted (ap (λ (n : ℕ). n + 1) c.revision.ensures.revision) c.in-Ok.ensures.lawful c.in-Ok.ensures.spelled in
+    elim c.match-seal.branch [
+      | in-Ok-seal w ↦
+          let is = w.in-Ok-seal.is in
+          let sealed : new.sealed ≡ j.sealed ++ c.in-Ok.framed ∷ [] = ok_known r (new.sealed ≡ j.sealed ++ c.in-Ok.framed ∷ []) tt is e.sealed in
+          let outside : KeepsOutside j.slot (D.unsynced j.disk) (D.unsynced new.disk) = ok_known r (KeepsOutside j.slot (D.unsynced j.disk) (D.unsynced new.disk)) tt is (e.outside h0) in
+          let chain = ok_known r ((o : List ℕ) → IsOutcome (D.unsynced new.disk) o → HasChain new.slot new.front new.sealed o) tt is (e.outcomes h) in
+          let kept : IsKept (D.unsynced new.disk) c.admit.new.self new = kept_more (D.unsynced j.disk) s j (c.self.invariant h0 was) (D.unsynced new.disk) c.admit.new.self new c.in-Ok.framed takes short e.same.1 e.same.2 sealed outside in
+          rw w.result-is (λ o left. kept_stands (D.unsynced new.disk) c.admit.new.self new kept o left (chain o left))
+      | in-Err-seal w ↦ rw w.result-is tt
+    ]

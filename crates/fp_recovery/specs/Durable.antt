@@ -1,0 +1,51 @@
+-- A set and the journal that keeps it.
+use Rattle.std.specs.Prelude.{◌≡◌, ◌+◌, ◌/◌, ℕ, List, [], ◌∷◌, ◌++◌, length, slice_index, slice_range}
+use Rattle.fp_disk.specs.Outcomes.{Unsynced, IsOutcome}
+use Rattle.fp_edit.specs.Edits.{Change}
+use Rattle.fp_edit.specs.Flags.{State}
+use Rattle.fp_journal.specs.Holds.{Holds, IsFirm}
+use Rattle.fp_journal.specs.Chain.{spell}
+use Rattle.fp_journal.specs.Reading.{Reads}
+use Rattle.fp_journal.specs.State.{AllShort, JournalState, Outside}
+use Rattle.fp_journal.specs.declared.slot.Slot.{Slot}
+use Rattle.fp_layout.specs.Size.{first_slot}
+use Rattle.fp_layout.specs.Layout.{IsHeader, IsFirstSlot}
+use Rattle.fp_record.specs.Group.{Group}
+use Rattle.fp_recovery.specs.Stands.{IsImageOf, TakesBatch, StandsFor}
+
+pub record Durable (D : Type 0) : Type 0 where
+  pub set : State
+  pub journal : JournalState D
+
+-- whatever a crash leaves now stands for the set
+abbrev pub IsSure : Unsynced → State → Type 0
+IsSure u s = (c : List ℕ) → IsOutcome u c → StandsFor c s
+
+-- a batch of one change
+abbrev pub single : ℕ → Change → Group
+single first change = record { first = first; changes = change ∷ [] }
+
+-- text outside the slot that was firm is firm
+abbrev pub KeepsOutside : Slot → Unsynced → Unsynced → Type 0
+KeepsOutside slot u v = (at : ℕ) (text : List ℕ) → Outside slot at (length text) → IsFirm u at text → IsFirm v at text
+
+-- What the disk held as the journal began, and the batches sealed since, come to the set; the bytes in front of the slot and the gate behind it are firm
+pub record IsKept {D : Type 0} (u : Unsynced) (set : State) (journal : JournalState D) : Type 0 where
+  pub bytes : List ℕ
+  pub size : ℕ
+  pub generation : ℕ
+  pub base : ℕ
+  pub image : List ℕ
+  pub first : State
+  pub opened : List (List ℕ)
+  pub header : IsHeader bytes size
+  pub slot : IsFirstSlot bytes size generation base image
+  pub image_is : IsImageOf base (size / 2) image first
+  pub slot_is : journal.slot ≡ first_slot size
+  pub front_is : journal.front ≡ slice_range bytes 64 (64 + length journal.front)
+  pub front_ends : 64 + length journal.front ≡ 86 + length image + length (spell opened)
+  pub opened_there : Holds bytes (86 + length image) (spell opened)
+  pub short : AllShort (first_slot size).most (opened ++ journal.sealed)
+  pub leads : Reads TakesBatch first (opened ++ journal.sealed) set
+  pub header_firm : IsFirm u 0 (slice_range bytes 0 64)
+  pub gate_firm : IsFirm u (64 + size) (slice_index bytes (64 + size) ∷ [])

@@ -1,0 +1,5 @@
+pub mod Stands
+pub mod Refusals
+pub mod Durable
+pub mod Admitting
+pub mod Laws

@@ -1,0 +1,63 @@
+-- What the bytes of a disk stand for: a set of flags at a revision.
+use Rattle.std.specs.Prelude.{◌≡◌, ◌<◌, ◌≤◌, ◌+◌, ◌/◌, ◌^◌, ℕ, List, [], ◌∷◌, length}
+use Rattle.std.specs.List.{AllByRecursion}
+use Rattle.std.specs.FinMap as map
+use Rattle.fp_edit.specs.Flags.{State, total_cost}
+use Rattle.fp_edit.specs.declared.flags.Flag.{Flag}
+use Rattle.fp_edit.specs.Edits.{Change, Proposal}
+use Rattle.fp_edit.specs.Admits.{Admits, accepted}
+use Rattle.fp_edit.specs.declared.edit.Expect.TheVariants.{Any}
+use Rattle.fp_journal.specs.Reading.{IsChain, Reads}
+use Rattle.fp_layout.specs.Size.{first_slot}
+use Rattle.fp_layout.specs.Layout.{IsHeader, IsFirstSlot}
+use Rattle.fp_record.specs.Group.{Group}
+use Rattle.fp_record.specs.Lawful.{IsBatch, IsImage}
+use Rattle.fp_record.specs.Spelling.{spelling_of_batch, spelling_of_image}
+
+-- ---- an image
+-- an image can be that of a set at this revision, whose image may take this many bytes
+pub record IsImageAt (base limit : ℕ) (image : List (List ℕ × Flag)) : Type 0 where
+  pub numbered : base < 2 ^ 63
+  pub changed : AllByRecursion (λ f. f.1.changed ≤ base) image
+  pub within : 4 + total_cost image ≤ limit
+
+-- the bytes are the image of the set, which is at this revision and has this limit
+pub record IsImageOf (base limit : ℕ) (bytes : List ℕ) (s : State) : Type 0 where
+  pub lawful : IsImage (map.entries s.flags)
+  pub spelled : bytes ≡ spelling_of_image (map.entries s.flags)
+  pub here : IsImageAt base limit (map.entries s.flags)
+  pub revision_is : s.revision ≡ base
+  pub limit_is : s.limit ≡ limit
+
+-- ---- a batch
+-- a change by an editor that expects nothing
+abbrev pub unconditional : Change → Proposal
+unconditional c = record { change = c; expect = Any }
+
+-- each change is accepted by the set that those before it left, and the last leaves t
+abbrev pub Leads : State → List Change → State → Type 0
+Leads s [] t = t ≡ s
+Leads s (c ∷ cs) t = (u : State) × Admits s (unconditional c) (accepted u) × Leads u cs t
+
+-- the bytes are a batch whose first revision is the one behind the set's, and whose changes lead from the set to t
+pub record TakesBatch (s : State) (bytes : List ℕ) (t : State) : Type 0 where
+  pub group : Group
+  pub lawful : IsBatch group
+  pub spelled : bytes ≡ spelling_of_batch group
+  pub follows : group.first ≡ s.revision + 1
+  pub leads : Leads s group.changes t
+
+-- ---- a disk
+-- a header, a slot with an image, and a chain of batches that lead from the image's set to s, each from where the one before it led
+pub record StandsFor (c : List ℕ) (s : State) : Type 0 where
+  pub size : ℕ
+  pub generation : ℕ
+  pub base : ℕ
+  pub image : List ℕ
+  pub first : State
+  pub batches : List (List ℕ)
+  pub header : IsHeader c size
+  pub slot : IsFirstSlot c size generation base image
+  pub image_is : IsImageOf base (size / 2) image first
+  pub chain : IsChain (first_slot size).most (86 + length image) (first_slot size).stop batches c
+  pub leads : Reads TakesBatch first batches s

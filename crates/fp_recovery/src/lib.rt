@@ -1,0 +1,15 @@
+//! Sets of flags on a disk: what its bytes stand for, read back as it is opened and kept as edits come.
+#![tactic(auto)]
+
+mod durable;
+mod fault;
+mod laws;
+mod restoring;
+mod seal;
+
+pub use durable::DurableSet;
+pub use fault::AdmitFault;
+pub use laws::bytes_stand_for_one;
+
+#[cfg(test)]
+mod tests;
