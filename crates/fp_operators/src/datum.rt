@@ -23,7 +23,7 @@ pub enum Datum {
 
 impl Datum {
     /// The datum that a JSON value writes. A number that isn't whole becomes null, so callers
-    /// refuse such a value first.
+    /// refuse such a value.
     #[cycle(from_value)]
     pub fn from_value(alloc: Global, value: &Value) -> Result<Datum, AllocError>
         ensures { IfOk result (λ d. view d ≡ data_of (json_view value.now)) }

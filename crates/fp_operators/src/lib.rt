@@ -19,7 +19,7 @@ pub use order::{
     between_exclusive, between_inclusive, greater, greater_or_equal, less, less_or_equal,
 };
 pub use path::{named, variable};
-pub use text::{concatenate, ends_with, is_in, starts_with};
+pub use text::{append_text, concatenate, ends_with, is_in, starts_with};
 pub use truth::{is_falsy, is_truthy};
 pub use version::sem_ver;
 

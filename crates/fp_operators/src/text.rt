@@ -1,10 +1,11 @@
-ghost use Rattle.std.specs.Prelude.{◌≡◌, eqb, IfOk, option_map, string_bytes, map};
+ghost use Rattle.std.specs.Prelude.{◌≡◌, ◌++◌, eqb, Some, None, false, if◌then◌else◌, IfOk, OnErr, option_map, string_bytes, map};
 ghost use Rattle.std.specs.List.{starts_with as begins, ends_with as finishes};
 ghost use Rattle.fp_operators.specs.View.{view, items_view};
-ghost use Rattle.fp_operators.specs.Text.{occurs, is_among, is_part, has_prefix, has_suffix, joined, concatenation};
+ghost use Rattle.fp_operators.specs.Text.{occurs, is_among, is_part, has_prefix, has_suffix, scalar_text, joined, concatenation};
 
 use crate::datum::Datum;
 use crate::equality::strictly_equal;
+use itoa::Buffer;
 use std::alloc::{AllocError, Global};
 
 /// `in`: whether a text is a part of another, or a datum strictly equals an item of a list.
@@ -82,17 +83,32 @@ fn joined_text(alloc: Global, parts: &[Datum]) -> Result<Option<String>, AllocEr
 {
     let mut out = String::new(alloc);
     for datum in parts {
-        match datum {
-            Datum::Null => {}
-            Datum::Bool(true) => out.push_str("true")?,
-            Datum::Bool(false) => out.push_str("false")?,
-            Datum::Whole(z) => {
-                let digits = z.to_string(alloc)?;
-                out.push_str(digits.as_str())?;
-            }
-            Datum::Text(s) => out.push_str(s.as_str())?,
-            Datum::List(_) | Datum::Object(_) => return Ok(None),
+        if !append_text(&mut out, datum)? {
+            return Ok(None);
         }
     }
     Ok(Some(out))
+}
+
+/// One step of `cat`: writes a datum's text behind another, and tells whether it has one. Lists and
+/// objects have none, and nothing is written for them.
+pub fn append_text(out: &mut String, datum: &Datum) -> Result<bool, AllocError>
+    ensures text { IfOk result (λ wrote.
+        (if wrote then Some (string_bytes out.new) else None)
+        ≡ option_map (λ t. string_bytes out.old ++ t) (scalar_text (view datum.now))) }
+    ensures none { IfOk result (λ wrote. wrote ≡ false → string_bytes out.new ≡ string_bytes out.old) }
+    ensures err { OnErr result (string_bytes out.new ≡ string_bytes out.old) }
+{
+    match datum {
+        Datum::Null => {}
+        Datum::Bool(true) => out.push_str("true")?,
+        Datum::Bool(false) => out.push_str("false")?,
+        Datum::Whole(z) => {
+            let mut digits = Buffer::new();
+            out.push_str(digits.format(*z))?;
+        }
+        Datum::Text(s) => out.push_str(s.as_str())?,
+        Datum::List(_) | Datum::Object(_) => return Ok(false),
+    }
+    Ok(true)
 }

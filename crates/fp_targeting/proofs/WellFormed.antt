@@ -1,61 +1,78 @@
--- A rule that a value writes is well formed.
-use Rattle.std.proofs.Common.{◌≡◌, List, [], ◌∷◌, length, Bool, true, false, Option, Some, None, option_map, option_and_then, refl, sym, ap, ◌∙◌, arith, if◌then◌else◌}
-use Rattle.serde_json.specs.Data.{Data, null, boolean, number, string, array, object, Items, no_items, item, no_members, member}
+-- Rules whose operators have as many arguments as they take, put together from such parts.
+use Rattle.std.proofs.Common.{◌≡◌, ℕ, Vec, Global, map, rules, List, [], ◌∷◌, ◌++◌, length, Bool, true, false, ◌&&◌, Option, Some, None, option_map, option_and_then, refl, sym, ap, ◌∙◌, arith, if◌then◌else◌}
+use Rattle.std.proofs.lemmas.List.{length-map}
 use Rattle.fp_targeting.specs.Rule as tree
 use Rattle.fp_targeting.specs.Rule.{Rule}
 use Rattle.fp_targeting.specs.Operators.{operator_of, takes, count_of, well_formed, all_well_formed}
-use Rattle.fp_targeting.specs.View.{rules_of}
-use Rattle.fp_targeting.specs.Compile.{one_more, rule_of, rules_from}
+use Rattle.fp_targeting.specs.View.{rules_of, rule_view, rules_view}
+use Rattle.fp_targeting.specs.Compile.{formed, one_more, where_counts_fit, where_all_counts_fit}
 use Rattle.fp_targeting.specs.declared.operator.Operator.{Operator}
-
--- nothing, or well formed
-abbrev right : Option Rule → Bool
-right None = true
-right (Some r) = well_formed r
-
-abbrev all_right : Option (List Rule) → Bool
-all_right None = true
-all_right (Some rs) = all_well_formed (rules_of rs)
+use Rattle.fp_targeting.specs.declared.tree.Tree.{Tree, the_lemmas}
+use Rattle.fp_targeting.specs.declared.tree.Tree.TheVariants.{Apply}
 
 count_of-rules_of : (rs : List Rule) → count_of (rules_of rs) ≡ length rs
 count_of-rules_of [] = refl
 count_of-rules_of (r ∷ rs) = let i = count_of-rules_of rs in omega arith
 
-list-right : (o : Option (List Rule)) → all_right o ≡ true → right (option_map (λ rs. tree.list (rules_of rs)) o) ≡ true
-list-right None h = refl
-list-right (Some rs) h = h
+list_if : (b : Bool) (rs : List Rule) → option_map (λ ys. tree.list (rules_of ys)) (if b then Some rs else None) ≡ (if b then Some (tree.list (rules_of rs)) else None)
+list_if true rs = refl
+list_if false rs = refl
 
-apply-right : (b : Bool) (o : Operator) (rs : List Rule) → takes o (length rs) ≡ b → all_well_formed (rules_of rs) ≡ true
-    → right (if b then Some (tree.apply o (rules_of rs)) else None) ≡ true
-apply-right true o rs e h = rw (count_of-rules_of rs, e) h
-apply-right false o rs e h = refl
+-- a list
+pub counts_fit-list : (rs : List Rule) → option_map (λ ys. tree.list (rules_of ys)) (where_all_counts_fit rs) ≡ where_counts_fit (tree.list (rules_of rs))
+counts_fit-list rs = list_if (all_well_formed (rules_of rs)) rs
 
-operator-right : (o : Option Operator) (arguments : Option (List Rule)) → all_right arguments ≡ true
-    → right (option_and_then (λ o. option_and_then (λ rs. if takes o (length rs) then Some (tree.apply o (rules_of rs)) else None) arguments) o) ≡ true
-operator-right None arguments h = refl
-operator-right (Some o) None h = refl
-operator-right (Some o) (Some rs) h = apply-right _ o rs refl h
+apply_if : (t b : Bool) (o : Operator) (rs : List Rule) → takes o (length rs) ≡ t
+    → option_and_then (λ ys. if takes o (length ys) then Some (tree.apply o (rules_of ys)) else None) (if b then Some rs else None)
+    ≡ (if t && b then Some (tree.apply o (rules_of rs)) else None)
+apply_if true true o rs e = rw e refl
+apply_if true false o rs e = refl
+apply_if false true o rs e = rw e refl
+apply_if false false o rs e = refl
 
-one_more-right : (first : Option Rule) (others : Option (List Rule)) → right first ≡ true → all_right others ≡ true → all_right (one_more first others) ≡ true
-one_more-right None others h i = refl
-one_more-right (Some r) None h i = refl
-one_more-right (Some r) (Some rs) h i = rw h i
+-- an operator at its arguments
+pub counts_fit-apply : (o : Operator) (rs : List Rule)
+    → option_and_then (λ ys. if takes o (length ys) then Some (tree.apply o (rules_of ys)) else None) (where_all_counts_fit rs) ≡ where_counts_fit (tree.apply o (rules_of rs))
+counts_fit-apply o rs =
+    apply_if (takes o (length rs)) (all_well_formed (rules_of rs)) o rs refl
+    ∙ ap (λ n. if takes o n && all_well_formed (rules_of rs) then Some (tree.apply o (rules_of rs)) else None) (sym (count_of-rules_of rs))
 
-mutual
-  rule_of-right : (d : Data) → right (rule_of d) ≡ true
-  rule_of-right null = refl
-  rule_of-right (boolean b) = refl
-  rule_of-right (number n) = refl
-  rule_of-right (string s) = refl
-  rule_of-right (array ds) = list-right (rules_from ds) (rules_from-right ds)
-  rule_of-right (object no_members) = refl
-  rule_of-right (object (member k (array ds) no_members)) = operator-right (operator_of k) (rules_from ds) (rules_from-right ds)
-  rule_of-right (object (member k d no_members)) = operator-right (operator_of k) (one_more (rule_of d) (Some [])) (one_more-right (rule_of d) (Some []) (rule_of-right d) refl)
-  rule_of-right (object (member k d (member l e ms))) = refl
+one_more_if : (b c : Bool) (r : Rule) (rs : List Rule) → one_more (if b then Some r else None) (if c then Some rs else None) ≡ (if b && c then Some (r ∷ rs) else None)
+one_more_if true true r rs = refl
+one_more_if true false r rs = refl
+one_more_if false true r rs = refl
+one_more_if false false r rs = refl
 
-  rules_from-right : (ds : Items) → all_right (rules_from ds) ≡ true
-  rules_from-right no_items = refl
-  rules_from-right (item d ds) = one_more-right (rule_of d) (rules_from ds) (rule_of-right d) (rules_from-right ds)
+pub counts_fit-one_more : (r : Rule) (rs : List Rule) → one_more (where_counts_fit r) (where_all_counts_fit rs) ≡ where_all_counts_fit (r ∷ rs)
+counts_fit-one_more r rs = one_more_if (well_formed r) (all_well_formed (rules_of rs)) r rs
 
-pub rule_of-well_formed : (d : Data) (r : Rule) → rule_of d ≡ Some r → well_formed r ≡ true
-rule_of-well_formed d r h = ap right (sym h) ∙ rule_of-right d
+-- rules, before others, if they and the others are right
+abbrev pub before : List Rule → Option (List Rule) → Option (List Rule)
+before [] others = others
+before (r ∷ rs) others = one_more (where_counts_fit r) (before rs others)
+
+pub before-more : (rs : List Rule) (r : Rule) (others : Option (List Rule)) → before (rs ++ r ∷ []) others ≡ before rs (one_more (where_counts_fit r) others)
+before-more [] r others = refl
+before-more (q ∷ rs) r others = ap (one_more (where_counts_fit q)) (before-more rs r others)
+
+pub before-none : (rs : List Rule) → before rs (Some []) ≡ where_all_counts_fit rs
+before-none [] = refl
+before-none (r ∷ rs) = ap (one_more (where_counts_fit r)) (before-none rs) ∙ counts_fit-one_more r rs
+
+pub rule_view-apply : (o : Operator) (v : Vec Tree Global) → rule_view (Apply o v) ≡ tree.apply o (rules_view v.items)
+rule_view-apply o v = search (rules, the_lemmas)
+
+-- what counting an operator's arguments decides
+pub well_formed-apply : (o : Operator) (v : Vec Tree Global) → well_formed (rule_view (Apply o v)) ≡ (takes o (length v.items) && all_well_formed (rules_view v.items))
+well_formed-apply o v =
+    ap well_formed (rule_view-apply o v)
+    ∙ ap (λ n. takes o n && all_well_formed (rules_view v.items)) (count_of-rules_of (map rule_view v.items) ∙ length-map v.items rule_view)
+
+formed_if : (o : Option Operator) (p : Operator) (arguments : Option (List Rule)) → o ≡ Some p
+    → option_and_then (λ q. option_and_then (λ rs. if takes q (length rs) then Some (tree.apply q (rules_of rs)) else None) arguments) o
+    ≡ option_and_then (λ rs. if takes p (length rs) then Some (tree.apply p (rules_of rs)) else None) arguments
+formed_if o p arguments e = rw e refl
+
+-- an operator that was looked up, at its arguments
+pub formed-known : (k : List ℕ) (o : Operator) (rs : List Rule) → operator_of k ≡ Some o → where_counts_fit (tree.apply o (rules_of rs)) ≡ formed k (where_all_counts_fit rs)
+formed-known k o rs e = sym (formed_if (operator_of k) o (where_all_counts_fit rs) e ∙ counts_fit-apply o rs)

@@ -9,7 +9,7 @@ ghost use Rattle.fp_targeting.specs.Found.{found_view};
 use crate::operator::{BinaryOperator, ChainOperator, Operator, UnaryOperator};
 use crate::tree::Tree;
 use fp_operators::{
-    Datum, between_exclusive, between_inclusive, concatenate, ends_with, greater, greater_or_equal,
+    Datum, append_text, between_exclusive, between_inclusive, ends_with, greater, greater_or_equal,
     is_falsy, is_in, is_truthy, less, less_or_equal, loosely_equal, loosely_unequal, named,
     remainder, sem_ver, starts_with, strictly_equal, strictly_unequal,
 };
@@ -80,10 +80,7 @@ fn apply<'d>(
         Operator::And => evaluate_and(alloc, arguments, root),
         Operator::Or => evaluate_or(alloc, arguments, root),
         Operator::Var => evaluate_var(alloc, arguments, root),
-        Operator::Cat => {
-            let parts = evaluate_each(alloc, arguments, root)?;
-            Ok(Found::Made(concatenate(alloc, &parts)?))
-        }
+        Operator::Cat => Ok(Found::Made(evaluate_cat(alloc, arguments, root)?)),
         Operator::SemVer => Ok(Found::Made(evaluate_version(alloc, arguments, root)?)),
         Operator::Unary(unary) => Ok(Found::Made(evaluate_one(alloc, unary, arguments, root)?)),
         Operator::Binary(binary) => Ok(Found::Made(evaluate_two(alloc, binary, arguments, root)?)),
@@ -168,6 +165,20 @@ fn evaluate_var<'d>(
         },
         _ => Ok(Found::Made(Datum::Null)),
     }
+}
+
+#[cycle(evaluate)]
+fn evaluate_cat(alloc: Global, arguments: &Vec<Tree>, root: &Datum) -> Result<Datum, AllocError>
+    ensures { IfOk result (λ x. view x ≡ applied Operator.Cat (view root.now) (meanings (view root.now) (rules_view arguments.now.items))) }
+{
+    let mut text = String::new(alloc);
+    for argument in arguments {
+        let part = evaluate(alloc, argument, root)?;
+        if !append_text(&mut text, part.datum())? {
+            return Ok(Datum::Null);
+        }
+    }
+    Ok(Datum::Text(text))
 }
 
 #[cycle(evaluate)]

@@ -1,20 +1,20 @@
 ghost use Rattle.std.specs.Prelude.{◌≡◌, ◌↔◌, IfOk};
 ghost use Rattle.serde_json.specs.View.{view as json_view};
 ghost use Rattle.fp_operators.specs.View.{view};
-ghost use Rattle.fp_targeting.specs.Compile.{rule_of, accepted_or_bad, verdict};
+ghost use Rattle.fp_targeting.specs.Compile.{verdict};
 ghost use Rattle.fp_targeting.specs.Answer.{Answers};
 ghost use Rattle.fp_operators.specs.Data as values;
 ghost use Rattle.fp_targeting.specs.Means.{Means};
 ghost use Rattle.fp_targeting.specs.Meaning.{meaning};
 
-use crate::build::{build, unknown_operator};
+use crate::build::build;
 use crate::data::Data;
 use crate::evaluate::evaluate;
-use crate::tree::Tree;
+use crate::tree::{Tree, counts_fit};
 use fp_base::{nests_within, values_left, whole_numbers};
 use fp_operators::Datum;
 use serde_json::Value;
-use std::alloc::{AllocError, Global};
+use std::alloc::{AllocError, AllocFailed, Global};
 use std::marker::Model;
 
 /// Lists and objects of a rule stand in one another at most this deep.
@@ -70,6 +70,16 @@ impl From<AllocError> for RuleFault {
     }
 }
 
+impl<T: Drop> From<AllocFailed<T>> for RuleFault {
+    ghost use Rattle.fp_targeting.specs.declared.rule.RuleFault.TheVariants.{Memory};
+
+    ghost from_gives = { λ _ e. e ≡ Memory };
+
+    fn from(_: AllocFailed<T>) -> RuleFault {
+        RuleFault::Memory
+    }
+}
+
 impl Rule {
     /// The rule that a JSON value writes.
     pub fn compile(alloc: Global, value: &Value) -> Result<Rule, RuleFault>
@@ -78,23 +88,13 @@ impl Rule {
         if !nests_within(value, MAX_DEPTH) {
             return Err(RuleFault::TooDeep);
         }
-        if let Some(name) = unknown_operator(value) {
-            return Err(RuleFault::UnsupportedOperator(String::from_str(alloc, name)?));
-        }
-        if values_left(value, MAX_VALUES).is_none() || !whole_numbers(value) {
+        // Operators are looked up while the tree is made, and a name that is none's comes before
+        // all that is wrong with numbers.
+        let tree = build(alloc, value)?;
+        if values_left(value, MAX_VALUES).is_none() || !whole_numbers(value) || !counts_fit(&tree) {
             return Err(RuleFault::BadRule);
         }
-        Rule::built(alloc, value)
-    }
-
-    /// The rule of a value whose operators are known and whose numbers are whole.
-    fn built(alloc: Global, value: &Value) -> Result<Rule, RuleFault>
-        ensures { Answers result (accepted_or_bad (rule_of (json_view value.now))) }
-    {
-        match build(alloc, value)? {
-            Some(tree) => Ok(Rule { tree }),
-            None => Err(RuleFault::BadRule),
-        }
+        Ok(Rule { tree })
     }
 
     /// What the rule gives for the data.

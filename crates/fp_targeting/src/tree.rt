@@ -1,3 +1,7 @@
+ghost use Rattle.std.specs.Prelude.{◌≡◌};
+ghost use Rattle.fp_targeting.specs.Operators.{well_formed, all_well_formed};
+ghost use Rattle.fp_targeting.specs.View.{rule_view, rules_view};
+
 use crate::operator::Operator;
 use fp_operators::Datum;
 
@@ -7,4 +11,30 @@ pub enum Tree {
     Literal(Datum),
     List(Vec<Tree>),
     Apply(Operator, Vec<Tree>),
+}
+
+/// Whether each operator in a rule has as many arguments as it takes.
+#[cycle(fits)]
+pub fn counts_fit(rule: &Tree) -> bool
+    ensures { result ≡ well_formed (rule_view rule.now) }
+{
+    match rule {
+        Tree::Literal(_) => true,
+        Tree::List(rules) => all_counts_fit(rules),
+        Tree::Apply(operator, arguments) => {
+            operator.takes(arguments.len()) && all_counts_fit(arguments)
+        }
+    }
+}
+
+#[cycle(fits)]
+fn all_counts_fit(rules: &Vec<Tree>) -> bool
+    ensures { result ≡ all_well_formed (rules_view rules.now.items) }
+{
+    for rule in rules {
+        if !counts_fit(rule) {
+            return false;
+        }
+    }
+    true
 }

@@ -1,5 +1,6 @@
-use Rattle.std.proofs.Common.{◌≡◌, ◌-◌, ◌≤◌, ◌++◌, length, drop, map}
+use Rattle.std.proofs.Common.{◌≡◌, ◌-◌, ◌≤◌, ◌++◌, length, drop, map, option_map, string_bytes}
 use Rattle.fp_operators.specs.Data.{null}
+use Rattle.fp_operators.specs.Text.{joined}
 use Rattle.fp_operators.specs.View.{view}
 use Rattle.fp_targeting.specs.Meaning.{meanings, chosen, first_false, first_true}
 use Rattle.fp_targeting.specs.View.{rules_view}
@@ -28,3 +29,8 @@ invariant-evaluate_and-loop-rule l =
 abbrev pub invariant-evaluate_or-loop-rule : goal.invariant-evaluate_or-loop-rule
 invariant-evaluate_or-loop-rule l =
     first_true (found_view l.last) (meanings (view l.root) (rules_view (drop l.rule-index l.rule-items))) ≡ first_true null (meanings (view l.root) (rules_view l.rule-items))
+
+-- the text so far, and that of what is left
+abbrev pub invariant-evaluate_cat-loop-argument : goal.invariant-evaluate_cat-loop-argument
+invariant-evaluate_cat-loop-argument l =
+    option_map (λ t. string_bytes l.text ++ t) (joined (meanings (view l.root) (rules_view (drop l.argument-index l.argument-items)))) ≡ joined (meanings (view l.root) (rules_view l.argument-items))

@@ -1,0 +1,23 @@
+use Rattle.std.proofs.Common.{◌≡◌, ◌&&◌, length, true, false, sym, ap, ◌∙◌, rules}
+use Rattle.fp_targeting.specs.Operators.{takes, well_formed, all_well_formed}
+use Rattle.fp_targeting.specs.View.{rule_view, rules_view}
+use Rattle.fp_targeting.proofs.WellFormed.{well_formed-apply}
+use Rattle.fp_targeting.proofs.tree.+fits.Goals as goal
+
+pub counts_fit-returns-then-takes : goal.counts_fit-returns-then-takes
+counts_fit-returns-then-takes t c =
+    let o = c.in-Apply.operator in
+    let v = c.in-Apply.arguments in
+    let fits : takes o (length v.items) ≡ true = search rules in
+    c.all_counts_fit-then-takes.ensures
+    ∙ ap (λ b. b && all_well_formed (rules_view v.items)) (sym fits)
+    ∙ sym (ap (λ r. well_formed (rule_view r)) c.in-Apply.is ∙ well_formed-apply o v)
+
+pub counts_fit-returns-else-takes : goal.counts_fit-returns-else-takes
+counts_fit-returns-else-takes t c =
+    let o = c.in-Apply.operator in
+    let v = c.in-Apply.arguments in
+    let fits : takes o (length v.items) ≡ false = search rules in
+    c.if-takes.false
+    ∙ ap (λ b. b && all_well_formed (rules_view v.items)) (sym fits)
+    ∙ sym (ap (λ r. well_formed (rule_view r)) c.in-Apply.is ∙ well_formed-apply o v)
