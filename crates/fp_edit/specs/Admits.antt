@@ -72,3 +72,10 @@ Admits s p (refused e) = refusal s p ≡ Some e
 abbrev pub IsRefused : State → Proposal → EditFault → Type 0
 IsRefused s p Memory = (refusal s p ≡ None) × (is_put p.change ≡ true)
 IsRefused s p e = Admits s p (refused e)
+
+-- the same where want of memory may refuse any edit that every test lets through
+abbrev pub IsRefusedOrWanting : State → Proposal → EditFault → Type 0
+IsRefusedOrWanting s p Memory = refusal s p ≡ None
+IsRefusedOrWanting s p (Conflict current) = refusal s p ≡ Some (Conflict current)
+IsRefusedOrWanting s p SetTooLarge = refusal s p ≡ Some SetTooLarge
+IsRefusedOrWanting s p RevisionsUsed = refusal s p ≡ Some RevisionsUsed

@@ -5,7 +5,7 @@ use Rattle.std.proofs.lemmas.Bool.{cases_eq}
 use Rattle.fp_disk.specs.Outcomes.{Unsynced, IsOutcome, Elapses, LeavesOnly, Written, touched}
 use Rattle.fp_disk.specs.Writes.{overwritten_inside}
 use Rattle.fp_disk.specs.Moments.{leaves_call, leaves_map, leaves_then}
-use Rattle.fp_gate.specs.Gates.{Gated, IsShut, IsFirm, Guards, HasBehind, IsButFor}
+use Rattle.fp_gate.specs.Gates.{Gated, IsShut, StaysAsRead, Guards, HasBehind, IsButFor}
 
 -- an outcome after a write of one byte that was there is one from before, but for that byte
 pub touched_but_for : (u : Unsynced) (bytes : List ℕ) (at : ℕ) (c : List ℕ) → IsOutcome u bytes → at < length bytes → IsOutcome (touched u at 1) c → IsButFor u at c
@@ -36,7 +36,7 @@ touched_but_for u bytes at c present there out = let len = length-put c at (slic
     other_place xs at k x other = grind (arith, common_steps)
 
 -- what a gate guards is there where it is open, since it is there in every outcome from before
-pub but_for_guards : (g : Gated) (u : Unsynced) (bytes c : List ℕ) → (g.at < g.from) ⊎ (g.to ≤ g.at) → IsShut u g.at → IsFirm u bytes g.from g.to → IsButFor u g.at c → Guards g bytes c
+pub but_for_guards : (g : Gated) (u : Unsynced) (bytes c : List ℕ) → (g.at < g.from) ⊎ (g.to ≤ g.at) → IsShut u g.at → StaysAsRead u bytes g.from g.to → IsButFor u g.at c → Guards g bytes c
 but_for_guards g u bytes c apart shut firm b = let same = b.same_length in let in_it = (shut b.before b.outcome).0 in
     (omega (arith, same, in_it), λ is_open k le lt. let f = firm b.before b.outcome k le lt in let f0 = f.0 in (omega (arith, same, f0), b.elsewhere k (elsewhere k le lt) ∙ f.1))
   where
@@ -57,7 +57,7 @@ module _ {D : Type 0} (honest : D → Type 0) (bytes : D → List ℕ) (unsynced
       (λ c out. record { before = c; outcome = out; same_length = refl; elsewhere = λ k other. refl })
       (λ c out. touched_but_for (unsynced old) (bytes old) g.at c (present old h) (shut (bytes old) (present old h)).0 out)
 
-  pub guards : (g.at < g.from) ⊎ (g.to ≤ g.at) → IsFirm (unsynced old) (bytes old) g.from g.to → LeavesOnly moment left_since old new (Guards g (bytes old))
+  pub guards : (g.at < g.from) ⊎ (g.to ≤ g.at) → StaysAsRead (unsynced old) (bytes old) g.from g.to → LeavesOnly moment left_since old new (Guards g (bytes old))
   guards apart firm = leaves_map moment left_since old new (IsButFor (unsynced old) g.at) (Guards g (bytes old)) (λ c b. but_for_guards g (unsynced old) (bytes old) c apart shut firm b) each
 
 module _ {D : Type 0} (honest : D → Type 0) (unsynced : D → Unsynced) (moment : D → ℕ) (left_since : D → ℕ → List ℕ → Type 0)

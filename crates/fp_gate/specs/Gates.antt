@@ -1,12 +1,17 @@
 -- What holds at the place of a gate, and at those that it guards, whatever a crash leaves.
 use Rattle.std.specs.Prelude.{◌≡◌, ◌≢◌, ◌<◌, ◌≤◌, ◌+◌, ℕ, List, length, slice_index}
 use Rattle.fp_disk.specs.Outcomes.{Unsynced, IsOutcome, Covers}
+use Rattle.fp_disk.specs.Checked.{Mark}
 
 -- the place of a gate, and the first that it guards and the one behind the last
 pub record Gated : Type 0 where
   pub at : ℕ
   pub from : ℕ
   pub to : ℕ
+
+-- A sync of the disk of this name, no later than now. The clock of a disk that isn't honest says nothing
+abbrev pub IsSyncOf : {D : Type 0} (honest : D → Type 0) (moment : D → ℕ) → D → ℕ → Mark → Type 0
+IsSyncOf honest moment disk name mark = (mark.disk ≡ name) × (honest disk → mark.moment ≤ moment disk)
 
 -- its byte is there and isn't a5, whatever a crash leaves
 abbrev pub IsShut : Unsynced → ℕ → Type 0
@@ -21,8 +26,8 @@ abbrev pub Agrees : ℕ → ℕ → List ℕ → List ℕ → Type 0
 Agrees from to bytes c = (k : ℕ) → from ≤ k → k < to → (k < length c) × (slice_index c k ≡ slice_index bytes k)
 
 -- these places are there and as they are read, whatever a crash leaves
-abbrev pub IsFirm : Unsynced → List ℕ → ℕ → ℕ → Type 0
-IsFirm u bytes from to = (c : List ℕ) → IsOutcome u c → Agrees from to bytes c
+abbrev pub StaysAsRead : Unsynced → List ℕ → ℕ → ℕ → Type 0
+StaysAsRead u bytes from to = (c : List ℕ) → IsOutcome u c → Agrees from to bytes c
 
 -- where the gate is open, what it guards is there
 abbrev pub Guards : Gated → List ℕ → List ℕ → Type 0

@@ -1,6 +1,6 @@
 ghost use Rattle.std.specs.Prelude.{◌≡◌, ◌↔◌, ◌≢◌, ◌⊎◌, ◌≤◌, ◌<◌, ◌+◌, ◌^◌, ℕ, List, length, slice_index, IfOk, OnOk, IsErr};
 ghost use Rattle.fp_disk.specs.Outcomes.{Answers, IsOutcome, LeavesOnly, Written as HasWritten, settled};
-ghost use Rattle.fp_gate.specs.Gates.{IsShut, IsOpen, IsFirm, Agrees, Guards, IsClosedAt, HasAt, HasBehind};
+ghost use Rattle.fp_gate.specs.Gates.{IsSyncOf, IsShut, IsOpen, StaysAsRead, Agrees, Guards, IsClosedAt, HasAt, HasBehind};
 
 use crate::gate::{Closed, Gate, Open};
 use fp_disk::{Checked, Disk, DiskFault, Synced};
@@ -40,8 +40,8 @@ fn open_and_seal<D: Disk>(
 ) -> Result<Gate<Open>, DiskFault>
     requires shut { D.honest disk.old.disk → IsShut (D.unsynced disk.old.disk) gate.at }
     requires firm { D.honest disk.old.disk →
-        IsFirm (D.unsynced disk.old.disk) (D.bytes disk.old.disk) gate.from gate.to }
-    requires token { (synced.disk ≡ disk.old.name) × (synced.moment ≤ D.moment disk.old.disk) }
+        StaysAsRead (D.unsynced disk.old.disk) (D.bytes disk.old.disk) gate.from gate.to }
+    requires token { IsSyncOf D.honest D.moment disk.old.disk disk.old.name synced }
     ensures gate { IfOk result (λ g. g ≡ gate) }
     ensures name { disk.new.name ≡ disk.old.name }
     ensures each { D.honest disk.old.disk →

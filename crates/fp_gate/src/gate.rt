@@ -1,6 +1,6 @@
 ghost use Rattle.std.specs.Prelude.{◌≡◌, ◌↔◌, ◌⊎◌, ◌≤◌, ◌<◌, ℕ, List, [], ◌∷◌, length, slice_index, IfOk, OnOk, IsErr};
 ghost use Rattle.fp_disk.specs.Outcomes.{Answers, ChangesWithin, Elapses, IsOutcome, LeavesOnly, Written as HasWritten, touched};
-ghost use Rattle.fp_gate.specs.Gates.{Gated, IsShut, IsOpen, IsFirm, Guards, IsButFor};
+ghost use Rattle.fp_gate.specs.Gates.{Gated, IsSyncOf, IsShut, IsOpen, StaysAsRead, Guards, IsButFor};
 
 use fp_disk::{Checked, Disk, DiskFault, Synced};
 use std::marker::{Model, PhantomData};
@@ -103,8 +103,8 @@ impl Gate<Closed> {
     ) -> Result<Gate<Written>, DiskFault>
         requires shut { D.honest disk.old.disk → IsShut (D.unsynced disk.old.disk) self.at }
         requires firm { D.honest disk.old.disk →
-            IsFirm (D.unsynced disk.old.disk) (D.bytes disk.old.disk) self.from self.to }
-        requires token { (synced.disk ≡ disk.old.name) × (synced.moment ≤ D.moment disk.old.disk) }
+            StaysAsRead (D.unsynced disk.old.disk) (D.bytes disk.old.disk) self.from self.to }
+        requires token { IsSyncOf D.honest D.moment disk.old.disk disk.old.name synced }
 
         ensures gate { IfOk result (λ g. g ≡ self) }
         ensures name { disk.new.name ≡ disk.old.name }
@@ -154,7 +154,7 @@ impl Gate<Closed> {
 impl Gate<Written> {
     /// The gate as open for good, for a sync made after its own byte was written.
     pub fn seal<D: Disk>(self, disk: &Checked<D>, synced: Synced<D>) -> Gate<Open>
-        requires token { (synced.disk ≡ disk.now.name) × (synced.moment ≤ D.moment disk.now.disk) }
+        requires token { IsSyncOf D.honest D.moment disk.now.disk disk.now.name synced }
         requires open { D.honest disk.now.disk → IsOpen (D.unsynced disk.now.disk) self.at }
         ensures { result ≡ self }
     {

@@ -5,9 +5,9 @@ use Rattle.fp_disk.specs.Moments.{leaves_call}
 use Rattle.fp_journal.specs.Holds.{Holds, IsFirm, Apart}
 use Rattle.fp_journal.specs.Chain.{Ends}
 use Rattle.fp_journal.specs.Moments.{KeepsFirm}
-use Rattle.fp_journal.specs.State.{IsQuiet, IsReady, IsSure, IsBetween}
+use Rattle.fp_journal.specs.State.{IsQuiet, IsSure, IsBetween}
 use Rattle.fp_journal.proofs.Holds.{firm_outcome, firm_touched, firm_settled}
-use Rattle.fp_journal.proofs.Gates.{quiet_outcome, quiet_touched, quiet_settled, sure_settled, between_opened, between_outcome, gate_written}
+use Rattle.fp_journal.proofs.Gates.{quiet_outcome, quiet_touched, between_opened, between_outcome, gate_written}
 
 module _ {D : Type 0} (honest : D → Type 0) (bytes : D → List ℕ) (unsynced : D → Unsynced) (moment : D → ℕ) (left_since : D → ℕ → List ℕ → Type 0)
     (present : (d : D) → honest d → IsOutcome (unsynced d) (bytes d))
@@ -67,18 +67,6 @@ module _ {D : Type 0} (honest : D → Type 0) (bytes : D → List ℕ) (unsynced
       stage_failed (inl same) = inl (subst (λ (u : Unsynced). IsQuiet start stop text u) (sym same) quiet)
       stage_failed (inr is) = inl (stage_quiet is)
 
-    -- the body's sync
-    module _ (quiet : IsQuiet start stop text (unsynced old)) where
-      pub body_leaves : Time (unsynced old) → Leaves Before
-      body_leaves time = let all : (c : List ℕ) → IsOutcome (unsynced old) c → Before c = λ c o. quiet_outcome start stop text (unsynced old) c quiet o in goes (unsynced old) Before time all all
-
-      pub body_failed : unsynced new ≡ unsynced old → Broken
-      body_failed same = inl (subst (λ (u : Unsynced). IsQuiet start stop text u) (sym same) quiet)
-
-      pub body_sure : IsReady start stop text more (bytes old) → unsynced new ≡ settled (bytes old) → IsQuiet start stop text (unsynced new) × IsSure start stop text more (unsynced new)
-      body_sure ready is = subst (λ (u : Unsynced). IsQuiet start stop text u × IsSure start stop text more u) (sym is)
-          (quiet_settled start stop text (bytes old) (quiet_outcome start stop text (unsynced old) (bytes old) quiet (present old h)), sure_settled start stop text more (bytes old) ready)
-
     -- the gate's byte
     either : (u : Unsynced) (c : List ℕ) → IsBetween start stop text more u → IsOutcome u c → Either c
     either u c i o = subst (λ (t : List ℕ). Ends start stop text c ⊎ Ends start stop t c) (sym is_next) (between_outcome start stop text more u c i o)
@@ -102,13 +90,3 @@ module _ {D : Type 0} (honest : D → Type 0) (bytes : D → List ℕ) (unsynced
         subst (λ (t : List ℕ). Ends start stop t (bytes new)) (sym is_next) (gate_written start stop text more (unsynced old) (bytes old) (bytes new) at.0 at.1 (present old h) (subst (λ (k : ℕ). Written (bytes old) k (165 ∷ []) (bytes new)) is w)),
         subst (λ (u : Unsynced). IsBetween start stop text more u) (sym touch) opens,
       )
-
-    -- the gate's sync
-    pub sealed_leaves : IsBetween start stop text more (unsynced old) → Time (unsynced old) → Leaves Either
-    sealed_leaves i time = let all : (c : List ℕ) → IsOutcome (unsynced old) c → Either c = λ c o. either (unsynced old) c i o in goes (unsynced old) Either time all all
-
-    pub sealed_failed : IsBetween start stop text more (unsynced old) → unsynced new ≡ unsynced old → Broken
-    sealed_failed i same = inr (subst (λ (u : Unsynced). IsBetween start stop text more u) (sym same) i)
-
-    pub sealed_quiet : Ends start stop next (bytes old) → unsynced new ≡ settled (bytes old) → IsQuiet start stop next (unsynced new)
-    sealed_quiet ends is = subst (λ (u : Unsynced). IsQuiet start stop next u) (sym is) (quiet_settled start stop next (bytes old) ends)

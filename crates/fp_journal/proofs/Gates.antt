@@ -40,9 +40,6 @@ module _ (start stop : ℕ) (text : List ℕ) where
       within = omega (arith, len, lt);
     }
 
-    pub sure_settled : (b : List ℕ) → IsReady start stop text more b → IsSure start stop text more (settled b)
-    sure_settled b r = record { gate = r.gate; shut = r.shut; firm = firm_settled b (End + 1) (more ++ r.gate ∷ []) r.holds; within = r.within }
-
     pub sure_touched : (u : Unsynced) (from n : ℕ) → Apart from n (End + 1) (length more + 1) → IsSure start stop text more u → IsSure start stop text more (touched u from n)
     sure_touched u from n apart r = let len : length (more ++ r.gate ∷ []) ≡ length more + 1 = length-append more (r.gate ∷ []) in
         record { gate = r.gate; shut = r.shut; firm = firm_touched u (End + 1) from n (more ++ r.gate ∷ []) (subst (λ (k : ℕ). Apart from n (End + 1) k) (sym len) apart) r.firm; within = r.within }

@@ -6,8 +6,8 @@ use Rattle.fp_journal.specs.declared.journal.Phase.{Phase}
 use Rattle.fp_journal.specs.declared.journal.Phase.TheVariants.{Idle, Staged, BodySynced, GateOpened, Failed}
 use Rattle.fp_journal.specs.Holds.{Apart}
 use Rattle.fp_journal.specs.Chain.{Ends, framed, spell}
-use Rattle.fp_journal.specs.State.{Claims, IsAt, IsQuiet, IsReady, IsSure, IsBetween}
-use Rattle.fp_journal.proofs.Holds.{holds_apart, firm_touched, firm_outcome, firm_settled}
+use Rattle.fp_journal.specs.State.{Claims, Secures, IsAt, IsQuiet, IsReady, IsSure, IsBetween}
+use Rattle.fp_journal.proofs.Holds.{holds_apart, firm_touched, firm_outcome, firm_settled, settled_outcome}
 use Rattle.fp_journal.proofs.Gates.{quiet_outcome, quiet_touched, quiet_settled, sure_touched, between_outcome, text-more}
 
 module _ (start stop : ℕ) (text more next : List ℕ) (from n : ℕ) (out : (from + n ≤ start) ⊎ (stop ≤ from)) where
@@ -93,6 +93,20 @@ module _ (slot : Slot) (front : List ℕ) (bodies : List (List ℕ)) (body : Lis
   at_claims BodySynced b u c s o = quiet_outcome slot.start slot.stop text u c s.0 o
   at_claims GateOpened b u c s o = either u c s.1 o
   at_claims Failed b u c s o = broken_claims u c s o
+
+  -- what a sync leaves
+  pub at_secures : (p : Phase) (b : List ℕ) (u : Unsynced) (c : List ℕ) → IsOutcome u b → IsAt p u b slot.start slot.stop text (framed body) next → IsOutcome (settled b) c → Secures p slot front bodies body c
+  at_secures Idle b u c now q o = quiet_outcome slot.start slot.stop text u c q (settled_outcome u b c now o)
+  at_secures Staged b u c now s o = let r = s.1 in let at : ℕ = slot.start + length text + 1 in record {
+    chain = quiet_outcome slot.start slot.stop text u c s.0 (settled_outcome u b c now o);
+    next = record { gate = r.gate; shut = r.shut; holds = firm_outcome (settled b) at (framed body ++ r.gate ∷ []) c (firm_settled b at (framed body ++ r.gate ∷ []) r.holds) o; within = r.within };
+  }
+  at_secures BodySynced b u c now s o = let r = s.1 in let was = settled_outcome u b c now o in record {
+    chain = quiet_outcome slot.start slot.stop text u c s.0 was;
+    next = record { gate = r.gate; shut = r.shut; holds = firm_outcome u (slot.start + length text + 1) (framed body ++ r.gate ∷ []) c r.firm was; within = r.within };
+  }
+  at_secures GateOpened b u c now s o = quiet_outcome slot.start slot.stop next (settled b) c (quiet_settled slot.start slot.stop next b s.0) o
+  at_secures Failed b u c now s o = broken_claims u c s (settled_outcome u b c now o)
 
   pub outside_claims : (from n : ℕ) → (from + n ≤ slot.start) ⊎ (slot.stop ≤ from) → (p : Phase) (b : List ℕ) (u : Unsynced) (c : List ℕ) → IsAt p u b slot.start slot.stop text (framed body) next → IsOutcome (touched u from n) c → Claims p slot front bodies body c
   outside_claims from n out Idle b u c q o = quiet_outcome slot.start slot.stop text (touched u from n) c (quiet_stays slot.start slot.stop text (framed body) next from n out u q) o

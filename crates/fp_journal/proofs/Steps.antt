@@ -1,6 +1,7 @@
 -- What each call of a journal does to its invariant, and what it leaves at each moment.
 use Rattle.std.proofs.Common.{◌≡◌, ◌⊎◌, ◌≤◌, ◌<◌, ◌+◌, ◌-◌, inl, inr, ⊎_elim, ℕ, List, [], ◌∷◌, ◌++◌, length, refl, arith, sym, ◌∙◌, ap, subst, length-append}
 use Rattle.std.specs.List.{AllByRecursion}
+use Rattle.std.specs.Prelude.{slice_index}
 use Rattle.std.proofs.lemmas.List.{take_at}
 use Rattle.fp_disk.specs.Outcomes.{Elapses, IsOutcome, LeavesOnly, Unsynced, Written, settled, touched}
 use Rattle.fp_disk.specs.Moments.{leaves_map, leaves_then}
@@ -8,11 +9,15 @@ use Rattle.fp_journal.specs.declared.slot.Slot.{Slot}
 use Rattle.fp_journal.specs.declared.journal.Phase.{Phase}
 use Rattle.fp_journal.specs.declared.journal.Phase.TheVariants.{Idle, Staged, BodySynced, GateOpened, Failed}
 use Rattle.fp_journal.specs.Holds.{Apart}
-use Rattle.fp_journal.specs.Chain.{framed, with_gate, body_of, spell}
+use Rattle.fp_gate.specs.Gates.{IsOpen, IsShut, StaysAsRead}
+use Rattle.fp_journal.specs.Chain.{Ends, framed, with_gate, body_of, spell}
 use Rattle.fp_journal.specs.Moments.{KeepsFirm}
-use Rattle.fp_journal.specs.State.{JournalState, HasChain, HasChainOrNext, Claims, Outside, IsQuiet, IsBetween, IsAt, IsFrame, InFlight, AllShort, IsKept, SameSlot, room}
+use Rattle.fp_journal.specs.declared.held.Held.{Held}
+use Rattle.fp_journal.specs.declared.held.Held.TheVariants as held
+use Rattle.fp_journal.specs.State.{JournalState, HasChain, HasChainOrNext, HasNext, Claims, Secures, Outside, IsQuiet, IsBetween, IsAt, IsFrame, InFlight, AllShort, IsHeld, IsKept, SameSlot, room}
 use Rattle.fp_journal.proofs.Gates.{text-more, ready_written}
 use Rattle.fp_journal.proofs.Calls as calls
+use Rattle.fp_journal.proofs.Firm as firm
 use Rattle.fp_journal.proofs.Stays as stays
 
 -- ---- the bytes of a body on its way
@@ -64,6 +69,52 @@ module _ {D : Type 0} (honest : D → Type 0) (bytes : D → List ℕ) (unsynced
   goes_on : (d : D) (body : List ℕ) (p : Phase) (written : List ℕ) → InFlight p k.slot.most (k.slot.stop - end) body written → (honest d → State p body d) → Kept d body p written
   goes_on d body p written flight state = record { place = kept.place; within = kept.within; short = kept.short; flight = flight; state = state }
 
+  -- ---- body_synced
+  pub body_done : k.phase ≡ Staged → (honest k.disk → (c : List ℕ) → IsOutcome (unsynced k.disk) c → HasNext k.slot k.front k.sealed k.staged c) → Kept k.disk k.staged BodySynced in_flight
+  body_done staged all = goes_on k.disk k.staged BodySynced in_flight (flight_is Staged staged) (λ h.
+      let q = firm.ends_firm (unsynced k.disk) (bytes k.disk) (present k.disk h) (k.slot.start + length text + 1) k.slot.stop (framed k.staged) (λ c o. (all h c o).next) in
+      ((state_is Staged staged h).0, record { gate = q.gate; shut = q.shut; firm = q.firm; within = q.within }))
+
+  -- ---- the gate of a body that is synced
+  module _ (synced : k.phase ≡ BodySynced) where
+    pub gate_shut : honest k.disk → IsShut (unsynced k.disk) end
+    gate_shut h = subst (λ (at : ℕ). IsShut (unsynced k.disk) at) (sym kept.place) (firm.quiet_shut k.slot.start k.slot.stop text (unsynced k.disk) (state_is BodySynced synced h).0)
+
+    pub frame_long : length in_flight ≡ length k.staged + 5
+    frame_long = let f : IsFrame k.slot.most (k.slot.stop - end) k.staged in_flight = flight_is BodySynced synced in ap length f.shape ∙ length_with_gate k.staged
+
+    pub frame_fits : end + 1 + length in_flight ≤ k.slot.stop
+    frame_fits = let f : IsFrame k.slot.most (k.slot.stop - end) k.staged in_flight = flight_is BodySynced synced in let size = frame_long in let fits = f.fits in let w = kept.within in omega (arith, size, fits, w)
+
+    pub body_stays : honest k.disk → StaysAsRead (unsynced k.disk) (bytes k.disk) (end + 1) (end + 1 + length in_flight)
+    body_stays h = let size = frame_long in let place = kept.place in
+        let from : end + 1 ≡ k.slot.start + length text + 1 = omega (arith, place) in
+        let to : end + 1 + length in_flight ≡ k.slot.start + length text + 1 + (length (framed k.staged) + 1) = omega (arith, place, size) in
+        subst (λ (j : ℕ). StaysAsRead (unsynced k.disk) (bytes k.disk) j (end + 1 + length in_flight)) (sym from)
+        (subst (λ (j : ℕ). StaysAsRead (unsynced k.disk) (bytes k.disk) (k.slot.start + length text + 1) j) (sym to)
+        (firm.sure_stays k.slot.start k.slot.stop text (unsynced k.disk) (framed k.staged) (bytes k.disk) (state_is BodySynced synced h).1 (present k.disk h)))
+
+  -- ---- gate_synced
+  module _ (opened : k.phase ≡ GateOpened) (all : honest k.disk → (c : List ℕ) → IsOutcome (unsynced k.disk) c → HasChain k.slot k.front (k.sealed ++ k.staged ∷ []) c) where
+    pub gate_open : honest k.disk → IsOpen (unsynced k.disk) end
+    gate_open h = λ c o. subst (λ (at : ℕ). (at < length c) × (slice_index c at ≡ 165)) (sym kept.place)
+        (firm.ends_open k.slot.start k.slot.stop text (framed k.staged) c (subst (λ (t : List ℕ). Ends k.slot.start k.slot.stop t c) (text-more k.front k.sealed k.staged) (all h c o)))
+
+    pub sealed_done : (name : ℕ) (sealed : List (List ℕ)) (n : ℕ) → sealed ≡ k.sealed ++ k.staged ∷ [] → n ≡ length in_flight
+        → IsKept honest bytes unsynced (record k { name = name; sealed = sealed; phase = Idle }) (end + n) in_flight
+    sealed_done name sealed n is len =
+        let f : IsFrame k.slot.most (k.slot.stop - end) k.staged in_flight = flight_is GateOpened opened in let place = kept.place in let fits = f.fits in let w = kept.within in
+        let size : length in_flight ≡ length k.staged + 5 = ap length f.shape ∙ length_with_gate k.staged in
+        let long : length (k.front ++ spell sealed) ≡ length text + 5 + length k.staged = ap (λ (bs : List (List ℕ)). length (k.front ++ spell bs)) is ∙ ap length (text-more k.front k.sealed k.staged) ∙ longer_text text k.staged in
+        record {
+          place = omega (arith, place, len, size, long);
+          within = omega (arith, len, size, fits, w);
+          short = subst (λ (bs : List (List ℕ)). AllShort k.slot.most bs) (sym is) (All-push (λ (b : List ℕ). length b ≤ k.slot.most) k.sealed k.staged kept.short f.short);
+          flight = tt;
+          state = λ h. subst (λ (bs : List (List ℕ)). IsQuiet k.slot.start k.slot.stop (k.front ++ spell bs) (unsynced k.disk)) (sym is)
+              (firm.ends_firm (unsynced k.disk) (bytes k.disk) (present k.disk h) k.slot.start k.slot.stop (next k.staged) (all h));
+        }
+
   module _ (new : D) where
     -- ---- stage
     module _ (idle : k.phase ≡ Idle) where
@@ -99,60 +150,23 @@ module _ {D : Type 0} (honest : D → Type 0) (bytes : D → List ℕ) (unsynced
             calls.frame_write honest bytes unsynced moment left_since present only_now k.disk new h (end + 1) (length piece) (Outside k.slot)
             (λ at m out. ⊎_elim (λ before. inr (omega (arith, before, place))) (λ after. inl (omega (arith, after, place, size, fits))) out) (time h) (failed h)
 
-    -- ---- body_synced
-    module _ (staged : k.phase ≡ Staged) where
-      pub body_leaves : (honest k.disk → Time new (unsynced k.disk)) → honest k.disk → Leaves new (HasChain k.slot k.front k.sealed)
-      body_leaves time h = calls.body_leaves honest bytes unsynced moment left_since present only_now k.disk new h k.slot.start k.slot.stop text [] (text ++ 165 ∷ []) refl (state_is Staged staged h).0 (time h)
-
-      pub body_failed : (honest new → honest k.disk) → (honest k.disk → unsynced new ≡ unsynced k.disk) → Kept new k.staged Failed in_flight
-      body_failed back same = goes_on new k.staged Failed in_flight tt
-          (λ h. let h0 = back h in calls.body_failed honest bytes unsynced moment left_since present only_now k.disk new h0 k.slot.start k.slot.stop text (framed k.staged) (next k.staged) (text-more k.front k.sealed k.staged) (state_is Staged staged h0).0 (same h0))
-
-      pub body_done : (honest new → honest k.disk) → (honest k.disk → unsynced new ≡ settled (bytes k.disk)) → Kept new k.staged BodySynced in_flight
-      body_done back sure = goes_on new k.staged BodySynced in_flight (flight_is Staged staged)
-          (λ h. let h0 = back h in let s = state_is Staged staged h0 in calls.body_sure honest bytes unsynced moment left_since present only_now k.disk new h0 k.slot.start k.slot.stop text (framed k.staged) (next k.staged) (text-more k.front k.sealed k.staged) s.0 s.1 (sure h0))
-
     -- ---- open_gate
-    module _ (synced : k.phase ≡ BodySynced) where
-      pub gate_leaves : (honest k.disk → Time new (touched (unsynced k.disk) end 1)) → honest k.disk → Leaves new (HasChainOrNext k.slot k.front k.sealed k.staged)
-      gate_leaves time h = calls.gate_leaves honest bytes unsynced moment left_since present only_now k.disk new h k.slot.start k.slot.stop text (framed k.staged) (next k.staged) (text-more k.front k.sealed k.staged) (state_is BodySynced synced h) end kept.place (time h)
+    module _ (synced : k.phase ≡ BodySynced) (place : ℕ) (is : place ≡ end) where
+      pub gate_leaves : (honest k.disk → Time new (touched (unsynced k.disk) place 1)) → honest k.disk → Leaves new (HasChainOrNext k.slot k.front k.sealed k.staged)
+      gate_leaves time h = calls.gate_leaves honest bytes unsynced moment left_since present only_now k.disk new h k.slot.start k.slot.stop text (framed k.staged) (next k.staged) (text-more k.front k.sealed k.staged) (state_is BodySynced synced h) place (is ∙ kept.place) (time h)
 
-      pub gate_failed : (honest new → honest k.disk) → (honest k.disk → (unsynced new ≡ unsynced k.disk) ⊎ (unsynced new ≡ touched (unsynced k.disk) end 1)) → Kept new k.staged Failed in_flight
+      pub gate_failed : (honest new → honest k.disk) → (honest k.disk → (unsynced new ≡ unsynced k.disk) ⊎ (unsynced new ≡ touched (unsynced k.disk) place 1)) → Kept new k.staged Failed in_flight
       gate_failed back failed = goes_on new k.staged Failed in_flight tt
-          (λ h. let h0 = back h in calls.gate_failed honest bytes unsynced moment left_since present only_now k.disk new h0 k.slot.start k.slot.stop text (framed k.staged) (next k.staged) (text-more k.front k.sealed k.staged) (state_is BodySynced synced h0) end kept.place (failed h0))
+          (λ h. let h0 = back h in calls.gate_failed honest bytes unsynced moment left_since present only_now k.disk new h0 k.slot.start k.slot.stop text (framed k.staged) (next k.staged) (text-more k.front k.sealed k.staged) (state_is BodySynced synced h0) place (is ∙ kept.place) (failed h0))
 
-      pub gate_done : (honest new → honest k.disk) → (honest k.disk → Written (bytes k.disk) end (165 ∷ []) (bytes new)) → (honest k.disk → unsynced new ≡ touched (unsynced k.disk) end 1) → Kept new k.staged GateOpened in_flight
+      pub gate_done : (honest new → honest k.disk) → (honest k.disk → Written (bytes k.disk) place (165 ∷ []) (bytes new)) → (honest k.disk → unsynced new ≡ touched (unsynced k.disk) place 1) → Kept new k.staged GateOpened in_flight
       gate_done back wrote touch = goes_on new k.staged GateOpened in_flight (flight_is BodySynced synced)
-          (λ h. let h0 = back h in calls.gate_open honest bytes unsynced moment left_since present only_now k.disk new h0 k.slot.start k.slot.stop text (framed k.staged) (next k.staged) (text-more k.front k.sealed k.staged) (state_is BodySynced synced h0) end kept.place (wrote h0) (touch h0))
+          (λ h. let h0 = back h in calls.gate_open honest bytes unsynced moment left_since present only_now k.disk new h0 k.slot.start k.slot.stop text (framed k.staged) (next k.staged) (text-more k.front k.sealed k.staged) (state_is BodySynced synced h0) place (is ∙ kept.place) (wrote h0) (touch h0))
 
-      pub gate_apart : (honest k.disk → Time new (touched (unsynced k.disk) end 1)) → (honest k.disk → (unsynced new ≡ unsynced k.disk) ⊎ (unsynced new ≡ touched (unsynced k.disk) end 1)) → honest k.disk → KeepsFirm moment left_since unsynced k.disk new (Outside k.slot)
-      gate_apart time failed h = let place = kept.place in let within = kept.within in
-          calls.frame_write honest bytes unsynced moment left_since present only_now k.disk new h end 1 (Outside k.slot)
-          (λ at m out. ⊎_elim (λ before. inr (omega (arith, before, place))) (λ after. inl (omega (arith, after, within))) out) (time h) (failed h)
-
-    -- ---- gate_synced
-    module _ (opened : k.phase ≡ GateOpened) where
-      pub sealed_leaves : (honest k.disk → Time new (unsynced k.disk)) → honest k.disk → Leaves new (HasChainOrNext k.slot k.front k.sealed k.staged)
-      sealed_leaves time h = calls.sealed_leaves honest bytes unsynced moment left_since present only_now k.disk new h k.slot.start k.slot.stop text (framed k.staged) (next k.staged) (text-more k.front k.sealed k.staged) (state_is GateOpened opened h).1 (time h)
-
-      pub sealed_failed : (honest new → honest k.disk) → (honest k.disk → unsynced new ≡ unsynced k.disk) → Kept new k.staged Failed in_flight
-      sealed_failed back same = goes_on new k.staged Failed in_flight tt
-          (λ h. let h0 = back h in calls.sealed_failed honest bytes unsynced moment left_since present only_now k.disk new h0 k.slot.start k.slot.stop text (framed k.staged) (next k.staged) (text-more k.front k.sealed k.staged) (state_is GateOpened opened h0).1 (same h0))
-
-      pub sealed_done : (name : ℕ) (all : List (List ℕ)) (n : ℕ) → all ≡ k.sealed ++ k.staged ∷ [] → n ≡ length in_flight → (honest new → honest k.disk) → (honest k.disk → unsynced new ≡ settled (bytes k.disk))
-          → IsKept honest bytes unsynced (record k { disk = new; name = name; sealed = all; phase = Idle }) (end + n) in_flight
-      sealed_done name all n is len back sure =
-          let f : IsFrame k.slot.most (k.slot.stop - end) k.staged in_flight = flight_is GateOpened opened in let place = kept.place in let fits = f.fits in let w = kept.within in
-          let size : length in_flight ≡ length k.staged + 5 = ap length f.shape ∙ length_with_gate k.staged in
-          let long : length (k.front ++ spell all) ≡ length text + 5 + length k.staged = ap (λ (bs : List (List ℕ)). length (k.front ++ spell bs)) is ∙ ap length (text-more k.front k.sealed k.staged) ∙ longer_text text k.staged in
-          record {
-            place = omega (arith, place, len, size, long);
-            within = omega (arith, len, size, fits, w);
-            short = subst (λ (bs : List (List ℕ)). AllShort k.slot.most bs) (sym is) (All-push (λ (b : List ℕ). length b ≤ k.slot.most) k.sealed k.staged kept.short f.short);
-            flight = tt;
-            state = λ h. let h0 = back h in subst (λ (bs : List (List ℕ)). IsQuiet k.slot.start k.slot.stop (k.front ++ spell bs) (unsynced new)) (sym is)
-                (calls.sealed_quiet honest bytes unsynced moment left_since present only_now k.disk new h0 k.slot.start k.slot.stop text (framed k.staged) (next k.staged) (text-more k.front k.sealed k.staged) (state_is GateOpened opened h0).0 (sure h0));
-          }
+      pub gate_apart : (honest k.disk → Time new (touched (unsynced k.disk) place 1)) → (honest k.disk → (unsynced new ≡ unsynced k.disk) ⊎ (unsynced new ≡ touched (unsynced k.disk) place 1)) → honest k.disk → KeepsFirm moment left_since unsynced k.disk new (Outside k.slot)
+      gate_apart time failed h = let ends = kept.place in let within = kept.within in
+          calls.frame_write honest bytes unsynced moment left_since present only_now k.disk new h place 1 (Outside k.slot)
+          (λ at m out. ⊎_elim (λ before. inr (omega (arith, before, ends, is))) (λ after. inl (omega (arith, after, within, is))) out) (time h) (failed h)
 
     -- ---- syncs
     pub sync_apart : (Out : ℕ → ℕ → Type 0) → (honest k.disk → Time new (unsynced k.disk)) → (honest k.disk → (unsynced new ≡ unsynced k.disk) ⊎ (unsynced new ≡ settled (bytes k.disk))) → honest k.disk → KeepsFirm moment left_since unsynced k.disk new Out
@@ -169,6 +183,9 @@ module _ {D : Type 0} (honest : D → Type 0) (bytes : D → List ℕ) (unsynced
     sync_done back same sure = goes_on new k.staged k.phase in_flight kept.flight
         (λ h. let h0 = back h in subst (λ (b : List ℕ). IsAt k.phase (unsynced new) b k.slot.start k.slot.stop text (framed k.staged) (next k.staged)) (sym (same h0))
         (subst (λ (u : Unsynced). IsAt k.phase u (bytes k.disk) k.slot.start k.slot.stop text (framed k.staged) (next k.staged)) (sym (sure h0)) (stays.at_synced k.slot.start k.slot.stop text (framed k.staged) (next k.staged) (bytes k.disk) (unsynced k.disk) (present k.disk h0) k.phase (kept.state h0))))
+
+    pub sync_secures : (honest new → honest k.disk) → (honest k.disk → unsynced new ≡ settled (bytes k.disk)) → honest new → (c : List ℕ) → IsOutcome (unsynced new) c → Secures k.phase k.slot k.front k.sealed k.staged c
+    sync_secures back sure h c o = let h0 = back h in stays.at_secures k.slot k.front k.sealed k.staged k.phase (bytes k.disk) (unsynced k.disk) c (present k.disk h0) (kept.state h0) (subst (λ (u : Unsynced). IsOutcome u c) (sure h0) o)
 
     -- ---- write_outside
     module _ (from : ℕ) (piece : List ℕ) (out : Outside k.slot from (length piece)) where
@@ -191,6 +208,15 @@ module _ {D : Type 0} (honest : D → Type 0) (bytes : D → List ℕ) (unsynced
       outside_done back wrote touch = goes_on new k.staged k.phase in_flight kept.flight
           (λ h. let h0 = back h in subst (λ (u : Unsynced). IsAt k.phase u (bytes new) k.slot.start k.slot.stop text (framed k.staged) (next k.staged)) (sym (touch h0)) (stays.at_outside k.slot.start k.slot.stop text (framed k.staged) (next k.staged) from (length piece) out (bytes k.disk) (bytes new) piece refl (wrote h0) k.phase (unsynced k.disk) (kept.state h0)))
 
+-- ---- what is kept for the next call
+-- a call of the disk leaves it so
+pub held_stays : {D : Type 0} (honest : D → Type 0) (moment : D → ℕ) (old new : D) (name end : ℕ) (held : Held D) → (honest new → honest old) → (honest old → moment old ≤ moment new) → IsHeld honest moment old name end held → IsHeld honest moment new name end held
+held_stays honest moment old new name end held.Idle back later is = tt
+held_stays honest moment old new name end held.Staged back later is = tt
+held_stays honest moment old new name end (held.BodySynced synced) back later is = (is.0, λ h. let h0 = back h in let a = is.1 h0 in let b = later h0 in omega (arith, a, b))
+held_stays honest moment old new name end (held.GateOpened gate) back later is = is
+held_stays honest moment old new name end held.Failed back later is = tt
+
 -- ---- four calls in turn
 module _ {D : Type 0} (moment : D → ℕ) (left_since : D → ℕ → List ℕ → Type 0) (first : JournalState D) (body : List ℕ) where
   abbrev Sealing : List ℕ → Type 0
@@ -203,7 +229,7 @@ module _ {D : Type 0} (moment : D → ℕ) (left_since : D → ℕ → List ℕ 
     pub staged : k.staged ≡ body
 
   pub sealing_on : (k l : JournalState D) → IsSealing k → SameSlot k l → (l.sealed ≡ k.sealed) × (l.staged ≡ k.staged) → IsSealing l
-  sealing_on k l s same bodies = record { same = (same.0 ∙ s.same.0, same.1 ∙ s.same.1, same.2 ∙ s.same.2); sealed = bodies.0 ∙ s.sealed; staged = bodies.1 ∙ s.staged }
+  sealing_on k l s same bodies = record { same = (same.0 ∙ s.same.0, same.1 ∙ s.same.1, same.2 ∙ s.same.2, same.3 ∙ s.same.3); sealed = bodies.0 ∙ s.sealed; staged = bodies.1 ∙ s.staged }
 
   claim : (k : JournalState D) (c : List ℕ) → IsSealing k → HasChainOrNext k.slot k.front k.sealed k.staged c → Sealing c
   claim k c s p = subst (λ (x : Slot). HasChainOrNext x first.front first.sealed body c) s.same.1 (subst (λ (x : List ℕ). HasChainOrNext k.slot x first.sealed body c) s.same.2
@@ -216,5 +242,17 @@ module _ {D : Type 0} (moment : D → ℕ) (left_since : D → ℕ → List ℕ 
   pub sealing_first : (new : D) → LeavesOnly moment left_since first.disk new (HasChain first.slot first.front first.sealed) → LeavesOnly moment left_since first.disk new Sealing
   sealing_first new l = leaves_map moment left_since first.disk new (HasChain first.slot first.front first.sealed) Sealing (λ c p. inl p) l
 
-  pub sealing_body : (k : JournalState D) (new : D) → IsSealing k → LeavesOnly moment left_since first.disk k.disk Sealing → LeavesOnly moment left_since k.disk new (HasChain k.slot k.front k.sealed) → LeavesOnly moment left_since first.disk new Sealing
-  sealing_body k new s before now = sealing_more k new s before (leaves_map moment left_since k.disk new (HasChain k.slot k.front k.sealed) (HasChainOrNext k.slot k.front k.sealed k.staged) (λ c p. inl p) now)
+  claims_next : (p : Phase) (slot : Slot) (front : List ℕ) (bodies : List (List ℕ)) (b c : List ℕ) → Claims p slot front bodies b c → HasChainOrNext slot front bodies b c
+  claims_next Idle slot front bodies b c is = inl is
+  claims_next Staged slot front bodies b c is = inl is
+  claims_next BodySynced slot front bodies b c is = inl is
+  claims_next GateOpened slot front bodies b c is = is
+  claims_next Failed slot front bodies b c is = is
+
+  -- a sync on the way
+  pub sealing_sync : (k : JournalState D) (new : D) → IsSealing k → LeavesOnly moment left_since first.disk k.disk Sealing → LeavesOnly moment left_since k.disk new (Claims k.phase k.slot k.front k.sealed k.staged) → LeavesOnly moment left_since first.disk new Sealing
+  sealing_sync k new s before now = sealing_more k new s before (leaves_map moment left_since k.disk new (Claims k.phase k.slot k.front k.sealed k.staged) (HasChainOrNext k.slot k.front k.sealed k.staged) (λ c p. claims_next k.phase k.slot k.front k.sealed k.staged c p) now)
+
+  -- and a step that makes no call of the disk
+  pub sealing_still : (old new : D) → new ≡ old → LeavesOnly moment left_since first.disk old Sealing → LeavesOnly moment left_since first.disk new Sealing
+  sealing_still old new same leaves = subst (λ (d : D). LeavesOnly moment left_since first.disk d Sealing) (sym same) leaves

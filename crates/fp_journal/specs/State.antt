@@ -2,7 +2,10 @@
 use Rattle.std.specs.Prelude.{◌≡◌, ◌≢◌, ◌⊎◌, ◌<◌, ◌≤◌, ◌+◌, ◌-◌, ℕ, List, [], ◌∷◌, ◌++◌, length}
 use Rattle.std.specs.List.{AllByRecursion}
 use Rattle.fp_disk.specs.Outcomes.{Unsynced}
+use Rattle.fp_gate.specs.Gates.{IsSyncOf}
 use Rattle.fp_journal.specs.declared.slot.Slot.{Slot}
+use Rattle.fp_journal.specs.declared.held.Held.{Held}
+use Rattle.fp_journal.specs.declared.held.Held.TheVariants as held
 use Rattle.fp_journal.specs.declared.journal.Phase.{Phase}
 use Rattle.fp_journal.specs.declared.journal.Phase.TheVariants.{Idle, Staged, BodySynced, GateOpened, Failed}
 use Rattle.fp_journal.specs.Holds.{Holds, IsFirm}
@@ -16,6 +19,7 @@ pub record SealedBodies : Type 0 where
 -- In its slot lie the front, which was there when the journal began, and the bodies sealed since; one body more may be on its way
 pub record JournalState (D : Type 0) : Type 0 where
   pub disk : D
+  pub disk_name : ℕ
   pub name : ℕ
   pub slot : Slot
   pub front : List ℕ
@@ -32,6 +36,11 @@ HasChain slot front bodies c = Ends slot.start slot.stop (front ++ spell bodies)
 abbrev pub HasChainOrNext : Slot → List ℕ → List (List ℕ) → List ℕ → List ℕ → Type 0
 HasChainOrNext slot front bodies body c = HasChain slot front bodies c ⊎ HasChain slot front (bodies ++ body ∷ []) c
 
+-- behind the closed gate stand the next body with its length, and a closed gate
+pub record HasNext (slot : Slot) (front : List ℕ) (bodies : List (List ℕ)) (body c : List ℕ) : Type 0 where
+  pub chain : HasChain slot front bodies c
+  pub next : Ends (slot.start + length (front ++ spell bodies) + 1) slot.stop (framed body) c
+
 -- what each outcome is at each phase
 abbrev pub Claims : Phase → Slot → List ℕ → List (List ℕ) → List ℕ → List ℕ → Type 0
 Claims Idle slot front bodies body c = HasChain slot front bodies c
@@ -39,6 +48,14 @@ Claims Staged slot front bodies body c = HasChain slot front bodies c
 Claims BodySynced slot front bodies body c = HasChain slot front bodies c
 Claims GateOpened slot front bodies body c = HasChainOrNext slot front bodies body c
 Claims Failed slot front bodies body c = HasChainOrNext slot front bodies body c
+
+-- what each outcome is once a sync at that phase succeeded
+abbrev pub Secures : Phase → Slot → List ℕ → List (List ℕ) → List ℕ → List ℕ → Type 0
+Secures Idle slot front bodies body c = HasChain slot front bodies c
+Secures Staged slot front bodies body c = HasNext slot front bodies body c
+Secures BodySynced slot front bodies body c = HasNext slot front bodies body c
+Secures GateOpened slot front bodies body c = HasChain slot front (bodies ++ body ∷ []) c
+Secures Failed slot front bodies body c = HasChainOrNext slot front bodies body c
 
 -- the n bytes from this place on are none of the slot's
 abbrev pub Outside : Slot → ℕ → ℕ → Type 0
@@ -48,9 +65,9 @@ Outside slot at n = (at + n ≤ slot.start) ⊎ (slot.stop ≤ at)
 abbrev pub room : {D : Type 0} → JournalState D → ℕ
 room k = k.slot.stop - (k.slot.start + length (k.front ++ spell k.sealed))
 
--- the journal, its slot and the front are the same
+-- the journal, its slot, the front and the disk's name are the same
 abbrev pub SameSlot : {D : Type 0} → JournalState D → JournalState D → Type 0
-SameSlot old new = (new.name ≡ old.name) × (new.slot ≡ old.slot) × (new.front ≡ old.front)
+SameSlot old new = (new.name ≡ old.name) × (new.slot ≡ old.slot) × (new.front ≡ old.front) × (new.disk_name ≡ old.disk_name)
 
 -- ---- what the disk may be at each phase; text is the front and the bodies, more the staged one behind its length
 -- the text and its closed gate are firm
@@ -111,3 +128,19 @@ pub record IsKept {D : Type 0} (honest : D → Type 0) (bytes : D → List ℕ) 
   pub short : AllShort k.slot.most k.sealed
   pub flight : InFlight k.phase k.slot.most (k.slot.stop - end) k.staged in_flight
   pub state : honest k.disk → IsAt k.phase (unsynced k.disk) (bytes k.disk) k.slot.start k.slot.stop (k.front ++ spell k.sealed) (framed k.staged) (k.front ++ spell (k.sealed ++ k.staged ∷ []))
+
+-- ---- what a journal keeps for its next call
+abbrev pub phase_of : {D : Type 0} → Held D → Phase
+phase_of held.Idle = Idle
+phase_of held.Staged = Staged
+phase_of (held.BodySynced synced) = BodySynced
+phase_of (held.GateOpened gate) = GateOpened
+phase_of held.Failed = Failed
+
+-- the token is of a sync of its disk; the gate is the one in front of the body
+abbrev pub IsHeld : {D : Type 0} (honest : D → Type 0) (moment : D → ℕ) → D → ℕ → ℕ → Held D → Type 0
+IsHeld honest moment disk disk_name end held.Idle = Unit {0}
+IsHeld honest moment disk disk_name end held.Staged = Unit {0}
+IsHeld honest moment disk disk_name end (held.BodySynced synced) = IsSyncOf honest moment disk disk_name synced
+IsHeld honest moment disk disk_name end (held.GateOpened gate) = gate.at ≡ end
+IsHeld honest moment disk disk_name end held.Failed = Unit {0}

@@ -1,17 +1,21 @@
-ghost use Rattle.fp_disk.specs.Outcomes.{Answers, IsOutcome, LeavesOnly, Written, settled, touched};
+ghost use Rattle.fp_disk.specs.Outcomes.{Answers, IsOutcome, LeavesOnly, Written as HasWritten, settled, touched};
+ghost use Rattle.fp_gate.specs.Gates.{IsSyncOf};
 ghost use Rattle.std.specs.Prelude.{◌≡◌, ◌⊎◌, ◌<◌, ◌≤◌, ◌+◌, ◌∷◌, [], ◌++◌, List, ℕ, length, slice_range, IfOk, OnOk, OnErr, IsErr};
 ghost use Rattle.fp_journal.specs.Holds.{Apart};
 ghost use Rattle.fp_journal.specs.Moments.{KeepsFirm};
-ghost use Rattle.fp_journal.specs.State.{AllShort, Claims, HasChain, HasChainOrNext, IsQuiet, Outside, SameSlot, room};
+ghost use Rattle.fp_journal.specs.State.{AllShort, Claims, HasChain, HasChainOrNext, HasNext, IsQuiet, Outside, SameSlot, Secures, room};
 ghost use Rattle.fp_journal.specs.declared.journal.Phase.TheVariants.{Idle, Staged, BodySynced, GateOpened, Failed};
 
 use crate::framed::Framed;
+use crate::held::Held;
 use crate::sealed::{Body, InFrame, Sealed};
 use crate::slot::Slot;
-use fp_disk::{Disk, DiskFault};
+use fp_disk::{Checked, Disk, DiskFault, Synced};
 use fp_fronts::Growing;
+use fp_gate::Gate;
 use std::alloc::Global;
 use std::marker::Model;
+use std::mem;
 use std::snapshot::Snapshot;
 
 /// How far a body is on its way.
@@ -32,9 +36,9 @@ pub enum Phase {
 /// A slot of a disk: a front, then bodies, each behind an open gate, and a closed gate behind the last.
 #[derive(Drop)]
 pub struct Journal<D: Disk> {
-    disk: D,
+    disk: Checked<D>,
     slot: Slot,
-    phase: Phase,
+    held: Held<D>,
     end: u64,
     in_flight: Vec<u8>,
     sealed: Growing<Body>,
@@ -45,13 +49,13 @@ pub struct Journal<D: Disk> {
 impl<D: Disk> Model for Journal<D> {
     ghost use Rattle.std.specs.Prelude.{slice_range};
     ghost use Rattle.fp_journal.specs.Chain.{body_of};
-    ghost use Rattle.fp_journal.specs.State.{JournalState, IsKept};
+    ghost use Rattle.fp_journal.specs.State.{JournalState, IsHeld, IsKept, phase_of};
 
     ghost Value = { JournalState D };
 
-    ghost view = { λ s. record { disk = s.disk; name = s.sealed.name; slot = s.slot; front = slice_range s.opened.value.items s.slot.start s.begin.value; sealed = s.sealed.log; staged = body_of s.in_flight.items; phase = s.phase } };
+    ghost view = { λ s. record { disk = s.disk.disk; disk_name = s.disk.name; name = s.sealed.name; slot = s.slot; front = slice_range s.opened.value.items s.slot.start s.begin.value; sealed = s.sealed.log; staged = body_of s.in_flight.items; phase = phase_of s.held } };
 
-    ghost invariant = { λ s. IsKept D.honest D.bytes D.unsynced (record { disk = s.disk; name = s.sealed.name; slot = s.slot; front = slice_range s.opened.value.items s.slot.start s.begin.value; sealed = s.sealed.log; staged = body_of s.in_flight.items; phase = s.phase }) s.end s.in_flight.items };
+    ghost invariant = { λ s. IsKept D.honest D.bytes D.unsynced (record { disk = s.disk.disk; disk_name = s.disk.name; name = s.sealed.name; slot = s.slot; front = slice_range s.opened.value.items s.slot.start s.begin.value; sealed = s.sealed.log; staged = body_of s.in_flight.items; phase = phase_of s.held }) s.end s.in_flight.items × IsHeld D.honest D.moment s.disk.disk s.disk.name s.end s.held };
 }
 
 impl<D: Disk> Journal<D> {
@@ -66,9 +70,9 @@ impl<D: Disk> Journal<D> {
     {
         let (sealed, _) = Growing::new();
         Journal {
-            disk,
+            disk: Checked::new(disk),
             slot,
-            phase: Phase::Idle,
+            held: Held::Idle,
             end,
             in_flight: Vec::new(alloc),
             sealed,
@@ -98,7 +102,7 @@ impl<D: Disk> Journal<D> {
         ensures phase { result ≡ self.now.phase }
         ensures outcomes { D.honest self.now.disk → (c : List ℕ) → IsOutcome (D.unsynced self.now.disk) c → Claims result self.now.slot self.now.front self.now.sealed self.now.staged c }
     {
-        self.phase
+        self.held.phase()
     }
 
     /// Gives the disk back.
@@ -109,14 +113,14 @@ impl<D: Disk> Journal<D> {
         let Journal {
             disk,
             slot: _,
-            phase: _,
+            held: _,
             end: _,
             in_flight: _,
             sealed: _,
             opened: _,
             begin: _,
         } = self;
-        disk
+        disk.into_disk()
     }
 }
 
@@ -134,28 +138,46 @@ impl<D: Disk> Journal<D> {
         ensures honest { (D.honest self.old.disk → D.honest self.new.disk) × (D.honest self.new.disk → D.honest self.old.disk) }
         ensures cause { Answers (D.faults self.old.disk) (D.faults self.new.disk) result }
     {
-        self.phase = Phase::Failed;
+        self.held = Held::Failed;
         self.in_flight = framed.into_bytes();
         self.disk.write_at(self.end + 1, &self.in_flight)?;
-        self.phase = Phase::Staged;
+        self.held = Held::Staged;
         Ok(())
     }
 
-    /// Makes sure of the body behind the gate, which is closed still.
-    pub fn body_synced(&mut self) -> Result<(), DiskFault>
-        requires { self.old.phase ≡ Staged }
+    /// Makes sure of all that was written, at any phase, and tells it by a token.
+    pub fn sync(&mut self) -> Result<Synced<D>, DiskFault>
+        ensures token { IfOk result (λ s. (s.disk ≡ self.new.disk_name) × (s.moment ≡ D.moment self.new.disk)) }
+        ensures durable { D.honest self.old.disk → OnOk result ((D.bytes self.new.disk ≡ D.bytes self.old.disk) × (D.unsynced self.new.disk ≡ settled (D.bytes self.old.disk))) }
+
+        // What was staged, or the open gate, is in every outcome now.
+        ensures firm { D.honest self.new.disk → OnOk result ((c : List ℕ) → IsOutcome (D.unsynced self.new.disk) c → Secures self.new.phase self.new.slot self.new.front self.new.sealed self.new.staged c) }
+
         ensures same { SameSlot self.old self.new }
         ensures bodies { (self.new.sealed ≡ self.old.sealed) × (self.new.staged ≡ self.old.staged) }
-        ensures phase { OnOk result (self.new.phase ≡ BodySynced) × OnErr result (self.new.phase ≡ Failed) }
-        ensures any_moment { D.honest self.old.disk → LeavesOnly D.moment D.left_since self.old.disk self.new.disk (HasChain self.old.slot self.old.front self.old.sealed) }
-        ensures apart { D.honest self.old.disk → KeepsFirm D.moment D.left_since D.unsynced self.old.disk self.new.disk (Outside self.old.slot) }
+        ensures phase { OnOk result (self.new.phase ≡ self.old.phase) × OnErr result (self.new.phase ≡ Failed) }
+        ensures any_moment { D.honest self.old.disk → LeavesOnly D.moment D.left_since self.old.disk self.new.disk (Claims self.old.phase self.old.slot self.old.front self.old.sealed self.old.staged) }
+        ensures apart { D.honest self.old.disk → KeepsFirm D.moment D.left_since D.unsynced self.old.disk self.new.disk (λ at n. Unit {0}) }
         ensures honest { (D.honest self.old.disk → D.honest self.new.disk) × (D.honest self.new.disk → D.honest self.old.disk) }
         ensures cause { Answers (D.faults self.old.disk) (D.faults self.new.disk) result }
     {
-        self.phase = Phase::Failed;
-        self.disk.sync()?;
-        self.phase = Phase::BodySynced;
-        Ok(())
+        let held = mem::replace(&mut self.held, Held::Failed);
+        let synced = self.disk.sync()?;
+        self.held = held;
+        Ok(synced)
+    }
+
+    /// Takes the sync that made sure of the body, whose gate is closed still. It makes no call of the disk.
+    pub fn body_synced(&mut self, synced: Synced<D>)
+        requires staged { self.old.phase ≡ Staged }
+        requires token { IsSyncOf D.honest D.moment self.old.disk self.old.disk_name synced }
+        requires firm { D.honest self.old.disk → (c : List ℕ) → IsOutcome (D.unsynced self.old.disk) c → HasNext self.old.slot self.old.front self.old.sealed self.old.staged c }
+        ensures same { SameSlot self.old self.new }
+        ensures disk { self.new.disk ≡ self.old.disk }
+        ensures bodies { (self.new.sealed ≡ self.old.sealed) × (self.new.staged ≡ self.old.staged) }
+        ensures phase { self.new.phase ≡ BodySynced }
+    {
+        self.held = Held::BodySynced(synced);
     }
 
     /// Opens the gate in front of the body.
@@ -169,33 +191,41 @@ impl<D: Disk> Journal<D> {
         ensures honest { (D.honest self.old.disk → D.honest self.new.disk) × (D.honest self.new.disk → D.honest self.old.disk) }
         ensures cause { Answers (D.faults self.old.disk) (D.faults self.new.disk) result }
     {
-        self.phase = Phase::Failed;
-        self.disk.write_at(self.end, &[165])?;
-        self.phase = Phase::GateOpened;
+        let Held::BodySynced(synced) = mem::replace(&mut self.held, Held::Failed) else {
+            unreachable!()
+        };
+        let from = self.end + 1;
+        let gate = Gate::adopt(&self.disk, self.end).guarding(
+            from,
+            from + self.in_flight.len() as u64,
+        );
+        self.held = Held::GateOpened(gate.open(&mut self.disk, synced)?);
         Ok(())
     }
 
-    /// Makes sure of the open gate: the body is sealed.
-    pub fn gate_synced(&mut self) -> Result<Sealed, DiskFault>
-        requires { self.old.phase ≡ GateOpened }
+    /// Takes the sync that made sure of the open gate: the body is sealed. It makes no call of the disk.
+    pub fn gate_synced(&mut self, synced: Synced<D>) -> Sealed
+        requires opened { self.old.phase ≡ GateOpened }
+        requires token { IsSyncOf D.honest D.moment self.old.disk self.old.disk_name synced }
+        requires firm { D.honest self.old.disk → (c : List ℕ) → IsOutcome (D.unsynced self.old.disk) c → HasChain self.old.slot self.old.front (self.old.sealed ++ self.old.staged ∷ []) c }
         ensures same { SameSlot self.old self.new }
-        ensures ok { OnOk result ((self.new.sealed ≡ self.old.sealed ++ self.old.staged ∷ []) × (self.new.phase ≡ Idle)) }
-        ensures token { IfOk result (λ t. (t.name ≡ self.new.name) × (t.bodies ≡ self.new.sealed)) }
-        ensures err { OnErr result ((self.new.sealed ≡ self.old.sealed) × (self.new.staged ≡ self.old.staged) × (self.new.phase ≡ Failed)) }
-        ensures any_moment { D.honest self.old.disk → LeavesOnly D.moment D.left_since self.old.disk self.new.disk (HasChainOrNext self.old.slot self.old.front self.old.sealed self.old.staged) }
-        ensures exit { D.honest self.new.disk → OnOk result ((c : List ℕ) → IsOutcome (D.unsynced self.new.disk) c → HasChain self.new.slot self.new.front self.new.sealed c) }
-        ensures apart { D.honest self.old.disk → KeepsFirm D.moment D.left_since D.unsynced self.old.disk self.new.disk (Outside self.old.slot) }
-        ensures honest { (D.honest self.old.disk → D.honest self.new.disk) × (D.honest self.new.disk → D.honest self.old.disk) }
-        ensures cause { Answers (D.faults self.old.disk) (D.faults self.new.disk) result }
+        ensures disk { self.new.disk ≡ self.old.disk }
+        ensures sealed { (self.new.sealed ≡ self.old.sealed ++ self.old.staged ∷ []) × (self.new.phase ≡ Idle) }
+        ensures token { (result.name ≡ self.new.name) × (result.bodies ≡ self.new.sealed) }
+        ensures exit { D.honest self.new.disk → (c : List ℕ) → IsOutcome (D.unsynced self.new.disk) c → HasChain self.new.slot self.new.front self.new.sealed c }
     {
-        self.phase = Phase::Failed;
-        self.disk.sync()?; // Before it the gate may be found closed.
-        self.phase = Phase::Idle;
+        let Held::GateOpened(gate) = mem::replace(&mut self.held, Held::Idle) else {
+            unreachable!()
+        };
+        let gate = gate.seal(&self.disk, synced);
         self.end += self.in_flight.len() as u64;
-        Ok(Sealed::new(self.sealed.lengthen::<Vec<u8>, InFrame>(&self.in_flight)))
+        Sealed::new(
+            gate,
+            self.sealed.lengthen::<Vec<u8>, InFrame>(&self.in_flight),
+        )
     }
 
-    /// Seals a body by the four calls in turn.
+    /// Seals a body: four calls of the disk, the body, a sync, its gate, a sync.
     pub fn seal(&mut self, framed: Framed) -> Result<Sealed, DiskFault>
         requires idle { self.old.phase ≡ Idle }
         requires short { length framed ≤ self.old.slot.most }
@@ -210,15 +240,17 @@ impl<D: Disk> Journal<D> {
         ensures cause { Answers (D.faults self.old.disk) (D.faults self.new.disk) result }
     {
         self.stage(framed)?;
-        self.body_synced()?;
+        let body = self.sync()?;
+        self.body_synced(body);
         self.open_gate()?;
-        self.gate_synced()
+        let gate = self.sync()?;
+        Ok(self.gate_synced(gate))
     }
 
     /// Writes outside the slot, at any phase.
     pub fn write_outside(&mut self, at: u64, from: &[u8]) -> Result<(), DiskFault>
         requires { Outside self.old.slot at (length from.now) }
-        ensures written { D.honest self.old.disk → OnOk result (Written (D.bytes self.old.disk) at from.now (D.bytes self.new.disk) × (D.unsynced self.new.disk ≡ touched (D.unsynced self.old.disk) at (length from.now))) }
+        ensures written { D.honest self.old.disk → OnOk result (HasWritten (D.bytes self.old.disk) at from.now (D.bytes self.new.disk) × (D.unsynced self.new.disk ≡ touched (D.unsynced self.old.disk) at (length from.now))) }
         ensures same { SameSlot self.old self.new }
         ensures bodies { (self.new.sealed ≡ self.old.sealed) × (self.new.staged ≡ self.old.staged) }
         ensures phase { OnOk result (self.new.phase ≡ self.old.phase) × OnErr result (self.new.phase ≡ Failed) }
@@ -227,28 +259,9 @@ impl<D: Disk> Journal<D> {
         ensures honest { (D.honest self.old.disk → D.honest self.new.disk) × (D.honest self.new.disk → D.honest self.old.disk) }
         ensures cause { Answers (D.faults self.old.disk) (D.faults self.new.disk) result }
     {
-        let phase = self.phase;
-        self.phase = Phase::Failed;
+        let held = mem::replace(&mut self.held, Held::Failed);
         self.disk.write_at(at, from)?;
-        self.phase = phase;
-        Ok(())
-    }
-
-    /// Makes sure of all that was written, at any phase.
-    pub fn sync_all(&mut self) -> Result<(), DiskFault>
-        ensures durable { D.honest self.old.disk → OnOk result ((D.bytes self.new.disk ≡ D.bytes self.old.disk) × (D.unsynced self.new.disk ≡ settled (D.bytes self.old.disk))) }
-        ensures same { SameSlot self.old self.new }
-        ensures bodies { (self.new.sealed ≡ self.old.sealed) × (self.new.staged ≡ self.old.staged) }
-        ensures phase { OnOk result (self.new.phase ≡ self.old.phase) × OnErr result (self.new.phase ≡ Failed) }
-        ensures any_moment { D.honest self.old.disk → LeavesOnly D.moment D.left_since self.old.disk self.new.disk (Claims self.old.phase self.old.slot self.old.front self.old.sealed self.old.staged) }
-        ensures apart { D.honest self.old.disk → KeepsFirm D.moment D.left_since D.unsynced self.old.disk self.new.disk (λ at n. Unit {0}) }
-        ensures honest { (D.honest self.old.disk → D.honest self.new.disk) × (D.honest self.new.disk → D.honest self.old.disk) }
-        ensures cause { Answers (D.faults self.old.disk) (D.faults self.new.disk) result }
-    {
-        let phase = self.phase;
-        self.phase = Phase::Failed;
-        self.disk.sync()?;
-        self.phase = phase;
+        self.held = held;
         Ok(())
     }
 }

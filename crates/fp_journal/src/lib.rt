@@ -3,6 +3,7 @@
 
 mod chain;
 mod framed;
+mod held;
 mod journal;
 mod opening;
 mod sealed;

@@ -42,6 +42,7 @@ pub fn synced_bytes<D: Disk>(alloc: Global, disk: &mut D) -> Result<Vec<u8>, Byt
     ensures same { D.honest disk.old → D.bytes disk.new ≡ D.bytes disk.old }
     ensures any_moment { D.honest disk.old → LeavesOnly D.moment D.left_since disk.old disk.new (IsOutcome (D.unsynced disk.old)) }
     ensures honest { (D.honest disk.old → D.honest disk.new) × (D.honest disk.new → D.honest disk.old) }
+    ensures calm { OnOk result (D.faults disk.new ≡ D.faults disk.old) }
     ensures cause { IsErrOf result Device → D.faults disk.old < D.faults disk.new }
 {
     disk.sync()?;

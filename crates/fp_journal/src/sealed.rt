@@ -2,6 +2,7 @@ ghost use Rattle.std.specs.Prelude.{◌≡◌, [], ◌∷◌};
 ghost use Rattle.fp_journal.specs.Chain.{body_of};
 
 use fp_fronts::{Front, Lists};
+use fp_gate::{Gate, Open};
 use std::marker::Model;
 
 /// A body as an element of the list of sealed bodies.
@@ -28,7 +29,7 @@ impl Lists<Vec<u8>, Body> for InFrame {
     ghost items = { λ v. body_of v.items ∷ [] };
 }
 
-/// That a journal had sealed these bodies. Only a sync behind an opened gate makes one.
+/// That a journal had sealed these bodies. Only an open gate makes one.
 #[derive(Drop)]
 pub struct Sealed {
     front: Front<Body>,
@@ -43,9 +44,10 @@ impl Model for Sealed {
 }
 
 impl Sealed {
-    pub(crate) fn new(front: Front<Body>) -> Sealed
+    pub(crate) fn new(gate: Gate<Open>, front: Front<Body>) -> Sealed
         ensures { (result.name ≡ front.name) × (result.bodies ≡ front.log) }
     {
+        let _ = gate;
         Sealed { front }
     }
 

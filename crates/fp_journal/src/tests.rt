@@ -3,7 +3,7 @@ ghost use Rattle.std.specs.Prelude.{◌≡◌};
 use crate::{
     BodyFault, ChainFault, Framed, Journal, Phase, Reader, Slot, read_chain, resume, synced_bytes,
 };
-use fp_disk::{Choice, Fill, MemoryDisk};
+use fp_disk::{Choice, FailedWrite, Failing, Fill, MemoryDisk};
 use std::alloc::Global;
 use std::test::Fail;
 
@@ -55,25 +55,26 @@ fn slot() -> Slot
     }
 }
 
-// A journal behind the two bytes of a front.
-fn opened(alloc: Global, bytes: &[u8]) -> Result<Journal<MemoryDisk>, Fail> {
-    let mut disk = MemoryDisk::holding(alloc, bytes.to_vec(alloc)?)?;
+// A journal behind the two bytes of a front, on a disk that is to fail so.
+fn opened(alloc: Global, failing: Failing) -> Result<Journal<MemoryDisk>, Fail> {
+    let mut disk = MemoryDisk::holding(alloc, EMPTY.to_vec(alloc)?)?;
     let all = synced_bytes(alloc, &mut disk)?;
     if all.len() < 4 {
         return Err(Fail::new("too short"));
     }
+    disk.set_failing(failing, FailedWrite::Half);
     match resume(alloc, disk, &all, slot(), 4, &mut empty_reader(alloc)) {
         Ok(journal) => Ok(journal),
         Err(_) => Err(Fail::new("refused")),
     }
 }
 
-// Seals a body, where there is room for it.
-fn put(alloc: Global, journal: &mut Journal<MemoryDisk>, body: &[u8]) -> Result<bool, Fail> {
+// Seals a body, where there is room for it, or fails.
+fn put(alloc: Global, journal: &mut Journal<MemoryDisk>, body: &[u8]) -> Option<bool> {
     if body.len() > 8 {
-        return Ok(false);
+        return Some(false);
     }
-    let framed = Framed::new(alloc, body)?;
+    let framed = Framed::new(alloc, body).ok()?;
     let Slot {
         start: _,
         stop: _,
@@ -81,13 +82,13 @@ fn put(alloc: Global, journal: &mut Journal<MemoryDisk>, body: &[u8]) -> Result<
     } = journal.slot();
     match journal.phase() {
         Phase::Idle => {}
-        _ => return Ok(false),
+        _ => return Some(false),
     }
     if framed.cost() > journal.room() || framed.cost() > u64::from(most) + 6 {
-        return Ok(false);
+        return Some(false);
     }
-    journal.seal(framed)?;
-    Ok(true)
+    journal.seal(framed).ok()?;
+    Some(true)
 }
 
 // What a read of the whole disk gives.
@@ -99,12 +100,20 @@ fn all_of(alloc: Global, disk: MemoryDisk) -> Result<Vec<u8>, Fail> {
 #[test]
 fn bodies_are_sealed_behind_one_another(rt: HostRuntime) -> Result<(), Fail> {
     let alloc = rt.alloc();
-    let mut journal = opened(alloc, EMPTY.as_slice())?;
+    let mut journal = opened(alloc, Failing::Never)?;
     assert_eq!(rt; journal.room(), 16);
-    assert!(rt; put(alloc, &mut journal, b"ab")?);
+    assert_eq!(rt; put(alloc, &mut journal, b"ab"), Some(true));
     assert_eq!(rt; journal.room(), 9);
-    assert!(rt; !put(alloc, &mut journal, b"wxyz")?, "a byte too many");
-    assert!(rt; put(alloc, &mut journal, b"xyz")?, "the last byte");
+    assert_eq!(rt;
+        put(alloc, &mut journal, b"wxyz"),
+        Some(false),
+        "a byte too many"
+    );
+    assert_eq!(rt;
+        put(alloc, &mut journal, b"xyz"),
+        Some(true),
+        "the last byte"
+    );
     assert_eq!(rt; journal.room(), 1);
     let bytes = all_of(alloc, journal.into_disk())?;
     let want: [u8; 23] = [
@@ -190,52 +199,34 @@ fn left(
     }
 }
 
+// How many bodies are read after a crash, where the disk let so many calls of a batch pass; and whether it was sealed.
+fn crashed(
+    alloc: Global,
+    passing: u64,
+    pending: Fill,
+    rest: Fill,
+) -> Result<(usize, Vec<u8>, bool), Fail> {
+    let mut journal = opened(alloc, Failing::From(passing))?;
+    let sealed = put(alloc, &mut journal, b"ab").is_some();
+    let (found, bytes) = left(alloc, journal, [pending].as_slice(), rest)?;
+    Ok((found, bytes, sealed))
+}
+
 #[test]
 fn a_crash_leaves_the_body_or_not(rt: HostRuntime) -> Result<(), Fail> {
     let alloc = rt.alloc();
-    // The gate's byte as it is chosen, and the bodies that are there once the gate is written.
-    let gates = [(0xa5, 1), (0, 0), (0x37, 0)];
-    for (calls, any) in [(1u8, false), (2, false), (3, true), (4, true)] {
-        for (gate, bodies) in gates {
+    for passing in 0..5u64 {
+        // The gate's byte as it is chosen, and the bodies that are there where it was pending.
+        for (gate, bodies) in [(0xa5, 1), (0, 0), (0x37, 0)] {
             for seed in 0..20u64 {
-                let mut journal = opened(alloc, EMPTY.as_slice())?;
-                match journal.phase() {
-                    Phase::Idle => {}
-                    _ => return Err(Fail::new("not idle")),
-                }
-                let framed = Framed::new(alloc, b"ab")?;
-                let Slot {
-                    start: _,
-                    stop: _,
-                    most,
-                } = journal.slot();
-                assert!(rt;
-                    framed.cost() <= journal.room() && framed.cost() <= u64::from(most) + 6
-                );
-                journal.stage(framed)?;
-                if 1 < calls {
-                    journal.body_synced()?;
-                    if 2 < calls {
-                        journal.open_gate()?;
-                        if 3 < calls {
-                            journal.gate_synced()?;
-                        }
-                    }
-                }
-                let pending = if calls == 1 {
-                    Fill::Seed(seed)
-                } else {
-                    Fill::Byte(gate)
+                let (pending, want) = match passing {
+                    0 | 1 => (Fill::Seed(seed), 0),
+                    2 | 3 => (Fill::Byte(gate), bodies),
+                    _ => (Fill::Byte(gate), 1),
                 };
-                let (found, bytes) = left(alloc, journal, [pending].as_slice(), Fill::Old)?;
-                let want = if calls == 4 {
-                    1
-                } else if any {
-                    bodies
-                } else {
-                    0
-                };
-                assert_eq!(rt; found, want, "{calls} {gate} {seed}");
+                let (found, bytes, sealed) = crashed(alloc, passing, pending, Fill::Seed(seed))?;
+                assert_eq!(rt; sealed, passing == 4);
+                assert_eq!(rt; found, want, "{passing} {gate} {seed}");
                 assert!(rt; bytes.starts_with(&EMPTY[..2]) && bytes.ends_with(&EMPTY[20..]));
             }
         }

@@ -59,6 +59,7 @@ pub fn open<D: Disk, R: SlotReader>(
     ensures settled { D.honest disk → IfOk result (λ j. D.unsynced j.disk ≡ settled (D.bytes disk)) }
     ensures any_moment { D.honest disk → MatchResult result (λ j. LeavesOnly D.moment D.left_since disk j.disk (IsOutcome (D.unsynced disk))) (λ e. LeavesOnly D.moment D.left_since disk e.1 (IsOutcome (D.unsynced disk))) }
     ensures honest { MatchResult result (λ j. (D.honest disk → D.honest j.disk) × (D.honest j.disk → D.honest disk)) (λ e. (D.honest disk → D.honest e.1) × (D.honest e.1 → D.honest disk)) }
+    ensures calm { IfOk result (λ j. D.faults j.disk ≡ D.faults disk) }
     ensures cause { IfErr result (λ e. e.0 ≡ Device → D.faults disk < D.faults e.1) }
 {
     let bytes = match synced_bytes(alloc, &mut disk) {

@@ -1,13 +1,8 @@
 -- What becomes of an edit that isn't answered with its revision.
 use Rattle.std.specs.Prelude.{◌≡◌, ◌≢◌, ◌⊎◌, ◌<◌, ◌+◌, ℕ, length}
-use Rattle.fp_edit.specs.Flags.{State}
-use Rattle.fp_edit.specs.Edits.{Change, Proposal, proposal_of}
-use Rattle.fp_edit.specs.Admits.{Admits, accepted}
+use Rattle.fp_edit.specs.Edits.{Change, proposal_of}
+use Rattle.fp_edit.specs.Admits.{Admits, accepted, IsRefusedOrWanting}
 use Rattle.fp_edit.specs.declared.edit.Edit.{Edit}
-use Rattle.fp_edit.specs.declared.edit.EditFault.{EditFault}
-use Rattle.fp_edit.specs.declared.edit.EditFault.TheVariants as fault
-use Rattle.fp_edit.specs.Admits.{refusal}
-use Rattle.std.specs.Prelude.{None, Some}
 use Rattle.fp_journal.specs.State.{JournalState, room}
 use Rattle.fp_journal.specs.declared.journal.Phase.TheVariants.{Idle}
 use Rattle.fp_record.specs.Spelling.{spelling_of_change}
@@ -15,23 +10,16 @@ use Rattle.fp_recovery.specs.Durable.{Durable}
 use Rattle.fp_recovery.specs.declared.fault.AdmitFault.{AdmitFault}
 use Rattle.fp_recovery.specs.declared.fault.AdmitFault.TheVariants.{Refused, StoreFailed}
 
--- the set refuses it, or memory is wanting for one that it lets through
-abbrev pub IsRefusal : State → Proposal → EditFault → Type 0
-IsRefusal s p fault.Memory = refusal s p ≡ None
-IsRefusal s p (fault.Conflict current) = refusal s p ≡ Some (fault.Conflict current)
-IsRefusal s p fault.SetTooLarge = refusal s p ≡ Some fault.SetTooLarge
-IsRefusal s p fault.RevisionsUsed = refusal s p ≡ Some fault.RevisionsUsed
-
 -- A refusal changes nothing and gives the edit back. Where the store failed, the set is as before or as after the edit
 abbrev pub IsDeclined : {D : Type 0} → Durable D → Durable D → Edit → AdmitFault → Type 0
-IsDeclined old new edit (Refused fault given) = (new ≡ old) × (given ≡ edit) × IsRefusal old.set (proposal_of edit) fault
+IsDeclined old new edit (Refused fault given) = (new ≡ old) × (given ≡ edit) × IsRefusedOrWanting old.set (proposal_of edit) fault
 IsDeclined old new edit StoreFailed = (new.set ≡ old.set) ⊎ Admits old.set (proposal_of edit) (accepted new.set)
 
 -- a batch of this one change has no room
 abbrev pub HasNoRoom : {D : Type 0} → JournalState D → Change → Type 0
 HasNoRoom journal change = (journal.slot.most < 10 + length (spelling_of_change change)) ⊎ (room journal < 16 + length (spelling_of_change change))
 
--- the store fails where it had failed before, where there is no room, and where the disk fails
+-- the store fails where it had failed before, where there is no room, which changes nothing, and where the disk fails
 abbrev pub CanDecline : {D : Type 0} → (D → ℕ) → Durable D → Durable D → Change → AdmitFault → Type 0
 CanDecline faults old new change (Refused fault edit) = Unit {0}
-CanDecline faults old new change StoreFailed = (old.journal.phase ≢ Idle) ⊎ (HasNoRoom old.journal change ⊎ (faults old.journal.disk < faults new.journal.disk))
+CanDecline faults old new change StoreFailed = (old.journal.phase ≢ Idle) ⊎ (((new ≡ old) × HasNoRoom old.journal change) ⊎ (faults old.journal.disk < faults new.journal.disk))

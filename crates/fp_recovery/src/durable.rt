@@ -83,6 +83,7 @@ impl<D: Disk> DurableSet<D> {
         ensures refused { D.honest disk → IfErr result (λ e. IsUnlessWanting (D.bytes disk) e.0) }
         ensures same { D.honest disk → MatchResult result (λ s. D.bytes s.journal.disk ≡ D.bytes disk) (λ e. D.bytes e.1 ≡ D.bytes disk) }
         ensures honest { MatchResult result (λ s. (D.honest disk → D.honest s.journal.disk) × (D.honest s.journal.disk → D.honest disk)) (λ e. (D.honest disk → D.honest e.1) × (D.honest e.1 → D.honest disk)) }
+        ensures calm { IfOk result (λ s. D.faults s.journal.disk ≡ D.faults disk) }
         ensures cause { IfErr result (λ e. e.0 ≡ Device → D.faults disk < D.faults e.1) }
     {
         let mut restoring = Restoring::new(alloc);
@@ -129,6 +130,7 @@ impl<D: Disk> DurableSet<D> {
         ensures revision { IfOk result (λ r. r ≡ self.new.set.revision) }
         ensures ready { OnOk result (self.new.journal.phase ≡ Idle) }
         ensures sure { D.honest self.new.journal.disk → OnOk result (IsSure (D.unsynced self.new.journal.disk) self.new.set) }
+        ensures calm { OnOk result (D.faults self.new.journal.disk ≡ D.faults self.old.journal.disk) }
 
         ensures declined { IfErr result (IsDeclined self.old self.new edit) }
         ensures cause { IfErr result (CanDecline D.faults self.old self.new (change_of edit)) }

@@ -1,7 +1,7 @@
 //! One edit as a batch of its own.
 
 ghost use Rattle.std.specs.Prelude.{◌≡◌, ◌≢◌, ◌<◌, ◌≤◌, ◌+◌, ◌^◌, ◌∷◌, ◌++◌, [], List, ℕ, length, IfOk, OnOk, OnErr, IsErr};
-ghost use Rattle.fp_disk.specs.Outcomes.{IsOutcome};
+ghost use Rattle.fp_disk.specs.Outcomes.{Answers, IsOutcome};
 ghost use Rattle.fp_journal.specs.State.{HasChain, SameSlot, room};
 ghost use Rattle.fp_journal.specs.declared.journal.Phase.TheVariants.{Idle};
 ghost use Rattle.fp_record.specs.Edits.{change_of};
@@ -57,11 +57,13 @@ pub fn seal<D: Disk>(journal: &mut Journal<D>, framed: Framed) -> Result<(), Dis
     ensures outcomes { D.honest journal.new.disk → OnOk result ((c : List ℕ) → IsOutcome (D.unsynced journal.new.disk) c → HasChain journal.new.slot journal.new.front journal.new.sealed c) }
     ensures outside { D.honest journal.old.disk → OnOk result (KeepsOutside journal.old.slot (D.unsynced journal.old.disk) (D.unsynced journal.new.disk)) }
     ensures honest { (D.honest journal.old.disk → D.honest journal.new.disk) × (D.honest journal.new.disk → D.honest journal.old.disk) }
-    ensures cause { IsErr result → D.faults journal.old.disk < D.faults journal.new.disk }
+    ensures cause { Answers (D.faults journal.old.disk) (D.faults journal.new.disk) result }
 {
     journal.stage(framed)?;
-    journal.body_synced()?;
+    let body = journal.sync()?;
+    journal.body_synced(body);
     journal.open_gate()?;
-    journal.gate_synced()?;
+    let gate = journal.sync()?;
+    journal.gate_synced(gate);
     Ok(())
 }

@@ -1,39 +1,14 @@
-use Rattle.std.proofs.Common.{rules, ◌≡◌, ap, ◌∙◌, inl, inr}
-use Rattle.fp_journal.specs.State.{JournalState, Outside}
-use Rattle.fp_journal.specs.declared.journal.Phase.TheVariants.{Staged}
+use Rattle.std.proofs.Common.{ℕ, List, ap, sym, ◌∙◌, subst}
+use Rattle.fp_disk.specs.Outcomes.{IsOutcome}
+use Rattle.fp_gate.specs.Gates.{IsSyncOf}
+use Rattle.fp_journal.specs.State.{JournalState, HasNext}
 use Rattle.fp_journal.proofs.Steps as steps
 use Rattle.fp_journal.proofs.journal.Journal.body_synced.Goals as goal
 
 pub invariant_of-self : goal.invariant_of-self
 invariant_of-self g c =
-    let D = g.D.Disk in let m = g.met.D.Disk in let w = c.sync.ensures in let new = c.sync.new.self in
-    let is : c.self.inside.phase ≡ Staged = ap (λ (k : JournalState g.row.D.Denot). k.phase) c.self.view_is ∙ c.requires in
-    steps.body_failed D.honest D.bytes D.unsynced D.moment D.left_since m.present m.only_now c.self.invariant new is w.honest.1 (λ h. w.failed h (search rules))
-
-pub returns-in_err-sync-clause-any_moment : goal.returns-in_err-sync-clause-any_moment
-returns-in_err-sync-clause-any_moment g c =
-    let D = g.D.Disk in let m = g.met.D.Disk in let w = c.sync.ensures in let new = c.sync.new.self in
-    let is : c.self.inside.phase ≡ Staged = ap (λ (k : JournalState g.row.D.Denot). k.phase) c.self.view_is ∙ c.requires in
-    rw (← c.self.view_is) (steps.body_leaves D.honest D.bytes D.unsynced D.moment D.left_since m.present m.only_now c.self.invariant new is w.time)
-
-pub returns-in_err-sync-clause-apart : goal.returns-in_err-sync-clause-apart
-returns-in_err-sync-clause-apart g c =
-    let D = g.D.Disk in let m = g.met.D.Disk in let w = c.sync.ensures in let new = c.sync.new.self in
-    rw (← c.self.view_is) (steps.sync_apart D.honest D.bytes D.unsynced D.moment D.left_since m.present m.only_now c.self.invariant new (Outside c.self.inside.slot) w.time (λ h. inl (w.failed h (search rules))))
-
-pub invariant_of-self-2 : goal.invariant_of-self-2
-invariant_of-self-2 g c =
-    let D = g.D.Disk in let m = g.met.D.Disk in let w = c.sync.ensures in let new = c.sync.new.self in
-    let is : c.self.inside.phase ≡ Staged = ap (λ (k : JournalState g.row.D.Denot). k.phase) c.self.view_is ∙ c.requires in
-    steps.body_done D.honest D.bytes D.unsynced D.moment D.left_since m.present m.only_now c.self.invariant new is w.honest.1 c.in_ok-sync.ensures.durable
-
-pub returns-clause-any_moment : goal.returns-clause-any_moment
-returns-clause-any_moment g c =
-    let D = g.D.Disk in let m = g.met.D.Disk in let w = c.sync.ensures in let new = c.sync.new.self in
-    let is : c.self.inside.phase ≡ Staged = ap (λ (k : JournalState g.row.D.Denot). k.phase) c.self.view_is ∙ c.requires in
-    rw (← c.self.view_is) (steps.body_leaves D.honest D.bytes D.unsynced D.moment D.left_since m.present m.only_now c.self.invariant new is w.time)
-
-pub returns-clause-apart : goal.returns-clause-apart
-returns-clause-apart g c =
-    let D = g.D.Disk in let m = g.met.D.Disk in let w = c.sync.ensures in let new = c.sync.new.self in
-    rw (← c.self.view_is) (steps.sync_apart D.honest D.bytes D.unsynced D.moment D.left_since m.present m.only_now c.self.invariant new (Outside c.self.inside.slot) w.time (λ h. inr (c.in_ok-sync.ensures.durable h)))
+    let D = g.D.Disk in let m = g.met.D.Disk in let q = c.requires in
+    let is = ap (λ (k : JournalState g.row.D.Denot). k.phase) c.self.view_is ∙ q.staged in
+    let firm = subst (λ (k : JournalState g.row.D.Denot). D.honest k.disk → (c : List ℕ) → IsOutcome (D.unsynced k.disk) c → HasNext k.slot k.front k.sealed k.staged c) (sym c.self.view_is) q.firm in
+    let token = subst (λ (k : JournalState g.row.D.Denot). IsSyncOf D.honest D.moment k.disk k.disk_name c.args.synced) (sym c.self.view_is) q.token in
+    (steps.body_done D.honest D.bytes D.unsynced D.moment D.left_since m.present m.only_now c.self.invariant.0 is firm, token)

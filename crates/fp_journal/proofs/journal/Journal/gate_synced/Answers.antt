@@ -1,41 +1,25 @@
-use Rattle.std.proofs.Common.{rules, ◌≡◌, [], ◌∷◌, ◌++◌, ap, ◌∙◌, inl, inr}
+use Rattle.std.proofs.Common.{rules, ◌≡◌, ℕ, List, [], ◌∷◌, ◌++◌, ap, sym, ◌∙◌, subst}
+use Rattle.fp_disk.specs.Outcomes.{IsOutcome}
+use Rattle.fp_gate.specs.Gates.{IsOpen}
 use Rattle.fp_journal.specs.Chain.{body_of}
-use Rattle.fp_journal.specs.State.{JournalState, Outside}
-use Rattle.fp_journal.specs.declared.journal.Phase.TheVariants.{GateOpened}
+use Rattle.fp_journal.specs.State.{JournalState, HasChain, IsHeld}
+use Rattle.fp_journal.specs.declared.held.Held.{Held}
 use Rattle.fp_journal.proofs.Steps as steps
 use Rattle.fp_journal.proofs.journal.Journal.gate_synced.Goals as goal
 
+pub seal-gate-requires-clause-open : goal.seal-gate-requires-clause-open
+seal-gate-requires-clause-open g c = λ h.
+    let D = g.D.Disk in let m = g.met.D.Disk in let q = c.requires in
+    let is = ap (λ (k : JournalState g.row.D.Denot). k.phase) c.self.view_is ∙ q.opened in
+    let firm = subst (λ (k : JournalState g.row.D.Denot). D.honest k.disk → (c : List ℕ) → IsOutcome (D.unsynced k.disk) c → HasChain k.slot k.front (k.sealed ++ k.staged ∷ []) c) (sym c.self.view_is) q.firm in
+    let held = sym c.replace.ensures.value ∙ c.in-GateOpened.is in
+    let at : c.in-GateOpened.gate.at ≡ c.self.inside.end = subst (λ (k : Held g.row.D.Denot). IsHeld D.honest D.moment c.self.inside.disk.disk c.self.inside.disk.name c.self.inside.end k) held c.self.invariant.1 in
+    subst (λ (k : ℕ). IsOpen (D.unsynced c.self.inside.disk.disk) k) (sym at) (steps.gate_open D.honest D.bytes D.unsynced D.moment D.left_since m.present m.only_now c.self.invariant.0 is firm h)
+
 pub invariant_of-self : goal.invariant_of-self
 invariant_of-self g c =
-    let D = g.D.Disk in let m = g.met.D.Disk in let w = c.sync.ensures in let new = c.sync.new.self in
-    let is : c.self.inside.phase ≡ GateOpened = ap (λ (k : JournalState g.row.D.Denot). k.phase) c.self.view_is ∙ c.requires in
-    steps.sealed_failed D.honest D.bytes D.unsynced D.moment D.left_since m.present m.only_now c.self.invariant new is w.honest.1 (λ h. w.failed h (search rules))
-
-pub returns-in_err-sync-clause-any_moment : goal.returns-in_err-sync-clause-any_moment
-returns-in_err-sync-clause-any_moment g c =
-    let D = g.D.Disk in let m = g.met.D.Disk in let w = c.sync.ensures in let new = c.sync.new.self in
-    let is : c.self.inside.phase ≡ GateOpened = ap (λ (k : JournalState g.row.D.Denot). k.phase) c.self.view_is ∙ c.requires in
-    rw (← c.self.view_is) (steps.sealed_leaves D.honest D.bytes D.unsynced D.moment D.left_since m.present m.only_now c.self.invariant new is w.time)
-
-pub returns-in_err-sync-clause-apart : goal.returns-in_err-sync-clause-apart
-returns-in_err-sync-clause-apart g c =
-    let D = g.D.Disk in let m = g.met.D.Disk in let w = c.sync.ensures in let new = c.sync.new.self in
-    rw (← c.self.view_is) (steps.sync_apart D.honest D.bytes D.unsynced D.moment D.left_since m.present m.only_now c.self.invariant new (Outside c.self.inside.slot) w.time (λ h. inl (w.failed h (search rules))))
-
-pub invariant_of-self-2 : goal.invariant_of-self-2
-invariant_of-self-2 g c =
-    let D = g.D.Disk in let m = g.met.D.Disk in let w = c.sync.ensures in let new = c.sync.new.self in
-    let is : c.self.inside.phase ≡ GateOpened = ap (λ (k : JournalState g.row.D.Denot). k.phase) c.self.view_is ∙ c.requires in
+    let D = g.D.Disk in let m = g.met.D.Disk in let q = c.requires in
+    let is = ap (λ (k : JournalState g.row.D.Denot). k.phase) c.self.view_is ∙ q.opened in
+    let firm = subst (λ (k : JournalState g.row.D.Denot). D.honest k.disk → (c : List ℕ) → IsOutcome (D.unsynced k.disk) c → HasChain k.slot k.front (k.sealed ++ k.staged ∷ []) c) (sym c.self.view_is) q.firm in
     let all : c.lengthen.new.self.log ≡ c.self.inside.sealed.log ++ body_of c.self.inside.in_flight.items ∷ [] = search rules in
-    steps.sealed_done D.honest D.bytes D.unsynced D.moment D.left_since m.present m.only_now c.self.invariant new is c.lengthen.new.self.name c.lengthen.new.self.log c.len.result all (search rules) w.honest.1 c.in_ok-sync.ensures.durable
-
-pub returns-clause-any_moment : goal.returns-clause-any_moment
-returns-clause-any_moment g c =
-    let D = g.D.Disk in let m = g.met.D.Disk in let w = c.sync.ensures in let new = c.sync.new.self in
-    let is : c.self.inside.phase ≡ GateOpened = ap (λ (k : JournalState g.row.D.Denot). k.phase) c.self.view_is ∙ c.requires in
-    rw (← c.self.view_is) (steps.sealed_leaves D.honest D.bytes D.unsynced D.moment D.left_since m.present m.only_now c.self.invariant new is w.time)
-
-pub returns-clause-apart : goal.returns-clause-apart
-returns-clause-apart g c =
-    let D = g.D.Disk in let m = g.met.D.Disk in let w = c.sync.ensures in let new = c.sync.new.self in
-    rw (← c.self.view_is) (steps.sync_apart D.honest D.bytes D.unsynced D.moment D.left_since m.present m.only_now c.self.invariant new (Outside c.self.inside.slot) w.time (λ h. inr (c.in_ok-sync.ensures.durable h)))
+    rw c.replace.ensures.after (steps.sealed_done D.honest D.bytes D.unsynced D.moment D.left_since m.present m.only_now c.self.invariant.0 is firm c.lengthen.new.self.name c.lengthen.new.self.log c.len.result all (search rules), tt)

@@ -1,41 +1,41 @@
 use Rattle.std.proofs.Common.{rules, ◌≡◌, ap, ◌∙◌, inr}
-use Rattle.fp_journal.specs.State.{JournalState}
+use Rattle.fp_journal.specs.State.{JournalState, phase_of}
 use Rattle.fp_journal.specs.declared.journal.Phase.TheVariants.{BodySynced}
 use Rattle.fp_journal.proofs.Steps as steps
 use Rattle.fp_journal.proofs.journal.Journal.open_gate.Goals as goal
 
 pub invariant_of-self : goal.invariant_of-self
 invariant_of-self g c =
-    let D = g.D.Disk in let m = g.met.D.Disk in let w = c.write_at.ensures in let new = c.write_at.new.self in
-    let is : c.self.inside.phase ≡ BodySynced = ap (λ (k : JournalState g.row.D.Denot). k.phase) c.self.view_is ∙ c.requires in
-    steps.gate_failed D.honest D.bytes D.unsynced D.moment D.left_since m.present m.only_now c.self.invariant new is w.honest.1 (λ h. w.failed h (search rules))
+    let D = g.D.Disk in let m = g.met.D.Disk in let w = c.open.ensures in let new = c.open.new.disk.disk in
+    let is : phase_of c.self.inside.held ≡ BodySynced = ap (λ (k : JournalState g.row.D.Denot). k.phase) c.self.view_is ∙ c.requires in
+    rw (w.name, c.replace.ensures.after) (steps.gate_failed D.honest D.bytes D.unsynced D.moment D.left_since m.present m.only_now c.self.invariant.0 new is c.guarding-gate.result.at (search rules) w.honest.1 (λ h. w.failed h (search rules)), tt)
 
-pub returns-in_err-write_at-clause-any_moment : goal.returns-in_err-write_at-clause-any_moment
-returns-in_err-write_at-clause-any_moment g c =
-    let D = g.D.Disk in let m = g.met.D.Disk in let w = c.write_at.ensures in let new = c.write_at.new.self in
-    let is : c.self.inside.phase ≡ BodySynced = ap (λ (k : JournalState g.row.D.Denot). k.phase) c.self.view_is ∙ c.requires in
-    rw (← c.self.view_is) (steps.gate_leaves D.honest D.bytes D.unsynced D.moment D.left_since m.present m.only_now c.self.invariant new is w.time)
+pub returns-in_err-open-clause-any_moment : goal.returns-in_err-open-clause-any_moment
+returns-in_err-open-clause-any_moment g c =
+    let D = g.D.Disk in let m = g.met.D.Disk in let w = c.open.ensures in let new = c.open.new.disk.disk in
+    let is : phase_of c.self.inside.held ≡ BodySynced = ap (λ (k : JournalState g.row.D.Denot). k.phase) c.self.view_is ∙ c.requires in
+    rw (← c.self.view_is) (steps.gate_leaves D.honest D.bytes D.unsynced D.moment D.left_since m.present m.only_now c.self.invariant.0 new is c.guarding-gate.result.at (search rules) w.time)
 
-pub returns-in_err-write_at-clause-apart : goal.returns-in_err-write_at-clause-apart
-returns-in_err-write_at-clause-apart g c =
-    let D = g.D.Disk in let m = g.met.D.Disk in let w = c.write_at.ensures in let new = c.write_at.new.self in
-    let is : c.self.inside.phase ≡ BodySynced = ap (λ (k : JournalState g.row.D.Denot). k.phase) c.self.view_is ∙ c.requires in
-    rw (← c.self.view_is) (steps.gate_apart D.honest D.bytes D.unsynced D.moment D.left_since m.present m.only_now c.self.invariant new is w.time (λ h. w.failed h (search rules)))
+pub returns-in_err-open-clause-apart : goal.returns-in_err-open-clause-apart
+returns-in_err-open-clause-apart g c =
+    let D = g.D.Disk in let m = g.met.D.Disk in let w = c.open.ensures in let new = c.open.new.disk.disk in
+    let is : phase_of c.self.inside.held ≡ BodySynced = ap (λ (k : JournalState g.row.D.Denot). k.phase) c.self.view_is ∙ c.requires in
+    rw (← c.self.view_is) (steps.gate_apart D.honest D.bytes D.unsynced D.moment D.left_since m.present m.only_now c.self.invariant.0 new is c.guarding-gate.result.at (search rules) w.time (λ h. w.failed h (search rules)))
 
 pub invariant_of-self-2 : goal.invariant_of-self-2
 invariant_of-self-2 g c =
-    let D = g.D.Disk in let m = g.met.D.Disk in let w = c.write_at.ensures in let new = c.write_at.new.self in
-    let is : c.self.inside.phase ≡ BodySynced = ap (λ (k : JournalState g.row.D.Denot). k.phase) c.self.view_is ∙ c.requires in
-    steps.gate_done D.honest D.bytes D.unsynced D.moment D.left_since m.present m.only_now c.self.invariant new is w.honest.1 c.in_ok-write_at.ensures.written c.in_ok-write_at.ensures.unsynced
+    let D = g.D.Disk in let m = g.met.D.Disk in let w = c.open.ensures in let new = c.open.new.disk.disk in
+    let is : phase_of c.self.inside.held ≡ BodySynced = ap (λ (k : JournalState g.row.D.Denot). k.phase) c.self.view_is ∙ c.requires in
+    rw w.name (steps.gate_done D.honest D.bytes D.unsynced D.moment D.left_since m.present m.only_now c.self.invariant.0 new is c.guarding-gate.result.at (search rules) w.honest.1 c.in_ok-open.ensures.written c.in_ok-open.ensures.unsynced, search rules)
 
 pub returns-clause-any_moment : goal.returns-clause-any_moment
 returns-clause-any_moment g c =
-    let D = g.D.Disk in let m = g.met.D.Disk in let w = c.write_at.ensures in let new = c.write_at.new.self in
-    let is : c.self.inside.phase ≡ BodySynced = ap (λ (k : JournalState g.row.D.Denot). k.phase) c.self.view_is ∙ c.requires in
-    rw (← c.self.view_is) (steps.gate_leaves D.honest D.bytes D.unsynced D.moment D.left_since m.present m.only_now c.self.invariant new is w.time)
+    let D = g.D.Disk in let m = g.met.D.Disk in let w = c.open.ensures in let new = c.open.new.disk.disk in
+    let is : phase_of c.self.inside.held ≡ BodySynced = ap (λ (k : JournalState g.row.D.Denot). k.phase) c.self.view_is ∙ c.requires in
+    rw (← c.self.view_is) (steps.gate_leaves D.honest D.bytes D.unsynced D.moment D.left_since m.present m.only_now c.self.invariant.0 new is c.guarding-gate.result.at (search rules) w.time)
 
 pub returns-clause-apart : goal.returns-clause-apart
 returns-clause-apart g c =
-    let D = g.D.Disk in let m = g.met.D.Disk in let w = c.write_at.ensures in let new = c.write_at.new.self in
-    let is : c.self.inside.phase ≡ BodySynced = ap (λ (k : JournalState g.row.D.Denot). k.phase) c.self.view_is ∙ c.requires in
-    rw (← c.self.view_is) (steps.gate_apart D.honest D.bytes D.unsynced D.moment D.left_since m.present m.only_now c.self.invariant new is w.time (λ h. inr (c.in_ok-write_at.ensures.unsynced h)))
+    let D = g.D.Disk in let m = g.met.D.Disk in let w = c.open.ensures in let new = c.open.new.disk.disk in
+    let is : phase_of c.self.inside.held ≡ BodySynced = ap (λ (k : JournalState g.row.D.Denot). k.phase) c.self.view_is ∙ c.requires in
+    rw (← c.self.view_is) (steps.gate_apart D.honest D.bytes D.unsynced D.moment D.left_since m.present m.only_now c.self.invariant.0 new is c.guarding-gate.result.at (search rules) w.time (λ h. inr (c.in_ok-open.ensures.unsynced h)))

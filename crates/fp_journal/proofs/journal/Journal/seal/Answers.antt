@@ -1,31 +1,32 @@
 use Rattle.fp_journal.proofs.Steps as steps
 use Rattle.fp_journal.proofs.journal.Journal.seal.Goals as goal
 
-pub returns-in_err-body_synced-clause-any_moment : goal.returns-in_err-body_synced-clause-any_moment
-returns-in_err-body_synced-clause-any_moment g c = λ h.
-    let D = g.D.Disk in let first = c.args.self.now in let s1 = c.stage.new.self in let s2 = c.body_synced.new.self in
+pub returns-in_err-gate-clause-any_moment : goal.returns-in_err-gate-clause-any_moment
+returns-in_err-gate-clause-any_moment g c = λ h.
+    let D = g.D.Disk in let first = c.args.self.now in let s1 = c.stage.new.self in let s2 = c.sync.new.self in let s3 = c.body_synced.new.self in let s4 = c.open_gate.new.self in
     let h1 = c.stage.ensures.honest.0 h in let l1 = steps.sealing_first D.moment D.left_since first c.args.framed s1.disk (c.stage.ensures.any_moment h) in
     let k1 : steps.IsSealing D.moment D.left_since first c.args.framed s1 = record { same = c.stage.ensures.same; sealed = c.stage.ensures.bodies.0; staged = c.stage.ensures.bodies.1 } in
-    let l2 = steps.sealing_body D.moment D.left_since first c.args.framed s1 s2.disk k1 l1 (c.body_synced.ensures.any_moment h1) in
-    l2
-
-pub returns-in_err-open_gate-clause-any_moment : goal.returns-in_err-open_gate-clause-any_moment
-returns-in_err-open_gate-clause-any_moment g c = λ h.
-    let D = g.D.Disk in let first = c.args.self.now in let s1 = c.stage.new.self in let s2 = c.body_synced.new.self in
-    let h1 = c.stage.ensures.honest.0 h in let l1 = steps.sealing_first D.moment D.left_since first c.args.framed s1.disk (c.stage.ensures.any_moment h) in
-    let k1 : steps.IsSealing D.moment D.left_since first c.args.framed s1 = record { same = c.stage.ensures.same; sealed = c.stage.ensures.bodies.0; staged = c.stage.ensures.bodies.1 } in
-    let l2 = steps.sealing_body D.moment D.left_since first c.args.framed s1 s2.disk k1 l1 (c.body_synced.ensures.any_moment h1) in
-    let s3 = c.open_gate.new.self in let h2 = c.body_synced.ensures.honest.0 h1 in let k2 = steps.sealing_on D.moment D.left_since first c.args.framed s1 s2 k1 c.body_synced.ensures.same c.body_synced.ensures.bodies in
-    let l3 = steps.sealing_more D.moment D.left_since first c.args.framed s2 s3.disk k2 l2 (c.open_gate.ensures.any_moment h2) in
-    l3
+    let l2 = steps.sealing_sync D.moment D.left_since first c.args.framed s1 s2.disk k1 l1 (c.sync.ensures.any_moment h1) in
+    let k2 = steps.sealing_on D.moment D.left_since first c.args.framed s1 s2 k1 c.sync.ensures.same c.sync.ensures.bodies in
+    let k3 = steps.sealing_on D.moment D.left_since first c.args.framed s2 s3 k2 c.body_synced.ensures.same c.body_synced.ensures.bodies in
+    let l3 = steps.sealing_still D.moment D.left_since first c.args.framed s2.disk s3.disk c.body_synced.ensures.disk l2 in
+    let h3 : D.honest s3.disk = rw c.body_synced.ensures.disk (c.sync.ensures.honest.0 h1) in
+    let l4 = steps.sealing_more D.moment D.left_since first c.args.framed s3 s4.disk k3 l3 (c.open_gate.ensures.any_moment h3) in
+    let k4 = steps.sealing_on D.moment D.left_since first c.args.framed s3 s4 k3 c.open_gate.ensures.same c.open_gate.ensures.bodies in
+    let l5 = steps.sealing_sync D.moment D.left_since first c.args.framed s4 c.sync-2.new.self.disk k4 l4 (c.sync-2.ensures.any_moment (c.open_gate.ensures.honest.0 h3)) in
+    l5
 
 pub returns-clause-any_moment : goal.returns-clause-any_moment
 returns-clause-any_moment g c = λ h.
-    let D = g.D.Disk in let first = c.args.self.now in let s1 = c.stage.new.self in let s2 = c.body_synced.new.self in
+    let D = g.D.Disk in let first = c.args.self.now in let s1 = c.stage.new.self in let s2 = c.sync.new.self in let s3 = c.body_synced.new.self in let s4 = c.open_gate.new.self in
     let h1 = c.stage.ensures.honest.0 h in let l1 = steps.sealing_first D.moment D.left_since first c.args.framed s1.disk (c.stage.ensures.any_moment h) in
     let k1 : steps.IsSealing D.moment D.left_since first c.args.framed s1 = record { same = c.stage.ensures.same; sealed = c.stage.ensures.bodies.0; staged = c.stage.ensures.bodies.1 } in
-    let l2 = steps.sealing_body D.moment D.left_since first c.args.framed s1 s2.disk k1 l1 (c.body_synced.ensures.any_moment h1) in
-    let s3 = c.open_gate.new.self in let h2 = c.body_synced.ensures.honest.0 h1 in let k2 = steps.sealing_on D.moment D.left_since first c.args.framed s1 s2 k1 c.body_synced.ensures.same c.body_synced.ensures.bodies in
-    let l3 = steps.sealing_more D.moment D.left_since first c.args.framed s2 s3.disk k2 l2 (c.open_gate.ensures.any_moment h2) in
-    let h3 = c.open_gate.ensures.honest.0 h2 in let k3 = steps.sealing_on D.moment D.left_since first c.args.framed s2 s3 k2 c.open_gate.ensures.same c.open_gate.ensures.bodies in
-    steps.sealing_more D.moment D.left_since first c.args.framed s3 c.gate_synced.new.self.disk k3 l3 (c.gate_synced.ensures.any_moment h3)
+    let l2 = steps.sealing_sync D.moment D.left_since first c.args.framed s1 s2.disk k1 l1 (c.sync.ensures.any_moment h1) in
+    let k2 = steps.sealing_on D.moment D.left_since first c.args.framed s1 s2 k1 c.sync.ensures.same c.sync.ensures.bodies in
+    let k3 = steps.sealing_on D.moment D.left_since first c.args.framed s2 s3 k2 c.body_synced.ensures.same c.body_synced.ensures.bodies in
+    let l3 = steps.sealing_still D.moment D.left_since first c.args.framed s2.disk s3.disk c.body_synced.ensures.disk l2 in
+    let h3 : D.honest s3.disk = rw c.body_synced.ensures.disk (c.sync.ensures.honest.0 h1) in
+    let l4 = steps.sealing_more D.moment D.left_since first c.args.framed s3 s4.disk k3 l3 (c.open_gate.ensures.any_moment h3) in
+    let k4 = steps.sealing_on D.moment D.left_since first c.args.framed s3 s4 k3 c.open_gate.ensures.same c.open_gate.ensures.bodies in
+    let l5 = steps.sealing_sync D.moment D.left_since first c.args.framed s4 c.sync-2.new.self.disk k4 l4 (c.sync-2.ensures.any_moment (c.open_gate.ensures.honest.0 h3)) in
+    steps.sealing_still D.moment D.left_since first c.args.framed c.sync-2.new.self.disk c.gate_synced.new.self.disk c.gate_synced.ensures.disk l5

@@ -1,55 +1,55 @@
 use Rattle.std.proofs.Common.{rules, ◌≡◌, ◌≤◌, ◌+◌, length, ap, sym, ◌∙◌, subst, inr}
 use Rattle.fp_journal.specs.Chain.{with_gate, body_of}
-use Rattle.fp_journal.specs.State.{JournalState, room}
+use Rattle.fp_journal.specs.State.{JournalState, phase_of, room}
 use Rattle.fp_journal.specs.declared.journal.Phase.TheVariants.{Idle}
 use Rattle.fp_journal.proofs.Steps as steps
 use Rattle.fp_journal.proofs.journal.Journal.stage.Goals as goal
 
 pub invariant_of-self : goal.invariant_of-self
 invariant_of-self g c =
-    let D = g.D.Disk in let m = g.met.D.Disk in let w = c.write_at.ensures in let new = c.write_at.new.self in
-    let is : c.self.inside.phase ≡ Idle = ap (λ (k : JournalState g.row.D.Denot). k.phase) c.self.view_is ∙ c.requires.idle in
+    let D = g.D.Disk in let m = g.met.D.Disk in let w = c.write_at.ensures in let new = c.write_at.new.self.disk in
+    let is : phase_of c.self.inside.held ≡ Idle = ap (λ (k : JournalState g.row.D.Denot). k.phase) c.self.view_is ∙ c.requires.idle in
     let n = length c.deref.result.now in let written = c.into_bytes.result.items in
-    steps.stage_failed D.honest D.bytes D.unsynced D.moment D.left_since m.present m.only_now c.self.invariant new is (body_of written) written n w.honest.1 (λ h. w.failed h (search rules))
+    rw w.name (steps.stage_failed D.honest D.bytes D.unsynced D.moment D.left_since m.present m.only_now c.self.invariant.0 new is (body_of written) written n w.honest.1 (λ h. w.failed h (search rules)), tt)
 
 pub returns-in_err-write_at-clause-any_moment : goal.returns-in_err-write_at-clause-any_moment
 returns-in_err-write_at-clause-any_moment g c =
-    let D = g.D.Disk in let m = g.met.D.Disk in let w = c.write_at.ensures in let new = c.write_at.new.self in
-    let is : c.self.inside.phase ≡ Idle = ap (λ (k : JournalState g.row.D.Denot). k.phase) c.self.view_is ∙ c.requires.idle in
+    let D = g.D.Disk in let m = g.met.D.Disk in let w = c.write_at.ensures in let new = c.write_at.new.self.disk in
+    let is : phase_of c.self.inside.held ≡ Idle = ap (λ (k : JournalState g.row.D.Denot). k.phase) c.self.view_is ∙ c.requires.idle in
     let n = length c.deref.result.now in let written = c.into_bytes.result.items in
-    rw (← c.self.view_is) (steps.stage_leaves D.honest D.bytes D.unsynced D.moment D.left_since m.present m.only_now c.self.invariant new is n w.time)
+    rw (← c.self.view_is) (steps.stage_leaves D.honest D.bytes D.unsynced D.moment D.left_since m.present m.only_now c.self.invariant.0 new is n w.time)
 
 pub returns-in_err-write_at-clause-apart : goal.returns-in_err-write_at-clause-apart
 returns-in_err-write_at-clause-apart g c =
-    let D = g.D.Disk in let m = g.met.D.Disk in let w = c.write_at.ensures in let new = c.write_at.new.self in
-    let is : c.self.inside.phase ≡ Idle = ap (λ (k : JournalState g.row.D.Denot). k.phase) c.self.view_is ∙ c.requires.idle in
+    let D = g.D.Disk in let m = g.met.D.Disk in let w = c.write_at.ensures in let new = c.write_at.new.self.disk in
+    let is : phase_of c.self.inside.held ≡ Idle = ap (λ (k : JournalState g.row.D.Denot). k.phase) c.self.view_is ∙ c.requires.idle in
     let n = length c.deref.result.now in let written = c.into_bytes.result.items in
     let shape : c.deref.result.now ≡ with_gate c.args.framed = c.deref.ensures.value ∙ c.into_bytes.ensures.bytes in
     let fits = subst (λ (k : JournalState g.row.D.Denot). length c.args.framed + 6 ≤ room k) (sym c.self.view_is) c.requires.room in
-    rw (← c.self.view_is) (steps.stage_apart D.honest D.bytes D.unsynced D.moment D.left_since m.present m.only_now c.self.invariant new is c.args.framed written c.deref.result.now c.into_bytes.ensures.bytes shape fits w.time (λ h. w.failed h (search rules)))
+    rw (← c.self.view_is) (steps.stage_apart D.honest D.bytes D.unsynced D.moment D.left_since m.present m.only_now c.self.invariant.0 new is c.args.framed written c.deref.result.now c.into_bytes.ensures.bytes shape fits w.time (λ h. w.failed h (search rules)))
 
 pub invariant_of-self-2 : goal.invariant_of-self-2
 invariant_of-self-2 g c =
-    let D = g.D.Disk in let m = g.met.D.Disk in let w = c.write_at.ensures in let new = c.write_at.new.self in
-    let is : c.self.inside.phase ≡ Idle = ap (λ (k : JournalState g.row.D.Denot). k.phase) c.self.view_is ∙ c.requires.idle in
+    let D = g.D.Disk in let m = g.met.D.Disk in let w = c.write_at.ensures in let new = c.write_at.new.self.disk in
+    let is : phase_of c.self.inside.held ≡ Idle = ap (λ (k : JournalState g.row.D.Denot). k.phase) c.self.view_is ∙ c.requires.idle in
     let n = length c.deref.result.now in let written = c.into_bytes.result.items in
     let shape : c.deref.result.now ≡ with_gate c.args.framed = c.deref.ensures.value ∙ c.into_bytes.ensures.bytes in
     let fits = subst (λ (k : JournalState g.row.D.Denot). length c.args.framed + 6 ≤ room k) (sym c.self.view_is) c.requires.room in
     let short = subst (λ (k : JournalState g.row.D.Denot). length c.args.framed ≤ k.slot.most) (sym c.self.view_is) c.requires.short in
-    steps.stage_done D.honest D.bytes D.unsynced D.moment D.left_since m.present m.only_now c.self.invariant new is c.args.framed written c.deref.result.now c.into_bytes.ensures.bytes shape fits short w.honest.1 c.in_ok-write_at.ensures.written c.in_ok-write_at.ensures.unsynced
+    rw w.name (steps.stage_done D.honest D.bytes D.unsynced D.moment D.left_since m.present m.only_now c.self.invariant.0 new is c.args.framed written c.deref.result.now c.into_bytes.ensures.bytes shape fits short w.honest.1 c.in_ok-write_at.ensures.written c.in_ok-write_at.ensures.unsynced, tt)
 
 pub returns-clause-any_moment : goal.returns-clause-any_moment
 returns-clause-any_moment g c =
-    let D = g.D.Disk in let m = g.met.D.Disk in let w = c.write_at.ensures in let new = c.write_at.new.self in
-    let is : c.self.inside.phase ≡ Idle = ap (λ (k : JournalState g.row.D.Denot). k.phase) c.self.view_is ∙ c.requires.idle in
+    let D = g.D.Disk in let m = g.met.D.Disk in let w = c.write_at.ensures in let new = c.write_at.new.self.disk in
+    let is : phase_of c.self.inside.held ≡ Idle = ap (λ (k : JournalState g.row.D.Denot). k.phase) c.self.view_is ∙ c.requires.idle in
     let n = length c.deref.result.now in let written = c.into_bytes.result.items in
-    rw (← c.self.view_is) (steps.stage_leaves D.honest D.bytes D.unsynced D.moment D.left_since m.present m.only_now c.self.invariant new is n w.time)
+    rw (← c.self.view_is) (steps.stage_leaves D.honest D.bytes D.unsynced D.moment D.left_since m.present m.only_now c.self.invariant.0 new is n w.time)
 
 pub returns-clause-apart : goal.returns-clause-apart
 returns-clause-apart g c =
-    let D = g.D.Disk in let m = g.met.D.Disk in let w = c.write_at.ensures in let new = c.write_at.new.self in
-    let is : c.self.inside.phase ≡ Idle = ap (λ (k : JournalState g.row.D.Denot). k.phase) c.self.view_is ∙ c.requires.idle in
+    let D = g.D.Disk in let m = g.met.D.Disk in let w = c.write_at.ensures in let new = c.write_at.new.self.disk in
+    let is : phase_of c.self.inside.held ≡ Idle = ap (λ (k : JournalState g.row.D.Denot). k.phase) c.self.view_is ∙ c.requires.idle in
     let n = length c.deref.result.now in let written = c.into_bytes.result.items in
     let shape : c.deref.result.now ≡ with_gate c.args.framed = c.deref.ensures.value ∙ c.into_bytes.ensures.bytes in
     let fits = subst (λ (k : JournalState g.row.D.Denot). length c.args.framed + 6 ≤ room k) (sym c.self.view_is) c.requires.room in
-    rw (← c.self.view_is) (steps.stage_apart D.honest D.bytes D.unsynced D.moment D.left_since m.present m.only_now c.self.invariant new is c.args.framed written c.deref.result.now c.into_bytes.ensures.bytes shape fits w.time (λ h. inr (c.in_ok-write_at.ensures.unsynced h)))
+    rw (← c.self.view_is) (steps.stage_apart D.honest D.bytes D.unsynced D.moment D.left_since m.present m.only_now c.self.invariant.0 new is c.args.framed written c.deref.result.now c.into_bytes.ensures.bytes shape fits w.time (λ h. inr (c.in_ok-write_at.ensures.unsynced h)))
