@@ -1,7 +1,7 @@
 //! The program: its words, standard input, output and errors, and its status.
 #![tactic(auto)]
 
-use fp_plane::command;
+use fp_commands::command;
 use std::alloc::AllocGlobal;
 use std::env;
 use std::process::ExitCode;

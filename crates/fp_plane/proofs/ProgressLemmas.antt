@@ -5,12 +5,14 @@ use Rattle.std.specs.List.{list_all}
 use Rattle.fp_edit.specs.Flags.{State}
 use Rattle.fp_plane.specs.Lines.{lines, answered}
 use Rattle.fp_plane.specs.Reply.{Reply, texts_of, is_told}
-use Rattle.fp_plane.specs.Script.{IsRun, show_line}
+use Rattle.fp_plane.specs.Script.{verdict, IsRun, show_line}
+use Rattle.fp_plane.specs.Verdicts.{Verdict}
 use Rattle.fp_plane.specs.Run.{IsLeftBy}
-use Rattle.fp_plane.specs.Progress.{cut, IsReached, IsReachedWithin, IsSoFar, IsAnswered, EndsLine, EndsOrStays}
+use Rattle.fp_plane.specs.Progress.{cut, IsReached, IsReachedWithin, IsSoFar, IsAnswered, IsAdded, EndsLine, EndsOrStays}
 use Rattle.fp_plane.specs.declared.exchange.Exchange.{Exchange}
 use Rattle.fp_plane.proofs.LineLemmas.{lines-append, lines-some}
-use Rattle.fp_plane.proofs.RunLemmas.{run-append, answered-append, texts_of-append}
+use Rattle.fp_plane.proofs.VerdictLemmas.{run-append, texts_of-append}
+use Rattle.fp_plane.proofs.RunLemmas.{answered-append}
 
 pub so_far-start : (start : State) (x : Exchange) → x.line.items ≡ [] → x.replies.items ≡ [] → x.is_told ≡ true → IsSoFar start [] [] x start
 so_far-start start x line replies told = record {
@@ -41,7 +43,7 @@ so_far-more start seen sent piece x y now h one kept replies told = record {
 }
 
 run-done : (start s t : State) (done : List (List ℕ)) (line : List ℕ) (rs qs : List Reply) → IsRun start (answered done) rs s → IsRun s (answered (line ∷ [])) qs t → IsRun start (answered (done ++ line ∷ [])) (rs ++ qs) t
-run-done start s t done line rs qs h k = subst (λ ls. IsRun start ls (rs ++ qs) t) (sym (answered-append done (line ∷ []))) (run-append start s t (answered done) (answered (line ∷ [])) rs qs h k)
+run-done start s t done line rs qs h k = subst (λ ls. IsRun start ls (rs ++ qs) t) (sym (answered-append done (line ∷ []))) (run-append verdict start s t (answered done) (answered (line ∷ [])) rs qs h k)
 
 -- a newline ends the line
 reached-newline : (start : State) (seen : List ℕ) (s t : State) (r : IsReached start seen s) (qs : List Reply) → IsRun s (answered (r.line ∷ [])) qs t → IsReached start (seen ++ 10 ∷ []) t
@@ -56,35 +58,35 @@ reached-newline start seen s t r qs run = record {
   run = run-done start s t r.done r.line r.replies qs r.run run;
 }
 
-written-more : (start s t : State) (sent : List ℕ) (line : List ℕ) (x y : Exchange) (rs : List Reply) → sent ++ x.replies.items ≡ texts_of rs → (e : EndsLine s line x y t)
+pub written-more : {A : Type 0} (judge : Verdict A) (s t : State) (xs : List A) (x y : Exchange) (sent : List ℕ) (rs : List Reply) → sent ++ x.replies.items ≡ texts_of rs → (e : IsAdded judge s xs x y t)
     → sent ++ y.replies.items ≡ texts_of (rs ++ e.replies)
-written-more start s t sent line x y rs was e =
+written-more judge s t xs x y sent rs was e =
     ap (λ r. sent ++ r) e.written ∙ sym (append_assoc sent x.replies.items (texts_of e.replies)) ∙ ap (λ r. r ++ texts_of e.replies) was ∙ sym (texts_of-append rs e.replies)
 
-told-more : (s t : State) (line : List ℕ) (x y : Exchange) (rs : List Reply) → x.is_told ≡ list_all is_told rs → (e : EndsLine s line x y t)
+pub told-more : {A : Type 0} (judge : Verdict A) (s t : State) (xs : List A) (x y : Exchange) (rs : List Reply) → x.is_told ≡ list_all is_told rs → (e : IsAdded judge s xs x y t)
     → y.is_told ≡ list_all is_told (rs ++ e.replies)
-told-more s t line x y rs was e = e.told ∙ ap (λ b. b && list_all is_told e.replies) was ∙ sym (list_all-append is_told rs e.replies)
+told-more judge s t xs x y rs was e = e.told ∙ ap (λ b. b && list_all is_told e.replies) was ∙ sym (list_all-append is_told rs e.replies)
 
 pub so_far-newline : (start : State) (seen sent : List ℕ) (x y : Exchange) (s t : State) (h : IsSoFar start seen sent x s) → EndsLine s h.reached.line x y t → IsSoFar start (seen ++ 10 ∷ []) sent y t
 unfolding reached-newline
 so_far-newline start seen sent x y s t h e = record {
-  reached = reached-newline start seen s t h.reached e.replies e.run;
+  reached = reached-newline start seen s t h.reached e.added.replies e.added.run;
   kept = e.empty;
-  written = written-more start s t sent h.reached.line x y h.reached.replies h.written e;
-  told = told-more s t h.reached.line x y h.reached.replies h.told e;
+  written = written-more verdict s t (answered (h.reached.line ∷ [])) x y sent h.reached.replies h.written e.added;
+  told = told-more verdict s t (answered (h.reached.line ∷ [])) x y h.reached.replies h.told e.added;
 }
 
 -- the end of the input ends the last line, and the flags are shown
 pub so_far-end : (start : State) (seen sent : List ℕ) (x y z : Exchange) (s t : State) (h : IsSoFar start seen sent x s) → EndsLine s h.reached.line x y t
     → z.replies.items ≡ y.replies.items ++ show_line t → z.is_told ≡ y.is_told → IsAnswered start seen sent z t
 so_far-end start seen sent x y z s t h e shown same = record {
-  replies = h.reached.replies ++ e.replies;
-  run = subst (λ ls. IsRun start (answered ls) (h.reached.replies ++ e.replies) t) (sym h.reached.split) (run-done start s t h.reached.done h.reached.line h.reached.replies e.replies h.reached.run e.run);
+  replies = h.reached.replies ++ e.added.replies;
+  run = subst (λ ls. IsRun start (answered ls) (h.reached.replies ++ e.added.replies) t) (sym h.reached.split) (run-done start s t h.reached.done h.reached.line h.reached.replies e.added.replies h.reached.run e.added.run);
   written =
       ap (λ r. sent ++ r) shown
       ∙ sym (append_assoc sent y.replies.items (show_line t))
-      ∙ ap (λ r. r ++ show_line t) (written-more start s t sent h.reached.line x y h.reached.replies h.written e);
-  told = same ∙ told-more s t h.reached.line x y h.reached.replies h.told e;
+      ∙ ap (λ r. r ++ show_line t) (written-more verdict s t (answered (h.reached.line ∷ [])) x y sent h.reached.replies h.written e.added);
+  told = same ∙ told-more verdict s t (answered (h.reached.line ∷ [])) x y h.reached.replies h.told e.added;
 }
 
 -- what waited was sent
@@ -106,29 +108,24 @@ pub within-line : (start : State) (seen rest input : List ℕ) (s t : State) →
 within-line start seen rest input s t all r (inl run) = (seen ++ 10 ∷ [], rest, append_assoc seen (10 ∷ []) rest ∙ all, reached-newline start seen s t r run.0 run.1)
 within-line start seen rest input s t all r (inr stays) = within-here start seen (10 ∷ rest) input s t all stays r
 
+-- what stands before some lines was answered
+left-split : (start : State) (input : List ℕ) (done later : List (List ℕ)) (rs : List Reply) (now : State) → lines input ≡ done ++ later → IsRun start (answered done) rs now → IsLeftBy start input now
+left-split start input done later rs now split run = record {
+  done = answered done;
+  later = answered later;
+  replies = rs;
+  split = ap answered split ∙ answered-append done later;
+  run = run;
+}
+
 pub left-within : (start : State) (seen rest input : List ℕ) (now : State) → input ≡ seen ++ rest → IsReachedWithin start seen now → IsLeftBy start input now
 left-within start seen rest input now all (front, back, parts, r) =
     let whole : input ≡ front ++ (back ++ rest) = all ∙ ap (λ l. l ++ rest) (sym parts) ∙ append_assoc front back rest in
-    let next = lines-some (back ++ rest) in record {
-      done = r.done;
-      later = (r.line ++ next.0) ∷ next.1;
-      replies = r.replies;
-      split = ap lines whole ∙ lines-append front (back ++ rest) next.0 next.1 next.2 r.done r.line r.split;
-      run = r.run;
-    }
+    let next = lines-some (back ++ rest) in
+    left-split start input r.done ((r.line ++ next.0) ∷ next.1) r.replies now (ap lines whole ∙ lines-append front (back ++ rest) next.0 next.1 next.2 r.done r.line r.split) r.run
 
 pub left-end : (start : State) (seen : List ℕ) (s t : State) (r : IsReached start seen s) → EndsOrStays s r.line t → IsLeftBy start seen t
-left-end start seen s t r (inl run) = record {
-  done = r.done ++ r.line ∷ [];
-  later = [];
-  replies = r.replies ++ run.0;
-  split = r.split ∙ sym (append-nil (r.done ++ r.line ∷ []));
-  run = run-done start s t r.done r.line r.replies run.0 r.run run.1;
-}
-left-end start seen s t r (inr stays) = record {
-  done = r.done;
-  later = r.line ∷ [];
-  replies = r.replies;
-  split = r.split;
-  run = subst (IsRun start (answered r.done) r.replies) (sym stays) r.run;
-}
+left-end start seen s t r (inl run) =
+    left-split start seen (r.done ++ r.line ∷ []) [] (r.replies ++ run.0) t (r.split ∙ sym (append-nil (r.done ++ r.line ∷ []))) (run-done start s t r.done r.line r.replies run.0 r.run run.1)
+left-end start seen s t r (inr stays) =
+    left-split start seen r.done (r.line ∷ []) r.replies t r.split (subst (IsRun start (answered r.done) r.replies) (sym stays) r.run)

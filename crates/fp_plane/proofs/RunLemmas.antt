@@ -1,13 +1,10 @@
--- Runs over lines: joined, over cut lines, and where no reply tells of wanting memory.
-use Rattle.std.proofs.Common.{◌≡◌, ℕ, ◌+◌, ◌<◌, List, [], ◌∷◌, ◌++◌, length, Option, Some, None, IsSomeAnd, Ok, Err, Bool, true, false, cond, not, ◌&&◌, nat_le, true≢false, refl, sym, ap, subst, ◌∙◌, append_assoc}
+-- Runs over lines: over cut lines, blank ones, edits and others.
+use Rattle.std.proofs.Common.{◌≡◌, ℕ, ◌<◌, List, [], ◌∷◌, ◌++◌, length, Option, Some, None, IsSomeAnd, Ok, Err, Bool, true, false, cond, not, ◌&&◌, nat_le, inl, inr, refl, sym, ap, subst, ◌∙◌}
 use Rattle.std.proofs.lemmas.List.Elements.{filter-append}
 use borrow.Author.Tests.{leb-true, leb-false, lt-leb}
 use Rattle.std.specs.List.{list_all}
 use Rattle.fp_edit.specs.Flags.{State}
 use Rattle.fp_edit.specs.Edits.{Proposal}
-use Rattle.fp_edit.specs.Admits.{refusal, next, Admits, accepted, IsRefused}
-use Rattle.fp_edit.specs.declared.edit.EditFault.{EditFault}
-use Rattle.fp_edit.specs.declared.edit.EditFault.TheVariants as edit
 use Rattle.fp_edit.specs.Line as line
 use Rattle.fp_edit.specs.Line.{line_of}
 use Rattle.fp_edit.specs.Spelled.{IsFault}
@@ -16,35 +13,18 @@ use Rattle.fp_edit.specs.declared.line.LineFault.TheVariants.{TooLong, NotJson, 
 use Rattle.fp_definition.specs.Valid as flag
 use Rattle.fp_definition.specs.Faults.{tells}
 use Rattle.fp_plane.specs.Lines.{answered, is_blank, is_space, line_limit}
-use Rattle.fp_plane.specs.Reply.{Reply, revision, conflict, set_too_large, revisions_used, no_edit, out_of_memory, is_told, texts_of, text_of, said, fault_of, refusal_of, bad_flag_or_memory}
-use Rattle.fp_plane.specs.declared.reply.Reply.TheVariants.{Refused, NoEdit}
-use Rattle.fp_plane.specs.Script.{judged, decided, verdict, Answers, IsRun, replies_to, after_lines}
-use Rattle.fp_plane.specs.Progress.{cut}
+use Rattle.fp_plane.specs.Reply.{Reply, no_edit, said, fault_of, bad_flag_or_memory}
+use Rattle.fp_plane.specs.declared.reply.Reply.TheVariants.{NoEdit}
+use Rattle.fp_plane.specs.Verdicts.{AnswersBy, AnswersOrStays}
+use Rattle.fp_plane.specs.Script.{judged, proposed, verdict, Answers, IsRun}
+use Rattle.fp_plane.specs.Progress.{cut, EndsOrStays}
 use Rattle.fp_plane.proofs.LineLemmas.{cut-short, cut-long}
-
--- one run after another
-pub run-append : (s t u : State) (ls ms : List (List ℕ)) (rs qs : List Reply) → IsRun s ls rs t → IsRun t ms qs u → IsRun s (ls ++ ms) (rs ++ qs) u
-run-append s t u [] ms [] qs h k = subst (λ v. IsRun v ms qs u) h k
-run-append s t u [] ms (r ∷ rs) qs h k = absurd h
-run-append s t u (l ∷ ls) ms [] qs h k = absurd h
-run-append s t u (l ∷ ls) ms (r ∷ rs) qs h k = (h.0, h.1, run-append h.0 t u ls ms rs qs h.2 k)
+use Rattle.fp_plane.proofs.VerdictLemmas.{answers-as}
 
 pub answered-append : (ls ms : List (List ℕ)) → answered (ls ++ ms) ≡ answered ls ++ answered ms
 answered-append ls ms = filter-append (λ l. not (is_blank l)) ls ms
 
-pub texts_of-append : (rs qs : List Reply) → texts_of (rs ++ qs) ≡ texts_of rs ++ texts_of qs
-texts_of-append [] qs = refl
-texts_of-append (r ∷ rs) qs = ap (λ t. (text_of r ++ 10 ∷ []) ++ t) (texts_of-append rs qs) ∙ sym (append_assoc (text_of r ++ 10 ∷ []) (texts_of rs) (texts_of qs))
-
 -- ---- one line
-
-Answers-same : (s t : State) (a b : List ℕ) (r : Reply) → line_of a ≡ line_of b → Answers s a r t → Answers s b r t
-Answers-same s t a b (revision n) e h = ap (judged s) (sym e) ∙ h
-Answers-same s t a b (conflict current) e h = ap (judged s) (sym e) ∙ h
-Answers-same s t a b set_too_large e h = ap (judged s) (sym e) ∙ h
-Answers-same s t a b revisions_used e h = ap (judged s) (sym e) ∙ h
-Answers-same s t a b (no_edit f) e h = ap (judged s) (sym e) ∙ h
-Answers-same s t a b out_of_memory e h = h
 
 -- two lines that say the same are answered alike
 run-same : (s t : State) (a b : List ℕ) (rs : List Reply) → is_blank a ≡ is_blank b → line_of a ≡ line_of b → IsRun s (answered (a ∷ [])) rs t → IsRun s (answered (b ∷ [])) rs t
@@ -52,7 +32,7 @@ run-same s t a b rs blank e h = by_blank (is_blank b) (subst (λ k. IsRun s (con
   where
     moved : (rs : List Reply) → IsRun s (a ∷ []) rs t → IsRun s (b ∷ []) rs t
     moved [] h = absurd h
-    moved (r ∷ rs) h = (h.0, Answers-same s h.0 a b r e h.1, h.2)
+    moved (r ∷ rs) h = (h.0, answers-as verdict verdict s h.0 a b r (ap (judged s) e) h.1, h.2)
 
     by_blank : (k : Bool) → IsRun s (cond (not k) (a ∷ []) []) rs t → IsRun s (cond (not k) (b ∷ []) []) rs t
     by_blank true h = h
@@ -76,30 +56,24 @@ run-cut s t l rs h =
           run-same s t (cut l) l rs (is_blank-long (cut l) cut_over ∙ sym (is_blank-long l over)) (line_of-long (cut l) cut_over ∙ sym (line_of-long l over)) h
     ] refl
 
+-- so it is where it stops
+pub ends_or_stays-cut : (s t : State) (l : List ℕ) → EndsOrStays s (cut l) t → EndsOrStays s l t
+ends_or_stays-cut s t l (inl run) = inl (run.0, run-cut s t l run.0 run.1)
+ends_or_stays-cut s t l (inr stays) = inr stays
+
 pub run-one : (s t : State) (l : List ℕ) (r : Reply) → is_blank l ≡ false → Answers s l r t → IsRun s (answered (l ∷ [])) (r ∷ []) t
 run-one s t l r blank h = subst (λ k. IsRun s (cond (not k) (l ∷ []) []) (r ∷ []) t) (sym blank) (t, h, refl)
 
 pub run-blank : (s : State) (l : List ℕ) → is_blank l ≡ true → IsRun s (answered (l ∷ [])) [] s
 run-blank s l blank = subst (λ k. IsRun s (cond (not k) (l ∷ []) []) [] s) (sym blank) refl
 
--- an edit that was admitted
-pub accepted-answers : (s t : State) (l : List ℕ) (p : Proposal) (n : ℕ) → line_of l ≡ Ok p → Admits s p (accepted t) → n ≡ t.revision → Answers s l (revision n) t
-accepted-answers s t l p n reads admits counted =
-    let made : s.revision + 1 ≡ n = sym (counted ∙ ap (λ u. u.revision) admits.1) in
-    ap (judged s) reads ∙ ap (decided s p) admits.0 ∙ ap (λ m. (revision m, next s p.change)) made ∙ ap (λ u. (revision n, u)) (sym admits.1)
+-- a line that is an edit is answered as the edit is
+pub edit-answers : (s t : State) (l : List ℕ) (p : Proposal) (r : Reply) → line_of l ≡ Ok p → AnswersBy proposed s p r t → Answers s l r t
+edit-answers s t l p r reads h = answers-as proposed verdict s t p l r (sym (ap (judged s) reads)) h
 
--- an edit that wasn't
-pub refused-answers : (s t : State) (l : List ℕ) (p : Proposal) (e : EditFault) → line_of l ≡ Ok p → IsRefused s p e → t ≡ s → Answers s l (said (Refused e)) t
-refused-answers s t l p e reads refused stays = by_fault e refused
-  where
-    stands : (e : EditFault) → refusal s p ≡ Some e → verdict s l ≡ (refusal_of e, t)
-    stands e h = ap (judged s) reads ∙ ap (decided s p) h ∙ ap (λ u. (refusal_of e, u)) (sym stays)
-
-    by_fault : (e : EditFault) → IsRefused s p e → Answers s l (refusal_of e) t
-    by_fault (edit.Conflict current) h = stands (edit.Conflict current) h
-    by_fault edit.SetTooLarge h = stands edit.SetTooLarge h
-    by_fault edit.RevisionsUsed h = stands edit.RevisionsUsed h
-    by_fault edit.Memory h = stays
+pub edit-ends_or_stays : (s t : State) (l : List ℕ) (p : Proposal) → is_blank l ≡ false → line_of l ≡ Ok p → AnswersOrStays proposed s p t → EndsOrStays s l t
+edit-ends_or_stays s t l p blank reads (inl h) = inl (h.0 ∷ [], run-one s t l h.0 blank (edit-answers s t l p h.0 reads h.1))
+edit-ends_or_stays s t l p blank reads (inr stays) = inr stays
 
 -- a line that is no edit
 pub no_edit-answers : (s t : State) (l : List ℕ) (e : LineFault) → IsFault e (line_of l) → t ≡ s → Answers s l (said (NoEdit e)) t
@@ -122,28 +96,3 @@ no_edit-answers s t l e fault stays = by_fault e fault
     by_fault BadIf h = stands line.bad_if h
     by_fault (BadFlag f) h = of_flag (tells f) h
     by_fault Memory h = stays
-
--- ---- where no reply tells of wanting memory
-
-told-verdict : (s t : State) (l : List ℕ) (r : Reply) → is_told r ≡ true → Answers s l r t → verdict s l ≡ (r, t)
-told-verdict s t l (revision n) e h = h
-told-verdict s t l (conflict current) e h = h
-told-verdict s t l set_too_large e h = h
-told-verdict s t l revisions_used e h = h
-told-verdict s t l (no_edit f) e h = h
-told-verdict s t l out_of_memory e h = absurd (true≢false (sym e))
-
-both : (a b : Bool) → a && b ≡ true → (a ≡ true) × (b ≡ true)
-both true b h = (refl, h)
-both false b h = absurd (true≢false (sym h))
-
--- each reply is the verdict
-pub run-told : (s t : State) (ls : List (List ℕ)) (rs : List Reply) → IsRun s ls rs t → list_all is_told rs ≡ true → (rs ≡ replies_to s ls) × (t ≡ after_lines s ls)
-run-told s t [] [] h e = (refl, h)
-run-told s t [] (r ∷ rs) h e = absurd h
-run-told s t (l ∷ ls) [] h e = absurd h
-run-told s t (l ∷ ls) (r ∷ rs) h e =
-    let parts = both (is_told r) (list_all is_told rs) e in
-    let is = told-verdict s h.0 l r parts.0 h.1 in
-    let rest = run-told h.0 t ls rs h.2 parts.1 in
-    (ap (λ qs. r ∷ qs) rest.0 ∙ ap (λ v. v.0 ∷ replies_to v.1 ls) (sym is), rest.1 ∙ ap (λ v. after_lines v.1 ls) (sym is))

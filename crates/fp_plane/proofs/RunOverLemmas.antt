@@ -1,26 +1,12 @@
 -- Runs over whole inputs.
-use Rattle.std.proofs.Common.{◌≡◌, ℕ, List, [], ◌++◌, take, refl, Option, Some, None, Bool, true, sym, ap, subst, ◌∙◌, append-nil, append_assoc}
+use Rattle.std.proofs.Common.{◌≡◌, ℕ, List, [], ◌++◌, take, refl, Option, Some, None, sym, ap, subst, ◌∙◌, append-nil, append_assoc}
 use Rattle.std.specs.Io.KnownBytes.{Appends, Consumes, Keeps, IsAtEnd}
 use Rattle.fp_base.proofs.Known.{Appends-nil, Appends-more, Consumes-some}
 use Rattle.fp_edit.specs.Flags.{State}
-use Rattle.fp_plane.specs.Lines.{lines, answered}
-use Rattle.fp_plane.specs.Reply.{texts_of}
-use Rattle.fp_plane.specs.Script.{script, after_input, show_line, replies_to}
 use Rattle.fp_plane.specs.Run.{IsRunOver, IsLeftBy}
 use Rattle.fp_plane.specs.Progress.{IsSoFar, IsAnswered, IsReachedWithin}
 use Rattle.fp_plane.specs.declared.exchange.Exchange.{Exchange}
-use Rattle.fp_plane.proofs.RunLemmas.{run-told}
 use Rattle.fp_plane.proofs.ProgressLemmas.{left-within, so_far-sent}
-
--- where no reply tells of wanting memory
-pub run_over-flags : (start : State) (input : List ℕ) (told : Bool) (old new : Option (List ℕ)) (now : State) → IsRunOver start input told old new now → told ≡ true → now ≡ after_input start input
-run_over-flags start input told old new now r all = (run-told start now (answered (lines input)) r.replies r.run (sym r.told_is ∙ all)).1
-
-pub run_over-script : (start : State) (input : List ℕ) (told : Bool) (old new : Option (List ℕ)) (now : State) → IsRunOver start input told old new now → told ≡ true → Appends old new (script start input)
-run_over-script start input told old new now r all =
-    let is = run-told start now (answered (lines input)) r.replies r.run (sym r.told_is ∙ all) in
-    let said : texts_of r.replies ++ show_line now ≡ script start input = ap (λ rs. texts_of rs ++ show_line now) is.0 ∙ ap (λ t. texts_of (replies_to start (answered (lines input))) ++ show_line t) is.1 in
-    subst (Appends old new) said r.written
 
 -- all was answered, and what waited was sent
 pub run_over-sent : (start : State) (input sent : List ℕ) (x : Exchange) (now : State) (a b c : Option (List ℕ)) → IsAnswered start input sent x now

@@ -1,8 +1,10 @@
-pub mod Task
 pub mod Declined
 pub mod Fault
 pub mod Lines
 pub mod Reply
+pub mod Verdicts
 pub mod Script
 pub mod Run
+pub mod Import
+pub mod Course
 pub mod Progress

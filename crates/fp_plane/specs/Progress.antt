@@ -1,11 +1,33 @@
 -- How far an input was answered.
-use Rattle.std.specs.Prelude.{◌≡◌, ℕ, ◌+◌, List, [], ◌∷◌, ◌++◌, take, ◌&&◌, ◌⊎◌}
+use Rattle.std.specs.Prelude.{◌≡◌, ℕ, ◌+◌, List, [], ◌∷◌, ◌++◌, take, ◌&&◌, ◌⊎◌, Option}
 use Rattle.std.specs.List.{list_all}
+use Rattle.std.specs.Io.KnownBytes.{Appends}
 use Rattle.fp_edit.specs.Flags.{State}
 use Rattle.fp_plane.specs.Lines.{lines, answered, line_limit}
 use Rattle.fp_plane.specs.Reply.{Reply, texts_of, is_told}
-use Rattle.fp_plane.specs.Script.{IsRun, show_line}
+use Rattle.fp_plane.specs.Script.{verdict, IsRun}
+use Rattle.fp_plane.specs.Verdicts.{Verdict, IsRunBy, show_line}
 use Rattle.fp_plane.specs.declared.exchange.Exchange.{Exchange}
+
+-- ---- whatever is asked
+
+-- replies to what was asked came to those that wait
+pub record IsAdded {A : Type 0} (judge : Verdict A) (s : State) (xs : List A) (old new : Exchange) (t : State) : Type 0 where
+  pub replies : List Reply
+  pub run : IsRunBy judge s xs replies t
+  pub written : new.replies.items ≡ old.replies.items ++ texts_of replies
+  pub told : new.is_told ≡ (old.is_told && list_all is_told replies)
+
+-- a writer that held `old` holds some of the replies behind it, and the others wait
+pub record IsUnderWay {A : Type 0} (judge : Verdict A) (start : State) (xs : List A) (old new : Option (List ℕ)) (x : Exchange) (now : State) : Type 0 where
+  pub replies : List Reply
+  pub sent : List ℕ
+  pub run : IsRunBy judge start xs replies now
+  pub appended : Appends old new sent
+  pub written : sent ++ x.replies.items ≡ texts_of replies
+  pub told : x.is_told ≡ list_all is_told replies
+
+-- ---- lines
 
 -- each line that ended in `seen` was answered, and the last one hasn't ended
 pub record IsReached (start : State) (seen : List ℕ) (now : State) : Type 0 where
@@ -39,10 +61,7 @@ pub record IsAnswered (start : State) (input sent : List ℕ) (x : Exchange) (no
 
 -- a line was answered, and the next one begins
 pub record EndsLine (s : State) (line : List ℕ) (old new : Exchange) (t : State) : Type 0 where
-  pub replies : List Reply
-  pub run : IsRun s (answered (line ∷ [])) replies t
-  pub written : new.replies.items ≡ old.replies.items ++ texts_of replies
-  pub told : new.is_told ≡ (old.is_told && list_all is_told replies)
+  pub added : IsAdded verdict s (answered (line ∷ [])) old new t
   pub empty : new.line.items ≡ []
 
 -- a line was answered, or nothing was done

@@ -1,19 +1,20 @@
 //! Where edits go.
 
-ghost use Rattle.std.specs.Prelude.{◌≡◌, IfOk, OnOk, OnErr, IfErr};
+ghost use Rattle.std.specs.Prelude.{◌≡◌, IfOk, OnOk, IfErr};
 ghost use Rattle.fp_edit.specs.Flags.{State};
 ghost use Rattle.fp_edit.specs.Edits.{proposal_of};
 ghost use Rattle.fp_edit.specs.Admits.{Admits, accepted};
-ghost use Rattle.fp_plane.specs.Declined.{IsDeclined};
+ghost use Rattle.fp_edit.specs.Edits.{Proposal};
+ghost use Rattle.fp_plane.specs.Declined.{IsDeclined, IsDeclinedBy};
 
 use fp_edit::{Edit, EditFault, FlagSet};
 
-/// Why an edit changed nothing.
+/// Why an edit wasn't answered with a revision.
 #[derive(Debug, Drop, Clone, Copy)]
 pub enum Declined {
-    /// The flags don't admit it, or memory was wanting.
+    /// The flags don't admit it, or memory was wanting; it changed nothing.
     Refused(EditFault),
-    /// What keeps the flags failed; no further edit is taken.
+    /// What keeps the flags failed, and holds the edit or not; no further edit is taken.
     StoreFailed,
 }
 
@@ -22,13 +23,26 @@ pub trait Edits {
     // The flags, their revision and their limit.
     ghost state: { Self → State };
 
+    // What keeps the flags may become this, as long as it doesn't fail.
+    ghost leads_to: { Self → Self → Type 0 };
+
+    // It may fail at this edit, and become that.
+    ghost fails_at: { Self → Proposal → Self → Type 0 };
+
+    ghost leads_to_itself: { (s : Self) → leads_to s s };
+
+    ghost leads_on: { (a b c : Self) → leads_to a b → leads_to b c → leads_to a c };
+
     /// Judges an edit by the flags, and answers the revision that it made.
     fn admit(&mut self, edit: Edit) -> Result<u64, Declined>
         ensures admitted { OnOk result
             (Admits (state self.old) (proposal_of edit) (accepted (state self.new))) }
         ensures revision { IfOk result (λ r. r ≡ (state self.new).revision) }
-        ensures declined { IfErr result (IsDeclined (state self.old) (proposal_of edit)) }
-        ensures unchanged { OnErr result (state self.new ≡ state self.old) };
+        ensures declined { IfErr result
+            (IsDeclined (state self.old) (proposal_of edit) (state self.new)) }
+        ensures goes_on { OnOk result (leads_to self.old self.new) }
+        ensures fate { IfErr result
+            (IsDeclinedBy leads_to fails_at self.old (proposal_of edit) self.new) };
 
     /// The flags as they are.
     fn flags(&self) -> &FlagSet
@@ -37,6 +51,14 @@ pub trait Edits {
 
 impl Edits for FlagSet {
     ghost state = { λ s. s };
+
+    ghost leads_to = { λ a b. Unit {0} };
+
+    ghost fails_at = { λ a p b. ⊥ };
+
+    ghost leads_to_itself = { λ s. tt };
+
+    ghost leads_on = { λ a b c h k. tt };
 
     fn admit(&mut self, edit: Edit) -> Result<u64, Declined> {
         match FlagSet::admit(self, edit) {

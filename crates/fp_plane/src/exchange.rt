@@ -1,24 +1,29 @@
 //! Lines as they come in, and replies that wait to be sent.
 
-ghost use Rattle.std.specs.Prelude.{◌≡◌, ◌==◌, ◌++◌, ◌&&◌, ℕ, List, [], ◌∷◌, IfOk, OnOk, OnErr, IfSome, ◌+◌, ◌^◌, ◌<◌, length, position};
+ghost use Rattle.std.specs.Prelude.{true, nat_lt, ◌≡◌, ◌==◌, ◌++◌, ◌&&◌, ℕ, List, [], ◌∷◌, IfOk, OnOk, OnErr, IfSome, ◌+◌, ◌^◌, ◌<◌, length, position};
 ghost use Rattle.std.specs.List.{list_all};
 ghost use Rattle.std.specs.Io.KnownBytes.{Appends};
 ghost use Rattle.fp_edit.specs.Flags.{State};
+ghost use Rattle.fp_edit.specs.Edits.{proposal_of};
+ghost use Rattle.fp_plane.specs.Course.{Course};
 ghost use Rattle.fp_plane.specs.Lines as say;
 ghost use Rattle.fp_plane.specs.Lines.{answered};
 ghost use Rattle.fp_plane.specs.Reply.{said, texts_of, is_told, replies_of};
-ghost use Rattle.fp_plane.specs.Script.{IsRun, show_line};
+ghost use Rattle.fp_plane.specs.Script.{proposed, IsRun, show_line};
+ghost use Rattle.fp_plane.specs.Verdicts.{AnswersBy, AnswersOrStays};
 ghost use Rattle.fp_plane.specs.Run.{IsLeftBy};
-ghost use Rattle.fp_plane.specs.Progress.{IsReachedWithin, IsSoFar, IsAnswered, EndsLine, EndsOrStays, cut};
+ghost use Rattle.fp_plane.specs.Progress.{IsReachedWithin, IsSoFar, IsAnswered, IsAdded, EndsLine, EndsOrStays, cut};
 
+use crate::show::shown;
 use crate::{ApplyFault, Declined, Edits, Reply};
-use fp_edit::{FlagSet, parse_line};
-use itoa::Buffer;
+use fp_edit::{Edit, FlagSet, parse_line};
 use std::alloc::{AllocError, Global};
 use std::io;
 use std::io::Write;
 
 const LINE_LIMIT: usize = 32_768;
+
+const LONG: usize = 65_536;
 
 /// The line that is coming in, at most one byte more of it than is looked at, and the replies
 /// that wait to be sent.
@@ -32,7 +37,9 @@ pub struct Exchange {
 impl Exchange {
     /// Nothing has come in yet.
     pub fn new(alloc: Global) -> Exchange
-        ensures { (start : State) → IsSoFar start [] [] result start }
+        ensures lines { (start : State) → IsSoFar start [] [] result start }
+        ensures none { result.replies.items ≡ [] }
+        ensures told { result.is_told ≡ true }
     {
         Exchange {
             line: Vec::new(alloc),
@@ -54,6 +61,7 @@ impl Exchange {
         ensures within { (start : State) (seen sent : List ℕ)
             → IsSoFar start seen sent self.old (E.state edits.old)
             → IsReachedWithin start (seen ++ bytes.now) (E.state edits.new) }
+        ensures course { Course E.leads_to E.fails_at edits.old edits.new result }
     {
         let mut rest = bytes;
         while let Some(at) = newline_in(rest) {
@@ -73,6 +81,7 @@ impl Exchange {
         ensures left { (start : State) (seen sent : List ℕ)
             → IsSoFar start seen sent self.old (E.state edits.old)
             → IsLeftBy start seen (E.state edits.new) }
+        ensures course { Course E.leads_to E.fails_at edits.old edits.new result }
     {
         self.end_line(alloc, edits)?;
         self.show(alloc, edits.flags())?;
@@ -100,17 +109,38 @@ impl Exchange {
         Ok(())
     }
 
-    // Shows the flags behind the replies.
-    fn show(&mut self, alloc: Global, flags: &FlagSet) -> Result<(), AllocError>
+    /// Whether so much waits that it is better sent.
+    pub fn is_long(&self) -> bool
+        ensures { result ≡ nat_lt 65536 (length self.now.replies.items) }
+    {
+        self.replies.len() > LONG
+    }
+
+    /// Puts an edit to the flags, and answers it.
+    pub fn answer<E: Edits>(
+        &mut self,
+        alloc: Global,
+        edits: &mut E,
+        edit: Edit,
+    ) -> Result<(), ApplyFault>
+        ensures added { OnOk result
+            (IsAdded proposed (E.state edits.old) (proposal_of edit ∷ []) self.old self.new
+            (E.state edits.new)) }
+        ensures stopped { AnswersOrStays proposed (E.state edits.old) (proposal_of edit) (E.state edits.new) }
+        ensures course { Course E.leads_to E.fails_at edits.old edits.new result }
+    {
+        let reply = Some(reply_to_edit(edits, edit)?);
+        self.put(alloc, &reply)?;
+        Ok(())
+    }
+
+    /// Shows the flags behind the replies.
+    pub fn show(&mut self, alloc: Global, flags: &FlagSet) -> Result<(), AllocError>
         ensures shown { OnOk result
             (self.new.replies.items ≡ self.old.replies.items ++ show_line flags.now) }
         ensures told { self.new.is_told ≡ self.old.is_told }
     {
-        let document = flags.document()?;
-        let mut line = Vec::from_slice(alloc, Buffer::new().format(flags.revision()).as_bytes())?;
-        line.push(b' ')?;
-        line.extend_from_slice(&document)?;
-        line.push(b'\n')?;
+        let line = shown(alloc, flags)?;
         self.replies.extend_from_slice(&line)?;
         Ok(())
     }
@@ -134,6 +164,7 @@ impl Exchange {
             → EndsLine (E.state edits.old) line self.old self.new (E.state edits.new)) }
         ensures stopped { (line : List ℕ) → self.old.line.items ≡ cut line
             → EndsOrStays (E.state edits.old) line (E.state edits.new) }
+        ensures course { Course E.leads_to E.fails_at edits.old edits.new result }
     {
         let reply = reply_to(alloc, edits, &self.line)?;
         self.put(alloc, &reply)?;
@@ -194,17 +225,32 @@ fn reply_to<E: Edits>(
 ) -> Result<Option<Reply>, ApplyFault>
     ensures answered { IfOk result (λ o.
         IsRun (E.state edits.old) (answered (line.now ∷ [])) (replies_of o) (E.state edits.new)) }
-    ensures stopped { OnErr result (E.state edits.new ≡ E.state edits.old) }
+    ensures stopped { OnErr result
+        (EndsOrStays (E.state edits.old) line.now (E.state edits.new)) }
+    ensures course { Course E.leads_to E.fails_at edits.old edits.new result }
 {
     if is_blank(line) {
         return Ok(None);
     }
     match parse_line(alloc, line) {
-        Ok(edit) => match edits.admit(edit) {
-            Ok(revision) => Ok(Some(Reply::Revision(revision))),
-            Err(Declined::Refused(fault)) => Ok(Some(Reply::Refused(fault))),
-            Err(Declined::StoreFailed) => Err(ApplyFault::StoreFailed),
-        },
+        Ok(edit) => {
+            let reply = reply_to_edit(edits, edit)?;
+            Ok(Some(reply))
+        }
         Err(fault) => Ok(Some(Reply::NoEdit(fault))),
+    }
+}
+
+fn reply_to_edit<E: Edits>(edits: &mut E, edit: Edit) -> Result<Reply, ApplyFault>
+    ensures answered { IfOk result (λ r.
+        AnswersBy proposed (E.state edits.old) (proposal_of edit) (said r) (E.state edits.new)) }
+    ensures stopped { OnErr result
+        (AnswersOrStays proposed (E.state edits.old) (proposal_of edit) (E.state edits.new)) }
+    ensures course { Course E.leads_to E.fails_at edits.old edits.new result }
+{
+    match edits.admit(edit) {
+        Ok(revision) => Ok(Reply::Revision(revision)),
+        Err(Declined::Refused(fault)) => Ok(Reply::Refused(fault)),
+        Err(Declined::StoreFailed) => Err(ApplyFault::StoreFailed),
     }
 }

@@ -4,6 +4,7 @@ ghost use Rattle.std.specs.Prelude.{◌≡◌, ℕ, List, Option, true, IfOk, If
 ghost use Rattle.std.specs.Io.KnownBytes.{Appends};
 ghost use Rattle.fp_edit.specs.Flags.{State};
 ghost use Rattle.fp_plane.specs.Script.{script, after_input};
+ghost use Rattle.fp_plane.specs.Course.{Course};
 ghost use Rattle.fp_plane.specs.Run.{IsRunOver, IsLeftBy};
 ghost use Rattle.fp_plane.specs.Progress.{IsSoFar};
 
@@ -39,6 +40,9 @@ pub fn apply_lines<R: Read, W: Write, E: Edits>(
     // At a fault too the flags are as some first lines of the input leave them.
     ensures left { IfSome (R.remaining r.old) (λ input.
         IsLeftBy (E.state edits) input (E.state result.0)) }
+
+    // What keeps the flags goes on, but where it failed.
+    ensures course { Course E.leads_to E.fails_at edits result.0 result.1 }
 {
     let mut edits = edits;
     let outcome = answer_input(alloc, r, w, &mut edits);
@@ -56,6 +60,7 @@ fn answer_input<R: Read, W: Write, E: Edits>(
         (E.state edits.new))) }
     ensures left { IfSome (R.remaining r.old) (λ input.
         IsLeftBy (E.state edits.old) input (E.state edits.new)) }
+    ensures course { Course E.leads_to E.fails_at edits.old edits.new result }
 {
     let mut exchange = Exchange::new(alloc);
     let mut chunk = [0; CHUNK];
@@ -70,8 +75,9 @@ fn answer_input<R: Read, W: Write, E: Edits>(
             return Ok(told);
         }
         let taken = exchange.take(alloc, edits, &chunk[..count]);
-        exchange.send(w)?;
+        let sent = exchange.send(w);
         taken?;
+        sent?;
     }
     Err(ApplyFault::Device)
 }
@@ -91,9 +97,11 @@ fn finish<W: Write, E: Edits>(
     ensures left { (start : State) (input sent : List ℕ)
         → IsSoFar start input sent exchange.old (E.state edits.old)
         → IsLeftBy start input (E.state edits.new) }
+    ensures course { Course E.leads_to E.fails_at edits.old edits.new result }
 {
     let ended = exchange.end(alloc, edits);
-    exchange.send(w)?;
+    let sent = exchange.send(w);
     ended?;
+    sent?;
     Ok(exchange.is_told())
 }

@@ -1,18 +1,20 @@
-//! The program's commands, over its words and its streams.
+//! Edits and where they go: the loop from edit lines to replies, over streams.
 #![tactic(auto)]
 
 mod edits;
 mod exchange;
 mod fault;
+mod import;
 mod input;
-mod program;
 mod reply;
+mod show;
 
 pub use edits::{Declined, Edits};
 pub use fault::ApplyFault;
+pub use import::import_flags;
 pub use input::apply_lines;
-pub use program::command;
 pub use reply::Reply;
+pub use show::shown;
 
 #[cfg(test)]
 mod tests;

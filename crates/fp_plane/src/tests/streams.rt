@@ -1,6 +1,7 @@
+use super::stand_ins::{Failing, Full};
 use super::{ON, written_out};
-use crate::{ApplyFault, Declined, Edits, apply_lines, command};
-use fp_edit::{Edit, FlagSet};
+use crate::{ApplyFault, apply_lines};
+use fp_edit::FlagSet;
 use std::alloc::{AllocGlobal, Global};
 use std::cell::RefCell;
 use std::io;
@@ -37,28 +38,6 @@ impl Read for Pieces<'_> {
         buf[..count].copy_from_slice(now);
         self.bytes = later;
         Ok(count)
-    }
-}
-
-// Takes some writes, and fails from then on.
-#[derive(Drop)]
-struct Full {
-    taken: Vec<u8>,
-    writes_left: usize,
-}
-
-impl Write for Full {
-    fn write(&mut self, buf: &[u8]) -> io::Result<usize> {
-        if self.writes_left == 0 {
-            return Err(ErrorKind::StorageFull.into());
-        }
-        self.writes_left -= 1;
-        self.taken.extend_from_slice(buf)?;
-        Ok(buf.len())
-    }
-
-    fn flush(&mut self) -> io::Result<()> {
-        Ok(())
     }
 }
 
@@ -101,29 +80,6 @@ impl Write for Terminal<'_> {
     fn flush(&mut self) -> io::Result<()> {
         self.note(b'f');
         Ok(())
-    }
-}
-
-// Flags whose store takes some edits, and fails from then on.
-#[derive(Drop)]
-struct Failing {
-    flags: FlagSet,
-    edits_left: usize,
-}
-
-impl Edits for Failing {
-    ghost state = { λ s. s.flags };
-
-    fn admit(&mut self, edit: Edit) -> Result<u64, Declined> {
-        if self.edits_left == 0 {
-            return Err(Declined::StoreFailed);
-        }
-        self.edits_left -= 1;
-        Edits::admit(&mut self.flags, edit)
-    }
-
-    fn flags(&self) -> &FlagSet {
-        &self.flags
     }
 }
 
@@ -176,35 +132,18 @@ fn a_reader_that_fails_ends_the_run(rt: HostRuntime) -> Result<(), Fail> {
 fn a_writer_that_fails_ends_the_run(rt: HostRuntime) -> Result<(), Fail> {
     let alloc = rt.alloc();
     let input = written_out(alloc, INPUT)?;
-    let words = [String::from_str(alloc, "apply")?];
     let line = ON.len() + 32;
     let rows = [(0, ""), (1, "{\"revision\":1}\n")];
     for (writes_left, output) in rows {
         let mut r = cut_up(input.as_bytes(), line, 100);
-        let mut errors = Vec::new(alloc);
         let mut w = Full {
             taken: Vec::new(alloc),
             writes_left,
         };
-        let status = command(&rt, words.as_slice(), &mut r, &mut w, &mut errors);
-        assert_eq!(rt; status, 1);
+        let (_flags, outcome) = apply_lines(alloc, &mut r, &mut w, flags(alloc));
+        assert_eq!(rt; outcome, Err(ApplyFault::Device));
         assert_eq!(rt; w.taken.as_slice(), output.as_bytes());
-        assert_eq!(rt; errors.as_slice(), b"flagplane: device fault\n".as_slice());
     }
-    Ok(())
-}
-
-#[test]
-fn a_reader_that_fails_is_told_on_the_error_stream(rt: HostRuntime) -> Result<(), Fail> {
-    let alloc = rt.alloc();
-    let words = [String::from_str(alloc, "apply")?];
-    let mut r = cut_up(b"[]\n", 3, 1);
-    let mut w = Vec::new(alloc);
-    let mut errors = Vec::new(alloc);
-    let status = command(&rt, words.as_slice(), &mut r, &mut w, &mut errors);
-    assert_eq!(rt; status, 1);
-    assert_eq!(rt; w.as_slice(), b"{\"error\":\"not-object\"}\n".as_slice());
-    assert_eq!(rt; errors.as_slice(), b"flagplane: device fault\n".as_slice());
     Ok(())
 }
 
@@ -224,6 +163,23 @@ fn a_store_that_fails_ends_the_run_behind_its_replies(rt: HostRuntime) -> Result
         b"{\"revision\":1}\n{\"current\":null,\"error\":\"conflict\"}\n".as_slice()
     );
     assert_eq!(rt; edits.flags.revision(), 1);
+    Ok(())
+}
+
+#[test]
+fn a_store_that_failed_is_told_though_the_writer_fails(rt: HostRuntime) -> Result<(), Fail> {
+    let alloc = rt.alloc();
+    let input = written_out(alloc, INPUT)?;
+    let mut w = Full {
+        taken: Vec::new(alloc),
+        writes_left: 0,
+    };
+    let edits = Failing {
+        flags: flags(alloc),
+        edits_left: 1,
+    };
+    let (_edits, outcome) = apply_lines(alloc, &mut input.as_bytes(), &mut w, edits);
+    assert_eq!(rt; outcome, Err(ApplyFault::StoreFailed));
     Ok(())
 }
 

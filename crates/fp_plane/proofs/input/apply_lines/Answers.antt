@@ -2,9 +2,10 @@ use Rattle.std.proofs.Common.{◌≡◌, true, IfSome}
 use Rattle.std.proofs.lemmas.Result.{IfOk-weaker}
 use Rattle.std.proofs.lemmas.Option.{IfSome_then}
 use Rattle.std.specs.Io.KnownBytes.{Appends}
-use Rattle.fp_plane.specs.Script.{script, after_input}
+use Rattle.fp_plane.specs.Lines.{lines, answered}
+use Rattle.fp_plane.specs.Script.{verdict, script, after_input}
 use Rattle.fp_plane.specs.Run.{IsRunOver}
-use Rattle.fp_plane.proofs.RunOverLemmas.{run_over-script, run_over-flags}
+use Rattle.fp_plane.proofs.VerdictLemmas.{written-script, written-flags}
 use Rattle.fp_plane.proofs.input.apply_lines.Goals as goal
 
 pub returns-clause-script : goal.returns-clause-script
@@ -15,7 +16,7 @@ returns-clause-script g c =
     let new = g.W.Write.contents c.answer_input-outcome.new.w in
     let left = g.R.Read.remaining c.args.r.now in
     IfOk-weaker c.answer_input-outcome.result (λ told. IfSome left (λ input. IsRunOver start input told old new now)) (λ told. told ≡ true → IfSome left (λ input. Appends old new (script start input)))
-    (λ told run all. IfSome_then left run (λ input r. run_over-script start input told old new now r all)) c.answer_input-outcome.ensures.run
+    (λ told run all. IfSome_then left run (λ input r. written-script verdict start (answered (lines input)) told old new now r all)) c.answer_input-outcome.ensures.run
 
 pub returns-clause-flags : goal.returns-clause-flags
 returns-clause-flags g c =
@@ -25,4 +26,4 @@ returns-clause-flags g c =
     let new = g.W.Write.contents c.answer_input-outcome.new.w in
     let left = g.R.Read.remaining c.args.r.now in
     IfOk-weaker c.answer_input-outcome.result (λ told. IfSome left (λ input. IsRunOver start input told old new now)) (λ told. told ≡ true → IfSome left (λ input. now ≡ after_input start input))
-    (λ told run all. IfSome_then left run (λ input r. run_over-flags start input told old new now r all)) c.answer_input-outcome.ensures.run
+    (λ told run all. IfSome_then left run (λ input r. written-flags verdict start (answered (lines input)) told old new now r all)) c.answer_input-outcome.ensures.run

@@ -1,4 +1,4 @@
-use super::{USAGE, assert_applies, run};
+use super::assert_applies;
 use std::alloc::AllocGlobal;
 use std::test::Fail;
 
@@ -72,24 +72,5 @@ fn blank_lines_get_no_reply(rt: HostRuntime) -> Result<(), Fail> {
         "\n \t\r\n{\"flag\":ON,\"key\":\"a\",\"op\":\"put\"}\r\n\r\n{\"flag\":ON,\"if\":null,\"key\":\"b\",\"op\":\"put\"}",
         "{\"revision\":1}\n{\"revision\":2}\n2 {\"flags\":{\"a\":ON,\"b\":ON}}\n",
     )?;
-    Ok(())
-}
-
-#[test]
-fn words_that_name_no_command_get_the_usage(rt: HostRuntime) -> Result<(), Fail> {
-    let rows: [&[&str]; 6] = [
-        &[],
-        &["apply", "f"],
-        &["Apply"],
-        &["init", "f"],
-        &["show"],
-        &["apply", "f", "g"],
-    ];
-    for words in rows {
-        let ran = run(rt.alloc(), &rt, words, b"{}\n")?;
-        assert_eq!(rt; ran.status, 2);
-        assert_eq!(rt; ran.output.as_slice(), b"".as_slice());
-        assert_eq!(rt; ran.errors.as_slice(), USAGE.as_bytes());
-    }
     Ok(())
 }

@@ -1,7 +1,7 @@
 use Rattle.std.proofs.Common.{IfSome, IfOk, subst}
 use Rattle.std.proofs.lemmas.Option.{IfSome_then}
 use Rattle.fp_plane.specs.Run.{IsRunOver}
-use Rattle.fp_plane.proofs.program.apply.Goals as goal
+use Rattle.fp_commands.proofs.program.apply.Goals as goal
 
 pub returns : goal.returns
 returns g c =

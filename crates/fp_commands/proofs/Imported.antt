@@ -1,0 +1,62 @@
+-- Documents that are imported, and what is wrong with them.
+use Rattle.std.proofs.Common.{◌≡◌, ◌∙◌, ℕ, List, Option, Some, None, Result, Err, IfSome, string_bytes, sym, ap, subst}
+use Rattle.std.specs.Prelude.{option_map}
+use Rattle.std.proofs.lemmas.Option.{IfSome_then}
+use Rattle.serde_json.specs.Data.{Data}
+use Rattle.fp_base.specs.Json.{json_of}
+use Rattle.fp_imports.specs.Document.{Flag, Refusal, document}
+use Rattle.fp_imports.specs.Faults.{Refuses}
+use Rattle.fp_imports.specs.declared.faults.ImportFault.{ImportFault}
+use Rattle.fp_imports.specs.declared.faults.ImportFault.TheVariants as import
+use Rattle.fp_layout.specs.declared.fault.OpenFault.{OpenFault}
+use Rattle.fp_layout.specs.declared.fault.OpenFault.TheVariants as opening
+use Rattle.fp_plane.specs.declared.fault.ApplyFault.{ApplyFault}
+use Rattle.fp_plane.specs.declared.fault.ApplyFault.TheVariants as run
+use Rattle.fp_recovery.specs.Refusals.{RefusesBytes, IsUnlessWanting}
+use Rattle.fp_commands.specs.declared.fault.CommandFault.{CommandFault}
+use Rattle.fp_commands.specs.declared.fault.CommandFault.TheVariants as command
+use Rattle.fp_commands.specs.Documents.{import_of, defined, IsDocumentFault}
+use Rattle.fp_commands.specs.Disks.{IsImportingFault}
+use Rattle.fp_commands.specs.Faults.{of_import, of_open, of_run}
+
+-- ---- what was read
+
+-- the bytes are these data
+pub import-known : {D : Type 0} (view : D → Data) (input items : List ℕ) (o : Option D) (d : D) → items ≡ input → option_map view o ≡ json_of items → o ≡ Some d → import_of input ≡ document (view d)
+import-known view input items o d is read some = ap defined (ap json_of (sym is) ∙ sym read ∙ ap (option_map view) some)
+
+pub document-fault : (left : Option (List ℕ)) (fault : ImportFault) → IfSome left (λ input. Refuses fault (import_of input)) → IsDocumentFault left (of_import fault)
+document-fault left import.NotDocument h = h
+document-fault left (import.RefUnknown name) h = h
+document-fault left import.RefTooDeep h = h
+document-fault left (import.Flag key fault) h = h
+document-fault left import.Memory h = tt
+document-fault left (import.BadKey name) h = IfSome_then left h (λ input e. (string_bytes name, e))
+
+-- ---- faults of an import
+
+pub importing-open : (c : List ℕ) (left : Option (List ℕ)) (f : OpenFault) → RefusesBytes c f → IsUnlessWanting c f → IsImportingFault c left (of_open f)
+importing-open c left opening.Unformatted r none = (r, none)
+importing-open c left (opening.UnknownVersion v) r none = (r, none)
+importing-open c left (opening.Damaged at) r none = (r, none)
+importing-open c left opening.Device r none = tt
+importing-open c left opening.Memory r none = tt
+
+pub importing-run : (c : List ℕ) (left : Option (List ℕ)) (f : ApplyFault) → IsImportingFault c left (of_run f)
+importing-run c left run.Device = tt
+importing-run c left run.StoreFailed = tt
+importing-run c left run.Memory = tt
+
+pub importing-document : (c : List ℕ) (left : Option (List ℕ)) (f : CommandFault) → IsDocumentFault left f → IsImportingFault c left f
+importing-document c left command.NotDocument h = h
+importing-document c left (command.UnknownEvaluator name) h = h
+importing-document c left command.EvaluatorsTooDeep h = h
+importing-document c left command.BadKey h = h
+importing-document c left (command.Flag key fault) h = h
+importing-document c left command.Device h = tt
+importing-document c left command.Memory h = tt
+importing-document c left command.NotEmpty h = absurd h
+importing-document c left command.Unformatted h = absurd h
+importing-document c left (command.UnknownVersion v) h = absurd h
+importing-document c left (command.Damaged at) h = absurd h
+importing-document c left command.StoreFailed h = absurd h

@@ -1,0 +1,90 @@
+-- What the program tells, and what it shows.
+use Rattle.std.proofs.Common.{◌≡◌, List, [], ◌++◌, ℕ, Bool, Option, Some, None, Result, Ok, Err, IfSome, IfOk, OnOk, refl, subst}
+use Rattle.std.proofs.lemmas.Option.{IfSome_then}
+use Rattle.fp_edit.specs.Flags.{State}
+use Rattle.fp_disk.specs.Outcomes.{Unsynced}
+use Rattle.fp_plane.specs.Lines.{lines, answered}
+use Rattle.fp_plane.specs.Run.{IsLeftBy, IsApplied}
+use Rattle.fp_layout.specs.declared.fault.OpenFault.{OpenFault}
+use Rattle.fp_layout.specs.declared.fault.OpenFault.TheVariants.{Unformatted, UnknownVersion, Damaged, Device, Memory}
+use Rattle.fp_plane.specs.declared.fault.ApplyFault.{ApplyFault}
+use Rattle.fp_plane.specs.declared.fault.ApplyFault.TheVariants as run
+use Rattle.fp_recovery.specs.Refusals.{RefusesBytes, IsUnlessWanting}
+use Rattle.fp_commands.specs.declared.fault.CommandFault.{CommandFault}
+use Rattle.fp_commands.specs.declared.fault.CommandFault.TheVariants as command
+use Rattle.fp_commands.specs.Faults.{of_open, of_run}
+use Rattle.fp_commands.specs.Disks.{IsShowingFault, IsApplyingFault, IsStreamFault, IsShown, IsRunOnDisk, Applies, Imports}
+use Rattle.fp_commands.specs.Task.{ShowsFlags, IsImported}
+
+-- what opening refuses
+pub showing-open : (c : List ℕ) (f : OpenFault) → RefusesBytes c f → IsUnlessWanting c f → IsShowingFault c (of_open f)
+showing-open c Unformatted r none = (r, none)
+showing-open c (UnknownVersion v) r none = (r, none)
+showing-open c (Damaged at) r none = (r, none)
+showing-open c Device r none = tt
+showing-open c Memory r none = tt
+
+pub applying-open : (c : List ℕ) (f : OpenFault) → RefusesBytes c f → IsUnlessWanting c f → IsApplyingFault c (of_open f)
+applying-open c Unformatted r none = (r, none)
+applying-open c (UnknownVersion v) r none = (r, none)
+applying-open c (Damaged at) r none = (r, none)
+applying-open c Device r none = tt
+applying-open c Memory r none = tt
+
+-- what a stream refuses
+pub showing-stream : (c : List ℕ) (f : CommandFault) → IsStreamFault f → IsShowingFault c f
+showing-stream c command.Device h = tt
+showing-stream c command.Memory h = tt
+showing-stream c command.NotEmpty h = absurd h
+showing-stream c command.Unformatted h = absurd h
+showing-stream c (command.UnknownVersion v) h = absurd h
+showing-stream c (command.Damaged at) h = absurd h
+showing-stream c command.StoreFailed h = absurd h
+showing-stream c command.NotDocument h = absurd h
+showing-stream c (command.UnknownEvaluator name) h = absurd h
+showing-stream c command.EvaluatorsTooDeep h = absurd h
+showing-stream c command.BadKey h = absurd h
+showing-stream c (command.Flag key fault) h = absurd h
+
+-- what ends a run
+pub applying-run : (c : List ℕ) (f : ApplyFault) → IsApplyingFault c (of_run f)
+applying-run c run.Device = tt
+applying-run c run.StoreFailed = tt
+applying-run c run.Memory = tt
+
+-- ---- what is shown
+
+pub ok_more : {T E : Type 0} (r : Result T E) (P Q : Type 0) → (P → Q) → OnOk r P → OnOk r Q
+ok_more (Ok x) P Q f h = f h
+ok_more (Err e) P Q f h = tt
+
+pub some_all : {A : Type 0} (o : Option A) (P : A → Type 0) → ((x : A) → P x) → IfSome o P
+some_all None P f = tt
+some_all (Some x) P f = f x
+
+pub some_both : {A : Type 0} (o : Option A) (P Q : A → Type 0) → IfSome o P → IfSome o Q → IfSome o (λ x. P x × Q x)
+some_both None P Q p q = tt
+some_both (Some x) P Q p q = (p, q)
+
+pub some_if : {A : Type 0} (o : Option A) (C : Type 0) (P Q : A → Type 0) → (C → IfSome o P) → (C → IfSome o Q) → IfSome o (λ x. C → P x × Q x)
+some_if None C P Q p q = tt
+some_if (Some x) C P Q p q = λ c. (p c, q c)
+
+pub shows : {A E : Type 0} (r : Result A E) (is_honest : Type 0) (bytes : List ℕ) (old new : Option (List ℕ)) → OnOk r (IsShown is_honest bytes old new) → OnOk r (ShowsFlags old new)
+shows r is_honest bytes old new h = ok_more r (IsShown is_honest bytes old new) (ShowsFlags old new) (λ s. (s.flags, s.written)) h
+
+pub applies : {E : Type 0} (r : Result Bool E) (told : Bool) (is_honest : Type 0) (bytes : List ℕ) (after : Unsynced) (left old new : Option (List ℕ)) → r ≡ Ok told
+    → IfOk r (λ t. IsRunOnDisk is_honest bytes after left (Applies t old new)) → IfSome left (λ input. (start : State) × IsApplied start input old new)
+applies {E} r told is_honest bytes after left old new is h =
+    let run : IsRunOnDisk is_honest bytes after left (Applies told old new) = subst (λ (o : Result Bool E). IfOk o (λ t. IsRunOnDisk is_honest bytes after left (Applies t old new))) is h in
+    IfSome_then left run.run (λ input over. (run.start, (told, run.flags, over.0)))
+
+pub imports : {E : Type 0} (r : Result Bool E) (told : Bool) (is_honest : Type 0) (bytes : List ℕ) (after : Unsynced) (left old new : Option (List ℕ)) → r ≡ Ok told
+    → IfOk r (λ t. IsRunOnDisk is_honest bytes after left (Imports t old new)) → IfSome left (λ input. (start : State) × IsImported start input old new)
+imports {E} r told is_honest bytes after left old new is h =
+    let run : IsRunOnDisk is_honest bytes after left (Imports told old new) = subst (λ (o : Result Bool E). IfOk o (λ t. IsRunOnDisk is_honest bytes after left (Imports t old new))) is h in
+    IfSome_then left run.run (λ input over. (run.start, (over.0, over.1, told, run.flags, over.2)))
+
+-- no line was answered
+pub left-at_once : (start : State) (input : List ℕ) → IsLeftBy start input start
+left-at_once start input = record { done = []; later = answered (lines input); replies = []; split = refl; run = refl }

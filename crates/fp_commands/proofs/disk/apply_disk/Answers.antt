@@ -1,0 +1,81 @@
+use Rattle.std.proofs.Common.{◌≡◌, ◌≢◌, ◌∙◌, ℕ, List, Bool, true, Option, Result, Ok, Err, IfOk, IfSome, sym, subst}
+use Rattle.std.proofs.lemmas.Option.{IfSome_then}
+use Rattle.std.specs.Io.KnownBytes.{Appends}
+use Rattle.fp_edit.specs.Flags.{State}
+use Rattle.fp_plane.specs.Run.{IsLeftBy, IsRunOver}
+use Rattle.fp_plane.specs.Script.{script, after_input}
+use Rattle.fp_plane.specs.declared.fault.ApplyFault.{ApplyFault}
+use Rattle.fp_recovery.specs.Stands.{StandsFor}
+use Rattle.fp_commands.specs.declared.fault.CommandFault.{CommandFault}
+use Rattle.fp_commands.specs.declared.fault.CommandFault.TheVariants.{StoreFailed}
+use Rattle.fp_commands.specs.declared.kept.Kept.{Kept}
+use Rattle.fp_commands.specs.Disks.{IsApplyingFault}
+use Rattle.fp_commands.specs.Faults.{of_run}
+use Rattle.fp_commands.proofs.Courses.{CourseOf, course-honest, course-goes, course-ready, course-cause}
+use Rattle.fp_commands.proofs.Told.{applying-open, applying-run, left-at_once, some_all, some_both, some_if}
+use Rattle.fp_commands.proofs.disk.apply_disk.Goals as goal
+
+-- ---- the disk wasn't opened
+
+pub returns-in-Err-clause-left : goal.returns-in-Err-clause-left
+returns-in-Err-clause-left g c = λ h other start stands.
+    let D = g.D.Disk in
+    let there : StandsFor (D.bytes c.in-Err.disk) start = subst (λ (b : List ℕ). StandsFor b start) (sym (c.in-Err.ensures.same h)) stands in
+    some_all (g.R.Read.remaining c.args.r.now) (λ (input : List ℕ). (flags : State) × IsLeftBy start input flags × StandsFor (D.bytes c.in-Err.disk) flags) (λ input. (start, left-at_once start input, there))
+
+pub returns-in-Err-clause-fault : goal.returns-in-Err-clause-fault
+returns-in-Err-clause-fault g c = λ h.
+    let bytes = g.D.Disk.bytes c.args.disk in
+    subst (λ (f : CommandFault). IsApplyingFault bytes f) (sym c.into.ensures) (applying-open bytes c.in-Err.fault (c.in-Err.ensures.fault h) (c.in-Err.ensures.refused h))
+
+-- ---- it was
+
+pub returns-in-Ok-outcome-clause-run : goal.returns-in-Ok-outcome-clause-run
+returns-in-Ok-outcome-clause-run g c =
+    let D = g.D.Disk in let e = c.in-Ok.ensures in let s = c.in-Ok.set.set in let l = c.apply_lines-kept.ensures in let k = c.apply_lines-kept.result.0 in let r = c.apply_lines-kept.result.1 in
+    let told = c.in-Ok-outcome.told in let is = c.in-Ok-outcome.is in
+    let left = g.R.Read.remaining c.args.r.now in let old = g.W.Write.contents c.args.w.now in let new = g.W.Write.contents c.apply_lines-kept.new.w in
+    let Outcome : Type 0 = Result Bool ApplyFault in
+    let get = λ (x : Kept g.row.D.Denot). x.set in let first : Kept g.row.D.Denot = record { set = c.in-Ok.set } in
+    let there = λ (h : D.honest c.args.disk). subst D.honest (sym c.into_disk-disk.ensures.disk) ((course-honest D.honest D.faults get first k r l.course).0 (e.honest.0 h)) in
+    record {
+      start = s;
+      flags = k.set.set;
+      stood = e.stands;
+      sure = λ h. c.into_disk-disk.ensures.sure (there h) (course-goes D.honest D.faults get first k r told is l.course e.ready);
+      run = some_both left (λ (input : List ℕ). IsRunOver s input told old new k.set.set) (λ (input : List ℕ). told ≡ true → Appends old new (script s input) × (k.set.set ≡ after_input s input))
+          (subst (λ (o : Outcome). IfOk o (λ t. IfSome left (λ input. IsRunOver s input t old new k.set.set))) is l.run)
+          (some_if left (told ≡ true) (λ (input : List ℕ). Appends old new (script s input)) (λ (input : List ℕ). k.set.set ≡ after_input s input)
+          (subst (λ (o : Outcome). IfOk o (λ t. t ≡ true → IfSome left (λ input. Appends old new (script s input)))) is l.script)
+          (subst (λ (o : Outcome). IfOk o (λ t. t ≡ true → IfSome left (λ input. k.set.set ≡ after_input s input))) is l.flags));
+    }
+
+pub returns-in-Err-outcome-clause-left : goal.returns-in-Err-outcome-clause-left
+returns-in-Err-outcome-clause-left g c = λ h other start stands.
+    let D = g.D.Disk in let e = c.in-Ok.ensures in let s = c.in-Ok.set.set in let l = c.apply_lines-kept.ensures in let k = c.apply_lines-kept.result.0 in let r = c.apply_lines-kept.result.1 in
+    let get = λ (x : Kept g.row.D.Denot). x.set in let first : Kept g.row.D.Denot = record { set = c.in-Ok.set } in let disk = c.into_disk-disk.result in let f = c.in-Err-outcome.fault in
+    let course : CourseOf {A = Bool} D.honest D.faults get first k (Err f) = subst (λ (o : Result Bool ApplyFault). CourseOf D.honest D.faults get first k o) c.in-Err-outcome.is l.course in
+    let there : D.honest disk = subst D.honest (sym c.into_disk-disk.ensures.disk) ((course-honest D.honest D.faults get first k r l.course).0 (e.honest.0 h)) in
+    let ready = course-ready Bool D.honest D.faults get first k f course (λ same. other (c.into-in-Err-outcome.ensures ∙ same)) e.ready in
+    let now : StandsFor (D.bytes disk) k.set.set = c.into_disk-disk.ensures.sure there ready (D.bytes disk) (g.met.D.Disk.present disk there) in
+    IfSome_then (g.R.Read.remaining c.args.r.now) l.left (λ input lines. (k.set.set, subst (λ (x : State). IsLeftBy x input k.set.set) (sym (e.only h start stands)) lines, now))
+
+pub returns-in-Err-outcome-clause-fault : goal.returns-in-Err-outcome-clause-fault
+returns-in-Err-outcome-clause-fault g c = λ h.
+    let bytes = g.D.Disk.bytes c.args.disk in
+    subst (λ (f : CommandFault). IsApplyingFault bytes f) (sym c.into-in-Err-outcome.ensures) (applying-run bytes c.in-Err-outcome.fault)
+
+pub returns-in-Err-outcome-clause-cause : goal.returns-in-Err-outcome-clause-cause
+returns-in-Err-outcome-clause-cause g c = λ is.
+    let D = g.D.Disk in let e = c.in-Ok.ensures in let l = c.apply_lines-kept.ensures in let k = c.apply_lines-kept.result.0 in
+    let get = λ (x : Kept g.row.D.Denot). x.set in let first : Kept g.row.D.Denot = record { set = c.in-Ok.set } in let f = c.in-Err-outcome.fault in
+    let course : CourseOf {A = Bool} D.honest D.faults get first k (Err f) = subst (λ (o : Result Bool ApplyFault). CourseOf D.honest D.faults get first k o) c.in-Err-outcome.is l.course in
+    course-cause Bool D.honest D.unsynced D.faults get first k f c.into_disk-disk.result (D.faults c.args.disk) e.calm course
+    (sym c.into-in-Err-outcome.ensures ∙ is) e.ready c.into_disk-disk.ensures.disk c.into_disk-disk.ensures.sure
+
+pub returns-in-Err-outcome-clause-honest : goal.returns-in-Err-outcome-clause-honest
+returns-in-Err-outcome-clause-honest g c =
+    let D = g.D.Disk in let e = c.in-Ok.ensures in let get = λ (x : Kept g.row.D.Denot). x.set in let first : Kept g.row.D.Denot = record { set = c.in-Ok.set } in
+    let both = course-honest D.honest D.faults get first c.apply_lines-kept.result.0 c.apply_lines-kept.result.1 c.apply_lines-kept.ensures.course in
+    let at = c.into_disk-disk.ensures.disk in
+    (λ h. subst D.honest (sym at) (both.0 (e.honest.0 h)), λ h. e.honest.1 (both.1 (subst D.honest at h)))

@@ -1,0 +1,26 @@
+use Rattle.std.proofs.Common.{sym, subst}
+use Rattle.std.specs.Io.KnownBytes.{Appends}
+use Rattle.fp_edit.specs.Flags.{State}
+use Rattle.fp_plane.specs.Script.{show_line}
+use Rattle.fp_recovery.proofs.Cases.{err_more}
+use Rattle.fp_commands.specs.declared.fault.CommandFault.{CommandFault}
+use Rattle.fp_commands.specs.Disks.{IsShown, IsShowingFault, IsStreamFault}
+use Rattle.fp_commands.proofs.Told.{ok_more, showing-open, showing-stream}
+use Rattle.fp_commands.proofs.disk.show_disk.Goals as goal
+
+pub returns-in-Ok-clause-shown : goal.returns-in-Ok-clause-shown
+returns-in-Ok-clause-shown g c =
+    let D = g.D.Disk in let old = g.W.Write.contents c.args.w.now in let new = g.W.Write.contents c.show-outcome.new.w in
+    ok_more c.show-outcome.result (Appends old new (show_line c.set.result.now)) (IsShown (D.honest c.args.disk) (D.bytes c.args.disk) old new)
+    (λ w. record { flags = c.in-Ok.set.set; stood = c.in-Ok.ensures.stands; written = subst (λ (s : State). Appends old new (show_line s)) c.set.ensures w })
+    c.show-outcome.ensures.shown
+
+pub returns-in-Ok-clause-fault : goal.returns-in-Ok-clause-fault
+returns-in-Ok-clause-fault g c = λ h.
+    let bytes = g.D.Disk.bytes c.args.disk in
+    err_more c.show-outcome.result IsStreamFault (IsShowingFault bytes) (showing-stream bytes) c.show-outcome.ensures.fault
+
+pub returns-in-Err-clause-fault : goal.returns-in-Err-clause-fault
+returns-in-Err-clause-fault g c = λ h.
+    let bytes = g.D.Disk.bytes c.args.disk in
+    subst (λ (f : CommandFault). IsShowingFault bytes f) (sym c.into.ensures) (showing-open bytes c.in-Err.fault (c.in-Err.ensures.fault h) (c.in-Err.ensures.refused h))

@@ -1,0 +1,107 @@
+-- What a command over a disk comes to.
+use Rattle.std.specs.Prelude.{◌≡◌, ◌⊎◌, ℕ, List, Bool, true, Option, IfSome, Ok}
+use Rattle.std.specs.Io.KnownBytes.{Appends}
+use Rattle.fp_disk.specs.Outcomes.{Unsynced}
+use Rattle.fp_edit.specs.Edits.{Change}
+use Rattle.fp_edit.specs.Flags.{State}
+use Rattle.fp_journal.specs.State.{JournalState}
+use Rattle.fp_layout.specs.declared.fault.OpenFault.TheVariants as opening
+use Rattle.fp_imports.specs.Document as document
+use Rattle.fp_plane.specs.Import.{IsImport, IsLeftByPuts, import_script, after_import}
+use Rattle.fp_plane.specs.Run.{IsRunOver}
+use Rattle.fp_plane.specs.Script.{script, after_input}
+use Rattle.fp_plane.specs.Verdicts.{show_line}
+use Rattle.fp_recovery.specs.Admitting.{HasNoRoom}
+use Rattle.fp_recovery.specs.Durable.{IsSure}
+use Rattle.fp_recovery.specs.Refusals.{RefusesBytes, StandsForNone}
+use Rattle.fp_recovery.specs.Stands.{StandsFor}
+use Rattle.fp_commands.specs.Documents.{import_of, IsDocumentFault}
+use Rattle.fp_commands.specs.declared.fault.CommandFault.{CommandFault}
+use Rattle.fp_commands.specs.declared.fault.CommandFault.TheVariants.{NotEmpty, Unformatted, UnknownVersion, Damaged, Device, StoreFailed, Memory, NotDocument, UnknownEvaluator, EvaluatorsTooDeep, BadKey, Flag}
+
+-- ---- faults
+
+-- the faults of making a disk
+abbrev pub IsMakingFault : CommandFault → Type 0
+IsMakingFault NotEmpty = Unit {0}
+IsMakingFault Device = Unit {0}
+IsMakingFault Memory = Unit {0}
+IsMakingFault f = ⊥
+
+-- the faults of writing a line
+abbrev pub IsStreamFault : CommandFault → Type 0
+IsStreamFault Device = Unit {0}
+IsStreamFault Memory = Unit {0}
+IsStreamFault f = ⊥
+
+-- the faults of showing what bytes stand for: they stand for nothing and show it so, or memory, the device or the writer failed
+abbrev pub IsShowingFault : List ℕ → CommandFault → Type 0
+IsShowingFault c Unformatted = RefusesBytes c opening.Unformatted × StandsForNone c
+IsShowingFault c (UnknownVersion version) = RefusesBytes c (opening.UnknownVersion version) × StandsForNone c
+IsShowingFault c (Damaged at) = RefusesBytes c (opening.Damaged at) × StandsForNone c
+IsShowingFault c Device = Unit {0}
+IsShowingFault c Memory = Unit {0}
+IsShowingFault c f = ⊥
+
+-- the same where edits are kept as well
+abbrev pub IsApplyingFault : List ℕ → CommandFault → Type 0
+IsApplyingFault c StoreFailed = Unit {0}
+IsApplyingFault c f = IsShowingFault c f
+
+-- the same where a document is read as well
+abbrev pub IsImportingFault : List ℕ → Option (List ℕ) → CommandFault → Type 0
+IsImportingFault c left NotDocument = IsDocumentFault left NotDocument
+IsImportingFault c left (UnknownEvaluator name) = IsDocumentFault left (UnknownEvaluator name)
+IsImportingFault c left EvaluatorsTooDeep = IsDocumentFault left EvaluatorsTooDeep
+IsImportingFault c left BadKey = IsDocumentFault left BadKey
+IsImportingFault c left (Flag key fault) = IsDocumentFault left (Flag key fault)
+IsImportingFault c left f = IsApplyingFault c f
+
+-- this holds where the bytes or what was read is at fault, and neither a device, the store nor memory
+abbrev pub IfRefused : Type 0 → CommandFault → Type 0
+IfRefused p Device = Unit {0}
+IfRefused p StoreFailed = Unit {0}
+IfRefused p Memory = Unit {0}
+IfRefused p f = p
+
+-- ---- what is written, and what the disk then stands for
+
+-- a writer holds the line of what the bytes stand for
+pub record IsShown (is_honest : Type 0) (bytes : List ℕ) (old new : Option (List ℕ)) : Type 0 where
+  pub flags : State
+  pub stood : is_honest → StandsFor bytes flags
+  pub written : Appends old new (show_line flags)
+
+-- what a run over the input writes, and where it leads the flags
+abbrev pub Applies : Bool → Option (List ℕ) → Option (List ℕ) → State → List ℕ → State → Type 0
+Applies told old new start input flags = IsRunOver start input told old new flags × (told ≡ true → Appends old new (script start input) × (flags ≡ after_input start input))
+
+-- the same of the puts of a document
+abbrev pub Imports : Bool → Option (List ℕ) → Option (List ℕ) → State → List ℕ → State → Type 0
+Imports told old new start input flags = (puts : List document.Flag) × (import_of input ≡ Ok puts) × IsImport start puts told old new flags
+    × (told ≡ true → Appends old new (import_script start puts) × (flags ≡ after_import start puts))
+
+-- the input leads from what the bytes stood for to what every crash leaves now
+pub record IsRunOnDisk (is_honest : Type 0) (bytes : List ℕ) (after : Unsynced) (left : Option (List ℕ)) (Leads : State → List ℕ → State → Type 0) : Type 0 where
+  pub start : State
+  pub flags : State
+  pub stood : is_honest → StandsFor bytes start
+  pub sure : is_honest → IsSure after flags
+  pub run : IfSome left (λ input. Leads start input flags)
+
+-- some first puts of the document lead there; none do where it is no document
+abbrev pub IsLeftByImport : State → List ℕ → State → Type 0
+IsLeftByImport start input flags = (flags ≡ start) ⊎ ((puts : List document.Flag) × (import_of input ≡ Ok puts) × IsLeftByPuts start puts flags)
+
+-- whatever the bytes stood for, they stand for what some beginning of the input makes of it
+abbrev pub IsLeftOnDisk : List ℕ → List ℕ → Option (List ℕ) → (State → List ℕ → State → Type 0) → Type 0
+IsLeftOnDisk before after left Leaves = (start : State) → StandsFor before start → IfSome left (λ input. (flags : State) × Leaves start input flags × StandsFor after flags)
+
+-- a journal on the disk has no room for some change, and whatever a crash leaves stands for the flags as they were before it
+pub record LacksRoom {D : Type 0} (honest : D → Type 0) (unsynced : D → Unsynced) (disk : D) : Type 0 where
+  pub flags : State
+  pub journal : JournalState D
+  pub change : Change
+  pub over : journal.disk ≡ disk
+  pub sure : honest disk → IsSure (unsynced disk) flags
+  pub full : HasNoRoom journal change

@@ -1,0 +1,57 @@
+-- Why a command gave up: the texts, and where each fault comes from.
+use Rattle.std.specs.Prelude.{ℕ, List, ◌++◌, codes, decimal, string_bytes}
+use Rattle.fp_definition.specs.Faults as definition
+use Rattle.fp_definition.specs.Key.{key_bytes}
+use Rattle.fp_imports.specs.declared.faults.ImportFault.{ImportFault}
+use Rattle.fp_imports.specs.declared.faults.ImportFault.TheVariants as import
+use Rattle.fp_layout.specs.declared.fault.OpenFault.{OpenFault}
+use Rattle.fp_layout.specs.declared.fault.OpenFault.TheVariants as opening
+use Rattle.fp_layout.specs.declared.format.CreateFault.{CreateFault}
+use Rattle.fp_layout.specs.declared.format.CreateFault.TheVariants as create
+use Rattle.fp_plane.specs.Fault as run_fault
+use Rattle.fp_plane.specs.declared.fault.ApplyFault.{ApplyFault}
+use Rattle.fp_plane.specs.declared.fault.ApplyFault.TheVariants as run
+use Rattle.fp_commands.specs.declared.fault.CommandFault.{CommandFault}
+use Rattle.fp_commands.specs.declared.fault.CommandFault.TheVariants.{NotEmpty, Unformatted, UnknownVersion, Damaged, Device, StoreFailed, Memory, NotDocument, UnknownEvaluator, EvaluatorsTooDeep, BadKey, Flag}
+
+-- what stands behind the program's name on the error stream
+abbrev pub text_of : CommandFault → List ℕ
+text_of NotEmpty = codes "file is not empty"
+text_of Unformatted = codes "not a flagplane file"
+text_of (UnknownVersion version) = codes "unknown version " ++ decimal version
+text_of (Damaged at) = codes "damaged at byte " ++ decimal at
+text_of Device = run_fault.text_of run.Device
+text_of StoreFailed = run_fault.text_of run.StoreFailed
+text_of Memory = run_fault.text_of run.Memory
+text_of NotDocument = codes "not a flag document"
+text_of (UnknownEvaluator name) = codes "unknown evaluator " ++ string_bytes name
+text_of EvaluatorsTooDeep = codes "evaluators nested too deep"
+text_of BadKey = codes "bad key"
+text_of (Flag key fault) = codes "flag " ++ key_bytes key ++ codes ": " ++ definition.text_of fault
+
+-- ---- the faults of what a command does
+
+abbrev pub of_create : CreateFault → CommandFault
+of_create create.NotEmpty = NotEmpty
+of_create create.Device = Device
+of_create create.Memory = Memory
+
+abbrev pub of_open : OpenFault → CommandFault
+of_open opening.Unformatted = Unformatted
+of_open (opening.UnknownVersion version) = UnknownVersion version
+of_open (opening.Damaged at) = Damaged at
+of_open opening.Device = Device
+of_open opening.Memory = Memory
+
+abbrev pub of_import : ImportFault → CommandFault
+of_import import.NotDocument = NotDocument
+of_import (import.RefUnknown name) = UnknownEvaluator name
+of_import import.RefTooDeep = EvaluatorsTooDeep
+of_import (import.Flag key fault) = Flag key fault
+of_import import.Memory = Memory
+of_import (import.BadKey name) = BadKey
+
+abbrev pub of_run : ApplyFault → CommandFault
+of_run run.Device = Device
+of_run run.StoreFailed = StoreFailed
+of_run run.Memory = Memory

@@ -1,0 +1,5 @@
+pub mod Faults
+pub mod Kept
+pub mod Documents
+pub mod Disks
+pub mod Task

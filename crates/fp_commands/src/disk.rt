@@ -1,0 +1,145 @@
+//! The commands over a disk. Each gives the disk back.
+
+ghost use Rattle.std.specs.Prelude.{◌≡◌, ◌≢◌, ◌⊎◌, ◌<◌, ◌^◌, [], IfOk, IfErr, OnOk};
+ghost use Rattle.std.specs.Io.KnownBytes.{Appends};
+ghost use Rattle.fp_layout.specs.NewDisk.{IsNewDisk};
+ghost use Rattle.fp_plane.specs.Run.{IsLeftBy};
+ghost use Rattle.fp_plane.specs.Verdicts.{show_line};
+ghost use Rattle.fp_recovery.specs.Durable.{IsSure};
+ghost use Rattle.fp_commands.specs.Disks.{Applies, IfRefused, Imports, IsApplyingFault, IsImportingFault, IsLeftByImport, IsLeftOnDisk, IsMakingFault, IsRunOnDisk, IsShowingFault, IsShown, IsStreamFault, LacksRoom};
+ghost use Rattle.fp_commands.specs.Task.{no_flags};
+ghost use Rattle.fp_commands.specs.declared.fault.CommandFault.TheVariants.{Device, NotEmpty, StoreFailed};
+
+use crate::document::read_document;
+use crate::fault::CommandFault;
+use crate::kept::Kept;
+use fp_disk::Disk;
+use fp_edit::FlagSet;
+use fp_layout::SlotSize;
+use fp_plane::{apply_lines, import_flags, shown};
+use fp_recovery::DurableSet;
+use std::alloc::Global;
+use std::io::{Read, Write};
+
+/// Makes an empty disk one that stands for no flags at revision 0.
+pub fn init_disk<D: Disk>(alloc: Global, disk: D) -> (D, Result<(), CommandFault>)
+    ensures made { D.honest disk → OnOk result.1 (IsNewDisk (2 ^ 24) (D.bytes result.0)) }
+    ensures sure { D.honest disk → OnOk result.1 (IsSure (D.unsynced result.0) no_flags) }
+    ensures empty { D.honest disk → OnOk result.1 (D.bytes disk ≡ []) }
+    ensures not_empty { D.honest disk → IfErr result.1 (λ f. f ≡ NotEmpty
+        → (D.bytes disk ≢ []) × (D.bytes result.0 ≡ D.bytes disk)) }
+    ensures fault { IfErr result.1 IsMakingFault }
+    ensures cause { IfErr result.1 (λ f. f ≡ Device → D.faults disk < D.faults result.0) }
+    ensures honest { (D.honest disk → D.honest result.0) × (D.honest result.0 → D.honest disk) }
+{
+    match DurableSet::create(alloc, disk, SlotSize::standard()) {
+        Ok(set) => (set.into_disk(), Ok(())),
+        Err((fault, disk)) => (disk, Err(fault.into())),
+    }
+}
+
+/// Writes the line of what a disk stands for. Nothing is written on the disk.
+pub fn show_disk<D: Disk, W: Write>(
+    alloc: Global,
+    w: &mut W,
+    disk: D,
+) -> (D, Result<(), CommandFault>)
+    ensures shown { OnOk result.1
+        (IsShown (D.honest disk) (D.bytes disk) (W.contents w.old) (W.contents w.new)) }
+    ensures same { D.honest disk → D.bytes result.0 ≡ D.bytes disk }
+    ensures fault { D.honest disk → IfErr result.1 (IsShowingFault (D.bytes disk)) }
+    ensures silent { IfErr result.1 (IfRefused (w.new ≡ w.old)) }
+    ensures honest { (D.honest disk → D.honest result.0) × (D.honest result.0 → D.honest disk) }
+{
+    match DurableSet::open(alloc, disk) {
+        Ok(set) => {
+            let outcome = show(alloc, w, set.set());
+            (set.into_disk(), outcome)
+        }
+        Err((fault, disk)) => (disk, Err(fault.into())),
+    }
+}
+
+/// Answers each line of the reader in order over what a disk stands for, and shows the flags behind the last reply. Each
+/// edit is sealed on the disk before it is answered. `Ok(false)` says that a reply told of wanting memory.
+pub fn apply_disk<D: Disk, R: Read, W: Write>(
+    alloc: Global,
+    r: &mut R,
+    w: &mut W,
+    disk: D,
+) -> (D, Result<bool, CommandFault>)
+    ensures run { IfOk result.1 (λ told. IsRunOnDisk (D.honest disk) (D.bytes disk)
+        (D.unsynced result.0) (R.remaining r.old)
+        (Applies told (W.contents w.old) (W.contents w.new))) }
+
+    // At a fault too the disk stands for what some first lines leave, but where the store failed.
+    ensures left { D.honest disk → IfErr result.1 (λ f. f ≢ StoreFailed
+        → IsLeftOnDisk (D.bytes disk) (D.bytes result.0) (R.remaining r.old) IsLeftBy) }
+    ensures fault { D.honest disk → IfErr result.1 (IsApplyingFault (D.bytes disk)) }
+    ensures silent { IfErr result.1 (IfRefused (w.new ≡ w.old)) }
+    ensures cause { IfErr result.1 (λ f. f ≡ StoreFailed
+        → LacksRoom D.honest D.unsynced result.0 ⊎ (D.faults disk < D.faults result.0)) }
+    ensures honest { (D.honest disk → D.honest result.0) × (D.honest result.0 → D.honest disk) }
+{
+    let set = match DurableSet::open(alloc, disk) {
+        Ok(set) => set,
+        Err((fault, disk)) => return (disk, Err(fault.into())),
+    };
+    let (kept, outcome) = apply_lines(alloc, r, w, Kept { set });
+    let disk = kept.into_disk();
+    match outcome {
+        Ok(told) => (disk, Ok(told)),
+        Err(fault) => (disk, Err(fault.into())),
+    }
+}
+
+/// Puts each flag of the flagd document that the reader gives over what a disk stands for, in ascending order of the keys
+/// and whatever stands there, answers each put, and shows the flags behind the last reply. Each put is sealed on the disk
+/// before it is answered; one that is refused is an answer. `Ok(false)` says that a reply told of wanting memory.
+pub fn import_disk<D: Disk, R: Read, W: Write>(
+    alloc: Global,
+    r: &mut R,
+    w: &mut W,
+    disk: D,
+) -> (D, Result<bool, CommandFault>)
+    ensures run { IfOk result.1 (λ told. IsRunOnDisk (D.honest disk) (D.bytes disk)
+        (D.unsynced result.0) (R.remaining r.old)
+        (Imports told (W.contents w.old) (W.contents w.new))) }
+
+    // At a fault too the disk stands for what some first puts leave, but where the store failed.
+    ensures left { D.honest disk → IfErr result.1 (λ f. f ≢ StoreFailed
+        → IsLeftOnDisk (D.bytes disk) (D.bytes result.0) (R.remaining r.old) IsLeftByImport) }
+    ensures fault { D.honest disk
+        → IfErr result.1 (IsImportingFault (D.bytes disk) (R.remaining r.old)) }
+    ensures silent { IfErr result.1 (IfRefused (w.new ≡ w.old)) }
+    ensures cause { IfErr result.1 (λ f. f ≡ StoreFailed
+        → LacksRoom D.honest D.unsynced result.0 ⊎ (D.faults disk < D.faults result.0)) }
+    ensures honest { (D.honest disk → D.honest result.0) × (D.honest result.0 → D.honest disk) }
+{
+    let set = match DurableSet::open(alloc, disk) {
+        Ok(set) => set,
+        Err((fault, disk)) => return (disk, Err(fault.into())),
+    };
+    let flags = match read_document(alloc, r) {
+        Ok(flags) => flags,
+        Err(fault) => return (set.into_disk(), Err(fault)),
+    };
+    let (kept, outcome) = import_flags(alloc, w, Kept { set }, flags);
+    let disk = kept.into_disk();
+    match outcome {
+        Ok(told) => (disk, Ok(told)),
+        Err(fault) => (disk, Err(fault.into())),
+    }
+}
+
+// Writes the line of these flags.
+fn show<W: Write>(alloc: Global, w: &mut W, flags: &FlagSet) -> Result<(), CommandFault>
+    ensures shown { OnOk result
+        (Appends (W.contents w.old) (W.contents w.new) (show_line flags.now)) }
+    ensures fault { IfErr result IsStreamFault }
+{
+    let line = shown(alloc, flags)?;
+    w.write_all(&line)?;
+    w.flush()?;
+    Ok(())
+}

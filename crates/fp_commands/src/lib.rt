@@ -1,0 +1,15 @@
+//! The program's commands, over its words, its streams and a disk.
+#![tactic(auto)]
+
+mod disk;
+mod document;
+mod fault;
+mod kept;
+mod program;
+
+pub use disk::{apply_disk, import_disk, init_disk, show_disk};
+pub use fault::CommandFault;
+pub use program::command;
+
+#[cfg(test)]
+mod tests;

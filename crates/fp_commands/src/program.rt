@@ -1,0 +1,162 @@
+//! The program: its words, its files, its streams and its status.
+
+ghost use Rattle.std.specs.Prelude.{◌≡◌, ◌≤◌, ◌↔◌, None, Some, IfSome, OnOk, MatchOption, map, string_bytes};
+ghost use Rattle.fp_commands.specs.Task.{IsDone, ShowsFlags, named, over_file};
+ghost use Rattle.fp_commands.specs.declared.program.Task.TheVariants.{Apply, ApplyFile, ImportFile};
+
+use crate::disk::{apply_disk, import_disk, init_disk, show_disk};
+use crate::fault::CommandFault;
+use fp_disk::{create_file, open_file};
+use fp_edit::FlagSet;
+use fp_plane::apply_lines;
+use std::alloc::{AllocGlobal, Global};
+use std::io::{Read, Write};
+use std::rt::Files;
+
+const USAGE: &str =
+    "usage: flagplane init FILE | apply [FILE] | show FILE | eval FILE KEY | import FILE | serve FILE OFREP EDIT STREAM | watch ADDR";
+
+// The most bytes of the image of flags that are kept in memory.
+const IMAGE_LIMIT: u64 = 0x80_0000;
+
+// What there is to do; all but the first are over a file.
+#[derive(Debug, Clone, Copy)]
+enum Task {
+    Apply,
+    InitFile,
+    ApplyFile,
+    ShowFile,
+    ImportFile,
+}
+
+/// Runs the command that the words name, and answers the program's status: 0 where it was done, 1 where
+/// a fault ended it, which `e` is told, and 2 where the words name no command, where `e` is told the usage.
+pub fn command<X, R, W, E>(rt: &X, words: &[String], r: &mut R, w: &mut W, e: &mut E) -> u8
+where
+    X: Files + AllocGlobal,
+    R: Read,
+    W: Write,
+    E: Write,
+    ensures usage { (result ≡ 2) ↔ (named (map string_bytes words.now) ≡ None) }
+    ensures done { result ≡ 0 → IfSome (named (map string_bytes words.now)) (λ task.
+        IsDone task.0 (R.remaining r.old) (W.contents w.old) (W.contents w.new)) }
+    ensures quiet { result ≡ 0 → e.new ≡ e.old }
+    ensures small { result ≤ 2 }
+{
+    let Some((task, path)) = task_of(words) else {
+        let _ = writeln!(e, "{USAGE}");
+        return 2;
+    };
+    match perform(rt, task, path, r, w) {
+        Ok(()) => 0,
+        Err(fault) => {
+            let _ = writeln!(e, "flagplane: {fault}");
+            1
+        }
+    }
+}
+
+fn task_of(words: &[String]) -> Option<(Task, &str)>
+    ensures { MatchOption result (named (map string_bytes words.now) ≡ None)
+        (λ task. named (map string_bytes words.now) ≡ Some (task.0, task.1.now)) }
+{
+    match words {
+        [word] if word.as_str() == "apply" => Some((Task::Apply, "")),
+        [word, path] => Some((task_over_file(word.as_str())?, path.as_str())),
+        _ => None,
+    }
+}
+
+fn task_over_file(word: &str) -> Option<Task>
+    ensures { result ≡ over_file word.now }
+{
+    match word {
+        "init" => Some(Task::InitFile),
+        "apply" => Some(Task::ApplyFile),
+        "show" => Some(Task::ShowFile),
+        "import" => Some(Task::ImportFile),
+        _ => None,
+    }
+}
+
+fn perform<X, R, W>(
+    rt: &X,
+    task: Task,
+    path: &str,
+    r: &mut R,
+    w: &mut W,
+) -> Result<(), CommandFault>
+where
+    X: Files + AllocGlobal,
+    R: Read,
+    W: Write,
+    ensures { OnOk result
+        (IsDone task (R.remaining r.old) (W.contents w.old) (W.contents w.new)) }
+{
+    match task {
+        Task::Apply => apply(rt.alloc(), r, w),
+        Task::InitFile => init_file(rt, path),
+        Task::ApplyFile => apply_file(rt, path, r, w),
+        Task::ShowFile => show_file(rt, path, w),
+        Task::ImportFile => import_file(rt, path, r, w),
+    }
+}
+
+// Answers the input's lines over flags that are kept in memory alone.
+fn apply<R: Read, W: Write>(alloc: Global, r: &mut R, w: &mut W) -> Result<(), CommandFault>
+    ensures { OnOk result
+        (IsDone Apply (R.remaining r.old) (W.contents w.old) (W.contents w.new)) }
+{
+    let (_flags, outcome) = apply_lines(alloc, r, w, FlagSet::new(alloc, IMAGE_LIMIT));
+    let _told = outcome?;
+    Ok(())
+}
+
+// Makes the file a disk of no flags.
+fn init_file<X: Files + AllocGlobal>(rt: &X, path: &str) -> Result<(), CommandFault> {
+    let disk = create_file(rt, path)?;
+    let (_disk, outcome) = init_disk(rt.alloc(), disk);
+    outcome
+}
+
+// Answers the input's lines over what the file stands for.
+fn apply_file<X, R, W>(rt: &X, path: &str, r: &mut R, w: &mut W) -> Result<(), CommandFault>
+where
+    X: Files + AllocGlobal,
+    R: Read,
+    W: Write,
+    ensures { OnOk result
+        (IsDone ApplyFile (R.remaining r.old) (W.contents w.old) (W.contents w.new)) }
+{
+    let disk = open_file(rt, path)?;
+    let (_disk, outcome) = apply_disk(rt.alloc(), r, w, disk);
+    let _told = outcome?;
+    Ok(())
+}
+
+// Shows what the file stands for.
+fn show_file<X, W>(rt: &X, path: &str, w: &mut W) -> Result<(), CommandFault>
+where
+    X: Files + AllocGlobal,
+    W: Write,
+    ensures { OnOk result (ShowsFlags (W.contents w.old) (W.contents w.new)) }
+{
+    let disk = open_file(rt, path)?;
+    let (_disk, outcome) = show_disk(rt.alloc(), w, disk);
+    outcome
+}
+
+// Puts the flags of the document that is read over what the file stands for.
+fn import_file<X, R, W>(rt: &X, path: &str, r: &mut R, w: &mut W) -> Result<(), CommandFault>
+where
+    X: Files + AllocGlobal,
+    R: Read,
+    W: Write,
+    ensures { OnOk result
+        (IsDone ImportFile (R.remaining r.old) (W.contents w.old) (W.contents w.new)) }
+{
+    let disk = open_file(rt, path)?;
+    let (_disk, outcome) = import_disk(rt.alloc(), r, w, disk);
+    let _told = outcome?;
+    Ok(())
+}

@@ -1,0 +1,59 @@
+use super::{run, written_out};
+use crate::command;
+use std::alloc::AllocGlobal;
+use std::io;
+use std::io::{ErrorKind, Read, Write};
+use std::test::Fail;
+
+// Fails at every call.
+#[derive(Drop)]
+struct Broken;
+
+impl Read for Broken {
+    fn read(&mut self, _buf: &mut [u8]) -> io::Result<usize> {
+        Err(ErrorKind::Other.into())
+    }
+}
+
+impl Write for Broken {
+    fn write(&mut self, _buf: &[u8]) -> io::Result<usize> {
+        Err(ErrorKind::StorageFull.into())
+    }
+
+    fn flush(&mut self) -> io::Result<()> {
+        Ok(())
+    }
+}
+
+#[test]
+fn apply_without_a_file_is_over_memory(rt: HostRuntime) -> Result<(), Fail> {
+    let alloc = rt.alloc();
+    let put = "{\"flag\":ON,\"if\":\"any\",\"key\":\"a\",\"op\":\"put\"}\n";
+    let input = written_out(alloc, put)?;
+    let output = written_out(alloc, "{\"revision\":1}\n1 {\"flags\":{\"a\":ON}}\n")?;
+    for _again in 0..2 {
+        let ran = run(alloc, &rt, &["apply"], input.as_bytes())?;
+        assert_eq!(rt; ran.output.as_slice(), output.as_bytes());
+        assert_eq!(rt; ran.errors.as_slice(), b"".as_slice());
+        assert_eq!(rt; ran.status, 0);
+    }
+    Ok(())
+}
+
+#[test]
+fn streams_that_fail_are_told_on_the_error_stream(rt: HostRuntime) -> Result<(), Fail> {
+    let alloc = rt.alloc();
+    let words = [String::from_str(alloc, "apply")?];
+    let mut output = Vec::new(alloc);
+    let mut errors = Vec::new(alloc);
+    let read = command(&rt, words.as_slice(), &mut Broken, &mut output, &mut errors);
+    assert_eq!(rt; (read, output.len()), (1, 0));
+    let mut input = b"[]\n".as_slice();
+    let written = command(&rt, words.as_slice(), &mut input, &mut Broken, &mut errors);
+    assert_eq!(rt; written, 1);
+    assert_eq!(rt;
+        errors.as_slice(),
+        b"flagplane: device fault\nflagplane: device fault\n".as_slice()
+    );
+    Ok(())
+}
