@@ -102,6 +102,24 @@ fn opens_what_was_closed(rt: HostRuntime) -> Result<(), Fail> {
     Ok(())
 }
 
+// A batch of two edits, by the format: a put of `a`, and its delete.
+#[test]
+fn opens_a_batch_of_two_edits(rt: HostRuntime) -> Result<(), Fail> {
+    let alloc = rt.alloc();
+    let mut disk = disk_of(alloc, 1 << 18, &[])?;
+    let head = b"\xa5\0\0\0\x56\0\0\0\0\0\0\0\x01\0\x02\x01\0\x01a\0\0\0\x40";
+    let mut bytes = Vec::from_slice(alloc, head)?;
+    bytes.extend_from_slice(ON.as_bytes())?;
+    bytes.extend_from_slice(b"\x02\0\x01a\0")?;
+    disk.write_at(90, &bytes)?;
+    let Ok((revision, document)) = opened(alloc, disk)? else {
+        return Err(Fail::new("not opened"));
+    };
+    assert_eq!(rt; revision, 2);
+    assert_eq!(rt; document.as_slice(), b"{\"flags\":{}}".as_slice());
+    Ok(())
+}
+
 #[test]
 fn refuses_other_bytes(rt: HostRuntime) -> Result<(), Fail> {
     let alloc = rt.alloc();
