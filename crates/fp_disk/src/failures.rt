@@ -1,21 +1,12 @@
-ghost use Rattle.std.specs.Prelude.{◌≡◌, ◌+◌, [], ◌∷◌, length};
+ghost use Rattle.std.specs.Prelude.{◌≡◌, ◌+◌};
 
 use crate::disk::DiskFault;
-use fp_fronts::{Growing, Lists};
-
-struct One;
-
-impl Lists<u8, u8> for One {
-    ghost items = { λ v. v ∷ [] };
-}
-
-// How often a disk has failed, as the length of a list that is there in proofs alone. Unlike a number it can't overflow.
-pub(crate) type Failures = Growing<u8>;
+use fp_fronts::Count;
 
 // One failure more.
-pub(crate) fn fault(failures: &mut Failures) -> DiskFault
-    ensures { length failures.new.log ≡ length failures.old.log + 1 }
+pub(crate) fn fault(failures: &mut Count) -> DiskFault
+    ensures { failures.new ≡ failures.old + 1 }
 {
-    failures.lengthen::<u8, One>(&0);
+    failures.raise();
     DiskFault::Device
 }

@@ -1,8 +1,9 @@
-ghost use Rattle.std.specs.Prelude.{◌≡◌, ◌+◌, ℕ, List, [], length, IfOk};
+ghost use Rattle.std.specs.Prelude.{◌≡◌, ◌+◌, ℕ, List, [], IfOk};
 ghost use Rattle.fp_disk.specs.Outcomes.{Answers, settled};
 
 use crate::disk::{Disk, DiskFault};
-use crate::failures::{Failures, fault};
+use crate::failures::fault;
+use fp_fronts::Count;
 use std::fs::{OpenFile, OpenOptions};
 use std::io;
 use std::io::{Read, Seek, SeekFrom, Write};
@@ -14,13 +15,13 @@ use std::rt::Files;
 #[derive(Drop)]
 pub struct FileDisk<F: Drop> {
     file: F,
-    failures: Failures,
+    failures: Count,
 }
 
 impl<F: Drop> Model for FileDisk<F> {
     ghost Value = { ℕ };
 
-    ghost view = { λ d. length d.failures.log };
+    ghost view = { λ d. d.failures };
 }
 
 impl<F: Drop> FileDisk<F> {
@@ -30,7 +31,7 @@ impl<F: Drop> FileDisk<F> {
     {
         FileDisk {
             file,
-            failures: Failures::new().0,
+            failures: Count::new(),
         }
     }
 }
@@ -61,8 +62,8 @@ fn open_as<R: Files>(rt: &R, path: &str, may_create: bool) -> Result<FileDisk<R:
 }
 
 // The answer of the system, counted.
-fn counted<T>(failures: &mut Failures, done: io::Result<T>) -> Result<T, DiskFault>
-    ensures { Answers (length failures.old.log) (length failures.new.log) result }
+fn counted<T>(failures: &mut Count, done: io::Result<T>) -> Result<T, DiskFault>
+    ensures { Answers failures.old failures.new result }
 {
     match done {
         Ok(value) => Ok(value),

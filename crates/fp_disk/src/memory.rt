@@ -8,7 +8,8 @@ ghost use Rattle.fp_disk.specs.declared.call.Progress.TheVariants.{Nothing};
 use crate::call::{Bytes, Call, Progress, Request};
 use crate::disk::{Disk, DiskFault};
 use crate::failing::{FailedWrite, Failing};
-use crate::failures::{Failures, fault};
+use crate::failures::fault;
+use fp_fronts::Count;
 use std::alloc::{AllocError, Global};
 use std::marker::Model;
 use std::snapshot::Snapshot;
@@ -29,7 +30,7 @@ pub struct MemoryDisk {
     pub(crate) reach: u64,
     failing: Failing,
     failed_writes: FailedWrite,
-    failures: Failures,
+    failures: Count,
 }
 
 impl Model for MemoryDisk {
@@ -40,7 +41,7 @@ impl Model for MemoryDisk {
       calls = m.calls.items;
       failing = m.failing;
       failed_writes = m.failed_writes;
-      faults = length m.failures.log;
+      faults = m.failures;
     } };
 
     ghost invariant = { λ m. Keeps m.first.value.items m.bytes.items m.synced.items m.calls.items
@@ -63,7 +64,7 @@ impl MemoryDisk {
             reach: 0,
             failing: Failing::Never,
             failed_writes: FailedWrite::Nothing,
-            failures: Failures::new().0,
+            failures: Count::new(),
         }
     }
 
@@ -82,7 +83,7 @@ impl MemoryDisk {
             settled: 0,
             failing: Failing::Never,
             failed_writes: FailedWrite::Nothing,
-            failures: Failures::new().0,
+            failures: Count::new(),
         })
     }
 
