@@ -1,0 +1,128 @@
+ghost use Rattle.std.specs.Prelude.{◌≡◌, ◌+◌, ◌-◌, ◌<◌, ◌≤◌, ◌^◌, IfOk, IfSome, IfErr, OnOk};
+ghost use Rattle.std.specs.Io.{ReadsAtMost};
+ghost use Rattle.std.specs.Io.KnownBytes.{Appends, ReadConsumes};
+ghost use Rattle.fp_streams.specs.Failures.{Counts};
+ghost use Rattle.fp_streams.specs.declared.counted.StreamFault.TheVariants.{Device};
+
+use fp_fronts::Count;
+use std::alloc::Global;
+use std::io;
+use std::io::{ErrorKind, Read, Write};
+use std::marker::Model;
+
+/// Why a stream gave or took nothing.
+#[derive(Debug, Drop, Clone, Copy, PartialEq, Eq)]
+pub enum StreamFault {
+    /// The reader or the writer failed, or was read too often.
+    Device,
+    /// Memory ran out.
+    Memory,
+}
+
+/// A reader or a writer whose failures are counted, in proofs alone: a contract can say by the count that a stream failed,
+/// which its own answers don't.
+#[derive(Drop)]
+pub struct Counted<S> {
+    stream: S,
+    failures: Count,
+    reads_left: u64,
+}
+
+impl<S> Model for Counted<S> {
+    ghost use Rattle.std.specs.Coded.{codes};
+    ghost use Rattle.fp_streams.specs.Failures.{Stream};
+
+    ghost Value = { Stream S };
+
+    ghost coded = { Prim.hlevel (codes) };
+
+    ghost view = { λ c. record { inner = c.stream; failures = c.failures; reads_left = c.reads_left } };
+}
+
+impl<S> Counted<S> {
+    /// The stream, of no failure yet. It may be read 2^64 - 1 times.
+    pub fn new(stream: S) -> Counted<S>
+        ensures { result ≡ record { inner = stream; failures = 0; reads_left = 2 ^ 64 - 1 } }
+    {
+        Counted {
+            stream,
+            failures: Count::new(),
+            reads_left: u64::MAX,
+        }
+    }
+
+    /// The stream itself.
+    pub fn get_ref(&self) -> &S
+        ensures { result.now ≡ self.now.inner }
+    {
+        &self.stream
+    }
+
+    // One failure more.
+    fn fault(&mut self) -> StreamFault
+        ensures { (result ≡ Device)
+            × (self.new ≡ record self.old { failures = self.old.failures + 1 }) }
+    {
+        self.failures.raise();
+        StreamFault::Device
+    }
+}
+
+impl<R: Read> Counted<R> {
+    /// Reads once, and again where it was interrupted. `Ok(0)` is the end, unless there is no room. An error consumes nothing.
+    pub fn read(&mut self, buf: &mut [u8]) -> Result<usize, StreamFault>
+        ensures bound { ReadsAtMost result buf.new }
+        ensures bytes { ReadConsumes (R.remaining self.old.inner) (R.remaining self.new.inner)
+            result buf.new }
+        ensures fault { IfErr result (λ f. f ≡ Device) }
+        ensures counted { Counts self.old.failures self.new.failures result }
+        ensures fewer { OnOk result (self.new.reads_left < self.old.reads_left) }
+    {
+        while self.reads_left > 0 {
+            self.reads_left -= 1;
+            match self.stream.read(buf) {
+                Ok(count) => return Ok(count),
+                Err(e) if e.kind() == ErrorKind::Interrupted => {}
+                Err(_) => return Err(self.fault()),
+            }
+        }
+        Err(self.fault())
+    }
+
+    /// All that is left.
+    pub fn read_to_end(&mut self, alloc: Global) -> Result<Vec<u8>, StreamFault>
+        ensures bytes { IfOk result (λ bytes.
+            IfSome (R.remaining self.old.inner) (λ left. bytes.items ≡ left)) }
+        ensures counted { Counts self.old.failures self.new.failures result }
+    {
+        let mut bytes = Vec::new(alloc);
+        match self.stream.read_to_end(&mut bytes) {
+            Ok(_) => Ok(bytes),
+            Err(e) if e.kind() == ErrorKind::OutOfMemory => Err(StreamFault::Memory),
+            Err(_) => Err(self.fault()),
+        }
+    }
+}
+
+impl<W: Write> Counted<W> {
+    /// Writes all of the bytes, and flushes them. At an error some of them may have been written.
+    pub fn send(&mut self, bytes: &[u8]) -> Result<(), StreamFault>
+        ensures bytes { OnOk result
+            (Appends (W.contents self.old.inner) (W.contents self.new.inner) bytes.now) }
+        ensures fault { IfErr result (λ f. f ≡ Device) }
+        ensures counted { Counts self.old.failures self.new.failures result }
+    {
+        match write_and_flush(&mut self.stream, bytes) {
+            Ok(()) => Ok(()),
+            Err(_) => Err(self.fault()),
+        }
+    }
+}
+
+fn write_and_flush<W: Write>(w: &mut W, bytes: &[u8]) -> io::Result<()>
+    ensures { OnOk result (Appends (W.contents w.old) (W.contents w.new) bytes.now) }
+{
+    w.write_all(bytes)?;
+    w.flush()?;
+    Ok(())
+}

@@ -1,0 +1,9 @@
+//! Readers and writers whose failures are counted.
+#![tactic(auto)]
+
+mod counted;
+
+pub use counted::{Counted, StreamFault};
+
+#[cfg(test)]
+mod tests;
