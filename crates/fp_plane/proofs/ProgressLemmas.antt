@@ -1,14 +1,15 @@
 -- How what was answered grows.
-use Rattle.std.proofs.Common.{◌≡◌, ℕ, List, [], ◌∷◌, ◌++◌, ◌&&◌, true, inl, inr, refl, sym, ap, subst, ◌∙◌, append_assoc, append-nil}
+use Rattle.std.proofs.Common.{◌≡◌, ℕ, List, Bool, not, cond, [], ◌∷◌, ◌++◌, ◌&&◌, true, false, inl, inr, refl, sym, ap, subst, ◌∙◌, append_assoc, append-nil}
 use Rattle.std.proofs.lemmas.List.Folds.{list_all-append}
 use Rattle.std.specs.List.{list_all}
 use Rattle.fp_edit.specs.Flags.{State}
-use Rattle.fp_plane.specs.Lines.{lines, answered}
+use Rattle.fp_edit.specs.Edits.{Proposal}
+use Rattle.fp_plane.specs.Lines.{lines, answered, is_blank}
 use Rattle.fp_plane.specs.Reply.{Reply, texts_of, is_told}
 use Rattle.fp_plane.specs.Script.{verdict, IsRun, show_line}
 use Rattle.fp_plane.specs.Verdicts.{Verdict}
-use Rattle.fp_plane.specs.Run.{IsLeftBy}
-use Rattle.fp_plane.specs.Progress.{cut, IsReached, IsReachedWithin, IsSoFar, IsAnswered, IsAdded, EndsLine, EndsOrStays}
+use Rattle.fp_plane.specs.Run.{IsLeftBy, IsStoppedBy}
+use Rattle.fp_plane.specs.Progress.{cut, IsReached, IsReachedWithin, IsSoFar, IsAnswered, IsAdded, EndsLine, EndsOrStays, IsAskedBy, IsStoppedWithin}
 use Rattle.fp_plane.specs.declared.exchange.Exchange.{Exchange}
 use Rattle.fp_plane.proofs.LineLemmas.{lines-append, lines-some}
 use Rattle.fp_plane.proofs.VerdictLemmas.{run-append, texts_of-append}
@@ -129,3 +130,39 @@ left-end start seen s t r (inl run) =
     left-split start seen (r.done ++ r.line ∷ []) [] (r.replies ++ run.0) t (r.split ∙ sym (append-nil (r.done ++ r.line ∷ []))) (run-done start s t r.done r.line r.replies run.0 r.run run.1)
 left-end start seen s t r (inr stays) =
     left-split start seen r.done (r.line ∷ []) r.replies t r.split (subst (IsRun start (answered r.done) r.replies) (sym stays) r.run)
+
+-- ---- where the store fails
+
+-- a line that isn't blank is answered
+answered-one : (line : List ℕ) (later : List (List ℕ)) → is_blank line ≡ false → answered (line ∷ later) ≡ line ∷ answered later
+answered-one line later counted = ap (λ b. cond (not b) (line ∷ answered later) (answered later)) counted
+
+stopped-split : (start : State) (input : List ℕ) (later : List (List ℕ)) (seen : List ℕ) (now : State) (p : Proposal) (r : IsReached start seen now)
+    → lines input ≡ r.done ++ r.line ∷ later → IsAskedBy now r.line now p → IsStoppedBy start input now p
+stopped-split start input later seen now p r split asked = record {
+  done = answered r.done;
+  next = r.line;
+  later = answered later;
+  replies = r.replies;
+  split = ap answered split ∙ answered-append r.done (r.line ∷ later) ∙ ap (λ ls. answered r.done ++ ls) (answered-one r.line later asked.counted);
+  run = r.run;
+  asks = asked.is;
+}
+
+-- a line that ended is the next one
+pub stopped-within : (start : State) (seen rest input : List ℕ) (now : State) (p : Proposal) → input ≡ seen ++ rest → IsStoppedWithin start seen now p → IsStoppedBy start input now p
+stopped-within start seen rest input now p all h =
+    let r = h.reached in
+    let whole : input ≡ h.front ++ 10 ∷ (h.back ++ rest) = all ∙ ap (λ l. l ++ rest) (sym h.parts) ∙ append_assoc h.front (10 ∷ h.back) rest in
+    let split = ap lines whole ∙ lines-append h.front (10 ∷ (h.back ++ rest)) [] (lines (h.back ++ rest)) refl r.done r.line r.split in
+    stopped-split start input (lines (h.back ++ rest)) h.front now p r (split ∙ ap (λ l. r.done ++ l ∷ lines (h.back ++ rest)) (append-nil r.line)) h.asked
+
+-- the last one is
+pub stopped-end : (start : State) (seen : List ℕ) (s now : State) (p : Proposal) (r : IsReached start seen s) → IsAskedBy s r.line now p → IsStoppedBy start seen now p
+stopped-end start seen s now p r asked =
+    subst (λ t. IsStoppedBy start seen t p) (sym asked.here) (stopped-split start seen [] seen s p r r.split (record { here = refl; counted = asked.counted; is = asked.is }))
+
+-- a line that ends here is asked for
+pub stopped-line : (start : State) (seen rest input : List ℕ) (s now : State) (p : Proposal) → seen ++ 10 ∷ rest ≡ input → (r : IsReached start seen s) → IsAskedBy s r.line now p → IsStoppedWithin start input now p
+stopped-line start seen rest input s now p all r asked =
+    subst (λ t. IsStoppedWithin start input t p) (sym asked.here) (record { front = seen; back = rest; parts = all; reached = r; asked = record { here = refl; counted = asked.counted; is = asked.is } })

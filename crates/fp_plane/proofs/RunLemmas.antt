@@ -1,5 +1,5 @@
 -- Runs over lines: over cut lines, blank ones, edits and others.
-use Rattle.std.proofs.Common.{◌≡◌, ℕ, ◌<◌, List, [], ◌∷◌, ◌++◌, length, Option, Some, None, IsSomeAnd, Ok, Err, Bool, true, false, cond, not, ◌&&◌, nat_le, inl, inr, refl, sym, ap, subst, ◌∙◌}
+use Rattle.std.proofs.Common.{◌≡◌, ℕ, ◌<◌, List, [], ◌∷◌, ◌++◌, length, Option, Some, None, IsSomeAnd, Result, Ok, Err, Bool, true, false, cond, not, ◌&&◌, nat_le, inl, inr, refl, sym, ap, subst, ◌∙◌}
 use Rattle.std.proofs.lemmas.List.Elements.{filter-append}
 use borrow.Author.Tests.{leb-true, leb-false, lt-leb}
 use Rattle.std.specs.List.{list_all}
@@ -17,7 +17,7 @@ use Rattle.fp_plane.specs.Reply.{Reply, no_edit, said, fault_of, bad_flag_or_mem
 use Rattle.fp_plane.specs.declared.reply.Reply.TheVariants.{NoEdit}
 use Rattle.fp_plane.specs.Verdicts.{AnswersBy, AnswersOrStays}
 use Rattle.fp_plane.specs.Script.{judged, proposed, verdict, Answers, IsRun}
-use Rattle.fp_plane.specs.Progress.{cut, EndsOrStays}
+use Rattle.fp_plane.specs.Progress.{cut, EndsOrStays, IsAskedBy}
 use Rattle.fp_plane.proofs.LineLemmas.{cut-short, cut-long}
 use Rattle.fp_plane.proofs.VerdictLemmas.{answers-as}
 
@@ -60,6 +60,17 @@ run-cut s t l rs h =
 pub ends_or_stays-cut : (s t : State) (l : List ℕ) → EndsOrStays s (cut l) t → EndsOrStays s l t
 ends_or_stays-cut s t l (inl run) = inl (run.0, run-cut s t l run.0 run.1)
 ends_or_stays-cut s t l (inr stays) = inr stays
+
+-- only a line that isn't cut is an edit
+pub asked-uncut : (s : State) (l : List ℕ) (now : State) (p : Proposal) → IsAskedBy s (cut l) now p → IsAskedBy s l now p
+asked-uncut s l now p h =
+    elim (nat_le (length l) line_limit) as (λ b. nat_le (length l) line_limit ≡ b → IsAskedBy s l now p) [
+      | true ↦ λ short. subst (λ k. IsAskedBy s k now p) (cut-short l (leb-true _ _ short)) h
+      | false ↦ λ long. absurd (too_long (line_of (cut l)) (line_of-long (cut l) (cut-long l (leb-false _ _ long))) h.is)
+    ] refl
+  where
+    too_long : (r : Result Proposal line.Fault) → r ≡ Err line.too_long → r ≡ Ok p → ⊥
+    too_long r e o = cc
 
 pub run-one : (s t : State) (l : List ℕ) (r : Reply) → is_blank l ≡ false → Answers s l r t → IsRun s (answered (l ∷ [])) (r ∷ []) t
 run-one s t l r blank h = subst (λ k. IsRun s (cond (not k) (l ∷ []) []) (r ∷ []) t) (sym blank) (t, h, refl)

@@ -1,12 +1,13 @@
 -- Runs over whole inputs.
 use Rattle.std.proofs.Common.{◌≡◌, ℕ, List, [], ◌++◌, take, refl, Option, Some, None, sym, ap, subst, ◌∙◌, append-nil, append_assoc}
-use Rattle.std.specs.Io.KnownBytes.{Appends, Consumes, Keeps, IsAtEnd}
+use Rattle.std.specs.Io.KnownBytes.{Appends, Consumes, IsAtEnd}
 use Rattle.fp_base.proofs.Known.{Appends-nil, Appends-more, Consumes-some}
+use Rattle.fp_edit.specs.Edits.{Proposal}
 use Rattle.fp_edit.specs.Flags.{State}
-use Rattle.fp_plane.specs.Run.{IsRunOver, IsLeftBy}
-use Rattle.fp_plane.specs.Progress.{IsSoFar, IsAnswered, IsReachedWithin}
+use Rattle.fp_plane.specs.Run.{IsRunOver, IsLeftBy, IsStoppedBy}
+use Rattle.fp_plane.specs.Progress.{IsSoFar, IsAnswered, IsReachedWithin, IsStoppedWithin}
 use Rattle.fp_plane.specs.declared.exchange.Exchange.{Exchange}
-use Rattle.fp_plane.proofs.ProgressLemmas.{left-within, so_far-sent}
+use Rattle.fp_plane.proofs.ProgressLemmas.{left-within, so_far-sent, stopped-within}
 
 -- all was answered, and what waited was sent
 pub run_over-sent : (start : State) (input sent : List ℕ) (x : Exchange) (now : State) (a b c : Option (List ℕ)) → IsAnswered start input sent x now
@@ -32,18 +33,6 @@ pub record IsGoing (start : State) (input : List ℕ) (left old new : Option (Li
 
 pub going-start : (start : State) (input : List ℕ) (left w : Option (List ℕ)) (x : Exchange) → left ≡ Some input → IsSoFar start [] [] x start → IsGoing start input left w w x start
 going-start start input left w x is h = record { seen = []; rest = input; sent = []; parts = refl; left_is = is; written = Appends-nil w; so_far = h }
-
-Keeps-some : (o n : Option (List ℕ)) (rest : List ℕ) → o ≡ Some rest → Keeps o n → n ≡ Some rest
-Keeps-some o n rest e h = kept n (subst (λ p. Keeps p n) e h)
-  where
-    kept : (n : Option (List ℕ)) → Keeps (Some rest) n → n ≡ Some rest
-    kept None h = absurd h
-    kept (Some ys) h = ap (λ l. Some l) h
-
--- a read that was interrupted
-pub going-kept : (start : State) (input : List ℕ) (left now_left old w : Option (List ℕ)) (x : Exchange) (s : State) → IsGoing start input left old w x s → Keeps left now_left → IsGoing start input now_left old w x s
-going-kept start input left now_left old w x s i kept =
-    record { seen = i.seen; rest = i.rest; sent = i.sent; parts = i.parts; left_is = Keeps-some left now_left i.rest i.left_is kept; written = i.written; so_far = i.so_far }
 
 -- a read, what was taken of it, and what was sent
 pub going-more : (start : State) (input bytes : List ℕ) (left now_left old v w : Option (List ℕ)) (x y z : Exchange) (s t : State) (i : IsGoing start input left old v x s)
@@ -79,3 +68,11 @@ pub going-within : (start : State) (input bytes : List ℕ) (left now_left old w
 going-within start input bytes left now_left old w x s t i read h =
     let step = Consumes-some left now_left i.rest bytes i.left_is read in
     left-within start (i.seen ++ bytes) step.0 input t (i.parts ∙ ap (λ l. i.seen ++ l) step.2 ∙ sym (append_assoc i.seen bytes step.0)) h
+
+-- ---- where the store fails
+
+pub going-stopped : (start : State) (input bytes : List ℕ) (left now_left old w : Option (List ℕ)) (x : Exchange) (s t : State) (p : Proposal) (i : IsGoing start input left old w x s)
+    → Consumes left now_left bytes → IsStoppedWithin start (i.seen ++ bytes) t p → IsStoppedBy start input t p
+going-stopped start input bytes left now_left old w x s t p i read h =
+    let step = Consumes-some left now_left i.rest bytes i.left_is read in
+    stopped-within start (i.seen ++ bytes) step.0 input t p (i.parts ∙ ap (λ l. i.seen ++ l) step.2 ∙ sym (append_assoc i.seen bytes step.0)) h

@@ -2,10 +2,11 @@
 use Rattle.std.proofs.Common.{◌≡◌, ℕ, List, [], ◌∷◌, ◌++◌, Option, Bool, true, inl, inr, refl, sym, ap, subst, ◌∙◌, append_assoc, append-nil}
 use Rattle.std.specs.Io.KnownBytes.{Appends}
 use Rattle.fp_base.proofs.Known.{Appends-nil, Appends-more}
+use Rattle.fp_edit.specs.Edits.{Proposal}
 use Rattle.fp_edit.specs.Flags.{State}
 use Rattle.fp_plane.specs.Reply.{texts_of}
-use Rattle.fp_plane.specs.Verdicts.{Verdict, IsRunBy, IsRunWritten, IsLeftAmong, AnswersOrStays, show_line}
-use Rattle.fp_plane.specs.Progress.{IsAdded, IsUnderWay}
+use Rattle.fp_plane.specs.Verdicts.{Verdict, IsRunBy, IsRunWritten, IsLeftAmong, IsStoppedAmong, AnswersOrStays, show_line}
+use Rattle.fp_plane.specs.Progress.{IsAdded, IsAsked, IsUnderWay}
 use Rattle.fp_plane.specs.declared.exchange.Exchange.{Exchange}
 use Rattle.fp_plane.proofs.VerdictLemmas.{run-append, run-single}
 use Rattle.fp_plane.proofs.ProgressLemmas.{written-more, told-more}
@@ -64,3 +65,9 @@ left-next judge start xs done later next old w x s t all i (inl h) = record {
   run = run-append judge start s t done (next ∷ []) i.replies (h.0 ∷ []) i.run (run-single judge s t next h.0 h.1);
 }
 left-next judge start xs done later next old w x s t all i (inr stays) = record { done = done; later = next ∷ later; replies = i.replies; split = sym all; run = subst (IsRunBy judge start done i.replies) (sym stays) i.run }
+
+-- nothing was done yet with the next one
+pub stopped-next : (judge : Verdict Proposal) (start : State) (xs done later : List Proposal) (next p : Proposal) (old w : Option (List ℕ)) (x : Exchange) (s now : State) → done ++ next ∷ later ≡ xs → IsUnderWay judge start done old w x s
+    → IsAsked s next now p → IsStoppedAmong judge (λ put q. put ≡ q) start xs now p
+stopped-next judge start xs done later next p old w x s now all i asked =
+    record { done = done; next = next; later = later; replies = i.replies; split = sym all; run = subst (IsRunBy judge start done i.replies) (sym asked.0) i.run; asks = sym asked.1 }

@@ -1,12 +1,12 @@
 -- Imports: flags that are put one after another, whatever stands at their keys.
-use Rattle.std.specs.Prelude.{ℕ, List, map, Bool, Option}
+use Rattle.std.specs.Prelude.{◌≡◌, ℕ, List, map, Bool, Option}
 use Rattle.fp_definition.specs.Key.{key_bytes}
 use Rattle.fp_definition.specs.declared.key.FlagKey.{FlagKey}
 use Rattle.fp_edit.specs.Flags.{State}
 use Rattle.fp_edit.specs.Edits.{put, Proposal}
 use Rattle.fp_edit.specs.declared.edit.Expect.TheVariants.{Any}
 use Rattle.fp_plane.specs.Script.{proposed}
-use Rattle.fp_plane.specs.Verdicts.{after_all, script_of, IsRunWritten, IsLeftAmong}
+use Rattle.fp_plane.specs.Verdicts.{after_all, script_of, IsRunWritten, IsLeftAmong, IsStoppedAmong}
 
 -- a flag that is imported: the bytes of its key, and its definition's canonical text
 abbrev pub seen : FlagKey × List ℕ → List ℕ × List ℕ
@@ -30,3 +30,7 @@ IsImport start flags told old new now = IsRunWritten proposed start (map put_of 
 -- the flags are as some first puts leave them
 abbrev pub IsLeftByPuts : State → List (List ℕ × List ℕ) → State → Type 0
 IsLeftByPuts start flags now = IsLeftAmong proposed start (map put_of flags) now
+
+-- some first puts were answered, and the next one is this edit
+abbrev pub IsStoppedByPuts : State → List (List ℕ × List ℕ) → State → Proposal → Type 0
+IsStoppedByPuts start flags now edit = IsStoppedAmong proposed (λ put p. put ≡ p) start (map put_of flags) now edit

@@ -4,6 +4,7 @@ pub mod Lines
 pub mod Reply
 pub mod Verdicts
 pub mod Script
+pub mod Streams
 pub mod Run
 pub mod Import
 pub mod Course

@@ -1,9 +1,11 @@
 -- How far an input was answered.
-use Rattle.std.specs.Prelude.{◌≡◌, ℕ, ◌+◌, List, [], ◌∷◌, ◌++◌, take, ◌&&◌, ◌⊎◌, Option}
+use Rattle.std.specs.Prelude.{◌≡◌, ℕ, ◌+◌, List, [], ◌∷◌, ◌++◌, take, ◌&&◌, ◌⊎◌, Option, Ok, false}
 use Rattle.std.specs.List.{list_all}
 use Rattle.std.specs.Io.KnownBytes.{Appends}
+use Rattle.fp_edit.specs.Edits.{Proposal}
 use Rattle.fp_edit.specs.Flags.{State}
-use Rattle.fp_plane.specs.Lines.{lines, answered, line_limit}
+use Rattle.fp_edit.specs.Line.{line_of}
+use Rattle.fp_plane.specs.Lines.{lines, answered, is_blank, line_limit}
 use Rattle.fp_plane.specs.Reply.{Reply, texts_of, is_told}
 use Rattle.fp_plane.specs.Script.{verdict, IsRun}
 use Rattle.fp_plane.specs.Verdicts.{Verdict, IsRunBy, show_line}
@@ -67,3 +69,23 @@ pub record EndsLine (s : State) (line : List ℕ) (old new : Exchange) (t : Stat
 -- a line was answered, or nothing was done
 abbrev pub EndsOrStays : State → List ℕ → State → Type 0
 EndsOrStays s line t = ((replies : List Reply) × IsRun s (answered (line ∷ [])) replies t) ⊎ (t ≡ s)
+
+-- ---- where the store fails
+
+-- this edit is to be made, and nothing was done yet
+abbrev pub IsAsked : State → Proposal → State → Proposal → Type 0
+IsAsked s edit now p = (now ≡ s) × (p ≡ edit)
+
+-- the line that came in is this edit, and nothing was done with it yet
+pub record IsAskedBy (s : State) (line : List ℕ) (now : State) (edit : Proposal) : Type 0 where
+  pub here : now ≡ s
+  pub counted : is_blank line ≡ false
+  pub is : line_of line ≡ Ok edit
+
+-- a line that ended in `seen` is this edit, and those before it were answered
+pub record IsStoppedWithin (start : State) (seen : List ℕ) (now : State) (edit : Proposal) : Type 0 where
+  pub front : List ℕ
+  pub back : List ℕ
+  pub parts : front ++ 10 ∷ back ≡ seen
+  pub reached : IsReached start front now
+  pub asked : IsAskedBy now reached.line now edit

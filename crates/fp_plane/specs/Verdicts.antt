@@ -4,6 +4,7 @@ use Rattle.std.specs.List.{list_all}
 use Rattle.std.specs.Io.KnownBytes.{Appends}
 use Rattle.fp_edit.specs.Flags.{State}
 use Rattle.fp_edit.specs.Document.{document}
+use Rattle.fp_edit.specs.Edits.{Proposal}
 use Rattle.fp_plane.specs.Reply.{Reply, revision, conflict, set_too_large, revisions_used, no_edit, out_of_memory, texts_of, is_told}
 
 -- by the flags that a thing comes upon: the reply to it, and the flags after it
@@ -60,6 +61,16 @@ pub record IsLeftAmong {A : Type 0} (judge : Verdict A) (start : State) (xs : Li
   pub replies : List Reply
   pub split : xs ≡ done ++ later
   pub run : IsRunBy judge start done replies now
+
+-- some first of them were answered, and the next one asks for this edit
+pub record IsStoppedAmong {A : Type 0} (judge : Verdict A) (Asks : A → Proposal → Type 0) (start : State) (xs : List A) (now : State) (edit : Proposal) : Type 0 where
+  pub done : List A
+  pub next : A
+  pub later : List A
+  pub replies : List Reply
+  pub split : xs ≡ done ++ next ∷ later
+  pub run : IsRunBy judge start done replies now
+  pub asks : Asks next edit
 
 -- one thing was answered, or nothing was done
 abbrev pub AnswersOrStays : {A : Type 0} → Verdict A → State → A → State → Type 0

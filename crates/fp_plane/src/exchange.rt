@@ -1,6 +1,6 @@
 //! Lines as they come in, and replies that wait to be sent.
 
-ghost use Rattle.std.specs.Prelude.{true, nat_lt, ◌≡◌, ◌==◌, ◌++◌, ◌&&◌, ℕ, List, [], ◌∷◌, IfOk, OnOk, OnErr, IfSome, ◌+◌, ◌^◌, ◌<◌, length, position};
+ghost use Rattle.std.specs.Prelude.{IfErr, true, nat_lt, ◌≡◌, ◌==◌, ◌++◌, ◌&&◌, ℕ, List, [], ◌∷◌, IfOk, OnOk, OnErr, IfSome, ◌+◌, ◌^◌, ◌<◌, length, position};
 ghost use Rattle.std.specs.List.{list_all};
 ghost use Rattle.std.specs.Io.KnownBytes.{Appends};
 ghost use Rattle.fp_edit.specs.Flags.{State};
@@ -11,14 +11,17 @@ ghost use Rattle.fp_plane.specs.Lines.{answered};
 ghost use Rattle.fp_plane.specs.Reply.{said, texts_of, is_told, replies_of};
 ghost use Rattle.fp_plane.specs.Script.{proposed, IsRun, show_line};
 ghost use Rattle.fp_plane.specs.Verdicts.{AnswersBy, AnswersOrStays};
-ghost use Rattle.fp_plane.specs.Run.{IsLeftBy};
-ghost use Rattle.fp_plane.specs.Progress.{IsReachedWithin, IsSoFar, IsAnswered, IsAdded, EndsLine, EndsOrStays, cut};
+ghost use Rattle.fp_plane.specs.Run.{IsLeftBy, IsStoppedBy};
+ghost use Rattle.fp_plane.specs.Streams.{IsFromWithin};
+ghost use Rattle.fp_streams.specs.Failures.{Counts};
+ghost use Rattle.fp_streams.specs.declared.counted.StreamFault.TheVariants.{Device};
+ghost use Rattle.fp_plane.specs.Progress.{IsReachedWithin, IsSoFar, IsAnswered, IsAdded, EndsLine, EndsOrStays, IsAsked, IsAskedBy, IsStoppedWithin, cut};
 
 use crate::show::shown;
 use crate::{ApplyFault, Declined, Edits, Reply};
 use fp_edit::{Edit, FlagSet, parse_line};
+use fp_streams::{Counted, StreamFault};
 use std::alloc::{AllocError, Global};
-use std::io;
 use std::io::Write;
 
 const LINE_LIMIT: usize = 32_768;
@@ -61,7 +64,12 @@ impl Exchange {
         ensures within { (start : State) (seen sent : List ℕ)
             → IsSoFar start seen sent self.old (E.state edits.old)
             → IsReachedWithin start (seen ++ bytes.now) (E.state edits.new) }
-        ensures course { Course E.leads_to E.fails_at edits.old edits.new result }
+        ensures course { Course E.leads_to E.fails_at
+            (λ s p. (start : State) (seen sent : List ℕ)
+            → IsSoFar start seen sent self.old (E.state edits.old)
+            → IsStoppedWithin start (seen ++ bytes.now) (E.state s) p)
+            edits.old edits.new result }
+        ensures within_fault { IfErr result IsFromWithin }
     {
         let mut rest = bytes;
         while let Some(at) = newline_in(rest) {
@@ -81,7 +89,12 @@ impl Exchange {
         ensures left { (start : State) (seen sent : List ℕ)
             → IsSoFar start seen sent self.old (E.state edits.old)
             → IsLeftBy start seen (E.state edits.new) }
-        ensures course { Course E.leads_to E.fails_at edits.old edits.new result }
+        ensures course { Course E.leads_to E.fails_at
+            (λ s p. (start : State) (seen sent : List ℕ)
+            → IsSoFar start seen sent self.old (E.state edits.old)
+            → IsStoppedBy start seen (E.state s) p)
+            edits.old edits.new result }
+        ensures within_fault { IfErr result IsFromWithin }
     {
         self.end_line(alloc, edits)?;
         self.show(alloc, edits.flags())?;
@@ -96,15 +109,16 @@ impl Exchange {
     }
 
     /// Sends the replies that wait.
-    pub fn send<W: Write>(&mut self, w: &mut W) -> io::Result<()>
+    pub fn send<W: Write>(&mut self, w: &mut Counted<W>) -> Result<(), StreamFault>
         ensures sent { OnOk result
-            (Appends (W.contents w.old) (W.contents w.new) self.old.replies.items) }
+            (Appends (W.contents w.old.inner) (W.contents w.new.inner) self.old.replies.items) }
         ensures none { OnOk result (self.new.replies.items ≡ []) }
         ensures line { self.new.line ≡ self.old.line }
         ensures told { self.new.is_told ≡ self.old.is_told }
+        ensures fault { IfErr result (λ f. f ≡ Device) }
+        ensures counted { Counts w.old.failures w.new.failures result }
     {
-        w.write_all(&self.replies)?;
-        w.flush()?;
+        w.send(&self.replies)?;
         self.replies.clear();
         Ok(())
     }
@@ -127,7 +141,10 @@ impl Exchange {
             (IsAdded proposed (E.state edits.old) (proposal_of edit ∷ []) self.old self.new
             (E.state edits.new)) }
         ensures stopped { AnswersOrStays proposed (E.state edits.old) (proposal_of edit) (E.state edits.new) }
-        ensures course { Course E.leads_to E.fails_at edits.old edits.new result }
+        ensures course { Course E.leads_to E.fails_at
+            (λ s p. IsAsked (E.state edits.old) (proposal_of edit) (E.state s) p)
+            edits.old edits.new result }
+        ensures within_fault { IfErr result IsFromWithin }
     {
         let reply = Some(reply_to_edit(edits, edit)?);
         self.put(alloc, &reply)?;
@@ -164,7 +181,11 @@ impl Exchange {
             → EndsLine (E.state edits.old) line self.old self.new (E.state edits.new)) }
         ensures stopped { (line : List ℕ) → self.old.line.items ≡ cut line
             → EndsOrStays (E.state edits.old) line (E.state edits.new) }
-        ensures course { Course E.leads_to E.fails_at edits.old edits.new result }
+        ensures course { Course E.leads_to E.fails_at
+            (λ s p. (line : List ℕ) → self.old.line.items ≡ cut line
+            → IsAskedBy (E.state edits.old) line (E.state s) p)
+            edits.old edits.new result }
+        ensures within_fault { IfErr result IsFromWithin }
     {
         let reply = reply_to(alloc, edits, &self.line)?;
         self.put(alloc, &reply)?;
@@ -227,7 +248,10 @@ fn reply_to<E: Edits>(
         IsRun (E.state edits.old) (answered (line.now ∷ [])) (replies_of o) (E.state edits.new)) }
     ensures stopped { OnErr result
         (EndsOrStays (E.state edits.old) line.now (E.state edits.new)) }
-    ensures course { Course E.leads_to E.fails_at edits.old edits.new result }
+    ensures course { Course E.leads_to E.fails_at
+            (λ s p. IsAskedBy (E.state edits.old) line.now (E.state s) p)
+            edits.old edits.new result }
+        ensures within_fault { IfErr result IsFromWithin }
 {
     if is_blank(line) {
         return Ok(None);
@@ -246,7 +270,10 @@ fn reply_to_edit<E: Edits>(edits: &mut E, edit: Edit) -> Result<Reply, ApplyFaul
         AnswersBy proposed (E.state edits.old) (proposal_of edit) (said r) (E.state edits.new)) }
     ensures stopped { OnErr result
         (AnswersOrStays proposed (E.state edits.old) (proposal_of edit) (E.state edits.new)) }
-    ensures course { Course E.leads_to E.fails_at edits.old edits.new result }
+    ensures course { Course E.leads_to E.fails_at
+            (λ s p. IsAsked (E.state edits.old) (proposal_of edit) (E.state s) p)
+            edits.old edits.new result }
+        ensures within_fault { IfErr result IsFromWithin }
 {
     match edits.admit(edit) {
         Ok(revision) => Ok(Reply::Revision(revision)),

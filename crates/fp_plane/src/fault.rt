@@ -2,9 +2,10 @@
 
 ghost use Rattle.std.specs.Prelude.{◌≡◌};
 
+use fp_streams::StreamFault;
 use std::alloc::{AllocError, AllocFailed};
 use std::error::Error;
-use std::{fmt, io};
+use std::fmt;
 
 /// Why an input wasn't answered to its end.
 #[derive(Debug, Drop, Clone, Copy, PartialEq, Eq)]
@@ -45,13 +46,16 @@ impl fmt::Display for ApplyFault {
 
 impl Error for ApplyFault {}
 
-impl From<io::Error> for ApplyFault {
-    ghost use Rattle.fp_plane.specs.declared.fault.ApplyFault.TheVariants.{Device};
+impl From<StreamFault> for ApplyFault {
+    ghost use Rattle.fp_plane.specs.Streams.{of_stream};
 
-    ghost from_gives = { λ _ e. e ≡ Device };
+    ghost from_gives = { λ f e. e ≡ of_stream f };
 
-    fn from(_: io::Error) -> ApplyFault {
-        ApplyFault::Device
+    fn from(fault: StreamFault) -> ApplyFault {
+        match fault {
+            StreamFault::Device => ApplyFault::Device,
+            StreamFault::Memory => ApplyFault::Memory,
+        }
     }
 }
 

@@ -7,13 +7,15 @@ ghost use Rattle.fp_edit.specs.Edits.{Proposal, proposal_of};
 ghost use Rattle.fp_plane.specs.Course.{Course};
 ghost use Rattle.fp_plane.specs.Script.{proposed};
 ghost use Rattle.fp_plane.specs.Verdicts.{AnswersOrStays};
-ghost use Rattle.fp_plane.specs.Import.{seen, import_script, after_import, IsImport, IsLeftByPuts};
-ghost use Rattle.fp_plane.specs.Progress.{IsUnderWay};
+ghost use Rattle.fp_plane.specs.Import.{seen, import_script, after_import, IsImport, IsLeftByPuts, IsStoppedByPuts};
+ghost use Rattle.fp_plane.specs.Progress.{IsAsked, IsUnderWay};
+ghost use Rattle.fp_plane.specs.Streams.{Blames};
 
 use crate::exchange::Exchange;
 use crate::{ApplyFault, Edits};
 use fp_definition::{Definition, FlagKey};
 use fp_edit::{Edit, Expect};
+use fp_streams::Counted;
 use std::alloc::Global;
 use std::io::Write;
 
@@ -21,16 +23,16 @@ use std::io::Write;
 /// flags behind the last reply.
 ///
 /// A put that is refused is answered, and the next ones go on. `Ok(false)` says that a reply told
-/// of wanting memory. A writer that fails is `Device`.
+/// of wanting memory. A writer that fails is `Device`, unless the store failed or memory was wanting just before.
 pub fn import_flags<W: Write, E: Edits>(
     alloc: Global,
-    w: &mut W,
+    w: &mut Counted<W>,
     edits: E,
     flags: Vec<(FlagKey, Definition)>,
 ) -> (E, Result<bool, ApplyFault>)
     // What is written is the import's script, and the flags are as it leaves them.
     ensures script { IfOk result.1 (λ told. told ≡ true →
-        Appends (W.contents w.old) (W.contents w.new)
+        Appends (W.contents w.old.inner) (W.contents w.new.inner)
         (import_script (E.state edits) (map seen flags.items))) }
     ensures flags { IfOk result.1 (λ told. told ≡ true →
         E.state result.0 ≡ after_import (E.state edits) (map seen flags.items)) }
@@ -38,13 +40,18 @@ pub fn import_flags<W: Write, E: Edits>(
     // Where a reply tells of wanting memory, its put changed nothing, and all else is as before.
     ensures run { IfOk result.1 (λ told.
         IsImport (E.state edits) (map seen flags.items) told
-        (W.contents w.old) (W.contents w.new) (E.state result.0)) }
+        (W.contents w.old.inner) (W.contents w.new.inner) (E.state result.0)) }
 
     // At a fault too the flags are as some first puts leave them.
     ensures left { IsLeftByPuts (E.state edits) (map seen flags.items) (E.state result.0) }
 
-    // What keeps the flags goes on, but where it failed.
-    ensures course { Course E.leads_to E.fails_at edits result.0 result.1 }
+    // What keeps the flags goes on, but where it failed: that was at one of the puts, which those before it led to.
+    ensures course { Course E.leads_to E.fails_at
+        (λ s p. IsStoppedByPuts (E.state edits) (map seen flags.items) (E.state s) p)
+        edits result.0 result.1 }
+
+    // `Device` comes only where the writer failed, and a run to the end only where it didn't.
+    ensures device { Blames w.old.failures w.new.failures result.1 }
 {
     let mut edits = edits;
     let outcome = put_flags(alloc, w, &mut edits, flags);
@@ -53,15 +60,18 @@ pub fn import_flags<W: Write, E: Edits>(
 
 fn put_flags<W: Write, E: Edits>(
     alloc: Global,
-    w: &mut W,
+    w: &mut Counted<W>,
     edits: &mut E,
     flags: Vec<(FlagKey, Definition)>,
 ) -> Result<bool, ApplyFault>
     ensures run { IfOk result (λ told.
         IsImport (E.state edits.old) (map seen flags.items) told
-        (W.contents w.old) (W.contents w.new) (E.state edits.new)) }
+        (W.contents w.old.inner) (W.contents w.new.inner) (E.state edits.new)) }
     ensures left { IsLeftByPuts (E.state edits.old) (map seen flags.items) (E.state edits.new) }
-    ensures course { Course E.leads_to E.fails_at edits.old edits.new result }
+    ensures course { Course E.leads_to E.fails_at
+        (λ s p. IsStoppedByPuts (E.state edits.old) (map seen flags.items) (E.state s) p)
+        edits.old edits.new result }
+    ensures device { Blames w.old.failures w.new.failures result }
 {
     let mut exchange = Exchange::new(alloc);
     for (key, flag) in flags {
@@ -79,19 +89,22 @@ fn put_flags<W: Write, E: Edits>(
 // Answers a put. The replies are sent where many wait, and before a fault is answered.
 fn put_flag<W: Write, E: Edits>(
     alloc: Global,
-    w: &mut W,
+    w: &mut Counted<W>,
     exchange: &mut Exchange,
     edits: &mut E,
     put: Edit,
 ) -> Result<(), ApplyFault>
     ensures put { OnOk result ((start : State) (done : List Proposal) (before : Option (List ℕ))
-        → IsUnderWay proposed start done before (W.contents w.old) exchange.old
+        → IsUnderWay proposed start done before (W.contents w.old.inner) exchange.old
         (E.state edits.old)
-        → IsUnderWay proposed start (done ++ proposal_of put ∷ []) before (W.contents w.new)
+        → IsUnderWay proposed start (done ++ proposal_of put ∷ []) before (W.contents w.new.inner)
         exchange.new (E.state edits.new)) }
     ensures bounded { OnOk result (length exchange.new.replies.items ≤ 65536) }
     ensures stopped { AnswersOrStays proposed (E.state edits.old) (proposal_of put) (E.state edits.new) }
-    ensures course { Course E.leads_to E.fails_at edits.old edits.new result }
+    ensures course { Course E.leads_to E.fails_at
+        (λ s p. IsAsked (E.state edits.old) (proposal_of put) (E.state s) p)
+        edits.old edits.new result }
+    ensures device { Blames w.old.failures w.new.failures result }
 {
     let answered = exchange.answer(alloc, edits, put);
     if answered.is_ok() && !exchange.is_long() {

@@ -1,17 +1,19 @@
 //! A run over an input.
 
-ghost use Rattle.std.specs.Prelude.{◌≡◌, ℕ, List, Option, true, IfOk, IfSome};
+ghost use Rattle.std.specs.Prelude.{◌≡◌, ◌+◌, ℕ, List, Option, true, IfOk, IfSome};
 ghost use Rattle.std.specs.Io.KnownBytes.{Appends};
 ghost use Rattle.fp_edit.specs.Flags.{State};
 ghost use Rattle.fp_plane.specs.Script.{script, after_input};
 ghost use Rattle.fp_plane.specs.Course.{Course};
-ghost use Rattle.fp_plane.specs.Run.{IsRunOver, IsLeftBy};
+ghost use Rattle.fp_plane.specs.Run.{IsRunOver, IsLeftBy, IsStoppedBy};
+ghost use Rattle.fp_plane.specs.Streams.{Blames};
 ghost use Rattle.fp_plane.specs.Progress.{IsSoFar};
 
 use crate::exchange::Exchange;
 use crate::{ApplyFault, Edits};
+use fp_streams::Counted;
 use std::alloc::Global;
-use std::io::{ErrorKind, Read, Write};
+use std::io::{Read, Write};
 
 const CHUNK: usize = 65_536;
 
@@ -19,30 +21,36 @@ const CHUNK: usize = 65_536;
 ///
 /// The replies to what was read are sent before the next read, and no more than a chunk of the
 /// input and its replies is held. `Ok(false)` says that a reply told of wanting memory.
-/// A reader or a writer that fails is `Device`.
+/// A reader or a writer that fails is `Device`, unless the store failed or memory was wanting just before.
 pub fn apply_lines<R: Read, W: Write, E: Edits>(
     alloc: Global,
-    r: &mut R,
-    w: &mut W,
+    r: &mut Counted<R>,
+    w: &mut Counted<W>,
     edits: E,
 ) -> (E, Result<bool, ApplyFault>)
     // What is written is the script of what was read, and the flags are as it leaves them.
-    ensures script { IfOk result.1 (λ told. told ≡ true → IfSome (R.remaining r.old) (λ input.
-        Appends (W.contents w.old) (W.contents w.new) (script (E.state edits) input))) }
-    ensures flags { IfOk result.1 (λ told. told ≡ true → IfSome (R.remaining r.old) (λ input.
+    ensures script { IfOk result.1 (λ told. told ≡ true → IfSome (R.remaining r.old.inner) (λ input.
+        Appends (W.contents w.old.inner) (W.contents w.new.inner) (script (E.state edits) input))) }
+    ensures flags { IfOk result.1 (λ told. told ≡ true → IfSome (R.remaining r.old.inner) (λ input.
         E.state result.0 ≡ after_input (E.state edits) input)) }
 
     // Where a reply tells of wanting memory, its line changed nothing, and all else is as before.
-    ensures run { IfOk result.1 (λ told. IfSome (R.remaining r.old) (λ input.
-        IsRunOver (E.state edits) input told (W.contents w.old) (W.contents w.new)
+    ensures run { IfOk result.1 (λ told. IfSome (R.remaining r.old.inner) (λ input.
+        IsRunOver (E.state edits) input told (W.contents w.old.inner) (W.contents w.new.inner)
         (E.state result.0))) }
 
     // At a fault too the flags are as some first lines of the input leave them.
-    ensures left { IfSome (R.remaining r.old) (λ input.
+    ensures left { IfSome (R.remaining r.old.inner) (λ input.
         IsLeftBy (E.state edits) input (E.state result.0)) }
 
-    // What keeps the flags goes on, but where it failed.
-    ensures course { Course E.leads_to E.fails_at edits result.0 result.1 }
+    // What keeps the flags goes on, but where it failed: that was at an edit of the input, which those before it led to.
+    ensures course { Course E.leads_to E.fails_at
+        (λ s p. IfSome (R.remaining r.old.inner) (λ input. IsStoppedBy (E.state edits) input (E.state s) p))
+        edits result.0 result.1 }
+
+    // `Device` comes only where the reader or the writer failed, and a run to the end only where neither did.
+    ensures device { Blames (r.old.failures + w.old.failures) (r.new.failures + w.new.failures)
+        result.1 }
 {
     let mut edits = edits;
     let outcome = answer_input(alloc, r, w, &mut edits);
@@ -51,25 +59,25 @@ pub fn apply_lines<R: Read, W: Write, E: Edits>(
 
 fn answer_input<R: Read, W: Write, E: Edits>(
     alloc: Global,
-    r: &mut R,
-    w: &mut W,
+    r: &mut Counted<R>,
+    w: &mut Counted<W>,
     edits: &mut E,
 ) -> Result<bool, ApplyFault>
-    ensures run { IfOk result (λ told. IfSome (R.remaining r.old) (λ input.
-        IsRunOver (E.state edits.old) input told (W.contents w.old) (W.contents w.new)
+    ensures run { IfOk result (λ told. IfSome (R.remaining r.old.inner) (λ input.
+        IsRunOver (E.state edits.old) input told (W.contents w.old.inner) (W.contents w.new.inner)
         (E.state edits.new))) }
-    ensures left { IfSome (R.remaining r.old) (λ input.
+    ensures left { IfSome (R.remaining r.old.inner) (λ input.
         IsLeftBy (E.state edits.old) input (E.state edits.new)) }
-    ensures course { Course E.leads_to E.fails_at edits.old edits.new result }
+    ensures course { Course E.leads_to E.fails_at
+        (λ s p. IfSome (R.remaining r.old.inner) (λ input. IsStoppedBy (E.state edits.old) input (E.state s) p))
+        edits.old edits.new result }
+    ensures device { Blames (r.old.failures + w.old.failures) (r.new.failures + w.new.failures)
+        result }
 {
     let mut exchange = Exchange::new(alloc);
     let mut chunk = [0; CHUNK];
-    for _turn in 0..u64::MAX {
-        let count = match r.read(&mut chunk) {
-            Ok(count) => count,
-            Err(e) if e.kind() == ErrorKind::Interrupted => continue,
-            Err(_) => return Err(ApplyFault::Device),
-        };
+    loop {
+        let count = r.read(&mut chunk)?;
         if count == 0 {
             let told = finish(alloc, w, &mut exchange, edits)?;
             return Ok(told);
@@ -79,25 +87,29 @@ fn answer_input<R: Read, W: Write, E: Edits>(
         taken?;
         sent?;
     }
-    Err(ApplyFault::Device)
 }
 
 // Answers the last line, and shows the flags.
 fn finish<W: Write, E: Edits>(
     alloc: Global,
-    w: &mut W,
+    w: &mut Counted<W>,
     exchange: &mut Exchange,
     edits: &mut E,
 ) -> Result<bool, ApplyFault>
     ensures run { IfOk result (λ told.
         (start : State) (input sent : List ℕ) (before : Option (List ℕ))
         → IsSoFar start input sent exchange.old (E.state edits.old)
-        → Appends before (W.contents w.old) sent
-        → IsRunOver start input told before (W.contents w.new) (E.state edits.new)) }
+        → Appends before (W.contents w.old.inner) sent
+        → IsRunOver start input told before (W.contents w.new.inner) (E.state edits.new)) }
     ensures left { (start : State) (input sent : List ℕ)
         → IsSoFar start input sent exchange.old (E.state edits.old)
         → IsLeftBy start input (E.state edits.new) }
-    ensures course { Course E.leads_to E.fails_at edits.old edits.new result }
+    ensures course { Course E.leads_to E.fails_at
+        (λ s p. (start : State) (input sent : List ℕ)
+        → IsSoFar start input sent exchange.old (E.state edits.old)
+        → IsStoppedBy start input (E.state s) p)
+        edits.old edits.new result }
+    ensures device { Blames w.old.failures w.new.failures result }
 {
     let ended = exchange.end(alloc, edits);
     let sent = exchange.send(w);

@@ -10,8 +10,8 @@ pub returns-clause-script : goal.returns-clause-script
 returns-clause-script g c =
     let start = g.E.Edits.state c.args.edits in
     let now = g.E.Edits.state c.put_flags-outcome.new.edits in
-    let old = g.W.Write.contents c.args.w.now in
-    let new = g.W.Write.contents c.put_flags-outcome.new.w in
+    let old = g.W.Write.contents c.args.w.now.inner in
+    let new = g.W.Write.contents c.put_flags-outcome.new.w.inner in
     let flags = map seen c.args.flags.items in
     IfOk-weaker c.put_flags-outcome.result (λ told. IsImport start flags told old new now) (λ told. told ≡ true → Appends old new (import_script start flags))
     (λ told run all. written-script proposed start (map put_of flags) told old new now run all) c.put_flags-outcome.ensures.run
@@ -20,8 +20,8 @@ pub returns-clause-flags : goal.returns-clause-flags
 returns-clause-flags g c =
     let start = g.E.Edits.state c.args.edits in
     let now = g.E.Edits.state c.put_flags-outcome.new.edits in
-    let old = g.W.Write.contents c.args.w.now in
-    let new = g.W.Write.contents c.put_flags-outcome.new.w in
+    let old = g.W.Write.contents c.args.w.now.inner in
+    let new = g.W.Write.contents c.put_flags-outcome.new.w.inner in
     let flags = map seen c.args.flags.items in
     IfOk-weaker c.put_flags-outcome.result (λ told. IsImport start flags told old new now) (λ told. told ≡ true → now ≡ after_import start flags)
     (λ told run all. written-flags proposed start (map put_of flags) told old new now run all) c.put_flags-outcome.ensures.run

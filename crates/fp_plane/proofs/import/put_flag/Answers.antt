@@ -17,7 +17,7 @@ returns-then-not-is_long-clause-put g c = λ start done before i.
     let put = proposal_of c.args.put in
     let x = c.args.exchange.now in
     let y = c.answer-answered.new.self in
-    under_way-added proposed start done (put ∷ []) before (g.W.Write.contents c.args.w.now) x y s t i
+    under_way-added proposed start done (put ∷ []) before (g.W.Write.contents c.args.w.now.inner) x y s t i
     (at_ok c.answer-answered.result (IsAdded proposed s (put ∷ []) x y t) (sym c.is_ok.ensures.value ∙ c.if-is_ok.true) c.answer-answered.ensures.added)
 
 pub returns-clause-put : goal.returns-clause-put
@@ -27,7 +27,7 @@ returns-clause-put g c = λ start done before i.
     let put = proposal_of c.args.put in
     let x = c.args.exchange.now in
     let y = c.answer-answered.new.self in
-    let v = g.W.Write.contents c.args.w.now in
+    let v = g.W.Write.contents c.args.w.now.inner in
     let added = IfOk-at_ok (λ _. IsAdded proposed s (put ∷ []) x y t) c.in_ok-answered.was c.answer-answered.ensures.added in
-    under_way-sent proposed start (done ++ put ∷ []) before v (g.W.Write.contents c.send-sent.new.w) y c.send-sent.new.self t
+    under_way-sent proposed start (done ++ put ∷ []) before v (g.W.Write.contents c.send-sent.new.w.inner) y c.send-sent.new.self t
     (under_way-added proposed start done (put ∷ []) before v x y s t i added) c.in_ok-sent.ensures.sent c.in_ok-sent.ensures.none c.send-sent.ensures.told

@@ -11,7 +11,8 @@ abbrev pub invariant-loop-key : goal.invariant-loop-key
 invariant-loop-key g l = record {
   put :
       (done : List Proposal) × (done ++ map put_of (map seen (into_iter_items l.key-iterator)) ≡ map put_of (map seen l.fn.flags.items))
-      × IsUnderWay proposed (g.E.Edits.state l.initial.edits) done (g.W.Write.contents l.initial.w) (g.W.Write.contents l.w) l.exchange (g.E.Edits.state l.edits);
+      × IsUnderWay proposed (g.E.Edits.state l.initial.edits) done (g.W.Write.contents l.initial.w.inner) (g.W.Write.contents l.w.inner) l.exchange (g.E.Edits.state l.edits);
   counted : length (into_iter_items l.key-iterator) ≡ into_iter_len l.key-iterator;
   led : g.E.Edits.leads_to l.initial.edits l.edits;
+  calm : l.w.failures ≡ l.initial.w.failures;
 }

@@ -1,11 +1,15 @@
-use Rattle.std.proofs.Common.{◌≡◌, ℕ, List, Some}
+use Rattle.std.proofs.Common.{◌≡◌, ◌+◌, ℕ, List, Some}
 use Rattle.fp_plane.proofs.RunOverLemmas.{IsGoing}
 use Rattle.fp_plane.proofs.input.answer_input.Given as goal
 
-abbrev pub invariant-loop-turn : goal.invariant-loop-turn
-invariant-loop-turn g l = record {
+abbrev pub invariant-loop-exchange : goal.invariant-loop-exchange
+invariant-loop-exchange g l = record {
   going :
-      (input : List ℕ) → g.R.Read.remaining l.initial.r ≡ Some input
-      → IsGoing (g.E.Edits.state l.initial.edits) input (g.R.Read.remaining l.r) (g.W.Write.contents l.initial.w) (g.W.Write.contents l.w) l.exchange (g.E.Edits.state l.edits);
+      (input : List ℕ) → g.R.Read.remaining l.initial.r.inner ≡ Some input
+      → IsGoing (g.E.Edits.state l.initial.edits) input (g.R.Read.remaining l.r.inner) (g.W.Write.contents l.initial.w.inner) (g.W.Write.contents l.w.inner) l.exchange (g.E.Edits.state l.edits);
   led : g.E.Edits.leads_to l.initial.edits l.edits;
+  calm : l.r.failures + l.w.failures ≡ l.initial.r.failures + l.initial.w.failures;
 }
+
+abbrev pub decreases-loop-exchange : goal.decreases-loop-exchange
+decreases-loop-exchange g l = l.r.reads_left

@@ -12,9 +12,9 @@ pub returns-clause-script : goal.returns-clause-script
 returns-clause-script g c =
     let start = g.E.Edits.state c.args.edits in
     let now = g.E.Edits.state c.answer_input-outcome.new.edits in
-    let old = g.W.Write.contents c.args.w.now in
-    let new = g.W.Write.contents c.answer_input-outcome.new.w in
-    let left = g.R.Read.remaining c.args.r.now in
+    let old = g.W.Write.contents c.args.w.now.inner in
+    let new = g.W.Write.contents c.answer_input-outcome.new.w.inner in
+    let left = g.R.Read.remaining c.args.r.now.inner in
     IfOk-weaker c.answer_input-outcome.result (λ told. IfSome left (λ input. IsRunOver start input told old new now)) (λ told. told ≡ true → IfSome left (λ input. Appends old new (script start input)))
     (λ told run all. IfSome_then left run (λ input r. written-script verdict start (answered (lines input)) told old new now r all)) c.answer_input-outcome.ensures.run
 
@@ -22,8 +22,8 @@ pub returns-clause-flags : goal.returns-clause-flags
 returns-clause-flags g c =
     let start = g.E.Edits.state c.args.edits in
     let now = g.E.Edits.state c.answer_input-outcome.new.edits in
-    let old = g.W.Write.contents c.args.w.now in
-    let new = g.W.Write.contents c.answer_input-outcome.new.w in
-    let left = g.R.Read.remaining c.args.r.now in
+    let old = g.W.Write.contents c.args.w.now.inner in
+    let new = g.W.Write.contents c.answer_input-outcome.new.w.inner in
+    let left = g.R.Read.remaining c.args.r.now.inner in
     IfOk-weaker c.answer_input-outcome.result (λ told. IfSome left (λ input. IsRunOver start input told old new now)) (λ told. told ≡ true → IfSome left (λ input. now ≡ after_input start input))
     (λ told run all. IfSome_then left run (λ input r. written-flags verdict start (answered (lines input)) told old new now r all)) c.answer_input-outcome.ensures.run

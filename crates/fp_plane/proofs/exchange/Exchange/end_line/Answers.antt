@@ -1,9 +1,12 @@
-use Rattle.std.proofs.Common.{[], ◌∷◌, inl, subst, ◌∙◌}
+use Rattle.std.proofs.Common.{◌≡◌, ℕ, List, Option, [], ◌∷◌, inl, subst, ◌∙◌}
+use Rattle.std.proofs.lemmas.Result.{err_from_is_err_and}
 use Rattle.fp_plane.specs.Lines.{answered}
 use Rattle.fp_plane.specs.Reply.{replies_of}
+use Rattle.fp_plane.specs.declared.reply.Reply.{Reply}
 use Rattle.fp_plane.specs.Script.{IsRun}
-use Rattle.fp_plane.specs.Progress.{EndsOrStays}
-use Rattle.fp_plane.proofs.RunLemmas.{run-cut, ends_or_stays-cut}
+use Rattle.fp_plane.specs.Progress.{EndsOrStays, IsAskedBy, cut}
+use Rattle.fp_plane.proofs.CourseLemmas.{course-fault}
+use Rattle.fp_plane.proofs.RunLemmas.{run-cut, ends_or_stays-cut, asked-uncut}
 use Rattle.fp_plane.proofs.exchange.Exchange.end_line.Goals as goal
 
 pub returns-in_err-reply-clause-stopped : goal.returns-in_err-reply-clause-stopped
@@ -39,3 +42,15 @@ returns-clause-ended g c = λ line kept.
       };
       empty = c.clear.ensures.items;
     }
+
+pub returns-in_err-reply-clause-course : goal.returns-in_err-reply-clause-course
+returns-in_err-reply-clause-course g c =
+    let p = err_from_is_err_and c.from_residual.result c.from_residual.ensures.1 in
+    let s = g.E.Edits.state c.args.edits.now in
+    let was = c.args.edits.now in
+    rw (p.1, p.2) (course-fault g.E.Edits.leads_to g.E.Edits.fails_at (Option Reply) (Unit {0}) g.E.Edits.leads_on
+    (λ x q. IsAskedBy s c.deref.result.now (g.E.Edits.state x) q)
+    (λ x q. (line : List ℕ) → c.args.self.now.line.items ≡ cut line → IsAskedBy s line (g.E.Edits.state x) q)
+    was was c.reply_to.new.edits c.in_err-reply.field-0.0
+    (λ x q asked line kept. asked-uncut s line (g.E.Edits.state x) q (subst (λ l. IsAskedBy s l (g.E.Edits.state x) q) (c.deref.ensures.value ∙ kept) asked))
+    (g.E.Edits.leads_to_itself was) c.in_err-reply.ensures.course)

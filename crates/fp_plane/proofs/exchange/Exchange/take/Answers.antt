@@ -1,10 +1,11 @@
 use Rattle.std.proofs.Common.{◌≡◌, ◌+◌, ◌-◌, ◌≤◌, ℕ, List, [], ◌∷◌, ◌++◌, length, take, drop, refl, sym, ap, subst, ◌∙◌, append_assoc, take_all, length-drop, arith}
 use Rattle.std.proofs.lemmas.Result.{err_from_is_err_and}
 use Rattle.fp_plane.specs.Lines.{lines}
-use Rattle.fp_plane.specs.Progress.{IsSoFar, cut}
+use Rattle.fp_edit.specs.Flags.{State}
+use Rattle.fp_plane.specs.Progress.{IsSoFar, IsAskedBy, IsStoppedWithin, cut}
 use Rattle.fp_plane.proofs.LineLemmas.{IsCutAt, newline_found, newline_none}
 use Rattle.fp_plane.proofs.CourseLemmas.{course-fault}
-use Rattle.fp_plane.proofs.ProgressLemmas.{so_far-more, so_far-newline, within-here, within-line}
+use Rattle.fp_plane.proofs.ProgressLemmas.{so_far-more, so_far-newline, within-here, within-line, stopped-line}
 use Rattle.fp_plane.proofs.exchange.Exchange.take.Goals as goal
 
 -- what came before, a line and what stands behind its newline
@@ -84,8 +85,21 @@ returns-in_err-extend-clause-course g c =
 pub returns-in_err-end_line-clause-course : goal.returns-in_err-end_line-clause-course
 returns-in_err-end_line-clause-course g c =
     let p = err_from_is_err_and c.from_residual-in_err-end_line.result c.from_residual-in_err-end_line.ensures.1 in
-    rw (p.1, p.2) (course-fault (Unit {0}) (Unit {0}) g.E.Edits.leads_to g.E.Edits.fails_at g.E.Edits.leads_on c.args.edits.now c.loop-at.edits c.end_line.new.edits
-    c.in_err-end_line.field-0.0 c.loop-at.invariant.led c.in_err-end_line.ensures.course)
+    let s = g.E.Edits.state c.loop-at.edits in
+    let rest = c.loop-at.rest.now in
+    let at = c.in-Some.at in
+    let found = newline_found rest at (sym c.newline_in.ensures.first ∙ c.in-Some.is) in
+    rw (p.1, p.2) (course-fault g.E.Edits.leads_to g.E.Edits.fails_at (Unit {0}) (Unit {0}) g.E.Edits.leads_on
+    (λ x q. (line : List ℕ) → c.extend.new.self.line.items ≡ cut line → IsAskedBy s line (g.E.Edits.state x) q)
+    (λ x q. (start : State) (seen sent : List ℕ) → IsSoFar start seen sent c.args.self.now (g.E.Edits.state c.args.edits.now) → IsStoppedWithin start (seen ++ c.args.bytes.now) (g.E.Edits.state x) q)
+    c.args.edits.now c.loop-at.edits c.end_line.new.edits c.in_err-end_line.field-0.0
+    (λ x q asked start seen sent h.
+        let inv = c.loop-at.invariant.answered start seen sent h in
+        let so_far = so_far-more start inv.0 sent (take at rest) c.loop-at.self c.extend.new.self s inv.2 found.one
+        (c.in_ok-extend.ensures.grown inv.2.reached.line inv.2.kept) c.extend.ensures.same_replies c.extend.ensures.same_told in
+        stopped-line start (inv.0 ++ take at rest) (drop (at + 1) rest) (seen ++ c.args.bytes.now) s (g.E.Edits.state x) q (regroup inv.0 rest (seen ++ c.args.bytes.now) at found inv.1) so_far.reached
+        (asked so_far.reached.line so_far.kept))
+    c.loop-at.invariant.led c.in_err-end_line.ensures.course)
 
 pub returns-in_err-extend-2-clause-course : goal.returns-in_err-extend-2-clause-course
 returns-in_err-extend-2-clause-course g c =
