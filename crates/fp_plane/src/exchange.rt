@@ -249,9 +249,9 @@ fn reply_to<E: Edits>(
     ensures stopped { OnErr result
         (EndsOrStays (E.state edits.old) line.now (E.state edits.new)) }
     ensures course { Course E.leads_to E.fails_at
-            (λ s p. IsAskedBy (E.state edits.old) line.now (E.state s) p)
-            edits.old edits.new result }
-        ensures within_fault { IfErr result IsFromWithin }
+        (λ s p. IsAskedBy (E.state edits.old) line.now (E.state s) p)
+        edits.old edits.new result }
+    ensures within_fault { IfErr result IsFromWithin }
 {
     if is_blank(line) {
         return Ok(None);
@@ -271,9 +271,9 @@ fn reply_to_edit<E: Edits>(edits: &mut E, edit: Edit) -> Result<Reply, ApplyFaul
     ensures stopped { OnErr result
         (AnswersOrStays proposed (E.state edits.old) (proposal_of edit) (E.state edits.new)) }
     ensures course { Course E.leads_to E.fails_at
-            (λ s p. IsAsked (E.state edits.old) (proposal_of edit) (E.state s) p)
-            edits.old edits.new result }
-        ensures within_fault { IfErr result IsFromWithin }
+        (λ s p. IsAsked (E.state edits.old) (proposal_of edit) (E.state s) p)
+        edits.old edits.new result }
+    ensures within_fault { IfErr result IsFromWithin }
 {
     match edits.admit(edit) {
         Ok(revision) => Ok(Reply::Revision(revision)),

@@ -1,5 +1,6 @@
 use super::*;
 use fp_edit::FlagSet;
+use fp_streams::Counted;
 use std::alloc::{AllocError, AllocGlobal, Global};
 use std::process::Abort;
 
@@ -26,10 +27,11 @@ fn assert_applies(
     let alloc = rt.alloc();
     let input = written_out(alloc, input)?;
     let output = written_out(alloc, output)?;
-    let mut written = Vec::new(alloc);
+    let mut input = Counted::new(input.as_bytes());
+    let mut written = Counted::new(Vec::new(alloc));
     let start = FlagSet::new(alloc, 0x80_0000);
-    let (_flags, outcome) = apply_lines(alloc, &mut input.as_bytes(), &mut written, start);
-    assert_eq!(rt; written.as_slice(), output.as_bytes(), "{input}");
+    let (_flags, outcome) = apply_lines(alloc, &mut input, &mut written, start);
+    assert_eq!(rt; written.get_ref().as_slice(), output.as_bytes(), "{output}");
     assert_eq!(rt; outcome, Ok(true));
     Ok(())
 }

@@ -1,6 +1,7 @@
 use super::assert_applies;
 use crate::apply_lines;
 use fp_edit::FlagSet;
+use fp_streams::Counted;
 use std::alloc::{AllocError, AllocGlobal, Global};
 use std::process::Abort;
 use std::test::Fail;
@@ -21,6 +22,30 @@ fn put(alloc: Global, key: &str, letters: usize) -> Result<String, AllocError> {
     )
 }
 
+// A run over the input leads on from these flags, writes what begins so, and leaves flags of that size.
+fn assert_leads(
+    rt: &(impl AllocGlobal + Abort),
+    flags: FlagSet,
+    input: &str,
+    output: &[u8],
+    size: u64,
+) -> Result<FlagSet, Fail> {
+    let mut r = Counted::new(input.as_bytes());
+    let mut w = Counted::new(Vec::new(rt.alloc()));
+    let (flags, outcome) = apply_lines(rt.alloc(), &mut r, &mut w, flags);
+    assert_eq!(rt; outcome, Ok(true));
+    assert_eq!(rt; flags.size(), size);
+    assert!(rt; w.get_ref().as_slice().starts_with(output));
+    Ok(flags)
+}
+
+const SEVEN: &[u8] =
+    b"{\"revision\":1}\n{\"revision\":2}\n{\"revision\":3}\n{\"revision\":4}\n{\"revision\":5}\n{\"revision\":6}\n{\"revision\":7}\n7 {\"flags\":{\"a\":{";
+
+const EIGHTH: &[u8] = b"{\"error\":\"set-too-large\"}\n{\"revision\":8}\n8 {\"flags\":{\"a\":{";
+
+const NINTH: &[u8] = b"{\"revision\":9}\n9 {\"flags\":{\"b\":{";
+
 #[test]
 fn a_set_is_filled_to_its_limit(rt: HostRuntime) -> Result<(), Fail> {
     let alloc = rt.alloc();
@@ -28,43 +53,14 @@ fn a_set_is_filled_to_its_limit(rt: HostRuntime) -> Result<(), Fail> {
     for key in ["a", "b", "c", "d", "e", "f", "g"] {
         input.push_str(put(alloc, key, 16_322)?.as_str())?;
     }
-    let mut w = Vec::new(alloc);
-    let (flags, outcome) = apply_lines(
-        alloc,
-        &mut input.as_bytes(),
-        &mut w,
-        FlagSet::new(alloc, 131_072),
-    );
-    assert_eq!(rt; outcome, Ok(true));
-    assert_eq!(rt; flags.size(), 114_797);
-    assert!(rt;
-        w.as_slice().starts_with(
-            b"{\"revision\":1}\n{\"revision\":2}\n{\"revision\":3}\n{\"revision\":4}\n{\"revision\":5}\n{\"revision\":6}\n{\"revision\":7}\n7 {\"flags\":{\"a\":{"
-        )
-    );
-
+    let none = FlagSet::new(alloc, 131_072);
+    let flags = assert_leads(&rt, none, input.as_str(), SEVEN, 114_797)?;
     let mut last = String::new(alloc);
     last.push_str(put(alloc, "h", 16_199)?.as_str())?;
     last.push_str(put(alloc, "h", 16_198)?.as_str())?;
-    let mut w = Vec::new(alloc);
-    let (flags, outcome) = apply_lines(alloc, &mut last.as_bytes(), &mut w, flags);
-    assert_eq!(rt; outcome, Ok(true));
-    assert_eq!(rt; flags.size(), 131_072);
-    assert!(rt;
-        w.as_slice().starts_with(
-            b"{\"error\":\"set-too-large\"}\n{\"revision\":8}\n8 {\"flags\":{\"a\":{"
-        )
-    );
-
-    let mut w = Vec::new(alloc);
-    let delete = b"{\"key\":\"a\",\"op\":\"delete\"}\n".as_slice();
-    let (flags, outcome) = apply_lines(alloc, &mut { delete }, &mut w, flags);
-    assert_eq!(rt; outcome, Ok(true));
-    assert_eq!(rt; flags.size(), 114_673);
-    assert!(rt;
-        w.as_slice()
-            .starts_with(b"{\"revision\":9}\n9 {\"flags\":{\"b\":{")
-    );
+    let flags = assert_leads(&rt, flags, last.as_str(), EIGHTH, 131_072)?;
+    let delete = "{\"key\":\"a\",\"op\":\"delete\"}\n";
+    let _flags = assert_leads(&rt, flags, delete, NINTH, 114_673)?;
     Ok(())
 }
 

@@ -2,6 +2,7 @@ use super::stand_ins::{Failing, Full};
 use super::{ON, written_out};
 use crate::{ApplyFault, apply_lines};
 use fp_edit::FlagSet;
+use fp_streams::Counted;
 use std::alloc::{AllocGlobal, Global};
 use std::cell::RefCell;
 use std::io;
@@ -102,11 +103,11 @@ fn any_cutting_gives_the_same_replies(rt: HostRuntime) -> Result<(), Fail> {
     let input = written_out(alloc, INPUT)?;
     let output = written_out(alloc, OUTPUT)?;
     for most in [1, 2, 17, 4096] {
-        let mut r = cut_up(input.as_bytes(), most, 10_000);
-        let mut w = Vec::new(alloc);
+        let mut r = Counted::new(cut_up(input.as_bytes(), most, 10_000));
+        let mut w = Counted::new(Vec::new(alloc));
         let (_flags, outcome) = apply_lines(alloc, &mut r, &mut w, flags(alloc));
         assert_eq!(rt; outcome, Ok(true));
-        assert_eq!(rt; w.as_slice(), output.as_bytes());
+        assert_eq!(rt; w.get_ref().as_slice(), output.as_bytes());
     }
     Ok(())
 }
@@ -118,11 +119,11 @@ fn a_reader_that_fails_ends_the_run(rt: HostRuntime) -> Result<(), Fail> {
     let line = ON.len() + 32;
     let rows = [(0, ""), (1, "{\"revision\":1}\n")];
     for (reads_left, output) in rows {
-        let mut r = cut_up(input.as_bytes(), line, reads_left);
-        let mut w = Vec::new(alloc);
+        let mut r = Counted::new(cut_up(input.as_bytes(), line, reads_left));
+        let mut w = Counted::new(Vec::new(alloc));
         let (flags, outcome) = apply_lines(alloc, &mut r, &mut w, flags(alloc));
         assert_eq!(rt; outcome, Err(ApplyFault::Device));
-        assert_eq!(rt; w.as_slice(), output.as_bytes());
+        assert_eq!(rt; w.get_ref().as_slice(), output.as_bytes());
         assert_eq!(rt; flags.revision(), reads_left as u64);
     }
     Ok(())
@@ -135,14 +136,14 @@ fn a_writer_that_fails_ends_the_run(rt: HostRuntime) -> Result<(), Fail> {
     let line = ON.len() + 32;
     let rows = [(0, ""), (1, "{\"revision\":1}\n")];
     for (writes_left, output) in rows {
-        let mut r = cut_up(input.as_bytes(), line, 100);
-        let mut w = Full {
+        let mut r = Counted::new(cut_up(input.as_bytes(), line, 100));
+        let mut w = Counted::new(Full {
             taken: Vec::new(alloc),
             writes_left,
-        };
+        });
         let (_flags, outcome) = apply_lines(alloc, &mut r, &mut w, flags(alloc));
         assert_eq!(rt; outcome, Err(ApplyFault::Device));
-        assert_eq!(rt; w.taken.as_slice(), output.as_bytes());
+        assert_eq!(rt; w.get_ref().taken.as_slice(), output.as_bytes());
     }
     Ok(())
 }
@@ -151,15 +152,15 @@ fn a_writer_that_fails_ends_the_run(rt: HostRuntime) -> Result<(), Fail> {
 fn a_store_that_fails_ends_the_run_behind_its_replies(rt: HostRuntime) -> Result<(), Fail> {
     let alloc = rt.alloc();
     let input = written_out(alloc, INPUT)?;
-    let mut w = Vec::new(alloc);
+    let mut w = Counted::new(Vec::new(alloc));
     let edits = Failing {
         flags: flags(alloc),
         edits_left: 2,
     };
-    let (edits, outcome) = apply_lines(alloc, &mut input.as_bytes(), &mut w, edits);
+    let (edits, outcome) = apply_lines(alloc, &mut Counted::new(input.as_bytes()), &mut w, edits);
     assert_eq!(rt; outcome, Err(ApplyFault::StoreFailed));
     assert_eq!(rt;
-        w.as_slice(),
+        w.get_ref().as_slice(),
         b"{\"revision\":1}\n{\"current\":null,\"error\":\"conflict\"}\n".as_slice()
     );
     assert_eq!(rt; edits.flags.revision(), 1);
@@ -170,15 +171,15 @@ fn a_store_that_fails_ends_the_run_behind_its_replies(rt: HostRuntime) -> Result
 fn a_store_that_failed_is_told_though_the_writer_fails(rt: HostRuntime) -> Result<(), Fail> {
     let alloc = rt.alloc();
     let input = written_out(alloc, INPUT)?;
-    let mut w = Full {
+    let mut w = Counted::new(Full {
         taken: Vec::new(alloc),
         writes_left: 0,
-    };
+    });
     let edits = Failing {
         flags: flags(alloc),
         edits_left: 1,
     };
-    let (_edits, outcome) = apply_lines(alloc, &mut input.as_bytes(), &mut w, edits);
+    let (_edits, outcome) = apply_lines(alloc, &mut Counted::new(input.as_bytes()), &mut w, edits);
     assert_eq!(rt; outcome, Err(ApplyFault::StoreFailed));
     Ok(())
 }
@@ -187,14 +188,14 @@ fn a_store_that_failed_is_told_though_the_writer_fails(rt: HostRuntime) -> Resul
 fn replies_are_sent_before_the_next_read(rt: HostRuntime) -> Result<(), Fail> {
     let alloc = rt.alloc();
     let log = RefCell::new(Vec::new(alloc));
-    let mut r = Terminal {
+    let mut r = Counted::new(Terminal {
         bytes: b"[]\n{}\n",
         log: &log,
-    };
-    let mut w = Terminal {
+    });
+    let mut w = Counted::new(Terminal {
         bytes: b"",
         log: &log,
-    };
+    });
     let (_flags, outcome) = apply_lines(alloc, &mut r, &mut w, flags(alloc));
     assert_eq!(rt; outcome, Ok(true));
     let log = log.into_inner();

@@ -112,10 +112,10 @@ returns-in_err-told-clause-course g c =
     (λ x q. IfSome left (λ input. IsStoppedBy start input (g.E.Edits.state x) q))
     c.args.edits.now c.loop-exchange.edits c.finish.new.edits c.in_err-told.field-0.0
     (λ x q asked. IfSome-each left (λ input. IsStoppedBy start input (g.E.Edits.state x) q) (λ input is.
-        let i = c.loop-exchange.invariant.going input is in
-        let whole = going-ended start input c.read.new.buf c.in_ok-count.count (g.R.Read.remaining c.loop-exchange.r.inner) (g.R.Read.remaining c.read.new.self.inner) (g.W.Write.contents c.args.w.now.inner) (g.W.Write.contents c.loop-exchange.w.inner) c.loop-exchange.exchange s i
-        c.in_ok-count.ensures.bytes.0 c.if-count-eq0.true (c.in_ok-count.ensures.bytes.1 c.if-count-eq0.true (omega arith)) in
-        subst (λ seen. IsStoppedBy start seen (g.E.Edits.state x) q) whole (asked start i.seen i.sent i.so_far)))
+    let i = c.loop-exchange.invariant.going input is in
+    let whole = going-ended start input c.read.new.buf c.in_ok-count.count (g.R.Read.remaining c.loop-exchange.r.inner) (g.R.Read.remaining c.read.new.self.inner) (g.W.Write.contents c.args.w.now.inner) (g.W.Write.contents c.loop-exchange.w.inner) c.loop-exchange.exchange s i
+    c.in_ok-count.ensures.bytes.0 c.if-count-eq0.true (c.in_ok-count.ensures.bytes.1 c.if-count-eq0.true (omega arith)) in
+    subst (λ seen. IsStoppedBy start seen (g.E.Edits.state x) q) whole (asked start i.seen i.sent i.so_far)))
     c.loop-exchange.invariant.led c.in_err-told.ensures.course)
 
 pub returns-in_err-taken-clause-course : goal.returns-in_err-taken-clause-course
@@ -130,7 +130,7 @@ returns-in_err-taken-clause-course g c =
     (λ x q. IfSome left (λ input. IsStoppedBy start input (g.E.Edits.state x) q))
     c.args.edits.now c.loop-exchange.edits c.take-taken.new.edits c.in_err-taken.field-0.0
     (λ x q asked. IfSome-each left (λ input. IsStoppedBy start input (g.E.Edits.state x) q) (λ input is.
-        let i = c.loop-exchange.invariant.going input is in
-        going-stopped start input bytes (g.R.Read.remaining c.loop-exchange.r.inner) (g.R.Read.remaining c.read.new.self.inner) (g.W.Write.contents c.args.w.now.inner) (g.W.Write.contents c.loop-exchange.w.inner)
-        c.loop-exchange.exchange s (g.E.Edits.state x) q i c.in_ok-count.ensures.bytes.0 (asked start i.seen i.sent i.so_far)))
+    let i = c.loop-exchange.invariant.going input is in
+    going-stopped start input bytes (g.R.Read.remaining c.loop-exchange.r.inner) (g.R.Read.remaining c.read.new.self.inner) (g.W.Write.contents c.args.w.now.inner) (g.W.Write.contents c.loop-exchange.w.inner)
+    c.loop-exchange.exchange s (g.E.Edits.state x) q i c.in_ok-count.ensures.bytes.0 (asked start i.seen i.sent i.so_far)))
     c.loop-exchange.invariant.led c.in_err-taken.ensures.course)

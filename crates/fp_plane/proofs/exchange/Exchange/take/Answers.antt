@@ -94,11 +94,11 @@ returns-in_err-end_line-clause-course g c =
     (λ x q. (start : State) (seen sent : List ℕ) → IsSoFar start seen sent c.args.self.now (g.E.Edits.state c.args.edits.now) → IsStoppedWithin start (seen ++ c.args.bytes.now) (g.E.Edits.state x) q)
     c.args.edits.now c.loop-at.edits c.end_line.new.edits c.in_err-end_line.field-0.0
     (λ x q asked start seen sent h.
-        let inv = c.loop-at.invariant.answered start seen sent h in
-        let so_far = so_far-more start inv.0 sent (take at rest) c.loop-at.self c.extend.new.self s inv.2 found.one
-        (c.in_ok-extend.ensures.grown inv.2.reached.line inv.2.kept) c.extend.ensures.same_replies c.extend.ensures.same_told in
-        stopped-line start (inv.0 ++ take at rest) (drop (at + 1) rest) (seen ++ c.args.bytes.now) s (g.E.Edits.state x) q (regroup inv.0 rest (seen ++ c.args.bytes.now) at found inv.1) so_far.reached
-        (asked so_far.reached.line so_far.kept))
+    let inv = c.loop-at.invariant.answered start seen sent h in
+    let so_far = so_far-more start inv.0 sent (take at rest) c.loop-at.self c.extend.new.self s inv.2 found.one
+    (c.in_ok-extend.ensures.grown inv.2.reached.line inv.2.kept) c.extend.ensures.same_replies c.extend.ensures.same_told in
+    stopped-line start (inv.0 ++ take at rest) (drop (at + 1) rest) (seen ++ c.args.bytes.now) s (g.E.Edits.state x) q (regroup inv.0 rest (seen ++ c.args.bytes.now) at found inv.1) so_far.reached
+    (asked so_far.reached.line so_far.kept))
     c.loop-at.invariant.led c.in_err-end_line.ensures.course)
 
 pub returns-in_err-extend-2-clause-course : goal.returns-in_err-extend-2-clause-course
