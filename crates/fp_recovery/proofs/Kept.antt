@@ -1,15 +1,16 @@
 -- A set that is kept: its disk stands for it, and so after one batch more.
-use Rattle.std.proofs.Common.{◌≡◌, ◌≤◌, ◌+◌, ◌/◌, ℕ, List, [], ◌∷◌, ◌++◌, length, refl, sym, ap, subst, ◌∙◌, inl, inr, arith, append_assoc, lit<, lit≤}
-use Rattle.std.specs.Prelude.{slice_index, slice_range}
+use Rattle.std.proofs.Common.{◌≡◌, ◌⊎◌, ◌<◌, ◌≤◌, ◌+◌, ◌/◌, ℕ, List, [], ◌∷◌, ◌++◌, length, refl, sym, ap, subst, ◌∙◌, inl, inr, arith, append_assoc, length-append, lit<, lit≤}
+use Rattle.std.specs.Prelude.{◌↔◌, Bool, true, false, IsTrue, slice_index, slice_range}
 use Rattle.std.proofs.lemmas.List.{append-nil, ext_get_or}
 use Rattle.std.specs.FinMap as fin
 use Rattle.std.specs.List.Sorted.{IsStrictlySortedBy}
 use Rattle.fp_disk.specs.Outcomes.{Unsynced, IsOutcome, settled}
+use Rattle.fp_edit.specs.Edits.{Change}
 use Rattle.fp_edit.specs.Flags.{State}
 use Rattle.fp_journal.specs.Holds.{Holds, IsFirm}
 use Rattle.fp_journal.specs.Chain.{Ends, spell}
 use Rattle.fp_journal.specs.Reading.{IsChain, Reads}
-use Rattle.fp_journal.specs.State.{AllShort, HasChain, JournalState, Outside}
+use Rattle.fp_journal.specs.State.{AllShort, HasChain, JournalState, Outside, room}
 use Rattle.fp_journal.specs.declared.slot.Slot.{Slot}
 use Rattle.fp_journal.proofs.Holds.{holds_front, holds_back, byte_held, holds_byte, held_range, range_held, firm_outcome, firm_settled}
 use Rattle.fp_journal.proofs.Links.{reads_more}
@@ -23,8 +24,9 @@ use Rattle.fp_record.specs.Spelling.{spelling_of_image}
 use Rattle.fp_recovery.specs.Stands.{IsImageOf, TakesBatch, StandsFor}
 use Rattle.fp_recovery.specs.Refusals.{BeginsWith}
 use Rattle.fp_recovery.specs.Durable.{IsKept, IsSure}
+use Rattle.fp_recovery.specs.Room.{batch_len, HasNoRoom, IsFullFor}
 use Rattle.fp_recovery.proofs.Restored.{image_of, entries-empty}
-use Rattle.fp_recovery.proofs.Agreed.{Agrees, agrees_range, header_agreed, slot_agreed, holds_agreed, chain_behind}
+use Rattle.fp_recovery.proofs.Agreed.{Agrees, agrees_range, header_agreed, slot_agreed, holds_agreed, chain_behind, spell-append}
 
 module _ {D : Type 0} (u : Unsynced) (set : State) (journal : JournalState D) (k : IsKept u set journal) where
   abbrev Bytes : List ℕ
@@ -54,6 +56,20 @@ module _ {D : Type 0} (u : Unsynced) (set : State) (journal : JournalState D) (k
             (holds_agreed b c 64 (64 + length front) (86 + length k.image) (spell k.opened) f (omega arith) (omega (arith, place)) k.opened_there) k.short;
         leads = k.leads;
       }
+
+  -- and where the journal has no room for a change, nor have the bytes
+  pub kept_full : (change : Change) → HasNoRoom journal change → (c : List ℕ) → IsOutcome u c → HasChain journal.slot journal.front journal.sealed c → IsFullFor c set change
+  unfolding kept_stands
+  kept_full change none c o h = record { stands = kept_stands c o h; full = behind none }
+    where
+      behind : HasNoRoom journal change → ((first_slot k.size).most < batch_len change) ⊎ ((first_slot k.size).stop < 86 + length k.image + length (spell (k.opened ++ journal.sealed)) + (6 + batch_len change))
+      behind (inl long) = inl (subst (λ (s : Slot). s.most < batch_len change) k.slot_is long)
+      behind (inr narrow) =
+          let start : journal.slot.start ≡ 64 = ap (λ (s : Slot). s.start) k.slot_is in
+          let stop : journal.slot.stop ≡ 64 + k.size = ap (λ (s : Slot). s.stop) k.slot_is in
+          let place = k.front_ends in let text = length-append journal.front (spell journal.sealed) in
+          let all : length (spell (k.opened ++ journal.sealed)) ≡ length (spell k.opened) + length (spell journal.sealed) = ap length (spell-append k.opened journal.sealed) ∙ length-append (spell k.opened) (spell journal.sealed) in
+          inr (omega (arith, narrow, start, stop, place, text, all))
 
   -- one batch more was sealed
   pub kept_more : (v : Unsynced) (t : State) (later : JournalState D) (b : List ℕ) → TakesBatch set b t → length b ≤ journal.slot.most → later.slot ≡ journal.slot → later.front ≡ journal.front → later.sealed ≡ journal.sealed ++ b ∷ []
@@ -85,6 +101,14 @@ module _ {D : Type 0} (u : Unsynced) (set : State) (journal : JournalState D) (k
         header_firm = firm 0 (slice_range k.bytes 0 64) (inl (omega (arith, size_of, start))) k.header_firm;
         gate_firm = firm (64 + k.size) (slice_index k.bytes (64 + k.size) ∷ []) (inr (omega (arith, stop))) k.gate_firm;
       }
+
+-- ---- room
+pub has_room : {D : Type 0} (journal : JournalState D) (change : Change) (b : Bool) → (IsTrue b ↔ HasNoRoom journal change) → b ≡ false → (batch_len change ≤ journal.slot.most) × (6 + batch_len change ≤ room journal)
+has_room journal change b says not =
+    let never : HasNoRoom journal change → ⊥ = λ none. let both : false ≡ true = sym not ∙ says.1 none in absurd cc in
+    let short : (journal.slot.most < batch_len change) → ⊥ = λ lt. never (inl lt) in
+    let wide : (room journal < 6 + batch_len change) → ⊥ = λ lt. never (inr lt) in
+    (omega (arith, short), omega (arith, wide))
 
 -- ---- at first
 module _ (c : List ℕ) (before set : State) (slot : Slot) (front : List ℕ) (f : FoundDisk BeginsWith TakesBatch c before set slot front) where

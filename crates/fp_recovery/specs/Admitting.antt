@@ -1,12 +1,12 @@
 -- What becomes of an edit that isn't answered with its revision.
-use Rattle.std.specs.Prelude.{◌≡◌, ◌≢◌, ◌⊎◌, ◌<◌, ◌+◌, ℕ, length}
-use Rattle.fp_edit.specs.Edits.{Change, proposal_of}
-use Rattle.fp_edit.specs.Admits.{Admits, accepted, IsRefusedOrWanting}
+use Rattle.std.specs.Prelude.{◌≡◌, ◌≢◌, ◌⊎◌, ◌<◌, ℕ, None}
+use Rattle.fp_disk.specs.Outcomes.{Unsynced}
+use Rattle.fp_edit.specs.Edits.{Change, Proposal, proposal_of}
+use Rattle.fp_edit.specs.Admits.{Admits, accepted, refusal, IsRefusedOrWanting}
 use Rattle.fp_edit.specs.declared.edit.Edit.{Edit}
-use Rattle.fp_journal.specs.State.{JournalState, room}
 use Rattle.fp_journal.specs.declared.journal.Phase.TheVariants.{Idle}
-use Rattle.fp_record.specs.Spelling.{spelling_of_change}
 use Rattle.fp_recovery.specs.Durable.{Durable}
+use Rattle.fp_recovery.specs.Room.{HasNoRoom, IsFull}
 use Rattle.fp_recovery.specs.declared.fault.AdmitFault.{AdmitFault}
 use Rattle.fp_recovery.specs.declared.fault.AdmitFault.TheVariants.{Refused, StoreFailed}
 
@@ -15,11 +15,18 @@ abbrev pub IsDeclined : {D : Type 0} → Durable D → Durable D → Edit → Ad
 IsDeclined old new edit (Refused fault given) = (new ≡ old) × (given ≡ edit) × IsRefusedOrWanting old.set (proposal_of edit) fault
 IsDeclined old new edit StoreFailed = (new.set ≡ old.set) ⊎ Admits old.set (proposal_of edit) (accepted new.set)
 
--- a batch of this one change has no room
-abbrev pub HasNoRoom : {D : Type 0} → JournalState D → Change → Type 0
-HasNoRoom journal change = (journal.slot.most < 10 + length (spelling_of_change change)) ⊎ (room journal < 16 + length (spelling_of_change change))
+-- there is no room for the change: the journal says so, and on an honest disk the bytes that any crash leaves; nothing was done
+pub record WantsRoom {D : Type 0} (honest : D → Type 0) (unsynced : D → Unsynced) (old new : Durable D) (change : Change) : Type 0 where
+  pub same : new ≡ old
+  pub narrow : HasNoRoom old.journal change
+  pub full : honest old.journal.disk → IsFull (unsynced old.journal.disk) old.set change
 
--- the store fails where it had failed before, where there is no room, which changes nothing, and where the disk fails
-abbrev pub CanDecline : {D : Type 0} → (D → ℕ) → Durable D → Durable D → Change → AdmitFault → Type 0
-CanDecline faults old new change (Refused fault edit) = Unit {0}
-CanDecline faults old new change StoreFailed = (old.journal.phase ≢ Idle) ⊎ (((new ≡ old) × HasNoRoom old.journal change) ⊎ (faults old.journal.disk < faults new.journal.disk))
+-- the set admits the edit, but there is no room for it, or the disk fails
+pub record FailsAt {D : Type 0} (honest : D → Type 0) (unsynced : D → Unsynced) (faults : D → ℕ) (old new : Durable D) (edit : Proposal) : Type 0 where
+  pub admitted : refusal old.set edit ≡ None
+  pub cause : WantsRoom honest unsynced old new edit.change ⊎ (faults old.journal.disk < faults new.journal.disk)
+
+-- the store fails where it had failed before, or at this edit
+abbrev pub CanDecline : {D : Type 0} → (D → Type 0) → (D → Unsynced) → (D → ℕ) → Durable D → Durable D → Proposal → AdmitFault → Type 0
+CanDecline honest unsynced faults old new edit (Refused fault given) = Unit {0}
+CanDecline honest unsynced faults old new edit StoreFailed = (old.journal.phase ≢ Idle) ⊎ FailsAt honest unsynced faults old new edit

@@ -10,7 +10,6 @@ ghost use Rattle.fp_journal.specs.declared.journal.Phase.TheVariants.{Idle};
 ghost use Rattle.fp_layout.specs.NewDisk.{IsNewDisk};
 ghost use Rattle.fp_layout.specs.declared.fault.OpenFault.TheVariants.{Device};
 ghost use Rattle.fp_layout.specs.declared.format.CreateFault.TheVariants as make;
-ghost use Rattle.fp_record.specs.Edits.{change_of};
 ghost use Rattle.fp_recovery.specs.Admitting.{IsDeclined, CanDecline};
 ghost use Rattle.fp_recovery.specs.Durable.{IsSure};
 ghost use Rattle.fp_recovery.specs.Refusals.{RefusesBytes, IsUnlessWanting};
@@ -18,12 +17,11 @@ ghost use Rattle.fp_recovery.specs.Stands.{StandsFor};
 
 use crate::fault::AdmitFault;
 use crate::restoring::Restoring;
-use crate::seal::{framed_edit, seal};
+use crate::seal::{framed_edit, lacks_room, seal};
 use fp_disk::Disk;
 use fp_edit::{Edit, EditFault, FlagSet};
 use fp_journal::{Journal, Phase};
 use fp_layout::{CreateFault, OpenFault, SlotSize};
-use fp_record::spelled_len;
 use std::alloc::Global;
 use std::marker::Model;
 
@@ -133,7 +131,7 @@ impl<D: Disk> DurableSet<D> {
         ensures calm { OnOk result (D.faults self.new.journal.disk ≡ D.faults self.old.journal.disk) }
 
         ensures declined { IfErr result (IsDeclined self.old self.new edit) }
-        ensures cause { IfErr result (CanDecline D.faults self.old self.new (change_of edit)) }
+        ensures cause { IfErr result (CanDecline D.honest D.unsynced D.faults self.old self.new (proposal_of edit)) }
         ensures honest { (D.honest self.old.journal.disk → D.honest self.new.journal.disk) × (D.honest self.new.journal.disk → D.honest self.old.journal.disk) }
     {
         let Phase::Idle = self.journal.phase() else {
@@ -142,8 +140,7 @@ impl<D: Disk> DurableSet<D> {
         if let Some(fault) = self.set.judge(&edit) {
             return Err(AdmitFault::Refused { fault, edit });
         }
-        let len = 10 + spelled_len(&edit) as u64;
-        if len > u64::from(self.journal.slot().most) || len + 6 > self.journal.room() {
+        if lacks_room(&self.journal, &edit) {
             return Err(AdmitFault::StoreFailed);
         }
         let Ok(framed) = framed_edit(self.alloc, self.set.revision() + 1, &edit) else {

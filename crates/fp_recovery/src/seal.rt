@@ -1,6 +1,6 @@
 //! One edit as a batch of its own.
 
-ghost use Rattle.std.specs.Prelude.{◌≡◌, ◌≢◌, ◌<◌, ◌≤◌, ◌+◌, ◌^◌, ◌∷◌, ◌++◌, [], List, ℕ, length, IfOk, OnOk, OnErr, IsErr};
+ghost use Rattle.std.specs.Prelude.{◌≡◌, ◌≢◌, ◌<◌, ◌≤◌, ◌+◌, ◌^◌, ◌∷◌, ◌++◌, ◌↔◌, [], List, ℕ, length, IfOk, OnOk, OnErr, IsErr, IsTrue};
 ghost use Rattle.fp_disk.specs.Outcomes.{Answers, IsOutcome};
 ghost use Rattle.fp_journal.specs.State.{HasChain, SameSlot, room};
 ghost use Rattle.fp_journal.specs.declared.journal.Phase.TheVariants.{Idle};
@@ -8,11 +8,12 @@ ghost use Rattle.fp_record.specs.Edits.{change_of};
 ghost use Rattle.fp_record.specs.Lawful.{IsBatch};
 ghost use Rattle.fp_record.specs.Spelling.{spelling_of_batch, spelling_of_change};
 ghost use Rattle.fp_recovery.specs.Durable.{KeepsOutside, single};
+ghost use Rattle.fp_recovery.specs.Room.{HasNoRoom};
 
 use fp_disk::{Disk, DiskFault};
 use fp_edit::{Edit, Expect};
 use fp_journal::{Framed, Journal};
-use fp_record::Batch;
+use fp_record::{Batch, spelled_len};
 use std::alloc::{AllocError, Global};
 
 // An edit with the same change.
@@ -44,6 +45,15 @@ pub fn framed_edit(alloc: Global, first: u64, edit: &Edit) -> Result<Framed, All
     edits.push(copy_of(edit)?)?;
     let body = Batch::new(first, edits).encode(alloc)?;
     Framed::new(alloc, &body)
+}
+
+// Whether the journal has no room for a batch of this edit alone, which is a small one whatever the edit.
+pub fn lacks_room<D: Disk>(journal: &Journal<D>, edit: &Edit) -> bool
+    ensures room { IsTrue result ↔ HasNoRoom journal.now (change_of edit.now) }
+    ensures small { length (spelling_of_change (change_of edit.now)) ≤ 16647 }
+{
+    let len = 10 + spelled_len(edit) as u64;
+    len > u64::from(journal.slot().most) || len + 6 > journal.room()
 }
 
 // Writes a batch, and makes sure of it before its gate opens and after.

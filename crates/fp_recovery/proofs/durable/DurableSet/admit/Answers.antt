@@ -1,14 +1,16 @@
-use Rattle.std.proofs.Common.{◌≡◌, ◌+◌, ◌≤◌, ◌++◌, ◌∷◌, [], ℕ, List, length, refl, sym, ap, ◌∙◌, arith}
+use Rattle.std.proofs.Common.{◌≡◌, ◌+◌, ◌≤◌, ◌++◌, ◌∷◌, [], ℕ, List, length, refl, sym, ap, ◌∙◌, None, inl, inr, subst, arith}
 use Rattle.fp_edit.specs.Edits.{proposal_of}
+use Rattle.fp_edit.specs.Admits.{refusal}
 use Rattle.fp_disk.specs.Outcomes.{IsOutcome}
-use Rattle.fp_journal.specs.State.{HasChain}
-use Rattle.fp_journal.specs.declared.slot.Slot.{Slot}
+use Rattle.fp_journal.specs.State.{Claims, HasChain}
+use Rattle.fp_journal.specs.declared.journal.Phase.{Phase}
 use Rattle.fp_journal.specs.declared.journal.Phase.TheVariants.{Idle}
 use Rattle.fp_record.specs.Edits.{change_of}
 use Rattle.fp_recovery.specs.Durable.{IsKept, KeepsOutside, single}
+use Rattle.fp_recovery.specs.Room.{HasNoRoom}
 use Rattle.fp_recovery.specs.Stands.{TakesBatch}
 use Rattle.fp_recovery.proofs.Cases.{ok_by, ok_known}
-use Rattle.fp_recovery.proofs.Kept.{kept_more, kept_stands}
+use Rattle.fp_recovery.proofs.Kept.{has_room, kept_full, kept_more, kept_stands}
 use Rattle.fp_recovery.proofs.Single.{length_single, takes_single}
 use Rattle.fp_recovery.proofs.durable.DurableSet.admit.Goals.{in-Ok-seal, in-Err-seal}
 use Rattle.fp_recovery.proofs.durable.DurableSet.admit.Goals as goal
@@ -16,22 +18,22 @@ use Rattle.fp_recovery.proofs.durable.DurableSet.admit.Goals as goal
 pub seal-requires-clause-short : goal.seal-requires-clause-short
 seal-requires-clause-short g c =
     let x = change_of c.args.edit in let len = ap length c.in-Ok.ensures.spelled ∙ length_single (single (c.revision.result + 1) x) x refl in
-    let fits = c.if-len-from.false in let most = c.from.ensures in let slot = ap (λ (s : Slot). s.most) c.slot.ensures.slot in let size = c.spelled_len.ensures.len in
-    omega (arith, len, fits, most, slot, size)
+    let fits = (has_room c.self.inside.journal x (c.lacks_room.result) c.lacks_room.ensures.room c.if-lacks_room.false).0 in
+    omega (arith, len, fits)
 
 pub seal-requires-clause-room : goal.seal-requires-clause-room
 seal-requires-clause-room g c =
     let x = change_of c.args.edit in let len = ap length c.in-Ok.ensures.spelled ∙ length_single (single (c.revision.result + 1) x) x refl in
-    let fits = c.if-len-room.false in let left = c.room.ensures in let size = c.spelled_len.ensures.len in
-    omega (arith, len, fits, left, size)
+    let fits = (has_room c.self.inside.journal x (c.lacks_room.result) c.lacks_room.ensures.room c.if-lacks_room.false).1 in
+    omega (arith, len, fits)
 
 pub invariant_of-self-2 : goal.invariant_of-self-2
 invariant_of-self-2 g c = λ h idle.
     let D = g.D.Disk in let s = c.self.inside.set in let j = c.self.inside.journal in let e = c.seal.ensures in let new = c.seal.new.journal in let r = c.seal.result in
     let h0 = e.honest.1 h in let was : j.phase ≡ Idle = sym c.phase.ensures.phase ∙ c.in-Idle.is in
     let x = change_of c.args.edit in let len = ap length c.in-Ok.ensures.spelled ∙ length_single (single (c.revision.result + 1) x) x refl in
-    let fits = c.if-len-from.false in let most = c.from.ensures in let slot = ap (λ (z : Slot). z.most) c.slot.ensures.slot in let size = c.spelled_len.ensures.len in
-    let short : length c.in-Ok.framed ≤ j.slot.most = omega (arith, len, fits, most, slot, size) in
+    let fits = (has_room j x (c.lacks_room.result) c.lacks_room.ensures.room c.if-lacks_room.false).0 in
+    let short : length c.in-Ok.framed ≤ j.slot.most = omega (arith, len, fits) in
     let sealed : new.sealed ≡ j.sealed ++ c.in-Ok.framed ∷ [] = ok_by r (new.sealed ≡ j.sealed ++ c.in-Ok.framed ∷ []) (new.phase ≡ Idle) e.phase.1 idle e.sealed in
     let outside : KeepsOutside j.slot (D.unsynced j.disk) (D.unsynced new.disk) = ok_by r (KeepsOutside j.slot (D.unsynced j.disk) (D.unsynced new.disk)) (new.phase ≡ Idle) e.phase.1 idle (e.outside h0) in
     let takes : TakesBatch s c.in-Ok.framed c.admit.new.self = takes_single s c.admit.new.self (proposal_of c.args.edit) (c.revision.result + 1) c.in-Ok.framed c.in-Ok-admit.ensures.admitted (ap (λ (n : ℕ). n + 1) c.revision.ensures.revision) c.in-Ok.ensures.lawful c.in-Ok.ensures.spelled in
@@ -42,8 +44,8 @@ returns-clause-sure g c = λ h.
     let D = g.D.Disk in let s = c.self.inside.set in let j = c.self.inside.journal in let e = c.seal.ensures in let new = c.seal.new.journal in let r = c.seal.result in
     let h0 = e.honest.1 h in let was : j.phase ≡ Idle = sym c.phase.ensures.phase ∙ c.in-Idle.is in
     let x = change_of c.args.edit in let len = ap length c.in-Ok.ensures.spelled ∙ length_single (single (c.revision.result + 1) x) x refl in
-    let fits = c.if-len-from.false in let most = c.from.ensures in let slot = ap (λ (z : Slot). z.most) c.slot.ensures.slot in let size = c.spelled_len.ensures.len in
-    let short : length c.in-Ok.framed ≤ j.slot.most = omega (arith, len, fits, most, slot, size) in
+    let fits = (has_room j x (c.lacks_room.result) c.lacks_room.ensures.room c.if-lacks_room.false).0 in
+    let short : length c.in-Ok.framed ≤ j.slot.most = omega (arith, len, fits) in
     let takes : TakesBatch s c.in-Ok.framed c.admit.new.self = takes_single s c.admit.new.self (proposal_of c.args.edit) (c.revision.result + 1) c.in-Ok.framed c.in-Ok-admit.ensures.admitted (ap (λ (n : ℕ). n + 1) c.revision.ensures.revision) c.in-Ok.ensures.lawful c.in-Ok.ensures.spelled in
     elim c.match-seal.branch [
       | in-Ok-seal w ↦
@@ -55,3 +57,19 @@ returns-clause-sure g c = λ h.
           rw w.result-is (λ o left. kept_stands (D.unsynced new.disk) c.admit.new.self new kept o left (chain o left))
       | in-Err-seal w ↦ rw w.result-is tt
     ]
+
+pub returns-then-lacks_room-clause-cause : goal.returns-then-lacks_room-clause-cause
+returns-then-lacks_room-clause-cause g c =
+    let D = g.D.Disk in let s = c.self.inside.set in let j = c.self.inside.journal in let x = change_of c.args.edit in
+    let was : j.phase ≡ Idle = sym c.phase.ensures.phase ∙ c.in-Idle.is in
+    let admitted : refusal s (proposal_of c.args.edit) ≡ None = sym c.judge.ensures ∙ c.in_default-judge.is in
+    let narrow : HasNoRoom j x = c.lacks_room.ensures.room.0 c.if-lacks_room.true in
+    let chain : D.honest j.disk → (o : List ℕ) → IsOutcome (D.unsynced j.disk) o → HasChain j.slot j.front j.sealed o = λ h o left. subst (λ (p : Phase). Claims p j.slot j.front j.sealed j.staged o) c.in-Idle.is (c.phase.ensures.outcomes h o left) in
+    rw (← c.self.view_is) (inr (record {
+      admitted = admitted;
+      cause = inl (record {
+        same = refl;
+        narrow = narrow;
+        full = λ h o left. kept_full (D.unsynced j.disk) s j (c.self.invariant h was) x narrow o left (chain h o left);
+      });
+    }))
