@@ -1,4 +1,4 @@
-use Rattle.std.proofs.Common.{◌≡◌, ◌+◌, ◌≤◌, ◌++◌, ◌∷◌, [], ℕ, List, length, refl, sym, ap, ◌∙◌, None, inl, inr, subst, arith}
+use Rattle.std.proofs.Common.{rules, ◌≡◌, ◌+◌, ◌≤◌, ◌++◌, ◌∷◌, [], ℕ, List, length, refl, sym, ap, ◌∙◌, None, inl, inr, subst, arith}
 use Rattle.fp_edit.specs.Edits.{proposal_of}
 use Rattle.fp_edit.specs.Admits.{refusal}
 use Rattle.fp_disk.specs.Outcomes.{IsOutcome}
@@ -62,7 +62,7 @@ pub returns-then-lacks_room-clause-cause : goal.returns-then-lacks_room-clause-c
 returns-then-lacks_room-clause-cause g c =
     let D = g.D.Disk in let s = c.self.inside.set in let j = c.self.inside.journal in let x = change_of c.args.edit in
     let was : j.phase ≡ Idle = sym c.phase.ensures.phase ∙ c.in-Idle.is in
-    let admitted : refusal s (proposal_of c.args.edit) ≡ None = sym c.judge.ensures ∙ c.in_default-judge.is in
+    let admitted : refusal s (proposal_of c.args.edit) ≡ None = search rules in
     let narrow : HasNoRoom j x = c.lacks_room.ensures.room.0 c.if-lacks_room.true in
     let chain : D.honest j.disk → (o : List ℕ) → IsOutcome (D.unsynced j.disk) o → HasChain j.slot j.front j.sealed o = λ h o left. subst (λ (p : Phase). Claims p j.slot j.front j.sealed j.staged o) c.in-Idle.is (c.phase.ensures.outcomes h o left) in
     rw (← c.self.view_is) (inr (record {
