@@ -2,6 +2,7 @@
 #![tactic(auto)]
 
 use fp_commands::command;
+use fp_streams::Counted;
 use std::alloc::AllocGlobal;
 use std::env;
 use std::process::ExitCode;
@@ -21,8 +22,8 @@ fn main(rt: HostRuntime) -> ExitCode {
         Some(words) => words.as_slice(),
         None => &[],
     };
-    let mut input = rt.reader();
-    let mut output = rt.stdout();
+    let mut input = Counted::new(rt.reader());
+    let mut output = Counted::new(rt.stdout());
     let mut errors = rt.stderr();
     ExitCode::from(command(&rt, words, &mut input, &mut output, &mut errors))
 }

@@ -1,66 +1,69 @@
 -- What a course of edits leaves of a set on a disk.
-use Rattle.std.proofs.Common.{◌≡◌, ◌≢◌, ◌⊎◌, ◌<◌, ◌≤◌, ◌+◌, ℕ, List, Ok, Err, Result, Bool, true, refl, sym, ap, subst, inl, inr, ◌∙◌, arith}
+use Rattle.std.proofs.Common.{◌≡◌, ◌≢◌, ◌⊎◌, ◌<◌, ℕ, List, Option, IfSome, Ok, Err, Result, refl, sym, ap, subst, inl, inr, ◌∙◌, arith}
 use Rattle.fp_disk.specs.Outcomes.{Unsynced}
-use Rattle.fp_journal.specs.State.{JournalState}
-use Rattle.fp_journal.specs.declared.journal.Phase.{Phase}
 use Rattle.fp_journal.specs.declared.journal.Phase.TheVariants.{Idle}
+use Rattle.fp_edit.specs.Edits.{Proposal}
 use Rattle.fp_edit.specs.Flags.{State}
 use Rattle.fp_plane.specs.Course.{Course}
 use Rattle.fp_plane.specs.declared.fault.ApplyFault.{ApplyFault}
 use Rattle.fp_plane.specs.declared.fault.ApplyFault.TheVariants.{Device, StoreFailed, Memory}
-use Rattle.fp_recovery.specs.Admitting.{HasNoRoom}
-use Rattle.fp_recovery.specs.Durable.{Durable, IsSure}
-use Rattle.fp_commands.specs.Kept.{Keeps, Fails, GoesOn}
+use Rattle.fp_recovery.specs.Durable.{Durable}
+use Rattle.fp_recovery.specs.Room.{IsFull}
+use Rattle.fp_recovery.specs.Stands.{StandsFor}
+use Rattle.fp_commands.specs.Kept.{Keeps, Fails}
 use Rattle.fp_commands.specs.Disks.{LacksRoom}
 use Rattle.fp_commands.specs.Faults.{of_run}
-use Rattle.fp_commands.specs.declared.fault.CommandFault.{CommandFault}
 use Rattle.fp_commands.specs.declared.fault.CommandFault.TheVariants as command
 
--- how sets lead to one another, and how they fail
-abbrev pub CourseOf : {S A D : Type 0} → (D → Type 0) → (D → ℕ) → (S → Durable D) → S → S → Result A ApplyFault → Type 0
-CourseOf honest faults get a b r = Course (λ x y. Keeps honest faults (get x) (get y)) (λ x p y. Fails honest faults (get x) p (get y)) a b r
+module _ {S D : Type 0} (honest : D → Type 0) (unsynced : D → Unsynced) (faults : D → ℕ) (asks : S → Proposal → Type 0) (get : S → Durable D) (a b : S) where
+  -- how sets lead to one another, and how they fail
+  abbrev pub CourseOf : {A : Type 0} → Result A ApplyFault → Type 0
+  CourseOf r = Course (λ x y. Keeps honest faults (get x) (get y)) (λ x p y. Fails honest unsynced faults (get x) p (get y)) asks a b r
 
-pub course-honest : {S A D : Type 0} (honest : D → Type 0) (faults : D → ℕ) (get : S → Durable D) (a b : S) (r : Result A ApplyFault) → CourseOf honest faults get a b r
-    → (honest (get a).journal.disk → honest (get b).journal.disk) × (honest (get b).journal.disk → honest (get a).journal.disk)
-course-honest honest faults get a b (Ok told) k = (k.disk.honest_then, k.disk.honest_before)
-course-honest honest faults get a b (Err Device) k = (k.disk.honest_then, k.disk.honest_before)
-course-honest honest faults get a b (Err Memory) k = (k.disk.honest_then, k.disk.honest_before)
-course-honest honest faults get a b (Err StoreFailed) f = (λ h. f.failed.honest_then (f.led.disk.honest_then h), λ h. f.led.disk.honest_before (f.failed.honest_before h))
+  pub course-honest : {A : Type 0} (r : Result A ApplyFault) → CourseOf r → (honest (get a).journal.disk → honest (get b).journal.disk) × (honest (get b).journal.disk → honest (get a).journal.disk)
+  course-honest (Ok told) k = (k.honest_then, k.honest_before)
+  course-honest (Err Device) k = (k.honest_then, k.honest_before)
+  course-honest (Err Memory) k = (k.honest_then, k.honest_before)
+  course-honest (Err StoreFailed) f = (λ h. f.failed.honest_then (f.led.honest_then h), λ h. f.led.honest_before (f.failed.honest_before h))
 
-pub course-goes : {S A D : Type 0} (honest : D → Type 0) (faults : D → ℕ) (get : S → Durable D) (a b : S) (r : Result A ApplyFault) (told : A) → r ≡ Ok told → CourseOf honest faults get a b r
-    → (get a).journal.phase ≡ Idle → (get b).journal.phase ≡ Idle
-course-goes honest faults get a b r told is k idle = let keeps : CourseOf honest faults get a b (Ok told) = subst (λ (o : Result _ ApplyFault). CourseOf honest faults get a b o) is k in keeps.ready idle
+  pub course-goes : {A : Type 0} (r : Result A ApplyFault) (told : A) → r ≡ Ok told → CourseOf r → Keeps honest faults (get a) (get b)
+  course-goes {A} r told is k = subst (λ (o : Result A ApplyFault). CourseOf o) is k
 
--- but where the store failed, it takes edits yet
-pub course-ready : {S D : Type 0} (A : Type 0) (honest : D → Type 0) (faults : D → ℕ) (get : S → Durable D) (a b : S) (f : ApplyFault) → CourseOf {A = A} honest faults get a b (Err f)
-    → of_run f ≢ command.StoreFailed → (get a).journal.phase ≡ Idle → (get b).journal.phase ≡ Idle
-course-ready A honest faults get a b Device k other idle = k.ready idle
-course-ready A honest faults get a b Memory k other idle = k.ready idle
-course-ready A honest faults get a b StoreFailed k other idle = absurd (other refl)
+  -- but where the store failed, it takes edits yet
+  pub course-ready : (A : Type 0) (f : ApplyFault) → CourseOf {A = A} (Err f) → of_run f ≢ command.StoreFailed → (get a).journal.phase ≡ Idle → (get b).journal.phase ≡ Idle
+  course-ready A Device k other idle = k.ready idle
+  course-ready A Memory k other idle = k.ready idle
+  course-ready A StoreFailed k other idle = absurd (other refl)
 
--- where it failed, there was no room, or the disk failed
-pub course-cause : {S D : Type 0} (A : Type 0) (honest : D → Type 0) (unsynced : D → Unsynced) (faults : D → ℕ) (get : S → Durable D) (a b : S) (f : ApplyFault) (disk : D) (start : ℕ) → faults (get a).journal.disk ≡ start
-    → CourseOf {A = A} honest faults get a b (Err f)
-    → of_run f ≡ command.StoreFailed → (get a).journal.phase ≡ Idle → disk ≡ (get b).journal.disk
-    → (honest disk → (get b).journal.phase ≡ Idle → IsSure (unsynced disk) (get b).set)
-    → LacksRoom honest unsynced disk ⊎ (start < faults disk)
-course-cause A honest unsynced faults get a b Device disk start calm k is idle at sure = absurd (cc)
-course-cause A honest unsynced faults get a b Memory disk start calm k is idle at sure = absurd (cc)
-course-cause {S} {D} A honest unsynced faults get a b StoreFailed disk start calm k is idle at sure =
-    let ready : (get k.before).journal.phase ≡ Idle = k.led.ready idle in
-    elim (k.failed.cause ready) [
-      | inl full ↦
-          let still : (get b).journal.phase ≡ Idle = ap (λ (d : Durable D). d.journal.phase) full.0 ∙ ready in
-          inl (record {
-            flags = (get b).set;
-            journal = (get b).journal;
-            change = k.edit.change;
-            over = sym at;
-            sure = λ h. sure h still;
-            full = subst (λ (d : Durable D). HasNoRoom d.journal k.edit.change) (sym full.0) full.1;
-          })
-      | inr more ↦
-          let counted : faults (get a).journal.disk ≤ faults (get k.before).journal.disk = k.led.disk.counted in
-          let here : faults disk ≡ faults (get b).journal.disk = ap faults at in
-          inr (omega (arith, more, counted, here, calm))
-    ]
+  -- where a stream failed, the disk didn't
+  pub course-calm : (A : Type 0) (f : ApplyFault) → CourseOf {A = A} (Err f) → f ≡ Device → faults (get b).journal.disk ≡ faults (get a).journal.disk
+  course-calm A Device k is = k.calm
+  course-calm A Memory k is = k.calm
+  course-calm A StoreFailed k is = absurd (cc)
+
+  -- where it failed, there was no room for the edit that was asked for, or the disk failed
+  pub course-cause : (A : Type 0) (f : ApplyFault) (disk : D) (before : ℕ) (is_honest : Type 0) (bytes : List ℕ) (left : Option (List ℕ)) (Stops : State → List ℕ → State → Proposal → Type 0)
+      → faults (get a).journal.disk ≡ before → CourseOf {A = A} (Err f) → of_run f ≡ command.StoreFailed → (get a).journal.phase ≡ Idle → disk ≡ (get b).journal.disk → (is_honest → honest disk)
+      → (is_honest → StandsFor bytes (get a).set) → ((s : S) (p : Proposal) → asks s p → IfSome left (λ input. Stops (get a).set input (get s).set p))
+      → LacksRoom is_honest bytes (unsynced disk) left Stops ⊎ (before < faults disk)
+  course-cause A Device disk before is_honest bytes left Stops calm k is idle at there stood stops = absurd (cc)
+  course-cause A Memory disk before is_honest bytes left Stops calm k is idle at there stood stops = absurd (cc)
+  course-cause A StoreFailed disk before is_honest bytes left Stops calm k is idle at there stood stops =
+      let failed = k.failed.cause (k.led.ready idle) in
+      elim failed.cause [
+        | inl wants ↦
+            let still : disk ≡ (get k.before).journal.disk = at ∙ ap (λ (d : Durable D). d.journal.disk) wants.same in
+            inl (record {
+              start = (get a).set;
+              flags = (get k.before).set;
+              edit = k.edit;
+              stood = stood;
+              stops = stops k.before k.edit k.asked;
+              admitted = failed.admitted;
+              full = λ h. subst (λ (d : D). IsFull (unsynced d) (get k.before).set k.edit.change) (sym still) (wants.full (subst honest still (there h)));
+            })
+        | inr more ↦
+            let went : faults (get k.before).journal.disk ≡ faults (get a).journal.disk = k.led.calm in
+            let here : faults disk ≡ faults (get b).journal.disk = ap faults at in
+            inr (omega (arith, more, went, here, calm))
+      ]

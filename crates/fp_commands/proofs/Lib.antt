@@ -1,3 +1,4 @@
+pub mod Blamed
 pub mod Courses
 pub mod Imported
 pub mod Told

@@ -1,19 +1,19 @@
 -- What a command over a disk comes to.
-use Rattle.std.specs.Prelude.{◌≡◌, ◌⊎◌, ℕ, List, Bool, true, Option, IfSome, Ok}
+use Rattle.std.specs.Prelude.{◌≡◌, ◌⊎◌, ◌<◌, ℕ, List, Bool, true, Option, None, IfSome, Result, Ok, Err}
 use Rattle.std.specs.Io.KnownBytes.{Appends}
 use Rattle.fp_disk.specs.Outcomes.{Unsynced}
-use Rattle.fp_edit.specs.Edits.{Change}
+use Rattle.fp_edit.specs.Admits.{refusal}
+use Rattle.fp_edit.specs.Edits.{Proposal}
 use Rattle.fp_edit.specs.Flags.{State}
-use Rattle.fp_journal.specs.State.{JournalState}
 use Rattle.fp_layout.specs.declared.fault.OpenFault.TheVariants as opening
 use Rattle.fp_imports.specs.Document as document
-use Rattle.fp_plane.specs.Import.{IsImport, IsLeftByPuts, import_script, after_import}
+use Rattle.fp_plane.specs.Import.{IsImport, IsLeftByPuts, IsStoppedByPuts, import_script, after_import}
 use Rattle.fp_plane.specs.Run.{IsRunOver}
 use Rattle.fp_plane.specs.Script.{script, after_input}
 use Rattle.fp_plane.specs.Verdicts.{show_line}
-use Rattle.fp_recovery.specs.Admitting.{HasNoRoom}
 use Rattle.fp_recovery.specs.Durable.{IsSure}
 use Rattle.fp_recovery.specs.Refusals.{RefusesBytes, StandsForNone}
+use Rattle.fp_recovery.specs.Room.{IsFull}
 use Rattle.fp_recovery.specs.Stands.{StandsFor}
 use Rattle.fp_commands.specs.Documents.{import_of, IsDocumentFault}
 use Rattle.fp_commands.specs.declared.fault.CommandFault.{CommandFault}
@@ -97,11 +97,24 @@ IsLeftByImport start input flags = (flags ≡ start) ⊎ ((puts : List document.
 abbrev pub IsLeftOnDisk : List ℕ → List ℕ → Option (List ℕ) → (State → List ℕ → State → Type 0) → Type 0
 IsLeftOnDisk before after left Leaves = (start : State) → StandsFor before start → IfSome left (λ input. (flags : State) × Leaves start input flags × StandsFor after flags)
 
--- a journal on the disk has no room for some change, and whatever a crash leaves stands for the flags as they were before it
-pub record LacksRoom {D : Type 0} (honest : D → Type 0) (unsynced : D → Unsynced) (disk : D) : Type 0 where
+-- some first puts of the document were answered, and the next one is this edit
+abbrev pub IsStoppedByImport : State → List ℕ → State → Proposal → Type 0
+IsStoppedByImport start input flags edit = (puts : List document.Flag) × (import_of input ≡ Ok puts) × IsStoppedByPuts start puts flags edit
+
+-- the flags that some beginning of the input led to admit the next edit of it, for which whatever a crash leaves of the disk has no room
+pub record LacksRoom (is_honest : Type 0) (bytes : List ℕ) (after : Unsynced) (left : Option (List ℕ)) (Stops : State → List ℕ → State → Proposal → Type 0) : Type 0 where
+  pub start : State
   pub flags : State
-  pub journal : JournalState D
-  pub change : Change
-  pub over : journal.disk ≡ disk
-  pub sure : honest disk → IsSure (unsynced disk) flags
-  pub full : HasNoRoom journal change
+  pub edit : Proposal
+  pub stood : is_honest → StandsFor bytes start
+  pub stops : IfSome left (λ input. Stops start input flags edit)
+  pub admitted : refusal flags edit ≡ None
+  pub full : is_honest → IsFull after flags edit.change
+
+-- ---- what failed
+
+-- by the count of failures of the disk and the streams, before and after: `Device` comes only where one of them failed, and a good end only where none did
+abbrev pub Blames : {A : Type 0} → ℕ → ℕ → Result A CommandFault → Type 0
+Blames before after (Ok x) = after ≡ before
+Blames before after (Err Device) = before < after
+Blames before after (Err f) = Unit {0}

@@ -11,6 +11,8 @@ use Rattle.fp_layout.specs.declared.format.CreateFault.TheVariants as create
 use Rattle.fp_plane.specs.Fault as run_fault
 use Rattle.fp_plane.specs.declared.fault.ApplyFault.{ApplyFault}
 use Rattle.fp_plane.specs.declared.fault.ApplyFault.TheVariants as run
+use Rattle.fp_streams.specs.declared.counted.StreamFault.{StreamFault}
+use Rattle.fp_streams.specs.declared.counted.StreamFault.TheVariants as stream
 use Rattle.fp_commands.specs.declared.fault.CommandFault.{CommandFault}
 use Rattle.fp_commands.specs.declared.fault.CommandFault.TheVariants.{NotEmpty, Unformatted, UnknownVersion, Damaged, Device, StoreFailed, Memory, NotDocument, UnknownEvaluator, EvaluatorsTooDeep, BadKey, Flag}
 
@@ -55,3 +57,7 @@ abbrev pub of_run : ApplyFault → CommandFault
 of_run run.Device = Device
 of_run run.StoreFailed = StoreFailed
 of_run run.Memory = Memory
+
+abbrev pub of_stream : StreamFault → CommandFault
+of_stream stream.Device = Device
+of_stream stream.Memory = Memory

@@ -1,12 +1,12 @@
 //! The commands over a disk. Each gives the disk back.
 
-ghost use Rattle.std.specs.Prelude.{◌≡◌, ◌≢◌, ◌⊎◌, ◌<◌, ◌^◌, [], IfOk, IfErr, OnOk};
+ghost use Rattle.std.specs.Prelude.{◌≡◌, ◌≢◌, ◌⊎◌, ◌<◌, ◌+◌, ◌^◌, [], IfOk, IfErr, OnOk};
 ghost use Rattle.std.specs.Io.KnownBytes.{Appends};
 ghost use Rattle.fp_layout.specs.NewDisk.{IsNewDisk};
-ghost use Rattle.fp_plane.specs.Run.{IsLeftBy};
+ghost use Rattle.fp_plane.specs.Run.{IsLeftBy, IsStoppedBy};
 ghost use Rattle.fp_plane.specs.Verdicts.{show_line};
 ghost use Rattle.fp_recovery.specs.Durable.{IsSure};
-ghost use Rattle.fp_commands.specs.Disks.{Applies, IfRefused, Imports, IsApplyingFault, IsImportingFault, IsLeftByImport, IsLeftOnDisk, IsMakingFault, IsRunOnDisk, IsShowingFault, IsShown, IsStreamFault, LacksRoom};
+ghost use Rattle.fp_commands.specs.Disks.{Applies, Blames, IfRefused, Imports, IsApplyingFault, IsImportingFault, IsLeftByImport, IsLeftOnDisk, IsMakingFault, IsRunOnDisk, IsShowingFault, IsShown, IsStoppedByImport, IsStreamFault, LacksRoom};
 ghost use Rattle.fp_commands.specs.Task.{no_flags};
 ghost use Rattle.fp_commands.specs.declared.fault.CommandFault.TheVariants.{Device, NotEmpty, StoreFailed};
 
@@ -18,6 +18,7 @@ use fp_edit::FlagSet;
 use fp_layout::SlotSize;
 use fp_plane::{apply_lines, import_flags, shown};
 use fp_recovery::DurableSet;
+use fp_streams::Counted;
 use std::alloc::Global;
 use std::io::{Read, Write};
 
@@ -41,14 +42,16 @@ pub fn init_disk<D: Disk>(alloc: Global, disk: D) -> (D, Result<(), CommandFault
 /// Writes the line of what a disk stands for. Nothing is written on the disk.
 pub fn show_disk<D: Disk, W: Write>(
     alloc: Global,
-    w: &mut W,
+    w: &mut Counted<W>,
     disk: D,
 ) -> (D, Result<(), CommandFault>)
     ensures shown { OnOk result.1
-        (IsShown (D.honest disk) (D.bytes disk) (W.contents w.old) (W.contents w.new)) }
+        (IsShown (D.honest disk) (D.bytes disk) (W.contents w.old.inner) (W.contents w.new.inner)) }
     ensures same { D.honest disk → D.bytes result.0 ≡ D.bytes disk }
     ensures fault { D.honest disk → IfErr result.1 (IsShowingFault (D.bytes disk)) }
     ensures silent { IfErr result.1 (IfRefused (w.new ≡ w.old)) }
+    ensures device { Blames (D.faults disk + w.old.failures) (D.faults result.0 + w.new.failures)
+        result.1 }
     ensures honest { (D.honest disk → D.honest result.0) × (D.honest result.0 → D.honest disk) }
 {
     match DurableSet::open(alloc, disk) {
@@ -64,21 +67,28 @@ pub fn show_disk<D: Disk, W: Write>(
 /// edit is sealed on the disk before it is answered. `Ok(false)` says that a reply told of wanting memory.
 pub fn apply_disk<D: Disk, R: Read, W: Write>(
     alloc: Global,
-    r: &mut R,
-    w: &mut W,
+    r: &mut Counted<R>,
+    w: &mut Counted<W>,
     disk: D,
 ) -> (D, Result<bool, CommandFault>)
     ensures run { IfOk result.1 (λ told. IsRunOnDisk (D.honest disk) (D.bytes disk)
-        (D.unsynced result.0) (R.remaining r.old)
-        (Applies told (W.contents w.old) (W.contents w.new))) }
+        (D.unsynced result.0) (R.remaining r.old.inner)
+        (Applies told (W.contents w.old.inner) (W.contents w.new.inner))) }
 
     // At a fault too the disk stands for what some first lines leave, but where the store failed.
     ensures left { D.honest disk → IfErr result.1 (λ f. f ≢ StoreFailed
-        → IsLeftOnDisk (D.bytes disk) (D.bytes result.0) (R.remaining r.old) IsLeftBy) }
+        → IsLeftOnDisk (D.bytes disk) (D.bytes result.0) (R.remaining r.old.inner) IsLeftBy) }
     ensures fault { D.honest disk → IfErr result.1 (IsApplyingFault (D.bytes disk)) }
     ensures silent { IfErr result.1 (IfRefused (w.new ≡ w.old)) }
+
+    // The store fails where the disk does, or has no room for an edit that the input asks for.
     ensures cause { IfErr result.1 (λ f. f ≡ StoreFailed
-        → LacksRoom D.honest D.unsynced result.0 ⊎ (D.faults disk < D.faults result.0)) }
+        → LacksRoom (D.honest disk) (D.bytes disk) (D.unsynced result.0)
+        (R.remaining r.old.inner) IsStoppedBy ⊎ (D.faults disk < D.faults result.0)) }
+
+    // `Device` comes only where the disk, the reader or the writer failed, and a good end only where none did.
+    ensures device { Blames (D.faults disk + (r.old.failures + w.old.failures))
+        (D.faults result.0 + (r.new.failures + w.new.failures)) result.1 }
     ensures honest { (D.honest disk → D.honest result.0) × (D.honest result.0 → D.honest disk) }
 {
     let set = match DurableSet::open(alloc, disk) {
@@ -98,22 +108,29 @@ pub fn apply_disk<D: Disk, R: Read, W: Write>(
 /// before it is answered; one that is refused is an answer. `Ok(false)` says that a reply told of wanting memory.
 pub fn import_disk<D: Disk, R: Read, W: Write>(
     alloc: Global,
-    r: &mut R,
-    w: &mut W,
+    r: &mut Counted<R>,
+    w: &mut Counted<W>,
     disk: D,
 ) -> (D, Result<bool, CommandFault>)
     ensures run { IfOk result.1 (λ told. IsRunOnDisk (D.honest disk) (D.bytes disk)
-        (D.unsynced result.0) (R.remaining r.old)
-        (Imports told (W.contents w.old) (W.contents w.new))) }
+        (D.unsynced result.0) (R.remaining r.old.inner)
+        (Imports told (W.contents w.old.inner) (W.contents w.new.inner))) }
 
     // At a fault too the disk stands for what some first puts leave, but where the store failed.
     ensures left { D.honest disk → IfErr result.1 (λ f. f ≢ StoreFailed
-        → IsLeftOnDisk (D.bytes disk) (D.bytes result.0) (R.remaining r.old) IsLeftByImport) }
+        → IsLeftOnDisk (D.bytes disk) (D.bytes result.0) (R.remaining r.old.inner) IsLeftByImport) }
     ensures fault { D.honest disk
-        → IfErr result.1 (IsImportingFault (D.bytes disk) (R.remaining r.old)) }
+        → IfErr result.1 (IsImportingFault (D.bytes disk) (R.remaining r.old.inner)) }
     ensures silent { IfErr result.1 (IfRefused (w.new ≡ w.old)) }
+
+    // The store fails where the disk does, or has no room for an edit that the input asks for.
     ensures cause { IfErr result.1 (λ f. f ≡ StoreFailed
-        → LacksRoom D.honest D.unsynced result.0 ⊎ (D.faults disk < D.faults result.0)) }
+        → LacksRoom (D.honest disk) (D.bytes disk) (D.unsynced result.0)
+        (R.remaining r.old.inner) IsStoppedByImport ⊎ (D.faults disk < D.faults result.0)) }
+
+    // `Device` comes only where the disk, the reader or the writer failed, and a good end only where none did.
+    ensures device { Blames (D.faults disk + (r.old.failures + w.old.failures))
+        (D.faults result.0 + (r.new.failures + w.new.failures)) result.1 }
     ensures honest { (D.honest disk → D.honest result.0) × (D.honest result.0 → D.honest disk) }
 {
     let set = match DurableSet::open(alloc, disk) {
@@ -133,13 +150,13 @@ pub fn import_disk<D: Disk, R: Read, W: Write>(
 }
 
 // Writes the line of these flags.
-fn show<W: Write>(alloc: Global, w: &mut W, flags: &FlagSet) -> Result<(), CommandFault>
+fn show<W: Write>(alloc: Global, w: &mut Counted<W>, flags: &FlagSet) -> Result<(), CommandFault>
     ensures shown { OnOk result
-        (Appends (W.contents w.old) (W.contents w.new) (show_line flags.now)) }
+        (Appends (W.contents w.old.inner) (W.contents w.new.inner) (show_line flags.now)) }
     ensures fault { IfErr result IsStreamFault }
+    ensures device { Blames w.old.failures w.new.failures result }
 {
     let line = shown(alloc, flags)?;
-    w.write_all(&line)?;
-    w.flush()?;
+    w.send(&line)?;
     Ok(())
 }

@@ -1,7 +1,7 @@
 //! Why a command gave up.
 
 ghost use Rattle.std.specs.Prelude.{◌≡◌};
-ghost use Rattle.fp_commands.specs.Faults.{of_create, of_import, of_open, of_run};
+ghost use Rattle.fp_commands.specs.Faults.{of_create, of_import, of_open, of_run, of_stream};
 ghost use Rattle.fp_commands.specs.declared.fault.CommandFault.TheVariants.{Device, Memory};
 
 use fp_definition::{DefFault, FlagKey};
@@ -9,9 +9,10 @@ use fp_disk::DiskFault;
 use fp_imports::ImportFault;
 use fp_layout::{CreateFault, OpenFault};
 use fp_plane::ApplyFault;
+use fp_streams::StreamFault;
 use std::alloc::AllocError;
 use std::error::Error;
-use std::{fmt, io};
+use std::fmt;
 
 /// Why a command gave up.
 #[derive(Debug, Drop)]
@@ -72,11 +73,14 @@ impl fmt::Display for CommandFault {
 
 impl Error for CommandFault {}
 
-impl From<io::Error> for CommandFault {
-    ghost from_gives = { λ _ e. e ≡ Device };
+impl From<StreamFault> for CommandFault {
+    ghost from_gives = { λ f e. e ≡ of_stream f };
 
-    fn from(_fault: io::Error) -> CommandFault {
-        CommandFault::Device
+    fn from(fault: StreamFault) -> CommandFault {
+        match fault {
+            StreamFault::Device => CommandFault::Device,
+            StreamFault::Memory => CommandFault::Memory,
+        }
     }
 }
 

@@ -31,7 +31,7 @@ impl<D: Disk> Edits for Kept<D> {
 
     ghost leads_to = { λ a b. Keeps D.honest D.faults a.set b.set };
 
-    ghost fails_at = { λ a p b. Fails D.honest D.faults a.set p b.set };
+    ghost fails_at = { λ a p b. Fails D.honest D.unsynced D.faults a.set p b.set };
 
     ghost leads_to_itself = { λ s. keeps_itself D.honest D.faults s.set };
 

@@ -9,6 +9,7 @@ use crate::fault::CommandFault;
 use fp_disk::{create_file, open_file};
 use fp_edit::FlagSet;
 use fp_plane::apply_lines;
+use fp_streams::Counted;
 use std::alloc::{AllocGlobal, Global};
 use std::io::{Read, Write};
 use std::rt::Files;
@@ -31,7 +32,13 @@ enum Task {
 
 /// Runs the command that the words name, and answers the program's status: 0 where it was done, 1 where
 /// a fault ended it, which `e` is told, and 2 where the words name no command, where `e` is told the usage.
-pub fn command<X, R, W, E>(rt: &X, words: &[String], r: &mut R, w: &mut W, e: &mut E) -> u8
+pub fn command<X, R, W, E>(
+    rt: &X,
+    words: &[String],
+    r: &mut Counted<R>,
+    w: &mut Counted<W>,
+    e: &mut E,
+) -> u8
 where
     X: Files + AllocGlobal,
     R: Read,
@@ -39,7 +46,7 @@ where
     E: Write,
     ensures usage { (result ≡ 2) ↔ (named (map string_bytes words.now) ≡ None) }
     ensures done { result ≡ 0 → IfSome (named (map string_bytes words.now)) (λ task.
-        IsDone task.0 (R.remaining r.old) (W.contents w.old) (W.contents w.new)) }
+        IsDone task.0 (R.remaining r.old.inner) (W.contents w.old.inner) (W.contents w.new.inner)) }
     ensures quiet { result ≡ 0 → e.new ≡ e.old }
     ensures small { result ≤ 2 }
 {
@@ -83,15 +90,15 @@ fn perform<X, R, W>(
     rt: &X,
     task: Task,
     path: &str,
-    r: &mut R,
-    w: &mut W,
+    r: &mut Counted<R>,
+    w: &mut Counted<W>,
 ) -> Result<(), CommandFault>
 where
     X: Files + AllocGlobal,
     R: Read,
     W: Write,
     ensures { OnOk result
-        (IsDone task (R.remaining r.old) (W.contents w.old) (W.contents w.new)) }
+        (IsDone task (R.remaining r.old.inner) (W.contents w.old.inner) (W.contents w.new.inner)) }
 {
     match task {
         Task::Apply => apply(rt.alloc(), r, w),
@@ -103,9 +110,13 @@ where
 }
 
 // Answers the input's lines over flags that are kept in memory alone.
-fn apply<R: Read, W: Write>(alloc: Global, r: &mut R, w: &mut W) -> Result<(), CommandFault>
+fn apply<R: Read, W: Write>(
+    alloc: Global,
+    r: &mut Counted<R>,
+    w: &mut Counted<W>,
+) -> Result<(), CommandFault>
     ensures { OnOk result
-        (IsDone Apply (R.remaining r.old) (W.contents w.old) (W.contents w.new)) }
+        (IsDone Apply (R.remaining r.old.inner) (W.contents w.old.inner) (W.contents w.new.inner)) }
 {
     let (_flags, outcome) = apply_lines(alloc, r, w, FlagSet::new(alloc, IMAGE_LIMIT));
     let _told = outcome?;
@@ -120,13 +131,18 @@ fn init_file<X: Files + AllocGlobal>(rt: &X, path: &str) -> Result<(), CommandFa
 }
 
 // Answers the input's lines over what the file stands for.
-fn apply_file<X, R, W>(rt: &X, path: &str, r: &mut R, w: &mut W) -> Result<(), CommandFault>
+fn apply_file<X, R, W>(
+    rt: &X,
+    path: &str,
+    r: &mut Counted<R>,
+    w: &mut Counted<W>,
+) -> Result<(), CommandFault>
 where
     X: Files + AllocGlobal,
     R: Read,
     W: Write,
     ensures { OnOk result
-        (IsDone ApplyFile (R.remaining r.old) (W.contents w.old) (W.contents w.new)) }
+        (IsDone ApplyFile (R.remaining r.old.inner) (W.contents w.old.inner) (W.contents w.new.inner)) }
 {
     let disk = open_file(rt, path)?;
     let (_disk, outcome) = apply_disk(rt.alloc(), r, w, disk);
@@ -135,11 +151,11 @@ where
 }
 
 // Shows what the file stands for.
-fn show_file<X, W>(rt: &X, path: &str, w: &mut W) -> Result<(), CommandFault>
+fn show_file<X, W>(rt: &X, path: &str, w: &mut Counted<W>) -> Result<(), CommandFault>
 where
     X: Files + AllocGlobal,
     W: Write,
-    ensures { OnOk result (ShowsFlags (W.contents w.old) (W.contents w.new)) }
+    ensures { OnOk result (ShowsFlags (W.contents w.old.inner) (W.contents w.new.inner)) }
 {
     let disk = open_file(rt, path)?;
     let (_disk, outcome) = show_disk(rt.alloc(), w, disk);
@@ -147,13 +163,18 @@ where
 }
 
 // Puts the flags of the document that is read over what the file stands for.
-fn import_file<X, R, W>(rt: &X, path: &str, r: &mut R, w: &mut W) -> Result<(), CommandFault>
+fn import_file<X, R, W>(
+    rt: &X,
+    path: &str,
+    r: &mut Counted<R>,
+    w: &mut Counted<W>,
+) -> Result<(), CommandFault>
 where
     X: Files + AllocGlobal,
     R: Read,
     W: Write,
     ensures { OnOk result
-        (IsDone ImportFile (R.remaining r.old) (W.contents w.old) (W.contents w.new)) }
+        (IsDone ImportFile (R.remaining r.old.inner) (W.contents w.old.inner) (W.contents w.new.inner)) }
 {
     let disk = open_file(rt, path)?;
     let (_disk, outcome) = import_disk(rt.alloc(), r, w, disk);

@@ -1,4 +1,5 @@
 use super::*;
+use fp_streams::Counted;
 use std::alloc::{AllocError, AllocGlobal, Global};
 use std::process::Abort;
 use std::rt::Files;
@@ -29,13 +30,13 @@ fn run(
     for word in words {
         owned.push(String::from_str(alloc, word)?)?;
     }
-    let mut input = input;
-    let mut output = Vec::new(alloc);
+    let mut input = Counted::new(input);
+    let mut output = Counted::new(Vec::new(alloc));
     let mut errors = Vec::new(alloc);
     let status = command(rt, owned.as_slice(), &mut input, &mut output, &mut errors);
     Ok(Ran {
         status,
-        output,
+        output: output.into_inner(),
         errors,
     })
 }

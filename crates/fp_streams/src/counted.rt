@@ -58,6 +58,18 @@ impl<S> Counted<S> {
         &self.stream
     }
 
+    /// Gives the stream back.
+    pub fn into_inner(self) -> S
+        ensures { result ≡ self.inner }
+    {
+        let Counted {
+            stream,
+            failures: _,
+            reads_left: _,
+        } = self;
+        stream
+    }
+
     // One failure more.
     fn fault(&mut self) -> StreamFault
         ensures { (result ≡ Device)

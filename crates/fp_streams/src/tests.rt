@@ -85,7 +85,8 @@ fn what_is_sent_is_written_and_flushed(rt: HostRuntime) -> Result<(), Fail> {
     let mut w = Counted::new(Vec::new(alloc));
     assert_eq!(rt; w.send(b"ab"), Ok(()));
     assert_eq!(rt; w.send(b"c"), Ok(()));
-    assert_eq!(rt; w.get_ref().as_slice(), b"abc".as_slice());
+    assert_eq!(rt; w.get_ref().len(), 3);
+    assert_eq!(rt; w.into_inner().as_slice(), b"abc".as_slice());
     let taken = Vec::new(alloc);
     let mut full = Counted::new(Unflushed { taken });
     assert_eq!(rt; full.send(b"ab"), Err(StreamFault::Device));

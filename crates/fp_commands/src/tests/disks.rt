@@ -3,6 +3,7 @@ use crate::{CommandFault, apply_disk, init_disk, show_disk};
 use fp_disk::{FailedWrite, Failing, MemoryDisk};
 use fp_layout::SlotSize;
 use fp_recovery::DurableSet;
+use fp_streams::Counted;
 use std::alloc::{AllocGlobal, Global};
 use std::test::Fail;
 
@@ -20,10 +21,10 @@ pub fn small_disk(alloc: Global) -> Result<MemoryDisk, Fail> {
 
 // What a disk shows.
 pub fn shown_by(alloc: Global, disk: MemoryDisk) -> Result<Vec<u8>, Fail> {
-    let mut output = Vec::new(alloc);
+    let mut output = Counted::new(Vec::new(alloc));
     let (_disk, outcome) = show_disk(alloc, &mut output, disk);
     match outcome {
-        Ok(()) => Ok(output),
+        Ok(()) => Ok(output.into_inner()),
         Err(_) => Err(Fail::new("not shown")),
     }
 }
@@ -45,15 +46,15 @@ fn a_call_that_fails_loses_no_reply(rt: HostRuntime) -> Result<(), Fail> {
     for call in 0..11u64 {
         let mut disk = small_disk(alloc)?;
         disk.set_failing(Failing::At(call), FailedWrite::Half);
-        let mut output = Vec::new(alloc);
-        let (mut disk, outcome) = apply_disk(alloc, &mut input.as_bytes(), &mut output, disk);
+        let mut output = Counted::new(Vec::new(alloc));
+        let (mut disk, outcome) = apply_disk(alloc, &mut Counted::new(input.as_bytes()), &mut output, disk);
         let told = match outcome {
             Err(CommandFault::Device) => call < 3,
             Err(CommandFault::StoreFailed) => call >= 3,
             _ => false,
         };
         assert!(rt; told, "at call {call}");
-        let replied = output.as_slice() == b"{\"revision\":1}\n".as_slice();
+        let replied = output.get_ref().as_slice() == b"{\"revision\":1}\n".as_slice();
         assert!(rt; replied == (call >= 7), "at call {call}");
         disk.set_failing(Failing::Never, FailedWrite::Nothing);
         let shown = shown_by(alloc, disk)?;
@@ -79,13 +80,12 @@ fn a_disk_without_room_fails(rt: HostRuntime) -> Result<(), Fail> {
         "{{\"flag\":{{\"defaultVariant\":\"on\",\"state\":\"ENABLED\",\"variants\":{{\"on\":\"{text}\"}}}},\"key\":\"a\",\"op\":\"put\"}}\n"
     )?;
     let input = put.repeat(alloc, 16)?;
-    let mut output = Vec::new(alloc);
+    let mut output = Counted::new(Vec::new(alloc));
     let disk = small_disk(alloc)?;
-    let (disk, outcome) = apply_disk(alloc, &mut input.as_bytes(), &mut output, disk);
+    let (disk, outcome) = apply_disk(alloc, &mut Counted::new(input.as_bytes()), &mut output, disk);
     assert!(rt; matches!(outcome, Err(CommandFault::StoreFailed)));
     assert!(rt;
-        output
-            .as_slice()
+        output.get_ref().as_slice()
             .ends_with(b"{\"revision\":14}\n{\"revision\":15}\n")
     );
     let shown = shown_by(alloc, disk)?;

@@ -2,6 +2,7 @@ use super::assert_runs;
 use super::disks::{shown_by, small_disk};
 use super::files::in_temp;
 use crate::import_disk;
+use fp_streams::Counted;
 use std::alloc::AllocGlobal;
 use std::fs;
 use std::test::Fail;
@@ -58,14 +59,14 @@ fn a_document_is_put_over_a_file(rt: HostRuntime) -> Result<(), Fail> {
 fn what_is_no_document_changes_nothing(rt: HostRuntime) -> Result<(), Fail> {
     let alloc = rt.alloc();
     for (document, text) in REFUSED {
-        let mut output = Vec::new(alloc);
+        let mut output = Counted::new(Vec::new(alloc));
         let disk = small_disk(alloc)?;
-        let (disk, outcome) = import_disk(alloc, &mut document.as_bytes(), &mut output, disk);
+        let (disk, outcome) = import_disk(alloc, &mut Counted::new(document.as_bytes()), &mut output, disk);
         let Err(fault) = outcome else {
             return Err(Fail::new("imported"));
         };
         assert_eq!(rt; format!(in alloc; "{fault}")?.as_str(), text);
-        assert_eq!(rt; output.len(), 0);
+        assert_eq!(rt; output.get_ref().len(), 0);
         let shown = shown_by(alloc, disk)?;
         assert_eq!(rt; shown.as_slice(), b"0 {\"flags\":{}}\n".as_slice());
     }

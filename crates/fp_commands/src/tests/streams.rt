@@ -1,5 +1,6 @@
 use super::{run, written_out};
 use crate::command;
+use fp_streams::Counted;
 use std::alloc::AllocGlobal;
 use std::io;
 use std::io::{ErrorKind, Read, Write};
@@ -44,12 +45,14 @@ fn apply_without_a_file_is_over_memory(rt: HostRuntime) -> Result<(), Fail> {
 fn streams_that_fail_are_told_on_the_error_stream(rt: HostRuntime) -> Result<(), Fail> {
     let alloc = rt.alloc();
     let words = [String::from_str(alloc, "apply")?];
-    let mut output = Vec::new(alloc);
+    let mut broken = Counted::new(Broken);
+    let mut output = Counted::new(Vec::new(alloc));
     let mut errors = Vec::new(alloc);
-    let read = command(&rt, words.as_slice(), &mut Broken, &mut output, &mut errors);
-    assert_eq!(rt; (read, output.len()), (1, 0));
-    let mut input = b"[]\n".as_slice();
-    let written = command(&rt, words.as_slice(), &mut input, &mut Broken, &mut errors);
+    let read = command(&rt, words.as_slice(), &mut broken, &mut output, &mut errors);
+    assert_eq!(rt; (read, output.get_ref().len()), (1, 0));
+    let mut input = Counted::new(b"[]\n".as_slice());
+    let mut full = Counted::new(Broken);
+    let written = command(&rt, words.as_slice(), &mut input, &mut full, &mut errors);
     assert_eq!(rt; written, 1);
     assert_eq!(rt;
         errors.as_slice(),

@@ -184,20 +184,20 @@ fn a_store_that_failed_is_told_though_the_writer_fails(rt: HostRuntime) -> Resul
     Ok(())
 }
 
+// A run over two lines at a terminal that notes each call.
+fn at_terminal(alloc: Global, log: &RefCell<Vec<u8>>) -> Result<bool, ApplyFault> {
+    let bytes = b"[]\n{}\n".as_slice();
+    let mut r = Counted::new(Terminal { bytes, log });
+    let bytes = b"".as_slice();
+    let mut w = Counted::new(Terminal { bytes, log });
+    let (_flags, outcome) = apply_lines(alloc, &mut r, &mut w, flags(alloc));
+    outcome
+}
+
 #[test]
 fn replies_are_sent_before_the_next_read(rt: HostRuntime) -> Result<(), Fail> {
-    let alloc = rt.alloc();
-    let log = RefCell::new(Vec::new(alloc));
-    let mut r = Counted::new(Terminal {
-        bytes: b"[]\n{}\n",
-        log: &log,
-    });
-    let mut w = Counted::new(Terminal {
-        bytes: b"",
-        log: &log,
-    });
-    let (_flags, outcome) = apply_lines(alloc, &mut r, &mut w, flags(alloc));
-    assert_eq!(rt; outcome, Ok(true));
+    let log = RefCell::new(Vec::new(rt.alloc()));
+    assert_eq!(rt; at_terminal(rt.alloc(), &log), Ok(true));
     let log = log.into_inner();
     assert_eq!(rt; log.as_slice(), b"rwfrwfrwf".as_slice());
     Ok(())

@@ -1,17 +1,20 @@
-use Rattle.std.proofs.Common.{◌≡◌, ◌≢◌, ◌∙◌, ℕ, List, Bool, true, Option, Result, Ok, Err, IfOk, IfSome, sym, subst}
+use Rattle.std.proofs.Common.{◌≡◌, ◌≢◌, ◌∙◌, ◌+◌, arith, ℕ, List, Bool, true, Option, Result, Ok, Err, IfOk, IfSome, sym, ap, subst}
 use Rattle.std.proofs.lemmas.Option.{IfSome_then}
 use Rattle.std.specs.Io.KnownBytes.{Appends}
+use Rattle.fp_edit.specs.Edits.{Proposal}
 use Rattle.fp_edit.specs.Flags.{State}
-use Rattle.fp_plane.specs.Run.{IsLeftBy, IsRunOver}
+use Rattle.fp_plane.specs.Run.{IsLeftBy, IsRunOver, IsStoppedBy}
 use Rattle.fp_plane.specs.Script.{script, after_input}
+use Rattle.fp_plane.specs.Streams as plane
 use Rattle.fp_plane.specs.declared.fault.ApplyFault.{ApplyFault}
 use Rattle.fp_recovery.specs.Stands.{StandsFor}
 use Rattle.fp_commands.specs.declared.fault.CommandFault.{CommandFault}
 use Rattle.fp_commands.specs.declared.fault.CommandFault.TheVariants.{StoreFailed}
 use Rattle.fp_commands.specs.declared.kept.Kept.{Kept}
-use Rattle.fp_commands.specs.Disks.{IsApplyingFault}
+use Rattle.fp_commands.specs.Disks.{Blames, IsApplyingFault}
 use Rattle.fp_commands.specs.Faults.{of_run}
-use Rattle.fp_commands.proofs.Courses.{CourseOf, course-honest, course-goes, course-ready, course-cause}
+use Rattle.fp_commands.proofs.Courses.{CourseOf, course-honest, course-goes, course-ready, course-calm, course-cause}
+use Rattle.fp_commands.proofs.Blamed.{blames-more, blames-open, blames-run}
 use Rattle.fp_commands.proofs.Told.{applying-open, applying-run, left-at_once, some_all, some_both, some_if}
 use Rattle.fp_commands.proofs.disk.apply_disk.Goals as goal
 
@@ -21,7 +24,7 @@ pub returns-in-Err-clause-left : goal.returns-in-Err-clause-left
 returns-in-Err-clause-left g c = λ h other start stands.
     let D = g.D.Disk in
     let there : StandsFor (D.bytes c.in-Err.disk) start = subst (λ (b : List ℕ). StandsFor b start) (sym (c.in-Err.ensures.same h)) stands in
-    some_all (g.R.Read.remaining c.args.r.now) (λ (input : List ℕ). (flags : State) × IsLeftBy start input flags × StandsFor (D.bytes c.in-Err.disk) flags) (λ input. (start, left-at_once start input, there))
+    some_all (g.R.Read.remaining c.args.r.now.inner) (λ (input : List ℕ). (flags : State) × IsLeftBy start input flags × StandsFor (D.bytes c.in-Err.disk) flags) (λ input. (start, left-at_once start input, there))
 
 pub returns-in-Err-clause-fault : goal.returns-in-Err-clause-fault
 returns-in-Err-clause-fault g c = λ h.
@@ -34,15 +37,15 @@ pub returns-in-Ok-outcome-clause-run : goal.returns-in-Ok-outcome-clause-run
 returns-in-Ok-outcome-clause-run g c =
     let D = g.D.Disk in let e = c.in-Ok.ensures in let s = c.in-Ok.set.set in let l = c.apply_lines-kept.ensures in let k = c.apply_lines-kept.result.0 in let r = c.apply_lines-kept.result.1 in
     let told = c.in-Ok-outcome.told in let is = c.in-Ok-outcome.is in
-    let left = g.R.Read.remaining c.args.r.now in let old = g.W.Write.contents c.args.w.now in let new = g.W.Write.contents c.apply_lines-kept.new.w in
+    let left = g.R.Read.remaining c.args.r.now.inner in let old = g.W.Write.contents c.args.w.now.inner in let new = g.W.Write.contents c.apply_lines-kept.new.w.inner in
     let Outcome : Type 0 = Result Bool ApplyFault in
-    let get = λ (x : Kept g.row.D.Denot). x.set in let first : Kept g.row.D.Denot = record { set = c.in-Ok.set } in
-    let there = λ (h : D.honest c.args.disk). subst D.honest (sym c.into_disk-disk.ensures.disk) ((course-honest D.honest D.faults get first k r l.course).0 (e.honest.0 h)) in
+    let get = λ (x : Kept g.row.D.Denot). x.set in let first : Kept g.row.D.Denot = record { set = c.in-Ok.set } in let asks = λ (x : Kept g.row.D.Denot) (p : Proposal). IfSome (g.R.Read.remaining c.args.r.now.inner) (λ (input : List ℕ). IsStoppedBy c.in-Ok.set.set input x.set.set p) in
+    let there = λ (h : D.honest c.args.disk). subst D.honest (sym c.into_disk-disk.ensures.disk) ((course-honest D.honest D.unsynced D.faults asks get first k r l.course).0 (e.honest.0 h)) in
     record {
       start = s;
       flags = k.set.set;
       stood = e.stands;
-      sure = λ h. c.into_disk-disk.ensures.sure (there h) (course-goes D.honest D.faults get first k r told is l.course e.ready);
+      sure = λ h. c.into_disk-disk.ensures.sure (there h) ((course-goes D.honest D.unsynced D.faults asks get first k r told is l.course).ready e.ready);
       run = some_both left (λ (input : List ℕ). IsRunOver s input told old new k.set.set) (λ (input : List ℕ). told ≡ true → Appends old new (script s input) × (k.set.set ≡ after_input s input))
           (subst (λ (o : Outcome). IfOk o (λ t. IfSome left (λ input. IsRunOver s input t old new k.set.set))) is l.run)
           (some_if left (told ≡ true) (λ (input : List ℕ). Appends old new (script s input)) (λ (input : List ℕ). k.set.set ≡ after_input s input)
@@ -53,12 +56,12 @@ returns-in-Ok-outcome-clause-run g c =
 pub returns-in-Err-outcome-clause-left : goal.returns-in-Err-outcome-clause-left
 returns-in-Err-outcome-clause-left g c = λ h other start stands.
     let D = g.D.Disk in let e = c.in-Ok.ensures in let s = c.in-Ok.set.set in let l = c.apply_lines-kept.ensures in let k = c.apply_lines-kept.result.0 in let r = c.apply_lines-kept.result.1 in
-    let get = λ (x : Kept g.row.D.Denot). x.set in let first : Kept g.row.D.Denot = record { set = c.in-Ok.set } in let disk = c.into_disk-disk.result in let f = c.in-Err-outcome.fault in
-    let course : CourseOf {A = Bool} D.honest D.faults get first k (Err f) = subst (λ (o : Result Bool ApplyFault). CourseOf D.honest D.faults get first k o) c.in-Err-outcome.is l.course in
-    let there : D.honest disk = subst D.honest (sym c.into_disk-disk.ensures.disk) ((course-honest D.honest D.faults get first k r l.course).0 (e.honest.0 h)) in
-    let ready = course-ready Bool D.honest D.faults get first k f course (λ same. other (c.into-in-Err-outcome.ensures ∙ same)) e.ready in
+    let get = λ (x : Kept g.row.D.Denot). x.set in let first : Kept g.row.D.Denot = record { set = c.in-Ok.set } in let asks = λ (x : Kept g.row.D.Denot) (p : Proposal). IfSome (g.R.Read.remaining c.args.r.now.inner) (λ (input : List ℕ). IsStoppedBy c.in-Ok.set.set input x.set.set p) in let disk = c.into_disk-disk.result in let f = c.in-Err-outcome.fault in
+    let course : CourseOf D.honest D.unsynced D.faults asks get first k {A = Bool} (Err f) = subst (λ (o : Result Bool ApplyFault). CourseOf D.honest D.unsynced D.faults asks get first k o) c.in-Err-outcome.is l.course in
+    let there : D.honest disk = subst D.honest (sym c.into_disk-disk.ensures.disk) ((course-honest D.honest D.unsynced D.faults asks get first k r l.course).0 (e.honest.0 h)) in
+    let ready = course-ready D.honest D.unsynced D.faults asks get first k Bool f course (λ same. other (c.into-in-Err-outcome.ensures ∙ same)) e.ready in
     let now : StandsFor (D.bytes disk) k.set.set = c.into_disk-disk.ensures.sure there ready (D.bytes disk) (g.met.D.Disk.present disk there) in
-    IfSome_then (g.R.Read.remaining c.args.r.now) l.left (λ input lines. (k.set.set, subst (λ (x : State). IsLeftBy x input k.set.set) (sym (e.only h start stands)) lines, now))
+    IfSome_then (g.R.Read.remaining c.args.r.now.inner) l.left (λ input lines. (k.set.set, subst (λ (x : State). IsLeftBy x input k.set.set) (sym (e.only h start stands)) lines, now))
 
 pub returns-in-Err-outcome-clause-fault : goal.returns-in-Err-outcome-clause-fault
 returns-in-Err-outcome-clause-fault g c = λ h.
@@ -69,13 +72,41 @@ pub returns-in-Err-outcome-clause-cause : goal.returns-in-Err-outcome-clause-cau
 returns-in-Err-outcome-clause-cause g c = λ is.
     let D = g.D.Disk in let e = c.in-Ok.ensures in let l = c.apply_lines-kept.ensures in let k = c.apply_lines-kept.result.0 in
     let get = λ (x : Kept g.row.D.Denot). x.set in let first : Kept g.row.D.Denot = record { set = c.in-Ok.set } in let f = c.in-Err-outcome.fault in
-    let course : CourseOf {A = Bool} D.honest D.faults get first k (Err f) = subst (λ (o : Result Bool ApplyFault). CourseOf D.honest D.faults get first k o) c.in-Err-outcome.is l.course in
-    course-cause Bool D.honest D.unsynced D.faults get first k f c.into_disk-disk.result (D.faults c.args.disk) e.calm course
-    (sym c.into-in-Err-outcome.ensures ∙ is) e.ready c.into_disk-disk.ensures.disk c.into_disk-disk.ensures.sure
+    let asks = λ (x : Kept g.row.D.Denot) (p : Proposal). IfSome (g.R.Read.remaining c.args.r.now.inner) (λ (input : List ℕ). IsStoppedBy c.in-Ok.set.set input x.set.set p) in
+    let course : CourseOf D.honest D.unsynced D.faults asks get first k {A = Bool} (Err f) = subst (λ (o : Result Bool ApplyFault). CourseOf D.honest D.unsynced D.faults asks get first k o) c.in-Err-outcome.is l.course in
+    let left = g.R.Read.remaining c.args.r.now.inner in let disk = c.into_disk-disk.result in
+    let honest = course-honest D.honest D.unsynced D.faults asks get first k c.apply_lines-kept.result.1 l.course in
+    course-cause D.honest D.unsynced D.faults asks get first k Bool f disk (D.faults c.args.disk) (D.honest c.args.disk) (D.bytes c.args.disk) left IsStoppedBy e.calm course
+    (sym c.into-in-Err-outcome.ensures ∙ is) e.ready c.into_disk-disk.ensures.disk (λ h. subst D.honest (sym c.into_disk-disk.ensures.disk) (honest.0 (e.honest.0 h))) e.stands
+    (λ x p asked. asked)
+
+pub returns-in-Err-outcome-clause-device : goal.returns-in-Err-outcome-clause-device
+returns-in-Err-outcome-clause-device g c =
+    let D = g.D.Disk in let e = c.in-Ok.ensures in let l = c.apply_lines-kept.ensures in let k = c.apply_lines-kept.result.0 in
+    let get = λ (x : Kept g.row.D.Denot). x.set in let first : Kept g.row.D.Denot = record { set = c.in-Ok.set } in let f = c.in-Err-outcome.fault in
+    let asks = λ (x : Kept g.row.D.Denot) (p : Proposal). IfSome (g.R.Read.remaining c.args.r.now.inner) (λ (input : List ℕ). IsStoppedBy c.in-Ok.set.set input x.set.set p) in
+    let course : CourseOf D.honest D.unsynced D.faults asks get first k {A = Bool} (Err f) = subst (λ (o : Result Bool ApplyFault). CourseOf D.honest D.unsynced D.faults asks get first k o) c.in-Err-outcome.is l.course in
+    let d0 = D.faults c.args.disk in let d1 = D.faults c.into_disk-disk.result in
+    let here : d1 ≡ D.faults k.set.journal.disk = ap D.faults c.into_disk-disk.ensures.disk in
+    subst (λ (o : CommandFault). Blames {A = Bool} (d0 + (c.args.r.now.failures + c.args.w.now.failures)) (d1 + (c.apply_lines-kept.new.r.failures + c.apply_lines-kept.new.w.failures)) (Err o)) (sym c.into-in-Err-outcome.ensures)
+    (blames-run Bool Bool d0 d1 (c.args.r.now.failures + c.args.w.now.failures) (c.apply_lines-kept.new.r.failures + c.apply_lines-kept.new.w.failures) f (λ is. here ∙ course-calm D.honest D.unsynced D.faults asks get first k Bool f course is ∙ e.calm)
+    (subst (λ (o : Result Bool ApplyFault). plane.Blames (c.args.r.now.failures + c.args.w.now.failures) (c.apply_lines-kept.new.r.failures + c.apply_lines-kept.new.w.failures) o) c.in-Err-outcome.is l.device))
+
+pub returns-in-Ok-outcome-clause-device : goal.returns-in-Ok-outcome-clause-device
+returns-in-Ok-outcome-clause-device g c =
+    let D = g.D.Disk in let e = c.in-Ok.ensures in let l = c.apply_lines-kept.ensures in let k = c.apply_lines-kept.result.0 in
+    let get = λ (x : Kept g.row.D.Denot). x.set in let first : Kept g.row.D.Denot = record { set = c.in-Ok.set } in
+    let asks = λ (x : Kept g.row.D.Denot) (p : Proposal). IfSome (g.R.Read.remaining c.args.r.now.inner) (λ (input : List ℕ). IsStoppedBy c.in-Ok.set.set input x.set.set p) in
+    let told = c.in-Ok-outcome.told in let is = c.in-Ok-outcome.is in
+    let here : D.faults c.into_disk-disk.result ≡ D.faults k.set.journal.disk = ap D.faults c.into_disk-disk.ensures.disk in
+    let went = (course-goes D.honest D.unsynced D.faults asks get first k c.apply_lines-kept.result.1 told is l.course).calm in
+    let streams : c.apply_lines-kept.new.r.failures + c.apply_lines-kept.new.w.failures ≡ c.args.r.now.failures + c.args.w.now.failures = subst (λ (o : Result Bool ApplyFault). plane.Blames (c.args.r.now.failures + c.args.w.now.failures) (c.apply_lines-kept.new.r.failures + c.apply_lines-kept.new.w.failures) o) is l.device in
+    let opened : D.faults c.in-Ok.set.journal.disk ≡ D.faults c.args.disk = e.calm in
+    omega (arith, here, went, streams, opened)
 
 pub returns-in-Err-outcome-clause-honest : goal.returns-in-Err-outcome-clause-honest
 returns-in-Err-outcome-clause-honest g c =
-    let D = g.D.Disk in let e = c.in-Ok.ensures in let get = λ (x : Kept g.row.D.Denot). x.set in let first : Kept g.row.D.Denot = record { set = c.in-Ok.set } in
-    let both = course-honest D.honest D.faults get first c.apply_lines-kept.result.0 c.apply_lines-kept.result.1 c.apply_lines-kept.ensures.course in
+    let D = g.D.Disk in let e = c.in-Ok.ensures in let get = λ (x : Kept g.row.D.Denot). x.set in let first : Kept g.row.D.Denot = record { set = c.in-Ok.set } in let asks = λ (x : Kept g.row.D.Denot) (p : Proposal). IfSome (g.R.Read.remaining c.args.r.now.inner) (λ (input : List ℕ). IsStoppedBy c.in-Ok.set.set input x.set.set p) in
+    let both = course-honest D.honest D.unsynced D.faults asks get first c.apply_lines-kept.result.0 c.apply_lines-kept.result.1 c.apply_lines-kept.ensures.course in
     let at = c.into_disk-disk.ensures.disk in
     (λ h. subst D.honest (sym at) (both.0 (e.honest.0 h)), λ h. e.honest.1 (both.1 (subst D.honest at h)))

@@ -1,18 +1,21 @@
-use Rattle.std.proofs.Common.{◌≡◌, ◌≢◌, ◌∙◌, ℕ, List, Bool, true, Option, Result, Ok, Err, IfOk, IfSome, map, refl, inl, inr, sym, ap, subst}
+use Rattle.std.proofs.Common.{◌≡◌, ◌≢◌, ◌∙◌, ◌+◌, arith, ℕ, List, Bool, true, Option, Result, Ok, Err, IfOk, IfSome, map, refl, inl, inr, sym, ap, subst}
 use Rattle.std.proofs.lemmas.Option.{IfSome_then}
 use Rattle.std.specs.Io.KnownBytes.{Appends}
+use Rattle.fp_edit.specs.Edits.{Proposal}
 use Rattle.fp_edit.specs.Flags.{State}
 use Rattle.fp_imports.specs.Document.{Flag}
-use Rattle.fp_plane.specs.Import.{seen, IsImport, IsLeftByPuts, import_script, after_import}
+use Rattle.fp_plane.specs.Import.{seen, IsImport, IsLeftByPuts, IsStoppedByPuts, import_script, after_import}
+use Rattle.fp_plane.specs.Streams as plane
 use Rattle.fp_plane.specs.declared.fault.ApplyFault.{ApplyFault}
 use Rattle.fp_recovery.specs.Stands.{StandsFor}
 use Rattle.fp_commands.specs.declared.fault.CommandFault.{CommandFault}
 use Rattle.fp_commands.specs.declared.fault.CommandFault.TheVariants.{StoreFailed}
 use Rattle.fp_commands.specs.declared.kept.Kept.{Kept}
-use Rattle.fp_commands.specs.Disks.{IsImportingFault, IsLeftByImport}
+use Rattle.fp_commands.specs.Disks.{Blames, IsImportingFault, IsLeftByImport, IsStoppedByImport}
 use Rattle.fp_commands.specs.Documents.{IsDocumentFault}
 use Rattle.fp_commands.specs.Faults.{of_run}
-use Rattle.fp_commands.proofs.Courses.{CourseOf, course-honest, course-goes, course-ready, course-cause}
+use Rattle.fp_commands.proofs.Courses.{CourseOf, course-honest, course-goes, course-ready, course-calm, course-cause}
+use Rattle.fp_commands.proofs.Blamed.{blames-more, blames-open, blames-run}
 use Rattle.fp_commands.proofs.Told.{some_all}
 use Rattle.fp_commands.proofs.Imported.{importing-open, importing-run, importing-document}
 use Rattle.fp_commands.proofs.disk.import_disk.Goals as goal
@@ -23,11 +26,11 @@ pub returns-in-Err-clause-left : goal.returns-in-Err-clause-left
 returns-in-Err-clause-left g c = λ h other start stands.
     let D = g.D.Disk in
     let there : StandsFor (D.bytes c.in-Err.disk) start = subst (λ (b : List ℕ). StandsFor b start) (sym (c.in-Err.ensures.same h)) stands in
-    some_all (g.R.Read.remaining c.args.r.now) (λ (input : List ℕ). (flags : State) × IsLeftByImport start input flags × StandsFor (D.bytes c.in-Err.disk) flags) (λ input. (start, inl refl, there))
+    some_all (g.R.Read.remaining c.args.r.now.inner) (λ (input : List ℕ). (flags : State) × IsLeftByImport start input flags × StandsFor (D.bytes c.in-Err.disk) flags) (λ input. (start, inl refl, there))
 
 pub returns-in-Err-clause-fault : goal.returns-in-Err-clause-fault
 returns-in-Err-clause-fault g c = λ h.
-    let bytes = g.D.Disk.bytes c.args.disk in let left = g.R.Read.remaining c.args.r.now in
+    let bytes = g.D.Disk.bytes c.args.disk in let left = g.R.Read.remaining c.args.r.now.inner in
     subst (λ (f : CommandFault). IsImportingFault bytes left f) (sym c.into.ensures) (importing-open bytes left c.in-Err.fault (c.in-Err.ensures.fault h) (c.in-Err.ensures.refused h))
 
 -- ---- no document was read
@@ -37,15 +40,15 @@ returns-in-Err-read_document-clause-left g c = λ h other start stands.
     let D = g.D.Disk in let disk = c.into_disk.result in
     let still : D.bytes disk ≡ D.bytes c.args.disk = ap D.bytes c.into_disk.ensures.disk ∙ c.in-Ok.ensures.same h in
     let there : StandsFor (D.bytes disk) start = subst (λ (b : List ℕ). StandsFor b start) (sym still) stands in
-    some_all (g.R.Read.remaining c.args.r.now) (λ (input : List ℕ). (flags : State) × IsLeftByImport start input flags × StandsFor (D.bytes disk) flags) (λ input. (start, inl refl, there))
+    some_all (g.R.Read.remaining c.args.r.now.inner) (λ (input : List ℕ). (flags : State) × IsLeftByImport start input flags × StandsFor (D.bytes disk) flags) (λ input. (start, inl refl, there))
 
 pub returns-in-Err-read_document-clause-fault : goal.returns-in-Err-read_document-clause-fault
 returns-in-Err-read_document-clause-fault g c = λ h.
-    importing-document (g.D.Disk.bytes c.args.disk) (g.R.Read.remaining c.args.r.now) c.in-Err-read_document.fault c.in-Err-read_document.ensures.fault
+    importing-document (g.D.Disk.bytes c.args.disk) (g.R.Read.remaining c.args.r.now.inner) c.in-Err-read_document.fault c.in-Err-read_document.ensures.fault
 
 pub returns-in-Err-read_document-clause-cause : goal.returns-in-Err-read_document-clause-cause
 returns-in-Err-read_document-clause-cause g c = λ is.
-    absurd (subst (λ (f : CommandFault). IsDocumentFault (g.R.Read.remaining c.args.r.now) f) is c.in-Err-read_document.ensures.fault)
+    absurd (subst (λ (f : CommandFault). IsDocumentFault (g.R.Read.remaining c.args.r.now.inner) f) is c.in-Err-read_document.ensures.fault)
 
 -- ---- one was
 
@@ -53,16 +56,16 @@ pub returns-in-Ok-outcome-clause-run : goal.returns-in-Ok-outcome-clause-run
 returns-in-Ok-outcome-clause-run g c =
     let D = g.D.Disk in let e = c.in-Ok.ensures in let s = c.in-Ok.set.set in let l = c.import_flags-kept.ensures in let k = c.import_flags-kept.result.0 in let r = c.import_flags-kept.result.1 in
     let told = c.in-Ok-outcome.told in let is = c.in-Ok-outcome.is in
-    let left = g.R.Read.remaining c.args.r.now in let old = g.W.Write.contents c.args.w.now in let new = g.W.Write.contents c.import_flags-kept.new.w in
+    let left = g.R.Read.remaining c.args.r.now.inner in let old = g.W.Write.contents c.args.w.now.inner in let new = g.W.Write.contents c.import_flags-kept.new.w.inner in
     let puts : List Flag = map seen c.in-Ok-read_document.flags.items in
     let Outcome : Type 0 = Result Bool ApplyFault in
-    let get = λ (x : Kept g.row.D.Denot). x.set in let first : Kept g.row.D.Denot = record { set = c.in-Ok.set } in
-    let there = λ (h : D.honest c.args.disk). subst D.honest (sym c.into_disk-disk.ensures.disk) ((course-honest D.honest D.faults get first k r l.course).0 (e.honest.0 h)) in
+    let get = λ (x : Kept g.row.D.Denot). x.set in let first : Kept g.row.D.Denot = record { set = c.in-Ok.set } in let asks = λ (x : Kept g.row.D.Denot) (p : Proposal). IsStoppedByPuts c.in-Ok.set.set (map seen c.in-Ok-read_document.flags.items) x.set.set p in
+    let there = λ (h : D.honest c.args.disk). subst D.honest (sym c.into_disk-disk.ensures.disk) ((course-honest D.honest D.unsynced D.faults asks get first k r l.course).0 (e.honest.0 h)) in
     record {
       start = s;
       flags = k.set.set;
       stood = e.stands;
-      sure = λ h. c.into_disk-disk.ensures.sure (there h) (course-goes D.honest D.faults get first k r told is l.course e.ready);
+      sure = λ h. c.into_disk-disk.ensures.sure (there h) ((course-goes D.honest D.unsynced D.faults asks get first k r told is l.course).ready e.ready);
       run = IfSome_then left c.in-Ok-read_document.ensures.flags (λ input known. (
         puts,
         known,
@@ -77,31 +80,63 @@ returns-in-Ok-outcome-clause-run g c =
 pub returns-in-Err-outcome-clause-left : goal.returns-in-Err-outcome-clause-left
 returns-in-Err-outcome-clause-left g c = λ h other start stands.
     let D = g.D.Disk in let e = c.in-Ok.ensures in let s = c.in-Ok.set.set in let l = c.import_flags-kept.ensures in let k = c.import_flags-kept.result.0 in let r = c.import_flags-kept.result.1 in
-    let get = λ (x : Kept g.row.D.Denot). x.set in let first : Kept g.row.D.Denot = record { set = c.in-Ok.set } in let disk = c.into_disk-disk.result in let f = c.in-Err-outcome.fault in
-    let course : CourseOf {A = Bool} D.honest D.faults get first k (Err f) = subst (λ (o : Result Bool ApplyFault). CourseOf D.honest D.faults get first k o) c.in-Err-outcome.is l.course in
-    let there : D.honest disk = subst D.honest (sym c.into_disk-disk.ensures.disk) ((course-honest D.honest D.faults get first k r l.course).0 (e.honest.0 h)) in
-    let ready = course-ready Bool D.honest D.faults get first k f course (λ same. other (c.into-in-Err-outcome.ensures ∙ same)) e.ready in
+    let get = λ (x : Kept g.row.D.Denot). x.set in let first : Kept g.row.D.Denot = record { set = c.in-Ok.set } in let asks = λ (x : Kept g.row.D.Denot) (p : Proposal). IsStoppedByPuts c.in-Ok.set.set (map seen c.in-Ok-read_document.flags.items) x.set.set p in let disk = c.into_disk-disk.result in let f = c.in-Err-outcome.fault in
+    let course : CourseOf D.honest D.unsynced D.faults asks get first k {A = Bool} (Err f) = subst (λ (o : Result Bool ApplyFault). CourseOf D.honest D.unsynced D.faults asks get first k o) c.in-Err-outcome.is l.course in
+    let there : D.honest disk = subst D.honest (sym c.into_disk-disk.ensures.disk) ((course-honest D.honest D.unsynced D.faults asks get first k r l.course).0 (e.honest.0 h)) in
+    let ready = course-ready D.honest D.unsynced D.faults asks get first k Bool f course (λ same. other (c.into-in-Err-outcome.ensures ∙ same)) e.ready in
     let now : StandsFor (D.bytes disk) k.set.set = c.into_disk-disk.ensures.sure there ready (D.bytes disk) (g.met.D.Disk.present disk there) in
     let puts : List Flag = map seen c.in-Ok-read_document.flags.items in
-    IfSome_then (g.R.Read.remaining c.args.r.now) c.in-Ok-read_document.ensures.flags (λ input known.
+    IfSome_then (g.R.Read.remaining c.args.r.now.inner) c.in-Ok-read_document.ensures.flags (λ input known.
     (k.set.set, inr (puts, known, subst (λ (x : State). IsLeftByPuts x puts k.set.set) (sym (e.only h start stands)) l.left), now))
 
 pub returns-in-Err-outcome-clause-fault : goal.returns-in-Err-outcome-clause-fault
 returns-in-Err-outcome-clause-fault g c = λ h.
-    let bytes = g.D.Disk.bytes c.args.disk in let left = g.R.Read.remaining c.args.r.now in
+    let bytes = g.D.Disk.bytes c.args.disk in let left = g.R.Read.remaining c.args.r.now.inner in
     subst (λ (f : CommandFault). IsImportingFault bytes left f) (sym c.into-in-Err-outcome.ensures) (importing-run bytes left c.in-Err-outcome.fault)
 
 pub returns-in-Err-outcome-clause-cause : goal.returns-in-Err-outcome-clause-cause
 returns-in-Err-outcome-clause-cause g c = λ is.
     let D = g.D.Disk in let e = c.in-Ok.ensures in let l = c.import_flags-kept.ensures in let k = c.import_flags-kept.result.0 in
     let get = λ (x : Kept g.row.D.Denot). x.set in let first : Kept g.row.D.Denot = record { set = c.in-Ok.set } in let f = c.in-Err-outcome.fault in
-    let course : CourseOf {A = Bool} D.honest D.faults get first k (Err f) = subst (λ (o : Result Bool ApplyFault). CourseOf D.honest D.faults get first k o) c.in-Err-outcome.is l.course in
-    course-cause Bool D.honest D.unsynced D.faults get first k f c.into_disk-disk.result (D.faults c.args.disk) e.calm course
-    (sym c.into-in-Err-outcome.ensures ∙ is) e.ready c.into_disk-disk.ensures.disk c.into_disk-disk.ensures.sure
+    let asks = λ (x : Kept g.row.D.Denot) (p : Proposal). IsStoppedByPuts c.in-Ok.set.set (map seen c.in-Ok-read_document.flags.items) x.set.set p in
+    let course : CourseOf D.honest D.unsynced D.faults asks get first k {A = Bool} (Err f) = subst (λ (o : Result Bool ApplyFault). CourseOf D.honest D.unsynced D.faults asks get first k o) c.in-Err-outcome.is l.course in
+    let left = g.R.Read.remaining c.args.r.now.inner in let disk = c.into_disk-disk.result in
+    let honest = course-honest D.honest D.unsynced D.faults asks get first k c.import_flags-kept.result.1 l.course in
+    course-cause D.honest D.unsynced D.faults asks get first k Bool f disk (D.faults c.args.disk) (D.honest c.args.disk) (D.bytes c.args.disk) left IsStoppedByImport e.calm course
+    (sym c.into-in-Err-outcome.ensures ∙ is) e.ready c.into_disk-disk.ensures.disk (λ h. subst D.honest (sym c.into_disk-disk.ensures.disk) (honest.0 (e.honest.0 h))) e.stands
+    (λ x p asked. IfSome_then left c.in-Ok-read_document.ensures.flags (λ input known. (map seen c.in-Ok-read_document.flags.items, known, asked)))
+
+pub returns-in-Err-outcome-clause-device : goal.returns-in-Err-outcome-clause-device
+returns-in-Err-outcome-clause-device g c =
+    let D = g.D.Disk in let e = c.in-Ok.ensures in let l = c.import_flags-kept.ensures in let k = c.import_flags-kept.result.0 in
+    let get = λ (x : Kept g.row.D.Denot). x.set in let first : Kept g.row.D.Denot = record { set = c.in-Ok.set } in let f = c.in-Err-outcome.fault in
+    let asks = λ (x : Kept g.row.D.Denot) (p : Proposal). IsStoppedByPuts c.in-Ok.set.set (map seen c.in-Ok-read_document.flags.items) x.set.set p in
+    let course : CourseOf D.honest D.unsynced D.faults asks get first k {A = Bool} (Err f) = subst (λ (o : Result Bool ApplyFault). CourseOf D.honest D.unsynced D.faults asks get first k o) c.in-Err-outcome.is l.course in
+    let d0 = D.faults c.args.disk in let d1 = D.faults c.into_disk-disk.result in
+    let r0 = c.args.r.now.failures in let r1 = c.read_document.new.r.failures in let w0 = c.args.w.now.failures in let w1 = c.import_flags-kept.new.w.failures in
+    let here : d1 ≡ D.faults k.set.journal.disk = ap D.faults c.into_disk-disk.ensures.disk in
+    let read : r1 ≡ r0 = c.in-Ok-read_document.ensures.device in
+    subst (λ (o : CommandFault). Blames {A = Bool} (d0 + (r0 + w0)) (d1 + (r1 + w1)) (Err o)) (sym c.into-in-Err-outcome.ensures)
+    (blames-more Bool Bool (d0 + w0) (d1 + w1) (d0 + (r0 + w0)) (d1 + (r1 + w1)) (of_run f) (λ less. omega (arith, less, read))
+    (blames-run Bool Bool d0 d1 w0 w1 f (λ is. here ∙ course-calm D.honest D.unsynced D.faults asks get first k Bool f course is ∙ e.calm)
+    (subst (λ (o : Result Bool ApplyFault). plane.Blames w0 w1 o) c.in-Err-outcome.is l.device)))
+
+pub returns-in-Ok-outcome-clause-device : goal.returns-in-Ok-outcome-clause-device
+returns-in-Ok-outcome-clause-device g c =
+    let D = g.D.Disk in let e = c.in-Ok.ensures in let l = c.import_flags-kept.ensures in let k = c.import_flags-kept.result.0 in
+    let get = λ (x : Kept g.row.D.Denot). x.set in let first : Kept g.row.D.Denot = record { set = c.in-Ok.set } in
+    let asks = λ (x : Kept g.row.D.Denot) (p : Proposal). IsStoppedByPuts c.in-Ok.set.set (map seen c.in-Ok-read_document.flags.items) x.set.set p in
+    let told = c.in-Ok-outcome.told in let is = c.in-Ok-outcome.is in
+    let here : D.faults c.into_disk-disk.result ≡ D.faults k.set.journal.disk = ap D.faults c.into_disk-disk.ensures.disk in
+    let went = (course-goes D.honest D.unsynced D.faults asks get first k c.import_flags-kept.result.1 told is l.course).calm in
+    let read : c.read_document.new.r.failures ≡ c.args.r.now.failures = c.in-Ok-read_document.ensures.device in
+    let sent : c.import_flags-kept.new.w.failures ≡ c.args.w.now.failures = subst (λ (o : Result Bool ApplyFault). plane.Blames c.args.w.now.failures c.import_flags-kept.new.w.failures o) is l.device in
+    let opened : D.faults c.in-Ok.set.journal.disk ≡ D.faults c.args.disk = e.calm in
+    omega (arith, here, went, read, sent, opened)
 
 pub returns-in-Err-outcome-clause-honest : goal.returns-in-Err-outcome-clause-honest
 returns-in-Err-outcome-clause-honest g c =
-    let D = g.D.Disk in let e = c.in-Ok.ensures in let get = λ (x : Kept g.row.D.Denot). x.set in let first : Kept g.row.D.Denot = record { set = c.in-Ok.set } in
-    let both = course-honest D.honest D.faults get first c.import_flags-kept.result.0 c.import_flags-kept.result.1 c.import_flags-kept.ensures.course in
+    let D = g.D.Disk in let e = c.in-Ok.ensures in let get = λ (x : Kept g.row.D.Denot). x.set in let first : Kept g.row.D.Denot = record { set = c.in-Ok.set } in let asks = λ (x : Kept g.row.D.Denot) (p : Proposal). IsStoppedByPuts c.in-Ok.set.set (map seen c.in-Ok-read_document.flags.items) x.set.set p in
+    let both = course-honest D.honest D.unsynced D.faults asks get first c.import_flags-kept.result.0 c.import_flags-kept.result.1 c.import_flags-kept.ensures.course in
     let at = c.into_disk-disk.ensures.disk in
     (λ h. subst D.honest (sym at) (both.0 (e.honest.0 h)), λ h. e.honest.1 (both.1 (subst D.honest at h)))

@@ -10,7 +10,7 @@ use Rattle.fp_commands.proofs.disk.show_disk.Goals as goal
 
 pub returns-in-Ok-clause-shown : goal.returns-in-Ok-clause-shown
 returns-in-Ok-clause-shown g c =
-    let D = g.D.Disk in let old = g.W.Write.contents c.args.w.now in let new = g.W.Write.contents c.show-outcome.new.w in
+    let D = g.D.Disk in let old = g.W.Write.contents c.args.w.now.inner in let new = g.W.Write.contents c.show-outcome.new.w.inner in
     ok_more c.show-outcome.result (Appends old new (show_line c.set.result.now)) (IsShown (D.honest c.args.disk) (D.bytes c.args.disk) old new)
     (λ w. record { flags = c.in-Ok.set.set; stood = c.in-Ok.ensures.stands; written = subst (λ (s : State). Appends old new (show_line s)) c.set.ensures w })
     c.show-outcome.ensures.shown

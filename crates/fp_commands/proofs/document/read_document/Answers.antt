@@ -10,12 +10,8 @@ use Rattle.fp_commands.proofs.document.read_document.Goals as goal
 
 pub returns-clause-fault : goal.returns-clause-fault
 returns-clause-fault g c =
-    let left = g.R.Read.remaining c.args.r.now in let fault = c.in-Err-expand_document.fault in
-    let bytes : IfSome left (λ xs. c.read_to_end.new.buf.items ≡ c.new-bytes.result.items ++ xs) = c.in_default.ensures.bytes in
-    let refuses : IfSome left (λ input. Refuses fault (import_of input)) = IfSome_then left bytes (λ input is.
+    let left = g.R.Read.remaining c.args.r.now.inner in let fault = c.in-Err.fault in
+    let refuses : IfSome left (λ input. Refuses fault (import_of input)) = IfSome_then left c.in_ok-bytes.ensures.bytes (λ input is.
     subst (Refuses fault) (sym (import-known view input c.deref.result.now c.in_ok-document.field-0 c.in-Some.document
-    (c.deref.ensures.value ∙ is ∙ ap (λ (l : List ℕ). l ++ input) c.new-bytes.ensures.items) c.in_ok-document.ensures c.in-Some.is)) c.in-Err-expand_document.ensures.flags) in
+    (c.deref.ensures.value ∙ is) c.in_ok-document.ensures c.in-Some.is)) c.in-Err.ensures.flags) in
     subst (λ (f : CommandFault). IsDocumentFault left f) (sym c.into.ensures) (document-fault left fault refuses)
-
-pub returns-in-Err-clause-fault : goal.returns-in-Err-clause-fault
-returns-in-Err-clause-fault g c = c.unread.ensures (g.R.Read.remaining c.args.r.now)

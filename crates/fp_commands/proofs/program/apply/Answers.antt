@@ -7,8 +7,8 @@ pub returns : goal.returns
 returns g c =
     let told = c.in_ok-_told._told in
     let now = c.apply_lines-flags.result.0 in
-    let left = g.R.Read.remaining c.args.r.now in
-    let old = g.W.Write.contents c.args.w.now in
-    let new = g.W.Write.contents c.apply_lines-flags.new.w in
+    let left = g.R.Read.remaining c.args.r.now.inner in
+    let old = g.W.Write.contents c.args.w.now.inner in
+    let new = g.W.Write.contents c.apply_lines-flags.new.w.inner in
     let run : IfSome left (λ input. IsRunOver c.new.result input told old new now) = subst (λ o. IfOk o (λ b. IfSome left (λ input. IsRunOver c.new.result input b old new now))) c.in_ok-_told.was c.apply_lines-flags.ensures.run in
     IfSome_then left run (λ input r. (told, now, subst (λ s. IsRunOver s input told old new now) c.new.ensures r))
