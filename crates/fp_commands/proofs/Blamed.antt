@@ -1,14 +1,12 @@
 -- What failed, as a whole command counts it.
 use Rattle.std.proofs.Common.{◌≡◌, ◌<◌, ◌+◌, ℕ, Result, Ok, Err, refl, arith}
-use Rattle.fp_layout.specs.declared.fault.OpenFault.{OpenFault}
-use Rattle.fp_layout.specs.declared.fault.OpenFault.TheVariants as opening
 use Rattle.fp_plane.specs.Streams as plane
 use Rattle.fp_plane.specs.declared.fault.ApplyFault.{ApplyFault}
 use Rattle.fp_plane.specs.declared.fault.ApplyFault.TheVariants as run
 use Rattle.fp_commands.specs.declared.fault.CommandFault.{CommandFault}
 use Rattle.fp_commands.specs.declared.fault.CommandFault.TheVariants.{NotEmpty, Unformatted, UnknownVersion, Damaged, Device, StoreFailed, Memory, NotDocument, UnknownEvaluator, EvaluatorsTooDeep, BadKey, Flag}
 use Rattle.fp_commands.specs.Disks.{Blames}
-use Rattle.fp_commands.specs.Faults.{of_open, of_run}
+use Rattle.fp_commands.specs.Faults.{of_run}
 
 -- more was counted, and rose where this did
 pub blames-more : (A B : Type 0) (a b c d : ℕ) (f : CommandFault) → (a < b → c < d) → Blames {A = A} a b (Err f) → Blames {A = B} c d (Err f)
@@ -24,14 +22,6 @@ blames-more A B a b c d (UnknownEvaluator name) more h = tt
 blames-more A B a b c d EvaluatorsTooDeep more h = tt
 blames-more A B a b c d BadKey more h = tt
 blames-more A B a b c d (Flag key fault) more h = tt
-
--- the disk alone was looked at
-pub blames-open : (B : Type 0) (a b s : ℕ) (f : OpenFault) → (f ≡ opening.Device → a < b) → Blames {A = B} (a + s) (b + s) (Err (of_open f))
-blames-open B a b s opening.Device more = let rose = more refl in omega (arith, rose)
-blames-open B a b s opening.Unformatted more = tt
-blames-open B a b s (opening.UnknownVersion version) more = tt
-blames-open B a b s (opening.Damaged at) more = tt
-blames-open B a b s opening.Memory more = tt
 
 -- a run over streams, while the disk went on or failed
 pub blames-run : (A B : Type 0) (a b s t : ℕ) (f : ApplyFault) → (f ≡ run.Device → b ≡ a) → plane.Blames {A = A} s t (Err f) → Blames {A = B} (a + s) (b + t) (Err (of_run f))

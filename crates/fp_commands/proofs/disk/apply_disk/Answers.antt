@@ -14,7 +14,7 @@ use Rattle.fp_commands.specs.declared.kept.Kept.{Kept}
 use Rattle.fp_commands.specs.Disks.{Blames, IsApplyingFault}
 use Rattle.fp_commands.specs.Faults.{of_run}
 use Rattle.fp_commands.proofs.Courses.{CourseOf, course-honest, course-goes, course-ready, course-calm, course-cause}
-use Rattle.fp_commands.proofs.Blamed.{blames-more, blames-open, blames-run}
+use Rattle.fp_commands.proofs.Blamed.{blames-run}
 use Rattle.fp_commands.proofs.Told.{applying-open, applying-run, left-at_once, some_all, some_both, some_if}
 use Rattle.fp_commands.proofs.disk.apply_disk.Goals as goal
 

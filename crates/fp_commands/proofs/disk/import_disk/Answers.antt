@@ -15,7 +15,7 @@ use Rattle.fp_commands.specs.Disks.{Blames, IsImportingFault, IsLeftByImport, Is
 use Rattle.fp_commands.specs.Documents.{IsDocumentFault}
 use Rattle.fp_commands.specs.Faults.{of_run}
 use Rattle.fp_commands.proofs.Courses.{CourseOf, course-honest, course-goes, course-ready, course-calm, course-cause}
-use Rattle.fp_commands.proofs.Blamed.{blames-more, blames-open, blames-run}
+use Rattle.fp_commands.proofs.Blamed.{blames-more, blames-run}
 use Rattle.fp_commands.proofs.Told.{some_all}
 use Rattle.fp_commands.proofs.Imported.{importing-open, importing-run, importing-document}
 use Rattle.fp_commands.proofs.disk.import_disk.Goals as goal
