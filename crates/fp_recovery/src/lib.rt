@@ -12,4 +12,6 @@ pub use fault::AdmitFault;
 pub use laws::bytes_stand_for_one;
 
 #[cfg(test)]
+mod batch_tests;
+#[cfg(test)]
 mod tests;

@@ -22,7 +22,7 @@ fn made(alloc: Global, bytes: u64) -> Result<DurableSet<MemoryDisk>, Fail> {
     }
 }
 
-fn put(alloc: Global, set: &mut DurableSet<MemoryDisk>, key: &str) -> Option<u64> {
+pub(crate) fn put(alloc: Global, set: &mut DurableSet<MemoryDisk>, key: &str) -> Option<u64> {
     let line = format!(in alloc;
         "{{\"flag\":{ON},\"if\":\"any\",\"key\":\"{key}\",\"op\":\"put\"}}"
     ).ok()?;
@@ -31,7 +31,7 @@ fn put(alloc: Global, set: &mut DurableSet<MemoryDisk>, key: &str) -> Option<u64
 }
 
 // A disk that was made and took puts of these keys.
-fn disk_of(alloc: Global, bytes: u64, keys: &[&str]) -> Result<MemoryDisk, Fail> {
+pub(crate) fn disk_of(alloc: Global, bytes: u64, keys: &[&str]) -> Result<MemoryDisk, Fail> {
     let mut set = made(alloc, bytes)?;
     let mut done = true;
     for key in keys {
@@ -46,7 +46,7 @@ fn disk_of(alloc: Global, bytes: u64, keys: &[&str]) -> Result<MemoryDisk, Fail>
 }
 
 // The revision and the document of what a disk stands for, or why it isn't opened.
-fn opened(alloc: Global, disk: MemoryDisk) -> Result<Result<(u64, Vec<u8>), OpenFault>, Fail> {
+pub(crate) fn opened(alloc: Global, disk: MemoryDisk) -> Result<Result<(u64, Vec<u8>), OpenFault>, Fail> {
     let set = match DurableSet::open(alloc, disk) {
         Ok(set) => set,
         Err((fault, _disk)) => return Ok(Err(fault)),
