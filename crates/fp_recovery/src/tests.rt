@@ -46,7 +46,10 @@ pub(crate) fn disk_of(alloc: Global, bytes: u64, keys: &[&str]) -> Result<Memory
 }
 
 // The revision and the document of what a disk stands for, or why it isn't opened.
-pub(crate) fn opened(alloc: Global, disk: MemoryDisk) -> Result<Result<(u64, Vec<u8>), OpenFault>, Fail> {
+pub(crate) fn opened(
+    alloc: Global,
+    disk: MemoryDisk,
+) -> Result<Result<(u64, Vec<u8>), OpenFault>, Fail> {
     let set = match DurableSet::open(alloc, disk) {
         Ok(set) => set,
         Err((fault, _disk)) => return Ok(Err(fault)),
