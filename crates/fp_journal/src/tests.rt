@@ -128,52 +128,49 @@ fn bodies_are_sealed_behind_one_another(rt: HostRuntime) -> Result<(), Fail> {
     Ok(())
 }
 
+// Bytes and the slot's end, and the place of the closed gate.
+const ENDS: [(&[u8], u64, u64); 3] = [
+    (&[37], 9, 0),
+    (&[165, 0, 0, 0, 0, 37], 9, 5),
+    (&[165, 0, 0, 0, 8, 1, 2, 3, 4, 5, 6, 7, 8, 0], 14, 13),
+];
+
+// Bytes and the slot's end, and the place of the first wrong byte.
+const DAMAGES: [(&[u8], u64, u64); 12] = [
+    (&[], 9, 0),
+    (&[0], 0, 0),
+    (&[165, 0, 0, 0], 9, 1),
+    (&[165, 0, 0, 0, 0, 0], 4, 1),
+    (&[165, 0, 0, 0, 9, 1, 2, 3, 4, 5, 6, 7, 8, 9, 0], 15, 1),
+    (&[165, 8, 0, 0, 0, 1, 2, 3, 4, 5, 6, 7, 8, 0], 14, 1),
+    (&[165, 0, 0, 0, 2, 7], 9, 5),
+    (&[165, 0, 0, 0, 2, 7, 7, 0], 6, 5),
+    (&[165, 0, 0, 0, 0], 9, 5),
+    (&[165, 0, 0, 0, 0, 0], 5, 5),
+    (&[165, 0, 0, 0, 1, 255, 0], 9, 5),
+    (&[165, 0, 0, 0, 1, 7, 165, 0, 0, 0, 1, 255, 0], 13, 11),
+];
+
+// What is read of a chain in a slot that begins with these bytes.
+fn chain_of(alloc: Global, bytes: &[u8], stop: u64) -> Result<u64, ChainFault> {
+    let slot = Slot {
+        start: 0,
+        stop,
+        most: 8,
+    };
+    read_chain(bytes, 0, slot, &mut empty_reader(alloc))
+}
+
 #[test]
-fn the_first_wrong_byte_is_named(rt: HostRuntime) -> Result<(), Fail> {
-    let end = |at: u64| -> Result<u64, ChainFault> { Ok(at) };
-    let bad = |at: u64| -> Result<u64, ChainFault> { Err(ChainFault::Damaged { at }) };
-    for (bytes, stop, want) in [
-        ([37].as_slice(), 9, end(0)),
-        ([165, 0, 0, 0, 0, 37].as_slice(), 9, end(5)),
-        (
-            [165, 0, 0, 0, 8, 1, 2, 3, 4, 5, 6, 7, 8, 0].as_slice(),
-            14,
-            end(13),
-        ),
-        ([].as_slice(), 9, bad(0)),
-        ([0].as_slice(), 0, bad(0)),
-        ([165, 0, 0, 0].as_slice(), 9, bad(1)),
-        ([165, 0, 0, 0, 0, 0].as_slice(), 4, bad(1)),
-        (
-            [165, 0, 0, 0, 9, 1, 2, 3, 4, 5, 6, 7, 8, 9, 0].as_slice(),
-            15,
-            bad(1),
-        ),
-        (
-            [165, 8, 0, 0, 0, 1, 2, 3, 4, 5, 6, 7, 8, 0].as_slice(),
-            14,
-            bad(1),
-        ),
-        ([165, 0, 0, 0, 2, 7].as_slice(), 9, bad(5)),
-        ([165, 0, 0, 0, 2, 7, 7, 0].as_slice(), 6, bad(5)),
-        ([165, 0, 0, 0, 0].as_slice(), 9, bad(5)),
-        ([165, 0, 0, 0, 0, 0].as_slice(), 5, bad(5)),
-        ([165, 0, 0, 0, 1, 255, 0].as_slice(), 9, bad(5)),
-        (
-            [165, 0, 0, 0, 1, 7, 165, 0, 0, 0, 1, 255, 0].as_slice(),
-            13,
-            bad(11),
-        ),
-    ] {
-        let slot = Slot {
-            start: 0,
-            stop,
-            most: 8,
-        };
-        let found = read_chain(bytes, 0, slot, &mut empty_reader(rt.alloc()));
-        assert_eq!(rt; found, want, "{bytes:?} {stop}");
+fn the_first_wrong_byte_is_named(rt: HostRuntime) {
+    let alloc = rt.alloc();
+    for (bytes, stop, at) in ENDS {
+        assert_eq!(rt; chain_of(alloc, bytes, stop), Ok(at), "{bytes:?} {stop}");
     }
-    Ok(())
+    for (bytes, stop, at) in DAMAGES {
+        let want = Err(ChainFault::Damaged { at });
+        assert_eq!(rt; chain_of(alloc, bytes, stop), want, "{bytes:?} {stop}");
+    }
 }
 
 // How many bodies a crash leaves of a journal.
