@@ -106,6 +106,7 @@ impl<R: Read> Counted<R> {
         ensures bytes { IfOk result (λ bytes.
             IfSome (R.remaining self.old.inner) (λ left. bytes.items ≡ left)) }
         ensures counted { Counts self.old.failures self.new.failures result }
+        ensures reads { self.new.reads_left ≡ self.old.reads_left }
     {
         let mut bytes = Vec::new(alloc);
         match self.stream.read_to_end(&mut bytes) {
@@ -123,6 +124,7 @@ impl<W: Write> Counted<W> {
             (Appends (W.contents self.old.inner) (W.contents self.new.inner) bytes.now) }
         ensures fault { IfErr result (λ f. f ≡ Device) }
         ensures counted { Counts self.old.failures self.new.failures result }
+        ensures reads { self.new.reads_left ≡ self.old.reads_left }
     {
         match write_and_flush(&mut self.stream, bytes) {
             Ok(()) => Ok(()),
