@@ -1,5 +1,5 @@
 -- How what was answered grows.
-use Rattle.std.proofs.Common.{◌≡◌, ℕ, List, Bool, not, cond, [], ◌∷◌, ◌++◌, ◌&&◌, true, false, inl, inr, refl, sym, ap, subst, ◌∙◌, append_assoc, append-nil}
+use Rattle.std.proofs.Common.{◌≡◌, ℕ, List, not, cond, [], ◌∷◌, ◌++◌, ◌&&◌, true, false, inl, inr, refl, sym, ap, subst, ◌∙◌, append_assoc, append-nil}
 use Rattle.std.proofs.lemmas.List.Folds.{list_all-append}
 use Rattle.std.specs.List.{list_all}
 use Rattle.fp_edit.specs.Flags.{State}

@@ -1,5 +1,5 @@
 -- Runs over whole inputs.
-use Rattle.std.proofs.Common.{◌≡◌, ℕ, List, [], ◌++◌, take, refl, Option, Some, None, sym, ap, subst, ◌∙◌, append-nil, append_assoc}
+use Rattle.std.proofs.Common.{◌≡◌, ℕ, List, [], ◌++◌, take, refl, Option, Some, sym, ap, subst, ◌∙◌, append-nil, append_assoc}
 use Rattle.std.specs.Io.KnownBytes.{Appends, Consumes, IsAtEnd}
 use Rattle.fp_base.proofs.Known.{Appends-nil, Appends-more, Consumes-some}
 use Rattle.fp_edit.specs.Edits.{Proposal}

@@ -69,7 +69,7 @@ impl Exchange {
             → IsSoFar start seen sent self.old (E.state edits.old)
             → IsStoppedWithin start (seen ++ bytes.now) (E.state s) p)
             edits.old edits.new result }
-        ensures within_fault { IfErr result IsFromWithin }
+        ensures fault { IfErr result IsFromWithin }
     {
         let mut rest = bytes;
         while let Some(at) = newline_in(rest) {
@@ -94,7 +94,7 @@ impl Exchange {
             → IsSoFar start seen sent self.old (E.state edits.old)
             → IsStoppedBy start seen (E.state s) p)
             edits.old edits.new result }
-        ensures within_fault { IfErr result IsFromWithin }
+        ensures fault { IfErr result IsFromWithin }
     {
         self.end_line(alloc, edits)?;
         self.show(alloc, edits.flags())?;
@@ -144,7 +144,7 @@ impl Exchange {
         ensures course { Course E.leads_to E.fails_at
             (λ s p. IsAsked (E.state edits.old) (proposal_of edit) (E.state s) p)
             edits.old edits.new result }
-        ensures within_fault { IfErr result IsFromWithin }
+        ensures fault { IfErr result IsFromWithin }
     {
         let reply = Some(reply_to_edit(edits, edit)?);
         self.put(alloc, &reply)?;
@@ -185,7 +185,7 @@ impl Exchange {
             (λ s p. (line : List ℕ) → self.old.line.items ≡ cut line
             → IsAskedBy (E.state edits.old) line (E.state s) p)
             edits.old edits.new result }
-        ensures within_fault { IfErr result IsFromWithin }
+        ensures fault { IfErr result IsFromWithin }
     {
         let reply = reply_to(alloc, edits, &self.line)?;
         self.put(alloc, &reply)?;
@@ -251,7 +251,7 @@ fn reply_to<E: Edits>(
     ensures course { Course E.leads_to E.fails_at
         (λ s p. IsAskedBy (E.state edits.old) line.now (E.state s) p)
         edits.old edits.new result }
-    ensures within_fault { IfErr result IsFromWithin }
+    ensures fault { IfErr result IsFromWithin }
 {
     if is_blank(line) {
         return Ok(None);
@@ -273,7 +273,7 @@ fn reply_to_edit<E: Edits>(edits: &mut E, edit: Edit) -> Result<Reply, ApplyFaul
     ensures course { Course E.leads_to E.fails_at
         (λ s p. IsAsked (E.state edits.old) (proposal_of edit) (E.state s) p)
         edits.old edits.new result }
-    ensures within_fault { IfErr result IsFromWithin }
+    ensures fault { IfErr result IsFromWithin }
 {
     match edits.admit(edit) {
         Ok(revision) => Ok(Reply::Revision(revision)),
