@@ -1,5 +1,5 @@
 -- What failed, as a whole command counts it.
-use Rattle.std.proofs.Common.{◌≡◌, ◌<◌, ◌+◌, ℕ, Result, Ok, Err, refl, arith}
+use Rattle.std.proofs.Common.{◌≡◌, ◌<◌, ◌+◌, ℕ, Err, refl, arith}
 use Rattle.fp_plane.specs.Streams as plane
 use Rattle.fp_plane.specs.declared.fault.ApplyFault.{ApplyFault}
 use Rattle.fp_plane.specs.declared.fault.ApplyFault.TheVariants as run

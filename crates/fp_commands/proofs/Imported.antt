@@ -1,10 +1,10 @@
 -- Documents that are imported, and what is wrong with them.
-use Rattle.std.proofs.Common.{◌≡◌, ◌∙◌, ℕ, List, Option, Some, None, Result, Err, IfSome, string_bytes, sym, ap, subst}
+use Rattle.std.proofs.Common.{◌≡◌, ◌∙◌, ℕ, List, Option, Some, IfSome, string_bytes, sym, ap}
 use Rattle.std.specs.Prelude.{option_map}
 use Rattle.std.proofs.lemmas.Option.{IfSome_then}
 use Rattle.serde_json.specs.Data.{Data}
 use Rattle.fp_base.specs.Json.{json_of}
-use Rattle.fp_imports.specs.Document.{Flag, Refusal, document}
+use Rattle.fp_imports.specs.Document.{document}
 use Rattle.fp_imports.specs.Faults.{Refuses}
 use Rattle.fp_imports.specs.declared.faults.ImportFault.{ImportFault}
 use Rattle.fp_imports.specs.declared.faults.ImportFault.TheVariants as import

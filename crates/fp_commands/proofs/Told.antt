@@ -1,5 +1,5 @@
 -- What the program tells, and what it shows.
-use Rattle.std.proofs.Common.{◌≡◌, List, [], ◌++◌, ℕ, Bool, Option, Some, None, Result, Ok, Err, IfSome, IfOk, OnOk, refl, subst}
+use Rattle.std.proofs.Common.{◌≡◌, List, [], ℕ, Bool, Option, Some, None, Result, Ok, Err, IfSome, IfOk, OnOk, refl, subst}
 use Rattle.std.proofs.lemmas.Option.{IfSome_then}
 use Rattle.fp_edit.specs.Flags.{State}
 use Rattle.fp_disk.specs.Outcomes.{Unsynced}

@@ -1,5 +1,5 @@
 -- Flagd documents that are imported.
-use Rattle.std.specs.Prelude.{◌≡◌, ℕ, List, Option, Some, None, Result, Ok, Err, IfSome, IsSomeAnd, string_bytes}
+use Rattle.std.specs.Prelude.{◌≡◌, ℕ, List, Option, Some, None, Result, Err, IfSome, IsSomeAnd, string_bytes}
 use Rattle.serde_json.specs.Data.{Data}
 use Rattle.fp_base.specs.Json.{json_of}
 use Rattle.fp_definition.specs.Faults.{tells}

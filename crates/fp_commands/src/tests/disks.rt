@@ -47,7 +47,12 @@ fn a_call_that_fails_loses_no_reply(rt: HostRuntime) -> Result<(), Fail> {
         let mut disk = small_disk(alloc)?;
         disk.set_failing(Failing::At(call), FailedWrite::Half);
         let mut output = Counted::new(Vec::new(alloc));
-        let (mut disk, outcome) = apply_disk(alloc, &mut Counted::new(input.as_bytes()), &mut output, disk);
+        let (mut disk, outcome) = apply_disk(
+            alloc,
+            &mut Counted::new(input.as_bytes()),
+            &mut output,
+            disk,
+        );
         let told = match outcome {
             Err(CommandFault::Device) => call < 3,
             Err(CommandFault::StoreFailed) => call >= 3,
@@ -82,10 +87,17 @@ fn a_disk_without_room_fails(rt: HostRuntime) -> Result<(), Fail> {
     let input = put.repeat(alloc, 16)?;
     let mut output = Counted::new(Vec::new(alloc));
     let disk = small_disk(alloc)?;
-    let (disk, outcome) = apply_disk(alloc, &mut Counted::new(input.as_bytes()), &mut output, disk);
+    let (disk, outcome) = apply_disk(
+        alloc,
+        &mut Counted::new(input.as_bytes()),
+        &mut output,
+        disk,
+    );
     assert!(rt; matches!(outcome, Err(CommandFault::StoreFailed)));
     assert!(rt;
-        output.get_ref().as_slice()
+        output
+            .get_ref()
+            .as_slice()
             .ends_with(b"{\"revision\":14}\n{\"revision\":15}\n")
     );
     let shown = shown_by(alloc, disk)?;

@@ -61,7 +61,12 @@ fn what_is_no_document_changes_nothing(rt: HostRuntime) -> Result<(), Fail> {
     for (document, text) in REFUSED {
         let mut output = Counted::new(Vec::new(alloc));
         let disk = small_disk(alloc)?;
-        let (disk, outcome) = import_disk(alloc, &mut Counted::new(document.as_bytes()), &mut output, disk);
+        let (disk, outcome) = import_disk(
+            alloc,
+            &mut Counted::new(document.as_bytes()),
+            &mut output,
+            disk,
+        );
         let Err(fault) = outcome else {
             return Err(Fail::new("imported"));
         };

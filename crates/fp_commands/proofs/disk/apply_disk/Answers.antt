@@ -1,4 +1,4 @@
-use Rattle.std.proofs.Common.{◌≡◌, ◌≢◌, ◌∙◌, ◌+◌, arith, ℕ, List, Bool, true, Option, Result, Ok, Err, IfOk, IfSome, sym, ap, subst}
+use Rattle.std.proofs.Common.{◌≡◌, ◌∙◌, ◌+◌, arith, ℕ, List, Bool, true, Result, Err, IfOk, IfSome, sym, ap, subst}
 use Rattle.std.proofs.lemmas.Option.{IfSome_then}
 use Rattle.std.specs.Io.KnownBytes.{Appends}
 use Rattle.fp_edit.specs.Edits.{Proposal}
@@ -9,10 +9,8 @@ use Rattle.fp_plane.specs.Streams as plane
 use Rattle.fp_plane.specs.declared.fault.ApplyFault.{ApplyFault}
 use Rattle.fp_recovery.specs.Stands.{StandsFor}
 use Rattle.fp_commands.specs.declared.fault.CommandFault.{CommandFault}
-use Rattle.fp_commands.specs.declared.fault.CommandFault.TheVariants.{StoreFailed}
 use Rattle.fp_commands.specs.declared.kept.Kept.{Kept}
 use Rattle.fp_commands.specs.Disks.{Blames, IsApplyingFault}
-use Rattle.fp_commands.specs.Faults.{of_run}
 use Rattle.fp_commands.proofs.Courses.{CourseOf, course-honest, course-goes, course-ready, course-calm, course-cause}
 use Rattle.fp_commands.proofs.Blamed.{blames-run}
 use Rattle.fp_commands.proofs.Told.{applying-open, applying-run, left-at_once, some_all, some_both, some_if}

@@ -1,7 +1,6 @@
-use Rattle.std.proofs.Common.{◌≡◌, ◌∙◌, ◌++◌, ℕ, List, [], IfSome, sym, ap, subst}
+use Rattle.std.proofs.Common.{◌∙◌, IfSome, sym, subst}
 use Rattle.std.proofs.lemmas.Option.{IfSome_then}
 use Rattle.serde_json.specs.View.{view}
-use Rattle.fp_imports.specs.Document.{Flag, Refusal}
 use Rattle.fp_imports.specs.Faults.{Refuses}
 use Rattle.fp_commands.specs.declared.fault.CommandFault.{CommandFault}
 use Rattle.fp_commands.specs.Documents.{import_of, IsDocumentFault}
