@@ -28,3 +28,15 @@ module _ {D : Type 0} (moment : D → ℕ) (left_since : D → ℕ → List ℕ 
     each = λ c left. ⊎_elim (first.each c) (λ p. p) (second.before (moment old) c a left);
     before = λ t c le left. ⊎_elim (first.before t c le) (λ p. inr p) (second.before t c (omega (arith, a, le)) left);
   }
+
+  -- both are left where each is
+  pub leaves_both : (old new : D) (P Q : List ℕ → Type 0) → LeavesOnly moment left_since old new P → LeavesOnly moment left_since old new Q → LeavesOnly moment left_since old new (λ c. P c × Q c)
+  leaves_both old new P Q p q = record {
+    later = p.later;
+    each = λ c left. (p.each c left, q.each c left);
+    before = λ t c le left. ⊎_elim (λ past. inl past) (λ x. ⊎_elim (λ past. inl past) (λ y. inr (x, y)) (q.before t c le left)) (p.before t c le left);
+  }
+
+  -- no time goes by
+  pub leaves_still : (d : D) (P : List ℕ → Type 0) → ((c : List ℕ) → left_since d (moment d) c → P c) → LeavesOnly moment left_since d d P
+  leaves_still d P now = record { later = omega arith; each = now; before = λ t c le left. inl left }

@@ -8,7 +8,7 @@ use Rattle.fp_disk.specs.Moments.{leaves_map, leaves_then}
 use Rattle.fp_journal.specs.declared.slot.Slot.{Slot}
 use Rattle.fp_journal.specs.declared.journal.Phase.{Phase}
 use Rattle.fp_journal.specs.declared.journal.Phase.TheVariants.{Idle, Staged, BodySynced, GateOpened, Failed}
-use Rattle.fp_journal.specs.Holds.{Apart}
+use Rattle.fp_journal.specs.Holds.{Apart, Holds}
 use Rattle.fp_gate.specs.Gates.{IsOpen, IsShut, StaysAsRead}
 use Rattle.fp_journal.specs.Chain.{Ends, framed, with_gate, body_of, spell}
 use Rattle.fp_journal.specs.Moments.{KeepsFirm}
@@ -256,3 +256,19 @@ module _ {D : Type 0} (moment : D → ℕ) (left_since : D → ℕ → List ℕ 
   -- and a step that makes no call of the disk
   pub sealing_still : (old new : D) → new ≡ old → LeavesOnly moment left_since first.disk old Sealing → LeavesOnly moment left_since first.disk new Sealing
   sealing_still old new same leaves = subst (λ (d : D). LeavesOnly moment left_since first.disk d Sealing) (sym same) leaves
+
+  -- ---- text outside the slot over the calls
+  module _ (unsynced : D → Unsynced) where
+    abbrev Apart-on : D → Type 0
+    Apart-on new = KeepsFirm moment left_since unsynced first.disk new (Outside first.slot)
+
+    pub apart_more : (k : JournalState D) (new : D) → IsSealing k → Apart-on k.disk → KeepsFirm moment left_since unsynced k.disk new (Outside k.slot) → Apart-on new
+    apart_more k new s before now = λ at text out f.
+        let a = before at text out f in let b = now at text (subst (λ (x : Slot). Outside x at (length text)) (sym s.same.1) out) a.0 in
+        (b.0, leaves_then moment left_since first.disk k.disk new (λ c. Holds c at text) a.1 b.1)
+
+    pub apart_sync : (k : JournalState D) (new : D) → IsSealing k → Apart-on k.disk → KeepsFirm moment left_since unsynced k.disk new (λ at n. Unit {0}) → Apart-on new
+    apart_sync k new s before now = apart_more k new s before (λ at text out f. now at text tt f)
+
+    pub apart_still : (old new : D) → new ≡ old → Apart-on old → Apart-on new
+    apart_still old new same apart = subst Apart-on (sym same) apart

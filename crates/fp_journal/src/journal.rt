@@ -235,6 +235,7 @@ impl<D: Disk> Journal<D> {
         ensures token { IfOk result (λ t. (t.name ≡ self.new.name) × (t.bodies ≡ self.new.sealed)) }
         ensures err { OnErr result ((self.new.sealed ≡ self.old.sealed) × (self.new.staged ≡ framed) × (self.new.phase ≡ Failed)) }
         ensures any_moment { D.honest self.old.disk → LeavesOnly D.moment D.left_since self.old.disk self.new.disk (HasChainOrNext self.old.slot self.old.front self.old.sealed framed) }
+        ensures apart { D.honest self.old.disk → KeepsFirm D.moment D.left_since D.unsynced self.old.disk self.new.disk (Outside self.old.slot) }
         ensures exit { D.honest self.new.disk → OnOk result ((c : List ℕ) → IsOutcome (D.unsynced self.new.disk) c → HasChain self.new.slot self.new.front self.new.sealed c) }
         ensures honest { (D.honest self.old.disk → D.honest self.new.disk) × (D.honest self.new.disk → D.honest self.old.disk) }
         ensures cause { Answers (D.faults self.old.disk) (D.faults self.new.disk) result }

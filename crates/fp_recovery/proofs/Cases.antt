@@ -2,12 +2,12 @@
 use Rattle.std.proofs.Common.{◌≡◌, subst}
 use Rattle.std.specs.Prelude.{Result, Ok, Err, OnOk, OnErr, IfErr}
 
-pub ok_by : {T E : Type 0} (r : Result T E) (P Q : Type 0) → OnErr r (Q → ⊥) → Q → OnOk r P → P
-ok_by (Ok x) P Q never q p = p
-ok_by (Err e) P Q never q p = absurd (never q)
+pub ok_unless : {T E : Type 0} (r : Result T E) (P Q : Type 0) → OnErr r Q → (Q → ⊥) → OnOk r P → P
+ok_unless (Ok x) P Q q never p = p
+ok_unless (Err e) P Q q never p = absurd (never q)
 
-pub ok_known : {T E : Type 0} (r : Result T E) (P : Type 0) (x : T) → r ≡ Ok x → OnOk r P → P
-ok_known r P x is h = subst (λ z. OnOk z P) is h
+pub ok_known : {T E : Type 0} (r : Result T E) (P : Type 0) {x : T} → r ≡ Ok x → OnOk r P → P
+ok_known r P is h = subst (λ z. OnOk z P) is h
 
 pub err_more : {T E : Type 0} (r : Result T E) (P Q : E → Type 0) → ((e : E) → P e → Q e) → IfErr r P → IfErr r Q
 err_more (Ok x) P Q f h = tt

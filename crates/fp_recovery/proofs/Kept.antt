@@ -1,16 +1,19 @@
 -- A set that is kept: its disk stands for it, and so after one batch more.
-use Rattle.std.proofs.Common.{◌≡◌, ◌⊎◌, ◌<◌, ◌≤◌, ◌+◌, ◌/◌, ℕ, List, [], ◌∷◌, ◌++◌, length, refl, sym, ap, subst, ◌∙◌, inl, inr, arith, append_assoc, length-append, lit<, lit≤}
+use Rattle.std.proofs.Common.{◌≡◌, ◌⊎◌, ◌<◌, ◌≤◌, ◌+◌, ◌/◌, ℕ, List, [], ◌∷◌, ◌++◌, length, refl, sym, ap, subst, ◌∙◌, inl, inr, ⊎_elim, arith, append_assoc, length-append, lit<, lit≤}
 use Rattle.std.specs.Prelude.{◌↔◌, Bool, true, false, IsTrue, slice_index, slice_range}
 use Rattle.std.proofs.lemmas.List.{append-nil, ext_get_or}
 use Rattle.std.specs.FinMap as fin
 use Rattle.std.specs.List.Sorted.{IsStrictlySortedBy}
-use Rattle.fp_disk.specs.Outcomes.{Unsynced, IsOutcome, settled}
-use Rattle.fp_edit.specs.Edits.{Change}
+use Rattle.fp_disk.specs.Outcomes.{Unsynced, IsOutcome, LeavesOnly, settled}
+use Rattle.fp_disk.specs.Moments.{leaves_both, leaves_map, leaves_still}
+use Rattle.fp_edit.specs.Admits.{Admits, accepted}
+use Rattle.fp_edit.specs.Edits.{Change, Proposal}
 use Rattle.fp_edit.specs.Flags.{State}
 use Rattle.fp_journal.specs.Holds.{Holds, IsFirm}
 use Rattle.fp_journal.specs.Chain.{Ends, spell}
 use Rattle.fp_journal.specs.Reading.{IsChain, Reads}
-use Rattle.fp_journal.specs.State.{AllShort, HasChain, JournalState, Outside, room}
+use Rattle.fp_journal.specs.Moments.{KeepsFirm}
+use Rattle.fp_journal.specs.State.{AllShort, HasChain, HasChainOrNext, JournalState, Outside, room}
 use Rattle.fp_journal.specs.declared.slot.Slot.{Slot}
 use Rattle.fp_journal.proofs.Holds.{holds_front, holds_back, byte_held, holds_byte, held_range, range_held, firm_outcome, firm_settled}
 use Rattle.fp_journal.proofs.Links.{reads_more}
@@ -21,6 +24,7 @@ use Rattle.fp_layout.specs.NewDisk.{IsNewDisk, header_text, new_front, empty_ima
 use Rattle.fp_layout.specs.Opening.{FoundDisk}
 use Rattle.fp_record.specs.Lawful.{IsImage}
 use Rattle.fp_record.specs.Spelling.{spelling_of_image}
+use Rattle.fp_recovery.specs.Admitting.{StandsForEither}
 use Rattle.fp_recovery.specs.Stands.{IsImageOf, TakesBatch, StandsFor}
 use Rattle.fp_recovery.specs.Refusals.{BeginsWith}
 use Rattle.fp_recovery.specs.Durable.{IsKept, IsSure}
@@ -32,13 +36,13 @@ module _ {D : Type 0} (u : Unsynced) (set : State) (journal : JournalState D) (k
   abbrev Bytes : List ℕ
   Bytes = k.bytes
 
-  pub kept_stands : (c : List ℕ) → IsOutcome u c → HasChain journal.slot journal.front journal.sealed c → StandsFor c set
-  kept_stands c o h =
+  -- what a crash left at some moment, where the header and the second gate were firm
+  pub held_stands : (c : List ℕ) → Holds c 0 (slice_range k.bytes 0 64) → Holds c (64 + k.size) (slice_index k.bytes (64 + k.size) ∷ []) → HasChain journal.slot journal.front journal.sealed c → StandsFor c set
+  held_stands c head gate h =
       let b = k.bytes in let size = k.size in let front = journal.front in
       let e : Ends 64 (64 + size) (front ++ spell journal.sealed) c = subst (λ (s : Slot). Ends s.start s.stop (front ++ spell journal.sealed) c) k.slot_is h in
       let long_b = k.header.long in let least = k.header.allowed.least in let place = k.front_ends in let there = k.opened_there.long in
-      let a : Agrees b c 0 64 = agrees_range b c 0 64 (omega (arith, long_b)) (firm_outcome u 0 (slice_range b 0 64) c k.header_firm o) in
-      let gate : Holds c (64 + size) (slice_index b (64 + size) ∷ []) = firm_outcome u (64 + size) (slice_index b (64 + size) ∷ []) c k.gate_firm o in
+      let a : Agrees b c 0 64 = agrees_range b c 0 64 (omega (arith, long_b)) head in
       let long = gate.long in
       let in_front : Holds c 64 front = holds_front c 64 front (spell journal.sealed) (holds_front c 64 (front ++ spell journal.sealed) (e.gate ∷ []) e.holds) in
       let f : Agrees b c 64 (64 + length front) = agrees_range b c 64 (length front) (omega (arith, place, there)) (subst (λ (t : List ℕ). Holds c 64 t) k.front_is in_front) in
@@ -57,9 +61,12 @@ module _ {D : Type 0} (u : Unsynced) (set : State) (journal : JournalState D) (k
         leads = k.leads;
       }
 
+  pub kept_stands : (c : List ℕ) → IsOutcome u c → HasChain journal.slot journal.front journal.sealed c → StandsFor c set
+  kept_stands c o h = held_stands c (firm_outcome u 0 (slice_range k.bytes 0 64) c k.header_firm o) (firm_outcome u (64 + k.size) (slice_index k.bytes (64 + k.size) ∷ []) c k.gate_firm o) h
+
   -- and where the journal has no room for a change, nor have the bytes
   pub kept_full : (change : Change) → HasNoRoom journal change → (c : List ℕ) → IsOutcome u c → HasChain journal.slot journal.front journal.sealed c → IsFullFor c set change
-  unfolding kept_stands
+  unfolding kept_stands held_stands
   kept_full change none c o h = record { stands = kept_stands c o h; full = behind none }
     where
       behind : HasNoRoom journal change → ((first_slot k.size).most < batch_len change) ⊎ ((first_slot k.size).stop < 86 + length k.image + length (spell (k.opened ++ journal.sealed)) + (6 + batch_len change))
@@ -71,14 +78,21 @@ module _ {D : Type 0} (u : Unsynced) (set : State) (journal : JournalState D) (k
           let all : length (spell (k.opened ++ journal.sealed)) ≡ length (spell k.opened) + length (spell journal.sealed) = ap length (spell-append k.opened journal.sealed) ∙ length-append (spell k.opened) (spell journal.sealed) in
           inr (omega (arith, narrow, start, stop, place, text, all))
 
+  -- the header and the second gate lie outside the slot
+  pub header_apart : Outside journal.slot 0 (length (slice_range k.bytes 0 64))
+  header_apart =
+      let start : journal.slot.start ≡ 64 = ap (λ (s : Slot). s.start) k.slot_is in
+      let size_of : length (slice_range k.bytes 0 64) ≡ 64 = (let long = k.header.long in (held_range k.bytes 0 64 (omega (arith, long))).1) in
+      inl (omega (arith, size_of, start))
+
+  pub gate_apart : Outside journal.slot (64 + k.size) 1
+  gate_apart = let stop : journal.slot.stop ≡ 64 + k.size = ap (λ (s : Slot). s.stop) k.slot_is in inr (omega (arith, stop))
+
   -- one batch more was sealed
   pub kept_more : (v : Unsynced) (t : State) (later : JournalState D) (b : List ℕ) → TakesBatch set b t → length b ≤ journal.slot.most → later.slot ≡ journal.slot → later.front ≡ journal.front → later.sealed ≡ journal.sealed ++ b ∷ []
       → ((at : ℕ) (text : List ℕ) → Outside journal.slot at (length text) → IsFirm u at text → IsFirm v at text) → IsKept v t later
   kept_more v t later b takes short slot front sealed firm =
       let most : journal.slot.most ≡ (first_slot k.size).most = ap (λ (s : Slot). s.most) k.slot_is in
-      let start : journal.slot.start ≡ 64 = ap (λ (s : Slot). s.start) k.slot_is in
-      let stop : journal.slot.stop ≡ 64 + k.size = ap (λ (s : Slot). s.stop) k.slot_is in
-      let size_of : length (slice_range k.bytes 0 64) ≡ 64 = (let long = k.header.long in (held_range k.bytes 0 64 (omega (arith, long))).1) in
       let fits : length b ≤ (first_slot k.size).most = subst (λ (n : ℕ). length b ≤ n) most short in
       let all : (k.opened ++ journal.sealed) ++ b ∷ [] ≡ k.opened ++ later.sealed = append_assoc k.opened journal.sealed (b ∷ []) ∙ ap (λ (l : List (List ℕ)). k.opened ++ l) (sym sealed) in
       record {
@@ -98,9 +112,40 @@ module _ {D : Type 0} (u : Unsynced) (set : State) (journal : JournalState D) (k
         opened_there = k.opened_there;
         short = subst (λ (l : List (List ℕ)). AllShort (first_slot k.size).most l) all (All-push (λ (x : List ℕ). length x ≤ (first_slot k.size).most) (k.opened ++ journal.sealed) b k.short fits);
         leads = subst (λ (l : List (List ℕ)). Reads TakesBatch k.first l t) all (reads_more TakesBatch k.first set t (k.opened ++ journal.sealed) b k.leads takes);
-        header_firm = firm 0 (slice_range k.bytes 0 64) (inl (omega (arith, size_of, start))) k.header_firm;
-        gate_firm = firm (64 + k.size) (slice_index k.bytes (64 + k.size) ∷ []) (inr (omega (arith, stop))) k.gate_firm;
+        header_firm = firm 0 (slice_range k.bytes 0 64) header_apart k.header_firm;
+        gate_firm = firm (64 + k.size) (slice_index k.bytes (64 + k.size) ∷ []) gate_apart k.gate_firm;
       }
+
+-- ---- a batch on its way
+-- whatever a crash leaves stands for the set, or for what the batch makes of it
+pub either_stands : {D : Type 0} (u : Unsynced) (set t : State) (journal : JournalState D) (b : List ℕ) (k : IsKept u set journal) → TakesBatch set b t → length b ≤ journal.slot.most
+    → (c : List ℕ) → Holds c 0 (slice_range k.bytes 0 64) → Holds c (64 + k.size) (slice_index k.bytes (64 + k.size) ∷ []) → HasChainOrNext journal.slot journal.front journal.sealed b c → StandsFor c set ⊎ StandsFor c t
+unfolding kept_more
+either_stands u set t journal b k takes short c head gate (inl chain) = inl (held_stands u set journal k c head gate chain)
+either_stands {D} u set t journal b k takes short c head gate (inr chain) =
+    let later : JournalState D = record journal { sealed = journal.sealed ++ b ∷ [] } in
+    let more : IsKept u t later = kept_more u set journal k u t later b takes short refl refl refl (λ at text out f. f) in
+    inr (held_stands u t later more c head gate chain)
+
+-- and no time goes by where nothing is done
+pub still_leaves : {D : Type 0} (moment : D → ℕ) (left_since : D → ℕ → List ℕ → Type 0) (unsynced : D → Unsynced) (disk : D) (set : State) (edit : Proposal) (journal : JournalState D) → IsKept (unsynced disk) set journal
+    → ((c : List ℕ) → left_since disk (moment disk) c → IsOutcome (unsynced disk) c) → ((c : List ℕ) → IsOutcome (unsynced disk) c → HasChain journal.slot journal.front journal.sealed c)
+    → LeavesOnly moment left_since disk disk (StandsForEither set edit)
+still_leaves moment left_since unsynced disk set edit journal k now chain =
+    leaves_still moment left_since disk (StandsForEither set edit) (λ c left. inl (kept_stands (unsynced disk) set journal k c (now c left) (chain c (now c left))))
+
+-- at each moment, where the batch is an edit
+pub either_leaves : {D : Type 0} (moment : D → ℕ) (left_since : D → ℕ → List ℕ → Type 0) (unsynced : D → Unsynced) (old new : D) (set t : State) (edit : Proposal) (journal : JournalState D) (b : List ℕ) → IsKept (unsynced old) set journal
+    → Admits set edit (accepted t) → TakesBatch set b t → length b ≤ journal.slot.most → LeavesOnly moment left_since old new (HasChainOrNext journal.slot journal.front journal.sealed b)
+    → KeepsFirm moment left_since unsynced old new (Outside journal.slot) → LeavesOnly moment left_since old new (StandsForEither set edit)
+either_leaves moment left_since unsynced old new set t edit journal b k admits takes short chain apart =
+    let u = unsynced old in let header = slice_range k.bytes 0 64 in let gate = slice_index k.bytes (64 + k.size) ∷ [] in
+    let Head : List ℕ → Type 0 = λ c. Holds c 0 header in let Gate : List ℕ → Type 0 = λ c. Holds c (64 + k.size) gate in
+    let Chain : List ℕ → Type 0 = λ c. HasChainOrNext journal.slot journal.front journal.sealed b c in
+    let head = (apart 0 header (header_apart u set journal k) k.header_firm).1 in let shut = (apart (64 + k.size) gate (gate_apart u set journal k) k.gate_firm).1 in
+    leaves_map moment left_since old new (λ c. Chain c × (Head c × Gate c)) (StandsForEither set edit)
+    (λ c p. ⊎_elim (λ before. inl before) (λ after. inr (t, admits, after)) (either_stands u set t journal b k takes short c p.1.0 p.1.1 p.0))
+    (leaves_both moment left_since old new Chain (λ c. Head c × Gate c) chain (leaves_both moment left_since old new Head Gate head shut))
 
 -- ---- room
 pub has_room : {D : Type 0} (journal : JournalState D) (change : Change) (b : Bool) → (IsTrue b ↔ HasNoRoom journal change) → b ≡ false → (batch_len change ≤ journal.slot.most) × (6 + batch_len change ≤ room journal)

@@ -1,12 +1,14 @@
 -- What becomes of an edit that isn't answered with its revision.
-use Rattle.std.specs.Prelude.{◌≡◌, ◌≢◌, ◌⊎◌, ◌<◌, ℕ, None}
+use Rattle.std.specs.Prelude.{◌≡◌, ◌≢◌, ◌⊎◌, ◌<◌, ℕ, List, None}
 use Rattle.fp_disk.specs.Outcomes.{Unsynced}
 use Rattle.fp_edit.specs.Edits.{Change, Proposal, proposal_of}
 use Rattle.fp_edit.specs.Admits.{Admits, accepted, refusal, IsRefusedOrWanting}
+use Rattle.fp_edit.specs.Flags.{State}
 use Rattle.fp_edit.specs.declared.edit.Edit.{Edit}
 use Rattle.fp_journal.specs.declared.journal.Phase.TheVariants.{Idle}
 use Rattle.fp_recovery.specs.Durable.{Durable}
 use Rattle.fp_recovery.specs.Room.{HasNoRoom, IsFull}
+use Rattle.fp_recovery.specs.Stands.{StandsFor}
 use Rattle.fp_recovery.specs.declared.fault.AdmitFault.{AdmitFault}
 use Rattle.fp_recovery.specs.declared.fault.AdmitFault.TheVariants.{Refused, StoreFailed}
 
@@ -30,3 +32,7 @@ pub record FailsAt {D : Type 0} (honest : D → Type 0) (unsynced : D → Unsync
 abbrev pub CanDecline : {D : Type 0} → (D → Type 0) → (D → Unsynced) → (D → ℕ) → Durable D → Durable D → Proposal → AdmitFault → Type 0
 CanDecline honest unsynced faults old new edit (Refused fault given) = Unit {0}
 CanDecline honest unsynced faults old new edit StoreFailed = (old.journal.phase ≢ Idle) ⊎ FailsAt honest unsynced faults old new edit
+
+-- the bytes stand for the flags, or for those that the edit makes of them
+abbrev pub StandsForEither : State → Proposal → List ℕ → Type 0
+StandsForEither s edit c = StandsFor c s ⊎ ((t : State) × Admits s edit (accepted t) × StandsFor c t)

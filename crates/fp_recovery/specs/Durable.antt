@@ -6,8 +6,7 @@ use Rattle.fp_edit.specs.Flags.{State}
 use Rattle.fp_journal.specs.Holds.{Holds, IsFirm}
 use Rattle.fp_journal.specs.Chain.{spell}
 use Rattle.fp_journal.specs.Reading.{Reads}
-use Rattle.fp_journal.specs.State.{AllShort, JournalState, Outside}
-use Rattle.fp_journal.specs.declared.slot.Slot.{Slot}
+use Rattle.fp_journal.specs.State.{AllShort, JournalState}
 use Rattle.fp_layout.specs.Size.{first_slot}
 use Rattle.fp_layout.specs.Layout.{IsHeader, IsFirstSlot}
 use Rattle.fp_record.specs.Group.{Group}
@@ -24,10 +23,6 @@ IsSure u s = (c : List ℕ) → IsOutcome u c → StandsFor c s
 -- a batch of one change
 abbrev pub single : ℕ → Change → Group
 single first change = record { first = first; changes = change ∷ [] }
-
--- text outside the slot that was firm is firm
-abbrev pub KeepsOutside : Slot → Unsynced → Unsynced → Type 0
-KeepsOutside slot u v = (at : ℕ) (text : List ℕ) → Outside slot at (length text) → IsFirm u at text → IsFirm v at text
 
 -- What the disk held as the journal began, and the batches sealed since, come to the set; the bytes in front of the slot and the gate behind it are firm
 pub record IsKept {D : Type 0} (u : Unsynced) (set : State) (journal : JournalState D) : Type 0 where

@@ -2,7 +2,7 @@
 
 ghost use Rattle.std.specs.Prelude.{◌≡◌, ◌≢◌, ◌⊎◌, ◌<◌, ◌≤◌, ◌+◌, ◌/◌, ◌↔◌, [], List, ℕ, length, IfOk, IfErr, IsTrue, IsOk, OnOk, OnErr, MatchResult};
 ghost use Rattle.std.specs.FinMap as map;
-ghost use Rattle.fp_disk.specs.Outcomes.{IsOutcome};
+ghost use Rattle.fp_disk.specs.Outcomes.{LeavesOnly};
 ghost use Rattle.fp_edit.specs.Admits.{Admits, accepted};
 ghost use Rattle.fp_edit.specs.Edits.{proposal_of};
 ghost use Rattle.fp_edit.specs.Flags.{State};
@@ -10,14 +10,14 @@ ghost use Rattle.fp_journal.specs.declared.journal.Phase.TheVariants.{Idle};
 ghost use Rattle.fp_layout.specs.NewDisk.{IsNewDisk};
 ghost use Rattle.fp_layout.specs.declared.fault.OpenFault.TheVariants.{Device};
 ghost use Rattle.fp_layout.specs.declared.format.CreateFault.TheVariants as make;
-ghost use Rattle.fp_recovery.specs.Admitting.{IsDeclined, CanDecline};
+ghost use Rattle.fp_recovery.specs.Admitting.{IsDeclined, CanDecline, StandsForEither};
 ghost use Rattle.fp_recovery.specs.Durable.{IsSure};
 ghost use Rattle.fp_recovery.specs.Refusals.{RefusesBytes, IsUnlessWanting};
 ghost use Rattle.fp_recovery.specs.Stands.{StandsFor};
 
+use crate::batch::{framed_edit, lacks_room};
 use crate::fault::AdmitFault;
 use crate::restoring::Restoring;
-use crate::seal::{framed_edit, lacks_room, seal};
 use fp_disk::Disk;
 use fp_edit::{Edit, EditFault, FlagSet};
 use fp_journal::{Journal, Phase};
@@ -130,6 +130,10 @@ impl<D: Disk> DurableSet<D> {
         ensures sure { D.honest self.new.journal.disk → OnOk result (IsSure (D.unsynced self.new.journal.disk) self.new.set) }
         ensures calm { OnOk result (D.faults self.new.journal.disk ≡ D.faults self.old.journal.disk) }
 
+        // A crash at any moment of the call, whatever it answers, leaves the flags before the edit or those after it.
+        ensures any_moment { D.honest self.old.journal.disk → self.old.journal.phase ≡ Idle → LeavesOnly D.moment D.left_since self.old.journal.disk self.new.journal.disk (StandsForEither self.old.set (proposal_of edit)) }
+        ensures stopped { self.old.journal.phase ≢ Idle → self.new ≡ self.old }
+
         ensures declined { IfErr result (IsDeclined self.old self.new edit) }
         ensures cause { IfErr result (CanDecline D.honest D.unsynced D.faults self.old self.new (proposal_of edit)) }
         ensures honest { (D.honest self.old.journal.disk → D.honest self.new.journal.disk) × (D.honest self.new.journal.disk → D.honest self.old.journal.disk) }
@@ -151,8 +155,8 @@ impl<D: Disk> DurableSet<D> {
             Ok(revision) => revision,
             Err((fault, edit)) => return Err(AdmitFault::Refused { fault, edit }),
         };
-        match seal(&mut self.journal, framed) {
-            Ok(()) => Ok(revision),
+        match self.journal.seal(framed) {
+            Ok(_) => Ok(revision),
             Err(_) => Err(AdmitFault::StoreFailed),
         }
     }

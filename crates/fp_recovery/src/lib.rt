@@ -1,11 +1,11 @@
 //! Sets of flags on a disk: what its bytes stand for, read back as it is opened and kept as edits come.
 #![tactic(auto)]
 
+mod batch;
 mod durable;
 mod fault;
 mod laws;
 mod restoring;
-mod seal;
 
 pub use durable::DurableSet;
 pub use fault::AdmitFault;

@@ -30,3 +30,53 @@ returns-clause-any_moment g c = λ h.
     let k4 = steps.sealing_on D.moment D.left_since first c.args.framed s3 s4 k3 c.open_gate.ensures.same c.open_gate.ensures.bodies in
     let l5 = steps.sealing_sync D.moment D.left_since first c.args.framed s4 c.sync-2.new.self.disk k4 l4 (c.sync-2.ensures.any_moment (c.open_gate.ensures.honest.0 h3)) in
     steps.sealing_still D.moment D.left_since first c.args.framed c.sync-2.new.self.disk c.gate_synced.new.self.disk c.gate_synced.ensures.disk l5
+
+pub returns-in_err-gate-clause-apart : goal.returns-in_err-gate-clause-apart
+returns-in_err-gate-clause-apart g c = λ h.
+    let D = g.D.Disk in let first = c.args.self.now in let s1 = c.stage.new.self in let s2 = c.sync.new.self in let s3 = c.body_synced.new.self in let s4 = c.open_gate.new.self in
+    let h1 = c.stage.ensures.honest.0 h in
+    let k1 : steps.IsSealing D.moment D.left_since first c.args.framed s1 = record { same = c.stage.ensures.same; sealed = c.stage.ensures.bodies.0; staged = c.stage.ensures.bodies.1 } in
+    let k2 = steps.sealing_on D.moment D.left_since first c.args.framed s1 s2 k1 c.sync.ensures.same c.sync.ensures.bodies in
+    let k3 = steps.sealing_on D.moment D.left_since first c.args.framed s2 s3 k2 c.body_synced.ensures.same c.body_synced.ensures.bodies in
+    let k4 = steps.sealing_on D.moment D.left_since first c.args.framed s3 s4 k3 c.open_gate.ensures.same c.open_gate.ensures.bodies in
+    let h3 : D.honest s3.disk = rw c.body_synced.ensures.disk (c.sync.ensures.honest.0 h1) in
+    let f1 = c.stage.ensures.apart h in
+    let f2 = steps.apart_sync D.moment D.left_since first c.args.framed D.unsynced s1 s2.disk k1 f1 (c.sync.ensures.apart h1) in
+    let f3 = steps.apart_still D.moment D.left_since first c.args.framed D.unsynced s2.disk s3.disk c.body_synced.ensures.disk f2 in
+    let f4 = steps.apart_more D.moment D.left_since first c.args.framed D.unsynced s3 s4.disk k3 f3 (c.open_gate.ensures.apart h3) in
+    let f5 = steps.apart_sync D.moment D.left_since first c.args.framed D.unsynced s4 c.sync-2.new.self.disk k4 f4 (c.sync-2.ensures.apart (c.open_gate.ensures.honest.0 h3)) in
+    f5
+
+pub returns-clause-apart : goal.returns-clause-apart
+returns-clause-apart g c = λ h.
+    let D = g.D.Disk in let first = c.args.self.now in let s1 = c.stage.new.self in let s2 = c.sync.new.self in let s3 = c.body_synced.new.self in let s4 = c.open_gate.new.self in
+    let h1 = c.stage.ensures.honest.0 h in
+    let k1 : steps.IsSealing D.moment D.left_since first c.args.framed s1 = record { same = c.stage.ensures.same; sealed = c.stage.ensures.bodies.0; staged = c.stage.ensures.bodies.1 } in
+    let k2 = steps.sealing_on D.moment D.left_since first c.args.framed s1 s2 k1 c.sync.ensures.same c.sync.ensures.bodies in
+    let k3 = steps.sealing_on D.moment D.left_since first c.args.framed s2 s3 k2 c.body_synced.ensures.same c.body_synced.ensures.bodies in
+    let k4 = steps.sealing_on D.moment D.left_since first c.args.framed s3 s4 k3 c.open_gate.ensures.same c.open_gate.ensures.bodies in
+    let h3 : D.honest s3.disk = rw c.body_synced.ensures.disk (c.sync.ensures.honest.0 h1) in
+    let f1 = c.stage.ensures.apart h in
+    let f2 = steps.apart_sync D.moment D.left_since first c.args.framed D.unsynced s1 s2.disk k1 f1 (c.sync.ensures.apart h1) in
+    let f3 = steps.apart_still D.moment D.left_since first c.args.framed D.unsynced s2.disk s3.disk c.body_synced.ensures.disk f2 in
+    let f4 = steps.apart_more D.moment D.left_since first c.args.framed D.unsynced s3 s4.disk k3 f3 (c.open_gate.ensures.apart h3) in
+    let f5 = steps.apart_sync D.moment D.left_since first c.args.framed D.unsynced s4 c.sync-2.new.self.disk k4 f4 (c.sync-2.ensures.apart (c.open_gate.ensures.honest.0 h3)) in
+    steps.apart_still D.moment D.left_since first c.args.framed D.unsynced c.sync-2.new.self.disk c.gate_synced.new.self.disk c.gate_synced.ensures.disk f5
+
+pub returns-in_err-body-clause-apart : goal.returns-in_err-body-clause-apart
+returns-in_err-body-clause-apart g c = λ h.
+    let D = g.D.Disk in let first = c.args.self.now in let s1 = c.stage.new.self in let h1 = c.stage.ensures.honest.0 h in
+    let k1 : steps.IsSealing D.moment D.left_since first c.args.framed s1 = record { same = c.stage.ensures.same; sealed = c.stage.ensures.bodies.0; staged = c.stage.ensures.bodies.1 } in
+    steps.apart_sync D.moment D.left_since first c.args.framed D.unsynced s1 c.sync.new.self.disk k1 (c.stage.ensures.apart h) (c.sync.ensures.apart h1)
+
+pub returns-in_err-open_gate-clause-apart : goal.returns-in_err-open_gate-clause-apart
+returns-in_err-open_gate-clause-apart g c = λ h.
+    let D = g.D.Disk in let first = c.args.self.now in let s1 = c.stage.new.self in let s2 = c.sync.new.self in let s3 = c.body_synced.new.self in let s4 = c.open_gate.new.self in
+    let h1 = c.stage.ensures.honest.0 h in
+    let k1 : steps.IsSealing D.moment D.left_since first c.args.framed s1 = record { same = c.stage.ensures.same; sealed = c.stage.ensures.bodies.0; staged = c.stage.ensures.bodies.1 } in
+    let k2 = steps.sealing_on D.moment D.left_since first c.args.framed s1 s2 k1 c.sync.ensures.same c.sync.ensures.bodies in
+    let k3 = steps.sealing_on D.moment D.left_since first c.args.framed s2 s3 k2 c.body_synced.ensures.same c.body_synced.ensures.bodies in
+    let h3 : D.honest s3.disk = rw c.body_synced.ensures.disk (c.sync.ensures.honest.0 h1) in
+    let f2 = steps.apart_sync D.moment D.left_since first c.args.framed D.unsynced s1 s2.disk k1 (c.stage.ensures.apart h) (c.sync.ensures.apart h1) in
+    let f3 = steps.apart_still D.moment D.left_since first c.args.framed D.unsynced s2.disk s3.disk c.body_synced.ensures.disk f2 in
+    steps.apart_more D.moment D.left_since first c.args.framed D.unsynced s3 s4.disk k3 f3 (c.open_gate.ensures.apart h3)

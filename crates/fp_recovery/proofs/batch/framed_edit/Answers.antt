@@ -5,7 +5,7 @@ use Rattle.fp_record.specs.Edits.{change_of, changes_of}
 use Rattle.fp_record.specs.Group.{Group}
 use Rattle.fp_record.specs.Spelling.{spelling_of_batch}
 use Rattle.fp_recovery.proofs.Single.{length_single}
-use Rattle.fp_recovery.proofs.seal.framed_edit.Goals as goal
+use Rattle.fp_recovery.proofs.batch.framed_edit.Goals as goal
 
 pub new-requires-2 : goal.new-requires-2
 new-requires-2 c =
