@@ -24,6 +24,6 @@ fn main(rt: HostRuntime) -> ExitCode {
     };
     let mut input = Counted::new(rt.reader());
     let mut output = Counted::new(rt.stdout());
-    let mut errors = rt.stderr();
+    let mut errors = Counted::new(rt.stderr());
     ExitCode::from(command(&rt, words, &mut input, &mut output, &mut errors))
 }

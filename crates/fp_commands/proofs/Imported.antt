@@ -35,28 +35,28 @@ document-fault left (import.BadKey name) h = IfSome_then left h (λ input e. (st
 
 -- ---- faults of an import
 
-pub importing-open : (c : List ℕ) (left : Option (List ℕ)) (f : OpenFault) → RefusesBytes c f → IsUnlessWanting c f → IsImportingFault c left (of_open f)
-importing-open c left opening.Unformatted r none = (r, none)
-importing-open c left (opening.UnknownVersion v) r none = (r, none)
-importing-open c left (opening.Damaged at) r none = (r, none)
-importing-open c left opening.Device r none = tt
-importing-open c left opening.Memory r none = tt
+pub importing-open : (is_honest : Type 0) (c : List ℕ) (left : Option (List ℕ)) (f : OpenFault) → (is_honest → RefusesBytes c f) → (is_honest → IsUnlessWanting c f) → IsImportingFault is_honest c left (of_open f)
+importing-open is_honest c left opening.Unformatted r none = λ h. (r h, none h)
+importing-open is_honest c left (opening.UnknownVersion v) r none = λ h. (r h, none h)
+importing-open is_honest c left (opening.Damaged at) r none = λ h. (r h, none h)
+importing-open is_honest c left opening.Device r none = tt
+importing-open is_honest c left opening.Memory r none = tt
 
-pub importing-run : (c : List ℕ) (left : Option (List ℕ)) (f : ApplyFault) → IsImportingFault c left (of_run f)
-importing-run c left run.Device = tt
-importing-run c left run.StoreFailed = tt
-importing-run c left run.Memory = tt
+pub importing-run : (is_honest : Type 0) (c : List ℕ) (left : Option (List ℕ)) (f : ApplyFault) → IsImportingFault is_honest c left (of_run f)
+importing-run is_honest c left run.Device = tt
+importing-run is_honest c left run.StoreFailed = tt
+importing-run is_honest c left run.Memory = tt
 
-pub importing-document : (c : List ℕ) (left : Option (List ℕ)) (f : CommandFault) → IsDocumentFault left f → IsImportingFault c left f
-importing-document c left command.NotDocument h = h
-importing-document c left (command.UnknownEvaluator name) h = h
-importing-document c left command.EvaluatorsTooDeep h = h
-importing-document c left command.BadKey h = h
-importing-document c left (command.Flag key fault) h = h
-importing-document c left command.Device h = tt
-importing-document c left command.Memory h = tt
-importing-document c left command.NotEmpty h = absurd h
-importing-document c left command.Unformatted h = absurd h
-importing-document c left (command.UnknownVersion v) h = absurd h
-importing-document c left (command.Damaged at) h = absurd h
-importing-document c left command.StoreFailed h = absurd h
+pub importing-document : (is_honest : Type 0) (c : List ℕ) (left : Option (List ℕ)) (f : CommandFault) → IsDocumentFault left f → IsImportingFault is_honest c left f
+importing-document is_honest c left command.NotDocument h = h
+importing-document is_honest c left (command.UnknownEvaluator name) h = h
+importing-document is_honest c left command.EvaluatorsTooDeep h = h
+importing-document is_honest c left command.BadKey h = h
+importing-document is_honest c left (command.Flag key fault) h = h
+importing-document is_honest c left command.Device h = tt
+importing-document is_honest c left command.Memory h = tt
+importing-document is_honest c left command.NotEmpty h = absurd h
+importing-document is_honest c left command.Unformatted h = absurd h
+importing-document is_honest c left (command.UnknownVersion v) h = absurd h
+importing-document is_honest c left (command.Damaged at) h = absurd h
+importing-document is_honest c left command.StoreFailed h = absurd h

@@ -17,40 +17,40 @@ use Rattle.fp_commands.specs.Disks.{IsShowingFault, IsApplyingFault, IsStreamFau
 use Rattle.fp_commands.specs.Task.{ShowsFlags, IsImported}
 
 -- what opening refuses
-pub showing-open : (c : List ℕ) (f : OpenFault) → RefusesBytes c f → IsUnlessWanting c f → IsShowingFault c (of_open f)
-showing-open c Unformatted r none = (r, none)
-showing-open c (UnknownVersion v) r none = (r, none)
-showing-open c (Damaged at) r none = (r, none)
-showing-open c Device r none = tt
-showing-open c Memory r none = tt
+pub showing-open : (is_honest : Type 0) (c : List ℕ) (f : OpenFault) → (is_honest → RefusesBytes c f) → (is_honest → IsUnlessWanting c f) → IsShowingFault is_honest c (of_open f)
+showing-open is_honest c Unformatted r none = λ h. (r h, none h)
+showing-open is_honest c (UnknownVersion v) r none = λ h. (r h, none h)
+showing-open is_honest c (Damaged at) r none = λ h. (r h, none h)
+showing-open is_honest c Device r none = tt
+showing-open is_honest c Memory r none = tt
 
-pub applying-open : (c : List ℕ) (f : OpenFault) → RefusesBytes c f → IsUnlessWanting c f → IsApplyingFault c (of_open f)
-applying-open c Unformatted r none = (r, none)
-applying-open c (UnknownVersion v) r none = (r, none)
-applying-open c (Damaged at) r none = (r, none)
-applying-open c Device r none = tt
-applying-open c Memory r none = tt
+pub applying-open : (is_honest : Type 0) (c : List ℕ) (f : OpenFault) → (is_honest → RefusesBytes c f) → (is_honest → IsUnlessWanting c f) → IsApplyingFault is_honest c (of_open f)
+applying-open is_honest c Unformatted r none = λ h. (r h, none h)
+applying-open is_honest c (UnknownVersion v) r none = λ h. (r h, none h)
+applying-open is_honest c (Damaged at) r none = λ h. (r h, none h)
+applying-open is_honest c Device r none = tt
+applying-open is_honest c Memory r none = tt
 
 -- what a stream refuses
-pub showing-stream : (c : List ℕ) (f : CommandFault) → IsStreamFault f → IsShowingFault c f
-showing-stream c command.Device h = tt
-showing-stream c command.Memory h = tt
-showing-stream c command.NotEmpty h = absurd h
-showing-stream c command.Unformatted h = absurd h
-showing-stream c (command.UnknownVersion v) h = absurd h
-showing-stream c (command.Damaged at) h = absurd h
-showing-stream c command.StoreFailed h = absurd h
-showing-stream c command.NotDocument h = absurd h
-showing-stream c (command.UnknownEvaluator name) h = absurd h
-showing-stream c command.EvaluatorsTooDeep h = absurd h
-showing-stream c command.BadKey h = absurd h
-showing-stream c (command.Flag key fault) h = absurd h
+pub showing-stream : (is_honest : Type 0) (c : List ℕ) (f : CommandFault) → IsStreamFault f → IsShowingFault is_honest c f
+showing-stream is_honest c command.Device h = tt
+showing-stream is_honest c command.Memory h = tt
+showing-stream is_honest c command.NotEmpty h = absurd h
+showing-stream is_honest c command.Unformatted h = absurd h
+showing-stream is_honest c (command.UnknownVersion v) h = absurd h
+showing-stream is_honest c (command.Damaged at) h = absurd h
+showing-stream is_honest c command.StoreFailed h = absurd h
+showing-stream is_honest c command.NotDocument h = absurd h
+showing-stream is_honest c (command.UnknownEvaluator name) h = absurd h
+showing-stream is_honest c command.EvaluatorsTooDeep h = absurd h
+showing-stream is_honest c command.BadKey h = absurd h
+showing-stream is_honest c (command.Flag key fault) h = absurd h
 
 -- what ends a run
-pub applying-run : (c : List ℕ) (f : ApplyFault) → IsApplyingFault c (of_run f)
-applying-run c run.Device = tt
-applying-run c run.StoreFailed = tt
-applying-run c run.Memory = tt
+pub applying-run : (is_honest : Type 0) (c : List ℕ) (f : ApplyFault) → IsApplyingFault is_honest c (of_run f)
+applying-run is_honest c run.Device = tt
+applying-run is_honest c run.StoreFailed = tt
+applying-run is_honest c run.Memory = tt
 
 -- ---- what is shown
 

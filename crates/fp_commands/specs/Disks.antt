@@ -5,6 +5,7 @@ use Rattle.fp_disk.specs.Outcomes.{Unsynced}
 use Rattle.fp_edit.specs.Admits.{refusal}
 use Rattle.fp_edit.specs.Edits.{Proposal}
 use Rattle.fp_edit.specs.Flags.{State}
+use Rattle.fp_layout.specs.declared.fault.OpenFault.{OpenFault}
 use Rattle.fp_layout.specs.declared.fault.OpenFault.TheVariants as opening
 use Rattle.fp_imports.specs.Document as document
 use Rattle.fp_plane.specs.Import.{IsImport, IsLeftByPuts, IsStoppedByPuts, import_script, after_import}
@@ -34,28 +35,32 @@ IsStreamFault Device = Unit {0}
 IsStreamFault Memory = Unit {0}
 IsStreamFault f = ⊥
 
--- the faults of showing what bytes stand for: they stand for nothing and show it so, or memory, the device or the writer failed
-abbrev pub IsShowingFault : List ℕ → CommandFault → Type 0
-IsShowingFault c Unformatted = RefusesBytes c opening.Unformatted × StandsForNone c
-IsShowingFault c (UnknownVersion version) = RefusesBytes c (opening.UnknownVersion version) × StandsForNone c
-IsShowingFault c (Damaged at) = RefusesBytes c (opening.Damaged at) × StandsForNone c
-IsShowingFault c Device = Unit {0}
-IsShowingFault c Memory = Unit {0}
-IsShowingFault c f = ⊥
+-- opening refuses the bytes for this fault, and they stand for nothing; of a disk that claims no honesty that isn't said
+abbrev pub IsRefusal : Type 0 → List ℕ → OpenFault → Type 0
+IsRefusal is_honest c fault = is_honest → RefusesBytes c fault × StandsForNone c
+
+-- the faults of showing what bytes stand for: opening refuses them, or memory, the device or the writer failed
+abbrev pub IsShowingFault : Type 0 → List ℕ → CommandFault → Type 0
+IsShowingFault is_honest c Unformatted = IsRefusal is_honest c opening.Unformatted
+IsShowingFault is_honest c (UnknownVersion version) = IsRefusal is_honest c (opening.UnknownVersion version)
+IsShowingFault is_honest c (Damaged at) = IsRefusal is_honest c (opening.Damaged at)
+IsShowingFault is_honest c Device = Unit {0}
+IsShowingFault is_honest c Memory = Unit {0}
+IsShowingFault is_honest c f = ⊥
 
 -- the same where edits are kept as well
-abbrev pub IsApplyingFault : List ℕ → CommandFault → Type 0
-IsApplyingFault c StoreFailed = Unit {0}
-IsApplyingFault c f = IsShowingFault c f
+abbrev pub IsApplyingFault : Type 0 → List ℕ → CommandFault → Type 0
+IsApplyingFault is_honest c StoreFailed = Unit {0}
+IsApplyingFault is_honest c f = IsShowingFault is_honest c f
 
 -- the same where a document is read as well
-abbrev pub IsImportingFault : List ℕ → Option (List ℕ) → CommandFault → Type 0
-IsImportingFault c left NotDocument = IsDocumentFault left NotDocument
-IsImportingFault c left (UnknownEvaluator name) = IsDocumentFault left (UnknownEvaluator name)
-IsImportingFault c left EvaluatorsTooDeep = IsDocumentFault left EvaluatorsTooDeep
-IsImportingFault c left BadKey = IsDocumentFault left BadKey
-IsImportingFault c left (Flag key fault) = IsDocumentFault left (Flag key fault)
-IsImportingFault c left f = IsApplyingFault c f
+abbrev pub IsImportingFault : Type 0 → List ℕ → Option (List ℕ) → CommandFault → Type 0
+IsImportingFault is_honest c left NotDocument = IsDocumentFault left NotDocument
+IsImportingFault is_honest c left (UnknownEvaluator name) = IsDocumentFault left (UnknownEvaluator name)
+IsImportingFault is_honest c left EvaluatorsTooDeep = IsDocumentFault left EvaluatorsTooDeep
+IsImportingFault is_honest c left BadKey = IsDocumentFault left BadKey
+IsImportingFault is_honest c left (Flag key fault) = IsDocumentFault left (Flag key fault)
+IsImportingFault is_honest c left f = IsApplyingFault is_honest c f
 
 -- this holds where the bytes or what was read is at fault, and neither a device, the store nor memory
 abbrev pub IfRefused : Type 0 → CommandFault → Type 0

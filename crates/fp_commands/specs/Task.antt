@@ -1,5 +1,5 @@
--- What the program's words ask for.
-use Rattle.std.specs.Prelude.{◌≡◌, ℕ, ◌^◌, List, [], ◌∷◌, codes, bytes_eq, Bool, Option, Some, None, Ok, if◌then◌else◌, IfSome}
+-- What the program's words ask for, and how it ends.
+use Rattle.std.specs.Prelude.{◌≡◌, ◌≤◌, ℕ, ◌+◌, ◌^◌, List, [], ◌∷◌, ◌++◌, codes, bytes_eq, Bool, Option, Some, None, Ok, Err, if◌then◌else◌, IfSome}
 use Rattle.std.specs.FinMap as fin
 use Rattle.std.specs.Io.KnownBytes.{Appends}
 use Rattle.fp_edit.specs.Flags.{State}
@@ -7,7 +7,12 @@ use Rattle.fp_imports.specs.Document.{Flag}
 use Rattle.fp_plane.specs.Import.{IsImport}
 use Rattle.fp_plane.specs.Run.{IsApplied}
 use Rattle.fp_plane.specs.Verdicts.{show_line}
+use Rattle.fp_streams.specs.Failures.{Stream}
+use Rattle.fp_streams.specs.Said.{AppendsLine}
+use Rattle.fp_commands.specs.Disks.{Blames, IfRefused, IsApplyingFault, IsImportingFault, IsMakingFault, IsShowingFault, IsStreamFault}
 use Rattle.fp_commands.specs.Documents.{import_of}
+use Rattle.fp_commands.specs.Faults.{text_of}
+use Rattle.fp_commands.specs.declared.fault.CommandFault.{CommandFault}
 use Rattle.fp_commands.specs.declared.program.Task.{Task}
 use Rattle.fp_commands.specs.declared.program.Task.TheVariants.{Apply, InitFile, ApplyFile, ShowFile, ImportFile}
 
@@ -49,3 +54,31 @@ IsDone InitFile left old new = new ≡ old
 IsDone ApplyFile left old new = IfSome left (λ input. (start : State) × IsApplied start input old new)
 IsDone ShowFile left old new = ShowsFlags old new
 IsDone ImportFile left old new = IfSome left (λ input. (start : State) × IsImported start input old new)
+
+-- ---- how a task ends
+
+-- neither the reader nor the writer failed
+abbrev pub NoneFailed : {R W : Type 0} → Stream R → Stream R → Stream W → Stream W → Type 0
+NoneFailed r0 r w0 w = r.failures + w.failures ≤ r0.failures + w0.failures
+
+-- what may end a task. Over memory: want of it, or a stream that failed. Over a file, which claims no honesty: a fault of making, showing, applying or importing,
+-- where nothing was written if it refuses the file or the input
+abbrev pub Ends : {R W : Type 0} → (R → Option (List ℕ)) → Stream R → Stream R → Stream W → Stream W → Task → CommandFault → Type 0
+Ends remaining r0 r w0 w Apply f = IsStreamFault f × Blames {A = Unit {0}} (r0.failures + w0.failures) (r.failures + w.failures) (Err f)
+Ends remaining r0 r w0 w InitFile f = IsMakingFault f × (w ≡ w0)
+Ends remaining r0 r w0 w ApplyFile f = IsApplyingFault ⊥ [] f × IfRefused (w ≡ w0) f
+Ends remaining r0 r w0 w ShowFile f = IsShowingFault ⊥ [] f × IfRefused (w ≡ w0) f
+Ends remaining r0 r w0 w ImportFile f = IsImportingFault ⊥ [] (remaining r0.inner) f × IfRefused (w ≡ w0) f
+
+-- ---- what is told on the error stream
+
+-- this line, unless the stream failed
+abbrev pub Tells : {E : Type 0} → (E → Option (List ℕ)) → Stream E → Stream E → List ℕ → Type 0
+Tells contents old new line = new.failures ≡ old.failures → AppendsLine (contents old.inner) (contents new.inner) line
+
+abbrev pub usage : List ℕ
+usage = codes "usage: flagplane init FILE | apply [FILE] | show FILE | eval FILE KEY | import FILE | serve FILE OFREP EDIT STREAM | watch ADDR"
+
+-- a fault that may have ended the task, by its own text
+abbrev pub TellsFault : {E : Type 0} → (E → Option (List ℕ)) → Stream E → Stream E → (CommandFault → Type 0) → Type 0
+TellsFault contents old new MayEnd = (f : CommandFault) × MayEnd f × Tells contents old new (codes "flagplane: " ++ text_of f)

@@ -48,7 +48,7 @@ pub fn show_disk<D: Disk, W: Write>(
     ensures shown { OnOk result.1
         (IsShown (D.honest disk) (D.bytes disk) (W.contents w.old.inner) (W.contents w.new.inner)) }
     ensures same { D.honest disk → D.bytes result.0 ≡ D.bytes disk }
-    ensures fault { D.honest disk → IfErr result.1 (IsShowingFault (D.bytes disk)) }
+    ensures fault { IfErr result.1 (IsShowingFault (D.honest disk) (D.bytes disk)) }
     ensures silent { IfErr result.1 (IfRefused (w.new ≡ w.old)) }
     ensures device { Blames (D.faults disk + w.old.failures) (D.faults result.0 + w.new.failures)
         result.1 }
@@ -78,7 +78,7 @@ pub fn apply_disk<D: Disk, R: Read, W: Write>(
     // At a fault too the disk stands for what some first lines leave, but where the store failed.
     ensures left { D.honest disk → IfErr result.1 (λ f. f ≢ StoreFailed
         → IsLeftOnDisk (D.bytes disk) (D.bytes result.0) (R.remaining r.old.inner) IsLeftBy) }
-    ensures fault { D.honest disk → IfErr result.1 (IsApplyingFault (D.bytes disk)) }
+    ensures fault { IfErr result.1 (IsApplyingFault (D.honest disk) (D.bytes disk)) }
     ensures silent { IfErr result.1 (IfRefused (w.new ≡ w.old)) }
 
     // The store fails where the disk does, or has no room for an edit that the input asks for.
@@ -119,8 +119,8 @@ pub fn import_disk<D: Disk, R: Read, W: Write>(
     // At a fault too the disk stands for what some first puts leave, but where the store failed.
     ensures left { D.honest disk → IfErr result.1 (λ f. f ≢ StoreFailed
         → IsLeftOnDisk (D.bytes disk) (D.bytes result.0) (R.remaining r.old.inner) IsLeftByImport) }
-    ensures fault { D.honest disk
-        → IfErr result.1 (IsImportingFault (D.bytes disk) (R.remaining r.old.inner)) }
+    ensures fault { IfErr result.1
+        (IsImportingFault (D.honest disk) (D.bytes disk) (R.remaining r.old.inner)) }
     ensures silent { IfErr result.1 (IfRefused (w.new ≡ w.old)) }
 
     // The store fails where the disk does, or has no room for an edit that the input asks for.

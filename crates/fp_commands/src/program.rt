@@ -1,7 +1,8 @@
 //! The program: its words, its files, its streams and its status.
 
-ghost use Rattle.std.specs.Prelude.{◌≡◌, ◌≤◌, ◌↔◌, None, Some, IfSome, OnOk, MatchOption, map, string_bytes};
-ghost use Rattle.fp_commands.specs.Task.{IsDone, ShowsFlags, named, over_file};
+ghost use Rattle.std.specs.Prelude.{◌≡◌, ◌≤◌, ◌↔◌, None, Some, [], IfErr, IfSome, OnOk, MatchOption, map, string_bytes};
+ghost use Rattle.fp_commands.specs.Disks.{IfRefused, IsMakingFault, IsShowingFault};
+ghost use Rattle.fp_commands.specs.Task.{Ends, IsDone, NoneFailed, ShowsFlags, Tells, TellsFault, named, over_file, usage};
 ghost use Rattle.fp_commands.specs.declared.program.Task.TheVariants.{Apply, ApplyFile, ImportFile};
 
 use crate::disk::{apply_disk, import_disk, init_disk, show_disk};
@@ -31,13 +32,14 @@ enum Task {
 }
 
 /// Runs the command that the words name, and answers the program's status: 0 where it was done, 1 where
-/// a fault ended it, which `e` is told, and 2 where the words name no command, where `e` is told the usage.
+/// a fault ended it, which `e` is told, and 2 where the words name no command, where `e` is told the usage. It takes no memory
+/// to tell either.
 pub fn command<X, R, W, E>(
     rt: &X,
     words: &[String],
     r: &mut Counted<R>,
     w: &mut Counted<W>,
-    e: &mut E,
+    e: &mut Counted<E>,
 ) -> u8
 where
     X: Files + AllocGlobal,
@@ -45,19 +47,24 @@ where
     W: Write,
     E: Write,
     ensures usage { (result ≡ 2) ↔ (named (map string_bytes words.now) ≡ None) }
+    ensures helps { result ≡ 2 → Tells E.contents e.old e.new usage }
+    ensures untouched { result ≡ 2 → (r.new ≡ r.old) × (w.new ≡ w.old) }
     ensures done { result ≡ 0 → IfSome (named (map string_bytes words.now)) (λ task.
         IsDone task.0 (R.remaining r.old.inner) (W.contents w.old.inner) (W.contents w.new.inner)) }
+    ensures calm { result ≡ 0 → NoneFailed r.old r.new w.old w.new }
     ensures quiet { result ≡ 0 → e.new ≡ e.old }
+    ensures ends { result ≡ 1 → IfSome (named (map string_bytes words.now)) (λ task.
+        TellsFault E.contents e.old e.new (Ends R.remaining r.old r.new w.old w.new task.0)) }
     ensures small { result ≤ 2 }
 {
     let Some((task, path)) = task_of(words) else {
-        let _ = writeln!(e, "{USAGE}");
+        let _ = e.say(&USAGE);
         return 2;
     };
     match perform(rt, task, path, r, w) {
         Ok(()) => 0,
         Err(fault) => {
-            let _ = writeln!(e, "flagplane: {fault}");
+            let _ = e.say(&format_args!("flagplane: {fault}"));
             1
         }
     }
@@ -97,8 +104,10 @@ where
     X: Files + AllocGlobal,
     R: Read,
     W: Write,
-    ensures { OnOk result
+    ensures done { OnOk result
         (IsDone task (R.remaining r.old.inner) (W.contents w.old.inner) (W.contents w.new.inner)) }
+    ensures calm { OnOk result (NoneFailed r.old r.new w.old w.new) }
+    ensures ends { IfErr result (Ends R.remaining r.old r.new w.old w.new task) }
 {
     match task {
         Task::Apply => apply(rt.alloc(), r, w),
@@ -115,8 +124,10 @@ fn apply<R: Read, W: Write>(
     r: &mut Counted<R>,
     w: &mut Counted<W>,
 ) -> Result<(), CommandFault>
-    ensures { OnOk result
+    ensures done { OnOk result
         (IsDone Apply (R.remaining r.old.inner) (W.contents w.old.inner) (W.contents w.new.inner)) }
+    ensures calm { OnOk result (NoneFailed r.old r.new w.old w.new) }
+    ensures ends { IfErr result (Ends R.remaining r.old r.new w.old w.new Apply) }
 {
     let (_flags, outcome) = apply_lines(alloc, r, w, FlagSet::new(alloc, IMAGE_LIMIT));
     let _told = outcome?;
@@ -124,7 +135,9 @@ fn apply<R: Read, W: Write>(
 }
 
 // Makes the file a disk of no flags.
-fn init_file<X: Files + AllocGlobal>(rt: &X, path: &str) -> Result<(), CommandFault> {
+fn init_file<X: Files + AllocGlobal>(rt: &X, path: &str) -> Result<(), CommandFault>
+    ensures { IfErr result IsMakingFault }
+{
     let disk = create_file(rt, path)?;
     let (_disk, outcome) = init_disk(rt.alloc(), disk);
     outcome
@@ -141,8 +154,10 @@ where
     X: Files + AllocGlobal,
     R: Read,
     W: Write,
-    ensures { OnOk result
+    ensures done { OnOk result
         (IsDone ApplyFile (R.remaining r.old.inner) (W.contents w.old.inner) (W.contents w.new.inner)) }
+    ensures calm { OnOk result (NoneFailed r.old r.new w.old w.new) }
+    ensures ends { IfErr result (Ends R.remaining r.old r.new w.old w.new ApplyFile) }
 {
     let disk = open_file(rt, path)?;
     let (_disk, outcome) = apply_disk(rt.alloc(), r, w, disk);
@@ -155,7 +170,9 @@ fn show_file<X, W>(rt: &X, path: &str, w: &mut Counted<W>) -> Result<(), Command
 where
     X: Files + AllocGlobal,
     W: Write,
-    ensures { OnOk result (ShowsFlags (W.contents w.old.inner) (W.contents w.new.inner)) }
+    ensures done { OnOk result (ShowsFlags (W.contents w.old.inner) (W.contents w.new.inner)) }
+    ensures calm { OnOk result (w.new.failures ≤ w.old.failures) }
+    ensures ends { IfErr result (λ f. IsShowingFault ⊥ [] f × IfRefused (w.new ≡ w.old) f) }
 {
     let disk = open_file(rt, path)?;
     let (_disk, outcome) = show_disk(rt.alloc(), w, disk);
@@ -173,8 +190,10 @@ where
     X: Files + AllocGlobal,
     R: Read,
     W: Write,
-    ensures { OnOk result
+    ensures done { OnOk result
         (IsDone ImportFile (R.remaining r.old.inner) (W.contents w.old.inner) (W.contents w.new.inner)) }
+    ensures calm { OnOk result (NoneFailed r.old r.new w.old w.new) }
+    ensures ends { IfErr result (Ends R.remaining r.old r.new w.old w.new ImportFile) }
 {
     let disk = open_file(rt, path)?;
     let (_disk, outcome) = import_disk(rt.alloc(), r, w, disk);

@@ -32,12 +32,12 @@ fn run(
     }
     let mut input = Counted::new(input);
     let mut output = Counted::new(Vec::new(alloc));
-    let mut errors = Vec::new(alloc);
+    let mut errors = Counted::new(Vec::new(alloc));
     let status = command(rt, owned.as_slice(), &mut input, &mut output, &mut errors);
     Ok(Ran {
         status,
         output: output.into_inner(),
-        errors,
+        errors: errors.into_inner(),
     })
 }
 

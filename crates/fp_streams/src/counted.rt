@@ -2,10 +2,12 @@ ghost use Rattle.std.specs.Prelude.{◌≡◌, ◌+◌, ◌-◌, ◌<◌, ◌≤
 ghost use Rattle.std.specs.Io.{ReadsAtMost};
 ghost use Rattle.std.specs.Io.KnownBytes.{Appends, ReadConsumes};
 ghost use Rattle.fp_streams.specs.Failures.{Counts};
+ghost use Rattle.fp_streams.specs.Said.{AppendsLine};
 ghost use Rattle.fp_streams.specs.declared.counted.StreamFault.TheVariants.{Device};
 
 use fp_fronts::Count;
 use std::alloc::Global;
+use std::fmt::Display;
 use std::io;
 use std::io::{ErrorKind, Read, Write};
 use std::marker::Model;
@@ -131,12 +133,35 @@ impl<W: Write> Counted<W> {
             Err(_) => Err(self.fault()),
         }
     }
+
+    /// Writes the text and a newline, and flushes them. It takes no memory. At an error some of it may have been written.
+    pub fn say<T: Display>(&mut self, text: &T) -> Result<(), StreamFault>
+        ensures text { OnOk result (IfSome (T.output text.now)
+            (AppendsLine (W.contents self.old.inner) (W.contents self.new.inner))) }
+        ensures fault { IfErr result (λ f. f ≡ Device) }
+        ensures counted { Counts self.old.failures self.new.failures result }
+        ensures reads { self.new.reads_left ≡ self.old.reads_left }
+    {
+        match write_line_and_flush(&mut self.stream, text) {
+            Ok(()) => Ok(()),
+            Err(_) => Err(self.fault()),
+        }
+    }
 }
 
 fn write_and_flush<W: Write>(w: &mut W, bytes: &[u8]) -> io::Result<()>
     ensures { OnOk result (Appends (W.contents w.old) (W.contents w.new) bytes.now) }
 {
     w.write_all(bytes)?;
+    w.flush()?;
+    Ok(())
+}
+
+fn write_line_and_flush<W: Write, T: Display>(w: &mut W, text: &T) -> io::Result<()>
+    ensures { OnOk result
+        (IfSome (T.output text.now) (AppendsLine (W.contents w.old) (W.contents w.new))) }
+{
+    writeln!(w, "{text}")?;
     w.flush()?;
     Ok(())
 }

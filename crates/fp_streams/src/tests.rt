@@ -93,3 +93,17 @@ fn what_is_sent_is_written_and_flushed(rt: HostRuntime) -> Result<(), Fail> {
     assert_eq!(rt; full.get_ref().taken.as_slice(), b"ab".as_slice());
     Ok(())
 }
+
+#[test]
+fn what_is_said_is_a_line(rt: HostRuntime) -> Result<(), Fail> {
+    let alloc = rt.alloc();
+    let mut w = Counted::new(Vec::new(alloc));
+    assert_eq!(rt; w.say(&"ab"), Ok(()));
+    assert_eq!(rt; w.say(&format_args!("c{}", 7)), Ok(()));
+    assert_eq!(rt; w.into_inner().as_slice(), b"ab\nc7\n".as_slice());
+    let taken = Vec::new(alloc);
+    let mut full = Counted::new(Unflushed { taken });
+    assert_eq!(rt; full.say(&"ab"), Err(StreamFault::Device));
+    assert_eq!(rt; full.get_ref().taken.as_slice(), b"ab\n".as_slice());
+    Ok(())
+}

@@ -47,7 +47,7 @@ fn streams_that_fail_are_told_on_the_error_stream(rt: HostRuntime) -> Result<(),
     let words = [String::from_str(alloc, "apply")?];
     let mut broken = Counted::new(Broken);
     let mut output = Counted::new(Vec::new(alloc));
-    let mut errors = Vec::new(alloc);
+    let mut errors = Counted::new(Vec::new(alloc));
     let read = command(&rt, words.as_slice(), &mut broken, &mut output, &mut errors);
     assert_eq!(rt; (read, output.get_ref().len()), (1, 0));
     let mut input = Counted::new(b"[]\n".as_slice());
@@ -55,7 +55,7 @@ fn streams_that_fail_are_told_on_the_error_stream(rt: HostRuntime) -> Result<(),
     let written = command(&rt, words.as_slice(), &mut input, &mut full, &mut errors);
     assert_eq!(rt; written, 1);
     assert_eq!(rt;
-        errors.as_slice(),
+        errors.get_ref().as_slice(),
         b"flagplane: device fault\nflagplane: device fault\n".as_slice()
     );
     Ok(())

@@ -25,9 +25,9 @@ returns-in-Err-clause-left g c = λ h other start stands.
     some_all (g.R.Read.remaining c.args.r.now.inner) (λ (input : List ℕ). (flags : State) × IsLeftBy start input flags × StandsFor (D.bytes c.in-Err.disk) flags) (λ input. (start, left-at_once start input, there))
 
 pub returns-in-Err-clause-fault : goal.returns-in-Err-clause-fault
-returns-in-Err-clause-fault g c = λ h.
-    let bytes = g.D.Disk.bytes c.args.disk in
-    subst (λ (f : CommandFault). IsApplyingFault bytes f) (sym c.into.ensures) (applying-open bytes c.in-Err.fault (c.in-Err.ensures.fault h) (c.in-Err.ensures.refused h))
+returns-in-Err-clause-fault g c =
+    let honest = g.D.Disk.honest c.args.disk in let bytes = g.D.Disk.bytes c.args.disk in
+    subst (λ (f : CommandFault). IsApplyingFault honest bytes f) (sym c.into.ensures) (applying-open honest bytes c.in-Err.fault c.in-Err.ensures.fault c.in-Err.ensures.refused)
 
 -- ---- it was
 
@@ -62,9 +62,9 @@ returns-in-Err-outcome-clause-left g c = λ h other start stands.
     IfSome_then (g.R.Read.remaining c.args.r.now.inner) l.left (λ input lines. (k.set.set, subst (λ (x : State). IsLeftBy x input k.set.set) (sym (e.only h start stands)) lines, now))
 
 pub returns-in-Err-outcome-clause-fault : goal.returns-in-Err-outcome-clause-fault
-returns-in-Err-outcome-clause-fault g c = λ h.
-    let bytes = g.D.Disk.bytes c.args.disk in
-    subst (λ (f : CommandFault). IsApplyingFault bytes f) (sym c.into-in-Err-outcome.ensures) (applying-run bytes c.in-Err-outcome.fault)
+returns-in-Err-outcome-clause-fault g c =
+    let honest = g.D.Disk.honest c.args.disk in let bytes = g.D.Disk.bytes c.args.disk in
+    subst (λ (f : CommandFault). IsApplyingFault honest bytes f) (sym c.into-in-Err-outcome.ensures) (applying-run honest bytes c.in-Err-outcome.fault)
 
 pub returns-in-Err-outcome-clause-cause : goal.returns-in-Err-outcome-clause-cause
 returns-in-Err-outcome-clause-cause g c = λ is.

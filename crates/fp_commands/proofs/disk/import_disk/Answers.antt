@@ -28,9 +28,9 @@ returns-in-Err-clause-left g c = λ h other start stands.
     some_all (g.R.Read.remaining c.args.r.now.inner) (λ (input : List ℕ). (flags : State) × IsLeftByImport start input flags × StandsFor (D.bytes c.in-Err.disk) flags) (λ input. (start, inl refl, there))
 
 pub returns-in-Err-clause-fault : goal.returns-in-Err-clause-fault
-returns-in-Err-clause-fault g c = λ h.
-    let bytes = g.D.Disk.bytes c.args.disk in let left = g.R.Read.remaining c.args.r.now.inner in
-    subst (λ (f : CommandFault). IsImportingFault bytes left f) (sym c.into.ensures) (importing-open bytes left c.in-Err.fault (c.in-Err.ensures.fault h) (c.in-Err.ensures.refused h))
+returns-in-Err-clause-fault g c =
+    let honest = g.D.Disk.honest c.args.disk in let bytes = g.D.Disk.bytes c.args.disk in let left = g.R.Read.remaining c.args.r.now.inner in
+    subst (λ (f : CommandFault). IsImportingFault honest bytes left f) (sym c.into.ensures) (importing-open honest bytes left c.in-Err.fault c.in-Err.ensures.fault c.in-Err.ensures.refused)
 
 -- ---- no document was read
 
@@ -42,8 +42,8 @@ returns-in-Err-read_document-clause-left g c = λ h other start stands.
     some_all (g.R.Read.remaining c.args.r.now.inner) (λ (input : List ℕ). (flags : State) × IsLeftByImport start input flags × StandsFor (D.bytes disk) flags) (λ input. (start, inl refl, there))
 
 pub returns-in-Err-read_document-clause-fault : goal.returns-in-Err-read_document-clause-fault
-returns-in-Err-read_document-clause-fault g c = λ h.
-    importing-document (g.D.Disk.bytes c.args.disk) (g.R.Read.remaining c.args.r.now.inner) c.in-Err-read_document.fault c.in-Err-read_document.ensures.fault
+returns-in-Err-read_document-clause-fault g c =
+    importing-document (g.D.Disk.honest c.args.disk) (g.D.Disk.bytes c.args.disk) (g.R.Read.remaining c.args.r.now.inner) c.in-Err-read_document.fault c.in-Err-read_document.ensures.fault
 
 pub returns-in-Err-read_document-clause-cause : goal.returns-in-Err-read_document-clause-cause
 returns-in-Err-read_document-clause-cause g c = λ is.
@@ -89,9 +89,9 @@ returns-in-Err-outcome-clause-left g c = λ h other start stands.
     (k.set.set, inr (puts, known, subst (λ (x : State). IsLeftByPuts x puts k.set.set) (sym (e.only h start stands)) l.left), now))
 
 pub returns-in-Err-outcome-clause-fault : goal.returns-in-Err-outcome-clause-fault
-returns-in-Err-outcome-clause-fault g c = λ h.
-    let bytes = g.D.Disk.bytes c.args.disk in let left = g.R.Read.remaining c.args.r.now.inner in
-    subst (λ (f : CommandFault). IsImportingFault bytes left f) (sym c.into-in-Err-outcome.ensures) (importing-run bytes left c.in-Err-outcome.fault)
+returns-in-Err-outcome-clause-fault g c =
+    let honest = g.D.Disk.honest c.args.disk in let bytes = g.D.Disk.bytes c.args.disk in let left = g.R.Read.remaining c.args.r.now.inner in
+    subst (λ (f : CommandFault). IsImportingFault honest bytes left f) (sym c.into-in-Err-outcome.ensures) (importing-run honest bytes left c.in-Err-outcome.fault)
 
 pub returns-in-Err-outcome-clause-cause : goal.returns-in-Err-outcome-clause-cause
 returns-in-Err-outcome-clause-cause g c = λ is.

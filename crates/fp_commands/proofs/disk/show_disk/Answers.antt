@@ -16,11 +16,11 @@ returns-in-Ok-clause-shown g c =
     c.show-outcome.ensures.shown
 
 pub returns-in-Ok-clause-fault : goal.returns-in-Ok-clause-fault
-returns-in-Ok-clause-fault g c = λ h.
-    let bytes = g.D.Disk.bytes c.args.disk in
-    err_more c.show-outcome.result IsStreamFault (IsShowingFault bytes) (showing-stream bytes) c.show-outcome.ensures.fault
+returns-in-Ok-clause-fault g c =
+    let honest = g.D.Disk.honest c.args.disk in let bytes = g.D.Disk.bytes c.args.disk in
+    err_more c.show-outcome.result IsStreamFault (IsShowingFault honest bytes) (showing-stream honest bytes) c.show-outcome.ensures.fault
 
 pub returns-in-Err-clause-fault : goal.returns-in-Err-clause-fault
-returns-in-Err-clause-fault g c = λ h.
-    let bytes = g.D.Disk.bytes c.args.disk in
-    subst (λ (f : CommandFault). IsShowingFault bytes f) (sym c.into.ensures) (showing-open bytes c.in-Err.fault (c.in-Err.ensures.fault h) (c.in-Err.ensures.refused h))
+returns-in-Err-clause-fault g c =
+    let honest = g.D.Disk.honest c.args.disk in let bytes = g.D.Disk.bytes c.args.disk in
+    subst (λ (f : CommandFault). IsShowingFault honest bytes f) (sym c.into.ensures) (showing-open honest bytes c.in-Err.fault c.in-Err.ensures.fault c.in-Err.ensures.refused)

@@ -1,6 +1,8 @@
-use Rattle.std.proofs.Common.{IfSome, IfOk, subst}
+use Rattle.std.proofs.Common.{IfSome, IfOk, Bool, Result, ◌+◌, subst, arith}
 use Rattle.std.proofs.lemmas.Option.{IfSome_then}
 use Rattle.fp_plane.specs.Run.{IsRunOver}
+use Rattle.fp_plane.specs.Streams as plane
+use Rattle.fp_plane.specs.declared.fault.ApplyFault.{ApplyFault}
 use Rattle.fp_commands.proofs.program.apply.Goals as goal
 
 pub returns : goal.returns
@@ -10,5 +12,12 @@ returns g c =
     let left = g.R.Read.remaining c.args.r.now.inner in
     let old = g.W.Write.contents c.args.w.now.inner in
     let new = g.W.Write.contents c.apply_lines-flags.new.w.inner in
+    let before = c.args.r.now.failures + c.args.w.now.failures in
+    let after = c.apply_lines-flags.new.r.failures + c.apply_lines-flags.new.w.failures in
     let run : IfSome left (λ input. IsRunOver c.new.result input told old new now) = subst (λ o. IfOk o (λ b. IfSome left (λ input. IsRunOver c.new.result input b old new now))) c.in_ok-_told.was c.apply_lines-flags.ensures.run in
-    IfSome_then left run (λ input r. (told, now, subst (λ s. IsRunOver s input told old new now) c.new.ensures r))
+    let same = subst (λ (o : Result Bool ApplyFault). plane.Blames before after o) c.in_ok-_told.was c.apply_lines-flags.ensures.device in
+    record {
+      done = IfSome_then left run (λ input r. (told, now, subst (λ s. IsRunOver s input told old new now) c.new.ensures r));
+      calm = omega (arith, same);
+      ends = tt;
+    }
