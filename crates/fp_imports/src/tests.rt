@@ -6,11 +6,26 @@ use fp_base::read_json;
 use serde_json::Value;
 use std::alloc::Global;
 use std::fmt::Write;
+use std::process::Abort;
 use std::test::Fail;
+
+// What is given, and what comes of it.
+type Row = (&'static str, &'static str);
+
+// What two things make together, and what comes of it.
+type RowOfTwo = (&'static str, &'static str, &'static str);
 
 fn value_of(alloc: Global, text: &str) -> Result<Value, Fail> {
     let value = read_json(alloc, text.as_bytes())?;
     Ok(value.ok_or("no JSON")?)
+}
+
+fn joined(alloc: Global, parts: &[&str]) -> Result<String, Fail> {
+    let mut text = String::new(alloc);
+    for part in parts {
+        text.push_str(part)?;
+    }
+    Ok(text)
 }
 
 // A line a flag, its key before its definition; or the fault.
@@ -41,9 +56,16 @@ fn named(alloc: Global, fault: ImportFault) -> Result<String, Fail> {
 
 // The document of one flag `f` with that targeting.
 fn with_targeting(alloc: Global, evaluators: &str, targeting: &str) -> Result<String, Fail> {
-    Ok(format!(in alloc;
-        r#"{{"$evaluators":{{{evaluators}}},"flags":{{"f":{{"defaultVariant":"a","targeting":{targeting},"variants":{{"a":1}}}}}}}}"#
-    )?)
+    joined(
+        alloc,
+        &[
+            r#"{"$evaluators":{"#,
+            evaluators,
+            r#"},"flags":{"f":{"defaultVariant":"a","targeting":"#,
+            targeting,
+            r#","variants":{"a":1}}}}"#,
+        ],
+    )
 }
 
 #[test]
@@ -56,69 +78,92 @@ fn a_team_shares_an_evaluator(rt: HostRuntime) -> Result<(), Fail> {
     Ok(())
 }
 
-#[test]
-fn what_a_document_is(rt: HostRuntime) -> Result<(), Fail> {
-    for (document, wanted) in [
-        (r#"{"flags":{}}"#, ""),
-        (r#"{"$evaluators":{},"flags":{}}"#, ""),
-        (
-            r#"{"$schema":1,"metadata":[],"flags":{},"x":{"$ref":"y"}}"#,
-            "",
-        ),
-        (r#"{"$evaluators":{"x":{"$ref":"nowhere"}},"flags":{}}"#, ""),
-        (r#"{}"#, "not a document"),
-        (r#"null"#, "not a document"),
-        (r#"[{"flags":{}}]"#, "not a document"),
-        (r#"{"flags":[]}"#, "not a document"),
-        (r#"{"flags":null}"#, "not a document"),
-        (r#"{"flags":"{}"}"#, "not a document"),
-        (r#"{"$evaluators":null,"flags":{}}"#, "not a document"),
-        (r#"{"$evaluators":[],"flags":{"":0}}"#, "not a document"),
-    ] {
+// A document, and what it gives.
+const DOCUMENTS: [Row; 12] = [
+    (r#"{"flags":{}}"#, ""),
+    (r#"{"$evaluators":{},"flags":{}}"#, ""),
+    (
+        r#"{"$schema":1,"metadata":[],"flags":{},"x":{"$ref":"y"}}"#,
+        "",
+    ),
+    (r#"{"$evaluators":{"x":{"$ref":"nowhere"}},"flags":{}}"#, ""),
+    (r#"{}"#, "not a document"),
+    (r#"null"#, "not a document"),
+    (r#"[{"flags":{}}]"#, "not a document"),
+    (r#"{"flags":[]}"#, "not a document"),
+    (r#"{"flags":null}"#, "not a document"),
+    (r#"{"flags":"{}"}"#, "not a document"),
+    (r#"{"$evaluators":null,"flags":{}}"#, "not a document"),
+    (r#"{"$evaluators":[],"flags":{"":0}}"#, "not a document"),
+];
+
+fn check(rt: &impl Abort, alloc: Global, rows: &[Row]) -> Result<(), Fail> {
+    for (document, wanted) in rows {
         assert_eq!(rt;
-            outcome(rt.alloc(), document)?.as_str(),
-            wanted,
+            outcome(alloc, document)?.as_str(),
+            *wanted,
             "of {document}"
         );
     }
     Ok(())
 }
 
+#[test]
+fn what_a_document_is(rt: HostRuntime) -> Result<(), Fail> {
+    check(&rt, rt.alloc(), &DOCUMENTS)
+}
+
 const GOOD: &str = r#"{"defaultVariant":"a","variants":{"a":1}}"#;
 
 const BROKEN: &str = r#"{"state":0,"targeting":{"$ref":"x"}}"#;
 
-#[test]
-fn the_first_fault_is_answered(rt: HostRuntime) -> Result<(), Fail> {
-    let longest = "k".repeat(rt.alloc(), 256)?;
-    let too_long = "k".repeat(rt.alloc(), 257)?;
-    let bad = format!(in rt.alloc(); "bad key {too_long}")?;
-    for (first, first_flag, second, second_flag, wanted) in [
-        ("", GOOD, "f", GOOD, "bad key "),
-        ("", BROKEN, "f", BROKEN, "bad key "),
-        ("f", BROKEN, "", GOOD, "bad key "),
-        ("z", GOOD, too_long.as_str(), BROKEN, bad.as_str()),
-        ("a", BROKEN, too_long.as_str(), GOOD, "unknown x"),
-        ("a", "0", too_long.as_str(), GOOD, "flag a: not-object"),
-        ("b", BROKEN, "a", r#"{"state":0}"#, "flag a: bad-state"),
-        (
-            "b",
-            "null",
-            "a",
-            r#"{"targeting":[]}"#,
-            "flag a: bad-variants",
-        ),
-    ] {
-        let document = format!(in rt.alloc();
-            r#"{{"flags":{{"{first}":{first_flag},"{second}":{second_flag}}}}}"#
-        )?;
+// Two flags, each by its key and its definition, and the fault. A key `K` stands for one of 257 bytes.
+const FAULTS: [(&str, &str, &str, &str, &str); 8] = [
+    ("", GOOD, "f", GOOD, "bad key "),
+    ("", BROKEN, "f", BROKEN, "bad key "),
+    ("f", BROKEN, "", GOOD, "bad key "),
+    ("z", GOOD, "K", BROKEN, "bad key K"),
+    ("a", BROKEN, "K", GOOD, "unknown x"),
+    ("a", "0", "K", GOOD, "flag a: not-object"),
+    ("b", BROKEN, "a", r#"{"state":0}"#, "flag a: bad-state"),
+    (
+        "b",
+        "null",
+        "a",
+        r#"{"targeting":[]}"#,
+        "flag a: bad-variants",
+    ),
+];
+
+fn one_flag(alloc: Global, key: &str, flag: &str) -> Result<String, Fail> {
+    joined(alloc, &[r#"{"flags":{""#, key, r#"":"#, flag, "}}"])
+}
+
+fn check_two(
+    rt: &impl Abort,
+    alloc: Global,
+    too_long: &str,
+    rows: &[(&str, &str, &str, &str, &str)],
+) -> Result<(), Fail> {
+    for (first, first_flag, second, second_flag, wanted) in rows {
+        let flags = joined(alloc, &[first_flag, r#",""#, second, r#"":"#, second_flag])?;
+        let document = one_flag(alloc, first, &flags)?.replace(alloc, "K", too_long)?;
+        let fault = wanted.replace(alloc, "K", too_long)?;
         assert_eq!(rt;
-            outcome(rt.alloc(), &document)?.as_str(),
-            wanted,
+            outcome(alloc, &document)?.as_str(),
+            fault.as_str(),
             "of {document}"
         );
     }
-    let document = format!(in rt.alloc(); r#"{{"flags":{{"{longest}":{GOOD}}}}}"#)?;
+    Ok(())
+}
+
+#[test]
+fn the_first_fault_is_answered(rt: HostRuntime) -> Result<(), Fail> {
+    let too_long = "k".repeat(rt.alloc(), 257)?;
+    check_two(&rt, rt.alloc(), &too_long, &FAULTS)?;
+    let longest = "k".repeat(rt.alloc(), 256)?;
+    let document = one_flag(rt.alloc(), &longest, GOOD)?;
     assert!(rt; outcome(rt.alloc(), &document)?.starts_with("kkk"));
     Ok(())
 }
@@ -126,37 +171,46 @@ fn the_first_fault_is_answered(rt: HostRuntime) -> Result<(), Fail> {
 // A key's bytes are counted, and not its characters.
 #[test]
 fn keys_of_two_bytes_a_letter(rt: HostRuntime) -> Result<(), Fail> {
-    let longest = "\u{e9}".repeat(rt.alloc(), 128)?;
-    let document = format!(in rt.alloc(); r#"{{"flags":{{"{longest}":{GOOD}}}}}"#)?;
-    let wanted = format!(in rt.alloc(); "{longest} {GOOD}\n")?;
+    let mut key = "\u{e9}".repeat(rt.alloc(), 128)?;
+    let document = one_flag(rt.alloc(), &key, GOOD)?;
+    let wanted = joined(rt.alloc(), &[&key, " ", GOOD, "\n"])?;
     assert_eq!(rt; outcome(rt.alloc(), &document)?.as_str(), wanted.as_str());
-    let document = format!(in rt.alloc(); r#"{{"flags":{{"{longest}k":{GOOD}}}}}"#)?;
-    let wanted = format!(in rt.alloc(); "bad key {longest}k")?;
+    key.push('k')?;
+    let document = one_flag(rt.alloc(), &key, GOOD)?;
+    let wanted = joined(rt.alloc(), &["bad key ", &key])?;
     assert_eq!(rt; outcome(rt.alloc(), &document)?.as_str(), wanted.as_str());
     Ok(())
 }
+
+const CIRCLE: &str =
+    r#"{"$evaluators":{"x":{"!":{"$ref":"y"}},"y":[{"$ref":"z"}],"z":{"$ref":"x"}},"flags":{"f":BROKEN}}"#;
 
 // References that are too deep are found before the definition's own faults.
 #[test]
 fn circles_come_before_definitions(rt: HostRuntime) -> Result<(), Fail> {
-    let circle = r#"{"x":{"!":{"$ref":"y"}},"y":[{"$ref":"z"}],"z":{"$ref":"x"}}"#;
-    let document = format!(in rt.alloc();
-        r#"{{"$evaluators":{circle},"flags":{{"f":{BROKEN}}}}}"#
-    )?;
+    let document = CIRCLE.replace(rt.alloc(), "BROKEN", BROKEN)?;
     assert_eq!(rt; outcome(rt.alloc(), &document)?.as_str(), "too deep");
     Ok(())
 }
 
+// Documents and what they give, with `GOOD` for that definition.
+const ORDERED: [(&str, &str); 2] = [
+    (
+        r#"{"flags":{"b":GOOD,"":0,"a b":GOOD,"B":GOOD,"":GOOD,"a":0,"a":GOOD}}"#,
+        "bad key ",
+    ),
+    (
+        r#"{"flags":{"b":GOOD,"a b":GOOD,"B":GOOD,"a":0,"a":GOOD}}"#,
+        "B GOOD\na GOOD\na b GOOD\nb GOOD\n",
+    ),
+];
+
 #[test]
 fn flags_come_out_by_key(rt: HostRuntime) -> Result<(), Fail> {
-    let document = format!(in rt.alloc();
-        r#"{{"flags":{{"b":{GOOD},"":0,"a b":{GOOD},"B":{GOOD},"":{GOOD},"a":0,"a":{GOOD}}}}}"#
-    )?;
-    assert_eq!(rt; outcome(rt.alloc(), &document)?.as_str(), "bad key ");
-    let document = format!(in rt.alloc();
-        r#"{{"flags":{{"b":{GOOD},"a b":{GOOD},"B":{GOOD},"a":0,"a":{GOOD}}}}}"#
-    )?;
-    let wanted = format!(in rt.alloc(); "B {GOOD}\na {GOOD}\na b {GOOD}\nb {GOOD}\n")?;
-    assert_eq!(rt; outcome(rt.alloc(), &document)?.as_str(), wanted.as_str());
+    for (document, wanted) in ORDERED {
+        let document = document.replace(rt.alloc(), "GOOD", GOOD)?;
+        let wanted = wanted.replace(rt.alloc(), "GOOD", GOOD)?;
+        assert_eq!(rt; outcome(rt.alloc(), &document)?.as_str(), wanted.as_str());
+    }
     Ok(())
 }

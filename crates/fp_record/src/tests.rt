@@ -6,12 +6,23 @@ use super::*;
 use fp_definition::{Definition, FlagKey};
 use fp_edit::{Edit, Expect, FlagSet};
 use std::alloc::Global;
+use std::process::Abort;
 use std::test::Fail;
 
 const ON: &str = r#"{"defaultVariant":"on","state":"ENABLED","variants":{"on":true}}"#;
 
 // The first revision 1, the count 1, a put of `a`, and the length of its definition.
 const PUT_A: [u8; 18] = [0, 0, 0, 0, 0, 0, 0, 1, 0, 1, 1, 0, 1, b'a', 0, 0, 0, 64];
+
+// The same bytes, cut before the last, and with a space in place of the first.
+const ON_BYTES: &[u8] = br#"{"defaultVariant":"on","state":"ENABLED","variants":{"on":true}}"#;
+
+const CUT: &[u8] = br#"{"defaultVariant":"on","state":"ENABLED","variants":{"on":true}"#;
+
+const SPACED: &[u8] = br#" "defaultVariant":"on","state":"ENABLED","variants":{"on":true}}"#;
+
+// The parts of a spelling, and the first byte that is wrong, if one is.
+type Row = (&'static [&'static [u8]], Option<usize>);
 
 fn joined(alloc: Global, parts: &[&[u8]]) -> Result<Vec<u8>, Fail> {
     let mut bytes = Vec::new(alloc);

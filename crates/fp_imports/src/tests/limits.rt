@@ -10,25 +10,40 @@ fn chain(alloc: Global, count: usize, end: &str) -> Result<String, Fail> {
     Ok(evaluators)
 }
 
-#[test]
-fn eight_replacements_stand_in_one_another(rt: HostRuntime) -> Result<(), Fail> {
-    let replaced = r#"f {"defaultVariant":"a","targeting":{"!":7},"variants":{"a":1}}"#;
-    for (count, end, wanted) in [
-        (8, "7", replaced),
-        (9, "7", "too deep"),
-        (7, r#"{"$ref":"nowhere"}"#, "unknown nowhere"),
-        (8, r#"{"$ref":"nowhere"}"#, "too deep"),
-    ] {
-        let evaluators = chain(rt.alloc(), count, end)?;
-        let document = with_targeting(rt.alloc(), &evaluators, r#"{"!":{"$ref":"1"}}"#)?;
+// A chain's length and its end, and what a reference to its first gives.
+const CHAINS: [(usize, &str, &str); 4] = [
+    (
+        8,
+        "7",
+        r#"f {"defaultVariant":"a","targeting":{"!":7},"variants":{"a":1}}"#,
+    ),
+    (9, "7", "too deep"),
+    (7, r#"{"$ref":"nowhere"}"#, "unknown nowhere"),
+    (8, r#"{"$ref":"nowhere"}"#, "too deep"),
+];
+
+fn check_chains(rt: &impl Abort, alloc: Global, rows: &[(usize, &str, &str)]) -> Result<(), Fail> {
+    for (count, end, wanted) in rows {
+        let evaluators = chain(alloc, *count, end)?;
+        let document = with_targeting(alloc, &evaluators, r#"{"!":{"$ref":"1"}}"#)?;
         assert_eq!(rt;
-            outcome(rt.alloc(), &document)?.trim_end(),
-            wanted,
+            outcome(alloc, &document)?.trim_end(),
+            *wanted,
             "of {count}, then {end}"
         );
     }
+    Ok(())
+}
+
+#[test]
+fn eight_replacements_stand_in_one_another(rt: HostRuntime) -> Result<(), Fail> {
+    check_chains(&rt, rt.alloc(), &CHAINS)
+}
+
+#[test]
+fn replacements_stand_beside_one_another(rt: HostRuntime) -> Result<(), Fail> {
     let beside = r#"{"$ref":"1"},"#.repeat(rt.alloc(), 20)?;
-    let targeting = format!(in rt.alloc(); r#"{{"or":[{beside}0]}}"#)?;
+    let targeting = joined(rt.alloc(), &[r#"{"or":["#, &beside, "0]}"])?;
     let evaluators = chain(rt.alloc(), 8, "7")?;
     let document = with_targeting(rt.alloc(), &evaluators, &targeting)?;
     assert!(rt; outcome(rt.alloc(), &document)?.starts_with("f "));
@@ -41,8 +56,17 @@ fn counted(alloc: Global, references: usize, zeros: usize, last: &str) -> Result
     let evaluator = "0,".repeat(alloc, 126)?;
     let references = r#"{"$ref":"x"},"#.repeat(alloc, references)?;
     let zeros = "0,".repeat(alloc, zeros)?;
-    let document = format!(in alloc;
-        r#"{{"$evaluators":{{"x":[{evaluator}0]}},"flags":{{"f":{{"x":1.5,"targeting":[{references}{zeros}{last}]}}}}}}"#
+    let document = joined(
+        alloc,
+        &[
+            r#"{"$evaluators":{"x":["#,
+            &evaluator,
+            r#"0]},"flags":{"f":{"x":1.5,"targeting":["#,
+            &references,
+            &zeros,
+            last,
+            "]}}}",
+        ],
     )?;
     outcome(alloc, &document)
 }
@@ -68,34 +92,60 @@ fn a_targeting_has_16384_values(rt: HostRuntime) -> Result<(), Fail> {
     Ok(())
 }
 
-// Flags of 1,000 values each.
-#[test]
-fn each_flag_is_counted_alone(rt: HostRuntime) -> Result<(), Fail> {
-    let zeros = "0,".repeat(rt.alloc(), 997)?;
-    let mut document = String::from_str(rt.alloc(), r#"{"flags":{"#)?;
+// A key of four digits.
+fn numbered(alloc: Global, n: usize) -> Result<String, Fail> {
+    let mut key = String::new(alloc);
+    write!(key, "{n:04}")?;
+    Ok(key)
+}
+
+// Flags 0010 to 0026 of 1,000 values each, and one without a key.
+fn flags_of_1000_values(alloc: Global) -> Result<String, Fail> {
+    let zeros = "0,".repeat(alloc, 997)?;
+    let mut document = String::from_str(alloc, r#"{"flags":{"#)?;
     for n in 10..27 {
-        write!(
-            document,
-            r#""{n}":{{"defaultVariant":"a","targeting":{{"or":[{zeros}0]}},"variants":{{"a":1}}}},"#
-        )?;
+        let key = numbered(alloc, n)?;
+        let flag = [
+            "\"",
+            &key,
+            r#"":{"defaultVariant":"a","targeting":{"or":["#,
+            &zeros,
+            r#"0]},"variants":{"a":1}},"#,
+        ];
+        document.push_str(&joined(alloc, &flag)?)?;
     }
     document.push_str(r#""":0}}"#)?;
+    Ok(document)
+}
+
+#[test]
+fn each_flag_is_counted_alone(rt: HostRuntime) -> Result<(), Fail> {
+    let document = flags_of_1000_values(rt.alloc())?;
     assert_eq!(rt; outcome(rt.alloc(), &document)?.as_str(), "bad key ");
     let valid = document.replace(rt.alloc(), r#","":0"#, "")?;
     assert_eq!(rt; outcome(rt.alloc(), &valid)?.lines().count(), 17);
     Ok(())
 }
 
-#[test]
-fn documents_of_4096_flags(rt: HostRuntime) -> Result<(), Fail> {
-    let mut document = String::from_str(rt.alloc(), r#"{"$evaluators":{"x":7},"flags":{"0":0"#)?;
+// Flags 4095 to 0, each with a reference, behind one that is no object.
+fn descending(alloc: Global) -> Result<String, Fail> {
+    let mut document = String::from_str(alloc, r#"{"$evaluators":{"x":7},"flags":{"0":0"#)?;
     for key in (0..4096).rev() {
-        write!(
-            document,
-            r#","{key:04}":{{"defaultVariant":"a","targeting":{{"!":{{"$ref":"x"}}}},"variants":{{"a":1}}}}"#
-        )?;
+        let key = numbered(alloc, key)?;
+        let flag = [
+            r#",""#,
+            &key,
+            r#"":{"defaultVariant":"a","targeting":{"!":{"$ref":"x"}},"variants":{"a":1}}"#,
+        ];
+        document.push_str(&joined(alloc, &flag)?)?;
     }
     document.push_str("}}")?;
+    Ok(document)
+}
+
+#[test]
+fn documents_of_4096_flags(rt: HostRuntime) -> Result<(), Fail> {
+    let document = descending(rt.alloc())?;
     assert_eq!(rt;
         outcome(rt.alloc(), &document)?.as_str(),
         "flag 0: not-object"
@@ -107,7 +157,7 @@ fn documents_of_4096_flags(rt: HostRuntime) -> Result<(), Fail> {
     };
     assert_eq!(rt; flags.len(), 4096);
     for (n, (key, _)) in flags.iter().enumerate() {
-        assert_eq!(rt; key.as_str(), format!(in rt.alloc(); "{n:04}")?.as_str());
+        assert_eq!(rt; key.as_str(), numbered(rt.alloc(), n)?.as_str());
     }
     Ok(())
 }

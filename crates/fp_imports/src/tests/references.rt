@@ -1,7 +1,7 @@
 use super::*;
 
 // Evaluators, a targeting, and what it becomes.
-const REPLACED: [(&str, &str, &str); 11] = [
+const REPLACED: [RowOfTwo; 11] = [
     (r#""x":{"var":"k"}"#, r#"{"$ref":"x"}"#, r#"{"var":"k"}"#),
     (
         r#""x":7,"y":{"!":{"$ref":"x"}}"#,
@@ -27,15 +27,19 @@ const REPLACED: [(&str, &str, &str); 11] = [
     (r#""$ref":7"#, r#"{"!":{"$ref":"$ref"}}"#, r#"{"!":7}"#),
 ];
 
-#[test]
-fn references_give_way_to_evaluators(rt: HostRuntime) -> Result<(), Fail> {
-    for (evaluators, targeting, becomes) in REPLACED {
-        let document = with_targeting(rt.alloc(), evaluators, targeting)?;
-        let line = format!(in rt.alloc();
-            r#"f {{"defaultVariant":"a","targeting":{becomes},"variants":{{"a":1}}}}"#
+fn check_replaced(rt: &impl Abort, alloc: Global, rows: &[RowOfTwo]) -> Result<(), Fail> {
+    for (evaluators, targeting, becomes) in rows {
+        let document = with_targeting(alloc, evaluators, targeting)?;
+        let line = joined(
+            alloc,
+            &[
+                r#"f {"defaultVariant":"a","targeting":"#,
+                becomes,
+                r#","variants":{"a":1}}"#,
+            ],
         )?;
         assert_eq!(rt;
-            outcome(rt.alloc(), &document)?.trim_end(),
+            outcome(alloc, &document)?.trim_end(),
             line.as_str(),
             "of {targeting}"
         );
@@ -43,8 +47,13 @@ fn references_give_way_to_evaluators(rt: HostRuntime) -> Result<(), Fail> {
     Ok(())
 }
 
+#[test]
+fn references_give_way_to_evaluators(rt: HostRuntime) -> Result<(), Fail> {
+    check_replaced(&rt, rt.alloc(), &REPLACED)
+}
+
 // Evaluators, a targeting, and its fault.
-const FAULTY: [(&str, &str, &str); 9] = [
+const FAULTY: [RowOfTwo; 9] = [
     ("", r#"{"$ref":"x"}"#, "unknown x"),
     (
         r#""x":{"!":[{"$ref":"z"}]}"#,
@@ -64,13 +73,12 @@ const FAULTY: [(&str, &str, &str); 9] = [
     ("", r#"{"$ref":1}"#, "flag f: unsupported-operator"),
 ];
 
-#[test]
-fn references_at_fault(rt: HostRuntime) -> Result<(), Fail> {
-    for (evaluators, targeting, wanted) in FAULTY {
-        let document = with_targeting(rt.alloc(), evaluators, targeting)?;
+fn check_faulty(rt: &impl Abort, alloc: Global, rows: &[RowOfTwo]) -> Result<(), Fail> {
+    for (evaluators, targeting, wanted) in rows {
+        let document = with_targeting(alloc, evaluators, targeting)?;
         assert_eq!(rt;
-            outcome(rt.alloc(), &document)?.as_str(),
-            wanted,
+            outcome(alloc, &document)?.as_str(),
+            *wanted,
             "of {targeting}"
         );
     }
@@ -78,16 +86,24 @@ fn references_at_fault(rt: HostRuntime) -> Result<(), Fail> {
 }
 
 #[test]
+fn references_at_fault(rt: HostRuntime) -> Result<(), Fail> {
+    check_faulty(&rt, rt.alloc(), &FAULTY)
+}
+
+#[test]
 fn only_targeting_is_walked(rt: HostRuntime) -> Result<(), Fail> {
     let line = r#"{"defaultVariant":"a","note":[{"$ref":"x"}],"variants":{"a":{"$ref":"x"}}}"#;
-    let document = format!(in rt.alloc(); r#"{{"$evaluators":{{"x":7}},"flags":{{"f":{line}}}}}"#)?;
-    let wanted = format!(in rt.alloc(); "f {line}")?;
+    let document = joined(
+        rt.alloc(),
+        &[r#"{"$evaluators":{"x":7},"flags":{"f":"#, line, "}}"],
+    )?;
+    let wanted = joined(rt.alloc(), &["f ", line])?;
     assert_eq!(rt; outcome(rt.alloc(), &document)?.trim_end(), wanted.as_str());
     Ok(())
 }
 
 // Evaluators, flags and their fault. Where a reference stands outside of a targeting, what it names would be valid there.
-const ELSEWHERE: [(&str, &str, &str); 5] = [
+const ELSEWHERE: [RowOfTwo; 5] = [
     (
         r#"{"x":"ENABLED"}"#,
         r#"{"f":{"defaultVariant":"a","state":{"$ref":"x"},"variants":{"a":1}}}"#,
@@ -111,15 +127,18 @@ const ELSEWHERE: [(&str, &str, &str); 5] = [
     ),
 ];
 
-#[test]
-fn references_elsewhere_stay(rt: HostRuntime) -> Result<(), Fail> {
-    for (evaluators, flags, wanted) in ELSEWHERE {
-        let document = format!(in rt.alloc(); r#"{{"$evaluators":{evaluators},"flags":{flags}}}"#)?;
-        assert_eq!(rt;
-            outcome(rt.alloc(), &document)?.as_str(),
-            wanted,
-            "of {flags}"
-        );
+fn check_elsewhere(rt: &impl Abort, alloc: Global, rows: &[RowOfTwo]) -> Result<(), Fail> {
+    for (evaluators, flags, wanted) in rows {
+        let document = joined(
+            alloc,
+            &[r#"{"$evaluators":"#, evaluators, r#","flags":"#, flags, "}"],
+        )?;
+        assert_eq!(rt; outcome(alloc, &document)?.as_str(), *wanted, "of {flags}");
     }
     Ok(())
+}
+
+#[test]
+fn references_elsewhere_stay(rt: HostRuntime) -> Result<(), Fail> {
+    check_elsewhere(&rt, rt.alloc(), &ELSEWHERE)
 }

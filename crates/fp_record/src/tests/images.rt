@@ -7,18 +7,25 @@ const B: [u8; 15] = [0, 1, b'b', 0, 0, 0, 0, 0, 0, 0, 2, 0, 0, 0, 64];
 
 const TWO: [u8; 4] = [0, 0, 0, 2];
 
+fn check_spelling(
+    rt: &impl Abort,
+    alloc: Global,
+    parts: &[&[u8]],
+    len: usize,
+) -> Result<Image, Fail> {
+    let spelling = joined(alloc, parts)?;
+    assert_eq!(rt; spelling.len(), len);
+    let image = Image::decode(alloc, &spelling)?;
+    assert_eq!(rt; image.encode(alloc)?.as_slice(), spelling.as_slice());
+    Ok(image)
+}
+
 #[test]
 fn images_go_in_and_out(rt: HostRuntime) -> Result<(), Fail> {
-    let on = ON.as_bytes();
-    let none = joined(rt.alloc(), &[&[0, 0, 0, 0]])?;
-    let one = joined(rt.alloc(), &[&[0, 0, 0, 1], &A, on])?;
-    let two = joined(rt.alloc(), &[&TWO, &A, on, &B, on])?;
-    for (spelling, len) in [(&none, 4), (&one, 83), (&two, 162)] {
-        assert_eq!(rt; spelling.len(), len);
-        let image = Image::decode(rt.alloc(), spelling)?;
-        assert_eq!(rt; image.encode(rt.alloc())?.as_slice(), spelling.as_slice());
-    }
-    let image = Image::decode(rt.alloc(), &two)?;
+    check_spelling(&rt, rt.alloc(), &[&[0, 0, 0, 0]], 4)?;
+    check_spelling(&rt, rt.alloc(), &[&[0, 0, 0, 1], &A, ON_BYTES], 83)?;
+    let parts: [&[u8]; 5] = [&TWO, &A, ON_BYTES, &B, ON_BYTES];
+    let image = check_spelling(&rt, rt.alloc(), &parts, 162)?;
     let changed: Vec<u64> = image
         .flags()
         .iter()
@@ -26,36 +33,76 @@ fn images_go_in_and_out(rt: HostRuntime) -> Result<(), Fail> {
         .collect(rt.alloc())?;
     assert_eq!(rt; changed.as_slice(), [1, 2].as_slice());
     let again = Image::new(image.into_flags());
+    let two = joined(rt.alloc(), &parts)?;
     assert_eq!(rt; again.encode(rt.alloc())?.as_slice(), two.as_slice());
+    Ok(())
+}
+
+// The length of `b`, its one letter, the revision 2, and the length of its definition.
+const ONE: [u8; 2] = [0, 1];
+
+const REST: [u8; 12] = [0, 0, 0, 0, 0, 0, 0, 2, 0, 0, 0, 64];
+
+const TAMPERED: [Row; 16] = [
+    (&[], Some(0)),
+    (&[&[0, 0, 0]], Some(0)),
+    (&[&[0, 0, 0, 0, 0]], Some(4)),
+    (&[&[0, 0, 0, 1]], Some(4)),
+    (&[&[0, 0, 16, 0]], Some(4)),
+    (&[&[0, 0, 16, 1]], Some(0)),
+    (&[&[1, 0, 0, 0]], Some(0)),
+    (&[&TWO, &A, ON_BYTES], Some(83)),
+    (&[&TWO, &A, ON_BYTES, &B, ON_BYTES, &[7]], Some(162)),
+    (&[&TWO, &B, ON_BYTES, &A, ON_BYTES], Some(85)),
+    (&[&TWO, &A, ON_BYTES, &A, ON_BYTES], Some(85)),
+    (
+        &[
+            &TWO,
+            &A,
+            ON_BYTES,
+            &ONE,
+            b"b",
+            &[0; 8],
+            &[0, 0, 0, 64],
+            ON_BYTES,
+        ],
+        Some(86),
+    ),
+    (
+        &[&TWO, &A, ON_BYTES, &ONE, &[255], &REST, ON_BYTES],
+        Some(85),
+    ),
+    (
+        &[&TWO, &A, ON_BYTES, &[0, 0], b"b", &REST, ON_BYTES],
+        Some(83),
+    ),
+    (&[&TWO, &A, ON_BYTES, &B, SPACED], Some(98)),
+    (
+        &[
+            &TWO,
+            &A,
+            ON_BYTES,
+            &ONE,
+            b"b",
+            &[0, 0, 0, 0, 0, 0, 0, 2],
+            &[0, 0, 0, 63],
+            ON_BYTES,
+        ],
+        Some(98),
+    ),
+];
+
+fn check_images(rt: &impl Abort, alloc: Global, rows: &[Row]) -> Result<(), Fail> {
+    for (parts, place) in rows {
+        let image = joined(alloc, parts)?;
+        assert_eq!(rt; place_in_image(alloc, &image)?, *place, "{image:?}");
+    }
     Ok(())
 }
 
 #[test]
 fn images_that_were_tampered_with(rt: HostRuntime) -> Result<(), Fail> {
-    let on = ON.as_bytes();
-    let rows: [(&[&[u8]], Option<usize>); 16] = [
-        (&[], Some(0)),
-        (&[&[0, 0, 0]], Some(0)),
-        (&[&[0, 0, 0, 0, 0]], Some(4)),
-        (&[&[0, 0, 0, 1]], Some(4)),
-        (&[&[0, 0, 16, 0]], Some(4)),
-        (&[&[0, 0, 16, 1]], Some(0)),
-        (&[&[1, 0, 0, 0]], Some(0)),
-        (&[&TWO, &A, on], Some(83)),
-        (&[&TWO, &A, on, &B, on, &[7]], Some(162)),
-        (&[&TWO, &B, on, &A, on], Some(85)),
-        (&[&TWO, &A, on, &A, on], Some(85)),
-        (&[&TWO, &A, on, &B[..3], &[0; 8], &B[11..], on], Some(86)),
-        (&[&TWO, &A, on, &[0, 1, 255], &B[3..], on], Some(85)),
-        (&[&TWO, &A, on, &[0, 0], &B[2..], on], Some(83)),
-        (&[&TWO, &A, on, &B, b" ", &on[1..]], Some(98)),
-        (&[&TWO, &A, on, &B[..14], &[63], on], Some(98)),
-    ];
-    for (parts, place) in rows {
-        let image = joined(rt.alloc(), parts)?;
-        assert_eq!(rt; place_in_image(rt.alloc(), &image)?, place, "{image:?}");
-    }
-    Ok(())
+    check_images(&rt, rt.alloc(), &TAMPERED)
 }
 
 #[test]

@@ -80,33 +80,54 @@ fn a_front_ends_in_the_field_that_it_cuts(rt: HostRuntime) -> Result<(), Fail> {
     Ok(())
 }
 
-#[test]
-fn bodies_that_were_tampered_with(rt: HostRuntime) -> Result<(), Fail> {
-    let on = ON.as_bytes();
-    let rows: [(&[&[u8]], Option<usize>); 14] = [
-        (&[&PUT_A, on], None),
-        (&[&PUT_A, &on[..63]], Some(18)),
-        (&[&PUT_A, on, &[0]], Some(82)),
-        (&[&[0; 8], &PUT_A[8..], on], None),
-        (&[&[255; 8], &PUT_A[8..], on], Some(8)),
-        (&[&PUT_A[..8], &[0, 0], &PUT_A[10..], on], Some(8)),
-        (
-            &[&PUT_A[..8], &[0, 2], &PUT_A[10..], on, &PUT_A[10..], on],
-            None,
-        ),
-        (&[&PUT_A[..8], &[1, 0], &PUT_A[10..], on], Some(8)),
-        (&[&PUT_A[..10], &[3], &PUT_A[11..], on], Some(10)),
-        (&[&PUT_A[..13], &[255], &PUT_A[14..], on], Some(13)),
-        (&[&PUT_A[..14], &[64, 0, 0, 0], on], Some(14)),
-        (&[&PUT_A, b" ", &on[1..]], Some(18)),
-        (&[&PUT_A[..17], &[65], b" ", on], Some(18)),
-        (&[&PUT_A[..10], &[2, 0, 1, b'a']], None),
-    ];
+// The parts of a put's body: the first revision, the count, the key, the length of the definition; and all behind the count.
+const FIRST: [u8; 8] = [0, 0, 0, 0, 0, 0, 0, 1];
+
+const COUNT: [u8; 2] = [0, 1];
+
+const KEY: [u8; 3] = [0, 1, b'a'];
+
+const LENGTH: [u8; 4] = [0, 0, 0, 64];
+
+const PUT: [u8; 8] = [1, 0, 1, b'a', 0, 0, 0, 64];
+
+const TAMPERED: [Row; 14] = [
+    (&[&PUT_A, ON_BYTES], None),
+    (&[&PUT_A, CUT], Some(18)),
+    (&[&PUT_A, ON_BYTES, &[0]], Some(82)),
+    (&[&[0; 8], &COUNT, &PUT, ON_BYTES], None),
+    (&[&[255; 8], &COUNT, &PUT, ON_BYTES], Some(8)),
+    (&[&FIRST, &[0, 0], &PUT, ON_BYTES], Some(8)),
+    (&[&FIRST, &[0, 2], &PUT, ON_BYTES, &PUT, ON_BYTES], None),
+    (&[&FIRST, &[1, 0], &PUT, ON_BYTES], Some(8)),
+    (&[&FIRST, &COUNT, &[3], &KEY, &LENGTH, ON_BYTES], Some(10)),
+    (
+        &[&FIRST, &COUNT, &[1, 0, 1], &[255], &LENGTH, ON_BYTES],
+        Some(13),
+    ),
+    (
+        &[&FIRST, &COUNT, &[1], &KEY, &[64, 0, 0, 0], ON_BYTES],
+        Some(14),
+    ),
+    (&[&PUT_A, SPACED], Some(18)),
+    (
+        &[&FIRST, &COUNT, &[1], &KEY, &[0, 0, 0, 65], b" ", ON_BYTES],
+        Some(18),
+    ),
+    (&[&FIRST, &COUNT, &[2], &KEY], None),
+];
+
+fn check_bodies(rt: &impl Abort, alloc: Global, rows: &[Row]) -> Result<(), Fail> {
     for (parts, place) in rows {
-        let body = joined(rt.alloc(), parts)?;
-        assert_eq!(rt; place_in_batch(rt.alloc(), &body)?, place, "{body:?}");
+        let body = joined(alloc, parts)?;
+        assert_eq!(rt; place_in_batch(alloc, &body)?, *place, "{body:?}");
     }
     Ok(())
+}
+
+#[test]
+fn bodies_that_were_tampered_with(rt: HostRuntime) -> Result<(), Fail> {
+    check_bodies(&rt, rt.alloc(), &TAMPERED)
 }
 
 // A body of as many deletes of `a` as it says.
@@ -118,28 +139,40 @@ fn deletes(alloc: Global, first: u64, count: u16) -> Result<Vec<u8>, Fail> {
     Ok(body)
 }
 
-#[test]
-fn counts_and_revisions_at_their_limits(rt: HostRuntime) -> Result<(), Fail> {
-    let last = i64::MAX as u64;
-    for (first, count, place) in [
-        (1, 0, Some(8)),
-        (1, 64, None),
-        (1, 65, Some(8)),
-        (0, 1, None),
-        (last, 1, None),
-        (last + 1, 1, Some(8)),
-        (last - 63, 64, None),
-        (last - 62, 64, Some(8)),
-        (u64::MAX, 1, Some(8)),
-    ] {
-        let body = deletes(rt.alloc(), first, count)?;
+const LAST: u64 = 0x7fff_ffff_ffff_ffff;
+
+// A first revision, a count, and the first byte that is wrong, if one is.
+const DELETES: [(u64, u16, Option<usize>); 9] = [
+    (1, 0, Some(8)),
+    (1, 64, None),
+    (1, 65, Some(8)),
+    (0, 1, None),
+    (LAST, 1, None),
+    (LAST + 1, 1, Some(8)),
+    (LAST - 63, 64, None),
+    (LAST - 62, 64, Some(8)),
+    (u64::MAX, 1, Some(8)),
+];
+
+fn check_deletes(
+    rt: &impl Abort,
+    alloc: Global,
+    rows: &[(u64, u16, Option<usize>)],
+) -> Result<(), Fail> {
+    for (first, count, place) in rows {
+        let body = deletes(alloc, *first, *count)?;
         assert_eq!(rt;
-            place_in_batch(rt.alloc(), &body)?,
-            place,
+            place_in_batch(alloc, &body)?,
+            *place,
             "{count} from {first}"
         );
     }
     Ok(())
+}
+
+#[test]
+fn counts_and_revisions_at_their_limits(rt: HostRuntime) -> Result<(), Fail> {
+    check_deletes(&rt, rt.alloc(), &DELETES)
 }
 
 #[test]

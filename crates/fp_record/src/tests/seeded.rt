@@ -69,6 +69,24 @@ fn say_the_same(a: &Edit, b: &Edit) -> bool {
     }
 }
 
+fn check_batch(
+    rt: &impl Abort,
+    alloc: Global,
+    batch: &Batch,
+    first: u64,
+    n: u32,
+) -> Result<(), Fail> {
+    let spelling = batch.encode(alloc)?;
+    let again = Batch::decode(alloc, &spelling)?;
+    assert_eq!(rt; again.first(), first, "batch {n}");
+    assert_eq!(rt; again.edits().len(), batch.edits().len(), "batch {n}");
+    for (a, b) in batch.edits().iter().zip(again.edits()) {
+        assert!(rt; say_the_same(a, b), "batch {n}");
+    }
+    assert!(rt; again.encode(alloc)? == spelling, "batch {n}");
+    Ok(())
+}
+
 #[test]
 fn ten_thousand_batches_go_in_and_out(rt: HostRuntime) -> Result<(), Fail> {
     let mut pool = Vec::new(rt.alloc());
@@ -90,14 +108,7 @@ fn ten_thousand_batches_go_in_and_out(rt: HostRuntime) -> Result<(), Fail> {
         let first = draw(&mut seed, (1 << 63) - 64);
         assert!(rt; 0 < edits.len() && edits.len() <= 64);
         let batch = Batch::new(first, edits);
-        let spelling = batch.encode(rt.alloc())?;
-        let again = Batch::decode(rt.alloc(), &spelling)?;
-        assert_eq!(rt; again.first(), first, "batch {n}");
-        assert_eq!(rt; again.edits().len(), batch.edits().len(), "batch {n}");
-        for (a, b) in batch.edits().iter().zip(again.edits()) {
-            assert!(rt; say_the_same(a, b), "batch {n}");
-        }
-        assert!(rt; again.encode(rt.alloc())? == spelling, "batch {n}");
+        check_batch(&rt, rt.alloc(), &batch, first, n)?;
     }
     Ok(())
 }
