@@ -1,5 +1,5 @@
 -- What a disk in memory does, in the words that hold of every disk.
-use Rattle.std.proofs.Common.{◌≡◌, ◌⊎◌, ◌<◌, ◌+◌, ℕ, List, length, refl, arith, sym, ap, ◌∙◌, subst, inl, inr, Result, Ok, Err, IsErr, OnOk}
+use Rattle.std.proofs.Common.{◌≡◌, ◌⊎◌, ◌<◌, ◌+◌, ◌++◌, ◌∷◌, [], ℕ, List, length, refl, arith, sym, ap, ◌∙◌, subst, inl, inr, Result, Ok, Err, IsErr, OnOk}
 use Rattle.fp_disk.specs.declared.disk.DiskFault.{DiskFault}
 use Rattle.fp_disk.specs.declared.call.Call.{Call}
 use Rattle.fp_disk.specs.declared.call.Progress.{Progress}
@@ -7,7 +7,7 @@ use Rattle.fp_disk.specs.declared.call.Progress.TheVariants.{Whole, Half, Nothin
 use Rattle.fp_disk.specs.declared.call.Request.{Request}
 use Rattle.fp_disk.specs.declared.call.Request.TheVariants.{Write, Sync}
 use Rattle.fp_disk.specs.Outcomes.{Unsynced, IsOutcome, Elapses, Answers, settled, touched, Written, ChangesWithin}
-use Rattle.fp_disk.specs.Memory.{State, Memory, state, after_request, at_first, unsynced_of, LeftSince, failed, refused, Answered}
+use Rattle.fp_disk.specs.Memory.{State, Memory, state, after_request, at_first, unsynced_of, LeftSince, failed, refused, kind_of, Answered}
 use Rattle.fp_disk.specs.MemoryLaws.{replay_more, elapses_call, synced_fits, written_changes}
 
 pub answers_of : {T : Type 0} (old new : Memory) (request : Request) (p : Progress) (result : Result T DiskFault) → Answered old new request p result → Answers old.faults new.faults result
@@ -16,12 +16,16 @@ answers_of old new request p (Err e) a = record {
   well = λ ok. absurd (cc ok);
   ill = λ err. elim a.err [
     | inl fails ↦ rose (failed old (record { request = request; progress = p })) fails.1 refl
-    | inr none ↦ rose (refused old) none refl
+    | inr none ↦ rose (refused old request) none refl
   ];
 }
   where
     rose : (there : Memory) → new ≡ there → there.faults ≡ old.faults + 1 → old.faults < new.faults
     rose there is one = let e : new.faults ≡ there.faults = ap (λ (m : Memory). m.faults) is in omega (arith, e, one)
+
+pub called_of : {T : Type 0} (old new : Memory) (request : Request) (p : Progress) (result : Result T DiskFault) → Answered old new request p result → new.made ≡ old.made ++ kind_of request ∷ []
+called_of old new request p (Ok x) a = ap (λ (m : Memory). m.made) a.ok.1
+called_of old new request p (Err e) a = elim a.err [ inl fails ↦ ap (λ (m : Memory). m.made) fails.1 | inr none ↦ ap (λ (m : Memory). m.made) none ]
 
 elapses_none : (first : List ℕ) (calls : List Call) (u : Unsynced) → Elapses (length calls) (length calls) (LeftSince first calls) (LeftSince first calls) (IsOutcome u)
 elapses_none first calls u = record { later = omega arith; nothing_else = λ t o le left. inl left; keeps = λ t o le left. left }

@@ -1,3 +1,4 @@
+pub mod History
 pub mod Outcomes
 pub mod Writes
 pub mod Memory

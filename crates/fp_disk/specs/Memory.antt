@@ -1,6 +1,8 @@
 -- A disk in memory, by what it held at first and the calls that it recorded since.
 use Rattle.std.specs.Prelude.{◌≡◌, ◌⊎◌, ◌≤◌, ◌+◌, ◌-◌, ◌/◌, ℕ, max, Bool, true, nat_lt, if◌then◌else◌, List, [], ◌∷◌, ◌++◌, length, take, drop, Result, IsTrue, OnOk, OnErr}
 use Rattle.fp_disk.specs.Outcomes.{Unsynced, IsOutcome, overwritten}
+use Rattle.fp_disk.specs.declared.history.CallKind.{CallKind}
+use Rattle.fp_disk.specs.declared.history.CallKind.TheVariants as kind
 use Rattle.fp_disk.specs.declared.disk.DiskFault.{DiskFault}
 use Rattle.fp_disk.specs.declared.failing.Failing.{Failing}
 use Rattle.fp_disk.specs.declared.failing.Failing.TheVariants.{Never, From, At}
@@ -88,12 +90,20 @@ state_at first calls k = replay (at_first first) (take k calls)
 abbrev pub LeftSince : List ℕ → List Call → ℕ → List ℕ → Type 0
 LeftSince first calls t c = (k : ℕ) × (t ≤ k) × (k ≤ length calls) × IsOutcome (unsynced_of (state_at first calls k)) c
 
--- a disk in memory, as contracts see it
+-- what a request asks for
+abbrev pub kind_of : Request → CallKind
+kind_of Len = kind.Length
+kind_of (Read at n) = kind.Read
+kind_of (Write at more) = kind.Write
+kind_of Sync = kind.Sync
+
+-- a disk in memory, as contracts see it; `made` has the calls without a record too
 pub record Memory : Type 0 where
   pub first : List ℕ
   pub calls : List Call
   pub failing : Failing
   pub failed_writes : FailedWrite
+  pub made : List CallKind
   pub faults : ℕ
 
 abbrev pub state : Memory → State
@@ -101,24 +111,24 @@ state m = replay (at_first m.first) m.calls
 
 -- a disk that holds this, with nothing pending and no call made
 abbrev pub fresh : List ℕ → Memory
-fresh bytes = record { first = bytes; calls = []; failing = Never; failed_writes = Failed.Nothing; faults = 0 }
+fresh bytes = record { first = bytes; calls = []; failing = Never; failed_writes = Failed.Nothing; made = []; faults = 0 }
 
 -- a call that was recorded
 abbrev pub recorded : Memory → Call → Memory
-recorded m c = record { first = m.first; calls = m.calls ++ c ∷ []; failing = after_call m.failing; failed_writes = m.failed_writes; faults = m.faults }
+recorded m c = record { first = m.first; calls = m.calls ++ c ∷ []; failing = after_call m.failing; failed_writes = m.failed_writes; made = m.made ++ kind_of c.request ∷ []; faults = m.faults }
 
 -- a call that failed as it was told to
 abbrev pub failed : Memory → Call → Memory
-failed m c = record { first = m.first; calls = m.calls ++ c ∷ []; failing = after_call m.failing; failed_writes = m.failed_writes; faults = m.faults + 1 }
+failed m c = record { first = m.first; calls = m.calls ++ c ∷ []; failing = after_call m.failing; failed_writes = m.failed_writes; made = m.made ++ kind_of c.request ∷ []; faults = m.faults + 1 }
 
 -- a call that failed since there was no memory to record it
-abbrev pub refused : Memory → Memory
-refused m = record { first = m.first; calls = m.calls; failing = after_call m.failing; failed_writes = m.failed_writes; faults = m.faults + 1 }
+abbrev pub refused : Memory → Request → Memory
+refused m request = record { first = m.first; calls = m.calls; failing = after_call m.failing; failed_writes = m.failed_writes; made = m.made ++ kind_of request ∷ []; faults = m.faults + 1 }
 
 -- What a call did. It succeeds only if it passes; one that is to fail, fails; and one that leaves no record found no memory for it.
 pub record Answered {T : Type 0} (old new : Memory) (request : Request) (progress : Progress) (result : Result T DiskFault) : Type 0 where
   pub ok : OnOk result (IsTrue (passes old.failing) × (new ≡ recorded old (record { request = request; progress = Whole })))
-  pub err : OnErr result ((((IsTrue (passes old.failing)) → ⊥) × (new ≡ failed old (record { request = request; progress = progress }))) ⊎ (new ≡ refused old))
+  pub err : OnErr result ((((IsTrue (passes old.failing)) → ⊥) × (new ≡ failed old (record { request = request; progress = progress }))) ⊎ (new ≡ refused old request))
 
 -- the writes with one more, if this is a write
 abbrev pub with_request : List (ℕ × List ℕ) → Request → List (ℕ × List ℕ)

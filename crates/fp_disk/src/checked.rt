@@ -1,7 +1,10 @@
-ghost use Rattle.std.specs.Prelude.{◌≡◌, ◌↔◌, ◌≤◌, ◌+◌, ◌⊎◌, length, slice_range, IfOk, OnOk, IsErr};
+//! A disk with a name, and tokens of its syncs.
+
+ghost use Rattle.std.specs.Prelude.{◌≡◌, ◌↔◌, ◌≤◌, ◌+◌, ◌⊎◌, [], ◌∷◌, ◌++◌, length, slice_range, IfOk, OnOk, IsErr};
 ghost use Rattle.fp_disk.specs.Outcomes.{Answers, ChangesWithin, Elapses, IsOutcome, Written, settled, touched};
 
 use crate::disk::{Disk, DiskFault};
+use crate::history::CallKind;
 use fp_fronts::Growing;
 use std::marker::Model;
 use std::snapshot::Snapshot;
@@ -66,6 +69,7 @@ impl<D: Disk> Checked<D> {
         ensures time { D.honest self.old.disk →
             Elapses (D.moment self.old.disk) (D.moment self.new.disk) (D.left_since self.old.disk)
             (D.left_since self.new.disk) (IsOutcome (D.unsynced self.old.disk)) }
+        ensures called { D.calls self.new.disk ≡ D.calls self.old.disk ++ CallKind.Length ∷ [] }
         ensures cause { Answers (D.faults self.old.disk) (D.faults self.new.disk) result }
     {
         self.disk.len()
@@ -83,6 +87,7 @@ impl<D: Disk> Checked<D> {
         ensures time { D.honest self.old.disk →
             Elapses (D.moment self.old.disk) (D.moment self.new.disk) (D.left_since self.old.disk)
             (D.left_since self.new.disk) (IsOutcome (D.unsynced self.old.disk)) }
+        ensures called { D.calls self.new.disk ≡ D.calls self.old.disk ++ CallKind.Read ∷ [] }
         ensures cause { Answers (D.faults self.old.disk) (D.faults self.new.disk) result }
     {
         self.disk.read_at(at, into)
@@ -106,6 +111,7 @@ impl<D: Disk> Checked<D> {
             Elapses (D.moment self.old.disk) (D.moment self.new.disk) (D.left_since self.old.disk)
             (D.left_since self.new.disk)
             (IsOutcome (touched (D.unsynced self.old.disk) at (length from.now))) }
+        ensures called { D.calls self.new.disk ≡ D.calls self.old.disk ++ CallKind.Write ∷ [] }
         ensures cause { Answers (D.faults self.old.disk) (D.faults self.new.disk) result }
     {
         self.disk.write_at(at, from)
@@ -125,6 +131,7 @@ impl<D: Disk> Checked<D> {
         ensures time { D.honest self.old.disk →
             Elapses (D.moment self.old.disk) (D.moment self.new.disk) (D.left_since self.old.disk)
             (D.left_since self.new.disk) (IsOutcome (D.unsynced self.old.disk)) }
+        ensures called { D.calls self.new.disk ≡ D.calls self.old.disk ++ CallKind.Sync ∷ [] }
         ensures cause { Answers (D.faults self.old.disk) (D.faults self.new.disk) result }
     {
         self.disk.sync()?;

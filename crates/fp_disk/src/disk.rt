@@ -1,5 +1,10 @@
-ghost use Rattle.std.specs.Prelude.{◌≡◌, ◌↔◌, ◌⊎◌, ◌≤◌, ◌<◌, ◌+◌, ◌∷◌, List, ℕ, length, slice_range, IfOk, OnOk, IsOk, IsErr};
+//! What a disk promises.
+
+ghost use Rattle.std.specs.Prelude.{◌≡◌, ◌↔◌, ◌⊎◌, ◌≤◌, ◌<◌, ◌+◌, [], ◌∷◌, ◌++◌, List, ℕ, length, slice_range, IfOk, OnOk, IsOk, IsErr};
+ghost use Rattle.fp_disk.specs.declared.history.CallKind.{CallKind};
 ghost use Rattle.fp_disk.specs.Outcomes.{Unsynced, IsOutcome, Written, ChangesWithin, settled, touched, Elapses, Answers};
+
+use crate::history::CallKind;
 
 /// Why a disk's call failed.
 #[derive(Clone, Copy, Debug, PartialEq, Eq)]
@@ -28,6 +33,9 @@ pub trait Disk {
     /// How often the disk has failed.
     ghost faults: { Self → ℕ };
 
+    /// Which calls were made so far, in order, those that failed among them.
+    ghost calls: { Self → List CallKind };
+
     /// How many bytes there are.
     fn len(&mut self) -> Result<u64, DiskFault>
         ensures answer { honest self.old → IfOk result (λ n. n ≡ length (bytes self.old)) }
@@ -37,6 +45,7 @@ pub trait Disk {
         ensures time { honest self.old →
             Elapses (moment self.old) (moment self.new) (left_since self.old) (left_since self.new)
             (IsOutcome (unsynced self.old)) }
+        ensures called { calls self.new ≡ calls self.old ++ CallKind.Length ∷ [] }
         ensures cause { Answers (faults self.old) (faults self.new) result };
 
     /// Reads the bytes from a place on.
@@ -50,6 +59,7 @@ pub trait Disk {
         ensures time { honest self.old →
             Elapses (moment self.old) (moment self.new) (left_since self.old) (left_since self.new)
             (IsOutcome (unsynced self.old)) }
+        ensures called { calls self.new ≡ calls self.old ++ CallKind.Read ∷ [] }
         ensures cause { Answers (faults self.old) (faults self.new) result };
 
     /// Puts these bytes at a place, over what is there and past the end. A gap reads as zeros.
@@ -66,6 +76,7 @@ pub trait Disk {
         ensures time { honest self.old →
             Elapses (moment self.old) (moment self.new) (left_since self.old) (left_since self.new)
             (IsOutcome (touched (unsynced self.old) at (length from.now))) }
+        ensures called { calls self.new ≡ calls self.old ++ CallKind.Write ∷ [] }
         ensures cause { Answers (faults self.old) (faults self.new) result };
 
     /// After it, a crash leaves what a read gives.
@@ -78,6 +89,7 @@ pub trait Disk {
         ensures time { honest self.old →
             Elapses (moment self.old) (moment self.new) (left_since self.old) (left_since self.new)
             (IsOutcome (unsynced self.old)) }
+        ensures called { calls self.new ≡ calls self.old ++ CallKind.Sync ∷ [] }
         ensures cause { Answers (faults self.old) (faults self.new) result };
 
     /// The bytes are an outcome.

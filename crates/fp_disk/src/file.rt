@@ -1,57 +1,60 @@
-ghost use Rattle.std.specs.Prelude.{◌≡◌, ◌+◌, ℕ, List, [], IfOk};
+//! A disk over a file.
+
+ghost use Rattle.std.specs.Prelude.{◌≡◌, ℕ, List, [], ◌∷◌, ◌++◌, IfOk};
 ghost use Rattle.fp_disk.specs.Outcomes.{Answers, settled};
 
 use crate::disk::{Disk, DiskFault};
-use crate::failures::fault;
-use fp_fronts::Count;
+use crate::history::{CallKind, History};
 use std::fs::{OpenFile, OpenOptions};
 use std::io;
 use std::io::{Read, Seek, SeekFrom, Write};
 use std::marker::Model;
 use std::rt::Files;
 
-/// A disk over a file of a runtime. It counts its failures; what a real file keeps over a crash, nothing here shows, so that
+/// A disk over a file of a runtime. It notes its calls and counts its failures; what a real file keeps over a crash, nothing here shows, so that
 /// it is never honest. It never makes a file shorter.
 #[derive(Drop)]
 pub struct FileDisk<F: Drop> {
     file: F,
-    failures: Count,
+    history: History,
 }
 
 impl<F: Drop> Model for FileDisk<F> {
-    ghost Value = { ℕ };
+    ghost use Rattle.fp_disk.specs.History.{Calls};
 
-    ghost view = { λ d. d.failures };
+    ghost Value = { Calls };
+
+    ghost view = { λ d. d.history };
 }
 
 impl<F: Drop> FileDisk<F> {
     /// The disk over a file that was opened to be read and written.
     pub fn over(file: F) -> FileDisk<F>
-        ensures { result ≡ 0 }
+        ensures { result ≡ record { made = []; faults = 0 } }
     {
         FileDisk {
             file,
-            failures: Count::new(),
+            history: History::new(),
         }
     }
 }
 
 /// The disk, of no failure yet, over the file at this path, made where there is none. What is in it stays.
 pub fn create_file<R: Files>(rt: &R, path: &str) -> Result<FileDisk<R::File>, DiskFault>
-    ensures { IfOk result (λ d. d ≡ 0) }
+    ensures { IfOk result (λ d. d ≡ record { made = []; faults = 0 }) }
 {
     open_as(rt, path, true)
 }
 
 /// The disk over the file at this path. It is a fault where there is none.
 pub fn open_file<R: Files>(rt: &R, path: &str) -> Result<FileDisk<R::File>, DiskFault>
-    ensures { IfOk result (λ d. d ≡ 0) }
+    ensures { IfOk result (λ d. d ≡ record { made = []; faults = 0 }) }
 {
     open_as(rt, path, false)
 }
 
 fn open_as<R: Files>(rt: &R, path: &str, may_create: bool) -> Result<FileDisk<R::File>, DiskFault>
-    ensures { IfOk result (λ d. d ≡ 0) }
+    ensures { IfOk result (λ d. d ≡ record { made = []; faults = 0 }) }
 {
     let mut how = OpenOptions::new();
     how.read(true).write(true).create(may_create);
@@ -61,13 +64,15 @@ fn open_as<R: Files>(rt: &R, path: &str, may_create: bool) -> Result<FileDisk<R:
     }
 }
 
-// The answer of the system, counted.
-fn counted<T>(failures: &mut Count, done: io::Result<T>) -> Result<T, DiskFault>
-    ensures { Answers failures.old failures.new result }
+// The answer of the system to such a call, noted.
+fn noted<T>(history: &mut History, kind: CallKind, done: io::Result<T>) -> Result<T, DiskFault>
+    ensures made { history.new.made ≡ history.old.made ++ kind ∷ [] }
+    ensures cause { Answers history.old.faults history.new.faults result }
 {
+    history.add(kind);
     match done {
         Ok(value) => Ok(value),
-        Err(_) => Err(fault(failures)),
+        Err(_) => Err(history.fault()),
     }
 }
 
@@ -99,7 +104,9 @@ impl<F: Read + Write + Seek + OpenFile + Drop> Disk for FileDisk<F> {
 
     ghost left_since = { λ d t c. ⊥ };
 
-    ghost faults = { λ d. d };
+    ghost faults = { λ d. d.faults };
+
+    ghost calls = { λ d. d.made };
 
     ghost present = { λ d h. absurd h };
 
@@ -109,22 +116,22 @@ impl<F: Read + Write + Seek + OpenFile + Drop> Disk for FileDisk<F> {
 
     fn len(&mut self) -> Result<u64, DiskFault> {
         let end = self.file.seek(SeekFrom::End(0));
-        counted(&mut self.failures, end)
+        noted(&mut self.history, CallKind::Length, end)
     }
 
     fn read_at(&mut self, at: u64, into: &mut [u8]) -> Result<(), DiskFault> {
         let done = read(&mut self.file, at, into);
-        counted(&mut self.failures, done)
+        noted(&mut self.history, CallKind::Read, done)
     }
 
     fn write_at(&mut self, at: u64, from: &[u8]) -> Result<(), DiskFault> {
         let done = write(&mut self.file, at, from);
-        counted(&mut self.failures, done)
+        noted(&mut self.history, CallKind::Write, done)
     }
 
     fn sync(&mut self) -> Result<(), DiskFault> {
         let done = self.file.sync_data();
-        counted(&mut self.failures, done)
+        noted(&mut self.history, CallKind::Sync, done)
     }
 }
 

@@ -8,8 +8,8 @@ mod choice;
 mod crash;
 mod disk;
 mod failing;
-mod failures;
 mod file;
+mod history;
 mod memory;
 
 pub use call::{Bytes, Call, Progress, Request};
@@ -18,4 +18,5 @@ pub use choice::{Choice, Fill};
 pub use disk::{Disk, DiskFault};
 pub use failing::{FailedWrite, Failing};
 pub use file::{FileDisk, create_file, open_file};
+pub use history::{CallKind, History};
 pub use memory::MemoryDisk;

@@ -1,3 +1,5 @@
+//! A disk in memory.
+
 ghost use Rattle.std.specs.Prelude.{◌≡◌, ◌≤◌, ◌<◌, ◌+◌, ◌^◌, ◌-◌, ℕ, List, [], ◌∷◌, ◌++◌, length, slice_range, IfOk, OnOk, OnErr};
 ghost use Rattle.fp_disk.specs.Outcomes.{overwritten};
 ghost use Rattle.fp_disk.specs.Memory.{Memory, Answered, Keeps, state, unsynced_of, LeftSince, fresh, written, write_progress};
@@ -8,8 +10,7 @@ ghost use Rattle.fp_disk.specs.declared.call.Progress.TheVariants.{Nothing};
 use crate::call::{Bytes, Call, Progress, Request};
 use crate::disk::{Disk, DiskFault};
 use crate::failing::{FailedWrite, Failing};
-use crate::failures::fault;
-use fp_fronts::Count;
+use crate::history::{CallKind, History};
 use std::alloc::{AllocError, Global};
 use std::marker::Model;
 use std::snapshot::Snapshot;
@@ -30,7 +31,7 @@ pub struct MemoryDisk {
     pub(crate) reach: u64,
     failing: Failing,
     failed_writes: FailedWrite,
-    failures: Count,
+    history: History,
 }
 
 impl Model for MemoryDisk {
@@ -41,7 +42,8 @@ impl Model for MemoryDisk {
       calls = m.calls.items;
       failing = m.failing;
       failed_writes = m.failed_writes;
-      faults = m.failures;
+      made = m.history.made;
+      faults = m.history.faults;
     } };
 
     ghost invariant = { λ m. Keeps m.first.value.items m.bytes.items m.synced.items m.calls.items
@@ -64,7 +66,7 @@ impl MemoryDisk {
             reach: 0,
             failing: Failing::Never,
             failed_writes: FailedWrite::Nothing,
-            failures: Count::new(),
+            history: History::new(),
         }
     }
 
@@ -83,7 +85,7 @@ impl MemoryDisk {
             settled: 0,
             failing: Failing::Never,
             failed_writes: FailedWrite::Nothing,
-            failures: Count::new(),
+            history: History::new(),
         })
     }
 
@@ -192,6 +194,8 @@ impl Disk for MemoryDisk {
 
     ghost faults = { λ m. m.faults };
 
+    ghost calls = { λ m. m.made };
+
     ghost present = { λ m h. has_present m };
 
     ghost counts_now = { λ m t c h le out. counts m.first m.calls t c le out };
@@ -204,11 +208,12 @@ impl Disk for MemoryDisk {
     {
         let progress = self.failing.progress();
         self.failing = self.failing.after_call();
+        self.history.add(CallKind::Length);
         let Ok(()) = note(&mut self.calls, Request::Len, progress) else {
-            return Err(fault(&mut self.failures));
+            return Err(self.history.fault());
         };
         if !progress.is_whole() {
-            return Err(fault(&mut self.failures));
+            return Err(self.history.fault());
         }
         Ok(self.bytes.len() as u64)
     }
@@ -221,15 +226,16 @@ impl Disk for MemoryDisk {
     {
         let progress = self.failing.progress();
         self.failing = self.failing.after_call();
+        self.history.add(CallKind::Read);
         let request = Request::Read {
             at,
             length: into.len(),
         };
         let Ok(()) = note(&mut self.calls, request, progress) else {
-            return Err(fault(&mut self.failures));
+            return Err(self.history.fault());
         };
         if !progress.is_whole() {
-            return Err(fault(&mut self.failures));
+            return Err(self.history.fault());
         }
         let at = at as usize;
         into.copy_from_slice(&self.bytes[at..at + into.len()]);
@@ -242,6 +248,7 @@ impl Disk for MemoryDisk {
     {
         let progress = self.failed_writes.progress(self.failing);
         self.failing = self.failing.after_call();
+        self.history.add(CallKind::Write);
         let put = put_and_record(
             self.alloc,
             &mut self.bytes,
@@ -251,11 +258,11 @@ impl Disk for MemoryDisk {
             progress,
         );
         let Ok(end) = put else {
-            return Err(fault(&mut self.failures));
+            return Err(self.history.fault());
         };
         self.reach = self.reach.max(end);
         if !progress.is_whole() {
-            return Err(fault(&mut self.failures));
+            return Err(self.history.fault());
         }
         Ok(())
     }
@@ -265,14 +272,15 @@ impl Disk for MemoryDisk {
     {
         let progress = self.failing.progress();
         self.failing = self.failing.after_call();
+        self.history.add(CallKind::Sync);
         let Ok(bytes) = self.bytes.to_vec(self.alloc) else {
-            return Err(fault(&mut self.failures));
+            return Err(self.history.fault());
         };
         let Ok(()) = note(&mut self.calls, Request::Sync, progress) else {
-            return Err(fault(&mut self.failures));
+            return Err(self.history.fault());
         };
         if !progress.is_whole() {
-            return Err(fault(&mut self.failures));
+            return Err(self.history.fault());
         }
         self.synced = bytes;
         self.settled = self.calls.len();

@@ -1,5 +1,9 @@
-ghost use Rattle.std.specs.Prelude.{◌≡◌, ◌↔◌, ◌≢◌, ◌⊎◌, ◌≤◌, ◌<◌, ◌+◌, ◌^◌, ℕ, List, length, slice_index, IfOk, OnOk, IsErr};
+//! Bytes behind a gate, in four calls.
+
+ghost use Rattle.std.specs.Prelude.{◌≡◌, ◌↔◌, ◌≢◌, ◌⊎◌, ◌≤◌, ◌<◌, ◌+◌, ◌^◌, ℕ, List, [], ◌∷◌, length, slice_index, IfOk, OnOk, IsErr};
 ghost use Rattle.fp_disk.specs.Outcomes.{Answers, IsOutcome, LeavesOnly, Written as HasWritten, settled};
+ghost use Rattle.fp_disk.specs.History.{Makes};
+ghost use Rattle.fp_disk.specs.declared.history.CallKind.TheVariants.{Sync, Write};
 ghost use Rattle.fp_gate.specs.Gates.{IsSyncOf, IsShut, IsOpen, StaysAsRead, Agrees, Guards, IsClosedAt, HasAt, HasBehind};
 
 use crate::gate::{Closed, Gate, Open};
@@ -25,6 +29,7 @@ fn write_and_sync<D: Disk>(
     ensures settled { D.honest disk.old.disk →
         OnOk result (D.unsynced disk.new.disk ≡ settled (D.bytes disk.new.disk)) }
     ensures honest { D.honest disk.old.disk ↔ D.honest disk.new.disk }
+    ensures called { Makes (Write ∷ Sync ∷ []) (D.calls disk.old.disk) (D.calls disk.new.disk) result }
     ensures cause { Answers (D.faults disk.old.disk) (D.faults disk.new.disk) result }
 {
     let _ = gate;
@@ -50,6 +55,7 @@ fn open_and_seal<D: Disk>(
     ensures open { D.honest disk.old.disk →
         OnOk result (IsOpen (D.unsynced disk.new.disk) gate.at) }
     ensures honest { D.honest disk.old.disk ↔ D.honest disk.new.disk }
+    ensures called { Makes (Write ∷ Sync ∷ []) (D.calls disk.old.disk) (D.calls disk.new.disk) result }
     ensures cause { Answers (D.faults disk.old.disk) (D.faults disk.new.disk) result }
 {
     let gate = gate.open(disk, synced)?;
@@ -77,6 +83,7 @@ pub fn write_behind<D: Disk>(
     ensures open { D.honest disk.old.disk →
         OnOk result (IsOpen (D.unsynced disk.new.disk) gate.at) }
     ensures honest { D.honest disk.old.disk ↔ D.honest disk.new.disk }
+    ensures called { Makes (Write ∷ Sync ∷ Write ∷ Sync ∷ []) (D.calls disk.old.disk) (D.calls disk.new.disk) result }
     ensures cause { Answers (D.faults disk.old.disk) (D.faults disk.new.disk) result }
 {
     let synced = write_and_sync(disk, &gate, at, from)?;

@@ -1,5 +1,8 @@
-ghost use Rattle.std.specs.Prelude.{◌≡◌, ◌↔◌, ◌⊎◌, ◌≤◌, ◌<◌, ℕ, List, [], ◌∷◌, length, slice_index, IfOk, OnOk, IsErr};
+//! A gate: its place, its state as a type, and the two calls that open it.
+
+ghost use Rattle.std.specs.Prelude.{◌≡◌, ◌↔◌, ◌⊎◌, ◌≤◌, ◌<◌, ℕ, List, [], ◌∷◌, ◌++◌, length, slice_index, IfOk, OnOk, IsErr};
 ghost use Rattle.fp_disk.specs.Outcomes.{Answers, ChangesWithin, Elapses, IsOutcome, LeavesOnly, Written as HasWritten, touched};
+ghost use Rattle.fp_disk.specs.declared.history.CallKind.TheVariants.{Write};
 ghost use Rattle.fp_gate.specs.Gates.{Gated, IsSyncOf, IsShut, IsOpen, StaysAsRead, Guards, IsButFor};
 
 use fp_disk::{Checked, Disk, DiskFault, Synced};
@@ -63,6 +66,7 @@ impl Gate<Closed> {
         ensures time { D.honest disk.old.disk →
             Elapses (D.moment disk.old.disk) (D.moment disk.new.disk) (D.left_since disk.old.disk)
             (D.left_since disk.new.disk) (IsOutcome (touched (D.unsynced disk.old.disk) at 1)) }
+        ensures called { D.calls disk.new.disk ≡ D.calls disk.old.disk ++ Write ∷ [] }
         ensures cause { Answers (D.faults disk.old.disk) (D.faults disk.new.disk) result }
     {
         disk.write_at(at, &[CLOSED])
@@ -138,6 +142,7 @@ impl Gate<Closed> {
             Elapses (D.moment disk.old.disk) (D.moment disk.new.disk) (D.left_since disk.old.disk)
             (D.left_since disk.new.disk)
             (IsOutcome (touched (D.unsynced disk.old.disk) self.at 1)) }
+        ensures called { D.calls disk.new.disk ≡ D.calls disk.old.disk ++ Write ∷ [] }
         ensures cause { Answers (D.faults disk.old.disk) (D.faults disk.new.disk) result }
     {
         let _ = synced;

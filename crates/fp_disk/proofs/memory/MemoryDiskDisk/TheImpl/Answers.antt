@@ -3,7 +3,7 @@ use Rattle.fp_disk.specs.Outcomes.{touched}
 use Rattle.fp_disk.specs.declared.call.Progress.TheVariants.{Nothing}
 use Rattle.fp_disk.specs.declared.call.Request.TheVariants.{Len, Read, Write, Sync}
 use Rattle.fp_disk.specs.Memory.{State, state, unsynced_of, write_progress}
-use Rattle.fp_disk.proofs.Answering.{answers_of, elapses_of, state_same, written_ok, touched_ok, written_partly, touched_err, settled_ok, settled_err, bytes_stay, sync_fits}
+use Rattle.fp_disk.proofs.Answering.{answers_of, called_of, elapses_of, state_same, written_ok, touched_ok, written_partly, touched_err, settled_ok, settled_err, bytes_stay, sync_fits}
 use Rattle.fp_disk.proofs.memory.MemoryDiskDisk.TheImpl.Goals as goal
 
 pub len-tells : goal.len-tells
@@ -13,6 +13,7 @@ len-tells c = let old = c.args.self.now in let new = c.new.self.now in
       honest = (λ h. h, λ h. h);
       same = λ h. (ap (λ (s : State). s.bytes) same, ap unsynced_of same);
       time = λ h. elapses_of old new Len Nothing (unsynced_of (state old)) (λ q o out. out) c.result c.ensures.recorded;
+      called = called_of old new Len Nothing c.result c.ensures.recorded;
       cause = answers_of old new Len Nothing c.result c.ensures.recorded;
     }
 
@@ -23,6 +24,7 @@ read_at-tells c = let old = c.args.self.now in let new = c.new.self.now in let r
       honest = (λ h. h, λ h. h);
       same = λ h. (ap (λ (s : State). s.bytes) same, ap unsynced_of same);
       time = λ h. elapses_of old new request Nothing (unsynced_of (state old)) (λ q o out. out) c.result c.ensures.recorded;
+      called = called_of old new request Nothing c.result c.ensures.recorded;
       cause = answers_of old new request Nothing c.result c.ensures.recorded;
     }
 
@@ -34,6 +36,7 @@ write_at-tells c = let old = c.args.self.now in let new = c.new.self.now in let 
   partly = λ h. written_partly old new at more p c.result c.ensures.recorded;
   failed = λ h. touched_err old new at more p c.result c.ensures.recorded;
   time = λ h. elapses_of old new (Write at more) p (touched (unsynced_of (state old)) at (length more)) (λ q o out. out) c.result c.ensures.recorded;
+  called = called_of old new (Write at more) p c.result c.ensures.recorded;
   cause = answers_of old new (Write at more) p c.result c.ensures.recorded;
 }
 
@@ -44,5 +47,6 @@ sync-tells c = let old = c.args.self.now in let new = c.new.self.now in record {
   honest = (λ h. h, λ h. h);
   same = λ h. bytes_stay old new c.result c.ensures.recorded;
   time = λ h. elapses_of old new Sync Nothing (unsynced_of (state old)) (sync_fits old) c.result c.ensures.recorded;
+  called = called_of old new Sync Nothing c.result c.ensures.recorded;
   cause = answers_of old new Sync Nothing c.result c.ensures.recorded;
 }
