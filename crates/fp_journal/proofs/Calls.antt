@@ -63,9 +63,9 @@ module _ {D : Type 0} (honest : D → Type 0) (bytes : D → List ℕ) (unsynced
       pub stage_leaves : Time Tried → Leaves Before
       stage_leaves time = goes Tried Before time (λ c o. quiet_outcome start stop text (unsynced old) c quiet o) (λ c o. quiet_outcome start stop text Tried c tried o)
 
-      pub stage_failed : (unsynced new ≡ unsynced old) ⊎ (unsynced new ≡ Tried) → Broken
-      stage_failed (inl same) = inl (subst (λ (u : Unsynced). IsQuiet start stop text u) (sym same) quiet)
-      stage_failed (inr is) = inl (stage_quiet is)
+      pub stage_failed : (unsynced new ≡ unsynced old) ⊎ (unsynced new ≡ Tried) → IsQuiet start stop text (unsynced new)
+      stage_failed (inl same) = subst (λ (u : Unsynced). IsQuiet start stop text u) (sym same) quiet
+      stage_failed (inr is) = stage_quiet is
 
     -- the gate's byte
     either : (u : Unsynced) (c : List ℕ) → IsBetween start stop text more u → IsOutcome u c → Either c

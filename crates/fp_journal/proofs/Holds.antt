@@ -1,10 +1,12 @@
 -- Text that stands in bytes: joined and cut, written, and after a crash.
-use Rattle.std.proofs.Common.{◌≡◌, inl, inr, ⊎_elim, ℕ, ◌+◌, ◌-◌, ◌<◌, ◌≤◌, max, List, [], ◌∷◌, ◌++◌, length, take, drop, replicate, refl, sym, ◌∙◌, ap, arith, length-append}
+use Rattle.std.proofs.Common.{◌≡◌, inl, inr, ⊎_elim, ℕ, ◌+◌, ◌-◌, ◌<◌, ◌≤◌, max, List, [], ◌∷◌, ◌++◌, length, take, drop, replicate, refl, sym, ◌∙◌, ap, arith, length-append, subst}
 use Rattle.std.specs.Prelude.{slice_index, slice_range}
 use Rattle.std.proofs.lemmas.Grind.{common_steps}
 use Rattle.std.proofs.lemmas.List.{ext_get_or, get_or-append_right, get_or-append-add, get_or_append_left, get_or-take, get_or-drop, get_or-replicate, length-take, length-drop, length-replicate}
 use Rattle.std.proofs.lemmas.Bool.{cases_lt}
-use Rattle.fp_disk.specs.Outcomes.{Unsynced, IsOutcome, settled, touched, Written}
+use Rattle.fp_disk.specs.declared.call.Progress.TheVariants.{Whole}
+use Rattle.fp_disk.specs.MemoryLaws.{written_changes}
+use Rattle.fp_disk.specs.Outcomes.{Unsynced, IsOutcome, settled, touched, ChangesWithin, Written}
 use Rattle.fp_journal.specs.Holds.{Holds, IsFirm, Apart}
 
 -- ---- joined and cut
@@ -83,6 +85,16 @@ holds_apart old more new text from at is apart p = let len = written_long old mo
   long = omega (arith, len, a);
   same = λ k lt. ⊎_elim (λ before. written_after old more new from (at + k) is (omega (arith, before)) ∙ p.same k lt) (λ behind. written_before old more new from (at + k) is (omega (arith, behind, lt)) (omega (arith, a, lt)) ∙ p.same k lt) apart;
 }
+
+-- a write, or a part of it, that the text doesn't reach
+pub holds_within : (old new text : List ℕ) (from n at : ℕ) → ChangesWithin old from n new → Apart from n at (length text) → Holds old at text → Holds new at text
+holds_within old new text from n at is apart p = let a = p.long in let longer = is.no_shorter in record {
+  long = omega (arith, a, longer);
+  same = λ k lt. is.outside (at + k) (omega (arith, a, lt)) (λ within. ⊎_elim (λ before. omega (arith, before, within.1)) (λ behind. omega (arith, behind, lt, within.0)) apart) ∙ p.same k lt;
+}
+
+pub written_within : (old more new : List ℕ) (at : ℕ) → Written old at more new → ChangesWithin old at (length more) new
+written_within old more new at is = subst (λ (b : List ℕ). ChangesWithin old at (length more) b) (sym is) (written_changes Whole old more at)
 
 -- ---- a crash
 -- what is firm is in every outcome

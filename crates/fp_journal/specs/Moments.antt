@@ -7,3 +7,7 @@ use Rattle.fp_journal.specs.Holds.{Holds, IsFirm}
 abbrev pub KeepsFirm : {D : Type 0} (moment : D → ℕ) (left_since : D → ℕ → List ℕ → Type 0) (unsynced : D → Unsynced) (old new : D) → (Out : ℕ → ℕ → Type 0) → Type 0
 KeepsFirm moment left_since unsynced old new Out = (at : ℕ) (text : List ℕ) → Out at (length text) → IsFirm (unsynced old) at text
     → IsFirm (unsynced new) at text × LeavesOnly moment left_since old new (λ c. Holds c at text)
+
+-- Text at a place that Out allows is read as it was
+abbrev pub KeepsHeld : {D : Type 0} (bytes : D → List ℕ) (old new : D) → (Out : ℕ → ℕ → Type 0) → Type 0
+KeepsHeld bytes old new Out = (at : ℕ) (text : List ℕ) → Out at (length text) → Holds (bytes old) at text → Holds (bytes new) at text

@@ -1,5 +1,5 @@
 -- A journal as its callers see it, and what its slot holds at each phase.
-use Rattle.std.specs.Prelude.{◌≡◌, ◌≢◌, ◌⊎◌, ◌<◌, ◌≤◌, ◌+◌, ◌-◌, ℕ, List, [], ◌∷◌, ◌++◌, length}
+use Rattle.std.specs.Prelude.{◌≡◌, ◌≢◌, ◌⊎◌, ◌<◌, ◌≤◌, ◌+◌, ◌-◌, ℕ, Bool, true, false, List, [], ◌∷◌, ◌++◌, length}
 use Rattle.std.specs.List.{AllByRecursion}
 use Rattle.fp_disk.specs.Outcomes.{Unsynced}
 use Rattle.fp_gate.specs.Gates.{IsSyncOf}
@@ -16,7 +16,8 @@ pub record SealedBodies : Type 0 where
   pub name : ℕ
   pub bodies : List (List ℕ)
 
--- In its slot lie the front, which was there when the journal began, and the bodies sealed since; one body more may be on its way
+-- In its slot lie the front, which was there when the journal began, and the bodies sealed since; one body more may be on its way.
+-- `begun` says whether a call began to open the gate in front of it, which the phase alone tells until a call fails
 pub record JournalState (D : Type 0) : Type 0 where
   pub disk : D
   pub disk_name : ℕ
@@ -26,6 +27,7 @@ pub record JournalState (D : Type 0) : Type 0 where
   pub sealed : List (List ℕ)
   pub staged : List ℕ
   pub phase : Phase
+  pub begun : Bool
 
 -- ---- what a list of bytes stands for
 -- the slot has the front and the bodies, and a closed gate behind them
@@ -41,21 +43,36 @@ pub record HasNext (slot : Slot) (front : List ℕ) (bodies : List (List ℕ)) (
   pub chain : HasChain slot front bodies c
   pub next : Ends (slot.start + length (front ++ spell bodies) + 1) slot.stop (framed body) c
 
+-- did a call begin to open the gate in front of the body on its way; where one failed, this says it
+abbrev pub has_begun : Phase → Bool → Bool
+has_begun Idle begun = false
+has_begun Staged begun = false
+has_begun BodySynced begun = false
+has_begun GateOpened begun = true
+has_begun Failed begun = begun
+
+-- what each outcome is, before and after a call began to open that gate
+abbrev pub HasAmong : Bool → Slot → List ℕ → List (List ℕ) → List ℕ → List ℕ → Type 0
+HasAmong false slot front bodies body c = HasChain slot front bodies c
+HasAmong true slot front bodies body c = HasChainOrNext slot front bodies body c
+
 -- what each outcome is at each phase
-abbrev pub Claims : Phase → Slot → List ℕ → List (List ℕ) → List ℕ → List ℕ → Type 0
-Claims Idle slot front bodies body c = HasChain slot front bodies c
-Claims Staged slot front bodies body c = HasChain slot front bodies c
-Claims BodySynced slot front bodies body c = HasChain slot front bodies c
-Claims GateOpened slot front bodies body c = HasChainOrNext slot front bodies body c
-Claims Failed slot front bodies body c = HasChainOrNext slot front bodies body c
+abbrev pub ClaimsAt : Phase → Bool → Slot → List ℕ → List (List ℕ) → List ℕ → List ℕ → Type 0
+ClaimsAt phase begun slot front bodies body c = HasAmong (has_begun phase begun) slot front bodies body c
+
+abbrev pub Claims : {D : Type 0} → JournalState D → List ℕ → Type 0
+Claims k c = ClaimsAt k.phase k.begun k.slot k.front k.sealed k.staged c
 
 -- what each outcome is once a sync at that phase succeeded
-abbrev pub Secures : Phase → Slot → List ℕ → List (List ℕ) → List ℕ → List ℕ → Type 0
-Secures Idle slot front bodies body c = HasChain slot front bodies c
-Secures Staged slot front bodies body c = HasNext slot front bodies body c
-Secures BodySynced slot front bodies body c = HasNext slot front bodies body c
-Secures GateOpened slot front bodies body c = HasChain slot front (bodies ++ body ∷ []) c
-Secures Failed slot front bodies body c = HasChainOrNext slot front bodies body c
+abbrev pub SecuresAt : Phase → Bool → Slot → List ℕ → List (List ℕ) → List ℕ → List ℕ → Type 0
+SecuresAt Idle begun slot front bodies body c = HasChain slot front bodies c
+SecuresAt Staged begun slot front bodies body c = HasNext slot front bodies body c
+SecuresAt BodySynced begun slot front bodies body c = HasNext slot front bodies body c
+SecuresAt GateOpened begun slot front bodies body c = HasChain slot front (bodies ++ body ∷ []) c
+SecuresAt Failed begun slot front bodies body c = HasAmong begun slot front bodies body c
+
+abbrev pub Secures : {D : Type 0} → JournalState D → List ℕ → Type 0
+Secures k c = SecuresAt k.phase k.begun k.slot k.front k.sealed k.staged c
 
 -- the n bytes from this place on are none of the slot's
 abbrev pub Outside : Slot → ℕ → ℕ → Type 0
@@ -96,12 +113,17 @@ pub record IsBetween (start stop : ℕ) (text more : List ℕ) (u : Unsynced) : 
   pub front : IsFirm u start text
   pub back : IsSure start stop text more u
 
-abbrev pub IsAt : Phase → Unsynced → List ℕ → ℕ → ℕ → List ℕ → List ℕ → List ℕ → Type 0
-IsAt Idle u b start stop text more next = IsQuiet start stop text u
-IsAt Staged u b start stop text more next = IsQuiet start stop text u × IsReady start stop text more b
-IsAt BodySynced u b start stop text more next = IsQuiet start stop text u × IsSure start stop text more u
-IsAt GateOpened u b start stop text more next = Ends start stop next b × IsBetween start stop text more u
-IsAt Failed u b start stop text more next = IsQuiet start stop text u ⊎ IsBetween start stop text more u
+-- what is left where a call failed, before and after one began to open that gate
+abbrev pub IsLeft : Bool → Unsynced → ℕ → ℕ → List ℕ → List ℕ → Type 0
+IsLeft false u start stop text more = IsQuiet start stop text u
+IsLeft true u start stop text more = IsQuiet start stop text u ⊎ IsBetween start stop text more u
+
+abbrev pub IsAt : Phase → Bool → Unsynced → List ℕ → ℕ → ℕ → List ℕ → List ℕ → List ℕ → Type 0
+IsAt Idle begun u b start stop text more next = IsQuiet start stop text u
+IsAt Staged begun u b start stop text more next = IsQuiet start stop text u × IsReady start stop text more b
+IsAt BodySynced begun u b start stop text more next = IsQuiet start stop text u × IsSure start stop text more u
+IsAt GateOpened begun u b start stop text more next = Ends start stop next b × IsBetween start stop text more u
+IsAt Failed begun u b start stop text more next = IsLeft begun u start stop text more
 
 -- ---- what holds of the numbers alone
 -- the bytes of a body on its way
@@ -127,7 +149,7 @@ pub record IsKept {D : Type 0} (honest : D → Type 0) (bytes : D → List ℕ) 
   pub within : end < k.slot.stop
   pub short : AllShort k.slot.most k.sealed
   pub flight : InFlight k.phase k.slot.most (k.slot.stop - end) k.staged in_flight
-  pub state : honest k.disk → IsAt k.phase (unsynced k.disk) (bytes k.disk) k.slot.start k.slot.stop (k.front ++ spell k.sealed) (framed k.staged) (k.front ++ spell (k.sealed ++ k.staged ∷ []))
+  pub state : honest k.disk → IsAt k.phase k.begun (unsynced k.disk) (bytes k.disk) k.slot.start k.slot.stop (k.front ++ spell k.sealed) (framed k.staged) (k.front ++ spell (k.sealed ++ k.staged ∷ []))
 
 -- ---- what a journal keeps for its next call
 abbrev pub phase_of : {D : Type 0} → Held D → Phase
@@ -135,7 +157,15 @@ phase_of held.Idle = Idle
 phase_of held.Staged = Staged
 phase_of (held.BodySynced synced) = BodySynced
 phase_of (held.GateOpened gate) = GateOpened
-phase_of held.Failed = Failed
+phase_of (held.Failed begun) = Failed
+
+-- did a call begin to open the gate in front of the body on its way
+abbrev pub begun_of : {D : Type 0} → Held D → Bool
+begun_of held.Idle = false
+begun_of held.Staged = false
+begun_of (held.BodySynced synced) = false
+begun_of (held.GateOpened gate) = true
+begun_of (held.Failed begun) = begun
 
 -- the token is of a sync of its disk; the gate is the one in front of the body
 abbrev pub IsHeld : {D : Type 0} (honest : D → Type 0) (moment : D → ℕ) → D → ℕ → ℕ → Held D → Type 0
@@ -143,4 +173,4 @@ IsHeld honest moment disk disk_name end held.Idle = Unit {0}
 IsHeld honest moment disk disk_name end held.Staged = Unit {0}
 IsHeld honest moment disk disk_name end (held.BodySynced synced) = IsSyncOf honest moment disk disk_name synced
 IsHeld honest moment disk disk_name end (held.GateOpened gate) = gate.at ≡ end
-IsHeld honest moment disk disk_name end held.Failed = Unit {0}
+IsHeld honest moment disk disk_name end (held.Failed begun) = Unit {0}

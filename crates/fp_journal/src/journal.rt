@@ -1,8 +1,12 @@
+//! A slot of a disk as a chain of bodies behind gates, which grows by four calls a body.
+
 ghost use Rattle.fp_disk.specs.Outcomes.{Answers, IsOutcome, LeavesOnly, Written as HasWritten, settled, touched};
+ghost use Rattle.fp_disk.specs.History.{Makes};
+ghost use Rattle.fp_disk.specs.declared.history.CallKind.TheVariants.{Sync, Write};
 ghost use Rattle.fp_gate.specs.Gates.{IsSyncOf};
-ghost use Rattle.std.specs.Prelude.{◌≡◌, ◌⊎◌, ◌<◌, ◌≤◌, ◌+◌, ◌∷◌, [], ◌++◌, List, ℕ, length, slice_range, IfOk, OnOk, OnErr, IsErr};
+ghost use Rattle.std.specs.Prelude.{◌≡◌, ◌⊎◌, ◌<◌, ◌≤◌, ◌+◌, ◌∷◌, [], ◌++◌, List, ℕ, true, false, length, slice_range, IfOk, OnOk, OnErr, IsErr};
 ghost use Rattle.fp_journal.specs.Holds.{Apart};
-ghost use Rattle.fp_journal.specs.Moments.{KeepsFirm};
+ghost use Rattle.fp_journal.specs.Moments.{KeepsFirm, KeepsHeld};
 ghost use Rattle.fp_journal.specs.State.{AllShort, Claims, HasChain, HasChainOrNext, HasNext, IsQuiet, Outside, SameSlot, Secures, room};
 ghost use Rattle.fp_journal.specs.declared.journal.Phase.TheVariants.{Idle, Staged, BodySynced, GateOpened, Failed};
 
@@ -29,7 +33,7 @@ pub enum Phase {
     BodySynced,
     /// The gate in front of it was written open.
     GateOpened,
-    /// A call failed: nothing more is written.
+    /// A call failed: nothing more is written. `begun` in clauses says whether one began to open the gate.
     Failed,
 }
 
@@ -49,13 +53,13 @@ pub struct Journal<D: Disk> {
 impl<D: Disk> Model for Journal<D> {
     ghost use Rattle.std.specs.Prelude.{slice_range};
     ghost use Rattle.fp_journal.specs.Chain.{body_of};
-    ghost use Rattle.fp_journal.specs.State.{JournalState, IsHeld, IsKept, phase_of};
+    ghost use Rattle.fp_journal.specs.State.{JournalState, IsHeld, IsKept, begun_of, phase_of};
 
     ghost Value = { JournalState D };
 
-    ghost view = { λ s. record { disk = s.disk.disk; disk_name = s.disk.name; name = s.sealed.name; slot = s.slot; front = slice_range s.opened.value.items s.slot.start s.begin.value; sealed = s.sealed.log; staged = body_of s.in_flight.items; phase = phase_of s.held } };
+    ghost view = { λ s. record { disk = s.disk.disk; disk_name = s.disk.name; name = s.sealed.name; slot = s.slot; front = slice_range s.opened.value.items s.slot.start s.begin.value; sealed = s.sealed.log; staged = body_of s.in_flight.items; phase = phase_of s.held; begun = begun_of s.held } };
 
-    ghost invariant = { λ s. IsKept D.honest D.bytes D.unsynced (record { disk = s.disk.disk; disk_name = s.disk.name; name = s.sealed.name; slot = s.slot; front = slice_range s.opened.value.items s.slot.start s.begin.value; sealed = s.sealed.log; staged = body_of s.in_flight.items; phase = phase_of s.held }) s.end s.in_flight.items × IsHeld D.honest D.moment s.disk.disk s.disk.name s.end s.held };
+    ghost invariant = { λ s. IsKept D.honest D.bytes D.unsynced (record { disk = s.disk.disk; disk_name = s.disk.name; name = s.sealed.name; slot = s.slot; front = slice_range s.opened.value.items s.slot.start s.begin.value; sealed = s.sealed.log; staged = body_of s.in_flight.items; phase = phase_of s.held; begun = begun_of s.held }) s.end s.in_flight.items × IsHeld D.honest D.moment s.disk.disk s.disk.name s.end s.held };
 }
 
 impl<D: Disk> Journal<D> {
@@ -100,7 +104,7 @@ impl<D: Disk> Journal<D> {
     /// How far the body on its way is, which says what a crash would leave now.
     pub fn phase(&self) -> Phase
         ensures phase { result ≡ self.now.phase }
-        ensures outcomes { D.honest self.now.disk → (c : List ℕ) → IsOutcome (D.unsynced self.now.disk) c → Claims result self.now.slot self.now.front self.now.sealed self.now.staged c }
+        ensures outcomes { D.honest self.now.disk → (c : List ℕ) → IsOutcome (D.unsynced self.now.disk) c → Claims self.now c }
     {
         self.held.phase()
     }
@@ -108,7 +112,7 @@ impl<D: Disk> Journal<D> {
     /// Gives the disk back.
     pub fn into_disk(self) -> D
         ensures disk { result ≡ self.disk }
-        ensures outcomes { D.honest result → (c : List ℕ) → IsOutcome (D.unsynced result) c → Claims self.phase self.slot self.front self.sealed self.staged c }
+        ensures outcomes { D.honest result → (c : List ℕ) → IsOutcome (D.unsynced result) c → Claims self c }
     {
         let Journal {
             disk,
@@ -133,12 +137,15 @@ impl<D: Disk> Journal<D> {
         ensures same { SameSlot self.old self.new }
         ensures bodies { (self.new.sealed ≡ self.old.sealed) × (self.new.staged ≡ framed) }
         ensures phase { OnOk result (self.new.phase ≡ Staged) × OnErr result (self.new.phase ≡ Failed) }
+        ensures begun { self.new.begun ≡ false }
         ensures any_moment { D.honest self.old.disk → LeavesOnly D.moment D.left_since self.old.disk self.new.disk (HasChain self.old.slot self.old.front self.old.sealed) }
         ensures apart { D.honest self.old.disk → KeepsFirm D.moment D.left_since D.unsynced self.old.disk self.new.disk (Outside self.old.slot) }
+        ensures beside { D.honest self.old.disk → KeepsHeld D.bytes self.old.disk self.new.disk (Outside self.old.slot) }
         ensures honest { (D.honest self.old.disk → D.honest self.new.disk) × (D.honest self.new.disk → D.honest self.old.disk) }
+        ensures called { D.calls self.new.disk ≡ D.calls self.old.disk ++ Write ∷ [] }
         ensures cause { Answers (D.faults self.old.disk) (D.faults self.new.disk) result }
     {
-        self.held = Held::Failed;
+        self.held = Held::Failed(false);
         self.in_flight = framed.into_bytes();
         self.disk.write_at(self.end + 1, &self.in_flight)?;
         self.held = Held::Staged;
@@ -148,20 +155,24 @@ impl<D: Disk> Journal<D> {
     /// Makes sure of all that was written, at any phase, and tells it by a token.
     pub fn sync(&mut self) -> Result<Synced<D>, DiskFault>
         ensures token { IfOk result (λ s. (s.disk ≡ self.new.disk_name) × (s.moment ≡ D.moment self.new.disk)) }
-        ensures durable { D.honest self.old.disk → OnOk result ((D.bytes self.new.disk ≡ D.bytes self.old.disk) × (D.unsynced self.new.disk ≡ settled (D.bytes self.old.disk))) }
+        ensures same_bytes { D.honest self.old.disk → D.bytes self.new.disk ≡ D.bytes self.old.disk }
+        ensures durable { D.honest self.old.disk → OnOk result (D.unsynced self.new.disk ≡ settled (D.bytes self.old.disk)) }
 
         // What was staged, or the open gate, is in every outcome now.
-        ensures firm { D.honest self.new.disk → OnOk result ((c : List ℕ) → IsOutcome (D.unsynced self.new.disk) c → Secures self.new.phase self.new.slot self.new.front self.new.sealed self.new.staged c) }
+        ensures firm { D.honest self.new.disk → OnOk result ((c : List ℕ) → IsOutcome (D.unsynced self.new.disk) c → Secures self.new c) }
 
         ensures same { SameSlot self.old self.new }
         ensures bodies { (self.new.sealed ≡ self.old.sealed) × (self.new.staged ≡ self.old.staged) }
         ensures phase { OnOk result (self.new.phase ≡ self.old.phase) × OnErr result (self.new.phase ≡ Failed) }
-        ensures any_moment { D.honest self.old.disk → LeavesOnly D.moment D.left_since self.old.disk self.new.disk (Claims self.old.phase self.old.slot self.old.front self.old.sealed self.old.staged) }
+        ensures begun { self.new.begun ≡ self.old.begun }
+        ensures any_moment { D.honest self.old.disk → LeavesOnly D.moment D.left_since self.old.disk self.new.disk (Claims self.old) }
         ensures apart { D.honest self.old.disk → KeepsFirm D.moment D.left_since D.unsynced self.old.disk self.new.disk (λ at n. Unit {0}) }
         ensures honest { (D.honest self.old.disk → D.honest self.new.disk) × (D.honest self.new.disk → D.honest self.old.disk) }
+        ensures called { D.calls self.new.disk ≡ D.calls self.old.disk ++ Sync ∷ [] }
         ensures cause { Answers (D.faults self.old.disk) (D.faults self.new.disk) result }
     {
-        let held = mem::replace(&mut self.held, Held::Failed);
+        let failed = self.held.failed();
+        let held = mem::replace(&mut self.held, failed);
         let synced = self.disk.sync()?;
         self.held = held;
         Ok(synced)
@@ -175,7 +186,7 @@ impl<D: Disk> Journal<D> {
         ensures same { SameSlot self.old self.new }
         ensures disk { self.new.disk ≡ self.old.disk }
         ensures bodies { (self.new.sealed ≡ self.old.sealed) × (self.new.staged ≡ self.old.staged) }
-        ensures phase { self.new.phase ≡ BodySynced }
+        ensures phase { (self.new.phase ≡ BodySynced) × (self.new.begun ≡ false) }
     {
         self.held = Held::BodySynced(synced);
     }
@@ -186,12 +197,18 @@ impl<D: Disk> Journal<D> {
         ensures same { SameSlot self.old self.new }
         ensures bodies { (self.new.sealed ≡ self.old.sealed) × (self.new.staged ≡ self.old.staged) }
         ensures phase { OnOk result (self.new.phase ≡ GateOpened) × OnErr result (self.new.phase ≡ Failed) }
+        ensures begun { self.new.begun ≡ true }
+
+        // What a read gives now has the body.
+        ensures reads { D.honest self.old.disk → OnOk result (HasChain self.old.slot self.old.front (self.old.sealed ++ self.old.staged ∷ []) (D.bytes self.new.disk)) }
         ensures any_moment { D.honest self.old.disk → LeavesOnly D.moment D.left_since self.old.disk self.new.disk (HasChainOrNext self.old.slot self.old.front self.old.sealed self.old.staged) }
         ensures apart { D.honest self.old.disk → KeepsFirm D.moment D.left_since D.unsynced self.old.disk self.new.disk (Outside self.old.slot) }
+        ensures beside { D.honest self.old.disk → KeepsHeld D.bytes self.old.disk self.new.disk (Outside self.old.slot) }
         ensures honest { (D.honest self.old.disk → D.honest self.new.disk) × (D.honest self.new.disk → D.honest self.old.disk) }
+        ensures called { D.calls self.new.disk ≡ D.calls self.old.disk ++ Write ∷ [] }
         ensures cause { Answers (D.faults self.old.disk) (D.faults self.new.disk) result }
     {
-        let Held::BodySynced(synced) = mem::replace(&mut self.held, Held::Failed) else {
+        let Held::BodySynced(synced) = mem::replace(&mut self.held, Held::Failed(true)) else {
             unreachable!()
         };
         let from = self.end + 1;
@@ -211,6 +228,7 @@ impl<D: Disk> Journal<D> {
         ensures same { SameSlot self.old self.new }
         ensures disk { self.new.disk ≡ self.old.disk }
         ensures sealed { (self.new.sealed ≡ self.old.sealed ++ self.old.staged ∷ []) × (self.new.phase ≡ Idle) }
+        ensures begun { self.new.begun ≡ false }
         ensures token { (result.name ≡ self.new.name) × (result.bodies ≡ self.new.sealed) }
         ensures exit { D.honest self.new.disk → (c : List ℕ) → IsOutcome (D.unsynced self.new.disk) c → HasChain self.new.slot self.new.front self.new.sealed c }
     {
@@ -236,8 +254,10 @@ impl<D: Disk> Journal<D> {
         ensures err { OnErr result ((self.new.sealed ≡ self.old.sealed) × (self.new.staged ≡ framed) × (self.new.phase ≡ Failed)) }
         ensures any_moment { D.honest self.old.disk → LeavesOnly D.moment D.left_since self.old.disk self.new.disk (HasChainOrNext self.old.slot self.old.front self.old.sealed framed) }
         ensures apart { D.honest self.old.disk → KeepsFirm D.moment D.left_since D.unsynced self.old.disk self.new.disk (Outside self.old.slot) }
+        ensures beside { D.honest self.old.disk → KeepsHeld D.bytes self.old.disk self.new.disk (Outside self.old.slot) }
         ensures exit { D.honest self.new.disk → OnOk result ((c : List ℕ) → IsOutcome (D.unsynced self.new.disk) c → HasChain self.new.slot self.new.front self.new.sealed c) }
         ensures honest { (D.honest self.old.disk → D.honest self.new.disk) × (D.honest self.new.disk → D.honest self.old.disk) }
+        ensures called { Makes (Write ∷ Sync ∷ Write ∷ Sync ∷ []) (D.calls self.old.disk) (D.calls self.new.disk) result }
         ensures cause { Answers (D.faults self.old.disk) (D.faults self.new.disk) result }
     {
         self.stage(framed)?;
@@ -255,12 +275,16 @@ impl<D: Disk> Journal<D> {
         ensures same { SameSlot self.old self.new }
         ensures bodies { (self.new.sealed ≡ self.old.sealed) × (self.new.staged ≡ self.old.staged) }
         ensures phase { OnOk result (self.new.phase ≡ self.old.phase) × OnErr result (self.new.phase ≡ Failed) }
-        ensures any_moment { D.honest self.old.disk → LeavesOnly D.moment D.left_since self.old.disk self.new.disk (Claims self.old.phase self.old.slot self.old.front self.old.sealed self.old.staged) }
+        ensures begun { self.new.begun ≡ self.old.begun }
+        ensures any_moment { D.honest self.old.disk → LeavesOnly D.moment D.left_since self.old.disk self.new.disk (Claims self.old) }
         ensures apart { D.honest self.old.disk → KeepsFirm D.moment D.left_since D.unsynced self.old.disk self.new.disk (Apart at (length from.now)) }
+        ensures beside { D.honest self.old.disk → KeepsHeld D.bytes self.old.disk self.new.disk (Apart at (length from.now)) }
         ensures honest { (D.honest self.old.disk → D.honest self.new.disk) × (D.honest self.new.disk → D.honest self.old.disk) }
+        ensures called { D.calls self.new.disk ≡ D.calls self.old.disk ++ Write ∷ [] }
         ensures cause { Answers (D.faults self.old.disk) (D.faults self.new.disk) result }
     {
-        let held = mem::replace(&mut self.held, Held::Failed);
+        let failed = self.held.failed();
+        let held = mem::replace(&mut self.held, failed);
         self.disk.write_at(at, from)?;
         self.held = held;
         Ok(())

@@ -1,4 +1,8 @@
-ghost use Rattle.std.specs.Prelude.{◌≡◌, ◌<◌, ◌≤◌, ◌+◌, ◌↔◌, [], List, ℕ, length, slice_range, IfOk, IfErr, OnOk, IsErrOf};
+//! The bytes of a disk, and the chain that they hold.
+
+ghost use Rattle.std.specs.Prelude.{◌≡◌, ◌<◌, ◌≤◌, ◌+◌, ◌↔◌, [], ◌∷◌, List, ℕ, length, slice_range, IfOk, IfErr, OnOk, IsErrOf};
+ghost use Rattle.fp_disk.specs.History.{Makes};
+ghost use Rattle.fp_disk.specs.declared.history.CallKind.TheVariants.{Length, Read, Sync};
 ghost use Rattle.fp_disk.specs.Outcomes.{IsOutcome, LeavesOnly, settled};
 ghost use Rattle.fp_journal.specs.Reading.{FoundChain, Refuses};
 ghost use Rattle.fp_journal.specs.declared.journal.Phase.TheVariants.{Idle};
@@ -42,6 +46,7 @@ pub fn synced_bytes<D: Disk>(alloc: Global, disk: &mut D) -> Result<Vec<u8>, Byt
     ensures same { D.honest disk.old → D.bytes disk.new ≡ D.bytes disk.old }
     ensures any_moment { D.honest disk.old → LeavesOnly D.moment D.left_since disk.old disk.new (IsOutcome (D.unsynced disk.old)) }
     ensures honest { (D.honest disk.old → D.honest disk.new) × (D.honest disk.new → D.honest disk.old) }
+    ensures called { Makes (Sync ∷ Length ∷ Read ∷ []) (D.calls disk.old) (D.calls disk.new) result }
     ensures calm { OnOk result (D.faults disk.new ≡ D.faults disk.old) }
     ensures cause { IsErrOf result Device → D.faults disk.old < D.faults disk.new }
 {

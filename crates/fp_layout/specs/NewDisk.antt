@@ -1,6 +1,8 @@
 -- A disk as it is made.
 use Rattle.std.specs.Prelude.{◌≡◌, ◌⊎◌, ◌+◌, ℕ, List, [], ◌∷◌, ◌++◌, length, replicate, slice_index}
 use Rattle.std.specs.Int.{w32, w64, to_be_bytes}
+use Rattle.fp_disk.specs.declared.history.CallKind.{CallKind}
+use Rattle.fp_disk.specs.declared.history.CallKind.TheVariants.{Sync, Write}
 use Rattle.fp_journal.specs.Holds.{Holds}
 use Rattle.fp_layout.specs.Layout.{magic, AreZeros, IsFormatted}
 
@@ -22,6 +24,11 @@ new_front = 165 ∷ slot_text 1 0 empty_image
 -- the bytes up to that gate, it included, as they are while all gates are closed
 abbrev pub closed_bytes : ℕ → List ℕ
 closed_bytes size = 0 ∷ (header_text size ++ 0 ∷ (slot_text 1 0 empty_image ++ 0 ∷ []))
+
+-- the calls that write it: the header's closed gate, and a sync; the text behind it, the second slot's closed gate, and a sync; the
+-- first slot's gate, and a sync; the header's, and a sync
+abbrev pub format_calls : List CallKind
+format_calls = Write ∷ Sync ∷ Write ∷ Write ∷ Sync ∷ Write ∷ Sync ∷ Write ∷ Sync ∷ []
 
 -- ---- the whole disk, but for the header's gate
 pub record IsMade (size : ℕ) (c : List ℕ) : Type 0 where

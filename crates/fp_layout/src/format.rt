@@ -1,9 +1,13 @@
-ghost use Rattle.std.specs.Prelude.{◌≡◌, ◌≢◌, ◌<◌, ◌+◌, ◌∷◌, [], List, ℕ, length, IfOk, IfErr, OnOk, IsOk, IsErr, MatchResult};
+//! A new disk.
+
+ghost use Rattle.std.specs.Prelude.{◌≡◌, ◌≢◌, ◌<◌, ◌+◌, ◌∷◌, ◌++◌, [], List, ℕ, length, IfOk, IfErr, OnOk, IsOk, IsErr, MatchResult};
+ghost use Rattle.fp_disk.specs.History.{Makes, MakesSome};
+ghost use Rattle.fp_disk.specs.declared.history.CallKind.TheVariants.{Length, Sync, Write};
 ghost use Rattle.fp_disk.specs.Outcomes.{Answers, IsOutcome, LeavesOnly, Written, settled, touched};
 ghost use Rattle.fp_journal.specs.declared.journal.Phase.TheVariants.{Idle};
 ghost use Rattle.fp_layout.specs.Size.{IsSlotSize, first_slot};
 ghost use Rattle.fp_layout.specs.Layout.{IsHeader, IsFirstSlot};
-ghost use Rattle.fp_layout.specs.NewDisk.{IsNewDisk, IsNewOrNone, closed_bytes, empty_image, new_front};
+ghost use Rattle.fp_layout.specs.NewDisk.{IsNewDisk, IsNewOrNone, closed_bytes, empty_image, format_calls, new_front};
 ghost use Rattle.fp_layout.specs.declared.format.CreateFault.TheVariants.{NotEmpty, Device, Memory};
 
 use crate::size::SlotSize;
@@ -48,6 +52,7 @@ fn write_synced<D: Disk>(disk: &mut D, at: u64, from: &[u8]) -> Result<(), DiskF
     ensures settled { D.honest disk.old → OnOk result (D.unsynced disk.new ≡ settled (D.bytes disk.new)) }
     ensures any_moment { D.honest disk.old → LeavesOnly D.moment D.left_since disk.old disk.new (IsOutcome (touched (D.unsynced disk.old) at (length from.now))) }
     ensures honest { (D.honest disk.old → D.honest disk.new) × (D.honest disk.new → D.honest disk.old) }
+    ensures called { Makes (Write ∷ Sync ∷ []) (D.calls disk.old) (D.calls disk.new) result }
     ensures cause { Answers (D.faults disk.old) (D.faults disk.new) result }
 {
     disk.write_at(at, from)?;
@@ -61,6 +66,7 @@ fn format<D: Disk>(disk: &mut D, size: SlotSize, closed: &[u8]) -> Result<(), Di
     ensures settled { D.honest disk.old → OnOk result (D.unsynced disk.new ≡ settled (D.bytes disk.new)) }
     ensures any_moment { D.honest disk.old → D.unsynced disk.old ≡ settled [] → LeavesOnly D.moment D.left_since disk.old disk.new (IsNewOrNone size) }
     ensures honest { (D.honest disk.old → D.honest disk.new) × (D.honest disk.new → D.honest disk.old) }
+    ensures called { Makes format_calls (D.calls disk.old) (D.calls disk.new) result }
     ensures cause { Answers (D.faults disk.old) (D.faults disk.new) result }
 {
     write_synced(disk, 0, &[0])?;
@@ -84,6 +90,8 @@ pub fn create<D: Disk>(
     ensures empty { D.honest disk → IsOk result → D.bytes disk ≡ [] }
     ensures any_moment { D.honest disk → D.unsynced disk ≡ settled [] → MatchResult result (λ j. LeavesOnly D.moment D.left_since disk j.disk (IsNewOrNone size)) (λ e. LeavesOnly D.moment D.left_since disk e.1 (IsNewOrNone size)) }
     ensures honest { MatchResult result (λ j. (D.honest disk → D.honest j.disk) × (D.honest j.disk → D.honest disk)) (λ e. (D.honest disk → D.honest e.1) × (D.honest e.1 → D.honest disk)) }
+    ensures called { MatchResult result (λ j. D.calls j.disk ≡ D.calls disk ++ Length ∷ format_calls) (λ e. MakesSome (Length ∷ format_calls) (D.calls disk) (D.calls e.1)) }
+    ensures memory { D.honest disk → IfErr result (λ e. e.0 ≡ Memory → (D.bytes e.1 ≡ D.bytes disk) × (D.unsynced e.1 ≡ D.unsynced disk)) }
     ensures cause { IfErr result (λ e. e.0 ≡ Device → D.faults disk < D.faults e.1) }
 {
     match disk.len() {

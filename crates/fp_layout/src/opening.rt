@@ -1,4 +1,8 @@
-ghost use Rattle.std.specs.Prelude.{◌≡◌, ◌≤◌, ◌<◌, ◌+◌, ◌-◌, ◌/◌, [], List, ℕ, length, IfOk, IfErr, OnOk, MatchResult, IsErrOf};
+//! A disk that is there, opened.
+
+ghost use Rattle.std.specs.Prelude.{◌≡◌, ◌≤◌, ◌<◌, ◌+◌, ◌-◌, ◌/◌, [], ◌∷◌, ◌++◌, List, ℕ, length, IfOk, IfErr, OnOk, MatchResult, IsErrOf};
+ghost use Rattle.fp_disk.specs.History.{MakesSome};
+ghost use Rattle.fp_disk.specs.declared.history.CallKind.TheVariants.{Length, Read, Sync};
 ghost use Rattle.fp_disk.specs.Outcomes.{IsOutcome, LeavesOnly, settled};
 ghost use Rattle.fp_journal.specs.Reading.{IsWrong};
 ghost use Rattle.fp_journal.specs.declared.journal.Phase.TheVariants.{Idle};
@@ -59,6 +63,7 @@ pub fn open<D: Disk, R: SlotReader>(
     ensures settled { D.honest disk → IfOk result (λ j. D.unsynced j.disk ≡ settled (D.bytes disk)) }
     ensures any_moment { D.honest disk → MatchResult result (λ j. LeavesOnly D.moment D.left_since disk j.disk (IsOutcome (D.unsynced disk))) (λ e. LeavesOnly D.moment D.left_since disk e.1 (IsOutcome (D.unsynced disk))) }
     ensures honest { MatchResult result (λ j. (D.honest disk → D.honest j.disk) × (D.honest j.disk → D.honest disk)) (λ e. (D.honest disk → D.honest e.1) × (D.honest e.1 → D.honest disk)) }
+    ensures called { MatchResult result (λ j. D.calls j.disk ≡ D.calls disk ++ Sync ∷ Length ∷ Read ∷ []) (λ e. MakesSome (Sync ∷ Length ∷ Read ∷ []) (D.calls disk) (D.calls e.1)) }
     ensures calm { IfOk result (λ j. D.faults j.disk ≡ D.faults disk) }
     ensures cause { IfErr result (λ e. e.0 ≡ Device → D.faults disk < D.faults e.1) }
 {

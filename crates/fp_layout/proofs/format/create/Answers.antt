@@ -27,3 +27,9 @@ returns-clause-any_moment g c =
     let D = g.D.Disk in let m = g.met.D.Disk in let s = c.args.size in let d0 = c.args.disk in let d1 = c.len.new.self in let d2 = c.format.new.disk in
     λ h is. let same : D.unsynced d1 ≡ settled [] = (c.len.ensures.same h).1 ∙ is in
     rw c.adopt.ensures.disk (leaves_then D.moment D.left_since d0 d1 d2 (IsNewOrNone s) (making.empty_leaves D.honest D.bytes D.unsynced D.moment D.left_since m.present m.only_now s d0 d1 h is (c.len.ensures.time h)) (c.format.ensures.any_moment (c.len.ensures.honest.0 h) same))
+
+pub returns-in_default-format-clause-any_moment : goal.returns-in_default-format-clause-any_moment
+returns-in_default-format-clause-any_moment g c =
+    let D = g.D.Disk in let m = g.met.D.Disk in let s = c.args.size in let d0 = c.args.disk in let d1 = c.len.new.self in let d2 = c.format.new.disk in
+    λ h is. let same : D.unsynced d1 ≡ settled [] = (c.len.ensures.same h).1 ∙ is in
+    leaves_then D.moment D.left_since d0 d1 d2 (IsNewOrNone s) (making.empty_leaves D.honest D.bytes D.unsynced D.moment D.left_since m.present m.only_now s d0 d1 h is (c.len.ensures.time h)) (c.format.ensures.any_moment (c.len.ensures.honest.0 h) same)

@@ -1,6 +1,7 @@
-use Rattle.std.proofs.Common.{rules, ◌≡◌, ap, ◌∙◌, inr}
+use Rattle.std.proofs.Common.{rules, ◌≡◌, ◌∷◌, [], ap, ◌∙◌, inr}
 use Rattle.fp_journal.specs.State.{JournalState, phase_of}
 use Rattle.fp_journal.specs.declared.journal.Phase.TheVariants.{BodySynced}
+use Rattle.fp_journal.proofs.Holds.{written_within}
 use Rattle.fp_journal.proofs.Steps as steps
 use Rattle.fp_journal.proofs.journal.Journal.open_gate.Goals as goal
 
@@ -39,3 +40,15 @@ returns-clause-apart g c =
     let D = g.D.Disk in let m = g.met.D.Disk in let w = c.open.ensures in let new = c.open.new.disk.disk in
     let is : phase_of c.self.inside.held ≡ BodySynced = ap (λ (k : JournalState g.row.D.Denot). k.phase) c.self.view_is ∙ c.requires in
     rw (← c.self.view_is) (steps.gate_apart D.honest D.bytes D.unsynced D.moment D.left_since m.present m.only_now c.self.invariant.0 new is c.guarding-gate.result.at (search rules) w.time (λ h. inr (c.in_ok-open.ensures.unsynced h)))
+
+pub returns-clause-beside : goal.returns-clause-beside
+returns-clause-beside g c =
+    let D = g.D.Disk in let m = g.met.D.Disk in let w = c.open.ensures in let new = c.open.new.disk.disk in
+    let is : phase_of c.self.inside.held ≡ BodySynced = ap (λ (k : JournalState g.row.D.Denot). k.phase) c.self.view_is ∙ c.requires in
+    rw (← c.self.view_is) (λ h. steps.gate_beside D.honest D.bytes D.unsynced D.moment D.left_since m.present m.only_now c.self.invariant.0 new is c.guarding-gate.result.at (search rules) h (written_within _ (165 ∷ []) (D.bytes new) _ (c.in_ok-open.ensures.written h)))
+
+pub returns-clause-reads : goal.returns-clause-reads
+returns-clause-reads g c =
+    let D = g.D.Disk in let m = g.met.D.Disk in let w = c.open.ensures in let new = c.open.new.disk.disk in
+    let is : phase_of c.self.inside.held ≡ BodySynced = ap (λ (k : JournalState g.row.D.Denot). k.phase) c.self.view_is ∙ c.requires in
+    rw (← c.self.view_is) (steps.gate_reads D.honest D.bytes D.unsynced D.moment D.left_since m.present m.only_now c.self.invariant.0 new is c.guarding-gate.result.at (search rules) c.in_ok-open.ensures.written c.in_ok-open.ensures.unsynced)

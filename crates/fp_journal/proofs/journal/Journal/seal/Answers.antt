@@ -1,3 +1,4 @@
+use Rattle.std.proofs.Common.{ap}
 use Rattle.fp_journal.proofs.Steps as steps
 use Rattle.fp_journal.proofs.journal.Journal.seal.Goals as goal
 
@@ -80,3 +81,51 @@ returns-in_err-open_gate-clause-apart g c = λ h.
     let f2 = steps.apart_sync D.moment D.left_since first c.args.framed D.unsynced s1 s2.disk k1 (c.stage.ensures.apart h) (c.sync.ensures.apart h1) in
     let f3 = steps.apart_still D.moment D.left_since first c.args.framed D.unsynced s2.disk s3.disk c.body_synced.ensures.disk f2 in
     steps.apart_more D.moment D.left_since first c.args.framed D.unsynced s3 s4.disk k3 f3 (c.open_gate.ensures.apart h3)
+
+pub returns-in_err-body-clause-beside : goal.returns-in_err-body-clause-beside
+returns-in_err-body-clause-beside g c = λ h.
+    let D = g.D.Disk in let first = c.args.self.now in let s1 = c.stage.new.self in let h1 = c.stage.ensures.honest.0 h in
+    let k1 : steps.IsSealing D.moment D.left_since first c.args.framed s1 = record { same = c.stage.ensures.same; sealed = c.stage.ensures.bodies.0; staged = c.stage.ensures.bodies.1 } in
+    let f2 = steps.beside_same D.moment D.left_since first c.args.framed D.bytes s1.disk c.sync.new.self.disk (c.sync.ensures.same_bytes h1) (c.stage.ensures.beside h) in
+    f2
+
+pub returns-in_err-open_gate-clause-beside : goal.returns-in_err-open_gate-clause-beside
+returns-in_err-open_gate-clause-beside g c = λ h.
+    let D = g.D.Disk in let first = c.args.self.now in let s1 = c.stage.new.self in let h1 = c.stage.ensures.honest.0 h in
+    let k1 : steps.IsSealing D.moment D.left_since first c.args.framed s1 = record { same = c.stage.ensures.same; sealed = c.stage.ensures.bodies.0; staged = c.stage.ensures.bodies.1 } in
+    let f2 = steps.beside_same D.moment D.left_since first c.args.framed D.bytes s1.disk c.sync.new.self.disk (c.sync.ensures.same_bytes h1) (c.stage.ensures.beside h) in
+    let s2 = c.sync.new.self in let s3 = c.body_synced.new.self in let s4 = c.open_gate.new.self in
+    let k2 = steps.sealing_on D.moment D.left_since first c.args.framed s1 s2 k1 c.sync.ensures.same c.sync.ensures.bodies in
+    let k3 = steps.sealing_on D.moment D.left_since first c.args.framed s2 s3 k2 c.body_synced.ensures.same c.body_synced.ensures.bodies in
+    let h3 : D.honest s3.disk = rw c.body_synced.ensures.disk (c.sync.ensures.honest.0 h1) in
+    let f3 = steps.beside_same D.moment D.left_since first c.args.framed D.bytes s2.disk s3.disk (ap D.bytes c.body_synced.ensures.disk) f2 in
+    let f4 = steps.beside_more D.moment D.left_since first c.args.framed D.bytes s3 s4.disk k3 f3 (c.open_gate.ensures.beside h3) in
+    f4
+
+pub returns-in_err-gate-clause-beside : goal.returns-in_err-gate-clause-beside
+returns-in_err-gate-clause-beside g c = λ h.
+    let D = g.D.Disk in let first = c.args.self.now in let s1 = c.stage.new.self in let h1 = c.stage.ensures.honest.0 h in
+    let k1 : steps.IsSealing D.moment D.left_since first c.args.framed s1 = record { same = c.stage.ensures.same; sealed = c.stage.ensures.bodies.0; staged = c.stage.ensures.bodies.1 } in
+    let f2 = steps.beside_same D.moment D.left_since first c.args.framed D.bytes s1.disk c.sync.new.self.disk (c.sync.ensures.same_bytes h1) (c.stage.ensures.beside h) in
+    let s2 = c.sync.new.self in let s3 = c.body_synced.new.self in let s4 = c.open_gate.new.self in
+    let k2 = steps.sealing_on D.moment D.left_since first c.args.framed s1 s2 k1 c.sync.ensures.same c.sync.ensures.bodies in
+    let k3 = steps.sealing_on D.moment D.left_since first c.args.framed s2 s3 k2 c.body_synced.ensures.same c.body_synced.ensures.bodies in
+    let h3 : D.honest s3.disk = rw c.body_synced.ensures.disk (c.sync.ensures.honest.0 h1) in
+    let f3 = steps.beside_same D.moment D.left_since first c.args.framed D.bytes s2.disk s3.disk (ap D.bytes c.body_synced.ensures.disk) f2 in
+    let f4 = steps.beside_more D.moment D.left_since first c.args.framed D.bytes s3 s4.disk k3 f3 (c.open_gate.ensures.beside h3) in
+    let f5 = steps.beside_same D.moment D.left_since first c.args.framed D.bytes s4.disk c.sync-2.new.self.disk (c.sync-2.ensures.same_bytes (c.open_gate.ensures.honest.0 h3)) f4 in
+    f5
+
+pub returns-clause-beside : goal.returns-clause-beside
+returns-clause-beside g c = λ h.
+    let D = g.D.Disk in let first = c.args.self.now in let s1 = c.stage.new.self in let h1 = c.stage.ensures.honest.0 h in
+    let k1 : steps.IsSealing D.moment D.left_since first c.args.framed s1 = record { same = c.stage.ensures.same; sealed = c.stage.ensures.bodies.0; staged = c.stage.ensures.bodies.1 } in
+    let f2 = steps.beside_same D.moment D.left_since first c.args.framed D.bytes s1.disk c.sync.new.self.disk (c.sync.ensures.same_bytes h1) (c.stage.ensures.beside h) in
+    let s2 = c.sync.new.self in let s3 = c.body_synced.new.self in let s4 = c.open_gate.new.self in
+    let k2 = steps.sealing_on D.moment D.left_since first c.args.framed s1 s2 k1 c.sync.ensures.same c.sync.ensures.bodies in
+    let k3 = steps.sealing_on D.moment D.left_since first c.args.framed s2 s3 k2 c.body_synced.ensures.same c.body_synced.ensures.bodies in
+    let h3 : D.honest s3.disk = rw c.body_synced.ensures.disk (c.sync.ensures.honest.0 h1) in
+    let f3 = steps.beside_same D.moment D.left_since first c.args.framed D.bytes s2.disk s3.disk (ap D.bytes c.body_synced.ensures.disk) f2 in
+    let f4 = steps.beside_more D.moment D.left_since first c.args.framed D.bytes s3 s4.disk k3 f3 (c.open_gate.ensures.beside h3) in
+    let f5 = steps.beside_same D.moment D.left_since first c.args.framed D.bytes s4.disk c.sync-2.new.self.disk (c.sync-2.ensures.same_bytes (c.open_gate.ensures.honest.0 h3)) f4 in
+    steps.beside_same D.moment D.left_since first c.args.framed D.bytes c.sync-2.new.self.disk c.gate_synced.new.self.disk (ap D.bytes c.gate_synced.ensures.disk) f5

@@ -2,6 +2,7 @@ use Rattle.std.proofs.Common.{rules, ◌≡◌, ◌≤◌, ◌+◌, length, ap, 
 use Rattle.fp_journal.specs.Chain.{with_gate, body_of}
 use Rattle.fp_journal.specs.State.{JournalState, phase_of, room}
 use Rattle.fp_journal.specs.declared.journal.Phase.TheVariants.{Idle}
+use Rattle.fp_journal.proofs.Holds.{written_within}
 use Rattle.fp_journal.proofs.Steps as steps
 use Rattle.fp_journal.proofs.journal.Journal.stage.Goals as goal
 
@@ -53,3 +54,12 @@ returns-clause-apart g c =
     let shape : c.deref.result.now ≡ with_gate c.args.framed = c.deref.ensures.value ∙ c.into_bytes.ensures.bytes in
     let fits = subst (λ (k : JournalState g.row.D.Denot). length c.args.framed + 6 ≤ room k) (sym c.self.view_is) c.requires.room in
     rw (← c.self.view_is) (steps.stage_apart D.honest D.bytes D.unsynced D.moment D.left_since m.present m.only_now c.self.invariant.0 new is c.args.framed written c.deref.result.now c.into_bytes.ensures.bytes shape fits w.time (λ h. inr (c.in_ok-write_at.ensures.unsynced h)))
+
+pub returns-clause-beside : goal.returns-clause-beside
+returns-clause-beside g c =
+    let D = g.D.Disk in let m = g.met.D.Disk in let w = c.write_at.ensures in let new = c.write_at.new.self.disk in
+    let is : phase_of c.self.inside.held ≡ Idle = ap (λ (k : JournalState g.row.D.Denot). k.phase) c.self.view_is ∙ c.requires.idle in
+    let written = c.into_bytes.result.items in
+    let shape : c.deref.result.now ≡ with_gate c.args.framed = c.deref.ensures.value ∙ c.into_bytes.ensures.bytes in
+    let fits = subst (λ (k : JournalState g.row.D.Denot). length c.args.framed + 6 ≤ room k) (sym c.self.view_is) c.requires.room in
+    rw (← c.self.view_is) (λ h. steps.stage_beside D.honest D.bytes D.unsynced D.moment D.left_since m.present m.only_now c.self.invariant.0 new is c.args.framed written c.deref.result.now c.into_bytes.ensures.bytes shape fits h (written_within _ c.deref.result.now (D.bytes new) _ (c.in_ok-write_at.ensures.written h)))

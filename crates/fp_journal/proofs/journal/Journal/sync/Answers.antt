@@ -1,11 +1,12 @@
 use Rattle.std.proofs.Common.{rules, inl, inr}
+use Rattle.fp_journal.specs.State.{begun_of}
 use Rattle.fp_journal.proofs.Steps as steps
 use Rattle.fp_journal.proofs.journal.Journal.sync.Goals as goal
 
 pub invariant_of-self : goal.invariant_of-self
 invariant_of-self g c =
     let D = g.D.Disk in let m = g.met.D.Disk in let w = c.sync.ensures in let new = c.sync.new.self.disk in
-    rw (w.name, c.replace-held.ensures.after) (steps.sync_failed D.honest D.bytes D.unsynced D.moment D.left_since m.present m.only_now c.self.invariant.0 new w.honest.1 (λ h. w.failed h (search rules)), tt)
+    rw (w.name, c.replace-held.ensures.after, c.failed-failed.ensures) (steps.sync_failed D.honest D.bytes D.unsynced D.moment D.left_since m.present m.only_now c.self.invariant.0 new (begun_of c.self.inside.held) (steps.begun_is c.self.inside.held) w.honest.1 (λ h. w.failed h (search rules)), tt)
 
 pub returns-in_err-synced-clause-any_moment : goal.returns-in_err-synced-clause-any_moment
 returns-in_err-synced-clause-any_moment g c =
