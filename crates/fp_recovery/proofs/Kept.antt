@@ -20,14 +20,15 @@ use Rattle.fp_journal.proofs.Links.{reads_more}
 use Rattle.fp_journal.proofs.Steps.{All-push}
 use Rattle.fp_layout.specs.Size.{IsSlotSize, first_slot}
 use Rattle.fp_layout.specs.Layout.{IsHeader, IsFirstSlot}
-use Rattle.fp_layout.specs.NewDisk.{IsNewDisk, header_text, new_front, empty_image}
+use Rattle.fp_layout.specs.NewDisk.{IsNewDisk, IsNewOrNone, header_text, new_front, empty_image}
 use Rattle.fp_layout.specs.Opening.{FoundDisk}
+use Rattle.fp_layout.proofs.Making.{new_header, new_slot}
 use Rattle.fp_record.specs.Lawful.{IsImage}
 use Rattle.fp_record.specs.Spelling.{spelling_of_image}
 use Rattle.fp_recovery.specs.Admitting.{StandsForEither}
 use Rattle.fp_recovery.specs.Stands.{IsImageOf, TakesBatch, StandsFor}
 use Rattle.fp_recovery.specs.Refusals.{BeginsWith}
-use Rattle.fp_recovery.specs.Durable.{IsKept, IsSure}
+use Rattle.fp_recovery.specs.Durable.{IsKept, IsNewSetOrNone, IsSure}
 use Rattle.fp_recovery.specs.Room.{batch_len, HasNoRoom, IsFullFor}
 use Rattle.fp_recovery.proofs.Restored.{image_of, entries-empty}
 use Rattle.fp_recovery.proofs.Agreed.{Agrees, agrees_range, header_agreed, slot_agreed, holds_agreed, chain_behind, spell-append}
@@ -265,3 +266,7 @@ module _ (size : ℕ) (c : List ℕ) (allowed : IsSlotSize size) (made : IsNewDi
     chain = record { short = tt; ends = record { gate = 0; shut = λ e. omega (arith, e); holds = subst (λ (x : ℕ). Holds c 90 (x ∷ [])) zero (holds_byte c 90 (omega (arith, long, least))); within = omega (arith, least) } };
     leads = refl;
   }
+
+-- a disk in the making
+pub new_or_none : (size : ℕ) → IsSlotSize size → (c : List ℕ) → IsNewOrNone size c → IsNewSetOrNone size c
+new_or_none size allowed c is = ⊎_elim (λ none. inl none) (λ new. inr (new_stands size c allowed new (new_header size c allowed new) (new_slot size c allowed new))) is

@@ -121,3 +121,11 @@ unless_wanting c (UnknownVersion v) r = λ s p. r.2 (sym r.1 ∙ p.header.versio
 unless_wanting c (Damaged at) r = λ s p. disk_sound c s p nothing_read at r
 unless_wanting c Device r = tt
 unless_wanting c Memory r = tt
+
+-- bytes that stand for a set are refused by the device or for want of memory
+pub only_wanting : (c : List ℕ) (s : State) (f : OpenFault) → StandsFor c s → IsUnlessWanting c f → (f ≡ Device) ⊎ (f ≡ Memory)
+only_wanting c s Unformatted stands r = absurd (r s stands)
+only_wanting c s (UnknownVersion v) stands r = absurd (r s stands)
+only_wanting c s (Damaged at) stands r = absurd (r s stands)
+only_wanting c s Device stands r = inl refl
+only_wanting c s Memory stands r = inr refl

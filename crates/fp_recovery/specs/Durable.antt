@@ -1,5 +1,6 @@
 -- A set and the journal that keeps it.
-use Rattle.std.specs.Prelude.{◌≡◌, ◌+◌, ◌/◌, ℕ, List, [], ◌∷◌, ◌++◌, length, slice_index, slice_range}
+use Rattle.std.specs.Prelude.{◌≡◌, ◌⊎◌, ◌+◌, ◌/◌, ℕ, List, [], ◌∷◌, ◌++◌, length, slice_index, slice_range}
+use Rattle.std.specs.FinMap as map
 use Rattle.fp_disk.specs.Outcomes.{Unsynced, IsOutcome}
 use Rattle.fp_edit.specs.Edits.{Change}
 use Rattle.fp_edit.specs.Flags.{State}
@@ -10,6 +11,8 @@ use Rattle.fp_journal.specs.State.{AllShort, JournalState}
 use Rattle.fp_layout.specs.Size.{first_slot}
 use Rattle.fp_layout.specs.Layout.{IsHeader, IsFirstSlot}
 use Rattle.fp_record.specs.Group.{Group}
+use Rattle.fp_layout.specs.declared.fault.OpenFault.TheVariants.{Unformatted}
+use Rattle.fp_recovery.specs.Refusals.{RefusesBytes}
 use Rattle.fp_recovery.specs.Stands.{IsImageOf, TakesBatch, StandsFor}
 
 pub record Durable (D : Type 0) : Type 0 where
@@ -23,6 +26,10 @@ IsSure u s = (c : List ℕ) → IsOutcome u c → StandsFor c s
 -- a batch of one change
 abbrev pub single : ℕ → Change → Group
 single first change = record { first = first; changes = change ∷ [] }
+
+-- what nobody made a disk of, or a disk of no flags
+abbrev pub IsNewSetOrNone : ℕ → List ℕ → Type 0
+IsNewSetOrNone size c = RefusesBytes c Unformatted ⊎ StandsFor c (record { flags = map.empty; revision = 0; limit = size / 2 })
 
 -- What the disk held as the journal began, and the batches sealed since, come to the set; the bytes in front of the slot and the gate behind it are firm
 pub record IsKept {D : Type 0} (u : Unsynced) (set : State) (journal : JournalState D) : Type 0 where

@@ -1,17 +1,19 @@
 //! A set of flags that a disk keeps.
 
-ghost use Rattle.std.specs.Prelude.{◌≡◌, ◌≢◌, ◌⊎◌, ◌<◌, ◌≤◌, ◌+◌, ◌/◌, ◌↔◌, [], List, ℕ, length, IfOk, IfErr, IsTrue, IsOk, OnOk, OnErr, MatchResult};
+ghost use Rattle.std.specs.Prelude.{◌≡◌, ◌≢◌, ◌⊎◌, ◌<◌, ◌≤◌, ◌+◌, ◌/◌, ◌↔◌, [], ◌∷◌, ◌++◌, List, ℕ, length, IfOk, IfErr, IsTrue, IsOk, OnOk, OnErr, MatchResult};
 ghost use Rattle.std.specs.FinMap as map;
-ghost use Rattle.fp_disk.specs.Outcomes.{LeavesOnly};
+ghost use Rattle.fp_disk.specs.History.{Makes, MakesSome};
+ghost use Rattle.fp_disk.specs.Outcomes.{IsOutcome, LeavesOnly, settled};
+ghost use Rattle.fp_disk.specs.declared.history.CallKind.TheVariants.{Length, Read, Sync, Write};
 ghost use Rattle.fp_edit.specs.Admits.{Admits, accepted};
 ghost use Rattle.fp_edit.specs.Edits.{proposal_of};
 ghost use Rattle.fp_edit.specs.Flags.{State};
 ghost use Rattle.fp_journal.specs.declared.journal.Phase.TheVariants.{Idle};
-ghost use Rattle.fp_layout.specs.NewDisk.{IsNewDisk};
+ghost use Rattle.fp_layout.specs.NewDisk.{IsNewDisk, format_calls};
 ghost use Rattle.fp_layout.specs.declared.fault.OpenFault.TheVariants.{Device};
 ghost use Rattle.fp_layout.specs.declared.format.CreateFault.TheVariants as make;
 ghost use Rattle.fp_recovery.specs.Admitting.{IsDeclined, CanDecline, StandsForEither};
-ghost use Rattle.fp_recovery.specs.Durable.{IsSure};
+ghost use Rattle.fp_recovery.specs.Durable.{IsNewSetOrNone, IsSure};
 ghost use Rattle.fp_recovery.specs.Refusals.{RefusesBytes, IsUnlessWanting};
 ghost use Rattle.fp_recovery.specs.Stands.{StandsFor};
 
@@ -60,10 +62,15 @@ impl<D: Disk> DurableSet<D> {
         ensures empty { D.honest disk → IsOk result → D.bytes disk ≡ [] }
         ensures not_empty { D.honest disk → IfErr result (λ e. e.0 ≡ make.NotEmpty → (D.bytes disk ≢ []) × (D.bytes e.1 ≡ D.bytes disk)) }
         ensures honest { MatchResult result (λ s. (D.honest disk → D.honest s.journal.disk) × (D.honest s.journal.disk → D.honest disk)) (λ e. (D.honest disk → D.honest e.1) × (D.honest e.1 → D.honest disk)) }
+        ensures memory { D.honest disk → IfErr result (λ e. e.0 ≡ make.Memory → (D.bytes e.1 ≡ D.bytes disk) × (D.unsynced e.1 ≡ D.unsynced disk)) }
+
+        // A crash at any moment of it leaves what is no disk yet, or one of no flags.
+        ensures any_moment { D.honest disk → D.unsynced disk ≡ settled [] → MatchResult result (λ s. LeavesOnly D.moment D.left_since disk s.journal.disk (IsNewSetOrNone size)) (λ e. LeavesOnly D.moment D.left_since disk e.1 (IsNewSetOrNone size)) }
+        ensures called { MatchResult result (λ s. D.calls s.journal.disk ≡ D.calls disk ++ Length ∷ format_calls) (λ e. MakesSome (Length ∷ format_calls) (D.calls disk) (D.calls e.1)) }
         ensures cause { IfErr result (λ e. e.0 ≡ make.Device → D.faults disk < D.faults e.1) }
     {
-        let journal = fp_layout::create(alloc, disk, size)?;
         let set = FlagSet::new(alloc, size.bytes() / 2);
+        let journal = fp_layout::create(alloc, disk, size)?;
         Ok(DurableSet {
             set,
             journal,
@@ -81,6 +88,11 @@ impl<D: Disk> DurableSet<D> {
         ensures refused { D.honest disk → IfErr result (λ e. IsUnlessWanting (D.bytes disk) e.0) }
         ensures same { D.honest disk → MatchResult result (λ s. D.bytes s.journal.disk ≡ D.bytes disk) (λ e. D.bytes e.1 ≡ D.bytes disk) }
         ensures honest { MatchResult result (λ s. (D.honest disk → D.honest s.journal.disk) × (D.honest s.journal.disk → D.honest disk)) (λ e. (D.honest disk → D.honest e.1) × (D.honest e.1 → D.honest disk)) }
+        // A crash at any moment of it leaves what one might have left before it.
+        ensures any_moment { D.honest disk → MatchResult result (λ s. LeavesOnly D.moment D.left_since disk s.journal.disk (IsOutcome (D.unsynced disk))) (λ e. LeavesOnly D.moment D.left_since disk e.1 (IsOutcome (D.unsynced disk))) }
+
+        // It syncs before it reads.
+        ensures called { MatchResult result (λ s. D.calls s.journal.disk ≡ D.calls disk ++ Sync ∷ Length ∷ Read ∷ []) (λ e. MakesSome (Sync ∷ Length ∷ Read ∷ []) (D.calls disk) (D.calls e.1)) }
         ensures calm { IfOk result (λ s. D.faults s.journal.disk ≡ D.faults disk) }
         ensures cause { IfErr result (λ e. e.0 ≡ Device → D.faults disk < D.faults e.1) }
     {
@@ -134,6 +146,7 @@ impl<D: Disk> DurableSet<D> {
         ensures any_moment { D.honest self.old.journal.disk → self.old.journal.phase ≡ Idle → LeavesOnly D.moment D.left_since self.old.journal.disk self.new.journal.disk (StandsForEither self.old.set (proposal_of edit)) }
         ensures stopped { self.old.journal.phase ≢ Idle → self.new ≡ self.old }
 
+        ensures called { Makes (Write ∷ Sync ∷ Write ∷ Sync ∷ []) (D.calls self.old.journal.disk) (D.calls self.new.journal.disk) result }
         ensures declined { IfErr result (IsDeclined self.old self.new edit) }
         ensures cause { IfErr result (CanDecline D.honest D.unsynced D.faults self.old self.new (proposal_of edit)) }
         ensures honest { (D.honest self.old.journal.disk → D.honest self.new.journal.disk) × (D.honest self.new.journal.disk → D.honest self.old.journal.disk) }

@@ -9,7 +9,7 @@ mod restoring;
 
 pub use durable::DurableSet;
 pub use fault::AdmitFault;
-pub use laws::bytes_stand_for_one;
+pub use laws::{bytes_stand_for_one, closes_and_opens};
 
 #[cfg(test)]
 mod batch_tests;

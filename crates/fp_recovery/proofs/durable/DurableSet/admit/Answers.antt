@@ -2,7 +2,7 @@ use Rattle.std.proofs.Common.{rules, ◌≡◌, ◌+◌, ◌≤◌, ◌++◌, �
 use Rattle.fp_edit.specs.Edits.{proposal_of}
 use Rattle.fp_edit.specs.Admits.{refusal}
 use Rattle.fp_disk.specs.Outcomes.{IsOutcome}
-use Rattle.fp_journal.specs.State.{Claims, HasChain}
+use Rattle.fp_journal.specs.State.{ClaimsAt, HasChain}
 use Rattle.fp_journal.specs.declared.journal.Phase.{Phase}
 use Rattle.fp_journal.specs.declared.journal.Phase.TheVariants.{Idle, Failed}
 use Rattle.fp_record.specs.Edits.{change_of}
@@ -63,7 +63,7 @@ returns-then-lacks_room-clause-cause g c =
     let was : j.phase ≡ Idle = sym c.phase.ensures.phase ∙ c.in-Idle.is in
     let admitted : refusal s (proposal_of c.args.edit) ≡ None = search rules in
     let narrow : HasNoRoom j x = c.lacks_room.ensures.room.0 c.if-lacks_room.true in
-    let chain : D.honest j.disk → (o : List ℕ) → IsOutcome (D.unsynced j.disk) o → HasChain j.slot j.front j.sealed o = λ h o left. subst (λ (p : Phase). Claims p j.slot j.front j.sealed j.staged o) c.in-Idle.is (c.phase.ensures.outcomes h o left) in
+    let chain : D.honest j.disk → (o : List ℕ) → IsOutcome (D.unsynced j.disk) o → HasChain j.slot j.front j.sealed o = λ h o left. subst (λ (p : Phase). ClaimsAt p j.begun j.slot j.front j.sealed j.staged o) was (c.phase.ensures.outcomes h o left) in
     rw (← c.self.view_is) (inr (record {
       admitted = admitted;
       cause = inl (record {
@@ -87,22 +87,22 @@ pub returns-in-Some-clause-any_moment : goal.returns-in-Some-clause-any_moment
 returns-in-Some-clause-any_moment g c = rw (← c.self.view_is) (λ h idle.
     let D = g.D.Disk in let s = c.self.inside.set in let j = c.self.inside.journal in let was : j.phase ≡ Idle = sym c.phase.ensures.phase ∙ c.in-Idle.is in
     still_leaves D.moment D.left_since D.unsynced j.disk s (proposal_of c.args.edit) j (c.self.invariant h was) (λ o left. g.met.D.Disk.only_now j.disk o h left)
-    (λ o left. subst (λ (p : Phase). Claims p j.slot j.front j.sealed j.staged o) c.in-Idle.is (c.phase.ensures.outcomes h o left)))
+    (λ o left. subst (λ (p : Phase). ClaimsAt p j.begun j.slot j.front j.sealed j.staged o) was (c.phase.ensures.outcomes h o left)))
 
 pub returns-then-lacks_room-clause-any_moment : goal.returns-then-lacks_room-clause-any_moment
 returns-then-lacks_room-clause-any_moment g c = rw (← c.self.view_is) (λ h idle.
     let D = g.D.Disk in let s = c.self.inside.set in let j = c.self.inside.journal in let was : j.phase ≡ Idle = sym c.phase.ensures.phase ∙ c.in-Idle.is in
     still_leaves D.moment D.left_since D.unsynced j.disk s (proposal_of c.args.edit) j (c.self.invariant h was) (λ o left. g.met.D.Disk.only_now j.disk o h left)
-    (λ o left. subst (λ (p : Phase). Claims p j.slot j.front j.sealed j.staged o) c.in-Idle.is (c.phase.ensures.outcomes h o left)))
+    (λ o left. subst (λ (p : Phase). ClaimsAt p j.begun j.slot j.front j.sealed j.staged o) was (c.phase.ensures.outcomes h o left)))
 
 pub returns-in_default-framed_edit-clause-any_moment : goal.returns-in_default-framed_edit-clause-any_moment
 returns-in_default-framed_edit-clause-any_moment g c = rw (← c.self.view_is) (λ h idle.
     let D = g.D.Disk in let s = c.self.inside.set in let j = c.self.inside.journal in let was : j.phase ≡ Idle = sym c.phase.ensures.phase ∙ c.in-Idle.is in
     still_leaves D.moment D.left_since D.unsynced j.disk s (proposal_of c.args.edit) j (c.self.invariant h was) (λ o left. g.met.D.Disk.only_now j.disk o h left)
-    (λ o left. subst (λ (p : Phase). Claims p j.slot j.front j.sealed j.staged o) c.in-Idle.is (c.phase.ensures.outcomes h o left)))
+    (λ o left. subst (λ (p : Phase). ClaimsAt p j.begun j.slot j.front j.sealed j.staged o) was (c.phase.ensures.outcomes h o left)))
 
 pub returns-in-Err-clause-any_moment : goal.returns-in-Err-clause-any_moment
 returns-in-Err-clause-any_moment g c = rw (← c.self.view_is) (λ h idle.
     let D = g.D.Disk in let s = c.self.inside.set in let j = c.self.inside.journal in let was : j.phase ≡ Idle = sym c.phase.ensures.phase ∙ c.in-Idle.is in
     still_leaves D.moment D.left_since D.unsynced j.disk s (proposal_of c.args.edit) j (c.self.invariant h was) (λ o left. g.met.D.Disk.only_now j.disk o h left)
-    (λ o left. subst (λ (p : Phase). Claims p j.slot j.front j.sealed j.staged o) c.in-Idle.is (c.phase.ensures.outcomes h o left)))
+    (λ o left. subst (λ (p : Phase). ClaimsAt p j.begun j.slot j.front j.sealed j.staged o) was (c.phase.ensures.outcomes h o left)))

@@ -1,5 +1,5 @@
 use Rattle.std.proofs.Common.{◌≡◌, sym, subst}
-use Rattle.fp_journal.specs.State.{Claims}
+use Rattle.fp_journal.specs.State.{ClaimsAt}
 use Rattle.fp_journal.specs.declared.journal.Phase.{Phase}
 use Rattle.fp_journal.specs.declared.journal.Phase.TheVariants.{Idle}
 use Rattle.fp_recovery.specs.Durable.{Durable, IsKept, IsSure}
@@ -13,4 +13,4 @@ returns-clause-sure g c =
     (λ h idle o left.
     let there = subst (λ (e : g.row.D.Denot). D.honest e) c.into_disk.ensures.disk h in
     let kept : IsKept (D.unsynced disk) set j = subst (λ (e : g.row.D.Denot). IsKept (D.unsynced e) set j) (sym c.into_disk.ensures.disk) (c.self.invariant there idle) in
-    kept_stands (D.unsynced disk) set j kept o left (subst (λ (p : Phase). Claims p j.slot j.front j.sealed j.staged o) idle (c.into_disk.ensures.outcomes h o left)))
+    kept_stands (D.unsynced disk) set j kept o left (subst (λ (p : Phase). ClaimsAt p j.begun j.slot j.front j.sealed j.staged o) idle (c.into_disk.ensures.outcomes h o left)))
