@@ -1,14 +1,17 @@
 //! The commands over a disk. Each gives the disk back.
 
-ghost use Rattle.std.specs.Prelude.{◌≡◌, ◌≢◌, ◌⊎◌, ◌<◌, ◌+◌, ◌^◌, [], IfOk, IfErr, OnOk};
+ghost use Rattle.std.specs.Prelude.{◌≡◌, ◌≢◌, ◌⊎◌, ◌<◌, ◌+◌, ◌^◌, [], ◌∷◌, IfOk, IfErr, OnOk};
 ghost use Rattle.std.specs.Io.KnownBytes.{Appends};
-ghost use Rattle.fp_layout.specs.NewDisk.{IsNewDisk};
+ghost use Rattle.fp_disk.specs.History.{Makes, MakesSome};
+ghost use Rattle.fp_disk.specs.Outcomes.{LeavesOnly, settled};
+ghost use Rattle.fp_disk.specs.declared.history.CallKind.TheVariants.{Length, Read, Sync};
+ghost use Rattle.fp_layout.specs.NewDisk.{IsNewDisk, format_calls};
 ghost use Rattle.fp_plane.specs.Run.{IsLeftBy, IsStoppedBy};
 ghost use Rattle.fp_plane.specs.Verdicts.{show_line};
-ghost use Rattle.fp_recovery.specs.Durable.{IsSure};
+ghost use Rattle.fp_recovery.specs.Durable.{IsNewSetOrNone, IsSure};
 ghost use Rattle.fp_commands.specs.Disks.{Applies, Blames, IfRefused, Imports, IsApplyingFault, IsImportingFault, IsLeftByImport, IsLeftOnDisk, IsMakingFault, IsRunOnDisk, IsShowingFault, IsShown, IsStoppedByImport, IsStreamFault, LacksRoom};
 ghost use Rattle.fp_commands.specs.Task.{no_flags};
-ghost use Rattle.fp_commands.specs.declared.fault.CommandFault.TheVariants.{Device, NotEmpty, StoreFailed};
+ghost use Rattle.fp_commands.specs.declared.fault.CommandFault.TheVariants.{Device, Memory, NotEmpty, StoreFailed};
 
 use crate::document::read_document;
 use crate::fault::CommandFault;
@@ -29,6 +32,13 @@ pub fn init_disk<D: Disk>(alloc: Global, disk: D) -> (D, Result<(), CommandFault
     ensures empty { D.honest disk → OnOk result.1 (D.bytes disk ≡ []) }
     ensures not_empty { D.honest disk → IfErr result.1 (λ f. f ≡ NotEmpty
         → (D.bytes disk ≢ []) × (D.bytes result.0 ≡ D.bytes disk)) }
+    ensures memory { D.honest disk → IfErr result.1 (λ f. f ≡ Memory
+        → (D.bytes result.0 ≡ D.bytes disk) × (D.unsynced result.0 ≡ D.unsynced disk)) }
+
+    // A crash at any moment of it leaves what is no disk yet, or one of no flags.
+    ensures any_moment { D.honest disk → D.unsynced disk ≡ settled []
+        → LeavesOnly D.moment D.left_since disk result.0 (IsNewSetOrNone (2 ^ 24)) }
+    ensures called { Makes (Length ∷ format_calls) (D.calls disk) (D.calls result.0) result.1 }
     ensures fault { IfErr result.1 IsMakingFault }
     ensures cause { IfErr result.1 (λ f. f ≡ Device → D.faults disk < D.faults result.0) }
     ensures honest { (D.honest disk → D.honest result.0) × (D.honest result.0 → D.honest disk) }
@@ -48,6 +58,7 @@ pub fn show_disk<D: Disk, W: Write>(
     ensures shown { OnOk result.1
         (IsShown (D.honest disk) (D.bytes disk) (W.contents w.old.inner) (W.contents w.new.inner)) }
     ensures same { D.honest disk → D.bytes result.0 ≡ D.bytes disk }
+    ensures called { MakesSome (Sync ∷ Length ∷ Read ∷ []) (D.calls disk) (D.calls result.0) }
     ensures fault { IfErr result.1 (IsShowingFault (D.honest disk) (D.bytes disk)) }
     ensures silent { IfErr result.1 (IfRefused (w.new ≡ w.old)) }
     ensures device { Blames (D.faults disk + w.old.failures) (D.faults result.0 + w.new.failures)
