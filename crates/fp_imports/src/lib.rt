@@ -7,6 +7,7 @@ mod references;
 
 pub use document::expand_document;
 pub use faults::ImportFault;
+pub use references::{MOST_EXPANDED_VALUES, MOST_REPLACEMENTS};
 
 #[cfg(test)]
 mod tests;
