@@ -2,6 +2,7 @@
 
 ghost use Rattle.std.specs.Prelude.{◌≡◌, ◌≤◌, true, Some, IfOk, IfSome, option_map};
 ghost use Rattle.serde_json.specs.Data.{depth};
+ghost use Rattle.serde_json.specs.Read.{max_depth};
 ghost use Rattle.serde_json.specs.View.{view};
 ghost use Rattle.serde_json.specs.Written.{compact_text};
 ghost use Rattle.fp_base.specs.Json.{json_of};
@@ -15,7 +16,7 @@ use std::alloc::{AllocError, Global};
 /// The value's text without spaces, its members in ascending order of their names' bytes.
 pub fn canonical_text(alloc: Global, value: &Value) -> Result<Vec<u8>, AllocError>
     requires whole { is_whole (view value.now) ≡ true }
-    requires flat { depth (view value.now) ≤ 127 }
+    requires flat { depth (view value.now) ≤ max_depth }
     ensures text { IfOk result (λ t. t.items ≡ compact_text (view value.now)) }
     ensures reads { IfOk result (λ t. json_of t.items ≡ Some (view value.now)) }
 {
@@ -30,7 +31,7 @@ pub fn canonical_text_within(
     limit: usize,
 ) -> Result<Option<Vec<u8>>, AllocError>
     requires whole { is_whole (view value.now) ≡ true }
-    requires flat { depth (view value.now) ≤ 127 }
+    requires flat { depth (view value.now) ≤ max_depth }
     ensures text { IfOk result (λ o.
         option_map (λ t. t.items) o ≡ text_within limit (view value.now)) }
     ensures reads { IfOk result (λ o. IfSome o (λ t. json_of t.items ≡ Some (view value.now))) }

@@ -9,6 +9,8 @@ use Rattle.fp_base.specs.Tests.{first_failed}
 use Rattle.fp_base.specs.Whole.{is_whole}
 use Rattle.fp_targeting.specs.Compile.{Verdict, too_deep as verdict_too_deep, unsupported, bad, accepted, verdict}
 use Rattle.fp_definition.specs.Kinds.{one_kind, all_scalars}
+use Rattle.fp_definition.specs.declared.definition.TheConstants.{DEEPEST_DEFINITION, LONGEST_DEFINITION}
+use Rattle.fp_definition.specs.declared.members.TheConstants.{MOST_VARIANTS, MOST_METADATA}
 
 -- what is wrong with data that are no definition
 pub data Fault : Type 0 where
@@ -33,9 +35,9 @@ abbrev pub is_between : ℕ → ℕ → ℕ → Bool
 is_between least most n = nat_le least n && nat_le n most
 
 unfoldable pub variant_members : Members → Bool
-variant_members ms = is_between 1 64 (members_len ms) && one_kind ms
+variant_members ms = is_between 1 MOST_VARIANTS (members_len ms) && one_kind ms
 
--- `variants`: an object of 1 to 64 members, all booleans, all texts, all numbers or all objects
+-- `variants`: an object of some members, all booleans, all texts, all numbers or all objects
 abbrev pub are_variants : Option Data → Bool
 are_variants (Some (object ms)) = variant_members ms
 are_variants d = false
@@ -46,9 +48,9 @@ names_variant (Some (string s)) (Some variants) = is_some (get s variants)
 names_variant d variants = false
 
 unfoldable pub metadata_members : Members → Bool
-metadata_members ms = is_between 0 32 (members_len ms) && all_scalars ms
+metadata_members ms = is_between 0 MOST_METADATA (members_len ms) && all_scalars ms
 
--- `metadata`: absent, or an object of at most 32 booleans, texts and numbers
+-- `metadata`: absent, or an object of few booleans, texts and numbers
 abbrev pub is_metadata : Option Data → Bool
 is_metadata None = true
 is_metadata (Some (object ms)) = metadata_members ms
@@ -81,9 +83,9 @@ member_tests d =
 -- what a definition has to meet, in the order of the tests, each with the fault where it isn't met
 abbrev pub tests : Data → List (Bool × Fault)
 tests d =
-    (nat_le (depth d) 32, too_deep)
+    (nat_le (depth d) DEEPEST_DEFINITION, too_deep)
     ∷ (is_whole d, whole_numbers_only)
-    ∷ (nat_le (length (compact_text d)) 16384, too_large)
+    ∷ (nat_le (length (compact_text d)) LONGEST_DEFINITION, too_large)
     ∷ member_tests d
 
 -- the fault of the first test that the data don't meet

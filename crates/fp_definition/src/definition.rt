@@ -19,9 +19,11 @@ use std::alloc::{AllocError, Global};
 use std::marker::Model;
 use std::sync::Arc;
 
-const DEEPEST: u32 = 32;
+/// Lists and objects of a definition stand in one another at most this deep.
+pub const DEEPEST_DEFINITION: u32 = 32;
 
-const LONGEST_TEXT: usize = 16_384;
+/// The most bytes that a definition's canonical text has.
+pub const LONGEST_DEFINITION: usize = 16_384;
 
 #[derive(Drop)]
 struct Kept {
@@ -114,13 +116,13 @@ fn tested_parts(alloc: Global, value: &Value) -> Result<(Vec<u8>, Option<Rule>),
     ensures rule { IfOk result (λ p. p.1 ≡ rule_in (get (codes "targeting") (view value.now))) }
     ensures refused { IfErr result (λ e. IsFault e (first_fault (view value.now))) }
 {
-    if !nests_within(value, DEEPEST) {
+    if !nests_within(value, DEEPEST_DEFINITION) {
         return Err(DefFault::TooDeep);
     }
     if !whole_numbers(value) {
         return Err(DefFault::WholeNumbersOnly);
     }
-    let Some(text) = canonical_text_within(alloc, value, LONGEST_TEXT)? else {
+    let Some(text) = canonical_text_within(alloc, value, LONGEST_DEFINITION)? else {
         return Err(DefFault::TooLarge);
     };
     let rule = tested_members(alloc, value)?;

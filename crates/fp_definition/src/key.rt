@@ -1,16 +1,20 @@
 //! Keys of flags.
 
 ghost use Rattle.std.specs.Prelude.{◌<◌, ◌≤◌, length, string_bytes};
+ghost use Rattle.fp_definition.specs.declared.key.TheConstants.{LONGEST_KEY};
 
 use crate::faults::KeyFault;
 use std::alloc::{AllocError, Global};
 
-/// The name of a flag: a text of 1 to 256 bytes. Keys are ordered by their bytes.
+/// The most bytes that a key has.
+pub const LONGEST_KEY: usize = 256;
+
+/// The name of a flag: a text of 1 to `LONGEST_KEY` bytes. Keys are ordered by their bytes.
 #[derive(Debug, Drop, PartialEq, Eq, PartialOrd, Ord)]
 pub struct FlagKey {
     text: String,
     ghost filled: { 0 < length (string_bytes text) },
-    ghost short: { length (string_bytes text) ≤ 256 },
+    ghost short: { length (string_bytes text) ≤ LONGEST_KEY },
 }
 
 impl FlagKey {
@@ -24,7 +28,7 @@ impl FlagKey {
         ensures ok { IfOk result (λ _. is_key text.now ≡ true) }
         ensures bad_key { result ≡ Err BadKey → is_key text.now ≡ false }
     {
-        if text.is_empty() || text.len() > 256 {
+        if text.is_empty() || text.len() > LONGEST_KEY {
             return Err(KeyFault::BadKey);
         }
         let text = String::from_str(alloc, text)?;

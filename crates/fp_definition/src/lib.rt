@@ -9,7 +9,8 @@ mod members;
 mod resolving;
 mod rules;
 
-pub use definition::Definition;
+pub use definition::{DEEPEST_DEFINITION, Definition, LONGEST_DEFINITION};
 pub use faults::{DefFault, KeyFault};
-pub use key::FlagKey;
+pub use key::{FlagKey, LONGEST_KEY};
+pub use members::{MOST_METADATA, MOST_VARIANTS};
 pub use resolving::{EvalFault, Reason, Resolved};

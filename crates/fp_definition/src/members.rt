@@ -16,9 +16,11 @@ use fp_targeting::Rule;
 use serde_json::{Map, Value};
 use std::alloc::Global;
 
-const MOST_VARIANTS: usize = 64;
+/// The most variants that a definition has.
+pub const MOST_VARIANTS: usize = 64;
 
-const MOST_METADATA: usize = 32;
+/// The most members that a definition's `metadata` has.
+pub const MOST_METADATA: usize = 32;
 
 // The rule of a value that meets each of these tests, if it has one; else the fault of the first that it doesn't meet.
 pub(crate) fn tested_members(alloc: Global, value: &Value) -> Result<Option<Rule>, DefFault>

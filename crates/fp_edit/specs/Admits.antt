@@ -1,9 +1,11 @@
 -- Which edits a set admits, and what they come to.
-use Rattle.std.specs.Prelude.{◌≡◌, ℕ, ◌+◌, ◌^◌, ◌==◌, Bool, true, false, ◌&&◌, nat_le, nat_lt, List, [], ◌∷◌, Option, Some, None, is_some, is_none, option_map}
+use Rattle.std.specs.Prelude.{◌≡◌, ℕ, ◌+◌, ◌==◌, Bool, true, false, ◌&&◌, nat_le, nat_lt, List, [], ◌∷◌, Option, Some, None, is_some, is_none, option_map}
 use Rattle.std.specs.FinMap as map
 use Rattle.fp_base.specs.Tests.{first_failed}
 use Rattle.fp_edit.specs.Edits.{Change, put, delete, changed_key, is_put, Proposal}
 use Rattle.fp_edit.specs.Flags.{Flags, State, size}
+use Rattle.fp_edit.specs.declared.edit.TheConstants.{REVISIONS_END}
+use Rattle.fp_edit.specs.declared.flag_set.TheConstants.{MOST_FLAGS}
 use Rattle.fp_edit.specs.declared.edit.Expect.{Expect}
 use Rattle.fp_edit.specs.declared.edit.Expect.TheVariants.{Any, Absent, At}
 use Rattle.fp_edit.specs.declared.edit.EditFault.{EditFault}
@@ -34,18 +36,18 @@ flags_after s (delete k) = map.remove s.flags k
 abbrev pub next : State → Change → State
 next s c = record { flags = flags_after s c; revision = s.revision + 1; limit = s.limit }
 
--- at most 4,096 flags, within the limit of the size
+-- within the limits of the number of flags and of the size
 abbrev pub is_within : Flags → ℕ → Bool
-is_within flags limit = nat_le (map.len flags) 4096 && nat_le (size flags) limit
+is_within flags limit = nat_le (map.len flags) MOST_FLAGS && nat_le (size flags) limit
 
 -- the limits bind what a put leads to
 abbrev pub has_room : State → Change → Bool
 has_room s (put k text) = is_within (flags_after s (put k text)) s.limit
 has_room s (delete k) = true
 
--- the greatest revision is 2^63-1
+-- there is a revision behind the set's own
 abbrev pub has_revision : State → Bool
-has_revision s = nat_lt (s.revision + 1) (2 ^ 63)
+has_revision s = nat_lt (s.revision + 1) REVISIONS_END
 
 -- what an edit has to meet, in the order of the tests, each with the fault where it doesn't hold
 abbrev pub tests : State → Proposal → List (Bool × EditFault)

@@ -1,8 +1,10 @@
 -- Sets of flags: what each key has, and the bytes that the set takes in an image.
-use Rattle.std.specs.Prelude.{◌≡◌, ℕ, ◌+◌, ◌<◌, ◌≤◌, ◌^◌, List, [], ◌∷◌, length, Option, Some, None, refl}
+use Rattle.std.specs.Prelude.{◌≡◌, ℕ, ◌+◌, ◌<◌, ◌≤◌, List, [], ◌∷◌, length, Option, Some, None, refl}
 use Rattle.std.specs.Coded.{Coded, coded×, coded_ℕ, coded_list, code_by}
 use Rattle.std.specs.FinMap as map
 use Rattle.fp_base.specs.Bytes.{bytes_cmp}
+use Rattle.fp_edit.specs.declared.edit.TheConstants.{REVISIONS_END}
+use Rattle.fp_edit.specs.declared.flag_set.TheConstants.{MOST_FLAGS}
 use Rattle.fp_edit.specs.declared.flags.Flag.{Flag}
 
 -- from the bytes of a key to its flag, whose definition is seen as its canonical text
@@ -37,8 +39,8 @@ IsChangedBy revision f = (1 ≤ f.changed) × (f.changed ≤ revision)
 -- what stays true of a set and of the size that is kept of it
 pub record IsKept (flags : Flags) (revision limit kept : ℕ) : Type 0 where
   pub size : kept ≡ size flags
-  pub few : map.len flags ≤ 4096
-  pub numbered : revision < 2 ^ 63
+  pub few : map.len flags ≤ MOST_FLAGS
+  pub numbered : revision < REVISIONS_END
   pub within : 4 ≤ limit → kept ≤ limit
   pub changed : (k : List ℕ) (f : Flag) → map.get flags k ≡ Some f → IsChangedBy revision f
 

@@ -1,5 +1,5 @@
 -- What a line says: an edit, or the first fault that the line has.
-use Rattle.std.specs.Prelude.{ℕ, ◌^◌, List, length, codes, Bool, true, ◌&&◌, ◌||◌, nat_le, nat_lt, bytes_eq, if◌then◌else◌, Option, Some, None, Result, Ok, Err}
+use Rattle.std.specs.Prelude.{ℕ, List, length, codes, Bool, true, ◌&&◌, ◌||◌, nat_le, nat_lt, bytes_eq, if◌then◌else◌, Option, Some, None, Result, Ok, Err}
 use Rattle.serde_json.specs.Data.{Data, null, number, string, object, Members, no_members, member}
 use Rattle.serde_json.specs.Find.{get, as_u64}
 use Rattle.serde_json.specs.Written.{compact_text}
@@ -8,6 +8,8 @@ use Rattle.fp_definition.specs.Key.{is_key}
 use Rattle.fp_definition.specs.Valid as valid
 use Rattle.fp_definition.specs.Valid.{first_fault}
 use Rattle.fp_edit.specs.Edits.{put, delete, Proposal}
+use Rattle.fp_edit.specs.declared.edit.TheConstants.{REVISIONS_END}
+use Rattle.fp_edit.specs.declared.line.TheConstants.{LONGEST_LINE}
 use Rattle.fp_edit.specs.declared.edit.Expect.{Expect}
 use Rattle.fp_edit.specs.declared.edit.Expect.TheVariants.{Any, Absent, At}
 use Rattle.fp_edit.specs.declared.line.Op.{Op}
@@ -55,13 +57,13 @@ abbrev pub key_of : Option Data → Result (List ℕ) Fault
 key_of (Some (string s)) = if is_key s then Ok s else Err bad_key
 key_of d = Err bad_key
 
--- `if`: absent, null, one of two texts, or a revision from 1 to 2^63-1
+-- `if`: absent, null, one of two texts, or a revision
 abbrev pub expect_named : List ℕ → Result Expect Fault
 expect_named s = if bytes_eq s (codes "any") then Ok Any else if bytes_eq s (codes "absent") then Ok Absent else Err bad_if
 
 abbrev pub expect_at : Option ℕ → Result Expect Fault
 expect_at None = Err bad_if
-expect_at (Some n) = if nat_lt 0 n && nat_lt n (2 ^ 63) then Ok (At n) else Err bad_if
+expect_at (Some n) = if nat_lt 0 n && nat_lt n REVISIONS_END then Ok (At n) else Err bad_if
 
 abbrev pub expect_of : Option Data → Result Expect Fault
 expect_of None = Ok Any
@@ -96,6 +98,6 @@ abbrev pub edit_in : Data → Result Proposal Fault
 edit_in (object ms) = if all_known ms then parts_of (object ms) else Err bad_member
 edit_in d = Err not_object
 
--- JSON of at most 32,768 bytes
+-- JSON that isn't too long
 unfoldable pub line_of : List ℕ → Result Proposal Fault
-line_of line = if nat_le (length line) 32768 then must (json_of line) not_json >>= edit_in else Err too_long
+line_of line = if nat_le (length line) LONGEST_LINE then must (json_of line) not_json >>= edit_in else Err too_long

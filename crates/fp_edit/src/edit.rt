@@ -3,6 +3,9 @@
 use fp_definition::{Definition, FlagKey};
 use thiserror::Error;
 
+/// The first number that is no revision: revisions are 1 to 2^63 - 1.
+pub const REVISIONS_END: u64 = 0x8000_0000_0000_0000;
+
 /// What has to stand at an edit's key for the edit to be made.
 #[derive(Debug, Clone, Copy, PartialEq, Eq)]
 pub enum Expect {

@@ -12,7 +12,7 @@ ghost use Rattle.fp_edit.specs.Flags.{IsChangedBy, size as size_of};
 ghost use Rattle.fp_edit.specs.declared.flags.Flag.{Flag};
 
 use crate::document::document_of;
-use crate::edit::{Edit, EditFault, Expect};
+use crate::edit::{Edit, EditFault, Expect, REVISIONS_END};
 use crate::flags::{Flag, copy_of, cost_at, cost_of, count, count_at, find, store, take};
 use fp_definition::{Definition, FlagKey};
 use std::alloc::{AllocError, Global};
@@ -20,9 +20,8 @@ use std::collections::BTreeMap;
 use std::collections::btree_map::Iter;
 use std::marker::Model;
 
-const MOST_FLAGS: u128 = 4096;
-
-const GREATEST_REVISION: u64 = 0x7fff_ffff_ffff_ffff;
+/// The most flags that a set has.
+pub const MOST_FLAGS: usize = 4_096;
 
 /// Flags by their keys, the revision that they are at, and the limit of the image that they take.
 #[derive(Drop)]
@@ -60,7 +59,7 @@ impl FlagSet {
 
     /// No flags, at a revision that was made before. `restore` brings back the flags of that revision.
     pub fn at_revision(alloc: Global, revision: u64, limit: u64) -> FlagSet
-        requires { revision < 2 ^ 63 }
+        requires { revision < REVISIONS_END }
         ensures { result ≡ record { flags = map.empty; revision = revision; limit = limit } }
     {
         FlagSet {
@@ -75,7 +74,7 @@ impl FlagSet {
     /// The number of edits that were accepted so far.
     pub fn revision(&self) -> u64
         ensures revision { result ≡ self.now.revision }
-        ensures bounded { result < 2 ^ 63 }
+        ensures bounded { result < REVISIONS_END }
     {
         self.revision
     }
@@ -98,7 +97,7 @@ impl FlagSet {
     /// The number of flags.
     pub fn len(&self) -> usize
         ensures len { result ≡ map.len self.now.flags }
-        ensures bounded { result ≤ 4096 }
+        ensures bounded { result ≤ MOST_FLAGS }
     {
         count(&self.flags)
     }
@@ -186,7 +185,8 @@ impl FlagSet {
     pub fn has_room_for(&self, key: &FlagKey, definition: &Definition) -> bool
         ensures { (changed : ℕ) → result ≡ is_within (map.insert self.now.flags (key_bytes key.now) (record { definition = definition.now; changed = changed })) self.now.limit }
     {
-        self.count_with(key) <= MOST_FLAGS && self.size_with(key, definition) <= self.limit as u128
+        self.count_with(key) <= MOST_FLAGS as u128
+            && self.size_with(key, definition) <= self.limit as u128
     }
 
     /// What stands against an edit, if anything but want of memory does.
@@ -240,7 +240,7 @@ impl FlagSet {
     fn has_revision(&self) -> bool
         ensures { result ≡ has_revision self.now }
     {
-        self.revision < GREATEST_REVISION
+        self.revision < REVISIONS_END - 1
     }
 
     fn count_with(&self, key: &FlagKey) -> u128

@@ -8,10 +8,10 @@ mod flags;
 mod laws;
 mod line;
 
-pub use edit::{Edit, EditFault, Expect};
-pub use flag_set::FlagSet;
+pub use edit::{Edit, EditFault, Expect, REVISIONS_END};
+pub use flag_set::{FlagSet, MOST_FLAGS};
 pub use flags::Flag;
 pub use laws::{
     one_outcome, refusals_leave_no_trace, revisions_count_edits, sets_keep_their_limit,
 };
-pub use line::{LineFault, parse_line};
+pub use line::{LONGEST_LINE, LineFault, parse_line};

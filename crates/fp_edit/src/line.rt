@@ -9,22 +9,21 @@ ghost use Rattle.fp_edit.specs.Edits.{proposal_of};
 ghost use Rattle.fp_edit.specs.Line as says;
 ghost use Rattle.fp_edit.specs.Spelled.{Gives};
 
-use crate::edit::{Edit, Expect};
+use crate::edit::{Edit, Expect, REVISIONS_END};
 use fp_base::{read_json, take_member};
-use fp_definition::{DefFault, Definition, FlagKey, KeyFault};
+use fp_definition::{DefFault, Definition, FlagKey, KeyFault, LONGEST_KEY};
 use serde_json::{Map, Value};
 use std::alloc::{AllocError, Global};
 use thiserror::Error;
 
-const LONGEST_LINE: usize = 32768;
-
-const REVISIONS_END: u64 = 0x8000_0000_0000_0000;
+/// The most bytes that a line has, its newline not counted.
+pub const LONGEST_LINE: usize = 32_768;
 
 /// Why a line is no edit, in the order in which the faults are looked for.
 #[derive(Debug, Drop, Error)]
 pub enum LineFault {
     /// The line has too many bytes.
-    #[error("the line is longer than 32768 bytes")]
+    #[error("the line is longer than {LONGEST_LINE} bytes")]
     TooLong,
     /// The line is no JSON.
     #[error("the line is no JSON")]
@@ -39,7 +38,7 @@ pub enum LineFault {
     #[error("`op` is neither `put` nor `delete`")]
     BadOp,
     /// `key` isn't there, or is no key.
-    #[error("`key` is no text of 1 to 256 bytes")]
+    #[error("`key` is no text of 1 to {LONGEST_KEY} bytes")]
     BadKey,
     /// `if` is there, and is no expectation.
     #[error("`if` is neither `any`, `absent` nor a revision")]

@@ -29,7 +29,7 @@ walk_made (Err e) = Err e
 -- a targeting with its references replaced, where there is one
 abbrev pub targeting_expanded : Members → Option Data → Result (Option Data) Broken
 targeting_expanded evaluators None = Ok None
-targeting_expanded evaluators (Some t) = walk_made (expanded evaluators t 16384)
+targeting_expanded evaluators (Some t) = walk_made (expanded evaluators t)
 
 abbrev pub with_targeting : Members → Result (Option Data) Broken → Result Data Broken
 with_targeting ms (Ok None) = Ok (object ms)

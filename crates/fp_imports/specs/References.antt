@@ -3,6 +3,7 @@ use Rattle.std.specs.Prelude.{ℕ, zero, suc, List, [], ◌∷◌, codes, bytes_
 use Rattle.serde_json.specs.Data.{Data, null, boolean, number, string, array, object, Items, no_items, item, Members, no_members, member}
 use Rattle.serde_json.specs.Find.{get_member}
 use Rattle.serde_json.specs.View.{items_of}
+use Rattle.fp_imports.specs.declared.references.TheConstants.{MOST_REPLACEMENTS, MOST_EXPANDED_VALUES}
 
 -- why references aren't replaced
 pub data Broken : Type 0 where
@@ -61,6 +62,6 @@ abbrev pub replaced : Members → ℕ → List ℕ → ℕ → Walked Data
 replaced evaluators zero name left = Err too_deep
 replaced evaluators (suc more) name left = put_in (walked (replaced evaluators more)) name (get_member name evaluators) left
 
--- at most 8 replacements in one another, and as many values as `left` says
-abbrev pub expanded : Members → Data → ℕ → Walked Data
-expanded evaluators d left = walked (replaced evaluators 8) d left
+-- a targeting with its references replaced, within the limits of both
+abbrev pub expanded : Members → Data → Walked Data
+expanded evaluators d = walked (replaced evaluators MOST_REPLACEMENTS) d MOST_EXPANDED_VALUES

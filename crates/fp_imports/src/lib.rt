@@ -7,3 +7,4 @@ mod references;
 
 pub use document::expand_document;
 pub use faults::ImportFault;
+pub use references::{MOST_EXPANDED_VALUES, MOST_REPLACEMENTS};

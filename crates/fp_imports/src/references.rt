@@ -10,9 +10,11 @@ use crate::faults::ReferenceFault;
 use serde_json::{Map, Value};
 use std::alloc::Global;
 
-const MOST_REPLACEMENTS: u32 = 8;
+/// References that a targeting may replace inside one another.
+pub const MOST_REPLACEMENTS: u32 = 8;
 
-const MOST_VALUES: usize = 16_384;
+/// The most values that a targeting has once its references are replaced.
+pub const MOST_EXPANDED_VALUES: usize = 16_384;
 
 // A targeting with its references replaced, and how many more values it might have had.
 pub(crate) fn expand(
@@ -21,9 +23,15 @@ pub(crate) fn expand(
     targeting: &Value,
 ) -> Result<(Value, usize), ReferenceFault>
     ensures { Gives (with_rest view) result
-        (expanded (members_view evaluators.now.entries) (view targeting.now) 16384) }
+        (expanded (members_view evaluators.now.entries) (view targeting.now)) }
 {
-    expand_value(alloc, evaluators, targeting, MOST_REPLACEMENTS, MOST_VALUES)
+    expand_value(
+        alloc,
+        evaluators,
+        targeting,
+        MOST_REPLACEMENTS,
+        MOST_EXPANDED_VALUES,
+    )
 }
 
 // `more` replacements may still stand in one another, and `left` values may still be counted.

@@ -4,7 +4,8 @@ use Rattle.std.proofs.lemmas.List.{take_min}
 use Rattle.std.proofs.lemmas.Bool.{eqb-true}
 use borrow.Author.Tests.{ltb-true, ltb-false}
 use Rattle.std.specs.List.{prefix_len}
-use Rattle.fp_plane.specs.Lines.{lines, onto_first, line_limit}
+use Rattle.fp_edit.specs.declared.line.TheConstants.{LONGEST_LINE}
+use Rattle.fp_plane.specs.Lines.{lines, onto_first}
 use Rattle.fp_plane.specs.Progress.{cut}
 
 abbrev Lists : Type 0
@@ -133,8 +134,8 @@ cut-append (suc n) (b ∷ line) piece =
     let less : suc n - length (b ∷ take n line) ≡ n - length (take n line) = omega arith in
     ap (λ k. b ∷ take n line ++ take (min (length piece) k) piece) less ∙ ap (λ l. b ∷ l) (cut-append n line piece)
 
-pub cut-short : (line : List ℕ) → length line ≤ line_limit → cut line ≡ line
-cut-short line h = take_all (line_limit + 1) line (omega arith)
+pub cut-short : (line : List ℕ) → length line ≤ LONGEST_LINE → cut line ≡ line
+cut-short line h = take_all (LONGEST_LINE + 1) line (omega arith)
 
-pub cut-long : (line : List ℕ) → line_limit < length line → line_limit < length (cut line)
-cut-long line h = omega (arith, length-take (line_limit + 1) line)
+pub cut-long : (line : List ℕ) → LONGEST_LINE < length line → LONGEST_LINE < length (cut line)
+cut-long line h = omega (arith, length-take (LONGEST_LINE + 1) line)

@@ -12,7 +12,8 @@ use Rattle.fp_edit.specs.declared.line.LineFault.{LineFault}
 use Rattle.fp_edit.specs.declared.line.LineFault.TheVariants.{TooLong, NotJson, NotObject, BadMember, BadOp, BadKey, BadIf, BadFlag, Memory}
 use Rattle.fp_definition.specs.Valid as flag
 use Rattle.fp_definition.specs.Faults.{tells}
-use Rattle.fp_plane.specs.Lines.{answered, is_blank, is_space, line_limit}
+use Rattle.fp_edit.specs.declared.line.TheConstants.{LONGEST_LINE}
+use Rattle.fp_plane.specs.Lines.{answered, is_blank, is_space}
 use Rattle.fp_plane.specs.Reply.{Reply, no_edit, said, fault_of, bad_flag_or_memory}
 use Rattle.fp_plane.specs.declared.reply.Reply.TheVariants.{NoEdit}
 use Rattle.fp_plane.specs.Verdicts.{AnswersBy, AnswersOrStays}
@@ -38,20 +39,20 @@ run-same s t a b rs blank e h = by_blank (is_blank b) (subst (λ k. IsRun s (con
     by_blank true h = h
     by_blank false h = moved rs h
 
-line_of-long : (l : List ℕ) → line_limit < length l → line_of l ≡ Err line.too_long
+line_of-long : (l : List ℕ) → LONGEST_LINE < length l → line_of l ≡ Err line.too_long
 unfolding line_of
-line_of-long l h = rw (lt-leb (length l) line_limit h) refl
+line_of-long l h = rw (lt-leb (length l) LONGEST_LINE h) refl
 
-is_blank-long : (l : List ℕ) → line_limit < length l → is_blank l ≡ false
-is_blank-long l h = ap (λ b. b && list_all is_space l) (lt-leb (length l) line_limit h)
+is_blank-long : (l : List ℕ) → LONGEST_LINE < length l → is_blank l ≡ false
+is_blank-long l h = ap (λ b. b && list_all is_space l) (lt-leb (length l) LONGEST_LINE h)
 
 -- of a line that is too long no more is looked at
 pub run-cut : (s t : State) (l : List ℕ) (rs : List Reply) → IsRun s (answered (cut l ∷ [])) rs t → IsRun s (answered (l ∷ [])) rs t
 run-cut s t l rs h =
-    elim (nat_le (length l) line_limit) as (λ b. nat_le (length l) line_limit ≡ b → IsRun s (answered (l ∷ [])) rs t) [
+    elim (nat_le (length l) LONGEST_LINE) as (λ b. nat_le (length l) LONGEST_LINE ≡ b → IsRun s (answered (l ∷ [])) rs t) [
       | true ↦ λ short. subst (λ k. IsRun s (answered (k ∷ [])) rs t) (cut-short l (leb-true _ _ short)) h
       | false ↦ λ long.
-          let over : line_limit < length l = leb-false _ _ long in
+          let over : LONGEST_LINE < length l = leb-false _ _ long in
           let cut_over = cut-long l over in
           run-same s t (cut l) l rs (is_blank-long (cut l) cut_over ∙ sym (is_blank-long l over)) (line_of-long (cut l) cut_over ∙ sym (line_of-long l over)) h
     ] refl
@@ -64,7 +65,7 @@ ends_or_stays-cut s t l (inr stays) = inr stays
 -- only a line that isn't cut is an edit
 pub asked-uncut : (s : State) (l : List ℕ) (now : State) (p : Proposal) → IsAskedBy s (cut l) now p → IsAskedBy s l now p
 asked-uncut s l now p h =
-    elim (nat_le (length l) line_limit) as (λ b. nat_le (length l) line_limit ≡ b → IsAskedBy s l now p) [
+    elim (nat_le (length l) LONGEST_LINE) as (λ b. nat_le (length l) LONGEST_LINE ≡ b → IsAskedBy s l now p) [
       | true ↦ λ short. subst (λ k. IsAskedBy s k now p) (cut-short l (leb-true _ _ short)) h
       | false ↦ λ long. absurd (too_long (line_of (cut l)) (line_of-long (cut l) (cut-long l (leb-false _ _ long))) h.is)
     ] refl

@@ -1,10 +1,7 @@
 -- The lines of an input, and those that are answered.
 use Rattle.std.specs.Prelude.{ℕ, List, [], ◌∷◌, length, Bool, ◌&&◌, ◌||◌, ◌==◌, not, nat_le, if◌then◌else◌, filter}
 use Rattle.std.specs.List.{list_all}
-
--- the most bytes of a line that is looked at
-abbrev pub line_limit : ℕ
-line_limit = 32768
+use Rattle.fp_edit.specs.declared.line.TheConstants.{LONGEST_LINE}
 
 abbrev pub onto_first : ℕ → List (List ℕ) → List (List ℕ)
 onto_first b [] = (b ∷ []) ∷ []
@@ -20,7 +17,7 @@ abbrev pub is_space : ℕ → Bool
 is_space b = b == 32 || (b == 9 || b == 13)
 
 abbrev pub is_blank : List ℕ → Bool
-is_blank line = nat_le (length line) line_limit && list_all is_space line
+is_blank line = nat_le (length line) LONGEST_LINE && list_all is_space line
 
 -- the lines that get a reply: all but the blank ones
 abbrev pub answered : List (List ℕ) → List (List ℕ)

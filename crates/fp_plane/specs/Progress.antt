@@ -5,7 +5,8 @@ use Rattle.std.specs.Io.KnownBytes.{Appends}
 use Rattle.fp_edit.specs.Edits.{Proposal}
 use Rattle.fp_edit.specs.Flags.{State}
 use Rattle.fp_edit.specs.Line.{line_of}
-use Rattle.fp_plane.specs.Lines.{lines, answered, is_blank, line_limit}
+use Rattle.fp_edit.specs.declared.line.TheConstants.{LONGEST_LINE}
+use Rattle.fp_plane.specs.Lines.{lines, answered, is_blank}
 use Rattle.fp_plane.specs.Reply.{Reply, texts_of, is_told}
 use Rattle.fp_plane.specs.Script.{verdict, IsRun}
 use Rattle.fp_plane.specs.Verdicts.{Verdict, IsRunBy, show_line}
@@ -41,7 +42,7 @@ pub record IsReached (start : State) (seen : List ℕ) (now : State) : Type 0 wh
 
 -- a line, or one byte more of it than is looked at
 abbrev pub cut : List ℕ → List ℕ
-cut line = take (line_limit + 1) line
+cut line = take (LONGEST_LINE + 1) line
 
 -- the same, with what was sent of the replies and what waits
 pub record IsSoFar (start : State) (seen sent : List ℕ) (x : Exchange) (now : State) : Type 0 where

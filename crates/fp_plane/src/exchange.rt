@@ -19,12 +19,10 @@ ghost use Rattle.fp_plane.specs.Progress.{IsReachedWithin, IsSoFar, IsAnswered, 
 
 use crate::show::shown;
 use crate::{ApplyFault, Declined, Edits, Reply};
-use fp_edit::{Edit, FlagSet, parse_line};
+use fp_edit::{Edit, FlagSet, LONGEST_LINE, parse_line};
 use fp_streams::{Counted, StreamFault};
 use std::alloc::{AllocError, Global};
 use std::io::Write;
-
-const LINE_LIMIT: usize = 32_768;
 
 const LONG: usize = 65_536;
 
@@ -169,7 +167,7 @@ impl Exchange {
         ensures same_replies { self.new.replies ≡ self.old.replies }
         ensures same_told { self.new.is_told ≡ self.old.is_told }
     {
-        let room = (LINE_LIMIT + 1).saturating_sub(self.line.len());
+        let room = (LONGEST_LINE + 1).saturating_sub(self.line.len());
         let part = &piece[..piece.len().min(room)];
         self.line.extend_from_slice(part)?;
         Ok(())
@@ -235,7 +233,7 @@ fn all_spaces(line: &[u8]) -> bool
 fn is_blank(line: &[u8]) -> bool
     ensures { result ≡ say.is_blank line.now }
 {
-    line.len() <= LINE_LIMIT && all_spaces(line)
+    line.len() <= LONGEST_LINE && all_spaces(line)
 }
 
 // The reply to a line; a blank line has none.

@@ -7,8 +7,11 @@ use Rattle.fp_base.specs.Bytes.{bytes_cmp}
 use Rattle.fp_definition.specs.Key.{is_key}
 use Rattle.fp_definition.specs.Valid.{is_definition_text}
 use Rattle.fp_edit.specs.Edits.{Change, put, delete}
+use Rattle.fp_edit.specs.declared.edit.TheConstants.{REVISIONS_END}
+use Rattle.fp_edit.specs.declared.flag_set.TheConstants.{MOST_FLAGS}
 use Rattle.fp_edit.specs.declared.flags.Flag.{Flag}
 use Rattle.fp_record.specs.Group.{Group}
+use Rattle.fp_record.specs.declared.batch.TheConstants.{MOST_EDITS}
 
 -- a flag's key
 pub record IsKey (key : List ℕ) : Type 0 where
@@ -23,11 +26,11 @@ abbrev pub IsChange : Change → Type 0
 IsChange (put key text) = IsKey key × IsText text
 IsChange (delete key) = IsKey key
 
--- 1 to 64 changes, the last of them at a revision of at most 2^63-1
+-- some changes and not too many, the last of them at a revision that there is
 pub record IsBatch (group : Group) : Type 0 where
   pub some : 0 < length group.changes
-  pub few : length group.changes ≤ 64
-  pub revisions : group.first + length group.changes ≤ 2 ^ 63
+  pub few : length group.changes ≤ MOST_EDITS
+  pub revisions : group.first + length group.changes ≤ REVISIONS_END
   pub changes : AllByRecursion IsChange group.changes
 
 -- a flag under its key
@@ -37,14 +40,14 @@ pub record IsFlag (flag : List ℕ × Flag) : Type 0 where
   pub changed : flag.1.changed < 2 ^ 64
   pub text : IsText flag.1.definition
 
--- at most 4,096 flags, in ascending order of their keys' bytes
+-- no more flags than a set has, in ascending order of their keys' bytes
 pub record IsImage (image : List (List ℕ × Flag)) : Type 0 where
-  pub few : length image ≤ 4096
+  pub few : length image ≤ MOST_FLAGS
   pub ascending : IsStrictlySortedBy bytes_cmp (map (λ f. f.0) image)
   pub flags : AllByRecursion IsFlag image
 
 -- what an image owes beside what the types of its keys and definitions keep
 pub record IsOrdered (image : List (List ℕ × Flag)) : Type 0 where
-  pub few : length image ≤ 4096
+  pub few : length image ≤ MOST_FLAGS
   pub ascending : IsStrictlySortedBy bytes_cmp (map (λ f. f.0) image)
   pub changed : AllByRecursion (λ f. 0 < f.1.changed) image

@@ -1,11 +1,14 @@
 -- Reading batches and images forward, field by field.
-use Rattle.std.specs.Prelude.{ℕ, zero, suc, ◌+◌, ◌^◌, Bool, ◌&&◌, List, [], ◌∷◌, length, nat_le, ◌==◌, Result, Ok, Err, if◌then◌else◌}
+use Rattle.std.specs.Prelude.{ℕ, zero, suc, ◌+◌, Bool, ◌&&◌, List, [], ◌∷◌, length, nat_le, ◌==◌, Result, Ok, Err, if◌then◌else◌}
 use Rattle.std.specs.Int.{w8, w16, w32, w64}
 use Rattle.std.specs.Ordering.{is_lt}
 use Rattle.fp_base.specs.Bytes.{bytes_cmp}
 use Rattle.fp_edit.specs.Edits.{Change, put, delete}
+use Rattle.fp_edit.specs.declared.edit.TheConstants.{REVISIONS_END}
+use Rattle.fp_edit.specs.declared.flag_set.TheConstants.{MOST_FLAGS}
 use Rattle.fp_edit.specs.declared.flags.Flag.{Flag}
 use Rattle.fp_record.specs.Group.{Group}
+use Rattle.fp_record.specs.declared.batch.TheConstants.{MOST_EDITS}
 use Rattle.fp_record.specs.Fields.{◌>>=◌, number_at, key_at, definition_at}
 
 unfoldable pub put_at : List ℕ → ℕ → Result (Change × ℕ) ℕ
@@ -37,7 +40,7 @@ changes_at count bytes at = many_from (change_at bytes) count at
 
 -- so many changes can follow that first revision
 abbrev pub can_count : ℕ → ℕ → Bool
-can_count first count = nat_le 1 count && nat_le count 64 && nat_le (first + count) (2 ^ 63)
+can_count first count = nat_le 1 count && nat_le count MOST_EDITS && nat_le (first + count) REVISIONS_END
 
 -- the batch at the front, and where it ends
 unfoldable pub batch_at : List ℕ → Result (Group × ℕ) ℕ
@@ -86,7 +89,7 @@ flags_at count bytes at = do
 unfoldable pub image_at : List ℕ → Result (List (List ℕ × Flag) × ℕ) ℕ
 image_at bytes = do
   count ← number_at w32 bytes 0
-  if nat_le count.0 4096 then flags_at count.0 bytes count.1 else Err 0
+  if nat_le count.0 MOST_FLAGS then flags_at count.0 bytes count.1 else Err 0
 
 unfoldable pub image_in : List ℕ → Result (List (List ℕ × Flag)) ℕ
 image_in bytes = whole bytes (image_at bytes)

@@ -13,9 +13,17 @@ ghost use Rattle.fp_record.specs.Spelling.{spelling_of_batch, spelling_of_change
 use crate::fault::RecordFault;
 use crate::fields::{definition_from, key_from, u8_at, u16_at, u64_at};
 use crate::writing::{put_definition, put_key, put_u16, put_u64};
-use fp_edit::{Edit, Expect};
+use fp_definition::{LONGEST_DEFINITION, LONGEST_KEY};
+use fp_edit::{Edit, Expect, REVISIONS_END};
 use std::alloc::{AllocError, Global};
 use std::marker::Model;
+
+/// The most edits that a batch has.
+pub const MOST_EDITS: usize = 64;
+
+/// The most bytes that an edit takes in a batch: a kind, and a key and a definition behind their
+/// lengths.
+pub const LONGEST_EDIT: usize = 7 + LONGEST_KEY + LONGEST_DEFINITION;
 
 /// Edits that are written and read together. What their editors expected isn't part of it.
 #[derive(Drop)]
@@ -25,24 +33,26 @@ pub struct Batch {
 }
 
 impl Model for Batch {
-    ghost use Rattle.std.specs.Prelude.{ℕ, ◌+◌, ◌<◌, ◌≤◌, ◌^◌, length};
+    ghost use Rattle.std.specs.Prelude.{ℕ, ◌+◌, ◌<◌, ◌≤◌, length};
     ghost use Rattle.std.specs.List.{AllByRecursion};
     ghost use Rattle.fp_record.specs.Group.{Group};
     ghost use Rattle.fp_record.specs.Edits.{changes_of};
+    ghost use Rattle.fp_edit.specs.declared.edit.TheConstants.{REVISIONS_END};
+    ghost use Rattle.fp_record.specs.declared.batch.TheConstants.{MOST_EDITS};
 
     ghost Value = { Group };
 
     ghost view = { λ a. record { first = a.first; changes = changes_of a.edits.items } };
 
-    ghost invariant = { λ a. (0 < length a.edits.items) × (length a.edits.items ≤ 64) × (a.first + length a.edits.items ≤ 2 ^ 63) };
+    ghost invariant = { λ a. (0 < length a.edits.items) × (length a.edits.items ≤ MOST_EDITS) × (a.first + length a.edits.items ≤ REVISIONS_END) };
 }
 
 impl Batch {
     /// The batch of these edits, whose revisions are `first` and those that follow it.
     pub fn new(first: u64, edits: Vec<Edit>) -> Batch
         requires some { 0 < vec_len edits }
-        requires few { vec_len edits ≤ 64 }
-        requires revisions { first + vec_len edits ≤ 2 ^ 63 }
+        requires few { vec_len edits ≤ MOST_EDITS }
+        requires revisions { first + vec_len edits ≤ REVISIONS_END }
         ensures { result ≡ record { first = first; changes = changes_of edits.items } }
     {
         Batch { first, edits }
@@ -92,7 +102,7 @@ impl Batch {
 /// How many bytes an edit takes in a batch.
 pub fn spelled_len(edit: &Edit) -> usize
     ensures len { result ≡ length (spelling_of_change (change_of edit.now)) }
-    ensures small { result ≤ 16647 }
+    ensures small { result ≤ LONGEST_EDIT }
 {
     match edit {
         Edit::Put { key, flag, .. } => 7 + key.as_str().len() + flag.text().len(),
@@ -119,7 +129,7 @@ fn put_edit(out: &mut Vec<u8>, edit: &Edit) -> Result<(), AllocError>
 }
 
 fn spelled(alloc: Global, first: u64, edits: &[Edit]) -> Result<Vec<u8>, AllocError>
-    requires { length edits.now ≤ 64 }
+    requires { length edits.now ≤ MOST_EDITS }
     ensures changes { IfOk result (λ _. AllByRecursion IsChange (changes_of edits.now)) }
     ensures spelled { IfOk result (λ bytes. bytes.items ≡ spelling_of_batch (record { first = first; changes = changes_of edits.now })) }
 {
@@ -197,7 +207,7 @@ fn batch_from(alloc: Global, bytes: &[u8]) -> Result<(Batch, usize), RecordFault
 {
     let (first, count_at) = u64_at(bytes, 0)?;
     let (count, next) = u16_at(bytes, count_at)?;
-    if count == 0 || count > 64 || first > (1 << 63) - count as u64 {
+    if count == 0 || count as usize > MOST_EDITS || first > REVISIONS_END - count as u64 {
         return Err(RecordFault::BadRecord { at: count_at });
     }
     let (edits, next) = edits_from(alloc, bytes, count, next)?;

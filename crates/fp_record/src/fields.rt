@@ -8,7 +8,7 @@ ghost use Rattle.fp_record.specs.declared.fault.RecordFault.TheVariants.{Memory}
 ghost use Rattle.fp_record.specs.Fields.{Gives, number_at, bytes_at, key_at, definition_at};
 
 use crate::fault::RecordFault;
-use fp_definition::{Definition, FlagKey, KeyFault};
+use fp_definition::{Definition, FlagKey, KeyFault, LONGEST_DEFINITION, LONGEST_KEY};
 use std::alloc::Global;
 
 pub fn u8_at(bytes: &[u8], at: usize) -> Result<(u8, usize), RecordFault>
@@ -90,11 +90,11 @@ pub fn key_text_at(bytes: &[u8], at: usize) -> Result<(&str, usize), RecordFault
     requires { at ≤ length bytes.now }
     ensures value { Gives (λ x. (x.0.now, x.1)) result (key_at bytes.now at) }
     ensures within { IfOk result (λ x. x.1 ≤ length bytes.now) }
-    ensures short { IfOk result (λ x. (0 < length x.0.now) × (length x.0.now ≤ 256)) }
+    ensures short { IfOk result (λ x. (0 < length x.0.now) × (length x.0.now ≤ LONGEST_KEY)) }
     ensures ends { IfOk result (λ x. x.1 ≡ at + 2 + length x.0.now) }
 {
     let (len, from) = u16_at(bytes, at)?;
-    if len == 0 || len > 256 {
+    if len == 0 || len as usize > LONGEST_KEY {
         return Err(RecordFault::BadRecord { at });
     }
     let (key, next) = part_at(bytes, len as usize, from)?;
@@ -106,7 +106,7 @@ pub fn key_text_at(bytes: &[u8], at: usize) -> Result<(&str, usize), RecordFault
 
 /// The key of that text.
 pub fn key_of(alloc: Global, text: &str) -> Result<FlagKey, RecordFault>
-    requires { (0 < length text.now) × (length text.now ≤ 256) }
+    requires { (0 < length text.now) × (length text.now ≤ LONGEST_KEY) }
     ensures key { IfOk result (λ key. key_bytes key ≡ text.now) }
     ensures memory { IfErr result (λ e. e ≡ Memory) }
 {
@@ -137,7 +137,7 @@ pub fn definition_from(
     ensures within { IfOk result (λ x. x.1 ≤ length bytes.now) }
 {
     let (len, from) = u32_at(bytes, at)?;
-    if len > 16384 {
+    if len as usize > LONGEST_DEFINITION {
         return Err(RecordFault::BadRecord { at });
     }
     let (text, next) = part_at(bytes, len as usize, from)?;

@@ -18,8 +18,8 @@ ghost use Rattle.fp_record.specs.Spelling.{spelling_of_image, spelling_of_flag};
 use crate::fault::RecordFault;
 use crate::fields::{definition_from, key_of, key_text_at, u32_at, u64_at};
 use crate::writing::{put_definition, put_key, put_u32, put_u64};
-use fp_definition::FlagKey;
-use fp_edit::{Flag, FlagSet};
+use fp_definition::{FlagKey, LONGEST_KEY};
+use fp_edit::{Flag, FlagSet, MOST_FLAGS};
 use std::alloc::{AllocError, Global};
 use std::marker::Model;
 
@@ -157,7 +157,7 @@ fn key_text_above<'a>(
     requires { at ≤ length bytes.now }
     ensures value { Gives (λ x. (x.0.now, x.1)) result (key_above_at before.now bytes.now at) }
     ensures within { IfOk result (λ x. x.1 ≤ length bytes.now) }
-    ensures short { IfOk result (λ x. (0 < length x.0.now) × (length x.0.now ≤ 256)) }
+    ensures short { IfOk result (λ x. (0 < length x.0.now) × (length x.0.now ≤ LONGEST_KEY)) }
 {
     let (text, next) = key_text_at(bytes, at)?;
     if !is_above(text, before) {
@@ -241,7 +241,7 @@ fn image_from(alloc: Global, bytes: &[u8]) -> Result<(Image, usize), RecordFault
     ensures within { IfOk result (λ x. x.1 ≤ length bytes.now) }
 {
     let (count, next) = u32_at(bytes, 0)?;
-    if count > 4096 {
+    if count as usize > MOST_FLAGS {
         return Err(RecordFault::BadRecord { at: 0 });
     }
     let (flags, next) = flags_from(alloc, bytes, count, next)?;

@@ -8,6 +8,7 @@ use Rattle.fp_targeting.specs.Rule as tree
 use Rattle.fp_targeting.specs.Rule.{Rule}
 use Rattle.fp_targeting.specs.Operators.{operator_of, takes, well_formed, all_well_formed}
 use Rattle.fp_targeting.specs.View.{rules_of}
+use Rattle.fp_targeting.specs.declared.rule.TheConstants.{DEEPEST_RULE, MOST_RULE_VALUES}
 
 abbrev pub first_of : Option (List ℕ) → Option (List ℕ) → Option (List ℕ)
 first_of None other = other
@@ -80,8 +81,8 @@ accepted_or_bad (Some r) = accepted r
 
 abbrev pub known_verdict : Data → Option (List ℕ) → Verdict
 known_verdict d (Some name) = unsupported name
-known_verdict d None = if nat_le (count d) 1024 && is_whole d then accepted_or_bad (rule_of d) else bad
+known_verdict d None = if nat_le (count d) MOST_RULE_VALUES && is_whole d then accepted_or_bad (rule_of d) else bad
 
 -- too deep, else the first unknown operator, else a bad rule, else the rule that the value writes
 abbrev pub verdict : Data → Verdict
-verdict d = if nat_le (depth d) 32 then known_verdict d (first_unknown d) else too_deep
+verdict d = if nat_le (depth d) DEEPEST_RULE then known_verdict d (first_unknown d) else too_deep

@@ -11,4 +11,4 @@ mod tree;
 
 pub use data::Data;
 pub use fp_base::whole_numbers;
-pub use rule::{Rule, RuleFault};
+pub use rule::{DEEPEST_RULE, MOST_RULE_VALUES, Rule, RuleFault};

@@ -18,10 +18,10 @@ use std::alloc::{AllocError, AllocFailed, Global};
 use std::marker::Model;
 
 /// Lists and objects of a rule stand in one another at most this deep.
-const MAX_DEPTH: u32 = 32;
+pub const DEEPEST_RULE: u32 = 32;
 
 /// The most JSON values that a rule has, its literals' insides and its operators' objects included.
-const MAX_VALUES: usize = 1024;
+pub const MOST_RULE_VALUES: usize = 1_024;
 
 /// A compiled rule.
 #[derive(Drop)]
@@ -49,12 +49,12 @@ impl Model for Rule {
 /// Why a value is no rule, in the order in which the faults are looked for.
 #[derive(Debug, Drop)]
 pub enum RuleFault {
-    /// Lists and objects stand in one another more than 32 deep.
+    /// Lists and objects stand in one another too deep.
     TooDeep,
     /// There is no operator of this name: the first such in reading order.
     UnsupportedOperator(String),
-    /// An operator has another number of arguments than it takes, the rule has more than 1,024
-    /// values, or a number in it isn't whole.
+    /// An operator has another number of arguments than it takes, the rule has too many values,
+    /// or a number in it isn't whole.
     BadRule,
     /// Memory ran out.
     Memory,
@@ -85,13 +85,16 @@ impl Rule {
     pub fn compile(alloc: Global, value: &Value) -> Result<Rule, RuleFault>
         ensures { Answers result (verdict (json_view value.now)) }
     {
-        if !nests_within(value, MAX_DEPTH) {
+        if !nests_within(value, DEEPEST_RULE) {
             return Err(RuleFault::TooDeep);
         }
         // Operators are looked up while the tree is made, and a name that is none's comes before
         // all that is wrong with numbers.
         let tree = build(alloc, value)?;
-        if values_left(value, MAX_VALUES).is_none() || !whole_numbers(value) || !counts_fit(&tree) {
+        if values_left(value, MOST_RULE_VALUES).is_none()
+            || !whole_numbers(value)
+            || !counts_fit(&tree)
+        {
             return Err(RuleFault::BadRule);
         }
         Ok(Rule { tree })

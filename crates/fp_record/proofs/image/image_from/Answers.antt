@@ -6,4 +6,4 @@ use Rattle.fp_record.proofs.image.image_from.Goals as goal
 pub invariant_of-result : goal.invariant_of-result
 invariant_of-result c =
     read_in_order c.args.bytes.now c.in_ok-count.count c.in_ok-count.next (entries_of c.in_ok-flags.flags.items, c.in_ok-flags.next) (λ i. omega (arith, c.type_inv.bytes i))
-    c.in_ok-count.ensures.within c.if-count-gt4096.false c.in_ok-flags.ensures.value
+    c.in_ok-count.ensures.within c.if-count-gt-MOST_FLAGS.false c.in_ok-flags.ensures.value
