@@ -1,6 +1,8 @@
+pub mod Answer
 pub mod Bytes
 pub mod Count
 pub mod Json
+pub mod Steps
 pub mod Tests
 pub mod Text
 pub mod Weight

@@ -7,5 +7,5 @@ mod texts;
 mod walks;
 
 pub use members::take_member;
-pub use texts::{canonical_text, canonical_text_within, read_json};
+pub use texts::{canonical_text, canonical_text_within, put_quoted, read_json};
 pub use walks::{nests_within, values_left, whole_numbers};

@@ -1,7 +1,7 @@
 //! From bytes to a JSON value, and from a value to its one canonical text.
 
-ghost use Rattle.std.specs.Prelude.{◌≡◌, ◌≤◌, true, Some, IfOk, IfSome, option_map};
-ghost use Rattle.serde_json.specs.Data.{depth};
+ghost use Rattle.std.specs.Prelude.{◌≡◌, ◌≤◌, ◌++◌, true, Some, IfOk, OnOk, IfSome, option_map};
+ghost use Rattle.serde_json.specs.Data.{depth, string};
 ghost use Rattle.serde_json.specs.Read.{max_depth};
 ghost use Rattle.serde_json.specs.View.{view};
 ghost use Rattle.serde_json.specs.Written.{compact_text};
@@ -44,6 +44,16 @@ pub fn canonical_text_within(
         return Ok(None);
     }
     Ok(Some(text))
+}
+
+/// Puts a text as JSON writes it, in quotes and with what it needs escaped, behind what is there.
+pub fn put_quoted(alloc: Global, out: &mut Vec<u8>, text: &str) -> Result<(), AllocError>
+    ensures { OnOk result (out.new.items ≡ out.old.items ++ compact_text (string text.now)) }
+{
+    let text = Value::String(String::from_str(alloc, text)?);
+    let quoted = text.to_vec(alloc)?;
+    out.extend_from_slice(&quoted)?;
+    Ok(())
 }
 
 /// The value that the bytes spell, or `None` where they are no JSON.

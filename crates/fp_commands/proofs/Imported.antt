@@ -1,11 +1,11 @@
 -- Documents that are imported, and what is wrong with them.
-use Rattle.std.proofs.Common.{◌≡◌, ◌∙◌, ℕ, List, Option, Some, IfSome, string_bytes, sym, ap}
+use Rattle.std.proofs.Common.{◌≡◌, ◌∙◌, ℕ, List, Option, Some, Err, IfSome, string_bytes, sym, ap}
 use Rattle.std.specs.Prelude.{option_map}
 use Rattle.std.proofs.lemmas.Option.{IfSome_then}
 use Rattle.serde_json.specs.Data.{Data}
 use Rattle.fp_base.specs.Json.{json_of}
 use Rattle.fp_imports.specs.Document.{document}
-use Rattle.fp_imports.specs.Faults.{Refuses}
+use Rattle.fp_imports.specs.Faults.{Tells}
 use Rattle.fp_imports.specs.declared.faults.ImportFault.{ImportFault}
 use Rattle.fp_imports.specs.declared.faults.ImportFault.TheVariants as import
 use Rattle.fp_layout.specs.declared.fault.OpenFault.{OpenFault}
@@ -25,7 +25,7 @@ use Rattle.fp_commands.specs.Faults.{of_import, of_open, of_run}
 pub import-known : {D : Type 0} (view : D → Data) (input items : List ℕ) (o : Option D) (d : D) → items ≡ input → option_map view o ≡ json_of items → o ≡ Some d → import_of input ≡ document (view d)
 import-known view input items o d is read some = ap defined (ap json_of (sym is) ∙ sym read ∙ ap (option_map view) some)
 
-pub document-fault : (left : Option (List ℕ)) (fault : ImportFault) → IfSome left (λ input. Refuses fault (import_of input)) → IsDocumentFault left (of_import fault)
+pub document-fault : (left : Option (List ℕ)) (fault : ImportFault) → IfSome left (λ input. Tells fault (λ f. import_of input ≡ Err f)) → IsDocumentFault left (of_import fault)
 document-fault left import.NotDocument h = h
 document-fault left (import.RefUnknown name) h = h
 document-fault left import.RefTooDeep h = h

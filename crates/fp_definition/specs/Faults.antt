@@ -19,9 +19,9 @@ tells (UnsupportedOperator name) = Some (is.unsupported_operator (string_bytes n
 tells BadRule = Some is.bad_rule
 tells Memory = None
 
--- what the fault tells is the first one that there is
-abbrev pub IsFault : DefFault → Option Fault → Type 0
-IsFault e first = IfSome (tells e) (λ f. first ≡ Some f)
+-- the same as a relation
+abbrev pub Tells : DefFault → (Fault → Type 0) → Type 0
+Tells e Has = IfSome (tells e) Has
 
 -- the word by which replies name a fault
 abbrev pub word_of : Fault → List ℕ

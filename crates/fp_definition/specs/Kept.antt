@@ -8,7 +8,8 @@ use Rattle.fp_definition.specs.Targeting.{rule_in}
 use Rattle.fp_definition.specs.Valid.{IsValid}
 use Rattle.fp_definition.specs.declared.definition.Kept.{Kept}
 
--- the value is a definition, the text its canonical one, which spells it, and the rule the one of its `targeting`
+-- the value is a definition, the text its canonical one, which spells it, and the rule the one of
+-- its `targeting`
 pub record IsDefinition (k : Kept) : Type 0 where
   pub valid : IsValid (view k.value)
   pub text : k.text.items ≡ compact_text (view k.value)

@@ -18,7 +18,8 @@ all_kind k (member name d ms) = is_kind k d && all_kind k ms
 
 -- there is a kind that each member is of
 abbrev pub one_kind : Members → Bool
-one_kind ms = all_kind Boolean ms || (all_kind Text ms || (all_kind Number ms || all_kind Object ms))
+one_kind ms =
+    all_kind Boolean ms || (all_kind Text ms || (all_kind Number ms || all_kind Object ms))
 
 abbrev pub is_scalar : Data → Bool
 is_scalar d = is_kind Boolean d || is_kind Text d || is_kind Number d

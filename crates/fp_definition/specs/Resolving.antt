@@ -2,6 +2,7 @@
 use Rattle.std.specs.Prelude.{◌≡◌, ℕ, List, codes, Bool, true, false, bytes_eq, Option, Some, None, unwrap_or, Result, Ok, Err}
 use Rattle.serde_json.specs.Data.{Data, null, string}
 use Rattle.serde_json.specs.Find.{get}
+use Rattle.serde_json.specs.View.{view}
 use Rattle.fp_base.specs.Json.{json_of}
 use Rattle.fp_operators.specs.Data as value
 use Rattle.fp_targeting.specs.Rule.{Rule}
@@ -10,6 +11,7 @@ use Rattle.fp_targeting.specs.RuleData.{rule_data}
 use Rattle.fp_definition.specs.Targeting.{rule_in}
 use Rattle.fp_definition.specs.declared.resolving.Reason.{Reason}
 use Rattle.fp_definition.specs.declared.resolving.Reason.TheVariants.{Static, Default, TargetingMatch}
+use Rattle.fp_definition.specs.declared.resolving.Resolved.{Resolved}
 use Rattle.fp_definition.specs.declared.resolving.EvalFault.{EvalFault}
 use Rattle.fp_definition.specs.declared.resolving.EvalFault.TheVariants.{Disabled, NoVariant, Memory}
 
@@ -40,9 +42,11 @@ default_named reason other variants = Err NoVariant
 
 -- the default variant
 abbrev pub by_default : Reason → Data → Result Said EvalFault
-by_default reason d = default_named reason (get (codes "defaultVariant") d) (get (codes "variants") d)
+by_default reason d =
+    default_named reason (get (codes "defaultVariant") d) (get (codes "variants") d)
 
--- what a rule's result names: null the default, a text the variant of that name, and so true and false
+-- what a rule's result names: null the default, a text the variant of that name, and so true and
+-- false
 abbrev pub by_result : Data → value.Data → Result Said EvalFault
 by_result d value.null = by_default Default d
 by_result d (value.text name) = named name TargetingMatch (get (codes "variants") d)
@@ -63,16 +67,21 @@ ByState false Enabled outcome = Enabled
 
 -- a definition, for a key, a context and a moment in seconds since 1970, has this outcome
 abbrev pub Resolves : Data → List ℕ → Data → ℕ → Result Said EvalFault → Type 0
-Resolves d key context now outcome = ByState (is_disabled (get (codes "state") d)) (ByRule d (rule_in (get (codes "targeting") d)) (rule_data context key now) outcome) outcome
+Resolves d key context now outcome =
+    ByState (is_disabled (get (codes "state") d))
+    (ByRule d (rule_in (get (codes "targeting") d)) (rule_data context key now) outcome) outcome
 
--- what the code answers has that outcome; want of memory says nothing
-abbrev pub Answers : {X : Type 0} → (X → Said) → Result X EvalFault → (Result Said EvalFault → Type 0) → Type 0
-Answers seen (Ok x) Has = Has (Ok (seen x))
-Answers seen (Err Disabled) Has = Has (Err Disabled)
-Answers seen (Err NoVariant) Has = Has (Err NoVariant)
-Answers seen (Err Memory) Has = Unit {0}
+-- ---- what the code answers
 
--- what a call that takes no memory answers is that outcome
-abbrev pub Gives : {X : Type 0} → (X → Said) → Result X EvalFault → Result Said EvalFault → Type 0
-Gives seen (Ok x) outcome = outcome ≡ Ok (seen x)
-Gives seen (Err e) outcome = outcome ≡ Err e
+abbrev pub said_by : Resolved → Said
+said_by r = (r.variant.now, view r.value.now, r.reason)
+
+-- what a fault tells; want of memory tells nothing
+abbrev pub Tells : EvalFault → (EvalFault → Type 0) → Type 0
+Tells Disabled Has = Has Disabled
+Tells NoVariant Has = Has NoVariant
+Tells Memory Has = Unit {0}
+
+-- of a call that takes no memory each fault tells of itself
+abbrev pub TellsItself : EvalFault → (EvalFault → Type 0) → Type 0
+TellsItself e Has = Has e

@@ -1,5 +1,5 @@
 -- Which JSON data are a flag's definition.
-use Rattle.std.specs.Prelude.{◌≡◌, ℕ, List, [], ◌∷◌, length, codes, Bool, true, false, ◌&&◌, ◌||◌, nat_le, if◌then◌else◌, Option, Some, None, is_some, is_none, bytes_eq, ◌==◌}
+use Rattle.std.specs.Prelude.{◌≡◌, ℕ, List, [], ◌∷◌, length, codes, Bool, true, false, ◌&&◌, ◌||◌, nat_le, if◌then◌else◌, Option, Some, None, is_some, is_none, bytes_eq, ◌==◌, Result, Ok, Err}
 use Rattle.serde_json.specs.Data.{Data, null, string, object, Members, depth}
 use Rattle.serde_json.specs.Find.{get, as_object}
 use Rattle.serde_json.specs.Events.{members_len}
@@ -7,7 +7,9 @@ use Rattle.serde_json.specs.Written.{compact_text}
 use Rattle.fp_base.specs.Json.{json_of}
 use Rattle.fp_base.specs.Tests.{first_failed}
 use Rattle.fp_base.specs.Whole.{is_whole}
-use Rattle.fp_targeting.specs.Compile.{Verdict, too_deep as verdict_too_deep, unsupported, bad, accepted, verdict}
+use Rattle.fp_targeting.specs.Compile as rules
+use Rattle.fp_targeting.specs.Compile.{verdict}
+use Rattle.fp_targeting.specs.Rule.{Rule}
 use Rattle.fp_definition.specs.Kinds.{one_kind, all_scalars}
 use Rattle.fp_definition.specs.declared.definition.TheConstants.{DEEPEST_DEFINITION, LONGEST_DEFINITION}
 use Rattle.fp_definition.specs.declared.members.TheConstants.{MOST_VARIANTS, MOST_METADATA}
@@ -57,11 +59,11 @@ is_metadata (Some (object ms)) = metadata_members ms
 is_metadata (Some d) = false
 
 -- a verdict on a rule as a test, where the rule isn't accepted
-abbrev pub verdict_tests : Verdict → List (Bool × Fault)
-verdict_tests verdict_too_deep = (false, too_deep) ∷ []
-verdict_tests (unsupported name) = (false, unsupported_operator name) ∷ []
-verdict_tests bad = (false, bad_rule) ∷ []
-verdict_tests (accepted r) = []
+abbrev pub verdict_tests : Result Rule rules.Fault → List (Bool × Fault)
+verdict_tests (Err rules.too_deep) = (false, too_deep) ∷ []
+verdict_tests (Err (rules.unsupported name)) = (false, unsupported_operator name) ∷ []
+verdict_tests (Err rules.bad) = (false, bad_rule) ∷ []
+verdict_tests (Ok r) = []
 
 -- `targeting`: absent, null, or an object that is a rule
 unfoldable pub targeting_tests : Option Data → List (Bool × Fault)

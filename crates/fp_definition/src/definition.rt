@@ -4,9 +4,10 @@ ghost use Rattle.std.specs.Prelude.{◌≡◌, true, Some, None, IfOk, IfErr, if
 ghost use Rattle.serde_json.specs.Find.{get};
 ghost use Rattle.serde_json.specs.View.{view};
 ghost use Rattle.serde_json.specs.Written.{compact_text};
+ghost use Rattle.fp_base.specs.Answer.{IsFirst};
 ghost use Rattle.fp_base.specs.Json.{json_of};
 ghost use Rattle.fp_base.specs.Whole.{is_whole};
-ghost use Rattle.fp_definition.specs.Faults.{IsFault};
+ghost use Rattle.fp_definition.specs.Faults.{Tells};
 ghost use Rattle.fp_definition.specs.Targeting.{rule_in};
 ghost use Rattle.fp_definition.specs.Valid.{first_fault, IsValid, is_definition_text, definition_in, is_text_of};
 
@@ -56,7 +57,7 @@ impl Definition {
         ensures valid { IfOk result (λ _. IsValid (view value)) }
         ensures text { IfOk result (λ d. d ≡ compact_text (view value)) }
         ensures reads { IfOk result (λ d. json_of d ≡ Some (view value)) }
-        ensures refused { IfErr result (λ e. IsFault e (first_fault (view value))) }
+        ensures refused { IfErr result (IsFirst Tells (first_fault (view value))) }
     {
         let (text, rule) = tested_parts(alloc, &value)?;
         let share = Arc::new(alloc, Kept { text, value, rule })?;
@@ -93,7 +94,8 @@ impl Definition {
 
     // The value, and the rule of its `targeting`, compiled when the definition was made.
     pub(crate) fn value_and_rule(&self) -> (&Value, &Option<Rule>)
-        ensures value { (json_of self.now ≡ Some (view result.0.now)) × (is_whole (view result.0.now) ≡ true) }
+        ensures value { (json_of self.now ≡ Some (view result.0.now))
+            × (is_whole (view result.0.now) ≡ true) }
         ensures rule { result.1.now ≡ rule_in (get (codes "targeting") (view result.0.now)) }
     {
         (&self.share.value, &self.share.rule)
@@ -114,7 +116,7 @@ fn tested_parts(alloc: Global, value: &Value) -> Result<(Vec<u8>, Option<Rule>),
     ensures text { IfOk result (λ p. p.0.items ≡ compact_text (view value.now)) }
     ensures reads { IfOk result (λ p. json_of p.0.items ≡ Some (view value.now)) }
     ensures rule { IfOk result (λ p. p.1 ≡ rule_in (get (codes "targeting") (view value.now))) }
-    ensures refused { IfErr result (λ e. IsFault e (first_fault (view value.now))) }
+    ensures refused { IfErr result (IsFirst Tells (first_fault (view value.now))) }
 {
     if !nests_within(value, DEEPEST_DEFINITION) {
         return Err(DefFault::TooDeep);

@@ -4,8 +4,9 @@ ghost use Rattle.std.specs.Prelude.{◌≡◌, codes, None, IfOk, IfErr};
 ghost use Rattle.serde_json.specs.Events.{members_len};
 ghost use Rattle.serde_json.specs.Find.{get};
 ghost use Rattle.serde_json.specs.View.{view, members_view};
+ghost use Rattle.fp_base.specs.Answer.{IsFirst};
 ghost use Rattle.fp_base.specs.Tests.{first_failed};
-ghost use Rattle.fp_definition.specs.Faults.{IsFault};
+ghost use Rattle.fp_definition.specs.Faults.{Tells};
 ghost use Rattle.fp_definition.specs.Targeting.{rule_in};
 ghost use Rattle.fp_definition.specs.Valid.{member_tests, is_state, are_variants, variant_members, is_between, names_variant, is_metadata, metadata_members};
 
@@ -22,11 +23,12 @@ pub const MOST_VARIANTS: usize = 64;
 /// The most members that a definition's `metadata` has.
 pub const MOST_METADATA: usize = 32;
 
-// The rule of a value that meets each of these tests, if it has one; else the fault of the first that it doesn't meet.
+// The rule of a value that meets each of these tests, if it has one; else the fault of the first
+// that it doesn't meet.
 pub(crate) fn tested_members(alloc: Global, value: &Value) -> Result<Option<Rule>, DefFault>
     ensures met { IfOk result (λ _. first_failed (member_tests (view value.now)) ≡ None) }
     ensures rule { IfOk result (λ r. r ≡ rule_in (get (codes "targeting") (view value.now))) }
-    ensures refused { IfErr result (λ e. IsFault e (first_failed (member_tests (view value.now)))) }
+    ensures refused { IfErr result (IsFirst Tells (first_failed (member_tests (view value.now)))) }
 {
     if !value.is_object() {
         return Err(DefFault::NotObject);

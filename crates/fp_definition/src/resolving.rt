@@ -3,9 +3,10 @@
 ghost use Rattle.std.specs.Prelude.{◌≡◌, ◌<◌, ◌^◌, true, IfOk, IsSome, codes};
 ghost use Rattle.serde_json.specs.Find.{as_object, get, get_member};
 ghost use Rattle.serde_json.specs.View.{view, members_view};
+ghost use Rattle.fp_base.specs.Answer.{Answers, Gives};
 ghost use Rattle.fp_base.specs.Whole.{is_whole, members_whole};
 ghost use Rattle.fp_definition.specs.Key.{key_bytes};
-ghost use Rattle.fp_definition.specs.Resolving.{Answers, Gives, Resolves, by_default, by_result, data_of, is_disabled, named, said_or_none};
+ghost use Rattle.fp_definition.specs.Resolving.{Resolves, Tells, TellsItself, said_by, by_default, by_result, data_of, is_disabled, named, said_or_none};
 ghost use Rattle.fp_operators.specs.Data as values;
 ghost use Rattle.fp_operators.specs.View.{view as datum_view};
 ghost use Rattle.fp_targeting.specs.Means.{Means};
@@ -58,7 +59,8 @@ pub struct Resolved<'d> {
 }
 
 impl Definition {
-    /// What the flag of this key resolves to in a context, an object of whole numbers, at a moment in seconds since 1970.
+    /// What the flag of this key resolves to in a context, an object of whole numbers, at a moment
+    /// in seconds since 1970.
     pub fn resolve(
         &self,
         alloc: Global,
@@ -69,7 +71,8 @@ impl Definition {
         requires object { IsSome (as_object (view context.now)) }
         requires whole { is_whole (view context.now) ≡ true }
         requires moment { now < 2 ^ 63 }
-        ensures resolves { Answers (λ r. (r.variant.now, view r.value.now, r.reason)) result (Resolves (data_of self.now) (key_bytes key.now) (view context.now) now) }
+        ensures resolves { Answers said_by Tells result
+            (Resolves (data_of self.now) (key_bytes key.now) (view context.now) now) }
         ensures printable { IfOk result (λ r. is_whole (view r.value.now) ≡ true) }
     {
         let (value, rule) = self.value_and_rule();
@@ -101,8 +104,11 @@ fn by_rule<'d>(
     rule: &Rule,
     data: &Data,
 ) -> Result<Resolved<'d>, EvalFault>
-    ensures resolves { Answers (λ r. (r.variant.now, view r.value.now, r.reason)) result (λ outcome. (x : values.Data) × Means rule.now «data».now x × (outcome ≡ by_result (view value.now) x)) }
-    ensures printable { is_whole (view value.now) ≡ true → IfOk result (λ r. is_whole (view r.value.now) ≡ true) }
+    ensures resolves { Answers said_by Tells result (λ outcome.
+        (x : values.Data) × Means rule.now «data».now x
+        × (outcome ≡ by_result (view value.now) x)) }
+    ensures printable { is_whole (view value.now) ≡ true → IfOk result (λ r.
+        is_whole (view r.value.now) ≡ true) }
 {
     let given = rule.eval(alloc, data)?;
     named_by(value, &given)
@@ -110,8 +116,10 @@ fn by_rule<'d>(
 
 // The variant that a rule's result names.
 fn named_by<'d>(value: &'d Value, given: &Datum) -> Result<Resolved<'d>, EvalFault>
-    ensures resolves { Gives (λ r. (r.variant.now, view r.value.now, r.reason)) result (by_result (view value.now) (datum_view given.now)) }
-    ensures printable { is_whole (view value.now) ≡ true → IfOk result (λ r. is_whole (view r.value.now) ≡ true) }
+    ensures resolves { Gives said_by TellsItself result
+        (by_result (view value.now) (datum_view given.now)) }
+    ensures printable { is_whole (view value.now) ≡ true → IfOk result (λ r.
+        is_whole (view r.value.now) ≡ true) }
 {
     match given {
         Datum::Null => default_of(value, Reason::Default),
@@ -123,8 +131,9 @@ fn named_by<'d>(value: &'d Value, given: &Datum) -> Result<Resolved<'d>, EvalFau
 }
 
 fn default_of(value: &Value, reason: Reason) -> Result<Resolved<'_>, EvalFault>
-    ensures resolves { Gives (λ r. (r.variant.now, view r.value.now, r.reason)) result (by_default reason (view value.now)) }
-    ensures printable { is_whole (view value.now) ≡ true → IfOk result (λ r. is_whole (view r.value.now) ≡ true) }
+    ensures resolves { Gives said_by TellsItself result (by_default reason (view value.now)) }
+    ensures printable { is_whole (view value.now) ≡ true → IfOk result (λ r.
+        is_whole (view r.value.now) ≡ true) }
 {
     match value.get("defaultVariant") {
         Some(Value::String(name)) => variant_named(value, name.as_str(), reason),
@@ -137,8 +146,10 @@ fn variant_named<'d>(
     name: &str,
     reason: Reason,
 ) -> Result<Resolved<'d>, EvalFault>
-    ensures resolves { Gives (λ r. (r.variant.now, view r.value.now, r.reason)) result (named name.now reason (get (codes "variants") (view value.now))) }
-    ensures printable { is_whole (view value.now) ≡ true → IfOk result (λ r. is_whole (view r.value.now) ≡ true) }
+    ensures resolves { Gives said_by TellsItself result
+        (named name.now reason (get (codes "variants") (view value.now))) }
+    ensures printable { is_whole (view value.now) ≡ true → IfOk result (λ r.
+        is_whole (view r.value.now) ≡ true) }
 {
     match value.get("variants") {
         Some(Value::Object(variants)) => variant_among(variants, name, reason),
@@ -151,8 +162,10 @@ fn variant_among<'d>(
     name: &str,
     reason: Reason,
 ) -> Result<Resolved<'d>, EvalFault>
-    ensures resolves { Gives (λ r. (r.variant.now, view r.value.now, r.reason)) result (said_or_none name.now reason (get_member name.now (members_view variants.now.entries))) }
-    ensures printable { members_whole (members_view variants.now.entries) ≡ true → IfOk result (λ r. is_whole (view r.value.now) ≡ true) }
+    ensures resolves { Gives said_by TellsItself result
+        (said_or_none name.now reason (get_member name.now (members_view variants.now.entries))) }
+    ensures printable { members_whole (members_view variants.now.entries) ≡ true → IfOk result (λ r.
+        is_whole (view r.value.now) ≡ true) }
 {
     match variants.get_key_value(name) {
         Some((variant, value)) => Ok(Resolved {

@@ -1,15 +1,15 @@
 //! The rule of a definition's `targeting`.
 
-ghost use Rattle.std.specs.Prelude.{◌≡◌, None, Some, IfOk, IfErr};
+ghost use Rattle.std.specs.Prelude.{◌≡◌, None, Some, Ok, IfOk, IfErr, codes};
 ghost use Rattle.serde_json.specs.Events.{members_len};
 ghost use Rattle.serde_json.specs.Find.{get};
 ghost use Rattle.serde_json.specs.View.{view};
 ghost use Rattle.fp_base.specs.Tests.{first_failed};
-ghost use Rattle.fp_definition.specs.Faults.{IsFault};
-ghost use Rattle.fp_definition.specs.Targeting.{rule_in, rule_accepted};
+ghost use Rattle.fp_base.specs.Answer.{IsFirst};
+ghost use Rattle.fp_definition.specs.Faults.{Tells};
+ghost use Rattle.fp_definition.specs.Targeting.{rule_in};
 ghost use Rattle.fp_definition.specs.Valid.{targeting_tests, verdict_tests};
 ghost use Rattle.fp_targeting.specs.Compile.{verdict};
-ghost use Rattle.std.specs.Prelude.{codes};
 
 use crate::faults::DefFault;
 use crate::members::count_of;
@@ -21,8 +21,11 @@ use std::alloc::Global;
 #[tactic(auto, unfolding(crate::specs::Valid::targeting_tests, crate::specs::Targeting::rule_in))]
 pub(crate) fn rule_of(alloc: Global, value: &Value) -> Result<Option<Rule>, DefFault>
     ensures rule { IfOk result (λ r. r ≡ rule_in (get (codes "targeting") (view value.now))) }
-    ensures met { IfOk result (λ _. first_failed (targeting_tests (get (codes "targeting") (view value.now))) ≡ None) }
-    ensures refused { IfErr result (λ e. IsFault e (first_failed (targeting_tests (get (codes "targeting") (view value.now))))) }
+    ensures met { IfOk result (λ _.
+        first_failed (targeting_tests (get (codes "targeting") (view value.now))) ≡ None) }
+    ensures refused { IfErr result
+        (IsFirst Tells
+        (first_failed (targeting_tests (get (codes "targeting") (view value.now))))) }
 {
     match value.get("targeting") {
         None | Some(Value::Null) => Ok(None),
@@ -34,8 +37,10 @@ pub(crate) fn rule_of(alloc: Global, value: &Value) -> Result<Option<Rule>, DefF
 #[tactic(auto, unfolding(crate::specs::Valid::targeting_tests, crate::specs::Targeting::rule_in))]
 fn rule_written(alloc: Global, targeting: &Value) -> Result<Option<Rule>, DefFault>
     ensures rule { IfOk result (λ r. r ≡ rule_in (Some (view targeting.now))) }
-    ensures met { IfOk result (λ _. first_failed (targeting_tests (Some (view targeting.now))) ≡ None) }
-    ensures refused { IfErr result (λ e. IsFault e (first_failed (targeting_tests (Some (view targeting.now))))) }
+    ensures met { IfOk result (λ _.
+        first_failed (targeting_tests (Some (view targeting.now))) ≡ None) }
+    ensures refused { IfErr result
+        (IsFirst Tells (first_failed (targeting_tests (Some (view targeting.now))))) }
 {
     match targeting {
         Value::Object(members) => {
@@ -51,9 +56,11 @@ fn rule_written(alloc: Global, targeting: &Value) -> Result<Option<Rule>, DefFau
 
 // The rule of an object.
 fn compiled(alloc: Global, targeting: &Value) -> Result<Rule, DefFault>
-    ensures rule { IfOk result (λ r. Some r ≡ rule_accepted (verdict (view targeting.now))) }
-    ensures met { IfOk result (λ _. first_failed (verdict_tests (verdict (view targeting.now))) ≡ None) }
-    ensures refused { IfErr result (λ e. IsFault e (first_failed (verdict_tests (verdict (view targeting.now))))) }
+    ensures rule { IfOk result (λ r. verdict (view targeting.now) ≡ Ok r) }
+    ensures met { IfOk result (λ _.
+        first_failed (verdict_tests (verdict (view targeting.now))) ≡ None) }
+    ensures refused { IfErr result
+        (IsFirst Tells (first_failed (verdict_tests (verdict (view targeting.now))))) }
 {
     match Rule::compile(alloc, targeting) {
         Ok(rule) => Ok(rule),

@@ -29,7 +29,8 @@ can_change (delete k) current = is_some current
 
 -- the flags after a change; a put is marked with the revision that it makes
 abbrev pub flags_after : State → Change → Flags
-flags_after s (put k text) = map.insert s.flags k (record { definition = text; changed = s.revision + 1 })
+flags_after s (put k text) =
+    map.insert s.flags k (record { definition = text; changed = s.revision + 1 })
 flags_after s (delete k) = map.remove s.flags k
 
 -- the state after a change
@@ -49,10 +50,14 @@ has_room s (delete k) = true
 abbrev pub has_revision : State → Bool
 has_revision s = nat_lt (s.revision + 1) REVISIONS_END
 
+-- what is present at the edit's key
+abbrev pub present : State → Proposal → Option ℕ
+present s p = changed_at s (changed_key p.change)
+
 -- what an edit has to meet, in the order of the tests, each with the fault where it doesn't hold
 abbrev pub tests : State → Proposal → List (Bool × EditFault)
 tests s p =
-    (can_change p.change (changed_at s (changed_key p.change)) && is_met p.expect (changed_at s (changed_key p.change)), Conflict (changed_at s (changed_key p.change)))
+    (can_change p.change (present s p) && is_met p.expect (present s p), Conflict (present s p))
     ∷ (has_room s p.change, SetTooLarge)
     ∷ (has_revision s, RevisionsUsed)
     ∷ []
@@ -65,12 +70,14 @@ pub data Outcome : Type 0 where
   accepted : State → Outcome
   refused : EditFault → Outcome
 
--- what an edit comes to: the state after its change where each test is met, and else the fault of the first that isn't
+-- what an edit comes to: the state after its change where each test is met, and else the fault of
+-- the first that isn't
 abbrev pub Admits : State → Proposal → Outcome → Type 0
 Admits s p (accepted t) = (refusal s p ≡ None) × (t ≡ next s p.change)
 Admits s p (refused e) = refusal s p ≡ Some e
 
--- an answered fault is that of the relation; memory is wanted only by a put that every test lets through
+-- an answered fault is that of the relation; memory is wanted only by a put that every test lets
+-- through
 abbrev pub IsRefused : State → Proposal → EditFault → Type 0
 IsRefused s p Memory = (refusal s p ≡ None) × (is_put p.change ≡ true)
 IsRefused s p e = Admits s p (refused e)

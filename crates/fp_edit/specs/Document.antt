@@ -18,7 +18,8 @@ members_of (e ∷ es) = member e.0 (data_of e.1.definition) (members_of es)
 
 -- the object with the one member `flags`, which has all flags in ascending order of their keys
 abbrev pub document_data : Flags → Data
-document_data flags = object (member (codes "flags") (object (members_of (map.entries flags))) no_members)
+document_data flags =
+    object (member (codes "flags") (object (members_of (map.entries flags))) no_members)
 
 -- its canonical text
 abbrev pub document : Flags → List ℕ

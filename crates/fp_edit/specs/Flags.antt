@@ -51,7 +51,13 @@ pub record State : Type 0 where
   pub limit : ℕ
 
 abbrev pub coded_flag : Coded Flag
-coded_flag = code_by (List ℕ × ℕ) (coded× (coded_list coded_ℕ) coded_ℕ) (λ f. (f.definition, f.changed)) (λ p. record { definition = p.0; changed = p.1 }) (λ _. refl)
+coded_flag =
+    code_by (List ℕ × ℕ) (coded× (coded_list coded_ℕ) coded_ℕ) (λ f. (f.definition, f.changed))
+    (λ p. record { definition = p.0; changed = p.1 }) (λ _. refl)
 
 abbrev pub coded_state : Coded State
-coded_state = code_by (Flags × (ℕ × ℕ)) (coded× (map.code (coded_list coded_ℕ) coded_flag) (coded× coded_ℕ coded_ℕ)) (λ s. (s.flags, (s.revision, s.limit))) (λ p. record { flags = p.0; revision = p.1.0; limit = p.1.1 }) (λ _. refl)
+coded_state =
+    code_by (Flags × (ℕ × ℕ))
+    (coded× (map.code (coded_list coded_ℕ) coded_flag) (coded× coded_ℕ coded_ℕ))
+    (λ s. (s.flags, (s.revision, s.limit)))
+    (λ p. record { flags = p.0; revision = p.1.0; limit = p.1.1 }) (λ _. refl)

@@ -4,6 +4,7 @@ use Rattle.serde_json.specs.Data.{Data, null, number, string, object, Members, n
 use Rattle.serde_json.specs.Find.{get, as_u64}
 use Rattle.serde_json.specs.Written.{compact_text}
 use Rattle.fp_base.specs.Json.{json_of}
+use Rattle.fp_base.specs.Steps.{◌>>=◌}
 use Rattle.fp_definition.specs.Key.{is_key}
 use Rattle.fp_definition.specs.Valid as valid
 use Rattle.fp_definition.specs.Valid.{first_fault}
@@ -26,19 +27,14 @@ pub data Fault : Type 0 where
   bad_if : Fault
   bad_flag : valid.Fault → Fault
 
--- a fault stops what would come after it
-infixl 10 ◌>>=◌
-abbrev pub ◌>>=◌ : {A B : Type 0} → Result A Fault → (A → Result B Fault) → Result B Fault
-(Ok x) >>= f = f x
-(Err e) >>= f = Err e
-
 abbrev pub must : {A : Type 0} → Option A → Fault → Result A Fault
 must (Some x) e = Ok x
 must None e = Err e
 
 -- the four names of members
 abbrev pub is_known : List ℕ → Bool
-is_known name = bytes_eq name (codes "flag") || (bytes_eq name (codes "if") || (bytes_eq name (codes "key") || bytes_eq name (codes "op")))
+is_known name = bytes_eq name (codes "flag")
+    || (bytes_eq name (codes "if") || (bytes_eq name (codes "key") || bytes_eq name (codes "op")))
 
 abbrev pub all_known : Members → Bool
 all_known no_members = true
@@ -46,7 +42,8 @@ all_known (member name d ms) = is_known name && all_known ms
 
 -- `op`: one of two texts
 abbrev pub op_named : List ℕ → Result Op Fault
-op_named s = if bytes_eq s (codes "put") then Ok Put else if bytes_eq s (codes "delete") then Ok Delete else Err bad_op
+op_named s = if bytes_eq s (codes "put") then Ok Put
+    else if bytes_eq s (codes "delete") then Ok Delete else Err bad_op
 
 abbrev pub op_of : Option Data → Result Op Fault
 op_of (Some (string s)) = op_named s
@@ -59,7 +56,8 @@ key_of d = Err bad_key
 
 -- `if`: absent, null, one of two texts, or a revision
 abbrev pub expect_named : List ℕ → Result Expect Fault
-expect_named s = if bytes_eq s (codes "any") then Ok Any else if bytes_eq s (codes "absent") then Ok Absent else Err bad_if
+expect_named s = if bytes_eq s (codes "any") then Ok Any
+    else if bytes_eq s (codes "absent") then Ok Absent else Err bad_if
 
 abbrev pub expect_at : Option ℕ → Result Expect Fault
 expect_at None = Err bad_if
@@ -83,7 +81,8 @@ flag_of (Some d) = text_unless (first_fault d) (compact_text d)
 
 abbrev pub edit_with : Op → List ℕ → Expect → Option Data → Result Proposal Fault
 edit_with Delete key expect flag = Ok (record { change = delete key; expect = expect })
-edit_with Put key expect flag = flag_of flag >>= λ text. Ok (record { change = put key text; expect = expect })
+edit_with Put key expect flag =
+    flag_of flag >>= λ text. Ok (record { change = put key text; expect = expect })
 
 -- the members in the order in which they are looked at
 unfoldable pub parts_of : Data → Result Proposal Fault
@@ -100,4 +99,5 @@ edit_in d = Err not_object
 
 -- JSON that isn't too long
 unfoldable pub line_of : List ℕ → Result Proposal Fault
-line_of line = if nat_le (length line) LONGEST_LINE then must (json_of line) not_json >>= edit_in else Err too_long
+line_of line = if nat_le (length line) LONGEST_LINE then must (json_of line) not_json >>= edit_in
+    else Err too_long

@@ -8,7 +8,8 @@ abbrev pub after_all : State → List Change → State
 after_all s [] = s
 after_all s (c ∷ log) = after_all (next s c) log
 
--- the state at a revision from the start's on: the start counts as the edits up to its own revision, and the log has those behind it
+-- the state at a revision from the start's on: the start counts as the edits up to its own
+-- revision, and the log has those behind it
 abbrev pub after : State → List Change → ℕ → State
 after start log n = after_all start (take (n - start.revision) log)
 
@@ -20,4 +21,5 @@ after_edits s (p ∷ ps) = after_edits (if is_none (refusal s p) then next s p.c
 -- the log that these edits make
 abbrev pub log_of : State → List Proposal → List Change
 log_of s [] = []
-log_of s (p ∷ ps) = if is_none (refusal s p) then p.change ∷ log_of (next s p.change) ps else log_of s ps
+log_of s (p ∷ ps) =
+    if is_none (refusal s p) then p.change ∷ log_of (next s p.change) ps else log_of s ps

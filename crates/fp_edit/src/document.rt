@@ -9,8 +9,8 @@ ghost use Rattle.fp_edit.specs.Document.{data_of, document, members_of};
 ghost use Rattle.fp_edit.specs.Entries.{entries_of, flags_of};
 
 use crate::flags::Flag;
+use fp_base::put_quoted;
 use fp_definition::{Definition, FlagKey};
-use serde_json::Value;
 use std::alloc::{AllocError, Global};
 use std::collections::BTreeMap;
 
@@ -32,7 +32,9 @@ fn put_members(
     out: &mut Vec<u8>,
     flags: &BTreeMap<FlagKey, Flag>,
 ) -> Result<(), AllocError>
-    ensures members { OnOk result (out.new.items ≡ out.old.items ++ members_text false (members_of (entries_of flags.now.entries))) }
+    ensures members { OnOk result
+        (out.new.items
+        ≡ out.old.items ++ members_text false (members_of (entries_of flags.now.entries))) }
     ensures ordered { IsOrdered flag_cmp flags.now }
 {
     let mut later = false;
@@ -52,23 +54,15 @@ fn put_member(
     definition: &Definition,
 ) -> Result<(), AllocError>
     ensures { OnOk result (out.new.items ≡ out.old.items
-        ++ (comma_if later ++ (quoted (key_bytes key.now) ++ 58 ∷ compact_text (data_of definition.now)))) }
+        ++ (comma_if later
+        ++ (quoted (key_bytes key.now) ++ 58 ∷ compact_text (data_of definition.now)))) }
 {
     if later {
         out.push(b',')?;
     }
-    put_quoted(alloc, out, key)?;
+    put_quoted(alloc, out, key.as_str())?;
     out.push(b':')?;
     out.extend_from_slice(text_of(definition))?;
-    Ok(())
-}
-
-fn put_quoted(alloc: Global, out: &mut Vec<u8>, key: &FlagKey) -> Result<(), AllocError>
-    ensures { OnOk result (out.new.items ≡ out.old.items ++ quoted (key_bytes key.now)) }
-{
-    let name = Value::String(String::from_str(alloc, key.as_str())?);
-    let text = name.to_vec(alloc)?;
-    out.extend_from_slice(&text)?;
     Ok(())
 }
 

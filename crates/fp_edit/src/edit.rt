@@ -36,7 +36,8 @@ pub enum Edit {
 /// Why an edit isn't made, in the order of the tests.
 #[derive(Debug, Clone, Copy, PartialEq, Eq, Error)]
 pub enum EditFault {
-    /// The key isn't as expected: `current` is the revision that changed its flag last, `None` where there is no flag.
+    /// The key isn't as expected: `current` is the revision that changed its flag last, `None`
+    /// where there is no flag.
     #[error("the key isn't as expected")]
     Conflict { current: Option<u64> },
     /// The set would have too many flags, or too large an image.

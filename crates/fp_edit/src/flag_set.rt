@@ -41,23 +41,27 @@ impl Model for FlagSet {
 
     ghost coded = { coded_state };
 
-    ghost view = { λ a. record { flags = flags_of a.flags.entries; revision = a.revision; limit = a.limit } };
+    ghost view = { λ a.
+        record { flags = flags_of a.flags.entries; revision = a.revision; limit = a.limit } };
 
     ghost use Rattle.std.specs.BTreeMap.{IsOrdered};
     ghost use Rattle.fp_definition.specs.Key.{flag_cmp};
 
-    ghost invariant = { λ a. IsOrdered flag_cmp a.flags × IsKept (flags_of a.flags.entries) a.revision a.limit a.size };
+    ghost invariant = { λ a. IsOrdered flag_cmp a.flags
+        × IsKept (flags_of a.flags.entries) a.revision a.limit a.size };
 }
 
 impl FlagSet {
-    /// No flags, at revision 0. The limit of the image is in bytes; below 22 it leaves room for no flag.
+    /// No flags, at revision 0. The limit of the image is in bytes; below 22 it leaves room for no
+    /// flag.
     pub fn new(alloc: Global, limit: u64) -> FlagSet
         ensures { result ≡ record { flags = map.empty; revision = 0; limit = limit } }
     {
         FlagSet::at_revision(alloc, 0, limit)
     }
 
-    /// No flags, at a revision that was made before. `restore` brings back the flags of that revision.
+    /// No flags, at a revision that was made before. `restore` brings back the flags of that
+    /// revision.
     pub fn at_revision(alloc: Global, revision: u64, limit: u64) -> FlagSet
         requires { revision < REVISIONS_END }
         ensures { result ≡ record { flags = map.empty; revision = revision; limit = limit } }
@@ -124,7 +128,8 @@ impl FlagSet {
         self.flags.iter()
     }
 
-    /// The set as canonical JSON: an object whose one member, `flags`, has each definition under its key.
+    /// The set as canonical JSON: an object whose one member, `flags`, has each definition under
+    /// its key.
     pub fn document(&self) -> Result<Vec<u8>, AllocError>
         ensures { IfOk result (λ text. text.items ≡ document self.now.flags) }
     {
@@ -144,7 +149,8 @@ impl FlagSet {
         })
     }
 
-    /// Makes an edit, and answers the revision that it made. Otherwise the edit comes back with what stands against it.
+    /// Makes an edit, and answers the revision that it made. Otherwise the edit comes back with
+    /// what stands against it.
     pub fn admit(&mut self, edit: Edit) -> Result<u64, (EditFault, Edit)>
         ensures admitted { OnOk result (Admits self.old (proposal_of edit) (accepted self.new)) }
         ensures revision { IfOk result (λ r. r ≡ self.new.revision) }
@@ -168,11 +174,18 @@ impl FlagSet {
         }
     }
 
-    /// Brings back a flag that an image holds, with the revision that changed it last. This is no edit: the revision stays.
+    /// Brings back a flag that an image holds, with the revision that changed it last. This is no
+    /// edit: the revision stays.
     pub fn restore(&mut self, key: FlagKey, flag: Flag) -> Result<(), AllocError>
         requires changed { IsChangedBy self.old.revision flag }
-        requires room { is_within (map.insert self.old.flags (key_bytes key) flag) self.old.limit ≡ true }
-        ensures restored { OnOk result (self.new ≡ record { flags = map.insert self.old.flags (key_bytes key) flag; revision = self.old.revision; limit = self.old.limit }) }
+        requires room { is_within (map.insert self.old.flags (key_bytes key) flag) self.old.limit
+            ≡ true }
+        ensures restored { OnOk result
+            (self.new ≡ record {
+              flags = map.insert self.old.flags (key_bytes key) flag;
+              revision = self.old.revision;
+              limit = self.old.limit;
+            }) }
         ensures unchanged { OnErr result (self.new ≡ self.old) }
     {
         let size = self.size_with(&key, &flag.definition);
@@ -181,9 +194,13 @@ impl FlagSet {
         Ok(())
     }
 
-    /// Whether the set keeps within its limits with a definition under a key, whatever is there now.
+    /// Whether the set keeps within its limits with a definition under a key, whatever is there
+    /// now.
     pub fn has_room_for(&self, key: &FlagKey, definition: &Definition) -> bool
-        ensures { (changed : ℕ) → result ≡ is_within (map.insert self.now.flags (key_bytes key.now) (record { definition = definition.now; changed = changed })) self.now.limit }
+        ensures { (changed : ℕ)
+            → result ≡ is_within
+            (map.insert self.now.flags (key_bytes key.now)
+            (record { definition = definition.now; changed = changed })) self.now.limit }
     {
         self.count_with(key) <= MOST_FLAGS as u128
             && self.size_with(key, definition) <= self.limit as u128
@@ -200,7 +217,8 @@ impl FlagSet {
     }
 
     fn judge_put(&self, key: &FlagKey, flag: &Definition, expect: Expect) -> Option<EditFault>
-        ensures { result ≡ refusal self.now (record { change = put (key_bytes key.now) flag.now; expect = expect }) }
+        ensures { result ≡ refusal self.now
+            (record { change = put (key_bytes key.now) flag.now; expect = expect }) }
     {
         let current = self.changed(key);
         if !meets(expect, current) {
@@ -216,7 +234,8 @@ impl FlagSet {
     }
 
     fn judge_delete(&self, key: &FlagKey, expect: Expect) -> Option<EditFault>
-        ensures { result ≡ refusal self.now (record { change = delete (key_bytes key.now); expect = expect }) }
+        ensures { result
+            ≡ refusal self.now (record { change = delete (key_bytes key.now); expect = expect }) }
     {
         let current = self.changed(key);
         if !(current.is_some() && meets(expect, current)) {
@@ -244,13 +263,17 @@ impl FlagSet {
     }
 
     fn count_with(&self, key: &FlagKey) -> u128
-        ensures { (flag : Flag) → result ≡ map.len (map.insert self.now.flags (key_bytes key.now) flag) }
+        ensures { (flag : Flag)
+            → result ≡ map.len (map.insert self.now.flags (key_bytes key.now) flag) }
     {
         self.len() as u128 + 1 - count_at(&self.flags, key)
     }
 
     fn size_with(&self, key: &FlagKey, definition: &Definition) -> u128
-        ensures { (changed : ℕ) → result ≡ size_of (map.insert self.now.flags (key_bytes key.now) (record { definition = definition.now; changed = changed })) }
+        ensures { (changed : ℕ)
+            → result ≡ size_of
+            (map.insert self.now.flags (key_bytes key.now)
+            (record { definition = definition.now; changed = changed })) }
     {
         self.size as u128 + cost_of(key, definition) - cost_at(&self.flags, key)
     }

@@ -32,7 +32,9 @@ pub(crate) fn store(
     key: FlagKey,
     flag: Flag,
 ) -> Result<(), AllocFailed<(FlagKey, Flag)>>
-    ensures stored { OnOk result (flags_of flags.new.entries ≡ map.insert (flags_of flags.old.entries) (key_bytes key) flag) }
+    ensures stored { OnOk result
+        (flags_of flags.new.entries
+        ≡ map.insert (flags_of flags.old.entries) (key_bytes key) flag) }
     ensures given_back { IfErr result (λ e. e.value ≡ (key, flag)) }
     ensures unchanged { OnErr result (flags_of flags.new.entries ≡ flags_of flags.old.entries) }
     ensures ordered { IsOrdered flag_cmp flags.new }
@@ -45,7 +47,8 @@ pub(crate) fn store(
 
 pub(crate) fn take(flags: &mut BTreeMap<FlagKey, Flag>, key: &FlagKey)
     requires { IsOrdered flag_cmp flags.old }
-    ensures taken { flags_of flags.new.entries ≡ map.remove (flags_of flags.old.entries) (key_bytes key.now) }
+    ensures taken { flags_of flags.new.entries
+        ≡ map.remove (flags_of flags.old.entries) (key_bytes key.now) }
     ensures ordered { IsOrdered flag_cmp flags.new }
 {
     flags.remove(key);
@@ -67,7 +70,8 @@ pub(crate) fn cost_of(key: &FlagKey, definition: &Definition) -> u128
 
 /// The bytes of an image that a key's flag takes, 0 without one.
 pub(crate) fn cost_at(flags: &BTreeMap<FlagKey, Flag>, key: &FlagKey) -> u128
-    ensures { result ≡ cost_found (key_bytes key.now) (map.get (flags_of flags.now.entries) (key_bytes key.now)) }
+    ensures { result ≡ cost_found (key_bytes key.now)
+        (map.get (flags_of flags.now.entries) (key_bytes key.now)) }
 {
     match find(flags, key) {
         Some(flag) => cost_of(key, &flag.definition),

@@ -1,4 +1,5 @@
-//! Sets of flags, the edits that they admit, the lines that spell edits, and the documents that show sets.
+//! Sets of flags, the edits that they admit, the lines that spell edits, and the documents that
+//! show sets.
 #![tactic(auto)]
 
 mod document;

@@ -3,11 +3,12 @@
 ghost use Rattle.std.specs.Prelude.{◌≡◌, codes};
 ghost use Rattle.serde_json.specs.View.{view, members_view};
 ghost use Rattle.serde_json.specs.Find.{get};
+ghost use Rattle.fp_base.specs.Answer.{Gives};
 ghost use Rattle.fp_base.specs.Json.{json_of};
 ghost use Rattle.fp_definition.specs.Key.{key_bytes};
 ghost use Rattle.fp_edit.specs.Edits.{proposal_of};
 ghost use Rattle.fp_edit.specs.Line as says;
-ghost use Rattle.fp_edit.specs.Spelled.{Gives};
+ghost use Rattle.fp_edit.specs.Spelled.{Tells};
 
 use crate::edit::{Edit, Expect, REVISIONS_END};
 use fp_base::{read_json, take_member};
@@ -43,7 +44,8 @@ pub enum LineFault {
     /// `if` is there, and is no expectation.
     #[error("`if` is neither `any`, `absent` nor a revision")]
     BadIf,
-    /// `flag` is no definition. Without a `flag` the fault is `NotObject`. It is never `DefFault::Memory`.
+    /// `flag` is no definition. Without a `flag` the fault is `NotObject`. It is never
+    /// `DefFault::Memory`.
     #[error("`flag` is no definition: {0}")]
     BadFlag(DefFault),
     /// Memory ran out.
@@ -70,7 +72,7 @@ enum Op {
 /// The edit that a line spells. The line comes without its newline.
 #[tactic(auto, unfolding(crate::specs::Line::line_of))]
 pub fn parse_line(alloc: Global, line: &[u8]) -> Result<Edit, LineFault>
-    ensures { Gives proposal_of result (says.line_of line.now) }
+    ensures { Gives proposal_of Tells result (says.line_of line.now) }
 {
     if line.len() > LONGEST_LINE {
         return Err(LineFault::TooLong);
@@ -82,7 +84,7 @@ pub fn parse_line(alloc: Global, line: &[u8]) -> Result<Edit, LineFault>
 }
 
 fn edit_in(alloc: Global, value: Value) -> Result<Edit, LineFault>
-    ensures { Gives proposal_of result (says.edit_in (view value)) }
+    ensures { Gives proposal_of Tells result (says.edit_in (view value)) }
 {
     match &value {
         Value::Object(members) => {
@@ -109,7 +111,7 @@ fn all_known(members: &Map<String, Value>) -> bool
 
 #[tactic(auto, unfolding(crate::specs::Line::parts_of))]
 fn edit_of_members(alloc: Global, value: Value) -> Result<Edit, LineFault>
-    ensures { Gives proposal_of result (says.parts_of (view value)) }
+    ensures { Gives proposal_of Tells result (says.parts_of (view value)) }
 {
     let op = op_of(&value)?;
     let key = key_of(alloc, &value)?;
@@ -124,7 +126,7 @@ fn edit_of_members(alloc: Global, value: Value) -> Result<Edit, LineFault>
 }
 
 fn op_of(value: &Value) -> Result<Op, LineFault>
-    ensures { Gives (λ op. op) result (says.op_of (get (codes "op") (view value.now))) }
+    ensures { Gives (λ op. op) Tells result (says.op_of (get (codes "op") (view value.now))) }
 {
     match value.get("op") {
         Some(Value::String(text)) => op_named(text.as_str()),
@@ -133,7 +135,7 @@ fn op_of(value: &Value) -> Result<Op, LineFault>
 }
 
 fn op_named(text: &str) -> Result<Op, LineFault>
-    ensures { Gives (λ op. op) result (says.op_named text.now) }
+    ensures { Gives (λ op. op) Tells result (says.op_named text.now) }
 {
     if text == "put" {
         Ok(Op::Put)
@@ -145,7 +147,7 @@ fn op_named(text: &str) -> Result<Op, LineFault>
 }
 
 fn key_of(alloc: Global, value: &Value) -> Result<FlagKey, LineFault>
-    ensures { Gives key_bytes result (says.key_of (get (codes "key") (view value.now))) }
+    ensures { Gives key_bytes Tells result (says.key_of (get (codes "key") (view value.now))) }
 {
     match value.get("key") {
         Some(Value::String(text)) => match FlagKey::new(alloc, text.as_str()) {
@@ -158,7 +160,8 @@ fn key_of(alloc: Global, value: &Value) -> Result<FlagKey, LineFault>
 }
 
 fn expect_of(value: &Value) -> Result<Expect, LineFault>
-    ensures { Gives (λ expect. expect) result (says.expect_of (get (codes "if") (view value.now))) }
+    ensures { Gives (λ expect. expect) Tells result
+        (says.expect_of (get (codes "if") (view value.now))) }
 {
     match value.get("if") {
         None | Some(Value::Null) => Ok(Expect::Any),
@@ -169,7 +172,7 @@ fn expect_of(value: &Value) -> Result<Expect, LineFault>
 }
 
 fn expect_named(text: &str) -> Result<Expect, LineFault>
-    ensures { Gives (λ expect. expect) result (says.expect_named text.now) }
+    ensures { Gives (λ expect. expect) Tells result (says.expect_named text.now) }
 {
     if text == "any" {
         Ok(Expect::Any)
@@ -181,7 +184,7 @@ fn expect_named(text: &str) -> Result<Expect, LineFault>
 }
 
 fn expect_at(revision: Option<u64>) -> Result<Expect, LineFault>
-    ensures { Gives (λ expect. expect) result (says.expect_at revision) }
+    ensures { Gives (λ expect. expect) Tells result (says.expect_at revision) }
 {
     match revision {
         Some(n) if 0 < n && n < REVISIONS_END => Ok(Expect::At(n)),
@@ -191,7 +194,8 @@ fn expect_at(revision: Option<u64>) -> Result<Expect, LineFault>
 
 #[tactic(auto, unfolding(crate::specs::Line::flag_of))]
 fn flag_of(alloc: Global, value: Value) -> Result<Definition, LineFault>
-    ensures { Gives (λ definition. definition) result (says.flag_of (get (codes "flag") (view value))) }
+    ensures { Gives (λ definition. definition) Tells result
+        (says.flag_of (get (codes "flag") (view value))) }
 {
     match take_member(value, "flag") {
         None => Err(LineFault::BadFlag(DefFault::NotObject)),

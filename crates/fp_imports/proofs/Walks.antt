@@ -11,8 +11,9 @@ use Rattle.serde_json.specs.View.{view, items_of, items_view, members_view}
 use Rattle.serde_json.specs.Find.{get_member}
 use Rattle.serde_json.specs.declared.value.Value.{Value}
 use Rattle.serde_json.proofs.Views.{Entry}
+use Rattle.fp_base.specs.Answer.{Gives}
 use Rattle.fp_imports.specs.References.{Walked, Broken, unknown, too_deep, too_large, onward, counted, reference, placed, walked, items_walked, members_walked, put_in, replaced}
-use Rattle.fp_imports.specs.Faults.{Gives}
+use Rattle.fp_imports.specs.Faults.{TellsBroken}
 use Rattle.fp_imports.specs.declared.faults.ReferenceFault.{ReferenceFault}
 use Rattle.fp_imports.specs.declared.faults.ReferenceFault.TheVariants.{Unknown, TooDeep, TooLarge, Memory}
 
@@ -77,7 +78,8 @@ after_members-one ms k e (Ok p) = ap (λ (ys : Members). Ok (ys, p.1)) (append_o
 after_members-one ms k e (Err x) = refl
 
 -- a fault is the same fault of what holds the faulty part
-pub gives_err : {A B C D : Type 0} (f : A → B) (g : C → D) (e : ReferenceFault) (w : Result B Broken) (u : Result D Broken) → Gives f (Err e) w → ((x : Broken) → w ≡ Err x → u ≡ Err x) → Gives g (Err e) u
+pub gives_err : {A B C D : Type 0} (f : A → B) (g : C → D) (e : ReferenceFault) (w : Result B Broken) (u : Result D Broken)
+    → Gives f TellsBroken (Err e) w → ((x : Broken) → w ≡ Err x → u ≡ Err x) → Gives g TellsBroken (Err e) u
 gives_err f g (Unknown s) w u h k = k (unknown (string_bytes s)) h
 gives_err f g TooDeep w u h k = k too_deep h
 gives_err f g TooLarge w u h k = k too_large h

@@ -38,7 +38,8 @@ with_targeting ms (Err e) = Err e
 
 -- a flag's data with the references in its targeting replaced. Nothing else in it changes
 abbrev pub flag_expanded : Members → Data → Result Data Broken
-flag_expanded evaluators (object ms) = with_targeting ms (targeting_expanded evaluators (get_member (codes "targeting") ms))
+flag_expanded evaluators (object ms) =
+    with_targeting ms (targeting_expanded evaluators (get_member (codes "targeting") ms))
 flag_expanded evaluators d = Ok d
 
 abbrev pub flag_broken : List ℕ → Broken → Refusal
@@ -50,13 +51,17 @@ abbrev pub flag_unless : Option Fault → List ℕ → Data → Result Flag Refu
 flag_unless None k d = Ok (k, compact_text d)
 flag_unless (Some f) k d = Err (bad_flag k f)
 
+abbrev pub definition_tested : List ℕ → Data → Result Flag Refusal
+definition_tested k d = flag_unless (first_fault d) k d
+
 abbrev pub flag_defined : List ℕ → Result Data Broken → Result Flag Refusal
-flag_defined k (Ok d) = flag_unless (first_fault d) k d
+flag_defined k (Ok d) = definition_tested k d
 flag_defined k (Err e) = Err (flag_broken k e)
 
 -- the flag of that name: its key is looked at first, then its references, then its definition
 abbrev pub flag_of : Members → List ℕ → Data → Result Flag Refusal
-flag_of evaluators k d = if is_key k then flag_defined k (flag_expanded evaluators d) else Err (bad_key k)
+flag_of evaluators k d =
+    if is_key k then flag_defined k (flag_expanded evaluators d) else Err (bad_key k)
 
 -- ---- all flags
 
@@ -64,7 +69,8 @@ abbrev pub before : Flag → Result (List Flag) Refusal → Result (List Flag) R
 before f (Ok fs) = Ok (f ∷ fs)
 before f (Err e) = Err e
 
-abbrev pub and_others : Result Flag Refusal → Result (List Flag) Refusal → Result (List Flag) Refusal
+abbrev pub and_others : Result Flag Refusal → Result (List Flag) Refusal
+    → Result (List Flag) Refusal
 and_others (Ok f) others = before f others
 and_others (Err e) others = Err e
 
@@ -90,4 +96,5 @@ imported evaluators flags = Err not_document
 
 -- the flags of a document, or its first fault. Data that are no object have no members
 abbrev pub document : Data → Result (List Flag) Refusal
-document d = imported (evaluators_in (get (codes "$evaluators") d)) (flags_in (get (codes "flags") d))
+document d =
+    imported (evaluators_in (get (codes "$evaluators") d)) (flags_in (get (codes "flags") d))

@@ -27,7 +27,8 @@ counted (suc left) f = f left
 
 -- an object refers to a name where `$ref` is its only member, and a text
 abbrev pub reference : Members → Option (List ℕ)
-reference (member k (string name) no_members) = if bytes_eq k (codes "$ref") then Some name else None
+reference (member k (string name) no_members) =
+    if bytes_eq k (codes "$ref") then Some name else None
 reference ms = None
 
 abbrev pub placed : {A : Type 0} → (List ℕ → A) → Option (List ℕ) → A → A
@@ -41,17 +42,21 @@ abbrev mutual
   walked at (boolean b) left = counted left (λ n. Ok (boolean b, n))
   walked at (number x) left = counted left (λ n. Ok (number x, n))
   walked at (string s) left = counted left (λ n. Ok (string s, n))
-  walked at (array ds) left = counted left (λ n. onward (items_walked at ds n) (λ es m. Ok (array (items_of es), m)))
+  walked at (array ds) left =
+      counted left (λ n. onward (items_walked at ds n) (λ es m. Ok (array (items_of es), m)))
   walked at (object ms) left =
-      placed (λ name. at name left) (reference ms) (counted left (λ n. onward (members_walked at ms n) (λ es m. Ok (object es, m))))
+      placed (λ name. at name left) (reference ms)
+      (counted left (λ n. onward (members_walked at ms n) (λ es m. Ok (object es, m))))
 
   pub items_walked : (List ℕ → ℕ → Walked Data) → Items → ℕ → Walked (List Data)
   items_walked at no_items left = Ok ([], left)
-  items_walked at (item d ds) left = onward (walked at d left) (λ e n. onward (items_walked at ds n) (λ es m. Ok (e ∷ es, m)))
+  items_walked at (item d ds) left =
+      onward (walked at d left) (λ e n. onward (items_walked at ds n) (λ es m. Ok (e ∷ es, m)))
 
   pub members_walked : (List ℕ → ℕ → Walked Data) → Members → ℕ → Walked Members
   members_walked at no_members left = Ok (no_members, left)
-  members_walked at (member k d ms) left = onward (walked at d left) (λ e n. onward (members_walked at ms n) (λ es m. Ok (member k e es, m)))
+  members_walked at (member k d ms) left = onward (walked at d left) (λ e n.
+      onward (members_walked at ms n) (λ es m. Ok (member k e es, m)))
 
 abbrev pub put_in : (Data → ℕ → Walked Data) → List ℕ → Option Data → ℕ → Walked Data
 put_in walk name None left = Err (unknown name)
@@ -60,7 +65,8 @@ put_in walk name (Some d) left = walk d left
 -- what stands for a name where this many replacements may still stand in one another
 abbrev pub replaced : Members → ℕ → List ℕ → ℕ → Walked Data
 replaced evaluators zero name left = Err too_deep
-replaced evaluators (suc more) name left = put_in (walked (replaced evaluators more)) name (get_member name evaluators) left
+replaced evaluators (suc more) name left =
+    put_in (walked (replaced evaluators more)) name (get_member name evaluators) left
 
 -- a targeting with its references replaced, within the limits of both
 abbrev pub expanded : Members → Data → Walked Data

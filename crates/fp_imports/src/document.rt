@@ -5,9 +5,10 @@ ghost use Rattle.std.specs.List.Sorted.{IsStrictlySortedBy};
 ghost use Rattle.std.specs.Map.{keys_of};
 ghost use Rattle.serde_json.specs.Find.{get, get_member, as_object};
 ghost use Rattle.serde_json.specs.View.{view, members_view};
-ghost use Rattle.fp_definition.specs.Key.{flag_cmp};
-ghost use Rattle.fp_imports.specs.Document.{document as document_of, evaluators_in, flags_in, flags_of as every_flag, flag_of as one_flag, flag_expanded, targeting_expanded};
-ghost use Rattle.fp_imports.specs.Faults.{Gives, Imports, seen_flag};
+ghost use Rattle.fp_base.specs.Answer.{Gives};
+ghost use Rattle.fp_definition.specs.Key.{flag_cmp, key_bytes};
+ghost use Rattle.fp_imports.specs.Document.{document as document_of, evaluators_in, flags_in, flags_of as every_flag, flag_of as one_flag, definition_tested, flag_expanded, targeting_expanded};
+ghost use Rattle.fp_imports.specs.Faults.{Tells, TellsBroken, seen_flag};
 
 use crate::faults::{ImportFault, ReferenceFault};
 use crate::references::{expand, member_named};
@@ -21,7 +22,7 @@ pub fn expand_document(
     alloc: Global,
     document: Value,
 ) -> Result<Vec<(FlagKey, Definition)>, ImportFault>
-    ensures flags { Imports (λ v. map seen_flag v.items) result (document_of (view document)) }
+    ensures flags { Gives (λ v. map seen_flag v.items) Tells result (document_of (view document)) }
     ensures ascending { IfOk result (λ v. IsStrictlySortedBy flag_cmp (keys_of v.items)) }
 {
     let (evaluators, flags) = split(document);
@@ -89,7 +90,7 @@ fn flags_taken(
     evaluators: &Map<String, Value>,
     flags: Map<String, Value>,
 ) -> Result<Vec<(FlagKey, Definition)>, ImportFault>
-    ensures flags { Imports (λ v. map seen_flag v.items) result
+    ensures flags { Gives (λ v. map seen_flag v.items) Tells result
         (every_flag (members_view evaluators.now.entries) (members_view flags.entries)) }
     ensures ascending { IfOk result (λ v. IsStrictlySortedBy flag_cmp (keys_of v.items)) }
 {
@@ -109,7 +110,7 @@ fn flag_named(
     name: &str,
     flag: Value,
 ) -> Result<(FlagKey, Definition), ImportFault>
-    ensures { Imports seen_flag result
+    ensures { Gives seen_flag Tells result
         (one_flag (members_view evaluators.now.entries) name.now (view flag)) }
 {
     let key = match FlagKey::new(alloc, name) {
@@ -118,15 +119,26 @@ fn flag_named(
         Err(KeyFault::Memory) => return Err(ImportFault::Memory),
     };
     match expand_flag(alloc, evaluators, flag) {
-        Ok(flag) => match Definition::from_value(alloc, flag) {
-            Ok(definition) => Ok((key, definition)),
-            Err(DefFault::Memory) => Err(ImportFault::Memory),
-            Err(fault) => Err(ImportFault::Flag(key, fault)),
-        },
+        Ok(flag) => flag_defined(alloc, key, flag),
         Err(ReferenceFault::Unknown(name)) => Err(ImportFault::RefUnknown(name)),
         Err(ReferenceFault::TooDeep) => Err(ImportFault::RefTooDeep),
         Err(ReferenceFault::TooLarge) => Err(ImportFault::Flag(key, DefFault::TooLarge)),
         Err(ReferenceFault::Memory) => Err(ImportFault::Memory),
+    }
+}
+
+// The flag of that key whose definition the value is.
+fn flag_defined(
+    alloc: Global,
+    key: FlagKey,
+    flag: Value,
+) -> Result<(FlagKey, Definition), ImportFault>
+    ensures { Gives seen_flag Tells result (definition_tested (key_bytes key) (view flag)) }
+{
+    match Definition::from_value(alloc, flag) {
+        Ok(definition) => Ok((key, definition)),
+        Err(DefFault::Memory) => Err(ImportFault::Memory),
+        Err(fault) => Err(ImportFault::Flag(key, fault)),
     }
 }
 
@@ -136,7 +148,8 @@ fn expand_flag(
     evaluators: &Map<String, Value>,
     flag: Value,
 ) -> Result<Value, ReferenceFault>
-    ensures { Gives view result (flag_expanded (members_view evaluators.now.entries) (view flag)) }
+    ensures { Gives view TellsBroken result
+        (flag_expanded (members_view evaluators.now.entries) (view flag)) }
 {
     let mut members = match flag {
         Value::Object(members) => members,
@@ -157,7 +170,7 @@ fn expand_targeting(
     evaluators: &Map<String, Value>,
     members: &Map<String, Value>,
 ) -> Result<Option<Value>, ReferenceFault>
-    ensures { Gives (option_map view) result
+    ensures { Gives (option_map view) TellsBroken result
         (targeting_expanded (members_view evaluators.now.entries)
         (get_member (codes "targeting") (members_view members.now.entries))) }
 {

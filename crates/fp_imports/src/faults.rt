@@ -5,7 +5,8 @@ ghost use Rattle.std.specs.Prelude.{◌≡◌};
 use fp_definition::{DefFault, FlagKey};
 use std::alloc::{AllocError, AllocFailed};
 
-/// Why a document isn't taken. Flags are looked at in the order of their keys, and the first fault is answered.
+/// Why a document isn't taken. Flags are looked at in the order of their keys, and the first fault
+/// is answered.
 #[derive(Debug, Drop)]
 pub enum ImportFault {
     /// The value is no object, `flags` in it is none, or `$evaluators` is there and is none.

@@ -3,8 +3,9 @@
 ghost use Rattle.std.specs.Prelude.{◌≡◌, map, option_map, Ok};
 ghost use Rattle.serde_json.specs.Find.{get_member};
 ghost use Rattle.serde_json.specs.View.{view, items_view, members_view};
+ghost use Rattle.fp_base.specs.Answer.{Gives};
 ghost use Rattle.fp_imports.specs.References.{reference as reference_of, counted, walked, items_walked, members_walked, replaced, expanded};
-ghost use Rattle.fp_imports.specs.Faults.{Gives, with_rest};
+ghost use Rattle.fp_imports.specs.Faults.{TellsBroken, with_rest};
 
 use crate::faults::ReferenceFault;
 use serde_json::{Map, Value};
@@ -22,7 +23,7 @@ pub(crate) fn expand(
     evaluators: &Map<String, Value>,
     targeting: &Value,
 ) -> Result<(Value, usize), ReferenceFault>
-    ensures { Gives (with_rest view) result
+    ensures { Gives (with_rest view) TellsBroken result
         (expanded (members_view evaluators.now.entries) (view targeting.now)) }
 {
     expand_value(
@@ -43,7 +44,7 @@ fn expand_value(
     more: u32,
     left: usize,
 ) -> Result<(Value, usize), ReferenceFault>
-    ensures { Gives (with_rest view) result
+    ensures { Gives (with_rest view) TellsBroken result
         (walked (replaced (members_view evaluators.now.entries) more) (view value.now) left) }
 {
     match value {
@@ -84,7 +85,7 @@ fn expand_reference(
     more: u32,
     left: usize,
 ) -> Result<(Value, usize), ReferenceFault>
-    ensures { Gives (with_rest view) result
+    ensures { Gives (with_rest view) TellsBroken result
         (replaced (members_view evaluators.now.entries) more name.now left) }
 {
     if more == 0 {
@@ -104,7 +105,7 @@ fn expand_items(
     more: u32,
     left: usize,
 ) -> Result<(Vec<Value>, usize), ReferenceFault>
-    ensures { Gives (with_rest (λ v. map view v.items)) result
+    ensures { Gives (with_rest (λ v. map view v.items)) TellsBroken result
         (items_walked (replaced (members_view evaluators.now.entries) more)
         (items_view items.now.items) left) }
 {
@@ -130,7 +131,7 @@ fn expand_members(
     more: u32,
     left: usize,
 ) -> Result<(Map<String, Value>, usize), ReferenceFault>
-    ensures { Gives (with_rest (λ m. members_view m.entries)) result
+    ensures { Gives (with_rest (λ m. members_view m.entries)) TellsBroken result
         (members_walked (replaced (members_view evaluators.now.entries) more)
         (members_view members.now.entries) left) }
 {
@@ -151,7 +152,7 @@ fn expand_members(
 
 // A value that holds no others, if it may be counted.
 fn counted_alone(value: Value, left: usize) -> Result<(Value, usize), ReferenceFault>
-    ensures { Gives (with_rest view) result (counted left (λ n. Ok (view value, n))) }
+    ensures { Gives (with_rest view) TellsBroken result (counted left (λ n. Ok (view value, n))) }
 {
     if left == 0 {
         Err(ReferenceFault::TooLarge)

@@ -27,7 +27,7 @@ tells : (n a b : List ℕ) → occurs n (a ++ (n ++ b)) ≡ true
 tells n [] b = here n (n ++ b) ((starts_is Decides-eqb (n ++ b) n _ refl).1 b refl)
 tells n (x ∷ a) b = later (starts_with eqb (x ∷ (a ++ (n ++ b))) n) (occurs n (a ++ (n ++ b))) (tells n a b)
 
-same_test : (r o : Bool) → (r ≡ true → o ≡ true) → (o ≡ true → r ≡ true) → r ≡ o
+pub same_test : (r o : Bool) → (r ≡ true → o ≡ true) → (o ≡ true → r ≡ true) → r ≡ o
 same_test true true f g = refl
 same_test true false f g = sym (f refl)
 same_test false true f g = g refl

@@ -1,15 +1,15 @@
 -- What the order of data is.
-use Rattle.std.proofs.Common.{◌≡◌, ◌≢◌, ◌<ℤ◌, ℕ, ℤ, List, true, false, ◌||◌, Option, Some, None, is_some, option_map, Ordering, Less, Equal, Greater, is_lt, is_le, is_eq, int_cmp, nat_cmp, refl, sym, ap, ◌∙◌, arith}
+use Rattle.std.proofs.Common.{◌≡◌, ◌≢◌, ◌<ℤ◌, ℕ, ℤ, List, Bool, true, false, ◌||◌, bytes_eq, Option, Some, None, is_some, option_map, Ordering, Less, Equal, Greater, is_lt, is_le, is_eq, int_cmp, nat_cmp, refl, sym, ap, ◌∙◌, arith}
 use Rattle.std.specs.Ordering.{ordering_reverse, int_eq, is_some_and, MatchOrdering}
 use Rattle.std.specs.Cmp.Lexicographic.{slice_cmp}
 use Rattle.std.proofs.lemmas.Int.{ints}
 use Rattle.std.proofs.lemmas.Cmp.{int_cmp_total, nat_list_cmp_total, int_eq_equiv, int_ranked}
 use Rattle.std.proofs.lemmas.Bool.Decides.{Decides-int_eq}
 use Rattle.std.proofs.lemmas.Map.Text.{is_eq-slice_cmp}
-use Rattle.fp_operators.specs.Data.{Data, null, boolean, whole, text, list, object}
+use Rattle.fp_operators.specs.Data.{Data, whole, text}
 use Rattle.fp_operators.specs.Numeral.{whole_number_of}
 use Rattle.fp_operators.specs.Equality.{loose_equality, is_number}
-use Rattle.fp_operators.specs.Order.{order, is_below, is_at_most}
+use Rattle.fp_operators.specs.Order.{Comparand, number, words, none, comparand, order_of, order, is_below, is_at_most}
 use Rattle.fp_operators.specs.Laws.{exactly_one}
 
 reverse_right : (x : ℤ) (n : Option ℤ) → option_map (λ z. int_cmp z x) n ≡ option_map ordering_reverse (option_map (λ y. int_cmp x y) n)
@@ -20,43 +20,19 @@ reverse_left : (y : ℤ) (n : Option ℤ) → option_map (λ z. int_cmp y z) n �
 reverse_left y None = refl
 reverse_left y (Some x) = ap Some (int_cmp_total.antisymm y x)
 
+order_of-reverse : (p q : Comparand) → order_of q p ≡ option_map ordering_reverse (order_of p q)
+order_of-reverse (number x) (number y) = ap Some (int_cmp_total.antisymm y x)
+order_of-reverse (number x) (words t n) = reverse_right x n
+order_of-reverse (number x) none = refl
+order_of-reverse (words s m) (number y) = reverse_left y m
+order_of-reverse (words s m) (words t n) = ap Some (nat_list_cmp_total.antisymm t s)
+order_of-reverse (words s m) none = refl
+order_of-reverse none (number y) = refl
+order_of-reverse none (words t n) = refl
+order_of-reverse none none = refl
+
 pub order_reverse : (a b : Data) → order b a ≡ option_map ordering_reverse (order a b)
-order_reverse null null = refl
-order_reverse null (boolean c) = refl
-order_reverse null (whole y) = refl
-order_reverse null (text t) = refl
-order_reverse null (list es) = refl
-order_reverse null (object ns) = refl
-order_reverse (boolean b) null = refl
-order_reverse (boolean b) (boolean c) = refl
-order_reverse (boolean b) (whole y) = refl
-order_reverse (boolean b) (text t) = refl
-order_reverse (boolean b) (list es) = refl
-order_reverse (boolean b) (object ns) = refl
-order_reverse (whole x) null = refl
-order_reverse (whole x) (boolean c) = refl
-order_reverse (whole x) (whole y) = ap Some (int_cmp_total.antisymm y x)
-order_reverse (whole x) (text t) = reverse_right x (whole_number_of t)
-order_reverse (whole x) (list es) = refl
-order_reverse (whole x) (object ns) = refl
-order_reverse (text s) null = refl
-order_reverse (text s) (boolean c) = refl
-order_reverse (text s) (whole y) = reverse_left y (whole_number_of s)
-order_reverse (text s) (text t) = ap Some (nat_list_cmp_total.antisymm t s)
-order_reverse (text s) (list es) = refl
-order_reverse (text s) (object ns) = refl
-order_reverse (list ds) null = refl
-order_reverse (list ds) (boolean c) = refl
-order_reverse (list ds) (whole y) = refl
-order_reverse (list ds) (text t) = refl
-order_reverse (list ds) (list es) = refl
-order_reverse (list ds) (object ns) = refl
-order_reverse (object ms) null = refl
-order_reverse (object ms) (boolean c) = refl
-order_reverse (object ms) (whole y) = refl
-order_reverse (object ms) (text t) = refl
-order_reverse (object ms) (list es) = refl
-order_reverse (object ms) (object ns) = refl
+order_reverse a b = order_of-reverse (comparand a) (comparand b)
 
 unequal : (x y : ℤ) → x ≢ y → false ≡ int_eq x y
 unequal x y h =
@@ -82,44 +58,17 @@ number_left : (y : ℤ) (n : Option ℤ) → is_some (option_map (λ x. int_cmp 
 number_left y None h = refl
 number_left y (Some x) h = int_equal x y
 
+or_nothing : (b : Bool) → b || false ≡ b
+or_nothing true = refl
+or_nothing false = refl
+
 -- two data that have an order tie where they are loosely equal
 pub order_equal : (a b : Data) → is_some (order a b) ≡ true → is_some_and is_eq (order a b) ≡ loose_equality a b
-order_equal null null h = cc h
-order_equal null (boolean c) h = cc h
-order_equal null (whole y) h = cc h
-order_equal null (text t) h = cc h
-order_equal null (list es) h = cc h
-order_equal null (object ns) h = cc h
-order_equal (boolean b) null h = cc h
-order_equal (boolean b) (boolean c) h = cc h
-order_equal (boolean b) (whole y) h = cc h
-order_equal (boolean b) (text t) h = cc h
-order_equal (boolean b) (list es) h = cc h
-order_equal (boolean b) (object ns) h = cc h
-order_equal (whole x) null h = cc h
-order_equal (whole x) (boolean c) h = cc h
-order_equal (whole x) (whole y) h = int_equal x y
+order_equal (whole x) (whole y) h = int_equal x y ∙ sym (or_nothing (int_eq x y || false) ∙ or_nothing (int_eq x y))
 order_equal (whole x) (text t) h = number_right x (whole_number_of t) h
-order_equal (whole x) (list es) h = cc h
-order_equal (whole x) (object ns) h = cc h
-order_equal (text s) null h = cc h
-order_equal (text s) (boolean c) h = cc h
-order_equal (text s) (whole y) h = number_left y (whole_number_of s) h
-order_equal (text s) (text t) h = is_eq-slice_cmp s t
-order_equal (text s) (list es) h = cc h
-order_equal (text s) (object ns) h = cc h
-order_equal (list ds) null h = cc h
-order_equal (list ds) (boolean c) h = cc h
-order_equal (list ds) (whole y) h = cc h
-order_equal (list ds) (text t) h = cc h
-order_equal (list ds) (list es) h = cc h
-order_equal (list ds) (object ns) h = cc h
-order_equal (object ms) null h = cc h
-order_equal (object ms) (boolean c) h = cc h
-order_equal (object ms) (whole y) h = cc h
-order_equal (object ms) (text t) h = cc h
-order_equal (object ms) (list es) h = cc h
-order_equal (object ms) (object ns) h = cc h
+order_equal (text s) (whole y) h = number_left y (whole_number_of s) h ∙ sym (or_nothing (is_number (whole_number_of s) y))
+order_equal (text s) (text t) h = is_eq-slice_cmp s t ∙ sym (or_nothing (bytes_eq s t || false) ∙ or_nothing (bytes_eq s t))
+order_equal a b h = cc h
 
 one_of : (o : Option Ordering) → is_some o ≡ true → exactly_one (is_some_and is_lt o) (is_some_and is_eq o) (is_some_and is_lt (option_map ordering_reverse o)) ≡ true
 one_of None h = cc h

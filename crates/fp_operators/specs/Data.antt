@@ -1,4 +1,5 @@
--- The data of rules: what JSON writes, with whole numbers only. Members ascend by their names' bytes.
+-- The data of rules: what JSON writes, with whole numbers only. Members ascend by their names'
+-- bytes.
 use Rattle.std.specs.Prelude.{ℕ, ℤ, List, Bool}
 use Rattle.std.specs.Ordering.{nat_cmp, match_ordering}
 use Rattle.std.specs.Cmp.Lexicographic.{slice_cmp}
@@ -23,4 +24,6 @@ mutual
 -- the members, with d under the name k
 abbrev pub put : List ℕ → Data → Members → Members
 put k d no_members = member k d no_members
-put k d (member l e ms) = match_ordering (slice_cmp nat_cmp k l) (member k d (member l e ms)) (member l d ms) (member l e (put k d ms))
+put k d (member l e ms) =
+    match_ordering (slice_cmp nat_cmp k l) (member k d (member l e ms)) (member l d ms)
+    (member l e (put k d ms))

@@ -44,7 +44,8 @@ exactly_one false false q = q
 
 -- of two data that have an order, one is below the other, or they are equal, and never two of these
 abbrev pub OrderIsTotal : Type 0
-OrderIsTotal = (a b : Data) → is_some (order a b) ≡ true → exactly_one (is_below a b) (loose_equality a b) (is_below b a) ≡ true
+OrderIsTotal = (a b : Data) → is_some (order a b) ≡ true
+    → exactly_one (is_below a b) (loose_equality a b) (is_below b a) ≡ true
 
 -- numbers among themselves and texts among themselves have an order
 abbrev pub NumbersAreOrdered : Type 0
@@ -54,13 +55,16 @@ abbrev pub TextsAreOrdered : Type 0
 TextsAreOrdered = (s t : List ℕ) → is_some (order (text s) (text t)) ≡ true
 
 abbrev pub NumbersAscend : Type 0
-NumbersAscend = (x y z : ℤ) → is_below (whole x) (whole y) ≡ true → is_below (whole y) (whole z) ≡ true → is_below (whole x) (whole z) ≡ true
+NumbersAscend = (x y z : ℤ) → is_below (whole x) (whole y) ≡ true
+    → is_below (whole y) (whole z) ≡ true → is_below (whole x) (whole z) ≡ true
 
 abbrev pub TextsAscend : Type 0
-TextsAscend = (s t u : List ℕ) → is_below (text s) (text t) ≡ true → is_below (text t) (text u) ≡ true → is_below (text s) (text u) ≡ true
+TextsAscend = (s t u : List ℕ) → is_below (text s) (text t) ≡ true
+    → is_below (text t) (text u) ≡ true → is_below (text s) (text u) ≡ true
 
 abbrev pub AtMostIsBelowOrEqual : Type 0
-AtMostIsBelowOrEqual = (a b : Data) → is_some (order a b) ≡ true → is_at_most a b ≡ (is_below a b || loose_equality a b)
+AtMostIsBelowOrEqual = (a b : Data) → is_some (order a b) ≡ true
+    → is_at_most a b ≡ (is_below a b || loose_equality a b)
 
 -- a number is read back from its decimal text
 abbrev pub DecimalsReadBack : Type 0
@@ -74,20 +78,25 @@ pub record IsRemainder (x y r : ℤ) : Type 0 where
   pub not_positive : x ≤ℤ pos 0 → r ≤ℤ pos 0
 
 abbrev pub RemaindersAreExact : Type 0
-RemaindersAreExact = (x y : ℤ) → y ≢ pos 0 → (r : ℤ) × (remainder_of (whole x) (whole y) ≡ whole r) × IsRemainder x y r
+RemaindersAreExact = (x y : ℤ) → y ≢ pos 0
+    → (r : ℤ) × (remainder_of (whole x) (whole y) ≡ whole r) × IsRemainder x y r
 
 abbrev pub PartsStandInside : Type 0
-PartsStandInside = (s t : List ℕ) → (is_part (text s) (text t) ≡ true) ↔ ((before : List ℕ) × (after : List ℕ) × (t ≡ before ++ (s ++ after)))
+PartsStandInside = (s t : List ℕ) → (is_part (text s) (text t) ≡ true)
+    ↔ ((before : List ℕ) × (after : List ℕ) × (t ≡ before ++ (s ++ after)))
 
 abbrev pub PrefixesStandFirst : Type 0
-PrefixesStandFirst = (s t : List ℕ) → (has_prefix (text s) (text t) ≡ true) ↔ ((after : List ℕ) × (s ≡ t ++ after))
+PrefixesStandFirst =
+    (s t : List ℕ) → (has_prefix (text s) (text t) ≡ true) ↔ ((after : List ℕ) × (s ≡ t ++ after))
 
 abbrev pub SuffixesStandLast : Type 0
-SuffixesStandLast = (s t : List ℕ) → (has_suffix (text s) (text t) ≡ true) ↔ ((before : List ℕ) × (s ≡ before ++ t))
+SuffixesStandLast =
+    (s t : List ℕ) → (has_suffix (text s) (text t) ≡ true) ↔ ((before : List ℕ) × (s ≡ before ++ t))
 
 -- a text is a version where, without its `v` and filled up, it is the text of valid parts
 abbrev pub VersionsFollowTheGrammar : Type 0
-VersionsFollowTheGrammar = (bs : List ℕ) (p : Parts) → (version_of bs ≡ Some p) ↔ (IsValid p × (parts_text p ≡ filled (without_v bs)))
+VersionsFollowTheGrammar = (bs : List ℕ) (p : Parts)
+    → (version_of bs ≡ Some p) ↔ (IsValid p × (parts_text p ≡ filled (without_v bs)))
 
 -- two versions that differ in build metadata alone
 pub record SameButBuild (p q : Parts) : Type 0 where
@@ -97,7 +106,10 @@ pub record SameButBuild (p q : Parts) : Type 0 where
   pub pre_release : p.3 ≡ q.3
 
 abbrev pub BuildIsIgnored : Type 0
-BuildIsIgnored = (op : List ℕ) (p q r : Parts) → SameButBuild p q → (holds op p r ≡ holds op q r) × (holds op r p ≡ holds op r q)
+BuildIsIgnored = (op : List ℕ) (p q r : Parts) → SameButBuild p q
+    → (holds op p r ≡ holds op q r) × (holds op r p ≡ holds op r q)
 
 abbrev pub PreReleasesComeFirst : Type 0
-PreReleasesComeFirst = (major minor patch b : ℕ) (bs build other : List ℕ) → is_lt (precedence (major, minor, patch, b ∷ bs, build) (major, minor, patch, [], other)) ≡ true
+PreReleasesComeFirst =
+    (major minor patch b : ℕ) (bs build other : List ℕ) → is_lt
+    (precedence (major, minor, patch, b ∷ bs, build) (major, minor, patch, [], other)) ≡ true

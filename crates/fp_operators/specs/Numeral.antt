@@ -14,8 +14,10 @@ only_if b z = if b then Some z else None
 abbrev pub whole_number_of : List ℕ → Option ℤ
 whole_number_of [] = None
 whole_number_of (b ∷ ds) =
-    if b == 45 then only_if (is_numeral ds && nat_le (digits_value 10 ds) (2 ^ 63)) (neg_ℤ (pos (digits_value 10 ds)))
-    else only_if (is_numeral (b ∷ ds) && nat_lt (digits_value 10 (b ∷ ds)) (2 ^ 63)) (pos (digits_value 10 (b ∷ ds)))
+    if b == 45 then only_if (is_numeral ds && nat_le (digits_value 10 ds) (2 ^ 63))
+    (neg_ℤ (pos (digits_value 10 ds)))
+    else only_if (is_numeral (b ∷ ds) && nat_lt (digits_value 10 (b ∷ ds)) (2 ^ 63))
+    (pos (digits_value 10 (b ∷ ds)))
 
 abbrev pub begins_with_plus : List ℕ → Bool
 begins_with_plus [] = false

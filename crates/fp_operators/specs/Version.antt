@@ -16,7 +16,8 @@ without_v (b ∷ bs) = if b == 118 then bs else b ∷ bs
 abbrev pub filling : List ℕ → List ℕ
 filling bs =
     if is_numeral bs then codes ".0.0" else
-    if is_numeral (before_first (λ b. b == 46) bs) && is_numeral (after_first (λ b. b == 46) bs) then codes ".0" else []
+    if is_numeral (before_first (λ b. b == 46) bs) && is_numeral (after_first (λ b. b == 46) bs)
+    then codes ".0" else []
 
 abbrev pub filled : List ℕ → List ℕ
 filled bs = bs ++ filling bs
@@ -30,7 +31,9 @@ abbrev pub version_of : List ℕ → Option Parts
 version_of bs = read_parts (version_parts (filled (without_v bs)))
 
 abbrev pub precedence : Parts → Parts → Ordering
-precedence p q = ordering_then (nat_cmp p.0 q.0) (ordering_then (nat_cmp p.1 q.1) (ordering_then (nat_cmp p.2 q.2) (pre_cmp p.3 q.3)))
+precedence p q =
+    ordering_then (nat_cmp p.0 q.0)
+    (ordering_then (nat_cmp p.1 q.1) (ordering_then (nat_cmp p.2 q.2) (pre_cmp p.3 q.3)))
 
 -- whether an operator holds between two versions
 abbrev pub holds : List ℕ → Parts → Parts → Bool

@@ -1,3 +1,5 @@
+//! Arithmetic of whole numbers.
+
 ghost use Rattle.std.specs.Prelude.{◌≡◌};
 ghost use Rattle.fp_operators.specs.View.{view};
 ghost use Rattle.fp_operators.specs.Arithmetic.{remainder_of};

@@ -1,3 +1,5 @@
+//! The data that rules compute with.
+
 ghost use Rattle.std.specs.Prelude.{◌≡◌, IfOk};
 ghost use Rattle.serde_json.specs.View.{view as json_view, items_view as json_items, members_view as json_members};
 ghost use Rattle.fp_operators.specs.View.{view, items_view, members_view};

@@ -1,6 +1,8 @@
+//! Equality of data.
+
 ghost use Rattle.std.specs.Prelude.{◌≡◌, not};
 ghost use Rattle.fp_operators.specs.View.{view};
-ghost use Rattle.fp_operators.specs.Equality.{strict_equality, loose_equality};
+ghost use Rattle.fp_operators.specs.Equality.{strict_equality, loose_equality, number_meant, stands_for};
 
 use crate::datum::Datum;
 use crate::numeral::whole_number;
@@ -25,17 +27,32 @@ pub fn strictly_unequal(a: &Datum, b: &Datum) -> bool
     !strictly_equal(a, b)
 }
 
+/// The number that a text writes, and that true and false count as.
+fn number_meant(datum: &Datum) -> Option<i64>
+    ensures { result ≡ number_meant (view datum.now) }
+{
+    match datum {
+        Datum::Text(text) => whole_number(text.as_str()),
+        Datum::Bool(truth) => Some(i64::from(*truth)),
+        _ => None,
+    }
+}
+
+/// Whether a text or a boolean means this number.
+fn stands_for(datum: &Datum, number: &Datum) -> bool
+    ensures { result ≡ stands_for (view datum.now) (view number.now) }
+{
+    match number {
+        Datum::Whole(z) => number_meant(datum) == Some(*z),
+        _ => false,
+    }
+}
+
 /// `==`: `===`, or a number beside a text that writes it, or beside a boolean as 1 or 0.
 pub fn loosely_equal(a: &Datum, b: &Datum) -> bool
     ensures { result ≡ loose_equality (view a.now) (view b.now) }
 {
-    match (a, b) {
-        (Datum::Whole(x), Datum::Text(t)) => whole_number(t.as_str()) == Some(*x),
-        (Datum::Text(s), Datum::Whole(y)) => whole_number(s.as_str()) == Some(*y),
-        (Datum::Bool(x), Datum::Whole(y)) => i64::from(*x) == *y,
-        (Datum::Whole(x), Datum::Bool(y)) => *x == i64::from(*y),
-        _ => strictly_equal(a, b),
-    }
+    strictly_equal(a, b) || stands_for(a, b) || stands_for(b, a)
 }
 
 /// `!=`: the negation of `==`.

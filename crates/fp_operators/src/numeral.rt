@@ -1,3 +1,5 @@
+//! Numbers that texts write.
+
 ghost use Rattle.std.specs.Prelude.{◌≡◌, ◌||◌};
 ghost use Rattle.fp_operators.specs.Numeral.{begins_with_plus, leads_with_zero, whole_number_of, place_of};
 

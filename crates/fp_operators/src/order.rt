@@ -1,3 +1,5 @@
+//! The order of data.
+
 ghost use Rattle.std.specs.Prelude.{◌≡◌, ◌&&◌};
 ghost use Rattle.fp_operators.specs.View.{view};
 ghost use Rattle.fp_operators.specs.Order.{order, is_below, is_at_most};

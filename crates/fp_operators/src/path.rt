@@ -1,3 +1,5 @@
+//! Paths into data.
+
 ghost use Rattle.std.specs.Prelude.{◌≡◌, IfOk, option_map, map};
 ghost use Rattle.fp_operators.specs.View.{view, items_view, members_view};
 ghost use Rattle.fp_operators.specs.Path.{item_at, member_at, step_to, parts, follow, at_text as at_text_of, named_by, variable_of};
@@ -25,8 +27,8 @@ pub fn variable(alloc: Global, root: &Datum, arguments: &[Datum]) -> Result<Datu
     }
 }
 
-/// What a datum names in the data: a text or a number its path, null all of them. The data are lent, so that a
-/// caller copies no more than it keeps.
+/// What a datum names in the data: a text or a number its path, null all of them. The data are
+/// lent, so that a caller copies no more than it keeps.
 pub fn named<'d>(
     alloc: Global,
     root: &'d Datum,

@@ -1,3 +1,5 @@
+//! Texts within texts, items of lists, and texts joined.
+
 ghost use Rattle.std.specs.Prelude.{◌≡◌, ◌++◌, eqb, Some, None, false, if◌then◌else◌, IfOk, OnErr, option_map, string_bytes, map};
 ghost use Rattle.std.specs.List.{starts_with as begins, ends_with as finishes};
 ghost use Rattle.fp_operators.specs.View.{view, items_view};
@@ -96,7 +98,8 @@ pub fn append_text(out: &mut String, datum: &Datum) -> Result<bool, AllocError>
     ensures text { IfOk result (λ wrote.
         (if wrote then Some (string_bytes out.new) else None)
         ≡ option_map (λ t. string_bytes out.old ++ t) (scalar_text (view datum.now))) }
-    ensures none { IfOk result (λ wrote. wrote ≡ false → string_bytes out.new ≡ string_bytes out.old) }
+    ensures none { IfOk result (λ wrote.
+        wrote ≡ false → string_bytes out.new ≡ string_bytes out.old) }
     ensures err { OnErr result (string_bytes out.new ≡ string_bytes out.old) }
 {
     match datum {

@@ -1,3 +1,5 @@
+//! Which data count as true.
+
 ghost use Rattle.std.specs.Prelude.{◌≡◌, not};
 ghost use Rattle.fp_operators.specs.View.{view};
 ghost use Rattle.fp_operators.specs.Truth.{truth};

@@ -7,7 +7,7 @@ use Rattle.fp_edit.specs.Flags.{State}
 use Rattle.fp_edit.specs.Edits.{Proposal}
 use Rattle.fp_edit.specs.Line as line
 use Rattle.fp_edit.specs.Line.{line_of}
-use Rattle.fp_edit.specs.Spelled.{IsFault}
+use Rattle.fp_edit.specs.Spelled.{Tells}
 use Rattle.fp_edit.specs.declared.line.LineFault.{LineFault}
 use Rattle.fp_edit.specs.declared.line.LineFault.TheVariants.{TooLong, NotJson, NotObject, BadMember, BadOp, BadKey, BadIf, BadFlag, Memory}
 use Rattle.fp_definition.specs.Valid as flag
@@ -88,7 +88,7 @@ edit-ends_or_stays s t l p blank reads (inl h) = inl (h.0 ∷ [], run-one s t l 
 edit-ends_or_stays s t l p blank reads (inr stays) = inr stays
 
 -- a line that is no edit
-pub no_edit-answers : (s t : State) (l : List ℕ) (e : LineFault) → IsFault e (line_of l) → t ≡ s → Answers s l (said (NoEdit e)) t
+pub no_edit-answers : (s t : State) (l : List ℕ) (e : LineFault) → Tells e (λ f. line_of l ≡ Err f) → t ≡ s → Answers s l (said (NoEdit e)) t
 no_edit-answers s t l e fault stays = by_fault e fault
   where
     stands : (f : line.Fault) → line_of l ≡ Err f → verdict s l ≡ (no_edit f, t)
@@ -98,7 +98,7 @@ no_edit-answers s t l e fault stays = by_fault e fault
     of_flag None h = absurd h
     of_flag (Some f) h = stands (line.bad_flag f) h
 
-    by_fault : (e : LineFault) → IsFault e (line_of l) → Answers s l (fault_of e) t
+    by_fault : (e : LineFault) → Tells e (λ f. line_of l ≡ Err f) → Answers s l (fault_of e) t
     by_fault TooLong h = stands line.too_long h
     by_fault NotJson h = stands line.not_json h
     by_fault NotObject h = stands line.not_object h

@@ -1,17 +1,15 @@
 //! Reply lines.
 
 ghost use Rattle.std.specs.Prelude.{◌≡◌, ◌++◌, not, Some, IfOk, OnOk};
-ghost use Rattle.serde_json.specs.Data.{string};
-ghost use Rattle.serde_json.specs.Written.{compact_text};
 ghost use Rattle.fp_definition.specs.Faults as flag;
 ghost use Rattle.fp_definition.specs.Valid as flag_fault;
 ghost use Rattle.fp_plane.specs.Reply as say;
 ghost use Rattle.fp_plane.specs.Reply.{said, text_of, is_told};
 
+use fp_base::put_quoted;
 use fp_definition::DefFault;
 use fp_edit::{EditFault, LineFault};
 use itoa::Buffer;
-use serde_json::Value;
 use std::alloc::{AllocError, Global};
 
 /// What a line of input is answered.
@@ -141,14 +139,5 @@ fn put_operator(alloc: Global, text: &mut Vec<u8>, fault: &DefFault) -> Result<(
         text.extend_from_slice(b",\"operator\":")?;
         put_quoted(alloc, text, name.as_str())?;
     }
-    Ok(())
-}
-
-fn put_quoted(alloc: Global, text: &mut Vec<u8>, name: &str) -> Result<(), AllocError>
-    ensures { OnOk result (text.new.items ≡ text.old.items ++ compact_text (string name.now)) }
-{
-    let name = Value::String(String::from_str(alloc, name)?);
-    let quoted = name.to_vec(alloc)?;
-    text.extend_from_slice(&quoted)?;
     Ok(())
 }

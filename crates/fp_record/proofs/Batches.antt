@@ -6,7 +6,8 @@ use Rattle.std.proofs.lemmas.Bool.{eqb-true, leb-true, le-leb}
 use Rattle.std.proofs.lemmas.List.{append-nil}
 use Rattle.fp_edit.specs.Edits.{Change, put, delete}
 use Rattle.fp_record.specs.Group.{Group}
-use Rattle.fp_record.specs.Fields.{◌>>=◌, number_at, key_at, definition_at}
+use Rattle.fp_base.specs.Steps.{◌>>=◌}
+use Rattle.fp_record.specs.Fields.{number_at, key_at, definition_at}
 use Rattle.fp_record.specs.Lawful.{IsChange, IsBatch}
 use Rattle.fp_record.specs.Reading.{put_at, delete_at, change_at, changes_at, can_count, batch_at, batch_in}
 use Rattle.fp_record.specs.Spelling.{spelling_of_key, spelling_of_definition, spelling_of_change, spelling_of_batch}
@@ -14,6 +15,8 @@ use Rattle.fp_record.proofs.Keyed.{key_takes, key_again, definition_takes, defin
 use Rattle.fp_record.proofs.Many.{Leads, many_take, many_again}
 use Rattle.fp_record.proofs.Whole.{whole_ok, whole_again, Takes-all, one_reading}
 use Rattle.fp_record.proofs.Places.{IsBytes, bind_ok, met, both_true, ok_is, chosen, From, From-start, Takes, Takes-then, wide8, wide16, wide64, number_takes, number_again}
+use Rattle.fp_edit.specs.declared.edit.TheConstants.{REVISIONS_END}
+use Rattle.fp_record.specs.declared.batch.TheConstants.{MOST_EDITS}
 
 -- ---- a change
 
@@ -99,14 +102,14 @@ changes_again bytes at changes rest is h =
 
 -- ---- batches
 
-can_count_all : (first count : ℕ) → can_count first count ≡ true → (0 < count) × (count ≤ 64) × (first + count ≤ 2 ^ 63)
+can_count_all : (first count : ℕ) → can_count first count ≡ true → (0 < count) × (count ≤ MOST_EDITS) × (first + count ≤ REVISIONS_END)
 can_count_all first count e =
-    let a = both_true (leb 1 count && leb count 64) (leb (first + count) (2 ^ 63)) e in
-    let b = both_true (leb 1 count) (leb count 64) a.0 in
-    (leb-true 1 count b.0, leb-true count 64 b.1, leb-true (first + count) (2 ^ 63) a.1)
+    let a = both_true (leb 1 count && leb count MOST_EDITS) (leb (first + count) REVISIONS_END) e in
+    let b = both_true (leb 1 count) (leb count MOST_EDITS) a.0 in
+    (leb-true 1 count b.0, leb-true count MOST_EDITS b.1, leb-true (first + count) REVISIONS_END a.1)
 
-can_count_back : (first count : ℕ) → 0 < count → count ≤ 64 → first + count ≤ 2 ^ 63 → can_count first count ≡ true
-can_count_back first count some few revisions = rw (le-leb 1 count some, le-leb count 64 few, le-leb (first + count) (2 ^ 63) revisions) refl
+can_count_back : (first count : ℕ) → 0 < count → count ≤ MOST_EDITS → first + count ≤ REVISIONS_END → can_count first count ≡ true
+can_count_back first count some few revisions = rw (le-leb 1 count some, le-leb count MOST_EDITS few, le-leb (first + count) REVISIONS_END revisions) refl
 
 pub batch_takes : (bytes : List ℕ) (x : Group × ℕ) → IsBytes bytes → batch_at bytes ≡ Ok x → Takes bytes 0 (spelling_of_batch x.0) x.1 × IsBatch x.0
 unfolding batch_at spelling_of_batch

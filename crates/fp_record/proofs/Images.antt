@@ -12,7 +12,8 @@ use Rattle.std.proofs.lemmas.List.{append-nil}
 use Rattle.fp_base.specs.Bytes.{bytes_cmp}
 use Rattle.fp_definition.specs.Key.{is_key}
 use Rattle.fp_edit.specs.declared.flags.Flag.{Flag}
-use Rattle.fp_record.specs.Fields.{◌>>=◌, number_at, key_at, definition_at}
+use Rattle.fp_base.specs.Steps.{◌>>=◌}
+use Rattle.fp_record.specs.Fields.{number_at, key_at, definition_at}
 use Rattle.fp_record.specs.Lawful.{IsKey, IsFlag, IsImage, IsOrdered}
 use Rattle.fp_record.specs.Reading.{key_above_at, changed_at, flag_at, many_from, flags_at, image_at, image_in}
 use Rattle.fp_record.specs.Spelling.{spelling_of_key, spelling_of_definition, spelling_of_flag, spelling_of_image}
@@ -20,6 +21,7 @@ use Rattle.fp_record.proofs.Keyed.{key_takes, key_again, definition_takes, defin
 use Rattle.fp_record.proofs.Many.{Leads, many_take, many_again}
 use Rattle.fp_record.proofs.Places.{IsBytes, bind_ok, met, ok_is, From, From-start, Takes, Takes-then, wide32, wide64, number_takes, number_again}
 use Rattle.fp_record.proofs.Whole.{whole_ok, whole_again, Takes-all, one_reading}
+use Rattle.fp_edit.specs.declared.flag_set.TheConstants.{MOST_FLAGS}
 
 abbrev Keyed : Type 0
 Keyed = List ℕ × Flag
@@ -153,13 +155,13 @@ flags_again bytes at flags rest is ascending h =
 pub image_takes : (bytes : List ℕ) (x : List Keyed × ℕ) → IsBytes bytes → image_at bytes ≡ Ok x → Takes bytes 0 (spelling_of_image x.0) x.1 × IsImage x.0
 unfolding image_at spelling_of_image
 image_takes bytes x fits e =
-    let a = bind_ok (number_at w32 bytes 0) (λ count. cond (leb count.0 4096) (flags_at count.0 bytes count.1) (Err 0)) x e in
+    let a = bind_ok (number_at w32 bytes 0) (λ count. cond (leb count.0 MOST_FLAGS) (flags_at count.0 bytes count.1) (Err 0)) x e in
     let count = a.0 in
-    let m = met (leb count.0 4096) 0 (flags_at count.0 bytes count.1) x a.2 in
+    let m = met (leb count.0 MOST_FLAGS) 0 (flags_at count.0 bytes count.1) x a.2 in
     let one = number_takes w32 (2 ^ 32) wide32 bytes 0 count fits a.1 in
     let two = flags_take bytes count.0 count.1 x fits one.0.within m.1 in
     let counted : Takes bytes 0 (to_be_bytes w32 (length x.0)) count.1 = subst (λ (n : ℕ). Takes bytes 0 (to_be_bytes w32 n) count.1) (sym {a = length x.0} {b = count.0} two.1) one.0 in
-    let few = leb-true count.0 4096 m.0 in (
+    let few = leb-true count.0 MOST_FLAGS m.0 in (
       Takes-then bytes 0 (to_be_bytes w32 (length x.0)) count.1 (flat_map spelling_of_flag x.0) x.1 counted two.0,
       record { few = omega (arith, two.1); ascending = two.3; flags = two.2 },
     )
@@ -172,7 +174,7 @@ image_again bytes image rest is e =
     subst (λ (t : List ℕ). From bytes 0 t) (e ∙ append_assoc (to_be_bytes w32 (length image)) (flat_map spelling_of_flag image) rest) (From-start bytes) in
     let one = number_again w32 (2 ^ 32) wide32 bytes 0 (length image) (flat_map spelling_of_flag image ++ rest) (omega arith) start in
     let two = flags_again bytes one.0 image rest is.flags is.ascending one.2 in
-    (two.0, rw (one.1, le-leb (length image) 4096 few, two.1) (refl {a = Ok (image, two.0)}), two.2)
+    (two.0, rw (one.1, le-leb (length image) MOST_FLAGS few, two.1) (refl {a = Ok (image, two.0)}), two.2)
 
 pub image_spelled : (bytes : List ℕ) (image : List Keyed) → IsBytes bytes → image_in bytes ≡ Ok image → IsImage image × (bytes ≡ spelling_of_image image)
 unfolding image_in
@@ -200,7 +202,7 @@ pub ordered_flags : (flags : List Keyed) → AllByRecursion IsFlag flags → All
 ordered_flags [] h = tt
 ordered_flags (flag ∷ flags) h = (h.0.some, ordered_flags flags h.1)
 
-pub read_in_order : (bytes : List ℕ) (n at : ℕ) (x : List Keyed × ℕ) → IsBytes bytes → at ≤ length bytes → n ≤ 4096 → flags_at n bytes at ≡ Ok x → IsOrdered x.0
+pub read_in_order : (bytes : List ℕ) (n at : ℕ) (x : List Keyed × ℕ) → IsBytes bytes → at ≤ length bytes → n ≤ MOST_FLAGS → flags_at n bytes at ≡ Ok x → IsOrdered x.0
 read_in_order bytes n at x fits within few e =
     let t = flags_take bytes n at x fits within e in
     record { few = omega (arith, t.1); ascending = t.3; changed = ordered_flags x.0 t.2 }

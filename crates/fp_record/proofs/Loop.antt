@@ -3,8 +3,13 @@ use Rattle.std.proofs.Common.{◌≡◌, ℕ, suc, ◌-◌, ◌+◌, ◌≤◌, 
 use Rattle.std.proofs.lemmas.List.{append-nil}
 use Rattle.fp_record.specs.declared.fault.RecordFault.{RecordFault}
 use Rattle.fp_record.specs.declared.fault.RecordFault.TheVariants as fault
-use Rattle.fp_record.specs.Fields.{◌>>=◌, Fails}
+use Rattle.fp_base.specs.Steps.{◌>>=◌}
+use Rattle.fp_record.specs.Fields.{Tells}
 use Rattle.fp_record.specs.Reading.{many_from}
+
+-- what is read ends so
+abbrev pub Fails : {A : Type 0} → RecordFault → Result A ℕ → Type 0
+Fails e read = Tells e (λ at. read ≡ Err at)
 
 -- what was read before, and what is still read
 abbrev pub with_front : {A S : Type 0} → List A → Result (List A × S) ℕ → Result (List A × S) ℕ

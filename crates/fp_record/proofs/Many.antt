@@ -2,7 +2,7 @@
 use Rattle.std.proofs.Common.{◌≡◌, ℕ, zero, suc, ◌≤◌, List, [], ◌∷◌, ◌++◌, length, Result, Ok, refl, ap, subst, ◌∙◌, append_assoc}
 use Rattle.std.specs.List.{flat_map}
 use Rattle.std.proofs.lemmas.List.Concat.{flat_map-cons}
-use Rattle.fp_record.specs.Fields.{◌>>=◌}
+use Rattle.fp_base.specs.Steps.{◌>>=◌}
 use Rattle.fp_record.specs.Reading.{many_from}
 use Rattle.fp_record.proofs.Places.{bind_ok, ok_is, From, Takes, Takes-nothing, Takes-then}
 

@@ -5,7 +5,8 @@ use Rattle.std.proofs.lemmas.Bool.{eqb-true}
 use Rattle.std.proofs.lemmas.List.{append-nil, length-drop, drop_all}
 use Rattle.fp_record.specs.declared.fault.RecordFault.{RecordFault}
 use Rattle.fp_record.specs.declared.fault.RecordFault.TheVariants as fault
-use Rattle.fp_record.specs.Fields.{Gives}
+use Rattle.fp_base.specs.Answer.{Gives}
+use Rattle.fp_record.specs.Fields.{Tells}
 use Rattle.fp_record.specs.Reading.{whole}
 use Rattle.fp_record.proofs.Places.{bind_ok, met, ok_is, From, Takes}
 
@@ -38,12 +39,12 @@ one_reading {A = A} bytes read v w m n x y a b p q =
     (ap (λ (z : A × ℕ). z.0) same, sym p.is ∙ ap (λ (z : A × ℕ). drop z.1 bytes) same ∙ q.is)
 
 -- what a decoder answers where the bytes are read so
-pub is_found : {A : Type 0} (r : Result A RecordFault) (read : Result A ℕ) (v : A) → Gives (λ a. a) r read → read ≡ Ok v → (r ≡ Ok v) ⊎ (r ≡ Err fault.Memory)
+pub is_found : {A : Type 0} (r : Result A RecordFault) (read : Result A ℕ) (v : A) → Gives (λ a. a) Tells r read → read ≡ Ok v → (r ≡ Ok v) ⊎ (r ≡ Err fault.Memory)
 is_found {A = A} (Ok a) read v given e = inl (ap (λ (x : A). Ok x) (ok_is a v (sym given ∙ e)))
 is_found (Err fault.Memory) read v given e = inr refl
 is_found (Err (fault.BadRecord at)) read v given e = absurd cc
 
 -- what holds of all that is read so
-pub is_read : {A : Type 0} (P : A → Type 0) (r : Result A RecordFault) (read : Result A ℕ) → Gives (λ a. a) r read → ((v : A) → read ≡ Ok v → P v) → IfOk r P
+pub is_read : {A : Type 0} (P : A → Type 0) (r : Result A RecordFault) (read : Result A ℕ) → Gives (λ a. a) Tells r read → ((v : A) → read ≡ Ok v → P v) → IfOk r P
 is_read P (Ok a) read given all = all a given
 is_read P (Err e) read given all = tt

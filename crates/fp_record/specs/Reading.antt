@@ -3,13 +3,14 @@ use Rattle.std.specs.Prelude.{ℕ, zero, suc, ◌+◌, Bool, ◌&&◌, List, [],
 use Rattle.std.specs.Int.{w8, w16, w32, w64}
 use Rattle.std.specs.Ordering.{is_lt}
 use Rattle.fp_base.specs.Bytes.{bytes_cmp}
+use Rattle.fp_base.specs.Steps.{◌>>=◌}
 use Rattle.fp_edit.specs.Edits.{Change, put, delete}
 use Rattle.fp_edit.specs.declared.edit.TheConstants.{REVISIONS_END}
 use Rattle.fp_edit.specs.declared.flag_set.TheConstants.{MOST_FLAGS}
 use Rattle.fp_edit.specs.declared.flags.Flag.{Flag}
 use Rattle.fp_record.specs.Group.{Group}
 use Rattle.fp_record.specs.declared.batch.TheConstants.{MOST_EDITS}
-use Rattle.fp_record.specs.Fields.{◌>>=◌, number_at, key_at, definition_at}
+use Rattle.fp_record.specs.Fields.{number_at, key_at, definition_at}
 
 unfoldable pub put_at : List ℕ → ℕ → Result (Change × ℕ) ℕ
 put_at bytes at = do
@@ -25,7 +26,8 @@ delete_at bytes at = do
 unfoldable pub change_at : List ℕ → ℕ → Result (Change × ℕ) ℕ
 change_at bytes at = do
   kind ← number_at w8 bytes at
-  if kind.0 == 1 then put_at bytes kind.1 else if kind.0 == 2 then delete_at bytes kind.1 else Err at
+  if kind.0 == 1 then put_at bytes kind.1 else if kind.0 == 2 then delete_at bytes kind.1
+      else Err at
 
 -- that many of what step reads, one after the other
 unfoldable pub many_from : {A S : Type 0} → (S → Result (A × S) ℕ) → ℕ → S → Result (List A × S) ℕ
@@ -40,7 +42,8 @@ changes_at count bytes at = many_from (change_at bytes) count at
 
 -- so many changes can follow that first revision
 abbrev pub can_count : ℕ → ℕ → Bool
-can_count first count = nat_le 1 count && nat_le count MOST_EDITS && nat_le (first + count) REVISIONS_END
+can_count first count =
+    nat_le 1 count && nat_le count MOST_EDITS && nat_le (first + count) REVISIONS_END
 
 -- the batch at the front, and where it ends
 unfoldable pub batch_at : List ℕ → Result (Group × ℕ) ℕ
@@ -59,7 +62,8 @@ batch_in bytes = whole bytes (batch_at bytes)
 
 -- ---- images
 
--- a key above the one before; one that isn't is wrong at its first byte, which is behind the two of its length
+-- a key above the one before; one that isn't is wrong at its first byte, which is behind the two of
+-- its length
 unfoldable pub key_above_at : List ℕ → List ℕ → ℕ → Result (List ℕ × ℕ) ℕ
 key_above_at before bytes at = do
   key ← key_at bytes at

@@ -21,11 +21,13 @@ spelling_of_change (delete key) = 2 ∷ spelling_of_key key
 
 -- the first revision, the count, the changes
 unfoldable pub spelling_of_batch : Group → List ℕ
-spelling_of_batch group = to_be_bytes w64 group.first ++ (to_be_bytes w16 (length group.changes) ++ flat_map spelling_of_change group.changes)
+spelling_of_batch group = to_be_bytes w64 group.first
+    ++ (to_be_bytes w16 (length group.changes) ++ flat_map spelling_of_change group.changes)
 
 -- a flag: its key, the revision of its last put, its definition
 unfoldable pub spelling_of_flag : List ℕ × Flag → List ℕ
-spelling_of_flag flag = spelling_of_key flag.0 ++ (to_be_bytes w64 flag.1.changed ++ spelling_of_definition flag.1.definition)
+spelling_of_flag flag = spelling_of_key flag.0
+    ++ (to_be_bytes w64 flag.1.changed ++ spelling_of_definition flag.1.definition)
 
 -- the count, the flags
 unfoldable pub spelling_of_image : List (List ℕ × Flag) → List ℕ

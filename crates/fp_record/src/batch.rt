@@ -2,9 +2,10 @@
 
 ghost use Rattle.std.specs.Prelude.{◌≡◌, ◌+◌, ◌<◌, ◌≤◌, ◌^◌, ◌++◌, ◌⊎◌, length, vec_len, IfOk, OnOk, Ok, Err};
 ghost use Rattle.std.specs.List.{AllByRecursion};
+ghost use Rattle.fp_base.specs.Answer.{Gives};
 ghost use Rattle.fp_record.specs.Group.{Group};
 ghost use Rattle.fp_record.specs.Edits.{change_of, changes_of};
-ghost use Rattle.fp_record.specs.Fields.{Gives};
+ghost use Rattle.fp_record.specs.Fields.{Tells};
 ghost use Rattle.fp_record.specs.declared.fault.RecordFault.TheVariants.{Memory};
 ghost use Rattle.fp_record.specs.Lawful.{IsBatch, IsChange};
 ghost use Rattle.fp_record.specs.Reading.{change_at, put_at, delete_at, changes_at, batch_at, batch_in};
@@ -44,7 +45,8 @@ impl Model for Batch {
 
     ghost view = { λ a. record { first = a.first; changes = changes_of a.edits.items } };
 
-    ghost invariant = { λ a. (0 < length a.edits.items) × (length a.edits.items ≤ MOST_EDITS) × (a.first + length a.edits.items ≤ REVISIONS_END) };
+    ghost invariant = { λ a. (0 < length a.edits.items) × (length a.edits.items ≤ MOST_EDITS)
+        × (a.first + length a.edits.items ≤ REVISIONS_END) };
 }
 
 impl Batch {
@@ -89,11 +91,13 @@ impl Batch {
 
     /// The batch that the bytes spell, all of them.
     pub fn decode(alloc: Global, bytes: &[u8]) -> Result<Batch, RecordFault>
-        ensures spelled { IfOk result (λ batch. IsBatch batch × (bytes.now ≡ spelling_of_batch batch)) }
+        ensures spelled { IfOk result (λ batch.
+            IsBatch batch × (bytes.now ≡ spelling_of_batch batch)) }
         // What spells a batch is decoded, unless memory runs out.
-        ensures found { (batch : Group) → IsBatch batch → bytes.now ≡ spelling_of_batch batch → (result ≡ Ok batch) ⊎ (result ≡ Err Memory) }
+        ensures found { (batch : Group) → IsBatch batch → bytes.now ≡ spelling_of_batch batch
+            → (result ≡ Ok batch) ⊎ (result ≡ Err Memory) }
         // Where the first fault is.
-        ensures place { Gives (λ batch. batch) result (batch_in bytes.now) }
+        ensures place { Gives (λ batch. batch) Tells result (batch_in bytes.now) }
     {
         whole_batch(alloc, bytes)
     }
@@ -112,7 +116,8 @@ pub fn spelled_len(edit: &Edit) -> usize
 
 #[tactic(auto, unfolding(crate::specs::Spelling::spelling_of_change))]
 fn put_edit(out: &mut Vec<u8>, edit: &Edit) -> Result<(), AllocError>
-    ensures written { OnOk result (out.new.items ≡ out.old.items ++ spelling_of_change (change_of edit.now)) }
+    ensures written { OnOk result
+        (out.new.items ≡ out.old.items ++ spelling_of_change (change_of edit.now)) }
     ensures lawful { OnOk result (IsChange (change_of edit.now)) }
 {
     match edit {
@@ -131,7 +136,9 @@ fn put_edit(out: &mut Vec<u8>, edit: &Edit) -> Result<(), AllocError>
 fn spelled(alloc: Global, first: u64, edits: &[Edit]) -> Result<Vec<u8>, AllocError>
     requires { length edits.now ≤ MOST_EDITS }
     ensures changes { IfOk result (λ _. AllByRecursion IsChange (changes_of edits.now)) }
-    ensures spelled { IfOk result (λ bytes. bytes.items ≡ spelling_of_batch (record { first = first; changes = changes_of edits.now })) }
+    ensures spelled { IfOk result (λ bytes.
+        bytes.items ≡ spelling_of_batch
+        (record { first = first; changes = changes_of edits.now })) }
 {
     let mut out = Vec::new(alloc);
     put_u64(&mut out, first)?;
@@ -145,7 +152,7 @@ fn spelled(alloc: Global, first: u64, edits: &[Edit]) -> Result<Vec<u8>, AllocEr
 #[tactic(auto, unfolding(crate::specs::Reading::put_at))]
 fn put_from(alloc: Global, bytes: &[u8], at: usize) -> Result<(Edit, usize), RecordFault>
     requires { at ≤ length bytes.now }
-    ensures value { Gives (λ x. (change_of x.0, x.1)) result (put_at bytes.now at) }
+    ensures value { Gives (λ x. (change_of x.0, x.1)) Tells result (put_at bytes.now at) }
     ensures within { IfOk result (λ x. x.1 ≤ length bytes.now) }
 {
     let (key, next) = key_from(alloc, bytes, at)?;
@@ -157,7 +164,7 @@ fn put_from(alloc: Global, bytes: &[u8], at: usize) -> Result<(Edit, usize), Rec
 #[tactic(auto, unfolding(crate::specs::Reading::delete_at))]
 fn delete_from(alloc: Global, bytes: &[u8], at: usize) -> Result<(Edit, usize), RecordFault>
     requires { at ≤ length bytes.now }
-    ensures value { Gives (λ x. (change_of x.0, x.1)) result (delete_at bytes.now at) }
+    ensures value { Gives (λ x. (change_of x.0, x.1)) Tells result (delete_at bytes.now at) }
     ensures within { IfOk result (λ x. x.1 ≤ length bytes.now) }
 {
     let (key, next) = key_from(alloc, bytes, at)?;
@@ -168,7 +175,7 @@ fn delete_from(alloc: Global, bytes: &[u8], at: usize) -> Result<(Edit, usize), 
 #[tactic(auto, unfolding(crate::specs::Reading::change_at))]
 fn edit_from(alloc: Global, bytes: &[u8], at: usize) -> Result<(Edit, usize), RecordFault>
     requires { at ≤ length bytes.now }
-    ensures value { Gives (λ x. (change_of x.0, x.1)) result (change_at bytes.now at) }
+    ensures value { Gives (λ x. (change_of x.0, x.1)) Tells result (change_at bytes.now at) }
     ensures within { IfOk result (λ x. x.1 ≤ length bytes.now) }
 {
     let (kind, next) = u8_at(bytes, at)?;
@@ -186,7 +193,8 @@ fn edits_from(
     at: usize,
 ) -> Result<(Vec<Edit>, usize), RecordFault>
     requires { at ≤ length bytes.now }
-    ensures value { Gives (λ x. (changes_of x.0.items, x.1)) result (changes_at count bytes.now at) }
+    ensures value { Gives (λ x. (changes_of x.0.items, x.1)) Tells result
+        (changes_at count bytes.now at) }
     ensures count { IfOk result (λ x. length x.0.items ≡ count) }
     ensures within { IfOk result (λ x. x.1 ≤ length bytes.now) }
 {
@@ -202,7 +210,7 @@ fn edits_from(
 
 #[tactic(auto, unfolding(crate::specs::Reading::batch_at))]
 fn batch_from(alloc: Global, bytes: &[u8]) -> Result<(Batch, usize), RecordFault>
-    ensures value { Gives (λ x. x) result (batch_at bytes.now) }
+    ensures value { Gives (λ x. x) Tells result (batch_at bytes.now) }
     ensures within { IfOk result (λ x. x.1 ≤ length bytes.now) }
 {
     let (first, count_at) = u64_at(bytes, 0)?;
@@ -216,7 +224,7 @@ fn batch_from(alloc: Global, bytes: &[u8]) -> Result<(Batch, usize), RecordFault
 
 #[tactic(auto, unfolding(crate::specs::Reading::batch_in))]
 fn whole_batch(alloc: Global, bytes: &[u8]) -> Result<Batch, RecordFault>
-    ensures { Gives (λ batch. batch) result (batch_in bytes.now) }
+    ensures { Gives (λ batch. batch) Tells result (batch_in bytes.now) }
 {
     let (batch, next) = batch_from(alloc, bytes)?;
     if next < bytes.len() {

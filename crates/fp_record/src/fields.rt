@@ -3,9 +3,10 @@
 ghost use Rattle.std.specs.Prelude.{◌≡◌, ◌≤◌, ◌<◌, ◌+◌, length, IfOk, IfErr, is_some, IfSome};
 ghost use Rattle.std.specs.Int.{w8, w16, w32, w64};
 ghost use Rattle.std.specs.Str.{is_utf8};
+ghost use Rattle.fp_base.specs.Answer.{Gives};
 ghost use Rattle.fp_definition.specs.Key.{key_bytes};
 ghost use Rattle.fp_record.specs.declared.fault.RecordFault.TheVariants.{Memory};
-ghost use Rattle.fp_record.specs.Fields.{Gives, number_at, bytes_at, key_at, definition_at};
+ghost use Rattle.fp_record.specs.Fields.{Tells, number_at, bytes_at, key_at, definition_at};
 
 use crate::fault::RecordFault;
 use fp_definition::{Definition, FlagKey, KeyFault, LONGEST_DEFINITION, LONGEST_KEY};
@@ -13,7 +14,7 @@ use std::alloc::Global;
 
 pub fn u8_at(bytes: &[u8], at: usize) -> Result<(u8, usize), RecordFault>
     requires { at ≤ length bytes.now }
-    ensures value { Gives (λ x. x) result (number_at w8 bytes.now at) }
+    ensures value { Gives (λ x. x) Tells result (number_at w8 bytes.now at) }
     ensures within { IfOk result (λ x. x.1 ≤ length bytes.now) }
 {
     if bytes.len() - at < 1 {
@@ -24,7 +25,7 @@ pub fn u8_at(bytes: &[u8], at: usize) -> Result<(u8, usize), RecordFault>
 
 pub fn u16_at(bytes: &[u8], at: usize) -> Result<(u16, usize), RecordFault>
     requires { at ≤ length bytes.now }
-    ensures value { Gives (λ x. x) result (number_at w16 bytes.now at) }
+    ensures value { Gives (λ x. x) Tells result (number_at w16 bytes.now at) }
     ensures within { IfOk result (λ x. x.1 ≤ length bytes.now) }
 {
     if bytes.len() - at < 2 {
@@ -35,7 +36,7 @@ pub fn u16_at(bytes: &[u8], at: usize) -> Result<(u16, usize), RecordFault>
 
 pub fn u32_at(bytes: &[u8], at: usize) -> Result<(u32, usize), RecordFault>
     requires { at ≤ length bytes.now }
-    ensures value { Gives (λ x. x) result (number_at w32 bytes.now at) }
+    ensures value { Gives (λ x. x) Tells result (number_at w32 bytes.now at) }
     ensures within { IfOk result (λ x. x.1 ≤ length bytes.now) }
 {
     if bytes.len() - at < 4 {
@@ -47,7 +48,7 @@ pub fn u32_at(bytes: &[u8], at: usize) -> Result<(u32, usize), RecordFault>
 
 pub fn u64_at(bytes: &[u8], at: usize) -> Result<(u64, usize), RecordFault>
     requires { at ≤ length bytes.now }
-    ensures value { Gives (λ x. x) result (number_at w64 bytes.now at) }
+    ensures value { Gives (λ x. x) Tells result (number_at w64 bytes.now at) }
     ensures within { IfOk result (λ x. x.1 ≤ length bytes.now) }
 {
     if bytes.len() - at < 8 {
@@ -68,7 +69,7 @@ pub fn u64_at(bytes: &[u8], at: usize) -> Result<(u64, usize), RecordFault>
 
 fn part_at(bytes: &[u8], len: usize, at: usize) -> Result<(&[u8], usize), RecordFault>
     requires { at ≤ length bytes.now }
-    ensures value { Gives (λ x. (x.0.now, x.1)) result (bytes_at len bytes.now at) }
+    ensures value { Gives (λ x. (x.0.now, x.1)) Tells result (bytes_at len bytes.now at) }
     ensures within { IfOk result (λ x. x.1 ≤ length bytes.now) }
 {
     if bytes.len() - at < len {
@@ -88,7 +89,7 @@ fn text_of(bytes: &[u8]) -> Option<&str>
 #[tactic(auto, unfolding(crate::specs::Fields::key_at))]
 pub fn key_text_at(bytes: &[u8], at: usize) -> Result<(&str, usize), RecordFault>
     requires { at ≤ length bytes.now }
-    ensures value { Gives (λ x. (x.0.now, x.1)) result (key_at bytes.now at) }
+    ensures value { Gives (λ x. (x.0.now, x.1)) Tells result (key_at bytes.now at) }
     ensures within { IfOk result (λ x. x.1 ≤ length bytes.now) }
     ensures short { IfOk result (λ x. (0 < length x.0.now) × (length x.0.now ≤ LONGEST_KEY)) }
     ensures ends { IfOk result (λ x. x.1 ≡ at + 2 + length x.0.now) }
@@ -119,7 +120,7 @@ pub fn key_of(alloc: Global, text: &str) -> Result<FlagKey, RecordFault>
 #[tactic(auto, unfolding(crate::specs::Fields::key_at))]
 pub fn key_from(alloc: Global, bytes: &[u8], at: usize) -> Result<(FlagKey, usize), RecordFault>
     requires { at ≤ length bytes.now }
-    ensures value { Gives (λ x. (key_bytes x.0, x.1)) result (key_at bytes.now at) }
+    ensures value { Gives (λ x. (key_bytes x.0, x.1)) Tells result (key_at bytes.now at) }
     ensures within { IfOk result (λ x. x.1 ≤ length bytes.now) }
 {
     let (text, next) = key_text_at(bytes, at)?;
@@ -133,7 +134,7 @@ pub fn definition_from(
     at: usize,
 ) -> Result<(Definition, usize), RecordFault>
     requires { at ≤ length bytes.now }
-    ensures value { Gives (λ x. x) result (definition_at bytes.now at) }
+    ensures value { Gives (λ x. x) Tells result (definition_at bytes.now at) }
     ensures within { IfOk result (λ x. x.1 ≤ length bytes.now) }
 {
     let (len, from) = u32_at(bytes, at)?;

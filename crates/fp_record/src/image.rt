@@ -5,12 +5,13 @@ ghost use Rattle.std.specs.List.{AllByRecursion};
 ghost use Rattle.std.specs.List.Sorted.{IsStrictlySortedBy};
 ghost use Rattle.std.specs.Ordering.{is_lt};
 ghost use Rattle.std.specs.FinMap.{entries as map_entries};
+ghost use Rattle.fp_base.specs.Answer.{Gives};
 ghost use Rattle.fp_base.specs.Bytes.{bytes_cmp};
 ghost use Rattle.fp_definition.specs.Key.{key_bytes};
 ghost use Rattle.fp_edit.specs.Entries.{entry_of, entries_of};
 ghost use Rattle.fp_edit.specs.declared.flags.Flag.{Flag};
 ghost use Rattle.fp_record.specs.declared.fault.RecordFault.TheVariants.{Memory};
-ghost use Rattle.fp_record.specs.Fields.{Gives, key_at};
+ghost use Rattle.fp_record.specs.Fields.{Tells, key_at};
 ghost use Rattle.fp_record.specs.Lawful.{IsFlag, IsImage, IsOrdered};
 ghost use Rattle.fp_record.specs.Reading.{key_above_at, changed_at, flag_at, flags_at, image_at, image_in};
 ghost use Rattle.fp_record.specs.Spelling.{spelling_of_image, spelling_of_flag};
@@ -89,11 +90,13 @@ impl Image {
 
     /// The image that the bytes spell, all of them.
     pub fn decode(alloc: Global, bytes: &[u8]) -> Result<Image, RecordFault>
-        ensures spelled { IfOk result (λ image. IsImage image × (bytes.now ≡ spelling_of_image image)) }
+        ensures spelled { IfOk result (λ image.
+            IsImage image × (bytes.now ≡ spelling_of_image image)) }
         // What spells an image is decoded, unless memory runs out.
-        ensures found { (image : List (List ℕ × Flag)) → IsImage image → bytes.now ≡ spelling_of_image image → (result ≡ Ok image) ⊎ (result ≡ Err Memory) }
+        ensures found { (image : List (List ℕ × Flag)) → IsImage image
+            → bytes.now ≡ spelling_of_image image → (result ≡ Ok image) ⊎ (result ≡ Err Memory) }
         // Where the first fault is.
-        ensures place { Gives (λ image. image) result (image_in bytes.now) }
+        ensures place { Gives (λ image. image) Tells result (image_in bytes.now) }
     {
         whole_image(alloc, bytes)
     }
@@ -121,7 +124,8 @@ fn shared(alloc: Global, set: &FlagSet) -> Result<Vec<(FlagKey, Flag)>, AllocErr
 
 #[tactic(auto, unfolding(crate::specs::Spelling::spelling_of_flag))]
 fn put_flag(out: &mut Vec<u8>, key: &FlagKey, flag: &Flag) -> Result<(), AllocError>
-    ensures written { OnOk result (out.new.items ≡ out.old.items ++ spelling_of_flag (key_bytes key.now, flag.now)) }
+    ensures written { OnOk result
+        (out.new.items ≡ out.old.items ++ spelling_of_flag (key_bytes key.now, flag.now)) }
     ensures lawful { OnOk result (0 < flag.now.changed → IsFlag (key_bytes key.now, flag.now)) }
 {
     put_key(out, key)?;
@@ -132,7 +136,8 @@ fn put_flag(out: &mut Vec<u8>, key: &FlagKey, flag: &Flag) -> Result<(), AllocEr
 fn spelled(alloc: Global, flags: &[(FlagKey, Flag)]) -> Result<Vec<u8>, AllocError>
     requires { IsOrdered (entries_of flags.now) }
     ensures lawful { IfOk result (λ _. IsImage (entries_of flags.now)) }
-    ensures spelled { IfOk result (λ bytes. bytes.items ≡ spelling_of_image (entries_of flags.now)) }
+    ensures spelled { IfOk result (λ bytes.
+        bytes.items ≡ spelling_of_image (entries_of flags.now)) }
 {
     let mut out = Vec::new(alloc);
     put_u32(&mut out, flags.len() as u32)?;
@@ -155,7 +160,8 @@ fn key_text_above<'a>(
     at: usize,
 ) -> Result<(&'a str, usize), RecordFault>
     requires { at ≤ length bytes.now }
-    ensures value { Gives (λ x. (x.0.now, x.1)) result (key_above_at before.now bytes.now at) }
+    ensures value { Gives (λ x. (x.0.now, x.1)) Tells result
+        (key_above_at before.now bytes.now at) }
     ensures within { IfOk result (λ x. x.1 ≤ length bytes.now) }
     ensures short { IfOk result (λ x. (0 < length x.0.now) × (length x.0.now ≤ LONGEST_KEY)) }
 {
@@ -169,7 +175,7 @@ fn key_text_above<'a>(
 #[tactic(auto, unfolding(crate::specs::Reading::changed_at))]
 fn changed_from(bytes: &[u8], at: usize) -> Result<(u64, usize), RecordFault>
     requires { at ≤ length bytes.now }
-    ensures value { Gives (λ x. x) result (changed_at bytes.now at) }
+    ensures value { Gives (λ x. x) Tells result (changed_at bytes.now at) }
     ensures within { IfOk result (λ x. x.1 ≤ length bytes.now) }
 {
     let (changed, next) = u64_at(bytes, at)?;
@@ -195,7 +201,8 @@ fn flag_from<'a>(
     at: usize,
 ) -> Result<Found<'a>, RecordFault>
     requires { at ≤ length bytes.now }
-    ensures value { Gives (λ x. (entry_of x.flag, (x.text.now, x.next))) result (flag_at bytes.now (before.now, at)) }
+    ensures value { Gives (λ x. (entry_of x.flag, (x.text.now, x.next))) Tells result
+        (flag_at bytes.now (before.now, at)) }
     ensures within { IfOk result (λ x. x.next ≤ length bytes.now) }
 {
     let (text, next) = key_text_above(bytes, before, at)?;
@@ -219,7 +226,8 @@ fn flags_from(
     at: usize,
 ) -> Result<(Vec<(FlagKey, Flag)>, usize), RecordFault>
     requires { at ≤ length bytes.now }
-    ensures value { Gives (λ x. (entries_of x.0.items, x.1)) result (flags_at count bytes.now at) }
+    ensures value { Gives (λ x. (entries_of x.0.items, x.1)) Tells result
+        (flags_at count bytes.now at) }
     ensures count { IfOk result (λ x. length x.0.items ≡ count) }
     ensures within { IfOk result (λ x. x.1 ≤ length bytes.now) }
 {
@@ -237,7 +245,7 @@ fn flags_from(
 
 #[tactic(auto, unfolding(crate::specs::Reading::image_at))]
 fn image_from(alloc: Global, bytes: &[u8]) -> Result<(Image, usize), RecordFault>
-    ensures value { Gives (λ x. x) result (image_at bytes.now) }
+    ensures value { Gives (λ x. x) Tells result (image_at bytes.now) }
     ensures within { IfOk result (λ x. x.1 ≤ length bytes.now) }
 {
     let (count, next) = u32_at(bytes, 0)?;
@@ -250,7 +258,7 @@ fn image_from(alloc: Global, bytes: &[u8]) -> Result<(Image, usize), RecordFault
 
 #[tactic(auto, unfolding(crate::specs::Reading::image_in))]
 fn whole_image(alloc: Global, bytes: &[u8]) -> Result<Image, RecordFault>
-    ensures { Gives (λ image. image) result (image_in bytes.now) }
+    ensures { Gives (λ image. image) Tells result (image_in bytes.now) }
 {
     let (image, next) = image_from(alloc, bytes)?;
     if next < bytes.len() {

@@ -37,7 +37,8 @@ pub fn put_u64(out: &mut Vec<u8>, number: u64) -> Result<(), AllocError>
 /// A key behind its length.
 #[tactic(auto, unfolding(crate::specs::Spelling::spelling_of_key))]
 pub fn put_key(out: &mut Vec<u8>, key: &FlagKey) -> Result<(), AllocError>
-    ensures written { OnOk result (out.new.items ≡ out.old.items ++ spelling_of_key (key_bytes key.now)) }
+    ensures written { OnOk result
+        (out.new.items ≡ out.old.items ++ spelling_of_key (key_bytes key.now)) }
     ensures lawful { IsKey (key_bytes key.now) }
 {
     let text = key.as_str();
@@ -48,7 +49,8 @@ pub fn put_key(out: &mut Vec<u8>, key: &FlagKey) -> Result<(), AllocError>
 /// A definition's canonical text behind its length.
 #[tactic(auto, unfolding(crate::specs::Spelling::spelling_of_definition))]
 pub fn put_definition(out: &mut Vec<u8>, definition: &Definition) -> Result<(), AllocError>
-    ensures written { OnOk result (out.new.items ≡ out.old.items ++ spelling_of_definition definition.now) }
+    ensures written { OnOk result
+        (out.new.items ≡ out.old.items ++ spelling_of_definition definition.now) }
     ensures lawful { IsText definition.now }
 {
     let text = definition.text();

@@ -85,13 +85,17 @@ mutual
 
   pub items_at-items_tree : (ds : Items) → items_at (items_tree ds) ≡ ds
   items_at-items_tree no_items = refl
-  items_at-items_tree (item d ds) = ap (λ e. item e (items_at (items_tree ds))) (data_at-data_tree d) ∙ ap (item d) (items_at-items_tree ds)
+  items_at-items_tree (item d ds) =
+      ap (λ e. item e (items_at (items_tree ds))) (data_at-data_tree d)
+      ∙ ap (item d) (items_at-items_tree ds)
 
   pub members_at-members_tree : (ms : Members) → members_at (members_tree ms) ≡ ms
   members_at-members_tree no_members = refl
   members_at-members_tree (member k d ms) =
-      ap (λ l. member l (data_at (data_tree d)) (members_at (members_tree ms))) (text_at-text_tree k)
-      ∙ (ap (λ e. member k e (members_at (members_tree ms))) (data_at-data_tree d) ∙ ap (member k d) (members_at-members_tree ms))
+      ap (λ l. member l (data_at (data_tree d)) (members_at (members_tree ms)))
+      (text_at-text_tree k)
+      ∙ (ap (λ e. member k e (members_at (members_tree ms))) (data_at-data_tree d)
+      ∙ ap (member k d) (members_at-members_tree ms))
 
 pub data_tree-one_to_one : (d e : Data) → data_tree d ≡ data_tree e → d ≡ e
 data_tree-one_to_one d e h = sym (data_at-data_tree d) ∙ (ap data_at h ∙ data_at-data_tree e)
@@ -135,19 +139,23 @@ mutual
   rule_tree-one_to_one (literal d) (tree.list ss) h = absurd (subst (λ g. IsNil (front g)) h tt)
   rule_tree-one_to_one (literal d) (apply o ss) h = absurd (subst (λ g. IsNil (front g)) h tt)
   rule_tree-one_to_one (tree.list rs) (literal e) h = absurd (subst (λ g. IsNumber (front g)) h tt)
-  rule_tree-one_to_one (tree.list rs) (tree.list ss) h = ap tree.list (rules_tree-one_to_one rs ss (ap back h))
+  rule_tree-one_to_one (tree.list rs) (tree.list ss) h =
+      ap tree.list (rules_tree-one_to_one rs ss (ap back h))
   rule_tree-one_to_one (tree.list rs) (apply o ss) h = absurd (subst (λ g. IsNumber (front g)) h tt)
   rule_tree-one_to_one (apply o rs) (literal e) h = absurd (subst (λ g. IsNil (front g)) (sym h) tt)
-  rule_tree-one_to_one (apply o rs) (tree.list ss) h = absurd (subst (λ g. IsNumber (front g)) (sym h) tt)
+  rule_tree-one_to_one (apply o rs) (tree.list ss) h =
+      absurd (subst (λ g. IsNumber (front g)) (sym h) tt)
   rule_tree-one_to_one (apply o rs) (apply p ss) h =
-      ap (λ q. apply q rs) (operator.the_row.coded.inj o p (ap (λ g. front (front g)) h)) ∙ ap (apply p) (rules_tree-one_to_one rs ss (ap back h))
+      ap (λ q. apply q rs) (operator.the_row.coded.inj o p (ap (λ g. front (front g)) h))
+      ∙ ap (apply p) (rules_tree-one_to_one rs ss (ap back h))
 
   pub rules_tree-one_to_one : (rs ss : Rules) → rules_tree rs ≡ rules_tree ss → rs ≡ ss
   rules_tree-one_to_one no_rules no_rules h = refl
   rules_tree-one_to_one no_rules (rule s ss) h = absurd (subst IsNil h tt)
   rules_tree-one_to_one (rule r rs) no_rules h = absurd (subst IsNil (sym h) tt)
   rules_tree-one_to_one (rule r rs) (rule s ss) h =
-      ap (λ q. rule q rs) (rule_tree-one_to_one r s (ap front h)) ∙ ap (rule s) (rules_tree-one_to_one rs ss (ap back h))
+      ap (λ q. rule q rs) (rule_tree-one_to_one r s (ap front h))
+      ∙ ap (rule s) (rules_tree-one_to_one rs ss (ap back h))
 
 abbrev pub coded_rule : Coded Rule
 coded_rule = record { code = rule_tree; inj = rule_tree-one_to_one }

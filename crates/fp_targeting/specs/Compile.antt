@@ -1,5 +1,5 @@
 -- What compiling a JSON value answers.
-use Rattle.std.specs.Prelude.{ℕ, List, [], ◌∷◌, length, ◌&&◌, Option, Some, None, option_map, option_and_then, is_some, nat_le, if◌then◌else◌}
+use Rattle.std.specs.Prelude.{ℕ, List, [], ◌∷◌, length, ◌&&◌, Option, Some, None, option_map, option_and_then, is_some, nat_le, Result, Ok, Err, if◌then◌else◌}
 use Rattle.serde_json.specs.Data.{Data, null, boolean, number, string, array, object, Items, no_items, item, no_members, member, depth}
 use Rattle.fp_base.specs.Count.{count}
 use Rattle.fp_base.specs.Whole.{is_whole}
@@ -23,7 +23,8 @@ abbrev mutual
   first_unknown (string s) = None
   first_unknown (array ds) = items_unknown ds
   first_unknown (object no_members) = None
-  first_unknown (object (member k d no_members)) = if is_some (operator_of k) then first_unknown d else Some k
+  first_unknown (object (member k d no_members)) =
+      if is_some (operator_of k) then first_unknown d else Some k
   first_unknown (object (member k d (member l e ms))) = None
 
   pub items_unknown : Items → Option (List ℕ)
@@ -36,7 +37,10 @@ one_more first others = option_and_then (λ r. option_map (λ rs. r ∷ rs) othe
 -- the operator of a name at its arguments, if it takes that many
 abbrev pub formed : List ℕ → Option (List Rule) → Option Rule
 formed name arguments =
-    option_and_then (λ o. option_and_then (λ rs. if takes o (length rs) then Some (tree.apply o (rules_of rs)) else None) arguments) (operator_of name)
+    option_and_then
+    (λ o. option_and_then
+    (λ rs. if takes o (length rs) then Some (tree.apply o (rules_of rs)) else None) arguments)
+    (operator_of name)
 
 -- the rule that a value writes: an object of one member is an operator, with a list of arguments or
 -- an only one; a list is a list of rules; all else stands for itself
@@ -50,7 +54,8 @@ abbrev mutual
   rule_of (object no_members) = Some (tree.literal (data_of (object no_members)))
   rule_of (object (member k (array ds) no_members)) = formed k (rules_from ds)
   rule_of (object (member k d no_members)) = formed k (one_more (rule_of d) (Some []))
-  rule_of (object (member k d (member l e ms))) = Some (tree.literal (data_of (object (member k d (member l e ms)))))
+  rule_of (object (member k d (member l e ms))) =
+      Some (tree.literal (data_of (object (member k d (member l e ms)))))
 
   pub rules_from : Items → Option (List Rule)
   rules_from no_items = Some []
@@ -68,21 +73,22 @@ where_counts_fit r = if well_formed r then Some r else None
 abbrev pub where_all_counts_fit : List Rule → Option (List Rule)
 where_all_counts_fit rs = if all_well_formed (rules_of rs) then Some rs else None
 
--- the answer owed for a value
-pub data Verdict : Type 0 where
-  too_deep : Verdict
-  unsupported : List ℕ → Verdict
-  bad : Verdict
-  accepted : Rule → Verdict
+-- why a value is no rule
+pub data Fault : Type 0 where
+  too_deep : Fault
+  unsupported : List ℕ → Fault
+  bad : Fault
 
-abbrev pub accepted_or_bad : Option Rule → Verdict
-accepted_or_bad None = bad
-accepted_or_bad (Some r) = accepted r
+abbrev pub rule_or_bad : Option Rule → Result Rule Fault
+rule_or_bad None = Err bad
+rule_or_bad (Some r) = Ok r
 
-abbrev pub known_verdict : Data → Option (List ℕ) → Verdict
-known_verdict d (Some name) = unsupported name
-known_verdict d None = if nat_le (count d) MOST_RULE_VALUES && is_whole d then accepted_or_bad (rule_of d) else bad
+abbrev pub verdict_known : Data → Option (List ℕ) → Result Rule Fault
+verdict_known d (Some name) = Err (unsupported name)
+verdict_known d None =
+    if nat_le (count d) MOST_RULE_VALUES && is_whole d then rule_or_bad (rule_of d) else Err bad
 
 -- too deep, else the first unknown operator, else a bad rule, else the rule that the value writes
-abbrev pub verdict : Data → Verdict
-verdict d = if nat_le (depth d) DEEPEST_RULE then known_verdict d (first_unknown d) else too_deep
+abbrev pub verdict : Data → Result Rule Fault
+verdict d = if nat_le (depth d) DEEPEST_RULE then verdict_known d (first_unknown d)
+    else Err too_deep

@@ -18,11 +18,13 @@ not_rule r = apply (Unary Not) (rule r no_rules)
 
 -- `!!` of a rule is the truth of the rule's result
 abbrev pub TruthIsOfTheResult : Type 0
-TruthIsOfTheResult = (r : Rule) (d x : Data) → Means (truth_rule r) d x ↔ ((y : Data) × Means r d y × (x ≡ boolean (truth y)))
+TruthIsOfTheResult = (r : Rule) (d x : Data)
+    → Means (truth_rule r) d x ↔ ((y : Data) × Means r d y × (x ≡ boolean (truth y)))
 
 -- `!` twice is `!!`
 abbrev pub NotTwiceIsTruth : Type 0
-NotTwiceIsTruth = (r : Rule) (d x : Data) → Means (not_rule (not_rule r)) d x ↔ Means (truth_rule r) d x
+NotTwiceIsTruth =
+    (r : Rule) (d x : Data) → Means (not_rule (not_rule r)) d x ↔ Means (truth_rule r) d x
 
 abbrev pub looks_at_nothing : Operator → Bool
 looks_at_nothing Var = false
@@ -41,4 +43,5 @@ abbrev mutual
 
 -- a rule that names nothing gives the same on all data
 abbrev pub DataUnnamedAreUnused : Type 0
-DataUnnamedAreUnused = (r : Rule) (d e x : Data) → names_nothing r ≡ true → Means r d x → Means r e x
+DataUnnamedAreUnused =
+    (r : Rule) (d e x : Data) → names_nothing r ≡ true → Means r d x → Means r e x

@@ -6,7 +6,9 @@ use Rattle.fp_operators.specs.FromJson.{data_of}
 
 -- the flag that is evaluated, and when, in seconds since 1970
 abbrev pub flag_data : List ℕ → ℕ → Data
-flag_data key now = object (member (codes "flagKey") (text key) (member (codes "timestamp") (whole (pos now)) no_members))
+flag_data key now =
+    object (member (codes "flagKey") (text key)
+    (member (codes "timestamp") (whole (pos now)) no_members))
 
 abbrev pub with_member : List ℕ → Data → Data → Data
 with_member name d (object ms) = object (put name d ms)

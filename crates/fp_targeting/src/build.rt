@@ -1,8 +1,11 @@
+//! From a JSON value to the tree of a rule.
+
 ghost use Rattle.std.specs.Prelude.{◌≡◌, None, Some, IfOk, IfErr, map};
 ghost use Rattle.serde_json.specs.View.{view as json_view, items_view as json_items};
 ghost use Rattle.fp_targeting.specs.View.{rule_view};
 ghost use Rattle.fp_targeting.specs.Operators.{operator_of};
-ghost use Rattle.fp_targeting.specs.Answer.{IsUnknown};
+ghost use Rattle.fp_base.specs.Answer.{IsFirst};
+ghost use Rattle.fp_targeting.specs.Answer.{TellsUnknown};
 ghost use Rattle.fp_targeting.specs.Compile.{first_unknown, items_unknown, where_counts_fit, where_all_counts_fit, rule_of, arguments_of, rules_from};
 
 use crate::operator::Operator;
@@ -18,8 +21,9 @@ use std::alloc::Global;
 #[cycle(build)]
 pub fn build(alloc: Global, value: &Value) -> Result<Tree, RuleFault>
     ensures known { IfOk result (λ _. first_unknown (json_view value.now) ≡ None) }
-    ensures rule { IfOk result (λ t. where_counts_fit (rule_view t) ≡ rule_of (json_view value.now)) }
-    ensures unknown { IfErr result (λ e. IsUnknown e (first_unknown (json_view value.now))) }
+    ensures rule { IfOk result (λ t.
+        where_counts_fit (rule_view t) ≡ rule_of (json_view value.now)) }
+    ensures unknown { IfErr result (IsFirst TellsUnknown (first_unknown (json_view value.now))) }
 {
     match value {
         Value::Null | Value::Bool(_) | Value::Number(_) | Value::String(_) => {
@@ -42,8 +46,9 @@ pub fn build(alloc: Global, value: &Value) -> Result<Tree, RuleFault>
 #[cycle(build)]
 fn build_arguments(alloc: Global, value: &Value) -> Result<Vec<Tree>, RuleFault>
     ensures known { IfOk result (λ _. first_unknown (json_view value.now) ≡ None) }
-    ensures rules { IfOk result (λ v. where_all_counts_fit (map rule_view v.items) ≡ arguments_of (json_view value.now)) }
-    ensures unknown { IfErr result (λ e. IsUnknown e (first_unknown (json_view value.now))) }
+    ensures rules { IfOk result (λ v.
+        where_all_counts_fit (map rule_view v.items) ≡ arguments_of (json_view value.now)) }
+    ensures unknown { IfErr result (IsFirst TellsUnknown (first_unknown (json_view value.now))) }
 {
     match value {
         Value::Array(items) => build_all(alloc, items),
@@ -58,8 +63,10 @@ fn build_arguments(alloc: Global, value: &Value) -> Result<Vec<Tree>, RuleFault>
 #[cycle(build)]
 fn build_all(alloc: Global, items: &Vec<Value>) -> Result<Vec<Tree>, RuleFault>
     ensures known { IfOk result (λ _. items_unknown (json_items items.now.items) ≡ None) }
-    ensures rules { IfOk result (λ v. where_all_counts_fit (map rule_view v.items) ≡ rules_from (json_items items.now.items)) }
-    ensures unknown { IfErr result (λ e. IsUnknown e (items_unknown (json_items items.now.items))) }
+    ensures rules { IfOk result (λ v.
+        where_all_counts_fit (map rule_view v.items) ≡ rules_from (json_items items.now.items)) }
+    ensures unknown { IfErr result
+        (IsFirst TellsUnknown (items_unknown (json_items items.now.items))) }
 {
     let mut found = Vec::with_capacity(alloc, items.len())?;
     for item in items {
@@ -71,7 +78,7 @@ fn build_all(alloc: Global, items: &Vec<Value>) -> Result<Vec<Tree>, RuleFault>
 fn operator_named(alloc: Global, name: &str) -> Result<Operator, RuleFault>
     ensures known { IfOk result (λ o. operator_of name.now ≡ Some o) }
     ensures none { IfErr result (λ _. operator_of name.now ≡ None) }
-    ensures unknown { IfErr result (λ e. IsUnknown e (Some name.now)) }
+    ensures unknown { IfErr result (IsFirst TellsUnknown (Some name.now)) }
 {
     match Operator::named(name) {
         Some(operator) => Ok(operator),

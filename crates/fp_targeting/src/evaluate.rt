@@ -1,3 +1,5 @@
+//! What the tree of a rule gives for data.
+
 ghost use Rattle.std.specs.Prelude.{◌≡◌, IfOk, map};
 ghost use Rattle.fp_operators.specs.Data.{null};
 ghost use Rattle.fp_operators.specs.View.{view};
@@ -57,7 +59,8 @@ pub fn evaluate<'d>(alloc: Global, rule: &'d Tree, root: &'d Datum) -> Result<Fo
 
 #[cycle(evaluate)]
 fn evaluate_each(alloc: Global, rules: &Vec<Tree>, root: &Datum) -> Result<Vec<Datum>, AllocError>
-    ensures { IfOk result (λ v. map view v.items ≡ meanings (view root.now) (rules_view rules.now.items)) }
+    ensures { IfOk result (λ v.
+        map view v.items ≡ meanings (view root.now) (rules_view rules.now.items)) }
 {
     let mut results = Vec::with_capacity(alloc, rules.len())?;
     for rule in rules {
@@ -73,7 +76,9 @@ fn apply<'d>(
     arguments: &'d Vec<Tree>,
     root: &'d Datum,
 ) -> Result<Found<'d>, AllocError>
-    ensures { IfOk result (λ x. found_view x ≡ applied operator (view root.now) (meanings (view root.now) (rules_view arguments.now.items))) }
+    ensures { IfOk result (λ x.
+        found_view x ≡ applied operator (view root.now)
+        (meanings (view root.now) (rules_view arguments.now.items))) }
 {
     match operator {
         Operator::If => evaluate_if(alloc, arguments, root),
@@ -94,7 +99,8 @@ fn evaluate_if<'d>(
     rules: &'d Vec<Tree>,
     root: &'d Datum,
 ) -> Result<Found<'d>, AllocError>
-    ensures { IfOk result (λ x. found_view x ≡ chosen (meanings (view root.now) (rules_view rules.now.items))) }
+    ensures { IfOk result (λ x.
+        found_view x ≡ chosen (meanings (view root.now) (rules_view rules.now.items))) }
 {
     let mut i = 0;
     'pairs: while rules.len() - i > 1 {
@@ -115,7 +121,8 @@ fn evaluate_and<'d>(
     rules: &'d Vec<Tree>,
     root: &'d Datum,
 ) -> Result<Found<'d>, AllocError>
-    ensures { IfOk result (λ x. found_view x ≡ first_false null (meanings (view root.now) (rules_view rules.now.items))) }
+    ensures { IfOk result (λ x.
+        found_view x ≡ first_false null (meanings (view root.now) (rules_view rules.now.items))) }
 {
     let mut last = Found::Made(Datum::Null);
     for rule in rules {
@@ -133,7 +140,8 @@ fn evaluate_or<'d>(
     rules: &'d Vec<Tree>,
     root: &'d Datum,
 ) -> Result<Found<'d>, AllocError>
-    ensures { IfOk result (λ x. found_view x ≡ first_true null (meanings (view root.now) (rules_view rules.now.items))) }
+    ensures { IfOk result (λ x.
+        found_view x ≡ first_true null (meanings (view root.now) (rules_view rules.now.items))) }
 {
     let mut last = Found::Made(Datum::Null);
     for rule in rules {
@@ -151,7 +159,9 @@ fn evaluate_var<'d>(
     arguments: &'d Vec<Tree>,
     root: &'d Datum,
 ) -> Result<Found<'d>, AllocError>
-    ensures { IfOk result (λ x. found_view x ≡ applied Operator.Var (view root.now) (meanings (view root.now) (rules_view arguments.now.items))) }
+    ensures { IfOk result (λ x.
+        found_view x ≡ applied Operator.Var (view root.now)
+        (meanings (view root.now) (rules_view arguments.now.items))) }
 {
     match arguments.as_slice() {
         [] => Ok(Found::Lent(root)),
@@ -169,7 +179,9 @@ fn evaluate_var<'d>(
 
 #[cycle(evaluate)]
 fn evaluate_cat(alloc: Global, arguments: &Vec<Tree>, root: &Datum) -> Result<Datum, AllocError>
-    ensures { IfOk result (λ x. view x ≡ applied Operator.Cat (view root.now) (meanings (view root.now) (rules_view arguments.now.items))) }
+    ensures { IfOk result (λ x.
+        view x ≡ applied Operator.Cat (view root.now)
+        (meanings (view root.now) (rules_view arguments.now.items))) }
 {
     let mut text = String::new(alloc);
     for argument in arguments {
@@ -183,7 +195,9 @@ fn evaluate_cat(alloc: Global, arguments: &Vec<Tree>, root: &Datum) -> Result<Da
 
 #[cycle(evaluate)]
 fn evaluate_version(alloc: Global, arguments: &Vec<Tree>, root: &Datum) -> Result<Datum, AllocError>
-    ensures { IfOk result (λ x. view x ≡ applied Operator.SemVer (view root.now) (meanings (view root.now) (rules_view arguments.now.items))) }
+    ensures { IfOk result (λ x.
+        view x ≡ applied Operator.SemVer (view root.now)
+        (meanings (view root.now) (rules_view arguments.now.items))) }
 {
     match arguments.as_slice() {
         [first, operator, second] => {
@@ -203,7 +217,9 @@ fn evaluate_one(
     arguments: &Vec<Tree>,
     root: &Datum,
 ) -> Result<Datum, AllocError>
-    ensures { IfOk result (λ x. view x ≡ applied (Operator.Unary operator) (view root.now) (meanings (view root.now) (rules_view arguments.now.items))) }
+    ensures { IfOk result (λ x.
+        view x ≡ applied (Operator.Unary operator) (view root.now)
+        (meanings (view root.now) (rules_view arguments.now.items))) }
 {
     match arguments.as_slice() {
         [only] => {
@@ -221,7 +237,9 @@ fn evaluate_two(
     arguments: &Vec<Tree>,
     root: &Datum,
 ) -> Result<Datum, AllocError>
-    ensures { IfOk result (λ x. view x ≡ applied (Operator.Binary operator) (view root.now) (meanings (view root.now) (rules_view arguments.now.items))) }
+    ensures { IfOk result (λ x.
+        view x ≡ applied (Operator.Binary operator) (view root.now)
+        (meanings (view root.now) (rules_view arguments.now.items))) }
 {
     match arguments.as_slice() {
         [first, second] => {
@@ -240,7 +258,9 @@ fn evaluate_chain(
     arguments: &Vec<Tree>,
     root: &Datum,
 ) -> Result<Datum, AllocError>
-    ensures { IfOk result (λ x. view x ≡ applied (Operator.Chain operator) (view root.now) (meanings (view root.now) (rules_view arguments.now.items))) }
+    ensures { IfOk result (λ x.
+        view x ≡ applied (Operator.Chain operator) (view root.now)
+        (meanings (view root.now) (rules_view arguments.now.items))) }
 {
     match arguments.as_slice() {
         [first, second] => {

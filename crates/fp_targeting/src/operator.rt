@@ -1,3 +1,5 @@
+//! Operators: their names, and how many arguments they take.
+
 ghost use Rattle.std.specs.Prelude.{◌≡◌};
 ghost use Rattle.fp_targeting.specs.Operators.{operator_of, takes as takes_of};
 

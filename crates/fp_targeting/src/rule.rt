@@ -1,8 +1,11 @@
+//! Compiled rules.
+
 ghost use Rattle.std.specs.Prelude.{◌≡◌, ◌↔◌, IfOk};
 ghost use Rattle.serde_json.specs.View.{view as json_view};
 ghost use Rattle.fp_operators.specs.View.{view};
 ghost use Rattle.fp_targeting.specs.Compile.{verdict};
-ghost use Rattle.fp_targeting.specs.Answer.{Answers};
+ghost use Rattle.fp_base.specs.Answer.{Gives};
+ghost use Rattle.fp_targeting.specs.Answer.{Tells};
 ghost use Rattle.fp_operators.specs.Data as values;
 ghost use Rattle.fp_targeting.specs.Means.{Means};
 ghost use Rattle.fp_targeting.specs.Meaning.{meaning};
@@ -83,7 +86,7 @@ impl<T: Drop> From<AllocFailed<T>> for RuleFault {
 impl Rule {
     /// The rule that a JSON value writes.
     pub fn compile(alloc: Global, value: &Value) -> Result<Rule, RuleFault>
-        ensures { Answers result (verdict (json_view value.now)) }
+        ensures { Gives (λ rule. rule) Tells result (verdict (json_view value.now)) }
     {
         if !nests_within(value, DEEPEST_RULE) {
             return Err(RuleFault::TooDeep);

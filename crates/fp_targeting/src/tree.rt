@@ -1,3 +1,5 @@
+//! The tree of a compiled rule.
+
 ghost use Rattle.std.specs.Prelude.{◌≡◌};
 ghost use Rattle.fp_targeting.specs.Operators.{well_formed, all_well_formed};
 ghost use Rattle.fp_targeting.specs.View.{rule_view, rules_view};

@@ -1,7 +1,8 @@
-use Rattle.std.proofs.Common.{◌∙◌, IfSome, sym, subst}
+use Rattle.std.proofs.Common.{◌≡◌, ◌∙◌, List, Result, Err, IfSome, sym, subst}
 use Rattle.std.proofs.lemmas.Option.{IfSome_then}
 use Rattle.serde_json.specs.View.{view}
-use Rattle.fp_imports.specs.Faults.{Refuses}
+use Rattle.fp_imports.specs.Document.{Flag, Refusal}
+use Rattle.fp_imports.specs.Faults.{Tells}
 use Rattle.fp_commands.specs.declared.fault.CommandFault.{CommandFault}
 use Rattle.fp_commands.specs.Documents.{import_of, IsDocumentFault}
 use Rattle.fp_commands.proofs.Imported.{import-known, document-fault}
@@ -10,7 +11,7 @@ use Rattle.fp_commands.proofs.document.read_document.Goals as goal
 pub returns-clause-fault : goal.returns-clause-fault
 returns-clause-fault g c =
     let left = g.R.Read.remaining c.args.r.now.inner in let fault = c.in-Err.fault in
-    let refuses : IfSome left (λ input. Refuses fault (import_of input)) = IfSome_then left c.in_ok-bytes.ensures.bytes (λ input is.
-    subst (Refuses fault) (sym (import-known view input c.deref.result.now c.in_ok-document.field-0 c.in-Some.document
+    let refuses : IfSome left (λ input. Tells fault (λ f. import_of input ≡ Err f)) = IfSome_then left c.in_ok-bytes.ensures.bytes (λ input is.
+    subst (λ (said : Result (List Flag) Refusal). Tells fault (λ f. said ≡ Err f)) (sym (import-known view input c.deref.result.now c.in_ok-document.field-0 c.in-Some.document
     (c.deref.ensures.value ∙ is) c.in_ok-document.ensures c.in-Some.is)) c.in-Err.ensures.flags) in
     subst (λ (f : CommandFault). IsDocumentFault left f) (sym c.into.ensures) (document-fault left fault refuses)

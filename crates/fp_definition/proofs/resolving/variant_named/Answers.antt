@@ -6,7 +6,8 @@ use Rattle.serde_json.specs.declared.value.Value.{Value}
 use Rattle.serde_json.proofs.Views.{view-Object}
 use Rattle.fp_base.specs.Whole.{members_whole}
 use Rattle.fp_base.proofs.WholeData.{whole-get}
-use Rattle.fp_definition.specs.Resolving.{Gives, named, said_or_none}
+use Rattle.fp_base.specs.Answer.{Gives}
+use Rattle.fp_definition.specs.Resolving.{TellsItself, named, said_by, said_or_none}
 use Rattle.fp_definition.proofs.resolving.variant_named.Goals as goal
 
 pub returns-in-Some-Object-clause-resolves : goal.returns-in-Some-Object-clause-resolves
@@ -15,7 +16,7 @@ returns-in-Some-Object-clause-resolves c =
     sym c.in-Some-Object.ensures ∙ ap Some (ap view c.in-Some-Object.field-0-is ∙ view-Object c.in-Some-Object.variants) in
     let same = ap (λ (m : BTreeMap (String Global) Value). said_or_none c.args.name.now c.args.reason (get_member c.args.name.now (members_view m.entries))) c.in-Some-Object.variants-is in
     let whole = same ∙ ap (λ (o : Option Data). named c.args.name.now c.args.reason o) (sym found) in
-    subst (λ o. Gives (λ r. (r.variant.now, view r.value.now, r.reason)) c.variant_among.result o) whole c.variant_among.ensures.resolves
+    subst (λ o. Gives said_by TellsItself c.variant_among.result o) whole c.variant_among.ensures.resolves
 
 pub returns-in-Some-Object-clause-printable : goal.returns-in-Some-Object-clause-printable
 returns-in-Some-Object-clause-printable c = λ w.

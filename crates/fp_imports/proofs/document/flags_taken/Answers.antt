@@ -5,7 +5,8 @@ use Rattle.serde_json.specs.View.{view, members_view}
 use Rattle.serde_json.proofs.Views.{Entry}
 use Rattle.fp_definition.specs.Key.{key_bytes}
 use Rattle.fp_imports.specs.Document.{flag_of, flags_of}
-use Rattle.fp_imports.specs.Faults.{Imports, seen_flag}
+use Rattle.fp_base.specs.Answer.{Gives}
+use Rattle.fp_imports.specs.Faults.{Tells, seen_flag}
 use Rattle.fp_imports.proofs.Flags.{after_flags, after_flags-one, flags-ok, keys-one, flag-named, names-keys, ascending_keys}
 use Rattle.fp_imports.proofs.Walks.{names, names-view_one}
 use Rattle.fp_imports.proofs.document.flags_taken.Goals as goal
@@ -22,7 +23,7 @@ loop-name-preserved c =
     let others = flags_of evaluators (members_view left) in
     let all : c.args.flags.entries ≡ done ++ e ∷ left = l.invariant.1 ∙ ap (λ es. done ++ es) c.in-Some.ensures.steps in
     let one : flag_of evaluators k (view e.1) ≡ Ok f =
-    subst (λ n. flag_of evaluators n (view e.1) ≡ Ok f) c.deref.ensures (subst (λ r. Imports seen_flag r (flag_of evaluators c.deref.result.now (view e.1))) c.in-Ok.is c.flag_named.ensures) in
+    subst (λ n. flag_of evaluators n (view e.1) ≡ Ok f) c.deref.ensures (subst (λ r. Gives seen_flag Tells r (flag_of evaluators c.deref.result.now (view e.1))) c.in-Ok.is c.flag_named.ensures) in
     let items = c.in_ok-push-in-Ok.ensures.items in (
       done ++ e ∷ [],
       all ∙ sym (append_assoc done (e ∷ []) left),

@@ -8,7 +8,8 @@ use Rattle.serde_json.specs.View.{view, items_of, items_view, members_view}
 use Rattle.serde_json.proofs.Views.{Entry, view-Array, view-Object, members_view-insert_entry}
 use Rattle.serde_json.specs.declared.value.Value.{Value}
 use Rattle.fp_imports.specs.References.{unknown, onward, walked, items_walked, members_walked, replaced, reference}
-use Rattle.fp_imports.specs.Faults.{Gives, with_rest}
+use Rattle.fp_base.specs.Answer.{Gives}
+use Rattle.fp_imports.specs.Faults.{TellsBroken, with_rest}
 use Rattle.fp_imports.proofs.Walks.{append, append-nil, names, names-append_one, names-view_one, Above, put_above, above_those, after_items, after_members, after_items-one, after_members-one, gives_err, item_depth, member_depth, member_found_depth, falls_part, falls_reference, falls_replaced, at_reference, at_name, at_array, at_object, items_err, items_ok, members_ok}
 use Rattle.fp_imports.proofs.references.+expands.Goals as goal
 
@@ -30,7 +31,7 @@ expand_items-returns-in-Err t c =
     let rest = drop (l.item-index + 1) vs in
     let here : drop l.item-index vs ≡ v ∷ rest = drop_more vs l.item-index v (omega arith) ∙ ap (λ y. y ∷ rest) (sym c.item-item.is) in
     gives_err {C = Vec Value Global × ℕ} (with_rest view) (with_rest (λ w. map view w.items)) c.in-Err.fault (walked at (view v) l.unused) (items_walked at (items_view c.args.items.now.items) c.args.left)
-    (subst (λ r. Gives (with_rest view) r (walked at (view v) l.unused)) c.in-Err.is c.expand_value.ensures)
+    (subst (λ r. Gives (with_rest view) TellsBroken r (walked at (view v) l.unused)) c.in-Err.is c.expand_value.ensures)
     (λ x h. ap (λ ys. items_walked at (items_view ys) c.args.left) (sym c.deref-item-items.ensures.value) ∙ sym l.invariant
     ∙ ap (after_items (map view l.found.items)) (ap (λ ys. items_walked at (items_view ys) l.unused) here ∙ items_err at (view v) (items_view rest) l.unused x h))
 
@@ -44,7 +45,7 @@ expand_items-loop-item-preserved t c =
     let rest = drop (l.item-index + 1) vs in
     let next = items_walked at (items_view rest) c.in-Ok.rest in
     let here : drop l.item-index vs ≡ v ∷ rest = drop_more vs l.item-index v (omega arith) ∙ ap (λ y. y ∷ rest) (sym c.item-item.is) in
-    let walk : walked at (view v) l.unused ≡ Ok (view made, c.in-Ok.rest) = subst (λ r. Gives (with_rest view) r (walked at (view v) l.unused)) c.in-Ok.is c.expand_value.ensures in
+    let walk : walked at (view v) l.unused ≡ Ok (view made, c.in-Ok.rest) = subst (λ r. Gives (with_rest view) TellsBroken r (walked at (view v) l.unused)) c.in-Ok.is c.expand_value.ensures in
     ap (λ ys. after_items ys next) (ap (map view) c.in_ok-push-in-Ok.ensures.items ∙ map-append view l.found.items (made ∷ []))
     ∙ after_items-one (map view l.found.items) (view made) next
     ∙ ap (after_items (map view l.found.items)) (sym (ap (λ ys. items_walked at (items_view ys) l.unused) here ∙ items_ok at (view v) (items_view rest) l.unused (view made) c.in-Ok.rest walk))
@@ -78,7 +79,7 @@ expand_members-loop-key-preserved t c =
     let named : string_bytes c.in_ok-name.name ≡ k = c.in_ok-name.ensures.cases in
     let stored : members_view c.insert.new.self.entries ≡ append found (member k made no_members) =
     ap members_view c.in_ok-insert-in-Ok.ensures.entries ∙ members_view-insert_entry l.found.entries c.in_ok-name.name c.in-Ok.made ∙ ap (λ n. put n made found) named ∙ put_above k made found above in
-    let walk : walked at (view e.1) l.unused ≡ Ok (made, c.in-Ok.rest) = subst (λ r. Gives (with_rest view) r (walked at (view e.1) l.unused)) c.in-Ok.is c.expand_value.ensures in (
+    let walk : walked at (view e.1) l.unused ≡ Ok (made, c.in-Ok.rest) = subst (λ r. Gives (with_rest view) TellsBroken r (walked at (view e.1) l.unused)) c.in-Ok.is c.expand_value.ensures in (
       done ++ e ∷ [],
       all ∙ sym (append_assoc done (e ∷ []) left),
       ap names stored ∙ names-append_one found k made ∙ ap (λ ns. ns ++ k ∷ []) l.invariant.2 ∙ sym (names-view_one done e),
@@ -108,7 +109,7 @@ expand_value-returns-in-Some t c =
     let named : reference ms ≡ Some c.in-Some.name.now = sym c.reference.ensures ∙ ap (option_map (λ s. s.now)) c.in-Some.is in
     let seen : view c.args.value.now ≡ object ms = ap view c.in-Object.is ∙ view-Object c.in-Object.members in
     let same : walked at (view c.args.value.now) c.args.left ≡ at c.in-Some.name.now c.args.left = ap (λ d. walked at d c.args.left) seen ∙ at_reference at ms c.in-Some.name.now c.args.left named in
-    subst (λ w. Gives (with_rest view) c.expand_reference.result w) (sym same) c.expand_reference.ensures
+    subst (λ w. Gives (with_rest view) TellsBroken c.expand_reference.result w) (sym same) c.expand_reference.ensures
 
 pub expand_reference-expand_value-requires : goal.expand_reference-expand_value-requires
 expand_reference-expand_value-requires t c =
@@ -121,7 +122,7 @@ pub expand_reference-returns-in-Some : goal.expand_reference-returns-in-Some
 expand_reference-returns-in-Some t c =
     let evaluators = members_view c.args.evaluators.now.entries in
     let found : get_member c.args.name.now evaluators ≡ Some (view c.in-Some.evaluator.now) = sym c.member_named.ensures ∙ ap (option_map (λ v. view v.now)) c.in-Some.is in
-    subst (λ w. Gives (with_rest view) c.expand_value.result w) (sym (at_name evaluators c.args.name.now c.args.more (c.args.more - 1) c.args.left _ found (omega arith))) c.expand_value.ensures
+    subst (λ w. Gives (with_rest view) TellsBroken c.expand_value.result w) (sym (at_name evaluators c.args.name.now c.args.more (c.args.more - 1) c.args.left _ found (omega arith))) c.expand_value.ensures
 
 pub expand_reference-returns-in_ok-from_str-in-None : goal.expand_reference-returns-in_ok-from_str-in-None
 expand_reference-returns-in_ok-from_str-in-None t c =
@@ -136,7 +137,7 @@ expand_value-returns-in-Ok t c =
     let plain : reference ms ≡ None = sym c.reference.ensures ∙ ap (option_map (λ s. s.now)) c.in-None.is in
     let seen : view c.args.value.now ≡ object ms = ap view c.in-Object.is ∙ view-Object c.in-Object.members in
     let inner : members_walked at ms (c.args.left - 1) ≡ Ok (members_view c.in-Ok.found.entries, c.in-Ok.rest) =
-    subst (λ r. Gives (with_rest (λ m. members_view m.entries)) r (members_walked at ms (c.args.left - 1))) c.in-Ok.is c.expand_members.ensures in
+    subst (λ r. Gives (with_rest (λ m. members_view m.entries)) TellsBroken r (members_walked at ms (c.args.left - 1))) c.in-Ok.is c.expand_members.ensures in
     ap (λ d. walked at d c.args.left) seen ∙ at_object at ms c.args.left (c.args.left - 1) plain (omega arith)
     ∙ ap (λ w. onward w (λ es m. Ok (object es, m))) inner ∙ ap (λ d. Ok (d, c.in-Ok.rest)) (sym (view-Object c.in-Ok.found))
 
@@ -148,7 +149,7 @@ expand_value-returns-in-Err t c =
     let seen : view c.args.value.now ≡ object ms = ap view c.in-Object.is ∙ view-Object c.in-Object.members in
     let inner = members_walked at ms (c.args.left - 1) in
     gives_err {A = BTreeMap (String Global) Value × ℕ} (with_rest (λ m. members_view m.entries)) (with_rest view) c.in-Err.fault inner (walked at (view c.args.value.now) c.args.left)
-    (subst (λ r. Gives (with_rest (λ m. members_view m.entries)) r inner) c.in-Err.is c.expand_members.ensures)
+    (subst (λ r. Gives (with_rest (λ m. members_view m.entries)) TellsBroken r inner) c.in-Err.is c.expand_members.ensures)
     (λ x h. ap (λ d. walked at d c.args.left) seen ∙ at_object at ms c.args.left (c.args.left - 1) plain (omega arith) ∙ ap (λ w. onward w (λ es m. Ok (object es, m))) h)
 
 pub expand_value-returns-in-Ok-expand_items : goal.expand_value-returns-in-Ok-expand_items
@@ -157,7 +158,7 @@ expand_value-returns-in-Ok-expand_items t c =
     let ds = items_view c.in-Array.items.items in
     let seen : view c.args.value.now ≡ array ds = ap view c.in-Array.is ∙ view-Array c.in-Array.items in
     let inner : items_walked at ds (c.args.left - 1) ≡ Ok (map view c.in-Ok-expand_items.found.items, c.in-Ok-expand_items.rest) =
-    subst (λ r. Gives (with_rest (λ v. map view v.items)) r (items_walked at ds (c.args.left - 1))) c.in-Ok-expand_items.is c.expand_items.ensures in
+    subst (λ r. Gives (with_rest (λ v. map view v.items)) TellsBroken r (items_walked at ds (c.args.left - 1))) c.in-Ok-expand_items.is c.expand_items.ensures in
     ap (λ d. walked at d c.args.left) seen ∙ at_array at ds c.args.left (c.args.left - 1) (omega arith)
     ∙ ap (λ w. onward w (λ es m. Ok (array (items_of es), m))) inner ∙ ap (λ d. Ok (d, c.in-Ok-expand_items.rest)) (sym (view-Array c.in-Ok-expand_items.found))
 
@@ -168,5 +169,5 @@ expand_value-returns-in-Err-expand_items t c =
     let seen : view c.args.value.now ≡ array ds = ap view c.in-Array.is ∙ view-Array c.in-Array.items in
     let inner = items_walked at ds (c.args.left - 1) in
     gives_err {A = Vec Value Global × ℕ} (with_rest (λ v. map view v.items)) (with_rest view) c.in-Err-expand_items.fault inner (walked at (view c.args.value.now) c.args.left)
-    (subst (λ r. Gives (with_rest (λ v. map view v.items)) r inner) c.in-Err-expand_items.is c.expand_items.ensures)
+    (subst (λ r. Gives (with_rest (λ v. map view v.items)) TellsBroken r inner) c.in-Err-expand_items.is c.expand_items.ensures)
     (λ x h. ap (λ d. walked at d c.args.left) seen ∙ at_array at ds c.args.left (c.args.left - 1) (omega arith) ∙ ap (λ w. onward w (λ es m. Ok (array (items_of es), m))) h)

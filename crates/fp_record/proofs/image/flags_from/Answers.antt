@@ -2,7 +2,7 @@ use Rattle.std.proofs.Common.{◌≡◌, ◌+◌, ◌-◌, ◌++◌, ◌∷◌, 
 use Rattle.std.proofs.lemmas.Result.{err_from_is_err_and}
 use Rattle.std.proofs.lemmas.List.{map_push, length-append}
 use Rattle.fp_edit.specs.Entries.{entry_of, entries_of}
-use Rattle.fp_record.specs.Fields.{◌>>=◌}
+use Rattle.fp_base.specs.Steps.{◌>>=◌}
 use Rattle.fp_record.specs.Reading.{flag_at, many_from, flags_at}
 use Rattle.fp_record.proofs.Loop.{with_front, goes_on, ends, is_done, fails_on}
 use Rattle.fp_record.proofs.image.flags_from.Goals as goal

@@ -6,6 +6,7 @@ use Rattle.fp_edit.specs.Entries.{flags_of}
 use Rattle.fp_edit.specs.declared.flags.Flag.{Flag}
 use Rattle.fp_edit.proofs.Changed.{AreChangedBy, changed-empty}
 use Rattle.fp_edit.proofs.Sizes.{size-empty}
+use Rattle.fp_edit.specs.declared.flag_set.TheConstants.{MOST_FLAGS}
 use Rattle.fp_edit.proofs.flag_set.FlagSet.at_revision.Goals as goal
 
 pub invariant_of-result : goal.invariant_of-result
@@ -13,7 +14,7 @@ invariant_of-result c = (
   c.new.ensures.ordered,
   record {
     size = sym size-empty ∙ ap (λ es. size (flags_of es)) (sym c.new.ensures.empty);
-    few = let P : ℕ → Type 0 = λ n. n ≤ 4096 in subst P (sym (fin.len-empty bytes_cmp Flag) ∙ ap (λ es. fin.len (flags_of es)) (sym c.new.ensures.empty)) (lit≤ tt);
+    few = let P : ℕ → Type 0 = λ n. n ≤ MOST_FLAGS in subst P (sym (fin.len-empty bytes_cmp Flag) ∙ ap (λ es. fin.len (flags_of es)) (sym c.new.ensures.empty)) (lit≤ tt);
     numbered = c.requires;
     within = λ h. h;
     changed = subst (λ es. AreChangedBy c.args.revision (flags_of es)) (sym c.new.ensures.empty) (changed-empty c.args.revision);
