@@ -280,6 +280,3 @@ impl Disk for MemoryDisk {
         Ok(())
     }
 }
-
-#[cfg(test)]
-mod tests;
