@@ -288,6 +288,3 @@ impl Disk for MemoryDisk {
         Ok(())
     }
 }
-
-#[cfg(test)]
-mod tests;

@@ -8,9 +8,6 @@ mod journal;
 mod opening;
 mod sealed;
 mod slot;
-#[cfg(test)]
-mod tests;
-
 pub use chain::{BodyFault, ChainFault, Reader, read_chain};
 pub use framed::Framed;
 pub use journal::{Journal, Phase};

@@ -10,8 +10,3 @@ mod restoring;
 pub use durable::DurableSet;
 pub use fault::AdmitFault;
 pub use laws::{bytes_stand_for_one, closes_and_opens};
-
-#[cfg(test)]
-mod batch_tests;
-#[cfg(test)]
-mod tests;

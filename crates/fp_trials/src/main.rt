@@ -1,0 +1,29 @@
+//! Runs trials over disks, which are written as text, and says whether each file of them is answered as it is written. With no
+//! file named, standard input is written out again with the answers.
+#![tactic(auto)]
+
+mod damage;
+mod disk;
+mod journal;
+mod run;
+mod script;
+mod set;
+mod sweep;
+mod trial;
+mod words;
+
+use crate::script::Script;
+use fp_transcript::{report, rewrite};
+use std::{env, io};
+
+fn main(rt: HostRuntime) -> io::Result<()> {
+    let mut named = false;
+    for name in env::args(&rt)?.skip(1) {
+        named = true;
+        report(&rt, name.as_str(), &mut Script::new(&rt))?;
+    }
+    if named {
+        return Ok(());
+    }
+    rewrite(&rt, &mut Script::new(&rt))
+}

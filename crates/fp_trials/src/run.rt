@@ -1,0 +1,100 @@
+//! One command, and blocks of commands that are run for each of some words.
+
+use crate::trial::{Answer, Trial, TrialFault};
+use crate::words::{first_word, number};
+use crate::{damage, disk, journal, set};
+use std::alloc::{AllocError, Global};
+
+fn understood(trial: &mut Trial, line: &str) -> Result<Answer, TrialFault> {
+    let (word, rest) = first_word(line);
+    match word {
+        "hold" | "write" | "read" | "text" | "len" | "sync" | "cut" | "keep" | "back" => {
+            disk::on_bytes(trial, word, rest)
+        }
+        "fuse" | "fail" | "calm" | "crash" | "calls" => disk::on_faults(trial, word, rest),
+        "create" | "open" | "close" | "show" | "marks" | "size" | "ready" => {
+            set::on_set(trial, word, rest)
+        }
+        "input" | "last" | "raw" => set::on_input(trial, word, rest),
+        "init" | "apply" | "import" | "shown" => set::on_commands(trial, word, rest),
+        "edit" | "submit" | "batch" | "room" | "chain" | "slot" => journal::on_edits(
+            trial, word, rest,
+        ),
+        "flips" | "seeds" => damage::on_damage(trial, word, rest),
+        _ => Err(TrialFault::NotUnderstood),
+    }
+}
+
+/// What comes of a line that is no command is an answer too.
+pub fn answered(outcome: Result<Answer, TrialFault>) -> Result<Answer, AllocError> {
+    match outcome {
+        Ok(answer) => Ok(answer),
+        Err(TrialFault::NotUnderstood) => Ok(Answer::NotUnderstood),
+        Err(TrialFault::Memory) => Err(AllocError),
+    }
+}
+
+/// Does what a line says.
+pub fn step(trial: &mut Trial, line: &str) -> Result<Answer, AllocError> {
+    answered(understood(trial, line))
+}
+
+/// `for WORD ..`: the block once for each word, which stands at each `%` in it. A word as `0..4` is the numbers from the first
+/// to before the second.
+pub fn repeat(
+    trial: &mut Trial,
+    words: &str,
+    block: &[String],
+    out: &mut String,
+) -> Result<(), TrialFault> {
+    for word in words.split_whitespace() {
+        match word.split_once("..") {
+            Some((from, to)) => count(trial, number(from)?, number(to)?, block, out)?,
+            None => row(trial, word, block, out)?,
+        }
+    }
+    Ok(())
+}
+
+fn count(
+    trial: &mut Trial,
+    from: u64,
+    to: u64,
+    block: &[String],
+    out: &mut String,
+) -> Result<(), AllocError> {
+    for number in from..to {
+        let word = format!(in trial.alloc; "{number}")?;
+        row(trial, word.as_str(), block, out)?;
+    }
+    Ok(())
+}
+
+// The answers to the lines with this word, in a row.
+fn row(
+    trial: &mut Trial,
+    word: &str,
+    block: &[String],
+    out: &mut String,
+) -> Result<(), AllocError> {
+    let alloc = trial.alloc;
+    out.push_str(word)?;
+    out.push_str(":")?;
+    let mut is_first = true;
+    for line in block {
+        let line = line.replace(alloc, "%", word)?;
+        let answer = step(trial, line.as_str())?;
+        if !matches!(answer, Answer::Done) {
+            out.push_str(if is_first { " " } else { " | " })?;
+            push_in_row(alloc, &answer, out)?;
+            is_first = false;
+        }
+    }
+    out.push_str("\n")
+}
+
+fn push_in_row(alloc: Global, answer: &Answer, out: &mut String) -> Result<(), AllocError> {
+    let text = format!(in alloc; "{answer}")?;
+    let line = text.as_str().trim_end().replace(alloc, "\n", " ")?;
+    out.push_str(line.as_str())
+}

@@ -1,0 +1,169 @@
+//! A file of trials: its lines in order, its blocks, and the program's commands over files.
+
+use crate::disk::text_of;
+use crate::run::{answered, repeat, step};
+use crate::sweep::{rounds, sweep};
+use crate::trial::{Answer, Trial, TrialFault};
+use crate::words::first_word;
+use fp_commands::{CommandFault, command};
+use fp_disk::MemoryDisk;
+use fp_streams::Counted;
+use fp_transcript::Answers;
+use std::alloc::{AllocError, AllocGlobal, Global};
+use std::fmt::Write;
+use std::rt::Files;
+use std::{fs, mem};
+
+/// What answers the lines of a file: what they work on, and the block that is open, if one is.
+#[derive(Drop)]
+pub struct Script<'a, R: Files + AllocGlobal> {
+    rt: &'a R,
+    trial: Trial,
+    head: String,
+    block: Vec<String>,
+}
+
+impl<'a, R: Files + AllocGlobal> Script<'a, R> {
+    /// Over an empty disk.
+    pub fn new(rt: &'a R) -> Script<'a, R> {
+        let alloc = rt.alloc();
+        Script {
+            rt,
+            trial: Trial::new(alloc, MemoryDisk::new(alloc)),
+            head: String::new(alloc),
+            block: Vec::new(alloc),
+        }
+    }
+}
+
+impl<'a, R: Files + AllocGlobal> Answers for Script<'a, R> {
+    // The lines between one that ends in `{` and a `}` are a block, for which the latter answers.
+    fn answer(&mut self, command: &str, out: &mut String) -> Result<(), AllocError> {
+        let line = command.trim();
+        if line == "}" {
+            return self.answer_block(out);
+        }
+        if !self.head.is_empty() {
+            let line = String::from_str(self.trial.alloc, line)?;
+            self.block.push(line)?;
+            return Ok(());
+        }
+        if let Some(head) = head_of(line) {
+            return self.head.push_str(head);
+        }
+        let answer = answered(alone(self.rt, &mut self.trial, line))?;
+        write!(out, "{answer}")
+    }
+}
+
+impl<'a, R: Files + AllocGlobal> Script<'a, R> {
+    fn answer_block(&mut self, out: &mut String) -> Result<(), AllocError> {
+        let alloc = self.trial.alloc;
+        let head = mem::replace(&mut self.head, String::new(alloc));
+        let block = mem::replace(&mut self.block, Vec::new(alloc));
+        match run_block(&mut self.trial, head.as_str(), &block, out) {
+            Ok(()) => Ok(()),
+            Err(TrialFault::NotUnderstood) => out.push_str("not understood"),
+            Err(TrialFault::Memory) => Err(AllocError),
+        }
+    }
+}
+
+// What a line says that opens a block.
+fn head_of(line: &str) -> Option<&str> {
+    let head = line.strip_suffix(" {")?;
+    let (word, _) = first_word(head);
+    matches!(word, "for" | "sweep" | "alone").then_some(head)
+}
+
+// `for WORD ..`, `sweep`, `sweep half`, `alone`, `alone half`.
+fn run_block(
+    trial: &mut Trial,
+    head: &str,
+    block: &[String],
+    out: &mut String,
+) -> Result<(), TrialFault> {
+    let (word, rest) = first_word(head);
+    match word {
+        "for" => repeat(trial, rest, block, out),
+        "sweep" | "alone" => sweep(trial, word, rest, block, out),
+        // A `}` without a block.
+        _ => Err(TrialFault::NotUnderstood),
+    }
+}
+
+// What can't stand in a block: `$ WORD ..`, `load NAME`, `save NAME`, `rounds COUNT EDITS`; and any other line.
+fn alone<R: Files + AllocGlobal>(
+    rt: &R,
+    trial: &mut Trial,
+    line: &str,
+) -> Result<Answer, TrialFault> {
+    let (word, rest) = first_word(line);
+    match word {
+        "$" => program(rt, trial, rest),
+        "load" => load(rt, trial, rest),
+        "save" => save(rt, trial, rest),
+        "rounds" => rounds(trial, rest),
+        _ => Ok(step(trial, line)?),
+    }
+}
+
+fn words_of(alloc: Global, text: &str) -> Result<Vec<String>, TrialFault> {
+    let mut words = Vec::new(alloc);
+    for word in text.split_whitespace() {
+        let word = if word == "''" { "" } else { word };
+        words.push(String::from_str(alloc, word)?)?;
+    }
+    Ok(words)
+}
+
+// `$ WORD ..`: the program's command of these words, of which `''` is the empty one, on the lines that wait. It answers what was written, what was told on the
+// error stream, and a status that isn't 0.
+fn program<R: Files + AllocGlobal>(
+    rt: &R,
+    trial: &mut Trial,
+    line: &str,
+) -> Result<Answer, TrialFault> {
+    let alloc = trial.alloc;
+    let words = words_of(alloc, line)?;
+    let input = trial.take_input();
+    let mut reader = Counted::new(input.as_slice());
+    let mut writer = Counted::new(Vec::new(alloc));
+    let mut errors = Counted::new(Vec::new(alloc));
+    let status = command(rt, &words, &mut reader, &mut writer, &mut errors);
+    let mut text = text_of(alloc, &writer.into_inner())?;
+    let told = text_of(alloc, &errors.into_inner())?;
+    if text.as_str().contains("out-of-memory") || told.as_str().contains("out of memory") {
+        return Err(TrialFault::Memory);
+    }
+    text.push_str(told.as_str())?;
+    if status != 0 {
+        tell_status(status, &mut text)?;
+    }
+    Ok(Answer::Text(text))
+}
+
+fn tell_status(status: u8, out: &mut String) -> Result<(), AllocError> {
+    write!(out, "status {status}")
+}
+
+// `load NAME`: the disk holds the file's bytes.
+fn load<R: Files + AllocGlobal>(
+    rt: &R,
+    trial: &mut Trial,
+    name: &str,
+) -> Result<Answer, TrialFault> {
+    match fs::read(rt, name) {
+        Ok(bytes) => trial.hold(bytes),
+        Err(_) => Ok(Answer::Fault(CommandFault::Device)),
+    }
+}
+
+// `save NAME`: the file holds the disk's bytes.
+fn save<R: Files>(rt: &R, trial: &mut Trial, name: &str) -> Result<Answer, TrialFault> {
+    let bytes = trial.bytes()?;
+    match fs::write(rt, name, bytes.as_slice()) {
+        Ok(()) => Ok(Answer::Done),
+        Err(_) => Ok(Answer::Fault(CommandFault::Device)),
+    }
+}

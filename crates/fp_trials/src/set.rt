@@ -1,0 +1,272 @@
+//! Commands on a set of flags and the commands of the program, over a disk in memory.
+
+use crate::disk::{part, text_of};
+use crate::journal::room;
+use crate::trial::{Answer, Held, OpenSet, Trial, TrialFault};
+use crate::words::{bytes, line_of, number};
+use fp_commands::{CommandFault, apply_disk, import_disk, init_disk, show_disk};
+use fp_edit::{Edit, EditFault, FlagSet};
+use fp_layout::SlotSize;
+use fp_recovery::{AdmitFault, DurableSet};
+use fp_streams::Counted;
+use std::alloc::{AllocError, Global};
+use std::fmt::Write;
+use std::io;
+use std::io::{ErrorKind, Read};
+
+/// `create SIZE`, `open`, `close`, `show`, `marks`, `size`, `ready`.
+pub fn on_set(trial: &mut Trial, word: &str, rest: &str) -> Result<Answer, TrialFault> {
+    match word {
+        "create" => create(trial, rest),
+        "open" => open(trial),
+        "close" => {
+            let disk = trial.take_disk();
+            trial.put_disk(disk);
+            Ok(Answer::Done)
+        }
+        _ => of_open_set(trial, word),
+    }
+}
+
+fn create(trial: &mut Trial, rest: &str) -> Result<Answer, TrialFault> {
+    let Some(size) = SlotSize::new(number(rest)?) else {
+        return Ok(Answer::Word("no size of a slot"));
+    };
+    let disk = trial.take_disk();
+    match DurableSet::create(trial.alloc, disk, size) {
+        Ok(set) => {
+            trial.held = Held::Open(OpenSet { set });
+            Ok(Answer::Revision(0))
+        }
+        Err((fault, disk)) => {
+            trial.put_disk(disk);
+            trial.fault(fault.into())
+        }
+    }
+}
+
+fn open(trial: &mut Trial) -> Result<Answer, TrialFault> {
+    let disk = trial.take_disk();
+    match DurableSet::open(trial.alloc, disk) {
+        Ok(set) => {
+            let revision = set.set().revision();
+            trial.held = Held::Open(OpenSet { set });
+            Ok(Answer::Revision(revision))
+        }
+        Err((fault, disk)) => {
+            trial.put_disk(disk);
+            trial.fault(fault.into())
+        }
+    }
+}
+
+fn of_open_set(trial: &Trial, word: &str) -> Result<Answer, TrialFault> {
+    let Held::Open(open) = &trial.held else {
+        return Err(TrialFault::NotUnderstood);
+    };
+    let flags = open.set.set();
+    match word {
+        "show" => Ok(Answer::Text(text_of(trial.alloc, &flags.document()?)?)),
+        "marks" => Ok(Answer::Text(marks(trial.alloc, flags)?)),
+        "size" => Ok(Answer::Number(flags.size())),
+        _ if open.set.is_ready() => Ok(Answer::Word("ready")),
+        _ => Ok(Answer::Word("failed")),
+    }
+}
+
+// The revisions that changed the flags last, in the order of their keys.
+fn marks(alloc: Global, set: &FlagSet) -> Result<String, AllocError> {
+    let mut text = String::new(alloc);
+    for (key, flag) in set.iter() {
+        part(&mut text)?;
+        tell_mark(&mut text, key.as_str(), flag.changed)?;
+    }
+    Ok(text)
+}
+
+fn tell_mark(text: &mut String, key: &str, changed: u64) -> Result<(), AllocError> {
+    write!(text, "{key} {changed}")
+}
+
+/// Makes an edit on the open set. One for which memory was wanting is given back, and is tried once more.
+pub fn admit(trial: &mut Trial, edit: Edit) -> Result<Answer, TrialFault> {
+    let Held::Open(open) = &mut trial.held else {
+        return Err(TrialFault::NotUnderstood);
+    };
+    let outcome = match open.set.admit(edit) {
+        Err(
+            AdmitFault::Refused {
+                fault: EditFault::Memory,
+                edit,
+            },
+        ) => open.set.admit(edit),
+        outcome => outcome,
+    };
+    let is_ready = open.set.is_ready();
+    match outcome {
+        Ok(revision) => {
+            trial.tell(revision);
+            Ok(Answer::Revision(revision))
+        }
+        Err(
+            AdmitFault::Refused {
+                fault: EditFault::Memory,
+                edit: _,
+            },
+        ) => Err(TrialFault::Memory),
+        Err(AdmitFault::Refused { fault, edit: _ }) => Ok(Answer::Refused(fault)),
+        Err(AdmitFault::StoreFailed) if is_ready || trial.is_failing => {
+            Ok(Answer::Fault(CommandFault::StoreFailed))
+        }
+        Err(AdmitFault::StoreFailed) => Err(TrialFault::Memory),
+    }
+}
+
+/// `input EDIT`, `last EDIT` for a line without its end, and `raw BYTES`.
+pub fn on_input(trial: &mut Trial, word: &str, rest: &str) -> Result<Answer, TrialFault> {
+    if word == "raw" {
+        let bytes = bytes(trial.alloc, rest)?;
+        trial.input.extend_from_slice(&bytes)?;
+        return Ok(Answer::Done);
+    }
+    let line = line_of(trial.alloc, rest)?;
+    trial.input.extend_from_slice(line.as_bytes())?;
+    if word == "input" {
+        trial.input.push(b'\n')?;
+    }
+    Ok(Answer::Done)
+}
+
+/// Gives these bytes, and then ends or fails.
+#[derive(Drop)]
+struct Source<'a> {
+    bytes: &'a [u8],
+    is_broken: bool,
+}
+
+impl<'a> Read for Source<'a> {
+    fn read(&mut self, buf: &mut [u8]) -> io::Result<usize> {
+        if self.is_broken && self.bytes.is_empty() {
+            return Err(ErrorKind::Other.into());
+        }
+        self.bytes.read(buf)
+    }
+}
+
+/// Takes so many bytes, and then fails.
+#[derive(Drop)]
+struct Sink {
+    bytes: Vec<u8>,
+    room: usize,
+}
+
+impl io::Write for Sink {
+    fn write(&mut self, buf: &[u8]) -> io::Result<usize> {
+        let count = buf.len().min(self.room);
+        if count == 0 && !buf.is_empty() {
+            return Err(ErrorKind::StorageFull.into());
+        }
+        self.bytes.extend_from_slice(&buf[..count])?;
+        self.room -= count;
+        Ok(count)
+    }
+
+    fn flush(&mut self) -> io::Result<()> {
+        Ok(())
+    }
+}
+
+// How much output is taken: `full ROOM`, or all.
+fn room_in(rest: &str) -> Result<usize, TrialFault> {
+    match rest.strip_prefix("full ") {
+        Some(room) => Ok(number(room)? as usize),
+        None if rest.is_empty() || rest == "broken" => Ok(usize::MAX),
+        None => Err(TrialFault::NotUnderstood),
+    }
+}
+
+/// `init`, `apply`, `import`, `shown`. With `broken` the input ends in a failure, with `full ROOM` the output takes so many
+/// bytes.
+pub fn on_commands(trial: &mut Trial, word: &str, rest: &str) -> Result<Answer, TrialFault> {
+    let alloc = trial.alloc;
+    let is_broken = rest == "broken";
+    let room = room_in(rest)?;
+    let input = trial.take_input();
+    let mut reader = Counted::new(Source {
+        bytes: &input,
+        is_broken,
+    });
+    let mut writer = Counted::new(Sink {
+        bytes: Vec::new(alloc),
+        room,
+    });
+    let disk = trial.take_disk();
+    let (disk, outcome) = match word {
+        "init" => of_unit(init_disk(alloc, disk)),
+        "shown" => of_unit(show_disk(alloc, &mut writer, disk)),
+        "apply" => apply_disk(alloc, &mut reader, &mut writer, disk),
+        _ => import_disk(alloc, &mut reader, &mut writer, disk),
+    };
+    trial.put_disk(disk);
+    let output = text_of(alloc, &writer.into_inner().bytes)?;
+    tell_replies(trial, output.as_str());
+    match outcome {
+        Ok(true) if output.is_empty() => Ok(Answer::Done),
+        Ok(true) => Ok(Answer::Text(output)),
+        Ok(false) => Err(TrialFault::Memory),
+        Err(CommandFault::Device) if !rest.is_empty() => {
+            Ok(Answer::Stopped(with_end(output)?, CommandFault::Device))
+        }
+        Err(CommandFault::StoreFailed) => store_failed(trial, output),
+        Err(fault) => stopped(trial, output, fault),
+    }
+}
+
+// No reply of a command without any tells of wanting memory.
+fn of_unit<D>(ran: (D, Result<(), CommandFault>)) -> (D, Result<bool, CommandFault>) {
+    match ran {
+        (disk, Ok(())) => (disk, Ok(true)),
+        (disk, Err(fault)) => (disk, Err(fault)),
+    }
+}
+
+// Each revision that was replied is told.
+fn tell_replies(trial: &mut Trial, output: &str) {
+    for line in output.lines() {
+        if let Some(revision) = replied(line) {
+            trial.tell(revision);
+        }
+    }
+}
+
+fn replied(line: &str) -> Option<u64> {
+    let digits = line.strip_prefix("{\"revision\":")?.strip_suffix("}")?;
+    digits.parse::<u64>().ok()
+}
+
+fn stopped(trial: &Trial, output: String, fault: CommandFault) -> Result<Answer, TrialFault> {
+    match trial.fault(fault)? {
+        Answer::Fault(fault) => Ok(Answer::Stopped(with_end(output)?, fault)),
+        answer => Ok(answer),
+    }
+}
+
+// What was written, up to the end of a line.
+fn with_end(output: String) -> Result<String, AllocError> {
+    let mut output = output;
+    if !output.is_empty() && !output.ends_with('\n') {
+        output.push_str("\n")?;
+    }
+    Ok(output)
+}
+
+// The longest edit line.
+const LONGEST: u64 = 32_768;
+
+// Where no call was told to fail and there is room for any edit, the store fails for want of memory.
+fn store_failed(trial: &mut Trial, output: String) -> Result<Answer, TrialFault> {
+    if !trial.is_failing && room(trial)? > LONGEST {
+        return Err(TrialFault::Memory);
+    }
+    Ok(Answer::Stopped(with_end(output)?, CommandFault::StoreFailed))
+}

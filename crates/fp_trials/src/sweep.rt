@@ -1,0 +1,271 @@
+//! A block run again and again with a stop at each call of the disk and each kind of crash there, and rounds of edits that
+//! end in crashes.
+
+use crate::disk::{crash_as, failed_write};
+use crate::run::step;
+use crate::trial::{Answer, Trial, TrialFault};
+use crate::words::{FIRST_SEED, first_number, next_seed, number};
+use fp_commands::CommandFault;
+use fp_disk::{Choice, FailedWrite, Failing, Fill, MemoryDisk};
+use fp_recovery::DurableSet;
+use std::alloc::{AllocError, Global};
+use std::fmt::Write;
+
+// What becomes of pending bytes.
+const FILLS: [Fill; 8] = [
+    Fill::Old,
+    Fill::New,
+    Fill::Byte(0xa5),
+    Fill::Byte(0),
+    Fill::Byte(0x37),
+    Fill::Seed(1),
+    Fill::Seed(2),
+    Fill::Seed(3),
+];
+
+const HEAD: &str = "call: old new a5 00 37 seed1 seed2 seed3 | the same, longest\n";
+
+// A sweep has at most so many calls.
+const MOST: u64 = 10_000;
+
+// A block that is to be run on a disk of these bytes, whose calls fail so.
+#[derive(Clone, Copy)]
+struct Course<'a> {
+    bytes: &'a [u8],
+    block: &'a [String],
+    failing: Failing,
+    writes: FailedWrite,
+}
+
+/// `sweep`, `sweep half`, `alone`, `alone half`. For each call of the block's disk, from 0 on until a run has no stop: the block
+/// is run on a disk of the same bytes of which that call fails, and all behind it or it alone; the power is cut with each
+/// choice of what is pending, and the disk is opened. A row has the call, the line that it belongs to, the greatest revision
+/// that was told before, and the revisions that were found, first those of the shortest disks and then those of the longest.
+pub fn sweep(
+    trial: &mut Trial,
+    word: &str,
+    rest: &str,
+    block: &[String],
+    out: &mut String,
+) -> Result<(), TrialFault> {
+    let alloc = trial.alloc;
+    let bytes = trial.bytes()?;
+    let writes = failed_write(rest)?;
+    let mut found = Vec::new(alloc);
+    out.push_str(HEAD)?;
+    for call in 0..MOST {
+        let failing = if word == "alone" {
+            Failing::At(call)
+        } else {
+            Failing::From(call)
+        };
+        let course = Course {
+            bytes: &bytes,
+            block,
+            failing,
+            writes,
+        };
+        write!(out, "{call}")?;
+        if !row(alloc, course, &mut found, out)? {
+            break;
+        }
+    }
+    tell_all(alloc, &found, out)?;
+    Ok(())
+}
+
+// What is found where the disk fails so, and whether it does.
+fn row(
+    alloc: Global,
+    course: Course<'_>,
+    found: &mut Vec<(u64, Vec<u8>)>,
+    out: &mut String,
+) -> Result<bool, AllocError> {
+    let (trial, stop) = run_to(alloc, course)?;
+    tell_stop(&stop, trial.told, out)?;
+    for fill in FILLS {
+        after_crash(alloc, course, 0, fill, found, out)?;
+    }
+    out.push_str(" |")?;
+    for fill in FILLS {
+        after_crash(alloc, course, u64::MAX, fill, found, out)?;
+    }
+    out.push_str("\n")?;
+    Ok(matches!(stop, Stop::In(_)))
+}
+
+// How a run of a block ended.
+#[derive(Clone, Copy)]
+enum Stop<'a> {
+    // At its end.
+    None,
+    // The disk failed in this line.
+    In(&'a str),
+    // This line is no command.
+    NotUnderstood(&'a str),
+}
+
+fn tell_stop(stop: &Stop<'_>, told: u64, out: &mut String) -> Result<(), AllocError> {
+    match *stop {
+        Stop::None => write!(out, " no stop, told {told}:"),
+        Stop::In(line) => write!(out, " in {line}, told {told}:"),
+        Stop::NotUnderstood(line) => write!(out, " not understood: {line}:"),
+    }
+}
+
+// Runs the block to the line at which the disk fails, or to its end.
+fn run_to<'a>(alloc: Global, course: Course<'a>) -> Result<(Trial, Stop<'a>), AllocError> {
+    let disk = MemoryDisk::holding(alloc, course.bytes.to_vec(alloc)?)?;
+    let mut trial = Trial::new(alloc, disk);
+    trial.set_failing(course.failing, course.writes);
+    for line in course.block {
+        let line = line.as_str();
+        match step(&mut trial, line)? {
+            Answer::NotUnderstood => return Ok((trial, Stop::NotUnderstood(line))),
+            answer if answer.is_fault() => return Ok((trial, Stop::In(line))),
+            _ => {}
+        }
+    }
+    Ok((trial, Stop::None))
+}
+
+// Runs the block, cuts the power, and tells what the disk is opened as.
+fn after_crash(
+    alloc: Global,
+    course: Course<'_>,
+    length: u64,
+    rest: Fill,
+    found: &mut Vec<(u64, Vec<u8>)>,
+    out: &mut String,
+) -> Result<(), AllocError> {
+    let (mut trial, _) = run_to(alloc, course)?;
+    let choice = Choice {
+        length,
+        writes: &[],
+        rest,
+    };
+    let left = trial.take_disk().crash(choice)?;
+    match DurableSet::open(alloc, left) {
+        Ok(set) => {
+            let revision = set.set().revision();
+            let document = set.set().document();
+            let _disk = set.into_disk();
+            let agrees = agrees(found, revision, document?)?;
+            tell_revision(revision, trial.told, agrees, out)
+        }
+        Err((fault, _disk)) => tell_fault(&fault.into(), out),
+    }
+}
+
+// Whether each disk of this revision had the same document so far.
+fn agrees(
+    found: &mut Vec<(u64, Vec<u8>)>,
+    revision: u64,
+    document: Vec<u8>,
+) -> Result<bool, AllocError> {
+    for (other, shown) in found.iter() {
+        if *other == revision {
+            return Ok(shown.as_slice() == document.as_slice());
+        }
+    }
+    found.push((revision, document))?;
+    Ok(true)
+}
+
+fn tell_revision(
+    revision: u64,
+    told: u64,
+    agrees: bool,
+    out: &mut String,
+) -> Result<(), AllocError> {
+    write!(out, " {revision}")?;
+    if revision < told {
+        out.push_str(" LOST")?;
+    }
+    if !agrees {
+        out.push_str(" OTHER FLAGS")?;
+    }
+    Ok(())
+}
+
+fn tell_fault(fault: &CommandFault, out: &mut String) -> Result<(), AllocError> {
+    match fault {
+        CommandFault::Unformatted => out.push_str(" -"),
+        fault => write!(out, " ({fault})"),
+    }
+}
+
+fn tell_all(alloc: Global, found: &[(u64, Vec<u8>)], out: &mut String) -> Result<(), AllocError> {
+    for (revision, document) in found {
+        tell_found(alloc, *revision, document.as_slice(), out)?;
+    }
+    Ok(())
+}
+
+fn tell_found(
+    alloc: Global,
+    revision: u64,
+    document: &[u8],
+    out: &mut String,
+) -> Result<(), AllocError> {
+    let document = String::from_utf8_lossy(alloc, document)?;
+    writeln!(out, "{revision} {document}")
+}
+
+// A put of one of eight keys, or a delete.
+fn drawn_line(alloc: Global, seed: u64) -> Result<String, AllocError> {
+    let key = seed % 8;
+    if seed / 8 % 4 == 0 {
+        return format!(in alloc; "edit delete k{key}");
+    }
+    format!(in alloc; "edit put k{key}")
+}
+
+// So many edits on the open set, or up to the first that the disk fails.
+fn edits(trial: &mut Trial, count: u64, seed: u64) -> Result<u64, AllocError> {
+    let mut seed = seed;
+    for _ in 0..count {
+        seed = next_seed(seed);
+        let line = drawn_line(trial.alloc, seed)?;
+        if step(trial, line.as_str())?.is_fault() {
+            break;
+        }
+    }
+    Ok(next_seed(seed))
+}
+
+/// `rounds COUNT EDITS`: the disk is opened, takes so many edits or stops among them, and crashes as a seed says, again and
+/// again. Each time it has to open at the revision that was told last, or at the one after it; else it answers that.
+pub fn rounds(trial: &mut Trial, rest: &str) -> Result<Answer, TrialFault> {
+    let (count, each) = first_number(rest)?;
+    let each = number(each)?;
+    let mut seed = FIRST_SEED;
+    for _ in 0..count {
+        trial.told = match step(trial, "open")? {
+            Answer::Revision(revision) => revision,
+            answer => return Ok(answer),
+        };
+        seed = round(trial, each, seed)?;
+        match step(trial, "open")? {
+            Answer::Revision(revision)
+                if trial.told <= revision && revision <= trial.told.saturating_add(1) => {}
+            answer => return Ok(answer),
+        }
+    }
+    Ok(Answer::Word("each as told, or one more"))
+}
+
+fn round(trial: &mut Trial, each: u64, seed: u64) -> Result<u64, TrialFault> {
+    trial.set_failing(Failing::From(3 + seed % 48), FailedWrite::Half);
+    let _revision = step(trial, "open")?;
+    let seed = edits(trial, each, seed)?;
+    let _done = crash_as(
+        trial,
+        Choice {
+            length: if seed / 8 % 2 == 0 { 0 } else { u64::MAX },
+            writes: &[],
+            rest: FILLS[(seed % 8) as usize],
+        },
+    )?;
+    Ok(seed)
+}
