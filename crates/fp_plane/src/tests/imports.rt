@@ -1,5 +1,5 @@
-use super::stand_ins::{Failing, Full};
 use super::ON;
+use super::stand_ins::{Failing, Full};
 use crate::{ApplyFault, import_flags};
 use fp_definition::{Definition, FlagKey};
 use fp_edit::FlagSet;
