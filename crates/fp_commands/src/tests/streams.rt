@@ -1,4 +1,3 @@
-use super::{run, written_out};
 use crate::command;
 use fp_streams::Counted;
 use std::alloc::AllocGlobal;
@@ -24,21 +23,6 @@ impl Write for Broken {
     fn flush(&mut self) -> io::Result<()> {
         Ok(())
     }
-}
-
-#[test]
-fn apply_without_a_file_is_over_memory(rt: HostRuntime) -> Result<(), Fail> {
-    let alloc = rt.alloc();
-    let put = "{\"flag\":ON,\"if\":\"any\",\"key\":\"a\",\"op\":\"put\"}\n";
-    let input = written_out(alloc, put)?;
-    let output = written_out(alloc, "{\"revision\":1}\n1 {\"flags\":{\"a\":ON}}\n")?;
-    for _again in 0..2 {
-        let ran = run(alloc, &rt, &["apply"], input.as_bytes())?;
-        assert_eq!(rt; ran.output.as_slice(), output.as_bytes());
-        assert_eq!(rt; ran.errors.as_slice(), b"".as_slice());
-        assert_eq!(rt; ran.status, 0);
-    }
-    Ok(())
 }
 
 #[test]
