@@ -7,8 +7,6 @@ use fp_journal::{BodyFault, Framed, Phase, Reader, Slot, synced_bytes};
 use std::alloc::Global;
 use std::test::Fail;
 
-mod vast;
-
 // The bytes up to the first batch's gate, with slots of 2^24 bytes.
 const STANDARD: [u8; 91] = [
     0xa5, 0x46, 0x4c, 0x41, 0x47, 0x50, 0x4c, 0x4e, 0x31, 1, 0, 0, 0, 0, 1, 0, 0, 0, 0, 0, 0, 0, 0,
