@@ -4,12 +4,9 @@ use fp_streams::Counted;
 use std::alloc::{AllocError, AllocGlobal, Global};
 use std::process::Abort;
 
-mod imports;
 mod limits;
 mod lines;
 mod replies;
-mod stand_ins;
-mod streams;
 
 const ON: &str = r#"{"defaultVariant":"on","state":"ENABLED","variants":{"on":true}}"#;
 
