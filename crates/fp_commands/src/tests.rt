@@ -7,7 +7,6 @@ use std::rt::Files;
 mod disks;
 mod files;
 mod imports;
-mod streams;
 mod words;
 
 const ON: &str = r#"{"defaultVariant":"on","state":"ENABLED","variants":{"on":true}}"#;
