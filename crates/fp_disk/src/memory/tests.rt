@@ -1,3 +1,6 @@
+ghost use Rattle.std.specs.Prelude.{IfOk};
+ghost use Rattle.fp_disk.specs.Memory.{HoldsBytes};
+
 use super::*;
 use crate::choice::{Choice, Fill};
 use std::test::Fail;
@@ -13,7 +16,9 @@ fn all_of<D: Disk>(alloc: Global, disk: &mut D) -> Result<Vec<u8>, Fail>
 }
 
 // "abcd", with two writes pending: inside, and behind a gap.
-fn pending(alloc: Global) -> Result<MemoryDisk, Fail> {
+fn pending(alloc: Global) -> Result<MemoryDisk, Fail>
+    ensures { IfOk result (λ m. HoldsBytes m.first m.calls) }
+{
     let mut disk = MemoryDisk::holding(alloc, b"abcd".to_vec(alloc)?)?;
     disk.write_at(1, b"XY")?;
     disk.write_at(6, b"Z")?;
