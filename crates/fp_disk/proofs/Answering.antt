@@ -1,5 +1,5 @@
 -- What a disk in memory does, in the words that hold of every disk.
-use Rattle.std.proofs.Common.{◌≡◌, ◌⊎◌, ◌<◌, ◌+◌, ◌++◌, ◌∷◌, [], ℕ, List, length, refl, arith, sym, ap, ◌∙◌, subst, inl, inr, Result, Ok, Err, IsErr, OnOk}
+use Rattle.std.proofs.Common.{◌≡◌, ◌↔◌, ◌⊎◌, ◌<◌, ◌+◌, ◌++◌, ◌∷◌, [], ℕ, List, length, refl, arith, sym, ap, ◌∙◌, subst, inl, inr, Result, Ok, Err, IsErr, OnOk}
 use Rattle.fp_disk.specs.declared.disk.DiskFault.{DiskFault}
 use Rattle.fp_disk.specs.declared.call.Call.{Call}
 use Rattle.fp_disk.specs.declared.call.Progress.{Progress}
@@ -7,8 +7,8 @@ use Rattle.fp_disk.specs.declared.call.Progress.TheVariants.{Whole, Half, Nothin
 use Rattle.fp_disk.specs.declared.call.Request.{Request}
 use Rattle.fp_disk.specs.declared.call.Request.TheVariants.{Write, Sync}
 use Rattle.fp_disk.specs.Outcomes.{Unsynced, IsOutcome, Elapses, Answers, settled, touched, Written, ChangesWithin}
-use Rattle.fp_disk.specs.Memory.{State, Memory, state, after_request, at_first, unsynced_of, LeftSince, failed, refused, kind_of, Answered}
-use Rattle.fp_disk.specs.MemoryLaws.{replay_more, elapses_call, synced_fits, written_changes}
+use Rattle.fp_disk.specs.Memory.{State, Memory, state, after_request, at_first, unsynced_of, LeftSince, failed, refused, kind_of, Answered, BringsBytes, HoldsBytes}
+use Rattle.fp_disk.specs.MemoryLaws.{replay_more, holds_more, elapses_call, synced_fits, written_changes}
 
 pub answers_of : {T : Type 0} (old new : Memory) (request : Request) (p : Progress) (result : Result T DiskFault) → Answered old new request p result → Answers old.faults new.faults result
 answers_of old new request p (Ok x) a = record { well = λ ok. ap (λ (m : Memory). m.faults) (a.ok.1); ill = λ err. absurd (cc err) }
@@ -26,6 +26,14 @@ answers_of old new request p (Err e) a = record {
 pub called_of : {T : Type 0} (old new : Memory) (request : Request) (p : Progress) (result : Result T DiskFault) → Answered old new request p result → new.made ≡ old.made ++ kind_of request ∷ []
 called_of old new request p (Ok x) a = ap (λ (m : Memory). m.made) a.ok.1
 called_of old new request p (Err e) a = elim a.err [ inl fails ↦ ap (λ (m : Memory). m.made) fails.1 | inr none ↦ ap (λ (m : Memory). m.made) none ]
+
+-- a disk holds bytes after a call exactly where it did before
+pub honest_of : {T : Type 0} (old new : Memory) (request : Request) (p : Progress) (result : Result T DiskFault) → BringsBytes request → Answered old new request p result → HoldsBytes old.first old.calls ↔ HoldsBytes new.first new.calls
+honest_of old new request p (Ok x) b a = subst (λ (m : Memory). HoldsBytes old.first old.calls ↔ HoldsBytes m.first m.calls) (sym a.ok.1) (holds_more old.first old.calls (record { request = request; progress = Whole }) b)
+honest_of old new request p (Err e) b a = elim a.err [
+  | inl fails ↦ subst (λ (m : Memory). HoldsBytes old.first old.calls ↔ HoldsBytes m.first m.calls) (sym fails.1) (holds_more old.first old.calls (record { request = request; progress = p }) b)
+  | inr none ↦ subst (λ (m : Memory). HoldsBytes old.first old.calls ↔ HoldsBytes m.first m.calls) (sym none) (λ h. h, λ h. h)
+]
 
 elapses_none : (first : List ℕ) (calls : List Call) (u : Unsynced) → Elapses (length calls) (length calls) (LeftSince first calls) (LeftSince first calls) (IsOutcome u)
 elapses_none first calls u = record { later = omega arith; nothing_else = λ t o le left. inl left; keeps = λ t o le left. left }
@@ -101,7 +109,7 @@ pub bytes_stay : {T : Type 0} (old new : Memory) (result : Result T DiskFault) �
 bytes_stay old new (Ok x) a = ap (λ (s : State). s.bytes) (state_ok old new Sync Nothing (Ok x) a)
 bytes_stay old new (Err e) a = ap (λ (s : State). s.bytes) (settled_err old new (Err e) a refl)
 
-pub sync_fits : (old : Memory) (q : Progress) (o : List ℕ) → IsOutcome (unsynced_of (after_request Sync q (state old))) o → IsOutcome (unsynced_of (state old)) o
-sync_fits old Whole o out = synced_fits old o out
-sync_fits old Half o out = out
-sync_fits old Nothing o out = out
+pub sync_fits : (old : Memory) → HoldsBytes old.first old.calls → (q : Progress) (o : List ℕ) → IsOutcome (unsynced_of (after_request Sync q (state old))) o → IsOutcome (unsynced_of (state old)) o
+sync_fits old h Whole o out = synced_fits old o h out
+sync_fits old h Half o out = out
+sync_fits old h Nothing o out = out

@@ -8,9 +8,8 @@ use Rattle.fp_disk.specs.declared.call.Call.{Call}
 use Rattle.fp_disk.specs.declared.call.Request.{Request}
 use Rattle.fp_disk.specs.declared.call.Request.TheVariants.{Len, Read, Write, Sync}
 use Rattle.fp_disk.specs.declared.choice.Fill.{Fill}
-use Rattle.fp_disk.specs.Outcomes.{IsOutcome, Covers}
-use Rattle.fp_disk.specs.Memory.{Memory, fresh, state, unsynced_of, ranges_of, with_request, writes_after}
-use Rattle.fp_disk.specs.MemoryLaws.{has_present}
+use Rattle.fp_disk.specs.Outcomes.{IsOutcome, AreBytes, Covers}
+use Rattle.fp_disk.specs.Memory.{Memory, HoldsBytes, fresh, state, unsynced_of, ranges_of, reach_of, with_request, writes_after}
 use Rattle.fp_disk.specs.Crash.{IsLeft, laid, fill_of, filled, reaches}
 use Rattle.fp_disk.proofs.Keeping.{writes_after_more}
 
@@ -30,19 +29,25 @@ laid_apart fills rest (w ∷ ws) k byte out =
     let off : reaches w k ≡ false = apart w.0 (length w.1) k (λ inside. out (inl inside)) in
     rw off (laid_apart fills rest ws k byte (λ covers. out (inr covers)))
 
-pub left_outcome : (wanted : ℕ) (fills : List Fill) (rest : Fill) (m : Memory) (c : List ℕ) → IsLeft wanted fills rest (state m) c → IsOutcome (unsynced_of (state m)) c
-left_outcome wanted fills rest m c left = let p = has_present m in let a = p.no_shorter in let b = p.no_longer in let n = left.length_is in record {
+reach_least : (n : ℕ) (ws : List (ℕ × List ℕ)) → n ≤ reach_of n ws
+reach_least n [] = omega arith
+reach_least n (w ∷ ws) = let le = reach_least n ws in omega (arith, le)
+
+left_outcome : (wanted : ℕ) (fills : List Fill) (rest : Fill) (m : Memory) (c : List ℕ) → AreBytes c → IsLeft wanted fills rest (state m) c → IsOutcome (unsynced_of (state m)) c
+left_outcome wanted fills rest m c bytes left = let least = reach_least (length (state m).synced) (state m).writes in let n = left.length_is in record {
+  bytes = bytes;
   no_shorter = omega (arith, n);
-  no_longer = omega (arith, a, b, n);
+  no_longer = omega (arith, least, n);
   kept = λ k lt out. left.places k (omega (arith, n, lt)) ∙ (laid_apart fills rest (state m).writes k (slice_index_or (state m).synced k (filled rest k 0 0)) out ∙ within (state m).synced k (filled rest k 0 0) lt);
 }
   where
     within : (xs : List ℕ) (k d : ℕ) → k < length xs → slice_index_or xs k d ≡ slice_index xs k
     within xs k d lt = grind (arith, common_steps)
 
-pub outcome_held : {E : Type 0} (wanted : ℕ) (fills : List Fill) (rest : Fill) (m : Memory) (bytes : List ℕ) → IsLeft wanted fills rest (state m) bytes → (result : Result Memory E) → IfOk result (λ d. d ≡ fresh bytes) → IfOk result (λ d. IsOutcome (unsynced_of (state m)) d.first)
-outcome_held wanted fills rest m bytes left (Ok d) is = subst (λ (c : List ℕ). IsOutcome (unsynced_of (state m)) c) (sym (ap (λ (d : Memory). d.first) is)) (left_outcome wanted fills rest m bytes left)
-outcome_held wanted fills rest m bytes left (Err e) is = tt
+pub outcome_held : {E : Type 0} (wanted : ℕ) (fills : List Fill) (rest : Fill) (m : Memory) (bytes : List ℕ) → IsLeft wanted fills rest (state m) bytes → (result : Result Memory E) → IfOk result (λ d. d ≡ fresh bytes) → IfOk result (λ d. HoldsBytes d.first d.calls) → IfOk result (λ d. IsOutcome (unsynced_of (state m)) d.first)
+outcome_held wanted fills rest m bytes left (Ok d) is holds = let first : d.first ≡ bytes = ap (λ (d : Memory). d.first) is in
+    left_outcome wanted fills rest m d.first holds.at_first (subst (λ (c : List ℕ). IsLeft wanted fills rest (state m) c) (sym first) left)
+outcome_held wanted fills rest m bytes left (Err e) is holds = tt
 
 -- one call more
 

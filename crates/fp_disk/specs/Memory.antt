@@ -1,6 +1,7 @@
 -- A disk in memory, by what it held at first and the calls that it recorded since.
 use Rattle.std.specs.Prelude.{◌≡◌, ◌⊎◌, ◌≤◌, ◌+◌, ◌-◌, ◌/◌, ℕ, max, Bool, true, nat_lt, if◌then◌else◌, List, [], ◌∷◌, ◌++◌, length, take, drop, Result, IsTrue, OnOk, OnErr}
-use Rattle.fp_disk.specs.Outcomes.{Unsynced, IsOutcome, overwritten}
+use Rattle.std.specs.List.{AllByRecursion}
+use Rattle.fp_disk.specs.Outcomes.{Unsynced, IsOutcome, AreBytes, overwritten}
 use Rattle.fp_disk.specs.declared.history.CallKind.{CallKind}
 use Rattle.fp_disk.specs.declared.history.CallKind.TheVariants as kind
 use Rattle.fp_disk.specs.declared.disk.DiskFault.{DiskFault}
@@ -97,6 +98,18 @@ kind_of (Read at n) = kind.Read
 kind_of (Write at more) = kind.Write
 kind_of Sync = kind.Sync
 
+-- what is to be put is bytes
+abbrev pub BringsBytes : Request → Type 0
+BringsBytes Len = Unit {0}
+BringsBytes (Read at n) = Unit {0}
+BringsBytes (Write at more) = AreBytes more
+BringsBytes Sync = Unit {0}
+
+-- bytes at first, and each call brought none but bytes
+pub record HoldsBytes (first : List ℕ) (calls : List Call) : Type 0 where
+  pub at_first : AreBytes first
+  pub brought : AllByRecursion (λ (c : Call). BringsBytes c.request) calls
+
 -- a disk in memory, as contracts see it; `made` has the calls without a record too
 pub record Memory : Type 0 where
   pub first : List ℕ
@@ -142,10 +155,11 @@ abbrev pub writes_after : List (ℕ × List ℕ) → List Call → List (ℕ × 
 writes_after ws [] = ws
 writes_after ws (c ∷ cs) = writes_after (with_request ws c.request) cs
 
--- the fields of a disk in memory are those of its state, and the calls from the settled ones on made its pending writes
+-- the fields of a disk in memory are those of its state, the calls from the settled ones on made its pending writes, and all is bytes
 pub record Keeps (first bytes synced : List ℕ) (calls : List Call) (settled reach : ℕ) : Type 0 where
   pub bytes_are : bytes ≡ (replay (at_first first) calls).bytes
   pub synced_are : synced ≡ (replay (at_first first) calls).synced
   pub pending : writes_after [] (drop settled calls) ≡ (replay (at_first first) calls).writes
   pub within : settled ≤ length calls
   pub reach_is : reach ≡ reach_of (length synced) (replay (at_first first) calls).writes
+  pub holds : HoldsBytes first calls

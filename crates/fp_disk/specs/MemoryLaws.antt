@@ -1,16 +1,18 @@
 -- What holds of every disk in memory.
-use Rattle.std.specs.Prelude.{◌≡◌, ◌≤◌, ◌+◌, ◌/◌, ℕ, List, [], ◌∷◌, ◌++◌, length, take, refl}
+use Rattle.std.specs.Prelude.{◌≡◌, ◌↔◌, ◌≤◌, ◌+◌, ◌-◌, ◌/◌, ℕ, List, [], ◌∷◌, ◌++◌, length, take, drop, replicate, refl}
+use Rattle.std.specs.List.{AllByRecursion}
 use Rattle.std.proofs.lemmas.Grind.{common_steps}
 use Rattle.std.proofs.lemmas.Bool.{cases_lt}
+use Rattle.std.proofs.lemmas.List.Elements.{All-append, All-take, All-drop, All-replicate}
 use Rattle.std.proofs.Common.{inl, inr, length-append, sym, ap, ◌∙◌, subst, arith, zero, suc}
-use Rattle.fp_disk.specs.Outcomes.{Unsynced, IsOutcome, Elapses, ChangesWithin, settled, overwritten}
+use Rattle.fp_disk.specs.Outcomes.{Unsynced, IsOutcome, IsByte, AreBytes, Elapses, ChangesWithin, settled, overwritten}
 use Rattle.fp_disk.specs.Writes.{length-overwritten, overwritten_before, overwritten_behind}
 use Rattle.fp_disk.specs.declared.call.Call.{Call}
 use Rattle.fp_disk.specs.declared.call.Progress.{Progress}
 use Rattle.fp_disk.specs.declared.call.Progress.TheVariants.{Whole, Half, Nothing}
 use Rattle.fp_disk.specs.declared.call.Request.{Request}
 use Rattle.fp_disk.specs.declared.call.Request.TheVariants.{Len, Read, Write, Sync}
-use Rattle.fp_disk.specs.Memory.{State, Memory, state, written, after, after_request, replay, at_first, unsynced_of, state_at, LeftSince}
+use Rattle.fp_disk.specs.Memory.{State, Memory, state, written, after, after_request, replay, at_first, unsynced_of, state_at, LeftSince, BringsBytes, HoldsBytes}
 
 -- all of a list, and a front of a list with one more
 
@@ -61,34 +63,59 @@ written_changes Half old more at = let half = overwritten_changes old (take (len
     changes_less old _ at (length (take (length more / 2) more)) (length more) (grind (arith, common_steps)) half
 written_changes Nothing old more at = record { no_shorter = omega arith; no_longer = omega arith; outside = λ k lt out. refl }
 
+-- bytes put over bytes are bytes
+
+overwritten_bytes : (old more : List ℕ) (at : ℕ) → AreBytes old → AreBytes more → AreBytes (overwritten old at more)
+overwritten_bytes old more at o m =
+    let filled : List ℕ = old ++ replicate (at - length old) 0 in
+    let before = All-take IsByte at filled (All-append IsByte old (replicate (at - length old) 0) o (All-replicate IsByte (at - length old) 0 (omega arith))) in
+    All-append IsByte (take at filled ++ more) (drop (at + length more) old) (All-append IsByte (take at filled) more before m) (All-drop IsByte (at + length more) old o)
+
+written_bytes : (p : Progress) (old more : List ℕ) (at : ℕ) → AreBytes old → AreBytes more → AreBytes (written p old at more)
+written_bytes Whole old more at o m = overwritten_bytes old more at o m
+written_bytes Half old more at o m = overwritten_bytes old (take (length more / 2) more) at o (All-take IsByte (length more / 2) more m)
+written_bytes Nothing old more at o m = o
+
 -- what a read gives is an outcome, at first and after each call
 
-wrote_real : (p : Progress) (s : State) (at : ℕ) (more : List ℕ) → IsOutcome (unsynced_of s) s.bytes → IsOutcome (unsynced_of (after_request (Write at more) p s)) (written p s.bytes at more)
-wrote_real p s at more r = let c = written_changes p s.bytes more at in let a = r.no_shorter in let b = r.no_longer in let x = c.no_shorter in let y = c.no_longer in record {
+wrote_real : (p : Progress) (s : State) (at : ℕ) (more : List ℕ) → AreBytes more → IsOutcome (unsynced_of s) s.bytes → IsOutcome (unsynced_of (after_request (Write at more) p s)) (written p s.bytes at more)
+wrote_real p s at more m r = let c = written_changes p s.bytes more at in let a = r.no_shorter in let b = r.no_longer in let x = c.no_shorter in let y = c.no_longer in record {
+  bytes = written_bytes p s.bytes more at r.bytes m;
   no_shorter = omega (arith, a, x);
   no_longer = omega (arith, b, y);
   kept = λ k lt out. c.outside k (omega (arith, a, lt)) (λ inside. out (inl inside)) ∙ r.kept k lt (λ covers. out (inr covers));
 }
 
-settled_real : (bytes : List ℕ) → IsOutcome (settled bytes) bytes
-settled_real bytes = record { no_shorter = omega arith; no_longer = omega arith; kept = λ k lt out. refl }
+settled_real : (bytes : List ℕ) → AreBytes bytes → IsOutcome (settled bytes) bytes
+settled_real bytes b = record { bytes = b; no_shorter = omega arith; no_longer = omega arith; kept = λ k lt out. refl }
 
-after_real : (request : Request) (p : Progress) (s : State) → IsOutcome (unsynced_of s) s.bytes → IsOutcome (unsynced_of (after_request request p s)) (after_request request p s).bytes
-after_real Len p s r = r
-after_real (Read at n) p s r = r
-after_real (Write at more) p s r = wrote_real p s at more r
-after_real Sync Whole s r = settled_real s.bytes
-after_real Sync Half s r = r
-after_real Sync Nothing s r = r
+after_real : (request : Request) (p : Progress) (s : State) → BringsBytes request → IsOutcome (unsynced_of s) s.bytes → IsOutcome (unsynced_of (after_request request p s)) (after_request request p s).bytes
+after_real Len p s b r = r
+after_real (Read at n) p s b r = r
+after_real (Write at more) p s b r = wrote_real p s at more b r
+after_real Sync Whole s b r = settled_real s.bytes r.bytes
+after_real Sync Half s b r = r
+after_real Sync Nothing s b r = r
 
-replay_real : (s : State) (cs : List Call) → IsOutcome (unsynced_of s) s.bytes → IsOutcome (unsynced_of (replay s cs)) (replay s cs).bytes
-replay_real s [] r = r
-replay_real s (c ∷ cs) r = replay_real (after s c) cs (after_real c.request c.progress s r)
+replay_real : (s : State) (cs : List Call) → AllByRecursion (λ (c : Call). BringsBytes c.request) cs → IsOutcome (unsynced_of s) s.bytes → IsOutcome (unsynced_of (replay s cs)) (replay s cs).bytes
+replay_real s [] b r = r
+replay_real s (c ∷ cs) b r = replay_real (after s c) cs b.1 (after_real c.request c.progress s b.0 r)
 
-pub has_present : (m : Memory) → IsOutcome (unsynced_of (state m)) (state m).bytes
-has_present m = replay_real (at_first m.first) m.calls (settled_real m.first)
+pub has_present : (m : Memory) → HoldsBytes m.first m.calls → IsOutcome (unsynced_of (state m)) (state m).bytes
+has_present m h = replay_real (at_first m.first) m.calls h.brought (settled_real m.first h.at_first)
 
 -- one call more
+
+brought_more : (cs : List Call) (c : Call) → BringsBytes c.request → AllByRecursion (λ (d : Call). BringsBytes d.request) cs → AllByRecursion (λ (d : Call). BringsBytes d.request) (cs ++ c ∷ [])
+brought_more [] c b all = (b, tt)
+brought_more (d ∷ cs) c b all = (all.0, brought_more cs c b all.1)
+
+brought_less : (cs : List Call) (c : Call) → AllByRecursion (λ (d : Call). BringsBytes d.request) (cs ++ c ∷ []) → AllByRecursion (λ (d : Call). BringsBytes d.request) cs
+brought_less [] c all = tt
+brought_less (d ∷ cs) c all = (all.0, brought_less cs c all.1)
+
+pub holds_more : (first : List ℕ) (calls : List Call) (c : Call) → BringsBytes c.request → HoldsBytes first calls ↔ HoldsBytes first (calls ++ c ∷ [])
+holds_more first calls c b = (λ h. record { at_first = h.at_first; brought = brought_more calls c b h.brought }, λ h. record { at_first = h.at_first; brought = brought_less calls c h.brought })
 
 pub replay_more : (s : State) (cs : List Call) (c : Call) → replay s (cs ++ c ∷ []) ≡ after (replay s cs) c
 replay_more s [] c = refl
@@ -112,7 +139,7 @@ elapses_call first calls c u fits = record {
     whole k le = ap (λ (l : List Call). replay (at_first first) l) (take_whole (calls ++ c ∷ []) k (omega (arith, len, le))) ∙ replay_more (at_first first) calls c
 
 -- a sync leaves an outcome from before it
-pub synced_fits : (m : Memory) (o : List ℕ) → IsOutcome (settled (state m).bytes) o → IsOutcome (unsynced_of (state m)) o
-synced_fits m o out =
-    let p = has_present m in let a = p.no_shorter in let b = p.no_longer in let x = out.no_shorter in let y = out.no_longer in
-    record { no_shorter = omega (arith, a, x); no_longer = omega (arith, b, y); kept = λ k lt apart. out.kept k (omega (arith, a, lt)) (λ none. none) ∙ p.kept k lt apart }
+pub synced_fits : (m : Memory) (o : List ℕ) → HoldsBytes m.first m.calls → IsOutcome (settled (state m).bytes) o → IsOutcome (unsynced_of (state m)) o
+synced_fits m o h out =
+    let p = has_present m h in let a = p.no_shorter in let b = p.no_longer in let x = out.no_shorter in let y = out.no_longer in
+    record { bytes = out.bytes; no_shorter = omega (arith, a, x); no_longer = omega (arith, b, y); kept = λ k lt apart. out.kept k (omega (arith, a, lt)) (λ none. none) ∙ p.kept k lt apart }

@@ -1,6 +1,14 @@
 -- What a crash may leave.
 use Rattle.std.specs.Prelude.{◌≡◌, ◌⊎◌, ◌<◌, ◌≤◌, ◌+◌, ℕ, max, List, [], ◌∷◌, ◌++◌, length, slice_index, take, drop, replicate, ◌-◌, Result, IsOk, IsErr}
+use Rattle.std.specs.List.{All}
 use Rattle.fp_disk.specs.declared.disk.DiskFault.{DiskFault}
+
+-- a byte is a number from 0 to 255
+abbrev pub IsByte : ℕ → Type 0
+IsByte b = b < 256
+
+abbrev pub AreBytes : List ℕ → Type 0
+AreBytes c = All IsByte c
 
 -- `synced` is what the last sync made sure of, `ranges` where it was written since, each by its first place and how many,
 -- and no outcome is longer than `reach`
@@ -14,8 +22,9 @@ abbrev pub Covers : List (ℕ × ℕ) → ℕ → Type 0
 Covers [] k = ⊥
 Covers (r ∷ rs) k = ((r.0 ≤ k) × (k < r.0 + r.1)) ⊎ Covers rs k
 
--- A crash may leave this: no shorter than what is synced and no longer than was written, with the synced bytes wherever nothing was written since
+-- A crash may leave these bytes: no fewer than are synced and no more than were written, the synced ones wherever nothing was written since
 pub record IsOutcome (u : Unsynced) (c : List ℕ) : Type 0 where
+  pub bytes : AreBytes c
   pub no_shorter : length u.synced ≤ length c
   pub no_longer : length c ≤ u.reach
   pub kept : (k : ℕ) → k < length u.synced → (Covers u.ranges k → ⊥) → slice_index c k ≡ slice_index u.synced k

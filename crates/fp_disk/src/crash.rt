@@ -1,6 +1,6 @@
 ghost use Rattle.std.specs.Prelude.{◌≡◌, ◌≤◌, ◌<◌, ◌-◌, ℕ, [], length, slice_index, slice_index_or, if◌then◌else◌, IfOk};
 ghost use Rattle.fp_disk.specs.Outcomes.{IsOutcome};
-ghost use Rattle.fp_disk.specs.Memory.{state, fresh, unsynced_of, writes_after};
+ghost use Rattle.fp_disk.specs.Memory.{HoldsBytes, state, fresh, unsynced_of, writes_after};
 ghost use Rattle.fp_disk.specs.Crash.{IsLeft, filled, fill_of, laid, reaches};
 
 use crate::call::{Call, Request};
@@ -95,6 +95,7 @@ impl MemoryDisk {
             (state self) m.first) }
         ensures outcome { IfOk result (λ m. IsOutcome (unsynced_of (state self)) m.first) }
         ensures fresh { IfOk result (λ m. m ≡ fresh m.first) }
+        ensures honest { IfOk result (λ m. HoldsBytes m.first m.calls) }
     {
         MemoryDisk::holding(self.alloc, self.left_by(&choice)?)
     }

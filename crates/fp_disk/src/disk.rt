@@ -92,7 +92,7 @@ pub trait Disk {
         ensures called { calls self.new ≡ calls self.old ++ CallKind.Sync ∷ [] }
         ensures cause { Answers (faults self.old) (faults self.new) result };
 
-    /// The bytes are an outcome.
+    /// The bytes are an outcome, and so each is a number from 0 to 255.
     ghost present: { (d : Self) → honest d → IsOutcome (unsynced d) (bytes d) };
 
     /// This moment is one of those since an earlier one.

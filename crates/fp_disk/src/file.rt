@@ -134,6 +134,3 @@ impl<F: Read + Write + Seek + OpenFile + Drop> Disk for FileDisk<F> {
         noted(&mut self.history, CallKind::Sync, done)
     }
 }
-
-#[cfg(test)]
-mod tests;

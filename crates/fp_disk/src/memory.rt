@@ -1,8 +1,8 @@
 //! A disk in memory.
 
-ghost use Rattle.std.specs.Prelude.{◌≡◌, ◌≤◌, ◌<◌, ◌+◌, ◌^◌, ◌-◌, ℕ, List, [], ◌∷◌, ◌++◌, length, slice_range, IfOk, OnOk, OnErr};
-ghost use Rattle.fp_disk.specs.Outcomes.{overwritten};
-ghost use Rattle.fp_disk.specs.Memory.{Memory, Answered, Keeps, state, unsynced_of, LeftSince, fresh, written, write_progress};
+ghost use Rattle.std.specs.Prelude.{◌≡◌, ◌↔◌, ◌≤◌, ◌<◌, ◌+◌, ◌^◌, ◌-◌, ℕ, List, [], ◌∷◌, ◌++◌, length, slice_range, IfOk, OnOk, OnErr};
+ghost use Rattle.fp_disk.specs.Outcomes.{AreBytes, overwritten};
+ghost use Rattle.fp_disk.specs.Memory.{Memory, Answered, HoldsBytes, Keeps, state, unsynced_of, LeftSince, fresh, written, write_progress};
 ghost use Rattle.fp_disk.specs.MemoryLaws.{counts, only, has_present};
 ghost use Rattle.fp_disk.specs.declared.call.Request.TheVariants.{Len, Read, Write, Sync};
 ghost use Rattle.fp_disk.specs.declared.call.Progress.TheVariants.{Nothing};
@@ -53,7 +53,8 @@ impl Model for MemoryDisk {
 impl MemoryDisk {
     /// An empty disk, of which no call fails.
     pub fn new(alloc: Global) -> MemoryDisk
-        ensures { result ≡ fresh [] }
+        ensures fresh { result ≡ fresh [] }
+        ensures honest { HoldsBytes result.first result.calls }
     {
         let bytes = Vec::new(alloc);
         MemoryDisk {
@@ -72,7 +73,8 @@ impl MemoryDisk {
 
     /// A disk that holds these bytes, with nothing pending, of which no call fails.
     pub fn holding(alloc: Global, bytes: Vec<u8>) -> Result<MemoryDisk, AllocError>
-        ensures { IfOk result (λ m. m ≡ fresh bytes.items) }
+        ensures fresh { IfOk result (λ m. m ≡ fresh bytes.items) }
+        ensures honest { IfOk result (λ m. HoldsBytes m.first m.calls) }
     {
         let synced = bytes.to_vec(alloc)?;
         Ok(MemoryDisk {
@@ -91,7 +93,8 @@ impl MemoryDisk {
 
     /// From now on these calls fail.
     pub fn set_failing(&mut self, failing: Failing, writes: FailedWrite)
-        ensures { self.new ≡ record self.old { failing = failing; failed_writes = writes } }
+        ensures failing { self.new ≡ record self.old { failing = failing; failed_writes = writes } }
+        ensures honest { HoldsBytes self.new.first self.new.calls }
     {
         self.failing = failing;
         self.failed_writes = writes;
@@ -99,7 +102,8 @@ impl MemoryDisk {
 
     /// The calls so far, but for those that found no memory.
     pub fn calls(&self) -> &[Call]
-        ensures { result.now ≡ self.now.calls }
+        ensures calls { result.now ≡ self.now.calls }
+        ensures honest { HoldsBytes self.now.first self.now.calls }
     {
         self.calls.as_slice()
     }
@@ -151,6 +155,7 @@ fn put_and_record(
     from: &[u8],
     progress: Progress,
 ) -> Result<u64, AllocError>
+    ensures brought { AreBytes from.now }
     ensures end { IfOk result (λ end. end ≡ at + length from.now) }
     ensures bytes { OnOk result (bytes.new.items ≡ written progress bytes.old.items at from.now) }
     ensures calls { OnOk result
@@ -182,7 +187,7 @@ fn note(calls: &mut Vec<Call>, request: Request, progress: Progress) -> Result<(
 }
 
 impl Disk for MemoryDisk {
-    ghost honest = { λ m. Unit {0} };
+    ghost honest = { λ m. HoldsBytes m.first m.calls };
 
     ghost bytes = { λ m. (state m).bytes };
 
@@ -196,7 +201,7 @@ impl Disk for MemoryDisk {
 
     ghost calls = { λ m. m.made };
 
-    ghost present = { λ m h. has_present m };
+    ghost present = { λ m h. has_present m h };
 
     ghost counts_now = { λ m t c h le out. counts m.first m.calls t c le out };
 
@@ -204,6 +209,7 @@ impl Disk for MemoryDisk {
 
     fn len(&mut self) -> Result<u64, DiskFault>
         ensures recorded { Answered self.old self.new Len Nothing result }
+        ensures honest { HoldsBytes self.new.first self.new.calls }
         ensures answer { IfOk result (λ n. n ≡ length (state self.old).bytes) }
     {
         let progress = self.failing.progress();
@@ -219,8 +225,10 @@ impl Disk for MemoryDisk {
     }
 
     fn read_at(&mut self, at: u64, into: &mut [u8]) -> Result<(), DiskFault>
-        requires { at + length into.old ≤ length (state self.old).bytes }
+        requires { HoldsBytes self.old.first self.old.calls →
+            at + length into.old ≤ length (state self.old).bytes }
         ensures recorded { Answered self.old self.new (Read at (length into.old)) Nothing result }
+        ensures honest { HoldsBytes self.new.first self.new.calls }
         ensures answer { OnOk result
             (into.new ≡ slice_range (state self.old).bytes at (at + length into.old)) }
     {
@@ -245,6 +253,8 @@ impl Disk for MemoryDisk {
     fn write_at(&mut self, at: u64, from: &[u8]) -> Result<(), DiskFault>
         ensures recorded { Answered self.old self.new (Write at from.now)
             (write_progress self.old.failed_writes self.old.failing) result }
+        ensures bytes { AreBytes from.now }
+        ensures honest { HoldsBytes self.new.first self.new.calls }
     {
         let progress = self.failed_writes.progress(self.failing);
         self.failing = self.failing.after_call();
@@ -269,6 +279,7 @@ impl Disk for MemoryDisk {
 
     fn sync(&mut self) -> Result<(), DiskFault>
         ensures recorded { Answered self.old self.new Sync Nothing result }
+        ensures honest { HoldsBytes self.new.first self.new.calls }
     {
         let progress = self.failing.progress();
         self.failing = self.failing.after_call();

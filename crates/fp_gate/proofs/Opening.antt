@@ -2,28 +2,30 @@
 use Rattle.std.proofs.Common.{◌≡◌, ◌⊎◌, ◌≤◌, ◌<◌, ◌+◌, ℕ, List, length, refl, arith, sym, ◌∙◌, ap, inl, inr, slice_index, slice_set}
 use Rattle.std.proofs.lemmas.Grind.{common_steps}
 use Rattle.std.proofs.lemmas.Bool.{cases_eq}
-use Rattle.fp_disk.specs.Outcomes.{Unsynced, IsOutcome, Elapses, LeavesOnly, Written, touched}
+use Rattle.std.proofs.lemmas.List.Elements.{All-get_or, All-set}
+use Rattle.fp_disk.specs.Outcomes.{Unsynced, IsOutcome, IsByte, Elapses, LeavesOnly, Written, touched}
 use Rattle.fp_disk.specs.Writes.{overwritten_inside}
 use Rattle.fp_disk.specs.Moments.{leaves_call, leaves_map, leaves_then}
 use Rattle.fp_gate.specs.Gates.{Gated, IsShut, StaysAsRead, Guards, HasBehind, IsButFor}
 
 -- an outcome after a write of one byte that was there is one from before, but for that byte
 pub touched_but_for : (u : Unsynced) (bytes : List ℕ) (at : ℕ) (c : List ℕ) → IsOutcome u bytes → at < length bytes → IsOutcome (touched u at 1) c → IsButFor u at c
-touched_but_for u bytes at c present there out = let len = length-put c at (slice_index u.synced at) in let a = out.no_shorter in let b = out.no_longer in let p = present.no_longer in record {
-  before = slice_set c at (slice_index u.synced at);
+touched_but_for u bytes at c present there out = let was = slice_index bytes at in let len = length-put c at was in let a = out.no_shorter in let b = out.no_longer in let p = present.no_longer in record {
+  before = slice_set c at was;
   outcome = record {
+    bytes = All-set IsByte c at was (All-get_or IsByte bytes at 0 there present.bytes) out.bytes;
     no_shorter = omega (arith, len, a);
     no_longer = omega (arith, len, b, p, there);
     kept = λ k lt apart. elim (cases_eq k at) [
-      | inl same ↦ same_place c at k (slice_index u.synced at) same (omega (arith, a, lt, same)) ∙ ap (λ (j : ℕ). slice_index u.synced j) (sym same)
-      | inr other ↦ other_place c at k (slice_index u.synced at) other ∙ out.kept k lt (λ covers. elim covers [
+      | inl same ↦ same_place c at k was same (omega (arith, a, lt, same)) ∙ (ap (λ (j : ℕ). slice_index bytes j) (sym same) ∙ present.kept k lt apart)
+      | inr other ↦ other_place c at k was other ∙ out.kept k lt (λ covers. elim covers [
         | inl here ↦ other (let h = here.0 in let h' = here.1 in omega (arith, h, h'))
         | inr more ↦ apart more
       ])
     ];
   };
   same_length = sym len;
-  elsewhere = λ k other. sym (other_place c at k (slice_index u.synced at) other);
+  elsewhere = λ k other. sym (other_place c at k was other);
 }
   where
     length-put : (xs : List ℕ) (at x : ℕ) → length (slice_set xs at x) ≡ length xs

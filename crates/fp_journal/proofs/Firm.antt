@@ -1,9 +1,10 @@
 -- What every outcome has is firm.
-use Rattle.std.proofs.Common.{◌≡◌, ◌≢◌, inl, inr, ℕ, ◌+◌, ◌-◌, ◌<◌, ◌≤◌, List, [], ◌∷◌, ◌++◌, length, refl, sym, ◌∙◌, ap, subst, arith, length-append, slice_index, slice_set}
+use Rattle.std.proofs.Common.{◌≡◌, ◌≢◌, inl, inr, ℕ, ◌+◌, ◌-◌, ◌<◌, ◌≤◌, List, [], ◌∷◌, ◌++◌, length, refl, sym, ◌∙◌, ap, subst, arith, length-append, slice_index, slice_set, take}
 use Rattle.std.proofs.lemmas.Grind.{common_steps}
 use Rattle.std.proofs.lemmas.Bool.{cases_lt}
 use Rattle.std.proofs.lemmas.List.{append_assoc, get_or_append_left}
-use Rattle.fp_disk.specs.Outcomes.{Unsynced, IsOutcome, Covers}
+use Rattle.std.proofs.lemmas.List.Elements.{All-set, All-take}
+use Rattle.fp_disk.specs.Outcomes.{Unsynced, IsOutcome, IsByte, Covers}
 use Rattle.fp_gate.specs.Gates.{IsShut, StaysAsRead}
 use Rattle.fp_journal.specs.Holds.{Holds}
 use Rattle.fp_journal.specs.Chain.{Ends}
@@ -20,45 +21,70 @@ put_there xs at x there = grind (arith, common_steps)
 put_elsewhere : (xs : List ℕ) (at k x : ℕ) → (k ≡ at → ⊥) → slice_index (slice_set xs at x) k ≡ slice_index xs k
 put_elsewhere xs at k x other = grind (arith, common_steps)
 
+front_place : (n : ℕ) (xs : List ℕ) (k : ℕ) → k < n → slice_index (take n xs) k ≡ slice_index xs k
+front_place n xs k lt = grind (arith, common_steps)
+
 module _ (u : Unsynced) (b : List ℕ) (present : IsOutcome u b) where
-  synced_outcome : IsOutcome u u.synced
-  synced_outcome = let a = present.no_shorter in let z = present.no_longer in record { no_shorter = omega arith; no_longer = omega (arith, a, z); kept = λ k lt out. refl }
+  -- what a read gives, as far as the last sync reached
+  abbrev cut : List ℕ
+  cut = take (length u.synced) b
+
+  cut_long : length cut ≡ length u.synced
+  cut_long = let a = present.no_shorter in grind (arith, common_steps)
+
+  cut_kept : (k : ℕ) → k < length u.synced → (Covers u.ranges k → ⊥) → slice_index cut k ≡ slice_index u.synced k
+  cut_kept k lt out = front_place (length u.synced) b k lt ∙ present.kept k lt out
+
+  cut_outcome : IsOutcome u cut
+  cut_outcome = let len = cut_long in let a = present.no_shorter in let z = present.no_longer in record {
+    bytes = All-take IsByte (length u.synced) b present.bytes;
+    no_shorter = omega (arith, len);
+    no_longer = omega (arith, len, a, z);
+    kept = cut_kept;
+  }
 
   -- at a place that was written since stands any byte
-  put_outcome : (k x : ℕ) → Covers u.ranges k → IsOutcome u (slice_set u.synced k x)
-  put_outcome k x covers = let len = length_put u.synced k x in let s = synced_outcome.no_longer in record {
-    no_shorter = omega (arith, len);
-    no_longer = omega (arith, len, s);
-    kept = λ j lt out. put_elsewhere u.synced k j x (λ same. out (subst (λ (i : ℕ). Covers u.ranges i) (sym same) covers));
+  put_outcome : (k x : ℕ) → Covers u.ranges k → IsByte x → IsOutcome u (slice_set cut k x)
+  put_outcome k x covers byte = let len = length_put cut k x in let o = cut_outcome in let a = o.no_shorter in let z = o.no_longer in record {
+    bytes = All-set IsByte cut k x byte o.bytes;
+    no_shorter = omega (arith, len, a);
+    no_longer = omega (arith, len, z);
+    kept = λ j lt out. put_elsewhere cut k j x (λ same. out (subst (λ (i : ℕ). Covers u.ranges i) (sym same) covers)) ∙ cut_kept j lt out;
   }
 
   module _ (at stop : ℕ) (text : List ℕ) (all : (c : List ℕ) → IsOutcome u c → Ends at stop text c) where
-    there : at + length text < length u.synced
-    there = let e = all u.synced synced_outcome in let long = e.holds.long in let len = length-append text (e.gate ∷ []) in omega (arith, long, len)
+    there : at + length text < length cut
+    there = let e = all cut cut_outcome in let long = e.holds.long in let len = length-append text (e.gate ∷ []) in omega (arith, long, len)
 
     text_kept : (k : ℕ) → at ≤ k → k - at < length text → Covers u.ranges k → ⊥
     text_kept k le lt covers =
-        let x : ℕ = slice_index text (k - at) + 1 in let c : List ℕ = slice_set u.synced k x in let e = all c (put_outcome k x covers) in
+        let x : ℕ = 1 - slice_index text (k - at) in let c : List ℕ = slice_set cut k x in let e = all c (put_outcome k x covers (omega arith)) in
         let here : at + (k - at) ≡ k = omega (arith, le) in let len = length-append text (e.gate ∷ []) in
-        let put : slice_index c k ≡ x = put_there u.synced k x (omega (arith, there, le, lt)) in
+        let put : slice_index c k ≡ x = put_there cut k x (omega (arith, there, le, lt)) in
         let held : slice_index c k ≡ slice_index text (k - at) = ap (λ (j : ℕ). slice_index c j) (sym here) ∙ e.holds.same (k - at) (omega (arith, len, lt)) ∙ get_or_append_left text (e.gate ∷ []) 0 (k - at) lt in
         omega (arith, sym put ∙ held)
 
     gate_kept : Covers u.ranges (at + length text) → ⊥
     gate_kept covers =
-        let c : List ℕ = slice_set u.synced (at + length text) 165 in let e = all c (put_outcome (at + length text) 165 covers) in
-        e.shut (sym (byte_held c (at + length text) e.gate [] (holds_back c at text (e.gate ∷ []) e.holds)) ∙ put_there u.synced (at + length text) 165 there)
+        let c : List ℕ = slice_set cut (at + length text) 165 in let e = all c (put_outcome (at + length text) 165 covers (omega arith)) in
+        e.shut (sym (byte_held c (at + length text) e.gate [] (holds_back c at text (e.gate ∷ []) e.holds)) ∙ put_there cut (at + length text) 165 there)
+
+    untouched : (k : ℕ) → at ≤ k → k < at + (length text + 1) → Covers u.ranges k → ⊥
+    untouched k le lt covers = elim (cases_lt (k - at) (length text)) [
+      | inl inside ↦ text_kept k le inside covers
+      | inr last ↦ let is : k ≡ at + length text = omega (arith, le, lt, last) in gate_kept (subst (λ (j : ℕ). Covers u.ranges j) is covers)
+    ]
 
     pub ends_firm : IsQuiet at stop text u
-    ends_firm = let e = all u.synced synced_outcome in let len = length-append text (e.gate ∷ []) in record {
+    ends_firm = let e = all cut cut_outcome in let len = length-append text (e.gate ∷ []) in let long = e.holds.long in let same_long = cut_long in record {
       gate = e.gate;
       shut = e.shut;
       firm = record {
-        holds = e.holds;
-        untouched = λ k le lt covers. elim (cases_lt (k - at) (length text)) [
-          | inl inside ↦ text_kept k le inside covers
-          | inr last ↦ let is : k ≡ at + length text = omega (arith, le, lt, last, len) in gate_kept (subst (λ (j : ℕ). Covers u.ranges j) is covers)
-        ];
+        holds = record {
+          long = omega (arith, long, same_long);
+          same = λ k lt. sym (cut_kept (at + k) (omega (arith, long, same_long, lt)) (untouched (at + k) (omega arith) (omega (arith, len, lt)))) ∙ e.holds.same k lt;
+        };
+        untouched = λ k le lt. untouched k le (omega (arith, len, lt));
       };
       within = e.within;
     }

@@ -121,4 +121,4 @@ firm_front u at xs ys f = let len = length-append xs ys in record { holds = hold
 -- what a sync makes sure of is an outcome of before it
 pub settled_outcome : (u : Unsynced) (b c : List ℕ) → IsOutcome u b → IsOutcome (settled b) c → IsOutcome u c
 settled_outcome u b c o s = let a = o.no_shorter in let d = o.no_longer in let x = s.no_shorter in let y = s.no_longer in
-    record { no_shorter = omega (arith, a, x); no_longer = omega (arith, d, y); kept = λ k lt out. s.kept k (omega (arith, a, lt)) (λ none. none) ∙ o.kept k lt out }
+    record { bytes = s.bytes; no_shorter = omega (arith, a, x); no_longer = omega (arith, d, y); kept = λ k lt out. s.kept k (omega (arith, a, lt)) (λ none. none) ∙ o.kept k lt out }

@@ -8,6 +8,7 @@ mod journal;
 mod opening;
 mod sealed;
 mod slot;
+
 pub use chain::{BodyFault, ChainFault, Reader, read_chain};
 pub use framed::Framed;
 pub use journal::{Journal, Phase};

@@ -35,16 +35,20 @@ pub fn on_bytes(trial: &mut Trial, word: &str, rest: &str) -> Result<Answer, Tri
     }
 }
 
+fn write_at(trial: &mut Trial, at: u64, bytes: &[u8]) -> Result<(), DiskFault> {
+    let mut disk = trial.take_disk();
+    let outcome = disk.write_at(at, bytes);
+    trial.put_disk(disk);
+    outcome
+}
+
 // No memory reaches behind this place, so a write there fails whatever memory there is.
 const FARTHEST: u64 = 1 << 62;
 
 fn write(trial: &mut Trial, rest: &str) -> Result<Answer, TrialFault> {
     let (at, rest) = first_number(rest)?;
     let bytes = bytes(trial.alloc, rest)?;
-    let mut disk = trial.take_disk();
-    let outcome = disk.write_at(at, &bytes);
-    trial.put_disk(disk);
-    match outcome {
+    match write_at(trial, at, &bytes) {
         Err(fault) if at > FARTHEST => Ok(Answer::Fault(fault.into())),
         outcome => trial.of_call(outcome),
     }

@@ -5,6 +5,7 @@ use crate::journal::room;
 use crate::trial::{Answer, Held, OpenSet, Trial, TrialFault};
 use crate::words::{bytes, line_of, number};
 use fp_commands::{CommandFault, apply_disk, import_disk, init_disk, show_disk};
+use fp_disk::MemoryDisk;
 use fp_edit::{Edit, EditFault, FlagSet};
 use fp_layout::SlotSize;
 use fp_recovery::{AdmitFault, DurableSet};
@@ -188,27 +189,14 @@ fn room_in(rest: &str) -> Result<usize, TrialFault> {
 /// `init`, `apply`, `import`, `shown`. With `broken` the input ends in a failure, with `full ROOM` the output takes so many
 /// bytes.
 pub fn on_commands(trial: &mut Trial, word: &str, rest: &str) -> Result<Answer, TrialFault> {
-    let alloc = trial.alloc;
-    let is_broken = rest == "broken";
     let room = room_in(rest)?;
     let input = trial.take_input();
-    let mut reader = Counted::new(Source {
+    let source = Source {
         bytes: &input,
-        is_broken,
-    });
-    let mut writer = Counted::new(Sink {
-        bytes: Vec::new(alloc),
-        room,
-    });
-    let disk = trial.take_disk();
-    let (disk, outcome) = match word {
-        "init" => of_unit(init_disk(alloc, disk)),
-        "shown" => of_unit(show_disk(alloc, &mut writer, disk)),
-        "apply" => apply_disk(alloc, &mut reader, &mut writer, disk),
-        _ => import_disk(alloc, &mut reader, &mut writer, disk),
+        is_broken: rest == "broken",
     };
-    trial.put_disk(disk);
-    let output = text_of(alloc, &writer.into_inner().bytes)?;
+    let (output, outcome) = run(trial, word, source, room);
+    let output = text_of(trial.alloc, &output)?;
     tell_replies(trial, output.as_str());
     match outcome {
         Ok(true) if output.is_empty() => Ok(Answer::Done),
@@ -222,8 +210,49 @@ pub fn on_commands(trial: &mut Trial, word: &str, rest: &str) -> Result<Answer, 
     }
 }
 
+// What a command writes, and how it ends.
+fn run(
+    trial: &mut Trial,
+    word: &str,
+    source: Source<'_>,
+    room: usize,
+) -> (Vec<u8>, Result<bool, CommandFault>) {
+    let alloc = trial.alloc;
+    let mut writer = Counted::new(Sink {
+        bytes: Vec::new(alloc),
+        room,
+    });
+    let disk = trial.take_disk();
+    let (disk, outcome) = match word {
+        "init" => init(alloc, disk),
+        "shown" => shown(alloc, &mut writer, disk),
+        "apply" => apply(alloc, source, &mut writer, disk),
+        _ => import(alloc, source, &mut writer, disk),
+    };
+    trial.put_disk(disk);
+    (writer.into_inner().bytes, outcome)
+}
+
+type Ran = (MemoryDisk, Result<bool, CommandFault>);
+
+fn init(alloc: Global, disk: MemoryDisk) -> Ran {
+    of_unit(init_disk(alloc, disk))
+}
+
+fn shown(alloc: Global, writer: &mut Counted<Sink>, disk: MemoryDisk) -> Ran {
+    of_unit(show_disk(alloc, writer, disk))
+}
+
+fn apply(alloc: Global, source: Source<'_>, writer: &mut Counted<Sink>, disk: MemoryDisk) -> Ran {
+    apply_disk(alloc, &mut Counted::new(source), writer, disk)
+}
+
+fn import(alloc: Global, source: Source<'_>, writer: &mut Counted<Sink>, disk: MemoryDisk) -> Ran {
+    import_disk(alloc, &mut Counted::new(source), writer, disk)
+}
+
 // No reply of a command without any tells of wanting memory.
-fn of_unit<D>(ran: (D, Result<(), CommandFault>)) -> (D, Result<bool, CommandFault>) {
+fn of_unit(ran: (MemoryDisk, Result<(), CommandFault>)) -> Ran {
     match ran {
         (disk, Ok(())) => (disk, Ok(true)),
         (disk, Err(fault)) => (disk, Err(fault)),

@@ -1,4 +1,6 @@
-use crate::{Counted, StreamFault};
+//! Readers and writers whose failures are counted.
+
+use fp_streams::{Counted, StreamFault};
 use std::alloc::AllocGlobal;
 use std::io;
 use std::io::{ErrorKind, Read, Write};

@@ -1,17 +1,38 @@
 //! Writers and stores that fail.
 
-ghost use Rattle.std.specs.Prelude.{◌≡◌};
-
-use crate::{Declined, Edits};
 use fp_edit::{Edit, FlagSet};
+use fp_plane::{Declined, Edits};
+use std::alloc::{AllocError, Global};
 use std::io;
 use std::io::{ErrorKind, Write};
 
-// Takes some writes, and fails from then on.
+const ON: &str = r#"{"defaultVariant":"on","state":"ENABLED","variants":{"on":true}}"#;
+
+/// The text with `ON` written out.
+pub fn written_out(alloc: Global, text: &str) -> Result<String, AllocError> {
+    text.replace(alloc, "ON", ON)
+}
+
+/// No flags, which have this much room.
+pub fn flags(alloc: Global) -> FlagSet {
+    FlagSet::new(alloc, 131_072)
+}
+
+/// Takes some writes, and fails from then on.
 #[derive(Drop)]
 pub struct Full {
     pub taken: Vec<u8>,
     pub writes_left: usize,
+}
+
+impl Full {
+    /// A writer that takes so many writes.
+    pub fn after(alloc: Global, writes_left: usize) -> Full {
+        Full {
+            taken: Vec::new(alloc),
+            writes_left,
+        }
+    }
 }
 
 impl Write for Full {
@@ -29,14 +50,26 @@ impl Write for Full {
     }
 }
 
-// Flags whose store takes some edits, and fails from then on.
+/// Flags whose store takes some edits, and fails from then on.
 #[derive(Drop)]
 pub struct Failing {
     pub flags: FlagSet,
     pub edits_left: usize,
 }
 
+impl Failing {
+    /// A store of no flags that takes so many edits.
+    pub fn after(alloc: Global, edits_left: usize) -> Failing {
+        Failing {
+            flags: flags(alloc),
+            edits_left,
+        }
+    }
+}
+
 impl Edits for Failing {
+    ghost use Rattle.std.specs.Prelude.{◌≡◌};
+
     ghost state = { λ s. s.flags };
 
     ghost leads_to = { λ a b. Unit {0} };

@@ -1,7 +1,10 @@
-use super::stand_ins::{Failing, Full};
-use super::{ON, written_out};
-use crate::{ApplyFault, apply_lines};
-use fp_edit::FlagSet;
+//! The loop from edit lines to replies, and the program, over readers, writers and stores that fail.
+
+use crate::stores::{Failing, Full, flags, written_out};
+use fp_commands::command;
+use fp_definition::DefFault;
+use fp_edit::{EditFault, LineFault};
+use fp_plane::{ApplyFault, Reply, apply_lines};
 use fp_streams::Counted;
 use std::alloc::{AllocGlobal, Global};
 use std::cell::RefCell;
@@ -84,10 +87,6 @@ impl Write for Terminal<'_> {
     }
 }
 
-fn flags(alloc: Global) -> FlagSet {
-    FlagSet::new(alloc, 131_072)
-}
-
 fn cut_up(bytes: &[u8], most: usize, reads_left: usize) -> Pieces<'_> {
     Pieces {
         bytes,
@@ -116,7 +115,7 @@ fn any_cutting_gives_the_same_replies(rt: HostRuntime) -> Result<(), Fail> {
 fn a_reader_that_fails_ends_the_run(rt: HostRuntime) -> Result<(), Fail> {
     let alloc = rt.alloc();
     let input = written_out(alloc, INPUT)?;
-    let line = ON.len() + 32;
+    let line = 64 + 32;
     let rows = [(0, ""), (1, "{\"revision\":1}\n")];
     for (reads_left, output) in rows {
         let mut r = Counted::new(cut_up(input.as_bytes(), line, reads_left));
@@ -133,14 +132,11 @@ fn a_reader_that_fails_ends_the_run(rt: HostRuntime) -> Result<(), Fail> {
 fn a_writer_that_fails_ends_the_run(rt: HostRuntime) -> Result<(), Fail> {
     let alloc = rt.alloc();
     let input = written_out(alloc, INPUT)?;
-    let line = ON.len() + 32;
+    let line = 64 + 32;
     let rows = [(0, ""), (1, "{\"revision\":1}\n")];
     for (writes_left, output) in rows {
         let mut r = Counted::new(cut_up(input.as_bytes(), line, 100));
-        let mut w = Counted::new(Full {
-            taken: Vec::new(alloc),
-            writes_left,
-        });
+        let mut w = Counted::new(Full::after(alloc, writes_left));
         let (_flags, outcome) = apply_lines(alloc, &mut r, &mut w, flags(alloc));
         assert_eq!(rt; outcome, Err(ApplyFault::Device));
         assert_eq!(rt; w.get_ref().taken.as_slice(), output.as_bytes());
@@ -148,22 +144,44 @@ fn a_writer_that_fails_ends_the_run(rt: HostRuntime) -> Result<(), Fail> {
     Ok(())
 }
 
+// Edits that the store takes, an input, what is written, and the revision.
+type Row = (usize, &'static str, &'static str, u64);
+
+// In the last two rows the line that the store loses is the last, and has no newline.
+const LOST: [Row; 4] = [
+    (0, INPUT, "", 0),
+    (
+        2,
+        INPUT,
+        "{\"revision\":1}\n{\"current\":null,\"error\":\"conflict\"}\n",
+        1,
+    ),
+    (0, "{\"flag\":ON,\"key\":\"a\",\"op\":\"put\"}", "", 0),
+    (
+        1,
+        "{\"flag\":ON,\"key\":\"a\",\"op\":\"put\"}\n{\"flag\":ON,\"key\":\"b\",\"op\":\"put\"}",
+        "{\"revision\":1}\n",
+        1,
+    ),
+];
+
 #[test]
 fn a_store_that_fails_ends_the_run_behind_its_replies(rt: HostRuntime) -> Result<(), Fail> {
     let alloc = rt.alloc();
-    let input = written_out(alloc, INPUT)?;
-    let mut w = Counted::new(Vec::new(alloc));
-    let edits = Failing {
-        flags: flags(alloc),
-        edits_left: 2,
-    };
-    let (edits, outcome) = apply_lines(alloc, &mut Counted::new(input.as_bytes()), &mut w, edits);
-    assert_eq!(rt; outcome, Err(ApplyFault::StoreFailed));
-    assert_eq!(rt;
-        w.get_ref().as_slice(),
-        b"{\"revision\":1}\n{\"current\":null,\"error\":\"conflict\"}\n".as_slice()
-    );
-    assert_eq!(rt; edits.flags.revision(), 1);
+    for (edits_left, input, output, revision) in LOST {
+        let input = written_out(alloc, input)?;
+        let mut r = Counted::new(input.as_bytes());
+        let mut w = Counted::new(Vec::new(alloc));
+        let (edits, outcome) = apply_lines(
+            alloc,
+            &mut r,
+            &mut w,
+            Failing::after(alloc, edits_left),
+        );
+        assert_eq!(rt; outcome, Err(ApplyFault::StoreFailed));
+        assert_eq!(rt; w.get_ref().as_slice(), output.as_bytes(), "{input}");
+        assert_eq!(rt; edits.flags.revision(), revision);
+    }
     Ok(())
 }
 
@@ -171,14 +189,8 @@ fn a_store_that_fails_ends_the_run_behind_its_replies(rt: HostRuntime) -> Result
 fn a_store_that_failed_is_told_though_the_writer_fails(rt: HostRuntime) -> Result<(), Fail> {
     let alloc = rt.alloc();
     let input = written_out(alloc, INPUT)?;
-    let mut w = Counted::new(Full {
-        taken: Vec::new(alloc),
-        writes_left: 0,
-    });
-    let edits = Failing {
-        flags: flags(alloc),
-        edits_left: 1,
-    };
+    let mut w = Counted::new(Full::after(alloc, 0));
+    let edits = Failing::after(alloc, 1);
     let (_edits, outcome) = apply_lines(alloc, &mut Counted::new(input.as_bytes()), &mut w, edits);
     assert_eq!(rt; outcome, Err(ApplyFault::StoreFailed));
     Ok(())
@@ -200,5 +212,60 @@ fn replies_are_sent_before_the_next_read(rt: HostRuntime) -> Result<(), Fail> {
     assert_eq!(rt; at_terminal(rt.alloc(), &log), Ok(true));
     let log = log.into_inner();
     assert_eq!(rt; log.as_slice(), b"rwfrwfrwf".as_slice());
+    Ok(())
+}
+
+// Fails at every call.
+#[derive(Drop)]
+struct Broken;
+
+impl Read for Broken {
+    fn read(&mut self, _buf: &mut [u8]) -> io::Result<usize> {
+        Err(ErrorKind::Other.into())
+    }
+}
+
+impl Write for Broken {
+    fn write(&mut self, _buf: &[u8]) -> io::Result<usize> {
+        Err(ErrorKind::StorageFull.into())
+    }
+
+    fn flush(&mut self) -> io::Result<()> {
+        Ok(())
+    }
+}
+
+#[test]
+fn streams_that_fail_are_told_on_the_error_stream(rt: HostRuntime) -> Result<(), Fail> {
+    let alloc = rt.alloc();
+    let words = [String::from_str(alloc, "apply")?];
+    let mut broken = Counted::new(Broken);
+    let mut output = Counted::new(Vec::new(alloc));
+    let mut errors = Counted::new(Vec::new(alloc));
+    let read = command(&rt, words.as_slice(), &mut broken, &mut output, &mut errors);
+    assert_eq!(rt; (read, output.get_ref().len()), (1, 0));
+    let mut input = Counted::new(b"[]\n".as_slice());
+    let mut full = Counted::new(Broken);
+    let written = command(&rt, words.as_slice(), &mut input, &mut full, &mut errors);
+    assert_eq!(rt; written, 1);
+    assert_eq!(rt;
+        errors.get_ref().as_slice(),
+        b"flagplane: device fault\nflagplane: device fault\n".as_slice()
+    );
+    Ok(())
+}
+
+const WANT: &[u8] = b"{\"error\":\"out-of-memory\"}";
+
+// No input can ask for these.
+#[test]
+fn want_of_memory_has_one_reply(rt: HostRuntime) -> Result<(), Fail> {
+    let alloc = rt.alloc();
+    let refused = Reply::Refused(EditFault::Memory).text(alloc)?;
+    let line = Reply::NoEdit(LineFault::Memory).text(alloc)?;
+    let flag = Reply::NoEdit(LineFault::BadFlag(DefFault::Memory)).text(alloc)?;
+    for text in [refused, line, flag] {
+        assert_eq!(rt; text.as_slice(), WANT);
+    }
     Ok(())
 }

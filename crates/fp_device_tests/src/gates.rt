@@ -1,8 +1,11 @@
-use crate::*;
+//! Gates over a disk in memory that fails, and over a file.
+
+use crate::flaky::in_temp;
 use fp_disk::{Checked, Choice, Disk, FailedWrite, Failing, Fill, MemoryDisk, create_file};
+use fp_gate::{Gate, write_behind};
 use std::alloc::Global;
+use std::fs;
 use std::test::Fail;
-use std::{env, fs};
 
 // All that a read gives.
 fn all_of<D: Disk>(alloc: Global, disk: &mut D) -> Result<Vec<u8>, Fail>
@@ -50,9 +53,7 @@ fn a_crash_leaves_the_bytes_where_the_gate_is_open(rt: HostRuntime) -> Result<()
 
 #[test]
 fn a_gate_goes_from_closed_to_open(rt: HostRuntime) -> Result<(), Fail> {
-    let mut path = env::temp_dir(&rt)?;
-    path.push("fp_gate_opens")?;
-    let _ = fs::remove_file(&rt, path.as_path());
+    let path = in_temp(&rt, "fp_device_tests_gate")?;
     let name = path.as_path().to_str().ok_or("path")?;
     let mut disk = Checked::new(create_file(&rt, name)?);
     disk.write_at(0, b"head")?;

@@ -1,9 +1,11 @@
+//! Want of memory where a disk is longer than any.
+
 ghost use Rattle.std.specs.Prelude.{[]};
 ghost use Rattle.fp_disk.specs.Outcomes.{settled};
 
-use super::NOTHING;
-use crate::{OpenFault, open};
 use fp_disk::{Disk, DiskFault};
+use fp_journal::{BodyFault, Reader};
+use fp_layout::{OpenFault, SlotReader, open};
 use std::test::Fail;
 
 // A disk that says it is longer than any memory.
@@ -46,12 +48,38 @@ impl Disk for Vast {
     }
 }
 
+// Notes whether it was given anything.
+#[derive(Drop)]
+struct Asked(bool);
+
+impl Reader for Asked {
+    ghost takes = { λ _ _ _. Unit {0} };
+
+    ghost refuses = { λ _ _ _. Unit {0} };
+
+    fn take(&mut self, _body: &[u8]) -> Result<(), BodyFault> {
+        self.0 = true;
+        Ok(())
+    }
+}
+
+impl SlotReader for Asked {
+    ghost begins = { λ _ _ _ _ _. Unit {0} };
+
+    ghost rejects = { λ _ _ _ _ _. Unit {0} };
+
+    fn begin(&mut self, _base: u64, _limit: u64, _image: &[u8]) -> Result<(), BodyFault> {
+        self.0 = true;
+        Ok(())
+    }
+}
+
 #[test]
 fn a_growth_that_is_refused_is_want_of_memory(rt: HostRuntime) -> Result<(), Fail> {
-    let mut found = NOTHING;
-    let Err((fault, _disk)) = open(rt.alloc(), Vast, &mut found) else {
+    let mut reader = Asked(false);
+    let Err((fault, _disk)) = open(rt.alloc(), Vast, &mut reader) else {
         return Err(Fail::new("opened"));
     };
-    assert_eq!(rt; (fault, found), (OpenFault::Memory, NOTHING));
+    assert_eq!(rt; (fault, reader.0), (OpenFault::Memory, false));
     Ok(())
 }
