@@ -9,6 +9,3 @@ mod walks;
 pub use members::take_member;
 pub use texts::{canonical_text, canonical_text_within, read_json};
 pub use walks::{nests_within, values_left, whole_numbers};
-
-#[cfg(test)]
-mod tests;

@@ -10,6 +10,3 @@ mod program;
 pub use disk::{apply_disk, import_disk, init_disk, show_disk};
 pub use fault::CommandFault;
 pub use program::command;
-
-#[cfg(test)]
-mod tests;

@@ -13,6 +13,3 @@ pub use definition::Definition;
 pub use faults::{DefFault, KeyFault};
 pub use key::FlagKey;
 pub use resolving::{EvalFault, Reason, Resolved};
-
-#[cfg(test)]
-mod tests;

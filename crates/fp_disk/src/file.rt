@@ -127,6 +127,3 @@ impl<F: Read + Write + Seek + OpenFile + Drop> Disk for FileDisk<F> {
         counted(&mut self.failures, done)
     }
 }
-
-#[cfg(test)]
-mod tests;

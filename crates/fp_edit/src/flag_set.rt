@@ -308,6 +308,3 @@ fn meets(expect: Expect, current: Option<u64>) -> bool
         (Expect::At(revision), Some(current)) => current == revision,
     }
 }
-
-#[cfg(test)]
-mod tests;

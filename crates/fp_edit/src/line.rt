@@ -203,6 +203,3 @@ fn flag_of(alloc: Global, value: Value) -> Result<Definition, LineFault>
         },
     }
 }
-
-#[cfg(test)]
-mod tests;

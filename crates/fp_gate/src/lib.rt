@@ -6,6 +6,3 @@ mod gate;
 
 pub use behind::write_behind;
 pub use gate::{Closed, Gate, Open, Written};
-
-#[cfg(test)]
-mod tests;

@@ -7,6 +7,3 @@ mod references;
 
 pub use document::expand_document;
 pub use faults::ImportFault;
-
-#[cfg(test)]
-mod tests;

@@ -8,8 +8,6 @@ mod head;
 mod header;
 mod opening;
 mod size;
-#[cfg(test)]
-mod tests;
 
 pub use fault::OpenFault;
 pub use format::{CreateFault, create};

@@ -22,6 +22,3 @@ pub use path::{named, variable};
 pub use text::{append_text, concatenate, ends_with, is_in, starts_with};
 pub use truth::{is_falsy, is_truthy};
 pub use version::sem_ver;
-
-#[cfg(test)]
-mod tests;

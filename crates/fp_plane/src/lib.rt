@@ -15,6 +15,3 @@ pub use import::import_flags;
 pub use input::apply_lines;
 pub use reply::Reply;
 pub use show::shown;
-
-#[cfg(test)]
-mod tests;

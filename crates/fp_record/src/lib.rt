@@ -15,6 +15,3 @@ pub use laws::{
     batches_stand_alone, batches_take_their_changes, images_stand_alone,
     images_take_their_sets_size,
 };
-
-#[cfg(test)]
-mod tests;

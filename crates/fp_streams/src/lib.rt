@@ -4,6 +4,3 @@
 mod counted;
 
 pub use counted::{Counted, StreamFault};
-
-#[cfg(test)]
-mod tests;

@@ -12,6 +12,3 @@ mod tree;
 pub use data::Data;
 pub use fp_base::whole_numbers;
 pub use rule::{Rule, RuleFault};
-
-#[cfg(test)]
-mod tests;

@@ -1,0 +1,182 @@
+//! The calls that a disk makes on its file, each of them: a sync that isn't made shows in no byte that is read back.
+
+use crate::flaky::{Calls, in_temp, noted, passing};
+use fp_disk::{Disk, DiskFault};
+use fp_edit::parse_line;
+use fp_layout::{SlotSize, create};
+use fp_recovery::DurableSet;
+use std::alloc::{AllocGlobal, Global};
+use std::cell::RefCell;
+use std::fs;
+use std::path::PathBuf;
+use std::process::Abort;
+use std::test::Fail;
+
+const ALL: u32 = u32::MAX;
+
+// The calls are these, a line each.
+fn assert_calls(rt: &impl Abort, calls: RefCell<Calls>, want: &str) {
+    let calls = calls.into_inner();
+    assert_eq!(rt; calls.text.as_str(), want);
+}
+
+fn steps<D: Disk>(disk: &mut D) -> Result<(), DiskFault> {
+    disk.write_at(0, b"abcd")?;
+    disk.sync()?;
+    disk.write_at(2, b"XY")?;
+    disk.sync()?;
+    disk.len()?;
+    disk.write_at(6, b"")
+}
+
+// How many calls pass, the file's bytes after the one that fails, and the calls.
+const FAILING: [(u32, &[u8], &str); 9] = [
+    (0, b"", "seek 0\n"),
+    (1, b"a", "seek 0\nwrite 4 bytes\n"),
+    (2, b"abcd", "seek 0\nwrite 4 bytes\nsync_data\n"),
+    (3, b"abcd", "seek 0\nwrite 4 bytes\nsync_data\nseek 2\n"),
+    (
+        4,
+        b"abXd",
+        "seek 0\nwrite 4 bytes\nsync_data\nseek 2\nwrite 2 bytes\n",
+    ),
+    (
+        5,
+        b"abXY",
+        "seek 0\nwrite 4 bytes\nsync_data\nseek 2\nwrite 2 bytes\nsync_data\n",
+    ),
+    (
+        6,
+        b"abXY",
+        "seek 0\nwrite 4 bytes\nsync_data\nseek 2\nwrite 2 bytes\nsync_data\nseek end 0\n",
+    ),
+    (
+        7,
+        b"abXY",
+        "seek 0\nwrite 4 bytes\nsync_data\nseek 2\nwrite 2 bytes\nsync_data\nseek end 0\nseek end 0\n",
+    ),
+    (
+        8,
+        b"abXY",
+        "seek 0\nwrite 4 bytes\nsync_data\nseek 2\nwrite 2 bytes\nsync_data\nseek end 0\nseek end 0\nset_len 6\n",
+    ),
+];
+
+#[test]
+fn a_call_of_the_file_that_fails_is_a_fault_of_the_disk(rt: HostRuntime) -> Result<(), Fail> {
+    let path = in_temp(&rt, "fp_device_tests_fails")?;
+    for (left, bytes, want) in FAILING {
+        let calls = passing(rt.alloc(), left);
+        let mut disk = noted(&rt, &path, &calls)?;
+        assert!(rt; steps(&mut disk).is_err(), "{left}");
+        drop(disk);
+        assert_calls(&rt, calls, want);
+        assert_eq!(rt; fs::read(&rt, path.as_path())?.as_slice(), bytes, "{left}");
+        fs::remove_file(&rt, path.as_path())?;
+    }
+    Ok(())
+}
+
+#[test]
+fn a_disk_makes_no_further_call(rt: HostRuntime) -> Result<(), Fail> {
+    let path = in_temp(&rt, "fp_device_tests_steps")?;
+    let calls = passing(rt.alloc(), ALL);
+    let mut disk = noted(&rt, &path, &calls)?;
+    assert!(rt; steps(&mut disk).is_ok());
+    let mut three = [0u8; 3];
+    assert!(rt; disk.read_at(2, &mut three).is_ok());
+    assert_eq!(rt; three, *b"XY\0");
+    drop(disk);
+    assert_calls(
+        &rt,
+        calls,
+        "seek 0\nwrite 4 bytes\nsync_data\nseek 2\nwrite 2 bytes\nsync_data\nseek end 0\nseek end 0\nset_len 6\nseek 2\nread 3\n",
+    );
+    fs::remove_file(&rt, path.as_path())?;
+    Ok(())
+}
+
+// By the layout of a disk: the length; the closed gate of the header; the rest of the header and the first slot's head; the second
+// slot's gate; and then the gates open from the inner one to the outer one. Each step is sure before the next.
+const MAKING: &str =
+    "seek end 0\nseek 0\nwrite 00\nsync_data\nseek 1\nwrite 90 bytes\nseek 262208\nwrite 00\nsync_data\nseek 64\nwrite a5\nsync_data\nseek 0\nwrite a5\nsync_data\n";
+
+// What is there is made sure of before it is read, and nothing is written.
+const OPENING: &str = "sync_data\nseek end 0\nseek 0\nread 262209\n";
+
+// A batch of 87 bytes, its length, its body of 82 and the next gate, stands behind its gate, which opens over a sync, and is sure.
+const EDITING: &str = "seek 91\nwrite 87 bytes\nsync_data\nseek 90\nwrite a5\nsync_data\n";
+
+// The smallest slots.
+fn smallest() -> Result<SlotSize, Fail> {
+    Ok(SlotSize::new(1 << 18).ok_or("size")?)
+}
+
+#[test]
+fn a_new_disk_is_written_in_this_order(rt: HostRuntime) -> Result<(), Fail> {
+    let path = in_temp(&rt, "fp_device_tests_making")?;
+    let calls = passing(rt.alloc(), ALL);
+    let disk = noted(&rt, &path, &calls)?;
+    match create(rt.alloc(), disk, smallest()?) {
+        Ok(journal) => drop(journal.into_disk()),
+        Err(_) => return Err(Fail::new("not made")),
+    }
+    assert_calls(&rt, calls, MAKING);
+    fs::remove_file(&rt, path.as_path())?;
+    Ok(())
+}
+
+// A disk of no flags at that path.
+fn make(rt: &HostRuntime, path: &PathBuf) -> Result<(), Fail> {
+    let calls = passing(rt.alloc(), ALL);
+    match DurableSet::create(rt.alloc(), noted(rt, path, &calls)?, smallest()?) {
+        Ok(set) => drop(set.into_disk()),
+        Err(_) => return Err(Fail::new("not made")),
+    }
+    Ok(())
+}
+
+const PUT: &[u8] =
+    br#"{"flag":{"defaultVariant":"on","state":"ENABLED","variants":{"on":true}},"key":"a","op":"put"}"#;
+
+// Opens the disk there, so many calls of which pass, and puts `a`; answers whether it was opened, and whether it was put.
+fn put(rt: &HostRuntime, path: &PathBuf, calls: &RefCell<Calls>) -> Result<(bool, bool), Fail> {
+    let alloc = rt.alloc();
+    let edit = parse_line(alloc, PUT)?;
+    match DurableSet::open(alloc, noted(rt, path, calls)?) {
+        Ok(mut set) => {
+            let is_put = set.admit(edit).is_ok();
+            drop(set.into_disk());
+            Ok((true, is_put))
+        }
+        Err(_) => Ok((false, false)),
+    }
+}
+
+#[test]
+fn an_edit_is_two_writes_and_two_syncs(rt: HostRuntime) -> Result<(), Fail> {
+    let path = in_temp(&rt, "fp_device_tests_editing")?;
+    make(&rt, &path)?;
+    let calls = passing(rt.alloc(), ALL);
+    assert_eq!(rt; put(&rt, &path, &calls)?, (true, true));
+    let want = format!(in rt.alloc(); "{OPENING}{EDITING}")?;
+    assert_calls(&rt, calls, want.as_str());
+    fs::remove_file(&rt, path.as_path())?;
+    Ok(())
+}
+
+#[test]
+fn a_call_that_fails_is_the_last(rt: HostRuntime) -> Result<(), Fail> {
+    let path = in_temp(&rt, "fp_device_tests_last")?;
+    let whole = format!(in rt.alloc(); "{OPENING}{EDITING}")?;
+    for left in 0..10 {
+        make(&rt, &path)?;
+        let calls = passing(rt.alloc(), left);
+        assert_eq!(rt; put(&rt, &path, &calls)?, (left >= 4, false), "{left}");
+        let calls = calls.into_inner();
+        assert!(rt; whole.starts_with(calls.text.as_str()), "{left}");
+        assert_eq!(rt; calls.text.lines().count(), left as usize + 1);
+        fs::remove_file(&rt, path.as_path())?;
+    }
+    Ok(())
+}

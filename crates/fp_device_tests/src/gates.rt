@@ -1,0 +1,75 @@
+//! Gates over a disk in memory that fails, and over a file.
+
+use crate::flaky::in_temp;
+use fp_disk::{Checked, Choice, Disk, FailedWrite, Failing, Fill, MemoryDisk, create_file};
+use fp_gate::{Gate, write_behind};
+use std::alloc::Global;
+use std::fs;
+use std::test::Fail;
+
+// All that a read gives.
+fn all_of<D: Disk>(alloc: Global, disk: &mut D) -> Result<Vec<u8>, Fail>
+    requires { D.honest disk.old }
+{
+    let len = disk.len()?;
+    let mut bytes = vec![in alloc; 0u8; len as usize]?;
+    disk.read_at(0, &mut bytes)?;
+    Ok(bytes)
+}
+
+// A closed gate at 1, and "abc" behind it, under a fuse that lets so many calls pass.
+fn run(alloc: Global, passing: u64, half: FailedWrite) -> Result<(MemoryDisk, bool), Fail> {
+    let mut disk = MemoryDisk::holding(alloc, b"-\x37--".to_vec(alloc)?)?;
+    disk.set_failing(Failing::From(passing), half);
+    let mut disk = Checked::new(disk);
+    let gate = Gate::adopt(&disk, 1);
+    let opened = write_behind(gate, &mut disk, 2, b"abc").is_ok();
+    Ok((disk.into_disk(), opened))
+}
+
+#[test]
+fn a_crash_leaves_the_bytes_where_the_gate_is_open(rt: HostRuntime) -> Result<(), Fail> {
+    for (passing, gate, want) in [
+        (0, 0xa5, b"-\x37".as_slice()),
+        (1, 0xa5, b"-\x37".as_slice()),
+        (2, 0xa5, b"-\xa5abc".as_slice()),
+        (2, 0, b"-\0abc".as_slice()),
+        (3, 0xa5, b"-\xa5abc".as_slice()),
+        (3, 0x37, b"-\x37abc".as_slice()),
+        (4, 0, b"-\xa5abc".as_slice()),
+    ] {
+        let (disk, opened) = run(rt.alloc(), passing, FailedWrite::Nothing)?;
+        assert_eq!(rt; opened, passing == 4);
+        let mut left = disk.crash(Choice {
+            length: 0,
+            writes: &[Fill::Byte(gate)],
+            rest: Fill::Old,
+        })?;
+        let bytes = all_of(rt.alloc(), &mut left)?;
+        assert_eq!(rt; bytes.get(..want.len()), Some(want), "{passing} {gate}");
+    }
+    Ok(())
+}
+
+#[test]
+fn a_gate_goes_from_closed_to_open(rt: HostRuntime) -> Result<(), Fail> {
+    let path = in_temp(&rt, "fp_device_tests_gate")?;
+    let name = path.as_path().to_str().ok_or("path")?;
+    let mut disk = Checked::new(create_file(&rt, name)?);
+    disk.write_at(0, b"head")?;
+    Gate::place_closed(&mut disk, 4)?;
+    disk.sync()?;
+    let gate = Gate::adopt(&disk, 4).guarding(0, 4);
+    assert_eq!(rt; gate.at(), 4);
+    disk.write_at(0, b"next")?;
+    let synced = disk.sync()?;
+    let gate = gate.open(&mut disk, synced)?;
+    let synced = disk.sync()?;
+    assert_eq!(rt; gate.seal(&disk, synced).at(), 4);
+    assert_eq!(rt;
+        fs::read(&rt, path.as_path())?.as_slice(),
+        b"next\xa5".as_slice()
+    );
+    fs::remove_file(&rt, path.as_path())?;
+    Ok(())
+}

@@ -1,0 +1,109 @@
+//! Imports over stores and writers that fail.
+
+use crate::stores::{Failing, Full, flags};
+use fp_definition::{Definition, FlagKey};
+use fp_plane::{ApplyFault, import_flags};
+use fp_streams::Counted;
+use std::alloc::{AllocGlobal, Global};
+use std::io;
+use std::io::Write;
+use std::test::Fail;
+
+const ON: &[u8] = br#"{"defaultVariant":"on","state":"ENABLED","variants":{"on":true}}"#;
+
+fn on(alloc: Global) -> Result<Definition, Fail> {
+    match Definition::from_text(alloc, ON)? {
+        Some(definition) => Ok(definition),
+        None => Err(Fail::new("the text is no definition")),
+    }
+}
+
+// Flags of these keys.
+fn named(alloc: Global, keys: &[&str]) -> Result<Vec<(FlagKey, Definition)>, Fail> {
+    let mut flags = Vec::new(alloc);
+    for key in keys {
+        flags.push((FlagKey::new(alloc, key)?, on(alloc)?))?;
+    }
+    Ok(flags)
+}
+
+#[test]
+fn a_store_that_fails_ends_the_import_behind_its_replies(rt: HostRuntime) -> Result<(), Fail> {
+    let alloc = rt.alloc();
+    for (edits_left, output) in [
+        (0, ""),
+        (1, "{\"revision\":1}\n"),
+        (2, "{\"revision\":1}\n{\"revision\":2}\n"),
+    ] {
+        let mut w = Counted::new(Vec::new(alloc));
+        let three = named(alloc, &["a", "b", "c"])?;
+        let (edits, outcome) = import_flags(
+            alloc,
+            &mut w,
+            Failing::after(alloc, edits_left),
+            three,
+        );
+        assert_eq!(rt; outcome, Err(ApplyFault::StoreFailed));
+        assert_eq!(rt; w.get_ref().as_slice(), output.as_bytes());
+        assert_eq!(rt; edits.flags.revision(), edits_left as u64);
+    }
+    Ok(())
+}
+
+#[test]
+fn a_writer_that_fails_ends_the_import(rt: HostRuntime) -> Result<(), Fail> {
+    let alloc = rt.alloc();
+    let mut w = Counted::new(Full::after(alloc, 0));
+    let three = named(alloc, &["a", "b", "c"])?;
+    let (flags, outcome) = import_flags(alloc, &mut w, flags(alloc), three);
+    assert_eq!(rt; outcome, Err(ApplyFault::Device));
+    assert_eq!(rt; w.get_ref().taken.as_slice(), b"".as_slice());
+    assert_eq!(rt; flags.revision(), 3);
+
+    // where the store fails too, it is the store that is told
+    let mut w = Counted::new(Full::after(alloc, 0));
+    let three = named(alloc, &["a", "b", "c"])?;
+    let (_edits, outcome) = import_flags(alloc, &mut w, Failing::after(alloc, 1), three);
+    assert_eq!(rt; outcome, Err(ApplyFault::StoreFailed));
+    Ok(())
+}
+
+// Tells how much was written, and the most that was written at once.
+#[derive(Drop)]
+struct Widest {
+    total: usize,
+    most: usize,
+}
+
+impl Write for Widest {
+    fn write(&mut self, buf: &[u8]) -> io::Result<usize> {
+        self.total = self.total.saturating_add(buf.len());
+        self.most = self.most.max(buf.len());
+        Ok(buf.len())
+    }
+
+    fn flush(&mut self) -> io::Result<()> {
+        Ok(())
+    }
+}
+
+fn many(alloc: Global, count: usize) -> Result<Vec<(FlagKey, Definition)>, Fail> {
+    let on = on(alloc)?;
+    let mut flags = Vec::new(alloc);
+    for _ in 0..count {
+        flags.push((FlagKey::new(alloc, "a")?, on.try_copy()?))?;
+    }
+    Ok(flags)
+}
+
+#[test]
+fn many_replies_are_sent_in_parts(rt: HostRuntime) -> Result<(), Fail> {
+    let alloc = rt.alloc();
+    let mut w = Counted::new(Widest { total: 0, most: 0 });
+    let (_flags, outcome) = import_flags(alloc, &mut w, flags(alloc), many(alloc, 5_000)?);
+    assert_eq!(rt; outcome, Ok(true));
+    assert_eq!(rt; w.get_ref().total, 88_893 + 5 + 14 + 64 + 3);
+    assert!(rt; w.get_ref().most > 65_536);
+    assert!(rt; w.get_ref().most <= 65_536 + 18);
+    Ok(())
+}

@@ -1,0 +1,271 @@
+//! The loop from edit lines to replies, and the program, over readers, writers and stores that fail.
+
+use crate::stores::{Failing, Full, flags, written_out};
+use fp_commands::command;
+use fp_definition::DefFault;
+use fp_edit::{EditFault, LineFault};
+use fp_plane::{ApplyFault, Reply, apply_lines};
+use fp_streams::Counted;
+use std::alloc::{AllocGlobal, Global};
+use std::cell::RefCell;
+use std::io;
+use std::io::{ErrorKind, Read, Write};
+use std::test::Fail;
+
+const INPUT: &str =
+    "{\"flag\":ON,\"key\":\"a\",\"op\":\"put\"}\n{\"key\":\"b\",\"op\":\"delete\"}\n{\"flag\":ON,\"key\":\"b\",\"op\":\"put\"}\n";
+
+const OUTPUT: &str =
+    "{\"revision\":1}\n{\"current\":null,\"error\":\"conflict\"}\n{\"revision\":2}\n2 {\"flags\":{\"a\":ON,\"b\":ON}}\n";
+
+// Gives its bytes a few at a time; each read is interrupted once, and the one after some reads fails.
+#[derive(Drop)]
+struct Pieces<'a> {
+    bytes: &'a [u8],
+    most: usize,
+    reads_left: usize,
+    is_interrupted: bool,
+}
+
+impl Read for Pieces<'_> {
+    fn read(&mut self, buf: &mut [u8]) -> io::Result<usize> {
+        self.is_interrupted = !self.is_interrupted;
+        if self.is_interrupted {
+            return Err(ErrorKind::Interrupted.into());
+        }
+        if self.reads_left == 0 {
+            return Err(ErrorKind::Other.into());
+        }
+        self.reads_left -= 1;
+        let count = self.bytes.len().min(self.most).min(buf.len());
+        let (now, later) = self.bytes.split_at(count);
+        buf[..count].copy_from_slice(now);
+        self.bytes = later;
+        Ok(count)
+    }
+}
+
+// Tells of each read, write and flush, and gives a line a read.
+#[derive(Drop)]
+struct Terminal<'a> {
+    bytes: &'a [u8],
+    log: &'a RefCell<Vec<u8>>,
+}
+
+impl Terminal<'_> {
+    fn note(&self, what: u8) {
+        if let Ok(mut log) = self.log.try_borrow_mut() {
+            let _ = log.push(what);
+        }
+    }
+}
+
+impl Read for Terminal<'_> {
+    fn read(&mut self, buf: &mut [u8]) -> io::Result<usize> {
+        self.note(b'r');
+        let line = match self.bytes.iter().position(|b| *b == b'\n') {
+            Some(at) => at.saturating_add(1),
+            None => self.bytes.len(),
+        };
+        let count = line.min(self.bytes.len()).min(buf.len());
+        let (now, later) = self.bytes.split_at(count);
+        buf[..count].copy_from_slice(now);
+        self.bytes = later;
+        Ok(count)
+    }
+}
+
+impl Write for Terminal<'_> {
+    fn write(&mut self, buf: &[u8]) -> io::Result<usize> {
+        self.note(b'w');
+        Ok(buf.len())
+    }
+
+    fn flush(&mut self) -> io::Result<()> {
+        self.note(b'f');
+        Ok(())
+    }
+}
+
+fn cut_up(bytes: &[u8], most: usize, reads_left: usize) -> Pieces<'_> {
+    Pieces {
+        bytes,
+        most,
+        reads_left,
+        is_interrupted: false,
+    }
+}
+
+#[test]
+fn any_cutting_gives_the_same_replies(rt: HostRuntime) -> Result<(), Fail> {
+    let alloc = rt.alloc();
+    let input = written_out(alloc, INPUT)?;
+    let output = written_out(alloc, OUTPUT)?;
+    for most in [1, 2, 17, 4096] {
+        let mut r = Counted::new(cut_up(input.as_bytes(), most, 10_000));
+        let mut w = Counted::new(Vec::new(alloc));
+        let (_flags, outcome) = apply_lines(alloc, &mut r, &mut w, flags(alloc));
+        assert_eq!(rt; outcome, Ok(true));
+        assert_eq!(rt; w.get_ref().as_slice(), output.as_bytes());
+    }
+    Ok(())
+}
+
+#[test]
+fn a_reader_that_fails_ends_the_run(rt: HostRuntime) -> Result<(), Fail> {
+    let alloc = rt.alloc();
+    let input = written_out(alloc, INPUT)?;
+    let line = 64 + 32;
+    let rows = [(0, ""), (1, "{\"revision\":1}\n")];
+    for (reads_left, output) in rows {
+        let mut r = Counted::new(cut_up(input.as_bytes(), line, reads_left));
+        let mut w = Counted::new(Vec::new(alloc));
+        let (flags, outcome) = apply_lines(alloc, &mut r, &mut w, flags(alloc));
+        assert_eq!(rt; outcome, Err(ApplyFault::Device));
+        assert_eq!(rt; w.get_ref().as_slice(), output.as_bytes());
+        assert_eq!(rt; flags.revision(), reads_left as u64);
+    }
+    Ok(())
+}
+
+#[test]
+fn a_writer_that_fails_ends_the_run(rt: HostRuntime) -> Result<(), Fail> {
+    let alloc = rt.alloc();
+    let input = written_out(alloc, INPUT)?;
+    let line = 64 + 32;
+    let rows = [(0, ""), (1, "{\"revision\":1}\n")];
+    for (writes_left, output) in rows {
+        let mut r = Counted::new(cut_up(input.as_bytes(), line, 100));
+        let mut w = Counted::new(Full::after(alloc, writes_left));
+        let (_flags, outcome) = apply_lines(alloc, &mut r, &mut w, flags(alloc));
+        assert_eq!(rt; outcome, Err(ApplyFault::Device));
+        assert_eq!(rt; w.get_ref().taken.as_slice(), output.as_bytes());
+    }
+    Ok(())
+}
+
+// Edits that the store takes, an input, what is written, and the revision.
+type Row = (usize, &'static str, &'static str, u64);
+
+// In the last two rows the line that the store loses is the last, and has no newline.
+const LOST: [Row; 4] = [
+    (0, INPUT, "", 0),
+    (
+        2,
+        INPUT,
+        "{\"revision\":1}\n{\"current\":null,\"error\":\"conflict\"}\n",
+        1,
+    ),
+    (0, "{\"flag\":ON,\"key\":\"a\",\"op\":\"put\"}", "", 0),
+    (
+        1,
+        "{\"flag\":ON,\"key\":\"a\",\"op\":\"put\"}\n{\"flag\":ON,\"key\":\"b\",\"op\":\"put\"}",
+        "{\"revision\":1}\n",
+        1,
+    ),
+];
+
+#[test]
+fn a_store_that_fails_ends_the_run_behind_its_replies(rt: HostRuntime) -> Result<(), Fail> {
+    let alloc = rt.alloc();
+    for (edits_left, input, output, revision) in LOST {
+        let input = written_out(alloc, input)?;
+        let mut r = Counted::new(input.as_bytes());
+        let mut w = Counted::new(Vec::new(alloc));
+        let (edits, outcome) = apply_lines(
+            alloc,
+            &mut r,
+            &mut w,
+            Failing::after(alloc, edits_left),
+        );
+        assert_eq!(rt; outcome, Err(ApplyFault::StoreFailed));
+        assert_eq!(rt; w.get_ref().as_slice(), output.as_bytes(), "{input}");
+        assert_eq!(rt; edits.flags.revision(), revision);
+    }
+    Ok(())
+}
+
+#[test]
+fn a_store_that_failed_is_told_though_the_writer_fails(rt: HostRuntime) -> Result<(), Fail> {
+    let alloc = rt.alloc();
+    let input = written_out(alloc, INPUT)?;
+    let mut w = Counted::new(Full::after(alloc, 0));
+    let edits = Failing::after(alloc, 1);
+    let (_edits, outcome) = apply_lines(alloc, &mut Counted::new(input.as_bytes()), &mut w, edits);
+    assert_eq!(rt; outcome, Err(ApplyFault::StoreFailed));
+    Ok(())
+}
+
+// A run over two lines at a terminal that notes each call.
+fn at_terminal(alloc: Global, log: &RefCell<Vec<u8>>) -> Result<bool, ApplyFault> {
+    let bytes = b"[]\n{}\n".as_slice();
+    let mut r = Counted::new(Terminal { bytes, log });
+    let bytes = b"".as_slice();
+    let mut w = Counted::new(Terminal { bytes, log });
+    let (_flags, outcome) = apply_lines(alloc, &mut r, &mut w, flags(alloc));
+    outcome
+}
+
+#[test]
+fn replies_are_sent_before_the_next_read(rt: HostRuntime) -> Result<(), Fail> {
+    let log = RefCell::new(Vec::new(rt.alloc()));
+    assert_eq!(rt; at_terminal(rt.alloc(), &log), Ok(true));
+    let log = log.into_inner();
+    assert_eq!(rt; log.as_slice(), b"rwfrwfrwf".as_slice());
+    Ok(())
+}
+
+// Fails at every call.
+#[derive(Drop)]
+struct Broken;
+
+impl Read for Broken {
+    fn read(&mut self, _buf: &mut [u8]) -> io::Result<usize> {
+        Err(ErrorKind::Other.into())
+    }
+}
+
+impl Write for Broken {
+    fn write(&mut self, _buf: &[u8]) -> io::Result<usize> {
+        Err(ErrorKind::StorageFull.into())
+    }
+
+    fn flush(&mut self) -> io::Result<()> {
+        Ok(())
+    }
+}
+
+#[test]
+fn streams_that_fail_are_told_on_the_error_stream(rt: HostRuntime) -> Result<(), Fail> {
+    let alloc = rt.alloc();
+    let words = [String::from_str(alloc, "apply")?];
+    let mut broken = Counted::new(Broken);
+    let mut output = Counted::new(Vec::new(alloc));
+    let mut errors = Counted::new(Vec::new(alloc));
+    let read = command(&rt, words.as_slice(), &mut broken, &mut output, &mut errors);
+    assert_eq!(rt; (read, output.get_ref().len()), (1, 0));
+    let mut input = Counted::new(b"[]\n".as_slice());
+    let mut full = Counted::new(Broken);
+    let written = command(&rt, words.as_slice(), &mut input, &mut full, &mut errors);
+    assert_eq!(rt; written, 1);
+    assert_eq!(rt;
+        errors.get_ref().as_slice(),
+        b"flagplane: device fault\nflagplane: device fault\n".as_slice()
+    );
+    Ok(())
+}
+
+const WANT: &[u8] = b"{\"error\":\"out-of-memory\"}";
+
+// No input can ask for these.
+#[test]
+fn want_of_memory_has_one_reply(rt: HostRuntime) -> Result<(), Fail> {
+    let alloc = rt.alloc();
+    let refused = Reply::Refused(EditFault::Memory).text(alloc)?;
+    let line = Reply::NoEdit(LineFault::Memory).text(alloc)?;
+    let flag = Reply::NoEdit(LineFault::BadFlag(DefFault::Memory)).text(alloc)?;
+    for text in [refused, line, flag] {
+        assert_eq!(rt; text.as_slice(), WANT);
+    }
+    Ok(())
+}
