@@ -32,47 +32,51 @@ fn steps<D: Disk>(disk: &mut D) -> Result<(), DiskFault> {
 // How many calls pass, the file's bytes after the one that fails, and the calls.
 const FAILING: [(u32, &[u8], &str); 9] = [
     (0, b"", "seek 0\n"),
-    (1, b"a", "seek 0\nwrite 4 bytes\n"),
-    (2, b"abcd", "seek 0\nwrite 4 bytes\nsync_data\n"),
-    (3, b"abcd", "seek 0\nwrite 4 bytes\nsync_data\nseek 2\n"),
-    (
-        4,
-        b"abXd",
-        "seek 0\nwrite 4 bytes\nsync_data\nseek 2\nwrite 2 bytes\n",
-    ),
+    (1, b"a", "seek 0\nwrite 4\n"),
+    (2, b"abcd", "seek 0\nwrite 4\nsync_data\n"),
+    (3, b"abcd", "seek 0\nwrite 4\nsync_data\nseek 2\n"),
+    (4, b"abXd", "seek 0\nwrite 4\nsync_data\nseek 2\nwrite 2\n"),
     (
         5,
         b"abXY",
-        "seek 0\nwrite 4 bytes\nsync_data\nseek 2\nwrite 2 bytes\nsync_data\n",
+        "seek 0\nwrite 4\nsync_data\nseek 2\nwrite 2\nsync_data\n",
     ),
     (
         6,
         b"abXY",
-        "seek 0\nwrite 4 bytes\nsync_data\nseek 2\nwrite 2 bytes\nsync_data\nseek end 0\n",
+        "seek 0\nwrite 4\nsync_data\nseek 2\nwrite 2\nsync_data\nseek end\n",
     ),
     (
         7,
         b"abXY",
-        "seek 0\nwrite 4 bytes\nsync_data\nseek 2\nwrite 2 bytes\nsync_data\nseek end 0\nseek end 0\n",
+        "seek 0\nwrite 4\nsync_data\nseek 2\nwrite 2\nsync_data\nseek end\nseek end\n",
     ),
     (
         8,
         b"abXY",
-        "seek 0\nwrite 4 bytes\nsync_data\nseek 2\nwrite 2 bytes\nsync_data\nseek end 0\nseek end 0\nset_len 6\n",
+        "seek 0\nwrite 4\nsync_data\nseek 2\nwrite 2\nsync_data\nseek end\nseek end\nset_len 6\n",
     ),
 ];
+
+// Makes the steps on a new file of which so many calls pass: whether they are made, the file's bytes, and the calls.
+fn failing(rt: &HostRuntime, path: &PathBuf, left: u32) -> Result<(bool, Vec<u8>, String), Fail> {
+    let calls = passing(rt.alloc(), left);
+    let mut disk = noted(rt, path, &calls)?;
+    let is_made = steps(&mut disk).is_ok();
+    drop(disk);
+    let bytes = fs::read(rt, path.as_path())?;
+    fs::remove_file(rt, path.as_path())?;
+    Ok((is_made, bytes, calls.into_inner().text))
+}
 
 #[test]
 fn a_call_of_the_file_that_fails_is_a_fault_of_the_disk(rt: HostRuntime) -> Result<(), Fail> {
     let path = in_temp(&rt, "fp_device_tests_fails")?;
-    for (left, bytes, want) in FAILING {
-        let calls = passing(rt.alloc(), left);
-        let mut disk = noted(&rt, &path, &calls)?;
-        assert!(rt; steps(&mut disk).is_err(), "{left}");
-        drop(disk);
-        assert_calls(&rt, calls, want);
-        assert_eq!(rt; fs::read(&rt, path.as_path())?.as_slice(), bytes, "{left}");
-        fs::remove_file(&rt, path.as_path())?;
+    for (left, want_bytes, want) in FAILING {
+        let (is_made, bytes, text) = failing(&rt, &path, left)?;
+        assert_eq!(rt; text.as_str(), want);
+        assert!(rt; !is_made, "{left}");
+        assert_eq!(rt; bytes.as_slice(), want_bytes, "{left}");
     }
     Ok(())
 }
@@ -90,7 +94,7 @@ fn a_disk_makes_no_further_call(rt: HostRuntime) -> Result<(), Fail> {
     assert_calls(
         &rt,
         calls,
-        "seek 0\nwrite 4 bytes\nsync_data\nseek 2\nwrite 2 bytes\nsync_data\nseek end 0\nseek end 0\nset_len 6\nseek 2\nread 3\n",
+        "seek 0\nwrite 4\nsync_data\nseek 2\nwrite 2\nsync_data\nseek end\nseek end\nset_len 6\nseek 2\nread 3\n",
     );
     fs::remove_file(&rt, path.as_path())?;
     Ok(())
@@ -99,13 +103,12 @@ fn a_disk_makes_no_further_call(rt: HostRuntime) -> Result<(), Fail> {
 // By the layout of a disk: the length; the closed gate of the header; the rest of the header and the first slot's head; the second
 // slot's gate; and then the gates open from the inner one to the outer one. Each step is sure before the next.
 const MAKING: &str =
-    "seek end 0\nseek 0\nwrite 00\nsync_data\nseek 1\nwrite 90 bytes\nseek 262208\nwrite 00\nsync_data\nseek 64\nwrite a5\nsync_data\nseek 0\nwrite a5\nsync_data\n";
+    "seek end\nseek 0\nbyte 00\nsync_data\nseek 1\nwrite 90\nseek 262208\nbyte 00\nsync_data\nseek 64\nbyte a5\nsync_data\nseek 0\nbyte a5\nsync_data\n";
 
-// What is there is made sure of before it is read, and nothing is written.
-const OPENING: &str = "sync_data\nseek end 0\nseek 0\nread 262209\n";
-
-// A batch of 87 bytes, its length, its body of 82 and the next gate, stands behind its gate, which opens over a sync, and is sure.
-const EDITING: &str = "seek 91\nwrite 87 bytes\nsync_data\nseek 90\nwrite a5\nsync_data\n";
+// What is there is made sure of before it is read, and nothing is written. A batch of 87 bytes, its length, its body of 82 and the
+// next gate, stands behind its gate, which opens over a sync, and is sure.
+const OPENING_AND_EDITING: &str =
+    "sync_data\nseek end\nseek 0\nread 262209\nseek 91\nwrite 87\nsync_data\nseek 90\nbyte a5\nsync_data\n";
 
 // The smallest slots.
 fn smallest() -> Result<SlotSize, Fail> {
@@ -153,30 +156,32 @@ fn put(rt: &HostRuntime, path: &PathBuf, calls: &RefCell<Calls>) -> Result<(bool
     }
 }
 
+// Makes a disk and puts `a` on it as so many calls pass: what came of it, and the calls.
+fn putting(rt: &HostRuntime, path: &PathBuf, left: u32) -> Result<((bool, bool), String), Fail> {
+    make(rt, path)?;
+    let calls = passing(rt.alloc(), left);
+    let put = put(rt, path, &calls)?;
+    fs::remove_file(rt, path.as_path())?;
+    Ok((put, calls.into_inner().text))
+}
+
 #[test]
 fn an_edit_is_two_writes_and_two_syncs(rt: HostRuntime) -> Result<(), Fail> {
     let path = in_temp(&rt, "fp_device_tests_editing")?;
-    make(&rt, &path)?;
-    let calls = passing(rt.alloc(), ALL);
-    assert_eq!(rt; put(&rt, &path, &calls)?, (true, true));
-    let want = format!(in rt.alloc(); "{OPENING}{EDITING}")?;
-    assert_calls(&rt, calls, want.as_str());
-    fs::remove_file(&rt, path.as_path())?;
+    let (put, text) = putting(&rt, &path, ALL)?;
+    assert_eq!(rt; put, (true, true));
+    assert_eq!(rt; text.as_str(), OPENING_AND_EDITING);
     Ok(())
 }
 
 #[test]
 fn a_call_that_fails_is_the_last(rt: HostRuntime) -> Result<(), Fail> {
     let path = in_temp(&rt, "fp_device_tests_last")?;
-    let whole = format!(in rt.alloc(); "{OPENING}{EDITING}")?;
     for left in 0..10 {
-        make(&rt, &path)?;
-        let calls = passing(rt.alloc(), left);
-        assert_eq!(rt; put(&rt, &path, &calls)?, (left >= 4, false), "{left}");
-        let calls = calls.into_inner();
-        assert!(rt; whole.starts_with(calls.text.as_str()), "{left}");
-        assert_eq!(rt; calls.text.lines().count(), left as usize + 1);
-        fs::remove_file(&rt, path.as_path())?;
+        let (put, text) = putting(&rt, &path, left)?;
+        assert_eq!(rt; put, (left >= 4, false), "{left}");
+        assert!(rt; OPENING_AND_EDITING.starts_with(text.as_str()), "{left}");
+        assert_eq!(rt; text.lines().count(), left as usize + 1);
     }
     Ok(())
 }

@@ -51,22 +51,30 @@ impl Flaky<'_> {
             Err(_) => Err(ErrorKind::Other.into()),
         }
     }
+
+    fn note_number(&self, call: &str, number: u64) -> io::Result<()> {
+        self.note(&format_args!("{call} {number}"))
+    }
+
+    // A single byte is noted itself.
+    fn note_write(&self, bytes: &[u8]) -> io::Result<()> {
+        match bytes {
+            [byte] => self.note(&format_args!("byte {byte:02x}")),
+            _ => self.note_number("write", bytes.len() as u64),
+        }
+    }
 }
 
 impl Read for Flaky<'_> {
     fn read(&mut self, buf: &mut [u8]) -> io::Result<usize> {
-        self.note(&format_args!("read {}", buf.len()))?;
+        self.note_number("read", buf.len() as u64)?;
         self.file.read(buf)
     }
 }
 
 impl Write for Flaky<'_> {
     fn write(&mut self, buf: &[u8]) -> io::Result<usize> {
-        let noted = match buf {
-            [byte] => self.note(&format_args!("write {byte:02x}")),
-            _ => self.note(&format_args!("write {} bytes", buf.len())),
-        };
-        if let Err(e) = noted {
+        if let Err(e) = self.note_write(buf) {
             let _ = self.file.write(buf.get(..1).unwrap_or(&[]))?;
             return Err(e);
         }
@@ -81,9 +89,9 @@ impl Write for Flaky<'_> {
 impl Seek for Flaky<'_> {
     fn seek(&mut self, to: SeekFrom) -> io::Result<u64> {
         match to {
-            SeekFrom::Start(at) => self.note(&format_args!("seek {at}"))?,
-            SeekFrom::End(at) => self.note(&format_args!("seek end {at}"))?,
-            SeekFrom::Current(by) => self.note(&format_args!("seek by {by}"))?,
+            SeekFrom::Start(at) => self.note_number("seek", at)?,
+            SeekFrom::End(0) => self.note(&"seek end")?,
+            _ => self.note(&"seek from there")?,
         }
         self.file.seek(to)
     }
@@ -91,12 +99,11 @@ impl Seek for Flaky<'_> {
 
 impl OpenFile for Flaky<'_> {
     fn metadata(&self) -> io::Result<Metadata> {
-        self.note(&"metadata")?;
         self.file.metadata()
     }
 
     fn set_len(&self, size: u64) -> io::Result<()> {
-        self.note(&format_args!("set_len {size}"))?;
+        self.note_number("set_len", size)?;
         self.file.set_len(size)
     }
 

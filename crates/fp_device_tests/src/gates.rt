@@ -1,10 +1,13 @@
 //! Gates over a disk in memory that fails, and over a file.
 
 use crate::flaky::in_temp;
-use fp_disk::{Checked, Choice, Disk, FailedWrite, Failing, Fill, MemoryDisk, create_file};
+use fp_disk::{
+    Checked, Choice, Disk, DiskFault, FailedWrite, Failing, FileDisk, Fill, MemoryDisk, create_file,
+};
 use fp_gate::{Gate, write_behind};
 use std::alloc::Global;
 use std::fs;
+use std::fs::File;
 use std::test::Fail;
 
 // All that a read gives.
@@ -51,21 +54,25 @@ fn a_crash_leaves_the_bytes_where_the_gate_is_open(rt: HostRuntime) -> Result<()
     Ok(())
 }
 
+// A gate behind four bytes is closed, guards what is written in their place, is opened and sealed; its place.
+fn sealed(disk: &mut Checked<FileDisk<File>>) -> Result<u64, DiskFault> {
+    disk.write_at(0, b"head")?;
+    Gate::place_closed(disk, 4)?;
+    disk.sync()?;
+    let gate = Gate::adopt(disk, 4).guarding(0, 4);
+    disk.write_at(0, b"next")?;
+    let synced = disk.sync()?;
+    let gate = gate.open(disk, synced)?;
+    let synced = disk.sync()?;
+    Ok(gate.seal(disk, synced).at())
+}
+
 #[test]
 fn a_gate_goes_from_closed_to_open(rt: HostRuntime) -> Result<(), Fail> {
     let path = in_temp(&rt, "fp_device_tests_gate")?;
     let name = path.as_path().to_str().ok_or("path")?;
     let mut disk = Checked::new(create_file(&rt, name)?);
-    disk.write_at(0, b"head")?;
-    Gate::place_closed(&mut disk, 4)?;
-    disk.sync()?;
-    let gate = Gate::adopt(&disk, 4).guarding(0, 4);
-    assert_eq!(rt; gate.at(), 4);
-    disk.write_at(0, b"next")?;
-    let synced = disk.sync()?;
-    let gate = gate.open(&mut disk, synced)?;
-    let synced = disk.sync()?;
-    assert_eq!(rt; gate.seal(&disk, synced).at(), 4);
+    assert_eq!(rt; sealed(&mut disk)?, 4);
     assert_eq!(rt;
         fs::read(&rt, path.as_path())?.as_slice(),
         b"next\xa5".as_slice()

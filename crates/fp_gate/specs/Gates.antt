@@ -2,6 +2,7 @@
 use Rattle.std.specs.Prelude.{◌≡◌, ◌≢◌, ◌<◌, ◌≤◌, ◌+◌, ℕ, List, length, slice_index}
 use Rattle.fp_disk.specs.Outcomes.{Unsynced, IsOutcome, Covers}
 use Rattle.fp_disk.specs.Checked.{Mark}
+use Rattle.fp_gate.specs.declared.gate.TheConstants.{OPEN}
 
 -- the place of a gate, and the first that it guards and the one behind the last
 pub record Gated : Type 0 where
@@ -15,11 +16,11 @@ IsSyncOf honest moment disk name mark = (mark.disk ≡ name) × (honest disk →
 
 -- its byte is there and isn't a5, whatever a crash leaves
 abbrev pub IsShut : Unsynced → ℕ → Type 0
-IsShut u at = (c : List ℕ) → IsOutcome u c → (at < length c) × (slice_index c at ≢ 165)
+IsShut u at = (c : List ℕ) → IsOutcome u c → (at < length c) × (slice_index c at ≢ OPEN)
 
 -- its byte is a5, whatever a crash leaves
 abbrev pub IsOpen : Unsynced → ℕ → Type 0
-IsOpen u at = (c : List ℕ) → IsOutcome u c → (at < length c) × (slice_index c at ≡ 165)
+IsOpen u at = (c : List ℕ) → IsOutcome u c → (at < length c) × (slice_index c at ≡ OPEN)
 
 -- these places are there
 abbrev pub Agrees : ℕ → ℕ → List ℕ → List ℕ → Type 0
@@ -31,7 +32,7 @@ StaysAsRead u bytes from to = (c : List ℕ) → IsOutcome u c → Agrees from t
 
 -- where the gate is open, what it guards is there
 abbrev pub Guards : Gated → List ℕ → List ℕ → Type 0
-Guards g bytes c = (g.at < length c) × (slice_index c g.at ≡ 165 → Agrees g.from g.to bytes c)
+Guards g bytes c = (g.at < length c) × (slice_index c g.at ≡ OPEN → Agrees g.from g.to bytes c)
 
 -- an outcome, but for the byte at one place
 pub record IsButFor (u : Unsynced) (at : ℕ) (c : List ℕ) : Type 0 where
@@ -44,7 +45,7 @@ pub record IsButFor (u : Unsynced) (at : ℕ) (c : List ℕ) : Type 0 where
 pub record IsClosedAt (u : Unsynced) (at : ℕ) : Type 0 where
   pub there : at < length u.synced
   pub untouched : Covers u.ranges at → ⊥
-  pub closed : slice_index u.synced at ≢ 165
+  pub closed : slice_index u.synced at ≢ OPEN
 
 -- these bytes stand at a place
 abbrev pub HasAt : ℕ → List ℕ → List ℕ → Type 0
@@ -52,4 +53,4 @@ HasAt at bytes c = (k : ℕ) → k < length bytes → (at + k < length c) × (sl
 
 -- where the gate is open, these bytes stand behind it
 abbrev pub HasBehind : ℕ → ℕ → List ℕ → List ℕ → Type 0
-HasBehind gate at bytes c = (gate < length c) × (slice_index c gate ≡ 165 → HasAt at bytes c)
+HasBehind gate at bytes c = (gate < length c) × (slice_index c gate ≡ OPEN → HasAt at bytes c)

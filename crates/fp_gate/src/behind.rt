@@ -6,7 +6,7 @@ ghost use Rattle.fp_disk.specs.History.{Makes};
 ghost use Rattle.fp_disk.specs.declared.history.CallKind.TheVariants.{Sync, Write};
 ghost use Rattle.fp_gate.specs.Gates.{IsSyncOf, IsShut, IsOpen, StaysAsRead, Agrees, Guards, IsClosedAt, HasAt, HasBehind};
 
-use crate::gate::{Closed, Gate, Open};
+use crate::gate::{Closed, Gate, OPEN, Open};
 use fp_disk::{Checked, Disk, DiskFault, Synced};
 
 // Writes these and syncs, with a closed gate elsewhere.
@@ -23,7 +23,7 @@ fn write_and_sync<D: Disk>(
     ensures name { disk.new.name ≡ disk.old.name }
     ensures each { D.honest disk.old.disk →
         LeavesOnly D.moment D.left_since disk.old.disk disk.new.disk
-        (λ c. (gate.now.at < length c) × (slice_index c gate.now.at ≢ 165)) }
+        (λ c. (gate.now.at < length c) × (slice_index c gate.now.at ≢ OPEN)) }
     ensures written { D.honest disk.old.disk →
         OnOk result (HasWritten (D.bytes disk.old.disk) at from.now (D.bytes disk.new.disk)) }
     ensures settled { D.honest disk.old.disk →

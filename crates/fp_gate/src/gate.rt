@@ -8,8 +8,8 @@ ghost use Rattle.fp_gate.specs.Gates.{Gated, IsSyncOf, IsShut, IsOpen, StaysAsRe
 use fp_disk::{Checked, Disk, DiskFault, Synced};
 use std::marker::{Model, PhantomData};
 
-/// The byte of a gate that is open.
-const OPEN: u8 = 0xa5;
+/// The byte of a gate that is open. Each other one is that of a closed gate.
+pub const OPEN: u8 = 0xa5;
 
 /// A byte of a gate that is closed. Each byte but `OPEN` is one.
 const CLOSED: u8 = 0;
@@ -125,11 +125,11 @@ impl Gate<Closed> {
         // The disk is as after a write of that byte.
         ensures written { D.honest disk.old.disk →
             OnOk result
-            (HasWritten (D.bytes disk.old.disk) self.at (165 ∷ []) (D.bytes disk.new.disk)) }
+            (HasWritten (D.bytes disk.old.disk) self.at (OPEN ∷ []) (D.bytes disk.new.disk)) }
         ensures shown { D.honest disk.old.disk →
             OnOk result
             ((self.at < length (D.bytes disk.new.disk))
-            × (slice_index (D.bytes disk.new.disk) self.at ≡ 165)) }
+            × (slice_index (D.bytes disk.new.disk) self.at ≡ OPEN)) }
         ensures honest { D.honest disk.old.disk ↔ D.honest disk.new.disk }
         ensures unsynced { D.honest disk.old.disk →
             OnOk result (D.unsynced disk.new.disk ≡ touched (D.unsynced disk.old.disk) self.at 1) }

@@ -5,4 +5,4 @@ mod behind;
 mod gate;
 
 pub use behind::write_behind;
-pub use gate::{Closed, Gate, Open, Written};
+pub use gate::{Closed, Gate, OPEN, Open, Written};

@@ -8,6 +8,7 @@ use Rattle.fp_journal.specs.Moments.{KeepsFirm}
 use Rattle.fp_journal.specs.State.{IsQuiet, IsSure, IsBetween}
 use Rattle.fp_journal.proofs.Holds.{firm_outcome, firm_touched, firm_settled}
 use Rattle.fp_journal.proofs.Gates.{quiet_outcome, quiet_touched, between_opened, between_outcome, gate_written}
+use Rattle.fp_gate.specs.declared.gate.TheConstants.{OPEN}
 
 module _ {D : Type 0} (honest : D → Type 0) (bytes : D → List ℕ) (unsynced : D → Unsynced) (moment : D → ℕ) (left_since : D → ℕ → List ℕ → Type 0)
     (present : (d : D) → honest d → IsOutcome (unsynced d) (bytes d))
@@ -39,7 +40,7 @@ module _ {D : Type 0} (honest : D → Type 0) (bytes : D → List ℕ) (unsynced
       )
 
   -- ---- the slot
-  module _ (start stop : ℕ) (text more next : List ℕ) (is_next : next ≡ text ++ 165 ∷ more) where
+  module _ (start stop : ℕ) (text more next : List ℕ) (is_next : next ≡ text ++ OPEN ∷ more) where
     abbrev pub Before : List ℕ → Type 0
     Before c = Ends start stop text c
 
@@ -85,8 +86,8 @@ module _ {D : Type 0} (honest : D → Type 0) (bytes : D → List ℕ) (unsynced
       gate_failed (inl same) = inl (subst (λ (u : Unsynced). IsQuiet start stop text u) (sym same) at.0)
       gate_failed (inr touch) = inr (subst (λ (u : Unsynced). IsBetween start stop text more u) (sym touch) opens)
 
-      pub gate_open : Written (bytes old) place (165 ∷ []) (bytes new) → unsynced new ≡ Opens → Ends start stop next (bytes new) × IsBetween start stop text more (unsynced new)
+      pub gate_open : Written (bytes old) place (OPEN ∷ []) (bytes new) → unsynced new ≡ Opens → Ends start stop next (bytes new) × IsBetween start stop text more (unsynced new)
       gate_open w touch = (
-        subst (λ (t : List ℕ). Ends start stop t (bytes new)) (sym is_next) (gate_written start stop text more (unsynced old) (bytes old) (bytes new) at.0 at.1 (present old h) (subst (λ (k : ℕ). Written (bytes old) k (165 ∷ []) (bytes new)) is w)),
+        subst (λ (t : List ℕ). Ends start stop t (bytes new)) (sym is_next) (gate_written start stop text more (unsynced old) (bytes old) (bytes new) at.0 at.1 (present old h) (subst (λ (k : ℕ). Written (bytes old) k (OPEN ∷ []) (bytes new)) is w)),
         subst (λ (u : Unsynced). IsBetween start stop text more u) (sym touch) opens,
       )

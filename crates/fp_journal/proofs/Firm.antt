@@ -11,6 +11,7 @@ use Rattle.fp_journal.specs.Chain.{Ends}
 use Rattle.fp_journal.specs.State.{IsQuiet, IsSure}
 use Rattle.fp_journal.proofs.Holds.{holds_back, byte_held, firm_outcome}
 use Rattle.fp_journal.proofs.Gates.{quiet_outcome}
+use Rattle.fp_gate.specs.declared.gate.TheConstants.{OPEN}
 
 length_put : (xs : List ℕ) (at x : ℕ) → length (slice_set xs at x) ≡ length xs
 length_put xs at x = grind (arith, common_steps)
@@ -66,8 +67,8 @@ module _ (u : Unsynced) (b : List ℕ) (present : IsOutcome u b) where
 
     gate_kept : Covers u.ranges (at + length text) → ⊥
     gate_kept covers =
-        let c : List ℕ = slice_set cut (at + length text) 165 in let e = all c (put_outcome (at + length text) 165 covers (omega arith)) in
-        e.shut (sym (byte_held c (at + length text) e.gate [] (holds_back c at text (e.gate ∷ []) e.holds)) ∙ put_there cut (at + length text) 165 there)
+        let c : List ℕ = slice_set cut (at + length text) OPEN in let e = all c (put_outcome (at + length text) OPEN covers (omega arith)) in
+        e.shut (sym (byte_held c (at + length text) e.gate [] (holds_back c at text (e.gate ∷ []) e.holds)) ∙ put_there cut (at + length text) OPEN there)
 
     untouched : (k : ℕ) → at ≤ k → k < at + (length text + 1) → Covers u.ranges k → ⊥
     untouched k le lt covers = elim (cases_lt (k - at) (length text)) [
@@ -90,15 +91,15 @@ module _ (u : Unsynced) (b : List ℕ) (present : IsOutcome u b) where
     }
 
 -- ---- the gate behind a text
-pub ends_shut : (start stop : ℕ) (text c : List ℕ) → Ends start stop text c → (start + length text < length c) × (slice_index c (start + length text) ≢ 165)
+pub ends_shut : (start stop : ℕ) (text c : List ℕ) → Ends start stop text c → (start + length text < length c) × (slice_index c (start + length text) ≢ OPEN)
 ends_shut start stop text c e = let long = e.holds.long in let len = length-append text (e.gate ∷ []) in
     (omega (arith, long, len), λ is. e.shut (sym (byte_held c (start + length text) e.gate [] (holds_back c start text (e.gate ∷ []) e.holds)) ∙ is))
 
-pub ends_open : (start stop : ℕ) (text more c : List ℕ) → Ends start stop (text ++ 165 ∷ more) c → (start + length text < length c) × (slice_index c (start + length text) ≡ 165)
+pub ends_open : (start stop : ℕ) (text more c : List ℕ) → Ends start stop (text ++ OPEN ∷ more) c → (start + length text < length c) × (slice_index c (start + length text) ≡ OPEN)
 ends_open start stop text more c e =
-    let all : Holds c start (text ++ (165 ∷ (more ++ e.gate ∷ []))) = subst (λ (t : List ℕ). Holds c start t) (append_assoc text (165 ∷ more) (e.gate ∷ [])) e.holds in
-    let back = holds_back c start text (165 ∷ (more ++ e.gate ∷ [])) all in let long = back.long in
-    (omega (arith, long), byte_held c (start + length text) 165 (more ++ e.gate ∷ []) back)
+    let all : Holds c start (text ++ (OPEN ∷ (more ++ e.gate ∷ []))) = subst (λ (t : List ℕ). Holds c start t) (append_assoc text (OPEN ∷ more) (e.gate ∷ [])) e.holds in
+    let back = holds_back c start text (OPEN ∷ (more ++ e.gate ∷ [])) all in let long = back.long in
+    (omega (arith, long), byte_held c (start + length text) OPEN (more ++ e.gate ∷ []) back)
 
 module _ (start stop : ℕ) (text : List ℕ) (u : Unsynced) where
   pub quiet_shut : IsQuiet start stop text u → IsShut u (start + length text)

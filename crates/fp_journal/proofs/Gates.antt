@@ -8,6 +8,7 @@ use Rattle.fp_journal.specs.Holds.{Holds, Apart}
 use Rattle.fp_journal.specs.Chain.{Ends, framed, spell}
 use Rattle.fp_journal.specs.State.{IsQuiet, IsReady, IsSure, IsBetween}
 use Rattle.fp_journal.proofs.Holds.{holds_append, holds_front, holds_byte, holds_written, holds_apart, firm_outcome, firm_touched, firm_settled, firm_front}
+use Rattle.fp_gate.specs.declared.gate.TheConstants.{OPEN}
 
 module _ (start stop : ℕ) (text : List ℕ) where
   abbrev pub End : ℕ
@@ -31,12 +32,12 @@ module _ (start stop : ℕ) (text : List ℕ) where
     ready_written old new at is lt w = record { gate = 0; shut = λ e. omega (arith, e); holds = subst (λ (k : ℕ). Holds new k (more ++ 0 ∷ [])) is (holds_written old (more ++ 0 ∷ []) new at w); within = lt }
 
     -- text, an open gate, more and a closed gate
-    pub longer : (c : List ℕ) (gate : ℕ) → gate ≢ 165 → Holds c start text → Holds c End (165 ∷ []) → Holds c (End + 1) (more ++ gate ∷ []) → End + 1 + length more < stop → Ends start stop (text ++ 165 ∷ more) c
-    longer c gate shut front opened back lt = let len = length-append text (165 ∷ more) in record {
+    pub longer : (c : List ℕ) (gate : ℕ) → gate ≢ OPEN → Holds c start text → Holds c End (OPEN ∷ []) → Holds c (End + 1) (more ++ gate ∷ []) → End + 1 + length more < stop → Ends start stop (text ++ OPEN ∷ more) c
+    longer c gate shut front opened back lt = let len = length-append text (OPEN ∷ more) in record {
       gate = gate;
       shut = shut;
-      holds = subst (λ (t : List ℕ). Holds c start t) (sym (append_assoc text (165 ∷ more) (gate ∷ [])))
-          (holds_append c start text (165 ∷ (more ++ gate ∷ [])) front (holds_append c End (165 ∷ []) (more ++ gate ∷ []) opened back));
+      holds = subst (λ (t : List ℕ). Holds c start t) (sym (append_assoc text (OPEN ∷ more) (gate ∷ [])))
+          (holds_append c start text (OPEN ∷ (more ++ gate ∷ [])) front (holds_append c End (OPEN ∷ []) (more ++ gate ∷ []) opened back));
       within = omega (arith, len, lt);
     }
 
@@ -49,28 +50,28 @@ module _ (start stop : ℕ) (text : List ℕ) where
     between_opened u q r = record { front = firm_touched u start End 1 text (inr (omega arith)) (firm_front u start text (q.gate ∷ []) q.firm); back = sure_touched u End 1 (inl (omega arith)) r }
 
     -- then it is shut or open in each outcome
-    pub between_outcome : (u : Unsynced) (c : List ℕ) → IsBetween start stop text more u → IsOutcome u c → Ends start stop text c ⊎ Ends start stop (text ++ 165 ∷ more) c
+    pub between_outcome : (u : Unsynced) (c : List ℕ) → IsBetween start stop text more u → IsOutcome u c → Ends start stop text c ⊎ Ends start stop (text ++ OPEN ∷ more) c
     between_outcome u c i o =
         let r = i.back in let w = r.within in
         let front : Holds c start text = firm_outcome u start text c i.front o in
         let back : Holds c (End + 1) (more ++ r.gate ∷ []) = firm_outcome u (End + 1) (more ++ r.gate ∷ []) c r.firm o in
         let long = back.long in
         let byte : Holds c End (slice_index c End ∷ []) = holds_byte c End (omega (arith, long)) in
-        elim (cases_eq (slice_index c End) 165) [
+        elim (cases_eq (slice_index c End) OPEN) [
           | inl opened ↦ inr (longer c r.gate r.shut front (subst (λ (x : ℕ). Holds c End (x ∷ [])) opened byte) back r.within)
           | inr shut ↦ inl (record { gate = slice_index c End; shut = shut; holds = holds_append c start text (slice_index c End ∷ []) front byte; within = omega (arith, w) })
         ]
 
     -- an open gate puts the staged one behind the others
-    pub gate_written : (u : Unsynced) (b new : List ℕ) → IsQuiet start stop text u → IsSure start stop text more u → IsOutcome u b → Written b End (165 ∷ []) new → Ends start stop (text ++ 165 ∷ more) new
+    pub gate_written : (u : Unsynced) (b new : List ℕ) → IsQuiet start stop text u → IsSure start stop text more u → IsOutcome u b → Written b End (OPEN ∷ []) new → Ends start stop (text ++ OPEN ∷ more) new
     gate_written u b new q r o w =
-        longer new r.gate r.shut (holds_apart b (165 ∷ []) new text End start w (inr (omega arith)) (holds_front b start text (q.gate ∷ []) (firm_outcome u start (text ++ q.gate ∷ []) b q.firm o))) (holds_written b (165 ∷ []) new End w)
-        (holds_apart b (165 ∷ []) new (more ++ r.gate ∷ []) End (End + 1) w (inl (omega arith)) (firm_outcome u (End + 1) (more ++ r.gate ∷ []) b r.firm o)) r.within
+        longer new r.gate r.shut (holds_apart b (OPEN ∷ []) new text End start w (inr (omega arith)) (holds_front b start text (q.gate ∷ []) (firm_outcome u start (text ++ q.gate ∷ []) b q.firm o))) (holds_written b (OPEN ∷ []) new End w)
+        (holds_apart b (OPEN ∷ []) new (more ++ r.gate ∷ []) End (End + 1) w (inl (omega arith)) (firm_outcome u (End + 1) (more ++ r.gate ∷ []) b r.firm o)) r.within
 
-pub spell-more : (bs : List (List ℕ)) (b : List ℕ) → spell (bs ++ b ∷ []) ≡ spell bs ++ 165 ∷ framed b
-spell-more [] b = ap (λ (t : List ℕ). 165 ∷ t) (append-nil (framed b))
-spell-more (x ∷ xs) b = ap (λ (t : List ℕ). 165 ∷ t) (ap (λ (t : List ℕ). framed x ++ t) (spell-more xs b) ∙ sym (append_assoc (framed x) (spell xs) (165 ∷ framed b)))
+pub spell-more : (bs : List (List ℕ)) (b : List ℕ) → spell (bs ++ b ∷ []) ≡ spell bs ++ OPEN ∷ framed b
+spell-more [] b = ap (λ (t : List ℕ). OPEN ∷ t) (append-nil (framed b))
+spell-more (x ∷ xs) b = ap (λ (t : List ℕ). OPEN ∷ t) (ap (λ (t : List ℕ). framed x ++ t) (spell-more xs b) ∙ sym (append_assoc (framed x) (spell xs) (OPEN ∷ framed b)))
 
 -- one more body is one more piece of text
-pub text-more : (front : List ℕ) (bs : List (List ℕ)) (b : List ℕ) → front ++ spell (bs ++ b ∷ []) ≡ (front ++ spell bs) ++ 165 ∷ framed b
-text-more front bs b = ap (λ (t : List ℕ). front ++ t) (spell-more bs b) ∙ sym (append_assoc front (spell bs) (165 ∷ framed b))
+pub text-more : (front : List ℕ) (bs : List (List ℕ)) (b : List ℕ) → front ++ spell (bs ++ b ∷ []) ≡ (front ++ spell bs) ++ OPEN ∷ framed b
+text-more front bs b = ap (λ (t : List ℕ). front ++ t) (spell-more bs b) ∙ sym (append_assoc front (spell bs) (OPEN ∷ framed b))

@@ -11,6 +11,7 @@ use Rattle.fp_journal.specs.Reading.{IsChain, IsClosed, IsNext, Breaks, Reads, F
 use Rattle.fp_journal.proofs.Holds.{holds_append, holds_front, holds_back, holds_byte, byte_held, range_held}
 use Rattle.fp_journal.proofs.Gates.{spell-more}
 use Rattle.fp_journal.proofs.Steps.{All-push}
+use Rattle.fp_gate.specs.declared.gate.TheConstants.{OPEN}
 
 -- ---- the first link
 pub chain_within : (most at stop : ℕ) (bs : List (List ℕ)) (c : List ℕ) → IsChain most at stop bs c → (at < stop) × (at < length c)
@@ -19,37 +20,37 @@ chain_within most at stop bs c h = let e = h.ends in let w = e.within in let l =
 pub chain_first : (most at stop : ℕ) (b : List ℕ) (bs : List (List ℕ)) (c : List ℕ) → IsChain most at stop (b ∷ bs) c → IsNext most at stop b (at + 5 + length b) c × IsChain most (at + 5 + length b) stop bs c
 chain_first most at stop b bs c h =
     let e = h.ends in let g = e.gate in let w = e.within in
-    let all : Holds c at ((165 ∷ framed b) ++ (spell bs ++ g ∷ [])) = subst (λ (t : List ℕ). Holds c at (165 ∷ t)) (append_assoc (framed b) (spell bs) (g ∷ [])) e.holds in
-    let len = length-append (framed b) (spell bs) in let place : at + length (165 ∷ framed b) ≡ at + 5 + length b = omega arith in
-    let rest : Holds c (at + 5 + length b) (spell bs ++ g ∷ []) = subst (λ (k : ℕ). Holds c k (spell bs ++ g ∷ [])) place (holds_back c at (165 ∷ framed b) (spell bs ++ g ∷ []) all) in (
-      record { holds = holds_front c at (165 ∷ framed b) (spell bs ++ g ∷ []) all; short = h.short.0; place = refl; within = omega (arith, w, len) },
+    let all : Holds c at ((OPEN ∷ framed b) ++ (spell bs ++ g ∷ [])) = subst (λ (t : List ℕ). Holds c at (OPEN ∷ t)) (append_assoc (framed b) (spell bs) (g ∷ [])) e.holds in
+    let len = length-append (framed b) (spell bs) in let place : at + length (OPEN ∷ framed b) ≡ at + 5 + length b = omega arith in
+    let rest : Holds c (at + 5 + length b) (spell bs ++ g ∷ []) = subst (λ (k : ℕ). Holds c k (spell bs ++ g ∷ [])) place (holds_back c at (OPEN ∷ framed b) (spell bs ++ g ∷ []) all) in (
+      record { holds = holds_front c at (OPEN ∷ framed b) (spell bs ++ g ∷ []) all; short = h.short.0; place = refl; within = omega (arith, w, len) },
       record { short = h.short.1; ends = record { gate = g; shut = e.shut; holds = rest; within = omega (arith, w, len) } },
     )
 
 -- behind a closed gate there is no body
 pub chain_closed : (most at stop : ℕ) (bs : List (List ℕ)) (c : List ℕ) → IsClosed at stop c → IsChain most at stop bs c → bs ≡ []
 chain_closed most at stop [] c shut h = refl
-chain_closed most at stop (b ∷ bs) c shut h = absurd (shut.shut (byte_held c at 165 (framed b) (chain_first most at stop b bs c h).0.holds))
+chain_closed most at stop (b ∷ bs) c shut h = absurd (shut.shut (byte_held c at OPEN (framed b) (chain_first most at stop b bs c h).0.holds))
 
 -- behind an open gate there is one
-pub chain_opened : (most at stop : ℕ) (bs : List (List ℕ)) (c : List ℕ) → slice_index c at ≡ 165 → IsChain most at stop bs c
+pub chain_opened : (most at stop : ℕ) (bs : List (List ℕ)) (c : List ℕ) → slice_index c at ≡ OPEN → IsChain most at stop bs c
     → (b : List ℕ) × (rest : List (List ℕ)) × (bs ≡ b ∷ rest) × IsNext most at stop b (at + 5 + length b) c × IsChain most (at + 5 + length b) stop rest c
 chain_opened most at stop [] c is h = absurd (h.ends.shut (sym (byte_held c at h.ends.gate [] h.ends.holds) ∙ is))
 chain_opened most at stop (b ∷ bs) c is h = let f = chain_first most at stop b bs c h in (b, bs, refl, f.0, f.1)
 
 -- ---- its length and its body
-pub length_read : (c : List ℕ) (at : ℕ) (b : List ℕ) → Holds c at (165 ∷ framed b) → length b < 2 ^ 32 → length_at c at ≡ length b
+pub length_read : (c : List ℕ) (at : ℕ) (b : List ℕ) → Holds c at (OPEN ∷ framed b) → length b < 2 ^ 32 → length_at c at ≡ length b
 length_read c at b p short =
     let one = p.same 1 (omega arith) in let two = p.same 2 (omega arith) in let three = p.same 3 (omega arith) in let four = p.same 4 (omega arith) in
     rw (one, two, three, four) (from_be_bytes-to_be_bytes_4 (length b) short)
 
-pub body_held : (c : List ℕ) (at : ℕ) (b : List ℕ) → Holds c at (165 ∷ framed b) → Holds c (at + 5) b
-body_held c at b p = holds_back c at (165 ∷ to_be_bytes w32 (length b)) b p
+pub body_held : (c : List ℕ) (at : ℕ) (b : List ℕ) → Holds c at (OPEN ∷ framed b) → Holds c (at + 5) b
+body_held c at b p = holds_back c at (OPEN ∷ to_be_bytes w32 (length b)) b p
 
-pub body_read : (c : List ℕ) (at n : ℕ) (b : List ℕ) → Holds c at (165 ∷ framed b) → n ≡ length b → slice_range c (at + 5) (at + 5 + n) ≡ b
+pub body_read : (c : List ℕ) (at n : ℕ) (b : List ℕ) → Holds c at (OPEN ∷ framed b) → n ≡ length b → slice_range c (at + 5) (at + 5 + n) ≡ b
 body_read c at n b p is = rw is (range_held c (at + 5) b (body_held c at b p))
 
-pub same_body : (c : List ℕ) (at : ℕ) (a b : List ℕ) → Holds c at (165 ∷ framed a) → length a < 2 ^ 32 → Holds c at (165 ∷ framed b) → length b < 2 ^ 32 → a ≡ b
+pub same_body : (c : List ℕ) (at : ℕ) (a b : List ℕ) → Holds c at (OPEN ∷ framed a) → length a < 2 ^ 32 → Holds c at (OPEN ∷ framed b) → length b < 2 ^ 32 → a ≡ b
 same_body c at a b p short q short2 = sym (body_read c at (length_at c at) a p (length_read c at a p short)) ∙ body_read c at (length_at c at) b q (length_read c at b q short2)
 
 -- ---- reading on
@@ -66,12 +67,12 @@ module _ (most from stop : ℕ) (c : List ℕ) (small : most < 2 ^ 32) where
 
   pub read_more : (found : List (List ℕ)) (at next : ℕ) (b : List ℕ) → HasRead most from stop c found at → IsNext most at stop b next c → HasRead most from stop c (found ++ b ∷ []) next
   read_more found at next b r n =
-      let e = spell-more found b in let place = r.place in let np = n.place in let ns = n.short in let len = length-append (spell found) (165 ∷ framed b) in let size : length (spell (found ++ b ∷ [])) ≡ length (spell found ++ 165 ∷ framed b) = ap length e in
+      let e = spell-more found b in let place = r.place in let np = n.place in let ns = n.short in let len = length-append (spell found) (OPEN ∷ framed b) in let size : length (spell (found ++ b ∷ [])) ≡ length (spell found ++ OPEN ∷ framed b) = ap length e in
       record {
-        holds = subst (λ (t : List ℕ). Holds c from t) (sym e) (holds_append c from (spell found) (165 ∷ framed b) r.holds (subst (λ (k : ℕ). Holds c k (165 ∷ framed b)) place n.holds));
+        holds = subst (λ (t : List ℕ). Holds c from t) (sym e) (holds_append c from (spell found) (OPEN ∷ framed b) r.holds (subst (λ (k : ℕ). Holds c k (OPEN ∷ framed b)) place n.holds));
         place = omega (arith, place, np, len, size);
         short = All-push (λ (x : List ℕ). length x ≤ most) found b r.short n.short;
-        only = λ bs h. let o = r.only bs h in let t = chain_opened most at stop o.0 c (byte_held c at 165 (framed b) n.holds) o.2 in let ts = t.3.short in
+        only = λ bs h. let o = r.only bs h in let t = chain_opened most at stop o.0 c (byte_held c at OPEN (framed b) n.holds) o.2 in let ts = t.3.short in
             let same : t.0 ≡ b = same_body c at t.0 b t.3.holds (omega (arith, ts, small)) n.holds (omega (arith, ns, small)) in
             let here : at + 5 + length t.0 ≡ next = ap (λ (x : List ℕ). at + 5 + length x) same ∙ sym np in
             (t.1, o.1 ∙ ap (λ (l : List (List ℕ)). found ++ l) (t.2 ∙ ap (λ (x : List ℕ). x ∷ t.1) same) ∙ sym (append_assoc found (b ∷ []) t.1), subst (λ (k : ℕ). IsChain most k stop t.1 c) here t.4);

@@ -20,6 +20,7 @@ use Rattle.fp_journal.proofs.Calls as calls
 use Rattle.fp_journal.proofs.Firm as firm
 use Rattle.fp_journal.proofs.Holds.{holds_within}
 use Rattle.fp_journal.proofs.Stays as stays
+use Rattle.fp_gate.specs.declared.gate.TheConstants.{OPEN}
 
 -- ---- the bytes of a body on its way
 pub body_of-with_gate : (b : List ℕ) → body_of (with_gate b) ≡ b
@@ -32,8 +33,8 @@ pub All-push : {X : Type 0} (P : X → Type 0) (xs : List X) (x : X) → AllByRe
 All-push P [] x all p = (p, tt)
 All-push P (y ∷ ys) x all p = (all.0, All-push P ys x all.1 p)
 
-longer_text : (t b : List ℕ) → length (t ++ 165 ∷ framed b) ≡ length t + 5 + length b
-longer_text t b = let e = length-append t (165 ∷ framed b) in omega (arith, e)
+longer_text : (t b : List ℕ) → length (t ++ OPEN ∷ framed b) ≡ length t + 5 + length b
+longer_text t b = let e = length-append t (OPEN ∷ framed b) in omega (arith, e)
 
 module _ {D : Type 0} (honest : D → Type 0) (bytes : D → List ℕ) (unsynced : D → Unsynced) (moment : D → ℕ) (left_since : D → ℕ → List ℕ → Type 0)
     (present : (d : D) → honest d → IsOutcome (unsynced d) (bytes d))
@@ -98,7 +99,7 @@ module _ {D : Type 0} (honest : D → Type 0) (bytes : D → List ℕ) (unsynced
   -- ---- gate_synced
   module _ (opened : k.phase ≡ GateOpened) (all : honest k.disk → (c : List ℕ) → IsOutcome (unsynced k.disk) c → HasChain k.slot k.front (k.sealed ++ k.staged ∷ []) c) where
     pub gate_open : honest k.disk → IsOpen (unsynced k.disk) end
-    gate_open h = λ c o. subst (λ (at : ℕ). (at < length c) × (slice_index c at ≡ 165)) (sym kept.place)
+    gate_open h = λ c o. subst (λ (at : ℕ). (at < length c) × (slice_index c at ≡ OPEN)) (sym kept.place)
         (firm.ends_open k.slot.start k.slot.stop text (framed k.staged) c (subst (λ (t : List ℕ). Ends k.slot.start k.slot.stop t c) (text-more k.front k.sealed k.staged) (all h c o)))
 
     pub sealed_done : (name : ℕ) (sealed : List (List ℕ)) (n : ℕ) → sealed ≡ k.sealed ++ k.staged ∷ [] → n ≡ length in_flight
@@ -126,7 +127,7 @@ module _ {D : Type 0} (honest : D → Type 0) (bytes : D → List ℕ) (unsynced
       behind = let p = kept.place in omega (arith, p)
 
       pub stage_leaves : (n : ℕ) → (honest k.disk → Time new (touched (unsynced k.disk) (end + 1) n)) → honest k.disk → Leaves new (HasChain k.slot k.front k.sealed)
-      stage_leaves n time h = calls.stage_leaves honest bytes unsynced moment left_since present only_now k.disk new h k.slot.start k.slot.stop text [] (text ++ 165 ∷ []) refl (quiet h) (end + 1) n behind (time h)
+      stage_leaves n time h = calls.stage_leaves honest bytes unsynced moment left_since present only_now k.disk new h k.slot.start k.slot.stop text [] (text ++ OPEN ∷ []) refl (quiet h) (end + 1) n behind (time h)
 
       pub stage_failed : (body written : List ℕ) (n : ℕ) → (honest new → honest k.disk) → (honest k.disk → (unsynced new ≡ unsynced k.disk) ⊎ (unsynced new ≡ touched (unsynced k.disk) (end + 1) n)) → Kept new body Failed false written
       stage_failed body written n back failed = goes_on new body Failed false written tt
@@ -165,7 +166,7 @@ module _ {D : Type 0} (honest : D → Type 0) (bytes : D → List ℕ) (unsynced
       gate_failed back failed = goes_on new k.staged Failed true in_flight tt
           (λ h. let h0 = back h in calls.gate_failed honest bytes unsynced moment left_since present only_now k.disk new h0 k.slot.start k.slot.stop text (framed k.staged) (next k.staged) (text-more k.front k.sealed k.staged) (state_is BodySynced synced h0) place (is ∙ kept.place) (failed h0))
 
-      pub gate_done : (honest new → honest k.disk) → (honest k.disk → Written (bytes k.disk) place (165 ∷ []) (bytes new)) → (honest k.disk → unsynced new ≡ touched (unsynced k.disk) place 1) → Kept new k.staged GateOpened true in_flight
+      pub gate_done : (honest new → honest k.disk) → (honest k.disk → Written (bytes k.disk) place (OPEN ∷ []) (bytes new)) → (honest k.disk → unsynced new ≡ touched (unsynced k.disk) place 1) → Kept new k.staged GateOpened true in_flight
       gate_done back wrote touch = goes_on new k.staged GateOpened true in_flight (flight_is BodySynced synced)
           (λ h. let h0 = back h in calls.gate_open honest bytes unsynced moment left_since present only_now k.disk new h0 k.slot.start k.slot.stop text (framed k.staged) (next k.staged) (text-more k.front k.sealed k.staged) (state_is BodySynced synced h0) place (is ∙ kept.place) (wrote h0) (touch h0))
 
@@ -178,7 +179,7 @@ module _ {D : Type 0} (honest : D → Type 0) (bytes : D → List ℕ) (unsynced
       gate_beside h changes = let ends = kept.place in let within = kept.within in
           λ at t out p. holds_within (bytes k.disk) (bytes new) t place 1 at changes (⊎_elim (λ before. inr (omega (arith, before, ends, is))) (λ after. inl (omega (arith, after, within, is))) out) p
 
-      pub gate_reads : (honest k.disk → Written (bytes k.disk) place (165 ∷ []) (bytes new)) → (honest k.disk → unsynced new ≡ touched (unsynced k.disk) place 1) → honest k.disk → HasChain k.slot k.front (k.sealed ++ k.staged ∷ []) (bytes new)
+      pub gate_reads : (honest k.disk → Written (bytes k.disk) place (OPEN ∷ []) (bytes new)) → (honest k.disk → unsynced new ≡ touched (unsynced k.disk) place 1) → honest k.disk → HasChain k.slot k.front (k.sealed ++ k.staged ∷ []) (bytes new)
       gate_reads wrote touch h = (calls.gate_open honest bytes unsynced moment left_since present only_now k.disk new h k.slot.start k.slot.stop text (framed k.staged) (next k.staged) (text-more k.front k.sealed k.staged) (state_is BodySynced synced h) place (is ∙ kept.place) (wrote h) (touch h)).0
 
     -- ---- syncs

@@ -2,6 +2,7 @@
 use Rattle.std.specs.Prelude.{◌≢◌, ◌<◌, ◌+◌, ◌-◌, ℕ, List, [], ◌∷◌, ◌++◌, length, slice_range}
 use Rattle.std.specs.Int.{w32, to_be_bytes}
 use Rattle.fp_journal.specs.Holds.{Holds}
+use Rattle.fp_gate.specs.declared.gate.TheConstants.{OPEN}
 
 -- a body behind its length
 abbrev pub framed : List ℕ → List ℕ
@@ -18,11 +19,11 @@ body_of bytes = slice_range bytes 4 (length bytes - 1)
 -- each body behind its length and an open gate
 abbrev pub spell : List (List ℕ) → List ℕ
 spell [] = []
-spell (b ∷ bs) = 165 ∷ (framed b ++ spell bs)
+spell (b ∷ bs) = OPEN ∷ (framed b ++ spell bs)
 
 -- The text stands there, and before this stop it ends at a closed gate. Behind that gate may be anything
 pub record Ends (at stop : ℕ) (text c : List ℕ) : Type 0 where
   pub gate : ℕ
-  pub shut : gate ≢ 165
+  pub shut : gate ≢ OPEN
   pub holds : Holds c at (text ++ gate ∷ [])
   pub within : at + length text < stop

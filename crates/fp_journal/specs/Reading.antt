@@ -8,6 +8,7 @@ use Rattle.fp_journal.specs.declared.chain.ChainFault.TheVariants as chain_fault
 use Rattle.fp_journal.specs.Holds.{Holds}
 use Rattle.fp_journal.specs.Chain.{Ends, framed, spell}
 use Rattle.fp_journal.specs.State.{AllShort}
+use Rattle.fp_gate.specs.declared.gate.TheConstants.{OPEN}
 
 -- the bodies stand there, each behind an open gate and its length, and a closed gate before this stop behind the last
 pub record IsChain (most at stop : ℕ) (bodies : List (List ℕ)) (c : List ℕ) : Type 0 where
@@ -19,11 +20,11 @@ pub record IsChain (most at stop : ℕ) (bodies : List (List ℕ)) (c : List ℕ
 pub record IsClosed (at stop : ℕ) (c : List ℕ) : Type 0 where
   pub within : at < stop
   pub long : at < length c
-  pub shut : slice_index c at ≢ 165
+  pub shut : slice_index c at ≢ OPEN
 
 -- the gate is open, and behind it stand the body's length and the body, up to the next gate
 pub record IsNext (most at stop : ℕ) (body : List ℕ) (next : ℕ) (c : List ℕ) : Type 0 where
-  pub holds : Holds c at (165 ∷ framed body)
+  pub holds : Holds c at (OPEN ∷ framed body)
   pub short : length body ≤ most
   pub place : next ≡ at + 5 + length body
   pub within : next ≤ stop
@@ -35,9 +36,9 @@ length_at c at = from_be_bytes w32 (slice_index c (at + 1) ∷ slice_index c (at
 -- There is neither, and k is the first byte to show it: the bytes or the slot end before a field does, or the length is above the most
 pub data Breaks (most stop : ℕ) (c : List ℕ) (at k : ℕ) : Type 0 where
   no_gate : min stop (length c) ≤ at → k ≡ at → Breaks most stop c at k
-  no_length : slice_index c at ≡ 165 → at < min stop (length c) → min stop (length c) < at + 5 → k ≡ at + 1 → Breaks most stop c at k
-  too_long : slice_index c at ≡ 165 → at + 5 ≤ min stop (length c) → most < length_at c at → k ≡ at + 1 → Breaks most stop c at k
-  no_body : slice_index c at ≡ 165 → at + 5 ≤ min stop (length c) → length_at c at ≤ most → min stop (length c) < at + 5 + length_at c at → k ≡ at + 5 → Breaks most stop c at k
+  no_length : slice_index c at ≡ OPEN → at < min stop (length c) → min stop (length c) < at + 5 → k ≡ at + 1 → Breaks most stop c at k
+  too_long : slice_index c at ≡ OPEN → at + 5 ≤ min stop (length c) → most < length_at c at → k ≡ at + 1 → Breaks most stop c at k
+  no_body : slice_index c at ≡ OPEN → at + 5 ≤ min stop (length c) → length_at c at ≤ most → min stop (length c) < at + 5 + length_at c at → k ≡ at + 5 → Breaks most stop c at k
 
 -- ---- a whole chain
 -- a reader takes the bodies in order, and is then that

@@ -10,6 +10,7 @@ use Rattle.fp_journal.specs.declared.journal.Phase.{Phase}
 use Rattle.fp_journal.specs.declared.journal.Phase.TheVariants.{Idle, Staged, BodySynced, GateOpened, Failed}
 use Rattle.fp_journal.specs.Holds.{Holds, IsFirm}
 use Rattle.fp_journal.specs.Chain.{Ends, framed, with_gate, spell}
+use Rattle.fp_gate.specs.declared.gate.TheConstants.{OPEN}
 
 -- what a journal had sealed, and which one it was
 pub record SealedBodies : Type 0 where
@@ -90,21 +91,21 @@ SameSlot old new = (new.name ≡ old.name) × (new.slot ≡ old.slot) × (new.fr
 -- the text and its closed gate are firm
 pub record IsQuiet (start stop : ℕ) (text : List ℕ) (u : Unsynced) : Type 0 where
   pub gate : ℕ
-  pub shut : gate ≢ 165
+  pub shut : gate ≢ OPEN
   pub firm : IsFirm u start (text ++ gate ∷ [])
   pub within : start + length text < stop
 
 -- behind the text's gate stand more and a closed gate
 pub record IsReady (start stop : ℕ) (text more b : List ℕ) : Type 0 where
   pub gate : ℕ
-  pub shut : gate ≢ 165
+  pub shut : gate ≢ OPEN
   pub holds : Holds b (start + length text + 1) (more ++ gate ∷ [])
   pub within : start + length text + 1 + length more < stop
 
 -- and are firm
 pub record IsSure (start stop : ℕ) (text more : List ℕ) (u : Unsynced) : Type 0 where
   pub gate : ℕ
-  pub shut : gate ≢ 165
+  pub shut : gate ≢ OPEN
   pub firm : IsFirm u (start + length text + 1) (more ++ gate ∷ [])
   pub within : start + length text + 1 + length more < stop
 

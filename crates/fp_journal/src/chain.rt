@@ -3,6 +3,7 @@ ghost use Rattle.fp_journal.specs.Reading.{Breaks, FoundChain, IsClosed, IsNext,
 ghost use Rattle.fp_journal.specs.declared.chain.ChainFault.TheVariants.{Damaged, Memory};
 
 use crate::slot::Slot;
+use fp_gate::OPEN;
 
 /// Why a body wasn't taken.
 #[derive(Debug, Drop, PartialEq)]
@@ -52,7 +53,7 @@ fn next_body(
         return Err(ChainFault::Damaged { at });
     }
     let place = at as usize;
-    if bytes[place] != 165 {
+    if bytes[place] != OPEN {
         return Ok(None);
     }
     if limit - at < 5 {

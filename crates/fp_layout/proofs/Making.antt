@@ -12,6 +12,7 @@ use Rattle.fp_journal.proofs.Holds.{holds_append, holds_front, holds_back, holds
 use Rattle.fp_disk.specs.Moments.{leaves_call, leaves_then, leaves_map}
 use Rattle.fp_layout.specs.Layout.{magic, IsFormatted, IsHeader, IsFirstSlot}
 use Rattle.fp_layout.specs.NewDisk.{header_text, slot_text, empty_image, new_front, IsMade, IsNewDisk, IsNewOrNone}
+use Rattle.fp_gate.specs.declared.gate.TheConstants.{OPEN}
 
 pub no_bytes : (c : List ℕ) → length c ≡ 0 → c ≡ []
 no_bytes [] is = refl
@@ -47,26 +48,26 @@ module _ (size : ℕ) (b1 b2 b3 b4 : List ℕ) (large : 64 ≤ size) where
   Written3 = Written b2 (64 + size) (0 ∷ []) b3
 
   abbrev Written4 : Type 0
-  Written4 = Written b3 64 (165 ∷ []) b4
+  Written4 = Written b3 64 (OPEN ∷ []) b4
 
   pub made : Written1 → Written2 → Written3 → Written4 → IsMade size b4
   made w1 w2 w3 w4 =
       let n1 = written_long [] (0 ∷ []) b1 0 w1 in
       let n2 = written_long b1 (header_text size ++ 0 ∷ (tail ++ 0 ∷ [])) b2 1 w2 in
       let n3 = written_long b2 (0 ∷ []) b3 (64 + size) w3 in
-      let n4 = written_long b3 (165 ∷ []) b4 64 w4 in
+      let n4 = written_long b3 (OPEN ∷ []) b4 64 w4 in
       let long2 : length b2 ≡ 91 = omega (arith, n1, n2) in
       let piece : Holds b3 1 (header_text size ++ 0 ∷ (tail ++ 0 ∷ [])) = holds_apart b2 (0 ∷ []) b3 (header_text size ++ 0 ∷ (tail ++ 0 ∷ [])) (64 + size) 1 w3 (inr (omega (arith, large))) (holds_written b1 (header_text size ++ 0 ∷ (tail ++ 0 ∷ [])) b2 1 w2) in
       let back : Holds b3 64 (0 ∷ (tail ++ 0 ∷ [])) = holds_back b3 1 (header_text size) (0 ∷ (tail ++ 0 ∷ [])) piece in
-      let header : Holds b4 1 (header_text size) = holds_apart b3 (165 ∷ []) b4 (header_text size) 64 1 w4 (inr (omega arith)) (holds_front b3 1 (header_text size) (0 ∷ (tail ++ 0 ∷ [])) piece) in
-      let rest : Holds b4 65 (tail ++ 0 ∷ []) = holds_apart b3 (165 ∷ []) b4 (tail ++ 0 ∷ []) 64 65 w4 (inl (omega arith)) (holds_back b3 64 (0 ∷ []) (tail ++ 0 ∷ []) back) in
+      let header : Holds b4 1 (header_text size) = holds_apart b3 (OPEN ∷ []) b4 (header_text size) 64 1 w4 (inr (omega arith)) (holds_front b3 1 (header_text size) (0 ∷ (tail ++ 0 ∷ [])) piece) in
+      let rest : Holds b4 65 (tail ++ 0 ∷ []) = holds_apart b3 (OPEN ∷ []) b4 (tail ++ 0 ∷ []) 64 65 w4 (inl (omega arith)) (holds_back b3 64 (0 ∷ []) (tail ++ 0 ∷ []) back) in
       let last : slice_index b4 90 ≡ 0 = byte_held b4 90 0 [] (holds_back b4 65 tail (0 ∷ []) rest) in
       record {
         long = omega (arith, long2, n3, n4);
-        text = holds_append b4 1 (header_text size) new_front header (holds_append b4 64 (165 ∷ []) tail (holds_written b3 (165 ∷ []) b4 64 w4) (holds_front b4 65 tail (0 ∷ []) rest));
+        text = holds_append b4 1 (header_text size) new_front header (holds_append b4 64 (OPEN ∷ []) tail (holds_written b3 (OPEN ∷ []) b4 64 w4) (holds_front b4 65 tail (0 ∷ []) rest));
         zeros = λ k low high. elim (cases_eq k 90) [
           | inl is ↦ ap (λ (j : ℕ). slice_index b4 j) is ∙ last
-          | inr not_is ↦ written_after b3 (165 ∷ []) b4 64 k w4 (omega (arith, low)) ∙ elim (cases_eq k (64 + size)) [
+          | inr not_is ↦ written_after b3 (OPEN ∷ []) b4 64 k w4 (omega (arith, low)) ∙ elim (cases_eq k (64 + size)) [
             | inl is ↦ ap (λ (j : ℕ). slice_index b3 j) is ∙ byte_held b3 (64 + size) 0 [] (holds_written b2 (0 ∷ []) b3 (64 + size) w3)
             | inr before ↦ written_gap b2 (0 ∷ []) b3 (64 + size) k w3 (omega (arith, long2, low, not_is)) (omega (arith, high, before))
           ]
@@ -83,18 +84,18 @@ made_outcome size b c m o =
     }
 
 pub last_new : (size : ℕ) (b c : List ℕ) → IsMade size b → IsOutcome (touched (settled b) 0 1) c → IsNewOrNone size c
-last_new size b c m o = elim (cases_eq (slice_index c 0) 165) [
+last_new size b c m o = elim (cases_eq (slice_index c 0) OPEN) [
   | inl opened ↦ inr (record { gate = opened; made = made_outcome size b c m o })
   | inr shut ↦ inl (λ f. shut f.gate)
 ]
 
-pub new_written : (size : ℕ) (b new : List ℕ) → IsMade size b → Written b 0 (165 ∷ []) new → IsNewDisk size new
-new_written size b new m w = let n = written_long b (165 ∷ []) new 0 w in let long = m.long in record {
-  gate = byte_held new 0 165 [] (holds_written b (165 ∷ []) new 0 w);
+pub new_written : (size : ℕ) (b new : List ℕ) → IsMade size b → Written b 0 (OPEN ∷ []) new → IsNewDisk size new
+new_written size b new m w = let n = written_long b (OPEN ∷ []) new 0 w in let long = m.long in record {
+  gate = byte_held new 0 OPEN [] (holds_written b (OPEN ∷ []) new 0 w);
   made = record {
     long = omega (arith, n, long);
-    text = holds_apart b (165 ∷ []) new (header_text size ++ new_front) 0 1 w (inl (omega arith)) m.text;
-    zeros = λ k le lt. written_after b (165 ∷ []) new 0 k w (omega (arith, le)) ∙ m.zeros k le lt;
+    text = holds_apart b (OPEN ∷ []) new (header_text size ++ new_front) 0 1 w (inl (omega arith)) m.text;
+    zeros = λ k le lt. written_after b (OPEN ∷ []) new 0 k w (omega (arith, le)) ∙ m.zeros k le lt;
   };
 }
 
@@ -189,13 +190,13 @@ module _ (size : ℕ) (c : List ℕ) (allowed : IsSlotSize size) (n : IsNewDisk 
 
   pub new_slot : IsFirstSlot c size 1 0 empty_image
   new_slot = let least = allowed.least in
-      let rest : Holds c 65 (slot_text 1 0 empty_image) = holds_back c 64 (165 ∷ []) (slot_text 1 0 empty_image) front in
+      let rest : Holds c 65 (slot_text 1 0 empty_image) = holds_back c 64 (OPEN ∷ []) (slot_text 1 0 empty_image) front in
       let version : Holds c 73 (1 ∷ (to_be_bytes w64 0 ++ (to_be_bytes w32 4 ++ empty_image))) = holds_back c 65 (to_be_bytes w64 1) (1 ∷ (to_be_bytes w64 0 ++ (to_be_bytes w32 4 ++ empty_image))) rest in
       let base : Holds c 74 (to_be_bytes w64 0 ++ (to_be_bytes w32 4 ++ empty_image)) = holds_back c 73 (1 ∷ []) (to_be_bytes w64 0 ++ (to_be_bytes w32 4 ++ empty_image)) version in
       let len : Holds c 82 (to_be_bytes w32 4 ++ empty_image) = holds_back c 74 (to_be_bytes w64 0) (to_be_bytes w32 4 ++ empty_image) base in
       let zero : slice_index c (64 + size) ≡ 0 = n.made.zeros (64 + size) (omega (arith, least)) (omega arith) in record {
         other = λ e. omega (arith, zero, e);
-        gate = byte_held c 64 165 (slot_text 1 0 empty_image) front;
+        gate = byte_held c 64 OPEN (slot_text 1 0 empty_image) front;
         generation_text = holds_front c 65 (to_be_bytes w64 1) (1 ∷ (to_be_bytes w64 0 ++ (to_be_bytes w32 4 ++ empty_image))) rest;
         version = byte_held c 73 1 (to_be_bytes w64 0 ++ (to_be_bytes w32 4 ++ empty_image)) version;
         base_text = holds_front c 74 (to_be_bytes w64 0) (to_be_bytes w32 4 ++ empty_image) base;

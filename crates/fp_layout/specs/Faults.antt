@@ -10,6 +10,7 @@ use Rattle.fp_layout.specs.Size.{IsSlotSize}
 use Rattle.fp_layout.specs.Layout.{IsFormatted, IsFirstOther, AreZeros}
 use Rattle.fp_layout.specs.declared.fault.OpenFault.{OpenFault}
 use Rattle.fp_layout.specs.declared.fault.OpenFault.TheVariants.{Unformatted, UnknownVersion, Damaged, Device, Memory}
+use Rattle.fp_gate.specs.declared.gate.TheConstants.{OPEN}
 
 -- ---- the header, in which the number at the size's place is this one; k is the first byte to show the damage
 pub data BreaksHeader (c : List ℕ) (size k : ℕ) : Type 0 where
@@ -26,11 +27,11 @@ RefusesHeader c Memory = ⊥
 
 -- ---- the slots' gates, and the head of the first
 pub data BreaksFirstSlot (c : List ℕ) (size k : ℕ) : Type 0 where
-  other_open : slice_index c (64 + size) ≡ 165 → k ≡ 64 + size → BreaksFirstSlot c size k
-  none_open : slice_index c (64 + size) ≢ 165 → slice_index c 64 ≢ 165 → k ≡ 64 → BreaksFirstSlot c size k
-  bad_version : slice_index c (64 + size) ≢ 165 → slice_index c 64 ≡ 165 → slice_index c 73 ≢ 1 → k ≡ 73 → BreaksFirstSlot c size k
-  bad_base : slice_index c (64 + size) ≢ 165 → slice_index c 64 ≡ 165 → slice_index c 73 ≡ 1 → (base : ℕ) → Holds c 74 (to_be_bytes w64 base) → 2 ^ 63 ≤ base → base < 2 ^ 64 → k ≡ 74 → BreaksFirstSlot c size k
-  bad_length : slice_index c (64 + size) ≢ 165 → slice_index c 64 ≡ 165 → slice_index c 73 ≡ 1 → (base len : ℕ) → Holds c 74 (to_be_bytes w64 base) → base < 2 ^ 63 → Holds c 82 (to_be_bytes w32 len) → size / 2 < len → len < 2 ^ 32 → k ≡ 82 → BreaksFirstSlot c size k
+  other_open : slice_index c (64 + size) ≡ OPEN → k ≡ 64 + size → BreaksFirstSlot c size k
+  none_open : slice_index c (64 + size) ≢ OPEN → slice_index c 64 ≢ OPEN → k ≡ 64 → BreaksFirstSlot c size k
+  bad_version : slice_index c (64 + size) ≢ OPEN → slice_index c 64 ≡ OPEN → slice_index c 73 ≢ 1 → k ≡ 73 → BreaksFirstSlot c size k
+  bad_base : slice_index c (64 + size) ≢ OPEN → slice_index c 64 ≡ OPEN → slice_index c 73 ≡ 1 → (base : ℕ) → Holds c 74 (to_be_bytes w64 base) → 2 ^ 63 ≤ base → base < 2 ^ 64 → k ≡ 74 → BreaksFirstSlot c size k
+  bad_length : slice_index c (64 + size) ≢ OPEN → slice_index c 64 ≡ OPEN → slice_index c 73 ≡ 1 → (base len : ℕ) → Holds c 74 (to_be_bytes w64 base) → base < 2 ^ 63 → Holds c 82 (to_be_bytes w32 len) → size / 2 < len → len < 2 ^ 32 → k ≡ 82 → BreaksFirstSlot c size k
 
 abbrev pub IsDamage : (ℕ → Type 0) → OpenFault → Type 0
 IsDamage P Unformatted = ⊥

@@ -3,6 +3,7 @@ use Rattle.std.specs.Prelude.{◌≡◌, ◌≢◌, ◌<◌, ◌≤◌, ◌+◌,
 use Rattle.std.specs.Int.{w32, w64, to_be_bytes}
 use Rattle.fp_journal.specs.Holds.{Holds}
 use Rattle.fp_layout.specs.Size.{IsSlotSize}
+use Rattle.fp_gate.specs.declared.gate.TheConstants.{OPEN}
 
 abbrev pub magic : List ℕ
 magic = codes "FLAGPLN1"
@@ -22,7 +23,7 @@ pub record IsFirstOther (c : List ℕ) (from stop at : ℕ) : Type 0 where
 -- its gate is open, and behind it stands the magic text
 pub record IsFormatted (c : List ℕ) : Type 0 where
   pub long : 64 ≤ length c
-  pub gate : slice_index c 0 ≡ 165
+  pub gate : slice_index c 0 ≡ OPEN
   pub magic_text : Holds c 1 magic
 
 -- a disk with slots of this size
@@ -37,8 +38,8 @@ pub record IsHeader (c : List ℕ) (size : ℕ) : Type 0 where
 -- ---- the first slot, behind the header
 -- the second slot's gate is closed, and in the first stand its head and an image of this revision
 pub record IsFirstSlot (c : List ℕ) (size generation base : ℕ) (image : List ℕ) : Type 0 where
-  pub other : slice_index c (64 + size) ≢ 165
-  pub gate : slice_index c 64 ≡ 165
+  pub other : slice_index c (64 + size) ≢ OPEN
+  pub gate : slice_index c 64 ≡ OPEN
   pub generation_text : Holds c 65 (to_be_bytes w64 generation)
   pub version : slice_index c 73 ≡ 1
   pub base_text : Holds c 74 (to_be_bytes w64 base)

@@ -5,6 +5,7 @@ use Rattle.fp_disk.specs.declared.history.CallKind.{CallKind}
 use Rattle.fp_disk.specs.declared.history.CallKind.TheVariants.{Sync, Write}
 use Rattle.fp_journal.specs.Holds.{Holds}
 use Rattle.fp_layout.specs.Layout.{magic, AreZeros, IsFormatted}
+use Rattle.fp_gate.specs.declared.gate.TheConstants.{OPEN}
 
 -- ---- the texts behind the gates of header and slot
 abbrev pub header_text : ℕ → List ℕ
@@ -19,7 +20,7 @@ empty_image = to_be_bytes w32 0
 
 -- what stands in a new slot in front of the first batch's gate
 abbrev pub new_front : List ℕ
-new_front = 165 ∷ slot_text 1 0 empty_image
+new_front = OPEN ∷ slot_text 1 0 empty_image
 
 -- the bytes up to that gate, it included, as they are while all gates are closed
 abbrev pub closed_bytes : ℕ → List ℕ
@@ -38,7 +39,7 @@ pub record IsMade (size : ℕ) (c : List ℕ) : Type 0 where
 
 -- and with it
 pub record IsNewDisk (size : ℕ) (c : List ℕ) : Type 0 where
-  pub gate : slice_index c 0 ≡ 165
+  pub gate : slice_index c 0 ≡ OPEN
   pub made : IsMade size c
 
 -- what a crash may leave of a disk in the making

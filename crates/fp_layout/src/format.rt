@@ -12,6 +12,7 @@ ghost use Rattle.fp_layout.specs.declared.format.CreateFault.TheVariants.{NotEmp
 
 use crate::size::SlotSize;
 use fp_disk::{Disk, DiskFault};
+use fp_gate::OPEN;
 use fp_journal::Journal;
 use std::alloc::{AllocError, Global};
 
@@ -72,8 +73,8 @@ fn format<D: Disk>(disk: &mut D, size: SlotSize, closed: &[u8]) -> Result<(), Di
     write_synced(disk, 0, &[0])?;
     disk.write_at(1, &closed[1..])?;
     write_synced(disk, 64 + size.bytes(), &[0])?;
-    write_synced(disk, 64, &[165])?;
-    write_synced(disk, 0, &[165])
+    write_synced(disk, 64, &[OPEN])?;
+    write_synced(disk, 0, &[OPEN])
 }
 
 /// Makes an empty disk one of this layout, with no flag and revision 0, and a journal over its first slot.
@@ -105,6 +106,6 @@ pub fn create<D: Disk>(
     let Ok(()) = format(&mut disk, size, &bytes) else {
         return Err((CreateFault::Device, disk));
     };
-    bytes[64] = 165;
+    bytes[64] = OPEN;
     Ok(Journal::adopt(alloc, disk, size.first_slot(), &bytes, 90))
 }

@@ -6,6 +6,7 @@ ghost use Rattle.fp_layout.specs.Faults.{IsDamage, BreaksFirstSlot};
 use crate::fault::OpenFault;
 use crate::field::{u32_at, u64_at};
 use crate::size::SlotSize;
+use fp_gate::OPEN;
 
 /// What stands in a slot in front of its batches.
 #[derive(Clone, Copy)]
@@ -26,10 +27,10 @@ pub fn read_head(bytes: &[u8], size: SlotSize) -> Result<Head<'_>, OpenFault>
     ensures fault { IfErr result (IsDamage (BreaksFirstSlot bytes.now size)) }
 {
     let other = 64 + size.bytes() as usize;
-    if bytes[other] == 165 {
+    if bytes[other] == OPEN {
         return Err(OpenFault::Damaged { at: other as u64 });
     }
-    if bytes[64] != 165 {
+    if bytes[64] != OPEN {
         return Err(OpenFault::Damaged { at: 64 });
     }
     if bytes[73] != 1 {

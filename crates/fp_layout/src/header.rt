@@ -5,6 +5,7 @@ ghost use Rattle.fp_layout.specs.Faults.{RefusesHeader};
 use crate::fault::OpenFault;
 use crate::field::u64_at;
 use crate::size::SlotSize;
+use fp_gate::OPEN;
 
 /// `FLAGPLN1` as a number.
 pub const MAGIC: u64 = 0x464c_4147_504c_4e31;
@@ -28,7 +29,7 @@ pub fn read_header(bytes: &[u8]) -> Result<SlotSize, OpenFault>
     ensures found { IfOk result (IsHeader bytes.now) }
     ensures fault { IfErr result (RefusesHeader bytes.now) }
 {
-    if bytes.len() < 64 || bytes[0] != 165 || u64_at(bytes, 1) != MAGIC {
+    if bytes.len() < 64 || bytes[0] != OPEN || u64_at(bytes, 1) != MAGIC {
         return Err(OpenFault::Unformatted);
     }
     if bytes[9] != 1 {

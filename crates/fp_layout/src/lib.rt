@@ -8,6 +8,7 @@ mod head;
 mod header;
 mod opening;
 mod size;
+
 pub use fault::OpenFault;
 pub use format::{CreateFault, create};
 pub use head::{Head, read_head};

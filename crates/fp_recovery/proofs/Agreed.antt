@@ -8,6 +8,7 @@ use Rattle.fp_journal.specs.Reading.{IsChain}
 use Rattle.fp_journal.specs.State.{AllShort}
 use Rattle.fp_journal.proofs.Holds.{holds_append, holds_back, held_range}
 use Rattle.fp_layout.specs.Layout.{magic, IsHeader, IsFirstSlot}
+use Rattle.fp_gate.specs.declared.gate.TheConstants.{OPEN}
 
 -- both are as long, and have the same there
 pub record Agrees (b c : List ℕ) (from stop : ℕ) : Type 0 where
@@ -60,7 +61,7 @@ slot_agreed b c size generation base stop image s a le other = record {
 -- ---- the chain
 pub spell-append : (xs ys : List (List ℕ)) → spell (xs ++ ys) ≡ spell xs ++ spell ys
 spell-append [] ys = refl
-spell-append (x ∷ xs) ys = ap (λ (t : List ℕ). 165 ∷ (framed x ++ t)) (spell-append xs ys) ∙ ap (λ (t : List ℕ). 165 ∷ t) (sym (append_assoc (framed x) (spell xs) (spell ys)))
+spell-append (x ∷ xs) ys = ap (λ (t : List ℕ). OPEN ∷ (framed x ++ t)) (spell-append xs ys) ∙ ap (λ (t : List ℕ). OPEN ∷ t) (sym (append_assoc (framed x) (spell xs) (spell ys)))
 
 -- batches that the front ends with, and batches behind it
 pub chain_behind : (most start stop at : ℕ) (front : List ℕ) (opened more : List (List ℕ)) (c : List ℕ) → Ends start stop (front ++ spell more) c → start + length front ≡ at + length (spell opened)

@@ -19,6 +19,7 @@ use Rattle.fp_record.specs.Spelling.{spelling_of_image, spelling_of_batch}
 use Rattle.fp_record.specs.Group.{Group}
 use Rattle.fp_recovery.specs.Stands.{IsImageOf, TakesBatch, StandsFor, Leads}
 use Rattle.fp_recovery.proofs.Restored.{leads_one}
+use Rattle.fp_gate.specs.declared.gate.TheConstants.{OPEN}
 
 -- ---- numbers
 pub number64_one : (c : List ℕ) (at m n : ℕ) → Holds c at (to_be_bytes w64 m) → m < 2 ^ 64 → Holds c at (to_be_bytes w64 n) → n < 2 ^ 64 → m ≡ n
@@ -62,8 +63,8 @@ reads_one s t u (b ∷ bs) p q = reads_one q.0 t u bs (subst (λ (v : State). Re
 
 pub chain_one : (most at stop : ℕ) (xs ys : List (List ℕ)) (c : List ℕ) → most < 2 ^ 32 → IsChain most at stop xs c → IsChain most at stop ys c → xs ≡ ys
 chain_one most at stop [] [] c small p q = refl
-chain_one most at stop [] (y ∷ ys) c small p q = absurd (p.ends.shut (sym (byte_held c at p.ends.gate [] p.ends.holds) ∙ byte_held c at 165 (framed y) (chain_first most at stop y ys c q).0.holds))
-chain_one most at stop (x ∷ xs) [] c small p q = absurd (q.ends.shut (sym (byte_held c at q.ends.gate [] q.ends.holds) ∙ byte_held c at 165 (framed x) (chain_first most at stop x xs c p).0.holds))
+chain_one most at stop [] (y ∷ ys) c small p q = absurd (p.ends.shut (sym (byte_held c at p.ends.gate [] p.ends.holds) ∙ byte_held c at OPEN (framed y) (chain_first most at stop y ys c q).0.holds))
+chain_one most at stop (x ∷ xs) [] c small p q = absurd (q.ends.shut (sym (byte_held c at q.ends.gate [] q.ends.holds) ∙ byte_held c at OPEN (framed x) (chain_first most at stop x xs c p).0.holds))
 chain_one most at stop (x ∷ xs) (y ∷ ys) c small p q =
     let f = chain_first most at stop x xs c p in let g = chain_first most at stop y ys c q in let a = f.0.short in let b = g.0.short in
     let same : x ≡ y = same_body c at x y f.0.holds (omega (arith, a, small)) g.0.holds (omega (arith, b, small)) in

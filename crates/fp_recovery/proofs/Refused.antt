@@ -18,26 +18,27 @@ use Rattle.fp_layout.specs.declared.fault.OpenFault.TheVariants.{Unformatted, Un
 use Rattle.fp_recovery.specs.Stands.{IsImageOf, TakesBatch, StandsFor}
 use Rattle.fp_recovery.specs.Refusals.{BeginsWith, RejectsImage, RefusesBatch, RefusesBytes, IsUnlessWanting, nothing_read}
 use Rattle.fp_recovery.proofs.One.{number32_one, number64_one, size_one, front_one, image_one, reads_one}
+use Rattle.fp_gate.specs.declared.gate.TheConstants.{OPEN}
 
 -- ---- a chain and what was read of it
 pub chain_after : (most at stop : ℕ) (bodies bs : List (List ℕ)) (c : List ℕ) → most < 2 ^ 32 → Holds c at (spell bodies) → AllShort most bodies → IsChain most at stop bs c
     → (rest : List (List ℕ)) × (bs ≡ bodies ++ rest) × IsChain most (at + length (spell bodies)) stop rest c
 chain_after most at stop [] bs c small h short chain = (bs, refl, subst (λ (k : ℕ). IsChain most k stop bs c) (sym (add-zero at)) chain)
 chain_after most at stop (b ∷ bodies) bs c small h short chain =
-    let front : Holds c at (165 ∷ framed b) = holds_front c at (165 ∷ framed b) (spell bodies) h in
-    let t = chain_opened most at stop bs c (byte_held c at 165 (framed b) front) chain in
+    let front : Holds c at (OPEN ∷ framed b) = holds_front c at (OPEN ∷ framed b) (spell bodies) h in
+    let t = chain_opened most at stop bs c (byte_held c at OPEN (framed b) front) chain in
     let fits = t.3.short in let fits_b = short.0 in
     let same : t.0 ≡ b = same_body c at t.0 b t.3.holds (omega (arith, fits, small)) front (omega (arith, fits_b, small)) in
     let here : IsChain most (at + 5 + length b) stop t.1 c = subst (λ (x : List ℕ). IsChain most (at + 5 + length x) stop t.1 c) same t.4 in
     let len : length (framed b) ≡ 4 + length b = length-append (to_be_bytes w32 (length b)) b in
-    let place : at + length (165 ∷ framed b) ≡ at + 5 + length b = omega (arith, len) in
-    let back : Holds c (at + 5 + length b) (spell bodies) = subst (λ (k : ℕ). Holds c k (spell bodies)) place (holds_back c at (165 ∷ framed b) (spell bodies) h) in
+    let place : at + length (OPEN ∷ framed b) ≡ at + 5 + length b = omega (arith, len) in
+    let back : Holds c (at + 5 + length b) (spell bodies) = subst (λ (k : ℕ). Holds c k (spell bodies)) place (holds_back c at (OPEN ∷ framed b) (spell bodies) h) in
     let r = chain_after most (at + 5 + length b) stop bodies t.1 c small back short.1 here in
     let all = length-append (framed b) (spell bodies) in
     let end : at + 5 + length b + length (spell bodies) ≡ at + length (spell (b ∷ bodies)) = omega (arith, len, all) in
     (r.0, t.2 ∙ ap (λ (x : List ℕ). x ∷ t.1) same ∙ ap (λ (l : List (List ℕ)). b ∷ l) r.1, subst (λ (k : ℕ). IsChain most k stop r.0 c) end r.2)
 
-link_long : (most at stop : ℕ) (rest : List (List ℕ)) (c : List ℕ) → most < 2 ^ 32 → slice_index c at ≡ 165 → IsChain most at stop rest c
+link_long : (most at stop : ℕ) (rest : List (List ℕ)) (c : List ℕ) → most < 2 ^ 32 → slice_index c at ≡ OPEN → IsChain most at stop rest c
     → (n : ℕ) × (length_at c at ≡ n) × (n ≤ most) × (at + 5 + n ≤ length c) × (at + 5 + n ≤ stop)
 link_long most at stop rest c small is chain =
     let t = chain_opened most at stop rest c is chain in let fits = t.3.short in let long = t.3.holds.long in let within = t.3.within in
@@ -65,7 +66,7 @@ chain_read most at stop k c first s bs small chain reads stops =
   where
     next_refused : (rest : List (List ℕ)) → IsChain most stops.gate stop rest c → Reads TakesBatch stops.last rest s → (body : List ℕ) (next offset : ℕ) → IsNext most stops.gate stop body next c → RefusesBatch stops.last body offset → ⊥
     next_refused rest here left body next offset n refuses =
-        let t = chain_opened most stops.gate stop rest c (byte_held c stops.gate 165 (framed body) n.holds) here in let fits = t.3.short in let fits_b = n.short in
+        let t = chain_opened most stops.gate stop rest c (byte_held c stops.gate OPEN (framed body) n.holds) here in let fits = t.3.short in let fits_b = n.short in
         let same : t.0 ≡ body = same_body c stops.gate t.0 body t.3.holds (omega (arith, fits, small)) n.holds (omega (arith, fits_b, small)) in
         let r : Reads TakesBatch stops.last (t.0 ∷ t.1) s = subst (λ (l : List (List ℕ)). Reads TakesBatch stops.last l s) t.2 left in
         refuses r.0 (subst (λ (x : List ℕ). TakesBatch stops.last x r.0) same r.1)

@@ -5,6 +5,7 @@ use Rattle.fp_disk.specs.Outcomes.{Written}
 use Rattle.fp_layout.specs.NewDisk.{IsMade}
 use Rattle.fp_layout.proofs.Making as making
 use Rattle.fp_layout.proofs.format.format.Goals as goal
+use Rattle.fp_gate.specs.declared.gate.TheConstants.{OPEN}
 
 pub returns-in_err-write_synced-2-clause-any_moment : goal.returns-in_err-write_synced-2-clause-any_moment
 returns-in_err-write_synced-2-clause-any_moment g c = λ h is.
@@ -51,5 +52,5 @@ returns-clause-any_moment g c = λ h is.
     let large : 64 ≤ c.args.size = let e = c.bytes.ensures.bytes in let l = c.bytes.ensures.allowed.least in omega (arith, e, l) in
     let w1 = subst (λ (b : List ℕ). Written b 0 (0 ∷ []) (D.bytes d1)) (making.empty_bytes D.honest D.bytes D.unsynced D.moment D.left_since m.present m.only_now c.args.size d0 h is) (c.in_ok-write_synced.ensures.written h) in
     let all : IsMade c.args.size (D.bytes d4) = making.made c.args.size (D.bytes d1) (D.bytes d2) (D.bytes d3) (D.bytes d4) large w1 w2 w3 (c.in_ok-write_synced-3.ensures.written h3) in
-    let s4 = making.sync_shut D.honest D.bytes D.unsynced D.moment D.left_since m.present m.only_now c.args.size d0 d3 d4 s3 64 1 (omega arith) (c.write_synced-3.ensures.any_moment h3) (165 ∷ []) h4 (c.in_ok-write_synced-3.ensures.written h3) (c.in_ok-write_synced-3.ensures.settled h3) in
+    let s4 = making.sync_shut D.honest D.bytes D.unsynced D.moment D.left_since m.present m.only_now c.args.size d0 d3 d4 s3 64 1 (omega arith) (c.write_synced-3.ensures.any_moment h3) (OPEN ∷ []) h4 (c.in_ok-write_synced-3.ensures.written h3) (c.in_ok-write_synced-3.ensures.settled h3) in
     making.last_leaves D.honest D.bytes D.unsynced D.moment D.left_since m.present m.only_now c.args.size d0 d4 d5 s4 all (c.in_ok-write_synced-3.ensures.settled h3) (c.write_synced-4.ensures.any_moment h4)

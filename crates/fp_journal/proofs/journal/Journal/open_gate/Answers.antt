@@ -4,6 +4,7 @@ use Rattle.fp_journal.specs.declared.journal.Phase.TheVariants.{BodySynced}
 use Rattle.fp_journal.proofs.Holds.{written_within}
 use Rattle.fp_journal.proofs.Steps as steps
 use Rattle.fp_journal.proofs.journal.Journal.open_gate.Goals as goal
+use Rattle.fp_gate.specs.declared.gate.TheConstants.{OPEN}
 
 pub invariant_of-self : goal.invariant_of-self
 invariant_of-self g c =
@@ -45,7 +46,7 @@ pub returns-clause-beside : goal.returns-clause-beside
 returns-clause-beside g c =
     let D = g.D.Disk in let m = g.met.D.Disk in let w = c.open.ensures in let new = c.open.new.disk.disk in
     let is : phase_of c.self.inside.held ≡ BodySynced = ap (λ (k : JournalState g.row.D.Denot). k.phase) c.self.view_is ∙ c.requires in
-    rw (← c.self.view_is) (λ h. steps.gate_beside D.honest D.bytes D.unsynced D.moment D.left_since m.present m.only_now c.self.invariant.0 new is c.guarding-gate.result.at (search rules) h (written_within _ (165 ∷ []) (D.bytes new) _ (c.in_ok-open.ensures.written h)))
+    rw (← c.self.view_is) (λ h. steps.gate_beside D.honest D.bytes D.unsynced D.moment D.left_since m.present m.only_now c.self.invariant.0 new is c.guarding-gate.result.at (search rules) h (written_within _ (OPEN ∷ []) (D.bytes new) _ (c.in_ok-open.ensures.written h)))
 
 pub returns-clause-reads : goal.returns-clause-reads
 returns-clause-reads g c =
