@@ -175,15 +175,16 @@ fn crash(trial: &mut Trial, rest: &str) -> Result<Answer, TrialFault> {
             writes: &writes,
             rest: others,
         },
-    )
+    )?;
+    Ok(Answer::Done)
 }
 
 /// The disk is what a crash leaves of it.
-pub fn crash_as(trial: &mut Trial, choice: Choice<'_>) -> Result<Answer, TrialFault> {
+pub fn crash_as(trial: &mut Trial, choice: Choice<'_>) -> Result<(), AllocError> {
     let left = trial.take_disk().crash(choice)?;
     trial.put_disk(left);
     trial.is_failing = false;
-    Ok(Answer::Done)
+    Ok(())
 }
 
 fn calls(trial: &mut Trial) -> Result<Answer, TrialFault> {

@@ -46,7 +46,8 @@ fn create(trial: &mut Trial, rest: &str) -> Result<Answer, TrialFault> {
     }
 }
 
-fn open(trial: &mut Trial) -> Result<Answer, TrialFault> {
+/// `open`.
+pub fn open(trial: &mut Trial) -> Result<Answer, TrialFault> {
     let disk = trial.take_disk();
     match DurableSet::open(trial.alloc, disk) {
         Ok(set) => {

@@ -7,7 +7,6 @@ use crate::trial::{Answer, Trial, TrialFault};
 use crate::words::{FIRST_SEED, first_number, next_seed, number};
 use fp_commands::CommandFault;
 use fp_disk::{Choice, FailedWrite, Failing, Fill, MemoryDisk};
-use fp_recovery::DurableSet;
 use std::alloc::{AllocError, Global};
 use std::fmt::Write;
 
@@ -70,7 +69,7 @@ pub fn sweep(
             break;
         }
     }
-    tell_all(alloc, &found, out)?;
+    tell_all(&found, out)?;
     Ok(())
 }
 
@@ -78,7 +77,7 @@ pub fn sweep(
 fn row(
     alloc: Global,
     course: Course<'_>,
-    found: &mut Vec<(u64, Vec<u8>)>,
+    found: &mut Vec<(u64, String)>,
     out: &mut String,
 ) -> Result<bool, AllocError> {
     let (trial, stop) = run_to(alloc, course)?;
@@ -135,81 +134,63 @@ fn after_crash(
     course: Course<'_>,
     length: u64,
     rest: Fill,
-    found: &mut Vec<(u64, Vec<u8>)>,
+    found: &mut Vec<(u64, String)>,
     out: &mut String,
 ) -> Result<(), AllocError> {
     let (mut trial, _) = run_to(alloc, course)?;
-    let choice = Choice {
-        length,
-        writes: &[],
-        rest,
-    };
-    let left = trial.take_disk().crash(choice)?;
-    match DurableSet::open(alloc, left) {
-        Ok(set) => {
-            let revision = set.set().revision();
-            let document = set.set().document();
-            let _disk = set.into_disk();
-            let agrees = agrees(found, revision, document?)?;
-            tell_revision(revision, trial.told, agrees, out)
-        }
-        Err((fault, _disk)) => tell_fault(&fault.into(), out),
+    crash_as(
+        &mut trial,
+        Choice {
+            length,
+            writes: &[],
+            rest,
+        },
+    )?;
+    match step(&mut trial, "open")? {
+        Answer::Revision(revision) => tell_revision(&mut trial, revision, found, out),
+        Answer::Fault(CommandFault::Unformatted) => out.push_str(" -"),
+        answer => write!(out, " ({answer})"),
     }
+}
+
+fn tell_revision(
+    trial: &mut Trial,
+    revision: u64,
+    found: &mut Vec<(u64, String)>,
+    out: &mut String,
+) -> Result<(), AllocError> {
+    write!(out, " {revision}")?;
+    if revision < trial.told {
+        out.push_str(" LOST")?;
+    }
+    if let Answer::Text(document) = step(trial, "show")? {
+        if !agrees(found, revision, document)? {
+            out.push_str(" OTHER FLAGS")?;
+        }
+    }
+    Ok(())
 }
 
 // Whether each disk of this revision had the same document so far.
 fn agrees(
-    found: &mut Vec<(u64, Vec<u8>)>,
+    found: &mut Vec<(u64, String)>,
     revision: u64,
-    document: Vec<u8>,
+    document: String,
 ) -> Result<bool, AllocError> {
     for (other, shown) in found.iter() {
         if *other == revision {
-            return Ok(shown.as_slice() == document.as_slice());
+            return Ok(shown.as_str() == document.as_str());
         }
     }
     found.push((revision, document))?;
     Ok(true)
 }
 
-fn tell_revision(
-    revision: u64,
-    told: u64,
-    agrees: bool,
-    out: &mut String,
-) -> Result<(), AllocError> {
-    write!(out, " {revision}")?;
-    if revision < told {
-        out.push_str(" LOST")?;
-    }
-    if !agrees {
-        out.push_str(" OTHER FLAGS")?;
-    }
-    Ok(())
-}
-
-fn tell_fault(fault: &CommandFault, out: &mut String) -> Result<(), AllocError> {
-    match fault {
-        CommandFault::Unformatted => out.push_str(" -"),
-        fault => write!(out, " ({fault})"),
-    }
-}
-
-fn tell_all(alloc: Global, found: &[(u64, Vec<u8>)], out: &mut String) -> Result<(), AllocError> {
+fn tell_all(found: &[(u64, String)], out: &mut String) -> Result<(), AllocError> {
     for (revision, document) in found {
-        tell_found(alloc, *revision, document.as_slice(), out)?;
+        writeln!(out, "{revision} {document}")?;
     }
     Ok(())
-}
-
-fn tell_found(
-    alloc: Global,
-    revision: u64,
-    document: &[u8],
-    out: &mut String,
-) -> Result<(), AllocError> {
-    let document = String::from_utf8_lossy(alloc, document)?;
-    writeln!(out, "{revision} {document}")
 }
 
 // A put of one of eight keys, or a delete.
@@ -259,7 +240,7 @@ fn round(trial: &mut Trial, each: u64, seed: u64) -> Result<u64, TrialFault> {
     trial.set_failing(Failing::From(3 + seed % 48), FailedWrite::Half);
     let _revision = step(trial, "open")?;
     let seed = edits(trial, each, seed)?;
-    let _done = crash_as(
+    crash_as(
         trial,
         Choice {
             length: if seed / 8 % 2 == 0 { 0 } else { u64::MAX },
