@@ -1,4 +1,6 @@
 pub mod Changed
+pub mod Followed
+pub mod Tallying
 pub mod Kept
 pub mod Maps
 pub mod Runs

@@ -3,6 +3,7 @@ pub mod Document
 pub mod Edits
 pub mod Entries
 pub mod Flags
+pub mod Following
 pub mod Laws
 pub mod Line
 pub mod Log

@@ -8,7 +8,7 @@ ghost use Rattle.fp_edit.specs.Admits.{Admits, accepted, IsRefused, changed_at, 
 ghost use Rattle.fp_edit.specs.Document.{document};
 ghost use Rattle.fp_edit.specs.Entries.{entries_of};
 ghost use Rattle.fp_edit.specs.Edits.{put, delete, proposal_of};
-ghost use Rattle.fp_edit.specs.Flags.{IsChangedBy, size as size_of};
+ghost use Rattle.fp_edit.specs.Flags.{IsChangedBy, cost_found, size as size_of};
 ghost use Rattle.fp_edit.specs.declared.flags.Flag.{Flag};
 
 use crate::document::document_of;
@@ -245,6 +245,13 @@ impl FlagSet {
             return Some(EditFault::RevisionsUsed);
         }
         None
+    }
+
+    // What the key's flag takes in the image, 0 without one.
+    pub(crate) fn cost_at(&self, key: &FlagKey) -> u128
+        ensures { result ≡ cost_found (key_bytes key.now) (map.get self.now.flags (key_bytes key.now)) }
+    {
+        cost_at(&self.flags, key)
     }
 
     fn changed(&self, key: &FlagKey) -> Option<u64>

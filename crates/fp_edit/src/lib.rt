@@ -6,12 +6,15 @@ mod document;
 mod edit;
 mod flag_set;
 mod flags;
+mod following;
 mod laws;
 mod line;
+mod tally;
 
 pub use edit::{Edit, EditFault, Expect, REVISIONS_END};
 pub use flag_set::{FlagSet, MOST_FLAGS};
 pub use flags::Flag;
+pub use following::copies_of;
 pub use laws::{
     one_outcome, refusals_leave_no_trace, revisions_count_edits, sets_keep_their_limit,
 };

@@ -1,0 +1,31 @@
+-- Changes that follow one another, whatever their editors expected.
+use Rattle.std.specs.Prelude.{◌≡◌, ℕ, List, [], ◌∷◌, map, None}
+use Rattle.std.specs.FinMap as fin
+use Rattle.fp_edit.specs.Admits.{next, refusal}
+use Rattle.fp_edit.specs.Edits.{Change, Proposal, proposal_of}
+use Rattle.fp_edit.specs.Flags.{State, size}
+use Rattle.fp_edit.specs.declared.edit.Edit.{Edit}
+use Rattle.fp_edit.specs.declared.edit.Expect.TheVariants.{Any}
+
+-- edits without what their editors expected
+abbrev pub change_of : Edit → Change
+change_of edit = (proposal_of edit).change
+
+abbrev pub changes_of : List Edit → List Change
+changes_of edits = map change_of edits
+
+-- a change by an editor that expects nothing
+abbrev pub unconditional : Change → Proposal
+unconditional c = record { change = c; expect = Any }
+
+-- each change is accepted by the set that those before it left
+abbrev pub Follows : State → List Change → Type 0
+Follows s [] = Unit {0}
+Follows s (c ∷ cs) = (refusal s (unconditional c) ≡ None) × Follows (next s c) cs
+
+-- the numbers of a set that its limits bind
+pub record Tallies (limit revision count bytes : ℕ) (s : State) : Type 0 where
+  pub limit_is : limit ≡ s.limit
+  pub revision_is : revision ≡ s.revision
+  pub count_is : count ≡ fin.len s.flags
+  pub size_is : bytes ≡ size s.flags

@@ -1,0 +1,44 @@
+-- Changes in a batch: how long it is, whether a journal has room for it, and the code of a change.
+use Rattle.std.specs.Prelude.{◌≡◌, ◌+◌, ◌<◌, ◌≤◌, ℕ, List, [], length, Bool, true, false, refl}
+use Rattle.std.specs.Coded.{Coded, coded×, coded_ℕ, coded_list, coded_bool, code_by}
+use Rattle.std.specs.List.{sum_by}
+use Rattle.fp_edit.specs.Edits.{Change, put, delete}
+use Rattle.fp_edit.specs.Flags.{State}
+use Rattle.fp_edit.specs.Following.{Follows}
+use Rattle.fp_journal.specs.State.{JournalState, room}
+use Rattle.fp_record.specs.Group.{Group}
+use Rattle.fp_record.specs.Spelling.{spelling_of_change}
+
+-- the length of a batch's body
+abbrev pub batch_len : Group → ℕ
+batch_len group = 10 + sum_by (λ c. length (spelling_of_change c)) group.changes
+
+-- 1 to 64 changes, a body as short as its slot takes, and room for it, the number of its length and its two gates
+pub record HasRoom {D : Type 0} (journal : JournalState D) (group : Group) : Type 0 where
+  pub some : 0 < length group.changes
+  pub few : length group.changes ≤ 64
+  pub short : batch_len group ≤ journal.slot.most
+  pub room : batch_len group + 6 ≤ room journal
+
+-- the group's first revision is the next one, and its changes are accepted one after another
+abbrev pub GoesOn : State → Group → Type 0
+GoesOn s group = (group.first ≡ s.revision + 1) × Follows s group.changes
+
+-- ---- a change as numbers
+abbrev parts : Change → Bool × (List ℕ × List ℕ)
+parts (put k text) = (true, (k, text))
+parts (delete k) = (false, (k, []))
+
+abbrev of_parts : Bool × (List ℕ × List ℕ) → Change
+of_parts (true, rest) = put rest.0 rest.1
+of_parts (false, rest) = delete rest.0
+
+pub parts_back : (c : Change) → of_parts (parts c) ≡ c
+parts_back (put k text) = refl
+parts_back (delete k) = refl
+
+abbrev coded_parts : Coded (Bool × (List ℕ × List ℕ))
+coded_parts = coded× coded_bool (coded× (coded_list coded_ℕ) (coded_list coded_ℕ))
+
+abbrev pub coded_change : Coded Change
+coded_change = code_by (Bool × (List ℕ × List ℕ)) coded_parts parts of_parts parts_back

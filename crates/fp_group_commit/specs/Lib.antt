@@ -1,0 +1,5 @@
+pub mod Changes
+pub mod Tokens
+pub mod Store
+pub mod Calls
+pub mod Sound

@@ -1,0 +1,153 @@
+//! A batch on its way, by four calls with one call of the disk each.
+
+ghost use Rattle.std.specs.Prelude.{◌≡◌, ◌+◌, ◌++◌, ◌↔◌, [], ◌∷◌, List, ℕ, IfOk, IfErr, OnOk};
+ghost use Rattle.fp_disk.specs.History.{Makes};
+ghost use Rattle.fp_disk.specs.Outcomes.{IsOutcome, LeavesOnly};
+ghost use Rattle.fp_disk.specs.declared.history.CallKind.TheVariants.{Sync, Write};
+ghost use Rattle.fp_journal.specs.declared.journal.Phase.TheVariants.{Idle, Staged, BodySynced, GateOpened};
+ghost use Rattle.fp_group_commit.specs.Calls.{FailsBy, MovesTo, RefusesBy, SameStore};
+ghost use Rattle.fp_group_commit.specs.Changes.{GoesOn, HasRoom};
+ghost use Rattle.fp_group_commit.specs.Store.{Leaves, kept};
+
+use crate::draw::{Draw, InDraw, ready};
+use crate::fault::StoreFault;
+use crate::part::Part;
+use crate::receipt::Receipt;
+use crate::store::Store;
+use fp_disk::Disk;
+use fp_journal::Phase;
+use std::mem;
+
+impl<D: Disk> Store<D> {
+    /// Writes the batch behind the closed gate. All memory of the batch is taken here.
+    pub fn stage(&mut self, draw: Draw) -> Result<(), (StoreFault, Draw)>
+        requires idle { self.old.step ≡ Idle }
+        requires room { HasRoom self.old.journal draw }
+        ensures same { (self.new.store ≡ self.old.store) × (self.new.sealed ≡ self.old.sealed) }
+        ensures ok { OnOk result (MovesTo D.faults Staged self.old self.new) }
+        ensures staged { OnOk result (self.new.staged ≡ draw.changes) }
+        ensures goes_on { OnOk result (GoesOn (kept self.old) draw) }
+        ensures fault { IfErr result (λ e. RefusesBy D.faults self.old self.new draw e.0) }
+        ensures given_back { IfErr result (λ e. e.1 ≡ draw) }
+        ensures called { Makes (Write ∷ []) (D.calls self.old.journal.disk)
+            (D.calls self.new.journal.disk) result }
+        ensures any_moment { D.honest self.old.journal.disk →
+            LeavesOnly D.moment D.left_since self.old.journal.disk self.new.journal.disk
+            (Leaves self.old) }
+        ensures exit { D.honest self.new.journal.disk → (c : List ℕ) →
+            IsOutcome (D.unsynced self.new.journal.disk) c → Leaves self.new c }
+        ensures honest { D.honest self.old.journal.disk ↔ D.honest self.new.journal.disk }
+    {
+        if let Phase::Failed = self.journal.phase() {
+            return Err((StoreFault::Failed, draw));
+        }
+        let most = self.journal.slot().most;
+        let (framed, copies) = match ready(
+            self.alloc,
+            most,
+            &mut self.set,
+            &mut self.ahead,
+            &draw,
+        ) {
+            Ok(ready) => ready,
+            Err(fault) => return Err((fault, draw)),
+        };
+        let Ok(()) = self.journal.stage(framed) else {
+            return Err((StoreFault::Device, draw));
+        };
+        self.batch = draw;
+        self.copies = copies;
+        self.step = Phase::Staged;
+        Ok(())
+    }
+
+    /// Makes sure of the batch.
+    pub fn sync_body(&mut self) -> Result<(), StoreFault>
+        requires { self.old.step ≡ Staged }
+        ensures same { SameStore self.old self.new }
+        ensures ok { OnOk result (MovesTo D.faults BodySynced self.old self.new) }
+        ensures fault { IfErr result (FailsBy D.faults self.old self.new) }
+        ensures called { Makes (Sync ∷ []) (D.calls self.old.journal.disk)
+            (D.calls self.new.journal.disk) result }
+        ensures any_moment { D.honest self.old.journal.disk →
+            LeavesOnly D.moment D.left_since self.old.journal.disk self.new.journal.disk
+            (Leaves self.old) }
+        ensures exit { D.honest self.new.journal.disk → (c : List ℕ) →
+            IsOutcome (D.unsynced self.new.journal.disk) c → Leaves self.new c }
+        ensures honest { D.honest self.old.journal.disk ↔ D.honest self.new.journal.disk }
+    {
+        if let Phase::Failed = self.journal.phase() {
+            return Err(StoreFault::Failed);
+        }
+        let Ok(synced) = self.journal.sync() else {
+            return Err(StoreFault::Device);
+        };
+        self.journal.body_synced(synced);
+        self.step = Phase::BodySynced;
+        Ok(())
+    }
+
+    /// Opens the gate in front of the batch.
+    pub fn open_gate(&mut self) -> Result<(), StoreFault>
+        requires { self.old.step ≡ BodySynced }
+        ensures same { SameStore self.old self.new }
+        ensures ok { OnOk result (MovesTo D.faults GateOpened self.old self.new) }
+        ensures fault { IfErr result (FailsBy D.faults self.old self.new) }
+        ensures called { Makes (Write ∷ []) (D.calls self.old.journal.disk)
+            (D.calls self.new.journal.disk) result }
+        // This call begins to open the gate, so what it leaves is said of the store after it.
+        ensures any_moment { D.honest self.old.journal.disk →
+            LeavesOnly D.moment D.left_since self.old.journal.disk self.new.journal.disk
+            (Leaves self.new) }
+        ensures exit { D.honest self.new.journal.disk → (c : List ℕ) →
+            IsOutcome (D.unsynced self.new.journal.disk) c → Leaves self.new c }
+        ensures honest { D.honest self.old.journal.disk ↔ D.honest self.new.journal.disk }
+    {
+        if let Phase::Failed = self.journal.phase() {
+            return Err(StoreFault::Failed);
+        }
+        let Ok(()) = self.journal.open_gate() else {
+            return Err(StoreFault::Device);
+        };
+        self.step = Phase::GateOpened;
+        Ok(())
+    }
+
+    /// Makes sure of the gate: the batch is sealed, and this is its receipt.
+    pub fn sync_gate(&mut self) -> Result<Receipt, StoreFault>
+        requires { self.old.step ≡ GateOpened }
+        ensures store { self.new.store ≡ self.old.store }
+        ensures ok { OnOk result (MovesTo D.faults Idle self.old self.new) }
+        ensures sealed { OnOk result (self.new.sealed ≡ self.old.sealed ++ self.old.staged) }
+        ensures receipt { IfOk result (λ r. (r.store ≡ self.new.store) × (r.edits ≡ self.new.sealed)) }
+        ensures batch { IfOk result (λ r. (r.batch.changes ≡ self.old.staged)
+            × (r.batch.first ≡ (kept self.old).revision + 1)) }
+        ensures err { IfErr result (λ _. SameStore self.old self.new) }
+        ensures fault { IfErr result (FailsBy D.faults self.old self.new) }
+        ensures called { Makes (Sync ∷ []) (D.calls self.old.journal.disk)
+            (D.calls self.new.journal.disk) result }
+        ensures any_moment { D.honest self.old.journal.disk →
+            LeavesOnly D.moment D.left_since self.old.journal.disk self.new.journal.disk
+            (Leaves self.old) }
+        ensures exit { D.honest self.new.journal.disk → (c : List ℕ) →
+            IsOutcome (D.unsynced self.new.journal.disk) c → Leaves self.new c }
+        ensures honest { D.honest self.old.journal.disk ↔ D.honest self.new.journal.disk }
+    {
+        if let Phase::Failed = self.journal.phase() {
+            return Err(StoreFault::Failed);
+        }
+        let Ok(synced) = self.journal.sync() else {
+            return Err(StoreFault::Device);
+        };
+        let _ = self.journal.gate_synced(synced);
+        self.step = Phase::Idle;
+        mem::swap(&mut self.ahead, &mut self.copies);
+        let front = self.sealed.lengthen::<Draw, InDraw>(&self.batch);
+        let none = Draw::new(0, Vec::new(self.alloc));
+        let draw = mem::replace(&mut self.batch, none);
+        Ok(Receipt {
+            draw,
+            part: Part::new(self.origin.again(), front),
+        })
+    }
+}

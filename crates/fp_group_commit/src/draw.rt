@@ -1,0 +1,154 @@
+//! Groups of edits that are to be sealed together.
+
+ghost use Rattle.std.specs.Prelude.{◌≡◌, ◌<◌, ◌≤◌, ◌+◌, ◌↔◌, length, IfOk, IfErr, OnOk, IsTrue};
+ghost use Rattle.fp_edit.specs.Following.{Follows, changes_of};
+ghost use Rattle.fp_edit.specs.Log.{after_all};
+ghost use Rattle.fp_edit.specs.declared.edit.TheConstants.{REVISIONS_END};
+ghost use Rattle.fp_record.specs.declared.batch.TheConstants.{MOST_EDITS};
+ghost use Rattle.fp_record.specs.Lawful.{IsBatch};
+ghost use Rattle.fp_record.specs.Spelling.{spelling_of_batch};
+ghost use Rattle.fp_group_commit.specs.Calls.{IsStrange};
+ghost use Rattle.fp_group_commit.specs.Changes.{GoesOn, HasRoom, batch_len};
+
+use crate::fault::StoreFault;
+use crate::part::Applied;
+use fp_disk::Disk;
+use fp_edit::{Edit, FlagSet, copies_of};
+use fp_fronts::Lists;
+use fp_journal::{Framed, Journal};
+use fp_record::{Batch, MOST_EDITS, spelled_len};
+use std::alloc::{AllocError, Global};
+use std::collections::VecDeque;
+use std::marker::Model;
+
+/// Edits under consecutive revisions.
+#[derive(Drop)]
+pub struct Draw {
+    pub(crate) first: u64,
+    pub(crate) edits: Vec<Edit>,
+}
+
+impl Model for Draw {
+    ghost use Rattle.fp_record.specs.Group.{Group};
+    ghost use Rattle.fp_edit.specs.Following.{changes_of};
+
+    ghost Value = { Group };
+
+    ghost view = { λ d. record { first = d.first; changes = changes_of d.edits.items } };
+}
+
+// What a draw adds to the list of sealed edits.
+pub(crate) struct InDraw;
+
+impl Lists<Draw, Applied> for InDraw {
+    ghost items = { λ d. d.changes };
+}
+
+impl Draw {
+    /// These edits, the first of which makes the revision `first`.
+    pub fn new(first: u64, edits: Vec<Edit>) -> Draw
+        ensures { result ≡ record { first = first; changes = changes_of edits.items } }
+    {
+        Draw { first, edits }
+    }
+
+    /// The revision of the first edit.
+    pub fn first(&self) -> u64
+        ensures { result ≡ self.now.first }
+    {
+        self.first
+    }
+
+    /// The edits.
+    pub fn edits(&self) -> &[Edit]
+        ensures { changes_of result.now ≡ self.now.changes }
+    {
+        &self.edits
+    }
+
+    /// How many edits there are.
+    pub fn len(&self) -> usize
+        ensures { result ≡ length self.now.changes }
+    {
+        self.edits.len()
+    }
+}
+
+/// How many bytes the edits take in a batch's body, where they aren't many.
+pub fn spelled_sum(edits: &[Edit]) -> u64
+    requires { length edits.now ≤ MOST_EDITS }
+    ensures { result ≡ batch_len (record { first = 0; changes = changes_of edits.now }) }
+{
+    let mut sum = 10;
+    for edit in edits {
+        sum += spelled_len(edit) as u64;
+    }
+    sum
+}
+
+// Whether the journal takes the draw as its next batch.
+pub(crate) fn has_room<D: Disk>(journal: &Journal<D>, draw: &Draw) -> bool
+    ensures { IsTrue result ↔ HasRoom journal.now draw.now }
+{
+    if draw.edits.len() == 0 || draw.edits.len() > MOST_EDITS {
+        return false;
+    }
+    let len = spelled_sum(&draw.edits);
+    len <= u64::from(journal.slot().most) && len + 6 <= journal.room()
+}
+
+// The batch as it is written, and its edits once more.
+fn framed(alloc: Global, most: u32, draw: &Draw) -> Result<(Framed, VecDeque<Edit>), AllocError>
+    requires some { 0 < length draw.now.changes }
+    requires few { length draw.now.changes ≤ MOST_EDITS }
+    requires revisions { draw.now.first + length draw.now.changes ≤ REVISIONS_END }
+    requires small { batch_len draw.now ≤ most }
+    ensures lawful { IfOk result (λ _. IsBatch draw.now) }
+    ensures spelled { IfOk result (λ r. r.0 ≡ spelling_of_batch draw.now) }
+    ensures copied { IfOk result (λ r. changes_of r.1.items ≡ draw.now.changes) }
+{
+    // A parameter is known to be within its type.
+    let _ = most;
+    let batch = Batch::new(draw.first, copies_of(alloc, &draw.edits)?);
+    let body = batch.encode(alloc)?;
+    let framed = Framed::new(alloc, &body)?;
+    Ok((framed, VecDeque::from(batch.into_edits())))
+}
+
+// Takes into the set what is ahead of it, and all memory of the draw, where it goes on from there.
+pub(crate) fn ready(
+    alloc: Global,
+    most: u32,
+    set: &mut FlagSet,
+    ahead: &mut VecDeque<Edit>,
+    draw: &Draw,
+) -> Result<(Framed, VecDeque<Edit>), StoreFault>
+    requires follows { Follows set.old (changes_of ahead.old.items) }
+    requires some { 0 < length draw.now.changes }
+    requires few { length draw.now.changes ≤ MOST_EDITS }
+    requires small { batch_len draw.now ≤ most }
+    ensures same { after_all set.new (changes_of ahead.new.items)
+        ≡ after_all set.old (changes_of ahead.old.items) }
+    ensures follows { Follows set.new (changes_of ahead.new.items) }
+    ensures done { OnOk result (length ahead.new.items ≡ 0) }
+    ensures goes_on { OnOk result (GoesOn (after_all set.old (changes_of ahead.old.items)) draw.now) }
+    ensures lawful { OnOk result (IsBatch draw.now) }
+    ensures spelled { IfOk result (λ r. r.0 ≡ spelling_of_batch draw.now) }
+    ensures copied { IfOk result (λ r. changes_of r.1.items ≡ draw.now.changes) }
+    ensures fault { IfErr result
+        (IsStrange (after_all set.old (changes_of ahead.old.items)) draw.now) }
+{
+    if set.catch_up(ahead).is_err() {
+        return Err(StoreFault::Memory);
+    }
+    if draw.first != set.revision() + 1 {
+        return Err(StoreFault::Stranger);
+    }
+    if !set.accepts(&draw.edits) {
+        return Err(StoreFault::Stranger);
+    }
+    let Ok(framed) = framed(alloc, most, draw) else {
+        return Err(StoreFault::Memory);
+    };
+    Ok(framed)
+}

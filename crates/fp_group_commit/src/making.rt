@@ -1,0 +1,127 @@
+//! Stores on new disks and on disks that kept edits before.
+
+ghost use Rattle.std.specs.Prelude.{◌≡◌, ◌≢◌, ◌<◌, ◌↔◌, ◌++◌, [], ◌∷◌, List, ℕ, length, IfOk, IfErr, IsOk, MatchResult};
+ghost use Rattle.fp_disk.specs.History.{MakesSome};
+ghost use Rattle.fp_disk.specs.Outcomes.{IsOutcome, LeavesOnly, settled};
+ghost use Rattle.fp_disk.specs.declared.history.CallKind.TheVariants.{Length, Read, Sync};
+ghost use Rattle.fp_edit.specs.Flags.{State};
+ghost use Rattle.fp_layout.specs.NewDisk.{format_calls};
+ghost use Rattle.fp_layout.specs.Size.{IsSlotSize};
+ghost use Rattle.fp_layout.specs.declared.fault.OpenFault.TheVariants as opening;
+ghost use Rattle.fp_recovery.specs.Durable.{IsNewSetOrNone, IsSure};
+ghost use Rattle.fp_recovery.specs.Refusals.{IsUnlessWanting, RefusesBytes};
+ghost use Rattle.fp_recovery.specs.Stands.{StandsFor};
+ghost use Rattle.fp_group_commit.specs.Store.{IsFresh, new_set};
+ghost use Rattle.fp_group_commit.specs.declared.fault.CreateFault.TheVariants.{NotEmpty, BadSize, Device};
+
+use crate::fault::CreateFault;
+use crate::opening::Opening;
+use crate::store::Store;
+use fp_disk::Disk;
+use fp_edit::FlagSet;
+use fp_layout::{CreateFault as LayoutFault, OpenFault, SlotSize};
+use fp_recovery::Restoring;
+use std::alloc::Global;
+
+// Why a disk isn't made where the size of its slots is none.
+fn refusal_of_size<D: Disk>(disk: &mut D) -> CreateFault
+    ensures not_empty { D.honest disk.old → result ≡ NotEmpty → D.bytes disk.old ≢ [] }
+    ensures bad_size { D.honest disk.old → result ≡ BadSize → D.bytes disk.old ≡ [] }
+    ensures same { D.honest disk.old → (D.bytes disk.new ≡ D.bytes disk.old)
+        × (D.unsynced disk.new ≡ D.unsynced disk.old) }
+    ensures any_moment { D.honest disk.old →
+        LeavesOnly D.moment D.left_since disk.old disk.new (IsOutcome (D.unsynced disk.old)) }
+    ensures honest { D.honest disk.old ↔ D.honest disk.new }
+    ensures called { D.calls disk.new ≡ D.calls disk.old ++ Length ∷ [] }
+    ensures cause { result ≡ Device → D.faults disk.old < D.faults disk.new }
+{
+    match disk.len() {
+        Ok(0) => CreateFault::BadSize,
+        Ok(_) => CreateFault::NotEmpty,
+        Err(_) => CreateFault::Device,
+    }
+}
+
+impl<D: Disk> Store<D> {
+    /// Makes an empty disk one that keeps no flags, at revision 0, in slots of this size.
+    pub fn create(
+        alloc: Global,
+        mut disk: D,
+        size: u64,
+    ) -> Result<(Store<D>, Opening), (CreateFault, D)>
+        ensures allowed { IfOk result (λ _. IsSlotSize size) }
+        ensures empty { D.honest disk → IsOk result → D.bytes disk ≡ [] }
+        ensures fresh { IfOk result (λ r. IsFresh r.0 (new_set size)) }
+        ensures opening { IfOk result (λ r. r.1 ≡ r.0.store) }
+        ensures sure { D.honest disk →
+            IfOk result (λ r. IsSure (D.unsynced r.0.journal.disk) (new_set size)) }
+
+        ensures not_empty { D.honest disk → IfErr result (λ e. e.0 ≡ NotEmpty →
+            (D.bytes disk ≢ []) × (D.unsynced e.1 ≡ D.unsynced disk)) }
+        ensures bad_size { D.honest disk → IfErr result (λ e. e.0 ≡ BadSize →
+            (D.bytes disk ≡ []) × (D.unsynced e.1 ≡ D.unsynced disk)) }
+        ensures no_size { IfErr result (λ e. e.0 ≡ BadSize → IsSlotSize size → ⊥) }
+        ensures cause { IfErr result (λ e. e.0 ≡ Device → D.faults disk < D.faults e.1) }
+
+        // A crash at any moment leaves what opening calls no disk, or one that stands for no flags.
+        ensures any_moment { D.honest disk → D.unsynced disk ≡ settled [] → MatchResult result
+            (λ r. LeavesOnly D.moment D.left_since disk r.0.journal.disk (IsNewSetOrNone size))
+            (λ e. LeavesOnly D.moment D.left_since disk e.1 (IsNewSetOrNone size)) }
+        ensures called { MatchResult result
+            (λ r. D.calls r.0.journal.disk ≡ D.calls disk ++ Length ∷ format_calls)
+            (λ e. MakesSome (Length ∷ format_calls) (D.calls disk) (D.calls e.1)) }
+        ensures honest { MatchResult result (λ r. D.honest disk ↔ D.honest r.0.journal.disk)
+            (λ e. D.honest disk ↔ D.honest e.1) }
+    {
+        let Some(size) = SlotSize::new(size) else {
+            return Err((refusal_of_size(&mut disk), disk));
+        };
+        let journal = match fp_layout::create(alloc, disk, size) {
+            Ok(journal) => journal,
+            Err((LayoutFault::NotEmpty, disk)) => return Err((CreateFault::NotEmpty, disk)),
+            Err((LayoutFault::Device, disk)) => return Err((CreateFault::Device, disk)),
+            Err((LayoutFault::Memory, disk)) => return Err((CreateFault::Memory, disk)),
+        };
+        let limit = size.bytes() / 2;
+        let set = FlagSet::new(alloc, limit);
+        Ok(Store::adopt(alloc, set, FlagSet::new(alloc, limit), journal))
+    }
+
+    /// Goes on from what a disk stands for. It syncs before it reads, and writes nothing.
+    pub fn open(alloc: Global, disk: D) -> Result<(Store<D>, Opening), (OpenFault, D)>
+        ensures stands { D.honest disk →
+            IfOk result (λ r. StandsFor (D.bytes disk) r.0.store.start) }
+        ensures only { D.honest disk → IfOk result (λ r. (other : State) →
+            StandsFor (D.bytes disk) other → other ≡ r.0.store.start) }
+        ensures fresh { IfOk result (λ r. IsFresh r.0 r.0.store.start) }
+        ensures opening { IfOk result (λ r. r.1 ≡ r.0.store) }
+
+        // Bytes that no sync made sure of are none to open: each outcome stands for the set now.
+        ensures sure { D.honest disk →
+            IfOk result (λ r. IsSure (D.unsynced r.0.journal.disk) r.0.store.start) }
+
+        ensures fault { D.honest disk → IfErr result (λ e. RefusesBytes (D.bytes disk) e.0) }
+        ensures refused { D.honest disk → IfErr result (λ e. IsUnlessWanting (D.bytes disk) e.0) }
+        ensures calm { IfOk result (λ r. D.faults r.0.journal.disk ≡ D.faults disk) }
+        ensures cause { IfErr result (λ e. e.0 ≡ opening.Device → D.faults disk < D.faults e.1) }
+        ensures called { MatchResult result
+            (λ r. D.calls r.0.journal.disk ≡ D.calls disk ++ Sync ∷ Length ∷ Read ∷ [])
+            (λ e. MakesSome (Sync ∷ Length ∷ Read ∷ []) (D.calls disk) (D.calls e.1)) }
+        ensures same { D.honest disk → MatchResult result
+            (λ r. D.bytes r.0.journal.disk ≡ D.bytes disk) (λ e. D.bytes e.1 ≡ D.bytes disk) }
+        ensures any_moment { D.honest disk → MatchResult result
+            (λ r. LeavesOnly D.moment D.left_since disk r.0.journal.disk
+            (IsOutcome (D.unsynced disk)))
+            (λ e. LeavesOnly D.moment D.left_since disk e.1 (IsOutcome (D.unsynced disk))) }
+        ensures honest { MatchResult result (λ r. D.honest disk ↔ D.honest r.0.journal.disk)
+            (λ e. D.honest disk ↔ D.honest e.1) }
+    {
+        let mut restoring = Restoring::new(alloc);
+        let journal = fp_layout::open(alloc, disk, &mut restoring)?;
+        let set = restoring.into_set();
+        let Ok(own) = set.try_copy() else {
+            return Err((OpenFault::Memory, journal.into_disk()));
+        };
+        Ok(Store::adopt(alloc, set, own, journal))
+    }
+}

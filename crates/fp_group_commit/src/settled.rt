@@ -1,0 +1,131 @@
+//! What of a store's edits is told.
+
+ghost use Rattle.std.specs.Prelude.{◌≡◌, ◌<◌, ◌+◌, ◌^◌, ◌++◌, [], length};
+ghost use Rattle.fp_edit.specs.Following.{changes_of};
+ghost use Rattle.fp_group_commit.specs.Tokens.{front_revision};
+
+use crate::opening::Opening;
+use crate::part::Part;
+use crate::receipt::Receipt;
+use fp_edit::{Edit, FlagSet};
+use std::marker::Model;
+
+/// The right to tell what is settled. It comes from an opening, and goes on by receipts alone.
+#[derive(Drop)]
+pub struct Settled {
+    revision: u64,
+    part: Part,
+}
+
+impl Model for Settled {
+    ghost use Rattle.std.specs.Coded.{codes};
+    ghost use Rattle.std.specs.Prelude.{◌≡◌};
+    ghost use Rattle.fp_edit.specs.Flags.{coded_state};
+    ghost use Rattle.fp_group_commit.specs.Changes.{coded_change};
+    ghost use Rattle.fp_group_commit.specs.Tokens.{FrontState, front_revision};
+
+    ghost Value = { FrontState };
+
+    ghost coded = { Prim.hlevel (codes, coded_state, coded_change) };
+
+    ghost view = { λ s. s.part };
+
+    ghost invariant = { λ s. s.revision ≡ front_revision s.part };
+}
+
+/// That these edits are settled.
+#[derive(Drop)]
+pub struct Told {
+    revision: u64,
+    part: Part,
+}
+
+impl Model for Told {
+    ghost use Rattle.std.specs.Coded.{codes};
+    ghost use Rattle.std.specs.Prelude.{◌≡◌};
+    ghost use Rattle.fp_edit.specs.Flags.{coded_state};
+    ghost use Rattle.fp_group_commit.specs.Changes.{coded_change};
+    ghost use Rattle.fp_group_commit.specs.Tokens.{FrontState, front_revision};
+
+    ghost Value = { FrontState };
+
+    ghost coded = { Prim.hlevel (codes, coded_state, coded_change) };
+
+    ghost view = { λ s. s.part };
+
+    ghost invariant = { λ s. s.revision ≡ front_revision s.part };
+}
+
+impl Told {
+    /// The last revision that is settled.
+    pub fn revision(&self) -> u64
+        ensures { result ≡ front_revision self.now }
+    {
+        let _ = &self.part;
+        self.revision
+    }
+
+    pub(crate) fn part(&self) -> &Part
+        ensures { result.now ≡ self.now }
+    {
+        &self.part
+    }
+}
+
+impl Settled {
+    /// Nothing is settled yet.
+    pub fn of(opening: Opening) -> (FlagSet, Settled)
+        ensures set { result.0 ≡ opening.start }
+        ensures settled { (result.1.store ≡ opening) × (result.1.edits ≡ []) }
+    {
+        let Opening { set, part } = opening;
+        let settled = Settled {
+            revision: set.revision(),
+            part,
+        };
+        (set, settled)
+    }
+
+    /// Gives back the opening that it came from, where nothing was settled.
+    pub fn into_opening(self, set: FlagSet) -> Opening
+        requires nothing { self.edits ≡ [] }
+        requires set { set ≡ self.store.start }
+        ensures { result ≡ self.store }
+    {
+        Opening::new(set, self.part)
+    }
+
+    /// The last revision that is settled.
+    pub fn revision(&self) -> u64
+        ensures { result ≡ front_revision self.now }
+    {
+        let _ = &self.part;
+        self.revision
+    }
+
+    /// Spends a receipt for the batch that comes next, and gives back its edits.
+    pub fn advance(&mut self, receipt: Receipt) -> Vec<Edit>
+        requires store { receipt.store ≡ self.old.store }
+        requires next { receipt.batch.first ≡ front_revision self.old + 1 }
+        ensures store { self.new.store ≡ self.old.store }
+        ensures edits { self.new.edits ≡ self.old.edits ++ receipt.batch.changes }
+        ensures all { self.new.edits ≡ receipt.edits }
+        ensures batch { changes_of result.items ≡ receipt.batch.changes }
+    {
+        let Receipt { draw, part } = receipt;
+        self.part.meets(&part);
+        self.revision += draw.edits.len() as u64;
+        self.part = part;
+        draw.edits
+    }
+
+    /// Tells what is settled.
+    pub fn tell(&self) -> Told
+        ensures { result ≡ self.now }
+    {
+        Told {
+            revision: self.revision,
+            part: self.part.again(),
+        }
+    }
+}
