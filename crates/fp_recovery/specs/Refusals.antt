@@ -23,7 +23,7 @@ RefusesBatch s bytes at = (t : State) → TakesBatch s bytes t → ⊥
 abbrev pub nothing_read : State
 nothing_read = record { flags = map.empty; revision = 0; limit = 0 }
 
--- why these bytes can't be opened, and at which place it shows
+-- why these bytes can't be opened. Inside an image or a batch it says that no set stands there, and of the place only that it lies inside
 abbrev pub RefusesBytes : List ℕ → OpenFault → Type 0
 RefusesBytes c fault = RefusesDisk BeginsWith RejectsImage TakesBatch RefusesBatch c nothing_read fault
 
