@@ -1,0 +1,84 @@
+-- Edits of two queues, one by one.
+use Rattle.std.proofs.Common.{◌≡◌, ◌<◌, ◌≤◌, ◌+◌, ◌*◌, ℕ, zero, suc, List, [], ◌∷◌, ◌++◌, ◌⊎◌, inl, inr, ⊎_elim, length, take, drop, get_or, refl, sym, ap, ◌∙◌, arith}
+use Rattle.std.proofs.lemmas.List.{length-map, take_at, drop_at}
+use Rattle.std.proofs.lemmas.List.Sums.{sum_by-append, sum_by-cons}
+use Rattle.fp_record.specs.declared.batch.TheConstants.{LONGEST_EDIT, MOST_EDITS}
+use Rattle.fp_record.specs.Group.{Group}
+use Rattle.fp_record.specs.Spelling.{spelling_of_change}
+use Rattle.fp_group_commit.specs.Changes.{batch_len}
+use Rattle.fp_desk.specs.Desk.{IsLongestPart}
+use Rattle.fp_edit.specs.Edits.{Change}
+use Rattle.fp_edit.specs.declared.edit.Edit.{Edit}
+use Rattle.fp_edit.specs.Following.{change_of, changes_of}
+use Rattle.fp_edit.proofs.Followed.{all_taken, taken_more}
+
+pub same_at : (xs ys : List Edit) (i : ℕ) (x y : Edit) → i < length xs → x ≡ get_or xs i x → y ≡ get_or ys i y → changes_of xs ≡ changes_of ys → change_of x ≡ change_of y
+same_at [] ys i x y lt p q e = absurd (omega (arith, lt))
+same_at (a ∷ xs) [] i x y lt p q e = absurd (cc e)
+same_at (a ∷ xs) (b ∷ ys) zero x y lt p q e = let here : change_of a ≡ change_of b = cc e in ap change_of p ∙ here ∙ sym (ap change_of q)
+same_at (a ∷ xs) (b ∷ ys) (suc i) x y lt p q e = same_at xs ys i x y (omega (arith, lt)) p q (cc e)
+
+pub same_more : (xs ys : List Edit) (i : ℕ) (x y : Edit) → i < length xs → i < length ys → x ≡ get_or xs i x → y ≡ get_or ys i y → changes_of (take i xs) ≡ changes_of (take i ys) → change_of x ≡ change_of y → changes_of (take (i + 1) xs) ≡ changes_of (take (i + 1) ys)
+same_more xs ys i x y lt lt' p q e one =
+    taken_more xs i x lt p ∙ ap (λ (l : List Change). l ++ change_of x ∷ []) e ∙ ap (λ (c : Change). changes_of (take i ys) ++ c ∷ []) one ∙ sym (taken_more ys i y lt' q)
+
+pub nil_of : (xs : List Edit) → length xs ≡ 0 → changes_of xs ≡ []
+nil_of [] h = refl
+nil_of (x ∷ xs) h = absurd (omega (arith, h))
+
+pub no_front : {A : Type 0} (xs ys : List A) → xs ++ ys ≡ [] → xs ≡ []
+no_front [] ys e = refl
+no_front (x ∷ xs) ys e = absurd cc
+
+-- ---- the longest part
+pub first_left : (xs : List Edit) (n : ℕ) (e : Edit) → n < length xs → e ≡ get_or xs n e → (c : Change) (more : List Change) → changes_of (drop n xs) ≡ c ∷ more → c ≡ change_of e
+first_left [] n e lt is c more h = absurd (omega (arith, lt))
+first_left (x ∷ xs) zero e lt is c more h = let here : change_of x ≡ c = cc h in sym here ∙ sym (ap change_of is)
+first_left (x ∷ xs) (suc n) e lt is c more h = first_left xs n e (omega (arith, lt)) is c more h
+
+pub taken_len : (xs : List Edit) (n : ℕ) → n ≤ length xs → length (changes_of (take n xs)) ≡ n
+taken_len xs n le = length-map (take n xs) change_of ∙ length-take_le n xs le
+  where
+    length-take_le : (n : ℕ) (xs : List Edit) → n ≤ length xs → length (take n xs) ≡ n
+    length-take_le zero xs le = refl
+    length-take_le (suc n) [] le = absurd (omega (arith, le))
+    length-take_le (suc n) (x ∷ xs) le = let rest = length-take_le n xs (omega (arith, le)) in omega (arith, rest)
+
+part_len : (cs : List Change) (c : Change) → batch_len (record { first = 0; changes = cs ++ c ∷ [] }) ≡ batch_len (record { first = 0; changes = cs }) + length (spelling_of_change c)
+part_len cs c =
+    let len : Change → ℕ = λ x. length (spelling_of_change x) in
+    let all = sum_by-append len cs (c ∷ []) in let one = sum_by-cons len c [] in omega (arith, all, one)
+
+module _ (xs : List Edit) (n most : ℕ) (some : 1 ≤ n) (le : n ≤ length xs) (few : n ≤ MOST_EDITS) (short : (n ≡ 1) ⊎ (batch_len (record { first = 0; changes = changes_of (take n xs) }) ≤ most)) (small : batch_len (record { first = 0; changes = changes_of (take n xs) }) ≤ 10 + LONGEST_EDIT * n) where
+  abbrev Part : Group
+  Part = record { first = 0; changes = changes_of (take n xs) }
+
+  pub part_by : (changes_of (drop n xs) ≡ []) ⊎ (length (changes_of (take n xs)) ≡ MOST_EDITS) ⊎ ((c : Change) (more : List Change) → changes_of (drop n xs) ≡ c ∷ more → most < batch_len (record { first = 0; changes = changes_of (take n xs) ++ c ∷ [] }))
+      → IsLongestPart most Part (changes_of xs) (changes_of (drop n xs))
+  part_by longest = let len = taken_len xs n le in record {
+    parts = all_taken xs n;
+    some = omega (arith, len, some);
+    few = omega (arith, len, few);
+    short = ⊎_elim (λ (one : n ≡ 1). inl (len ∙ one)) (λ (fits : batch_len Part ≤ most). inr fits) short;
+    fits = λ wide. ⊎_elim (λ (one : n ≡ 1). omega (arith, small, one, wide)) (λ (fits : batch_len Part ≤ most). fits) short;
+    longest = longest;
+  }
+
+  pub part_full : MOST_EDITS ≤ n → IsLongestPart most Part (changes_of xs) (changes_of (drop n xs))
+  part_full full = part_by (inr (inl (let len = taken_len xs n le in omega (arith, len, full, few))))
+
+  pub part_wide : (e : Edit) → n < length xs → e ≡ get_or xs n e → most < batch_len Part + length (spelling_of_change (change_of e)) → IsLongestPart most Part (changes_of xs) (changes_of (drop n xs))
+  part_wide e lt is wide = part_by (inr (inr (λ c more h.
+      let same : c ≡ change_of e = first_left xs n e lt is c more h in
+      let len = part_len (changes_of (take n xs)) c in let same_len = ap (λ (x : Change). length (spelling_of_change x)) same in
+      omega (arith, wide, len, same_len))))
+
+pub renumbered : (most first : ℕ) (cs waiting rest : List Change) → IsLongestPart most (record { first = 0; changes = cs }) waiting rest → IsLongestPart most (record { first = first; changes = cs }) waiting rest
+renumbered most first cs waiting rest p = record { parts = p.parts; some = p.some; few = p.few; short = p.short; fits = p.fits; longest = p.longest }
+
+-- the first edits were moved
+pub moved : (old xs ys zs : List Edit) (n : ℕ) → length old ≡ 0 → xs ++ ys ≡ old ++ zs → length xs ≡ length old + n → (xs ≡ take n zs) × (ys ≡ drop n zs) × (xs ++ ys ≡ zs)
+moved [] xs ys zs n none all count =
+    let len : length xs ≡ n = omega (arith, count, none) in
+    (sym (ap (λ (l : List Edit). take n l) (sym all) ∙ take_at xs ys n len), sym (ap (λ (l : List Edit). drop n l) (sym all) ∙ drop_at xs ys n len), all)
+moved (x ∷ old) xs ys zs n none all count = absurd (omega (arith, none))

@@ -1,0 +1,246 @@
+//! A desk.
+
+ghost use Rattle.std.specs.Prelude.{◌≡◌, ◌≢◌, ◌⊎◌, ◌<◌, ◌≤◌, ◌+◌, ◌++◌, ◌↔◌, [], ◌∷◌, List, ℕ, length, true, false, IfOk, IfErr, IfSome, IfNone, IsTrue, OnOk, OnErr};
+ghost use mathlib.Core.List.{IsPrefix};
+ghost use Rattle.fp_edit.specs.Edits.{Change, proposal_of};
+ghost use Rattle.fp_edit.specs.Flags.{State};
+ghost use Rattle.fp_edit.specs.Following.{change_of, changes_of};
+ghost use Rattle.fp_desk.specs.Desk.{head, log, queued, settled_revision, settled_set, most_of, IsAccepted, IsDrawn, Draws, Refuses, SettlesNot};
+
+use crate::fault::{SettleFault, SubmitFault};
+use crate::queue::{copies_of_front, first_part, move_front, same_changes};
+use fp_edit::{Edit, EditFault, FlagSet};
+use fp_group_commit::{Draw, Opening, Receipt, Settled, Told};
+use std::alloc::{AllocError, Global};
+use std::collections::VecDeque;
+use std::marker::Model;
+use std::mem;
+use std::snapshot::Snapshot;
+
+/// The most edits that are accepted and not settled yet.
+pub const MOST_QUEUED: usize = 1_024;
+
+/// A place in the commit order.
+#[derive(Drop)]
+pub struct Ticket {
+    revision: u64,
+    edit: Snapshot<Edit>,
+    settled: Told,
+}
+
+impl Model for Ticket {
+    ghost use Rattle.std.specs.Coded.{codes};
+    ghost use Rattle.fp_edit.specs.Following.{change_of};
+    ghost use Rattle.fp_edit.specs.Flags.{coded_state};
+    ghost use Rattle.fp_group_commit.specs.Changes.{coded_change};
+    ghost use Rattle.fp_desk.specs.Desk.{TicketState};
+
+    ghost Value = { TicketState };
+
+    ghost coded = { Prim.hlevel (codes, coded_state, coded_change) };
+
+    ghost view = { λ t. record { store = t.settled.store; revision = t.revision; edit = change_of t.edit.value } };
+}
+
+impl Ticket {
+    /// The revision that its edit makes.
+    pub fn revision(&self) -> u64
+        ensures { result ≡ self.now.revision }
+    {
+        self.revision
+    }
+}
+
+/// Edits on their way, and what is settled.
+#[derive(Drop)]
+pub struct Desk {
+    head: FlagSet,
+    base: FlagSet,
+    lag: VecDeque<Edit>,
+    drawn: VecDeque<Edit>,
+    waiting: VecDeque<Edit>,
+    settled: Settled,
+    stopped: bool,
+    alloc: Global,
+}
+
+impl Model for Desk {
+    ghost use Rattle.std.specs.Coded.{codes};
+    ghost use Rattle.fp_edit.specs.Flags.{coded_state};
+    ghost use Rattle.fp_edit.specs.Following.{changes_of};
+    ghost use Rattle.fp_group_commit.specs.Changes.{coded_change};
+    ghost use Rattle.fp_desk.specs.Desk.{DeskState, IsSound};
+
+    ghost Value = { DeskState };
+
+    ghost coded = { Prim.hlevel (codes, coded_state, coded_change) };
+
+    ghost view = { λ d. record {
+      store = d.settled.store;
+      settled = d.settled.edits;
+      drawn = changes_of d.drawn.items;
+      waiting = changes_of d.waiting.items;
+      stopped = d.stopped;
+    } };
+
+    ghost invariant = { λ d. IsSound (record {
+      store = d.settled.store;
+      settled = d.settled.edits;
+      drawn = changes_of d.drawn.items;
+      waiting = changes_of d.waiting.items;
+      stopped = d.stopped;
+    })
+        d.head d.base (changes_of d.lag.items) };
+}
+
+impl Desk {
+    /// Nothing waits yet.
+    pub fn new(alloc: Global, opening: Opening) -> Result<Desk, (AllocError, Opening)>
+        ensures made { IfOk result (λ d. d ≡ record {
+          store = opening;
+          settled = [];
+          drawn = [];
+          waiting = [];
+          stopped = false;
+        }) }
+        ensures given_back { IfErr result (λ e. e.1 ≡ opening) }
+    {
+        let Ok(head) = opening.set().try_copy() else {
+            return Err((AllocError, opening));
+        };
+        // Its revision is below 2^63, which is known where it is asked.
+        let _ = head.revision();
+        let (base, settled) = Settled::of(opening);
+        Ok(Desk {
+            head,
+            base,
+            lag: VecDeque::new(alloc),
+            drawn: VecDeque::new(alloc),
+            waiting: VecDeque::new(alloc),
+            settled,
+            stopped: false,
+            alloc,
+        })
+    }
+
+    /// Puts an edit behind those that wait, where the set that they lead to admits it.
+    pub fn submit(&mut self, edit: Edit) -> Result<Ticket, (SubmitFault, Edit)>
+        ensures accepted { OnOk result (IsAccepted self.old self.new (proposal_of edit)) }
+        ensures ticket { IfOk result (λ t. (t.store ≡ self.new.store) × (t.edit ≡ change_of edit)) }
+        ensures revision { IfOk result (λ t.
+            t.revision ≡ self.new.store.start.revision + length (log self.new)) }
+        ensures refused { IfErr result (λ e. Refuses self.old (proposal_of edit) e.0) }
+        ensures given_back { IfErr result (λ e. e.1 ≡ edit) }
+        ensures unchanged { OnErr result (self.new ≡ self.old) }
+    {
+        if self.stopped {
+            return Err((SubmitFault::Stopped, edit));
+        }
+        if let Some(fault) = self.head.judge(&edit) {
+            return Err((SubmitFault::Edit(fault), edit));
+        }
+        if self.drawn.len() + self.waiting.len() >= MOST_QUEUED {
+            return Err((SubmitFault::QueueFull, edit));
+        }
+        let Ok(copy) = edit.try_copy() else {
+            return Err((SubmitFault::Memory, edit));
+        };
+        if self.waiting.try_reserve(1).is_err() {
+            return Err((SubmitFault::Memory, edit));
+        }
+        let shown = Snapshot::of(&edit);
+        match self.head.admit(edit) {
+            Ok(revision) => {
+                self.waiting.push_back_reserved(copy);
+                Ok(Ticket {
+                    revision,
+                    edit: shown,
+                    settled: self.settled.tell(),
+                })
+            }
+            Err((_, edit)) => Err((SubmitFault::Memory, edit)),
+        }
+    }
+
+    /// Draws the longest first part of what waits that makes a batch, where none is out.
+    pub fn draw(&mut self) -> Result<Option<Draw>, AllocError>
+        ensures drawn { IfOk result (Draws self.old self.new) }
+        ensures unchanged { OnErr result (self.new ≡ self.old) }
+    {
+        if !self.drawn.is_empty() || self.waiting.is_empty() {
+            return Ok(None);
+        }
+        let first = self.settled.revision() + 1;
+        let most = (self.head.limit() / 4).saturating_sub(6);
+        let n = first_part(&self.waiting, most);
+        let edits = copies_of_front(self.alloc, &self.waiting, n)?;
+        self.drawn.try_reserve(n)?;
+        move_front(&mut self.waiting, &mut self.drawn, n);
+        Ok(Some(Draw::new(first, edits)))
+    }
+
+    /// Spends a receipt for what is drawn.
+    pub fn settle(&mut self, receipt: Receipt) -> Result<(), (SettleFault, Receipt)>
+        requires { receipt.store ≡ self.old.store }
+        ensures drawn { OnOk result (IsDrawn self.old receipt) }
+        ensures settled { OnOk result (self.new
+            ≡ record self.old { settled = self.old.settled ++ self.old.drawn; drawn = [] }) }
+        ensures all { OnOk result (self.new.settled ≡ receipt.edits) }
+        ensures refused { IfErr result (λ e. SettlesNot self.old receipt e.0) }
+        ensures given_back { IfErr result (λ e. e.1 ≡ receipt) }
+        ensures unchanged { OnErr result (self.new ≡ self.old) }
+    {
+        if self.drawn.is_empty()
+            || receipt.batch().first() != self.settled.revision() + 1
+            || !same_changes(&self.drawn, receipt.batch().edits())
+        {
+            return Err((SettleFault::Stranger, receipt));
+        }
+        if self.base.catch_up(&mut self.lag).is_err() {
+            return Err((SettleFault::Memory, receipt));
+        }
+        self.settled.advance(receipt);
+        mem::swap(&mut self.lag, &mut self.drawn);
+
+        // Where memory is wanting here, the base goes on another time.
+        let _ = self.base.catch_up(&mut self.lag);
+        Ok(())
+    }
+
+    /// Tells whether the ticket's edit is settled.
+    pub fn ack(&self, ticket: &Ticket) -> Option<Told>
+        ensures waiting { IfNone result (settled_revision self.now < ticket.now.revision) }
+        ensures settled { IfSome result (λ _. ticket.now.revision ≤ settled_revision self.now) }
+        ensures told { IfSome result (λ t.
+            (t.store ≡ self.now.store) × (t.edits ≡ self.now.settled)) }
+    {
+        if ticket.revision <= self.settled.revision() {
+            Some(self.settled.tell())
+        } else {
+            None
+        }
+    }
+
+    /// The last revision that is settled.
+    pub fn settled_revision(&self) -> u64
+        ensures { result ≡ settled_revision self.now }
+    {
+        self.settled.revision()
+    }
+
+    /// Takes no further edits. What waits goes on.
+    pub fn stop(&mut self)
+        ensures { self.new ≡ record self.old { stopped = true } }
+    {
+        self.stopped = true;
+    }
+
+    /// Gives the opening back, where no edit was accepted.
+    pub fn into_opening(self) -> Opening
+        requires { log self ≡ [] }
+        ensures { result ≡ self.store }
+    {
+        let Desk { head, settled, .. } = self;
+        settled.into_opening(head)
+    }
+}
