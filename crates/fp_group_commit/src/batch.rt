@@ -1,6 +1,6 @@
 //! A batch on its way, by four calls with one call of the disk each.
 
-ghost use Rattle.std.specs.Prelude.{◌≡◌, ◌+◌, ◌++◌, ◌↔◌, [], ◌∷◌, List, ℕ, IfOk, IfErr, OnOk};
+ghost use Rattle.std.specs.Prelude.{◌≡◌, ◌+◌, ◌++◌, ◌↔◌, [], ◌∷◌, List, ℕ, IfOk, IfErr, OnOk, OnErr};
 ghost use Rattle.fp_disk.specs.History.{Makes};
 ghost use Rattle.fp_disk.specs.Outcomes.{IsOutcome, LeavesOnly};
 ghost use Rattle.fp_disk.specs.declared.history.CallKind.TheVariants.{Sync, Write};
@@ -27,6 +27,7 @@ impl<D: Disk> Store<D> {
         ensures ok { OnOk result (MovesTo D.faults Staged self.old self.new) }
         ensures staged { OnOk result (self.new.staged ≡ draw.changes) }
         ensures goes_on { OnOk result (GoesOn (kept self.old) draw) }
+        ensures phase { OnErr result (self.new.step ≡ self.old.step) }
         ensures fault { IfErr result (λ e. RefusesBy D.faults self.old self.new draw e.0) }
         ensures given_back { IfErr result (λ e. e.1 ≡ draw) }
         ensures called { Makes (Write ∷ []) (D.calls self.old.journal.disk)
@@ -66,6 +67,7 @@ impl<D: Disk> Store<D> {
         requires { self.old.step ≡ Staged }
         ensures same { SameStore self.old self.new }
         ensures ok { OnOk result (MovesTo D.faults BodySynced self.old self.new) }
+        ensures phase { OnErr result (self.new.step ≡ self.old.step) }
         ensures fault { IfErr result (FailsBy D.faults self.old self.new) }
         ensures called { Makes (Sync ∷ []) (D.calls self.old.journal.disk)
             (D.calls self.new.journal.disk) result }
@@ -92,6 +94,7 @@ impl<D: Disk> Store<D> {
         requires { self.old.step ≡ BodySynced }
         ensures same { SameStore self.old self.new }
         ensures ok { OnOk result (MovesTo D.faults GateOpened self.old self.new) }
+        ensures phase { OnErr result (self.new.step ≡ self.old.step) }
         ensures fault { IfErr result (FailsBy D.faults self.old self.new) }
         ensures called { Makes (Write ∷ []) (D.calls self.old.journal.disk)
             (D.calls self.new.journal.disk) result }
@@ -123,6 +126,7 @@ impl<D: Disk> Store<D> {
         ensures batch { IfOk result (λ r. (r.batch.changes ≡ self.old.staged)
             × (r.batch.first ≡ (kept self.old).revision + 1)) }
         ensures err { IfErr result (λ _. SameStore self.old self.new) }
+        ensures phase { OnErr result (self.new.step ≡ self.old.step) }
         ensures fault { IfErr result (FailsBy D.faults self.old self.new) }
         ensures called { Makes (Sync ∷ []) (D.calls self.old.journal.disk)
             (D.calls self.new.journal.disk) result }

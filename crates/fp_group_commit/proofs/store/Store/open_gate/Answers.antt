@@ -36,6 +36,7 @@ returns-in_default-open_gate g c =
     rw (← c.self.view_is) (record {
       same = (refl, refl, refl);
       ok = tt;
+      phase = refl;
       fault = steps.breaks D.faults (λ e. c.in_default.not-Failed (c.phase.ensures.phase ∙ e)) c.in_default-open_gate.ensures.phase.1 (search rules) refl w.same.1 w.same.2 w.bodies.0;
       called = inr w.called;
       any_moment = λ h. leaves_map D.moment D.left_since j.disk j1.disk _ _ (λ o e. ⊎_elim (λ a. inl a) (λ b. inr (begun, b)) e) (leaves h);
@@ -63,6 +64,7 @@ returns g c =
     rw (← c.self.view_is) (record {
       same = (refl, refl, refl);
       ok = record { step = refl; well_before = (λ e. c.in_default.not-Failed (c.phase.ensures.phase ∙ e)); well_now = (λ e. let both : GateOpened ≡ Failed = sym c.in-Ok.ensures.phase.0 ∙ e in absurd cc); calm = search rules };
+      phase = tt;
       fault = tt;
       called = w.called;
       any_moment = λ h. leaves_map D.moment D.left_since j.disk j1.disk _ _ (λ o e. ⊎_elim (λ a. inl a) (λ b. inr (refl, b)) e) (leaves h);

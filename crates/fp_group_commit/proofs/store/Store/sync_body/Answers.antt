@@ -35,6 +35,7 @@ returns-in_default-sync g c =
     rw (← c.self.view_is) (record {
       same = (refl, refl, refl);
       ok = tt;
+      phase = refl;
       fault = steps.breaks D.faults (λ e. c.in_default.not-Failed (c.phase.ensures.phase ∙ e)) c.in_default-sync.ensures.phase.1 (search rules) refl w.same.1 w.same.2 w.bodies.0;
       called = inr w.called;
       any_moment = λ h. leaves_map D.moment D.left_since j.disk j1.disk _ _ (λ o stands. inl stands) (steps.sync_shut D.honest D.bytes D.moment D.left_since D.unsynced c.self.invariant is j1.disk h (w.apart h) (w.any_moment h));
@@ -76,6 +77,7 @@ returns g c =
     rw (← c.self.view_is, v.disk) (record {
       same = (refl, refl, refl);
       ok = record { step = refl; well_before = (λ e. c.in_default.not-Failed (c.phase.ensures.phase ∙ e)); well_now = (λ e. let both : BodySynced ≡ Failed = sym v.phase.0 ∙ e in absurd cc); calm = search rules };
+      phase = tt;
       fault = tt;
       called = w.called;
       any_moment = λ h. leaves_map D.moment D.left_since j.disk j1.disk _ _ (λ o stands. inl stands) (leaves h);

@@ -48,6 +48,7 @@ returns-in_default-sync g c =
       receipt = tt;
       batch = tt;
       err = (refl, refl, refl);
+      phase = refl;
       fault = steps.breaks D.faults (λ e. c.in_default.not-Failed (c.phase.ensures.phase ∙ e)) c.in_default-sync.ensures.phase.1 (search rules) refl w.same.1 w.same.2 w.bodies.0;
       called = inr w.called;
       any_moment = λ h. leaves_map D.moment D.left_since j.disk j1.disk _ _ (λ o e. ⊎_elim (λ a. inl a) (λ b. inr (begun j.phase, b)) e) (leaves h);
@@ -106,6 +107,7 @@ returns g c =
       receipt = (ap (λ (p : FrontState). p.store) c.new-2.ensures ∙ ap (λ (n : ℕ). record { name = n; start = c.again.result }) (l.2 ∙ sym l.0) ∙ ap (λ (t : State). record { name = c.lengthen-front.new.self.name; start = t }) start, ap (λ (p : FrontState). p.edits) c.new-2.ensures ∙ l.3);
       batch = (ap (λ (b : Group). b.changes) c.replace-draw.ensures.value, ap (λ (b : Group). b.first) c.replace-draw.ensures.value ∙ f.place);
       err = tt;
+      phase = tt;
       fault = tt;
       called = ap (λ (d : g.row.D.Denot). D.calls d) v.disk ∙ w.called;
       any_moment = rw v.disk (λ h. leaves_map D.moment D.left_since j.disk j1.disk _ _ (λ o e. ⊎_elim (λ a. inl a) (λ b. inr (begun j.phase, b)) e) (leaves h));
