@@ -8,6 +8,7 @@ mod expand;
 mod imports;
 mod operators;
 mod records;
+mod requests;
 mod rules;
 mod session;
 mod values;

@@ -2,10 +2,12 @@
 
 use crate::data::put_datum;
 use crate::expand::{Texts, expanded};
+use crate::requests::Asking;
 use crate::{definitions, edits, imports, operators, records, rules, values};
 use fp_base::read_json;
 use fp_definition::{FlagKey, KeyFault};
 use fp_edit::FlagSet;
+use fp_ofrep::Body;
 use fp_operators::Datum;
 use fp_transcript::Answers;
 use serde_json::Value;
@@ -25,6 +27,8 @@ pub struct Session {
     /// The set that edits change, and a copy of an earlier one.
     set: FlagSet,
     kept: FlagSet,
+    /// What requests have in common.
+    asking: Asking,
 }
 
 fn first_key(alloc: Global) -> Result<FlagKey, AllocError> {
@@ -46,6 +50,7 @@ impl Session {
             now: 0,
             set: FlagSet::new(alloc, 1 << 23),
             kept: FlagSet::new(alloc, 1 << 23),
+            asking: Asking::new(alloc)?,
         })
     }
 
@@ -102,6 +107,10 @@ impl Session {
             "spell" => records::spelled(alloc, number_in(first), operand, out),
             "key" => self.set_key(operand, out),
             "set" => self.start_set(number_in(first), operand, out),
+            "method" => self.asking.set_method(alloc, operand),
+            "if-none-match" => self.asking.set_if_none_match(alloc, operand),
+            "ask" => self.ask(first, Body::Whole(operand), out),
+            "ask-too-long" => self.ask(first, Body::TooLong, out),
             _ => self.run_word(word, first, out),
         }
     }
@@ -127,6 +136,11 @@ impl Session {
             "image-of-set" => records::image_of(self.alloc, &self.set, out),
             _ => out.push_str("no such command"),
         }
+    }
+
+    fn ask(&self, target: &str, body: Body<'_>, out: &mut String) -> Result<(), AllocError> {
+        self.asking
+            .ask(self.alloc, &self.set, target, body, self.now, out)
     }
 
     // An empty set under a limit, at a revision.
@@ -216,6 +230,8 @@ fn has_first(word: &str) -> bool {
             | "restore"
             | "set"
             | "now"
+            | "ask"
+            | "ask-too-long"
     )
 }
 

@@ -1,2 +1,4 @@
 pub mod Canonical
+pub mod Metadata
+pub mod OneOutcome
 pub mod Told

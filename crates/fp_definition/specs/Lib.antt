@@ -4,4 +4,5 @@ pub mod Kept
 pub mod Kinds
 pub mod Valid
 pub mod Resolving
+pub mod Outcome
 pub mod Targeting

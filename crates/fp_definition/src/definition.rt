@@ -1,6 +1,6 @@
 //! A flag's definition.
 
-ghost use Rattle.std.specs.Prelude.{◌≡◌, true, Some, None, IfOk, IfErr, if◌then◌else◌, codes};
+ghost use Rattle.std.specs.Prelude.{◌≡◌, true, Some, None, IfOk, IfErr, IfSome, if◌then◌else◌, codes, option_map};
 ghost use Rattle.serde_json.specs.Find.{get};
 ghost use Rattle.serde_json.specs.View.{view};
 ghost use Rattle.serde_json.specs.Written.{compact_text};
@@ -8,6 +8,7 @@ ghost use Rattle.fp_base.specs.Answer.{IsFirst};
 ghost use Rattle.fp_base.specs.Json.{json_of};
 ghost use Rattle.fp_base.specs.Whole.{is_whole};
 ghost use Rattle.fp_definition.specs.Faults.{Tells};
+ghost use Rattle.fp_definition.specs.Resolving.{data_of};
 ghost use Rattle.fp_definition.specs.Targeting.{rule_in};
 ghost use Rattle.fp_definition.specs.Valid.{first_fault, IsValid, is_definition_text, definition_in, is_text_of};
 
@@ -90,6 +91,15 @@ impl Definition {
         ensures whole { is_whole (view result.now) ≡ true }
     {
         &self.share.value
+    }
+
+    /// The member `metadata`.
+    pub fn metadata(&self) -> Option<&Value>
+        ensures value { option_map (λ m. view m.now) result
+            ≡ get (codes "metadata") (data_of self.now) }
+        ensures whole { IfSome result (λ m. is_whole (view m.now) ≡ true) }
+    {
+        self.value().get("metadata")
     }
 
     // The value, and the rule of its `targeting`, compiled when the definition was made.

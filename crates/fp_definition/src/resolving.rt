@@ -1,14 +1,17 @@
 //! What a definition resolves to.
 
-ghost use Rattle.std.specs.Prelude.{◌≡◌, ◌<◌, ◌^◌, true, IfOk, IsSome, codes};
+ghost use Rattle.std.specs.Prelude.{◌≡◌, ◌<◌, ◌^◌, ◌↔◌, ℕ, List, Result, true, IfOk, IfSome, IsSome, codes};
+ghost use Rattle.serde_json.specs.Data.{Data as JsonData};
 ghost use Rattle.serde_json.specs.Find.{as_object, get, get_member};
 ghost use Rattle.serde_json.specs.View.{view, members_view};
 ghost use Rattle.fp_base.specs.Answer.{Answers, Gives};
 ghost use Rattle.fp_base.specs.Whole.{is_whole, members_whole};
 ghost use Rattle.fp_definition.specs.Key.{key_bytes};
-ghost use Rattle.fp_definition.specs.Resolving.{Resolves, Tells, TellsItself, said_by, by_default, by_result, data_of, is_disabled, named, said_or_none};
+ghost use Rattle.fp_definition.specs.Outcome.{outcome_of};
+ghost use Rattle.fp_definition.specs.Resolving.{Resolves, Said, Tells, TellsItself, said_by, by_default, by_result, data_of, is_disabled, named, said_or_none};
 ghost use Rattle.fp_operators.specs.Data as values;
 ghost use Rattle.fp_operators.specs.View.{view as datum_view};
+ghost use Rattle.fp_targeting.specs.Meaning.{meaning};
 ghost use Rattle.fp_targeting.specs.Means.{Means};
 
 use crate::definition::Definition;
@@ -61,6 +64,7 @@ pub struct Resolved<'d> {
 impl Definition {
     /// What the flag of this key resolves to in a context, an object of whole numbers, at a moment
     /// in seconds since 1970.
+    #[tactic(auto, unfolding(crate::specs::Outcome::outcome_of))]
     pub fn resolve(
         &self,
         alloc: Global,
@@ -73,6 +77,8 @@ impl Definition {
         requires moment { now < 2 ^ 63 }
         ensures resolves { Answers said_by Tells result
             (Resolves (data_of self.now) (key_bytes key.now) (view context.now) now) }
+        ensures computed { Gives said_by Tells result
+            (outcome_of (data_of self.now) (key_bytes key.now) (view context.now) now) }
         ensures printable { IfOk result (λ r. is_whole (view r.value.now) ≡ true) }
     {
         let (value, rule) = self.value_and_rule();
@@ -86,6 +92,26 @@ impl Definition {
                 by_rule(alloc, value, rule, &data)
             }
         }
+    }
+
+    /// Exactly one outcome, whatever the key, the context and the moment, which `resolve` answers
+    /// where memory suffices. Does nothing when it runs.
+    pub fn one_outcome(&self)
+        ensures { (key : List ℕ) (context : JsonData) (now : ℕ) (outcome : Result Said EvalFault)
+            → Resolves (data_of self.now) key context now outcome
+            ↔ (outcome ≡ outcome_of (data_of self.now) key context now) }
+    {
+        let (_, rule) = self.value_and_rule();
+        rule_has_one_result(rule);
+    }
+}
+
+fn rule_has_one_result(rule: &Option<Rule>)
+    ensures { IfSome rule.now (λ r.
+        (env x : values.Data) → Means r env x ↔ (x ≡ meaning env r)) }
+{
+    if let Some(rule) = rule {
+        rule.one_result();
     }
 }
 
@@ -107,6 +133,8 @@ fn by_rule<'d>(
     ensures resolves { Answers said_by Tells result (λ outcome.
         (x : values.Data) × Means rule.now «data».now x
         × (outcome ≡ by_result (view value.now) x)) }
+    ensures computed { Gives said_by Tells result
+        (by_result (view value.now) (meaning «data».now rule.now)) }
     ensures printable { is_whole (view value.now) ≡ true → IfOk result (λ r.
         is_whole (view r.value.now) ≡ true) }
 {

@@ -105,7 +105,8 @@ impl Rule {
 
     /// What the rule gives for the data.
     pub fn eval(&self, alloc: Global, data: &Data) -> Result<Datum, AllocError>
-        ensures { IfOk result (λ x. Means self.now «data».now (view x)) }
+        ensures means { IfOk result (λ x. Means self.now «data».now (view x)) }
+        ensures computed { IfOk result (λ x. view x ≡ meaning «data».now self.now) }
     {
         evaluate(alloc, &self.tree, data.datum())?.into_datum(alloc)
     }

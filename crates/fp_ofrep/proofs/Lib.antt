@@ -1,0 +1,5 @@
+pub mod Faults
+pub mod Lists
+pub mod Parts
+pub mod Utf8
+pub mod Written

@@ -1,0 +1,10 @@
+pub mod Bodies
+pub mod Bulk
+pub mod Context
+pub mod Failures
+pub mod Reply
+pub mod Response
+pub mod Route
+pub mod Seen
+pub mod Single
+pub mod Tag

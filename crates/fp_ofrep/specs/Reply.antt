@@ -1,0 +1,29 @@
+-- The reply to a request, as a function: the path, then the method, then the length of the body,
+-- then what the body asks of the flags.
+use Rattle.std.specs.Prelude.{ℕ, List, length, codes, nat_lt, if◌then◌else◌, bytes_eq, Option, Some, None}
+use Rattle.fp_edit.specs.Flags.{State}
+use Rattle.fp_ofrep.specs.Bulk.{bulk_reply}
+use Rattle.fp_ofrep.specs.Response.{Response, empty, not_allowed}
+use Rattle.fp_ofrep.specs.Route.{Route, bulk, single, route_of}
+use Rattle.fp_ofrep.specs.Single.{single_reply}
+use Rattle.fp_ofrep.specs.declared.request.TheConstants.{LONGEST_BODY}
+
+abbrev pub evaluated : State → Route → Option (List ℕ) → List ℕ → ℕ → Response
+evaluated set bulk if_none_match body now = bulk_reply set if_none_match body now
+evaluated set (single segment) if_none_match body now = single_reply set segment body now
+
+-- no body stands for one whose reading was given up
+abbrev pub posted : State → Route → Option (List ℕ) → Option (List ℕ) → ℕ → Response
+posted set route if_none_match None now = empty 413
+posted set route if_none_match (Some body) now = if nat_lt LONGEST_BODY (length body) then empty 413
+    else evaluated set route if_none_match body now
+
+abbrev pub routed : State → Option Route → List ℕ → Option (List ℕ) → Option (List ℕ) → ℕ
+    → Response
+routed set None method if_none_match body now = empty 404
+routed set (Some route) method if_none_match body now = if bytes_eq method (codes "POST")
+    then posted set route if_none_match body now else not_allowed
+
+abbrev pub reply : State → List ℕ → List ℕ → Option (List ℕ) → Option (List ℕ) → ℕ → Response
+reply set method target if_none_match body now =
+    routed set (route_of target) method if_none_match body now

@@ -1,0 +1,155 @@
+//! The evaluation of all flags.
+
+ghost use Rattle.std.specs.Prelude.{◌≡◌, ◌++◌, ◌<◌, ◌^◌, true, IfOk, IsSome, OnOk};
+ghost use Rattle.std.specs.FinMap as map;
+ghost use Rattle.json.specs.Tree.{items_tokens};
+ghost use Rattle.serde_json.specs.Data.{Items};
+ghost use Rattle.serde_json.specs.Find.{as_object};
+ghost use Rattle.serde_json.specs.View.{view};
+ghost use Rattle.serde_json.specs.Written.{compact_text, items_outline};
+ghost use Rattle.fp_base.specs.Whole.{is_whole};
+ghost use Rattle.fp_definition.specs.Key.{key_bytes};
+ghost use Rattle.fp_definition.specs.Resolving.{data_of};
+ghost use Rattle.fp_ofrep.specs.Bulk.{bulk_data, bulk_reply, flag_items, listed};
+ghost use Rattle.std.specs.Option.{option_copied};
+ghost use Rattle.fp_ofrep.specs.Seen.{seen};
+ghost use Rattle.fp_ofrep.specs.Tag.{tagged};
+ghost use Rattle.fp_ofrep.specs.Single.{evaluation_of};
+
+use crate::context::read_context;
+use crate::failure::Failure;
+use crate::reply::{Headers, Reply, failed};
+use crate::tag::{entity_tag, is_known};
+use crate::write::{write_failure, write_success};
+use fp_definition::{Definition, EvalFault, FlagKey};
+use fp_edit::FlagSet;
+use http::StatusCode;
+use json::Writer;
+use serde_json::Value;
+use std::alloc::{AllocError, Global};
+
+/// The evaluation of all flags.
+pub(crate) fn evaluate_bulk(
+    alloc: Global,
+    set: &FlagSet,
+    if_none_match: Option<&[u8]>,
+    body: &[u8],
+    now: u64,
+) -> Result<Reply, AllocError>
+    requires { now < 2 ^ 63 }
+    ensures { IfOk result (λ r. seen r
+        ≡ bulk_reply set.now (option_copied if_none_match.entry) body.now now) }
+{
+    match read_context(alloc, body)? {
+        Ok(context) => {
+            let text = bulk_text(alloc, set, &context, now)?;
+            tagged_reply(alloc, set.revision(), if_none_match, text)
+        }
+        Err(failure) => failed(alloc, failure, None),
+    }
+}
+
+// The reply with its tag, or without a body where the client has it.
+fn tagged_reply(
+    alloc: Global,
+    revision: u64,
+    if_none_match: Option<&[u8]>,
+    body: Vec<u8>,
+) -> Result<Reply, AllocError>
+    ensures { IfOk result (λ r. seen r
+        ≡ tagged revision (option_copied if_none_match.entry) body.items) }
+{
+    let tag = entity_tag(alloc, &body)?;
+    if is_known(&tag, if_none_match) {
+        return Ok(Reply {
+            status: StatusCode::NOT_MODIFIED,
+            headers: Headers {
+                allow_post: false,
+                is_json: false,
+                flag_revision: Some(revision),
+                etag: Some(tag),
+            },
+            body: Vec::new(alloc),
+        });
+    }
+    Ok(Reply {
+        status: StatusCode::OK,
+        headers: Headers {
+            allow_post: false,
+            is_json: true,
+            flag_revision: Some(revision),
+            etag: Some(tag),
+        },
+        body,
+    })
+}
+
+// The body for all flags.
+fn bulk_text(alloc: Global, set: &FlagSet, context: &Value, now: u64) -> Result<Vec<u8>, AllocError>
+    requires object { IsSome (as_object (view context.now)) }
+    requires whole { is_whole (view context.now) ≡ true }
+    requires moment { now < 2 ^ 63 }
+    ensures { IfOk result (λ t.
+        t.items ≡ compact_text (bulk_data set.now.flags (view context.now) now)) }
+{
+    let mut out = Writer::new(Vec::with_capacity(alloc, 128)?);
+    out.begin_object()?;
+    out.key("flags")?;
+    out.begin_array()?;
+    write_flags(alloc, &mut out, set, context, now)?;
+    out.end_object()?;
+    Ok(out.into_inner())
+}
+
+fn write_flags(
+    alloc: Global,
+    out: &mut Writer,
+    set: &FlagSet,
+    context: &Value,
+    now: u64,
+) -> Result<(), AllocError>
+    requires object { IsSome (as_object (view context.now)) }
+    requires whole { is_whole (view context.now) ≡ true }
+    requires moment { now < 2 ^ 63 }
+    ensures tokens { OnOk result (out.new.tokens ≡ out.old.tokens ++ items_tokens
+        (items_outline (flag_items (map.entries set.now.flags) (view context.now) now))) }
+    ensures before { OnOk result (out.new.before ≡ out.old.before) }
+{
+    for (key, flag) in set.iter() {
+        write_flag(alloc, out, key, &flag.definition, context, now)?;
+    }
+    out.end_array()?;
+    Ok(())
+}
+
+// Writes a flag of the list. Whatever flags come after it, they are then what is left to write.
+fn write_flag(
+    alloc: Global,
+    out: &mut Writer,
+    key: &FlagKey,
+    definition: &Definition,
+    context: &Value,
+    now: u64,
+) -> Result<(), AllocError>
+    requires object { IsSome (as_object (view context.now)) }
+    requires whole { is_whole (view context.now) ≡ true }
+    requires moment { now < 2 ^ 63 }
+    ensures tokens { OnOk result ((rest : Items) → out.new.tokens ++ items_tokens
+        (items_outline rest) ≡ out.old.tokens ++ items_tokens (items_outline
+        (listed (key_bytes key.now) (evaluation_of (key_bytes key.now) (data_of definition.now)
+        (view context.now) now) rest))) }
+    ensures before { OnOk result (out.new.before ≡ out.old.before) }
+{
+    match definition.resolve(alloc, key, context, now) {
+        Ok(said) => {
+            write_success(out, key.as_str(), definition.metadata(), &said)?;
+            Ok(())
+        }
+        Err(EvalFault::Disabled) => Ok(()),
+        Err(EvalFault::NoVariant) => {
+            write_failure(out, Failure::NamesNoVariant, Some(key.as_str()))?;
+            Ok(())
+        }
+        Err(EvalFault::Memory) => Err(AllocError),
+    }
+}

@@ -1,0 +1,139 @@
+//! The reply to a request.
+
+ghost use Rattle.std.specs.Prelude.{◌≡◌, ◌<◌, ◌^◌, IfOk, option_map};
+ghost use Rattle.std.specs.Option.{option_copied};
+ghost use Rattle.fp_ofrep.specs.Reply.{evaluated as evaluated_by, posted as posted_by, reply, routed as routed_by};
+ghost use Rattle.fp_ofrep.specs.Response.{empty as empty_response, not_allowed};
+ghost use Rattle.fp_ofrep.specs.Seen.{body_seen, route_seen, seen};
+
+use crate::bulk::evaluate_bulk;
+use crate::reply::{Headers, Reply};
+use crate::route::{Route, route_of};
+use crate::single::evaluate_single;
+use fp_edit::FlagSet;
+use http::{Method, StatusCode};
+use std::alloc::{AllocError, Global};
+
+/// The most bytes that a request's body has.
+pub const LONGEST_BODY: usize = 65_536;
+
+/// A request's body.
+#[derive(Clone, Copy, Drop)]
+pub enum Body<'b> {
+    Whole(&'b [u8]),
+    /// It was found to be too long, and is not kept.
+    TooLong,
+}
+
+/// The reply to a request, at a moment in seconds since 1970.
+pub fn answer(
+    alloc: Global,
+    set: &FlagSet,
+    method: &Method,
+    target: &str,
+    if_none_match: Option<&[u8]>,
+    body: Body<'_>,
+    now: u64,
+) -> Result<Reply, AllocError>
+    requires { now < 2 ^ 63 }
+    ensures { IfOk result (λ r. seen r
+        ≡ reply set.now method.now target.now (option_copied if_none_match.entry)
+        (body_seen body.entry) now) }
+{
+    let route = route_of(target.as_bytes());
+    routed(alloc, set, route, method, if_none_match, body, now)
+}
+
+fn routed(
+    alloc: Global,
+    set: &FlagSet,
+    route: Option<Route<'_>>,
+    method: &Method,
+    if_none_match: Option<&[u8]>,
+    body: Body<'_>,
+    now: u64,
+) -> Result<Reply, AllocError>
+    requires { now < 2 ^ 63 }
+    ensures { IfOk result (λ r. seen r
+        ≡ routed_by set.now (option_map route_seen route.entry) method.now
+        (option_copied if_none_match.entry) (body_seen body.entry) now) }
+{
+    let Some(route) = route else {
+        return Ok(empty(alloc, StatusCode::NOT_FOUND));
+    };
+    if method.as_str() != "POST" {
+        return Ok(only_post(alloc));
+    }
+    posted(alloc, set, route, if_none_match, body, now)
+}
+
+fn posted(
+    alloc: Global,
+    set: &FlagSet,
+    route: Route<'_>,
+    if_none_match: Option<&[u8]>,
+    body: Body<'_>,
+    now: u64,
+) -> Result<Reply, AllocError>
+    requires { now < 2 ^ 63 }
+    ensures { IfOk result (λ r. seen r
+        ≡ posted_by set.now (route_seen route.entry) (option_copied if_none_match.entry)
+        (body_seen body.entry) now) }
+{
+    let Body::Whole(body) = body else {
+        return Ok(empty(alloc, StatusCode::PAYLOAD_TOO_LARGE));
+    };
+    if body.len() > LONGEST_BODY {
+        return Ok(empty(alloc, StatusCode::PAYLOAD_TOO_LARGE));
+    }
+    evaluated(alloc, set, route, if_none_match, body, now)
+}
+
+fn evaluated(
+    alloc: Global,
+    set: &FlagSet,
+    route: Route<'_>,
+    if_none_match: Option<&[u8]>,
+    body: &[u8],
+    now: u64,
+) -> Result<Reply, AllocError>
+    requires { now < 2 ^ 63 }
+    ensures { IfOk result (λ r. seen r
+        ≡ evaluated_by set.now (route_seen route.entry) (option_copied if_none_match.entry)
+        body.now now) }
+{
+    match route {
+        Route::Bulk => evaluate_bulk(alloc, set, if_none_match, body, now),
+        Route::Single(segment) => evaluate_single(alloc, set, segment, body, now),
+    }
+}
+
+fn empty(alloc: Global, status: StatusCode) -> Reply
+    ensures { seen result ≡ empty_response status }
+{
+    Reply {
+        status,
+        headers: Headers {
+            allow_post: false,
+            is_json: false,
+            flag_revision: None,
+            etag: None,
+        },
+        body: Vec::new(alloc),
+    }
+}
+
+fn only_post(alloc: Global) -> Reply
+    ensures { seen result ≡ not_allowed }
+{
+    Reply {
+        status: StatusCode::METHOD_NOT_ALLOWED,
+        headers: Headers {
+            allow_post: true,
+            is_json: false,
+            flag_revision: None,
+            etag: None,
+        },
+        body: Vec::new(alloc),
+    }
+}

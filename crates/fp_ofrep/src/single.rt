@@ -1,0 +1,174 @@
+//! The reply for one flag.
+
+ghost use Rattle.std.specs.Prelude.{◌≡◌, ◌<◌, ◌^◌, ℕ, List, true, None, Err, IfOk, IsSome, codes};
+ghost use Rattle.serde_json.specs.Written.{compact_text};
+ghost use Rattle.fp_definition.specs.Key.{key_bytes};
+ghost use Rattle.fp_ofrep.specs.Bodies.{success};
+ghost use Rattle.fp_ofrep.specs.Response.{succeeded};
+ghost use Rattle.serde_json.specs.Find.{as_object, get};
+ghost use Rattle.std.specs.Str.Lossy.{utf8_lossy};
+ghost use Rattle.fp_edit.specs.Flags.{State};
+ghost use Rattle.serde_json.specs.View.{view};
+ghost use Rattle.fp_base.specs.Whole.{is_whole};
+ghost use Rattle.fp_ofrep.specs.Context.{context_of};
+ghost use Rattle.fp_ofrep.specs.Seen.{seen};
+ghost use Rattle.fp_ofrep.specs.Single.{after_body, broken, decoded, evaluation_at, evaluation_of, flag_at, keyed, response_of, single_reply};
+ghost use Rattle.fp_definition.specs.Resolving.{data_of, said_by};
+
+use crate::context::read_context;
+use crate::failure::Failure;
+use crate::reply::{Headers, Reply, failed};
+use crate::write::success_text;
+use fp_definition::{Definition, EvalFault, FlagKey, KeyFault, Resolved};
+use fp_edit::{Flag, FlagSet};
+use http::StatusCode;
+use percent_encoding::percent_decode;
+use serde_json::Value;
+use std::alloc::{AllocError, Global};
+
+/// The evaluation of the flag whose key a segment of the path encodes.
+pub(crate) fn evaluate_single(
+    alloc: Global,
+    set: &FlagSet,
+    segment: &[u8],
+    body: &[u8],
+    now: u64,
+) -> Result<Reply, AllocError>
+    requires { now < 2 ^ 63 }
+    ensures { IfOk result (λ r. seen r ≡ single_reply set.now segment.now body.now now) }
+{
+    let key = percent_decode(segment).into_cow(alloc)?;
+    decoded_reply(alloc, set, &key, body, now)
+}
+
+fn decoded_reply(
+    alloc: Global,
+    set: &FlagSet,
+    key: &[u8],
+    body: &[u8],
+    now: u64,
+) -> Result<Reply, AllocError>
+    requires { now < 2 ^ 63 }
+    ensures { IfOk result (λ r. seen r ≡ decoded set.now key.now body.now now) }
+{
+    match str::from_utf8(key) {
+        Ok(text) => keyed_reply(alloc, set, text, body, now),
+        Err(_) => broken_reply(alloc, key, body),
+    }
+}
+
+// The reply at a key that isn't UTF-8.
+fn broken_reply(alloc: Global, key: &[u8], body: &[u8]) -> Result<Reply, AllocError>
+    ensures { IfOk result (λ r. (set : State) (now : ℕ)
+        → seen r ≡ broken set (utf8_lossy key.now) body.now now) }
+{
+    let shown = String::from_utf8_lossy(alloc, key)?;
+    let failure = body_failure(alloc, body)?;
+    failed(alloc, failure, Some(shown.as_str()))
+}
+
+// What stands against a request for a flag that isn't there.
+fn body_failure(alloc: Global, body: &[u8]) -> Result<Failure, AllocError>
+    ensures { IfOk result (λ f. (shown : List ℕ) (now : ℕ)
+        → after_body shown None (context_of body.now) now ≡ Err f) }
+{
+    match read_context(alloc, body)? {
+        Ok(_) => Ok(Failure::NotFound),
+        Err(failure) => Ok(failure),
+    }
+}
+
+fn keyed_reply(
+    alloc: Global,
+    set: &FlagSet,
+    text: &str,
+    body: &[u8],
+    now: u64,
+) -> Result<Reply, AllocError>
+    requires { now < 2 ^ 63 }
+    ensures { IfOk result (λ r. seen r ≡ keyed set.now text.now body.now now) }
+{
+    match read_context(alloc, body)? {
+        Ok(context) => found_reply(alloc, set, text, &context, now),
+        Err(failure) => failed(alloc, failure, Some(text)),
+    }
+}
+
+fn found_reply(
+    alloc: Global,
+    set: &FlagSet,
+    text: &str,
+    context: &Value,
+    now: u64,
+) -> Result<Reply, AllocError>
+    requires object { IsSome (as_object (view context.now)) }
+    requires whole { is_whole (view context.now) ≡ true }
+    requires moment { now < 2 ^ 63 }
+    ensures { IfOk result (λ r. seen r
+        ≡ response_of set.now.revision text.now
+        (evaluation_at text.now (flag_at set.now.flags text.now) (view context.now) now)) }
+{
+    match FlagKey::new(alloc, text) {
+        Ok(key) => match set.get(&key) {
+            Some(flag) => resolved_reply(
+                alloc,
+                set.revision(),
+                &key,
+                &flag.definition,
+                context,
+                now,
+            ),
+            None => failed(alloc, Failure::NotFound, Some(text)),
+        },
+        Err(KeyFault::BadKey) => failed(alloc, Failure::NotFound, Some(text)),
+        Err(KeyFault::Memory) => Err(AllocError),
+    }
+}
+
+fn resolved_reply(
+    alloc: Global,
+    revision: u64,
+    key: &FlagKey,
+    definition: &Definition,
+    context: &Value,
+    now: u64,
+) -> Result<Reply, AllocError>
+    requires object { IsSome (as_object (view context.now)) }
+    requires whole { is_whole (view context.now) ≡ true }
+    requires moment { now < 2 ^ 63 }
+    ensures { IfOk result (λ r. seen r
+        ≡ response_of revision (key_bytes key.now)
+        (evaluation_of (key_bytes key.now) (data_of definition.now) (view context.now) now)) }
+{
+    match definition.resolve(alloc, key, context, now) {
+        Ok(said) => said_reply(alloc, revision, key, definition, &said),
+        Err(EvalFault::Disabled) => failed(alloc, Failure::FlagDisabled, Some(key.as_str())),
+        Err(EvalFault::NoVariant) => failed(alloc, Failure::NamesNoVariant, Some(key.as_str())),
+        Err(EvalFault::Memory) => Err(AllocError),
+    }
+}
+
+fn said_reply(
+    alloc: Global,
+    revision: u64,
+    key: &FlagKey,
+    definition: &Definition,
+    said: &Resolved<'_>,
+) -> Result<Reply, AllocError>
+    requires { is_whole (view said.now.value.now) ≡ true }
+    ensures { IfOk result (λ r. seen r
+        ≡ succeeded revision None (compact_text (success (key_bytes key.now)
+        (get (codes "metadata") (data_of definition.now)) (said_by said.now)))) }
+{
+    let body = success_text(alloc, key.as_str(), definition.metadata(), said)?;
+    Ok(Reply {
+        status: StatusCode::OK,
+        headers: Headers {
+            allow_post: false,
+            is_json: true,
+            flag_revision: Some(revision),
+            etag: None,
+        },
+        body,
+    })
+}
