@@ -106,8 +106,11 @@ impl<D: Disk> Store<D> {
 
     /// How far the batch on its way is, so which call comes next. A call that the device refuses leaves it.
     pub fn phase(&self) -> Phase
-        ensures { result ≡ self.now.step }
+        ensures phase { result ≡ self.now.step }
+        ensures outcomes { D.honest self.now.journal.disk → (c : List ℕ) →
+            IsOutcome (D.unsynced self.now.journal.disk) c → Leaves self.now c }
     {
+        let _ = &self.journal;
         self.step
     }
 
