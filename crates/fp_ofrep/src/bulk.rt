@@ -28,6 +28,11 @@ use json::Writer;
 use serde_json::Value;
 use std::alloc::{AllocError, Global};
 
+// A body is begun with room for so many bytes a flag, which suffices for a short key and value.
+const ROOM_FOR_A_FLAG: usize = 72;
+
+const ROOM_ROUND_FLAGS: usize = 16;
+
 /// The evaluation of all flags.
 pub(crate) fn evaluate_bulk(
     alloc: Global,
@@ -92,7 +97,8 @@ fn bulk_text(alloc: Global, set: &FlagSet, context: &Value, now: u64) -> Result<
     ensures { IfOk result (λ t.
         t.items ≡ compact_text (bulk_data set.now.flags (view context.now) now)) }
 {
-    let mut out = Writer::new(Vec::with_capacity(alloc, 128)?);
+    let room = ROOM_ROUND_FLAGS + set.len() * ROOM_FOR_A_FLAG;
+    let mut out = Writer::new(Vec::with_capacity(alloc, room)?);
     out.begin_object()?;
     out.key("flags")?;
     out.begin_array()?;
