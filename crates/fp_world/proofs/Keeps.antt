@@ -1,15 +1,15 @@
 -- What a disk keeps of the desk's log.
-use Rattle.std.proofs.Common.{◌≡◌, ◌≢◌, ◌⊎◌, ◌<◌, ◌≤◌, ◌+◌, ◌-◌, ℕ, Bool, true, false, List, [], ◌∷◌, ◌++◌, length, zero, suc, take, refl, sym, ap, subst, ◌∙◌, inl, inr, ⊎_elim, arith, append_assoc, length-append}
+use Rattle.std.proofs.Common.{◌≡◌, ◌≢◌, ◌≤◌, ◌+◌, ◌-◌, ℕ, true, false, List, [], ◌∷◌, ◌++◌, length, zero, suc, take, refl, sym, ap, subst, ◌∙◌, inl, inr, arith, append_assoc, length-append}
 use Rattle.std.proofs.lemmas.List.{take_at}
 use Rattle.fp_disk.specs.Outcomes.{Unsynced, IsOutcome, LeavesOnly}
 use Rattle.fp_disk.specs.Moments.{leaves_map, leaves_still}
 use Rattle.fp_edit.specs.Edits.{Change}
 use Rattle.fp_edit.specs.Flags.{State}
-use Rattle.fp_edit.specs.Log.{after, after_all}
+use Rattle.fp_edit.specs.Log.{after_all}
 use Rattle.fp_journal.specs.declared.journal.Phase.{Phase}
 use Rattle.fp_journal.specs.declared.journal.Phase.TheVariants.{Idle, BodySynced, GateOpened}
 use Rattle.fp_recovery.specs.Stands.{StandsFor}
-use Rattle.fp_group_commit.specs.Store.{StoreState, Leaves, has_begun, begun_at, kept, coming}
+use Rattle.fp_group_commit.specs.Store.{StoreState, Leaves, has_begun, begun_at}
 use Rattle.fp_group_commit.specs.Tokens.{Identity}
 use Rattle.fp_desk.specs.Desk.{DeskState, log, settled_revision}
 use Rattle.fp_world.specs.World.{IsOut, IsWorld, KeptFrom, WorldState}

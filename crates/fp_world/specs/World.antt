@@ -1,7 +1,6 @@
 -- A store and a desk over one list of events.
-use Rattle.std.specs.Prelude.{◌≡◌, ◌≢◌, ◌⊎◌, ◌<◌, ◌≤◌, ◌+◌, ℕ, Bool, true, false, List, [], ◌∷◌, ◌++◌, length}
+use Rattle.std.specs.Prelude.{◌≡◌, ◌≢◌, ◌≤◌, ◌+◌, ℕ, List, [], ◌++◌, length}
 use Rattle.fp_disk.specs.Outcomes.{Unsynced, IsOutcome}
-use Rattle.fp_edit.specs.Edits.{Change}
 use Rattle.fp_edit.specs.Log.{after}
 use Rattle.fp_journal.specs.declared.journal.Phase.TheVariants.{Idle}
 use Rattle.fp_recovery.specs.Stands.{StandsFor}

@@ -1,4 +1,4 @@
-use Rattle.std.proofs.Common.{rules, ◌≤◌, refl}
+use Rattle.std.proofs.Common.{rules, ◌≤◌}
 use Rattle.fp_desk.specs.Desk.{settled_revision}
 use Rattle.fp_world.proofs.Keeps as keeps
 use Rattle.fp_world.proofs.world.World.ack.Goals as goal

@@ -1,4 +1,4 @@
-use Rattle.std.proofs.Common.{rules, ◌≡◌, ◌++◌, ℕ, List, [], Option, None, Some, refl, sym, ap, subst, ◌∙◌}
+use Rattle.std.proofs.Common.{◌≡◌, ◌++◌, List, Option, None, Some, sym, ap, subst, ◌∙◌}
 use Rattle.fp_edit.specs.Edits.{Change}
 use Rattle.fp_record.specs.Group.{Group}
 use Rattle.fp_desk.specs.Desk.{DeskState, Draws, log}

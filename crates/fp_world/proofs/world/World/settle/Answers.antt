@@ -1,5 +1,4 @@
-use Rattle.std.proofs.Common.{rules, ◌≡◌, ◌++◌, ℕ, List, [], refl, sym, ap, ◌∙◌, append_assoc}
-use Rattle.fp_edit.specs.Edits.{Change}
+use Rattle.std.proofs.Common.{refl, ap, ◌∙◌, append_assoc}
 use Rattle.fp_desk.specs.Desk.{DeskState, log}
 use Rattle.fp_world.proofs.Keeps as keeps
 use Rattle.fp_world.proofs.world.World.settle.Goals as goal

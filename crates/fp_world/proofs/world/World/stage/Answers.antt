@@ -1,4 +1,4 @@
-use Rattle.std.proofs.Common.{rules, ◌≡◌, refl, sym, ap, ◌∙◌}
+use Rattle.std.proofs.Common.{refl}
 use Rattle.fp_group_commit.proofs.Moves as moves
 use Rattle.fp_world.proofs.Keeps as keeps
 use Rattle.fp_world.proofs.world.World.stage.Goals as goal

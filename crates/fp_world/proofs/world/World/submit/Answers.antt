@@ -1,7 +1,6 @@
-use Rattle.std.proofs.Common.{rules, ◌≡◌, ◌++◌, ◌∷◌, ℕ, List, [], refl, sym, ap, subst, ◌∙◌}
-use Rattle.fp_edit.specs.Edits.{Change, proposal_of}
+use Rattle.std.proofs.Common.{◌∷◌, [], sym, ap, ◌∙◌}
+use Rattle.fp_edit.specs.Edits.{proposal_of}
 use Rattle.fp_desk.specs.Desk.{DeskState, log}
-use Rattle.fp_world.specs.World.{WorldState}
 use Rattle.fp_world.proofs.Keeps as keeps
 use Rattle.fp_world.proofs.world.World.submit.Goals as goal
 

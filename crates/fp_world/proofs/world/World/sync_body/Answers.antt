@@ -1,8 +1,4 @@
-use Rattle.std.proofs.Common.{rules, ◌≡◌, ◌≢◌, ◌+◌, ◌++◌, ℕ, List, [], length, ⊎_elim, refl, sym, ap, subst, ◌∙◌, arith}
-use Rattle.fp_edit.specs.Edits.{Change}
-use Rattle.fp_journal.specs.declared.journal.Phase.{Phase}
-use Rattle.fp_journal.specs.declared.journal.Phase.TheVariants.{Idle, Staged, BodySynced, GateOpened}
-use Rattle.fp_group_commit.specs.Tokens.{Identity}
+use Rattle.std.proofs.Common.{refl}
 use Rattle.fp_group_commit.proofs.Moves as moves
 use Rattle.fp_world.proofs.Keeps as keeps
 use Rattle.fp_world.proofs.world.World.sync_body.Goals as goal

@@ -1,6 +1,5 @@
-use Rattle.std.proofs.Common.{rules, ◌≡◌, ◌≢◌, ◌+◌, ◌++◌, ℕ, List, [], length, refl, sym, ap, subst, ◌∙◌, arith}
+use Rattle.std.proofs.Common.{rules, ◌≡◌, ◌++◌, List, length, refl, sym, ap, ◌∙◌, arith}
 use Rattle.fp_edit.specs.Edits.{Change}
-use Rattle.fp_journal.specs.declared.journal.Phase.{Phase}
 use Rattle.fp_journal.specs.declared.journal.Phase.TheVariants.{GateOpened}
 use Rattle.fp_group_commit.specs.Tokens.{Identity}
 use Rattle.fp_group_commit.proofs.Moves as moves
