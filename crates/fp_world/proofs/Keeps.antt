@@ -1,0 +1,121 @@
+-- What a disk keeps of the desk's log.
+use Rattle.std.proofs.Common.{◌≡◌, ◌≢◌, ◌≤◌, ◌+◌, ◌-◌, ℕ, true, false, List, [], ◌∷◌, ◌++◌, length, zero, suc, take, refl, sym, ap, subst, ◌∙◌, inl, inr, arith, append_assoc, length-append}
+use Rattle.std.proofs.lemmas.List.{take_at}
+use Rattle.fp_disk.specs.Outcomes.{Unsynced, IsOutcome, LeavesOnly}
+use Rattle.fp_disk.specs.Moments.{leaves_map, leaves_still}
+use Rattle.fp_edit.specs.Edits.{Change}
+use Rattle.fp_edit.specs.Flags.{State}
+use Rattle.fp_edit.specs.Log.{after_all}
+use Rattle.fp_journal.specs.declared.journal.Phase.{Phase}
+use Rattle.fp_journal.specs.declared.journal.Phase.TheVariants.{Idle, BodySynced, GateOpened}
+use Rattle.fp_recovery.specs.Stands.{StandsFor}
+use Rattle.fp_group_commit.specs.Store.{StoreState, Leaves, has_begun, begun_at}
+use Rattle.fp_group_commit.specs.Tokens.{Identity}
+use Rattle.fp_desk.specs.Desk.{DeskState, log, settled_revision}
+use Rattle.fp_world.specs.World.{IsOut, IsWorld, KeptFrom, WorldState}
+use Rattle.fp_world.specs.declared.world.Held.{Held}
+use Rattle.fp_world.specs.declared.world.Held.TheVariants as held
+
+-- a front of the log is kept
+pub front_kept : (d : DeskState) (xs rest : List Change) (low : ℕ) (c : List ℕ) → log d ≡ xs ++ rest → low ≤ d.store.start.revision + length xs → StandsFor c (after_all d.store.start xs) → KeptFrom d low c
+front_kept d xs rest low c is le stands =
+    let r = d.store.start.revision in
+    let count : (r + length xs) - r ≡ length xs = omega arith in
+    let cut : take ((r + length xs) - r) (log d) ≡ xs = ap (λ (l : List Change). take ((r + length xs) - r) l) is ∙ take_at xs rest ((r + length xs) - r) (sym count) in
+    let len = ap length is in let more = length-append xs rest in
+    (r + length xs, le, omega (arith, len, more), subst (λ (l : List Change). StandsFor c (after_all d.store.start l)) (sym cut) stands)
+
+idle_not : {D : Type 0} (s : StoreState D) → s.step ≡ Idle → has_begun s ≡ true → ⊥
+idle_not s idle begun = let both : false ≡ true = ap (λ (p : Phase). begun_at p s.journal.phase) (sym idle) ∙ begun in absurd cc
+
+-- what is sealed begins the log, and so does it with the batch in flight
+abbrev Begins : List Change → DeskState → Type 0
+Begins xs d = (rest : List Change) × (log d ≡ xs ++ rest) × (length d.settled ≤ length xs)
+
+module _ {D : Type 0} (s : StoreState D) (d : DeskState) where
+  pub sealed_begins : (h : Held) → IsOut h s d → Begins s.sealed d
+  sealed_begins held.Nothing o = (d.drawn ++ d.waiting, ap (λ (l : List Change). l ++ (d.drawn ++ d.waiting)) (sym o.1), (let len = ap length o.1 in omega (arith, len)))
+  sealed_begins (held.Drawn group) o = (d.drawn ++ d.waiting, ap (λ (l : List Change). l ++ (d.drawn ++ d.waiting)) (sym o.1), (let len = ap length o.1 in omega (arith, len)))
+  sealed_begins held.InFlight o = (d.drawn ++ d.waiting, ap (λ (l : List Change). l ++ (d.drawn ++ d.waiting)) (sym o.1), (let len = ap length o.1 in omega (arith, len)))
+  sealed_begins (held.Sealed receipt) o = (d.waiting, sym (append_assoc d.settled d.drawn d.waiting) ∙ ap (λ (l : List Change). l ++ d.waiting) (sym o.1), (let len = ap length o.1 in let all = length-append d.settled d.drawn in omega (arith, len, all)))
+
+  pub coming_begins : (h : Held) → IsOut h s d → has_begun s ≡ true → Begins (s.sealed ++ s.staged) d
+  coming_begins held.Nothing o begun = absurd (idle_not s o.0 begun)
+  coming_begins (held.Drawn group) o begun = absurd (idle_not s o.0 begun)
+  coming_begins held.InFlight o begun =
+      let is : s.sealed ++ s.staged ≡ d.settled ++ d.drawn = ap (λ (l : List Change). l ++ s.staged) o.1 ∙ ap (λ (l : List Change). d.settled ++ l) o.2 in
+      (d.waiting, sym (append_assoc d.settled d.drawn d.waiting) ∙ ap (λ (l : List Change). l ++ d.waiting) (sym is), (let len = ap length is in let all = length-append d.settled d.drawn in omega (arith, len, all)))
+  coming_begins (held.Sealed receipt) o begun = absurd (idle_not s o.0 begun)
+
+  -- what a crash leaves of the store keeps all that is settled
+  pub leaves_kept : d.store ≡ s.store → (h : Held) → IsOut h s d → (low : ℕ) → low ≤ settled_revision d → (c : List ℕ) → Leaves s c → KeptFrom d low c
+  leaves_kept same h o low le c (inl stands) =
+      let b = sealed_begins h o in let more = b.2 in
+      front_kept d s.sealed b.0 low c b.1 (omega (arith, le, more)) (subst (λ (x : Identity). StandsFor c (after_all x.start s.sealed)) (sym same) stands)
+  leaves_kept same h o low le c (inr both) =
+      let b = coming_begins h o both.0 in let more = b.2 in
+      front_kept d (s.sealed ++ s.staged) b.0 low c b.1 (omega (arith, le, more)) (subst (λ (x : Identity). StandsFor c (after_all x.start (s.sealed ++ s.staged))) (sym same) both.1)
+
+module _ {D : Type 0} (honest : D → Type 0) (moment : D → ℕ) (left_since : D → ℕ → List ℕ → Type 0) (unsynced : D → Unsynced) {h : Held} {s : StoreState D} {d : DeskState} {told : ℕ} (w : IsWorld honest unsynced h s d told) where
+  -- what a crash leaves now
+  pub kept_now : honest s.journal.disk → (c : List ℕ) → IsOutcome (unsynced s.journal.disk) c → KeptFrom d told c
+  kept_now honest_now c out = leaves_kept s d w.same h w.out told w.low c (w.now honest_now c out)
+
+  pub still : ((d : D) (c : List ℕ) → honest d → left_since d (moment d) c → IsOutcome (unsynced d) c) → honest s.journal.disk → LeavesOnly moment left_since s.journal.disk s.journal.disk (KeptFrom d told)
+  still only_now honest_now = leaves_still moment left_since s.journal.disk (KeptFrom d told) (λ c left. kept_now honest_now c (only_now s.journal.disk c honest_now left))
+
+  -- at each moment of a call of the store
+  pub kept_leaves : (new : D) → LeavesOnly moment left_since s.journal.disk new (Leaves s) → LeavesOnly moment left_since s.journal.disk new (KeptFrom d told)
+  kept_leaves new l = leaves_map moment left_since s.journal.disk new (Leaves s) (KeptFrom d told) (λ c p. leaves_kept s d w.same h w.out told w.low c p) l
+
+pub kept_same_log : (d n : DeskState) (low : ℕ) (c : List ℕ) → n.store ≡ d.store → log n ≡ log d → KeptFrom d low c → KeptFrom n low c
+kept_same_log d n low c store same k =
+    let both : (n.store ≡ d.store) × (log n ≡ log d) = (store, same) in
+    rw (store, same) k
+
+-- from the write of its gate on a batch is in flight
+pub in_flight : {D : Type 0} (s : StoreState D) (d : DeskState) (h : Held) → IsOut h s d → s.step ≡ GateOpened → (s.sealed ≡ d.settled) × (s.staged ≡ d.drawn) × (d.drawn ≢ [])
+in_flight s d held.Nothing o at = let both : Idle ≡ GateOpened = sym o.0 ∙ at in absurd cc
+in_flight s d (held.Drawn group) o at = let both : Idle ≡ GateOpened = sym o.0 ∙ at in absurd cc
+in_flight s d held.InFlight o at = (o.1, o.2, o.3)
+in_flight s d (held.Sealed receipt) o at = let both : Idle ≡ GateOpened = sym o.0 ∙ at in absurd cc
+
+take_front : {A : Type 0} (n : ℕ) (xs ys : List A) → n ≤ length xs → take n (xs ++ ys) ≡ take n xs
+take_front zero xs ys le = refl
+take_front (suc n) [] ys le = absurd (omega (arith, le))
+take_front (suc n) (x ∷ xs) ys le = ap (λ (l : List _). x ∷ l) (take_front n xs ys (omega (arith, le)))
+
+-- a longer log keeps what the shorter did
+pub kept_more : (d n : DeskState) (more : List Change) (low : ℕ) (c : List ℕ) → n.store ≡ d.store → log n ≡ log d ++ more → KeptFrom d low c → KeptFrom n low c
+kept_more d n more low c store grows k =
+    let start = ap (λ (x : Identity). x.start) store in let r = ap (λ (t : State). t.revision) start in
+    let high = k.2 in let len = ap length grows in let all = length-append (log d) more in
+    let cut : take (k.0 - n.store.start.revision) (log n) ≡ take (k.0 - d.store.start.revision) (log d) =
+    ap (λ (l : List Change). take (k.0 - n.store.start.revision) l) grows ∙ ap (λ (b : ℕ). take (k.0 - b) (log d ++ more)) r ∙ take_front (k.0 - d.store.start.revision) (log d) more (omega (arith, high)) in
+    (k.0, k.1, omega (arith, high, len, all, r), subst (λ (l : List Change). StandsFor c (after_all n.store.start l)) (sym cut) (subst (λ (t : State). StandsFor c (after_all t (take (k.0 - d.store.start.revision) (log d)))) (sym start) k.3))
+
+pub log_more : (d : DeskState) (c : Change) → d.settled ++ (d.drawn ++ (d.waiting ++ c ∷ [])) ≡ log d ++ c ∷ []
+log_more d c = ap (λ (l : List Change). d.settled ++ l) (sym (append_assoc d.drawn d.waiting (c ∷ []))) ∙ sym (append_assoc d.settled (d.drawn ++ d.waiting) (c ∷ []))
+
+-- what is in flight stays in flight while the store goes on
+pub flight_on : {D : Type 0} (s n : StoreState D) (d : DeskState) (h : Held) → IsOut h s d → s.step ≡ BodySynced → n.sealed ≡ s.sealed → n.staged ≡ s.staged → n.step ≢ Idle → IsOut h n d
+flight_on s n d held.Nothing o at sealed staged busy = let both : Idle ≡ BodySynced = sym o.0 ∙ at in absurd cc
+flight_on s n d (held.Drawn group) o at sealed staged busy = let both : Idle ≡ BodySynced = sym o.0 ∙ at in absurd cc
+flight_on s n d held.InFlight o at sealed staged busy = (busy, sealed ∙ o.1, staged ∙ o.2, o.3)
+flight_on s n d (held.Sealed receipt) o at sealed staged busy = let both : Idle ≡ BodySynced = sym o.0 ∙ at in absurd cc
+
+module _ {D : Type 0} (moment : D → ℕ) (left_since : D → ℕ → List ℕ → Type 0) where
+  -- at each moment of the call that begins to open the gate
+  pub opened_leaves : (h : Held) (n : StoreState D) (d : DeskState) (told : ℕ) (old : D) → d.store ≡ n.store → IsOut h n d → told ≤ settled_revision d → LeavesOnly moment left_since old n.journal.disk (Leaves n) → LeavesOnly moment left_since old n.journal.disk (KeptFrom d told)
+  opened_leaves h n d told old same out low l = leaves_map moment left_since old n.journal.disk (Leaves n) (KeptFrom d told) (λ c p. leaves_kept n d same h out told low c p) l
+
+module _ {D : Type 0} (honest : D → Type 0) (moment : D → ℕ) (left_since : D → ℕ → List ℕ → Type 0) (unsynced : D → Unsynced) (only_now : (d : D) (c : List ℕ) → honest d → left_since d (moment d) c → IsOutcome (unsynced d) c) where
+  -- an event that makes no call of the disk
+  pub rested : (old new : WorldState D) → new.store ≡ old.store → old.told ≤ new.told → (honest new.store.journal.disk → (c : List ℕ) → IsOutcome (unsynced new.store.journal.disk) c → KeptFrom new.desk new.told c)
+      → honest old.store.journal.disk → LeavesOnly moment left_since old.store.journal.disk new.store.journal.disk (KeptFrom new.desk old.told)
+  rested old new same told exit h =
+      let disk : new.store.journal.disk ≡ old.store.journal.disk = ap (λ (s : StoreState D). s.journal.disk) same in
+      subst (λ (d : D). LeavesOnly moment left_since old.store.journal.disk d (KeptFrom new.desk old.told)) (sym disk)
+      (leaves_still moment left_since old.store.journal.disk (KeptFrom new.desk old.told) (λ c left.
+      let k = exit (subst (λ (d : D). honest d) (sym disk) h) c (subst (λ (d : D). IsOutcome (unsynced d) c) (sym disk) (only_now old.store.journal.disk c h left)) in
+      let low = k.1 in (k.0, omega (arith, told, low), k.2, k.3)))
