@@ -1,5 +1,5 @@
 -- The code's faults beside those of the definitions.
-use Rattle.std.specs.Prelude.{◌≡◌, ℕ, List, codes, Option, Some, None, IfSome, string_bytes}
+use Rattle.std.specs.Prelude.{ℕ, List, codes, Option, Some, None, IfSome, string_bytes}
 use Rattle.fp_definition.specs.Valid as is
 use Rattle.fp_definition.specs.Valid.{Fault}
 use Rattle.fp_definition.specs.declared.faults.DefFault.{DefFault}

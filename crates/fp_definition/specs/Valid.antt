@@ -1,5 +1,5 @@
 -- Which JSON data are a flag's definition.
-use Rattle.std.specs.Prelude.{◌≡◌, ℕ, List, [], ◌∷◌, length, codes, Bool, true, false, ◌&&◌, ◌||◌, nat_le, if◌then◌else◌, Option, Some, None, is_some, is_none, bytes_eq, ◌==◌, Result, Ok, Err}
+use Rattle.std.specs.Prelude.{◌≡◌, ℕ, List, [], ◌∷◌, length, codes, Bool, true, false, ◌&&◌, ◌||◌, nat_le, if◌then◌else◌, Option, Some, None, is_some, is_none, bytes_eq, Result, Ok, Err}
 use Rattle.serde_json.specs.Data.{Data, null, string, object, Members, depth}
 use Rattle.serde_json.specs.Find.{get, as_object}
 use Rattle.serde_json.specs.Events.{members_len}

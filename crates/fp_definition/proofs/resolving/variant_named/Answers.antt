@@ -1,4 +1,4 @@
-use Rattle.std.proofs.Common.{◌≡◌, List, ℕ, Option, Some, true, String, BTreeMap, Global, codes, sym, ap, subst, ◌∙◌}
+use Rattle.std.proofs.Common.{◌≡◌, Option, Some, true, String, BTreeMap, Global, codes, sym, ap, subst, ◌∙◌}
 use Rattle.serde_json.specs.Data.{Data, object}
 use Rattle.serde_json.specs.Find.{get, get_member}
 use Rattle.serde_json.specs.View.{view, members_view}

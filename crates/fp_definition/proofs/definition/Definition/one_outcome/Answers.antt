@@ -1,4 +1,4 @@
-use Rattle.std.proofs.Common.{◌≡◌, Some, codes, sym, ap, ◌∙◌, subst}
+use Rattle.std.proofs.Common.{codes, sym, ap, ◌∙◌, subst}
 use Rattle.std.specs.Prelude.{IfSome, unwrap_or}
 use Rattle.serde_json.specs.Data.{null}
 use Rattle.serde_json.specs.Find.{get}
