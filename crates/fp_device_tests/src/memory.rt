@@ -3,16 +3,18 @@
 ghost use Rattle.std.specs.Prelude.{[]};
 ghost use Rattle.fp_disk.specs.Outcomes.{settled};
 
-use fp_disk::{Disk, DiskFault};
+use fp_disk::{Disk, DiskFault, MemoryDisk};
 use fp_journal::{BodyFault, Reader};
 use fp_layout::{OpenFault, SlotReader, open};
 use std::test::Fail;
 
-// A disk that says it is longer than any memory.
+// A disk that says it is longer than any memory, over one that makes its calls.
 #[derive(Drop)]
-struct Vast;
+struct Vast<D: Disk + Drop> {
+    disk: D,
+}
 
-impl Disk for Vast {
+impl<D: Disk + Drop> Disk for Vast<D> {
     ghost honest = { λ _. ⊥ };
 
     ghost bytes = { λ _. [] };
@@ -23,7 +25,9 @@ impl Disk for Vast {
 
     ghost left_since = { λ _ _ _. Unit {0} };
 
-    ghost faults = { λ _. 0 };
+    ghost faults = { λ d. D.faults d.disk };
+
+    ghost calls = { λ d. D.calls d.disk };
 
     ghost present = { λ d h. absurd h };
 
@@ -32,19 +36,20 @@ impl Disk for Vast {
     ghost only_now = { λ d c h left. absurd h };
 
     fn len(&mut self) -> Result<u64, DiskFault> {
+        self.disk.len()?;
         Ok(u64::MAX)
     }
 
     fn read_at(&mut self, _at: u64, _into: &mut [u8]) -> Result<(), DiskFault> {
-        Ok(())
+        self.disk.read_at(0, &mut [])
     }
 
-    fn write_at(&mut self, _at: u64, _from: &[u8]) -> Result<(), DiskFault> {
-        Ok(())
+    fn write_at(&mut self, at: u64, from: &[u8]) -> Result<(), DiskFault> {
+        self.disk.write_at(at, from)
     }
 
     fn sync(&mut self) -> Result<(), DiskFault> {
-        Ok(())
+        self.disk.sync()
     }
 }
 
@@ -77,7 +82,10 @@ impl SlotReader for Asked {
 #[test]
 fn a_growth_that_is_refused_is_want_of_memory(rt: HostRuntime) -> Result<(), Fail> {
     let mut reader = Asked(false);
-    let Err((fault, _disk)) = open(rt.alloc(), Vast, &mut reader) else {
+    let disk = Vast {
+        disk: MemoryDisk::new(rt.alloc()),
+    };
+    let Err((fault, _disk)) = open(rt.alloc(), disk, &mut reader) else {
         return Err(Fail::new("opened"));
     };
     assert_eq!(rt; (fault, reader.0), (OpenFault::Memory, false));
