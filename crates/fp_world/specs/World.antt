@@ -7,6 +7,8 @@ use Rattle.fp_recovery.specs.Stands.{StandsFor}
 use Rattle.fp_group_commit.specs.Changes.{GoesOn}
 use Rattle.fp_group_commit.specs.Store.{Leaves, StoreState}
 use Rattle.fp_desk.specs.Desk.{DeskState, log, settled_revision, settled_set}
+use Rattle.fp_world.specs.declared.event.Answer.{Answer}
+use Rattle.fp_world.specs.declared.event.Answer.TheVariants as answer
 use Rattle.fp_world.specs.declared.world.Held.{Held}
 use Rattle.fp_world.specs.declared.world.Held.TheVariants as held
 
@@ -25,6 +27,20 @@ IsOut held.Nothing s d = (s.step ≡ Idle) × (s.sealed ≡ d.settled) × (d.dra
 IsOut (held.Drawn group) s d = (s.step ≡ Idle) × (s.sealed ≡ d.settled) × (group.changes ≡ d.drawn) × (d.drawn ≢ []) × GoesOn (settled_set d) group
 IsOut held.InFlight s d = (s.step ≢ Idle) × (s.sealed ≡ d.settled) × (s.staged ≡ d.drawn) × (d.drawn ≢ [])
 IsOut (held.Sealed receipt) s d = (s.step ≡ Idle) × (s.sealed ≡ d.settled ++ d.drawn) × (receipt.store ≡ s.store) × (receipt.batch.changes ≡ d.drawn) × (receipt.batch.first ≡ settled_revision d + 1) × (d.drawn ≢ [])
+
+-- an answer tells of no revision above this one
+abbrev pub TellsUpTo : ℕ → Answer → Type 0
+TellsUpTo told (answer.Acked revision) = revision ≤ told
+TellsUpTo told answer.NotNow = Unit {0}
+TellsUpTo told answer.Memory = Unit {0}
+TellsUpTo told (answer.Refused fault) = Unit {0}
+TellsUpTo told (answer.Fault fault) = Unit {0}
+TellsUpTo told (answer.Ticket revision) = Unit {0}
+TellsUpTo told (answer.Drawn n) = Unit {0}
+TellsUpTo told answer.Done = Unit {0}
+TellsUpTo told (answer.Sealed revision) = Unit {0}
+TellsUpTo told (answer.Settled revision) = Unit {0}
+TellsUpTo told answer.Waiting = Unit {0}
 
 pub record IsWorld {D : Type 0} (honest : D → Type 0) (unsynced : D → Unsynced) (held : Held) (s : StoreState D) (d : DeskState) (told : ℕ) : Type 0 where
   pub same : d.store ≡ s.store

@@ -4,7 +4,7 @@ ghost use Rattle.std.specs.Prelude.{◌≡◌, ◌≢◌, ◌<◌, ◌≤◌, �
 ghost use mathlib.Core.List.{IsPrefix};
 ghost use Rattle.fp_disk.specs.Outcomes.{IsOutcome, LeavesOnly};
 ghost use Rattle.fp_desk.specs.Desk.{log};
-ghost use Rattle.fp_world.specs.World.{IsNewWorld, KeptFrom};
+ghost use Rattle.fp_world.specs.World.{IsNewWorld, KeptFrom, TellsUpTo};
 ghost use Rattle.fp_group_commit.specs.Store.{IsFresh};
 
 use crate::event::{Answer, Event};
@@ -64,6 +64,7 @@ impl<D: Disk> Model for World<D> {
 impl<D: Disk> World<D> {
     // Takes an edit. The room for its ticket is taken first.
     fn submit(&mut self, edit: &Edit) -> Answer
+        ensures tells { TellsUpTo self.new.told result }
         ensures log { IsPrefix (log self.old.desk) (log self.new.desk) }
         ensures same { (self.new.store ≡ self.old.store) × (self.new.told ≡ self.old.told)
             × (self.new.desk.store ≡ self.old.desk.store) }
@@ -90,6 +91,7 @@ impl<D: Disk> World<D> {
 
     // Writes what is drawn.
     fn stage(&mut self) -> Answer
+        ensures tells { TellsUpTo self.new.told result }
         ensures same { (self.new.desk ≡ self.old.desk) × (self.new.told ≡ self.old.told)
             × (self.new.store.store ≡ self.old.store.store) }
         ensures any_moment { D.honest self.old.store.journal.disk →
@@ -128,6 +130,7 @@ impl<D: Disk> World<D> {
 
     // Draws a batch.
     fn draw(&mut self) -> Answer
+        ensures tells { TellsUpTo self.new.told result }
         ensures log { log self.new.desk ≡ log self.old.desk }
         ensures same { (self.new.store ≡ self.old.store) × (self.new.told ≡ self.old.told)
             × (self.new.desk.store ≡ self.old.desk.store) }
@@ -149,6 +152,7 @@ impl<D: Disk> World<D> {
 
     // Makes sure of what is in flight.
     fn sync_body(&mut self) -> Answer
+        ensures tells { TellsUpTo self.new.told result }
         ensures same { (self.new.desk ≡ self.old.desk) × (self.new.told ≡ self.old.told)
             × (self.new.store.store ≡ self.old.store.store) }
         ensures any_moment { D.honest self.old.store.journal.disk →
@@ -175,6 +179,7 @@ impl<D: Disk> World<D> {
 
     // Opens the gate of what is in flight.
     fn open_gate(&mut self) -> Answer
+        ensures tells { TellsUpTo self.new.told result }
         ensures same { (self.new.desk ≡ self.old.desk) × (self.new.told ≡ self.old.told)
             × (self.new.store.store ≡ self.old.store.store) }
         ensures any_moment { D.honest self.old.store.journal.disk →
@@ -201,6 +206,7 @@ impl<D: Disk> World<D> {
 
     // Seals what is in flight.
     fn sync_gate(&mut self) -> Answer
+        ensures tells { TellsUpTo self.new.told result }
         ensures same { (self.new.desk ≡ self.old.desk) × (self.new.told ≡ self.old.told)
             × (self.new.store.store ≡ self.old.store.store) }
         ensures any_moment { D.honest self.old.store.journal.disk →
@@ -230,6 +236,7 @@ impl<D: Disk> World<D> {
 
     // Settles what is sealed.
     fn settle(&mut self) -> Answer
+        ensures tells { TellsUpTo self.new.told result }
         ensures log { log self.new.desk ≡ log self.old.desk }
         ensures same { (self.new.store ≡ self.old.store) × (self.new.told ≡ self.old.told)
             × (self.new.desk.store ≡ self.old.desk.store) }
@@ -259,6 +266,7 @@ impl<D: Disk> World<D> {
 
     // Tells whether the edit of this revision is settled, where its ticket was given.
     fn ack(&mut self, revision: u64) -> Answer
+        ensures tells { TellsUpTo self.new.told result }
         ensures same { (self.new.desk ≡ self.old.desk) × (self.new.store ≡ self.old.store) }
         ensures told { self.old.told ≤ self.new.told }
         ensures exit { D.honest self.new.store.journal.disk → (c : List ℕ) →
@@ -309,6 +317,7 @@ impl<D: Disk> World<D> {
 
     /// Does what the event asks. A crash at any moment of it keeps all that was told before it, and a crash after it all that was told by then.
     pub fn step(&mut self, event: &Event) -> Answer
+        ensures tells { TellsUpTo self.new.told result }
         ensures log { IsPrefix (log self.old.desk) (log self.new.desk) }
         ensures same { (self.new.store.store ≡ self.old.store.store)
             × (self.new.desk.store ≡ self.old.desk.store) }

@@ -12,6 +12,7 @@ returns-then-failed-clause-exit g c = let D = g.D.Disk in rw (← c.self.view_is
 
 pub returns-in_default : goal.returns-in_default
 returns-in_default g c = let D = g.D.Disk in let m = g.met.D.Disk in rw (← c.self.view_is) (record {
+  tells = tt;
   same = (refl, refl, refl);
   any_moment = λ h. keeps.still D.honest D.moment D.left_since D.unsynced c.self.invariant m.only_now h;
   exit = λ h o out. keeps.kept_now D.honest D.moment D.left_since D.unsynced c.self.invariant h o out;

@@ -16,6 +16,7 @@ returns-in-Err-Memory-default-clause-exit g c = λ h o out.
 
 pub returns-in_default : goal.returns-in_default
 returns-in_default g c = let D = g.D.Disk in rw (← c.self.view_is) (record {
+  tells = tt;
   log = refl;
   same = (refl, refl, refl);
   exit = λ h o out. keeps.kept_now D.honest D.moment D.left_since D.unsynced c.self.invariant h o out;
