@@ -2,7 +2,7 @@
 #![tactic(auto)]
 
 use fp_commands::command;
-use fp_streams::Counted;
+use fp_streams::FailureCounted;
 use std::alloc::AllocGlobal;
 use std::env;
 use std::process::ExitCode;
@@ -22,8 +22,8 @@ fn main(rt: HostRuntime) -> ExitCode {
         Some(words) => words.as_slice(),
         None => &[],
     };
-    let mut input = Counted::new(rt.reader());
-    let mut output = Counted::new(rt.stdout());
-    let mut errors = Counted::new(rt.stderr());
+    let mut input = FailureCounted::new(rt.reader());
+    let mut output = FailureCounted::new(rt.stdout());
+    let mut errors = FailureCounted::new(rt.stderr());
     ExitCode::from(command(&rt, words, &mut input, &mut output, &mut errors))
 }

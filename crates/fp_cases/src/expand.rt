@@ -12,7 +12,7 @@ pub type Texts = BTreeMap<String, Vec<u8>>;
 
 // How often a part is put, and the numbers that stand for `#`.
 #[derive(Clone, Copy)]
-struct Counted {
+struct FailureCounted {
     first: u32,
     last: u32,
     digits: usize,
@@ -43,14 +43,14 @@ fn put_part(alloc: Global, texts: &Texts, part: &str, out: &mut Vec<u8>) -> Resu
     out.extend_from_slice(&piece_of(alloc, texts, part)?)
 }
 
-fn counted_by(head: &str) -> Option<Counted> {
+fn counted_by(head: &str) -> Option<FailureCounted> {
     match head.split_once("..") {
-        Some((first, last)) => Some(Counted {
+        Some((first, last)) => Some(FailureCounted {
             first: first.parse().ok()?,
             last: last.parse().ok()?,
             digits: first.len(),
         }),
-        None => Some(Counted {
+        None => Some(FailureCounted {
             first: 1,
             last: head.parse().ok()?,
             digits: 1,
@@ -60,7 +60,7 @@ fn counted_by(head: &str) -> Option<Counted> {
 
 fn put_counted(
     alloc: Global,
-    counted: Counted,
+    counted: FailureCounted,
     piece: &[u8],
     out: &mut Vec<u8>,
 ) -> Result<(), AllocError> {

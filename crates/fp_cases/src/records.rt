@@ -5,7 +5,7 @@ use crate::expand::put_bytes;
 use crate::values::SHOWN;
 use fp_definition::FlagKey;
 use fp_edit::{Edit, Flag, FlagSet};
-use fp_record::{Batch, Image, RecordFault, spelled_len};
+use fp_record::{Batch, Image, RecordFault, encoded_len};
 use std::alloc::{AllocError, Global};
 
 /// The batch that bytes spell.
@@ -14,7 +14,7 @@ pub fn batch(alloc: Global, bytes: &[u8], out: &mut String) -> Result<(), AllocE
         Ok(batch) => {
             write!(out, "first {}\n", batch.first())?;
             for edit in batch.edits().iter().take(SHOWN) {
-                write!(out, "{} bytes, ", spelled_len(edit))?;
+                write!(out, "{} bytes, ", encoded_len(edit))?;
                 put_edit(edit, out)?;
                 out.push('\n')?;
             }

@@ -1,8 +1,8 @@
 -- What failed, as a whole command counts it.
 use Rattle.std.proofs.Common.{◌≡◌, ◌<◌, ◌+◌, ℕ, Err, refl, arith}
-use Rattle.fp_plane.specs.Streams as plane
-use Rattle.fp_plane.specs.declared.fault.ApplyFault.{ApplyFault}
-use Rattle.fp_plane.specs.declared.fault.ApplyFault.TheVariants as run
+use Rattle.fp_session.specs.Streams as plane
+use Rattle.fp_session.specs.declared.fault.ApplyFault.{ApplyFault}
+use Rattle.fp_session.specs.declared.fault.ApplyFault.TheVariants as run
 use Rattle.fp_commands.specs.declared.fault.CommandFault.{CommandFault}
 use Rattle.fp_commands.specs.declared.fault.CommandFault.TheVariants.{NotEmpty, Unformatted, UnknownVersion, Damaged, Device, StoreFailed, Memory, NotDocument, UnknownEvaluator, EvaluatorsTooDeep, BadKey, Flag}
 use Rattle.fp_commands.specs.Disks.{Blames}
@@ -25,6 +25,6 @@ blames-more A B a b c d (Flag key fault) more h = tt
 
 -- a run over streams, while the disk went on or failed
 pub blames-run : (A B : Type 0) (a b s t : ℕ) (f : ApplyFault) → (f ≡ run.Device → b ≡ a) → plane.Blames {A = A} s t (Err f) → Blames {A = B} (a + s) (b + t) (Err (of_run f))
-blames-run A B a b s t run.Device calm h = let same = calm refl in omega (arith, same, h)
-blames-run A B a b s t run.StoreFailed calm h = tt
-blames-run A B a b s t run.Memory calm h = tt
+blames-run A B a b s t run.Device no_failure h = let same = no_failure refl in omega (arith, same, h)
+blames-run A B a b s t run.StoreFailed no_failure h = tt
+blames-run A B a b s t run.Memory no_failure h = tt

@@ -1,11 +1,11 @@
 -- How a task ends.
 use Rattle.std.proofs.Common.{◌≡◌, ◌≤◌, ◌+◌, ℕ, Bool, Result, Ok, Err, IfErr, OnOk, subst, arith}
 use Rattle.fp_edit.specs.Edits.{Proposal}
-use Rattle.fp_plane.specs.Course.{Course}
-use Rattle.fp_plane.specs.Streams as plane
-use Rattle.fp_plane.specs.declared.fault.ApplyFault.{ApplyFault}
-use Rattle.fp_plane.specs.declared.fault.ApplyFault.TheVariants as run
-use Rattle.fp_streams.specs.Failures.{Counts}
+use Rattle.fp_session.specs.StoreRun.{StoreRun}
+use Rattle.fp_session.specs.Streams as plane
+use Rattle.fp_session.specs.declared.fault.ApplyFault.{ApplyFault}
+use Rattle.fp_session.specs.declared.fault.ApplyFault.TheVariants as run
+use Rattle.fp_streams.specs.Failures.{CountsFailures}
 use Rattle.fp_streams.specs.declared.counted.StreamFault.{StreamFault}
 use Rattle.fp_streams.specs.declared.counted.StreamFault.TheVariants as stream
 use Rattle.fp_commands.specs.declared.fault.CommandFault.{CommandFault}
@@ -14,20 +14,20 @@ use Rattle.fp_commands.specs.Faults.{of_run}
 
 -- flags that are kept in memory don't fail
 pub memory-ends : {S : Type 0} (asks : S → Proposal → Type 0) (a b : S) (before after : ℕ) (f : ApplyFault)
-    → Course {A = Bool} (λ x y. Unit {0}) (λ x p y. ⊥) asks a b (Err f) → plane.Blames {A = Bool} before after (Err f)
+    → StoreRun {A = Bool} (λ x y. Unit {0}) (λ x p y. ⊥) asks a b (Err f) → plane.Blames {A = Bool} before after (Err f)
     → IsStreamFault (of_run f) × Blames {A = Unit {0}} before after (Err (of_run f))
 memory-ends asks a b before after run.Device k h = (tt, h)
 memory-ends asks a b before after run.StoreFailed k h = absurd k.failed
 memory-ends asks a b before after run.Memory k h = (tt, tt)
 
 -- a file that was opened had not failed
-pub file-calm : {A : Type 0} (r : Result A CommandFault) (a : A) (d e s t : ℕ) → r ≡ Ok a → d ≡ 0 → Blames (d + s) (e + t) r → t ≤ s
-file-calm {A} r a d e s t is none h =
+pub file-no_failure : {A : Type 0} (r : Result A CommandFault) (a : A) (d e s t : ℕ) → r ≡ Ok a → d ≡ 0 → Blames (d + s) (e + t) r → t ≤ s
+file-no_failure {A} r a d e s t is none h =
     let same : e + t ≡ d + s = subst (λ (o : Result A CommandFault). Blames (d + s) (e + t) o) is h in
     omega (arith, same, none)
 
 -- what was said stands there, unless the stream failed
-pub said : (r : Result (Unit {0}) StreamFault) (P : Type 0) (before after : ℕ) → OnOk r P → IfErr r (λ f. f ≡ stream.Device) → Counts before after r → after ≡ before → P
+pub said : (r : Result (Unit {0}) StreamFault) (P : Type 0) (before after : ℕ) → OnOk r P → IfErr r (λ f. f ≡ stream.Device) → CountsFailures before after r → after ≡ before → P
 said (Ok x) P before after text fault counted same = text
 said (Err stream.Device) P before after text fault counted same = absurd (omega (arith, counted, same))
 said (Err stream.Memory) P before after text fault counted same = absurd (cc)

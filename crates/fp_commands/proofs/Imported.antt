@@ -10,8 +10,8 @@ use Rattle.fp_imports.specs.declared.faults.ImportFault.{ImportFault}
 use Rattle.fp_imports.specs.declared.faults.ImportFault.TheVariants as import
 use Rattle.fp_layout.specs.declared.fault.OpenFault.{OpenFault}
 use Rattle.fp_layout.specs.declared.fault.OpenFault.TheVariants as opening
-use Rattle.fp_plane.specs.declared.fault.ApplyFault.{ApplyFault}
-use Rattle.fp_plane.specs.declared.fault.ApplyFault.TheVariants as run
+use Rattle.fp_session.specs.declared.fault.ApplyFault.{ApplyFault}
+use Rattle.fp_session.specs.declared.fault.ApplyFault.TheVariants as run
 use Rattle.fp_recovery.specs.Refusals.{RefusesBytes, IsUnlessWanting}
 use Rattle.fp_commands.specs.declared.fault.CommandFault.{CommandFault}
 use Rattle.fp_commands.specs.declared.fault.CommandFault.TheVariants as command

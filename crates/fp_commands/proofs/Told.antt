@@ -2,13 +2,13 @@
 use Rattle.std.proofs.Common.{◌≡◌, List, [], ℕ, Bool, Option, Some, None, Result, Ok, Err, IfSome, IfOk, OnOk, refl, subst}
 use Rattle.std.proofs.lemmas.Option.{IfSome_then}
 use Rattle.fp_edit.specs.Flags.{State}
-use Rattle.fp_disk.specs.Outcomes.{Unsynced}
-use Rattle.fp_plane.specs.Lines.{lines, answered}
-use Rattle.fp_plane.specs.Run.{IsLeftBy, IsApplied}
+use Rattle.fp_disk.specs.Outcomes.{PendingState}
+use Rattle.fp_session.specs.Lines.{lines, answered}
+use Rattle.fp_session.specs.Run.{IsLeftBy, IsApplied}
 use Rattle.fp_layout.specs.declared.fault.OpenFault.{OpenFault}
 use Rattle.fp_layout.specs.declared.fault.OpenFault.TheVariants.{Unformatted, UnknownVersion, Damaged, Device, Memory}
-use Rattle.fp_plane.specs.declared.fault.ApplyFault.{ApplyFault}
-use Rattle.fp_plane.specs.declared.fault.ApplyFault.TheVariants as run
+use Rattle.fp_session.specs.declared.fault.ApplyFault.{ApplyFault}
+use Rattle.fp_session.specs.declared.fault.ApplyFault.TheVariants as run
 use Rattle.fp_recovery.specs.Refusals.{RefusesBytes, IsUnlessWanting}
 use Rattle.fp_commands.specs.declared.fault.CommandFault.{CommandFault}
 use Rattle.fp_commands.specs.declared.fault.CommandFault.TheVariants as command
@@ -73,13 +73,13 @@ some_if (Some x) C P Q p q = λ c. (p c, q c)
 pub shows : {A E : Type 0} (r : Result A E) (is_honest : Type 0) (bytes : List ℕ) (old new : Option (List ℕ)) → OnOk r (IsShown is_honest bytes old new) → OnOk r (ShowsFlags old new)
 shows r is_honest bytes old new h = ok_more r (IsShown is_honest bytes old new) (ShowsFlags old new) (λ s. (s.flags, s.written)) h
 
-pub applies : {E : Type 0} (r : Result Bool E) (told : Bool) (is_honest : Type 0) (bytes : List ℕ) (after : Unsynced) (left old new : Option (List ℕ)) → r ≡ Ok told
+pub applies : {E : Type 0} (r : Result Bool E) (told : Bool) (is_honest : Type 0) (bytes : List ℕ) (after : PendingState) (left old new : Option (List ℕ)) → r ≡ Ok told
     → IfOk r (λ t. IsRunOnDisk is_honest bytes after left (Applies t old new)) → IfSome left (λ input. (start : State) × IsApplied start input old new)
 applies {E} r told is_honest bytes after left old new is h =
     let run : IsRunOnDisk is_honest bytes after left (Applies told old new) = subst (λ (o : Result Bool E). IfOk o (λ t. IsRunOnDisk is_honest bytes after left (Applies t old new))) is h in
     IfSome_then left run.run (λ input over. (run.start, (told, run.flags, over.0)))
 
-pub imports : {E : Type 0} (r : Result Bool E) (told : Bool) (is_honest : Type 0) (bytes : List ℕ) (after : Unsynced) (left old new : Option (List ℕ)) → r ≡ Ok told
+pub imports : {E : Type 0} (r : Result Bool E) (told : Bool) (is_honest : Type 0) (bytes : List ℕ) (after : PendingState) (left old new : Option (List ℕ)) → r ≡ Ok told
     → IfOk r (λ t. IsRunOnDisk is_honest bytes after left (Imports t old new)) → IfSome left (λ input. (start : State) × IsImported start input old new)
 imports {E} r told is_honest bytes after left old new is h =
     let run : IsRunOnDisk is_honest bytes after left (Imports told old new) = subst (λ (o : Result Bool E). IfOk o (λ t. IsRunOnDisk is_honest bytes after left (Imports t old new))) is h in

@@ -1,18 +1,18 @@
 -- What a command over a disk comes to.
 use Rattle.std.specs.Prelude.{◌≡◌, ◌⊎◌, ◌<◌, ℕ, List, Bool, true, Option, None, IfSome, Result, Ok, Err}
 use Rattle.std.specs.Io.KnownBytes.{Appends}
-use Rattle.fp_disk.specs.Outcomes.{Unsynced}
+use Rattle.fp_disk.specs.Outcomes.{PendingState}
 use Rattle.fp_edit.specs.Admits.{refusal}
 use Rattle.fp_edit.specs.Edits.{Proposal}
 use Rattle.fp_edit.specs.Flags.{State}
 use Rattle.fp_layout.specs.declared.fault.OpenFault.{OpenFault}
 use Rattle.fp_layout.specs.declared.fault.OpenFault.TheVariants as opening
 use Rattle.fp_imports.specs.Document as document
-use Rattle.fp_plane.specs.Import.{IsImport, IsLeftByPuts, IsStoppedByPuts, import_script, after_import}
-use Rattle.fp_plane.specs.Run.{IsRunOver}
-use Rattle.fp_plane.specs.Script.{script, after_input}
-use Rattle.fp_plane.specs.Verdicts.{show_line}
-use Rattle.fp_recovery.specs.Durable.{IsSure}
+use Rattle.fp_session.specs.Import.{IsImport, IsLeftByPuts, IsStoppedByPuts, import_script, after_import}
+use Rattle.fp_session.specs.Run.{IsRunOver}
+use Rattle.fp_session.specs.Script.{script, after_input}
+use Rattle.fp_session.specs.Verdicts.{show_line}
+use Rattle.fp_recovery.specs.Durable.{IsDurable}
 use Rattle.fp_recovery.specs.Refusals.{RefusesBytes, StandsForNone}
 use Rattle.fp_recovery.specs.Room.{IsFull}
 use Rattle.fp_recovery.specs.Stands.{StandsFor}
@@ -87,11 +87,11 @@ Imports told old new start input flags = (puts : List document.Flag) × (import_
     × (told ≡ true → Appends old new (import_script start puts) × (flags ≡ after_import start puts))
 
 -- the input leads from what the bytes stood for to what every crash leaves now
-pub record IsRunOnDisk (is_honest : Type 0) (bytes : List ℕ) (after : Unsynced) (left : Option (List ℕ)) (Leads : State → List ℕ → State → Type 0) : Type 0 where
+pub record IsRunOnDisk (is_honest : Type 0) (bytes : List ℕ) (after : PendingState) (left : Option (List ℕ)) (Leads : State → List ℕ → State → Type 0) : Type 0 where
   pub start : State
   pub flags : State
   pub stood : is_honest → StandsFor bytes start
-  pub sure : is_honest → IsSure after flags
+  pub sure : is_honest → IsDurable after flags
   pub run : IfSome left (λ input. Leads start input flags)
 
 -- some first puts of the document lead there; none do where it is no document
@@ -107,7 +107,7 @@ abbrev pub IsStoppedByImport : State → List ℕ → State → Proposal → Typ
 IsStoppedByImport start input flags edit = (puts : List document.Flag) × (import_of input ≡ Ok puts) × IsStoppedByPuts start puts flags edit
 
 -- the flags that some beginning of the input led to admit the next edit of it, for which whatever a crash leaves of the disk has no room
-pub record LacksRoom (is_honest : Type 0) (bytes : List ℕ) (after : Unsynced) (left : Option (List ℕ)) (Stops : State → List ℕ → State → Proposal → Type 0) : Type 0 where
+pub record LacksRoom (is_honest : Type 0) (bytes : List ℕ) (after : PendingState) (left : Option (List ℕ)) (Stops : State → List ℕ → State → Proposal → Type 0) : Type 0 where
   pub start : State
   pub flags : State
   pub edit : Proposal

@@ -8,9 +8,9 @@ use Rattle.fp_layout.specs.declared.fault.OpenFault.{OpenFault}
 use Rattle.fp_layout.specs.declared.fault.OpenFault.TheVariants as opening
 use Rattle.fp_layout.specs.declared.format.CreateFault.{CreateFault}
 use Rattle.fp_layout.specs.declared.format.CreateFault.TheVariants as create
-use Rattle.fp_plane.specs.Fault as run_fault
-use Rattle.fp_plane.specs.declared.fault.ApplyFault.{ApplyFault}
-use Rattle.fp_plane.specs.declared.fault.ApplyFault.TheVariants as run
+use Rattle.fp_session.specs.Fault as run_fault
+use Rattle.fp_session.specs.declared.fault.ApplyFault.{ApplyFault}
+use Rattle.fp_session.specs.declared.fault.ApplyFault.TheVariants as run
 use Rattle.fp_streams.specs.declared.counted.StreamFault.{StreamFault}
 use Rattle.fp_streams.specs.declared.counted.StreamFault.TheVariants as stream
 use Rattle.fp_commands.specs.declared.fault.CommandFault.{CommandFault}

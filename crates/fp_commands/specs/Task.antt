@@ -4,9 +4,9 @@ use Rattle.std.specs.FinMap as fin
 use Rattle.std.specs.Io.KnownBytes.{Appends}
 use Rattle.fp_edit.specs.Flags.{State}
 use Rattle.fp_imports.specs.Document.{Flag}
-use Rattle.fp_plane.specs.Import.{IsImport}
-use Rattle.fp_plane.specs.Run.{IsApplied}
-use Rattle.fp_plane.specs.Verdicts.{show_line}
+use Rattle.fp_session.specs.Import.{IsImport}
+use Rattle.fp_session.specs.Run.{IsApplied}
+use Rattle.fp_session.specs.Verdicts.{show_line}
 use Rattle.fp_streams.specs.Failures.{Stream}
 use Rattle.fp_streams.specs.Said.{AppendsLine}
 use Rattle.fp_commands.specs.Disks.{Blames, IfRefused, IsApplyingFault, IsImportingFault, IsMakingFault, IsShowingFault, IsStreamFault}

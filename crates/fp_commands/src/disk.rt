@@ -3,12 +3,12 @@
 ghost use Rattle.std.specs.Prelude.{◌≡◌, ◌≢◌, ◌⊎◌, ◌<◌, ◌+◌, ◌^◌, [], ◌∷◌, IfOk, IfErr, OnOk};
 ghost use Rattle.std.specs.Io.KnownBytes.{Appends};
 ghost use Rattle.fp_disk.specs.History.{Makes, MakesSome};
-ghost use Rattle.fp_disk.specs.Outcomes.{LeavesOnly, settled};
+ghost use Rattle.fp_disk.specs.Outcomes.{LeavesOnly, all_synced};
 ghost use Rattle.fp_disk.specs.declared.history.CallKind.TheVariants.{Length, Read, Sync};
 ghost use Rattle.fp_layout.specs.NewDisk.{IsNewDisk, format_calls};
-ghost use Rattle.fp_plane.specs.Run.{IsLeftBy, IsStoppedBy};
-ghost use Rattle.fp_plane.specs.Verdicts.{show_line};
-ghost use Rattle.fp_recovery.specs.Durable.{IsNewSetOrNone, IsSure};
+ghost use Rattle.fp_session.specs.Run.{IsLeftBy, IsStoppedBy};
+ghost use Rattle.fp_session.specs.Verdicts.{show_line};
+ghost use Rattle.fp_recovery.specs.Durable.{IsNewSetOrNone, IsDurable};
 ghost use Rattle.fp_commands.specs.Disks.{Applies, Blames, IfRefused, Imports, IsApplyingFault, IsImportingFault, IsLeftByImport, IsLeftOnDisk, IsMakingFault, IsRunOnDisk, IsShowingFault, IsShown, IsStoppedByImport, IsStreamFault, LacksRoom};
 ghost use Rattle.fp_commands.specs.Task.{no_flags};
 ghost use Rattle.fp_commands.specs.declared.fault.CommandFault.TheVariants.{Device, Memory, NotEmpty, StoreFailed};
@@ -19,16 +19,16 @@ use crate::kept::Kept;
 use fp_disk::Disk;
 use fp_edit::FlagSet;
 use fp_layout::SlotSize;
-use fp_plane::{apply_lines, import_flags, shown};
 use fp_recovery::DurableSet;
-use fp_streams::Counted;
+use fp_session::{apply_lines, import_flags, shown};
+use fp_streams::FailureCounted;
 use std::alloc::Global;
 use std::io::{Read, Write};
 
 /// Makes an empty disk one that stands for no flags at revision 0.
 pub fn init_disk<D: Disk>(alloc: Global, disk: D) -> (D, Result<(), CommandFault>)
     ensures made { D.honest disk → OnOk result.1 (IsNewDisk (2 ^ 24) (D.bytes result.0)) }
-    ensures sure { D.honest disk → OnOk result.1 (IsSure (D.unsynced result.0) no_flags) }
+    ensures sure { D.honest disk → OnOk result.1 (IsDurable (D.unsynced result.0) no_flags) }
     ensures empty { D.honest disk → OnOk result.1 (D.bytes disk ≡ []) }
     ensures not_empty { D.honest disk → IfErr result.1 (λ f. f ≡ NotEmpty
         → (D.bytes disk ≢ []) × (D.bytes result.0 ≡ D.bytes disk)) }
@@ -36,8 +36,8 @@ pub fn init_disk<D: Disk>(alloc: Global, disk: D) -> (D, Result<(), CommandFault
         → (D.bytes result.0 ≡ D.bytes disk) × (D.unsynced result.0 ≡ D.unsynced disk)) }
 
     // A crash at any moment of it leaves what is no disk yet, or one of no flags.
-    ensures any_moment { D.honest disk → D.unsynced disk ≡ settled []
-        → LeavesOnly D.moment D.left_since disk result.0 (IsNewSetOrNone (2 ^ 24)) }
+    ensures any_moment { D.honest disk → D.unsynced disk ≡ all_synced []
+        → LeavesOnly D.moment D.crash_states_since disk result.0 (IsNewSetOrNone (2 ^ 24)) }
     ensures called { Makes (Length ∷ format_calls) (D.calls disk) (D.calls result.0) result.1 }
     ensures fault { IfErr result.1 IsMakingFault }
     ensures cause { IfErr result.1 (λ f. f ≡ Device → D.faults disk < D.faults result.0) }
@@ -52,7 +52,7 @@ pub fn init_disk<D: Disk>(alloc: Global, disk: D) -> (D, Result<(), CommandFault
 /// Writes the line of what a disk stands for. Nothing is written on the disk.
 pub fn show_disk<D: Disk, W: Write>(
     alloc: Global,
-    w: &mut Counted<W>,
+    w: &mut FailureCounted<W>,
     disk: D,
 ) -> (D, Result<(), CommandFault>)
     ensures shown { OnOk result.1
@@ -60,7 +60,7 @@ pub fn show_disk<D: Disk, W: Write>(
     ensures same { D.honest disk → D.bytes result.0 ≡ D.bytes disk }
     ensures called { MakesSome (Sync ∷ Length ∷ Read ∷ []) (D.calls disk) (D.calls result.0) }
     ensures fault { IfErr result.1 (IsShowingFault (D.honest disk) (D.bytes disk)) }
-    ensures silent { IfErr result.1 (IfRefused (w.new ≡ w.old)) }
+    ensures nothing_written { IfErr result.1 (IfRefused (w.new ≡ w.old)) }
     ensures device { Blames (D.faults disk + w.old.failures) (D.faults result.0 + w.new.failures)
         result.1 }
     ensures honest { (D.honest disk → D.honest result.0) × (D.honest result.0 → D.honest disk) }
@@ -78,8 +78,8 @@ pub fn show_disk<D: Disk, W: Write>(
 /// edit is sealed on the disk before it is answered. `Ok(false)` says that a reply told of wanting memory.
 pub fn apply_disk<D: Disk, R: Read, W: Write>(
     alloc: Global,
-    r: &mut Counted<R>,
-    w: &mut Counted<W>,
+    r: &mut FailureCounted<R>,
+    w: &mut FailureCounted<W>,
     disk: D,
 ) -> (D, Result<bool, CommandFault>)
     ensures run { IfOk result.1 (λ told. IsRunOnDisk (D.honest disk) (D.bytes disk)
@@ -90,7 +90,7 @@ pub fn apply_disk<D: Disk, R: Read, W: Write>(
     ensures left { D.honest disk → IfErr result.1 (λ f. f ≢ StoreFailed
         → IsLeftOnDisk (D.bytes disk) (D.bytes result.0) (R.remaining r.old.inner) IsLeftBy) }
     ensures fault { IfErr result.1 (IsApplyingFault (D.honest disk) (D.bytes disk)) }
-    ensures silent { IfErr result.1 (IfRefused (w.new ≡ w.old)) }
+    ensures nothing_written { IfErr result.1 (IfRefused (w.new ≡ w.old)) }
 
     // The store fails where the disk does, or has no room for an edit that the input asks for.
     ensures cause { IfErr result.1 (λ f. f ≡ StoreFailed
@@ -119,8 +119,8 @@ pub fn apply_disk<D: Disk, R: Read, W: Write>(
 /// before it is answered; one that is refused is an answer. `Ok(false)` says that a reply told of wanting memory.
 pub fn import_disk<D: Disk, R: Read, W: Write>(
     alloc: Global,
-    r: &mut Counted<R>,
-    w: &mut Counted<W>,
+    r: &mut FailureCounted<R>,
+    w: &mut FailureCounted<W>,
     disk: D,
 ) -> (D, Result<bool, CommandFault>)
     ensures run { IfOk result.1 (λ told. IsRunOnDisk (D.honest disk) (D.bytes disk)
@@ -132,7 +132,7 @@ pub fn import_disk<D: Disk, R: Read, W: Write>(
         → IsLeftOnDisk (D.bytes disk) (D.bytes result.0) (R.remaining r.old.inner) IsLeftByImport) }
     ensures fault { IfErr result.1
         (IsImportingFault (D.honest disk) (D.bytes disk) (R.remaining r.old.inner)) }
-    ensures silent { IfErr result.1 (IfRefused (w.new ≡ w.old)) }
+    ensures nothing_written { IfErr result.1 (IfRefused (w.new ≡ w.old)) }
 
     // The store fails where the disk does, or has no room for an edit that the input asks for.
     ensures cause { IfErr result.1 (λ f. f ≡ StoreFailed
@@ -161,7 +161,11 @@ pub fn import_disk<D: Disk, R: Read, W: Write>(
 }
 
 // Writes the line of these flags.
-fn show<W: Write>(alloc: Global, w: &mut Counted<W>, flags: &FlagSet) -> Result<(), CommandFault>
+fn show<W: Write>(
+    alloc: Global,
+    w: &mut FailureCounted<W>,
+    flags: &FlagSet,
+) -> Result<(), CommandFault>
     ensures shown { OnOk result
         (Appends (W.contents w.old.inner) (W.contents w.new.inner) (show_line flags.now)) }
     ensures fault { IfErr result IsStreamFault }

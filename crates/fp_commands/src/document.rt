@@ -1,7 +1,7 @@
 //! Flagd documents as they are read.
 
 ghost use Rattle.std.specs.Prelude.{◌≡◌, Ok, IfSome, IfOk, IfErr, map};
-ghost use Rattle.fp_plane.specs.Import.{seen};
+ghost use Rattle.fp_session.specs.Import.{seen};
 ghost use Rattle.fp_commands.specs.Disks.{Blames};
 ghost use Rattle.fp_commands.specs.Documents.{import_of, IsDocumentFault};
 
@@ -9,14 +9,14 @@ use crate::fault::CommandFault;
 use fp_base::read_json;
 use fp_definition::{Definition, FlagKey};
 use fp_imports::expand_document;
-use fp_streams::Counted;
+use fp_streams::FailureCounted;
 use std::alloc::Global;
 use std::io::Read;
 
 // The flags of the flagd document that the reader gives.
 pub fn read_document<R: Read>(
     alloc: Global,
-    r: &mut Counted<R>,
+    r: &mut FailureCounted<R>,
 ) -> Result<Vec<(FlagKey, Definition)>, CommandFault>
     ensures flags { IfSome (R.remaining r.old.inner) (λ input.
         IfOk result (λ flags. import_of input ≡ Ok (map seen flags.items))) }

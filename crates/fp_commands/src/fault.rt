@@ -8,7 +8,7 @@ use fp_definition::{DefFault, FlagKey};
 use fp_disk::DiskFault;
 use fp_imports::ImportFault;
 use fp_layout::{CreateFault, OpenFault};
-use fp_plane::ApplyFault;
+use fp_session::ApplyFault;
 use fp_streams::StreamFault;
 use std::alloc::AllocError;
 use std::error::Error;

@@ -1,14 +1,14 @@
-//! Edits that go to a set on a disk.
+//! EditStore that go to a set on a disk.
 
 ghost use Rattle.std.specs.Prelude.{◌≡◌};
 ghost use Rattle.fp_journal.specs.declared.journal.Phase.TheVariants.{Idle};
-ghost use Rattle.fp_recovery.specs.Durable.{IsSure};
+ghost use Rattle.fp_recovery.specs.Durable.{IsDurable};
 ghost use Rattle.fp_commands.specs.Kept.{Fails, Keeps, keeps_itself, keeps_on};
 
 use fp_disk::Disk;
 use fp_edit::{Edit, FlagSet};
-use fp_plane::{Declined, Edits};
 use fp_recovery::{AdmitFault, DurableSet};
+use fp_session::{Declined, EditStore};
 
 // A set that seals each edit on its disk before the edit is answered.
 pub struct Kept<D: Disk> {
@@ -19,19 +19,19 @@ impl<D: Disk> Kept<D> {
     // Gives the disk back.
     pub fn into_disk(self) -> D
         ensures disk { result ≡ self.set.journal.disk }
-        ensures sure { D.honest result → self.set.journal.phase ≡ Idle → IsSure (D.unsynced result) self.set.set }
+        ensures sure { D.honest result → self.set.journal.phase ≡ Idle → IsDurable (D.unsynced result) self.set.set }
     {
         let Kept { set } = self;
         set.into_disk()
     }
 }
 
-impl<D: Disk> Edits for Kept<D> {
+impl<D: Disk> EditStore for Kept<D> {
     ghost state = { λ k. k.set.set };
 
-    ghost leads_to = { λ a b. Keeps D.honest D.faults a.set b.set };
+    ghost continues_to = { λ a b. Keeps D.honest D.faults a.set b.set };
 
-    ghost fails_at = { λ a p b. Fails D.honest D.unsynced D.faults a.set p b.set };
+    ghost fails_on = { λ a p b. Fails D.honest D.unsynced D.faults a.set p b.set };
 
     ghost leads_to_itself = { λ s. keeps_itself D.honest D.faults s.set };
 

@@ -9,8 +9,8 @@ use crate::disk::{apply_disk, import_disk, init_disk, show_disk};
 use crate::fault::CommandFault;
 use fp_disk::{create_file, open_file};
 use fp_edit::FlagSet;
-use fp_plane::apply_lines;
-use fp_streams::Counted;
+use fp_session::apply_lines;
+use fp_streams::FailureCounted;
 use std::alloc::{AllocGlobal, Global};
 use std::io::{Read, Write};
 use std::rt::Files;
@@ -37,9 +37,9 @@ enum Task {
 pub fn command<X, R, W, E>(
     rt: &X,
     words: &[String],
-    r: &mut Counted<R>,
-    w: &mut Counted<W>,
-    e: &mut Counted<E>,
+    r: &mut FailureCounted<R>,
+    w: &mut FailureCounted<W>,
+    e: &mut FailureCounted<E>,
 ) -> u8
 where
     X: Files + AllocGlobal,
@@ -51,7 +51,7 @@ where
     ensures untouched { result ≡ 2 → (r.new ≡ r.old) × (w.new ≡ w.old) }
     ensures done { result ≡ 0 → IfSome (named (map string_bytes words.now)) (λ task.
         IsDone task.0 (R.remaining r.old.inner) (W.contents w.old.inner) (W.contents w.new.inner)) }
-    ensures calm { result ≡ 0 → NoneFailed r.old r.new w.old w.new }
+    ensures no_failure { result ≡ 0 → NoneFailed r.old r.new w.old w.new }
     ensures quiet { result ≡ 0 → e.new ≡ e.old }
     ensures ends { result ≡ 1 → IfSome (named (map string_bytes words.now)) (λ task.
         TellsFault E.contents e.old e.new (Ends R.remaining r.old r.new w.old w.new task.0)) }
@@ -97,8 +97,8 @@ fn perform<X, R, W>(
     rt: &X,
     task: Task,
     path: &str,
-    r: &mut Counted<R>,
-    w: &mut Counted<W>,
+    r: &mut FailureCounted<R>,
+    w: &mut FailureCounted<W>,
 ) -> Result<(), CommandFault>
 where
     X: Files + AllocGlobal,
@@ -106,7 +106,7 @@ where
     W: Write,
     ensures done { OnOk result
         (IsDone task (R.remaining r.old.inner) (W.contents w.old.inner) (W.contents w.new.inner)) }
-    ensures calm { OnOk result (NoneFailed r.old r.new w.old w.new) }
+    ensures no_failure { OnOk result (NoneFailed r.old r.new w.old w.new) }
     ensures ends { IfErr result (Ends R.remaining r.old r.new w.old w.new task) }
 {
     match task {
@@ -121,12 +121,12 @@ where
 // Answers the input's lines over flags that are kept in memory alone.
 fn apply<R: Read, W: Write>(
     alloc: Global,
-    r: &mut Counted<R>,
-    w: &mut Counted<W>,
+    r: &mut FailureCounted<R>,
+    w: &mut FailureCounted<W>,
 ) -> Result<(), CommandFault>
     ensures done { OnOk result
         (IsDone Apply (R.remaining r.old.inner) (W.contents w.old.inner) (W.contents w.new.inner)) }
-    ensures calm { OnOk result (NoneFailed r.old r.new w.old w.new) }
+    ensures no_failure { OnOk result (NoneFailed r.old r.new w.old w.new) }
     ensures ends { IfErr result (Ends R.remaining r.old r.new w.old w.new Apply) }
 {
     let (_flags, outcome) = apply_lines(alloc, r, w, FlagSet::new(alloc, IMAGE_LIMIT));
@@ -147,8 +147,8 @@ fn init_file<X: Files + AllocGlobal>(rt: &X, path: &str) -> Result<(), CommandFa
 fn apply_file<X, R, W>(
     rt: &X,
     path: &str,
-    r: &mut Counted<R>,
-    w: &mut Counted<W>,
+    r: &mut FailureCounted<R>,
+    w: &mut FailureCounted<W>,
 ) -> Result<(), CommandFault>
 where
     X: Files + AllocGlobal,
@@ -156,7 +156,7 @@ where
     W: Write,
     ensures done { OnOk result
         (IsDone ApplyFile (R.remaining r.old.inner) (W.contents w.old.inner) (W.contents w.new.inner)) }
-    ensures calm { OnOk result (NoneFailed r.old r.new w.old w.new) }
+    ensures no_failure { OnOk result (NoneFailed r.old r.new w.old w.new) }
     ensures ends { IfErr result (Ends R.remaining r.old r.new w.old w.new ApplyFile) }
 {
     let disk = open_file(rt, path)?;
@@ -166,12 +166,12 @@ where
 }
 
 // Shows what the file stands for.
-fn show_file<X, W>(rt: &X, path: &str, w: &mut Counted<W>) -> Result<(), CommandFault>
+fn show_file<X, W>(rt: &X, path: &str, w: &mut FailureCounted<W>) -> Result<(), CommandFault>
 where
     X: Files + AllocGlobal,
     W: Write,
     ensures done { OnOk result (ShowsFlags (W.contents w.old.inner) (W.contents w.new.inner)) }
-    ensures calm { OnOk result (w.new.failures ≤ w.old.failures) }
+    ensures no_failure { OnOk result (w.new.failures ≤ w.old.failures) }
     ensures ends { IfErr result (λ f. IsShowingFault ⊥ [] f × IfRefused (w.new ≡ w.old) f) }
 {
     let disk = open_file(rt, path)?;
@@ -183,8 +183,8 @@ where
 fn import_file<X, R, W>(
     rt: &X,
     path: &str,
-    r: &mut Counted<R>,
-    w: &mut Counted<W>,
+    r: &mut FailureCounted<R>,
+    w: &mut FailureCounted<W>,
 ) -> Result<(), CommandFault>
 where
     X: Files + AllocGlobal,
@@ -192,7 +192,7 @@ where
     W: Write,
     ensures done { OnOk result
         (IsDone ImportFile (R.remaining r.old.inner) (W.contents w.old.inner) (W.contents w.new.inner)) }
-    ensures calm { OnOk result (NoneFailed r.old r.new w.old w.new) }
+    ensures no_failure { OnOk result (NoneFailed r.old r.new w.old w.new) }
     ensures ends { IfErr result (Ends R.remaining r.old r.new w.old w.new ImportFile) }
 {
     let disk = open_file(rt, path)?;

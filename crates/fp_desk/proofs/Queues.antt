@@ -4,7 +4,7 @@ use Rattle.std.proofs.lemmas.List.{length-map, take_at, drop_at}
 use Rattle.std.proofs.lemmas.List.Sums.{sum_by-append, sum_by-cons}
 use Rattle.fp_record.specs.declared.batch.TheConstants.{LONGEST_EDIT, MOST_EDITS}
 use Rattle.fp_record.specs.Group.{Group}
-use Rattle.fp_record.specs.Spelling.{spelling_of_change}
+use Rattle.fp_record.specs.Encoding.{encoding_of_change}
 use Rattle.fp_group_commit.specs.Changes.{batch_len}
 use Rattle.fp_desk.specs.Desk.{IsLongestPart}
 use Rattle.fp_edit.specs.Edits.{Change}
@@ -44,9 +44,9 @@ taken_len xs n le = length-map (take n xs) change_of ∙ length-take_le n xs le
     length-take_le (suc n) [] le = absurd (omega (arith, le))
     length-take_le (suc n) (x ∷ xs) le = let rest = length-take_le n xs (omega (arith, le)) in omega (arith, rest)
 
-part_len : (cs : List Change) (c : Change) → batch_len (record { first = 0; changes = cs ++ c ∷ [] }) ≡ batch_len (record { first = 0; changes = cs }) + length (spelling_of_change c)
+part_len : (cs : List Change) (c : Change) → batch_len (record { first = 0; changes = cs ++ c ∷ [] }) ≡ batch_len (record { first = 0; changes = cs }) + length (encoding_of_change c)
 part_len cs c =
-    let len : Change → ℕ = λ x. length (spelling_of_change x) in
+    let len : Change → ℕ = λ x. length (encoding_of_change x) in
     let all = sum_by-append len cs (c ∷ []) in let one = sum_by-cons len c [] in omega (arith, all, one)
 
 module _ (xs : List Edit) (n most : ℕ) (some : 1 ≤ n) (le : n ≤ length xs) (few : n ≤ MOST_EDITS) (short : (n ≡ 1) ⊎ (batch_len (record { first = 0; changes = changes_of (take n xs) }) ≤ most)) (small : batch_len (record { first = 0; changes = changes_of (take n xs) }) ≤ 10 + LONGEST_EDIT * n) where
@@ -67,10 +67,10 @@ module _ (xs : List Edit) (n most : ℕ) (some : 1 ≤ n) (le : n ≤ length xs)
   pub part_full : MOST_EDITS ≤ n → IsLongestPart most Part (changes_of xs) (changes_of (drop n xs))
   part_full full = part_by (inr (inl (let len = taken_len xs n le in omega (arith, len, full, few))))
 
-  pub part_wide : (e : Edit) → n < length xs → e ≡ get_or xs n e → most < batch_len Part + length (spelling_of_change (change_of e)) → IsLongestPart most Part (changes_of xs) (changes_of (drop n xs))
+  pub part_wide : (e : Edit) → n < length xs → e ≡ get_or xs n e → most < batch_len Part + length (encoding_of_change (change_of e)) → IsLongestPart most Part (changes_of xs) (changes_of (drop n xs))
   part_wide e lt is wide = part_by (inr (inr (λ c more h.
       let same : c ≡ change_of e = first_left xs n e lt is c more h in
-      let len = part_len (changes_of (take n xs)) c in let same_len = ap (λ (x : Change). length (spelling_of_change x)) same in
+      let len = part_len (changes_of (take n xs)) c in let same_len = ap (λ (x : Change). length (encoding_of_change x)) same in
       omega (arith, wide, len, same_len))))
 
 pub renumbered : (most first : ℕ) (cs waiting rest : List Change) → IsLongestPart most (record { first = 0; changes = cs }) waiting rest → IsLongestPart most (record { first = first; changes = cs }) waiting rest

@@ -7,7 +7,7 @@ ghost use Rattle.fp_edit.specs.Edits.{proposal_of};
 ghost use Rattle.fp_edit.specs.Following.{change_of, changes_of};
 
 use fp_edit::Edit;
-use fp_record::{MOST_EDITS, spelled_len};
+use fp_record::{MOST_EDITS, encoded_len};
 use std::alloc::{AllocError, Global};
 use std::collections::VecDeque;
 
@@ -57,9 +57,9 @@ pub fn first_part(waiting: &VecDeque<Edit>, most: u64) -> usize
     ensures within { result ≤ length waiting.now.items }
 {
     let mut n = 1;
-    let mut sum = 10 + spelled_len(&waiting[0]) as u64;
+    let mut sum = 10 + encoded_len(&waiting[0]) as u64;
     while n < waiting.len() && n < MOST_EDITS {
-        let next = sum + spelled_len(&waiting[n]) as u64;
+        let next = sum + encoded_len(&waiting[n]) as u64;
         if next > most {
             return n;
         }

@@ -2,8 +2,8 @@
 
 use crate::stores::{Failing, Full, flags};
 use fp_definition::{Definition, FlagKey};
-use fp_plane::{ApplyFault, import_flags};
-use fp_streams::Counted;
+use fp_session::{ApplyFault, import_flags};
+use fp_streams::FailureCounted;
 use std::alloc::{AllocGlobal, Global};
 use std::io;
 use std::io::Write;
@@ -35,7 +35,7 @@ fn a_store_that_fails_ends_the_import_behind_its_replies(rt: HostRuntime) -> Res
         (1, "{\"revision\":1}\n"),
         (2, "{\"revision\":1}\n{\"revision\":2}\n"),
     ] {
-        let mut w = Counted::new(Vec::new(alloc));
+        let mut w = FailureCounted::new(Vec::new(alloc));
         let three = named(alloc, &["a", "b", "c"])?;
         let (edits, outcome) = import_flags(
             alloc,
@@ -53,7 +53,7 @@ fn a_store_that_fails_ends_the_import_behind_its_replies(rt: HostRuntime) -> Res
 #[test]
 fn a_writer_that_fails_ends_the_import(rt: HostRuntime) -> Result<(), Fail> {
     let alloc = rt.alloc();
-    let mut w = Counted::new(Full::after(alloc, 0));
+    let mut w = FailureCounted::new(Full::after(alloc, 0));
     let three = named(alloc, &["a", "b", "c"])?;
     let (flags, outcome) = import_flags(alloc, &mut w, flags(alloc), three);
     assert_eq!(rt; outcome, Err(ApplyFault::Device));
@@ -61,7 +61,7 @@ fn a_writer_that_fails_ends_the_import(rt: HostRuntime) -> Result<(), Fail> {
     assert_eq!(rt; flags.revision(), 3);
 
     // where the store fails too, it is the store that is told
-    let mut w = Counted::new(Full::after(alloc, 0));
+    let mut w = FailureCounted::new(Full::after(alloc, 0));
     let three = named(alloc, &["a", "b", "c"])?;
     let (_edits, outcome) = import_flags(alloc, &mut w, Failing::after(alloc, 1), three);
     assert_eq!(rt; outcome, Err(ApplyFault::StoreFailed));
@@ -99,7 +99,7 @@ fn many(alloc: Global, count: usize) -> Result<Vec<(FlagKey, Definition)>, Fail>
 #[test]
 fn many_replies_are_sent_in_parts(rt: HostRuntime) -> Result<(), Fail> {
     let alloc = rt.alloc();
-    let mut w = Counted::new(Widest { total: 0, most: 0 });
+    let mut w = FailureCounted::new(Widest { total: 0, most: 0 });
     let (_flags, outcome) = import_flags(alloc, &mut w, flags(alloc), many(alloc, 5_000)?);
     assert_eq!(rt; outcome, Ok(true));
     assert_eq!(rt; w.get_ref().total, 88_893 + 5 + 14 + 64 + 3);

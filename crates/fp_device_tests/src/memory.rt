@@ -1,7 +1,7 @@
 //! Want of memory where a disk is longer than any.
 
 ghost use Rattle.std.specs.Prelude.{[]};
-ghost use Rattle.fp_disk.specs.Outcomes.{settled};
+ghost use Rattle.fp_disk.specs.Outcomes.{all_synced};
 
 use fp_disk::{Disk, DiskFault, MemoryDisk};
 use fp_journal::{BodyFault, Reader};
@@ -19,11 +19,11 @@ impl<D: Disk + Drop> Disk for Vast<D> {
 
     ghost bytes = { λ _. [] };
 
-    ghost unsynced = { λ _. settled [] };
+    ghost unsynced = { λ _. all_synced [] };
 
     ghost moment = { λ _. 0 };
 
-    ghost left_since = { λ _ _ _. Unit {0} };
+    ghost crash_states_since = { λ _ _ _. Unit {0} };
 
     ghost faults = { λ d. D.faults d.disk };
 

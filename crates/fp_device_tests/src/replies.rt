@@ -4,8 +4,8 @@ use crate::stores::{Failing, Full, flags, written_out};
 use fp_commands::command;
 use fp_definition::DefFault;
 use fp_edit::{EditFault, LineFault};
-use fp_plane::{ApplyFault, Reply, apply_lines};
-use fp_streams::Counted;
+use fp_session::{ApplyFault, Reply, apply_lines};
+use fp_streams::FailureCounted;
 use std::alloc::{AllocGlobal, Global};
 use std::cell::RefCell;
 use std::io;
@@ -102,8 +102,8 @@ fn any_cutting_gives_the_same_replies(rt: HostRuntime) -> Result<(), Fail> {
     let input = written_out(alloc, INPUT)?;
     let output = written_out(alloc, OUTPUT)?;
     for most in [1, 2, 17, 4096] {
-        let mut r = Counted::new(cut_up(input.as_bytes(), most, 10_000));
-        let mut w = Counted::new(Vec::new(alloc));
+        let mut r = FailureCounted::new(cut_up(input.as_bytes(), most, 10_000));
+        let mut w = FailureCounted::new(Vec::new(alloc));
         let (_flags, outcome) = apply_lines(alloc, &mut r, &mut w, flags(alloc));
         assert_eq!(rt; outcome, Ok(true));
         assert_eq!(rt; w.get_ref().as_slice(), output.as_bytes());
@@ -118,8 +118,8 @@ fn a_reader_that_fails_ends_the_run(rt: HostRuntime) -> Result<(), Fail> {
     let line = 64 + 32;
     let rows = [(0, ""), (1, "{\"revision\":1}\n")];
     for (reads_left, output) in rows {
-        let mut r = Counted::new(cut_up(input.as_bytes(), line, reads_left));
-        let mut w = Counted::new(Vec::new(alloc));
+        let mut r = FailureCounted::new(cut_up(input.as_bytes(), line, reads_left));
+        let mut w = FailureCounted::new(Vec::new(alloc));
         let (flags, outcome) = apply_lines(alloc, &mut r, &mut w, flags(alloc));
         assert_eq!(rt; outcome, Err(ApplyFault::Device));
         assert_eq!(rt; w.get_ref().as_slice(), output.as_bytes());
@@ -135,8 +135,8 @@ fn a_writer_that_fails_ends_the_run(rt: HostRuntime) -> Result<(), Fail> {
     let line = 64 + 32;
     let rows = [(0, ""), (1, "{\"revision\":1}\n")];
     for (writes_left, output) in rows {
-        let mut r = Counted::new(cut_up(input.as_bytes(), line, 100));
-        let mut w = Counted::new(Full::after(alloc, writes_left));
+        let mut r = FailureCounted::new(cut_up(input.as_bytes(), line, 100));
+        let mut w = FailureCounted::new(Full::after(alloc, writes_left));
         let (_flags, outcome) = apply_lines(alloc, &mut r, &mut w, flags(alloc));
         assert_eq!(rt; outcome, Err(ApplyFault::Device));
         assert_eq!(rt; w.get_ref().taken.as_slice(), output.as_bytes());
@@ -144,7 +144,7 @@ fn a_writer_that_fails_ends_the_run(rt: HostRuntime) -> Result<(), Fail> {
     Ok(())
 }
 
-// Edits that the store takes, an input, what is written, and the revision.
+// EditStore that the store takes, an input, what is written, and the revision.
 type Row = (usize, &'static str, &'static str, u64);
 
 // In the last two rows the line that the store loses is the last, and has no newline.
@@ -170,8 +170,8 @@ fn a_store_that_fails_ends_the_run_behind_its_replies(rt: HostRuntime) -> Result
     let alloc = rt.alloc();
     for (edits_left, input, output, revision) in LOST {
         let input = written_out(alloc, input)?;
-        let mut r = Counted::new(input.as_bytes());
-        let mut w = Counted::new(Vec::new(alloc));
+        let mut r = FailureCounted::new(input.as_bytes());
+        let mut w = FailureCounted::new(Vec::new(alloc));
         let (edits, outcome) = apply_lines(
             alloc,
             &mut r,
@@ -189,9 +189,14 @@ fn a_store_that_fails_ends_the_run_behind_its_replies(rt: HostRuntime) -> Result
 fn a_store_that_failed_is_told_though_the_writer_fails(rt: HostRuntime) -> Result<(), Fail> {
     let alloc = rt.alloc();
     let input = written_out(alloc, INPUT)?;
-    let mut w = Counted::new(Full::after(alloc, 0));
+    let mut w = FailureCounted::new(Full::after(alloc, 0));
     let edits = Failing::after(alloc, 1);
-    let (_edits, outcome) = apply_lines(alloc, &mut Counted::new(input.as_bytes()), &mut w, edits);
+    let (_edits, outcome) = apply_lines(
+        alloc,
+        &mut FailureCounted::new(input.as_bytes()),
+        &mut w,
+        edits,
+    );
     assert_eq!(rt; outcome, Err(ApplyFault::StoreFailed));
     Ok(())
 }
@@ -199,9 +204,9 @@ fn a_store_that_failed_is_told_though_the_writer_fails(rt: HostRuntime) -> Resul
 // A run over two lines at a terminal that notes each call.
 fn at_terminal(alloc: Global, log: &RefCell<Vec<u8>>) -> Result<bool, ApplyFault> {
     let bytes = b"[]\n{}\n".as_slice();
-    let mut r = Counted::new(Terminal { bytes, log });
+    let mut r = FailureCounted::new(Terminal { bytes, log });
     let bytes = b"".as_slice();
-    let mut w = Counted::new(Terminal { bytes, log });
+    let mut w = FailureCounted::new(Terminal { bytes, log });
     let (_flags, outcome) = apply_lines(alloc, &mut r, &mut w, flags(alloc));
     outcome
 }
@@ -239,13 +244,13 @@ impl Write for Broken {
 fn streams_that_fail_are_told_on_the_error_stream(rt: HostRuntime) -> Result<(), Fail> {
     let alloc = rt.alloc();
     let words = [String::from_str(alloc, "apply")?];
-    let mut broken = Counted::new(Broken);
-    let mut output = Counted::new(Vec::new(alloc));
-    let mut errors = Counted::new(Vec::new(alloc));
+    let mut broken = FailureCounted::new(Broken);
+    let mut output = FailureCounted::new(Vec::new(alloc));
+    let mut errors = FailureCounted::new(Vec::new(alloc));
     let read = command(&rt, words.as_slice(), &mut broken, &mut output, &mut errors);
     assert_eq!(rt; (read, output.get_ref().len()), (1, 0));
-    let mut input = Counted::new(b"[]\n".as_slice());
-    let mut full = Counted::new(Broken);
+    let mut input = FailureCounted::new(b"[]\n".as_slice());
+    let mut full = FailureCounted::new(Broken);
     let written = command(&rt, words.as_slice(), &mut input, &mut full, &mut errors);
     assert_eq!(rt; written, 1);
     assert_eq!(rt;

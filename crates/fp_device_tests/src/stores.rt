@@ -1,7 +1,7 @@
 //! Writers and stores that fail.
 
 use fp_edit::{Edit, FlagSet};
-use fp_plane::{Declined, Edits};
+use fp_session::{Declined, EditStore};
 use std::alloc::{AllocError, Global};
 use std::io;
 use std::io::{ErrorKind, Write};
@@ -67,14 +67,14 @@ impl Failing {
     }
 }
 
-impl Edits for Failing {
+impl EditStore for Failing {
     ghost use Rattle.std.specs.Prelude.{◌≡◌};
 
     ghost state = { λ s. s.flags };
 
-    ghost leads_to = { λ a b. Unit {0} };
+    ghost continues_to = { λ a b. Unit {0} };
 
-    ghost fails_at = { λ a p b. a.edits_left ≡ 0 };
+    ghost fails_on = { λ a p b. a.edits_left ≡ 0 };
 
     ghost leads_to_itself = { λ s. tt };
 
@@ -85,7 +85,7 @@ impl Edits for Failing {
             return Err(Declined::StoreFailed);
         }
         self.edits_left -= 1;
-        Edits::admit(&mut self.flags, edit)
+        EditStore::admit(&mut self.flags, edit)
     }
 
     fn flags(&self) -> &FlagSet {

@@ -6,7 +6,7 @@ use Rattle.fp_disk.specs.declared.call.Progress.{Progress}
 use Rattle.fp_disk.specs.declared.call.Progress.TheVariants.{Whole, Half, Nothing}
 use Rattle.fp_disk.specs.declared.call.Request.{Request}
 use Rattle.fp_disk.specs.declared.call.Request.TheVariants.{Write, Sync}
-use Rattle.fp_disk.specs.Outcomes.{Unsynced, IsOutcome, Elapses, Answers, settled, touched, Written, ChangesWithin}
+use Rattle.fp_disk.specs.Outcomes.{PendingState, IsOutcome, Elapses, Answers, all_synced, with_write, Written, ChangesWithin}
 use Rattle.fp_disk.specs.Memory.{State, Memory, state, after_request, at_first, unsynced_of, LeftSince, failed, refused, kind_of, Answered, BringsBytes, HoldsBytes}
 use Rattle.fp_disk.specs.MemoryLaws.{replay_more, holds_more, elapses_call, synced_fits, written_changes}
 
@@ -35,11 +35,11 @@ honest_of old new request p (Err e) b a = elim a.err [
   | inr none ↦ subst (λ (m : Memory). HoldsBytes old.first old.calls ↔ HoldsBytes m.first m.calls) (sym none) (λ h. h, λ h. h)
 ]
 
-elapses_none : (first : List ℕ) (calls : List Call) (u : Unsynced) → Elapses (length calls) (length calls) (LeftSince first calls) (LeftSince first calls) (IsOutcome u)
+elapses_none : (first : List ℕ) (calls : List Call) (u : PendingState) → Elapses (length calls) (length calls) (LeftSince first calls) (LeftSince first calls) (IsOutcome u)
 elapses_none first calls u = record { later = omega arith; nothing_else = λ t o le left. inl left; keeps = λ t o le left. left }
 
 -- the outcomes that a call adds are among these, however far it came
-pub elapses_of : {T : Type 0} (old new : Memory) (request : Request) (p : Progress) (u : Unsynced) → ((q : Progress) (o : List ℕ) → IsOutcome (unsynced_of (after_request request q (state old))) o → IsOutcome u o)
+pub elapses_of : {T : Type 0} (old new : Memory) (request : Request) (p : Progress) (u : PendingState) → ((q : Progress) (o : List ℕ) → IsOutcome (unsynced_of (after_request request q (state old))) o → IsOutcome u o)
     → (result : Result T DiskFault) → Answered old new request p result → Elapses (length old.calls) (length new.calls) (LeftSince old.first old.calls) (LeftSince new.first new.calls) (IsOutcome u)
 elapses_of old new request p u fits (Ok x) a = subst (λ (m : Memory). Elapses (length old.calls) (length m.calls) (LeftSince old.first old.calls) (LeftSince m.first m.calls) (IsOutcome u)) (sym a.ok.1)
     (elapses_call old.first old.calls (record { request = request; progress = Whole }) u (fits Whole))
@@ -76,12 +76,12 @@ pub written_ok : {T : Type 0} (old new : Memory) (at : ℕ) (more : List ℕ) (p
 written_ok old new at more p (Ok x) a = ap (λ (s : State). s.bytes) (state_ok old new (Write at more) p (Ok x) a)
 written_ok old new at more p (Err e) a = tt
 
-pub touched_ok : {T : Type 0} (old new : Memory) (at : ℕ) (more : List ℕ) (p : Progress) (result : Result T DiskFault) → Answered old new (Write at more) p result → OnOk result (unsynced_of (state new) ≡ touched (unsynced_of (state old)) at (length more))
+pub touched_ok : {T : Type 0} (old new : Memory) (at : ℕ) (more : List ℕ) (p : Progress) (result : Result T DiskFault) → Answered old new (Write at more) p result → OnOk result (unsynced_of (state new) ≡ with_write (unsynced_of (state old)) at (length more))
 touched_ok old new at more p (Ok x) a = ap unsynced_of (state_ok old new (Write at more) p (Ok x) a)
 touched_ok old new at more p (Err e) a = tt
 
 pub touched_err : {T : Type 0} (old new : Memory) (at : ℕ) (more : List ℕ) (p : Progress) (result : Result T DiskFault) → Answered old new (Write at more) p result
-    → IsErr result → (unsynced_of (state new) ≡ unsynced_of (state old)) ⊎ (unsynced_of (state new) ≡ touched (unsynced_of (state old)) at (length more))
+    → IsErr result → (unsynced_of (state new) ≡ unsynced_of (state old)) ⊎ (unsynced_of (state new) ≡ with_write (unsynced_of (state old)) at (length more))
 touched_err old new at more p result a err = elim (state_err old new (Write at more) p result a err) [
   | inl there ↦ inr (ap unsynced_of there)
   | inr same ↦ inl (ap unsynced_of same)
@@ -95,7 +95,7 @@ written_partly old new at more p result a err = elim (state_err old new (Write a
 
 -- a sync
 
-pub settled_ok : {T : Type 0} (old new : Memory) (p : Progress) (result : Result T DiskFault) → Answered old new Sync p result → OnOk result (unsynced_of (state new) ≡ settled (state old).bytes)
+pub settled_ok : {T : Type 0} (old new : Memory) (p : Progress) (result : Result T DiskFault) → Answered old new Sync p result → OnOk result (unsynced_of (state new) ≡ all_synced (state old).bytes)
 settled_ok old new p (Ok x) a = ap unsynced_of (state_ok old new Sync p (Ok x) a)
 settled_ok old new p (Err e) a = tt
 

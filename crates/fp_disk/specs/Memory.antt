@@ -1,7 +1,7 @@
 -- A disk in memory, by what it held at first and the calls that it recorded since.
 use Rattle.std.specs.Prelude.{◌≡◌, ◌⊎◌, ◌≤◌, ◌+◌, ◌-◌, ◌/◌, ℕ, max, Bool, true, nat_lt, if◌then◌else◌, List, [], ◌∷◌, ◌++◌, length, take, drop, Result, IsTrue, OnOk, OnErr}
 use Rattle.std.specs.List.{AllByRecursion}
-use Rattle.fp_disk.specs.Outcomes.{Unsynced, IsOutcome, AreBytes, overwritten}
+use Rattle.fp_disk.specs.Outcomes.{PendingState, IsOutcome, AreBytes, overwritten}
 use Rattle.fp_disk.specs.declared.history.CallKind.{CallKind}
 use Rattle.fp_disk.specs.declared.history.CallKind.TheVariants as kind
 use Rattle.fp_disk.specs.declared.disk.DiskFault.{DiskFault}
@@ -80,7 +80,7 @@ abbrev pub reach_of : ℕ → List (ℕ × List ℕ) → ℕ
 reach_of n [] = n
 reach_of n (w ∷ ws) = max (reach_of n ws) (w.0 + length w.1)
 
-abbrev pub unsynced_of : State → Unsynced
+abbrev pub unsynced_of : State → PendingState
 unsynced_of s = record { synced = s.synced; ranges = ranges_of s.writes; reach = reach_of (length s.synced) s.writes }
 
 -- the state after the first k calls
@@ -156,10 +156,10 @@ writes_after ws [] = ws
 writes_after ws (c ∷ cs) = writes_after (with_request ws c.request) cs
 
 -- the fields of a disk in memory are those of its state, the calls from the settled ones on made its pending writes, and all is bytes
-pub record Keeps (first bytes synced : List ℕ) (calls : List Call) (settled reach : ℕ) : Type 0 where
+pub record Keeps (first bytes synced : List ℕ) (calls : List Call) (all_synced reach : ℕ) : Type 0 where
   pub bytes_are : bytes ≡ (replay (at_first first) calls).bytes
   pub synced_are : synced ≡ (replay (at_first first) calls).synced
-  pub pending : writes_after [] (drop settled calls) ≡ (replay (at_first first) calls).writes
-  pub within : settled ≤ length calls
+  pub pending : writes_after [] (drop all_synced calls) ≡ (replay (at_first first) calls).writes
+  pub within : all_synced ≤ length calls
   pub reach_is : reach ≡ reach_of (length synced) (replay (at_first first) calls).writes
   pub holds : HoldsBytes first calls

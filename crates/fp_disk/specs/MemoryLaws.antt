@@ -5,7 +5,7 @@ use Rattle.std.proofs.lemmas.Grind.{common_steps}
 use Rattle.std.proofs.lemmas.Bool.{cases_lt}
 use Rattle.std.proofs.lemmas.List.Elements.{All-append, All-take, All-drop, All-replicate}
 use Rattle.std.proofs.Common.{inl, inr, length-append, sym, ap, ◌∙◌, subst, arith, zero, suc}
-use Rattle.fp_disk.specs.Outcomes.{Unsynced, IsOutcome, IsByte, AreBytes, Elapses, ChangesWithin, settled, overwritten}
+use Rattle.fp_disk.specs.Outcomes.{PendingState, IsOutcome, IsByte, AreBytes, Elapses, ChangesWithin, all_synced, overwritten}
 use Rattle.fp_disk.specs.Writes.{length-overwritten, overwritten_before, overwritten_behind}
 use Rattle.fp_disk.specs.declared.call.Call.{Call}
 use Rattle.fp_disk.specs.declared.call.Progress.{Progress}
@@ -86,7 +86,7 @@ wrote_real p s at more m r = let c = written_changes p s.bytes more at in let a 
   kept = λ k lt out. c.outside k (omega (arith, a, lt)) (λ inside. out (inl inside)) ∙ r.kept k lt (λ covers. out (inr covers));
 }
 
-settled_real : (bytes : List ℕ) → AreBytes bytes → IsOutcome (settled bytes) bytes
+settled_real : (bytes : List ℕ) → AreBytes bytes → IsOutcome (all_synced bytes) bytes
 settled_real bytes b = record { bytes = b; no_shorter = omega arith; no_longer = omega arith; kept = λ k lt out. refl }
 
 after_real : (request : Request) (p : Progress) (s : State) → BringsBytes request → IsOutcome (unsynced_of s) s.bytes → IsOutcome (unsynced_of (after_request request p s)) (after_request request p s).bytes
@@ -121,7 +121,7 @@ pub replay_more : (s : State) (cs : List Call) (c : Call) → replay s (cs ++ c 
 replay_more s [] c = refl
 replay_more s (d ∷ cs) c = replay_more (after s d) cs c
 
-pub elapses_call : (first : List ℕ) (calls : List Call) (c : Call) (u : Unsynced) → ((o : List ℕ) → IsOutcome (unsynced_of (after (replay (at_first first) calls) c)) o → IsOutcome u o)
+pub elapses_call : (first : List ℕ) (calls : List Call) (c : Call) (u : PendingState) → ((o : List ℕ) → IsOutcome (unsynced_of (after (replay (at_first first) calls) c)) o → IsOutcome u o)
     → Elapses (length calls) (length (calls ++ c ∷ [])) (LeftSince first calls) (LeftSince first (calls ++ c ∷ [])) (IsOutcome u)
 elapses_call first calls c u fits = record {
   later = omega (arith, len);
@@ -139,7 +139,7 @@ elapses_call first calls c u fits = record {
     whole k le = ap (λ (l : List Call). replay (at_first first) l) (take_whole (calls ++ c ∷ []) k (omega (arith, len, le))) ∙ replay_more (at_first first) calls c
 
 -- a sync leaves an outcome from before it
-pub synced_fits : (m : Memory) (o : List ℕ) → HoldsBytes m.first m.calls → IsOutcome (settled (state m).bytes) o → IsOutcome (unsynced_of (state m)) o
+pub synced_fits : (m : Memory) (o : List ℕ) → HoldsBytes m.first m.calls → IsOutcome (all_synced (state m).bytes) o → IsOutcome (unsynced_of (state m)) o
 synced_fits m o h out =
     let p = has_present m h in let a = p.no_shorter in let b = p.no_longer in let x = out.no_shorter in let y = out.no_longer in
     record { bytes = out.bytes; no_shorter = omega (arith, a, x); no_longer = omega (arith, b, y); kept = λ k lt apart. out.kept k (omega (arith, a, lt)) (λ none. none) ∙ p.kept k lt apart }

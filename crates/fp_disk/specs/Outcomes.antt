@@ -12,7 +12,7 @@ AreBytes c = All IsByte c
 
 -- `synced` is what the last sync made sure of, `ranges` where it was written since, each by its first place and how many,
 -- and no outcome is longer than `reach`
-pub record Unsynced : Type 0 where
+pub record PendingState : Type 0 where
   pub synced : List ℕ
   pub ranges : List (ℕ × ℕ)
   pub reach : ℕ
@@ -23,19 +23,19 @@ Covers [] k = ⊥
 Covers (r ∷ rs) k = ((r.0 ≤ k) × (k < r.0 + r.1)) ⊎ Covers rs k
 
 -- A crash may leave these bytes: no fewer than are synced and no more than were written, the synced ones wherever nothing was written since
-pub record IsOutcome (u : Unsynced) (c : List ℕ) : Type 0 where
+pub record IsOutcome (u : PendingState) (c : List ℕ) : Type 0 where
   pub bytes : AreBytes c
   pub no_shorter : length u.synced ≤ length c
   pub no_longer : length c ≤ u.reach
   pub kept : (k : ℕ) → k < length u.synced → (Covers u.ranges k → ⊥) → slice_index c k ≡ slice_index u.synced k
 
 -- after a sync
-abbrev pub settled : List ℕ → Unsynced
-settled bytes = record { synced = bytes; ranges = []; reach = length bytes }
+abbrev pub all_synced : List ℕ → PendingState
+all_synced bytes = record { synced = bytes; ranges = []; reach = length bytes }
 
 -- after n bytes were written at this place, or a part of them
-abbrev pub touched : Unsynced → ℕ → ℕ → Unsynced
-touched u at n = record { synced = u.synced; ranges = (at, n) ∷ u.ranges; reach = max u.reach (at + n) }
+abbrev pub with_write : PendingState → ℕ → ℕ → PendingState
+with_write u at n = record { synced = u.synced; ranges = (at, n) ∷ u.ranges; reach = max u.reach (at + n) }
 
 -- these bytes with others at this place, and zeros in a gap
 abbrev pub overwritten : List ℕ → ℕ → List ℕ → List ℕ
@@ -63,7 +63,7 @@ pub record Answers {T : Type 0} (before now : ℕ) (result : Result T DiskFault)
   pub ill : IsErr result → before < now
 
 -- A crash at any moment since `old` leaves what has P: since its moment nothing else could be left, and since an earlier one only what could be before
-pub record LeavesOnly {D : Type 0} (moment : D → ℕ) (left_since : D → ℕ → List ℕ → Type 0) (old new : D) (P : List ℕ → Type 0) : Type 0 where
+pub record LeavesOnly {D : Type 0} (moment : D → ℕ) (crash_states_since : D → ℕ → List ℕ → Type 0) (old new : D) (P : List ℕ → Type 0) : Type 0 where
   pub later : moment old ≤ moment new
-  pub each : (c : List ℕ) → left_since new (moment old) c → P c
-  pub before : (t : ℕ) (c : List ℕ) → t ≤ moment old → left_since new t c → left_since old t c ⊎ P c
+  pub each : (c : List ℕ) → crash_states_since new (moment old) c → P c
+  pub before : (t : ℕ) (c : List ℕ) → t ≤ moment old → crash_states_since new t c → crash_states_since old t c ⊎ P c

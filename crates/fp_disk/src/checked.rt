@@ -1,7 +1,7 @@
 //! A disk with a name, and tokens of its syncs.
 
 ghost use Rattle.std.specs.Prelude.{◌≡◌, ◌↔◌, ◌≤◌, ◌+◌, ◌⊎◌, [], ◌∷◌, ◌++◌, length, slice_range, IfOk, OnOk, IsErr};
-ghost use Rattle.fp_disk.specs.Outcomes.{Answers, ChangesWithin, Elapses, IsOutcome, Written, settled, touched};
+ghost use Rattle.fp_disk.specs.Outcomes.{Answers, ChangesWithin, Elapses, IsOutcome, Written, all_synced, with_write};
 
 use crate::disk::{Disk, DiskFault};
 use crate::history::CallKind;
@@ -67,8 +67,8 @@ impl<D: Disk> Checked<D> {
         ensures same { D.honest self.old.disk → (D.bytes self.new.disk ≡ D.bytes self.old.disk)
             × (D.unsynced self.new.disk ≡ D.unsynced self.old.disk) }
         ensures time { D.honest self.old.disk →
-            Elapses (D.moment self.old.disk) (D.moment self.new.disk) (D.left_since self.old.disk)
-            (D.left_since self.new.disk) (IsOutcome (D.unsynced self.old.disk)) }
+            Elapses (D.moment self.old.disk) (D.moment self.new.disk) (D.crash_states_since self.old.disk)
+            (D.crash_states_since self.new.disk) (IsOutcome (D.unsynced self.old.disk)) }
         ensures called { D.calls self.new.disk ≡ D.calls self.old.disk ++ CallKind.Length ∷ [] }
         ensures cause { Answers (D.faults self.old.disk) (D.faults self.new.disk) result }
     {
@@ -85,8 +85,8 @@ impl<D: Disk> Checked<D> {
         ensures same { D.honest self.old.disk → (D.bytes self.new.disk ≡ D.bytes self.old.disk)
             × (D.unsynced self.new.disk ≡ D.unsynced self.old.disk) }
         ensures time { D.honest self.old.disk →
-            Elapses (D.moment self.old.disk) (D.moment self.new.disk) (D.left_since self.old.disk)
-            (D.left_since self.new.disk) (IsOutcome (D.unsynced self.old.disk)) }
+            Elapses (D.moment self.old.disk) (D.moment self.new.disk) (D.crash_states_since self.old.disk)
+            (D.crash_states_since self.new.disk) (IsOutcome (D.unsynced self.old.disk)) }
         ensures called { D.calls self.new.disk ≡ D.calls self.old.disk ++ CallKind.Read ∷ [] }
         ensures cause { Answers (D.faults self.old.disk) (D.faults self.new.disk) result }
     {
@@ -101,16 +101,16 @@ impl<D: Disk> Checked<D> {
         ensures honest { D.honest self.old.disk ↔ D.honest self.new.disk }
         ensures unsynced { D.honest self.old.disk →
             OnOk result
-            (D.unsynced self.new.disk ≡ touched (D.unsynced self.old.disk) at (length from.now)) }
+            (D.unsynced self.new.disk ≡ with_write (D.unsynced self.old.disk) at (length from.now)) }
         ensures partly { D.honest self.old.disk → IsErr result →
             ChangesWithin (D.bytes self.old.disk) at (length from.now) (D.bytes self.new.disk) }
         ensures failed { D.honest self.old.disk → IsErr result →
             (D.unsynced self.new.disk ≡ D.unsynced self.old.disk)
-            ⊎ (D.unsynced self.new.disk ≡ touched (D.unsynced self.old.disk) at (length from.now)) }
+            ⊎ (D.unsynced self.new.disk ≡ with_write (D.unsynced self.old.disk) at (length from.now)) }
         ensures time { D.honest self.old.disk →
-            Elapses (D.moment self.old.disk) (D.moment self.new.disk) (D.left_since self.old.disk)
-            (D.left_since self.new.disk)
-            (IsOutcome (touched (D.unsynced self.old.disk) at (length from.now))) }
+            Elapses (D.moment self.old.disk) (D.moment self.new.disk) (D.crash_states_since self.old.disk)
+            (D.crash_states_since self.new.disk)
+            (IsOutcome (with_write (D.unsynced self.old.disk) at (length from.now))) }
         ensures called { D.calls self.new.disk ≡ D.calls self.old.disk ++ CallKind.Write ∷ [] }
         ensures cause { Answers (D.faults self.old.disk) (D.faults self.new.disk) result }
     {
@@ -123,14 +123,14 @@ impl<D: Disk> Checked<D> {
             (λ s. (s.disk ≡ self.new.name) × (s.moment ≡ D.moment self.new.disk)) }
         ensures name { self.new.name ≡ self.old.name }
         ensures durable { D.honest self.old.disk →
-            OnOk result (D.unsynced self.new.disk ≡ settled (D.bytes self.old.disk)) }
+            OnOk result (D.unsynced self.new.disk ≡ all_synced (D.bytes self.old.disk)) }
         ensures failed { D.honest self.old.disk → IsErr result →
             D.unsynced self.new.disk ≡ D.unsynced self.old.disk }
         ensures honest { D.honest self.old.disk ↔ D.honest self.new.disk }
         ensures same { D.honest self.old.disk → D.bytes self.new.disk ≡ D.bytes self.old.disk }
         ensures time { D.honest self.old.disk →
-            Elapses (D.moment self.old.disk) (D.moment self.new.disk) (D.left_since self.old.disk)
-            (D.left_since self.new.disk) (IsOutcome (D.unsynced self.old.disk)) }
+            Elapses (D.moment self.old.disk) (D.moment self.new.disk) (D.crash_states_since self.old.disk)
+            (D.crash_states_since self.new.disk) (IsOutcome (D.unsynced self.old.disk)) }
         ensures called { D.calls self.new.disk ≡ D.calls self.old.disk ++ CallKind.Sync ∷ [] }
         ensures cause { Answers (D.faults self.old.disk) (D.faults self.new.disk) result }
     {

@@ -80,7 +80,7 @@ impl MemoryDisk {
         let mut left = synced_and_more(self.alloc, &self.synced, len, choice.rest)?;
         lay_all(
             &mut left,
-            &self.calls[self.settled..],
+            &self.calls[self.all_synced..],
             choice.writes,
             choice.rest,
         );

@@ -2,7 +2,7 @@
 
 ghost use Rattle.std.specs.Prelude.{◌≡◌, ◌↔◌, ◌⊎◌, ◌≤◌, ◌<◌, ◌+◌, [], ◌∷◌, ◌++◌, List, ℕ, length, slice_range, IfOk, OnOk, IsOk, IsErr};
 ghost use Rattle.fp_disk.specs.declared.history.CallKind.{CallKind};
-ghost use Rattle.fp_disk.specs.Outcomes.{Unsynced, IsOutcome, Written, ChangesWithin, settled, touched, Elapses, Answers};
+ghost use Rattle.fp_disk.specs.Outcomes.{PendingState, IsOutcome, Written, ChangesWithin, all_synced, with_write, Elapses, Answers};
 
 use crate::history::CallKind;
 
@@ -22,13 +22,13 @@ pub trait Disk {
     ghost bytes: { Self → List ℕ };
 
     /// What the last sync made sure of, and what was written since.
-    ghost unsynced: { Self → Unsynced };
+    ghost unsynced: { Self → PendingState };
 
     /// The moment, as a number that doesn't fall.
     ghost moment: { Self → ℕ };
 
     /// What a crash at some moment from that one on might have left.
-    ghost left_since: { Self → ℕ → List ℕ → Type 0 };
+    ghost crash_states_since: { Self → ℕ → List ℕ → Type 0 };
 
     /// How often the disk has failed.
     ghost faults: { Self → ℕ };
@@ -43,7 +43,7 @@ pub trait Disk {
         ensures same { honest self.old → (bytes self.new ≡ bytes self.old)
             × (unsynced self.new ≡ unsynced self.old) }
         ensures time { honest self.old →
-            Elapses (moment self.old) (moment self.new) (left_since self.old) (left_since self.new)
+            Elapses (moment self.old) (moment self.new) (crash_states_since self.old) (crash_states_since self.new)
             (IsOutcome (unsynced self.old)) }
         ensures called { calls self.new ≡ calls self.old ++ CallKind.Length ∷ [] }
         ensures cause { Answers (faults self.old) (faults self.new) result };
@@ -57,7 +57,7 @@ pub trait Disk {
         ensures same { honest self.old → (bytes self.new ≡ bytes self.old)
             × (unsynced self.new ≡ unsynced self.old) }
         ensures time { honest self.old →
-            Elapses (moment self.old) (moment self.new) (left_since self.old) (left_since self.new)
+            Elapses (moment self.old) (moment self.new) (crash_states_since self.old) (crash_states_since self.new)
             (IsOutcome (unsynced self.old)) }
         ensures called { calls self.new ≡ calls self.old ++ CallKind.Read ∷ [] }
         ensures cause { Answers (faults self.old) (faults self.new) result };
@@ -68,26 +68,26 @@ pub trait Disk {
             OnOk result (Written (bytes self.old) at from.now (bytes self.new)) }
         ensures honest { honest self.old ↔ honest self.new }
         ensures unsynced { honest self.old →
-            OnOk result (unsynced self.new ≡ touched (unsynced self.old) at (length from.now)) }
+            OnOk result (unsynced self.new ≡ with_write (unsynced self.old) at (length from.now)) }
         ensures partly { honest self.old → IsErr result →
             ChangesWithin (bytes self.old) at (length from.now) (bytes self.new) }
         ensures failed { honest self.old → IsErr result → (unsynced self.new ≡ unsynced self.old)
-            ⊎ (unsynced self.new ≡ touched (unsynced self.old) at (length from.now)) }
+            ⊎ (unsynced self.new ≡ with_write (unsynced self.old) at (length from.now)) }
         ensures time { honest self.old →
-            Elapses (moment self.old) (moment self.new) (left_since self.old) (left_since self.new)
-            (IsOutcome (touched (unsynced self.old) at (length from.now))) }
+            Elapses (moment self.old) (moment self.new) (crash_states_since self.old) (crash_states_since self.new)
+            (IsOutcome (with_write (unsynced self.old) at (length from.now))) }
         ensures called { calls self.new ≡ calls self.old ++ CallKind.Write ∷ [] }
         ensures cause { Answers (faults self.old) (faults self.new) result };
 
     /// After it, a crash leaves what a read gives.
     fn sync(&mut self) -> Result<(), DiskFault>
         ensures durable { honest self.old →
-            OnOk result (unsynced self.new ≡ settled (bytes self.old)) }
+            OnOk result (unsynced self.new ≡ all_synced (bytes self.old)) }
         ensures failed { honest self.old → IsErr result → unsynced self.new ≡ unsynced self.old }
         ensures honest { honest self.old ↔ honest self.new }
         ensures same { honest self.old → bytes self.new ≡ bytes self.old }
         ensures time { honest self.old →
-            Elapses (moment self.old) (moment self.new) (left_since self.old) (left_since self.new)
+            Elapses (moment self.old) (moment self.new) (crash_states_since self.old) (crash_states_since self.new)
             (IsOutcome (unsynced self.old)) }
         ensures called { calls self.new ≡ calls self.old ++ CallKind.Sync ∷ [] }
         ensures cause { Answers (faults self.old) (faults self.new) result };
@@ -97,9 +97,9 @@ pub trait Disk {
 
     /// This moment is one of those since an earlier one.
     ghost counts_now: { (d : Self) (t : ℕ) (c : List ℕ) →
-        honest d → t ≤ moment d → IsOutcome (unsynced d) c → left_since d t c };
+        honest d → t ≤ moment d → IsOutcome (unsynced d) c → crash_states_since d t c };
 
     /// Since this moment there is no other.
     ghost only_now: { (d : Self) (c : List ℕ) →
-        honest d → left_since d (moment d) c → IsOutcome (unsynced d) c };
+        honest d → crash_states_since d (moment d) c → IsOutcome (unsynced d) c };
 }

@@ -1,7 +1,7 @@
 //! A disk over a file.
 
 ghost use Rattle.std.specs.Prelude.{◌≡◌, ℕ, List, [], ◌∷◌, ◌++◌, IfOk};
-ghost use Rattle.fp_disk.specs.Outcomes.{Answers, settled};
+ghost use Rattle.fp_disk.specs.Outcomes.{Answers, all_synced};
 
 use crate::disk::{Disk, DiskFault};
 use crate::history::{CallKind, History};
@@ -98,11 +98,11 @@ impl<F: Read + Write + Seek + OpenFile + Drop> Disk for FileDisk<F> {
 
     ghost bytes = { λ d. [] };
 
-    ghost unsynced = { λ d. settled [] };
+    ghost unsynced = { λ d. all_synced [] };
 
     ghost moment = { λ d. 0 };
 
-    ghost left_since = { λ d t c. ⊥ };
+    ghost crash_states_since = { λ d t c. ⊥ };
 
     ghost faults = { λ d. d.faults };
 

@@ -62,7 +62,7 @@ impl History {
     pub(crate) fn fault(&mut self) -> DiskFault
         ensures { self.new ≡ record { made = self.old.made; faults = self.old.faults + 1 } }
     {
-        self.failures.raise();
+        self.failures.increment();
         DiskFault::Device
     }
 }

@@ -26,7 +26,7 @@ pub struct MemoryDisk {
     pub(crate) synced: Vec<u8>,
     pub(crate) calls: Vec<Call>,
     // How many of the calls were made when the last sync ended.
-    pub(crate) settled: usize,
+    pub(crate) all_synced: usize,
     // No crash leaves more bytes.
     pub(crate) reach: u64,
     failing: Failing,
@@ -47,7 +47,7 @@ impl Model for MemoryDisk {
     } };
 
     ghost invariant = { λ m. Keeps m.first.value.items m.bytes.items m.synced.items m.calls.items
-        m.settled m.reach };
+        m.all_synced m.reach };
 }
 
 impl MemoryDisk {
@@ -63,7 +63,7 @@ impl MemoryDisk {
             bytes,
             synced: Vec::new(alloc),
             calls: Vec::new(alloc),
-            settled: 0,
+            all_synced: 0,
             reach: 0,
             failing: Failing::Never,
             failed_writes: FailedWrite::Nothing,
@@ -84,7 +84,7 @@ impl MemoryDisk {
             bytes,
             synced,
             calls: Vec::new(alloc),
-            settled: 0,
+            all_synced: 0,
             failing: Failing::Never,
             failed_writes: FailedWrite::Nothing,
             history: History::new(),
@@ -195,7 +195,7 @@ impl Disk for MemoryDisk {
 
     ghost moment = { λ m. length m.calls };
 
-    ghost left_since = { λ m t c. LeftSince m.first m.calls t c };
+    ghost crash_states_since = { λ m t c. LeftSince m.first m.calls t c };
 
     ghost faults = { λ m. m.faults };
 
@@ -294,7 +294,7 @@ impl Disk for MemoryDisk {
             return Err(self.history.fault());
         }
         self.synced = bytes;
-        self.settled = self.calls.len();
+        self.all_synced = self.calls.len();
         self.reach = self.bytes.len() as u64;
         Ok(())
     }

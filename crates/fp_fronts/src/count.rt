@@ -31,8 +31,8 @@ impl Count {
         }
     }
 
-    /// Counts one more.
-    pub fn raise(&mut self)
+    /// CountsFailures one more.
+    pub fn increment(&mut self)
         ensures { self.new ≡ self.old + 1 }
     {
         self.steps.lengthen::<u8, One>(&0);

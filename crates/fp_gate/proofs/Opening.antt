@@ -3,13 +3,13 @@ use Rattle.std.proofs.Common.{◌≡◌, ◌⊎◌, ◌≤◌, ◌<◌, ◌+◌,
 use Rattle.std.proofs.lemmas.Grind.{common_steps}
 use Rattle.std.proofs.lemmas.Bool.{cases_eq}
 use Rattle.std.proofs.lemmas.List.Elements.{All-get_or, All-set}
-use Rattle.fp_disk.specs.Outcomes.{Unsynced, IsOutcome, IsByte, Elapses, LeavesOnly, Written, touched}
+use Rattle.fp_disk.specs.Outcomes.{PendingState, IsOutcome, IsByte, Elapses, LeavesOnly, Written, with_write}
 use Rattle.fp_disk.specs.Writes.{overwritten_inside}
 use Rattle.fp_disk.specs.Moments.{leaves_call, leaves_map, leaves_then}
 use Rattle.fp_gate.specs.Gates.{Gated, IsShut, StaysAsRead, Guards, HasBehind, IsButFor}
 
 -- an outcome after a write of one byte that was there is one from before, but for that byte
-pub touched_but_for : (u : Unsynced) (bytes : List ℕ) (at : ℕ) (c : List ℕ) → IsOutcome u bytes → at < length bytes → IsOutcome (touched u at 1) c → IsButFor u at c
+pub touched_but_for : (u : PendingState) (bytes : List ℕ) (at : ℕ) (c : List ℕ) → IsOutcome u bytes → at < length bytes → IsOutcome (with_write u at 1) c → IsButFor u at c
 touched_but_for u bytes at c present there out = let was = slice_index bytes at in let len = length-put c at was in let a = out.no_shorter in let b = out.no_longer in let p = present.no_longer in record {
   before = slice_set c at was;
   outcome = record {
@@ -38,7 +38,7 @@ touched_but_for u bytes at c present there out = let was = slice_index bytes at 
     other_place xs at k x other = grind (arith, common_steps)
 
 -- what a gate guards is there where it is open, since it is there in every outcome from before
-pub but_for_guards : (g : Gated) (u : Unsynced) (bytes c : List ℕ) → (g.at < g.from) ⊎ (g.to ≤ g.at) → IsShut u g.at → StaysAsRead u bytes g.from g.to → IsButFor u g.at c → Guards g bytes c
+pub but_for_guards : (g : Gated) (u : PendingState) (bytes c : List ℕ) → (g.at < g.from) ⊎ (g.to ≤ g.at) → IsShut u g.at → StaysAsRead u bytes g.from g.to → IsButFor u g.at c → Guards g bytes c
 but_for_guards g u bytes c apart shut firm b = let same = b.same_length in let in_it = (shut b.before b.outcome).0 in
     (omega (arith, same, in_it), λ is_open k le lt. let f = firm b.before b.outcome k le lt in let f0 = f.0 in (omega (arith, same, f0), b.elsewhere k (elsewhere k le lt) ∙ f.1))
   where
@@ -48,28 +48,28 @@ but_for_guards g u bytes c apart shut firm b = let same = b.same_length in let i
       | inr behind ↦ omega (arith, is, lt, behind)
     ]
 
-module _ {D : Type 0} (honest : D → Type 0) (bytes : D → List ℕ) (unsynced : D → Unsynced) (moment : D → ℕ) (left_since : D → ℕ → List ℕ → Type 0)
+module _ {D : Type 0} (honest : D → Type 0) (bytes : D → List ℕ) (unsynced : D → PendingState) (moment : D → ℕ) (crash_states_since : D → ℕ → List ℕ → Type 0)
     (present : (d : D) → honest d → IsOutcome (unsynced d) (bytes d))
-    (only_now : (d : D) (c : List ℕ) → honest d → left_since d (moment d) c → IsOutcome (unsynced d) c)
+    (only_now : (d : D) (c : List ℕ) → honest d → crash_states_since d (moment d) c → IsOutcome (unsynced d) c)
     (old new : D) (g : Gated) (h : honest old) (shut : IsShut (unsynced old) g.at)
-    (time : Elapses (moment old) (moment new) (left_since old) (left_since new) (IsOutcome (touched (unsynced old) g.at 1))) where
-  pub each : LeavesOnly moment left_since old new (IsButFor (unsynced old) g.at)
-  each = leaves_call moment left_since old new (IsOutcome (unsynced old)) (IsOutcome (touched (unsynced old) g.at 1)) (IsButFor (unsynced old) g.at) time
+    (time : Elapses (moment old) (moment new) (crash_states_since old) (crash_states_since new) (IsOutcome (with_write (unsynced old) g.at 1))) where
+  pub each : LeavesOnly moment crash_states_since old new (IsButFor (unsynced old) g.at)
+  each = leaves_call moment crash_states_since old new (IsOutcome (unsynced old)) (IsOutcome (with_write (unsynced old) g.at 1)) (IsButFor (unsynced old) g.at) time
       (λ c left. only_now old c h left)
       (λ c out. record { before = c; outcome = out; same_length = refl; elsewhere = λ k other. refl })
       (λ c out. touched_but_for (unsynced old) (bytes old) g.at c (present old h) (shut (bytes old) (present old h)).0 out)
 
-  pub guards : (g.at < g.from) ⊎ (g.to ≤ g.at) → StaysAsRead (unsynced old) (bytes old) g.from g.to → LeavesOnly moment left_since old new (Guards g (bytes old))
-  guards apart firm = leaves_map moment left_since old new (IsButFor (unsynced old) g.at) (Guards g (bytes old)) (λ c b. but_for_guards g (unsynced old) (bytes old) c apart shut firm b) each
+  pub guards : (g.at < g.from) ⊎ (g.to ≤ g.at) → StaysAsRead (unsynced old) (bytes old) g.from g.to → LeavesOnly moment crash_states_since old new (Guards g (bytes old))
+  guards apart firm = leaves_map moment crash_states_since old new (IsButFor (unsynced old) g.at) (Guards g (bytes old)) (λ c b. but_for_guards g (unsynced old) (bytes old) c apart shut firm b) each
 
-module _ {D : Type 0} (honest : D → Type 0) (unsynced : D → Unsynced) (moment : D → ℕ) (left_since : D → ℕ → List ℕ → Type 0)
-    (counts_now : (d : D) (t : ℕ) (c : List ℕ) → honest d → t ≤ moment d → IsOutcome (unsynced d) c → left_since d t c)
-    (only_now : (d : D) (c : List ℕ) → honest d → left_since d (moment d) c → IsOutcome (unsynced d) c)
+module _ {D : Type 0} (honest : D → Type 0) (unsynced : D → PendingState) (moment : D → ℕ) (crash_states_since : D → ℕ → List ℕ → Type 0)
+    (counts_now : (d : D) (t : ℕ) (c : List ℕ) → honest d → t ≤ moment d → IsOutcome (unsynced d) c → crash_states_since d t c)
+    (only_now : (d : D) (c : List ℕ) → honest d → crash_states_since d (moment d) c → IsOutcome (unsynced d) c)
     (old between new : D) (h : honest between) where
   -- a call that adds no outcome
-  pub leaves_still : (P : List ℕ → Type 0) → LeavesOnly moment left_since old between P → Elapses (moment between) (moment new) (left_since between) (left_since new) (IsOutcome (unsynced between)) → LeavesOnly moment left_since old new P
+  pub leaves_still : (P : List ℕ → Type 0) → LeavesOnly moment crash_states_since old between P → Elapses (moment between) (moment new) (crash_states_since between) (crash_states_since new) (IsOutcome (unsynced between)) → LeavesOnly moment crash_states_since old new P
   leaves_still P leaves time = let all : (c : List ℕ) → IsOutcome (unsynced between) c → P c = λ c out. leaves.each c (counts_now between (moment old) c h leaves.later out) in
-      leaves_then moment left_since old between new P leaves (leaves_call moment left_since between new (IsOutcome (unsynced between)) (IsOutcome (unsynced between)) P time (λ c left. only_now between c h left) all all)
+      leaves_then moment crash_states_since old between new P leaves (leaves_call moment crash_states_since between new (IsOutcome (unsynced between)) (IsOutcome (unsynced between)) P time (λ c left. only_now between c h left) all all)
 
 -- where the gate guards what was written, it stands behind the gate
 pub guards_behind : (gate at : ℕ) (old more bytes c : List ℕ) → Written old at more bytes → Guards (record { at = gate; from = at; to = at + length more }) bytes c → HasBehind gate at more c

@@ -1,6 +1,6 @@
 -- What holds at the place of a gate, and at those that it guards, whatever a crash leaves.
 use Rattle.std.specs.Prelude.{◌≡◌, ◌≢◌, ◌<◌, ◌≤◌, ◌+◌, ℕ, List, length, slice_index}
-use Rattle.fp_disk.specs.Outcomes.{Unsynced, IsOutcome, Covers}
+use Rattle.fp_disk.specs.Outcomes.{PendingState, IsOutcome, Covers}
 use Rattle.fp_disk.specs.Checked.{Mark}
 use Rattle.fp_gate.specs.declared.gate.TheConstants.{OPEN}
 
@@ -15,11 +15,11 @@ abbrev pub IsSyncOf : {D : Type 0} (honest : D → Type 0) (moment : D → ℕ) 
 IsSyncOf honest moment disk name mark = (mark.disk ≡ name) × (honest disk → mark.moment ≤ moment disk)
 
 -- its byte is there and isn't a5, whatever a crash leaves
-abbrev pub IsShut : Unsynced → ℕ → Type 0
+abbrev pub IsShut : PendingState → ℕ → Type 0
 IsShut u at = (c : List ℕ) → IsOutcome u c → (at < length c) × (slice_index c at ≢ OPEN)
 
 -- its byte is a5, whatever a crash leaves
-abbrev pub IsOpen : Unsynced → ℕ → Type 0
+abbrev pub IsOpen : PendingState → ℕ → Type 0
 IsOpen u at = (c : List ℕ) → IsOutcome u c → (at < length c) × (slice_index c at ≡ OPEN)
 
 -- these places are there
@@ -27,7 +27,7 @@ abbrev pub Agrees : ℕ → ℕ → List ℕ → List ℕ → Type 0
 Agrees from to bytes c = (k : ℕ) → from ≤ k → k < to → (k < length c) × (slice_index c k ≡ slice_index bytes k)
 
 -- these places are there and as they are read, whatever a crash leaves
-abbrev pub StaysAsRead : Unsynced → List ℕ → ℕ → ℕ → Type 0
+abbrev pub StaysAsRead : PendingState → List ℕ → ℕ → ℕ → Type 0
 StaysAsRead u bytes from to = (c : List ℕ) → IsOutcome u c → Agrees from to bytes c
 
 -- where the gate is open, what it guards is there
@@ -35,14 +35,14 @@ abbrev pub Guards : Gated → List ℕ → List ℕ → Type 0
 Guards g bytes c = (g.at < length c) × (slice_index c g.at ≡ OPEN → Agrees g.from g.to bytes c)
 
 -- an outcome, but for the byte at one place
-pub record IsButFor (u : Unsynced) (at : ℕ) (c : List ℕ) : Type 0 where
+pub record IsButFor (u : PendingState) (at : ℕ) (c : List ℕ) : Type 0 where
   pub before : List ℕ
   pub outcome : IsOutcome u before
   pub same_length : length c ≡ length before
   pub elsewhere : (k : ℕ) → (k ≡ at → ⊥) → slice_index c k ≡ slice_index before k
 
 -- its byte is synced, closed, and was not written since
-pub record IsClosedAt (u : Unsynced) (at : ℕ) : Type 0 where
+pub record IsClosedAt (u : PendingState) (at : ℕ) : Type 0 where
   pub there : at < length u.synced
   pub untouched : Covers u.ranges at → ⊥
   pub closed : slice_index u.synced at ≢ OPEN

@@ -1,7 +1,7 @@
 //! Bytes behind a gate, in four calls.
 
 ghost use Rattle.std.specs.Prelude.{◌≡◌, ◌↔◌, ◌≢◌, ◌⊎◌, ◌≤◌, ◌<◌, ◌+◌, ◌^◌, ℕ, List, [], ◌∷◌, length, slice_index, IfOk, OnOk, IsErr};
-ghost use Rattle.fp_disk.specs.Outcomes.{Answers, IsOutcome, LeavesOnly, Written as HasWritten, settled};
+ghost use Rattle.fp_disk.specs.Outcomes.{Answers, IsOutcome, LeavesOnly, Written as HasWritten, all_synced};
 ghost use Rattle.fp_disk.specs.History.{Makes};
 ghost use Rattle.fp_disk.specs.declared.history.CallKind.TheVariants.{Sync, Write};
 ghost use Rattle.fp_gate.specs.Gates.{IsSyncOf, IsShut, IsOpen, StaysAsRead, Agrees, Guards, IsClosedAt, HasAt, HasBehind};
@@ -22,12 +22,12 @@ fn write_and_sync<D: Disk>(
         (λ s. (s.disk ≡ disk.new.name) × (s.moment ≡ D.moment disk.new.disk)) }
     ensures name { disk.new.name ≡ disk.old.name }
     ensures each { D.honest disk.old.disk →
-        LeavesOnly D.moment D.left_since disk.old.disk disk.new.disk
+        LeavesOnly D.moment D.crash_states_since disk.old.disk disk.new.disk
         (λ c. (gate.now.at < length c) × (slice_index c gate.now.at ≢ OPEN)) }
     ensures written { D.honest disk.old.disk →
         OnOk result (HasWritten (D.bytes disk.old.disk) at from.now (D.bytes disk.new.disk)) }
-    ensures settled { D.honest disk.old.disk →
-        OnOk result (D.unsynced disk.new.disk ≡ settled (D.bytes disk.new.disk)) }
+    ensures all_synced { D.honest disk.old.disk →
+        OnOk result (D.unsynced disk.new.disk ≡ all_synced (D.bytes disk.new.disk)) }
     ensures honest { D.honest disk.old.disk ↔ D.honest disk.new.disk }
     ensures called { Makes (Write ∷ Sync ∷ []) (D.calls disk.old.disk) (D.calls disk.new.disk) result }
     ensures cause { Answers (D.faults disk.old.disk) (D.faults disk.new.disk) result }
@@ -50,7 +50,7 @@ fn open_and_seal<D: Disk>(
     ensures gate { IfOk result (λ g. g ≡ gate) }
     ensures name { disk.new.name ≡ disk.old.name }
     ensures each { D.honest disk.old.disk →
-        LeavesOnly D.moment D.left_since disk.old.disk disk.new.disk
+        LeavesOnly D.moment D.crash_states_since disk.old.disk disk.new.disk
         (Guards gate (D.bytes disk.old.disk)) }
     ensures open { D.honest disk.old.disk →
         OnOk result (IsOpen (D.unsynced disk.new.disk) gate.at) }
@@ -78,7 +78,7 @@ pub fn write_behind<D: Disk>(
         (λ g. g ≡ record { at = gate.at; from = at; to = at + length from.now }) }
     ensures name { disk.new.name ≡ disk.old.name }
     ensures each { D.honest disk.old.disk →
-        LeavesOnly D.moment D.left_since disk.old.disk disk.new.disk
+        LeavesOnly D.moment D.crash_states_since disk.old.disk disk.new.disk
         (HasBehind gate.at at from.now) }
     ensures open { D.honest disk.old.disk →
         OnOk result (IsOpen (D.unsynced disk.new.disk) gate.at) }

@@ -1,7 +1,7 @@
 //! A gate: its place, its state as a type, and the two calls that open it.
 
 ghost use Rattle.std.specs.Prelude.{◌≡◌, ◌↔◌, ◌⊎◌, ◌≤◌, ◌<◌, ℕ, List, [], ◌∷◌, ◌++◌, length, slice_index, IfOk, OnOk, IsErr};
-ghost use Rattle.fp_disk.specs.Outcomes.{Answers, ChangesWithin, Elapses, IsOutcome, LeavesOnly, Written as HasWritten, touched};
+ghost use Rattle.fp_disk.specs.Outcomes.{Answers, ChangesWithin, Elapses, IsOutcome, LeavesOnly, Written as HasWritten, with_write};
 ghost use Rattle.fp_disk.specs.declared.history.CallKind.TheVariants.{Write};
 ghost use Rattle.fp_gate.specs.Gates.{Gated, IsSyncOf, IsShut, IsOpen, StaysAsRead, Guards, IsButFor};
 
@@ -57,15 +57,15 @@ impl Gate<Closed> {
             OnOk result (HasWritten (D.bytes disk.old.disk) at (0 ∷ []) (D.bytes disk.new.disk)) }
         ensures honest { D.honest disk.old.disk ↔ D.honest disk.new.disk }
         ensures unsynced { D.honest disk.old.disk →
-            OnOk result (D.unsynced disk.new.disk ≡ touched (D.unsynced disk.old.disk) at 1) }
+            OnOk result (D.unsynced disk.new.disk ≡ with_write (D.unsynced disk.old.disk) at 1) }
         ensures partly { D.honest disk.old.disk → IsErr result →
             ChangesWithin (D.bytes disk.old.disk) at 1 (D.bytes disk.new.disk) }
         ensures failed { D.honest disk.old.disk → IsErr result →
             (D.unsynced disk.new.disk ≡ D.unsynced disk.old.disk)
-            ⊎ (D.unsynced disk.new.disk ≡ touched (D.unsynced disk.old.disk) at 1) }
+            ⊎ (D.unsynced disk.new.disk ≡ with_write (D.unsynced disk.old.disk) at 1) }
         ensures time { D.honest disk.old.disk →
-            Elapses (D.moment disk.old.disk) (D.moment disk.new.disk) (D.left_since disk.old.disk)
-            (D.left_since disk.new.disk) (IsOutcome (touched (D.unsynced disk.old.disk) at 1)) }
+            Elapses (D.moment disk.old.disk) (D.moment disk.new.disk) (D.crash_states_since disk.old.disk)
+            (D.crash_states_since disk.new.disk) (IsOutcome (with_write (D.unsynced disk.old.disk) at 1)) }
         ensures called { D.calls disk.new.disk ≡ D.calls disk.old.disk ++ Write ∷ [] }
         ensures cause { Answers (D.faults disk.old.disk) (D.faults disk.new.disk) result }
     {
@@ -116,10 +116,10 @@ impl Gate<Closed> {
         // A crash at any moment since leaves what it might have left before, but for the gate's byte; and where that is open,
         // what it guards is there.
         ensures each { D.honest disk.old.disk →
-            LeavesOnly D.moment D.left_since disk.old.disk disk.new.disk
+            LeavesOnly D.moment D.crash_states_since disk.old.disk disk.new.disk
             (IsButFor (D.unsynced disk.old.disk) self.at) }
         ensures guards { D.honest disk.old.disk →
-            LeavesOnly D.moment D.left_since disk.old.disk disk.new.disk
+            LeavesOnly D.moment D.crash_states_since disk.old.disk disk.new.disk
             (Guards self (D.bytes disk.old.disk)) }
 
         // The disk is as after a write of that byte.
@@ -132,16 +132,16 @@ impl Gate<Closed> {
             × (slice_index (D.bytes disk.new.disk) self.at ≡ OPEN)) }
         ensures honest { D.honest disk.old.disk ↔ D.honest disk.new.disk }
         ensures unsynced { D.honest disk.old.disk →
-            OnOk result (D.unsynced disk.new.disk ≡ touched (D.unsynced disk.old.disk) self.at 1) }
+            OnOk result (D.unsynced disk.new.disk ≡ with_write (D.unsynced disk.old.disk) self.at 1) }
         ensures partly { D.honest disk.old.disk → IsErr result →
             ChangesWithin (D.bytes disk.old.disk) self.at 1 (D.bytes disk.new.disk) }
         ensures failed { D.honest disk.old.disk → IsErr result →
             (D.unsynced disk.new.disk ≡ D.unsynced disk.old.disk)
-            ⊎ (D.unsynced disk.new.disk ≡ touched (D.unsynced disk.old.disk) self.at 1) }
+            ⊎ (D.unsynced disk.new.disk ≡ with_write (D.unsynced disk.old.disk) self.at 1) }
         ensures time { D.honest disk.old.disk →
-            Elapses (D.moment disk.old.disk) (D.moment disk.new.disk) (D.left_since disk.old.disk)
-            (D.left_since disk.new.disk)
-            (IsOutcome (touched (D.unsynced disk.old.disk) self.at 1)) }
+            Elapses (D.moment disk.old.disk) (D.moment disk.new.disk) (D.crash_states_since disk.old.disk)
+            (D.crash_states_since disk.new.disk)
+            (IsOutcome (with_write (D.unsynced disk.old.disk) self.at 1)) }
         ensures called { D.calls disk.new.disk ≡ D.calls disk.old.disk ++ Write ∷ [] }
         ensures cause { Answers (D.faults disk.old.disk) (D.faults disk.new.disk) result }
     {

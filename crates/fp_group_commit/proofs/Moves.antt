@@ -1,10 +1,10 @@
 -- What a call of the journal leaves, as what it leaves of a store.
 use Rattle.std.proofs.Common.{◌≡◌, ◌⊎◌, ◌≤◌, ◌+◌, ℕ, List, [], ◌∷◌, ◌++◌, length, refl, sym, ap, subst, ◌∙◌}
 use Rattle.std.specs.Prelude.{slice_index, slice_range}
-use Rattle.fp_disk.specs.Outcomes.{Unsynced, IsOutcome, LeavesOnly}
+use Rattle.fp_disk.specs.Outcomes.{PendingState, IsOutcome, LeavesOnly}
 use Rattle.fp_disk.specs.Moments.{leaves_both, leaves_map}
 use Rattle.fp_edit.specs.Flags.{State}
-use Rattle.fp_journal.specs.Holds.{Holds, IsFirm}
+use Rattle.fp_journal.specs.Holds.{Holds, IsSynced}
 use Rattle.fp_journal.specs.Moments.{KeepsFirm}
 use Rattle.fp_journal.specs.State.{AllShort, HasChain, HasChainOrNext, JournalState, Outside}
 use Rattle.fp_journal.specs.Reading.{Reads}
@@ -14,8 +14,8 @@ use Rattle.fp_recovery.specs.Stands.{StandsFor, TakesBatch}
 use Rattle.fp_recovery.proofs.Kept.{held_stands, kept_stands, kept_more, either_stands, header_apart, gate_apart}
 
 -- a journal whose slot and sealed bodies stay, and whose firm text stays
-pub kept_same : {D : Type 0} (u v : Unsynced) (set : State) (journal later : JournalState D) → IsKept u set journal → later.slot ≡ journal.slot → later.front ≡ journal.front → later.sealed ≡ journal.sealed
-    → ((at : ℕ) (text : List ℕ) → Outside journal.slot at (length text) → IsFirm u at text → IsFirm v at text) → IsKept v set later
+pub kept_same : {D : Type 0} (u v : PendingState) (set : State) (journal later : JournalState D) → IsKept u set journal → later.slot ≡ journal.slot → later.front ≡ journal.front → later.sealed ≡ journal.sealed
+    → ((at : ℕ) (text : List ℕ) → Outside journal.slot at (length text) → IsSynced u at text → IsSynced v at text) → IsKept v set later
 kept_same u v set journal later k slot front sealed firm = record {
   bytes = k.bytes;
   size = k.size;
@@ -37,39 +37,39 @@ kept_same u v set journal later k slot front sealed firm = record {
   gate_firm = firm (64 + k.size) (slice_index k.bytes (64 + k.size) ∷ []) (gate_apart u set journal k) k.gate_firm;
 }
 
-module _ {D : Type 0} (honest : D → Type 0) (moment : D → ℕ) (left_since : D → ℕ → List ℕ → Type 0) (unsynced : D → Unsynced) where
+module _ {D : Type 0} (honest : D → Type 0) (moment : D → ℕ) (crash_states_since : D → ℕ → List ℕ → Type 0) (unsynced : D → PendingState) where
   -- what is left at the end is left at some moment
-  pub exit_has : ((d : D) (t : ℕ) (c : List ℕ) → honest d → t ≤ moment d → IsOutcome (unsynced d) c → left_since d t c) → (old new : D) (P : List ℕ → Type 0) → LeavesOnly moment left_since old new P → honest new → (c : List ℕ) → IsOutcome (unsynced new) c → P c
+  pub exit_has : ((d : D) (t : ℕ) (c : List ℕ) → honest d → t ≤ moment d → IsOutcome (unsynced d) c → crash_states_since d t c) → (old new : D) (P : List ℕ → Type 0) → LeavesOnly moment crash_states_since old new P → honest new → (c : List ℕ) → IsOutcome (unsynced new) c → P c
   exit_has counts_now old new P l h c out = l.each c (counts_now new (moment old) c h l.later out)
 
   -- a sync keeps all that is firm
-  pub all_firm : (old new : D) (Out : ℕ → ℕ → Type 0) → KeepsFirm moment left_since unsynced old new (λ at n. Unit {0}) → KeepsFirm moment left_since unsynced old new Out
+  pub all_firm : (old new : D) (Out : ℕ → ℕ → Type 0) → KeepsFirm moment crash_states_since unsynced old new (λ at n. Unit {0}) → KeepsFirm moment crash_states_since unsynced old new Out
   all_firm old new Out f = λ at text out firm. f at text tt firm
 
-  module _ (old new : D) (set : State) (journal : JournalState D) (k : IsKept (unsynced old) set journal) (apart : KeepsFirm moment left_since unsynced old new (Outside journal.slot)) where
+  module _ (old new : D) (set : State) (journal : JournalState D) (k : IsKept (unsynced old) set journal) (apart : KeepsFirm moment crash_states_since unsynced old new (Outside journal.slot)) where
     abbrev Head : List ℕ → Type 0
     Head c = Holds c 0 (slice_range k.bytes 0 64)
 
     abbrev Gate : List ℕ → Type 0
     Gate c = Holds c (64 + k.size) (slice_index k.bytes (64 + k.size) ∷ [])
 
-    around : LeavesOnly moment left_since old new (λ c. Head c × Gate c)
-    around = leaves_both moment left_since old new Head Gate
+    around : LeavesOnly moment crash_states_since old new (λ c. Head c × Gate c)
+    around = leaves_both moment crash_states_since old new Head Gate
         ((apart 0 (slice_range k.bytes 0 64) (header_apart (unsynced old) set journal k) k.header_firm).1)
         ((apart (64 + k.size) (slice_index k.bytes (64 + k.size) ∷ []) (gate_apart (unsynced old) set journal k) k.gate_firm).1)
 
-    pub chain_leaves : LeavesOnly moment left_since old new (HasChain journal.slot journal.front journal.sealed) → LeavesOnly moment left_since old new (λ c. StandsFor c set)
+    pub chain_leaves : LeavesOnly moment crash_states_since old new (HasChain journal.slot journal.front journal.sealed) → LeavesOnly moment crash_states_since old new (λ c. StandsFor c set)
     chain_leaves chain = let Chain : List ℕ → Type 0 = HasChain journal.slot journal.front journal.sealed in
-        leaves_map moment left_since old new (λ c. Chain c × (Head c × Gate c)) (λ c. StandsFor c set)
+        leaves_map moment crash_states_since old new (λ c. Chain c × (Head c × Gate c)) (λ c. StandsFor c set)
         (λ c p. held_stands (unsynced old) set journal k c p.1.0 p.1.1 p.0)
-        (leaves_both moment left_since old new Chain (λ c. Head c × Gate c) chain around)
+        (leaves_both moment crash_states_since old new Chain (λ c. Head c × Gate c) chain around)
 
-    pub either_leaves : (t : State) (b : List ℕ) → TakesBatch set b t → length b ≤ journal.slot.most → LeavesOnly moment left_since old new (HasChainOrNext journal.slot journal.front journal.sealed b)
-        → LeavesOnly moment left_since old new (λ c. StandsFor c set ⊎ StandsFor c t)
+    pub either_leaves : (t : State) (b : List ℕ) → TakesBatch set b t → length b ≤ journal.slot.most → LeavesOnly moment crash_states_since old new (HasChainOrNext journal.slot journal.front journal.sealed b)
+        → LeavesOnly moment crash_states_since old new (λ c. StandsFor c set ⊎ StandsFor c t)
     either_leaves t b takes short chain = let Chain : List ℕ → Type 0 = HasChainOrNext journal.slot journal.front journal.sealed b in
-        leaves_map moment left_since old new (λ c. Chain c × (Head c × Gate c)) (λ c. StandsFor c set ⊎ StandsFor c t)
+        leaves_map moment crash_states_since old new (λ c. Chain c × (Head c × Gate c)) (λ c. StandsFor c set ⊎ StandsFor c t)
         (λ c p. either_stands (unsynced old) set t journal b k takes short c p.1.0 p.1.1 p.0)
-        (leaves_both moment left_since old new Chain (λ c. Head c × Gate c) chain around)
+        (leaves_both moment crash_states_since old new Chain (λ c. Head c × Gate c) chain around)
 
     pub same_kept : (later : JournalState D) → later.slot ≡ journal.slot → later.front ≡ journal.front → later.sealed ≡ journal.sealed → IsKept (unsynced new) set later
     same_kept later slot front sealed = kept_same (unsynced old) (unsynced new) set journal later k slot front sealed (λ at text out f. (apart at text out f).0)

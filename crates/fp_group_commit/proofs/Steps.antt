@@ -1,6 +1,6 @@
 -- A store from call to call.
 use Rattle.std.proofs.Common.{◌≡◌, ◌≢◌, ◌⊎◌, ◌<◌, ◌≤◌, ◌+◌, ◌-◌, ℕ, List, [], ◌∷◌, ◌++◌, length, true, refl, sym, ap, subst, ◌∙◌, inl, inr, arith}
-use Rattle.fp_disk.specs.Outcomes.{Unsynced, IsOutcome, LeavesOnly}
+use Rattle.fp_disk.specs.Outcomes.{PendingState, IsOutcome, LeavesOnly}
 use Rattle.fp_disk.specs.Moments.{leaves_still}
 use Rattle.fp_edit.specs.Edits.{Change}
 use Rattle.fp_edit.specs.Flags.{State}
@@ -10,10 +10,10 @@ use Rattle.fp_journal.specs.declared.journal.Phase.TheVariants.{Idle, Staged, Bo
 use Rattle.fp_journal.specs.declared.slot.Slot.{Slot}
 use Rattle.fp_journal.specs.Moments.{KeepsFirm}
 use Rattle.fp_journal.specs.Chain.{spell}
-use Rattle.fp_journal.specs.State.{Claims, ClaimsAt, HasChain, HasChainOrNext, JournalState, Outside, room}
+use Rattle.fp_journal.specs.State.{CrashStates, ClaimsAt, HasChain, HasChainOrNext, JournalState, Outside, room}
 use Rattle.fp_record.specs.Group.{Group}
-use Rattle.fp_record.specs.Lawful.{IsBatch}
-use Rattle.fp_record.specs.Spelling.{spelling_of_batch}
+use Rattle.fp_record.specs.WellFormed.{IsBatch}
+use Rattle.fp_record.specs.Encoding.{encoding_of_batch}
 use Rattle.fp_recovery.specs.Durable.{IsKept}
 use Rattle.fp_recovery.specs.Stands.{StandsFor, TakesBatch, Leads}
 use Rattle.fp_edit.proofs.Runs.{revision-after_all}
@@ -82,30 +82,30 @@ by_step GateOpened q c now then well opened left = opened refl
 by_step Failed q c now then well opened (inl stands) = stands
 by_step Failed q c now then well opened (inr both) = let e = both.0 in absurd cc
 
-module _ {D : Type 0} (honest : D → Type 0) (bytes : D → List ℕ) (unsynced : D → Unsynced) (present : (d : D) → honest d → IsOutcome (unsynced d) (bytes d)) where
+module _ {D : Type 0} (honest : D → Type 0) (bytes : D → List ℕ) (unsynced : D → PendingState) (present : (d : D) → honest d → IsOutcome (unsynced d) (bytes d)) where
   reads_by : (n : StoreState D) → (honest n.journal.disk → (c : List ℕ) → IsOutcome (unsynced n.journal.disk) c → Leaves n c) → (honest n.journal.disk → n.step ≡ GateOpened → n.journal.phase ≢ Failed → StandsFor (bytes n.journal.disk) (coming n))
       → honest n.journal.disk → n.journal.phase ≢ Failed → StandsFor (bytes n.journal.disk) (reached n)
   reads_by n now opened h well = by_step n.step n.journal.phase (bytes n.journal.disk) (kept n) (coming n) well (λ at. opened h at well) (now h (bytes n.journal.disk) (present n.journal.disk h))
 
-module _ {D : Type 0} (honest : D → Type 0) (bytes : D → List ℕ) (moment : D → ℕ) (left_since : D → ℕ → List ℕ → Type 0) (unsynced : D → Unsynced) {s : StoreState D} {set : State} {first : ℕ} {ahead copies : List Change} (i : IsSound honest bytes unsynced s set first ahead copies) where
+module _ {D : Type 0} (honest : D → Type 0) (bytes : D → List ℕ) (moment : D → ℕ) (crash_states_since : D → ℕ → List ℕ → Type 0) (unsynced : D → PendingState) {s : StoreState D} {set : State} {first : ℕ} {ahead copies : List Change} (i : IsSound honest bytes unsynced s set first ahead copies) where
   -- nothing is done
-  pub still : ((d : D) (c : List ℕ) → honest d → left_since d (moment d) c → IsOutcome (unsynced d) c) → honest s.journal.disk → LeavesOnly moment left_since s.journal.disk s.journal.disk (Leaves s)
-  still only_now h = leaves_still moment left_since s.journal.disk (Leaves s) (λ c left. i.now h c (only_now s.journal.disk c h left))
+  pub still : ((d : D) (c : List ℕ) → honest d → crash_states_since d (moment d) c → IsOutcome (unsynced d) c) → honest s.journal.disk → LeavesOnly moment crash_states_since s.journal.disk s.journal.disk (Leaves s)
+  still only_now h = leaves_still moment crash_states_since s.journal.disk (Leaves s) (λ c left. i.now h c (only_now s.journal.disk c h left))
 
   -- a call of the journal behind a closed gate
-  pub shut : (new : D) → honest s.journal.disk → KeepsFirm moment left_since unsynced s.journal.disk new (Outside s.journal.slot) → LeavesOnly moment left_since s.journal.disk new (HasChain s.journal.slot s.journal.front s.journal.sealed)
-      → LeavesOnly moment left_since s.journal.disk new (λ c. StandsFor c (kept s))
-  shut new h apart chain = chain_leaves honest moment left_since unsynced s.journal.disk new (kept s) s.journal (i.kept_is h) apart chain
+  pub shut : (new : D) → honest s.journal.disk → KeepsFirm moment crash_states_since unsynced s.journal.disk new (Outside s.journal.slot) → LeavesOnly moment crash_states_since s.journal.disk new (HasChain s.journal.slot s.journal.front s.journal.sealed)
+      → LeavesOnly moment crash_states_since s.journal.disk new (λ c. StandsFor c (kept s))
+  shut new h apart chain = chain_leaves honest moment crash_states_since unsynced s.journal.disk new (kept s) s.journal (i.kept_is h) apart chain
 
   -- and once it may be open
-  pub open_or_shut : IsFlight s first ahead copies → (new : D) → honest s.journal.disk → KeepsFirm moment left_since unsynced s.journal.disk new (Outside s.journal.slot) → LeavesOnly moment left_since s.journal.disk new (HasChainOrNext s.journal.slot s.journal.front s.journal.sealed s.journal.staged)
-      → LeavesOnly moment left_since s.journal.disk new (λ c. StandsFor c (kept s) ⊎ StandsFor c (coming s))
-  open_or_shut f new h apart chain = either_leaves honest moment left_since unsynced s.journal.disk new (kept s) s.journal (i.kept_is h) apart (coming s) s.journal.staged f.takes f.short chain
+  pub open_or_shut : IsFlight s first ahead copies → (new : D) → honest s.journal.disk → KeepsFirm moment crash_states_since unsynced s.journal.disk new (Outside s.journal.slot) → LeavesOnly moment crash_states_since s.journal.disk new (HasChainOrNext s.journal.slot s.journal.front s.journal.sealed s.journal.staged)
+      → LeavesOnly moment crash_states_since s.journal.disk new (λ c. StandsFor c (kept s) ⊎ StandsFor c (coming s))
+  open_or_shut f new h apart chain = either_leaves honest moment crash_states_since unsynced s.journal.disk new (kept s) s.journal (i.kept_is h) apart (coming s) s.journal.staged f.takes f.short chain
 
   -- what has the batch in its chain
-  pub next_stands : IsFlight s first ahead copies → (new : D) → honest s.journal.disk → KeepsFirm moment left_since unsynced s.journal.disk new (Outside s.journal.slot) → (c : List ℕ) → IsOutcome (unsynced new) c
+  pub next_stands : IsFlight s first ahead copies → (new : D) → honest s.journal.disk → KeepsFirm moment crash_states_since unsynced s.journal.disk new (Outside s.journal.slot) → (c : List ℕ) → IsOutcome (unsynced new) c
       → HasChain s.journal.slot s.journal.front (s.journal.sealed ++ s.journal.staged ∷ []) c → StandsFor c (coming s)
-  next_stands f new h apart = moves.next_stands honest moment left_since unsynced s.journal.disk new (kept s) s.journal (i.kept_is h) apart (coming s) s.journal.staged f.takes f.short
+  next_stands f new h apart = moves.next_stands honest moment crash_states_since unsynced s.journal.disk new (kept s) s.journal (i.kept_is h) apart (coming s) s.journal.staged f.takes f.short
 
   -- the batch goes on its way, or the device failed
   pub on_its_way : ((d : D) → honest d → IsOutcome (unsynced d) (bytes d)) → IsFlight s first ahead copies → (step : Phase) (j : JournalState D) → j.slot ≡ s.journal.slot → j.staged ≡ s.journal.staged → (j.phase ≡ step) ⊎ (j.phase ≡ Failed) → (honest j.disk → IsKept (unsynced j.disk) (kept s) j)
@@ -131,25 +131,25 @@ module _ {D : Type 0} (honest : D → Type 0) (bytes : D → List ℕ) (moment :
   }
 
   -- a sync at which the gate is shut, and one at which it may be open
-  pub sync_shut : s.journal.phase ≡ Staged → (new : D) → honest s.journal.disk → KeepsFirm moment left_since unsynced s.journal.disk new (λ at n. Unit {0}) → LeavesOnly moment left_since s.journal.disk new (Claims s.journal)
-      → LeavesOnly moment left_since s.journal.disk new (λ c. StandsFor c (kept s))
-  sync_shut is new h apart any = shut new h (all_firm honest moment left_since unsynced s.journal.disk new (Outside s.journal.slot) apart)
-      (subst (λ (p : Phase). LeavesOnly moment left_since s.journal.disk new (ClaimsAt p s.journal.begun s.journal.slot s.journal.front s.journal.sealed s.journal.staged)) is any)
+  pub sync_shut : s.journal.phase ≡ Staged → (new : D) → honest s.journal.disk → KeepsFirm moment crash_states_since unsynced s.journal.disk new (λ at n. Unit {0}) → LeavesOnly moment crash_states_since s.journal.disk new (CrashStates s.journal)
+      → LeavesOnly moment crash_states_since s.journal.disk new (λ c. StandsFor c (kept s))
+  sync_shut is new h apart any = shut new h (all_firm honest moment crash_states_since unsynced s.journal.disk new (Outside s.journal.slot) apart)
+      (subst (λ (p : Phase). LeavesOnly moment crash_states_since s.journal.disk new (ClaimsAt p s.journal.begun s.journal.slot s.journal.front s.journal.sealed s.journal.staged)) is any)
 
-  pub sync_open : s.journal.phase ≡ GateOpened → IsFlight s first ahead copies → (new : D) → honest s.journal.disk → KeepsFirm moment left_since unsynced s.journal.disk new (λ at n. Unit {0}) → LeavesOnly moment left_since s.journal.disk new (Claims s.journal)
-      → LeavesOnly moment left_since s.journal.disk new (λ c. StandsFor c (kept s) ⊎ StandsFor c (coming s))
-  sync_open is f new h apart any = open_or_shut f new h (all_firm honest moment left_since unsynced s.journal.disk new (Outside s.journal.slot) apart)
-      (subst (λ (p : Phase). LeavesOnly moment left_since s.journal.disk new (ClaimsAt p s.journal.begun s.journal.slot s.journal.front s.journal.sealed s.journal.staged)) is any)
+  pub sync_open : s.journal.phase ≡ GateOpened → IsFlight s first ahead copies → (new : D) → honest s.journal.disk → KeepsFirm moment crash_states_since unsynced s.journal.disk new (λ at n. Unit {0}) → LeavesOnly moment crash_states_since s.journal.disk new (CrashStates s.journal)
+      → LeavesOnly moment crash_states_since s.journal.disk new (λ c. StandsFor c (kept s) ⊎ StandsFor c (coming s))
+  sync_open is f new h apart any = open_or_shut f new h (all_firm honest moment crash_states_since unsynced s.journal.disk new (Outside s.journal.slot) apart)
+      (subst (λ (p : Phase). LeavesOnly moment crash_states_since s.journal.disk new (ClaimsAt p s.journal.begun s.journal.slot s.journal.front s.journal.sealed s.journal.staged)) is any)
 
-  pub bytes_same : (later : JournalState D) (new : D) → honest s.journal.disk → KeepsFirm moment left_since unsynced s.journal.disk new (Outside s.journal.slot) → later.slot ≡ s.journal.slot → later.front ≡ s.journal.front → later.sealed ≡ s.journal.sealed → IsKept (unsynced new) (kept s) later
-  bytes_same later new h apart = same_kept honest moment left_since unsynced s.journal.disk new (kept s) s.journal (i.kept_is h) apart later
+  pub bytes_same : (later : JournalState D) (new : D) → honest s.journal.disk → KeepsFirm moment crash_states_since unsynced s.journal.disk new (Outside s.journal.slot) → later.slot ≡ s.journal.slot → later.front ≡ s.journal.front → later.sealed ≡ s.journal.sealed → IsKept (unsynced new) (kept s) later
+  bytes_same later new h apart = same_kept honest moment crash_states_since unsynced s.journal.disk new (kept s) s.journal (i.kept_is h) apart later
 
   pub bytes_moved : (later : JournalState D) (new : D) → later.disk ≡ new → (honest new → IsKept (unsynced new) (kept s) later) → honest later.disk → IsKept (unsynced later.disk) (kept s) later
   bytes_moved later new is b = subst (λ (d : D). honest d → IsKept (unsynced d) (kept s) later) (sym is) b
 
   -- ---- the batch is sealed
   pub sound_sealed : ((d : D) → honest d → IsOutcome (unsynced d) (bytes d)) → IsFlight s first ahead copies → (n : StoreState D) (later : D) → n.store ≡ s.store → n.sealed ≡ s.sealed ++ s.staged → n.step ≡ Idle → n.journal.phase ≡ Idle → n.journal.slot ≡ s.journal.slot → n.journal.front ≡ s.journal.front
-      → n.journal.sealed ≡ s.journal.sealed ++ s.journal.staged ∷ [] → n.journal.disk ≡ later → (honest later → honest s.journal.disk) → (honest s.journal.disk → KeepsFirm moment left_since unsynced s.journal.disk later (Outside s.journal.slot))
+      → n.journal.sealed ≡ s.journal.sealed ++ s.journal.staged ∷ [] → n.journal.disk ≡ later → (honest later → honest s.journal.disk) → (honest s.journal.disk → KeepsFirm moment crash_states_since unsynced s.journal.disk later (Outside s.journal.slot))
       → (honest n.journal.disk → (c : List ℕ) → IsOutcome (unsynced n.journal.disk) c → HasChain n.journal.slot n.journal.front n.journal.sealed c) → (next_first : ℕ) (rest : List Change) → IsSound honest bytes unsynced n set next_first copies rest
   sound_sealed present f n later store sealed step phase slot front bodies disk honest_back apart chain next_first rest =
       let set_is : set ≡ kept s = ap (λ (l : List Change). after_all set l) (sym f.none) ∙ i.set_is in
@@ -197,7 +197,7 @@ module _ {D : Type 0} (honest : D → Type 0) (bytes : D → List ℕ) (moment :
   }
 
   pub sound_staged : ((d : D) → honest d → IsOutcome (unsynced d) (bytes d)) → (group : Group) (j : JournalState D) (later : State) (left twice : List Change) → after_all later left ≡ after_all set ahead → Follows later left → left ≡ [] → twice ≡ group.changes → GoesOn (after_all set ahead) group → IsBatch group
-      → j.staged ≡ spelling_of_batch group → length j.staged ≤ j.slot.most → j.phase ≡ Staged → (honest j.disk → IsKept (unsynced j.disk) (kept s) j)
+      → j.staged ≡ encoding_of_batch group → length j.staged ≤ j.slot.most → j.phase ≡ Staged → (honest j.disk → IsKept (unsynced j.disk) (kept s) j)
       → (honest j.disk → (c : List ℕ) → IsOutcome (unsynced j.disk) c → Leaves (record { store = s.store; sealed = s.sealed; staged = group.changes; step = Staged; journal = j }) c)
       → IsSound honest bytes unsynced (record { store = s.store; sealed = s.sealed; staged = group.changes; step = Staged; journal = j }) later group.first left twice
   sound_staged present group j later left twice same follows none copied on lawful spelled short phase kept_is now =
@@ -234,7 +234,7 @@ module _ {D : Type 0} (honest : D → Type 0) (bytes : D → List ℕ) (moment :
   refuses faults going group fault.Stranger h = (going, refl, λ on. h (subst (λ (t : State). GoesOn t group) (sym i.set_is) on))
 
 -- ---- a store as it begins
-module _ {D : Type 0} (honest : D → Type 0) (bytes : D → List ℕ) (unsynced : D → Unsynced) where
+module _ {D : Type 0} (honest : D → Type 0) (bytes : D → List ℕ) (unsynced : D → PendingState) where
   pub sound_new : ((d : D) → honest d → IsOutcome (unsynced d) (bytes d)) → (n : StoreState D) (set : State) → n.store.start ≡ set → n.sealed ≡ [] → n.step ≡ Idle → n.journal.phase ≡ Idle → (honest n.journal.disk → IsKept (unsynced n.journal.disk) set n.journal)
       → (honest n.journal.disk → (c : List ℕ) → IsOutcome (unsynced n.journal.disk) c → HasChain n.journal.slot n.journal.front n.journal.sealed c) → (own : State) → own ≡ set → (first : ℕ) (ahead copies : List Change) → ahead ≡ [] → IsSound honest bytes unsynced n own first ahead copies
   sound_new present n set start none step phase stands chain own own_is first ahead copies left =

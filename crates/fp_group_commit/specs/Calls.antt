@@ -18,7 +18,7 @@ pub record MovesTo {D : Type 0} (faults : D → ℕ) (phase : Phase) (old new : 
   pub step : new.step ≡ phase
   pub well_before : old.journal.phase ≢ Failed
   pub well_now : new.journal.phase ≢ Failed
-  pub calm : faults new.journal.disk ≡ faults old.journal.disk
+  pub no_failure : faults new.journal.disk ≡ faults old.journal.disk
 
 -- the device failed in the call; the store has failed now, with its phase and its room as before
 pub record Breaks {D : Type 0} (faults : D → ℕ) (old new : StoreState D) : Type 0 where

@@ -7,11 +7,11 @@ use Rattle.fp_edit.specs.Flags.{State}
 use Rattle.fp_edit.specs.Following.{Follows}
 use Rattle.fp_journal.specs.State.{JournalState, room}
 use Rattle.fp_record.specs.Group.{Group}
-use Rattle.fp_record.specs.Spelling.{spelling_of_change}
+use Rattle.fp_record.specs.Encoding.{encoding_of_change}
 
 -- the length of a batch's body
 abbrev pub batch_len : Group → ℕ
-batch_len group = 10 + sum_by (λ c. length (spelling_of_change c)) group.changes
+batch_len group = 10 + sum_by (λ c. length (encoding_of_change c)) group.changes
 
 -- 1 to 64 changes, a body as short as its slot takes, and room for it, the number of its length and its two gates
 pub record HasRoom {D : Type 0} (journal : JournalState D) (group : Group) : Type 0 where

@@ -1,12 +1,12 @@
 -- What holds of a store between its calls.
 use Rattle.std.specs.Prelude.{◌≡◌, ◌≢◌, ◌⊎◌, ◌+◌, ◌≤◌, ℕ, List, [], length}
-use Rattle.fp_disk.specs.Outcomes.{Unsynced, IsOutcome}
+use Rattle.fp_disk.specs.Outcomes.{PendingState, IsOutcome}
 use Rattle.fp_edit.specs.Edits.{Change}
 use Rattle.fp_edit.specs.Flags.{State}
 use Rattle.fp_edit.specs.Following.{Follows}
 use Rattle.fp_edit.specs.Log.{after_all}
 use Rattle.fp_journal.specs.declared.journal.Phase.TheVariants.{Idle, Failed}
-use Rattle.fp_record.specs.Lawful.{IsBatch}
+use Rattle.fp_record.specs.WellFormed.{IsBatch}
 use Rattle.fp_recovery.specs.Durable.{IsKept}
 use Rattle.fp_recovery.specs.Stands.{StandsFor, TakesBatch}
 use Rattle.fp_group_commit.specs.Store.{StoreState, Leaves, coming, kept, reached}
@@ -22,7 +22,7 @@ pub record IsFlight {D : Type 0} (s : StoreState D) (first : ℕ) (ahead copies 
   pub takes : TakesBatch (kept s) s.journal.staged (coming s)
 
 -- the set is behind by the edits that are ahead of it
-pub record IsSound {D : Type 0} (honest : D → Type 0) (bytes : D → List ℕ) (unsynced : D → Unsynced)
+pub record IsSound {D : Type 0} (honest : D → Type 0) (bytes : D → List ℕ) (unsynced : D → PendingState)
     (s : StoreState D) (set : State) (first : ℕ) (ahead copies : List Change) : Type 0 where
   pub set_is : after_all set ahead ≡ kept s
   pub follows : Follows set ahead

@@ -33,7 +33,7 @@ impl<D: Disk> Store<D> {
         ensures called { Makes (Write ∷ []) (D.calls self.old.journal.disk)
             (D.calls self.new.journal.disk) result }
         ensures any_moment { D.honest self.old.journal.disk →
-            LeavesOnly D.moment D.left_since self.old.journal.disk self.new.journal.disk
+            LeavesOnly D.moment D.crash_states_since self.old.journal.disk self.new.journal.disk
             (Leaves self.old) }
         ensures exit { D.honest self.new.journal.disk → (c : List ℕ) →
             IsOutcome (D.unsynced self.new.journal.disk) c → Leaves self.new c }
@@ -72,7 +72,7 @@ impl<D: Disk> Store<D> {
         ensures called { Makes (Sync ∷ []) (D.calls self.old.journal.disk)
             (D.calls self.new.journal.disk) result }
         ensures any_moment { D.honest self.old.journal.disk →
-            LeavesOnly D.moment D.left_since self.old.journal.disk self.new.journal.disk
+            LeavesOnly D.moment D.crash_states_since self.old.journal.disk self.new.journal.disk
             (Leaves self.old) }
         ensures exit { D.honest self.new.journal.disk → (c : List ℕ) →
             IsOutcome (D.unsynced self.new.journal.disk) c → Leaves self.new c }
@@ -100,7 +100,7 @@ impl<D: Disk> Store<D> {
             (D.calls self.new.journal.disk) result }
         // This call begins to open the gate, so what it leaves is said of the store after it.
         ensures any_moment { D.honest self.old.journal.disk →
-            LeavesOnly D.moment D.left_since self.old.journal.disk self.new.journal.disk
+            LeavesOnly D.moment D.crash_states_since self.old.journal.disk self.new.journal.disk
             (Leaves self.new) }
         ensures exit { D.honest self.new.journal.disk → (c : List ℕ) →
             IsOutcome (D.unsynced self.new.journal.disk) c → Leaves self.new c }
@@ -131,7 +131,7 @@ impl<D: Disk> Store<D> {
         ensures called { Makes (Sync ∷ []) (D.calls self.old.journal.disk)
             (D.calls self.new.journal.disk) result }
         ensures any_moment { D.honest self.old.journal.disk →
-            LeavesOnly D.moment D.left_since self.old.journal.disk self.new.journal.disk
+            LeavesOnly D.moment D.crash_states_since self.old.journal.disk self.new.journal.disk
             (Leaves self.old) }
         ensures exit { D.honest self.new.journal.disk → (c : List ℕ) →
             IsOutcome (D.unsynced self.new.journal.disk) c → Leaves self.new c }

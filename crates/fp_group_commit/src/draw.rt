@@ -5,8 +5,8 @@ ghost use Rattle.fp_edit.specs.Following.{Follows, changes_of};
 ghost use Rattle.fp_edit.specs.Log.{after_all};
 ghost use Rattle.fp_edit.specs.declared.edit.TheConstants.{REVISIONS_END};
 ghost use Rattle.fp_record.specs.declared.batch.TheConstants.{MOST_EDITS};
-ghost use Rattle.fp_record.specs.Lawful.{IsBatch};
-ghost use Rattle.fp_record.specs.Spelling.{spelling_of_batch};
+ghost use Rattle.fp_record.specs.WellFormed.{IsBatch};
+ghost use Rattle.fp_record.specs.Encoding.{encoding_of_batch};
 ghost use Rattle.fp_group_commit.specs.Calls.{IsStrange};
 ghost use Rattle.fp_group_commit.specs.Changes.{GoesOn, HasRoom, batch_len};
 
@@ -16,7 +16,7 @@ use fp_disk::Disk;
 use fp_edit::{Edit, FlagSet, copies_of};
 use fp_fronts::Lists;
 use fp_journal::{Framed, Journal};
-use fp_record::{Batch, MOST_EDITS, spelled_len};
+use fp_record::{Batch, MOST_EDITS, encoded_len};
 use std::alloc::{AllocError, Global};
 use std::collections::VecDeque;
 use std::marker::Model;
@@ -81,7 +81,7 @@ pub fn spelled_sum(edits: &[Edit]) -> u64
 {
     let mut sum = 10;
     for edit in edits {
-        sum += spelled_len(edit) as u64;
+        sum += encoded_len(edit) as u64;
     }
     sum
 }
@@ -104,7 +104,7 @@ fn framed(alloc: Global, most: u32, draw: &Draw) -> Result<(Framed, VecDeque<Edi
     requires revisions { draw.now.first + length draw.now.changes ≤ REVISIONS_END }
     requires small { batch_len draw.now ≤ most }
     ensures lawful { IfOk result (λ _. IsBatch draw.now) }
-    ensures spelled { IfOk result (λ r. r.0 ≡ spelling_of_batch draw.now) }
+    ensures spelled { IfOk result (λ r. r.0 ≡ encoding_of_batch draw.now) }
     ensures copied { IfOk result (λ r. changes_of r.1.items ≡ draw.now.changes) }
 {
     // A parameter is known to be within its type.
@@ -133,7 +133,7 @@ pub(crate) fn ready(
     ensures done { OnOk result (length ahead.new.items ≡ 0) }
     ensures goes_on { OnOk result (GoesOn (after_all set.old (changes_of ahead.old.items)) draw.now) }
     ensures lawful { OnOk result (IsBatch draw.now) }
-    ensures spelled { IfOk result (λ r. r.0 ≡ spelling_of_batch draw.now) }
+    ensures spelled { IfOk result (λ r. r.0 ≡ encoding_of_batch draw.now) }
     ensures copied { IfOk result (λ r. changes_of r.1.items ≡ draw.now.changes) }
     ensures fault { IfErr result
         (IsStrange (after_all set.old (changes_of ahead.old.items)) draw.now) }

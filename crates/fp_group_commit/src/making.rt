@@ -2,13 +2,13 @@
 
 ghost use Rattle.std.specs.Prelude.{◌≡◌, ◌≢◌, ◌<◌, ◌↔◌, ◌++◌, [], ◌∷◌, List, ℕ, length, IfOk, IfErr, IsOk, MatchResult};
 ghost use Rattle.fp_disk.specs.History.{MakesSome};
-ghost use Rattle.fp_disk.specs.Outcomes.{IsOutcome, LeavesOnly, settled};
+ghost use Rattle.fp_disk.specs.Outcomes.{IsOutcome, LeavesOnly, all_synced};
 ghost use Rattle.fp_disk.specs.declared.history.CallKind.TheVariants.{Length, Read, Sync};
 ghost use Rattle.fp_edit.specs.Flags.{State};
 ghost use Rattle.fp_layout.specs.NewDisk.{format_calls};
 ghost use Rattle.fp_layout.specs.Size.{IsSlotSize};
 ghost use Rattle.fp_layout.specs.declared.fault.OpenFault.TheVariants as opening;
-ghost use Rattle.fp_recovery.specs.Durable.{IsNewSetOrNone, IsSure};
+ghost use Rattle.fp_recovery.specs.Durable.{IsNewSetOrNone, IsDurable};
 ghost use Rattle.fp_recovery.specs.Refusals.{IsUnlessWanting, RefusesBytes};
 ghost use Rattle.fp_recovery.specs.Stands.{StandsFor};
 ghost use Rattle.fp_group_commit.specs.Store.{IsFresh, new_set};
@@ -20,7 +20,7 @@ use crate::store::Store;
 use fp_disk::Disk;
 use fp_edit::FlagSet;
 use fp_layout::{CreateFault as LayoutFault, OpenFault, SlotSize};
-use fp_recovery::Restoring;
+use fp_recovery::Replayer;
 use std::alloc::Global;
 
 // Why a disk isn't made where the size of its slots is none.
@@ -30,7 +30,7 @@ fn refusal_of_size<D: Disk>(disk: &mut D) -> CreateFault
     ensures same { D.honest disk.old → (D.bytes disk.new ≡ D.bytes disk.old)
         × (D.unsynced disk.new ≡ D.unsynced disk.old) }
     ensures any_moment { D.honest disk.old →
-        LeavesOnly D.moment D.left_since disk.old disk.new (IsOutcome (D.unsynced disk.old)) }
+        LeavesOnly D.moment D.crash_states_since disk.old disk.new (IsOutcome (D.unsynced disk.old)) }
     ensures honest { D.honest disk.old ↔ D.honest disk.new }
     ensures called { D.calls disk.new ≡ D.calls disk.old ++ Length ∷ [] }
     ensures cause { result ≡ Device → D.faults disk.old < D.faults disk.new }
@@ -54,7 +54,7 @@ impl<D: Disk> Store<D> {
         ensures fresh { IfOk result (λ r. IsFresh r.0 (new_set size)) }
         ensures opening { IfOk result (λ r. r.1 ≡ r.0.store) }
         ensures sure { D.honest disk →
-            IfOk result (λ r. IsSure (D.unsynced r.0.journal.disk) (new_set size)) }
+            IfOk result (λ r. IsDurable (D.unsynced r.0.journal.disk) (new_set size)) }
 
         ensures not_empty { D.honest disk → IfErr result (λ e. e.0 ≡ NotEmpty →
             (D.bytes disk ≢ []) × (D.unsynced e.1 ≡ D.unsynced disk)) }
@@ -64,9 +64,9 @@ impl<D: Disk> Store<D> {
         ensures cause { IfErr result (λ e. e.0 ≡ Device → D.faults disk < D.faults e.1) }
 
         // A crash at any moment leaves what opening calls no disk, or one that stands for no flags.
-        ensures any_moment { D.honest disk → D.unsynced disk ≡ settled [] → MatchResult result
-            (λ r. LeavesOnly D.moment D.left_since disk r.0.journal.disk (IsNewSetOrNone size))
-            (λ e. LeavesOnly D.moment D.left_since disk e.1 (IsNewSetOrNone size)) }
+        ensures any_moment { D.honest disk → D.unsynced disk ≡ all_synced [] → MatchResult result
+            (λ r. LeavesOnly D.moment D.crash_states_since disk r.0.journal.disk (IsNewSetOrNone size))
+            (λ e. LeavesOnly D.moment D.crash_states_since disk e.1 (IsNewSetOrNone size)) }
         ensures called { MatchResult result
             (λ r. D.calls r.0.journal.disk ≡ D.calls disk ++ Length ∷ format_calls)
             (λ e. MakesSome (Length ∷ format_calls) (D.calls disk) (D.calls e.1)) }
@@ -98,11 +98,11 @@ impl<D: Disk> Store<D> {
 
         // Bytes that no sync made sure of are none to open: each outcome stands for the set now.
         ensures sure { D.honest disk →
-            IfOk result (λ r. IsSure (D.unsynced r.0.journal.disk) r.0.store.start) }
+            IfOk result (λ r. IsDurable (D.unsynced r.0.journal.disk) r.0.store.start) }
 
         ensures fault { D.honest disk → IfErr result (λ e. RefusesBytes (D.bytes disk) e.0) }
         ensures refused { D.honest disk → IfErr result (λ e. IsUnlessWanting (D.bytes disk) e.0) }
-        ensures calm { IfOk result (λ r. D.faults r.0.journal.disk ≡ D.faults disk) }
+        ensures no_failure { IfOk result (λ r. D.faults r.0.journal.disk ≡ D.faults disk) }
         ensures cause { IfErr result (λ e. e.0 ≡ opening.Device → D.faults disk < D.faults e.1) }
         ensures called { MatchResult result
             (λ r. D.calls r.0.journal.disk ≡ D.calls disk ++ Sync ∷ Length ∷ Read ∷ [])
@@ -110,13 +110,13 @@ impl<D: Disk> Store<D> {
         ensures same { D.honest disk → MatchResult result
             (λ r. D.bytes r.0.journal.disk ≡ D.bytes disk) (λ e. D.bytes e.1 ≡ D.bytes disk) }
         ensures any_moment { D.honest disk → MatchResult result
-            (λ r. LeavesOnly D.moment D.left_since disk r.0.journal.disk
+            (λ r. LeavesOnly D.moment D.crash_states_since disk r.0.journal.disk
             (IsOutcome (D.unsynced disk)))
-            (λ e. LeavesOnly D.moment D.left_since disk e.1 (IsOutcome (D.unsynced disk))) }
+            (λ e. LeavesOnly D.moment D.crash_states_since disk e.1 (IsOutcome (D.unsynced disk))) }
         ensures honest { MatchResult result (λ r. D.honest disk ↔ D.honest r.0.journal.disk)
             (λ e. D.honest disk ↔ D.honest e.1) }
     {
-        let mut restoring = Restoring::new(alloc);
+        let mut restoring = Replayer::new(alloc);
         let journal = fp_layout::open(alloc, disk, &mut restoring)?;
         let set = restoring.into_set();
         let Ok(own) = set.try_copy() else {

@@ -4,11 +4,11 @@ use Rattle.std.proofs.lemmas.Grind.{common_steps}
 use Rattle.std.proofs.lemmas.Bool.{cases_lt}
 use Rattle.std.proofs.lemmas.List.{append_assoc, get_or_append_left}
 use Rattle.std.proofs.lemmas.List.Elements.{All-set, All-take}
-use Rattle.fp_disk.specs.Outcomes.{Unsynced, IsOutcome, IsByte, Covers}
+use Rattle.fp_disk.specs.Outcomes.{PendingState, IsOutcome, IsByte, Covers}
 use Rattle.fp_gate.specs.Gates.{IsShut, StaysAsRead}
 use Rattle.fp_journal.specs.Holds.{Holds}
 use Rattle.fp_journal.specs.Chain.{Ends}
-use Rattle.fp_journal.specs.State.{IsQuiet, IsSure}
+use Rattle.fp_journal.specs.State.{EndsClosed, IsDurable}
 use Rattle.fp_journal.proofs.Holds.{holds_back, byte_held, firm_outcome}
 use Rattle.fp_journal.proofs.Gates.{quiet_outcome}
 use Rattle.fp_gate.specs.declared.gate.TheConstants.{OPEN}
@@ -25,7 +25,7 @@ put_elsewhere xs at k x other = grind (arith, common_steps)
 front_place : (n : ℕ) (xs : List ℕ) (k : ℕ) → k < n → slice_index (take n xs) k ≡ slice_index xs k
 front_place n xs k lt = grind (arith, common_steps)
 
-module _ (u : Unsynced) (b : List ℕ) (present : IsOutcome u b) where
+module _ (u : PendingState) (b : List ℕ) (present : IsOutcome u b) where
   -- what a read gives, as far as the last sync reached
   abbrev cut : List ℕ
   cut = take (length u.synced) b
@@ -76,7 +76,7 @@ module _ (u : Unsynced) (b : List ℕ) (present : IsOutcome u b) where
       | inr last ↦ let is : k ≡ at + length text = omega (arith, le, lt, last) in gate_kept (subst (λ (j : ℕ). Covers u.ranges j) is covers)
     ]
 
-    pub ends_firm : IsQuiet at stop text u
+    pub ends_firm : EndsClosed at stop text u
     ends_firm = let e = all cut cut_outcome in let len = length-append text (e.gate ∷ []) in let long = e.holds.long in let same_long = cut_long in record {
       gate = e.gate;
       shut = e.shut;
@@ -101,12 +101,12 @@ ends_open start stop text more c e =
     let back = holds_back c start text (OPEN ∷ (more ++ e.gate ∷ [])) all in let long = back.long in
     (omega (arith, long), byte_held c (start + length text) OPEN (more ++ e.gate ∷ []) back)
 
-module _ (start stop : ℕ) (text : List ℕ) (u : Unsynced) where
-  pub quiet_shut : IsQuiet start stop text u → IsShut u (start + length text)
+module _ (start stop : ℕ) (text : List ℕ) (u : PendingState) where
+  pub quiet_shut : EndsClosed start stop text u → IsShut u (start + length text)
   quiet_shut q = λ c o. ends_shut start stop text c (quiet_outcome start stop text u c q o)
 
   -- what lies behind it, with a closed gate, stays as it is read
-  pub sure_stays : (more b : List ℕ) → IsSure start stop text more u → IsOutcome u b → StaysAsRead u b (start + length text + 1) (start + length text + 1 + (length more + 1))
+  pub sure_stays : (more b : List ℕ) → IsDurable start stop text more u → IsOutcome u b → StaysAsRead u b (start + length text + 1) (start + length text + 1 + (length more + 1))
   sure_stays more b r present = λ c o k le lt.
       let at : ℕ = start + length text + 1 in let len = length-append more (r.gate ∷ []) in let here : at + (k - at) ≡ k = omega (arith, le) in
       let p : Holds c at (more ++ r.gate ∷ []) = firm_outcome u at (more ++ r.gate ∷ []) c r.firm o in

@@ -3,10 +3,10 @@ use Rattle.std.proofs.Common.{◌≡◌, ◌≢◌, ◌⊎◌, inl, inr, ℕ, �
 use Rattle.std.specs.Prelude.{slice_index}
 use Rattle.std.proofs.lemmas.Bool.{cases_eq}
 use Rattle.std.proofs.lemmas.List.{append_assoc, append-nil}
-use Rattle.fp_disk.specs.Outcomes.{Unsynced, IsOutcome, settled, touched, Written}
+use Rattle.fp_disk.specs.Outcomes.{PendingState, IsOutcome, all_synced, with_write, Written}
 use Rattle.fp_journal.specs.Holds.{Holds, Apart}
 use Rattle.fp_journal.specs.Chain.{Ends, framed, spell}
-use Rattle.fp_journal.specs.State.{IsQuiet, IsReady, IsSure, IsBetween}
+use Rattle.fp_journal.specs.State.{EndsClosed, IsReady, IsDurable, IsBetween}
 use Rattle.fp_journal.proofs.Holds.{holds_append, holds_front, holds_byte, holds_written, holds_apart, firm_outcome, firm_touched, firm_settled, firm_front}
 use Rattle.fp_gate.specs.declared.gate.TheConstants.{OPEN}
 
@@ -15,15 +15,15 @@ module _ (start stop : ℕ) (text : List ℕ) where
   End = start + length text
 
   -- what is quiet stands in each outcome
-  pub quiet_outcome : (u : Unsynced) (c : List ℕ) → IsQuiet start stop text u → IsOutcome u c → Ends start stop text c
+  pub quiet_outcome : (u : PendingState) (c : List ℕ) → EndsClosed start stop text u → IsOutcome u c → Ends start stop text c
   quiet_outcome u c q o = record { gate = q.gate; shut = q.shut; holds = firm_outcome u start (text ++ q.gate ∷ []) c q.firm o; within = q.within }
 
   -- writes apart from text and gate leave it so
-  pub quiet_touched : (u : Unsynced) (from n : ℕ) → Apart from n start (length text + 1) → IsQuiet start stop text u → IsQuiet start stop text (touched u from n)
+  pub quiet_touched : (u : PendingState) (from n : ℕ) → Apart from n start (length text + 1) → EndsClosed start stop text u → EndsClosed start stop text (with_write u from n)
   quiet_touched u from n apart q = let len : length (text ++ q.gate ∷ []) ≡ length text + 1 = length-append text (q.gate ∷ []) in
       record { gate = q.gate; shut = q.shut; firm = firm_touched u start from n (text ++ q.gate ∷ []) (subst (λ (k : ℕ). Apart from n start k) (sym len) apart) q.firm; within = q.within }
 
-  pub quiet_settled : (b : List ℕ) → Ends start stop text b → IsQuiet start stop text (settled b)
+  pub quiet_settled : (b : List ℕ) → Ends start stop text b → EndsClosed start stop text (all_synced b)
   quiet_settled b e = record { gate = e.gate; shut = e.shut; firm = firm_settled b start (text ++ e.gate ∷ []) e.holds; within = e.within }
 
   module _ (more : List ℕ) where
@@ -41,16 +41,16 @@ module _ (start stop : ℕ) (text : List ℕ) where
       within = omega (arith, len, lt);
     }
 
-    pub sure_touched : (u : Unsynced) (from n : ℕ) → Apart from n (End + 1) (length more + 1) → IsSure start stop text more u → IsSure start stop text more (touched u from n)
+    pub sure_touched : (u : PendingState) (from n : ℕ) → Apart from n (End + 1) (length more + 1) → IsDurable start stop text more u → IsDurable start stop text more (with_write u from n)
     sure_touched u from n apart r = let len : length (more ++ r.gate ∷ []) ≡ length more + 1 = length-append more (r.gate ∷ []) in
         record { gate = r.gate; shut = r.shut; firm = firm_touched u (End + 1) from n (more ++ r.gate ∷ []) (subst (λ (k : ℕ). Apart from n (End + 1) k) (sym len) apart) r.firm; within = r.within }
 
     -- a write of the gate leaves nothing else in doubt
-    pub between_opened : (u : Unsynced) → IsQuiet start stop text u → IsSure start stop text more u → IsBetween start stop text more (touched u End 1)
+    pub between_opened : (u : PendingState) → EndsClosed start stop text u → IsDurable start stop text more u → IsBetween start stop text more (with_write u End 1)
     between_opened u q r = record { front = firm_touched u start End 1 text (inr (omega arith)) (firm_front u start text (q.gate ∷ []) q.firm); back = sure_touched u End 1 (inl (omega arith)) r }
 
     -- then it is shut or open in each outcome
-    pub between_outcome : (u : Unsynced) (c : List ℕ) → IsBetween start stop text more u → IsOutcome u c → Ends start stop text c ⊎ Ends start stop (text ++ OPEN ∷ more) c
+    pub between_outcome : (u : PendingState) (c : List ℕ) → IsBetween start stop text more u → IsOutcome u c → Ends start stop text c ⊎ Ends start stop (text ++ OPEN ∷ more) c
     between_outcome u c i o =
         let r = i.back in let w = r.within in
         let front : Holds c start text = firm_outcome u start text c i.front o in
@@ -63,7 +63,7 @@ module _ (start stop : ℕ) (text : List ℕ) where
         ]
 
     -- an open gate puts the staged one behind the others
-    pub gate_written : (u : Unsynced) (b new : List ℕ) → IsQuiet start stop text u → IsSure start stop text more u → IsOutcome u b → Written b End (OPEN ∷ []) new → Ends start stop (text ++ OPEN ∷ more) new
+    pub gate_written : (u : PendingState) (b new : List ℕ) → EndsClosed start stop text u → IsDurable start stop text more u → IsOutcome u b → Written b End (OPEN ∷ []) new → Ends start stop (text ++ OPEN ∷ more) new
     gate_written u b new q r o w =
         longer new r.gate r.shut (holds_apart b (OPEN ∷ []) new text End start w (inr (omega arith)) (holds_front b start text (q.gate ∷ []) (firm_outcome u start (text ++ q.gate ∷ []) b q.firm o))) (holds_written b (OPEN ∷ []) new End w)
         (holds_apart b (OPEN ∷ []) new (more ++ r.gate ∷ []) End (End + 1) w (inl (omega arith)) (firm_outcome u (End + 1) (more ++ r.gate ∷ []) b r.firm o)) r.within

@@ -6,8 +6,8 @@ use Rattle.std.proofs.lemmas.List.{ext_get_or, get_or-append_right, get_or-appen
 use Rattle.std.proofs.lemmas.Bool.{cases_lt}
 use Rattle.fp_disk.specs.declared.call.Progress.TheVariants.{Whole}
 use Rattle.fp_disk.specs.MemoryLaws.{written_changes}
-use Rattle.fp_disk.specs.Outcomes.{Unsynced, IsOutcome, settled, touched, ChangesWithin, Written}
-use Rattle.fp_journal.specs.Holds.{Holds, IsFirm, Apart}
+use Rattle.fp_disk.specs.Outcomes.{PendingState, IsOutcome, all_synced, with_write, ChangesWithin, Written}
+use Rattle.fp_journal.specs.Holds.{Holds, IsSynced, Apart}
 
 -- ---- joined and cut
 pub holds_append : (c : List ℕ) (at : ℕ) (xs ys : List ℕ) → Holds c at xs → Holds c (at + length xs) ys → Holds c at (xs ++ ys)
@@ -98,27 +98,27 @@ written_within old more new at is = subst (λ (b : List ℕ). ChangesWithin old 
 
 -- ---- a crash
 -- what is firm is in every outcome
-pub firm_outcome : (u : Unsynced) (at : ℕ) (text c : List ℕ) → IsFirm u at text → IsOutcome u c → Holds c at text
+pub firm_outcome : (u : PendingState) (at : ℕ) (text c : List ℕ) → IsSynced u at text → IsOutcome u c → Holds c at text
 firm_outcome u at text c f o = let a = f.holds.long in let b = o.no_shorter in record {
   long = omega (arith, a, b);
   same = λ k lt. o.kept (at + k) (omega (arith, a, lt)) (f.untouched (at + k) (omega arith) (omega (arith, lt))) ∙ f.holds.same k lt;
 }
 
 -- and stays firm where a write lies apart from it
-pub firm_touched : (u : Unsynced) (at from n : ℕ) (text : List ℕ) → Apart from n at (length text) → IsFirm u at text → IsFirm (touched u from n) at text
+pub firm_touched : (u : PendingState) (at from n : ℕ) (text : List ℕ) → Apart from n at (length text) → IsSynced u at text → IsSynced (with_write u from n) at text
 firm_touched u at from n text apart f = record {
   holds = f.holds;
   untouched = λ k le lt covers. ⊎_elim (λ here. let x = here.0 in let y = here.1 in ⊎_elim (λ before. omega (arith, le, lt, x, y, before)) (λ behind. omega (arith, le, lt, x, y, behind)) apart) (λ past. f.untouched k le lt past) covers;
 }
 
 -- what stands there when a sync succeeds is firm
-pub firm_settled : (b : List ℕ) (at : ℕ) (text : List ℕ) → Holds b at text → IsFirm (settled b) at text
+pub firm_settled : (b : List ℕ) (at : ℕ) (text : List ℕ) → Holds b at text → IsSynced (all_synced b) at text
 firm_settled b at text p = record { holds = p; untouched = λ k le lt none. none }
 
-pub firm_front : (u : Unsynced) (at : ℕ) (xs ys : List ℕ) → IsFirm u at (xs ++ ys) → IsFirm u at xs
+pub firm_front : (u : PendingState) (at : ℕ) (xs ys : List ℕ) → IsSynced u at (xs ++ ys) → IsSynced u at xs
 firm_front u at xs ys f = let len = length-append xs ys in record { holds = holds_front u.synced at xs ys f.holds; untouched = λ k le lt. f.untouched k le (omega (arith, len, lt)) }
 
 -- what a sync makes sure of is an outcome of before it
-pub settled_outcome : (u : Unsynced) (b c : List ℕ) → IsOutcome u b → IsOutcome (settled b) c → IsOutcome u c
+pub settled_outcome : (u : PendingState) (b c : List ℕ) → IsOutcome u b → IsOutcome (all_synced b) c → IsOutcome u c
 settled_outcome u b c o s = let a = o.no_shorter in let d = o.no_longer in let x = s.no_shorter in let y = s.no_longer in
     record { bytes = s.bytes; no_shorter = omega (arith, a, x); no_longer = omega (arith, d, y); kept = λ k lt out. s.kept k (omega (arith, a, lt)) (λ none. none) ∙ o.kept k lt out }

@@ -3,7 +3,7 @@ use Rattle.std.proofs.Common.{◌≡◌, ◌⊎◌, ◌≤◌, ◌<◌, ◌+◌,
 use Rattle.std.specs.List.{AllByRecursion}
 use Rattle.std.specs.Prelude.{slice_index}
 use Rattle.std.proofs.lemmas.List.{take_at}
-use Rattle.fp_disk.specs.Outcomes.{ChangesWithin, Elapses, IsOutcome, LeavesOnly, Unsynced, Written, settled, touched}
+use Rattle.fp_disk.specs.Outcomes.{ChangesWithin, Elapses, IsOutcome, LeavesOnly, PendingState, Written, all_synced, with_write}
 use Rattle.fp_disk.specs.Moments.{leaves_map, leaves_then}
 use Rattle.fp_journal.specs.declared.slot.Slot.{Slot}
 use Rattle.fp_journal.specs.declared.journal.Phase.{Phase}
@@ -14,7 +14,7 @@ use Rattle.fp_journal.specs.Chain.{Ends, framed, with_gate, body_of, spell}
 use Rattle.fp_journal.specs.Moments.{KeepsFirm, KeepsHeld}
 use Rattle.fp_journal.specs.declared.held.Held.{Held}
 use Rattle.fp_journal.specs.declared.held.Held.TheVariants as held
-use Rattle.fp_journal.specs.State.{JournalState, HasAmong, HasChain, HasChainOrNext, HasNext, Claims, Secures, Outside, IsQuiet, IsBetween, IsAt, IsFrame, InFlight, AllShort, IsHeld, IsKept, IsLeft, SameSlot, begun_of, has_begun, phase_of, room}
+use Rattle.fp_journal.specs.State.{JournalState, HasAmong, HasChain, HasChainOrNext, HasNext, CrashStates, StatesAfterSync, Outside, EndsClosed, IsBetween, IsAt, IsFrame, InFlight, AllShort, IsHeld, IsKept, IsLeft, SameSlot, begun_of, has_begun, phase_of, room}
 use Rattle.fp_journal.proofs.Gates.{text-more, ready_written}
 use Rattle.fp_journal.proofs.Calls as calls
 use Rattle.fp_journal.proofs.Firm as firm
@@ -36,9 +36,9 @@ All-push P (y ∷ ys) x all p = (all.0, All-push P ys x all.1 p)
 longer_text : (t b : List ℕ) → length (t ++ OPEN ∷ framed b) ≡ length t + 5 + length b
 longer_text t b = let e = length-append t (OPEN ∷ framed b) in omega (arith, e)
 
-module _ {D : Type 0} (honest : D → Type 0) (bytes : D → List ℕ) (unsynced : D → Unsynced) (moment : D → ℕ) (left_since : D → ℕ → List ℕ → Type 0)
+module _ {D : Type 0} (honest : D → Type 0) (bytes : D → List ℕ) (unsynced : D → PendingState) (moment : D → ℕ) (crash_states_since : D → ℕ → List ℕ → Type 0)
     (present : (d : D) → honest d → IsOutcome (unsynced d) (bytes d))
-    (only_now : (d : D) (c : List ℕ) → honest d → left_since d (moment d) c → IsOutcome (unsynced d) c)
+    (only_now : (d : D) (c : List ℕ) → honest d → crash_states_since d (moment d) c → IsOutcome (unsynced d) c)
     {k : JournalState D} {end : ℕ} {in_flight : List ℕ} (kept : IsKept honest bytes unsynced k end in_flight) where
   abbrev text : List ℕ
   text = k.front ++ spell k.sealed
@@ -52,14 +52,14 @@ module _ {D : Type 0} (honest : D → Type 0) (bytes : D → List ℕ) (unsynced
   abbrev Kept : D → List ℕ → Phase → Bool → List ℕ → Type 0
   Kept d body p begun written = IsKept honest bytes unsynced (record k { disk = d; staged = body; phase = p; begun = begun }) end written
 
-  abbrev Time : D → Unsynced → Type 0
-  Time new u = Elapses (moment k.disk) (moment new) (left_since k.disk) (left_since new) (IsOutcome u)
+  abbrev Time : D → PendingState → Type 0
+  Time new u = Elapses (moment k.disk) (moment new) (crash_states_since k.disk) (crash_states_since new) (IsOutcome u)
 
   abbrev Leaves : D → (List ℕ → Type 0) → Type 0
-  Leaves new P = LeavesOnly moment left_since k.disk new P
+  Leaves new P = LeavesOnly moment crash_states_since k.disk new P
 
   -- the outcomes now
-  pub outcomes : honest k.disk → (c : List ℕ) → IsOutcome (unsynced k.disk) c → Claims k c
+  pub outcomes : honest k.disk → (c : List ℕ) → IsOutcome (unsynced k.disk) c → CrashStates k c
   outcomes h c o = stays.at_claims k.slot k.front k.sealed k.staged k.phase k.begun (bytes k.disk) (unsynced k.disk) c (kept.state h) o
 
   state_is : (p : Phase) → k.phase ≡ p → honest k.disk → State p k.begun k.staged k.disk
@@ -113,43 +113,43 @@ module _ {D : Type 0} (honest : D → Type 0) (bytes : D → List ℕ) (unsynced
           within = omega (arith, len, size, fits, w);
           short = subst (λ (bs : List (List ℕ)). AllShort k.slot.most bs) (sym is) (All-push (λ (b : List ℕ). length b ≤ k.slot.most) k.sealed k.staged kept.short f.short);
           flight = tt;
-          state = λ h. subst (λ (bs : List (List ℕ)). IsQuiet k.slot.start k.slot.stop (k.front ++ spell bs) (unsynced k.disk)) (sym is)
+          state = λ h. subst (λ (bs : List (List ℕ)). EndsClosed k.slot.start k.slot.stop (k.front ++ spell bs) (unsynced k.disk)) (sym is)
               (firm.ends_firm (unsynced k.disk) (bytes k.disk) (present k.disk h) k.slot.start k.slot.stop (next k.staged) (all h));
         }
 
   module _ (new : D) where
     -- ---- stage
     module _ (idle : k.phase ≡ Idle) where
-      quiet : honest k.disk → IsQuiet k.slot.start k.slot.stop text (unsynced k.disk)
+      quiet : honest k.disk → EndsClosed k.slot.start k.slot.stop text (unsynced k.disk)
       quiet h = state_is Idle idle h
 
       behind : k.slot.start + length text < end + 1
       behind = let p = kept.place in omega (arith, p)
 
-      pub stage_leaves : (n : ℕ) → (honest k.disk → Time new (touched (unsynced k.disk) (end + 1) n)) → honest k.disk → Leaves new (HasChain k.slot k.front k.sealed)
-      stage_leaves n time h = calls.stage_leaves honest bytes unsynced moment left_since present only_now k.disk new h k.slot.start k.slot.stop text [] (text ++ OPEN ∷ []) refl (quiet h) (end + 1) n behind (time h)
+      pub stage_leaves : (n : ℕ) → (honest k.disk → Time new (with_write (unsynced k.disk) (end + 1) n)) → honest k.disk → Leaves new (HasChain k.slot k.front k.sealed)
+      stage_leaves n time h = calls.stage_leaves honest bytes unsynced moment crash_states_since present only_now k.disk new h k.slot.start k.slot.stop text [] (text ++ OPEN ∷ []) refl (quiet h) (end + 1) n behind (time h)
 
-      pub stage_failed : (body written : List ℕ) (n : ℕ) → (honest new → honest k.disk) → (honest k.disk → (unsynced new ≡ unsynced k.disk) ⊎ (unsynced new ≡ touched (unsynced k.disk) (end + 1) n)) → Kept new body Failed false written
+      pub stage_failed : (body written : List ℕ) (n : ℕ) → (honest new → honest k.disk) → (honest k.disk → (unsynced new ≡ unsynced k.disk) ⊎ (unsynced new ≡ with_write (unsynced k.disk) (end + 1) n)) → Kept new body Failed false written
       stage_failed body written n back failed = goes_on new body Failed false written tt
-          (λ h. let h0 = back h in calls.stage_failed honest bytes unsynced moment left_since present only_now k.disk new h0 k.slot.start k.slot.stop text (framed body) (next body) (text-more k.front k.sealed body) (quiet h0) (end + 1) n behind (failed h0))
+          (λ h. let h0 = back h in calls.stage_failed honest bytes unsynced moment crash_states_since present only_now k.disk new h0 k.slot.start k.slot.stop text (framed body) (next body) (text-more k.front k.sealed body) (quiet h0) (end + 1) n behind (failed h0))
 
       -- the body lies in the frame's bytes, of which the piece is what was written
       module _ (body written piece : List ℕ) (frame : written ≡ with_gate body) (shape : piece ≡ with_gate body) (fits : length body + 6 ≤ room k) where
         pub stage_done : length body ≤ k.slot.most → (honest new → honest k.disk)
-            → (honest k.disk → Written (bytes k.disk) (end + 1) piece (bytes new)) → (honest k.disk → unsynced new ≡ touched (unsynced k.disk) (end + 1) (length piece)) → Kept new (body_of written) Staged false written
+            → (honest k.disk → Written (bytes k.disk) (end + 1) piece (bytes new)) → (honest k.disk → unsynced new ≡ with_write (unsynced k.disk) (end + 1) (length piece)) → Kept new (body_of written) Staged false written
         stage_done short back wrote touch =
             let place = kept.place in let within = kept.within in
             let is : body_of written ≡ body = ap body_of frame ∙ body_of-with_gate body in
             subst (λ (b : List ℕ). Kept new b Staged false written) (sym is) (goes_on new body Staged false written (record { shape = frame; short = short; fits = omega (arith, fits, place) }) (λ h. let h0 = back h in (
-              calls.stage_quiet honest bytes unsynced moment left_since present only_now k.disk new h0 k.slot.start k.slot.stop text (framed body) (next body) (text-more k.front k.sealed body) (quiet h0) (end + 1) (length piece) behind (touch h0),
+              calls.stage_quiet honest bytes unsynced moment crash_states_since present only_now k.disk new h0 k.slot.start k.slot.stop text (framed body) (next body) (text-more k.front k.sealed body) (quiet h0) (end + 1) (length piece) behind (touch h0),
               ready_written k.slot.start k.slot.stop text (framed body) (bytes k.disk) (bytes new) (end + 1) (omega (arith, place)) (omega (arith, place, fits, within)) (subst (λ (t : List ℕ). Written (bytes k.disk) (end + 1) t (bytes new)) shape (wrote h0)),
             )))
 
-        pub stage_apart : (honest k.disk → Time new (touched (unsynced k.disk) (end + 1) (length piece)))
-            → (honest k.disk → (unsynced new ≡ unsynced k.disk) ⊎ (unsynced new ≡ touched (unsynced k.disk) (end + 1) (length piece))) → honest k.disk → KeepsFirm moment left_since unsynced k.disk new (Outside k.slot)
+        pub stage_apart : (honest k.disk → Time new (with_write (unsynced k.disk) (end + 1) (length piece)))
+            → (honest k.disk → (unsynced new ≡ unsynced k.disk) ⊎ (unsynced new ≡ with_write (unsynced k.disk) (end + 1) (length piece))) → honest k.disk → KeepsFirm moment crash_states_since unsynced k.disk new (Outside k.slot)
         stage_apart time failed h =
             let place = kept.place in let size : length piece ≡ length body + 5 = ap length shape ∙ length_with_gate body in
-            calls.frame_write honest bytes unsynced moment left_since present only_now k.disk new h (end + 1) (length piece) (Outside k.slot)
+            calls.frame_write honest bytes unsynced moment crash_states_since present only_now k.disk new h (end + 1) (length piece) (Outside k.slot)
             (λ at m out. ⊎_elim (λ before. inr (omega (arith, before, place))) (λ after. inl (omega (arith, after, place, size, fits))) out) (time h) (failed h)
 
         pub stage_beside : honest k.disk → ChangesWithin (bytes k.disk) (end + 1) (length piece) (bytes new) → KeepsHeld bytes k.disk new (Outside k.slot)
@@ -159,71 +159,71 @@ module _ {D : Type 0} (honest : D → Type 0) (bytes : D → List ℕ) (unsynced
 
     -- ---- open_gate
     module _ (synced : k.phase ≡ BodySynced) (place : ℕ) (is : place ≡ end) where
-      pub gate_leaves : (honest k.disk → Time new (touched (unsynced k.disk) place 1)) → honest k.disk → Leaves new (HasChainOrNext k.slot k.front k.sealed k.staged)
-      gate_leaves time h = calls.gate_leaves honest bytes unsynced moment left_since present only_now k.disk new h k.slot.start k.slot.stop text (framed k.staged) (next k.staged) (text-more k.front k.sealed k.staged) (state_is BodySynced synced h) place (is ∙ kept.place) (time h)
+      pub gate_leaves : (honest k.disk → Time new (with_write (unsynced k.disk) place 1)) → honest k.disk → Leaves new (HasChainOrNext k.slot k.front k.sealed k.staged)
+      gate_leaves time h = calls.gate_leaves honest bytes unsynced moment crash_states_since present only_now k.disk new h k.slot.start k.slot.stop text (framed k.staged) (next k.staged) (text-more k.front k.sealed k.staged) (state_is BodySynced synced h) place (is ∙ kept.place) (time h)
 
-      pub gate_failed : (honest new → honest k.disk) → (honest k.disk → (unsynced new ≡ unsynced k.disk) ⊎ (unsynced new ≡ touched (unsynced k.disk) place 1)) → Kept new k.staged Failed true in_flight
+      pub gate_failed : (honest new → honest k.disk) → (honest k.disk → (unsynced new ≡ unsynced k.disk) ⊎ (unsynced new ≡ with_write (unsynced k.disk) place 1)) → Kept new k.staged Failed true in_flight
       gate_failed back failed = goes_on new k.staged Failed true in_flight tt
-          (λ h. let h0 = back h in calls.gate_failed honest bytes unsynced moment left_since present only_now k.disk new h0 k.slot.start k.slot.stop text (framed k.staged) (next k.staged) (text-more k.front k.sealed k.staged) (state_is BodySynced synced h0) place (is ∙ kept.place) (failed h0))
+          (λ h. let h0 = back h in calls.gate_failed honest bytes unsynced moment crash_states_since present only_now k.disk new h0 k.slot.start k.slot.stop text (framed k.staged) (next k.staged) (text-more k.front k.sealed k.staged) (state_is BodySynced synced h0) place (is ∙ kept.place) (failed h0))
 
-      pub gate_done : (honest new → honest k.disk) → (honest k.disk → Written (bytes k.disk) place (OPEN ∷ []) (bytes new)) → (honest k.disk → unsynced new ≡ touched (unsynced k.disk) place 1) → Kept new k.staged GateOpened true in_flight
+      pub gate_done : (honest new → honest k.disk) → (honest k.disk → Written (bytes k.disk) place (OPEN ∷ []) (bytes new)) → (honest k.disk → unsynced new ≡ with_write (unsynced k.disk) place 1) → Kept new k.staged GateOpened true in_flight
       gate_done back wrote touch = goes_on new k.staged GateOpened true in_flight (flight_is BodySynced synced)
-          (λ h. let h0 = back h in calls.gate_open honest bytes unsynced moment left_since present only_now k.disk new h0 k.slot.start k.slot.stop text (framed k.staged) (next k.staged) (text-more k.front k.sealed k.staged) (state_is BodySynced synced h0) place (is ∙ kept.place) (wrote h0) (touch h0))
+          (λ h. let h0 = back h in calls.gate_open honest bytes unsynced moment crash_states_since present only_now k.disk new h0 k.slot.start k.slot.stop text (framed k.staged) (next k.staged) (text-more k.front k.sealed k.staged) (state_is BodySynced synced h0) place (is ∙ kept.place) (wrote h0) (touch h0))
 
-      pub gate_apart : (honest k.disk → Time new (touched (unsynced k.disk) place 1)) → (honest k.disk → (unsynced new ≡ unsynced k.disk) ⊎ (unsynced new ≡ touched (unsynced k.disk) place 1)) → honest k.disk → KeepsFirm moment left_since unsynced k.disk new (Outside k.slot)
+      pub gate_apart : (honest k.disk → Time new (with_write (unsynced k.disk) place 1)) → (honest k.disk → (unsynced new ≡ unsynced k.disk) ⊎ (unsynced new ≡ with_write (unsynced k.disk) place 1)) → honest k.disk → KeepsFirm moment crash_states_since unsynced k.disk new (Outside k.slot)
       gate_apart time failed h = let ends = kept.place in let within = kept.within in
-          calls.frame_write honest bytes unsynced moment left_since present only_now k.disk new h place 1 (Outside k.slot)
+          calls.frame_write honest bytes unsynced moment crash_states_since present only_now k.disk new h place 1 (Outside k.slot)
           (λ at m out. ⊎_elim (λ before. inr (omega (arith, before, ends, is))) (λ after. inl (omega (arith, after, within, is))) out) (time h) (failed h)
 
       pub gate_beside : honest k.disk → ChangesWithin (bytes k.disk) place 1 (bytes new) → KeepsHeld bytes k.disk new (Outside k.slot)
       gate_beside h changes = let ends = kept.place in let within = kept.within in
           λ at t out p. holds_within (bytes k.disk) (bytes new) t place 1 at changes (⊎_elim (λ before. inr (omega (arith, before, ends, is))) (λ after. inl (omega (arith, after, within, is))) out) p
 
-      pub gate_reads : (honest k.disk → Written (bytes k.disk) place (OPEN ∷ []) (bytes new)) → (honest k.disk → unsynced new ≡ touched (unsynced k.disk) place 1) → honest k.disk → HasChain k.slot k.front (k.sealed ++ k.staged ∷ []) (bytes new)
-      gate_reads wrote touch h = (calls.gate_open honest bytes unsynced moment left_since present only_now k.disk new h k.slot.start k.slot.stop text (framed k.staged) (next k.staged) (text-more k.front k.sealed k.staged) (state_is BodySynced synced h) place (is ∙ kept.place) (wrote h) (touch h)).0
+      pub gate_reads : (honest k.disk → Written (bytes k.disk) place (OPEN ∷ []) (bytes new)) → (honest k.disk → unsynced new ≡ with_write (unsynced k.disk) place 1) → honest k.disk → HasChain k.slot k.front (k.sealed ++ k.staged ∷ []) (bytes new)
+      gate_reads wrote touch h = (calls.gate_open honest bytes unsynced moment crash_states_since present only_now k.disk new h k.slot.start k.slot.stop text (framed k.staged) (next k.staged) (text-more k.front k.sealed k.staged) (state_is BodySynced synced h) place (is ∙ kept.place) (wrote h) (touch h)).0
 
     -- ---- syncs
-    pub sync_apart : (Out : ℕ → ℕ → Type 0) → (honest k.disk → Time new (unsynced k.disk)) → (honest k.disk → (unsynced new ≡ unsynced k.disk) ⊎ (unsynced new ≡ settled (bytes k.disk))) → honest k.disk → KeepsFirm moment left_since unsynced k.disk new Out
-    sync_apart Out time is h = calls.frame_sync honest bytes unsynced moment left_since present only_now k.disk new h Out (time h) (is h)
+    pub sync_apart : (Out : ℕ → ℕ → Type 0) → (honest k.disk → Time new (unsynced k.disk)) → (honest k.disk → (unsynced new ≡ unsynced k.disk) ⊎ (unsynced new ≡ all_synced (bytes k.disk))) → honest k.disk → KeepsFirm moment crash_states_since unsynced k.disk new Out
+    sync_apart Out time is h = calls.frame_sync honest bytes unsynced moment crash_states_since present only_now k.disk new h Out (time h) (is h)
 
-    pub sync_leaves : (honest k.disk → Time new (unsynced k.disk)) → honest k.disk → Leaves new (Claims k)
-    sync_leaves time h = calls.goes honest bytes unsynced moment left_since present only_now k.disk new h (unsynced k.disk) (Claims k) (time h) (outcomes h) (outcomes h)
+    pub sync_leaves : (honest k.disk → Time new (unsynced k.disk)) → honest k.disk → Leaves new (CrashStates k)
+    sync_leaves time h = calls.goes honest bytes unsynced moment crash_states_since present only_now k.disk new h (unsynced k.disk) (CrashStates k) (time h) (outcomes h) (outcomes h)
 
     pub sync_failed : (begun : Bool) → has_begun k.phase k.begun ≡ begun → (honest new → honest k.disk) → (honest k.disk → unsynced new ≡ unsynced k.disk) → Kept new k.staged Failed begun in_flight
     sync_failed begun is back same = subst (λ (b : Bool). Kept new k.staged Failed b in_flight) is (goes_on new k.staged Failed (has_begun k.phase k.begun) in_flight tt
-        (λ h. let h0 = back h in subst (λ (u : Unsynced). IsLeft (has_begun k.phase k.begun) u k.slot.start k.slot.stop text (framed k.staged)) (sym (same h0)) (stays.left_at k.slot.start k.slot.stop text (framed k.staged) (next k.staged) (bytes k.disk) (unsynced k.disk) k.phase k.begun (kept.state h0))))
+        (λ h. let h0 = back h in subst (λ (u : PendingState). IsLeft (has_begun k.phase k.begun) u k.slot.start k.slot.stop text (framed k.staged)) (sym (same h0)) (stays.left_at k.slot.start k.slot.stop text (framed k.staged) (next k.staged) (bytes k.disk) (unsynced k.disk) k.phase k.begun (kept.state h0))))
 
-    pub sync_done : (honest new → honest k.disk) → (honest k.disk → bytes new ≡ bytes k.disk) → (honest k.disk → unsynced new ≡ settled (bytes k.disk)) → Kept new k.staged k.phase k.begun in_flight
+    pub sync_done : (honest new → honest k.disk) → (honest k.disk → bytes new ≡ bytes k.disk) → (honest k.disk → unsynced new ≡ all_synced (bytes k.disk)) → Kept new k.staged k.phase k.begun in_flight
     sync_done back same sure = goes_on new k.staged k.phase k.begun in_flight kept.flight
         (λ h. let h0 = back h in subst (λ (b : List ℕ). IsAt k.phase k.begun (unsynced new) b k.slot.start k.slot.stop text (framed k.staged) (next k.staged)) (sym (same h0))
-        (subst (λ (u : Unsynced). IsAt k.phase k.begun u (bytes k.disk) k.slot.start k.slot.stop text (framed k.staged) (next k.staged)) (sym (sure h0)) (stays.at_synced k.slot.start k.slot.stop text (framed k.staged) (next k.staged) (bytes k.disk) (unsynced k.disk) (present k.disk h0) k.phase k.begun (kept.state h0))))
+        (subst (λ (u : PendingState). IsAt k.phase k.begun u (bytes k.disk) k.slot.start k.slot.stop text (framed k.staged) (next k.staged)) (sym (sure h0)) (stays.at_synced k.slot.start k.slot.stop text (framed k.staged) (next k.staged) (bytes k.disk) (unsynced k.disk) (present k.disk h0) k.phase k.begun (kept.state h0))))
 
-    pub sync_secures : (honest new → honest k.disk) → (honest k.disk → unsynced new ≡ settled (bytes k.disk)) → honest new → (c : List ℕ) → IsOutcome (unsynced new) c → Secures k c
-    sync_secures back sure h c o = let h0 = back h in stays.at_secures k.slot k.front k.sealed k.staged k.phase k.begun (bytes k.disk) (unsynced k.disk) c (present k.disk h0) (kept.state h0) (subst (λ (u : Unsynced). IsOutcome u c) (sure h0) o)
+    pub sync_secures : (honest new → honest k.disk) → (honest k.disk → unsynced new ≡ all_synced (bytes k.disk)) → honest new → (c : List ℕ) → IsOutcome (unsynced new) c → StatesAfterSync k c
+    sync_secures back sure h c o = let h0 = back h in stays.at_secures k.slot k.front k.sealed k.staged k.phase k.begun (bytes k.disk) (unsynced k.disk) c (present k.disk h0) (kept.state h0) (subst (λ (u : PendingState). IsOutcome u c) (sure h0) o)
 
     -- ---- write_outside
     module _ (from : ℕ) (piece : List ℕ) (out : Outside k.slot from (length piece)) where
-      abbrev Tried : Unsynced
-      Tried = touched (unsynced k.disk) from (length piece)
+      abbrev Tried : PendingState
+      Tried = with_write (unsynced k.disk) from (length piece)
 
-      pub outside_leaves : (honest k.disk → Time new Tried) → honest k.disk → Leaves new (Claims k)
-      outside_leaves time h = calls.goes honest bytes unsynced moment left_since present only_now k.disk new h Tried (Claims k) (time h) (outcomes h)
+      pub outside_leaves : (honest k.disk → Time new Tried) → honest k.disk → Leaves new (CrashStates k)
+      outside_leaves time h = calls.goes honest bytes unsynced moment crash_states_since present only_now k.disk new h Tried (CrashStates k) (time h) (outcomes h)
           (λ c o. stays.outside_claims k.slot k.front k.sealed k.staged from (length piece) out k.phase k.begun (bytes k.disk) (unsynced k.disk) c (kept.state h) o)
 
-      pub outside_apart : (honest k.disk → Time new Tried) → (honest k.disk → (unsynced new ≡ unsynced k.disk) ⊎ (unsynced new ≡ Tried)) → honest k.disk → KeepsFirm moment left_since unsynced k.disk new (Apart from (length piece))
-      outside_apart time is h = calls.frame_write honest bytes unsynced moment left_since present only_now k.disk new h from (length piece) (Apart from (length piece)) (λ at m apart. apart) (time h) (is h)
+      pub outside_apart : (honest k.disk → Time new Tried) → (honest k.disk → (unsynced new ≡ unsynced k.disk) ⊎ (unsynced new ≡ Tried)) → honest k.disk → KeepsFirm moment crash_states_since unsynced k.disk new (Apart from (length piece))
+      outside_apart time is h = calls.frame_write honest bytes unsynced moment crash_states_since present only_now k.disk new h from (length piece) (Apart from (length piece)) (λ at m apart. apart) (time h) (is h)
 
       pub outside_beside : ChangesWithin (bytes k.disk) from (length piece) (bytes new) → KeepsHeld bytes k.disk new (Apart from (length piece))
       outside_beside changes = λ at t apart p. holds_within (bytes k.disk) (bytes new) t from (length piece) at changes apart p
 
       pub outside_failed : (begun : Bool) → has_begun k.phase k.begun ≡ begun → (honest new → honest k.disk) → (honest k.disk → (unsynced new ≡ unsynced k.disk) ⊎ (unsynced new ≡ Tried)) → Kept new k.staged Failed begun in_flight
       outside_failed begun is back failed = subst (λ (b : Bool). Kept new k.staged Failed b in_flight) is (goes_on new k.staged Failed (has_begun k.phase k.begun) in_flight tt (λ h. let h0 = back h in ⊎_elim
-          (λ same. subst (λ (u : Unsynced). IsLeft (has_begun k.phase k.begun) u k.slot.start k.slot.stop text (framed k.staged)) (sym same) (stays.left_at k.slot.start k.slot.stop text (framed k.staged) (next k.staged) (bytes k.disk) (unsynced k.disk) k.phase k.begun (kept.state h0)))
-          (λ touch. subst (λ (u : Unsynced). IsLeft (has_begun k.phase k.begun) u k.slot.start k.slot.stop text (framed k.staged)) (sym touch) (stays.left_outside k.slot.start k.slot.stop text (framed k.staged) (next k.staged) from (length piece) out k.phase k.begun (bytes k.disk) (unsynced k.disk) (kept.state h0))) (failed h0)))
+          (λ same. subst (λ (u : PendingState). IsLeft (has_begun k.phase k.begun) u k.slot.start k.slot.stop text (framed k.staged)) (sym same) (stays.left_at k.slot.start k.slot.stop text (framed k.staged) (next k.staged) (bytes k.disk) (unsynced k.disk) k.phase k.begun (kept.state h0)))
+          (λ touch. subst (λ (u : PendingState). IsLeft (has_begun k.phase k.begun) u k.slot.start k.slot.stop text (framed k.staged)) (sym touch) (stays.left_outside k.slot.start k.slot.stop text (framed k.staged) (next k.staged) from (length piece) out k.phase k.begun (bytes k.disk) (unsynced k.disk) (kept.state h0))) (failed h0)))
 
       pub outside_done : (honest new → honest k.disk) → (honest k.disk → Written (bytes k.disk) from piece (bytes new)) → (honest k.disk → unsynced new ≡ Tried) → Kept new k.staged k.phase k.begun in_flight
       outside_done back wrote touch = goes_on new k.staged k.phase k.begun in_flight kept.flight
-          (λ h. let h0 = back h in subst (λ (u : Unsynced). IsAt k.phase k.begun u (bytes new) k.slot.start k.slot.stop text (framed k.staged) (next k.staged)) (sym (touch h0)) (stays.at_outside k.slot.start k.slot.stop text (framed k.staged) (next k.staged) from (length piece) out (bytes k.disk) (bytes new) piece refl (wrote h0) k.phase k.begun (unsynced k.disk) (kept.state h0)))
+          (λ h. let h0 = back h in subst (λ (u : PendingState). IsAt k.phase k.begun u (bytes new) k.slot.start k.slot.stop text (framed k.staged) (next k.staged)) (sym (touch h0)) (stays.at_outside k.slot.start k.slot.stop text (framed k.staged) (next k.staged) from (length piece) out (bytes k.disk) (bytes new) piece refl (wrote h0) k.phase k.begun (unsynced k.disk) (kept.state h0)))
 
 -- ---- what is kept for the next call
 pub begun_is : {D : Type 0} (held : Held D) → has_begun (phase_of held) (begun_of held) ≡ begun_of held
@@ -242,7 +242,7 @@ held_stays honest moment old new name end (held.GateOpened gate) back later is =
 held_stays honest moment old new name end (held.Failed begun) back later is = tt
 
 -- ---- four calls in turn
-module _ {D : Type 0} (moment : D → ℕ) (left_since : D → ℕ → List ℕ → Type 0) (first : JournalState D) (body : List ℕ) where
+module _ {D : Type 0} (moment : D → ℕ) (crash_states_since : D → ℕ → List ℕ → Type 0) (first : JournalState D) (body : List ℕ) where
   abbrev Sealing : List ℕ → Type 0
   Sealing c = HasChainOrNext first.slot first.front first.sealed body c
 
@@ -259,36 +259,36 @@ module _ {D : Type 0} (moment : D → ℕ) (left_since : D → ℕ → List ℕ 
   claim k c s p = subst (λ (x : Slot). HasChainOrNext x first.front first.sealed body c) s.same.1 (subst (λ (x : List ℕ). HasChainOrNext k.slot x first.sealed body c) s.same.2
       (subst (λ (x : List (List ℕ)). HasChainOrNext k.slot k.front x body c) s.sealed (subst (λ (x : List ℕ). HasChainOrNext k.slot k.front k.sealed x c) s.staged p)))
 
-  pub sealing_more : (k : JournalState D) (new : D) → IsSealing k → LeavesOnly moment left_since first.disk k.disk Sealing
-      → LeavesOnly moment left_since k.disk new (HasChainOrNext k.slot k.front k.sealed k.staged) → LeavesOnly moment left_since first.disk new Sealing
-  sealing_more k new s before now = leaves_then moment left_since first.disk k.disk new Sealing before (leaves_map moment left_since k.disk new (HasChainOrNext k.slot k.front k.sealed k.staged) Sealing (λ c p. claim k c s p) now)
+  pub sealing_more : (k : JournalState D) (new : D) → IsSealing k → LeavesOnly moment crash_states_since first.disk k.disk Sealing
+      → LeavesOnly moment crash_states_since k.disk new (HasChainOrNext k.slot k.front k.sealed k.staged) → LeavesOnly moment crash_states_since first.disk new Sealing
+  sealing_more k new s before now = leaves_then moment crash_states_since first.disk k.disk new Sealing before (leaves_map moment crash_states_since k.disk new (HasChainOrNext k.slot k.front k.sealed k.staged) Sealing (λ c p. claim k c s p) now)
 
-  pub sealing_first : (new : D) → LeavesOnly moment left_since first.disk new (HasChain first.slot first.front first.sealed) → LeavesOnly moment left_since first.disk new Sealing
-  sealing_first new l = leaves_map moment left_since first.disk new (HasChain first.slot first.front first.sealed) Sealing (λ c p. inl p) l
+  pub sealing_first : (new : D) → LeavesOnly moment crash_states_since first.disk new (HasChain first.slot first.front first.sealed) → LeavesOnly moment crash_states_since first.disk new Sealing
+  sealing_first new l = leaves_map moment crash_states_since first.disk new (HasChain first.slot first.front first.sealed) Sealing (λ c p. inl p) l
 
   among_next : (begun : Bool) (slot : Slot) (front : List ℕ) (bodies : List (List ℕ)) (b c : List ℕ) → HasAmong begun slot front bodies b c → HasChainOrNext slot front bodies b c
   among_next false slot front bodies b c is = inl is
   among_next true slot front bodies b c is = is
 
   -- a sync on the way
-  pub sealing_sync : (k : JournalState D) (new : D) → IsSealing k → LeavesOnly moment left_since first.disk k.disk Sealing → LeavesOnly moment left_since k.disk new (Claims k) → LeavesOnly moment left_since first.disk new Sealing
-  sealing_sync k new s before now = sealing_more k new s before (leaves_map moment left_since k.disk new (Claims k) (HasChainOrNext k.slot k.front k.sealed k.staged) (λ c p. among_next (has_begun k.phase k.begun) k.slot k.front k.sealed k.staged c p) now)
+  pub sealing_sync : (k : JournalState D) (new : D) → IsSealing k → LeavesOnly moment crash_states_since first.disk k.disk Sealing → LeavesOnly moment crash_states_since k.disk new (CrashStates k) → LeavesOnly moment crash_states_since first.disk new Sealing
+  sealing_sync k new s before now = sealing_more k new s before (leaves_map moment crash_states_since k.disk new (CrashStates k) (HasChainOrNext k.slot k.front k.sealed k.staged) (λ c p. among_next (has_begun k.phase k.begun) k.slot k.front k.sealed k.staged c p) now)
 
   -- and a step that makes no call of the disk
-  pub sealing_still : (old new : D) → new ≡ old → LeavesOnly moment left_since first.disk old Sealing → LeavesOnly moment left_since first.disk new Sealing
-  sealing_still old new same leaves = subst (λ (d : D). LeavesOnly moment left_since first.disk d Sealing) (sym same) leaves
+  pub sealing_still : (old new : D) → new ≡ old → LeavesOnly moment crash_states_since first.disk old Sealing → LeavesOnly moment crash_states_since first.disk new Sealing
+  sealing_still old new same leaves = subst (λ (d : D). LeavesOnly moment crash_states_since first.disk d Sealing) (sym same) leaves
 
   -- ---- text outside the slot over the calls
-  module _ (unsynced : D → Unsynced) where
+  module _ (unsynced : D → PendingState) where
     abbrev Apart-on : D → Type 0
-    Apart-on new = KeepsFirm moment left_since unsynced first.disk new (Outside first.slot)
+    Apart-on new = KeepsFirm moment crash_states_since unsynced first.disk new (Outside first.slot)
 
-    pub apart_more : (k : JournalState D) (new : D) → IsSealing k → Apart-on k.disk → KeepsFirm moment left_since unsynced k.disk new (Outside k.slot) → Apart-on new
+    pub apart_more : (k : JournalState D) (new : D) → IsSealing k → Apart-on k.disk → KeepsFirm moment crash_states_since unsynced k.disk new (Outside k.slot) → Apart-on new
     apart_more k new s before now = λ at text out f.
         let a = before at text out f in let b = now at text (subst (λ (x : Slot). Outside x at (length text)) (sym s.same.1) out) a.0 in
-        (b.0, leaves_then moment left_since first.disk k.disk new (λ c. Holds c at text) a.1 b.1)
+        (b.0, leaves_then moment crash_states_since first.disk k.disk new (λ c. Holds c at text) a.1 b.1)
 
-    pub apart_sync : (k : JournalState D) (new : D) → IsSealing k → Apart-on k.disk → KeepsFirm moment left_since unsynced k.disk new (λ at n. Unit {0}) → Apart-on new
+    pub apart_sync : (k : JournalState D) (new : D) → IsSealing k → Apart-on k.disk → KeepsFirm moment crash_states_since unsynced k.disk new (λ at n. Unit {0}) → Apart-on new
     apart_sync k new s before now = apart_more k new s before (λ at text out f. now at text tt f)
 
     pub apart_still : (old new : D) → new ≡ old → Apart-on old → Apart-on new

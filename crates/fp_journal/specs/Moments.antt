@@ -1,12 +1,12 @@
 -- Firm text that a call doesn't reach.
 use Rattle.std.specs.Prelude.{ℕ, List, length}
-use Rattle.fp_disk.specs.Outcomes.{Unsynced, LeavesOnly}
-use Rattle.fp_journal.specs.Holds.{Holds, IsFirm}
+use Rattle.fp_disk.specs.Outcomes.{PendingState, LeavesOnly}
+use Rattle.fp_journal.specs.Holds.{Holds, IsSynced}
 
 -- Text at a place that Out allows, firm before, is firm afterwards, and a crash at any moment between leaves it
-abbrev pub KeepsFirm : {D : Type 0} (moment : D → ℕ) (left_since : D → ℕ → List ℕ → Type 0) (unsynced : D → Unsynced) (old new : D) → (Out : ℕ → ℕ → Type 0) → Type 0
-KeepsFirm moment left_since unsynced old new Out = (at : ℕ) (text : List ℕ) → Out at (length text) → IsFirm (unsynced old) at text
-    → IsFirm (unsynced new) at text × LeavesOnly moment left_since old new (λ c. Holds c at text)
+abbrev pub KeepsFirm : {D : Type 0} (moment : D → ℕ) (crash_states_since : D → ℕ → List ℕ → Type 0) (unsynced : D → PendingState) (old new : D) → (Out : ℕ → ℕ → Type 0) → Type 0
+KeepsFirm moment crash_states_since unsynced old new Out = (at : ℕ) (text : List ℕ) → Out at (length text) → IsSynced (unsynced old) at text
+    → IsSynced (unsynced new) at text × LeavesOnly moment crash_states_since old new (λ c. Holds c at text)
 
 -- Text at a place that Out allows is read as it was
 abbrev pub KeepsHeld : {D : Type 0} (bytes : D → List ℕ) (old new : D) → (Out : ℕ → ℕ → Type 0) → Type 0

@@ -1,14 +1,14 @@
 -- A journal as its callers see it, and what its slot holds at each phase.
 use Rattle.std.specs.Prelude.{◌≡◌, ◌≢◌, ◌⊎◌, ◌<◌, ◌≤◌, ◌+◌, ◌-◌, ℕ, Bool, true, false, List, [], ◌∷◌, ◌++◌, length}
 use Rattle.std.specs.List.{AllByRecursion}
-use Rattle.fp_disk.specs.Outcomes.{Unsynced}
+use Rattle.fp_disk.specs.Outcomes.{PendingState}
 use Rattle.fp_gate.specs.Gates.{IsSyncOf}
 use Rattle.fp_journal.specs.declared.slot.Slot.{Slot}
 use Rattle.fp_journal.specs.declared.held.Held.{Held}
 use Rattle.fp_journal.specs.declared.held.Held.TheVariants as held
 use Rattle.fp_journal.specs.declared.journal.Phase.{Phase}
 use Rattle.fp_journal.specs.declared.journal.Phase.TheVariants.{Idle, Staged, BodySynced, GateOpened, Failed}
-use Rattle.fp_journal.specs.Holds.{Holds, IsFirm}
+use Rattle.fp_journal.specs.Holds.{Holds, IsSynced}
 use Rattle.fp_journal.specs.Chain.{Ends, framed, with_gate, spell}
 use Rattle.fp_gate.specs.declared.gate.TheConstants.{OPEN}
 
@@ -61,8 +61,8 @@ HasAmong true slot front bodies body c = HasChainOrNext slot front bodies body c
 abbrev pub ClaimsAt : Phase → Bool → Slot → List ℕ → List (List ℕ) → List ℕ → List ℕ → Type 0
 ClaimsAt phase begun slot front bodies body c = HasAmong (has_begun phase begun) slot front bodies body c
 
-abbrev pub Claims : {D : Type 0} → JournalState D → List ℕ → Type 0
-Claims k c = ClaimsAt k.phase k.begun k.slot k.front k.sealed k.staged c
+abbrev pub CrashStates : {D : Type 0} → JournalState D → List ℕ → Type 0
+CrashStates k c = ClaimsAt k.phase k.begun k.slot k.front k.sealed k.staged c
 
 -- what each outcome is once a sync at that phase succeeded
 abbrev pub SecuresAt : Phase → Bool → Slot → List ℕ → List (List ℕ) → List ℕ → List ℕ → Type 0
@@ -72,8 +72,8 @@ SecuresAt BodySynced begun slot front bodies body c = HasNext slot front bodies 
 SecuresAt GateOpened begun slot front bodies body c = HasChain slot front (bodies ++ body ∷ []) c
 SecuresAt Failed begun slot front bodies body c = HasAmong begun slot front bodies body c
 
-abbrev pub Secures : {D : Type 0} → JournalState D → List ℕ → Type 0
-Secures k c = SecuresAt k.phase k.begun k.slot k.front k.sealed k.staged c
+abbrev pub StatesAfterSync : {D : Type 0} → JournalState D → List ℕ → Type 0
+StatesAfterSync k c = SecuresAt k.phase k.begun k.slot k.front k.sealed k.staged c
 
 -- the n bytes from this place on are none of the slot's
 abbrev pub Outside : Slot → ℕ → ℕ → Type 0
@@ -89,10 +89,10 @@ SameSlot old new = (new.name ≡ old.name) × (new.slot ≡ old.slot) × (new.fr
 
 -- ---- what the disk may be at each phase; text is the front and the bodies, more the staged one behind its length
 -- the text and its closed gate are firm
-pub record IsQuiet (start stop : ℕ) (text : List ℕ) (u : Unsynced) : Type 0 where
+pub record EndsClosed (start stop : ℕ) (text : List ℕ) (u : PendingState) : Type 0 where
   pub gate : ℕ
   pub shut : gate ≢ OPEN
-  pub firm : IsFirm u start (text ++ gate ∷ [])
+  pub firm : IsSynced u start (text ++ gate ∷ [])
   pub within : start + length text < stop
 
 -- behind the text's gate stand more and a closed gate
@@ -103,26 +103,26 @@ pub record IsReady (start stop : ℕ) (text more b : List ℕ) : Type 0 where
   pub within : start + length text + 1 + length more < stop
 
 -- and are firm
-pub record IsSure (start stop : ℕ) (text more : List ℕ) (u : Unsynced) : Type 0 where
+pub record IsDurable (start stop : ℕ) (text more : List ℕ) (u : PendingState) : Type 0 where
   pub gate : ℕ
   pub shut : gate ≢ OPEN
-  pub firm : IsFirm u (start + length text + 1) (more ++ gate ∷ [])
+  pub firm : IsSynced u (start + length text + 1) (more ++ gate ∷ [])
   pub within : start + length text + 1 + length more < stop
 
 -- all is firm but the gate between the text and more
-pub record IsBetween (start stop : ℕ) (text more : List ℕ) (u : Unsynced) : Type 0 where
-  pub front : IsFirm u start text
-  pub back : IsSure start stop text more u
+pub record IsBetween (start stop : ℕ) (text more : List ℕ) (u : PendingState) : Type 0 where
+  pub front : IsSynced u start text
+  pub back : IsDurable start stop text more u
 
 -- what is left where a call failed, before and after one began to open that gate
-abbrev pub IsLeft : Bool → Unsynced → ℕ → ℕ → List ℕ → List ℕ → Type 0
-IsLeft false u start stop text more = IsQuiet start stop text u
-IsLeft true u start stop text more = IsQuiet start stop text u ⊎ IsBetween start stop text more u
+abbrev pub IsLeft : Bool → PendingState → ℕ → ℕ → List ℕ → List ℕ → Type 0
+IsLeft false u start stop text more = EndsClosed start stop text u
+IsLeft true u start stop text more = EndsClosed start stop text u ⊎ IsBetween start stop text more u
 
-abbrev pub IsAt : Phase → Bool → Unsynced → List ℕ → ℕ → ℕ → List ℕ → List ℕ → List ℕ → Type 0
-IsAt Idle begun u b start stop text more next = IsQuiet start stop text u
-IsAt Staged begun u b start stop text more next = IsQuiet start stop text u × IsReady start stop text more b
-IsAt BodySynced begun u b start stop text more next = IsQuiet start stop text u × IsSure start stop text more u
+abbrev pub IsAt : Phase → Bool → PendingState → List ℕ → ℕ → ℕ → List ℕ → List ℕ → List ℕ → Type 0
+IsAt Idle begun u b start stop text more next = EndsClosed start stop text u
+IsAt Staged begun u b start stop text more next = EndsClosed start stop text u × IsReady start stop text more b
+IsAt BodySynced begun u b start stop text more next = EndsClosed start stop text u × IsDurable start stop text more u
 IsAt GateOpened begun u b start stop text more next = Ends start stop next b × IsBetween start stop text more u
 IsAt Failed begun u b start stop text more next = IsLeft begun u start stop text more
 
@@ -145,7 +145,7 @@ abbrev pub AllShort : ℕ → List (List ℕ) → Type 0
 AllShort most bodies = AllByRecursion (λ (b : List ℕ). length b ≤ most) bodies
 
 -- ---- the invariant of a journal whose closed gate lies at this end, and whose body on its way has these bytes
-pub record IsKept {D : Type 0} (honest : D → Type 0) (bytes : D → List ℕ) (unsynced : D → Unsynced) (k : JournalState D) (end : ℕ) (in_flight : List ℕ) : Type 0 where
+pub record IsKept {D : Type 0} (honest : D → Type 0) (bytes : D → List ℕ) (unsynced : D → PendingState) (k : JournalState D) (end : ℕ) (in_flight : List ℕ) : Type 0 where
   pub place : end ≡ k.slot.start + length (k.front ++ spell k.sealed)
   pub within : end < k.slot.stop
   pub short : AllShort k.slot.most k.sealed

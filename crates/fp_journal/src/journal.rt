@@ -1,13 +1,13 @@
 //! A slot of a disk as a chain of bodies behind gates, which grows by four calls a body.
 
-ghost use Rattle.fp_disk.specs.Outcomes.{Answers, IsOutcome, LeavesOnly, Written as HasWritten, settled, touched};
+ghost use Rattle.fp_disk.specs.Outcomes.{Answers, IsOutcome, LeavesOnly, Written as HasWritten, all_synced, with_write};
 ghost use Rattle.fp_disk.specs.History.{Makes};
 ghost use Rattle.fp_disk.specs.declared.history.CallKind.TheVariants.{Sync, Write};
 ghost use Rattle.fp_gate.specs.Gates.{IsSyncOf};
 ghost use Rattle.std.specs.Prelude.{◌≡◌, ◌⊎◌, ◌<◌, ◌≤◌, ◌+◌, ◌∷◌, [], ◌++◌, List, ℕ, true, false, length, slice_range, IfOk, OnOk, OnErr, IsErr};
 ghost use Rattle.fp_journal.specs.Holds.{Apart};
 ghost use Rattle.fp_journal.specs.Moments.{KeepsFirm, KeepsHeld};
-ghost use Rattle.fp_journal.specs.State.{AllShort, Claims, HasChain, HasChainOrNext, HasNext, IsQuiet, Outside, SameSlot, Secures, room};
+ghost use Rattle.fp_journal.specs.State.{AllShort, CrashStates, HasChain, HasChainOrNext, HasNext, EndsClosed, Outside, SameSlot, StatesAfterSync, room};
 ghost use Rattle.fp_journal.specs.declared.journal.Phase.TheVariants.{Idle, Staged, BodySynced, GateOpened, Failed};
 
 use crate::framed::Framed;
@@ -67,7 +67,7 @@ impl<D: Disk> Journal<D> {
     pub fn adopt(alloc: Global, disk: D, slot: Slot, opened: &Vec<u8>, end: u64) -> Journal<D>
         requires place { (slot.start ≤ end) × (end ≤ length opened.now.items) }
         requires within { end < slot.stop }
-        requires quiet { D.honest disk → IsQuiet slot.start slot.stop (slice_range opened.now.items slot.start end) (D.unsynced disk) }
+        requires quiet { D.honest disk → EndsClosed slot.start slot.stop (slice_range opened.now.items slot.start end) (D.unsynced disk) }
         ensures slot { (result.slot ≡ slot) × (result.front ≡ slice_range opened.now.items slot.start end) }
         ensures begins { (result.sealed ≡ []) × (result.phase ≡ Idle) }
         ensures disk { result.disk ≡ disk }
@@ -104,7 +104,7 @@ impl<D: Disk> Journal<D> {
     /// How far the body on its way is, which says what a crash would leave now.
     pub fn phase(&self) -> Phase
         ensures phase { result ≡ self.now.phase }
-        ensures outcomes { D.honest self.now.disk → (c : List ℕ) → IsOutcome (D.unsynced self.now.disk) c → Claims self.now c }
+        ensures outcomes { D.honest self.now.disk → (c : List ℕ) → IsOutcome (D.unsynced self.now.disk) c → CrashStates self.now c }
     {
         self.held.phase()
     }
@@ -112,7 +112,7 @@ impl<D: Disk> Journal<D> {
     /// Gives the disk back.
     pub fn into_disk(self) -> D
         ensures disk { result ≡ self.disk }
-        ensures outcomes { D.honest result → (c : List ℕ) → IsOutcome (D.unsynced result) c → Claims self c }
+        ensures outcomes { D.honest result → (c : List ℕ) → IsOutcome (D.unsynced result) c → CrashStates self c }
     {
         let Journal {
             disk,
@@ -138,8 +138,8 @@ impl<D: Disk> Journal<D> {
         ensures bodies { (self.new.sealed ≡ self.old.sealed) × (self.new.staged ≡ framed) }
         ensures phase { OnOk result (self.new.phase ≡ Staged) × OnErr result (self.new.phase ≡ Failed) }
         ensures begun { self.new.begun ≡ false }
-        ensures any_moment { D.honest self.old.disk → LeavesOnly D.moment D.left_since self.old.disk self.new.disk (HasChain self.old.slot self.old.front self.old.sealed) }
-        ensures apart { D.honest self.old.disk → KeepsFirm D.moment D.left_since D.unsynced self.old.disk self.new.disk (Outside self.old.slot) }
+        ensures any_moment { D.honest self.old.disk → LeavesOnly D.moment D.crash_states_since self.old.disk self.new.disk (HasChain self.old.slot self.old.front self.old.sealed) }
+        ensures apart { D.honest self.old.disk → KeepsFirm D.moment D.crash_states_since D.unsynced self.old.disk self.new.disk (Outside self.old.slot) }
         ensures beside { D.honest self.old.disk → KeepsHeld D.bytes self.old.disk self.new.disk (Outside self.old.slot) }
         ensures honest { (D.honest self.old.disk → D.honest self.new.disk) × (D.honest self.new.disk → D.honest self.old.disk) }
         ensures called { D.calls self.new.disk ≡ D.calls self.old.disk ++ Write ∷ [] }
@@ -156,17 +156,17 @@ impl<D: Disk> Journal<D> {
     pub fn sync(&mut self) -> Result<Synced<D>, DiskFault>
         ensures token { IfOk result (λ s. (s.disk ≡ self.new.disk_name) × (s.moment ≡ D.moment self.new.disk)) }
         ensures same_bytes { D.honest self.old.disk → D.bytes self.new.disk ≡ D.bytes self.old.disk }
-        ensures durable { D.honest self.old.disk → OnOk result (D.unsynced self.new.disk ≡ settled (D.bytes self.old.disk)) }
+        ensures durable { D.honest self.old.disk → OnOk result (D.unsynced self.new.disk ≡ all_synced (D.bytes self.old.disk)) }
 
         // What was staged, or the open gate, is in every outcome now.
-        ensures firm { D.honest self.new.disk → OnOk result ((c : List ℕ) → IsOutcome (D.unsynced self.new.disk) c → Secures self.new c) }
+        ensures firm { D.honest self.new.disk → OnOk result ((c : List ℕ) → IsOutcome (D.unsynced self.new.disk) c → StatesAfterSync self.new c) }
 
         ensures same { SameSlot self.old self.new }
         ensures bodies { (self.new.sealed ≡ self.old.sealed) × (self.new.staged ≡ self.old.staged) }
         ensures phase { OnOk result (self.new.phase ≡ self.old.phase) × OnErr result (self.new.phase ≡ Failed) }
         ensures begun { self.new.begun ≡ self.old.begun }
-        ensures any_moment { D.honest self.old.disk → LeavesOnly D.moment D.left_since self.old.disk self.new.disk (Claims self.old) }
-        ensures apart { D.honest self.old.disk → KeepsFirm D.moment D.left_since D.unsynced self.old.disk self.new.disk (λ at n. Unit {0}) }
+        ensures any_moment { D.honest self.old.disk → LeavesOnly D.moment D.crash_states_since self.old.disk self.new.disk (CrashStates self.old) }
+        ensures apart { D.honest self.old.disk → KeepsFirm D.moment D.crash_states_since D.unsynced self.old.disk self.new.disk (λ at n. Unit {0}) }
         ensures honest { (D.honest self.old.disk → D.honest self.new.disk) × (D.honest self.new.disk → D.honest self.old.disk) }
         ensures called { D.calls self.new.disk ≡ D.calls self.old.disk ++ Sync ∷ [] }
         ensures cause { Answers (D.faults self.old.disk) (D.faults self.new.disk) result }
@@ -201,8 +201,8 @@ impl<D: Disk> Journal<D> {
 
         // What a read gives now has the body.
         ensures reads { D.honest self.old.disk → OnOk result (HasChain self.old.slot self.old.front (self.old.sealed ++ self.old.staged ∷ []) (D.bytes self.new.disk)) }
-        ensures any_moment { D.honest self.old.disk → LeavesOnly D.moment D.left_since self.old.disk self.new.disk (HasChainOrNext self.old.slot self.old.front self.old.sealed self.old.staged) }
-        ensures apart { D.honest self.old.disk → KeepsFirm D.moment D.left_since D.unsynced self.old.disk self.new.disk (Outside self.old.slot) }
+        ensures any_moment { D.honest self.old.disk → LeavesOnly D.moment D.crash_states_since self.old.disk self.new.disk (HasChainOrNext self.old.slot self.old.front self.old.sealed self.old.staged) }
+        ensures apart { D.honest self.old.disk → KeepsFirm D.moment D.crash_states_since D.unsynced self.old.disk self.new.disk (Outside self.old.slot) }
         ensures beside { D.honest self.old.disk → KeepsHeld D.bytes self.old.disk self.new.disk (Outside self.old.slot) }
         ensures honest { (D.honest self.old.disk → D.honest self.new.disk) × (D.honest self.new.disk → D.honest self.old.disk) }
         ensures called { D.calls self.new.disk ≡ D.calls self.old.disk ++ Write ∷ [] }
@@ -252,8 +252,8 @@ impl<D: Disk> Journal<D> {
         ensures ok { OnOk result ((self.new.sealed ≡ self.old.sealed ++ framed ∷ []) × (self.new.phase ≡ Idle)) }
         ensures token { IfOk result (λ t. (t.name ≡ self.new.name) × (t.bodies ≡ self.new.sealed)) }
         ensures err { OnErr result ((self.new.sealed ≡ self.old.sealed) × (self.new.staged ≡ framed) × (self.new.phase ≡ Failed)) }
-        ensures any_moment { D.honest self.old.disk → LeavesOnly D.moment D.left_since self.old.disk self.new.disk (HasChainOrNext self.old.slot self.old.front self.old.sealed framed) }
-        ensures apart { D.honest self.old.disk → KeepsFirm D.moment D.left_since D.unsynced self.old.disk self.new.disk (Outside self.old.slot) }
+        ensures any_moment { D.honest self.old.disk → LeavesOnly D.moment D.crash_states_since self.old.disk self.new.disk (HasChainOrNext self.old.slot self.old.front self.old.sealed framed) }
+        ensures apart { D.honest self.old.disk → KeepsFirm D.moment D.crash_states_since D.unsynced self.old.disk self.new.disk (Outside self.old.slot) }
         ensures beside { D.honest self.old.disk → KeepsHeld D.bytes self.old.disk self.new.disk (Outside self.old.slot) }
         ensures exit { D.honest self.new.disk → OnOk result ((c : List ℕ) → IsOutcome (D.unsynced self.new.disk) c → HasChain self.new.slot self.new.front self.new.sealed c) }
         ensures honest { (D.honest self.old.disk → D.honest self.new.disk) × (D.honest self.new.disk → D.honest self.old.disk) }
@@ -271,13 +271,13 @@ impl<D: Disk> Journal<D> {
     /// Writes outside the slot, at any phase.
     pub fn write_outside(&mut self, at: u64, from: &[u8]) -> Result<(), DiskFault>
         requires { Outside self.old.slot at (length from.now) }
-        ensures written { D.honest self.old.disk → OnOk result (HasWritten (D.bytes self.old.disk) at from.now (D.bytes self.new.disk) × (D.unsynced self.new.disk ≡ touched (D.unsynced self.old.disk) at (length from.now))) }
+        ensures written { D.honest self.old.disk → OnOk result (HasWritten (D.bytes self.old.disk) at from.now (D.bytes self.new.disk) × (D.unsynced self.new.disk ≡ with_write (D.unsynced self.old.disk) at (length from.now))) }
         ensures same { SameSlot self.old self.new }
         ensures bodies { (self.new.sealed ≡ self.old.sealed) × (self.new.staged ≡ self.old.staged) }
         ensures phase { OnOk result (self.new.phase ≡ self.old.phase) × OnErr result (self.new.phase ≡ Failed) }
         ensures begun { self.new.begun ≡ self.old.begun }
-        ensures any_moment { D.honest self.old.disk → LeavesOnly D.moment D.left_since self.old.disk self.new.disk (Claims self.old) }
-        ensures apart { D.honest self.old.disk → KeepsFirm D.moment D.left_since D.unsynced self.old.disk self.new.disk (Apart at (length from.now)) }
+        ensures any_moment { D.honest self.old.disk → LeavesOnly D.moment D.crash_states_since self.old.disk self.new.disk (CrashStates self.old) }
+        ensures apart { D.honest self.old.disk → KeepsFirm D.moment D.crash_states_since D.unsynced self.old.disk self.new.disk (Apart at (length from.now)) }
         ensures beside { D.honest self.old.disk → KeepsHeld D.bytes self.old.disk self.new.disk (Apart at (length from.now)) }
         ensures honest { (D.honest self.old.disk → D.honest self.new.disk) × (D.honest self.new.disk → D.honest self.old.disk) }
         ensures called { D.calls self.new.disk ≡ D.calls self.old.disk ++ Write ∷ [] }

@@ -3,7 +3,7 @@
 ghost use Rattle.std.specs.Prelude.{◌≡◌, ◌<◌, ◌≤◌, ◌+◌, ◌↔◌, [], ◌∷◌, List, ℕ, length, slice_range, IfOk, IfErr, OnOk, IsErrOf};
 ghost use Rattle.fp_disk.specs.History.{Makes};
 ghost use Rattle.fp_disk.specs.declared.history.CallKind.TheVariants.{Length, Read, Sync};
-ghost use Rattle.fp_disk.specs.Outcomes.{IsOutcome, LeavesOnly, settled};
+ghost use Rattle.fp_disk.specs.Outcomes.{IsOutcome, LeavesOnly, all_synced};
 ghost use Rattle.fp_journal.specs.Reading.{FoundChain, Refuses};
 ghost use Rattle.fp_journal.specs.declared.journal.Phase.TheVariants.{Idle};
 ghost use Rattle.fp_journal.specs.declared.opening.BytesFault.TheVariants.{Device, Memory};
@@ -42,12 +42,12 @@ impl From<AllocError> for BytesFault {
 /// All bytes of a disk. They are synced before they are read, so that no crash takes back what was read.
 pub fn synced_bytes<D: Disk>(alloc: Global, disk: &mut D) -> Result<Vec<u8>, BytesFault>
     ensures bytes { D.honest disk.old → IfOk result (λ v. v.items ≡ D.bytes disk.old) }
-    ensures settled { D.honest disk.old → OnOk result (D.unsynced disk.new ≡ settled (D.bytes disk.old)) }
+    ensures all_synced { D.honest disk.old → OnOk result (D.unsynced disk.new ≡ all_synced (D.bytes disk.old)) }
     ensures same { D.honest disk.old → D.bytes disk.new ≡ D.bytes disk.old }
-    ensures any_moment { D.honest disk.old → LeavesOnly D.moment D.left_since disk.old disk.new (IsOutcome (D.unsynced disk.old)) }
+    ensures any_moment { D.honest disk.old → LeavesOnly D.moment D.crash_states_since disk.old disk.new (IsOutcome (D.unsynced disk.old)) }
     ensures honest { (D.honest disk.old → D.honest disk.new) × (D.honest disk.new → D.honest disk.old) }
     ensures called { Makes (Sync ∷ Length ∷ Read ∷ []) (D.calls disk.old) (D.calls disk.new) result }
-    ensures calm { OnOk result (D.faults disk.new ≡ D.faults disk.old) }
+    ensures no_failure { OnOk result (D.faults disk.new ≡ D.faults disk.old) }
     ensures cause { IsErrOf result Device → D.faults disk.old < D.faults disk.new }
 {
     disk.sync()?;
@@ -68,7 +68,7 @@ pub fn resume<D: Disk, R: Reader>(
     reader: &mut R,
 ) -> Result<Journal<D>, (ChainFault, D)>
     requires place { (slot.start ≤ at) × (at ≤ length bytes.now.items) }
-    requires synced { D.honest disk → D.unsynced disk ≡ settled bytes.now.items }
+    requires synced { D.honest disk → D.unsynced disk ≡ all_synced bytes.now.items }
     ensures begins { IfOk result (λ j. (j.disk ≡ disk) × (j.slot ≡ slot) × (j.sealed ≡ []) × (j.phase ≡ Idle)) }
     ensures front { IfOk result (λ j. j.front ≡ slice_range bytes.now.items slot.start (slot.start + length j.front)) }
     ensures found { IfOk result (λ j. FoundChain R.takes slot.most at slot.stop bytes.now.items reader.old reader.new (slot.start + length j.front)) }

@@ -6,8 +6,8 @@ use Rattle.std.specs.Int.{w32, w64, to_be_bytes}
 use Rattle.std.proofs.lemmas.List.{get_or-replicate}
 use Rattle.fp_journal.specs.Chain.{Ends}
 use Rattle.fp_layout.specs.Size.{IsSlotSize}
-use Rattle.fp_disk.specs.Outcomes.{Elapses, IsOutcome, LeavesOnly, Unsynced, Written, settled, touched}
-use Rattle.fp_journal.specs.Holds.{Holds, IsFirm}
+use Rattle.fp_disk.specs.Outcomes.{Elapses, IsOutcome, LeavesOnly, PendingState, Written, all_synced, with_write}
+use Rattle.fp_journal.specs.Holds.{Holds, IsSynced}
 use Rattle.fp_journal.proofs.Holds.{holds_append, holds_front, holds_back, holds_byte, byte_held, holds_written, holds_apart, written_after, written_gap, written_long, firm_outcome, firm_touched, firm_settled}
 use Rattle.fp_disk.specs.Moments.{leaves_call, leaves_then, leaves_map}
 use Rattle.fp_layout.specs.Layout.{magic, IsFormatted, IsHeader, IsFirstSlot}
@@ -26,11 +26,11 @@ none_shut : (c : List ℕ) → Holds c 0 (0 ∷ []) → IsFormatted c → ⊥
 none_shut c h f = let zero : slice_index c 0 ≡ 0 = byte_held c 0 0 [] h in let gate = f.gate in omega (arith, zero, gate)
 
 -- a write behind the closed gate of the header leaves none
-pub shut_none : (size : ℕ) (u : Unsynced) (from n : ℕ) (c : List ℕ) → 1 ≤ from → IsFirm u 0 (0 ∷ []) → IsOutcome (touched u from n) c → IsNewOrNone size c
-shut_none size u from n c le f o = inl (none_shut c (firm_outcome (touched u from n) 0 (0 ∷ []) c (firm_touched u 0 from n (0 ∷ []) (inr (omega (arith, le))) f) o))
+pub shut_none : (size : ℕ) (u : PendingState) (from n : ℕ) (c : List ℕ) → 1 ≤ from → IsSynced u 0 (0 ∷ []) → IsOutcome (with_write u from n) c → IsNewOrNone size c
+shut_none size u from n c le f o = inl (none_shut c (firm_outcome (with_write u from n) 0 (0 ∷ []) c (firm_touched u 0 from n (0 ∷ []) (inr (omega (arith, le))) f) o))
 
 -- the first write leaves a byte at most
-pub first_none : (size : ℕ) (c : List ℕ) → IsOutcome (touched (settled []) 0 1) c → IsNewOrNone size c
+pub first_none : (size : ℕ) (c : List ℕ) → IsOutcome (with_write (all_synced []) 0 1) c → IsNewOrNone size c
 first_none size c o = let l = o.no_longer in inl (none_short c (omega (arith, l)))
 
 -- ---- the bytes after each write
@@ -75,15 +75,15 @@ module _ (size : ℕ) (b1 b2 b3 b4 : List ℕ) (large : 64 ≤ size) where
       }
 
 -- the last write leaves all but the gate as it is
-pub made_outcome : (size : ℕ) (b c : List ℕ) → IsMade size b → IsOutcome (touched (settled b) 0 1) c → IsMade size c
+pub made_outcome : (size : ℕ) (b c : List ℕ) → IsMade size b → IsOutcome (with_write (all_synced b) 0 1) c → IsMade size c
 made_outcome size b c m o =
     let low = o.no_shorter in let high = o.no_longer in let long = m.long in record {
       long = omega (arith, low, high, long);
-      text = firm_outcome (touched (settled b) 0 1) 1 (header_text size ++ new_front) c (firm_touched (settled b) 1 0 1 (header_text size ++ new_front) (inl (omega arith)) (firm_settled b 1 (header_text size ++ new_front) m.text)) o;
+      text = firm_outcome (with_write (all_synced b) 0 1) 1 (header_text size ++ new_front) c (firm_touched (all_synced b) 1 0 1 (header_text size ++ new_front) (inl (omega arith)) (firm_settled b 1 (header_text size ++ new_front) m.text)) o;
       zeros = λ k le lt. o.kept k (omega (arith, long, lt)) (λ covers. ⊎_elim (λ here. let x = here.1 in omega (arith, x, le)) (λ none. none) covers) ∙ m.zeros k le lt;
     }
 
-pub last_new : (size : ℕ) (b c : List ℕ) → IsMade size b → IsOutcome (touched (settled b) 0 1) c → IsNewOrNone size c
+pub last_new : (size : ℕ) (b c : List ℕ) → IsMade size b → IsOutcome (with_write (all_synced b) 0 1) c → IsNewOrNone size c
 last_new size b c m o = elim (cases_eq (slice_index c 0) OPEN) [
   | inl opened ↦ inr (record { gate = opened; made = made_outcome size b c m o })
   | inr shut ↦ inl (λ f. shut f.gate)
@@ -100,69 +100,69 @@ new_written size b new m w = let n = written_long b (OPEN ∷ []) new 0 w in let
 }
 
 -- ---- the calls in turn
-module _ {D : Type 0} (honest : D → Type 0) (bytes : D → List ℕ) (unsynced : D → Unsynced) (moment : D → ℕ) (left_since : D → ℕ → List ℕ → Type 0)
+module _ {D : Type 0} (honest : D → Type 0) (bytes : D → List ℕ) (unsynced : D → PendingState) (moment : D → ℕ) (crash_states_since : D → ℕ → List ℕ → Type 0)
     (present : (d : D) → honest d → IsOutcome (unsynced d) (bytes d))
-    (only_now : (d : D) (c : List ℕ) → honest d → left_since d (moment d) c → IsOutcome (unsynced d) c)
+    (only_now : (d : D) (c : List ℕ) → honest d → crash_states_since d (moment d) c → IsOutcome (unsynced d) c)
     (size : ℕ) (start : D) where
   abbrev Leaves : D → D → (List ℕ → Type 0) → Type 0
-  Leaves d e P = LeavesOnly moment left_since d e P
+  Leaves d e P = LeavesOnly moment crash_states_since d e P
 
   -- since the start a crash left none or a new disk, and now the header's gate is closed for sure
   pub record IsShut (d : D) : Type 0 where
     pub leaves : Leaves start d (IsNewOrNone size)
-    pub firm : IsFirm (unsynced d) 0 (0 ∷ [])
+    pub firm : IsSynced (unsynced d) 0 (0 ∷ [])
     pub honest_now : honest d
 
-  pub empty_bytes : honest start → unsynced start ≡ settled [] → bytes start ≡ []
-  empty_bytes h is = let o : IsOutcome (settled []) (bytes start) = subst (λ (u : Unsynced). IsOutcome u (bytes start)) is (present start h) in let high = o.no_longer in no_bytes (bytes start) (omega (arith, high))
+  pub empty_bytes : honest start → unsynced start ≡ all_synced [] → bytes start ≡ []
+  empty_bytes h is = let o : IsOutcome (all_synced []) (bytes start) = subst (λ (u : PendingState). IsOutcome u (bytes start)) is (present start h) in let high = o.no_longer in no_bytes (bytes start) (omega (arith, high))
 
-  pub first_leaves : (d : D) → unsynced start ≡ settled [] → Leaves start d (IsOutcome (touched (unsynced start) 0 1)) → Leaves start d (IsNewOrNone size)
-  first_leaves d is l = leaves_map moment left_since start d (IsOutcome (touched (unsynced start) 0 1)) (IsNewOrNone size) (λ c o. first_none size c (subst (λ (u : Unsynced). IsOutcome (touched u 0 1) c) is o)) l
+  pub first_leaves : (d : D) → unsynced start ≡ all_synced [] → Leaves start d (IsOutcome (with_write (unsynced start) 0 1)) → Leaves start d (IsNewOrNone size)
+  first_leaves d is l = leaves_map moment crash_states_since start d (IsOutcome (with_write (unsynced start) 0 1)) (IsNewOrNone size) (λ c o. first_none size c (subst (λ (u : PendingState). IsOutcome (with_write u 0 1) c) is o)) l
 
-  pub first_shut : (d : D) → unsynced start ≡ settled [] → Leaves start d (IsOutcome (touched (unsynced start) 0 1)) → honest d → Written (bytes start) 0 (0 ∷ []) (bytes d) → unsynced d ≡ settled (bytes d) → IsShut d
+  pub first_shut : (d : D) → unsynced start ≡ all_synced [] → Leaves start d (IsOutcome (with_write (unsynced start) 0 1)) → honest d → Written (bytes start) 0 (0 ∷ []) (bytes d) → unsynced d ≡ all_synced (bytes d) → IsShut d
   first_shut d is l h w sure = record {
     leaves = first_leaves d is l;
-    firm = subst (λ (u : Unsynced). IsFirm u 0 (0 ∷ [])) (sym sure) (firm_settled (bytes d) 0 (0 ∷ []) (holds_written (bytes start) (0 ∷ []) (bytes d) 0 w));
+    firm = subst (λ (u : PendingState). IsSynced u 0 (0 ∷ [])) (sym sure) (firm_settled (bytes d) 0 (0 ∷ []) (holds_written (bytes start) (0 ∷ []) (bytes d) 0 w));
     honest_now = h;
   }
 
   module _ (d e : D) (s : IsShut d) (from n : ℕ) (behind : 1 ≤ from) where
-    all_none : (c : List ℕ) → IsOutcome (touched (unsynced d) from n) c → IsNewOrNone size c
+    all_none : (c : List ℕ) → IsOutcome (with_write (unsynced d) from n) c → IsNewOrNone size c
     all_none c o = shut_none size (unsynced d) from n c behind s.firm o
 
     now_none : (c : List ℕ) → IsOutcome (unsynced d) c → IsNewOrNone size c
     now_none c o = inl (none_shut c (firm_outcome (unsynced d) 0 (0 ∷ []) c s.firm o))
 
     abbrev Time : Type 0
-    Time = Elapses (moment d) (moment e) (left_since d) (left_since e) (IsOutcome (touched (unsynced d) from n))
+    Time = Elapses (moment d) (moment e) (crash_states_since d) (crash_states_since e) (IsOutcome (with_write (unsynced d) from n))
 
     pub write_leaves : Time → Leaves start e (IsNewOrNone size)
-    write_leaves time = leaves_then moment left_since start d e (IsNewOrNone size) s.leaves
-        (leaves_call moment left_since d e (IsOutcome (unsynced d)) (IsOutcome (touched (unsynced d) from n)) (IsNewOrNone size) time (λ c left. only_now d c s.honest_now left) now_none all_none)
+    write_leaves time = leaves_then moment crash_states_since start d e (IsNewOrNone size) s.leaves
+        (leaves_call moment crash_states_since d e (IsOutcome (unsynced d)) (IsOutcome (with_write (unsynced d) from n)) (IsNewOrNone size) time (λ c left. only_now d c s.honest_now left) now_none all_none)
 
-    pub write_shut : Time → honest e → unsynced e ≡ touched (unsynced d) from n → IsShut e
-    write_shut time h touch = record { leaves = write_leaves time; firm = subst (λ (u : Unsynced). IsFirm u 0 (0 ∷ [])) (sym touch) (firm_touched (unsynced d) 0 from n (0 ∷ []) (inr (omega (arith, behind))) s.firm); honest_now = h }
+    pub write_shut : Time → honest e → unsynced e ≡ with_write (unsynced d) from n → IsShut e
+    write_shut time h touch = record { leaves = write_leaves time; firm = subst (λ (u : PendingState). IsSynced u 0 (0 ∷ [])) (sym touch) (firm_touched (unsynced d) 0 from n (0 ∷ []) (inr (omega (arith, behind))) s.firm); honest_now = h }
 
-    module _ (l : Leaves d e (IsOutcome (touched (unsynced d) from n))) where
+    module _ (l : Leaves d e (IsOutcome (with_write (unsynced d) from n))) where
       pub sync_leaves : Leaves start e (IsNewOrNone size)
-      sync_leaves = leaves_then moment left_since start d e (IsNewOrNone size) s.leaves (leaves_map moment left_since d e (IsOutcome (touched (unsynced d) from n)) (IsNewOrNone size) all_none l)
+      sync_leaves = leaves_then moment crash_states_since start d e (IsNewOrNone size) s.leaves (leaves_map moment crash_states_since d e (IsOutcome (with_write (unsynced d) from n)) (IsNewOrNone size) all_none l)
 
-      pub sync_shut : (piece : List ℕ) → honest e → Written (bytes d) from piece (bytes e) → unsynced e ≡ settled (bytes e) → IsShut e
+      pub sync_shut : (piece : List ℕ) → honest e → Written (bytes d) from piece (bytes e) → unsynced e ≡ all_synced (bytes e) → IsShut e
       sync_shut piece h w sure = record {
         leaves = sync_leaves;
-        firm = subst (λ (u : Unsynced). IsFirm u 0 (0 ∷ [])) (sym sure) (firm_settled (bytes e) 0 (0 ∷ []) (holds_apart (bytes d) piece (bytes e) (0 ∷ []) from 0 w (inr (omega (arith, behind))) (firm_outcome (unsynced d) 0 (0 ∷ []) (bytes d) s.firm (present d s.honest_now))));
+        firm = subst (λ (u : PendingState). IsSynced u 0 (0 ∷ [])) (sym sure) (firm_settled (bytes e) 0 (0 ∷ []) (holds_apart (bytes d) piece (bytes e) (0 ∷ []) from 0 w (inr (omega (arith, behind))) (firm_outcome (unsynced d) 0 (0 ∷ []) (bytes d) s.firm (present d s.honest_now))));
         honest_now = h;
       }
 
-  pub last_leaves : (d e : D) → IsShut d → IsMade size (bytes d) → unsynced d ≡ settled (bytes d) → Leaves d e (IsOutcome (touched (unsynced d) 0 1)) → Leaves start e (IsNewOrNone size)
-  last_leaves d e s m sure l = leaves_then moment left_since start d e (IsNewOrNone size) s.leaves
-      (leaves_map moment left_since d e (IsOutcome (touched (unsynced d) 0 1)) (IsNewOrNone size) (λ c o. last_new size (bytes d) c m (subst (λ (u : Unsynced). IsOutcome (touched u 0 1) c) sure o)) l)
+  pub last_leaves : (d e : D) → IsShut d → IsMade size (bytes d) → unsynced d ≡ all_synced (bytes d) → Leaves d e (IsOutcome (with_write (unsynced d) 0 1)) → Leaves start e (IsNewOrNone size)
+  last_leaves d e s m sure l = leaves_then moment crash_states_since start d e (IsNewOrNone size) s.leaves
+      (leaves_map moment crash_states_since d e (IsOutcome (with_write (unsynced d) 0 1)) (IsNewOrNone size) (λ c o. last_new size (bytes d) c m (subst (λ (u : PendingState). IsOutcome (with_write u 0 1) c) sure o)) l)
 
-  pub empty_leaves : (d : D) → honest start → unsynced start ≡ settled [] → Elapses (moment start) (moment d) (left_since start) (left_since d) (IsOutcome (unsynced start)) → Leaves start d (IsNewOrNone size)
-  empty_leaves d h is time = leaves_call moment left_since start d (IsOutcome (unsynced start)) (IsOutcome (unsynced start)) (IsNewOrNone size) time (λ c left. only_now start c h left) none none
+  pub empty_leaves : (d : D) → honest start → unsynced start ≡ all_synced [] → Elapses (moment start) (moment d) (crash_states_since start) (crash_states_since d) (IsOutcome (unsynced start)) → Leaves start d (IsNewOrNone size)
+  empty_leaves d h is time = leaves_call moment crash_states_since start d (IsOutcome (unsynced start)) (IsOutcome (unsynced start)) (IsNewOrNone size) time (λ c left. only_now start c h left) none none
     where
       none : (c : List ℕ) → IsOutcome (unsynced start) c → IsNewOrNone size c
-      none c o = let p : IsOutcome (settled []) c = subst (λ (u : Unsynced). IsOutcome u c) is o in let high = p.no_longer in inl (none_short c (omega (arith, high)))
+      none c o = let p : IsOutcome (all_synced []) c = subst (λ (u : PendingState). IsOutcome u c) is o in let high = p.no_longer in inl (none_short c (omega (arith, high)))
 
 -- ---- what a new disk stands for
 module _ (size : ℕ) (c : List ℕ) (allowed : IsSlotSize size) (n : IsNewDisk size c) where

@@ -3,7 +3,7 @@
 ghost use Rattle.std.specs.Prelude.{◌≡◌, ◌≢◌, ◌<◌, ◌+◌, ◌∷◌, ◌++◌, [], List, ℕ, length, IfOk, IfErr, OnOk, IsOk, IsErr, MatchResult};
 ghost use Rattle.fp_disk.specs.History.{Makes, MakesSome};
 ghost use Rattle.fp_disk.specs.declared.history.CallKind.TheVariants.{Length, Sync, Write};
-ghost use Rattle.fp_disk.specs.Outcomes.{Answers, IsOutcome, LeavesOnly, Written, settled, touched};
+ghost use Rattle.fp_disk.specs.Outcomes.{Answers, IsOutcome, LeavesOnly, Written, all_synced, with_write};
 ghost use Rattle.fp_journal.specs.declared.journal.Phase.TheVariants.{Idle};
 ghost use Rattle.fp_layout.specs.Size.{IsSlotSize, first_slot};
 ghost use Rattle.fp_layout.specs.Layout.{IsHeader, IsFirstSlot};
@@ -50,8 +50,8 @@ fn closed(alloc: Global, size: SlotSize) -> Result<Vec<u8>, AllocError>
 // Writes, and makes sure of it.
 fn write_synced<D: Disk>(disk: &mut D, at: u64, from: &[u8]) -> Result<(), DiskFault>
     ensures written { D.honest disk.old → OnOk result (Written (D.bytes disk.old) at from.now (D.bytes disk.new)) }
-    ensures settled { D.honest disk.old → OnOk result (D.unsynced disk.new ≡ settled (D.bytes disk.new)) }
-    ensures any_moment { D.honest disk.old → LeavesOnly D.moment D.left_since disk.old disk.new (IsOutcome (touched (D.unsynced disk.old) at (length from.now))) }
+    ensures all_synced { D.honest disk.old → OnOk result (D.unsynced disk.new ≡ all_synced (D.bytes disk.new)) }
+    ensures any_moment { D.honest disk.old → LeavesOnly D.moment D.crash_states_since disk.old disk.new (IsOutcome (with_write (D.unsynced disk.old) at (length from.now))) }
     ensures honest { (D.honest disk.old → D.honest disk.new) × (D.honest disk.new → D.honest disk.old) }
     ensures called { Makes (Write ∷ Sync ∷ []) (D.calls disk.old) (D.calls disk.new) result }
     ensures cause { Answers (D.faults disk.old) (D.faults disk.new) result }
@@ -64,8 +64,8 @@ fn write_synced<D: Disk>(disk: &mut D, at: u64, from: &[u8]) -> Result<(), DiskF
 fn format<D: Disk>(disk: &mut D, size: SlotSize, closed: &[u8]) -> Result<(), DiskFault>
     requires { closed.now ≡ closed_bytes size }
     ensures made { D.honest disk.old → D.bytes disk.old ≡ [] → OnOk result (IsNewDisk size (D.bytes disk.new)) }
-    ensures settled { D.honest disk.old → OnOk result (D.unsynced disk.new ≡ settled (D.bytes disk.new)) }
-    ensures any_moment { D.honest disk.old → D.unsynced disk.old ≡ settled [] → LeavesOnly D.moment D.left_since disk.old disk.new (IsNewOrNone size) }
+    ensures all_synced { D.honest disk.old → OnOk result (D.unsynced disk.new ≡ all_synced (D.bytes disk.new)) }
+    ensures any_moment { D.honest disk.old → D.unsynced disk.old ≡ all_synced [] → LeavesOnly D.moment D.crash_states_since disk.old disk.new (IsNewOrNone size) }
     ensures honest { (D.honest disk.old → D.honest disk.new) × (D.honest disk.new → D.honest disk.old) }
     ensures called { Makes format_calls (D.calls disk.old) (D.calls disk.new) result }
     ensures cause { Answers (D.faults disk.old) (D.faults disk.new) result }
@@ -85,11 +85,11 @@ pub fn create<D: Disk>(
 ) -> Result<Journal<D>, (CreateFault, D)>
     ensures journal { IfOk result (λ j. (j.slot ≡ first_slot size) × (j.front ≡ new_front) × (j.sealed ≡ []) × (j.phase ≡ Idle)) }
     ensures made { D.honest disk → IfOk result (λ j. IsNewDisk size (D.bytes j.disk)) }
-    ensures settled { D.honest disk → IfOk result (λ j. D.unsynced j.disk ≡ settled (D.bytes j.disk)) }
+    ensures all_synced { D.honest disk → IfOk result (λ j. D.unsynced j.disk ≡ all_synced (D.bytes j.disk)) }
     ensures stands { D.honest disk → IfOk result (λ j. IsHeader (D.bytes j.disk) size × IsFirstSlot (D.bytes j.disk) size 1 0 empty_image) }
     ensures not_empty { D.honest disk → IfErr result (λ e. e.0 ≡ NotEmpty → (D.bytes disk ≢ []) × (D.bytes e.1 ≡ D.bytes disk) × (D.unsynced e.1 ≡ D.unsynced disk)) }
     ensures empty { D.honest disk → IsOk result → D.bytes disk ≡ [] }
-    ensures any_moment { D.honest disk → D.unsynced disk ≡ settled [] → MatchResult result (λ j. LeavesOnly D.moment D.left_since disk j.disk (IsNewOrNone size)) (λ e. LeavesOnly D.moment D.left_since disk e.1 (IsNewOrNone size)) }
+    ensures any_moment { D.honest disk → D.unsynced disk ≡ all_synced [] → MatchResult result (λ j. LeavesOnly D.moment D.crash_states_since disk j.disk (IsNewOrNone size)) (λ e. LeavesOnly D.moment D.crash_states_since disk e.1 (IsNewOrNone size)) }
     ensures honest { MatchResult result (λ j. (D.honest disk → D.honest j.disk) × (D.honest j.disk → D.honest disk)) (λ e. (D.honest disk → D.honest e.1) × (D.honest e.1 → D.honest disk)) }
     ensures called { MatchResult result (λ j. D.calls j.disk ≡ D.calls disk ++ Length ∷ format_calls) (λ e. MakesSome (Length ∷ format_calls) (D.calls disk) (D.calls e.1)) }
     ensures memory { D.honest disk → IfErr result (λ e. e.0 ≡ Memory → (D.bytes e.1 ≡ D.bytes disk) × (D.unsynced e.1 ≡ D.unsynced disk)) }

@@ -3,7 +3,7 @@
 ghost use Rattle.std.specs.Prelude.{◌≡◌, ◌≤◌, ◌<◌, ◌+◌, ◌-◌, ◌/◌, [], ◌∷◌, ◌++◌, List, ℕ, length, IfOk, IfErr, OnOk, MatchResult, IsErrOf};
 ghost use Rattle.fp_disk.specs.History.{MakesSome};
 ghost use Rattle.fp_disk.specs.declared.history.CallKind.TheVariants.{Length, Read, Sync};
-ghost use Rattle.fp_disk.specs.Outcomes.{IsOutcome, LeavesOnly, settled};
+ghost use Rattle.fp_disk.specs.Outcomes.{IsOutcome, LeavesOnly, all_synced};
 ghost use Rattle.fp_journal.specs.Reading.{IsWrong};
 ghost use Rattle.fp_journal.specs.declared.journal.Phase.TheVariants.{Idle};
 ghost use Rattle.fp_layout.specs.Size.{first_slot};
@@ -60,11 +60,11 @@ pub fn open<D: Disk, R: SlotReader>(
     ensures found { D.honest disk → IfOk result (λ j. FoundDisk R.begins R.takes (D.bytes disk) reader.old reader.new j.slot j.front) }
     ensures fault { D.honest disk → IfErr result (λ e. RefusesDisk R.begins R.rejects R.takes R.refuses (D.bytes disk) reader.old e.0) }
     ensures same { D.honest disk → MatchResult result (λ j. D.bytes j.disk ≡ D.bytes disk) (λ e. D.bytes e.1 ≡ D.bytes disk) }
-    ensures settled { D.honest disk → IfOk result (λ j. D.unsynced j.disk ≡ settled (D.bytes disk)) }
-    ensures any_moment { D.honest disk → MatchResult result (λ j. LeavesOnly D.moment D.left_since disk j.disk (IsOutcome (D.unsynced disk))) (λ e. LeavesOnly D.moment D.left_since disk e.1 (IsOutcome (D.unsynced disk))) }
+    ensures all_synced { D.honest disk → IfOk result (λ j. D.unsynced j.disk ≡ all_synced (D.bytes disk)) }
+    ensures any_moment { D.honest disk → MatchResult result (λ j. LeavesOnly D.moment D.crash_states_since disk j.disk (IsOutcome (D.unsynced disk))) (λ e. LeavesOnly D.moment D.crash_states_since disk e.1 (IsOutcome (D.unsynced disk))) }
     ensures honest { MatchResult result (λ j. (D.honest disk → D.honest j.disk) × (D.honest j.disk → D.honest disk)) (λ e. (D.honest disk → D.honest e.1) × (D.honest e.1 → D.honest disk)) }
     ensures called { MatchResult result (λ j. D.calls j.disk ≡ D.calls disk ++ Sync ∷ Length ∷ Read ∷ []) (λ e. MakesSome (Sync ∷ Length ∷ Read ∷ []) (D.calls disk) (D.calls e.1)) }
-    ensures calm { IfOk result (λ j. D.faults j.disk ≡ D.faults disk) }
+    ensures no_failure { IfOk result (λ j. D.faults j.disk ≡ D.faults disk) }
     ensures cause { IfErr result (λ e. e.0 ≡ Device → D.faults disk < D.faults e.1) }
 {
     let bytes = match synced_bytes(alloc, &mut disk) {

@@ -8,9 +8,9 @@ use Rattle.fp_edit.specs.Edits.{Change, put, delete}
 use Rattle.fp_record.specs.Group.{Group}
 use Rattle.fp_base.specs.Steps.{◌>>=◌}
 use Rattle.fp_record.specs.Fields.{number_at, key_at, definition_at}
-use Rattle.fp_record.specs.Lawful.{IsChange, IsBatch}
+use Rattle.fp_record.specs.WellFormed.{IsChange, IsBatch}
 use Rattle.fp_record.specs.Reading.{put_at, delete_at, change_at, changes_at, can_count, batch_at, batch_in}
-use Rattle.fp_record.specs.Spelling.{spelling_of_key, spelling_of_definition, spelling_of_change, spelling_of_batch}
+use Rattle.fp_record.specs.Encoding.{encoding_of_key, encoding_of_definition, encoding_of_change, encoding_of_batch}
 use Rattle.fp_record.proofs.Keyed.{key_takes, key_again, definition_takes, definition_again}
 use Rattle.fp_record.proofs.Many.{Leads, many_take, many_again}
 use Rattle.fp_record.proofs.Whole.{whole_ok, whole_again, Takes-all, one_reading}
@@ -23,12 +23,12 @@ use Rattle.fp_record.specs.declared.batch.TheConstants.{MOST_EDITS}
 -- what stands behind a change's kind
 record HasKind (kind : ℕ) (bytes : List ℕ) (at : ℕ) (x : Change × ℕ) : Type 0 where
   text : List ℕ
-  spelled : spelling_of_change x.0 ≡ kind ∷ text
+  spelled : encoding_of_change x.0 ≡ kind ∷ text
   taken : Takes bytes at text x.1
   lawful : IsChange x.0
 
 put_takes : (bytes : List ℕ) (at : ℕ) (x : Change × ℕ) → IsBytes bytes → put_at bytes at ≡ Ok x → HasKind 1 bytes at x
-unfolding put_at spelling_of_change
+unfolding put_at encoding_of_change
 put_takes bytes at x fits e =
     let a = bind_ok (key_at bytes at) (λ key. definition_at bytes key.1 >>= λ text. Ok (put key.0 text.0, text.1)) x e in
     let b = bind_ok (definition_at bytes a.0.1) (λ text. Ok (put a.0.0 text.0, text.1)) x a.2 in
@@ -36,26 +36,26 @@ put_takes bytes at x fits e =
     let second = definition_takes bytes a.0.1 b.0 fits b.1 in
     let made : Change × ℕ = (put a.0.0 b.0.0, b.0.1) in
     subst (HasKind 1 bytes at) (ok_is made x b.2) (record {
-      text = spelling_of_key a.0.0 ++ spelling_of_definition b.0.0;
+      text = encoding_of_key a.0.0 ++ encoding_of_definition b.0.0;
       spelled = refl;
-      taken = Takes-then bytes at (spelling_of_key a.0.0) a.0.1 (spelling_of_definition b.0.0) b.0.1 first.0 second.0;
+      taken = Takes-then bytes at (encoding_of_key a.0.0) a.0.1 (encoding_of_definition b.0.0) b.0.1 first.0 second.0;
       lawful = (first.1, second.1);
     })
 
 delete_takes : (bytes : List ℕ) (at : ℕ) (x : Change × ℕ) → IsBytes bytes → delete_at bytes at ≡ Ok x → HasKind 2 bytes at x
-unfolding delete_at spelling_of_change
+unfolding delete_at encoding_of_change
 delete_takes bytes at x fits e =
     let a = bind_ok (key_at bytes at) (λ key. Ok (delete key.0, key.1)) x e in
     let first = key_takes bytes at a.0 fits a.1 in
     let made : Change × ℕ = (delete a.0.0, a.0.1) in
-    subst (HasKind 2 bytes at) (ok_is made x a.2) (record { text = spelling_of_key a.0.0; spelled = refl; taken = first.0; lawful = first.1 })
+    subst (HasKind 2 bytes at) (ok_is made x a.2) (record { text = encoding_of_key a.0.0; spelled = refl; taken = first.0; lawful = first.1 })
 
-with_kind : (kind : ℕ) (bytes : List ℕ) (at next : ℕ) (x : Change × ℕ) → to_be_bytes w8 kind ≡ kind ∷ [] → Takes bytes at (to_be_bytes w8 kind) next → HasKind kind bytes next x → Takes bytes at (spelling_of_change x.0) x.1 × IsChange x.0
+with_kind : (kind : ℕ) (bytes : List ℕ) (at next : ℕ) (x : Change × ℕ) → to_be_bytes w8 kind ≡ kind ∷ [] → Takes bytes at (to_be_bytes w8 kind) next → HasKind kind bytes next x → Takes bytes at (encoding_of_change x.0) x.1 × IsChange x.0
 with_kind kind bytes at next x byte first h =
     let both = Takes-then bytes at (kind ∷ []) next h.text x.1 (subst (λ (t : List ℕ). Takes bytes at t next) byte first) h.taken in
     (subst (λ (t : List ℕ). Takes bytes at t x.1) (sym h.spelled) both, h.lawful)
 
-change_takes : (bytes : List ℕ) (at : ℕ) (x : Change × ℕ) → IsBytes bytes → change_at bytes at ≡ Ok x → Takes bytes at (spelling_of_change x.0) x.1 × IsChange x.0
+change_takes : (bytes : List ℕ) (at : ℕ) (x : Change × ℕ) → IsBytes bytes → change_at bytes at ≡ Ok x → Takes bytes at (encoding_of_change x.0) x.1 × IsChange x.0
 unfolding change_at
 change_takes bytes at x fits e =
     let a = bind_ok (number_at w8 bytes at) (λ kind. cond (eqb kind.0 1) (put_at bytes kind.1) (cond (eqb kind.0 2) (delete_at bytes kind.1) (Err at))) x e in
@@ -72,15 +72,15 @@ change_takes bytes at x fits e =
 kind_again : (kind : ℕ) (bytes : List ℕ) (at : ℕ) (text rest : List ℕ) → to_be_bytes w8 kind ≡ kind ∷ [] → kind < 256 → From bytes at ((kind ∷ text) ++ rest) → (next : ℕ) × (number_at w8 bytes at ≡ Ok (kind, next)) × From bytes next (text ++ rest)
 kind_again kind bytes at text rest byte small h = number_again w8 256 wide8 bytes at kind (text ++ rest) small (subst (λ (t : List ℕ). From bytes at (t ++ (text ++ rest))) (sym byte) h)
 
-change_again : (bytes : List ℕ) (at : ℕ) (change : Change) (rest : List ℕ) → IsChange change → From bytes at (spelling_of_change change ++ rest) → (next : ℕ) × (change_at bytes at ≡ Ok (change, next)) × From bytes next rest
-unfolding change_at put_at delete_at spelling_of_change
+change_again : (bytes : List ℕ) (at : ℕ) (change : Change) (rest : List ℕ) → IsChange change → From bytes at (encoding_of_change change ++ rest) → (next : ℕ) × (change_at bytes at ≡ Ok (change, next)) × From bytes next rest
+unfolding change_at put_at delete_at encoding_of_change
 change_again bytes at (put key text) rest is h =
-    let kind = kind_again 1 bytes at (spelling_of_key key ++ spelling_of_definition text) rest refl (omega arith) h in
-    let first = key_again bytes kind.0 key (spelling_of_definition text ++ rest) is.0 (subst (λ (t : List ℕ). From bytes kind.0 t) (append_assoc (spelling_of_key key) (spelling_of_definition text) rest) kind.2) in
+    let kind = kind_again 1 bytes at (encoding_of_key key ++ encoding_of_definition text) rest refl (omega arith) h in
+    let first = key_again bytes kind.0 key (encoding_of_definition text ++ rest) is.0 (subst (λ (t : List ℕ). From bytes kind.0 t) (append_assoc (encoding_of_key key) (encoding_of_definition text) rest) kind.2) in
     let second = definition_again bytes first.0 text rest is.1 first.2 in
     (second.0, rw (kind.1, first.1, second.1) (refl {a = Ok (put key text, second.0)}), second.2)
 change_again bytes at (delete key) rest is h =
-    let kind = kind_again 2 bytes at (spelling_of_key key) rest refl (omega arith) h in
+    let kind = kind_again 2 bytes at (encoding_of_key key) rest refl (omega arith) h in
     let first = key_again bytes kind.0 key rest is kind.2 in
     (first.0, rw (kind.1, first.1) (refl {a = Ok (delete key, first.0)}), first.2)
 
@@ -90,14 +90,14 @@ all_lawful : (at : ℕ) (changes : List Change) (end : ℕ) → Leads (λ s chan
 all_lawful at [] end h = tt
 all_lawful at (change ∷ changes) end h = (h.1, all_lawful h.0 changes end h.2)
 
-changes_take : (bytes : List ℕ) (n at : ℕ) (x : List Change × ℕ) → IsBytes bytes → at ≤ length bytes → changes_at n bytes at ≡ Ok x → Takes bytes at (flat_map spelling_of_change x.0) x.1 × (length x.0 ≡ n) × AllByRecursion IsChange x.0
+changes_take : (bytes : List ℕ) (n at : ℕ) (x : List Change × ℕ) → IsBytes bytes → at ≤ length bytes → changes_at n bytes at ≡ Ok x → Takes bytes at (flat_map encoding_of_change x.0) x.1 × (length x.0 ≡ n) × AllByRecursion IsChange x.0
 changes_take bytes n at x fits within e =
-    let all = many_take bytes (change_at bytes) (λ s. s) spelling_of_change (λ s change t. IsChange change) (λ s y h. change_takes bytes s y fits h) n at x within e in
+    let all = many_take bytes (change_at bytes) (λ s. s) encoding_of_change (λ s change t. IsChange change) (λ s y h. change_takes bytes s y fits h) n at x within e in
     (all.0, all.1, all_lawful at x.0 x.1 all.2)
 
-changes_again : (bytes : List ℕ) (at : ℕ) (changes : List Change) (rest : List ℕ) → AllByRecursion IsChange changes → From bytes at (flat_map spelling_of_change changes ++ rest) → (next : ℕ) × (changes_at (length changes) bytes at ≡ Ok (changes, next)) × From bytes next rest
+changes_again : (bytes : List ℕ) (at : ℕ) (changes : List Change) (rest : List ℕ) → AllByRecursion IsChange changes → From bytes at (flat_map encoding_of_change changes ++ rest) → (next : ℕ) × (changes_at (length changes) bytes at ≡ Ok (changes, next)) × From bytes next rest
 changes_again bytes at changes rest is h =
-    many_again bytes (change_at bytes) (λ s. s) spelling_of_change (λ s all. AllByRecursion IsChange all)
+    many_again bytes (change_at bytes) (λ s. s) encoding_of_change (λ s all. AllByRecursion IsChange all)
     (λ s change all more can from. let one = change_again bytes s change more can.0 from in (one.0, one.1, one.2, can.1)) changes at rest is h
 
 -- ---- batches
@@ -111,8 +111,8 @@ can_count_all first count e =
 can_count_back : (first count : ℕ) → 0 < count → count ≤ MOST_EDITS → first + count ≤ REVISIONS_END → can_count first count ≡ true
 can_count_back first count some few revisions = rw (le-leb 1 count some, le-leb count MOST_EDITS few, le-leb (first + count) REVISIONS_END revisions) refl
 
-pub batch_takes : (bytes : List ℕ) (x : Group × ℕ) → IsBytes bytes → batch_at bytes ≡ Ok x → Takes bytes 0 (spelling_of_batch x.0) x.1 × IsBatch x.0
-unfolding batch_at spelling_of_batch
+pub batch_takes : (bytes : List ℕ) (x : Group × ℕ) → IsBytes bytes → batch_at bytes ≡ Ok x → Takes bytes 0 (encoding_of_batch x.0) x.1 × IsBatch x.0
+unfolding batch_at encoding_of_batch
 batch_takes bytes x fits e =
     let a = bind_ok (number_at w64 bytes 0) (λ first. number_at w16 bytes first.1 >>= λ count. cond (can_count first.0 count.0) (changes_at count.0 bytes count.1) (Err first.1) >>= λ changes. Ok (record { first = first.0; changes = changes.0 }, changes.1)) x e in
     let first = a.0 in
@@ -125,21 +125,21 @@ batch_takes bytes x fits e =
     let two = number_takes w16 (2 ^ 16) wide16 bytes first.1 count fits b.1 in
     let three = changes_take bytes count.0 count.1 changes fits two.0.within g.1 in
     let counted : Takes bytes first.1 (to_be_bytes w16 (length changes.0)) count.1 = subst (λ (n : ℕ). Takes bytes first.1 (to_be_bytes w16 n) count.1) (sym {a = length changes.0} {b = count.0} three.1) two.0 in
-    let behind = Takes-then bytes first.1 (to_be_bytes w16 (length changes.0)) count.1 (flat_map spelling_of_change changes.0) changes.1 counted three.0 in
-    let all = Takes-then bytes 0 (to_be_bytes w64 first.0) first.1 (to_be_bytes w16 (length changes.0) ++ flat_map spelling_of_change changes.0) changes.1 one.0 behind in
+    let behind = Takes-then bytes first.1 (to_be_bytes w16 (length changes.0)) count.1 (flat_map encoding_of_change changes.0) changes.1 counted three.0 in
+    let all = Takes-then bytes 0 (to_be_bytes w64 first.0) first.1 (to_be_bytes w16 (length changes.0) ++ flat_map encoding_of_change changes.0) changes.1 one.0 behind in
     let can = can_count_all first.0 count.0 g.0 in
     let made : Group × ℕ = (record { first = first.0; changes = changes.0 }, changes.1) in
-    subst (λ (y : Group × ℕ). Takes bytes 0 (to_be_bytes w64 y.0.first ++ (to_be_bytes w16 (length y.0.changes) ++ flat_map spelling_of_change y.0.changes)) y.1 × IsBatch y.0) {x = made} {y = x} (ok_is made x c.2)
+    subst (λ (y : Group × ℕ). Takes bytes 0 (to_be_bytes w64 y.0.first ++ (to_be_bytes w16 (length y.0.changes) ++ flat_map encoding_of_change y.0.changes)) y.1 × IsBatch y.0) {x = made} {y = x} (ok_is made x c.2)
     (all, record { some = omega (arith, three.1, can.0); few = omega (arith, three.1, can.1); revisions = omega (arith, three.1, can.2); changes = three.2 })
 
-pub batch_again : (bytes : List ℕ) (group : Group) (rest : List ℕ) → IsBatch group → bytes ≡ spelling_of_batch group ++ rest → (next : ℕ) × (batch_at bytes ≡ Ok (group, next)) × From bytes next rest
-unfolding batch_at spelling_of_batch
+pub batch_again : (bytes : List ℕ) (group : Group) (rest : List ℕ) → IsBatch group → bytes ≡ encoding_of_batch group ++ rest → (next : ℕ) × (batch_at bytes ≡ Ok (group, next)) × From bytes next rest
+unfolding batch_at encoding_of_batch
 batch_again bytes group rest is e =
     let some = is.some in
     let few = is.few in
     let revisions = is.revisions in
     let count = length group.changes in
-    let changes = flat_map spelling_of_change group.changes in
+    let changes = flat_map encoding_of_change group.changes in
     let start : From bytes 0 (to_be_bytes w64 group.first ++ (to_be_bytes w16 count ++ (changes ++ rest))) =
     subst (λ (t : List ℕ). From bytes 0 t) (e ∙ append_assoc (to_be_bytes w64 group.first) (to_be_bytes w16 count ++ changes) rest ∙ ap (λ (t : List ℕ). to_be_bytes w64 group.first ++ t) (append_assoc (to_be_bytes w16 count) changes rest)) (From-start bytes) in
     let one = number_again w64 (2 ^ 64) wide64 bytes 0 group.first (to_be_bytes w16 count ++ (changes ++ rest)) (omega arith) start in
@@ -149,23 +149,23 @@ batch_again bytes group rest is e =
 
 -- ---- the whole input
 
-pub batch_spelled : (bytes : List ℕ) (group : Group) → IsBytes bytes → batch_in bytes ≡ Ok group → IsBatch group × (bytes ≡ spelling_of_batch group)
+pub batch_spelled : (bytes : List ℕ) (group : Group) → IsBytes bytes → batch_in bytes ≡ Ok group → IsBatch group × (bytes ≡ encoding_of_batch group)
 unfolding batch_in
 batch_spelled bytes group fits e =
     let w = whole_ok bytes (batch_at bytes) group e in
     let t = batch_takes bytes (group, length bytes) fits w in
-    (t.1, Takes-all bytes (spelling_of_batch group) t.0)
+    (t.1, Takes-all bytes (encoding_of_batch group) t.0)
 
-pub batch_found : (bytes : List ℕ) (group : Group) → IsBatch group → bytes ≡ spelling_of_batch group → batch_in bytes ≡ Ok group
+pub batch_found : (bytes : List ℕ) (group : Group) → IsBatch group → bytes ≡ encoding_of_batch group → batch_in bytes ≡ Ok group
 unfolding batch_in
 batch_found bytes group is e =
-    let w = batch_again bytes group [] is (e ∙ sym (append-nil (spelling_of_batch group))) in
+    let w = batch_again bytes group [] is (e ∙ sym (append-nil (encoding_of_batch group))) in
     whole_again bytes (batch_at bytes) group w.0 w.1 w.2
 
 -- no spelling begins another
-pub batch_alone : (v w : Group) (x y : List ℕ) → IsBatch v → IsBatch w → spelling_of_batch v ++ x ≡ spelling_of_batch w ++ y → (v ≡ w) × (x ≡ y)
+pub batch_alone : (v w : Group) (x y : List ℕ) → IsBatch v → IsBatch w → encoding_of_batch v ++ x ≡ encoding_of_batch w ++ y → (v ≡ w) × (x ≡ y)
 batch_alone v w x y is_v is_w e =
-    let bytes = spelling_of_batch v ++ x in
+    let bytes = encoding_of_batch v ++ x in
     let a = batch_again bytes v x is_v refl in
     let b = batch_again bytes w y is_w e in
     one_reading bytes (batch_at bytes) v w a.0 b.0 x y a.1 b.1 a.2 b.2

@@ -14,9 +14,9 @@ use Rattle.fp_definition.specs.Key.{is_key}
 use Rattle.fp_edit.specs.declared.flags.Flag.{Flag}
 use Rattle.fp_base.specs.Steps.{◌>>=◌}
 use Rattle.fp_record.specs.Fields.{number_at, key_at, definition_at}
-use Rattle.fp_record.specs.Lawful.{IsKey, IsFlag, IsImage, IsOrdered}
+use Rattle.fp_record.specs.WellFormed.{IsKey, IsFlag, IsImage, IsOrdered}
 use Rattle.fp_record.specs.Reading.{key_above_at, changed_at, flag_at, many_from, flags_at, image_at, image_in}
-use Rattle.fp_record.specs.Spelling.{spelling_of_key, spelling_of_definition, spelling_of_flag, spelling_of_image}
+use Rattle.fp_record.specs.Encoding.{encoding_of_key, encoding_of_definition, encoding_of_flag, encoding_of_image}
 use Rattle.fp_record.proofs.Keyed.{key_takes, key_again, definition_takes, definition_again}
 use Rattle.fp_record.proofs.Many.{Leads, many_take, many_again}
 use Rattle.fp_record.proofs.Places.{IsBytes, bind_ok, met, ok_is, From, From-start, Takes, Takes-then, wide32, wide64, number_takes, number_again}
@@ -36,15 +36,15 @@ is_less Less e = refl
 is_less Equal e = absurd cc
 is_less Greater e = absurd cc
 
-key_above_takes : (before bytes : List ℕ) (at : ℕ) (x : List ℕ × ℕ) → IsBytes bytes → key_above_at before bytes at ≡ Ok x → Takes bytes at (spelling_of_key x.0) x.1 × IsKey x.0 × (bytes_cmp before x.0 ≡ Less)
+key_above_takes : (before bytes : List ℕ) (at : ℕ) (x : List ℕ × ℕ) → IsBytes bytes → key_above_at before bytes at ≡ Ok x → Takes bytes at (encoding_of_key x.0) x.1 × IsKey x.0 × (bytes_cmp before x.0 ≡ Less)
 unfolding key_above_at
 key_above_takes before bytes at x fits e =
     let a = bind_ok (key_at bytes at) (λ key. cond (is_lt (bytes_cmp before key.0)) (Ok key) (Err (at + 2))) x e in
     let m = met (is_lt (bytes_cmp before a.0.0)) (at + 2) (Ok a.0) x a.2 in
     let key = key_takes bytes at a.0 fits a.1 in
-    subst (λ (y : List ℕ × ℕ). Takes bytes at (spelling_of_key y.0) y.1 × IsKey y.0 × (bytes_cmp before y.0 ≡ Less)) (ok_is a.0 x m.1) (key.0, key.1, is_less (bytes_cmp before a.0.0) m.0)
+    subst (λ (y : List ℕ × ℕ). Takes bytes at (encoding_of_key y.0) y.1 × IsKey y.0 × (bytes_cmp before y.0 ≡ Less)) (ok_is a.0 x m.1) (key.0, key.1, is_less (bytes_cmp before a.0.0) m.0)
 
-key_above_again : (before bytes : List ℕ) (at : ℕ) (key rest : List ℕ) → IsKey key → bytes_cmp before key ≡ Less → From bytes at (spelling_of_key key ++ rest) → (next : ℕ) × (key_above_at before bytes at ≡ Ok (key, next)) × From bytes next rest
+key_above_again : (before bytes : List ℕ) (at : ℕ) (key rest : List ℕ) → IsKey key → bytes_cmp before key ≡ Less → From bytes at (encoding_of_key key ++ rest) → (next : ℕ) × (key_above_at before bytes at ≡ Ok (key, next)) × From bytes next rest
 unfolding key_above_at
 key_above_again before bytes at key rest is less h =
     let k = key_again bytes at key rest is h in
@@ -71,8 +71,8 @@ changed_again bytes at changed rest some lt h =
 abbrev IsNext : List ℕ × ℕ → Keyed → List ℕ × ℕ → Type 0
 IsNext from flag to = IsFlag flag × (bytes_cmp from.0 flag.0 ≡ Less) × (to.0 ≡ flag.0)
 
-flag_takes : (bytes : List ℕ) (from : List ℕ × ℕ) (x : Keyed × (List ℕ × ℕ)) → IsBytes bytes → flag_at bytes from ≡ Ok x → Takes bytes from.1 (spelling_of_flag x.0) x.1.1 × IsNext from x.0 x.1
-unfolding flag_at spelling_of_flag
+flag_takes : (bytes : List ℕ) (from : List ℕ × ℕ) (x : Keyed × (List ℕ × ℕ)) → IsBytes bytes → flag_at bytes from ≡ Ok x → Takes bytes from.1 (encoding_of_flag x.0) x.1.1 × IsNext from x.0 x.1
+unfolding flag_at encoding_of_flag
 flag_takes bytes from x fits e =
     let a = bind_ok (key_above_at from.0 bytes from.1) (λ key. changed_at bytes key.1 >>= λ changed. definition_at bytes changed.1 >>= λ text. Ok ((key.0, record { definition = text.0; changed = changed.0 }), (key.0, text.1))) x e in
     let key = a.0 in
@@ -83,20 +83,20 @@ flag_takes bytes from x fits e =
     let one = key_above_takes from.0 bytes from.1 key fits a.1 in
     let two = changed_takes bytes key.1 changed fits b.1 in
     let three = definition_takes bytes changed.1 text fits c.1 in
-    let behind = Takes-then bytes key.1 (to_be_bytes w64 changed.0) changed.1 (spelling_of_definition text.0) text.1 two.0 three.0 in
-    let all = Takes-then bytes from.1 (spelling_of_key key.0) key.1 (to_be_bytes w64 changed.0 ++ spelling_of_definition text.0) text.1 one.0 behind in
+    let behind = Takes-then bytes key.1 (to_be_bytes w64 changed.0) changed.1 (encoding_of_definition text.0) text.1 two.0 three.0 in
+    let all = Takes-then bytes from.1 (encoding_of_key key.0) key.1 (to_be_bytes w64 changed.0 ++ encoding_of_definition text.0) text.1 one.0 behind in
     let flag : Keyed = (key.0, record { definition = text.0; changed = changed.0 }) in
     let made : Keyed × (List ℕ × ℕ) = (flag, (key.0, text.1)) in
     let lawful : IsFlag flag = record { key = one.1; some = two.1; changed = two.2; text = three.1 } in
-    subst (λ (y : Keyed × (List ℕ × ℕ)). Takes bytes from.1 (spelling_of_key y.0.0 ++ (to_be_bytes w64 y.0.1.changed ++ spelling_of_definition y.0.1.definition)) y.1.1 × (IsFlag y.0 × (bytes_cmp from.0 y.0.0 ≡ Less) × (y.1.0 ≡ y.0.0)))
+    subst (λ (y : Keyed × (List ℕ × ℕ)). Takes bytes from.1 (encoding_of_key y.0.0 ++ (to_be_bytes w64 y.0.1.changed ++ encoding_of_definition y.0.1.definition)) y.1.1 × (IsFlag y.0 × (bytes_cmp from.0 y.0.0 ≡ Less) × (y.1.0 ≡ y.0.0)))
     {x = made} {y = x} (ok_is made x c.2) (all, (lawful, one.2, refl))
 
-flag_again : (bytes before : List ℕ) (at : ℕ) (flag : Keyed) (rest : List ℕ) → IsFlag flag → bytes_cmp before flag.0 ≡ Less → From bytes at (spelling_of_flag flag ++ rest) → (next : ℕ) × (flag_at bytes (before, at) ≡ Ok (flag, (flag.0, next))) × From bytes next rest
-unfolding flag_at spelling_of_flag
+flag_again : (bytes before : List ℕ) (at : ℕ) (flag : Keyed) (rest : List ℕ) → IsFlag flag → bytes_cmp before flag.0 ≡ Less → From bytes at (encoding_of_flag flag ++ rest) → (next : ℕ) × (flag_at bytes (before, at) ≡ Ok (flag, (flag.0, next))) × From bytes next rest
+unfolding flag_at encoding_of_flag
 flag_again bytes before at flag rest is less h =
-    let key = spelling_of_key flag.0 in
+    let key = encoding_of_key flag.0 in
     let changed = to_be_bytes w64 flag.1.changed in
-    let text = spelling_of_definition flag.1.definition in
+    let text = encoding_of_definition flag.1.definition in
     let regrouped : (key ++ (changed ++ text)) ++ rest ≡ key ++ (changed ++ (text ++ rest)) = append_assoc key (changed ++ text) rest ∙ ap (λ (t : List ℕ). key ++ t) (append_assoc changed text rest) in
     let one = key_above_again before bytes at flag.0 (changed ++ (text ++ rest)) is.key less (subst (λ (t : List ℕ). From bytes at t) regrouped h) in
     let two = changed_again bytes one.0 flag.1.changed (text ++ rest) is.some is.changed one.2 in
@@ -119,14 +119,14 @@ all_flags from (flag ∷ flags) to h =
     ((step.0, rest.0), (step.1, above_all from.0 flag.0 (keys flags) step.1 below), (below, rest.2))
 
 pub flags_take : (bytes : List ℕ) (n at : ℕ) (x : List Keyed × ℕ) → IsBytes bytes → at ≤ length bytes → flags_at n bytes at ≡ Ok x
-    → Takes bytes at (flat_map spelling_of_flag x.0) x.1 × (length x.0 ≡ n) × AllByRecursion IsFlag x.0 × IsStrictlySortedBy bytes_cmp (keys x.0)
+    → Takes bytes at (flat_map encoding_of_flag x.0) x.1 × (length x.0 ≡ n) × AllByRecursion IsFlag x.0 × IsStrictlySortedBy bytes_cmp (keys x.0)
 unfolding flags_at
 flags_take bytes n at x fits within e =
     let a = bind_ok (many_from (flag_at bytes) n ([], at)) (λ flags. Ok (flags.0, flags.1.1)) x e in
-    let all = many_take bytes (flag_at bytes) (λ from. from.1) spelling_of_flag IsNext (λ from y h. flag_takes bytes from y fits h) n ([], at) a.0 within a.1 in
+    let all = many_take bytes (flag_at bytes) (λ from. from.1) encoding_of_flag IsNext (λ from y h. flag_takes bytes from y fits h) n ([], at) a.0 within a.1 in
     let lawful = all_flags ([], at) a.0.0 a.0.1 all.2 in
     let made : List Keyed × ℕ = (a.0.0, a.0.1.1) in
-    subst (λ (y : List Keyed × ℕ). Takes bytes at (flat_map spelling_of_flag y.0) y.1 × (length y.0 ≡ n) × AllByRecursion IsFlag y.0 × IsStrictlySortedBy bytes_cmp (keys y.0))
+    subst (λ (y : List Keyed × ℕ). Takes bytes at (flat_map encoding_of_flag y.0) y.1 × (length y.0 ≡ n) × AllByRecursion IsFlag y.0 × IsStrictlySortedBy bytes_cmp (keys y.0))
     {x = made} {y = x} (ok_is made x a.2) (all.0, all.1, lawful.0, lawful.2)
 
 abbrev CanFollow : List ℕ × ℕ → List Keyed → Type 0
@@ -142,18 +142,18 @@ all_above_none [] h = tt
 all_above_none (flag ∷ flags) h = (above_none flag.0 h.0.key.long, all_above_none flags h.1)
 
 flags_again : (bytes : List ℕ) (at : ℕ) (flags : List Keyed) (rest : List ℕ) → AllByRecursion IsFlag flags → IsStrictlySortedBy bytes_cmp (keys flags)
-    → From bytes at (flat_map spelling_of_flag flags ++ rest) → (next : ℕ) × (flags_at (length flags) bytes at ≡ Ok (flags, next)) × From bytes next rest
+    → From bytes at (flat_map encoding_of_flag flags ++ rest) → (next : ℕ) × (flags_at (length flags) bytes at ≡ Ok (flags, next)) × From bytes next rest
 unfolding flags_at IsStrictlySortedBy
 flags_again bytes at flags rest is ascending h =
-    let all = many_again bytes (flag_at bytes) (λ from. from.1) spelling_of_flag CanFollow
+    let all = many_again bytes (flag_at bytes) (λ from. from.1) encoding_of_flag CanFollow
     (λ from flag more behind can stands. let one = flag_again bytes from.0 from.1 flag behind can.0.0 can.1.0 stands in ((flag.0, one.0), one.1, one.2, (can.0.1, can.2.0, can.2.1)))
     flags ([], at) rest (is, all_above_none flags is, ascending) h in
     (all.0.1, rw all.1 (refl {a = Ok (flags, all.0.1)}), all.2)
 
 -- ---- images
 
-pub image_takes : (bytes : List ℕ) (x : List Keyed × ℕ) → IsBytes bytes → image_at bytes ≡ Ok x → Takes bytes 0 (spelling_of_image x.0) x.1 × IsImage x.0
-unfolding image_at spelling_of_image
+pub image_takes : (bytes : List ℕ) (x : List Keyed × ℕ) → IsBytes bytes → image_at bytes ≡ Ok x → Takes bytes 0 (encoding_of_image x.0) x.1 × IsImage x.0
+unfolding image_at encoding_of_image
 image_takes bytes x fits e =
     let a = bind_ok (number_at w32 bytes 0) (λ count. cond (leb count.0 MOST_FLAGS) (flags_at count.0 bytes count.1) (Err 0)) x e in
     let count = a.0 in
@@ -162,37 +162,37 @@ image_takes bytes x fits e =
     let two = flags_take bytes count.0 count.1 x fits one.0.within m.1 in
     let counted : Takes bytes 0 (to_be_bytes w32 (length x.0)) count.1 = subst (λ (n : ℕ). Takes bytes 0 (to_be_bytes w32 n) count.1) (sym {a = length x.0} {b = count.0} two.1) one.0 in
     let few = leb-true count.0 MOST_FLAGS m.0 in (
-      Takes-then bytes 0 (to_be_bytes w32 (length x.0)) count.1 (flat_map spelling_of_flag x.0) x.1 counted two.0,
+      Takes-then bytes 0 (to_be_bytes w32 (length x.0)) count.1 (flat_map encoding_of_flag x.0) x.1 counted two.0,
       record { few = omega (arith, two.1); ascending = two.3; flags = two.2 },
     )
 
-pub image_again : (bytes : List ℕ) (image : List Keyed) (rest : List ℕ) → IsImage image → bytes ≡ spelling_of_image image ++ rest → (next : ℕ) × (image_at bytes ≡ Ok (image, next)) × From bytes next rest
-unfolding image_at spelling_of_image
+pub image_again : (bytes : List ℕ) (image : List Keyed) (rest : List ℕ) → IsImage image → bytes ≡ encoding_of_image image ++ rest → (next : ℕ) × (image_at bytes ≡ Ok (image, next)) × From bytes next rest
+unfolding image_at encoding_of_image
 image_again bytes image rest is e =
     let few = is.few in
-    let start : From bytes 0 (to_be_bytes w32 (length image) ++ (flat_map spelling_of_flag image ++ rest)) =
-    subst (λ (t : List ℕ). From bytes 0 t) (e ∙ append_assoc (to_be_bytes w32 (length image)) (flat_map spelling_of_flag image) rest) (From-start bytes) in
-    let one = number_again w32 (2 ^ 32) wide32 bytes 0 (length image) (flat_map spelling_of_flag image ++ rest) (omega arith) start in
+    let start : From bytes 0 (to_be_bytes w32 (length image) ++ (flat_map encoding_of_flag image ++ rest)) =
+    subst (λ (t : List ℕ). From bytes 0 t) (e ∙ append_assoc (to_be_bytes w32 (length image)) (flat_map encoding_of_flag image) rest) (From-start bytes) in
+    let one = number_again w32 (2 ^ 32) wide32 bytes 0 (length image) (flat_map encoding_of_flag image ++ rest) (omega arith) start in
     let two = flags_again bytes one.0 image rest is.flags is.ascending one.2 in
     (two.0, rw (one.1, le-leb (length image) MOST_FLAGS few, two.1) (refl {a = Ok (image, two.0)}), two.2)
 
-pub image_spelled : (bytes : List ℕ) (image : List Keyed) → IsBytes bytes → image_in bytes ≡ Ok image → IsImage image × (bytes ≡ spelling_of_image image)
+pub image_spelled : (bytes : List ℕ) (image : List Keyed) → IsBytes bytes → image_in bytes ≡ Ok image → IsImage image × (bytes ≡ encoding_of_image image)
 unfolding image_in
 image_spelled bytes image fits e =
     let w = whole_ok bytes (image_at bytes) image e in
     let t = image_takes bytes (image, length bytes) fits w in
-    (t.1, Takes-all bytes (spelling_of_image image) t.0)
+    (t.1, Takes-all bytes (encoding_of_image image) t.0)
 
-pub image_found : (bytes : List ℕ) (image : List Keyed) → IsImage image → bytes ≡ spelling_of_image image → image_in bytes ≡ Ok image
+pub image_found : (bytes : List ℕ) (image : List Keyed) → IsImage image → bytes ≡ encoding_of_image image → image_in bytes ≡ Ok image
 unfolding image_in
 image_found bytes image is e =
-    let w = image_again bytes image [] is (e ∙ sym (append-nil (spelling_of_image image))) in
+    let w = image_again bytes image [] is (e ∙ sym (append-nil (encoding_of_image image))) in
     whole_again bytes (image_at bytes) image w.0 w.1 w.2
 
 -- no spelling begins another
-pub image_alone : (v w : List Keyed) (x y : List ℕ) → IsImage v → IsImage w → spelling_of_image v ++ x ≡ spelling_of_image w ++ y → (v ≡ w) × (x ≡ y)
+pub image_alone : (v w : List Keyed) (x y : List ℕ) → IsImage v → IsImage w → encoding_of_image v ++ x ≡ encoding_of_image w ++ y → (v ≡ w) × (x ≡ y)
 image_alone v w x y is_v is_w e =
-    let bytes = spelling_of_image v ++ x in
+    let bytes = encoding_of_image v ++ x in
     let a = image_again bytes v x is_v refl in
     let b = image_again bytes w y is_w e in
     one_reading bytes (image_at bytes) v w a.0 b.0 x y a.1 b.1 a.2 b.2

@@ -8,40 +8,40 @@ use Rattle.fp_edit.specs.Edits.{put, delete}
 use Rattle.fp_edit.specs.Flags.{total_cost}
 use Rattle.fp_edit.specs.declared.flags.Flag.{Flag}
 use Rattle.fp_record.specs.Group.{Group}
-use Rattle.fp_record.specs.Spelling.{spelling_of_key, spelling_of_definition, spelling_of_change, spelling_of_batch, spelling_of_flag, spelling_of_image}
+use Rattle.fp_record.specs.Encoding.{encoding_of_key, encoding_of_definition, encoding_of_change, encoding_of_batch, encoding_of_flag, encoding_of_image}
 
-length-spelling_of_key : (key : List ℕ) → length (spelling_of_key key) ≡ 2 + length key
-unfolding spelling_of_key
-length-spelling_of_key key = length-append (to_be_bytes w16 (length key)) key
+length-encoding_of_key : (key : List ℕ) → length (encoding_of_key key) ≡ 2 + length key
+unfolding encoding_of_key
+length-encoding_of_key key = length-append (to_be_bytes w16 (length key)) key
 
-length-spelling_of_definition : (text : List ℕ) → length (spelling_of_definition text) ≡ 4 + length text
-unfolding spelling_of_definition
-length-spelling_of_definition text = length-append (to_be_bytes w32 (length text)) text
+length-encoding_of_definition : (text : List ℕ) → length (encoding_of_definition text) ≡ 4 + length text
+unfolding encoding_of_definition
+length-encoding_of_definition text = length-append (to_be_bytes w32 (length text)) text
 
-pub length-put : (key text : List ℕ) → length (spelling_of_change (put key text)) ≡ 7 + length key + length text
-unfolding spelling_of_change
-length-put key text = omega (arith, length-append (spelling_of_key key) (spelling_of_definition text), length-spelling_of_key key, length-spelling_of_definition text)
+pub length-put : (key text : List ℕ) → length (encoding_of_change (put key text)) ≡ 7 + length key + length text
+unfolding encoding_of_change
+length-put key text = omega (arith, length-append (encoding_of_key key) (encoding_of_definition text), length-encoding_of_key key, length-encoding_of_definition text)
 
-pub length-delete : (key : List ℕ) → length (spelling_of_change (delete key)) ≡ 3 + length key
-unfolding spelling_of_change
-length-delete key = omega (arith, length-spelling_of_key key)
+pub length-delete : (key : List ℕ) → length (encoding_of_change (delete key)) ≡ 3 + length key
+unfolding encoding_of_change
+length-delete key = omega (arith, length-encoding_of_key key)
 
-pub length-spelling_of_batch : (v : Group) → length (spelling_of_batch v) ≡ 10 + sum_by (λ c. length (spelling_of_change c)) v.changes
-unfolding spelling_of_batch
-length-spelling_of_batch v =
-    let all = flat_map spelling_of_change v.changes in
-    omega (arith, length-append (to_be_bytes w64 v.first) (to_be_bytes w16 (length v.changes) ++ all), length-append (to_be_bytes w16 (length v.changes)) all, length-flat_map spelling_of_change v.changes)
+pub length-encoding_of_batch : (v : Group) → length (encoding_of_batch v) ≡ 10 + sum_by (λ c. length (encoding_of_change c)) v.changes
+unfolding encoding_of_batch
+length-encoding_of_batch v =
+    let all = flat_map encoding_of_change v.changes in
+    omega (arith, length-append (to_be_bytes w64 v.first) (to_be_bytes w16 (length v.changes) ++ all), length-append (to_be_bytes w16 (length v.changes)) all, length-flat_map encoding_of_change v.changes)
 
-length-spelling_of_flag : (flag : List ℕ × Flag) → length (spelling_of_flag flag) ≡ 14 + length flag.0 + length flag.1.definition
-unfolding spelling_of_flag
-length-spelling_of_flag flag =
-    let text = spelling_of_definition flag.1.definition in
-    omega (arith, length-append (spelling_of_key flag.0) (to_be_bytes w64 flag.1.changed ++ text), length-append (to_be_bytes w64 flag.1.changed) text, length-spelling_of_key flag.0, length-spelling_of_definition flag.1.definition)
+length-encoding_of_flag : (flag : List ℕ × Flag) → length (encoding_of_flag flag) ≡ 14 + length flag.0 + length flag.1.definition
+unfolding encoding_of_flag
+length-encoding_of_flag flag =
+    let text = encoding_of_definition flag.1.definition in
+    omega (arith, length-append (encoding_of_key flag.0) (to_be_bytes w64 flag.1.changed ++ text), length-append (to_be_bytes w64 flag.1.changed) text, length-encoding_of_key flag.0, length-encoding_of_definition flag.1.definition)
 
-length-flags : (flags : List (List ℕ × Flag)) → length (flat_map spelling_of_flag flags) ≡ total_cost flags
+length-flags : (flags : List (List ℕ × Flag)) → length (flat_map encoding_of_flag flags) ≡ total_cost flags
 length-flags [] = refl
-length-flags (flag ∷ flags) = rw flat_map-cons (omega (arith, length-append (spelling_of_flag flag) (flat_map spelling_of_flag flags), length-spelling_of_flag flag, length-flags flags))
+length-flags (flag ∷ flags) = rw flat_map-cons (omega (arith, length-append (encoding_of_flag flag) (flat_map encoding_of_flag flags), length-encoding_of_flag flag, length-flags flags))
 
-pub length-spelling_of_image : (flags : List (List ℕ × Flag)) → length (spelling_of_image flags) ≡ 4 + total_cost flags
-unfolding spelling_of_image
-length-spelling_of_image flags = omega (arith, length-append (to_be_bytes w32 (length flags)) (flat_map spelling_of_flag flags), length-flags flags)
+pub length-encoding_of_image : (flags : List (List ℕ × Flag)) → length (encoding_of_image flags) ≡ 4 + total_cost flags
+unfolding encoding_of_image
+length-encoding_of_image flags = omega (arith, length-append (to_be_bytes w32 (length flags)) (flat_map encoding_of_flag flags), length-flags flags)

@@ -12,7 +12,7 @@ use Rattle.fp_definition.specs.declared.key.FlagKey.{FlagKey}
 use Rattle.fp_edit.specs.Entries.{entries_of}
 use Rattle.fp_edit.specs.Flags.{Flags, IsChangedBy}
 use Rattle.fp_edit.specs.declared.flags.Flag.{Flag}
-use Rattle.fp_record.specs.Lawful.{IsOrdered}
+use Rattle.fp_record.specs.WellFormed.{IsOrdered}
 use Rattle.fp_edit.specs.declared.flag_set.TheConstants.{MOST_FLAGS}
 
 first : (a b : Bool) → T (a && b) → T a

@@ -1,7 +1,7 @@
 pub mod Group
 pub mod Edits
 pub mod Fields
-pub mod Lawful
+pub mod WellFormed
 pub mod Laws
 pub mod Reading
-pub mod Spelling
+pub mod Encoding

@@ -7,9 +7,9 @@ ghost use Rattle.fp_record.specs.Group.{Group};
 ghost use Rattle.fp_record.specs.Edits.{change_of, changes_of};
 ghost use Rattle.fp_record.specs.Fields.{Tells};
 ghost use Rattle.fp_record.specs.declared.fault.RecordFault.TheVariants.{Memory};
-ghost use Rattle.fp_record.specs.Lawful.{IsBatch, IsChange};
+ghost use Rattle.fp_record.specs.WellFormed.{IsBatch, IsChange};
 ghost use Rattle.fp_record.specs.Reading.{change_at, put_at, delete_at, changes_at, batch_at, batch_in};
-ghost use Rattle.fp_record.specs.Spelling.{spelling_of_batch, spelling_of_change};
+ghost use Rattle.fp_record.specs.Encoding.{encoding_of_batch, encoding_of_change};
 
 use crate::fault::RecordFault;
 use crate::fields::{definition_from, key_from, u8_at, u16_at, u64_at};
@@ -84,7 +84,7 @@ impl Batch {
     /// The batch's spelling.
     pub fn encode(&self, alloc: Global) -> Result<Vec<u8>, AllocError>
         ensures lawful { IfOk result (λ _. IsBatch self.now) }
-        ensures spelled { IfOk result (λ bytes. bytes.items ≡ spelling_of_batch self.now) }
+        ensures spelled { IfOk result (λ bytes. bytes.items ≡ encoding_of_batch self.now) }
     {
         spelled(alloc, self.first, &self.edits)
     }
@@ -92,9 +92,9 @@ impl Batch {
     /// The batch that the bytes spell, all of them.
     pub fn decode(alloc: Global, bytes: &[u8]) -> Result<Batch, RecordFault>
         ensures spelled { IfOk result (λ batch.
-            IsBatch batch × (bytes.now ≡ spelling_of_batch batch)) }
+            IsBatch batch × (bytes.now ≡ encoding_of_batch batch)) }
         // What spells a batch is decoded, unless memory runs out.
-        ensures found { (batch : Group) → IsBatch batch → bytes.now ≡ spelling_of_batch batch
+        ensures found { (batch : Group) → IsBatch batch → bytes.now ≡ encoding_of_batch batch
             → (result ≡ Ok batch) ⊎ (result ≡ Err Memory) }
         // Where the first fault is.
         ensures place { Gives (λ batch. batch) Tells result (batch_in bytes.now) }
@@ -104,8 +104,8 @@ impl Batch {
 }
 
 /// How many bytes an edit takes in a batch.
-pub fn spelled_len(edit: &Edit) -> usize
-    ensures len { result ≡ length (spelling_of_change (change_of edit.now)) }
+pub fn encoded_len(edit: &Edit) -> usize
+    ensures len { result ≡ length (encoding_of_change (change_of edit.now)) }
     ensures small { result ≤ LONGEST_EDIT }
 {
     match edit {
@@ -114,10 +114,10 @@ pub fn spelled_len(edit: &Edit) -> usize
     }
 }
 
-#[tactic(auto, unfolding(crate::specs::Spelling::spelling_of_change))]
+#[tactic(auto, unfolding(crate::specs::Spelling::encoding_of_change))]
 fn put_edit(out: &mut Vec<u8>, edit: &Edit) -> Result<(), AllocError>
     ensures written { OnOk result
-        (out.new.items ≡ out.old.items ++ spelling_of_change (change_of edit.now)) }
+        (out.new.items ≡ out.old.items ++ encoding_of_change (change_of edit.now)) }
     ensures lawful { OnOk result (IsChange (change_of edit.now)) }
 {
     match edit {
@@ -137,7 +137,7 @@ fn spelled(alloc: Global, first: u64, edits: &[Edit]) -> Result<Vec<u8>, AllocEr
     requires { length edits.now ≤ MOST_EDITS }
     ensures changes { IfOk result (λ _. AllByRecursion IsChange (changes_of edits.now)) }
     ensures spelled { IfOk result (λ bytes.
-        bytes.items ≡ spelling_of_batch
+        bytes.items ≡ encoding_of_batch
         (record { first = first; changes = changes_of edits.now })) }
 {
     let mut out = Vec::new(alloc);

@@ -12,9 +12,9 @@ ghost use Rattle.fp_edit.specs.Entries.{entry_of, entries_of};
 ghost use Rattle.fp_edit.specs.declared.flags.Flag.{Flag};
 ghost use Rattle.fp_record.specs.declared.fault.RecordFault.TheVariants.{Memory};
 ghost use Rattle.fp_record.specs.Fields.{Tells, key_at};
-ghost use Rattle.fp_record.specs.Lawful.{IsFlag, IsImage, IsOrdered};
+ghost use Rattle.fp_record.specs.WellFormed.{IsFlag, IsImage, IsOrdered};
 ghost use Rattle.fp_record.specs.Reading.{key_above_at, changed_at, flag_at, flags_at, image_at, image_in};
-ghost use Rattle.fp_record.specs.Spelling.{spelling_of_image, spelling_of_flag};
+ghost use Rattle.fp_record.specs.Encoding.{encoding_of_image, encoding_of_flag};
 
 use crate::fault::RecordFault;
 use crate::fields::{definition_from, key_of, key_text_at, u32_at, u64_at};
@@ -36,7 +36,7 @@ impl Model for Image {
     ghost use Rattle.fp_edit.specs.Entries.{entries_of};
     ghost use Rattle.fp_edit.specs.Flags.{coded_flag};
     ghost use Rattle.fp_edit.specs.declared.flags.Flag.{Flag};
-    ghost use Rattle.fp_record.specs.Lawful.{IsOrdered};
+    ghost use Rattle.fp_record.specs.WellFormed.{IsOrdered};
 
     ghost Value = { List (List ℕ × Flag) };
 
@@ -83,7 +83,7 @@ impl Image {
     /// The image's spelling.
     pub fn encode(&self, alloc: Global) -> Result<Vec<u8>, AllocError>
         ensures lawful { IfOk result (λ _. IsImage self.now) }
-        ensures spelled { IfOk result (λ bytes. bytes.items ≡ spelling_of_image self.now) }
+        ensures spelled { IfOk result (λ bytes. bytes.items ≡ encoding_of_image self.now) }
     {
         spelled(alloc, &self.flags)
     }
@@ -91,10 +91,10 @@ impl Image {
     /// The image that the bytes spell, all of them.
     pub fn decode(alloc: Global, bytes: &[u8]) -> Result<Image, RecordFault>
         ensures spelled { IfOk result (λ image.
-            IsImage image × (bytes.now ≡ spelling_of_image image)) }
+            IsImage image × (bytes.now ≡ encoding_of_image image)) }
         // What spells an image is decoded, unless memory runs out.
         ensures found { (image : List (List ℕ × Flag)) → IsImage image
-            → bytes.now ≡ spelling_of_image image → (result ≡ Ok image) ⊎ (result ≡ Err Memory) }
+            → bytes.now ≡ encoding_of_image image → (result ≡ Ok image) ⊎ (result ≡ Err Memory) }
         // Where the first fault is.
         ensures place { Gives (λ image. image) Tells result (image_in bytes.now) }
     {
@@ -122,10 +122,10 @@ fn shared(alloc: Global, set: &FlagSet) -> Result<Vec<(FlagKey, Flag)>, AllocErr
     Ok(flags)
 }
 
-#[tactic(auto, unfolding(crate::specs::Spelling::spelling_of_flag))]
+#[tactic(auto, unfolding(crate::specs::Spelling::encoding_of_flag))]
 fn put_flag(out: &mut Vec<u8>, key: &FlagKey, flag: &Flag) -> Result<(), AllocError>
     ensures written { OnOk result
-        (out.new.items ≡ out.old.items ++ spelling_of_flag (key_bytes key.now, flag.now)) }
+        (out.new.items ≡ out.old.items ++ encoding_of_flag (key_bytes key.now, flag.now)) }
     ensures lawful { OnOk result (0 < flag.now.changed → IsFlag (key_bytes key.now, flag.now)) }
 {
     put_key(out, key)?;
@@ -137,7 +137,7 @@ fn spelled(alloc: Global, flags: &[(FlagKey, Flag)]) -> Result<Vec<u8>, AllocErr
     requires { IsOrdered (entries_of flags.now) }
     ensures lawful { IfOk result (λ _. IsImage (entries_of flags.now)) }
     ensures spelled { IfOk result (λ bytes.
-        bytes.items ≡ spelling_of_image (entries_of flags.now)) }
+        bytes.items ≡ encoding_of_image (entries_of flags.now)) }
 {
     let mut out = Vec::new(alloc);
     put_u32(&mut out, flags.len() as u32)?;

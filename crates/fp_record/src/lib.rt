@@ -8,7 +8,7 @@ mod image;
 mod laws;
 mod writing;
 
-pub use batch::{Batch, LONGEST_EDIT, MOST_EDITS, spelled_len};
+pub use batch::{Batch, LONGEST_EDIT, MOST_EDITS, encoded_len};
 pub use fault::RecordFault;
 pub use image::Image;
 pub use laws::{

@@ -3,8 +3,8 @@
 ghost use Rattle.std.specs.Prelude.{◌≡◌, ◌++◌, true, OnOk};
 ghost use Rattle.std.specs.Int.{w16, w32, w64, to_be_bytes};
 ghost use Rattle.fp_definition.specs.Key.{key_bytes};
-ghost use Rattle.fp_record.specs.Lawful.{IsKey, IsText};
-ghost use Rattle.fp_record.specs.Spelling.{spelling_of_key, spelling_of_definition};
+ghost use Rattle.fp_record.specs.WellFormed.{IsKey, IsText};
+ghost use Rattle.fp_record.specs.Encoding.{encoding_of_key, encoding_of_definition};
 
 use byteorder::{BigEndian, ByteOrder};
 use fp_definition::{Definition, FlagKey};
@@ -35,10 +35,10 @@ pub fn put_u64(out: &mut Vec<u8>, number: u64) -> Result<(), AllocError>
 }
 
 /// A key behind its length.
-#[tactic(auto, unfolding(crate::specs::Spelling::spelling_of_key))]
+#[tactic(auto, unfolding(crate::specs::Spelling::encoding_of_key))]
 pub fn put_key(out: &mut Vec<u8>, key: &FlagKey) -> Result<(), AllocError>
     ensures written { OnOk result
-        (out.new.items ≡ out.old.items ++ spelling_of_key (key_bytes key.now)) }
+        (out.new.items ≡ out.old.items ++ encoding_of_key (key_bytes key.now)) }
     ensures lawful { IsKey (key_bytes key.now) }
 {
     let text = key.as_str();
@@ -47,10 +47,10 @@ pub fn put_key(out: &mut Vec<u8>, key: &FlagKey) -> Result<(), AllocError>
 }
 
 /// A definition's canonical text behind its length.
-#[tactic(auto, unfolding(crate::specs::Spelling::spelling_of_definition))]
+#[tactic(auto, unfolding(crate::specs::Spelling::encoding_of_definition))]
 pub fn put_definition(out: &mut Vec<u8>, definition: &Definition) -> Result<(), AllocError>
     ensures written { OnOk result
-        (out.new.items ≡ out.old.items ++ spelling_of_definition definition.now) }
+        (out.new.items ≡ out.old.items ++ encoding_of_definition definition.now) }
     ensures lawful { IsText definition.now }
 {
     let text = definition.text();

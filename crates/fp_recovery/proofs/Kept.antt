@@ -4,12 +4,12 @@ use Rattle.std.specs.Prelude.{◌↔◌, Bool, true, false, IsTrue, slice_index,
 use Rattle.std.proofs.lemmas.List.{append-nil, ext_get_or}
 use Rattle.std.specs.FinMap as fin
 use Rattle.std.specs.List.Sorted.{IsStrictlySortedBy}
-use Rattle.fp_disk.specs.Outcomes.{Unsynced, IsOutcome, LeavesOnly, settled}
+use Rattle.fp_disk.specs.Outcomes.{PendingState, IsOutcome, LeavesOnly, all_synced}
 use Rattle.fp_disk.specs.Moments.{leaves_both, leaves_map, leaves_still}
 use Rattle.fp_edit.specs.Admits.{Admits, accepted}
 use Rattle.fp_edit.specs.Edits.{Change, Proposal}
 use Rattle.fp_edit.specs.Flags.{State}
-use Rattle.fp_journal.specs.Holds.{Holds, IsFirm}
+use Rattle.fp_journal.specs.Holds.{Holds, IsSynced}
 use Rattle.fp_journal.specs.Chain.{Ends, spell}
 use Rattle.fp_journal.specs.Reading.{IsChain, Reads}
 use Rattle.fp_journal.specs.Moments.{KeepsFirm}
@@ -23,17 +23,17 @@ use Rattle.fp_layout.specs.Layout.{IsHeader, IsFirstSlot}
 use Rattle.fp_layout.specs.NewDisk.{IsNewDisk, IsNewOrNone, header_text, new_front, empty_image}
 use Rattle.fp_layout.specs.Opening.{FoundDisk}
 use Rattle.fp_layout.proofs.Making.{new_header, new_slot}
-use Rattle.fp_record.specs.Lawful.{IsImage}
-use Rattle.fp_record.specs.Spelling.{spelling_of_image}
+use Rattle.fp_record.specs.WellFormed.{IsImage}
+use Rattle.fp_record.specs.Encoding.{encoding_of_image}
 use Rattle.fp_recovery.specs.Admitting.{StandsForEither}
 use Rattle.fp_recovery.specs.Stands.{IsImageOf, TakesBatch, StandsFor}
 use Rattle.fp_recovery.specs.Refusals.{BeginsWith}
-use Rattle.fp_recovery.specs.Durable.{IsKept, IsNewSetOrNone, IsSure}
+use Rattle.fp_recovery.specs.Durable.{IsKept, IsNewSetOrNone, IsDurable}
 use Rattle.fp_recovery.specs.Room.{batch_len, HasNoRoom, IsFullFor}
 use Rattle.fp_recovery.proofs.Restored.{image_of, entries-empty}
 use Rattle.fp_recovery.proofs.Agreed.{Agrees, agrees_range, header_agreed, slot_agreed, holds_agreed, chain_behind, spell-append}
 
-module _ {D : Type 0} (u : Unsynced) (set : State) (journal : JournalState D) (k : IsKept u set journal) where
+module _ {D : Type 0} (u : PendingState) (set : State) (journal : JournalState D) (k : IsKept u set journal) where
   abbrev Bytes : List ℕ
   Bytes = k.bytes
 
@@ -90,8 +90,8 @@ module _ {D : Type 0} (u : Unsynced) (set : State) (journal : JournalState D) (k
   gate_apart = let stop : journal.slot.stop ≡ 64 + k.size = ap (λ (s : Slot). s.stop) k.slot_is in inr (omega (arith, stop))
 
   -- one batch more was sealed
-  pub kept_more : (v : Unsynced) (t : State) (later : JournalState D) (b : List ℕ) → TakesBatch set b t → length b ≤ journal.slot.most → later.slot ≡ journal.slot → later.front ≡ journal.front → later.sealed ≡ journal.sealed ++ b ∷ []
-      → ((at : ℕ) (text : List ℕ) → Outside journal.slot at (length text) → IsFirm u at text → IsFirm v at text) → IsKept v t later
+  pub kept_more : (v : PendingState) (t : State) (later : JournalState D) (b : List ℕ) → TakesBatch set b t → length b ≤ journal.slot.most → later.slot ≡ journal.slot → later.front ≡ journal.front → later.sealed ≡ journal.sealed ++ b ∷ []
+      → ((at : ℕ) (text : List ℕ) → Outside journal.slot at (length text) → IsSynced u at text → IsSynced v at text) → IsKept v t later
   kept_more v t later b takes short slot front sealed firm =
       let most : journal.slot.most ≡ (first_slot k.size).most = ap (λ (s : Slot). s.most) k.slot_is in
       let fits : length b ≤ (first_slot k.size).most = subst (λ (n : ℕ). length b ≤ n) most short in
@@ -119,7 +119,7 @@ module _ {D : Type 0} (u : Unsynced) (set : State) (journal : JournalState D) (k
 
 -- ---- a batch on its way
 -- whatever a crash leaves stands for the set, or for what the batch makes of it
-pub either_stands : {D : Type 0} (u : Unsynced) (set t : State) (journal : JournalState D) (b : List ℕ) (k : IsKept u set journal) → TakesBatch set b t → length b ≤ journal.slot.most
+pub either_stands : {D : Type 0} (u : PendingState) (set t : State) (journal : JournalState D) (b : List ℕ) (k : IsKept u set journal) → TakesBatch set b t → length b ≤ journal.slot.most
     → (c : List ℕ) → Holds c 0 (slice_range k.bytes 0 64) → Holds c (64 + k.size) (slice_index k.bytes (64 + k.size) ∷ []) → HasChainOrNext journal.slot journal.front journal.sealed b c → StandsFor c set ⊎ StandsFor c t
 unfolding kept_more
 either_stands u set t journal b k takes short c head gate (inl chain) = inl (held_stands u set journal k c head gate chain)
@@ -129,24 +129,24 @@ either_stands {D} u set t journal b k takes short c head gate (inr chain) =
     inr (held_stands u t later more c head gate chain)
 
 -- and no time goes by where nothing is done
-pub still_leaves : {D : Type 0} (moment : D → ℕ) (left_since : D → ℕ → List ℕ → Type 0) (unsynced : D → Unsynced) (disk : D) (set : State) (edit : Proposal) (journal : JournalState D) → IsKept (unsynced disk) set journal
-    → ((c : List ℕ) → left_since disk (moment disk) c → IsOutcome (unsynced disk) c) → ((c : List ℕ) → IsOutcome (unsynced disk) c → HasChain journal.slot journal.front journal.sealed c)
-    → LeavesOnly moment left_since disk disk (StandsForEither set edit)
-still_leaves moment left_since unsynced disk set edit journal k now chain =
-    leaves_still moment left_since disk (StandsForEither set edit) (λ c left. inl (kept_stands (unsynced disk) set journal k c (now c left) (chain c (now c left))))
+pub still_leaves : {D : Type 0} (moment : D → ℕ) (crash_states_since : D → ℕ → List ℕ → Type 0) (unsynced : D → PendingState) (disk : D) (set : State) (edit : Proposal) (journal : JournalState D) → IsKept (unsynced disk) set journal
+    → ((c : List ℕ) → crash_states_since disk (moment disk) c → IsOutcome (unsynced disk) c) → ((c : List ℕ) → IsOutcome (unsynced disk) c → HasChain journal.slot journal.front journal.sealed c)
+    → LeavesOnly moment crash_states_since disk disk (StandsForEither set edit)
+still_leaves moment crash_states_since unsynced disk set edit journal k now chain =
+    leaves_still moment crash_states_since disk (StandsForEither set edit) (λ c left. inl (kept_stands (unsynced disk) set journal k c (now c left) (chain c (now c left))))
 
 -- at each moment, where the batch is an edit
-pub either_leaves : {D : Type 0} (moment : D → ℕ) (left_since : D → ℕ → List ℕ → Type 0) (unsynced : D → Unsynced) (old new : D) (set t : State) (edit : Proposal) (journal : JournalState D) (b : List ℕ) → IsKept (unsynced old) set journal
-    → Admits set edit (accepted t) → TakesBatch set b t → length b ≤ journal.slot.most → LeavesOnly moment left_since old new (HasChainOrNext journal.slot journal.front journal.sealed b)
-    → KeepsFirm moment left_since unsynced old new (Outside journal.slot) → LeavesOnly moment left_since old new (StandsForEither set edit)
-either_leaves moment left_since unsynced old new set t edit journal b k admits takes short chain apart =
+pub either_leaves : {D : Type 0} (moment : D → ℕ) (crash_states_since : D → ℕ → List ℕ → Type 0) (unsynced : D → PendingState) (old new : D) (set t : State) (edit : Proposal) (journal : JournalState D) (b : List ℕ) → IsKept (unsynced old) set journal
+    → Admits set edit (accepted t) → TakesBatch set b t → length b ≤ journal.slot.most → LeavesOnly moment crash_states_since old new (HasChainOrNext journal.slot journal.front journal.sealed b)
+    → KeepsFirm moment crash_states_since unsynced old new (Outside journal.slot) → LeavesOnly moment crash_states_since old new (StandsForEither set edit)
+either_leaves moment crash_states_since unsynced old new set t edit journal b k admits takes short chain apart =
     let u = unsynced old in let header = slice_range k.bytes 0 64 in let gate = slice_index k.bytes (64 + k.size) ∷ [] in
     let Head : List ℕ → Type 0 = λ c. Holds c 0 header in let Gate : List ℕ → Type 0 = λ c. Holds c (64 + k.size) gate in
     let Chain : List ℕ → Type 0 = λ c. HasChainOrNext journal.slot journal.front journal.sealed b c in
     let head = (apart 0 header (header_apart u set journal k) k.header_firm).1 in let shut = (apart (64 + k.size) gate (gate_apart u set journal k) k.gate_firm).1 in
-    leaves_map moment left_since old new (λ c. Chain c × (Head c × Gate c)) (StandsForEither set edit)
+    leaves_map moment crash_states_since old new (λ c. Chain c × (Head c × Gate c)) (StandsForEither set edit)
     (λ c p. ⊎_elim (λ before. inl before) (λ after. inr (t, admits, after)) (either_stands u set t journal b k takes short c p.1.0 p.1.1 p.0))
-    (leaves_both moment left_since old new Chain (λ c. Head c × Gate c) chain (leaves_both moment left_since old new Head Gate head shut))
+    (leaves_both moment crash_states_since old new Chain (λ c. Head c × Gate c) chain (leaves_both moment crash_states_since old new Head Gate head shut))
 
 -- ---- room
 pub has_room : {D : Type 0} (journal : JournalState D) (change : Change) (b : Bool) → (IsTrue b ↔ HasNoRoom journal change) → b ≡ false → (batch_len change ≤ journal.slot.most) × (6 + batch_len change ≤ room journal)
@@ -174,7 +174,7 @@ module _ (c : List ℕ) (before set : State) (slot : Slot) (front : List ℕ) (f
     leads = f.chain.reads;
   }
 
-  pub found_kept : {D : Type 0} (u : Unsynced) (journal : JournalState D) → journal.slot ≡ slot → journal.front ≡ front → journal.sealed ≡ [] → u ≡ settled c → IsKept u set journal
+  pub found_kept : {D : Type 0} (u : PendingState) (journal : JournalState D) → journal.slot ≡ slot → journal.front ≡ front → journal.sealed ≡ [] → u ≡ all_synced c → IsKept u set journal
   found_kept u journal slot_is front_is none sure =
       let long = f.begun.header.long in let bodies = f.chain.bodies in let all : bodies ≡ bodies ++ journal.sealed = sym (append-nil bodies) ∙ ap (λ (l : List (List ℕ)). bodies ++ l) (sym none) in
       record {
@@ -194,18 +194,18 @@ module _ (c : List ℕ) (before set : State) (slot : Slot) (front : List ℕ) (f
         opened_there = subst (λ (n : ℕ). Holds c n (spell bodies)) f.begun.place (holds_front c f.at (spell bodies) (f.chain.chain.ends.gate ∷ []) f.chain.chain.ends.holds);
         short = subst (λ (l : List (List ℕ)). AllShort (first_slot f.size).most l) all f.chain.chain.short;
         leads = subst (λ (l : List (List ℕ)). Reads TakesBatch f.middle l set) all f.chain.reads;
-        header_firm = subst (λ (v : Unsynced). IsFirm v 0 (slice_range c 0 64)) (sym sure) (firm_settled c 0 (slice_range c 0 64) (held_range c 0 64 (omega (arith, long))).0);
-        gate_firm = subst (λ (v : Unsynced). IsFirm v (64 + f.size) (slice_index c (64 + f.size) ∷ [])) (sym sure) (firm_settled c (64 + f.size) (slice_index c (64 + f.size) ∷ []) (holds_byte c (64 + f.size) (omega (arith, long))));
+        header_firm = subst (λ (v : PendingState). IsSynced v 0 (slice_range c 0 64)) (sym sure) (firm_settled c 0 (slice_range c 0 64) (held_range c 0 64 (omega (arith, long))).0);
+        gate_firm = subst (λ (v : PendingState). IsSynced v (64 + f.size) (slice_index c (64 + f.size) ∷ [])) (sym sure) (firm_settled c (64 + f.size) (slice_index c (64 + f.size) ∷ []) (holds_byte c (64 + f.size) (omega (arith, long))));
       }
 
 -- after a sync a crash leaves what a read gives
-pub settled_one : (b c : List ℕ) → IsOutcome (settled b) c → c ≡ b
+pub settled_one : (b c : List ℕ) → IsOutcome (all_synced b) c → c ≡ b
 settled_one b c o =
     let low = o.no_shorter in let high = o.no_longer in let len : length c ≡ length b = omega (arith, low, high) in
     ext_get_or 0 c b len (λ k lt. o.kept k (omega (arith, lt, len)) (λ none. none))
 
-pub settled_sure : (u : Unsynced) (c : List ℕ) (set : State) → u ≡ settled c → StandsFor c set → IsSure u set
-settled_sure u c set sure stands = λ o left. subst (λ (x : List ℕ). StandsFor x set) (sym (settled_one c o (subst (λ (v : Unsynced). IsOutcome v o) sure left))) stands
+pub settled_sure : (u : PendingState) (c : List ℕ) (set : State) → u ≡ all_synced c → StandsFor c set → IsDurable u set
+settled_sure u c set sure stands = λ o left. subst (λ (x : List ℕ). StandsFor x set) (sym (settled_one c o (subst (λ (v : PendingState). IsOutcome v o) sure left))) stands
 
 -- ---- a new disk
 abbrev pub new_set : ℕ → State
@@ -215,8 +215,8 @@ no_image : IsImage []
 unfolding IsStrictlySortedBy
 no_image = record { few = lit≤ tt; ascending = tt; flags = tt }
 
-empty_spelled : empty_image ≡ spelling_of_image []
-unfolding spelling_of_image
+empty_spelled : empty_image ≡ encoding_of_image []
+unfolding encoding_of_image
 empty_spelled = refl
 
 pub new_image : (size : ℕ) → IsSlotSize size → IsImageOf 0 (size / 2) empty_image (new_set size)
@@ -230,7 +230,7 @@ module _ (size : ℕ) (c : List ℕ) (allowed : IsSlotSize size) (made : IsNewDi
   nothing_there : Holds c 90 []
   nothing_there = let long = header.long in let least = allowed.least in record { long = omega (arith, long, least); same = λ k lt. absurd (omega (arith, lt)) }
 
-  pub new_kept : {D : Type 0} (u : Unsynced) (journal : JournalState D) → journal.slot ≡ first_slot size → journal.front ≡ new_front → journal.sealed ≡ [] → u ≡ settled c → IsKept u (new_set size) journal
+  pub new_kept : {D : Type 0} (u : PendingState) (journal : JournalState D) → journal.slot ≡ first_slot size → journal.front ≡ new_front → journal.sealed ≡ [] → u ≡ all_synced c → IsKept u (new_set size) journal
   new_kept u journal slot_is front_is none sure = let long = header.long in record {
     bytes = c;
     size = size;
@@ -248,8 +248,8 @@ module _ (size : ℕ) (c : List ℕ) (allowed : IsSlotSize size) (made : IsNewDi
     opened_there = nothing_there;
     short = subst (λ (l : List (List ℕ)). AllShort (first_slot size).most l) (sym none) tt;
     leads = subst (λ (l : List (List ℕ)). Reads TakesBatch (new_set size) l (new_set size)) (sym none) refl;
-    header_firm = subst (λ (v : Unsynced). IsFirm v 0 (slice_range c 0 64)) (sym sure) (firm_settled c 0 (slice_range c 0 64) (held_range c 0 64 (omega (arith, long))).0);
-    gate_firm = subst (λ (v : Unsynced). IsFirm v (64 + size) (slice_index c (64 + size) ∷ [])) (sym sure) (firm_settled c (64 + size) (slice_index c (64 + size) ∷ []) (holds_byte c (64 + size) (omega (arith, long))));
+    header_firm = subst (λ (v : PendingState). IsSynced v 0 (slice_range c 0 64)) (sym sure) (firm_settled c 0 (slice_range c 0 64) (held_range c 0 64 (omega (arith, long))).0);
+    gate_firm = subst (λ (v : PendingState). IsSynced v (64 + size) (slice_index c (64 + size) ∷ [])) (sym sure) (firm_settled c (64 + size) (slice_index c (64 + size) ∷ []) (holds_byte c (64 + size) (omega (arith, long))));
   }
 
   pub new_stands : StandsFor c (new_set size)

@@ -15,7 +15,7 @@ use Rattle.fp_layout.specs.Size.{first_slot}
 use Rattle.fp_layout.specs.Layout.{IsHeader, IsFirstSlot}
 use Rattle.fp_record.proofs.Images.{image_alone}
 use Rattle.fp_record.proofs.Batches.{batch_alone}
-use Rattle.fp_record.specs.Spelling.{spelling_of_image, spelling_of_batch}
+use Rattle.fp_record.specs.Encoding.{encoding_of_image, encoding_of_batch}
 use Rattle.fp_record.specs.Group.{Group}
 use Rattle.fp_recovery.specs.Stands.{IsImageOf, TakesBatch, StandsFor, Leads}
 use Rattle.fp_recovery.proofs.Restored.{leads_one}
@@ -48,13 +48,13 @@ same_state s t f r l =
 
 pub image_one : (base limit : ℕ) (bytes : List ℕ) (s t : State) → IsImageOf base limit bytes s → IsImageOf base limit bytes t → s ≡ t
 image_one base limit bytes s t p q =
-    let entries = (image_alone (fin.entries s.flags) (fin.entries t.flags) [] [] p.lawful q.lawful (append-nil (spelling_of_image (fin.entries s.flags)) ∙ (sym p.spelled ∙ q.spelled) ∙ sym (append-nil (spelling_of_image (fin.entries t.flags))))).0 in
+    let entries = (image_alone (fin.entries s.flags) (fin.entries t.flags) [] [] p.lawful q.lawful (append-nil (encoding_of_image (fin.entries s.flags)) ∙ (sym p.spelled ∙ q.spelled) ∙ sym (append-nil (encoding_of_image (fin.entries t.flags))))).0 in
     same_state s t (fin.same_entries_map s.flags t.flags entries) (p.revision_is ∙ sym q.revision_is) (p.limit_is ∙ sym q.limit_is)
 
 -- ---- batches
 pub batch_one : (s t u : State) (bytes : List ℕ) → TakesBatch s bytes t → TakesBatch s bytes u → t ≡ u
 batch_one s t u bytes p q =
-    let same = (batch_alone p.group q.group [] [] p.lawful q.lawful (append-nil (spelling_of_batch p.group) ∙ (sym p.spelled ∙ q.spelled) ∙ sym (append-nil (spelling_of_batch q.group)))).0 in
+    let same = (batch_alone p.group q.group [] [] p.lawful q.lawful (append-nil (encoding_of_batch p.group) ∙ (sym p.spelled ∙ q.spelled) ∙ sym (append-nil (encoding_of_batch q.group)))).0 in
     leads_one s q.group.changes t u (subst (λ (g : Group). Leads s g.changes t) same p.leads) q.leads
 
 pub reads_one : (s t u : State) (bodies : List (List ℕ)) → Reads TakesBatch s bodies t → Reads TakesBatch s bodies u → t ≡ u

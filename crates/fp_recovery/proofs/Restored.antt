@@ -13,11 +13,11 @@ use Rattle.fp_journal.specs.Reading.{IsWrong}
 use Rattle.fp_journal.specs.declared.chain.BodyFault.{BodyFault}
 use Rattle.fp_journal.specs.declared.chain.BodyFault.TheVariants.{BadBody, Memory}
 use Rattle.fp_record.specs.Group.{Group}
-use Rattle.fp_record.specs.Lawful.{IsImage, IsBatch}
-use Rattle.fp_record.specs.Spelling.{spelling_of_image, spelling_of_batch}
+use Rattle.fp_record.specs.WellFormed.{IsImage, IsBatch}
+use Rattle.fp_record.specs.Encoding.{encoding_of_image, encoding_of_batch}
 use Rattle.fp_record.proofs.Batches.{batch_alone}
 use Rattle.fp_record.proofs.Images.{image_alone}
-use Rattle.fp_record.proofs.Lengths.{length-spelling_of_image}
+use Rattle.fp_record.proofs.Lengths.{length-encoding_of_image}
 use Rattle.std.proofs.Math.Seq.{take-suc}
 use Rattle.fp_definition.specs.Key.{key_bytes}
 use Rattle.fp_definition.specs.declared.key.FlagKey.{FlagKey}
@@ -113,21 +113,21 @@ pub All-next : (P : List ℕ × Flag → Type 0) (front : List (List ℕ × Flag
 All-next P front e rest all is h = (All-right P front (e ∷ rest) (subst (AllByRecursion P) (sym is) h)).0
 
 pub image_within : (base limit : ℕ) (bytes : List ℕ) (s : State) → IsImageOf base limit bytes s → length bytes ≤ limit
-image_within base limit bytes s h = let len = ap length h.spelled ∙ length-spelling_of_image (fin.entries s.flags) in let le = h.here.within in omega (arith, len, le)
+image_within base limit bytes s h = let len = ap length h.spelled ∙ length-encoding_of_image (fin.entries s.flags) in let le = h.here.within in omega (arith, len, le)
 
-pub image_of : (base limit : ℕ) (bytes : List ℕ) (image : List (List ℕ × Flag)) (s : State) → IsImage image → bytes ≡ spelling_of_image image → IsImageAt base limit image → fin.entries s.flags ≡ image → s.revision ≡ base → s.limit ≡ limit → IsImageOf base limit bytes s
+pub image_of : (base limit : ℕ) (bytes : List ℕ) (image : List (List ℕ × Flag)) (s : State) → IsImage image → bytes ≡ encoding_of_image image → IsImageAt base limit image → fin.entries s.flags ≡ image → s.revision ≡ base → s.limit ≡ limit → IsImageOf base limit bytes s
 image_of base limit bytes image s lawful spelled here is revision limit_is = record {
   lawful = subst (λ (es : List (List ℕ × Flag)). IsImage es) (sym is) lawful;
-  spelled = spelled ∙ ap spelling_of_image (sym is);
+  spelled = spelled ∙ ap encoding_of_image (sym is);
   here = subst (λ (es : List (List ℕ × Flag)). IsImageAt base limit es) (sym is) here;
   revision_is = revision;
   limit_is = limit_is;
 }
 
-pub same_image : (base limit : ℕ) (bytes : List ℕ) (image : List (List ℕ × Flag)) (s : State) → IsImage image → bytes ≡ spelling_of_image image → IsImageOf base limit bytes s → fin.entries s.flags ≡ image
-same_image base limit bytes image s lawful spelled h = (image_alone (fin.entries s.flags) image [] [] h.lawful lawful (append-nil (spelling_of_image (fin.entries s.flags)) ∙ (sym h.spelled ∙ spelled) ∙ sym (append-nil (spelling_of_image image)))).0
+pub same_image : (base limit : ℕ) (bytes : List ℕ) (image : List (List ℕ × Flag)) (s : State) → IsImage image → bytes ≡ encoding_of_image image → IsImageOf base limit bytes s → fin.entries s.flags ≡ image
+same_image base limit bytes image s lawful spelled h = (image_alone (fin.entries s.flags) image [] [] h.lawful lawful (append-nil (encoding_of_image (fin.entries s.flags)) ∙ (sym h.spelled ∙ spelled) ∙ sym (append-nil (encoding_of_image image)))).0
 
-pub newer_refused : (base limit : ℕ) (bytes : List ℕ) (image : List (List ℕ × Flag)) → IsImage image → bytes ≡ spelling_of_image image → (AllByRecursion (λ (f : List ℕ × Flag). f.1.changed ≤ base) image → ⊥) → (s : State) → IsImageOf base limit bytes s → ⊥
+pub newer_refused : (base limit : ℕ) (bytes : List ℕ) (image : List (List ℕ × Flag)) → IsImage image → bytes ≡ encoding_of_image image → (AllByRecursion (λ (f : List ℕ × Flag). f.1.changed ≤ base) image → ⊥) → (s : State) → IsImageOf base limit bytes s → ⊥
 newer_refused base limit bytes image lawful spelled newer s h = newer (subst (AllByRecursion (λ (f : List ℕ × Flag). f.1.changed ≤ base)) (same_image base limit bytes image s lawful spelled h) h.here.changed)
 
 -- ---- changes one after another
@@ -164,7 +164,7 @@ wrong_more (Ok x) m n P Q is f h = tt
 wrong_more (Err (BadBody at)) m n P Q is f h = (subst (λ (z : ℕ). at ≤ z) is h.0, f at h.1)
 wrong_more (Err Memory) m n P Q is f h = tt
 
-pub batch_refused : (s : State) (bytes : List ℕ) (group : Group) (cs : List Change) → IsBatch group → bytes ≡ spelling_of_batch group → cs ≡ group.changes → ((t : State) → Leads s cs t → ⊥) → (t : State) → TakesBatch s bytes t → ⊥
+pub batch_refused : (s : State) (bytes : List ℕ) (group : Group) (cs : List Change) → IsBatch group → bytes ≡ encoding_of_batch group → cs ≡ group.changes → ((t : State) → Leads s cs t → ⊥) → (t : State) → TakesBatch s bytes t → ⊥
 batch_refused s bytes group cs lawful spelled is none t h =
-    let same : h.group ≡ group = (batch_alone h.group group [] [] h.lawful lawful (append-nil (spelling_of_batch h.group) ∙ (sym h.spelled ∙ spelled) ∙ sym (append-nil (spelling_of_batch group)))).0 in
+    let same : h.group ≡ group = (batch_alone h.group group [] [] h.lawful lawful (append-nil (encoding_of_batch h.group) ∙ (sym h.spelled ∙ spelled) ∙ sym (append-nil (encoding_of_batch group)))).0 in
     none t (subst (λ (l : List Change). Leads s l t) (ap (λ (g : Group). g.changes) same ∙ sym is) h.leads)

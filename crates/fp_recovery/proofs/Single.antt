@@ -11,16 +11,16 @@ use Rattle.fp_edit.specs.Admits.{Admits, accepted, refusal, can_change, changed_
 use Rattle.fp_edit.specs.declared.edit.EditFault.{EditFault}
 use Rattle.fp_edit.specs.declared.edit.EditFault.TheVariants.{Conflict, SetTooLarge, RevisionsUsed}
 use Rattle.fp_record.specs.Group.{Group}
-use Rattle.fp_record.specs.Lawful.{IsBatch}
-use Rattle.fp_record.specs.Spelling.{spelling_of_batch, spelling_of_change}
-use Rattle.fp_record.proofs.Lengths.{length-spelling_of_batch}
+use Rattle.fp_record.specs.WellFormed.{IsBatch}
+use Rattle.fp_record.specs.Encoding.{encoding_of_batch, encoding_of_change}
+use Rattle.fp_record.proofs.Lengths.{length-encoding_of_batch}
 use Rattle.fp_recovery.specs.Durable.{single}
 use Rattle.fp_recovery.specs.Stands.{TakesBatch, unconditional}
 
-pub length_single : (g : Group) (x : Change) → g.changes ≡ x ∷ [] → length (spelling_of_batch g) ≡ 10 + length (spelling_of_change x)
+pub length_single : (g : Group) (x : Change) → g.changes ≡ x ∷ [] → length (encoding_of_batch g) ≡ 10 + length (encoding_of_change x)
 length_single g x is =
-    let len : Change → ℕ = λ y. length (spelling_of_change y) in
-    let all = length-spelling_of_batch g in let sizes = ap (sum_by len) is ∙ sum_by-cons len x [] in omega (arith, all, sizes)
+    let len : Change → ℕ = λ y. length (encoding_of_change y) in
+    let all = length-encoding_of_batch g in let sizes = ap (sum_by len) is ∙ sum_by-cons len x [] in omega (arith, all, sizes)
 
 passed : (b : Bool) (e : EditFault) (rest : Option EditFault) → (if b then rest else Some e) ≡ None → (b ≡ true) × (rest ≡ None)
 passed true e rest h = (refl, h)
@@ -46,7 +46,7 @@ has_next s p h =
     let third = passed (has_revision s) RevisionsUsed None second.1 in
     ltb-true _ _ third.0
 
-pub takes_single : (s t : State) (p : Proposal) (first : ℕ) (body : List ℕ) → Admits s p (accepted t) → first ≡ s.revision + 1 → IsBatch (single first p.change) → body ≡ spelling_of_batch (single first p.change) → TakesBatch s body t
+pub takes_single : (s t : State) (p : Proposal) (first : ℕ) (body : List ℕ) → Admits s p (accepted t) → first ≡ s.revision + 1 → IsBatch (single first p.change) → body ≡ encoding_of_batch (single first p.change) → TakesBatch s body t
 takes_single s t p first body admits is lawful spelled = record {
   group = single first p.change;
   lawful = lawful;

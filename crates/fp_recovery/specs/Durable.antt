@@ -1,10 +1,10 @@
 -- A set and the journal that keeps it.
 use Rattle.std.specs.Prelude.{◌≡◌, ◌⊎◌, ◌+◌, ◌/◌, ℕ, List, [], ◌∷◌, ◌++◌, length, slice_index, slice_range}
 use Rattle.std.specs.FinMap as map
-use Rattle.fp_disk.specs.Outcomes.{Unsynced, IsOutcome}
+use Rattle.fp_disk.specs.Outcomes.{PendingState, IsOutcome}
 use Rattle.fp_edit.specs.Edits.{Change}
 use Rattle.fp_edit.specs.Flags.{State}
-use Rattle.fp_journal.specs.Holds.{Holds, IsFirm}
+use Rattle.fp_journal.specs.Holds.{Holds, IsSynced}
 use Rattle.fp_journal.specs.Chain.{spell}
 use Rattle.fp_journal.specs.Reading.{Reads}
 use Rattle.fp_journal.specs.State.{AllShort, JournalState}
@@ -20,8 +20,8 @@ pub record Durable (D : Type 0) : Type 0 where
   pub journal : JournalState D
 
 -- whatever a crash leaves now stands for the set
-abbrev pub IsSure : Unsynced → State → Type 0
-IsSure u s = (c : List ℕ) → IsOutcome u c → StandsFor c s
+abbrev pub IsDurable : PendingState → State → Type 0
+IsDurable u s = (c : List ℕ) → IsOutcome u c → StandsFor c s
 
 -- a batch of one change
 abbrev pub single : ℕ → Change → Group
@@ -32,7 +32,7 @@ abbrev pub IsNewSetOrNone : ℕ → List ℕ → Type 0
 IsNewSetOrNone size c = RefusesBytes c Unformatted ⊎ StandsFor c (record { flags = map.empty; revision = 0; limit = size / 2 })
 
 -- What the disk held as the journal began, and the batches sealed since, come to the set; the bytes in front of the slot and the gate behind it are firm
-pub record IsKept {D : Type 0} (u : Unsynced) (set : State) (journal : JournalState D) : Type 0 where
+pub record IsKept {D : Type 0} (u : PendingState) (set : State) (journal : JournalState D) : Type 0 where
   pub bytes : List ℕ
   pub size : ℕ
   pub generation : ℕ
@@ -49,5 +49,5 @@ pub record IsKept {D : Type 0} (u : Unsynced) (set : State) (journal : JournalSt
   pub opened_there : Holds bytes (86 + length image) (spell opened)
   pub short : AllShort (first_slot size).most (opened ++ journal.sealed)
   pub leads : Reads TakesBatch first (opened ++ journal.sealed) set
-  pub header_firm : IsFirm u 0 (slice_range bytes 0 64)
-  pub gate_firm : IsFirm u (64 + size) (slice_index bytes (64 + size) ∷ [])
+  pub header_firm : IsSynced u 0 (slice_range bytes 0 64)
+  pub gate_firm : IsSynced u (64 + size) (slice_index bytes (64 + size) ∷ [])

@@ -11,8 +11,8 @@ use Rattle.fp_journal.specs.Reading.{IsChain, Reads}
 use Rattle.fp_layout.specs.Size.{first_slot}
 use Rattle.fp_layout.specs.Layout.{IsHeader, IsFirstSlot}
 use Rattle.fp_record.specs.Group.{Group}
-use Rattle.fp_record.specs.Lawful.{IsBatch, IsImage}
-use Rattle.fp_record.specs.Spelling.{spelling_of_batch, spelling_of_image}
+use Rattle.fp_record.specs.WellFormed.{IsBatch, IsImage}
+use Rattle.fp_record.specs.Encoding.{encoding_of_batch, encoding_of_image}
 
 -- ---- an image
 -- an image can be that of a set at this revision, whose image may take this many bytes
@@ -24,7 +24,7 @@ pub record IsImageAt (base limit : ℕ) (image : List (List ℕ × Flag)) : Type
 -- the bytes are the image of the set, which is at this revision and has this limit
 pub record IsImageOf (base limit : ℕ) (bytes : List ℕ) (s : State) : Type 0 where
   pub lawful : IsImage (map.entries s.flags)
-  pub spelled : bytes ≡ spelling_of_image (map.entries s.flags)
+  pub spelled : bytes ≡ encoding_of_image (map.entries s.flags)
   pub here : IsImageAt base limit (map.entries s.flags)
   pub revision_is : s.revision ≡ base
   pub limit_is : s.limit ≡ limit
@@ -43,7 +43,7 @@ Leads s (c ∷ cs) t = (u : State) × Admits s (unconditional c) (accepted u) ×
 pub record TakesBatch (s : State) (bytes : List ℕ) (t : State) : Type 0 where
   pub group : Group
   pub lawful : IsBatch group
-  pub spelled : bytes ≡ spelling_of_batch group
+  pub spelled : bytes ≡ encoding_of_batch group
   pub follows : group.first ≡ s.revision + 1
   pub leads : Leads s group.changes t
 

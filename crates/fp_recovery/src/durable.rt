@@ -3,7 +3,7 @@
 ghost use Rattle.std.specs.Prelude.{◌≡◌, ◌≢◌, ◌⊎◌, ◌<◌, ◌≤◌, ◌+◌, ◌/◌, ◌↔◌, [], ◌∷◌, ◌++◌, List, ℕ, length, IfOk, IfErr, IsTrue, IsOk, OnOk, OnErr, MatchResult};
 ghost use Rattle.std.specs.FinMap as map;
 ghost use Rattle.fp_disk.specs.History.{Makes, MakesSome};
-ghost use Rattle.fp_disk.specs.Outcomes.{IsOutcome, LeavesOnly, settled};
+ghost use Rattle.fp_disk.specs.Outcomes.{IsOutcome, LeavesOnly, all_synced};
 ghost use Rattle.fp_disk.specs.declared.history.CallKind.TheVariants.{Length, Read, Sync, Write};
 ghost use Rattle.fp_edit.specs.Admits.{Admits, accepted};
 ghost use Rattle.fp_edit.specs.Edits.{proposal_of};
@@ -13,13 +13,13 @@ ghost use Rattle.fp_layout.specs.NewDisk.{IsNewDisk, format_calls};
 ghost use Rattle.fp_layout.specs.declared.fault.OpenFault.TheVariants.{Device};
 ghost use Rattle.fp_layout.specs.declared.format.CreateFault.TheVariants as make;
 ghost use Rattle.fp_recovery.specs.Admitting.{IsDeclined, CanDecline, StandsForEither};
-ghost use Rattle.fp_recovery.specs.Durable.{IsNewSetOrNone, IsSure};
+ghost use Rattle.fp_recovery.specs.Durable.{IsNewSetOrNone, IsDurable};
 ghost use Rattle.fp_recovery.specs.Refusals.{RefusesBytes, IsUnlessWanting};
 ghost use Rattle.fp_recovery.specs.Stands.{StandsFor};
 
 use crate::batch::{framed_edit, lacks_room};
 use crate::fault::AdmitFault;
-use crate::restoring::Restoring;
+use crate::restoring::Replayer;
 use fp_disk::Disk;
 use fp_edit::{Edit, EditFault, FlagSet};
 use fp_journal::{Journal, Phase};
@@ -58,14 +58,14 @@ impl<D: Disk> DurableSet<D> {
         ensures set { IfOk result (λ s. s.set ≡ record { flags = map.empty; revision = 0; limit = size / 2 }) }
         ensures ready { IfOk result (λ s. s.journal.phase ≡ Idle) }
         ensures made { D.honest disk → IfOk result (λ s. IsNewDisk size (D.bytes s.journal.disk)) }
-        ensures sure { D.honest disk → IfOk result (λ s. IsSure (D.unsynced s.journal.disk) s.set) }
+        ensures sure { D.honest disk → IfOk result (λ s. IsDurable (D.unsynced s.journal.disk) s.set) }
         ensures empty { D.honest disk → IsOk result → D.bytes disk ≡ [] }
         ensures not_empty { D.honest disk → IfErr result (λ e. e.0 ≡ make.NotEmpty → (D.bytes disk ≢ []) × (D.bytes e.1 ≡ D.bytes disk)) }
         ensures honest { MatchResult result (λ s. (D.honest disk → D.honest s.journal.disk) × (D.honest s.journal.disk → D.honest disk)) (λ e. (D.honest disk → D.honest e.1) × (D.honest e.1 → D.honest disk)) }
         ensures memory { D.honest disk → IfErr result (λ e. e.0 ≡ make.Memory → (D.bytes e.1 ≡ D.bytes disk) × (D.unsynced e.1 ≡ D.unsynced disk)) }
 
         // A crash at any moment of it leaves what is no disk yet, or one of no flags.
-        ensures any_moment { D.honest disk → D.unsynced disk ≡ settled [] → MatchResult result (λ s. LeavesOnly D.moment D.left_since disk s.journal.disk (IsNewSetOrNone size)) (λ e. LeavesOnly D.moment D.left_since disk e.1 (IsNewSetOrNone size)) }
+        ensures any_moment { D.honest disk → D.unsynced disk ≡ all_synced [] → MatchResult result (λ s. LeavesOnly D.moment D.crash_states_since disk s.journal.disk (IsNewSetOrNone size)) (λ e. LeavesOnly D.moment D.crash_states_since disk e.1 (IsNewSetOrNone size)) }
         ensures called { MatchResult result (λ s. D.calls s.journal.disk ≡ D.calls disk ++ Length ∷ format_calls) (λ e. MakesSome (Length ∷ format_calls) (D.calls disk) (D.calls e.1)) }
         ensures cause { IfErr result (λ e. e.0 ≡ make.Device → D.faults disk < D.faults e.1) }
     {
@@ -83,20 +83,20 @@ impl<D: Disk> DurableSet<D> {
         ensures stands { D.honest disk → IfOk result (λ s. StandsFor (D.bytes disk) s.set) }
         ensures only { D.honest disk → IfOk result (λ s. (other : State) → StandsFor (D.bytes disk) other → other ≡ s.set) }
         ensures ready { IfOk result (λ s. s.journal.phase ≡ Idle) }
-        ensures sure { D.honest disk → IfOk result (λ s. IsSure (D.unsynced s.journal.disk) s.set) }
+        ensures sure { D.honest disk → IfOk result (λ s. IsDurable (D.unsynced s.journal.disk) s.set) }
         ensures fault { D.honest disk → IfErr result (λ e. RefusesBytes (D.bytes disk) e.0) }
         ensures refused { D.honest disk → IfErr result (λ e. IsUnlessWanting (D.bytes disk) e.0) }
         ensures same { D.honest disk → MatchResult result (λ s. D.bytes s.journal.disk ≡ D.bytes disk) (λ e. D.bytes e.1 ≡ D.bytes disk) }
         ensures honest { MatchResult result (λ s. (D.honest disk → D.honest s.journal.disk) × (D.honest s.journal.disk → D.honest disk)) (λ e. (D.honest disk → D.honest e.1) × (D.honest e.1 → D.honest disk)) }
         // A crash at any moment of it leaves what one might have left before it.
-        ensures any_moment { D.honest disk → MatchResult result (λ s. LeavesOnly D.moment D.left_since disk s.journal.disk (IsOutcome (D.unsynced disk))) (λ e. LeavesOnly D.moment D.left_since disk e.1 (IsOutcome (D.unsynced disk))) }
+        ensures any_moment { D.honest disk → MatchResult result (λ s. LeavesOnly D.moment D.crash_states_since disk s.journal.disk (IsOutcome (D.unsynced disk))) (λ e. LeavesOnly D.moment D.crash_states_since disk e.1 (IsOutcome (D.unsynced disk))) }
 
         // It syncs before it reads.
         ensures called { MatchResult result (λ s. D.calls s.journal.disk ≡ D.calls disk ++ Sync ∷ Length ∷ Read ∷ []) (λ e. MakesSome (Sync ∷ Length ∷ Read ∷ []) (D.calls disk) (D.calls e.1)) }
-        ensures calm { IfOk result (λ s. D.faults s.journal.disk ≡ D.faults disk) }
+        ensures no_failure { IfOk result (λ s. D.faults s.journal.disk ≡ D.faults disk) }
         ensures cause { IfErr result (λ e. e.0 ≡ Device → D.faults disk < D.faults e.1) }
     {
-        let mut restoring = Restoring::new(alloc);
+        let mut restoring = Replayer::new(alloc);
         let journal = fp_layout::open(alloc, disk, &mut restoring)?;
         let set = restoring.into_set();
         Ok(DurableSet {
@@ -116,7 +116,7 @@ impl<D: Disk> DurableSet<D> {
     /// Whether it takes edits: no call of the disk has failed since it was made or opened.
     pub fn is_ready(&self) -> bool
         ensures ready { IsTrue result ↔ (self.now.journal.phase ≡ Idle) }
-        ensures sure { D.honest self.now.journal.disk → IsTrue result → IsSure (D.unsynced self.now.journal.disk) self.now.set }
+        ensures sure { D.honest self.now.journal.disk → IsTrue result → IsDurable (D.unsynced self.now.journal.disk) self.now.set }
     {
         matches!(self.journal.phase(), Phase::Idle)
     }
@@ -124,7 +124,7 @@ impl<D: Disk> DurableSet<D> {
     /// Gives the disk back.
     pub fn into_disk(self) -> D
         ensures disk { result ≡ self.journal.disk }
-        ensures sure { D.honest result → self.journal.phase ≡ Idle → IsSure (D.unsynced result) self.set }
+        ensures sure { D.honest result → self.journal.phase ≡ Idle → IsDurable (D.unsynced result) self.set }
     {
         let DurableSet {
             set: _,
@@ -139,11 +139,11 @@ impl<D: Disk> DurableSet<D> {
         ensures admitted { OnOk result (Admits self.old.set (proposal_of edit) (accepted self.new.set)) }
         ensures revision { IfOk result (λ r. r ≡ self.new.set.revision) }
         ensures ready { OnOk result (self.new.journal.phase ≡ Idle) }
-        ensures sure { D.honest self.new.journal.disk → OnOk result (IsSure (D.unsynced self.new.journal.disk) self.new.set) }
-        ensures calm { OnOk result (D.faults self.new.journal.disk ≡ D.faults self.old.journal.disk) }
+        ensures sure { D.honest self.new.journal.disk → OnOk result (IsDurable (D.unsynced self.new.journal.disk) self.new.set) }
+        ensures no_failure { OnOk result (D.faults self.new.journal.disk ≡ D.faults self.old.journal.disk) }
 
         // A crash at any moment of the call, whatever it answers, leaves the flags before the edit or those after it.
-        ensures any_moment { D.honest self.old.journal.disk → self.old.journal.phase ≡ Idle → LeavesOnly D.moment D.left_since self.old.journal.disk self.new.journal.disk (StandsForEither self.old.set (proposal_of edit)) }
+        ensures any_moment { D.honest self.old.journal.disk → self.old.journal.phase ≡ Idle → LeavesOnly D.moment D.crash_states_since self.old.journal.disk self.new.journal.disk (StandsForEither self.old.set (proposal_of edit)) }
         ensures stopped { self.old.journal.phase ≢ Idle → self.new ≡ self.old }
 
         ensures called { Makes (Write ∷ Sync ∷ Write ∷ Sync ∷ []) (D.calls self.old.journal.disk) (D.calls self.new.journal.disk) result }

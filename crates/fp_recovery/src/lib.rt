@@ -10,4 +10,4 @@ mod restoring;
 pub use durable::DurableSet;
 pub use fault::AdmitFault;
 pub use laws::{bytes_stand_for_one, closes_and_opens};
-pub use restoring::Restoring;
+pub use restoring::Replayer;

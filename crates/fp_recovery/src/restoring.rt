@@ -8,7 +8,7 @@ ghost use Rattle.fp_edit.specs.Entries.{entries_of};
 ghost use Rattle.fp_edit.specs.Flags.{State, total_cost};
 ghost use Rattle.fp_journal.specs.Reading.{IsWrong};
 ghost use Rattle.fp_record.specs.Edits.{change_of, changes_of};
-ghost use Rattle.fp_record.specs.Spelling.{spelling_of_change};
+ghost use Rattle.fp_record.specs.Encoding.{encoding_of_change};
 ghost use Rattle.fp_recovery.specs.Refusals.{RefusesBatch};
 ghost use Rattle.fp_recovery.specs.Stands.{IsImageAt, IsImageOf, TakesBatch, Leads, unconditional as freely};
 
@@ -16,18 +16,18 @@ use fp_definition::FlagKey;
 use fp_edit::{Edit, EditFault, Expect, Flag, FlagSet};
 use fp_journal::{BodyFault, Reader};
 use fp_layout::SlotReader;
-use fp_record::{Batch, Image, RecordFault, spelled_len};
+use fp_record::{Batch, Image, RecordFault, encoded_len};
 use std::alloc::{AllocError, Global};
 use std::marker::Model;
 
 /// A set on its way back: the image makes it, and each batch leads it on.
 #[derive(Drop)]
-pub struct Restoring {
+pub struct Replayer {
     set: FlagSet,
     alloc: Global,
 }
 
-impl Model for Restoring {
+impl Model for Replayer {
     ghost use Rattle.fp_edit.specs.Flags.{State, coded_state};
 
     ghost Value = { State };
@@ -37,12 +37,12 @@ impl Model for Restoring {
     ghost view = { λ r. r.set };
 }
 
-impl Restoring {
+impl Replayer {
     /// No flags yet.
-    pub fn new(alloc: Global) -> Restoring
+    pub fn new(alloc: Global) -> Replayer
         ensures { result ≡ record { flags = map.empty; revision = 0; limit = 0 } }
     {
-        Restoring {
+        Replayer {
             set: FlagSet::new(alloc, 0),
             alloc,
         }
@@ -99,13 +99,13 @@ fn unconditional(edit: Edit) -> Edit
 
 // Leads the set on by the edits of a batch.
 fn lead(set: &mut FlagSet, edits: Vec<Edit>) -> Result<(), BodyFault>
-    requires { 10 + sum_by (λ c. length (spelling_of_change c)) (changes_of edits.items) < 2 ^ 64 }
+    requires { 10 + sum_by (λ c. length (encoding_of_change c)) (changes_of edits.items) < 2 ^ 64 }
     ensures led { OnOk result (Leads set.old (changes_of edits.items) set.new) }
-    ensures fault { IfErr result (IsWrong (10 + sum_by (λ c. length (spelling_of_change c)) (changes_of edits.items)) (λ _. (t : State) → Leads set.old (changes_of edits.items) t → ⊥)) }
+    ensures fault { IfErr result (IsWrong (10 + sum_by (λ c. length (encoding_of_change c)) (changes_of edits.items)) (λ _. (t : State) → Leads set.old (changes_of edits.items) t → ⊥)) }
 {
     let mut place = 10;
     for edit in edits {
-        let len = spelled_len(&edit) as u64;
+        let len = encoded_len(&edit) as u64;
         match set.admit(unconditional(edit)) {
             Ok(_) => place += len,
             Err((EditFault::Memory, _)) => return Err(BodyFault::Memory),
@@ -164,7 +164,7 @@ fn take_batch(alloc: Global, set: &mut FlagSet, bytes: &[u8]) -> Result<(), Body
     lead(set, batch.into_edits())
 }
 
-impl Reader for Restoring {
+impl Reader for Replayer {
     ghost use Rattle.fp_recovery.specs.Stands.{TakesBatch};
     ghost use Rattle.fp_recovery.specs.Refusals.{RefusesBatch};
 
@@ -177,7 +177,7 @@ impl Reader for Restoring {
     }
 }
 
-impl SlotReader for Restoring {
+impl SlotReader for Replayer {
     ghost use Rattle.fp_recovery.specs.Refusals.{BeginsWith, RejectsImage};
 
     ghost begins = { BeginsWith };

@@ -10,7 +10,7 @@ pub record Stream (S : Type 0) : Type 0 where
   pub reads_left : ℕ
 
 -- a failure was counted exactly where the answer tells of one
-abbrev pub Counts : {A : Type 0} → ℕ → ℕ → Result A StreamFault → Type 0
-Counts before after (Ok a) = after ≡ before
-Counts before after (Err Device) = before < after
-Counts before after (Err Memory) = after ≡ before
+abbrev pub CountsFailures : {A : Type 0} → ℕ → ℕ → Result A StreamFault → Type 0
+CountsFailures before after (Ok a) = after ≡ before
+CountsFailures before after (Err Device) = before < after
+CountsFailures before after (Err Memory) = after ≡ before

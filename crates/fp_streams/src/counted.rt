@@ -1,7 +1,7 @@
 ghost use Rattle.std.specs.Prelude.{◌≡◌, ◌+◌, ◌-◌, ◌<◌, ◌≤◌, ◌^◌, IfOk, IfSome, IfErr, OnOk};
 ghost use Rattle.std.specs.Io.{ReadsAtMost};
 ghost use Rattle.std.specs.Io.KnownBytes.{Appends, ReadConsumes};
-ghost use Rattle.fp_streams.specs.Failures.{Counts};
+ghost use Rattle.fp_streams.specs.Failures.{CountsFailures};
 ghost use Rattle.fp_streams.specs.Said.{AppendsLine};
 ghost use Rattle.fp_streams.specs.declared.counted.StreamFault.TheVariants.{Device};
 
@@ -24,13 +24,13 @@ pub enum StreamFault {
 /// A reader or a writer whose failures are counted, in proofs alone: a contract can say by the count that a stream failed,
 /// which its own answers don't.
 #[derive(Drop)]
-pub struct Counted<S> {
+pub struct FailureCounted<S> {
     stream: S,
     failures: Count,
     reads_left: u64,
 }
 
-impl<S> Model for Counted<S> {
+impl<S> Model for FailureCounted<S> {
     ghost use Rattle.std.specs.Coded.{codes};
     ghost use Rattle.fp_streams.specs.Failures.{Stream};
 
@@ -41,12 +41,12 @@ impl<S> Model for Counted<S> {
     ghost view = { λ c. record { inner = c.stream; failures = c.failures; reads_left = c.reads_left } };
 }
 
-impl<S> Counted<S> {
+impl<S> FailureCounted<S> {
     /// The stream, of no failure yet. It may be read 2^64 - 1 times.
-    pub fn new(stream: S) -> Counted<S>
+    pub fn new(stream: S) -> FailureCounted<S>
         ensures { result ≡ record { inner = stream; failures = 0; reads_left = 2 ^ 64 - 1 } }
     {
-        Counted {
+        FailureCounted {
             stream,
             failures: Count::new(),
             reads_left: u64::MAX,
@@ -64,7 +64,7 @@ impl<S> Counted<S> {
     pub fn into_inner(self) -> S
         ensures { result ≡ self.inner }
     {
-        let Counted {
+        let FailureCounted {
             stream,
             failures: _,
             reads_left: _,
@@ -77,19 +77,19 @@ impl<S> Counted<S> {
         ensures { (result ≡ Device)
             × (self.new ≡ record self.old { failures = self.old.failures + 1 }) }
     {
-        self.failures.raise();
+        self.failures.increment();
         StreamFault::Device
     }
 }
 
-impl<R: Read> Counted<R> {
+impl<R: Read> FailureCounted<R> {
     /// Reads once, and again where it was interrupted. `Ok(0)` is the end, unless there is no room. An error consumes nothing.
     pub fn read(&mut self, buf: &mut [u8]) -> Result<usize, StreamFault>
         ensures bound { ReadsAtMost result buf.new }
         ensures bytes { ReadConsumes (R.remaining self.old.inner) (R.remaining self.new.inner)
             result buf.new }
         ensures fault { IfErr result (λ f. f ≡ Device) }
-        ensures counted { Counts self.old.failures self.new.failures result }
+        ensures counted { CountsFailures self.old.failures self.new.failures result }
         ensures fewer { OnOk result (self.new.reads_left < self.old.reads_left) }
     {
         while self.reads_left > 0 {
@@ -107,7 +107,7 @@ impl<R: Read> Counted<R> {
     pub fn read_to_end(&mut self, alloc: Global) -> Result<Vec<u8>, StreamFault>
         ensures bytes { IfOk result (λ bytes.
             IfSome (R.remaining self.old.inner) (λ left. bytes.items ≡ left)) }
-        ensures counted { Counts self.old.failures self.new.failures result }
+        ensures counted { CountsFailures self.old.failures self.new.failures result }
         ensures reads { self.new.reads_left ≡ self.old.reads_left }
     {
         let mut bytes = Vec::new(alloc);
@@ -119,13 +119,13 @@ impl<R: Read> Counted<R> {
     }
 }
 
-impl<W: Write> Counted<W> {
+impl<W: Write> FailureCounted<W> {
     /// Writes all of the bytes, and flushes them. At an error some of them may have been written.
     pub fn send(&mut self, bytes: &[u8]) -> Result<(), StreamFault>
         ensures bytes { OnOk result
             (Appends (W.contents self.old.inner) (W.contents self.new.inner) bytes.now) }
         ensures fault { IfErr result (λ f. f ≡ Device) }
-        ensures counted { Counts self.old.failures self.new.failures result }
+        ensures counted { CountsFailures self.old.failures self.new.failures result }
         ensures reads { self.new.reads_left ≡ self.old.reads_left }
     {
         match write_and_flush(&mut self.stream, bytes) {
@@ -139,7 +139,7 @@ impl<W: Write> Counted<W> {
         ensures text { OnOk result (IfSome (T.output text.now)
             (AppendsLine (W.contents self.old.inner) (W.contents self.new.inner))) }
         ensures fault { IfErr result (λ f. f ≡ Device) }
-        ensures counted { Counts self.old.failures self.new.failures result }
+        ensures counted { CountsFailures self.old.failures self.new.failures result }
         ensures reads { self.new.reads_left ≡ self.old.reads_left }
     {
         match write_line_and_flush(&mut self.stream, text) {

@@ -3,4 +3,4 @@
 
 mod counted;
 
-pub use counted::{Counted, StreamFault};
+pub use counted::{FailureCounted, StreamFault};

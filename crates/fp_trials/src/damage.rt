@@ -74,7 +74,7 @@ struct Tally {
     count: u64,
 }
 
-// Counts what was found. What came first stands first.
+// CountsFailures what was found. What came first stands first.
 fn add(tallies: &mut Vec<Tally>, found: Found) -> Result<(), AllocError> {
     for tally in tallies.iter_mut() {
         if tally.found == found {

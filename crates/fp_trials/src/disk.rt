@@ -121,7 +121,7 @@ fn sync(trial: &mut Trial) -> Result<Answer, TrialFault> {
     trial.of_call(outcome)
 }
 
-/// `fuse CALL`, `fuse CALL half`, `fail CALL`, `fail CALL half`, `calm`, `crash LENGTH REST FILL ..`, `calls`.
+/// `fuse CALL`, `fuse CALL half`, `fail CALL`, `fail CALL half`, `no_failure`, `crash LENGTH REST FILL ..`, `calls`.
 pub fn on_faults(trial: &mut Trial, word: &str, rest: &str) -> Result<Answer, TrialFault> {
     match word {
         "fuse" | "fail" => fail(trial, word, rest),

@@ -9,7 +9,7 @@ use fp_disk::MemoryDisk;
 use fp_edit::{Edit, EditFault, FlagSet};
 use fp_layout::SlotSize;
 use fp_recovery::{AdmitFault, DurableSet};
-use fp_streams::Counted;
+use fp_streams::FailureCounted;
 use std::alloc::{AllocError, Global};
 use std::fmt::Write;
 use std::io;
@@ -219,7 +219,7 @@ fn run(
     room: usize,
 ) -> (Vec<u8>, Result<bool, CommandFault>) {
     let alloc = trial.alloc;
-    let mut writer = Counted::new(Sink {
+    let mut writer = FailureCounted::new(Sink {
         bytes: Vec::new(alloc),
         room,
     });
@@ -240,16 +240,26 @@ fn init(alloc: Global, disk: MemoryDisk) -> Ran {
     of_unit(init_disk(alloc, disk))
 }
 
-fn shown(alloc: Global, writer: &mut Counted<Sink>, disk: MemoryDisk) -> Ran {
+fn shown(alloc: Global, writer: &mut FailureCounted<Sink>, disk: MemoryDisk) -> Ran {
     of_unit(show_disk(alloc, writer, disk))
 }
 
-fn apply(alloc: Global, source: Source<'_>, writer: &mut Counted<Sink>, disk: MemoryDisk) -> Ran {
-    apply_disk(alloc, &mut Counted::new(source), writer, disk)
+fn apply(
+    alloc: Global,
+    source: Source<'_>,
+    writer: &mut FailureCounted<Sink>,
+    disk: MemoryDisk,
+) -> Ran {
+    apply_disk(alloc, &mut FailureCounted::new(source), writer, disk)
 }
 
-fn import(alloc: Global, source: Source<'_>, writer: &mut Counted<Sink>, disk: MemoryDisk) -> Ran {
-    import_disk(alloc, &mut Counted::new(source), writer, disk)
+fn import(
+    alloc: Global,
+    source: Source<'_>,
+    writer: &mut FailureCounted<Sink>,
+    disk: MemoryDisk,
+) -> Ran {
+    import_disk(alloc, &mut FailureCounted::new(source), writer, disk)
 }
 
 // No reply of a command without any tells of wanting memory.

@@ -29,7 +29,7 @@ const MOST: u64 = 10_000;
 
 // A block that is to be run on a disk of these bytes, whose calls fail so.
 #[derive(Clone, Copy)]
-struct Course<'a> {
+struct StoreRun<'a> {
     bytes: &'a [u8],
     block: &'a [String],
     failing: Failing,
@@ -58,7 +58,7 @@ pub fn sweep(
         } else {
             Failing::From(call)
         };
-        let course = Course {
+        let course = StoreRun {
             bytes: &bytes,
             block,
             failing,
@@ -76,7 +76,7 @@ pub fn sweep(
 // What is found where the disk fails so, and whether it does.
 fn row(
     alloc: Global,
-    course: Course<'_>,
+    course: StoreRun<'_>,
     found: &mut Vec<(u64, String)>,
     out: &mut String,
 ) -> Result<bool, AllocError> {
@@ -113,7 +113,7 @@ fn tell_stop(stop: &Stop<'_>, told: u64, out: &mut String) -> Result<(), AllocEr
 }
 
 // Runs the block to the line at which the disk fails, or to its end.
-fn run_to<'a>(alloc: Global, course: Course<'a>) -> Result<(Trial, Stop<'a>), AllocError> {
+fn run_to<'a>(alloc: Global, course: StoreRun<'a>) -> Result<(Trial, Stop<'a>), AllocError> {
     let disk = MemoryDisk::holding(alloc, course.bytes.to_vec(alloc)?)?;
     let mut trial = Trial::new(alloc, disk);
     trial.set_failing(course.failing, course.writes);
@@ -131,7 +131,7 @@ fn run_to<'a>(alloc: Global, course: Course<'a>) -> Result<(Trial, Stop<'a>), Al
 // Runs the block, cuts the power, and tells what the disk is opened as.
 fn after_crash(
     alloc: Global,
-    course: Course<'_>,
+    course: StoreRun<'_>,
     length: u64,
     rest: Fill,
     found: &mut Vec<(u64, String)>,

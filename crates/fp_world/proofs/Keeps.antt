@@ -1,7 +1,7 @@
 -- What a disk keeps of the desk's log.
 use Rattle.std.proofs.Common.{◌≡◌, ◌≢◌, ◌≤◌, ◌+◌, ◌-◌, ℕ, true, false, List, [], ◌∷◌, ◌++◌, length, zero, suc, take, refl, sym, ap, subst, ◌∙◌, inl, inr, arith, append_assoc, length-append}
 use Rattle.std.proofs.lemmas.List.{take_at}
-use Rattle.fp_disk.specs.Outcomes.{Unsynced, IsOutcome, LeavesOnly}
+use Rattle.fp_disk.specs.Outcomes.{PendingState, IsOutcome, LeavesOnly}
 use Rattle.fp_disk.specs.Moments.{leaves_map, leaves_still}
 use Rattle.fp_edit.specs.Edits.{Change}
 use Rattle.fp_edit.specs.Flags.{State}
@@ -56,17 +56,17 @@ module _ {D : Type 0} (s : StoreState D) (d : DeskState) where
       let b = coming_begins h o both.0 in let more = b.2 in
       front_kept d (s.sealed ++ s.staged) b.0 low c b.1 (omega (arith, le, more)) (subst (λ (x : Identity). StandsFor c (after_all x.start (s.sealed ++ s.staged))) (sym same) both.1)
 
-module _ {D : Type 0} (honest : D → Type 0) (moment : D → ℕ) (left_since : D → ℕ → List ℕ → Type 0) (unsynced : D → Unsynced) {h : Held} {s : StoreState D} {d : DeskState} {told : ℕ} (w : IsWorld honest unsynced h s d told) where
+module _ {D : Type 0} (honest : D → Type 0) (moment : D → ℕ) (crash_states_since : D → ℕ → List ℕ → Type 0) (unsynced : D → PendingState) {h : Held} {s : StoreState D} {d : DeskState} {told : ℕ} (w : IsWorld honest unsynced h s d told) where
   -- what a crash leaves now
   pub kept_now : honest s.journal.disk → (c : List ℕ) → IsOutcome (unsynced s.journal.disk) c → KeptFrom d told c
   kept_now honest_now c out = leaves_kept s d w.same h w.out told w.low c (w.now honest_now c out)
 
-  pub still : ((d : D) (c : List ℕ) → honest d → left_since d (moment d) c → IsOutcome (unsynced d) c) → honest s.journal.disk → LeavesOnly moment left_since s.journal.disk s.journal.disk (KeptFrom d told)
-  still only_now honest_now = leaves_still moment left_since s.journal.disk (KeptFrom d told) (λ c left. kept_now honest_now c (only_now s.journal.disk c honest_now left))
+  pub still : ((d : D) (c : List ℕ) → honest d → crash_states_since d (moment d) c → IsOutcome (unsynced d) c) → honest s.journal.disk → LeavesOnly moment crash_states_since s.journal.disk s.journal.disk (KeptFrom d told)
+  still only_now honest_now = leaves_still moment crash_states_since s.journal.disk (KeptFrom d told) (λ c left. kept_now honest_now c (only_now s.journal.disk c honest_now left))
 
   -- at each moment of a call of the store
-  pub kept_leaves : (new : D) → LeavesOnly moment left_since s.journal.disk new (Leaves s) → LeavesOnly moment left_since s.journal.disk new (KeptFrom d told)
-  kept_leaves new l = leaves_map moment left_since s.journal.disk new (Leaves s) (KeptFrom d told) (λ c p. leaves_kept s d w.same h w.out told w.low c p) l
+  pub kept_leaves : (new : D) → LeavesOnly moment crash_states_since s.journal.disk new (Leaves s) → LeavesOnly moment crash_states_since s.journal.disk new (KeptFrom d told)
+  kept_leaves new l = leaves_map moment crash_states_since s.journal.disk new (Leaves s) (KeptFrom d told) (λ c p. leaves_kept s d w.same h w.out told w.low c p) l
 
 pub kept_same_log : (d n : DeskState) (low : ℕ) (c : List ℕ) → n.store ≡ d.store → log n ≡ log d → KeptFrom d low c → KeptFrom n low c
 kept_same_log d n low c store same k =
@@ -104,18 +104,18 @@ flight_on s n d (held.Drawn group) o at sealed staged busy = let both : Idle ≡
 flight_on s n d held.InFlight o at sealed staged busy = (busy, sealed ∙ o.1, staged ∙ o.2, o.3)
 flight_on s n d (held.Sealed receipt) o at sealed staged busy = let both : Idle ≡ BodySynced = sym o.0 ∙ at in absurd cc
 
-module _ {D : Type 0} (moment : D → ℕ) (left_since : D → ℕ → List ℕ → Type 0) where
+module _ {D : Type 0} (moment : D → ℕ) (crash_states_since : D → ℕ → List ℕ → Type 0) where
   -- at each moment of the call that begins to open the gate
-  pub opened_leaves : (h : Held) (n : StoreState D) (d : DeskState) (told : ℕ) (old : D) → d.store ≡ n.store → IsOut h n d → told ≤ settled_revision d → LeavesOnly moment left_since old n.journal.disk (Leaves n) → LeavesOnly moment left_since old n.journal.disk (KeptFrom d told)
-  opened_leaves h n d told old same out low l = leaves_map moment left_since old n.journal.disk (Leaves n) (KeptFrom d told) (λ c p. leaves_kept n d same h out told low c p) l
+  pub opened_leaves : (h : Held) (n : StoreState D) (d : DeskState) (told : ℕ) (old : D) → d.store ≡ n.store → IsOut h n d → told ≤ settled_revision d → LeavesOnly moment crash_states_since old n.journal.disk (Leaves n) → LeavesOnly moment crash_states_since old n.journal.disk (KeptFrom d told)
+  opened_leaves h n d told old same out low l = leaves_map moment crash_states_since old n.journal.disk (Leaves n) (KeptFrom d told) (λ c p. leaves_kept n d same h out told low c p) l
 
-module _ {D : Type 0} (honest : D → Type 0) (moment : D → ℕ) (left_since : D → ℕ → List ℕ → Type 0) (unsynced : D → Unsynced) (only_now : (d : D) (c : List ℕ) → honest d → left_since d (moment d) c → IsOutcome (unsynced d) c) where
+module _ {D : Type 0} (honest : D → Type 0) (moment : D → ℕ) (crash_states_since : D → ℕ → List ℕ → Type 0) (unsynced : D → PendingState) (only_now : (d : D) (c : List ℕ) → honest d → crash_states_since d (moment d) c → IsOutcome (unsynced d) c) where
   -- an event that makes no call of the disk
   pub rested : (old new : WorldState D) → new.store ≡ old.store → old.told ≤ new.told → (honest new.store.journal.disk → (c : List ℕ) → IsOutcome (unsynced new.store.journal.disk) c → KeptFrom new.desk new.told c)
-      → honest old.store.journal.disk → LeavesOnly moment left_since old.store.journal.disk new.store.journal.disk (KeptFrom new.desk old.told)
+      → honest old.store.journal.disk → LeavesOnly moment crash_states_since old.store.journal.disk new.store.journal.disk (KeptFrom new.desk old.told)
   rested old new same told exit h =
       let disk : new.store.journal.disk ≡ old.store.journal.disk = ap (λ (s : StoreState D). s.journal.disk) same in
-      subst (λ (d : D). LeavesOnly moment left_since old.store.journal.disk d (KeptFrom new.desk old.told)) (sym disk)
-      (leaves_still moment left_since old.store.journal.disk (KeptFrom new.desk old.told) (λ c left.
+      subst (λ (d : D). LeavesOnly moment crash_states_since old.store.journal.disk d (KeptFrom new.desk old.told)) (sym disk)
+      (leaves_still moment crash_states_since old.store.journal.disk (KeptFrom new.desk old.told) (λ c left.
       let k = exit (subst (λ (d : D). honest d) (sym disk) h) c (subst (λ (d : D). IsOutcome (unsynced d) c) (sym disk) (only_now old.store.journal.disk c h left)) in
       let low = k.1 in (k.0, omega (arith, told, low), k.2, k.3)))

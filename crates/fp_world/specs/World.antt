@@ -1,6 +1,6 @@
 -- A store and a desk over one list of events.
 use Rattle.std.specs.Prelude.{◌≡◌, ◌≢◌, ◌≤◌, ◌+◌, ℕ, List, [], ◌++◌, length}
-use Rattle.fp_disk.specs.Outcomes.{Unsynced, IsOutcome}
+use Rattle.fp_disk.specs.Outcomes.{PendingState, IsOutcome}
 use Rattle.fp_edit.specs.Log.{after}
 use Rattle.fp_journal.specs.declared.journal.Phase.TheVariants.{Idle}
 use Rattle.fp_recovery.specs.Stands.{StandsFor}
@@ -42,7 +42,7 @@ TellsUpTo told (answer.Sealed revision) = Unit {0}
 TellsUpTo told (answer.Settled revision) = Unit {0}
 TellsUpTo told answer.Waiting = Unit {0}
 
-pub record IsWorld {D : Type 0} (honest : D → Type 0) (unsynced : D → Unsynced) (held : Held) (s : StoreState D) (d : DeskState) (told : ℕ) : Type 0 where
+pub record IsWorld {D : Type 0} (honest : D → Type 0) (unsynced : D → PendingState) (held : Held) (s : StoreState D) (d : DeskState) (told : ℕ) : Type 0 where
   pub same : d.store ≡ s.store
   pub out : IsOut held s d
   pub low : told ≤ settled_revision d

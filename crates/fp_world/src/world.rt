@@ -95,7 +95,7 @@ impl<D: Disk> World<D> {
         ensures same { (self.new.desk ≡ self.old.desk) × (self.new.told ≡ self.old.told)
             × (self.new.store.store ≡ self.old.store.store) }
         ensures any_moment { D.honest self.old.store.journal.disk →
-            LeavesOnly D.moment D.left_since self.old.store.journal.disk
+            LeavesOnly D.moment D.crash_states_since self.old.store.journal.disk
             self.new.store.journal.disk (KeptFrom self.new.desk self.old.told) }
         ensures exit { D.honest self.new.store.journal.disk → (c : List ℕ) →
             IsOutcome (D.unsynced self.new.store.journal.disk) c →
@@ -156,7 +156,7 @@ impl<D: Disk> World<D> {
         ensures same { (self.new.desk ≡ self.old.desk) × (self.new.told ≡ self.old.told)
             × (self.new.store.store ≡ self.old.store.store) }
         ensures any_moment { D.honest self.old.store.journal.disk →
-            LeavesOnly D.moment D.left_since self.old.store.journal.disk
+            LeavesOnly D.moment D.crash_states_since self.old.store.journal.disk
             self.new.store.journal.disk (KeptFrom self.new.desk self.old.told) }
         ensures exit { D.honest self.new.store.journal.disk → (c : List ℕ) →
             IsOutcome (D.unsynced self.new.store.journal.disk) c →
@@ -183,7 +183,7 @@ impl<D: Disk> World<D> {
         ensures same { (self.new.desk ≡ self.old.desk) × (self.new.told ≡ self.old.told)
             × (self.new.store.store ≡ self.old.store.store) }
         ensures any_moment { D.honest self.old.store.journal.disk →
-            LeavesOnly D.moment D.left_since self.old.store.journal.disk
+            LeavesOnly D.moment D.crash_states_since self.old.store.journal.disk
             self.new.store.journal.disk (KeptFrom self.new.desk self.old.told) }
         ensures exit { D.honest self.new.store.journal.disk → (c : List ℕ) →
             IsOutcome (D.unsynced self.new.store.journal.disk) c →
@@ -210,7 +210,7 @@ impl<D: Disk> World<D> {
         ensures same { (self.new.desk ≡ self.old.desk) × (self.new.told ≡ self.old.told)
             × (self.new.store.store ≡ self.old.store.store) }
         ensures any_moment { D.honest self.old.store.journal.disk →
-            LeavesOnly D.moment D.left_since self.old.store.journal.disk
+            LeavesOnly D.moment D.crash_states_since self.old.store.journal.disk
             self.new.store.journal.disk (KeptFrom self.new.desk self.old.told) }
         ensures exit { D.honest self.new.store.journal.disk → (c : List ℕ) →
             IsOutcome (D.unsynced self.new.store.journal.disk) c →
@@ -323,7 +323,7 @@ impl<D: Disk> World<D> {
             × (self.new.desk.store ≡ self.old.desk.store) }
         ensures told { self.old.told ≤ self.new.told }
         ensures any_moment { D.honest self.old.store.journal.disk →
-            LeavesOnly D.moment D.left_since self.old.store.journal.disk
+            LeavesOnly D.moment D.crash_states_since self.old.store.journal.disk
             self.new.store.journal.disk (KeptFrom self.new.desk self.old.told) }
         ensures exit { D.honest self.new.store.journal.disk → (c : List ℕ) →
             IsOutcome (D.unsynced self.new.store.journal.disk) c →

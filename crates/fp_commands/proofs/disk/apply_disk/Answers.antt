@@ -3,15 +3,15 @@ use Rattle.std.proofs.lemmas.Option.{IfSome_then}
 use Rattle.std.specs.Io.KnownBytes.{Appends}
 use Rattle.fp_edit.specs.Edits.{Proposal}
 use Rattle.fp_edit.specs.Flags.{State}
-use Rattle.fp_plane.specs.Run.{IsLeftBy, IsRunOver, IsStoppedBy}
-use Rattle.fp_plane.specs.Script.{script, after_input}
-use Rattle.fp_plane.specs.Streams as plane
-use Rattle.fp_plane.specs.declared.fault.ApplyFault.{ApplyFault}
+use Rattle.fp_session.specs.Run.{IsLeftBy, IsRunOver, IsStoppedBy}
+use Rattle.fp_session.specs.Script.{script, after_input}
+use Rattle.fp_session.specs.Streams as plane
+use Rattle.fp_session.specs.declared.fault.ApplyFault.{ApplyFault}
 use Rattle.fp_recovery.specs.Stands.{StandsFor}
 use Rattle.fp_commands.specs.declared.fault.CommandFault.{CommandFault}
 use Rattle.fp_commands.specs.declared.kept.Kept.{Kept}
 use Rattle.fp_commands.specs.Disks.{Blames, IsApplyingFault}
-use Rattle.fp_commands.proofs.Courses.{CourseOf, course-honest, course-goes, course-ready, course-calm, course-cause}
+use Rattle.fp_commands.proofs.Courses.{CourseOf, course-honest, course-goes, course-ready, course-no_failure, course-cause}
 use Rattle.fp_commands.proofs.Blamed.{blames-run}
 use Rattle.fp_commands.proofs.Told.{applying-open, applying-run, left-at_once, some_all, some_both, some_if}
 use Rattle.fp_commands.proofs.disk.apply_disk.Goals as goal
@@ -74,7 +74,7 @@ returns-in-Err-outcome-clause-cause g c = λ is.
     let course : CourseOf D.honest D.unsynced D.faults asks get first k {A = Bool} (Err f) = subst (λ (o : Result Bool ApplyFault). CourseOf D.honest D.unsynced D.faults asks get first k o) c.in-Err-outcome.is l.course in
     let left = g.R.Read.remaining c.args.r.now.inner in let disk = c.into_disk-disk.result in
     let honest = course-honest D.honest D.unsynced D.faults asks get first k c.apply_lines-kept.result.1 l.course in
-    course-cause D.honest D.unsynced D.faults asks get first k Bool f disk (D.faults c.args.disk) (D.honest c.args.disk) (D.bytes c.args.disk) left IsStoppedBy e.calm course
+    course-cause D.honest D.unsynced D.faults asks get first k Bool f disk (D.faults c.args.disk) (D.honest c.args.disk) (D.bytes c.args.disk) left IsStoppedBy e.no_failure course
     (sym c.into-in-Err-outcome.ensures ∙ is) e.ready c.into_disk-disk.ensures.disk (λ h. subst D.honest (sym c.into_disk-disk.ensures.disk) (honest.0 (e.honest.0 h))) e.stands
     (λ x p asked. asked)
 
@@ -87,7 +87,7 @@ returns-in-Err-outcome-clause-device g c =
     let d0 = D.faults c.args.disk in let d1 = D.faults c.into_disk-disk.result in
     let here : d1 ≡ D.faults k.set.journal.disk = ap D.faults c.into_disk-disk.ensures.disk in
     subst (λ (o : CommandFault). Blames {A = Bool} (d0 + (c.args.r.now.failures + c.args.w.now.failures)) (d1 + (c.apply_lines-kept.new.r.failures + c.apply_lines-kept.new.w.failures)) (Err o)) (sym c.into-in-Err-outcome.ensures)
-    (blames-run Bool Bool d0 d1 (c.args.r.now.failures + c.args.w.now.failures) (c.apply_lines-kept.new.r.failures + c.apply_lines-kept.new.w.failures) f (λ is. here ∙ course-calm D.honest D.unsynced D.faults asks get first k Bool f course is ∙ e.calm)
+    (blames-run Bool Bool d0 d1 (c.args.r.now.failures + c.args.w.now.failures) (c.apply_lines-kept.new.r.failures + c.apply_lines-kept.new.w.failures) f (λ is. here ∙ course-no_failure D.honest D.unsynced D.faults asks get first k Bool f course is ∙ e.no_failure)
     (subst (λ (o : Result Bool ApplyFault). plane.Blames (c.args.r.now.failures + c.args.w.now.failures) (c.apply_lines-kept.new.r.failures + c.apply_lines-kept.new.w.failures) o) c.in-Err-outcome.is l.device))
 
 pub returns-in-Ok-outcome-clause-device : goal.returns-in-Ok-outcome-clause-device
@@ -97,9 +97,9 @@ returns-in-Ok-outcome-clause-device g c =
     let asks = λ (x : Kept g.row.D.Denot) (p : Proposal). IfSome (g.R.Read.remaining c.args.r.now.inner) (λ (input : List ℕ). IsStoppedBy c.in-Ok.set.set input x.set.set p) in
     let told = c.in-Ok-outcome.told in let is = c.in-Ok-outcome.is in
     let here : D.faults c.into_disk-disk.result ≡ D.faults k.set.journal.disk = ap D.faults c.into_disk-disk.ensures.disk in
-    let went = (course-goes D.honest D.unsynced D.faults asks get first k c.apply_lines-kept.result.1 told is l.course).calm in
+    let went = (course-goes D.honest D.unsynced D.faults asks get first k c.apply_lines-kept.result.1 told is l.course).no_failure in
     let streams : c.apply_lines-kept.new.r.failures + c.apply_lines-kept.new.w.failures ≡ c.args.r.now.failures + c.args.w.now.failures = subst (λ (o : Result Bool ApplyFault). plane.Blames (c.args.r.now.failures + c.args.w.now.failures) (c.apply_lines-kept.new.r.failures + c.apply_lines-kept.new.w.failures) o) is l.device in
-    let opened : D.faults c.in-Ok.set.journal.disk ≡ D.faults c.args.disk = e.calm in
+    let opened : D.faults c.in-Ok.set.journal.disk ≡ D.faults c.args.disk = e.no_failure in
     omega (arith, here, went, streams, opened)
 
 pub returns-in-Err-outcome-clause-honest : goal.returns-in-Err-outcome-clause-honest

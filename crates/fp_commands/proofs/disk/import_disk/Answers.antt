@@ -4,16 +4,16 @@ use Rattle.std.specs.Io.KnownBytes.{Appends}
 use Rattle.fp_edit.specs.Edits.{Proposal}
 use Rattle.fp_edit.specs.Flags.{State}
 use Rattle.fp_imports.specs.Document.{Flag}
-use Rattle.fp_plane.specs.Import.{seen, IsImport, IsLeftByPuts, IsStoppedByPuts, import_script, after_import}
-use Rattle.fp_plane.specs.Streams as plane
-use Rattle.fp_plane.specs.declared.fault.ApplyFault.{ApplyFault}
+use Rattle.fp_session.specs.Import.{seen, IsImport, IsLeftByPuts, IsStoppedByPuts, import_script, after_import}
+use Rattle.fp_session.specs.Streams as plane
+use Rattle.fp_session.specs.declared.fault.ApplyFault.{ApplyFault}
 use Rattle.fp_recovery.specs.Stands.{StandsFor}
 use Rattle.fp_commands.specs.declared.fault.CommandFault.{CommandFault}
 use Rattle.fp_commands.specs.declared.kept.Kept.{Kept}
 use Rattle.fp_commands.specs.Disks.{Blames, IsImportingFault, IsLeftByImport, IsStoppedByImport}
 use Rattle.fp_commands.specs.Documents.{IsDocumentFault}
 use Rattle.fp_commands.specs.Faults.{of_run}
-use Rattle.fp_commands.proofs.Courses.{CourseOf, course-honest, course-goes, course-ready, course-calm, course-cause}
+use Rattle.fp_commands.proofs.Courses.{CourseOf, course-honest, course-goes, course-ready, course-no_failure, course-cause}
 use Rattle.fp_commands.proofs.Blamed.{blames-more, blames-run}
 use Rattle.fp_commands.proofs.Told.{some_all}
 use Rattle.fp_commands.proofs.Imported.{importing-open, importing-run, importing-document}
@@ -101,7 +101,7 @@ returns-in-Err-outcome-clause-cause g c = λ is.
     let course : CourseOf D.honest D.unsynced D.faults asks get first k {A = Bool} (Err f) = subst (λ (o : Result Bool ApplyFault). CourseOf D.honest D.unsynced D.faults asks get first k o) c.in-Err-outcome.is l.course in
     let left = g.R.Read.remaining c.args.r.now.inner in let disk = c.into_disk-disk.result in
     let honest = course-honest D.honest D.unsynced D.faults asks get first k c.import_flags-kept.result.1 l.course in
-    course-cause D.honest D.unsynced D.faults asks get first k Bool f disk (D.faults c.args.disk) (D.honest c.args.disk) (D.bytes c.args.disk) left IsStoppedByImport e.calm course
+    course-cause D.honest D.unsynced D.faults asks get first k Bool f disk (D.faults c.args.disk) (D.honest c.args.disk) (D.bytes c.args.disk) left IsStoppedByImport e.no_failure course
     (sym c.into-in-Err-outcome.ensures ∙ is) e.ready c.into_disk-disk.ensures.disk (λ h. subst D.honest (sym c.into_disk-disk.ensures.disk) (honest.0 (e.honest.0 h))) e.stands
     (λ x p asked. IfSome_then left c.in-Ok-read_document.ensures.flags (λ input known. (map seen c.in-Ok-read_document.flags.items, known, asked)))
 
@@ -117,7 +117,7 @@ returns-in-Err-outcome-clause-device g c =
     let read : r1 ≡ r0 = c.in-Ok-read_document.ensures.device in
     subst (λ (o : CommandFault). Blames {A = Bool} (d0 + (r0 + w0)) (d1 + (r1 + w1)) (Err o)) (sym c.into-in-Err-outcome.ensures)
     (blames-more Bool Bool (d0 + w0) (d1 + w1) (d0 + (r0 + w0)) (d1 + (r1 + w1)) (of_run f) (λ less. omega (arith, less, read))
-    (blames-run Bool Bool d0 d1 w0 w1 f (λ is. here ∙ course-calm D.honest D.unsynced D.faults asks get first k Bool f course is ∙ e.calm)
+    (blames-run Bool Bool d0 d1 w0 w1 f (λ is. here ∙ course-no_failure D.honest D.unsynced D.faults asks get first k Bool f course is ∙ e.no_failure)
     (subst (λ (o : Result Bool ApplyFault). plane.Blames w0 w1 o) c.in-Err-outcome.is l.device)))
 
 pub returns-in-Ok-outcome-clause-device : goal.returns-in-Ok-outcome-clause-device
@@ -127,10 +127,10 @@ returns-in-Ok-outcome-clause-device g c =
     let asks = λ (x : Kept g.row.D.Denot) (p : Proposal). IsStoppedByPuts c.in-Ok.set.set (map seen c.in-Ok-read_document.flags.items) x.set.set p in
     let told = c.in-Ok-outcome.told in let is = c.in-Ok-outcome.is in
     let here : D.faults c.into_disk-disk.result ≡ D.faults k.set.journal.disk = ap D.faults c.into_disk-disk.ensures.disk in
-    let went = (course-goes D.honest D.unsynced D.faults asks get first k c.import_flags-kept.result.1 told is l.course).calm in
+    let went = (course-goes D.honest D.unsynced D.faults asks get first k c.import_flags-kept.result.1 told is l.course).no_failure in
     let read : c.read_document.new.r.failures ≡ c.args.r.now.failures = c.in-Ok-read_document.ensures.device in
     let sent : c.import_flags-kept.new.w.failures ≡ c.args.w.now.failures = subst (λ (o : Result Bool ApplyFault). plane.Blames c.args.w.now.failures c.import_flags-kept.new.w.failures o) is l.device in
-    let opened : D.faults c.in-Ok.set.journal.disk ≡ D.faults c.args.disk = e.calm in
+    let opened : D.faults c.in-Ok.set.journal.disk ≡ D.faults c.args.disk = e.no_failure in
     omega (arith, here, went, read, sent, opened)
 
 pub returns-in-Err-outcome-clause-honest : goal.returns-in-Err-outcome-clause-honest

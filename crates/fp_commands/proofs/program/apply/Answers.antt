@@ -1,8 +1,8 @@
 use Rattle.std.proofs.Common.{IfSome, IfOk, Bool, Result, ◌+◌, subst, arith}
 use Rattle.std.proofs.lemmas.Option.{IfSome_then}
-use Rattle.fp_plane.specs.Run.{IsRunOver}
-use Rattle.fp_plane.specs.Streams as plane
-use Rattle.fp_plane.specs.declared.fault.ApplyFault.{ApplyFault}
+use Rattle.fp_session.specs.Run.{IsRunOver}
+use Rattle.fp_session.specs.Streams as plane
+use Rattle.fp_session.specs.declared.fault.ApplyFault.{ApplyFault}
 use Rattle.fp_commands.proofs.program.apply.Goals as goal
 
 pub returns : goal.returns
@@ -18,6 +18,6 @@ returns g c =
     let same = subst (λ (o : Result Bool ApplyFault). plane.Blames before after o) c.in_ok-_told.was c.apply_lines-flags.ensures.device in
     record {
       done = IfSome_then left run (λ input r. (told, now, subst (λ s. IsRunOver s input told old new now) c.new.ensures r));
-      calm = omega (arith, same);
+      no_failure = omega (arith, same);
       ends = tt;
     }

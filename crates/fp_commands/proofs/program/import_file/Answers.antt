@@ -1,12 +1,12 @@
 use Rattle.std.proofs.Common.{ap}
 use Rattle.fp_disk.specs.History.{Calls}
-use Rattle.fp_commands.proofs.Ended.{file-calm}
+use Rattle.fp_commands.proofs.Ended.{file-no_failure}
 use Rattle.fp_commands.proofs.Told.{imports}
 use Rattle.fp_commands.proofs.program.import_file.Goals as goal
 
 pub returns : goal.returns
 returns g c = record {
   done = imports c.import_disk-disk.result.1 c.in_ok-_told._told _ _ _ _ _ _ c.in_ok-_told.was c.import_disk-disk.ensures.run;
-  calm = file-calm c.import_disk-disk.result.1 c.in_ok-_told._told _ _ _ _ c.in_ok-_told.was (ap (λ (d : Calls). d.faults) c.in_ok-disk.ensures) c.import_disk-disk.ensures.device;
+  no_failure = file-no_failure c.import_disk-disk.result.1 c.in_ok-_told._told _ _ _ _ c.in_ok-_told.was (ap (λ (d : Calls). d.faults) c.in_ok-disk.ensures) c.import_disk-disk.ensures.device;
   ends = tt;
 }

@@ -12,7 +12,7 @@ returns-clause-each g c = let D = g.D.Disk in let old = c.args.disk.now.disk in 
     let same : c.guarding-gate.result ≡ there = search rules in
     λ h. let h' = c.write_and_sync.ensures.honest.0 h in
     let put : Written (D.bytes old) at more (D.bytes between) = c.in_ok-synced.ensures.written h in
-    leaves_then D.moment D.left_since old between new (HasBehind gate at more)
-    (leaves_map D.moment D.left_since old between (λ l. (gate < length l) × (slice_index l gate ≢ OPEN)) (HasBehind gate at more) (λ l shut. (shut.0, λ is_open. absurd (shut.1 is_open))) (c.write_and_sync.ensures.each h))
-    (leaves_map D.moment D.left_since between new (Guards there (D.bytes between)) (HasBehind gate at more) (λ l guards. guards_behind gate at (D.bytes old) more (D.bytes between) l put guards)
-    (subst (λ (k : Gated). LeavesOnly D.moment D.left_since between new (Guards k (D.bytes between))) same (c.open_and_seal.ensures.each h')))
+    leaves_then D.moment D.crash_states_since old between new (HasBehind gate at more)
+    (leaves_map D.moment D.crash_states_since old between (λ l. (gate < length l) × (slice_index l gate ≢ OPEN)) (HasBehind gate at more) (λ l shut. (shut.0, λ is_open. absurd (shut.1 is_open))) (c.write_and_sync.ensures.each h))
+    (leaves_map D.moment D.crash_states_since between new (Guards there (D.bytes between)) (HasBehind gate at more) (λ l guards. guards_behind gate at (D.bytes old) more (D.bytes between) l put guards)
+    (subst (λ (k : Gated). LeavesOnly D.moment D.crash_states_since between new (Guards k (D.bytes between))) same (c.open_and_seal.ensures.each h')))

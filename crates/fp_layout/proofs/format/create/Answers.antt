@@ -1,6 +1,6 @@
 use Rattle.std.proofs.Common.{rules, ◌≡◌, ◌+◌, [], sym, ◌∙◌, subst}
-use Rattle.fp_disk.specs.Outcomes.{Unsynced, settled}
-use Rattle.fp_journal.specs.State.{IsQuiet}
+use Rattle.fp_disk.specs.Outcomes.{PendingState, all_synced}
+use Rattle.fp_journal.specs.State.{EndsClosed}
 use Rattle.fp_journal.proofs.Gates.{quiet_settled}
 use Rattle.fp_disk.specs.Moments.{leaves_then}
 use Rattle.fp_layout.specs.NewDisk.{IsNewDisk, IsNewOrNone, closed_bytes, new_front}
@@ -12,8 +12,8 @@ adopt-requires-clause-quiet g c =
     let D = g.D.Disk in let s = c.args.size in let d = c.format.new.disk in
     let items : c.in-Ok-closed.bytes.items ≡ closed_bytes s = c.in-Ok-closed.ensures in
     let new : D.honest d → IsNewDisk s (D.bytes d) = λ h. let h1 = c.format.ensures.honest.1 h in let h0 = c.len.ensures.honest.1 h1 in c.in-Ok-format.ensures.made h1 ((c.len.ensures.same h0).0 ∙ making.no_bytes (D.bytes c.args.disk) (sym (c.in-Ok-eq0.ensures.answer h0) ∙ c.in-Ok-eq0.field-0-test)) in
-    let sure : D.honest d → D.unsynced d ≡ settled (D.bytes d) = search rules in
-    rw (c.first_slot.ensures.slot, items) (λ h. subst (λ (u : Unsynced). IsQuiet 64 (64 + s) new_front u) (sym (sure h)) (quiet_settled 64 (64 + s) new_front (D.bytes d) (making.new_ends s (D.bytes d) c.first_slot.ensures.allowed (new h))))
+    let sure : D.honest d → D.unsynced d ≡ all_synced (D.bytes d) = search rules in
+    rw (c.first_slot.ensures.slot, items) (λ h. subst (λ (u : PendingState). EndsClosed 64 (64 + s) new_front u) (sym (sure h)) (quiet_settled 64 (64 + s) new_front (D.bytes d) (making.new_ends s (D.bytes d) c.first_slot.ensures.allowed (new h))))
 
 pub returns-clause-stands : goal.returns-clause-stands
 returns-clause-stands g c =
@@ -25,11 +25,11 @@ returns-clause-stands g c =
 pub returns-clause-any_moment : goal.returns-clause-any_moment
 returns-clause-any_moment g c =
     let D = g.D.Disk in let m = g.met.D.Disk in let s = c.args.size in let d0 = c.args.disk in let d1 = c.len.new.self in let d2 = c.format.new.disk in
-    λ h is. let same : D.unsynced d1 ≡ settled [] = (c.len.ensures.same h).1 ∙ is in
-    rw c.adopt.ensures.disk (leaves_then D.moment D.left_since d0 d1 d2 (IsNewOrNone s) (making.empty_leaves D.honest D.bytes D.unsynced D.moment D.left_since m.present m.only_now s d0 d1 h is (c.len.ensures.time h)) (c.format.ensures.any_moment (c.len.ensures.honest.0 h) same))
+    λ h is. let same : D.unsynced d1 ≡ all_synced [] = (c.len.ensures.same h).1 ∙ is in
+    rw c.adopt.ensures.disk (leaves_then D.moment D.crash_states_since d0 d1 d2 (IsNewOrNone s) (making.empty_leaves D.honest D.bytes D.unsynced D.moment D.crash_states_since m.present m.only_now s d0 d1 h is (c.len.ensures.time h)) (c.format.ensures.any_moment (c.len.ensures.honest.0 h) same))
 
 pub returns-in_default-format-clause-any_moment : goal.returns-in_default-format-clause-any_moment
 returns-in_default-format-clause-any_moment g c =
     let D = g.D.Disk in let m = g.met.D.Disk in let s = c.args.size in let d0 = c.args.disk in let d1 = c.len.new.self in let d2 = c.format.new.disk in
-    λ h is. let same : D.unsynced d1 ≡ settled [] = (c.len.ensures.same h).1 ∙ is in
-    leaves_then D.moment D.left_since d0 d1 d2 (IsNewOrNone s) (making.empty_leaves D.honest D.bytes D.unsynced D.moment D.left_since m.present m.only_now s d0 d1 h is (c.len.ensures.time h)) (c.format.ensures.any_moment (c.len.ensures.honest.0 h) same)
+    λ h is. let same : D.unsynced d1 ≡ all_synced [] = (c.len.ensures.same h).1 ∙ is in
+    leaves_then D.moment D.crash_states_since d0 d1 d2 (IsNewOrNone s) (making.empty_leaves D.honest D.bytes D.unsynced D.moment D.crash_states_since m.present m.only_now s d0 d1 h is (c.len.ensures.time h)) (c.format.ensures.any_moment (c.len.ensures.honest.0 h) same)

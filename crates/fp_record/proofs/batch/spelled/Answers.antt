@@ -5,7 +5,7 @@ use Rattle.std.proofs.lemmas.List.{take_all, length-map}
 use Rattle.fp_edit.specs.declared.edit.Edit.{Edit}
 use Rattle.std.specs.Prelude.{List}
 use Rattle.fp_record.specs.Edits.{change_of, changes_of}
-use Rattle.fp_record.specs.Spelling.{spelling_of_change}
+use Rattle.fp_record.specs.Encoding.{encoding_of_change}
 use Rattle.fp_record.proofs.Written.{batch_written}
 use Rattle.fp_record.proofs.batch.spelled.Goals as goal
 
@@ -14,4 +14,4 @@ returns-clause-spelled c =
     let edits = c.args.edits.now in
     let all : take c.loop-edit.edit-index edits ≡ edits = take_all _ _ c.loop-edit-test.false in
     batch_written c.args.first (length edits) (changes_of edits) c.loop-edit.out.items (sym (length-map edits change_of))
-    (c.loop-edit.invariant.0 ∙ ap (λ (done : List Edit). (to_be_bytes w64 c.args.first ++ to_be_bytes w16 (length edits)) ++ flat_map spelling_of_change (changes_of done)) all)
+    (c.loop-edit.invariant.0 ∙ ap (λ (done : List Edit). (to_be_bytes w64 c.args.first ++ to_be_bytes w16 (length edits)) ++ flat_map encoding_of_change (changes_of done)) all)

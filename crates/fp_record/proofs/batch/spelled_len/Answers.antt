@@ -4,7 +4,7 @@ use Rattle.fp_record.proofs.Lengths.{length-put, length-delete}
 use Rattle.fp_record.proofs.Texts.{definition_short}
 use Rattle.fp_definition.specs.declared.key.TheConstants.{LONGEST_KEY}
 use Rattle.fp_definition.specs.declared.definition.TheConstants.{LONGEST_DEFINITION}
-use Rattle.fp_record.proofs.batch.spelled_len.Goals as goal
+use Rattle.fp_record.proofs.batch.encoded_len.Goals as goal
 
 pub returns-in-Put-clause-len : goal.returns-in-Put-clause-len
 returns-in-Put-clause-len c = rw (c.in-Put.is, c.as_str.ensures, c.text.ensures.text) (sym (length-put (key_bytes c.in-Put.key) c.in-Put.flag))

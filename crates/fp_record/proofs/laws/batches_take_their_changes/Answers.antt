@@ -1,5 +1,5 @@
-use Rattle.fp_record.proofs.Lengths.{length-spelling_of_batch}
+use Rattle.fp_record.proofs.Lengths.{length-encoding_of_batch}
 use Rattle.fp_record.proofs.laws.batches_take_their_changes.Goals as goal
 
 pub returns : goal.returns
-returns c = length-spelling_of_batch
+returns c = length-encoding_of_batch

@@ -1,5 +1,5 @@
 use Rattle.std.proofs.Common.{length, refl, ap}
-use Rattle.fp_disk.specs.Outcomes.{touched}
+use Rattle.fp_disk.specs.Outcomes.{with_write}
 use Rattle.fp_disk.specs.declared.call.Progress.TheVariants.{Nothing}
 use Rattle.fp_disk.specs.declared.call.Request.TheVariants.{Len, Read, Write, Sync}
 use Rattle.fp_disk.specs.Memory.{State, state, unsynced_of, write_progress}
@@ -35,7 +35,7 @@ write_at-tells c = let old = c.args.self.now in let new = c.new.self.now in let 
   unsynced = λ h. touched_ok old new at more p c.result c.ensures.recorded;
   partly = λ h. written_partly old new at more p c.result c.ensures.recorded;
   failed = λ h. touched_err old new at more p c.result c.ensures.recorded;
-  time = λ h. elapses_of old new (Write at more) p (touched (unsynced_of (state old)) at (length more)) (λ q o out. out) c.result c.ensures.recorded;
+  time = λ h. elapses_of old new (Write at more) p (with_write (unsynced_of (state old)) at (length more)) (λ q o out. out) c.result c.ensures.recorded;
   called = called_of old new (Write at more) p c.result c.ensures.recorded;
   cause = answers_of old new (Write at more) p c.result c.ensures.recorded;
 }

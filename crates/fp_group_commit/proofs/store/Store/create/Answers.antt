@@ -4,47 +4,47 @@ use Rattle.fp_disk.specs.Outcomes.{LeavesOnly}
 use Rattle.fp_edit.specs.Flags.{State}
 use Rattle.fp_journal.specs.State.{JournalState}
 use Rattle.fp_layout.specs.NewDisk.{IsNewOrNone}
-use Rattle.fp_recovery.specs.Durable.{IsKept, IsNewSetOrNone, IsSure}
+use Rattle.fp_recovery.specs.Durable.{IsKept, IsNewSetOrNone, IsDurable}
 use Rattle.fp_recovery.proofs.Kept.{new_kept, new_or_none, new_set, new_stands, settled_sure}
 use Rattle.fp_group_commit.proofs.store.Store.create.Goals as goal
 
 pub returns-in-Err-NotEmpty-default-clause-any_moment : goal.returns-in-Err-NotEmpty-default-clause-any_moment
 returns-in-Err-NotEmpty-default-clause-any_moment g c = λ h is.
     let D = g.D.Disk in let size = c.args.size in let d = c.in-Err-NotEmpty-default.disk in
-    leaves_map D.moment D.left_since c.args.disk d (IsNewOrNone size) (IsNewSetOrNone size) (new_or_none size (c.in-Some.ensures.allowed.0 refl))
-    (subst (λ (n : ℕ). LeavesOnly D.moment D.left_since c.args.disk d (IsNewOrNone n)) c.in-Some.ensures.value (c.in-Err-NotEmpty-default.ensures.any_moment h is))
+    leaves_map D.moment D.crash_states_since c.args.disk d (IsNewOrNone size) (IsNewSetOrNone size) (new_or_none size (c.in-Some.ensures.allowed.0 refl))
+    (subst (λ (n : ℕ). LeavesOnly D.moment D.crash_states_since c.args.disk d (IsNewOrNone n)) c.in-Some.ensures.value (c.in-Err-NotEmpty-default.ensures.any_moment h is))
 
 pub returns-in-Err-Device-default-clause-any_moment : goal.returns-in-Err-Device-default-clause-any_moment
 returns-in-Err-Device-default-clause-any_moment g c = λ h is.
     let D = g.D.Disk in let size = c.args.size in let d = c.in-Err-Device-default.disk in
-    leaves_map D.moment D.left_since c.args.disk d (IsNewOrNone size) (IsNewSetOrNone size) (new_or_none size (c.in-Some.ensures.allowed.0 refl))
-    (subst (λ (n : ℕ). LeavesOnly D.moment D.left_since c.args.disk d (IsNewOrNone n)) c.in-Some.ensures.value (c.in-Err-Device-default.ensures.any_moment h is))
+    leaves_map D.moment D.crash_states_since c.args.disk d (IsNewOrNone size) (IsNewSetOrNone size) (new_or_none size (c.in-Some.ensures.allowed.0 refl))
+    (subst (λ (n : ℕ). LeavesOnly D.moment D.crash_states_since c.args.disk d (IsNewOrNone n)) c.in-Some.ensures.value (c.in-Err-Device-default.ensures.any_moment h is))
 
 pub returns-in-Err-Memory-default-clause-any_moment : goal.returns-in-Err-Memory-default-clause-any_moment
 returns-in-Err-Memory-default-clause-any_moment g c = λ h is.
     let D = g.D.Disk in let size = c.args.size in let d = c.in-Err-Memory-default.disk in
-    leaves_map D.moment D.left_since c.args.disk d (IsNewOrNone size) (IsNewSetOrNone size) (new_or_none size (c.in-Some.ensures.allowed.0 refl))
-    (subst (λ (n : ℕ). LeavesOnly D.moment D.left_since c.args.disk d (IsNewOrNone n)) c.in-Some.ensures.value (c.in-Err-Memory-default.ensures.any_moment h is))
+    leaves_map D.moment D.crash_states_since c.args.disk d (IsNewOrNone size) (IsNewSetOrNone size) (new_or_none size (c.in-Some.ensures.allowed.0 refl))
+    (subst (λ (n : ℕ). LeavesOnly D.moment D.crash_states_since c.args.disk d (IsNewOrNone n)) c.in-Some.ensures.value (c.in-Err-Memory-default.ensures.any_moment h is))
 
 pub adopt-requires-clause-kept : goal.adopt-requires-clause-kept
 adopt-requires-clause-kept g c = λ h.
     let D = g.D.Disk in let e = c.in-Ok.ensures in let j = c.in-Ok.journal in let size = c.in-Some.size in let h0 = e.honest.1 h in let parts = e.journal in let stands = e.stands h0 in
     let set : c.new-set.result ≡ new_set size = c.new-set.ensures ∙ ap new_set c.bytes-limit.ensures.bytes in
     subst (λ (s : State). IsKept (D.unsynced j.disk) s j) (sym set)
-    (new_kept size (D.bytes j.disk) stands.0.allowed (e.made h0) stands.0 stands.1 (D.unsynced j.disk) j parts.0 parts.1 parts.2 (e.settled h0))
+    (new_kept size (D.bytes j.disk) stands.0.allowed (e.made h0) stands.0 stands.1 (D.unsynced j.disk) j parts.0 parts.1 parts.2 (e.all_synced h0))
 
 pub returns-clause-sure : goal.returns-clause-sure
 returns-clause-sure g c = λ h0.
     let D = g.D.Disk in let e = c.in-Ok.ensures in let j = c.in-Ok.journal in let size = c.in-Some.size in let stands = e.stands h0 in
     let disk : c.adopt.result.0.journal ≡ j = c.adopt.ensures.journal in
-    subst (λ (k : JournalState g.row.D.Denot). IsSure (D.unsynced k.disk) (new_set c.args.size)) (sym disk)
-    (subst (λ (n : ℕ). IsSure (D.unsynced j.disk) (new_set n)) c.in-Some.ensures.value
-    (settled_sure (D.unsynced j.disk) (D.bytes j.disk) (new_set size) (e.settled h0) (new_stands size (D.bytes j.disk) stands.0.allowed (e.made h0) stands.0 stands.1)))
+    subst (λ (k : JournalState g.row.D.Denot). IsDurable (D.unsynced k.disk) (new_set c.args.size)) (sym disk)
+    (subst (λ (n : ℕ). IsDurable (D.unsynced j.disk) (new_set n)) c.in-Some.ensures.value
+    (settled_sure (D.unsynced j.disk) (D.bytes j.disk) (new_set size) (e.all_synced h0) (new_stands size (D.bytes j.disk) stands.0.allowed (e.made h0) stands.0 stands.1)))
 
 pub returns-clause-any_moment : goal.returns-clause-any_moment
 returns-clause-any_moment g c = λ h is.
     let D = g.D.Disk in let size = c.args.size in let j = c.in-Ok.journal in
     let disk : c.adopt.result.0.journal ≡ j = c.adopt.ensures.journal in
-    subst (λ (k : JournalState g.row.D.Denot). LeavesOnly D.moment D.left_since c.args.disk k.disk (IsNewSetOrNone size)) (sym disk)
-    (leaves_map D.moment D.left_since c.args.disk j.disk (IsNewOrNone size) (IsNewSetOrNone size) (new_or_none size (c.in-Some.ensures.allowed.0 refl))
-    (subst (λ (n : ℕ). LeavesOnly D.moment D.left_since c.args.disk j.disk (IsNewOrNone n)) c.in-Some.ensures.value (c.in-Ok.ensures.any_moment h is)))
+    subst (λ (k : JournalState g.row.D.Denot). LeavesOnly D.moment D.crash_states_since c.args.disk k.disk (IsNewSetOrNone size)) (sym disk)
+    (leaves_map D.moment D.crash_states_since c.args.disk j.disk (IsNewOrNone size) (IsNewSetOrNone size) (new_or_none size (c.in-Some.ensures.allowed.0 refl))
+    (subst (λ (n : ℕ). LeavesOnly D.moment D.crash_states_since c.args.disk j.disk (IsNewOrNone n)) c.in-Some.ensures.value (c.in-Ok.ensures.any_moment h is)))

@@ -3,7 +3,7 @@ use Rattle.std.specs.Prelude.{IfErr}
 use Rattle.fp_edit.specs.Flags.{State}
 use Rattle.fp_journal.specs.State.{JournalState}
 use Rattle.fp_layout.specs.declared.fault.OpenFault.{OpenFault}
-use Rattle.fp_recovery.specs.Durable.{IsKept, IsSure}
+use Rattle.fp_recovery.specs.Durable.{IsKept, IsDurable}
 use Rattle.fp_recovery.specs.Refusals.{IsUnlessWanting, RefusesBytes}
 use Rattle.fp_recovery.specs.Stands.{StandsFor}
 use Rattle.fp_recovery.proofs.Cases.{err_more}
@@ -22,7 +22,7 @@ pub adopt-requires-clause-kept : goal.adopt-requires-clause-kept
 adopt-requires-clause-kept g c = λ h.
     let D = g.D.Disk in let e = c.in_ok-journal.ensures in let j = c.in_ok-journal.journal in let h0 = e.honest.1 h in
     subst (λ (s : State). IsKept (D.unsynced j.disk) s j) (sym c.into_set-set.ensures)
-    (found_kept (D.bytes c.args.disk) c.new-restoring.result c.open.new.reader j.slot j.front (e.found h0) (D.unsynced j.disk) j refl refl e.begins.0 (e.settled h0))
+    (found_kept (D.bytes c.args.disk) c.new-restoring.result c.open.new.reader j.slot j.front (e.found h0) (D.unsynced j.disk) j refl refl e.begins.0 (e.all_synced h0))
 
 pub returns-clause-stands : goal.returns-clause-stands
 returns-clause-stands g c = λ h0.
@@ -41,5 +41,5 @@ returns-clause-sure g c = λ h0.
     let D = g.D.Disk in let e = c.in_ok-journal.ensures in let j = c.in_ok-journal.journal in
     let start : c.adopt.result.0.store.start ≡ c.open.new.reader = c.adopt.ensures.fresh.start ∙ c.into_set-set.ensures in
     let disk = ap (λ (k : JournalState g.row.D.Denot). D.unsynced k.disk) c.adopt.ensures.journal in
-    subst (λ (s : State). IsSure (D.unsynced c.adopt.result.0.journal.disk) s) (sym start)
-    (settled_sure (D.unsynced c.adopt.result.0.journal.disk) (D.bytes c.args.disk) c.open.new.reader (disk ∙ e.settled h0) (found_stands (D.bytes c.args.disk) c.new-restoring.result c.open.new.reader j.slot j.front (e.found h0)))
+    subst (λ (s : State). IsDurable (D.unsynced c.adopt.result.0.journal.disk) s) (sym start)
+    (settled_sure (D.unsynced c.adopt.result.0.journal.disk) (D.bytes c.args.disk) c.open.new.reader (disk ∙ e.all_synced h0) (found_stands (D.bytes c.args.disk) c.new-restoring.result c.open.new.reader j.slot j.front (e.found h0)))

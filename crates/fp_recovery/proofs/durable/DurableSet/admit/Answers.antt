@@ -81,28 +81,28 @@ returns-clause-any_moment g c = rw (← c.self.view_is) (λ h idle.
     let fits = (has_room j x (c.lacks_room.result) c.lacks_room.ensures.room c.if-lacks_room.false).0 in
     let short : length c.in-Ok.framed ≤ j.slot.most = omega (arith, len, fits) in
     let takes : TakesBatch s c.in-Ok.framed c.admit.new.self = takes_single s c.admit.new.self (proposal_of c.args.edit) (c.revision.result + 1) c.in-Ok.framed c.in-Ok-admit.ensures.admitted (ap (λ (n : ℕ). n + 1) c.revision.ensures.revision) c.in-Ok.ensures.lawful c.in-Ok.ensures.spelled in
-    either_leaves D.moment D.left_since D.unsynced j.disk new.disk s c.admit.new.self (proposal_of c.args.edit) j c.in-Ok.framed (c.self.invariant h was) c.in-Ok-admit.ensures.admitted takes short (e.any_moment h) (e.apart h))
+    either_leaves D.moment D.crash_states_since D.unsynced j.disk new.disk s c.admit.new.self (proposal_of c.args.edit) j c.in-Ok.framed (c.self.invariant h was) c.in-Ok-admit.ensures.admitted takes short (e.any_moment h) (e.apart h))
 
 pub returns-in-Some-clause-any_moment : goal.returns-in-Some-clause-any_moment
 returns-in-Some-clause-any_moment g c = rw (← c.self.view_is) (λ h idle.
     let D = g.D.Disk in let s = c.self.inside.set in let j = c.self.inside.journal in let was : j.phase ≡ Idle = sym c.phase.ensures.phase ∙ c.in-Idle.is in
-    still_leaves D.moment D.left_since D.unsynced j.disk s (proposal_of c.args.edit) j (c.self.invariant h was) (λ o left. g.met.D.Disk.only_now j.disk o h left)
+    still_leaves D.moment D.crash_states_since D.unsynced j.disk s (proposal_of c.args.edit) j (c.self.invariant h was) (λ o left. g.met.D.Disk.only_now j.disk o h left)
     (λ o left. subst (λ (p : Phase). ClaimsAt p j.begun j.slot j.front j.sealed j.staged o) was (c.phase.ensures.outcomes h o left)))
 
 pub returns-then-lacks_room-clause-any_moment : goal.returns-then-lacks_room-clause-any_moment
 returns-then-lacks_room-clause-any_moment g c = rw (← c.self.view_is) (λ h idle.
     let D = g.D.Disk in let s = c.self.inside.set in let j = c.self.inside.journal in let was : j.phase ≡ Idle = sym c.phase.ensures.phase ∙ c.in-Idle.is in
-    still_leaves D.moment D.left_since D.unsynced j.disk s (proposal_of c.args.edit) j (c.self.invariant h was) (λ o left. g.met.D.Disk.only_now j.disk o h left)
+    still_leaves D.moment D.crash_states_since D.unsynced j.disk s (proposal_of c.args.edit) j (c.self.invariant h was) (λ o left. g.met.D.Disk.only_now j.disk o h left)
     (λ o left. subst (λ (p : Phase). ClaimsAt p j.begun j.slot j.front j.sealed j.staged o) was (c.phase.ensures.outcomes h o left)))
 
 pub returns-in_default-framed_edit-clause-any_moment : goal.returns-in_default-framed_edit-clause-any_moment
 returns-in_default-framed_edit-clause-any_moment g c = rw (← c.self.view_is) (λ h idle.
     let D = g.D.Disk in let s = c.self.inside.set in let j = c.self.inside.journal in let was : j.phase ≡ Idle = sym c.phase.ensures.phase ∙ c.in-Idle.is in
-    still_leaves D.moment D.left_since D.unsynced j.disk s (proposal_of c.args.edit) j (c.self.invariant h was) (λ o left. g.met.D.Disk.only_now j.disk o h left)
+    still_leaves D.moment D.crash_states_since D.unsynced j.disk s (proposal_of c.args.edit) j (c.self.invariant h was) (λ o left. g.met.D.Disk.only_now j.disk o h left)
     (λ o left. subst (λ (p : Phase). ClaimsAt p j.begun j.slot j.front j.sealed j.staged o) was (c.phase.ensures.outcomes h o left)))
 
 pub returns-in-Err-clause-any_moment : goal.returns-in-Err-clause-any_moment
 returns-in-Err-clause-any_moment g c = rw (← c.self.view_is) (λ h idle.
     let D = g.D.Disk in let s = c.self.inside.set in let j = c.self.inside.journal in let was : j.phase ≡ Idle = sym c.phase.ensures.phase ∙ c.in-Idle.is in
-    still_leaves D.moment D.left_since D.unsynced j.disk s (proposal_of c.args.edit) j (c.self.invariant h was) (λ o left. g.met.D.Disk.only_now j.disk o h left)
+    still_leaves D.moment D.crash_states_since D.unsynced j.disk s (proposal_of c.args.edit) j (c.self.invariant h was) (λ o left. g.met.D.Disk.only_now j.disk o h left)
     (λ o left. subst (λ (p : Phase). ClaimsAt p j.begun j.slot j.front j.sealed j.staged o) was (c.phase.ensures.outcomes h o left)))

@@ -2,7 +2,7 @@ use Rattle.std.proofs.Common.{refl, sym, subst, ◌∙◌, rules}
 use Rattle.std.specs.Prelude.{IfErr}
 use Rattle.fp_edit.specs.Flags.{State}
 use Rattle.fp_layout.specs.declared.fault.OpenFault.{OpenFault}
-use Rattle.fp_recovery.specs.Durable.{IsKept, IsSure}
+use Rattle.fp_recovery.specs.Durable.{IsKept, IsDurable}
 use Rattle.fp_recovery.specs.Stands.{StandsFor}
 use Rattle.fp_recovery.specs.Refusals.{RefusesBytes, IsUnlessWanting}
 use Rattle.fp_recovery.proofs.Cases.{err_more}
@@ -21,7 +21,7 @@ pub invariant_of-result : goal.invariant_of-result
 invariant_of-result g c = λ h idle.
     let D = g.D.Disk in let e = c.in_ok-journal.ensures in let j = c.in_ok-journal.journal in let h0 = e.honest.1 h in
     subst (λ (s : State). IsKept (D.unsynced j.disk) s j) (sym c.into_set-set.ensures)
-    (found_kept (D.bytes c.args.disk) c.new-restoring.result c.open.new.reader j.slot j.front (e.found h0) (D.unsynced j.disk) j refl refl e.begins.0 (e.settled h0))
+    (found_kept (D.bytes c.args.disk) c.new-restoring.result c.open.new.reader j.slot j.front (e.found h0) (D.unsynced j.disk) j refl refl e.begins.0 (e.all_synced h0))
 
 pub returns-clause-stands : goal.returns-clause-stands
 returns-clause-stands g c = λ h0.
@@ -36,5 +36,5 @@ returns-clause-only g c = λ h0 other stands.
 pub returns-clause-sure : goal.returns-clause-sure
 returns-clause-sure g c = λ h0.
     let D = g.D.Disk in let e = c.in_ok-journal.ensures in let j = c.in_ok-journal.journal in
-    subst (λ (s : State). IsSure (D.unsynced j.disk) s) (sym c.into_set-set.ensures)
-    (settled_sure (D.unsynced j.disk) (D.bytes c.args.disk) c.open.new.reader (e.settled h0) (found_stands (D.bytes c.args.disk) c.new-restoring.result c.open.new.reader j.slot j.front (e.found h0)))
+    subst (λ (s : State). IsDurable (D.unsynced j.disk) s) (sym c.into_set-set.ensures)
+    (settled_sure (D.unsynced j.disk) (D.bytes c.args.disk) c.open.new.reader (e.all_synced h0) (found_stands (D.bytes c.args.disk) c.new-restoring.result c.open.new.reader j.slot j.front (e.found h0)))

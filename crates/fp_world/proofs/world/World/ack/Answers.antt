@@ -4,7 +4,7 @@ use Rattle.fp_world.proofs.Keeps as keeps
 use Rattle.fp_world.proofs.world.World.ack.Goals as goal
 
 pub returns-in_default-clause-exit : goal.returns-in_default-clause-exit
-returns-in_default-clause-exit g c = let D = g.D.Disk in rw (← c.self.view_is) (λ h o out. keeps.kept_now D.honest D.moment D.left_since D.unsynced c.self.invariant h o out)
+returns-in_default-clause-exit g c = let D = g.D.Disk in rw (← c.self.view_is) (λ h o out. keeps.kept_now D.honest D.moment D.crash_states_since D.unsynced c.self.invariant h o out)
 
 pub returns-clause-exit : goal.returns-clause-exit
 returns-clause-exit g c = λ h o out.
@@ -13,7 +13,7 @@ returns-clause-exit g c = λ h o out.
     keeps.leaves_kept s d i.same c.self.inside.held i.out c.max-self-inside.result low o (i.now h o out)
 
 pub returns-then-revision-self-clause-exit : goal.returns-then-revision-self-clause-exit
-returns-then-revision-self-clause-exit g c = let D = g.D.Disk in rw (← c.self.view_is) (λ h o out. keeps.kept_now D.honest D.moment D.left_since D.unsynced c.self.invariant h o out)
+returns-then-revision-self-clause-exit g c = let D = g.D.Disk in rw (← c.self.view_is) (λ h o out. keeps.kept_now D.honest D.moment D.crash_states_since D.unsynced c.self.invariant h o out)
 
 pub returns-in_default-ack-clause-exit : goal.returns-in_default-ack-clause-exit
-returns-in_default-ack-clause-exit g c = let D = g.D.Disk in rw (← c.self.view_is) (λ h o out. keeps.kept_now D.honest D.moment D.left_since D.unsynced c.self.invariant h o out)
+returns-in_default-ack-clause-exit g c = let D = g.D.Disk in rw (← c.self.view_is) (λ h o out. keeps.kept_now D.honest D.moment D.crash_states_since D.unsynced c.self.invariant h o out)

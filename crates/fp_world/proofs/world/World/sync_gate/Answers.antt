@@ -8,17 +8,17 @@ use Rattle.fp_world.proofs.Keeps as keeps
 use Rattle.fp_world.proofs.world.World.sync_gate.Goals as goal
 
 pub returns-then-failed-clause-any_moment : goal.returns-then-failed-clause-any_moment
-returns-then-failed-clause-any_moment g c = let D = g.D.Disk in let m = g.met.D.Disk in rw (← c.self.view_is) (λ h. keeps.still D.honest D.moment D.left_since D.unsynced c.self.invariant m.only_now h)
+returns-then-failed-clause-any_moment g c = let D = g.D.Disk in let m = g.met.D.Disk in rw (← c.self.view_is) (λ h. keeps.still D.honest D.moment D.crash_states_since D.unsynced c.self.invariant m.only_now h)
 
 pub returns-then-failed-clause-exit : goal.returns-then-failed-clause-exit
-returns-then-failed-clause-exit g c = let D = g.D.Disk in rw (← c.self.view_is) (λ h o out. keeps.kept_now D.honest D.moment D.left_since D.unsynced c.self.invariant h o out)
+returns-then-failed-clause-exit g c = let D = g.D.Disk in rw (← c.self.view_is) (λ h o out. keeps.kept_now D.honest D.moment D.crash_states_since D.unsynced c.self.invariant h o out)
 
 pub returns-in_default : goal.returns-in_default
 returns-in_default g c = let D = g.D.Disk in let m = g.met.D.Disk in rw (← c.self.view_is) (record {
   tells = tt;
   same = (refl, refl, refl);
-  any_moment = λ h. keeps.still D.honest D.moment D.left_since D.unsynced c.self.invariant m.only_now h;
-  exit = λ h o out. keeps.kept_now D.honest D.moment D.left_since D.unsynced c.self.invariant h o out;
+  any_moment = λ h. keeps.still D.honest D.moment D.crash_states_since D.unsynced c.self.invariant m.only_now h;
+  exit = λ h o out. keeps.kept_now D.honest D.moment D.crash_states_since D.unsynced c.self.invariant h o out;
   honest = (λ h. h, λ h. h);
 })
 
@@ -36,17 +36,17 @@ invariant_of-self g c =
     })
 
 pub returns-in-Ok-clause-any_moment : goal.returns-in-Ok-clause-any_moment
-returns-in-Ok-clause-any_moment g c = let D = g.D.Disk in rw (← c.self.view_is) (λ h. keeps.kept_leaves D.honest D.moment D.left_since D.unsynced c.self.invariant c.sync_gate.new.self.journal.disk (c.sync_gate.ensures.any_moment h))
+returns-in-Ok-clause-any_moment g c = let D = g.D.Disk in rw (← c.self.view_is) (λ h. keeps.kept_leaves D.honest D.moment D.crash_states_since D.unsynced c.self.invariant c.sync_gate.new.self.journal.disk (c.sync_gate.ensures.any_moment h))
 
 pub returns-in-Ok-clause-exit : goal.returns-in-Ok-clause-exit
 returns-in-Ok-clause-exit g c = λ h1.
     let D = g.D.Disk in let m = g.met.D.Disk in let w = c.sync_gate.ensures in let h = w.honest.1 h1 in
-    moves.exit_has D.honest D.moment D.left_since D.unsynced m.counts_now c.self.inside.store.journal.disk c.sync_gate.new.self.journal.disk _ (keeps.kept_leaves D.honest D.moment D.left_since D.unsynced c.self.invariant c.sync_gate.new.self.journal.disk (w.any_moment h)) h1
+    moves.exit_has D.honest D.moment D.crash_states_since D.unsynced m.counts_now c.self.inside.store.journal.disk c.sync_gate.new.self.journal.disk _ (keeps.kept_leaves D.honest D.moment D.crash_states_since D.unsynced c.self.invariant c.sync_gate.new.self.journal.disk (w.any_moment h)) h1
 
 pub returns-in-Err-clause-any_moment : goal.returns-in-Err-clause-any_moment
-returns-in-Err-clause-any_moment g c = let D = g.D.Disk in rw (← c.self.view_is) (λ h. keeps.kept_leaves D.honest D.moment D.left_since D.unsynced c.self.invariant c.sync_gate.new.self.journal.disk (c.sync_gate.ensures.any_moment h))
+returns-in-Err-clause-any_moment g c = let D = g.D.Disk in rw (← c.self.view_is) (λ h. keeps.kept_leaves D.honest D.moment D.crash_states_since D.unsynced c.self.invariant c.sync_gate.new.self.journal.disk (c.sync_gate.ensures.any_moment h))
 
 pub returns-in-Err-clause-exit : goal.returns-in-Err-clause-exit
 returns-in-Err-clause-exit g c = λ h1.
     let D = g.D.Disk in let m = g.met.D.Disk in let w = c.sync_gate.ensures in let h = w.honest.1 h1 in
-    moves.exit_has D.honest D.moment D.left_since D.unsynced m.counts_now c.self.inside.store.journal.disk c.sync_gate.new.self.journal.disk _ (keeps.kept_leaves D.honest D.moment D.left_since D.unsynced c.self.invariant c.sync_gate.new.self.journal.disk (w.any_moment h)) h1
+    moves.exit_has D.honest D.moment D.crash_states_since D.unsynced m.counts_now c.self.inside.store.journal.disk c.sync_gate.new.self.journal.disk _ (keeps.kept_leaves D.honest D.moment D.crash_states_since D.unsynced c.self.invariant c.sync_gate.new.self.journal.disk (w.any_moment h)) h1

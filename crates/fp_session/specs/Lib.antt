@@ -1,0 +1,11 @@
+pub mod Declined
+pub mod Fault
+pub mod Lines
+pub mod Reply
+pub mod Verdicts
+pub mod Script
+pub mod Streams
+pub mod Run
+pub mod Import
+pub mod StoreRun
+pub mod Progress

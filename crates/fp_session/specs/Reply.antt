@@ -1,0 +1,106 @@
+-- Replies to lines, and their texts.
+use Rattle.std.specs.Prelude.{ℕ, List, [], ◌∷◌, ◌++◌, codes, decimal, Bool, true, false, Option, Some, None}
+use Rattle.serde_json.specs.Data.{string}
+use Rattle.serde_json.specs.Written.{compact_text}
+use Rattle.fp_definition.specs.Valid as flag
+use Rattle.fp_definition.specs.Faults.{tells, word_of}
+use Rattle.fp_edit.specs.Line as line
+use Rattle.fp_edit.specs.declared.edit.EditFault.{EditFault}
+use Rattle.fp_edit.specs.declared.edit.EditFault.TheVariants as edit
+use Rattle.fp_edit.specs.declared.line.LineFault.{LineFault}
+use Rattle.fp_edit.specs.declared.line.LineFault.TheVariants.{TooLong, NotJson, NotObject, BadMember, BadOp, BadKey, BadIf, BadFlag, Memory}
+use Rattle.fp_session.specs.declared.reply.Reply as code
+use Rattle.fp_session.specs.declared.reply.Reply.TheVariants.{Revision, Refused, NoEdit}
+
+pub data Reply : Type 0 where
+  -- the revision that the edit made
+  revision : ℕ → Reply
+  -- the revision that changed the key's flag last
+  conflict : Option ℕ → Reply
+  set_too_large : Reply
+  revisions_used : Reply
+  no_edit : line.Fault → Reply
+  out_of_memory : Reply
+
+-- ---- texts
+
+-- an object whose one member is `error`
+abbrev pub error_text : List ℕ → List ℕ
+error_text word = codes "{\"error\":\"" ++ word ++ codes "\"}"
+
+abbrev pub number_or_null : Option ℕ → List ℕ
+number_or_null None = codes "null"
+number_or_null (Some n) = decimal n
+
+-- the operator that there isn't, as a JSON text
+abbrev pub operator_member : flag.Fault → List ℕ
+operator_member (flag.unsupported_operator name) = codes ",\"operator\":" ++ compact_text (string name)
+operator_member f = []
+
+abbrev pub flag_text : flag.Fault → List ℕ
+flag_text f = codes "{\"detail\":\"" ++ word_of f ++ codes "\",\"error\":\"flag\"" ++ operator_member f ++ codes "}"
+
+abbrev pub line_text : line.Fault → List ℕ
+line_text line.too_long = error_text (codes "line-too-long")
+line_text line.not_json = error_text (codes "not-json")
+line_text line.not_object = error_text (codes "not-object")
+line_text line.bad_member = error_text (codes "bad-member")
+line_text line.bad_op = error_text (codes "bad-op")
+line_text line.bad_key = error_text (codes "bad-key")
+line_text line.bad_if = error_text (codes "bad-if")
+line_text (line.bad_flag f) = flag_text f
+
+abbrev pub text_of : Reply → List ℕ
+text_of (revision n) = codes "{\"revision\":" ++ decimal n ++ codes "}"
+text_of (conflict current) = codes "{\"current\":" ++ number_or_null current ++ codes ",\"error\":\"conflict\"}"
+text_of set_too_large = error_text (codes "set-too-large")
+text_of revisions_used = error_text (codes "revisions-used")
+text_of (no_edit f) = line_text f
+text_of out_of_memory = error_text (codes "out-of-memory")
+
+-- each reply on a line of its own
+abbrev pub texts_of : List Reply → List ℕ
+texts_of [] = []
+texts_of (r ∷ rs) = (text_of r ++ 10 ∷ []) ++ texts_of rs
+
+-- whether a reply tells what became of its line
+abbrev pub is_told : Reply → Bool
+is_told (revision n) = true
+is_told (conflict current) = true
+is_told set_too_large = true
+is_told revisions_used = true
+is_told (no_edit f) = true
+is_told out_of_memory = false
+
+-- ---- the replies of the code
+
+abbrev pub refusal_of : EditFault → Reply
+refusal_of (edit.Conflict current) = conflict current
+refusal_of edit.SetTooLarge = set_too_large
+refusal_of edit.RevisionsUsed = revisions_used
+refusal_of edit.Memory = out_of_memory
+
+abbrev pub bad_flag_or_memory : Option flag.Fault → Reply
+bad_flag_or_memory None = out_of_memory
+bad_flag_or_memory (Some f) = no_edit (line.bad_flag f)
+
+abbrev pub fault_of : LineFault → Reply
+fault_of TooLong = no_edit line.too_long
+fault_of NotJson = no_edit line.not_json
+fault_of NotObject = no_edit line.not_object
+fault_of BadMember = no_edit line.bad_member
+fault_of BadOp = no_edit line.bad_op
+fault_of BadKey = no_edit line.bad_key
+fault_of BadIf = no_edit line.bad_if
+fault_of (BadFlag f) = bad_flag_or_memory (tells f)
+fault_of Memory = out_of_memory
+
+abbrev pub said : code.Reply → Reply
+said (Revision n) = revision n
+said (Refused e) = refusal_of e
+said (NoEdit f) = fault_of f
+
+-- a blank line has no reply
+abbrev pub replies_of : Option code.Reply → List Reply
+replies_of None = []
+replies_of (Some r) = said r ∷ []

@@ -1,0 +1,17 @@
+//! EditStore and where they go: the loop from edit lines to replies, over streams.
+#![tactic(auto)]
+
+mod edit_store;
+mod exchange;
+mod fault;
+mod import;
+mod input;
+mod reply;
+mod show;
+
+pub use edit_store::{Declined, EditStore};
+pub use fault::ApplyFault;
+pub use import::import_flags;
+pub use input::apply_lines;
+pub use reply::Reply;
+pub use show::shown;
