@@ -1,5 +1,6 @@
 //! The commands over a disk. Each gives the disk back.
 
+ghost use Rattle.fp_disk.specs.Crashes.{SameHonesty};
 ghost use Rattle.std.specs.Prelude.{◌≡◌, ◌≢◌, ◌⊎◌, ◌<◌, ◌+◌, ◌^◌, [], ◌∷◌, IfOk, IfErr, OnOk};
 ghost use Rattle.std.specs.Io.KnownBytes.{Appends};
 ghost use Rattle.fp_disk.specs.History.{Makes, MakesSome};
@@ -41,7 +42,7 @@ pub fn init_disk<D: Disk>(alloc: Global, disk: D) -> (D, Result<(), CommandFault
     ensures called { Makes (Length ∷ format_calls) (D.calls disk) (D.calls result.0) result.1 }
     ensures fault { IfErr result.1 IsMakingFault }
     ensures cause { IfErr result.1 (λ f. f ≡ Device → D.faults disk < D.faults result.0) }
-    ensures honest { (D.honest disk → D.honest result.0) × (D.honest result.0 → D.honest disk) }
+    ensures honest { SameHonesty D.Disk disk result.0 }
 {
     match DurableSet::create(alloc, disk, SlotSize::standard()) {
         Ok(set) => (set.into_disk(), Ok(())),
@@ -63,7 +64,7 @@ pub fn show_disk<D: Disk, W: Write>(
     ensures nothing_written { IfErr result.1 (IfRefused (w.new ≡ w.old)) }
     ensures device { Blames (D.faults disk + w.old.failures) (D.faults result.0 + w.new.failures)
         result.1 }
-    ensures honest { (D.honest disk → D.honest result.0) × (D.honest result.0 → D.honest disk) }
+    ensures honest { SameHonesty D.Disk disk result.0 }
 {
     match DurableSet::open(alloc, disk) {
         Ok(set) => {
@@ -100,7 +101,7 @@ pub fn apply_disk<D: Disk, R: Read, W: Write>(
     // `Device` comes only where the disk, the reader or the writer failed, and a good end only where none did.
     ensures device { Blames (D.faults disk + (r.old.failures + w.old.failures))
         (D.faults result.0 + (r.new.failures + w.new.failures)) result.1 }
-    ensures honest { (D.honest disk → D.honest result.0) × (D.honest result.0 → D.honest disk) }
+    ensures honest { SameHonesty D.Disk disk result.0 }
 {
     let set = match DurableSet::open(alloc, disk) {
         Ok(set) => set,
@@ -142,7 +143,7 @@ pub fn import_disk<D: Disk, R: Read, W: Write>(
     // `Device` comes only where the disk, the reader or the writer failed, and a good end only where none did.
     ensures device { Blames (D.faults disk + (r.old.failures + w.old.failures))
         (D.faults result.0 + (r.new.failures + w.new.failures)) result.1 }
-    ensures honest { (D.honest disk → D.honest result.0) × (D.honest result.0 → D.honest disk) }
+    ensures honest { SameHonesty D.Disk disk result.0 }
 {
     let set = match DurableSet::open(alloc, disk) {
         Ok(set) => set,

@@ -6,3 +6,4 @@ pub mod MemoryLaws
 pub mod Crash
 pub mod Checked
 pub mod Moments
+pub mod Crashes

@@ -1,7 +1,8 @@
 //! Bytes behind a gate, in four calls.
 
-ghost use Rattle.std.specs.Prelude.{◌≡◌, ◌↔◌, ◌≢◌, ◌⊎◌, ◌≤◌, ◌<◌, ◌+◌, ◌^◌, ℕ, List, [], ◌∷◌, length, slice_index, IfOk, OnOk, IsErr};
-ghost use Rattle.fp_disk.specs.Outcomes.{Answers, IsOutcome, LeavesOnly, Written as HasWritten, all_synced};
+ghost use Rattle.fp_disk.specs.Crashes.{AtAnyMoment, SameHonesty};
+ghost use Rattle.std.specs.Prelude.{◌≡◌, ◌≢◌, ◌⊎◌, ◌≤◌, ◌<◌, ◌+◌, ◌^◌, ℕ, List, [], ◌∷◌, length, slice_index, IfOk, OnOk, IsErr};
+ghost use Rattle.fp_disk.specs.Outcomes.{Answers, Written as HasWritten, all_synced};
 ghost use Rattle.fp_disk.specs.History.{Makes};
 ghost use Rattle.fp_disk.specs.declared.history.CallKind.TheVariants.{Sync, Write};
 ghost use Rattle.fp_gate.specs.Gates.{IsSyncOf, IsShut, IsOpen, StaysAsRead, Agrees, Guards, IsClosedAt, HasAt, HasBehind};
@@ -21,14 +22,13 @@ fn write_and_sync<D: Disk>(
     ensures token { IfOk result
         (λ s. (s.disk ≡ disk.new.name) × (s.moment ≡ D.moment disk.new.disk)) }
     ensures name { disk.new.name ≡ disk.old.name }
-    ensures each { D.honest disk.old.disk →
-        LeavesOnly D.moment D.crash_states_since disk.old.disk disk.new.disk
+    ensures each { AtAnyMoment D.Disk disk.old.disk disk.new.disk
         (λ c. (gate.now.at < length c) × (slice_index c gate.now.at ≢ OPEN)) }
     ensures written { D.honest disk.old.disk →
         OnOk result (HasWritten (D.bytes disk.old.disk) at from.now (D.bytes disk.new.disk)) }
     ensures all_synced { D.honest disk.old.disk →
         OnOk result (D.unsynced disk.new.disk ≡ all_synced (D.bytes disk.new.disk)) }
-    ensures honest { D.honest disk.old.disk ↔ D.honest disk.new.disk }
+    ensures honest { SameHonesty D.Disk disk.old.disk disk.new.disk }
     ensures called { Makes (Write ∷ Sync ∷ []) (D.calls disk.old.disk) (D.calls disk.new.disk) result }
     ensures cause { Answers (D.faults disk.old.disk) (D.faults disk.new.disk) result }
 {
@@ -49,12 +49,11 @@ fn open_and_seal<D: Disk>(
     requires token { IsSyncOf D.honest D.moment disk.old.disk disk.old.name synced }
     ensures gate { IfOk result (λ g. g ≡ gate) }
     ensures name { disk.new.name ≡ disk.old.name }
-    ensures each { D.honest disk.old.disk →
-        LeavesOnly D.moment D.crash_states_since disk.old.disk disk.new.disk
+    ensures each { AtAnyMoment D.Disk disk.old.disk disk.new.disk
         (Guards gate (D.bytes disk.old.disk)) }
     ensures open { D.honest disk.old.disk →
         OnOk result (IsOpen (D.unsynced disk.new.disk) gate.at) }
-    ensures honest { D.honest disk.old.disk ↔ D.honest disk.new.disk }
+    ensures honest { SameHonesty D.Disk disk.old.disk disk.new.disk }
     ensures called { Makes (Write ∷ Sync ∷ []) (D.calls disk.old.disk) (D.calls disk.new.disk) result }
     ensures cause { Answers (D.faults disk.old.disk) (D.faults disk.new.disk) result }
 {
@@ -77,12 +76,11 @@ pub fn write_behind<D: Disk>(
     ensures gate { IfOk result
         (λ g. g ≡ record { at = gate.at; from = at; to = at + length from.now }) }
     ensures name { disk.new.name ≡ disk.old.name }
-    ensures each { D.honest disk.old.disk →
-        LeavesOnly D.moment D.crash_states_since disk.old.disk disk.new.disk
+    ensures each { AtAnyMoment D.Disk disk.old.disk disk.new.disk
         (HasBehind gate.at at from.now) }
     ensures open { D.honest disk.old.disk →
         OnOk result (IsOpen (D.unsynced disk.new.disk) gate.at) }
-    ensures honest { D.honest disk.old.disk ↔ D.honest disk.new.disk }
+    ensures honest { SameHonesty D.Disk disk.old.disk disk.new.disk }
     ensures called { Makes (Write ∷ Sync ∷ Write ∷ Sync ∷ []) (D.calls disk.old.disk) (D.calls disk.new.disk) result }
     ensures cause { Answers (D.faults disk.old.disk) (D.faults disk.new.disk) result }
 {

@@ -1,7 +1,8 @@
 //! A gate: its place, its state as a type, and the two calls that open it.
 
-ghost use Rattle.std.specs.Prelude.{◌≡◌, ◌↔◌, ◌⊎◌, ◌≤◌, ◌<◌, ℕ, List, [], ◌∷◌, ◌++◌, length, slice_index, IfOk, OnOk, IsErr};
-ghost use Rattle.fp_disk.specs.Outcomes.{Answers, ChangesWithin, Elapses, IsOutcome, LeavesOnly, Written as HasWritten, with_write};
+ghost use Rattle.fp_disk.specs.Crashes.{AtAnyMoment, SameHonesty};
+ghost use Rattle.std.specs.Prelude.{◌≡◌, ◌⊎◌, ◌≤◌, ◌<◌, ℕ, List, [], ◌∷◌, ◌++◌, length, slice_index, IfOk, OnOk, IsErr};
+ghost use Rattle.fp_disk.specs.Outcomes.{Answers, ChangesWithin, Elapses, IsOutcome, Written as HasWritten, with_write};
 ghost use Rattle.fp_disk.specs.declared.history.CallKind.TheVariants.{Write};
 ghost use Rattle.fp_gate.specs.Gates.{Gated, IsSyncOf, IsShut, IsOpen, StaysAsRead, Guards, IsButFor};
 
@@ -55,7 +56,7 @@ impl Gate<Closed> {
         ensures name { disk.new.name ≡ disk.old.name }
         ensures written { D.honest disk.old.disk →
             OnOk result (HasWritten (D.bytes disk.old.disk) at (0 ∷ []) (D.bytes disk.new.disk)) }
-        ensures honest { D.honest disk.old.disk ↔ D.honest disk.new.disk }
+        ensures honest { SameHonesty D.Disk disk.old.disk disk.new.disk }
         ensures unsynced { D.honest disk.old.disk →
             OnOk result (D.unsynced disk.new.disk ≡ with_write (D.unsynced disk.old.disk) at 1) }
         ensures partly { D.honest disk.old.disk → IsErr result →
@@ -115,11 +116,9 @@ impl Gate<Closed> {
 
         // A crash at any moment since leaves what it might have left before, but for the gate's byte; and where that is open,
         // what it guards is there.
-        ensures each { D.honest disk.old.disk →
-            LeavesOnly D.moment D.crash_states_since disk.old.disk disk.new.disk
+        ensures each { AtAnyMoment D.Disk disk.old.disk disk.new.disk
             (IsButFor (D.unsynced disk.old.disk) self.at) }
-        ensures guards { D.honest disk.old.disk →
-            LeavesOnly D.moment D.crash_states_since disk.old.disk disk.new.disk
+        ensures guards { AtAnyMoment D.Disk disk.old.disk disk.new.disk
             (Guards self (D.bytes disk.old.disk)) }
 
         // The disk is as after a write of that byte.
@@ -130,7 +129,7 @@ impl Gate<Closed> {
             OnOk result
             ((self.at < length (D.bytes disk.new.disk))
             × (slice_index (D.bytes disk.new.disk) self.at ≡ OPEN)) }
-        ensures honest { D.honest disk.old.disk ↔ D.honest disk.new.disk }
+        ensures honest { SameHonesty D.Disk disk.old.disk disk.new.disk }
         ensures unsynced { D.honest disk.old.disk →
             OnOk result (D.unsynced disk.new.disk ≡ with_write (D.unsynced disk.old.disk) self.at 1) }
         ensures partly { D.honest disk.old.disk → IsErr result →

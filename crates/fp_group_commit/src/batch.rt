@@ -1,8 +1,8 @@
 //! A batch on its way, by four calls with one call of the disk each.
 
-ghost use Rattle.std.specs.Prelude.{◌≡◌, ◌+◌, ◌++◌, ◌↔◌, [], ◌∷◌, List, ℕ, IfOk, IfErr, OnOk, OnErr};
+ghost use Rattle.fp_disk.specs.Crashes.{AtAnyMoment, EachCrash, SameHonesty};
+ghost use Rattle.std.specs.Prelude.{◌≡◌, ◌+◌, ◌++◌, [], ◌∷◌, List, ℕ, IfOk, IfErr, OnOk, OnErr};
 ghost use Rattle.fp_disk.specs.History.{Makes};
-ghost use Rattle.fp_disk.specs.Outcomes.{IsOutcome, LeavesOnly};
 ghost use Rattle.fp_disk.specs.declared.history.CallKind.TheVariants.{Sync, Write};
 ghost use Rattle.fp_journal.specs.declared.journal.Phase.TheVariants.{Idle, Staged, BodySynced, GateOpened};
 ghost use Rattle.fp_group_commit.specs.Calls.{FailsBy, MovesTo, RefusesBy, SameStore};
@@ -32,12 +32,10 @@ impl<D: Disk> Store<D> {
         ensures given_back { IfErr result (λ e. e.1 ≡ draw) }
         ensures called { Makes (Write ∷ []) (D.calls self.old.journal.disk)
             (D.calls self.new.journal.disk) result }
-        ensures any_moment { D.honest self.old.journal.disk →
-            LeavesOnly D.moment D.crash_states_since self.old.journal.disk self.new.journal.disk
+        ensures any_moment { AtAnyMoment D.Disk self.old.journal.disk self.new.journal.disk
             (Leaves self.old) }
-        ensures exit { D.honest self.new.journal.disk → (c : List ℕ) →
-            IsOutcome (D.unsynced self.new.journal.disk) c → Leaves self.new c }
-        ensures honest { D.honest self.old.journal.disk ↔ D.honest self.new.journal.disk }
+        ensures exit { EachCrash D.Disk self.new.journal.disk (Leaves self.new) }
+        ensures honest { SameHonesty D.Disk self.old.journal.disk self.new.journal.disk }
     {
         if let Phase::Failed = self.journal.phase() {
             return Err((StoreFault::Failed, draw));
@@ -71,12 +69,10 @@ impl<D: Disk> Store<D> {
         ensures fault { IfErr result (FailsBy D.faults self.old self.new) }
         ensures called { Makes (Sync ∷ []) (D.calls self.old.journal.disk)
             (D.calls self.new.journal.disk) result }
-        ensures any_moment { D.honest self.old.journal.disk →
-            LeavesOnly D.moment D.crash_states_since self.old.journal.disk self.new.journal.disk
+        ensures any_moment { AtAnyMoment D.Disk self.old.journal.disk self.new.journal.disk
             (Leaves self.old) }
-        ensures exit { D.honest self.new.journal.disk → (c : List ℕ) →
-            IsOutcome (D.unsynced self.new.journal.disk) c → Leaves self.new c }
-        ensures honest { D.honest self.old.journal.disk ↔ D.honest self.new.journal.disk }
+        ensures exit { EachCrash D.Disk self.new.journal.disk (Leaves self.new) }
+        ensures honest { SameHonesty D.Disk self.old.journal.disk self.new.journal.disk }
     {
         if let Phase::Failed = self.journal.phase() {
             return Err(StoreFault::Failed);
@@ -99,12 +95,10 @@ impl<D: Disk> Store<D> {
         ensures called { Makes (Write ∷ []) (D.calls self.old.journal.disk)
             (D.calls self.new.journal.disk) result }
         // This call begins to open the gate, so what it leaves is said of the store after it.
-        ensures any_moment { D.honest self.old.journal.disk →
-            LeavesOnly D.moment D.crash_states_since self.old.journal.disk self.new.journal.disk
+        ensures any_moment { AtAnyMoment D.Disk self.old.journal.disk self.new.journal.disk
             (Leaves self.new) }
-        ensures exit { D.honest self.new.journal.disk → (c : List ℕ) →
-            IsOutcome (D.unsynced self.new.journal.disk) c → Leaves self.new c }
-        ensures honest { D.honest self.old.journal.disk ↔ D.honest self.new.journal.disk }
+        ensures exit { EachCrash D.Disk self.new.journal.disk (Leaves self.new) }
+        ensures honest { SameHonesty D.Disk self.old.journal.disk self.new.journal.disk }
     {
         if let Phase::Failed = self.journal.phase() {
             return Err(StoreFault::Failed);
@@ -130,12 +124,10 @@ impl<D: Disk> Store<D> {
         ensures fault { IfErr result (FailsBy D.faults self.old self.new) }
         ensures called { Makes (Sync ∷ []) (D.calls self.old.journal.disk)
             (D.calls self.new.journal.disk) result }
-        ensures any_moment { D.honest self.old.journal.disk →
-            LeavesOnly D.moment D.crash_states_since self.old.journal.disk self.new.journal.disk
+        ensures any_moment { AtAnyMoment D.Disk self.old.journal.disk self.new.journal.disk
             (Leaves self.old) }
-        ensures exit { D.honest self.new.journal.disk → (c : List ℕ) →
-            IsOutcome (D.unsynced self.new.journal.disk) c → Leaves self.new c }
-        ensures honest { D.honest self.old.journal.disk ↔ D.honest self.new.journal.disk }
+        ensures exit { EachCrash D.Disk self.new.journal.disk (Leaves self.new) }
+        ensures honest { SameHonesty D.Disk self.old.journal.disk self.new.journal.disk }
     {
         if let Phase::Failed = self.journal.phase() {
             return Err(StoreFault::Failed);

@@ -1,6 +1,7 @@
 //! Stores on new disks and on disks that kept edits before.
 
-ghost use Rattle.std.specs.Prelude.{◌≡◌, ◌≢◌, ◌<◌, ◌↔◌, ◌++◌, [], ◌∷◌, List, ℕ, length, IfOk, IfErr, IsOk, MatchResult};
+ghost use Rattle.fp_disk.specs.Crashes.{AtAnyMoment, SameHonesty};
+ghost use Rattle.std.specs.Prelude.{◌≡◌, ◌≢◌, ◌<◌, ◌++◌, [], ◌∷◌, List, ℕ, length, IfOk, IfErr, IsOk, MatchResult};
 ghost use Rattle.fp_disk.specs.History.{MakesSome};
 ghost use Rattle.fp_disk.specs.Outcomes.{IsOutcome, LeavesOnly, all_synced};
 ghost use Rattle.fp_disk.specs.declared.history.CallKind.TheVariants.{Length, Read, Sync};
@@ -29,9 +30,8 @@ fn refusal_of_size<D: Disk>(disk: &mut D) -> CreateFault
     ensures bad_size { D.honest disk.old → result ≡ BadSize → D.bytes disk.old ≡ [] }
     ensures same { D.honest disk.old → (D.bytes disk.new ≡ D.bytes disk.old)
         × (D.unsynced disk.new ≡ D.unsynced disk.old) }
-    ensures any_moment { D.honest disk.old →
-        LeavesOnly D.moment D.crash_states_since disk.old disk.new (IsOutcome (D.unsynced disk.old)) }
-    ensures honest { D.honest disk.old ↔ D.honest disk.new }
+    ensures any_moment { AtAnyMoment D.Disk disk.old disk.new (IsOutcome (D.unsynced disk.old)) }
+    ensures honest { SameHonesty D.Disk disk.old disk.new }
     ensures called { D.calls disk.new ≡ D.calls disk.old ++ Length ∷ [] }
     ensures cause { result ≡ Device → D.faults disk.old < D.faults disk.new }
 {
@@ -70,8 +70,8 @@ impl<D: Disk> Store<D> {
         ensures called { MatchResult result
             (λ r. D.calls r.0.journal.disk ≡ D.calls disk ++ Length ∷ format_calls)
             (λ e. MakesSome (Length ∷ format_calls) (D.calls disk) (D.calls e.1)) }
-        ensures honest { MatchResult result (λ r. D.honest disk ↔ D.honest r.0.journal.disk)
-            (λ e. D.honest disk ↔ D.honest e.1) }
+        ensures honest { MatchResult result (λ r. SameHonesty D.Disk disk r.0.journal.disk)
+            (λ e. SameHonesty D.Disk disk e.1) }
     {
         let Some(size) = SlotSize::new(size) else {
             return Err((refusal_of_size(&mut disk), disk));
@@ -113,8 +113,8 @@ impl<D: Disk> Store<D> {
             (λ r. LeavesOnly D.moment D.crash_states_since disk r.0.journal.disk
             (IsOutcome (D.unsynced disk)))
             (λ e. LeavesOnly D.moment D.crash_states_since disk e.1 (IsOutcome (D.unsynced disk))) }
-        ensures honest { MatchResult result (λ r. D.honest disk ↔ D.honest r.0.journal.disk)
-            (λ e. D.honest disk ↔ D.honest e.1) }
+        ensures honest { MatchResult result (λ r. SameHonesty D.Disk disk r.0.journal.disk)
+            (λ e. SameHonesty D.Disk disk e.1) }
     {
         let mut restoring = Replayer::new(alloc);
         let journal = fp_layout::open(alloc, disk, &mut restoring)?;

@@ -1,8 +1,8 @@
 //! A store of edits on a disk.
 
+ghost use Rattle.fp_disk.specs.Crashes.{EachCrash};
 ghost use Rattle.std.specs.Prelude.{◌≡◌, ◌≢◌, ◌+◌, ◌↔◌, List, ℕ, length, IsTrue};
 ghost use mathlib.Core.List.{IsPrefix};
-ghost use Rattle.fp_disk.specs.Outcomes.{IsOutcome};
 ghost use Rattle.fp_journal.specs.declared.journal.Phase.TheVariants.{Idle, Failed};
 ghost use Rattle.fp_journal.specs.State.{room};
 ghost use Rattle.fp_recovery.specs.Durable.{IsKept};
@@ -82,8 +82,7 @@ impl<D: Disk> Store<D> {
         ensures fresh { IsFresh result.0 set }
         ensures journal { result.0.journal ≡ journal }
         ensures opening { result.1 ≡ result.0.store }
-        ensures outcomes { D.honest journal.disk → (c : List ℕ) →
-            IsOutcome (D.unsynced journal.disk) c → Leaves result.0 c }
+        ensures outcomes { EachCrash D.Disk journal.disk (Leaves result.0) }
     {
         // What the journal's outcomes are is known only where it is asked.
         let _ = journal.phase();
@@ -107,8 +106,7 @@ impl<D: Disk> Store<D> {
     /// How far the batch on its way is, so which call comes next. A call that the device refuses leaves it.
     pub fn phase(&self) -> Phase
         ensures phase { result ≡ self.now.step }
-        ensures outcomes { D.honest self.now.journal.disk → (c : List ℕ) →
-            IsOutcome (D.unsynced self.now.journal.disk) c → Leaves self.now c }
+        ensures outcomes { EachCrash D.Disk self.now.journal.disk (Leaves self.now) }
     {
         let _ = &self.journal;
         self.step
@@ -145,8 +143,7 @@ impl<D: Disk> Store<D> {
     /// Gives the disk back.
     pub fn into_disk(self) -> D
         ensures disk { result ≡ self.journal.disk }
-        ensures outcomes { D.honest result → (c : List ℕ) →
-            IsOutcome (D.unsynced result) c → Leaves self c }
+        ensures outcomes { EachCrash D.Disk result (Leaves self) }
         ensures reads { D.honest result → self.journal.phase ≢ Failed →
             StandsFor (D.bytes result) (reached self) }
     {

@@ -1,12 +1,13 @@
 //! A slot of a disk as a chain of bodies behind gates, which grows by four calls a body.
 
-ghost use Rattle.fp_disk.specs.Outcomes.{Answers, IsOutcome, LeavesOnly, Written as HasWritten, all_synced, with_write};
+ghost use Rattle.fp_disk.specs.Crashes.{AtAnyMoment, EachCrash, SameHonesty};
+ghost use Rattle.fp_disk.specs.Outcomes.{Answers, IsOutcome, Written as HasWritten, all_synced, with_write};
 ghost use Rattle.fp_disk.specs.History.{Makes};
 ghost use Rattle.fp_disk.specs.declared.history.CallKind.TheVariants.{Sync, Write};
 ghost use Rattle.fp_gate.specs.Gates.{IsSyncOf};
 ghost use Rattle.std.specs.Prelude.{◌≡◌, ◌⊎◌, ◌<◌, ◌≤◌, ◌+◌, ◌∷◌, [], ◌++◌, List, ℕ, true, false, length, slice_range, IfOk, OnOk, OnErr, IsErr};
 ghost use Rattle.fp_journal.specs.Holds.{Apart};
-ghost use Rattle.fp_journal.specs.Moments.{KeepsFirm, KeepsHeld};
+ghost use Rattle.fp_journal.specs.Moments.{KeepsSynced, KeepsRead};
 ghost use Rattle.fp_journal.specs.State.{AllShort, CrashStates, HasChain, HasChainOrNext, HasNext, EndsClosed, Outside, SameSlot, StatesAfterSync, room};
 ghost use Rattle.fp_journal.specs.declared.journal.Phase.TheVariants.{Idle, Staged, BodySynced, GateOpened, Failed};
 
@@ -104,7 +105,7 @@ impl<D: Disk> Journal<D> {
     /// How far the body on its way is, which says what a crash would leave now.
     pub fn phase(&self) -> Phase
         ensures phase { result ≡ self.now.phase }
-        ensures outcomes { D.honest self.now.disk → (c : List ℕ) → IsOutcome (D.unsynced self.now.disk) c → CrashStates self.now c }
+        ensures outcomes { EachCrash D.Disk self.now.disk (CrashStates self.now) }
     {
         self.held.phase()
     }
@@ -112,7 +113,7 @@ impl<D: Disk> Journal<D> {
     /// Gives the disk back.
     pub fn into_disk(self) -> D
         ensures disk { result ≡ self.disk }
-        ensures outcomes { D.honest result → (c : List ℕ) → IsOutcome (D.unsynced result) c → CrashStates self c }
+        ensures outcomes { EachCrash D.Disk result (CrashStates self) }
     {
         let Journal {
             disk,
@@ -138,10 +139,10 @@ impl<D: Disk> Journal<D> {
         ensures bodies { (self.new.sealed ≡ self.old.sealed) × (self.new.staged ≡ framed) }
         ensures phase { OnOk result (self.new.phase ≡ Staged) × OnErr result (self.new.phase ≡ Failed) }
         ensures begun { self.new.begun ≡ false }
-        ensures any_moment { D.honest self.old.disk → LeavesOnly D.moment D.crash_states_since self.old.disk self.new.disk (HasChain self.old.slot self.old.front self.old.sealed) }
-        ensures apart { D.honest self.old.disk → KeepsFirm D.moment D.crash_states_since D.unsynced self.old.disk self.new.disk (Outside self.old.slot) }
-        ensures beside { D.honest self.old.disk → KeepsHeld D.bytes self.old.disk self.new.disk (Outside self.old.slot) }
-        ensures honest { (D.honest self.old.disk → D.honest self.new.disk) × (D.honest self.new.disk → D.honest self.old.disk) }
+        ensures any_moment { AtAnyMoment D.Disk self.old.disk self.new.disk (HasChain self.old.slot self.old.front self.old.sealed) }
+        ensures apart { KeepsSynced D.Disk self.old.disk self.new.disk (Outside self.old.slot) }
+        ensures beside { KeepsRead D.Disk self.old.disk self.new.disk (Outside self.old.slot) }
+        ensures honest { SameHonesty D.Disk self.old.disk self.new.disk }
         ensures called { D.calls self.new.disk ≡ D.calls self.old.disk ++ Write ∷ [] }
         ensures cause { Answers (D.faults self.old.disk) (D.faults self.new.disk) result }
     {
@@ -165,9 +166,9 @@ impl<D: Disk> Journal<D> {
         ensures bodies { (self.new.sealed ≡ self.old.sealed) × (self.new.staged ≡ self.old.staged) }
         ensures phase { OnOk result (self.new.phase ≡ self.old.phase) × OnErr result (self.new.phase ≡ Failed) }
         ensures begun { self.new.begun ≡ self.old.begun }
-        ensures any_moment { D.honest self.old.disk → LeavesOnly D.moment D.crash_states_since self.old.disk self.new.disk (CrashStates self.old) }
-        ensures apart { D.honest self.old.disk → KeepsFirm D.moment D.crash_states_since D.unsynced self.old.disk self.new.disk (λ at n. Unit {0}) }
-        ensures honest { (D.honest self.old.disk → D.honest self.new.disk) × (D.honest self.new.disk → D.honest self.old.disk) }
+        ensures any_moment { AtAnyMoment D.Disk self.old.disk self.new.disk (CrashStates self.old) }
+        ensures apart { KeepsSynced D.Disk self.old.disk self.new.disk (λ at n. Unit {0}) }
+        ensures honest { SameHonesty D.Disk self.old.disk self.new.disk }
         ensures called { D.calls self.new.disk ≡ D.calls self.old.disk ++ Sync ∷ [] }
         ensures cause { Answers (D.faults self.old.disk) (D.faults self.new.disk) result }
     {
@@ -182,7 +183,7 @@ impl<D: Disk> Journal<D> {
     pub fn body_synced(&mut self, synced: Synced<D>)
         requires staged { self.old.phase ≡ Staged }
         requires token { IsSyncOf D.honest D.moment self.old.disk self.old.disk_name synced }
-        requires firm { D.honest self.old.disk → (c : List ℕ) → IsOutcome (D.unsynced self.old.disk) c → HasNext self.old.slot self.old.front self.old.sealed self.old.staged c }
+        requires firm { EachCrash D.Disk self.old.disk (HasNext self.old.slot self.old.front self.old.sealed self.old.staged) }
         ensures same { SameSlot self.old self.new }
         ensures disk { self.new.disk ≡ self.old.disk }
         ensures bodies { (self.new.sealed ≡ self.old.sealed) × (self.new.staged ≡ self.old.staged) }
@@ -201,10 +202,10 @@ impl<D: Disk> Journal<D> {
 
         // What a read gives now has the body.
         ensures reads { D.honest self.old.disk → OnOk result (HasChain self.old.slot self.old.front (self.old.sealed ++ self.old.staged ∷ []) (D.bytes self.new.disk)) }
-        ensures any_moment { D.honest self.old.disk → LeavesOnly D.moment D.crash_states_since self.old.disk self.new.disk (HasChainOrNext self.old.slot self.old.front self.old.sealed self.old.staged) }
-        ensures apart { D.honest self.old.disk → KeepsFirm D.moment D.crash_states_since D.unsynced self.old.disk self.new.disk (Outside self.old.slot) }
-        ensures beside { D.honest self.old.disk → KeepsHeld D.bytes self.old.disk self.new.disk (Outside self.old.slot) }
-        ensures honest { (D.honest self.old.disk → D.honest self.new.disk) × (D.honest self.new.disk → D.honest self.old.disk) }
+        ensures any_moment { AtAnyMoment D.Disk self.old.disk self.new.disk (HasChainOrNext self.old.slot self.old.front self.old.sealed self.old.staged) }
+        ensures apart { KeepsSynced D.Disk self.old.disk self.new.disk (Outside self.old.slot) }
+        ensures beside { KeepsRead D.Disk self.old.disk self.new.disk (Outside self.old.slot) }
+        ensures honest { SameHonesty D.Disk self.old.disk self.new.disk }
         ensures called { D.calls self.new.disk ≡ D.calls self.old.disk ++ Write ∷ [] }
         ensures cause { Answers (D.faults self.old.disk) (D.faults self.new.disk) result }
     {
@@ -224,13 +225,13 @@ impl<D: Disk> Journal<D> {
     pub fn gate_synced(&mut self, synced: Synced<D>) -> Sealed
         requires opened { self.old.phase ≡ GateOpened }
         requires token { IsSyncOf D.honest D.moment self.old.disk self.old.disk_name synced }
-        requires firm { D.honest self.old.disk → (c : List ℕ) → IsOutcome (D.unsynced self.old.disk) c → HasChain self.old.slot self.old.front (self.old.sealed ++ self.old.staged ∷ []) c }
+        requires firm { EachCrash D.Disk self.old.disk (HasChain self.old.slot self.old.front (self.old.sealed ++ self.old.staged ∷ [])) }
         ensures same { SameSlot self.old self.new }
         ensures disk { self.new.disk ≡ self.old.disk }
         ensures sealed { (self.new.sealed ≡ self.old.sealed ++ self.old.staged ∷ []) × (self.new.phase ≡ Idle) }
         ensures begun { self.new.begun ≡ false }
         ensures token { (result.name ≡ self.new.name) × (result.bodies ≡ self.new.sealed) }
-        ensures exit { D.honest self.new.disk → (c : List ℕ) → IsOutcome (D.unsynced self.new.disk) c → HasChain self.new.slot self.new.front self.new.sealed c }
+        ensures exit { EachCrash D.Disk self.new.disk (HasChain self.new.slot self.new.front self.new.sealed) }
     {
         let Held::GateOpened(gate) = mem::replace(&mut self.held, Held::Idle) else {
             unreachable!()
@@ -252,11 +253,11 @@ impl<D: Disk> Journal<D> {
         ensures ok { OnOk result ((self.new.sealed ≡ self.old.sealed ++ framed ∷ []) × (self.new.phase ≡ Idle)) }
         ensures token { IfOk result (λ t. (t.name ≡ self.new.name) × (t.bodies ≡ self.new.sealed)) }
         ensures err { OnErr result ((self.new.sealed ≡ self.old.sealed) × (self.new.staged ≡ framed) × (self.new.phase ≡ Failed)) }
-        ensures any_moment { D.honest self.old.disk → LeavesOnly D.moment D.crash_states_since self.old.disk self.new.disk (HasChainOrNext self.old.slot self.old.front self.old.sealed framed) }
-        ensures apart { D.honest self.old.disk → KeepsFirm D.moment D.crash_states_since D.unsynced self.old.disk self.new.disk (Outside self.old.slot) }
-        ensures beside { D.honest self.old.disk → KeepsHeld D.bytes self.old.disk self.new.disk (Outside self.old.slot) }
+        ensures any_moment { AtAnyMoment D.Disk self.old.disk self.new.disk (HasChainOrNext self.old.slot self.old.front self.old.sealed framed) }
+        ensures apart { KeepsSynced D.Disk self.old.disk self.new.disk (Outside self.old.slot) }
+        ensures beside { KeepsRead D.Disk self.old.disk self.new.disk (Outside self.old.slot) }
         ensures exit { D.honest self.new.disk → OnOk result ((c : List ℕ) → IsOutcome (D.unsynced self.new.disk) c → HasChain self.new.slot self.new.front self.new.sealed c) }
-        ensures honest { (D.honest self.old.disk → D.honest self.new.disk) × (D.honest self.new.disk → D.honest self.old.disk) }
+        ensures honest { SameHonesty D.Disk self.old.disk self.new.disk }
         ensures called { Makes (Write ∷ Sync ∷ Write ∷ Sync ∷ []) (D.calls self.old.disk) (D.calls self.new.disk) result }
         ensures cause { Answers (D.faults self.old.disk) (D.faults self.new.disk) result }
     {
@@ -276,10 +277,10 @@ impl<D: Disk> Journal<D> {
         ensures bodies { (self.new.sealed ≡ self.old.sealed) × (self.new.staged ≡ self.old.staged) }
         ensures phase { OnOk result (self.new.phase ≡ self.old.phase) × OnErr result (self.new.phase ≡ Failed) }
         ensures begun { self.new.begun ≡ self.old.begun }
-        ensures any_moment { D.honest self.old.disk → LeavesOnly D.moment D.crash_states_since self.old.disk self.new.disk (CrashStates self.old) }
-        ensures apart { D.honest self.old.disk → KeepsFirm D.moment D.crash_states_since D.unsynced self.old.disk self.new.disk (Apart at (length from.now)) }
-        ensures beside { D.honest self.old.disk → KeepsHeld D.bytes self.old.disk self.new.disk (Apart at (length from.now)) }
-        ensures honest { (D.honest self.old.disk → D.honest self.new.disk) × (D.honest self.new.disk → D.honest self.old.disk) }
+        ensures any_moment { AtAnyMoment D.Disk self.old.disk self.new.disk (CrashStates self.old) }
+        ensures apart { KeepsSynced D.Disk self.old.disk self.new.disk (Apart at (length from.now)) }
+        ensures beside { KeepsRead D.Disk self.old.disk self.new.disk (Apart at (length from.now)) }
+        ensures honest { SameHonesty D.Disk self.old.disk self.new.disk }
         ensures called { D.calls self.new.disk ≡ D.calls self.old.disk ++ Write ∷ [] }
         ensures cause { Answers (D.faults self.old.disk) (D.faults self.new.disk) result }
     {

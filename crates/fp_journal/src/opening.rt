@@ -1,9 +1,10 @@
 //! The bytes of a disk, and the chain that they hold.
 
-ghost use Rattle.std.specs.Prelude.{◌≡◌, ◌<◌, ◌≤◌, ◌+◌, ◌↔◌, [], ◌∷◌, List, ℕ, length, slice_range, IfOk, IfErr, OnOk, IsErrOf};
+ghost use Rattle.fp_disk.specs.Crashes.{AtAnyMoment, SameHonesty};
+ghost use Rattle.std.specs.Prelude.{◌≡◌, ◌<◌, ◌≤◌, ◌+◌, [], ◌∷◌, List, ℕ, length, slice_range, IfOk, IfErr, OnOk, IsErrOf};
 ghost use Rattle.fp_disk.specs.History.{Makes};
 ghost use Rattle.fp_disk.specs.declared.history.CallKind.TheVariants.{Length, Read, Sync};
-ghost use Rattle.fp_disk.specs.Outcomes.{IsOutcome, LeavesOnly, all_synced};
+ghost use Rattle.fp_disk.specs.Outcomes.{IsOutcome, all_synced};
 ghost use Rattle.fp_journal.specs.Reading.{FoundChain, Refuses};
 ghost use Rattle.fp_journal.specs.declared.journal.Phase.TheVariants.{Idle};
 ghost use Rattle.fp_journal.specs.declared.opening.BytesFault.TheVariants.{Device, Memory};
@@ -44,8 +45,8 @@ pub fn synced_bytes<D: Disk>(alloc: Global, disk: &mut D) -> Result<Vec<u8>, Byt
     ensures bytes { D.honest disk.old → IfOk result (λ v. v.items ≡ D.bytes disk.old) }
     ensures all_synced { D.honest disk.old → OnOk result (D.unsynced disk.new ≡ all_synced (D.bytes disk.old)) }
     ensures same { D.honest disk.old → D.bytes disk.new ≡ D.bytes disk.old }
-    ensures any_moment { D.honest disk.old → LeavesOnly D.moment D.crash_states_since disk.old disk.new (IsOutcome (D.unsynced disk.old)) }
-    ensures honest { (D.honest disk.old → D.honest disk.new) × (D.honest disk.new → D.honest disk.old) }
+    ensures any_moment { AtAnyMoment D.Disk disk.old disk.new (IsOutcome (D.unsynced disk.old)) }
+    ensures honest { SameHonesty D.Disk disk.old disk.new }
     ensures called { Makes (Sync ∷ Length ∷ Read ∷ []) (D.calls disk.old) (D.calls disk.new) result }
     ensures no_failure { OnOk result (D.faults disk.new ≡ D.faults disk.old) }
     ensures cause { IsErrOf result Device → D.faults disk.old < D.faults disk.new }

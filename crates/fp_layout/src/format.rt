@@ -1,5 +1,6 @@
 //! A new disk.
 
+ghost use Rattle.fp_disk.specs.Crashes.{AtAnyMoment, SameHonesty};
 ghost use Rattle.std.specs.Prelude.{◌≡◌, ◌≢◌, ◌<◌, ◌+◌, ◌∷◌, ◌++◌, [], List, ℕ, length, IfOk, IfErr, OnOk, IsOk, IsErr, MatchResult};
 ghost use Rattle.fp_disk.specs.History.{Makes, MakesSome};
 ghost use Rattle.fp_disk.specs.declared.history.CallKind.TheVariants.{Length, Sync, Write};
@@ -51,8 +52,8 @@ fn closed(alloc: Global, size: SlotSize) -> Result<Vec<u8>, AllocError>
 fn write_synced<D: Disk>(disk: &mut D, at: u64, from: &[u8]) -> Result<(), DiskFault>
     ensures written { D.honest disk.old → OnOk result (Written (D.bytes disk.old) at from.now (D.bytes disk.new)) }
     ensures all_synced { D.honest disk.old → OnOk result (D.unsynced disk.new ≡ all_synced (D.bytes disk.new)) }
-    ensures any_moment { D.honest disk.old → LeavesOnly D.moment D.crash_states_since disk.old disk.new (IsOutcome (with_write (D.unsynced disk.old) at (length from.now))) }
-    ensures honest { (D.honest disk.old → D.honest disk.new) × (D.honest disk.new → D.honest disk.old) }
+    ensures any_moment { AtAnyMoment D.Disk disk.old disk.new (IsOutcome (with_write (D.unsynced disk.old) at (length from.now))) }
+    ensures honest { SameHonesty D.Disk disk.old disk.new }
     ensures called { Makes (Write ∷ Sync ∷ []) (D.calls disk.old) (D.calls disk.new) result }
     ensures cause { Answers (D.faults disk.old) (D.faults disk.new) result }
 {
@@ -66,7 +67,7 @@ fn format<D: Disk>(disk: &mut D, size: SlotSize, closed: &[u8]) -> Result<(), Di
     ensures made { D.honest disk.old → D.bytes disk.old ≡ [] → OnOk result (IsNewDisk size (D.bytes disk.new)) }
     ensures all_synced { D.honest disk.old → OnOk result (D.unsynced disk.new ≡ all_synced (D.bytes disk.new)) }
     ensures any_moment { D.honest disk.old → D.unsynced disk.old ≡ all_synced [] → LeavesOnly D.moment D.crash_states_since disk.old disk.new (IsNewOrNone size) }
-    ensures honest { (D.honest disk.old → D.honest disk.new) × (D.honest disk.new → D.honest disk.old) }
+    ensures honest { SameHonesty D.Disk disk.old disk.new }
     ensures called { Makes format_calls (D.calls disk.old) (D.calls disk.new) result }
     ensures cause { Answers (D.faults disk.old) (D.faults disk.new) result }
 {
@@ -90,7 +91,7 @@ pub fn create<D: Disk>(
     ensures not_empty { D.honest disk → IfErr result (λ e. e.0 ≡ NotEmpty → (D.bytes disk ≢ []) × (D.bytes e.1 ≡ D.bytes disk) × (D.unsynced e.1 ≡ D.unsynced disk)) }
     ensures empty { D.honest disk → IsOk result → D.bytes disk ≡ [] }
     ensures any_moment { D.honest disk → D.unsynced disk ≡ all_synced [] → MatchResult result (λ j. LeavesOnly D.moment D.crash_states_since disk j.disk (IsNewOrNone size)) (λ e. LeavesOnly D.moment D.crash_states_since disk e.1 (IsNewOrNone size)) }
-    ensures honest { MatchResult result (λ j. (D.honest disk → D.honest j.disk) × (D.honest j.disk → D.honest disk)) (λ e. (D.honest disk → D.honest e.1) × (D.honest e.1 → D.honest disk)) }
+    ensures honest { MatchResult result (λ j. SameHonesty D.Disk disk j.disk) (λ e. SameHonesty D.Disk disk e.1) }
     ensures called { MatchResult result (λ j. D.calls j.disk ≡ D.calls disk ++ Length ∷ format_calls) (λ e. MakesSome (Length ∷ format_calls) (D.calls disk) (D.calls e.1)) }
     ensures memory { D.honest disk → IfErr result (λ e. e.0 ≡ Memory → (D.bytes e.1 ≡ D.bytes disk) × (D.unsynced e.1 ≡ D.unsynced disk)) }
     ensures cause { IfErr result (λ e. e.0 ≡ Device → D.faults disk < D.faults e.1) }

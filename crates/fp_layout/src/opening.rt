@@ -1,5 +1,6 @@
 //! A disk that is there, opened.
 
+ghost use Rattle.fp_disk.specs.Crashes.{SameHonesty};
 ghost use Rattle.std.specs.Prelude.{◌≡◌, ◌≤◌, ◌<◌, ◌+◌, ◌-◌, ◌/◌, [], ◌∷◌, ◌++◌, List, ℕ, length, IfOk, IfErr, OnOk, MatchResult, IsErrOf};
 ghost use Rattle.fp_disk.specs.History.{MakesSome};
 ghost use Rattle.fp_disk.specs.declared.history.CallKind.TheVariants.{Length, Read, Sync};
@@ -62,7 +63,7 @@ pub fn open<D: Disk, R: SlotReader>(
     ensures same { D.honest disk → MatchResult result (λ j. D.bytes j.disk ≡ D.bytes disk) (λ e. D.bytes e.1 ≡ D.bytes disk) }
     ensures all_synced { D.honest disk → IfOk result (λ j. D.unsynced j.disk ≡ all_synced (D.bytes disk)) }
     ensures any_moment { D.honest disk → MatchResult result (λ j. LeavesOnly D.moment D.crash_states_since disk j.disk (IsOutcome (D.unsynced disk))) (λ e. LeavesOnly D.moment D.crash_states_since disk e.1 (IsOutcome (D.unsynced disk))) }
-    ensures honest { MatchResult result (λ j. (D.honest disk → D.honest j.disk) × (D.honest j.disk → D.honest disk)) (λ e. (D.honest disk → D.honest e.1) × (D.honest e.1 → D.honest disk)) }
+    ensures honest { MatchResult result (λ j. SameHonesty D.Disk disk j.disk) (λ e. SameHonesty D.Disk disk e.1) }
     ensures called { MatchResult result (λ j. D.calls j.disk ≡ D.calls disk ++ Sync ∷ Length ∷ Read ∷ []) (λ e. MakesSome (Sync ∷ Length ∷ Read ∷ []) (D.calls disk) (D.calls e.1)) }
     ensures no_failure { IfOk result (λ j. D.faults j.disk ≡ D.faults disk) }
     ensures cause { IfErr result (λ e. e.0 ≡ Device → D.faults disk < D.faults e.1) }

@@ -114,7 +114,7 @@ pub fn encoded_len(edit: &Edit) -> usize
     }
 }
 
-#[tactic(auto, unfolding(crate::specs::Spelling::encoding_of_change))]
+#[tactic(auto, unfolding(crate::specs::Encoding::encoding_of_change))]
 fn put_edit(out: &mut Vec<u8>, edit: &Edit) -> Result<(), AllocError>
     ensures written { OnOk result
         (out.new.items ≡ out.old.items ++ encoding_of_change (change_of edit.now)) }

@@ -122,7 +122,7 @@ fn shared(alloc: Global, set: &FlagSet) -> Result<Vec<(FlagKey, Flag)>, AllocErr
     Ok(flags)
 }
 
-#[tactic(auto, unfolding(crate::specs::Spelling::encoding_of_flag))]
+#[tactic(auto, unfolding(crate::specs::Encoding::encoding_of_flag))]
 fn put_flag(out: &mut Vec<u8>, key: &FlagKey, flag: &Flag) -> Result<(), AllocError>
     ensures written { OnOk result
         (out.new.items ≡ out.old.items ++ encoding_of_flag (key_bytes key.now, flag.now)) }

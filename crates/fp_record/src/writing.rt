@@ -35,7 +35,7 @@ pub fn put_u64(out: &mut Vec<u8>, number: u64) -> Result<(), AllocError>
 }
 
 /// A key behind its length.
-#[tactic(auto, unfolding(crate::specs::Spelling::encoding_of_key))]
+#[tactic(auto, unfolding(crate::specs::Encoding::encoding_of_key))]
 pub fn put_key(out: &mut Vec<u8>, key: &FlagKey) -> Result<(), AllocError>
     ensures written { OnOk result
         (out.new.items ≡ out.old.items ++ encoding_of_key (key_bytes key.now)) }
@@ -47,7 +47,7 @@ pub fn put_key(out: &mut Vec<u8>, key: &FlagKey) -> Result<(), AllocError>
 }
 
 /// A definition's canonical text behind its length.
-#[tactic(auto, unfolding(crate::specs::Spelling::encoding_of_definition))]
+#[tactic(auto, unfolding(crate::specs::Encoding::encoding_of_definition))]
 pub fn put_definition(out: &mut Vec<u8>, definition: &Definition) -> Result<(), AllocError>
     ensures written { OnOk result
         (out.new.items ≡ out.old.items ++ encoding_of_definition definition.now) }

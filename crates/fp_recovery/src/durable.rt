@@ -1,5 +1,6 @@
 //! A set of flags that a disk keeps.
 
+ghost use Rattle.fp_disk.specs.Crashes.{SameHonesty};
 ghost use Rattle.std.specs.Prelude.{◌≡◌, ◌≢◌, ◌⊎◌, ◌<◌, ◌≤◌, ◌+◌, ◌/◌, ◌↔◌, [], ◌∷◌, ◌++◌, List, ℕ, length, IfOk, IfErr, IsTrue, IsOk, OnOk, OnErr, MatchResult};
 ghost use Rattle.std.specs.FinMap as map;
 ghost use Rattle.fp_disk.specs.History.{Makes, MakesSome};
@@ -61,7 +62,7 @@ impl<D: Disk> DurableSet<D> {
         ensures sure { D.honest disk → IfOk result (λ s. IsDurable (D.unsynced s.journal.disk) s.set) }
         ensures empty { D.honest disk → IsOk result → D.bytes disk ≡ [] }
         ensures not_empty { D.honest disk → IfErr result (λ e. e.0 ≡ make.NotEmpty → (D.bytes disk ≢ []) × (D.bytes e.1 ≡ D.bytes disk)) }
-        ensures honest { MatchResult result (λ s. (D.honest disk → D.honest s.journal.disk) × (D.honest s.journal.disk → D.honest disk)) (λ e. (D.honest disk → D.honest e.1) × (D.honest e.1 → D.honest disk)) }
+        ensures honest { MatchResult result (λ s. SameHonesty D.Disk disk s.journal.disk) (λ e. SameHonesty D.Disk disk e.1) }
         ensures memory { D.honest disk → IfErr result (λ e. e.0 ≡ make.Memory → (D.bytes e.1 ≡ D.bytes disk) × (D.unsynced e.1 ≡ D.unsynced disk)) }
 
         // A crash at any moment of it leaves what is no disk yet, or one of no flags.
@@ -87,7 +88,7 @@ impl<D: Disk> DurableSet<D> {
         ensures fault { D.honest disk → IfErr result (λ e. RefusesBytes (D.bytes disk) e.0) }
         ensures refused { D.honest disk → IfErr result (λ e. IsUnlessWanting (D.bytes disk) e.0) }
         ensures same { D.honest disk → MatchResult result (λ s. D.bytes s.journal.disk ≡ D.bytes disk) (λ e. D.bytes e.1 ≡ D.bytes disk) }
-        ensures honest { MatchResult result (λ s. (D.honest disk → D.honest s.journal.disk) × (D.honest s.journal.disk → D.honest disk)) (λ e. (D.honest disk → D.honest e.1) × (D.honest e.1 → D.honest disk)) }
+        ensures honest { MatchResult result (λ s. SameHonesty D.Disk disk s.journal.disk) (λ e. SameHonesty D.Disk disk e.1) }
         // A crash at any moment of it leaves what one might have left before it.
         ensures any_moment { D.honest disk → MatchResult result (λ s. LeavesOnly D.moment D.crash_states_since disk s.journal.disk (IsOutcome (D.unsynced disk))) (λ e. LeavesOnly D.moment D.crash_states_since disk e.1 (IsOutcome (D.unsynced disk))) }
 
@@ -149,7 +150,7 @@ impl<D: Disk> DurableSet<D> {
         ensures called { Makes (Write ∷ Sync ∷ Write ∷ Sync ∷ []) (D.calls self.old.journal.disk) (D.calls self.new.journal.disk) result }
         ensures declined { IfErr result (IsDeclined self.old self.new edit) }
         ensures cause { IfErr result (CanDecline D.honest D.unsynced D.faults self.old self.new (proposal_of edit)) }
-        ensures honest { (D.honest self.old.journal.disk → D.honest self.new.journal.disk) × (D.honest self.new.journal.disk → D.honest self.old.journal.disk) }
+        ensures honest { SameHonesty D.Disk self.old.journal.disk self.new.journal.disk }
     {
         let Phase::Idle = self.journal.phase() else {
             return Err(AdmitFault::StoreFailed);

@@ -1,8 +1,8 @@
 //! A store and a desk over one list of events.
 
-ghost use Rattle.std.specs.Prelude.{◌≡◌, ◌≢◌, ◌<◌, ◌≤◌, ◌+◌, ◌↔◌, List, ℕ, [], length, IfOk, IfErr};
+ghost use Rattle.fp_disk.specs.Crashes.{AtAnyMoment, EachCrash, SameHonesty};
+ghost use Rattle.std.specs.Prelude.{◌≡◌, ◌≢◌, ◌<◌, ◌≤◌, ◌+◌, List, ℕ, [], length, IfOk, IfErr};
 ghost use mathlib.Core.List.{IsPrefix};
-ghost use Rattle.fp_disk.specs.Outcomes.{IsOutcome, LeavesOnly};
 ghost use Rattle.fp_desk.specs.Desk.{log};
 ghost use Rattle.fp_world.specs.World.{IsNewWorld, KeptFrom, TellsUpTo};
 ghost use Rattle.fp_group_commit.specs.Store.{IsFresh};
@@ -68,9 +68,7 @@ impl<D: Disk> World<D> {
         ensures log { IsPrefix (log self.old.desk) (log self.new.desk) }
         ensures same { (self.new.store ≡ self.old.store) × (self.new.told ≡ self.old.told)
             × (self.new.desk.store ≡ self.old.desk.store) }
-        ensures exit { D.honest self.new.store.journal.disk → (c : List ℕ) →
-            IsOutcome (D.unsynced self.new.store.journal.disk) c →
-            KeptFrom self.new.desk self.new.told c }
+        ensures exit { EachCrash D.Disk self.new.store.journal.disk (KeptFrom self.new.desk self.new.told) }
     {
         let _ = &self.told;
         let Ok(edit) = edit.try_copy() else {
@@ -94,14 +92,10 @@ impl<D: Disk> World<D> {
         ensures tells { TellsUpTo self.new.told result }
         ensures same { (self.new.desk ≡ self.old.desk) × (self.new.told ≡ self.old.told)
             × (self.new.store.store ≡ self.old.store.store) }
-        ensures any_moment { D.honest self.old.store.journal.disk →
-            LeavesOnly D.moment D.crash_states_since self.old.store.journal.disk
+        ensures any_moment { AtAnyMoment D.Disk self.old.store.journal.disk
             self.new.store.journal.disk (KeptFrom self.new.desk self.old.told) }
-        ensures exit { D.honest self.new.store.journal.disk → (c : List ℕ) →
-            IsOutcome (D.unsynced self.new.store.journal.disk) c →
-            KeptFrom self.new.desk self.new.told c }
-        ensures honest { D.honest self.old.store.journal.disk
-            ↔ D.honest self.new.store.journal.disk }
+        ensures exit { EachCrash D.Disk self.new.store.journal.disk (KeptFrom self.new.desk self.new.told) }
+        ensures honest { SameHonesty D.Disk self.old.store.journal.disk self.new.store.journal.disk }
     {
         let _ = &self.told;
         if self.store.failed() {
@@ -134,9 +128,7 @@ impl<D: Disk> World<D> {
         ensures log { log self.new.desk ≡ log self.old.desk }
         ensures same { (self.new.store ≡ self.old.store) × (self.new.told ≡ self.old.told)
             × (self.new.desk.store ≡ self.old.desk.store) }
-        ensures exit { D.honest self.new.store.journal.disk → (c : List ℕ) →
-            IsOutcome (D.unsynced self.new.store.journal.disk) c →
-            KeptFrom self.new.desk self.new.told c }
+        ensures exit { EachCrash D.Disk self.new.store.journal.disk (KeptFrom self.new.desk self.new.told) }
     {
         let _ = &self.told;
         let Ok(drawn) = self.desk.draw() else {
@@ -155,14 +147,10 @@ impl<D: Disk> World<D> {
         ensures tells { TellsUpTo self.new.told result }
         ensures same { (self.new.desk ≡ self.old.desk) × (self.new.told ≡ self.old.told)
             × (self.new.store.store ≡ self.old.store.store) }
-        ensures any_moment { D.honest self.old.store.journal.disk →
-            LeavesOnly D.moment D.crash_states_since self.old.store.journal.disk
+        ensures any_moment { AtAnyMoment D.Disk self.old.store.journal.disk
             self.new.store.journal.disk (KeptFrom self.new.desk self.old.told) }
-        ensures exit { D.honest self.new.store.journal.disk → (c : List ℕ) →
-            IsOutcome (D.unsynced self.new.store.journal.disk) c →
-            KeptFrom self.new.desk self.new.told c }
-        ensures honest { D.honest self.old.store.journal.disk
-            ↔ D.honest self.new.store.journal.disk }
+        ensures exit { EachCrash D.Disk self.new.store.journal.disk (KeptFrom self.new.desk self.new.told) }
+        ensures honest { SameHonesty D.Disk self.old.store.journal.disk self.new.store.journal.disk }
     {
         let _ = &self.told;
         if self.store.failed() {
@@ -182,14 +170,10 @@ impl<D: Disk> World<D> {
         ensures tells { TellsUpTo self.new.told result }
         ensures same { (self.new.desk ≡ self.old.desk) × (self.new.told ≡ self.old.told)
             × (self.new.store.store ≡ self.old.store.store) }
-        ensures any_moment { D.honest self.old.store.journal.disk →
-            LeavesOnly D.moment D.crash_states_since self.old.store.journal.disk
+        ensures any_moment { AtAnyMoment D.Disk self.old.store.journal.disk
             self.new.store.journal.disk (KeptFrom self.new.desk self.old.told) }
-        ensures exit { D.honest self.new.store.journal.disk → (c : List ℕ) →
-            IsOutcome (D.unsynced self.new.store.journal.disk) c →
-            KeptFrom self.new.desk self.new.told c }
-        ensures honest { D.honest self.old.store.journal.disk
-            ↔ D.honest self.new.store.journal.disk }
+        ensures exit { EachCrash D.Disk self.new.store.journal.disk (KeptFrom self.new.desk self.new.told) }
+        ensures honest { SameHonesty D.Disk self.old.store.journal.disk self.new.store.journal.disk }
     {
         let _ = &self.told;
         if self.store.failed() {
@@ -209,14 +193,10 @@ impl<D: Disk> World<D> {
         ensures tells { TellsUpTo self.new.told result }
         ensures same { (self.new.desk ≡ self.old.desk) × (self.new.told ≡ self.old.told)
             × (self.new.store.store ≡ self.old.store.store) }
-        ensures any_moment { D.honest self.old.store.journal.disk →
-            LeavesOnly D.moment D.crash_states_since self.old.store.journal.disk
+        ensures any_moment { AtAnyMoment D.Disk self.old.store.journal.disk
             self.new.store.journal.disk (KeptFrom self.new.desk self.old.told) }
-        ensures exit { D.honest self.new.store.journal.disk → (c : List ℕ) →
-            IsOutcome (D.unsynced self.new.store.journal.disk) c →
-            KeptFrom self.new.desk self.new.told c }
-        ensures honest { D.honest self.old.store.journal.disk
-            ↔ D.honest self.new.store.journal.disk }
+        ensures exit { EachCrash D.Disk self.new.store.journal.disk (KeptFrom self.new.desk self.new.told) }
+        ensures honest { SameHonesty D.Disk self.old.store.journal.disk self.new.store.journal.disk }
     {
         let _ = &self.told;
         if self.store.failed() {
@@ -240,9 +220,7 @@ impl<D: Disk> World<D> {
         ensures log { log self.new.desk ≡ log self.old.desk }
         ensures same { (self.new.store ≡ self.old.store) × (self.new.told ≡ self.old.told)
             × (self.new.desk.store ≡ self.old.desk.store) }
-        ensures exit { D.honest self.new.store.journal.disk → (c : List ℕ) →
-            IsOutcome (D.unsynced self.new.store.journal.disk) c →
-            KeptFrom self.new.desk self.new.told c }
+        ensures exit { EachCrash D.Disk self.new.store.journal.disk (KeptFrom self.new.desk self.new.told) }
     {
         let _ = &self.told;
         match mem::replace(&mut self.held, Held::Nothing) {
@@ -269,9 +247,7 @@ impl<D: Disk> World<D> {
         ensures tells { TellsUpTo self.new.told result }
         ensures same { (self.new.desk ≡ self.old.desk) × (self.new.store ≡ self.old.store) }
         ensures told { self.old.told ≤ self.new.told }
-        ensures exit { D.honest self.new.store.journal.disk → (c : List ℕ) →
-            IsOutcome (D.unsynced self.new.store.journal.disk) c →
-            KeptFrom self.new.desk self.new.told c }
+        ensures exit { EachCrash D.Disk self.new.store.journal.disk (KeptFrom self.new.desk self.new.told) }
     {
         let _ = &self.told;
         if revision <= self.start {
@@ -322,14 +298,10 @@ impl<D: Disk> World<D> {
         ensures same { (self.new.store.store ≡ self.old.store.store)
             × (self.new.desk.store ≡ self.old.desk.store) }
         ensures told { self.old.told ≤ self.new.told }
-        ensures any_moment { D.honest self.old.store.journal.disk →
-            LeavesOnly D.moment D.crash_states_since self.old.store.journal.disk
+        ensures any_moment { AtAnyMoment D.Disk self.old.store.journal.disk
             self.new.store.journal.disk (KeptFrom self.new.desk self.old.told) }
-        ensures exit { D.honest self.new.store.journal.disk → (c : List ℕ) →
-            IsOutcome (D.unsynced self.new.store.journal.disk) c →
-            KeptFrom self.new.desk self.new.told c }
-        ensures honest { D.honest self.old.store.journal.disk
-            ↔ D.honest self.new.store.journal.disk }
+        ensures exit { EachCrash D.Disk self.new.store.journal.disk (KeptFrom self.new.desk self.new.told) }
+        ensures honest { SameHonesty D.Disk self.old.store.journal.disk self.new.store.journal.disk }
     {
         match event {
             Event::Submit(edit) => self.submit(edit),
