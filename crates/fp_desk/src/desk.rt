@@ -165,6 +165,7 @@ impl Desk {
     /// Draws the longest first part of what waits that makes a batch, where none is out.
     pub fn draw(&mut self) -> Result<Option<Draw>, AllocError>
         ensures drawn { IfOk result (Draws self.old self.new) }
+        ensures memory { OnErr result ((self.old.drawn ≡ []) × (self.old.waiting ≢ [])) }
         ensures unchanged { OnErr result (self.new ≡ self.old) }
     {
         if !self.drawn.is_empty() || self.waiting.is_empty() {
