@@ -1,8 +1,7 @@
 -- The bytes of the other slot: copied, made sure of, opened.
-use Rattle.std.proofs.Common.{append_assoc, refl, ◌≡◌, ◌⊎◌, inl, inr, ℕ, ◌+◌, ◌-◌, ◌<◌, ◌≤◌, ◌^◌, List, [], ◌∷◌, ◌++◌, length, take, drop, sym, ◌∙◌, ap, subst, arith, length-append}
+use Rattle.std.proofs.Common.{append_assoc, refl, ◌≡◌, ◌⊎◌, inl, inr, ℕ, ◌+◌, ◌-◌, ◌<◌, ◌≤◌, ◌^◌, List, [], ◌∷◌, ◌++◌, length, drop, sym, ◌∙◌, ap, subst, arith, length-append}
 use Rattle.std.specs.Prelude.{slice_index, slice_range}
 use Rattle.std.specs.Int.{w32, w64, to_be_bytes}
-use Rattle.std.proofs.Math.Seq.{take-append_seam}
 use Rattle.std.proofs.lemmas.Bool.{cases_lt, cases_eq}
 use Rattle.std.proofs.lemmas.List.{get_or-drop, get_or_append_left, length-drop}
 use Rattle.fp_disk.specs.Outcomes.{IsOutcome, PendingState, Written}
@@ -14,7 +13,7 @@ use Rattle.fp_journal.proofs.Holds.{holds_front, holds_byte, byte_held, holds_ap
 use Rattle.fp_slots.specs.Head.{head_text}
 use Rattle.fp_slots.specs.declared.places.TheConstants.{IMAGE_PLACE, VERSION}
 use Rattle.fp_slots.specs.Rules.{Tells, HasGeneration}
-use Rattle.fp_slots.specs.State.{IsShut, IsCopied, IsPlan, IsFrontOf}
+use Rattle.fp_slots.specs.State.{IsShut, IsCopied, IsPart, IsPlan, IsFrontOf}
 use Rattle.fp_slots.proofs.Ruling.{front_there, front_generation, rules_shut}
 
 -- ---- parts
@@ -119,26 +118,31 @@ head_plan slot generation base image text bytes next fits is all = record {
   fits = (let a : length text ≡ length (head_text (generation + 1) base image) = ap length is in let b = head_long (generation + 1) base image in omega (arith, a, b, fits));
 }
 
--- the text in front of the gate at the end
-pub text_front : (bytes text : List ℕ) → bytes ≡ text ++ 0 ∷ [] → slice_range bytes 0 (length bytes - 1) ≡ text
-text_front bytes text is =
-    let size : length bytes ≡ length text + 1 = ap length is ∙ length-append text (0 ∷ []) in let e : length bytes - 1 - 0 ≡ length text = omega (arith, size) in
-    ap (λ (k : ℕ). take k bytes) e ∙ ap (take (length text)) is ∙ take-append_seam text (0 ∷ [])
-
 -- ---- a batch that is sealed meanwhile
-pub plan_goes_on : (slot : Slot) (generation done : ℕ) (text body b : List ℕ) → IsPlan slot generation text (text ++ 0 ∷ []) → done ≤ length text → IsCopied slot.start (text ++ 0 ∷ []) done b → slot.start + length (text ++ OPEN ∷ framed body) < slot.stop
-    → IsPlan slot generation (text ++ OPEN ∷ framed body) ((text ++ OPEN ∷ framed body) ++ 0 ∷ []) × IsCopied slot.start ((text ++ OPEN ∷ framed body) ++ 0 ∷ []) done b
-plan_goes_on slot generation done text body b p le c fits = (
-  record {
+module _ (slot : Slot) (generation done : ℕ) (text body b : List ℕ) where
+  abbrev Longer : List ℕ
+  Longer = text ++ OPEN ∷ framed body
+
+  pub plan_longer : IsPlan slot generation text (text ++ 0 ∷ []) → slot.start + length Longer < slot.stop → IsPlan slot generation Longer (Longer ++ 0 ∷ [])
+  plan_longer p fits = record {
     rest = p.rest ++ OPEN ∷ framed body;
     text_is = ap (λ (t : List ℕ). t ++ OPEN ∷ framed body) p.text_is ∙ ap (λ (t : List ℕ). OPEN ∷ t) (append_assoc (to_be_bytes w64 (generation + 1)) p.rest (OPEN ∷ framed body));
     bytes_are = refl;
     next = p.next;
     fits = fits;
-  },
-  record {
+  }
+
+  pub copied_longer : done ≤ length text → IsCopied slot.start (text ++ 0 ∷ []) done b → IsCopied slot.start (Longer ++ 0 ∷ []) done b
+  copied_longer le c = record {
     long = c.long;
     same = λ k low lt. c.same k low lt ∙ get_or_append_left text (0 ∷ []) 0 k (omega (arith, le, lt)) ∙ sym (get_or_append_left text (OPEN ∷ framed body) 0 k (omega (arith, le, lt)))
         ∙ sym (get_or_append_left (text ++ OPEN ∷ framed body) (0 ∷ []) 0 k (let len = length-append text (OPEN ∷ framed body) in omega (arith, le, lt, len)));
-  },
-)
+  }
+
+  pub part_longer : IsPart (text ++ 0 ∷ []) done → IsPart (Longer ++ 0 ∷ []) done
+  part_longer q = let some = q.some in let part = q.part in let a = length-append text (0 ∷ []) in let l = length-append text (OPEN ∷ framed body) in let z = length-append Longer (0 ∷ []) in
+      record { some = some; part = omega (arith, part, a, l, z) }
+
+pub plan_goes_on : (slot : Slot) (generation done : ℕ) (text body b : List ℕ) → IsPlan slot generation text (text ++ 0 ∷ []) → done ≤ length text → IsCopied slot.start (text ++ 0 ∷ []) done b → slot.start + length (text ++ OPEN ∷ framed body) < slot.stop
+    → IsPlan slot generation (text ++ OPEN ∷ framed body) ((text ++ OPEN ∷ framed body) ++ 0 ∷ []) × IsCopied slot.start ((text ++ OPEN ∷ framed body) ++ 0 ∷ []) done b
+plan_goes_on slot generation done text body b p le c fits = (plan_longer slot generation done text body b p fits, copied_longer slot generation done text body b le c)

@@ -285,7 +285,7 @@ module _ {D : Type 0} (honest : D → Type 0) (bytes : D → List ℕ) (unsynced
             record { its = s.generation; small = kept.small; less = omega arith; firm = sure h0 (s.journal.slot.start + 1) (to_be_bytes w64 s.generation) (subst (λ (b : List ℕ). Holds b (s.journal.slot.start + 1) (to_be_bytes w64 s.generation)) (durable h0).0 there) }
 
         pub switched : (k : JournalState D) (other : Slot) → other ≡ s.journal.slot → k.slot ≡ s.other → k.front ≡ s.text → (k.phase ≡ Idle) × (k.begun ≡ false) → k.disk ≡ j.disk
-            → IsKept honest bytes unsynced (record { journal = k; other = other; generation = s.generation + 1; may_open = true; step = Begin; text = s.text; left = s.left }) true planned done
+            → IsKept honest bytes unsynced (record { journal = k; other = other; generation = s.generation + 1; may_open = true; step = Begin; text = s.text; head = s.head; left = s.left; coming = s.coming }) true planned done
         switched k other other_is slot_is front_is idle disk_is = let plan = plan_is SyncOpen is in record {
           apart = rw (other_is, slot_is) (⊎_elim (λ before. inr before) (λ behind. inl behind) kept.apart);
           wide = rw other_is kept.wide_too;
@@ -541,8 +541,8 @@ module _ {D : Type 0} (honest : D → Type 0) (bytes : D → List ℕ) (unsynced
 
 -- ---- a compaction that begins
 module _ {D : Type 0} (honest : D → Type 0) (bytes : D → List ℕ) (unsynced : D → PendingState) {s : SlotsState D} {may_open : Bool} {planned : List ℕ} {done : ℕ} (kept : IsKept honest bytes unsynced s may_open planned done) where
-  pub begins : s.step ≡ Begin → s.journal.phase ≢ Failed → (text next : List ℕ) (left : ℕ) → IsPlan s.other s.generation text next → IsKept honest bytes unsynced (record s { step = Close; text = text; left = left }) may_open next 1
-  begins is alive text next left plan = record {
+  pub begins : s.step ≡ Begin → s.journal.phase ≢ Failed → (text next coming : List ℕ) (head left : ℕ) → IsPlan s.other s.generation text next → IsKept honest bytes unsynced (record s { step = Close; text = text; head = head; left = left; coming = coming }) may_open next 1
+  begins is alive text next coming head left plan = record {
     apart = kept.apart;
     wide = kept.wide;
     wide_too = kept.wide_too;

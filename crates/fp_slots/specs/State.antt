@@ -18,7 +18,8 @@ use Rattle.fp_slots.specs.declared.slots.Step.TheVariants.{Begin, Close, SyncClo
 use Rattle.fp_slots.specs.Rules.{Rules, Tells}
 
 -- The journal's slot rules, of this generation. `other` is the other one, whose gate may be open or isn't (`may_open`); `step` is what a
--- compaction does next, `text` what the other slot is to hold, its open gate first, and `left` how many bytes of it no Part wrote yet
+-- compaction does next, `text` what the other slot is to hold, its open gate first, `head` how many bytes of it are the image and what
+-- stands in front of it, and `left` how many of those no Part wrote yet. `coming` are bytes that are kept ready to go behind the text
 pub record SlotsState (D : Type 0) : Type 0 where
   pub journal : JournalState D
   pub other : Slot
@@ -26,7 +27,9 @@ pub record SlotsState (D : Type 0) : Type 0 where
   pub may_open : Bool
   pub step : Step
   pub text : List ℕ
+  pub head : ℕ
   pub left : ℕ
+  pub coming : List ℕ
 
 -- ---- what a list of bytes stands for
 -- the journal's slot rules, and holds what the journal claims
@@ -71,17 +74,36 @@ IsEarly SyncBody = ⊥
 IsEarly Open = ⊥
 IsEarly SyncOpen = ⊥
 
+-- a compaction runs
+abbrev pub HasBegun : Step → Type 0
+HasBegun Begin = ⊥
+HasBegun Close = Unit {0}
+HasBegun SyncClose = Unit {0}
+HasBegun Part = Unit {0}
+HasBegun Tail = Unit {0}
+HasBegun SyncBody = Unit {0}
+HasBegun Open = Unit {0}
+HasBegun SyncOpen = Unit {0}
+
+-- and what the other slot is to hold can grow still
+abbrev pub IsGrowing : Step → Type 0
+IsGrowing p = HasBegun p × IsEarly p
+
 -- ---- what is outside of both
 abbrev pub OutsideBoth : {D : Type 0} → SlotsState D → ℕ → ℕ → Type 0
 OutsideBoth s at n = Outside s.journal.slot at n × Outside s.other at n
 
 -- the slots and what they hold are the same
 abbrev pub SameSlots : {D : Type 0} → SlotsState D → SlotsState D → Type 0
-SameSlots old new = SameSlot old.journal new.journal × (new.journal.sealed ≡ old.journal.sealed) × (new.journal.staged ≡ old.journal.staged) × (new.other ≡ old.other) × (new.generation ≡ old.generation) × (new.may_open ≡ old.may_open) × (new.text ≡ old.text)
+SameSlots old new = SameSlot old.journal new.journal × (new.journal.sealed ≡ old.journal.sealed) × (new.journal.staged ≡ old.journal.staged) × (new.other ≡ old.other) × (new.generation ≡ old.generation) × (new.may_open ≡ old.may_open) × (new.text ≡ old.text) × (new.head ≡ old.head) × (new.coming ≡ old.coming)
 
 -- the slots, and what a compaction is at, are the same
 abbrev pub SameCompaction : {D : Type 0} → SlotsState D → SlotsState D → Type 0
-SameCompaction old new = SameSlot old.journal new.journal × (new.other ≡ old.other) × (new.generation ≡ old.generation) × (new.may_open ≡ old.may_open) × (new.step ≡ old.step) × (new.text ≡ old.text) × (new.left ≡ old.left)
+SameCompaction old new = SameSlot old.journal new.journal × (new.other ≡ old.other) × (new.generation ≡ old.generation) × (new.may_open ≡ old.may_open) × (new.step ≡ old.step) × (new.text ≡ old.text) × (new.head ≡ old.head) × (new.left ≡ old.left) × (new.coming ≡ old.coming)
+
+-- the slots, their journal and the planned text are the same; what is kept ready for it may be other
+abbrev pub SamePlan : {D : Type 0} → SlotsState D → SlotsState D → Type 0
+SamePlan old new = (new.journal ≡ old.journal) × (new.other ≡ old.other) × (new.generation ≡ old.generation) × (new.may_open ≡ old.may_open) × (new.step ≡ old.step) × (new.text ≡ old.text) × (new.head ≡ old.head) × (new.left ≡ old.left)
 
 -- ---- how far the other slot is; all of it by bytes that the last sync made sure of, and by what a read gives
 -- the gate of the slot that begins here is closed
@@ -173,6 +195,12 @@ pub record IsKept {D : Type 0} (honest : D → Type 0) (bytes : D → List ℕ) 
   pub still : IsStill s.step s.journal.phase
   pub live : honest s.journal.disk → s.journal.phase ≢ Failed → IsBeside s.step s.other.start s.generation may_open planned done (unsynced s.journal.disk) (bytes s.journal.disk)
   pub failed : honest s.journal.disk → s.journal.phase ≡ Failed → (c : List ℕ) → IsOutcome (unsynced s.journal.disk) c → Leaves s.step s c
+
+-- the planned text ends within these bytes, the image within the text, and no part passes the image
+pub record IsWithin (planned : List ℕ) (ended head done : ℕ) : Type 0 where
+  pub there : ended ≤ length planned
+  pub image : head ≤ ended
+  pub part : done ≤ head
 
 -- ---- what the slots keep for the next call
 abbrev pub step_of : {D : Type 0} → Held D → Step

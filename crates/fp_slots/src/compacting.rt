@@ -12,6 +12,7 @@ ghost use Rattle.fp_slots.specs.declared.slots.Step.TheVariants.{Begin, Close, S
 
 use crate::held::Held;
 use crate::places::PART;
+use crate::planning::piece;
 use crate::slots::Slots;
 use fp_disk::{Disk, DiskFault};
 use std::mem;
@@ -72,15 +73,14 @@ impl<D: Disk> Slots<D> {
         ensures called { D.calls self.new.journal.disk ≡ D.calls self.old.journal.disk ++ Write ∷ [] }
         ensures cause { Answers (D.faults self.old.journal.disk) (D.faults self.new.journal.disk) result }
     {
-        let last = self.planned.len() - 1;
-        let left = last - self.done;
+        let left = self.head - self.done;
         let to = self.done + left.min(PART);
         self.journal.write_outside(
             self.other.start + self.done as u64,
-            &self.planned[self.done..to],
+            piece(&self.planned, self.done, to),
         )?;
         self.done = to;
-        if to < last {
+        if to < self.head {
             return Ok(());
         }
         self.held = Held::Tail;
@@ -100,10 +100,10 @@ impl<D: Disk> Slots<D> {
         ensures called { D.calls self.new.journal.disk ≡ D.calls self.old.journal.disk ++ Write ∷ [] }
         ensures cause { Answers (D.faults self.old.journal.disk) (D.faults self.new.journal.disk) result }
     {
-        let to = self.planned.len();
+        let to = self.ended + 1;
         self.journal.write_outside(
             self.other.start + self.done as u64,
-            &self.planned[self.done..to],
+            piece(&self.planned, self.done, to),
         )?;
         self.held = Held::SyncBody;
         Ok(())
@@ -147,7 +147,7 @@ impl<D: Disk> Slots<D> {
         let gate = self
             .journal
             .gate_outside(self.other.start)
-            .guarding(from, self.other.start + self.planned.len() as u64);
+            .guarding(from, from + self.ended as u64);
         self.held = Held::SyncOpen(self.journal.open_outside(gate, synced)?);
         Ok(())
     }
@@ -170,7 +170,7 @@ impl<D: Disk> Slots<D> {
             unreachable!()
         };
         let _gate = self.journal.seal_outside(gate, synced);
-        let len = self.planned.len() as u64 - 1;
+        let len = self.ended as u64;
         let old = self.journal.slot();
         self.journal.switch(self.other, &self.planned, len);
         self.other = old;

@@ -4,6 +4,7 @@
 mod batch;
 mod choosing;
 mod compacting;
+mod growing;
 mod held;
 mod laws;
 mod places;

@@ -1,7 +1,7 @@
 //! Two slots, and what a compaction does next.
 
 ghost use Rattle.fp_disk.specs.Crashes.{EachCrash};
-ghost use Rattle.std.specs.Prelude.{◌≡◌, ◌≢◌, ◌⊎◌, ◌<◌, ◌≤◌, ◌+◌, ◌^◌, length, OnOk, OnErr};
+ghost use Rattle.std.specs.Prelude.{◌≡◌, ◌≢◌, ◌⊎◌, ◌<◌, ◌≤◌, ◌+◌, ◌^◌, [], length, OnOk, OnErr};
 ghost use Rattle.fp_journal.specs.declared.journal.Phase.TheVariants.{Failed};
 ghost use Rattle.fp_slots.specs.Head.{head_text};
 ghost use Rattle.fp_slots.specs.State.{IsBeaten, IsFrontOf, Leaves};
@@ -9,6 +9,7 @@ ghost use Rattle.fp_slots.specs.declared.places.TheConstants.{IMAGE_PLACE, VERSI
 ghost use Rattle.fp_slots.specs.declared.slots.Step.TheVariants.{Begin, Close};
 
 use crate::held::Held;
+use crate::places::IMAGE_PLACE;
 use crate::planning::shut_head;
 use fp_disk::Disk;
 use fp_journal::{Journal, Slot};
@@ -44,19 +45,22 @@ pub struct Slots<D: Disk> {
     pub(crate) generation: u64,
     pub(crate) held: Held<D>,
     pub(crate) may_open: bool,
+    // The text that the other slot is to hold, a closed gate, and what is to stand behind that one.
     pub(crate) planned: Vec<u8>,
+    pub(crate) ended: usize,
+    pub(crate) head: usize,
     pub(crate) done: usize,
 }
 
 impl<D: Disk> Model for Slots<D> {
-    ghost use Rattle.std.specs.Prelude.{slice_range, length, ◌-◌};
-    ghost use Rattle.fp_slots.specs.State.{SlotsState, IsKept, IsHeld, step_of};
+    ghost use Rattle.std.specs.Prelude.{slice_range, drop, ◌+◌, ◌-◌};
+    ghost use Rattle.fp_slots.specs.State.{SlotsState, IsKept, IsHeld, IsWithin, step_of};
 
     ghost Value = { SlotsState D };
 
-    ghost view = { λ s. record { journal = s.journal; other = s.other; generation = s.generation; may_open = s.may_open; step = step_of s.held; text = slice_range s.planned.items 0 (length s.planned.items - 1); left = length s.planned.items - 1 - s.done } };
+    ghost view = { λ s. record { journal = s.journal; other = s.other; generation = s.generation; may_open = s.may_open; step = step_of s.held; text = slice_range s.planned.items 0 s.ended; head = s.head; left = s.head - s.done; coming = drop (s.ended + 1) s.planned.items } };
 
-    ghost invariant = { λ s. IsKept D.honest D.bytes D.unsynced (record { journal = s.journal; other = s.other; generation = s.generation; may_open = s.may_open; step = step_of s.held; text = slice_range s.planned.items 0 (length s.planned.items - 1); left = length s.planned.items - 1 - s.done }) s.may_open s.planned.items s.done × IsHeld D.honest D.moment s.journal s.other.start s.held };
+    ghost invariant = { λ s. IsKept D.honest D.bytes D.unsynced (record { journal = s.journal; other = s.other; generation = s.generation; may_open = s.may_open; step = step_of s.held; text = slice_range s.planned.items 0 s.ended; head = s.head; left = s.head - s.done; coming = drop (s.ended + 1) s.planned.items }) s.may_open (slice_range s.planned.items 0 (s.ended + 1)) s.done × IsHeld D.honest D.moment s.journal s.other.start s.held × IsWithin s.planned.items s.ended s.head s.done };
 }
 
 impl<D: Disk> Slots<D> {
@@ -83,6 +87,8 @@ impl<D: Disk> Slots<D> {
             held: Held::Begin,
             may_open,
             planned: Vec::new(alloc),
+            ended: 0,
+            head: 0,
             done: 0,
         }
     }
@@ -90,6 +96,7 @@ impl<D: Disk> Slots<D> {
     /// The disk alone.
     pub fn into_disk(self) -> D
         ensures disk { result ≡ self.journal.disk }
+        ensures outcomes { EachCrash D.Disk result (Leaves self.step self) }
     {
         let Slots {
             journal,
@@ -98,6 +105,8 @@ impl<D: Disk> Slots<D> {
             held: _,
             may_open: _,
             planned: _,
+            ended: _,
+            head: _,
             done: _,
         } = self;
         journal.into_disk()
@@ -121,13 +130,15 @@ impl<D: Disk> Slots<D> {
         requires short { length image.now < 2 ^ 32 }
         requires fits { self.old.other.start + IMAGE_PLACE + length image.now < self.old.other.stop }
         ensures same { (self.new.journal ≡ self.old.journal) × (self.new.other ≡ self.old.other) × (self.new.generation ≡ self.old.generation) × (self.new.may_open ≡ self.old.may_open) }
-        ensures text { OnOk result ((self.new.text ≡ head_text (self.old.generation + 1) base image.now) × (self.new.left + 1 ≡ length self.new.text)) }
+        ensures text { OnOk result ((self.new.text ≡ head_text (self.old.generation + 1) base image.now) × (self.new.head ≡ IMAGE_PLACE + length image.now) × (self.new.left + 1 ≡ self.new.head) × (self.new.coming ≡ [])) }
         ensures step { OnOk result (self.new.step ≡ Close) × OnErr result (self.new.step ≡ Begin) }
     {
         let next = self.generation + 1;
         let planned = shut_head(alloc, next, base, image)?;
-        self.planned = planned;
+        self.ended = IMAGE_PLACE + image.len();
+        self.head = self.ended;
         self.done = 1;
+        self.planned = planned;
         self.held = Held::Close;
         Ok(())
     }

@@ -1,4 +1,4 @@
-use Rattle.std.proofs.Common.{rules, ◌≡◌, ◌≢◌, ℕ, ◌+◌, ◌-◌, [], ◌∷◌, length, drop, ap, sym, ◌∙◌, subst, arith}
+use Rattle.std.proofs.Common.{rules, ◌≡◌, ◌≢◌, ℕ, ◌+◌, ◌-◌, List, [], ◌∷◌, ◌++◌, length, drop, ap, sym, ◌∙◌, subst, arith}
 use Rattle.std.proofs.lemmas.List.{length-drop}
 use Rattle.std.specs.Prelude.{slice_range}
 use Rattle.fp_disk.specs.Outcomes.{Written}
@@ -8,7 +8,7 @@ use Rattle.fp_journal.specs.Moments.{KeepsFirm}
 use Rattle.fp_journal.specs.declared.journal.Phase.TheVariants.{Failed}
 use Rattle.fp_slots.specs.State.{step_of, SlotsState}
 use Rattle.fp_slots.specs.declared.slots.Step.TheVariants.{Open}
-use Rattle.fp_slots.proofs.Beside.{plan_long}
+use Rattle.fp_slots.proofs.Fronts.{there_is, front_long}
 use Rattle.fp_gate.specs.declared.gate.TheConstants.{OPEN}
 use Rattle.fp_slots.proofs.Steps as steps
 use Rattle.fp_slots.proofs.slots.Slots.open_other.Goals as goal
@@ -38,10 +38,11 @@ open_outside-requires-clause-firm g c =
     let is : step_of c.self.inside.held ≡ Open = ap (λ (k : SlotsState g.row.D.Denot). k.step) c.self.view_is ∙ c.requires.step in
     let j = s.journal in let w = steps.same_slot j in
     let now = steps.beside_is D.honest D.bytes D.unsynced D.moment D.crash_states_since m.counts_now c.self.invariant.0 alive j w Open is in let plan = steps.plan_is D.honest D.bytes D.unsynced D.moment D.crash_states_since m.counts_now c.self.invariant.0 alive j w Open is in
-    let from_is : c.guarding-gate.result.from ≡ s.other.start + 1 = search rules in let to_is : c.guarding-gate.result.to ≡ s.other.start + length s.planned.items = search rules in
-    let len = length-drop 1 s.planned.items in let long = plan_long s.other s.generation (slice_range s.planned.items 0 (length s.planned.items - 1)) s.planned.items plan in let a = long.0 in let b = long.1 in
+    let from_is : c.guarding-gate.result.from ≡ s.other.start + 1 = search rules in let to_is : c.guarding-gate.result.to ≡ s.other.start + 1 + s.ended = search rules in let shut : List ℕ = slice_range s.planned.items 0 (s.ended + 1) in let there = there_is s.planned.items s.ended c.self.invariant.2.there plan.bytes_are in
+    let size : length shut ≡ s.ended + 1 = front_long s.planned.items (s.ended + 1) (omega (arith, there)) in
+    let len = length-drop 1 shut in
     λ h. subst (λ (k : ℕ). StaysAsRead (D.unsynced j.disk) (D.bytes j.disk) k c.guarding-gate.result.to) (sym from_is)
-    (steps.firm_stays (D.unsynced j.disk) (D.bytes j.disk) (s.other.start + 1) c.guarding-gate.result.to (drop 1 s.planned.items) (now h).1 (m.present j.disk h) (omega (arith, to_is, len, a, b)))
+    (steps.firm_stays (D.unsynced j.disk) (D.bytes j.disk) (s.other.start + 1) c.guarding-gate.result.to (drop 1 shut) (now h).1 (m.present j.disk h) (omega (arith, to_is, len, size)))
 
 pub invariant_of-self : goal.invariant_of-self
 invariant_of-self g c =
@@ -51,7 +52,7 @@ invariant_of-self g c =
     let w = c.open_outside.ensures in let j = c.open_outside.new.self in
     let at_is : c.guarding-gate.result.at ≡ s.other.start = search rules in
     let apart : D.honest s.journal.disk → KeepsFirm D.moment D.crash_states_since D.unsynced s.journal.disk j.disk (Apart s.other.start 1) = λ h. subst (λ (k : ℕ). KeepsFirm D.moment D.crash_states_since D.unsynced s.journal.disk j.disk (Apart k 1)) at_is (w.apart h) in
-    rw c.replace.ensures.after (steps.broke_at D.honest D.bytes D.unsynced D.moment D.crash_states_since m.counts_now c.self.invariant.0 alive j w.same w.bodies w.begun (search rules) w.honest.1 Open is (steps.opening_leaves D.honest D.bytes D.unsynced D.moment D.crash_states_since m.counts_now c.self.invariant.0 alive j w.same is w.any_moment apart), search rules)
+    rw c.replace.ensures.after (steps.broke_at D.honest D.bytes D.unsynced D.moment D.crash_states_since m.counts_now c.self.invariant.0 alive j w.same w.bodies w.begun (search rules) w.honest.1 Open is (steps.opening_leaves D.honest D.bytes D.unsynced D.moment D.crash_states_since m.counts_now c.self.invariant.0 alive j w.same is w.any_moment apart), search rules, c.self.invariant.2)
 
 pub returns-in_err-open_outside-clause-any_moment : goal.returns-in_err-open_outside-clause-any_moment
 returns-in_err-open_outside-clause-any_moment g c =
@@ -81,7 +82,7 @@ invariant_of-self-2 g c =
     let w = c.open_outside.ensures in let j = c.open_outside.new.self in
     let at_is : c.guarding-gate.result.at ≡ s.other.start = search rules in
     let apart : D.honest s.journal.disk → KeepsFirm D.moment D.crash_states_since D.unsynced s.journal.disk j.disk (Apart s.other.start 1) = λ h. subst (λ (k : ℕ). KeepsFirm D.moment D.crash_states_since D.unsynced s.journal.disk j.disk (Apart k 1)) at_is (w.apart h) in
-    (steps.opened D.honest D.bytes D.unsynced D.moment D.crash_states_since m.counts_now c.self.invariant.0 alive j w.same is w.any_moment apart (search rules) w.begun w.honest.1 (λ h. subst (λ (k : ℕ). Written (D.bytes s.journal.disk) k (OPEN ∷ []) (D.bytes j.disk)) at_is (c.in_ok-open_outside.ensures.written h).0), search rules)
+    (steps.opened D.honest D.bytes D.unsynced D.moment D.crash_states_since m.counts_now c.self.invariant.0 alive j w.same is w.any_moment apart (search rules) w.begun w.honest.1 (λ h. subst (λ (k : ℕ). Written (D.bytes s.journal.disk) k (OPEN ∷ []) (D.bytes j.disk)) at_is (c.in_ok-open_outside.ensures.written h).0), search rules, c.self.invariant.2)
 
 pub returns-clause-any_moment : goal.returns-clause-any_moment
 returns-clause-any_moment g c =

@@ -17,7 +17,7 @@ invariant_of-self g c =
     let early = subst (λ (k : SlotsState g.row.D.Denot). IsEarly k.step) (sym c.self.view_is) c.requires.early in
     let leave : D.honest s.journal.disk → LeavesOnly D.moment D.crash_states_since s.journal.disk j.disk (λ o. HasChainOrNext s.journal.slot s.journal.front s.journal.sealed s.journal.staged o) = λ h. subst (λ (p : Phase). LeavesOnly D.moment D.crash_states_since s.journal.disk j.disk (λ o. ClaimsAt p s.journal.begun s.journal.slot s.journal.front s.journal.sealed s.journal.staged o)) at (w.any_moment h) in
     let begun : s.journal.begun ≡ true = sym c.self.invariant.0.told ∙ ap (λ (p : Phase). has_begun p s.journal.begun) at in
-    (steps.early_broke D.honest D.bytes D.unsynced D.moment D.crash_states_since m.counts_now c.self.invariant.0 alive j w.same ((λ o. HasChainOrNext s.journal.slot s.journal.front s.journal.sealed s.journal.staged o)) (λ o e. rw (w.begun ∙ begun, w.bodies.0, w.bodies.1) e) (search rules) early w.honest.1 (steps.early_rules D.honest D.bytes D.unsynced D.moment D.crash_states_since m.counts_now c.self.invariant.0 alive j w.same early (steps.Always D.honest D.bytes D.unsynced D.moment D.crash_states_since m.counts_now c.self.invariant.0 alive j w.same) (steps.always_inside D.honest D.bytes D.unsynced D.moment D.crash_states_since m.counts_now c.self.invariant.0 alive j w.same) ((λ o. HasChainOrNext s.journal.slot s.journal.front s.journal.sealed s.journal.staged o)) (steps.next_front D.honest D.bytes D.unsynced D.moment D.crash_states_since m.counts_now c.self.invariant.0 alive j w.same s.journal.staged) leave w.apart), steps.held_on D.honest D.moment c.self.inside.journal j c.self.inside.other.start c.self.inside.held (steps.early_not_open (step_of c.self.inside.held) early) c.self.invariant.1)
+    (steps.early_broke D.honest D.bytes D.unsynced D.moment D.crash_states_since m.counts_now c.self.invariant.0 alive j w.same ((λ o. HasChainOrNext s.journal.slot s.journal.front s.journal.sealed s.journal.staged o)) (λ o e. rw (w.begun ∙ begun, w.bodies.0, w.bodies.1) e) (search rules) early w.honest.1 (steps.early_rules D.honest D.bytes D.unsynced D.moment D.crash_states_since m.counts_now c.self.invariant.0 alive j w.same early (steps.Always D.honest D.bytes D.unsynced D.moment D.crash_states_since m.counts_now c.self.invariant.0 alive j w.same) (steps.always_inside D.honest D.bytes D.unsynced D.moment D.crash_states_since m.counts_now c.self.invariant.0 alive j w.same) ((λ o. HasChainOrNext s.journal.slot s.journal.front s.journal.sealed s.journal.staged o)) (steps.next_front D.honest D.bytes D.unsynced D.moment D.crash_states_since m.counts_now c.self.invariant.0 alive j w.same s.journal.staged) leave w.apart), steps.held_on D.honest D.moment c.self.inside.journal j c.self.inside.other.start c.self.inside.held (steps.early_not_open (step_of c.self.inside.held) early) c.self.invariant.1, c.self.invariant.2)
 
 pub returns-in_err-synced-clause-any_moment : goal.returns-in_err-synced-clause-any_moment
 returns-in_err-synced-clause-any_moment g c =
@@ -51,7 +51,7 @@ invariant_of-self-2 g c =
     let held2 : D.honest s.journal.disk → KeepsHeld D.bytes s.journal.disk k.disk (λ from n. Unit {0}) = λ h from t out p. subst (λ (d : g.row.D.Denot). Holds (D.bytes d) from t) (sym e) (subst (λ (b : List ℕ). Holds b from t) (sym (w.same_bytes h)) p) in
     let back : D.honest k.disk → D.honest s.journal.disk = λ h. w.honest.1 (subst D.honest e h) in
     let told : has_begun k.phase k.begun ≡ k.begun = rw (v.sealed.1, v.begun) refl in
-    (steps.early_done D.honest D.bytes D.unsynced D.moment D.crash_states_since m.counts_now c.self.invariant.0 alive k same2 early (λ x. let no : Idle ≡ Failed = sym v.sealed.1 ∙ x in absurd (cc no)) told back (λ from n. Unit {0}) (λ from n low high. tt) frame2 held2, steps.held_on D.honest D.moment c.self.inside.journal k c.self.inside.other.start c.self.inside.held (steps.early_not_open (step_of c.self.inside.held) early) c.self.invariant.1)
+    (steps.early_done D.honest D.bytes D.unsynced D.moment D.crash_states_since m.counts_now c.self.invariant.0 alive k same2 early (λ x. let no : Idle ≡ Failed = sym v.sealed.1 ∙ x in absurd (cc no)) told back (λ from n. Unit {0}) (λ from n low high. tt) frame2 held2, steps.held_on D.honest D.moment c.self.inside.journal k c.self.inside.other.start c.self.inside.held (steps.early_not_open (step_of c.self.inside.held) early) c.self.invariant.1, c.self.invariant.2)
 
 pub returns-clause-any_moment : goal.returns-clause-any_moment
 returns-clause-any_moment g c =
