@@ -119,3 +119,18 @@ module _ {D : Type 0} (honest : D → Type 0) (moment : D → ℕ) (crash_states
       (leaves_still moment crash_states_since old.store.journal.disk (KeptFrom new.desk old.told) (λ c left.
       let k = exit (subst (λ (d : D). honest d) (sym disk) h) c (subst (λ (d : D). IsOutcome (unsynced d) c) (sym disk) (only_now old.store.journal.disk c h left)) in
       let low = k.1 in (k.0, omega (arith, told, low), k.2, k.3)))
+
+-- what is in flight stays in flight while the store is busy
+pub still_out : {D : Type 0} (s n : StoreState D) (d : DeskState) (h : Held) → IsOut h s d → s.step ≢ Idle → n.sealed ≡ s.sealed → n.staged ≡ s.staged → n.step ≢ Idle → IsOut h n d
+still_out s n d held.Nothing o was sealed staged busy = absurd (was o.0)
+still_out s n d (held.Drawn group) o was sealed staged busy = absurd (was o.0)
+still_out s n d held.InFlight o was sealed staged busy = (busy, sealed ∙ o.1, staged ∙ o.2, o.3)
+still_out s n d (held.Sealed receipt) o was sealed staged busy = absurd (was o.0)
+
+-- the store goes on
+pub went : {D : Type 0} (honest : D → Type 0) (unsynced : D → PendingState) {h : Held} {s : StoreState D} {d : DeskState} {told : ℕ} → IsWorld honest unsynced h s d told → (h2 : Held) (n : StoreState D) → n.store ≡ s.store → IsOut h2 n d
+    → (honest n.journal.disk → (c : List ℕ) → IsOutcome (unsynced n.journal.disk) c → Leaves n c) → IsWorld honest unsynced h2 n d told
+went honest unsynced w h2 n store out now = record { same = w.same ∙ sym store; out = out; low = w.low; now = now }
+
+pub idle_no : (p q : Phase) → p ≡ q → (q ≡ Idle → ⊥) → p ≢ Idle
+idle_no p q is never e = never (sym is ∙ e)

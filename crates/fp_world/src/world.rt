@@ -4,8 +4,10 @@ ghost use Rattle.fp_disk.specs.Crashes.{AtAnyMoment, EachCrash, SameHonesty};
 ghost use Rattle.std.specs.Prelude.{◌≡◌, ◌≢◌, ◌<◌, ◌≤◌, ◌+◌, List, ℕ, [], length, IfOk, IfErr};
 ghost use mathlib.Core.List.{IsPrefix};
 ghost use Rattle.fp_desk.specs.Desk.{log};
+ghost use Rattle.fp_journal.specs.declared.journal.Phase.TheVariants.{Failed};
+ghost use Rattle.fp_recovery.specs.Stands.{StandsFor};
 ghost use Rattle.fp_world.specs.World.{IsNewWorld, KeptFrom, TellsUpTo};
-ghost use Rattle.fp_group_commit.specs.Store.{IsFresh};
+ghost use Rattle.fp_group_commit.specs.Store.{IsFresh, reached};
 
 use crate::event::{Answer, Event};
 use fp_desk::{Desk, SettleFault, SubmitFault, Ticket};
@@ -313,5 +315,24 @@ impl<D: Disk> World<D> {
             Event::Settle => self.settle(),
             Event::Ack(revision) => self.ack(*revision),
         }
+    }
+
+    /// Gives the disk back.
+    pub fn into_disk(self) -> D
+        ensures disk { result ≡ self.store.journal.disk }
+        ensures outcomes { EachCrash D.Disk result (KeptFrom self.desk self.told) }
+        ensures reads { D.honest result → self.store.journal.phase ≢ Failed →
+            StandsFor (D.bytes result) (reached self.store) }
+    {
+        let World {
+            store,
+            desk: _,
+            held,
+            tickets: _,
+            start: _,
+            told: _,
+        } = self;
+        end(held);
+        store.into_disk()
     }
 }

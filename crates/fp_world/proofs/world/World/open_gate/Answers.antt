@@ -46,3 +46,17 @@ returns-clause-exit g c =
     let at : s.step ≡ BodySynced = search rules in
     let out = keeps.flight_on s c.open_gate.new.self c.self.inside.desk c.self.inside.held c.self.invariant.out at w.same.1 w.same.2 (λ e. let on : c.open_gate.new.self.step ≡ BodySynced = search rules in let both : BodySynced ≡ Idle = sym on ∙ e in absurd cc) in
     (λ h1. let h = w.honest.1 h1 in moves.exit_has D.honest D.moment D.crash_states_since D.unsynced m.counts_now c.self.inside.store.journal.disk c.open_gate.new.self.journal.disk _ (keeps.opened_leaves D.moment D.crash_states_since c.self.inside.held c.open_gate.new.self c.self.inside.desk c.self.inside.told c.self.inside.store.journal.disk (c.self.invariant.same ∙ sym w.same.0) out c.self.invariant.low (w.any_moment h)) h1)
+
+pub invariant_of-self : goal.invariant_of-self
+invariant_of-self g c =
+    let D = g.D.Disk in let w = c.open_gate.ensures in let s = c.self.inside.store in let n = c.open_gate.new.self in
+    let at : s.step ≡ BodySynced = search rules in let on : n.step ≡ GateOpened = search rules in
+    let out = keeps.still_out s n c.self.inside.desk c.self.inside.held c.self.invariant.out (keeps.idle_no s.step BodySynced at (λ (e : BodySynced ≡ Idle). absurd cc)) w.same.1 w.same.2 (keeps.idle_no n.step GateOpened on (λ (e : GateOpened ≡ Idle). absurd cc)) in
+    keeps.went D.honest D.unsynced c.self.invariant c.self.inside.held n w.same.0 out w.exit
+
+pub invariant_of-self-2 : goal.invariant_of-self-2
+invariant_of-self-2 g c =
+    let D = g.D.Disk in let w = c.open_gate.ensures in let s = c.self.inside.store in let n = c.open_gate.new.self in
+    let at : s.step ≡ BodySynced = search rules in let on : n.step ≡ BodySynced = search rules in
+    let out = keeps.still_out s n c.self.inside.desk c.self.inside.held c.self.invariant.out (keeps.idle_no s.step BodySynced at (λ (e : BodySynced ≡ Idle). absurd cc)) w.same.1 w.same.2 (keeps.idle_no n.step BodySynced on (λ (e : BodySynced ≡ Idle). absurd cc)) in
+    keeps.went D.honest D.unsynced c.self.invariant c.self.inside.held n w.same.0 out w.exit

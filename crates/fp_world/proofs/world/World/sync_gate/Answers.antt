@@ -1,6 +1,6 @@
 use Rattle.std.proofs.Common.{rules, ◌≡◌, ◌++◌, List, length, refl, sym, ap, ◌∙◌, arith}
 use Rattle.fp_edit.specs.Edits.{Change}
-use Rattle.fp_journal.specs.declared.journal.Phase.TheVariants.{GateOpened}
+use Rattle.fp_journal.specs.declared.journal.Phase.TheVariants.{Idle, GateOpened}
 use Rattle.fp_group_commit.specs.Tokens.{Identity}
 use Rattle.fp_group_commit.proofs.Moves as moves
 use Rattle.fp_edit.proofs.Runs.{revision-after_all}
@@ -50,3 +50,10 @@ pub returns-in-Err-clause-exit : goal.returns-in-Err-clause-exit
 returns-in-Err-clause-exit g c = λ h1.
     let D = g.D.Disk in let m = g.met.D.Disk in let w = c.sync_gate.ensures in let h = w.honest.1 h1 in
     moves.exit_has D.honest D.moment D.crash_states_since D.unsynced m.counts_now c.self.inside.store.journal.disk c.sync_gate.new.self.journal.disk _ (keeps.kept_leaves D.honest D.moment D.crash_states_since D.unsynced c.self.invariant c.sync_gate.new.self.journal.disk (w.any_moment h)) h1
+
+pub invariant_of-self-in-Err : goal.invariant_of-self-in-Err
+invariant_of-self-in-Err g c =
+    let D = g.D.Disk in let w = c.in-Err.ensures in let s = c.self.inside.store in let n = c.sync_gate.new.self in
+    let at : s.step ≡ GateOpened = search rules in let on : n.step ≡ GateOpened = search rules in
+    let out = keeps.still_out s n c.self.inside.desk c.self.inside.held c.self.invariant.out (keeps.idle_no s.step GateOpened at (λ (e : GateOpened ≡ Idle). absurd cc)) w.err.1 w.err.2 (keeps.idle_no n.step GateOpened on (λ (e : GateOpened ≡ Idle). absurd cc)) in
+    keeps.went D.honest D.unsynced c.self.invariant c.self.inside.held n w.err.0 out w.exit
