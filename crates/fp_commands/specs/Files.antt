@@ -12,11 +12,12 @@ use Rattle.fp_recovery.specs.Durable.{IsNewSetOrNone, IsDurable}
 use Rattle.fp_session.specs.Run.{IsApplied, IsLeftBy, IsStoppedBy}
 use Rattle.fp_streams.specs.Failures.{Stream}
 use Rattle.fp_commands.specs.Disks.{Applies, Blames, IfFileRefused, IfRefused, Imports, IsApplyingFault, IsImportingFault, IsLeftByImport, IsLeftOnDisk, IsMakingFault, IsOnlyRead, IsRunOnDisk, IsShowingFault, IsShown, IsStreamFault, IsStoppedByImport, LacksRoom}
+use Rattle.fp_commands.specs.Eval.{IsEvaluated}
 use Rattle.fp_commands.specs.Task.{no_flags}
 use Rattle.fp_commands.specs.declared.fault.CommandFault.{CommandFault}
 use Rattle.fp_commands.specs.declared.fault.CommandFault.TheVariants.{Device, Memory, NotEmpty, StoreFailed}
 use Rattle.fp_commands.specs.declared.program.Task.{Task}
-use Rattle.fp_commands.specs.declared.program.Task.TheVariants.{Apply, InitFile, ApplyFile, ShowFile, ImportFile}
+use Rattle.fp_commands.specs.declared.program.Task.TheVariants.{Apply, InitFile, ApplyFile, ShowFile, ImportFile, EvalFile}
 
 -- what a command reads from, writes to and opens, at a moment
 pub record Outside (F R W : Type 0) : Type 0 where
@@ -112,6 +113,20 @@ pub record ImportsToDisk {F R W D : Type 0} (disk : DiskGhosts D) (remaining : R
   pub no_failure : OnOk outcome (disk.faults after ≡ disk.faults before)
   pub honest : SameHonesty disk before after
 
+-- the reply for a flag of what the disk stands for was written, and nothing on the disk
+pub record EvaluatesOnDisk {F R W D : Type 0} (disk : DiskGhosts D) (remaining : R → Option (List ℕ))
+    (contents : W → Option (List ℕ)) (old new : Outside F R W) (key : List ℕ) (now : ℕ)
+    (before after : D) (outcome : Result (Unit {0}) CommandFault) : Type 0 where
+  pub evaluated : OnOk outcome (IsEvaluated (disk.honest before) (disk.bytes before) key now
+      (remaining old.reader.inner) (contents old.writer.inner) (contents new.writer.inner))
+  pub only_read : IsOnlyRead disk before after
+  pub fault : IfErr outcome (IsShowingFault (disk.honest before) (disk.bytes before))
+  pub unread : IfErr outcome (IfFileRefused (new.reader ≡ old.reader))
+  pub nothing_written : IfErr outcome (IfRefused (new.writer ≡ old.writer))
+  pub device : Blames (disk.faults before + failures old) (disk.faults after + failures new) outcome
+  pub no_failure : OnOk outcome (disk.faults after ≡ disk.faults before)
+  pub honest : SameHonesty disk before after
+
 -- ---- over files
 
 -- A file was opened alone, the disk that was found there became another, which stands there now, and this is what was done with it
@@ -141,14 +156,16 @@ OnFile files disk old new path Found Does (Err f) = FailsToOpen files old new pa
 
 -- what a task comes to: it is done, or this fault ended it. Over memory no file is opened
 abbrev pub Performs : {F R W D : Type 0} → FileGhosts F D → DiskGhosts D → (R → Option (List ℕ)) → (W → Option (List ℕ))
-    → Outside F R W → Outside F R W → Task → List ℕ → Result (Unit {0}) CommandFault → Type 0
-Performs files disk remaining contents old new Apply path outcome = (new.files ≡ old.files)
+    → Outside F R W → Outside F R W → Task → List ℕ → List ℕ → ℕ → Result (Unit {0}) CommandFault → Type 0
+Performs files disk remaining contents old new Apply path key now outcome = (new.files ≡ old.files)
     × AppliesInMemory remaining contents old.reader new.reader old.writer new.writer outcome
-Performs files disk remaining contents old new InitFile path outcome =
+Performs files disk remaining contents old new InitFile path key now outcome =
     OnFile files disk old new path (IsThereOrNew files disk old.files path) (MakesDisk disk old new) outcome
-Performs files disk remaining contents old new ShowFile path outcome =
+Performs files disk remaining contents old new ShowFile path key now outcome =
     OnFile files disk old new path (IsThere files old.files path) (ShowsDisk disk contents old new) outcome
-Performs files disk remaining contents old new ApplyFile path outcome =
+Performs files disk remaining contents old new ApplyFile path key now outcome =
     OnFile files disk old new path (IsThere files old.files path) (AppliesToDisk disk remaining contents old new) outcome
-Performs files disk remaining contents old new ImportFile path outcome =
+Performs files disk remaining contents old new ImportFile path key now outcome =
     OnFile files disk old new path (IsThere files old.files path) (ImportsToDisk disk remaining contents old new) outcome
+Performs files disk remaining contents old new EvalFile path key now outcome =
+    OnFile files disk old new path (IsThere files old.files path) (EvaluatesOnDisk disk remaining contents old new key now) outcome

@@ -4,3 +4,4 @@ pub mod Documents
 pub mod Disks
 pub mod Task
 pub mod Files
+pub mod Eval

@@ -7,7 +7,7 @@ use Rattle.fp_streams.specs.Said.{AppendsLine}
 use Rattle.fp_commands.specs.Faults.{text_of}
 use Rattle.fp_commands.specs.declared.fault.CommandFault.{CommandFault}
 use Rattle.fp_commands.specs.declared.program.Task.{Task}
-use Rattle.fp_commands.specs.declared.program.Task.TheVariants.{Apply, InitFile, ApplyFile, ShowFile, ImportFile}
+use Rattle.fp_commands.specs.declared.program.Task.TheVariants.{Apply, InitFile, ApplyFile, ShowFile, ImportFile, EvalFile}
 
 -- a command's name that wants the path of a file behind it
 abbrev pub over_file : List ℕ → Option Task
@@ -17,16 +17,22 @@ over_file word =
     if bytes_eq word (codes "show") then Some ShowFile else
     if bytes_eq word (codes "import") then Some ImportFile else None
 
-abbrev pub with_path : List ℕ → Option Task → Option (Task × List ℕ)
+abbrev pub with_path : List ℕ → Option Task → Option (Task × List ℕ × List ℕ)
 with_path path None = None
-with_path path (Some task) = Some (task, path)
+with_path path (Some task) = Some (task, path, [])
 
--- the task and its path, which `apply` alone has none of; all other words are no command
-abbrev pub named : List (List ℕ) → Option (Task × List ℕ)
+-- a command's name that wants the key of a flag behind the path; the empty key is none
+abbrev pub of_flag : List ℕ → List ℕ → List ℕ → Option (Task × List ℕ × List ℕ)
+of_flag word path [] = None
+of_flag word path (b ∷ key) = if bytes_eq word (codes "eval") then Some (EvalFile, path, b ∷ key) else None
+
+-- the task, the path, which `apply` alone has none of, and the key, which `eval` alone has; all other words are no command
+abbrev pub named : List (List ℕ) → Option (Task × List ℕ × List ℕ)
 named [] = None
-named (word ∷ []) = if bytes_eq word (codes "apply") then Some (Apply, []) else None
+named (word ∷ []) = if bytes_eq word (codes "apply") then Some (Apply, [], []) else None
 named (word ∷ path ∷ []) = with_path path (over_file word)
-named (word ∷ path ∷ next ∷ more) = None
+named (word ∷ path ∷ key ∷ []) = of_flag word path key
+named (word ∷ path ∷ key ∷ next ∷ more) = None
 
 -- what a run over memory starts from, and what a new disk stands for
 abbrev pub no_flags : State

@@ -1,11 +1,12 @@
 //! The program: its words, its files, its streams and its status.
 
-ghost use Rattle.std.specs.Prelude.{◌≡◌, ◌≤◌, ◌↔◌, Ok, Err, None, Some, IfSome, OnOk, MatchOption, map, string_bytes};
-ghost use Rattle.fp_commands.specs.Files.{Performs, AppliesInMemory};
-ghost use Rattle.fp_commands.specs.Task.{NoneFailed, Tells, TellsFault, named, over_file, usage};
-ghost use Rattle.fp_commands.specs.declared.program.Task.TheVariants.{ApplyFile, ImportFile, InitFile, ShowFile};
+ghost use Rattle.std.specs.Prelude.{◌≡◌, ◌<◌, ◌≤◌, ◌^◌, ◌↔◌, [], Ok, Err, None, Some, IfSome, OnOk, MatchOption, map, string_bytes};
+ghost use Rattle.fp_commands.specs.Files.{AppliesInMemory, Performs};
+ghost use Rattle.fp_commands.specs.Task.{NoneFailed, Tells, TellsFault, named, of_flag, over_file, usage};
+ghost use Rattle.fp_commands.specs.declared.program.Task.TheVariants.{ApplyFile, EvalFile, ImportFile, InitFile, ShowFile};
 
 use crate::disk::{apply_disk, import_disk, init_disk, show_disk};
+use crate::eval::eval_disk;
 use crate::fault::CommandFault;
 use fp_edit::FlagSet;
 use fp_files::DiskFiles;
@@ -28,11 +29,13 @@ enum Task {
     ApplyFile,
     ShowFile,
     ImportFile,
+    EvalFile,
 }
 
 /// Runs the command that the words name, over files and streams, and answers the program's status: 0 where it was done, 1
 /// where a fault ended it, which `e` is told, and 2 where the words name no command, where `e` is told the usage. It takes
-/// no memory to tell either. No file is opened but the one that the words name, and that once.
+/// no memory to tell either. No file is opened but the one that the words name, and that once. The moment is in seconds
+/// since 1970.
 pub fn command<F, R, W, E>(
     alloc: Global,
     files: &mut F,
@@ -40,12 +43,14 @@ pub fn command<F, R, W, E>(
     r: &mut FailureCounted<R>,
     w: &mut FailureCounted<W>,
     e: &mut FailureCounted<E>,
+    now: u64,
 ) -> u8
 where
     F: DiskFiles,
     R: Read,
     W: Write,
     E: Write,
+    requires { now < 2 ^ 63 }
     ensures usage { (result ≡ 2) ↔ (named (map string_bytes words.now) ≡ None) }
     ensures helps { result ≡ 2 → Tells E.contents e.old e.new usage }
     ensures untouched { result ≡ 2
@@ -53,21 +58,21 @@ where
     ensures done { result ≡ 0 → IfSome (named (map string_bytes words.now)) (λ task.
         Performs F.DiskFiles F.Disk.Disk R.remaining W.contents
         (record { files = files.old; reader = r.old; writer = w.old })
-        (record { files = files.new; reader = r.new; writer = w.new }) task.0 task.1 (Ok tt)) }
+        (record { files = files.new; reader = r.new; writer = w.new }) task.0 task.1 task.2 now (Ok tt)) }
     ensures no_failure { result ≡ 0 → NoneFailed r.old r.new w.old w.new }
     ensures quiet { result ≡ 0 → e.new ≡ e.old }
     ensures ends { result ≡ 1 → IfSome (named (map string_bytes words.now)) (λ task.
         TellsFault E.contents e.old e.new (λ fault.
         Performs F.DiskFiles F.Disk.Disk R.remaining W.contents
         (record { files = files.old; reader = r.old; writer = w.old })
-        (record { files = files.new; reader = r.new; writer = w.new }) task.0 task.1 (Err fault))) }
+        (record { files = files.new; reader = r.new; writer = w.new }) task.0 task.1 task.2 now (Err fault))) }
     ensures small { result ≤ 2 }
 {
-    let Some((task, path)) = task_of(words) else {
+    let Some((task, path, key)) = task_of(words) else {
         let _ = e.say(&USAGE);
         return 2;
     };
-    match perform(alloc, files, task, path, r, w) {
+    match perform(alloc, files, task, path, key, now, r, w) {
         Ok(()) => 0,
         Err(fault) => {
             let _ = e.say(&format_args!("flagplane: {fault}"));
@@ -76,15 +81,30 @@ where
     }
 }
 
-fn task_of(words: &[String]) -> Option<(Task, &str)>
+fn task_of(words: &[String]) -> Option<(Task, &str, &str)>
     ensures { MatchOption result (named (map string_bytes words.now) ≡ None)
-        (λ task. named (map string_bytes words.now) ≡ Some (task.0, task.1.now)) }
+        (λ task. named (map string_bytes words.now) ≡ Some (task.0, task.1.now, task.2.now)) }
 {
     match words {
-        [word] if word.as_str() == "apply" => Some((Task::Apply, "")),
-        [word, path] => Some((task_over_file(word.as_str())?, path.as_str())),
+        [word] if word.as_str() == "apply" => Some((Task::Apply, "", "")),
+        [word, path] => Some((task_over_file(word.as_str())?, path.as_str(), "")),
+        [word, path, key] => task_of_flag(word.as_str(), path.as_str(), key.as_str()),
         _ => None,
     }
+}
+
+// The empty key is none.
+fn task_of_flag<'w>(word: &str, path: &'w str, key: &'w str) -> Option<(Task, &'w str, &'w str)>
+    ensures { MatchOption result (of_flag word.now path.now key.now ≡ None)
+        (λ task. of_flag word.now path.now key.now ≡ Some (task.0, task.1.now, task.2.now)) }
+{
+    if key.is_empty() {
+        return None;
+    }
+    if word != "eval" {
+        return None;
+    }
+    Some((Task::EvalFile, path, key))
 }
 
 fn task_over_file(word: &str) -> Option<Task>
@@ -104,6 +124,8 @@ fn perform<F, R, W>(
     files: &mut F,
     task: Task,
     path: &str,
+    key: &str,
+    now: u64,
     r: &mut FailureCounted<R>,
     w: &mut FailureCounted<W>,
 ) -> Result<(), CommandFault>
@@ -111,9 +133,10 @@ where
     F: DiskFiles,
     R: Read,
     W: Write,
+    requires { now < 2 ^ 63 }
     ensures performs { Performs F.DiskFiles F.Disk.Disk R.remaining W.contents
         (record { files = files.old; reader = r.old; writer = w.old })
-        (record { files = files.new; reader = r.new; writer = w.new }) task path.now result }
+        (record { files = files.new; reader = r.new; writer = w.new }) task path.now key.now now result }
     ensures no_failure { OnOk result (NoneFailed r.old r.new w.old w.new) }
 {
     match task {
@@ -122,6 +145,7 @@ where
         Task::ApplyFile => apply_file(alloc, files, path, r, w),
         Task::ShowFile => show_file(alloc, files, path, r, w),
         Task::ImportFile => import_file(alloc, files, path, r, w),
+        Task::EvalFile => eval_file(alloc, files, path, key, now, r, w),
     }
 }
 
@@ -153,7 +177,7 @@ where
     W: Write,
     ensures { Performs F.DiskFiles F.Disk.Disk R.remaining W.contents
         (record { files = files.old; reader = _r.now; writer = _w.now })
-        (record { files = files.new; reader = _r.now; writer = _w.now }) InitFile path.now result }
+        (record { files = files.new; reader = _r.now; writer = _w.now }) InitFile path.now [] 0 result }
 {
     let disk = files.create(path)?;
     let (disk, outcome) = init_disk(alloc, disk);
@@ -175,7 +199,7 @@ where
     W: Write,
     ensures performs { Performs F.DiskFiles F.Disk.Disk R.remaining W.contents
         (record { files = files.old; reader = r.old; writer = w.old })
-        (record { files = files.new; reader = r.new; writer = w.new }) ApplyFile path.now result }
+        (record { files = files.new; reader = r.new; writer = w.new }) ApplyFile path.now [] 0 result }
     ensures no_failure { OnOk result (NoneFailed r.old r.new w.old w.new) }
 {
     let disk = files.open(path)?;
@@ -199,7 +223,7 @@ where
     W: Write,
     ensures performs { Performs F.DiskFiles F.Disk.Disk R.remaining W.contents
         (record { files = files.old; reader = _r.now; writer = w.old })
-        (record { files = files.new; reader = _r.now; writer = w.new }) ShowFile path.now result }
+        (record { files = files.new; reader = _r.now; writer = w.new }) ShowFile path.now [] 0 result }
     ensures no_failure { OnOk result (w.new.failures ≤ w.old.failures) }
 {
     let disk = files.open(path)?;
@@ -222,7 +246,7 @@ where
     W: Write,
     ensures performs { Performs F.DiskFiles F.Disk.Disk R.remaining W.contents
         (record { files = files.old; reader = r.old; writer = w.old })
-        (record { files = files.new; reader = r.new; writer = w.new }) ImportFile path.now result }
+        (record { files = files.new; reader = r.new; writer = w.new }) ImportFile path.now [] 0 result }
     ensures no_failure { OnOk result (NoneFailed r.old r.new w.old w.new) }
 {
     let disk = files.open(path)?;
@@ -230,4 +254,30 @@ where
     files.close(path, disk);
     let _told = outcome?;
     Ok(())
+}
+
+// Answers the request that is read for a flag of what the file stands for.
+fn eval_file<F, R, W>(
+    alloc: Global,
+    files: &mut F,
+    path: &str,
+    key: &str,
+    now: u64,
+    r: &mut FailureCounted<R>,
+    w: &mut FailureCounted<W>,
+) -> Result<(), CommandFault>
+where
+    F: DiskFiles,
+    R: Read,
+    W: Write,
+    requires { now < 2 ^ 63 }
+    ensures performs { Performs F.DiskFiles F.Disk.Disk R.remaining W.contents
+        (record { files = files.old; reader = r.old; writer = w.old })
+        (record { files = files.new; reader = r.new; writer = w.new }) EvalFile path.now key.now now result }
+    ensures no_failure { OnOk result (NoneFailed r.old r.new w.old w.new) }
+{
+    let disk = files.open(path)?;
+    let (disk, outcome) = eval_disk(alloc, r, w, disk, key, now);
+    files.close(path, disk);
+    outcome
 }

@@ -256,6 +256,7 @@ fn streams_that_fail_are_told_on_the_error_stream(rt: HostRuntime) -> Result<(),
         &mut broken,
         &mut output,
         &mut errors,
+        0,
     );
     assert_eq!(rt; (read, output.get_ref().len()), (1, 0));
     let mut input = FailureCounted::new(b"[]\n".as_slice());
@@ -267,6 +268,7 @@ fn streams_that_fail_are_told_on_the_error_stream(rt: HostRuntime) -> Result<(),
         &mut input,
         &mut full,
         &mut errors,
+        0,
     );
     assert_eq!(rt; written, 1);
     assert_eq!(rt;

@@ -4,6 +4,7 @@
 
 mod damage;
 mod disk;
+mod eval;
 mod journal;
 mod run;
 mod script;

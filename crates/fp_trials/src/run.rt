@@ -2,7 +2,7 @@
 
 use crate::trial::{Answer, Trial, TrialFault};
 use crate::words::{first_word, number};
-use crate::{damage, disk, journal, set};
+use crate::{damage, disk, eval, journal, set};
 use std::alloc::{AllocError, Global};
 
 fn understood(trial: &mut Trial, line: &str) -> Result<Answer, TrialFault> {
@@ -17,6 +17,7 @@ fn understood(trial: &mut Trial, line: &str) -> Result<Answer, TrialFault> {
         }
         "input" | "last" | "raw" => set::on_input(trial, word, rest),
         "init" | "apply" | "import" | "shown" => set::on_commands(trial, word, rest),
+        "eval" => eval::on_eval(trial, rest),
         "edit" | "submit" | "batch" | "room" | "chain" | "slot" => journal::on_edits(
             trial, word, rest,
         ),

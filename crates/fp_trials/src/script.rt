@@ -139,6 +139,7 @@ fn program<R: Files + AllocGlobal>(
         &mut reader,
         &mut writer,
         &mut errors,
+        0,
     );
     let mut text = text_of(alloc, &writer.into_inner())?;
     let told = text_of(alloc, &errors.into_inner())?;

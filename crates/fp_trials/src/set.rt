@@ -284,7 +284,8 @@ fn replied(line: &str) -> Option<u64> {
     digits.parse::<u64>().ok()
 }
 
-fn stopped(trial: &Trial, output: String, fault: CommandFault) -> Result<Answer, TrialFault> {
+/// The answer of a command that gave up.
+pub fn stopped(trial: &Trial, output: String, fault: CommandFault) -> Result<Answer, TrialFault> {
     match trial.fault(fault)? {
         Answer::Fault(fault) => Ok(Answer::Stopped(with_end(output)?, fault)),
         answer => Ok(answer),
