@@ -1,9 +1,9 @@
 //! Disks of which single bytes were changed.
 
 use crate::disk::part;
-use crate::set::open;
 use crate::trial::{Answer, Trial, TrialFault};
 use crate::words::{FIRST_SEED, first_number, next_seed, number};
+use crate::world::open;
 use fp_commands::CommandFault;
 use fp_disk::MemoryDisk;
 use std::alloc::{AllocError, Global};

@@ -1,128 +1,15 @@
-//! Commands on a set of flags and the commands of the program, over a disk in memory.
+//! The commands of the program, over a disk in memory, and the lines that they read.
 
-use crate::disk::{part, text_of};
-use crate::journal::room;
-use crate::trial::{Answer, Held, OpenSet, Trial, TrialFault};
+use crate::disk::text_of;
+use crate::trial::{Answer, Trial, TrialFault};
 use crate::words::{bytes, line_of, number};
+use crate::world::room;
 use fp_commands::{CommandFault, apply_disk, import_disk, init_disk, show_disk};
 use fp_disk::MemoryDisk;
-use fp_edit::{Edit, EditFault, FlagSet};
-use fp_layout::SlotSize;
-use fp_recovery::{AdmitFault, DurableSet};
 use fp_streams::FailureCounted;
 use std::alloc::{AllocError, Global};
-use std::fmt::Write;
 use std::io;
 use std::io::{ErrorKind, Read};
-
-/// `create SIZE`, `open`, `close`, `show`, `marks`, `size`, `ready`.
-pub fn on_set(trial: &mut Trial, word: &str, rest: &str) -> Result<Answer, TrialFault> {
-    match word {
-        "create" => create(trial, rest),
-        "open" => open(trial),
-        "close" => {
-            let disk = trial.take_disk();
-            trial.put_disk(disk);
-            Ok(Answer::Done)
-        }
-        _ => of_open_set(trial, word),
-    }
-}
-
-fn create(trial: &mut Trial, rest: &str) -> Result<Answer, TrialFault> {
-    let Some(size) = SlotSize::new(number(rest)?) else {
-        return Ok(Answer::Word("no size of a slot"));
-    };
-    let disk = trial.take_disk();
-    match DurableSet::create(trial.alloc, disk, size) {
-        Ok(set) => {
-            trial.held = Held::Open(OpenSet { set });
-            Ok(Answer::Revision(0))
-        }
-        Err((fault, disk)) => {
-            trial.put_disk(disk);
-            trial.fault(fault.into())
-        }
-    }
-}
-
-/// `open`.
-pub fn open(trial: &mut Trial) -> Result<Answer, TrialFault> {
-    let disk = trial.take_disk();
-    match DurableSet::open(trial.alloc, disk) {
-        Ok(set) => {
-            let revision = set.set().revision();
-            trial.held = Held::Open(OpenSet { set });
-            Ok(Answer::Revision(revision))
-        }
-        Err((fault, disk)) => {
-            trial.put_disk(disk);
-            trial.fault(fault.into())
-        }
-    }
-}
-
-fn of_open_set(trial: &Trial, word: &str) -> Result<Answer, TrialFault> {
-    let Held::Open(open) = &trial.held else {
-        return Err(TrialFault::NotUnderstood);
-    };
-    let flags = open.set.set();
-    match word {
-        "show" => Ok(Answer::Text(text_of(trial.alloc, &flags.document()?)?)),
-        "marks" => Ok(Answer::Text(marks(trial.alloc, flags)?)),
-        "size" => Ok(Answer::Number(flags.size())),
-        _ if open.set.is_ready() => Ok(Answer::Word("ready")),
-        _ => Ok(Answer::Word("failed")),
-    }
-}
-
-// The revisions that changed the flags last, in the order of their keys.
-fn marks(alloc: Global, set: &FlagSet) -> Result<String, AllocError> {
-    let mut text = String::new(alloc);
-    for (key, flag) in set.iter() {
-        part(&mut text)?;
-        tell_mark(&mut text, key.as_str(), flag.changed)?;
-    }
-    Ok(text)
-}
-
-fn tell_mark(text: &mut String, key: &str, changed: u64) -> Result<(), AllocError> {
-    write!(text, "{key} {changed}")
-}
-
-/// Makes an edit on the open set. One for which memory was wanting is given back, and is tried once more.
-pub fn admit(trial: &mut Trial, edit: Edit) -> Result<Answer, TrialFault> {
-    let Held::Open(open) = &mut trial.held else {
-        return Err(TrialFault::NotUnderstood);
-    };
-    let outcome = match open.set.admit(edit) {
-        Err(
-            AdmitFault::Refused {
-                fault: EditFault::Memory,
-                edit,
-            },
-        ) => open.set.admit(edit),
-        outcome => outcome,
-    };
-    let is_ready = open.set.is_ready();
-    match outcome {
-        Ok(revision) => {
-            trial.tell(revision);
-            Ok(Answer::Revision(revision))
-        }
-        Err(
-            AdmitFault::Refused {
-                fault: EditFault::Memory,
-                edit: _,
-            },
-        ) => Err(TrialFault::Memory),
-        Err(AdmitFault::Refused { fault, edit: _ }) => Ok(Answer::Refused(fault)),
-        Err(AdmitFault::StoreFailed) if is_ready || trial.is_failing => {
-            Ok(Answer::Fault(CommandFault::StoreFailed))
-        }
-        Err(AdmitFault::StoreFailed) => Err(TrialFault::Memory),
-    }
-}
 
 /// `input EDIT`, `last EDIT` for a line without its end, and `raw BYTES`.
 pub fn on_input(trial: &mut Trial, word: &str, rest: &str) -> Result<Answer, TrialFault> {
