@@ -45,7 +45,7 @@ impl Evaluator for Fixed {
         if self.is_closed {
             return Err(NoReply);
         }
-        fp_ofrep::answer(alloc, &self.set, method, target, if_none_match, body, now).map_err(
+        fp_ofrep::answer_over(alloc, &self.set, method, target, if_none_match, body, now).map_err(
             |_| NoReply,
         )
     }
