@@ -193,8 +193,17 @@ const LONGEST: u64 = 32_768;
 
 // Where no call was told to fail and there is room for any edit, the store fails for want of memory.
 fn store_failed(trial: &mut Trial, output: String) -> Result<Answer, TrialFault> {
-    if !trial.is_failing && room(trial)? > LONGEST {
+    let output = with_end(output)?;
+    if has_room(trial)? {
         return Err(TrialFault::Memory);
     }
-    Ok(Answer::Stopped(with_end(output)?, CommandFault::StoreFailed))
+    Ok(Answer::Stopped(output, CommandFault::StoreFailed))
+}
+
+fn has_room(trial: &mut Trial) -> Result<bool, TrialFault> {
+    if trial.is_failing {
+        return Ok(false);
+    }
+    let room = room(trial)?;
+    Ok(room > LONGEST)
 }

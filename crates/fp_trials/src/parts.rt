@@ -13,6 +13,7 @@ use fp_edit::Edit;
 use fp_group_commit::{Draw, Opening, Receipt, Store, StoreFault};
 use fp_journal::Phase;
 use std::alloc::{AllocError, Global};
+use std::fmt::Write;
 
 /// `stop EDIT`, `stray FIRST EDIT`, `receipt EDIT / EDIT`, of the disk as it is opened now.
 pub fn on_parts(trial: &mut Trial, word: &str, rest: &str) -> Result<Answer, TrialFault> {
@@ -56,6 +57,13 @@ fn submitted(desk: &mut Desk, edit: Edit) -> Result<Answer, TrialFault>
     }
 }
 
+fn taken(alloc: Global, desk: &mut Desk, rest: &str) -> Result<Answer, TrialFault>
+    ensures { desk.new.store ≡ desk.old.store }
+{
+    let edit = edit(alloc, rest)?;
+    submitted(desk, edit)
+}
+
 fn drawn(desk: &mut Desk) -> Result<Answer, AllocError>
     ensures { desk.new.store ≡ desk.old.store }
 {
@@ -67,27 +75,34 @@ fn drawn(desk: &mut Desk) -> Result<Answer, AllocError>
 
 // `stop EDIT`: the desk takes the edit, is stopped, is given it once more, and draws.
 fn stop(alloc: Global, opening: Opening, rest: &str) -> Result<Answer, TrialFault> {
-    let first = edit(alloc, rest)?;
-    let second = first.try_copy()?;
+    let mut text = String::new(alloc);
     let mut desk = desk_over(alloc, opening)?;
-    let before = submitted(&mut desk, first)?;
+    tell_submitted(alloc, &mut desk, rest, &mut text)?;
     desk.stop();
-    let after = submitted(&mut desk, second)?;
-    let drawn = drawn(&mut desk)?;
-    told(alloc, &before, &after, &drawn)
+    tell_submitted(alloc, &mut desk, rest, &mut text)?;
+    tell_drawn(&mut desk, &mut text)?;
+    Ok(Answer::Text(text))
 }
 
-fn told(
+fn tell_submitted(
     alloc: Global,
-    before: &Answer,
-    after: &Answer,
-    drawn: &Answer,
-) -> Result<Answer, TrialFault> {
-    Ok(Answer::Text(format!(in alloc; "{before}, {after}, {drawn}")?))
+    desk: &mut Desk,
+    rest: &str,
+    out: &mut String,
+) -> Result<(), TrialFault> {
+    let answer = taken(alloc, desk, rest)?;
+    write!(out, "{answer}, ")?;
+    Ok(())
+}
+
+fn tell_drawn(desk: &mut Desk, out: &mut String) -> Result<(), AllocError> {
+    let answer = drawn(desk)?;
+    write!(out, "{answer}")
 }
 
 // One edit as a batch.
-fn batch_of(alloc: Global, first: u64, edit: Edit) -> Result<Draw, AllocError> {
+fn batch_of(alloc: Global, first: u64, rest: &str) -> Result<Draw, TrialFault> {
+    let edit = edit(alloc, rest)?;
     let mut edits = Vec::new(alloc);
     edits.push(edit)?;
     Ok(Draw::new(first, edits))
@@ -113,7 +128,7 @@ fn staged(store: &mut Store<MemoryDisk>, draw: Draw) -> Result<bool, StoreFault>
 // `stray FIRST EDIT`: a batch of this edit under this revision is staged.
 fn stray(trial: &Trial, store: &mut Store<MemoryDisk>, rest: &str) -> Result<Answer, TrialFault> {
     let (first, rest) = first_number(rest)?;
-    let draw = batch_of(trial.alloc, first, edit(trial.alloc, rest)?)?;
+    let draw = batch_of(trial.alloc, first, rest)?;
     match staged(store, draw) {
         Ok(true) => Ok(Answer::Word("done")),
         Ok(false) => Ok(Answer::Word("no room")),
@@ -182,23 +197,55 @@ fn receipt(
 ) -> Result<Answer, TrialFault>
     requires { opening ≡ store.old.store }
 {
-    let alloc = trial.alloc;
     let (own, other) = rest.split_once(" / ").ok_or(TrialFault::NotUnderstood)?;
-    let draw = batch_of(alloc, opening.revision() + 1, edit(alloc, other)?)?;
+    let first = opening.revision() + 1;
     let mut desk = desk_over(trial.alloc, opening)?;
-    if own != "nothing" {
-        let _ticket = submitted(&mut desk, edit(alloc, own)?)?;
-        let _draw = drawn(&mut desk)?;
+    draws(trial.alloc, &mut desk, own)?;
+    answer_to(trial, store, &mut desk, first, other)
+}
+
+// The desk draws this edit, if it is one.
+fn draws(alloc: Global, desk: &mut Desk, own: &str) -> Result<(), TrialFault>
+    ensures { desk.new.store ≡ desk.old.store }
+{
+    if own == "nothing" {
+        return Ok(());
     }
+    let _ticket = taken(alloc, desk, own)?;
+    let _draw = drawn(desk)?;
+    Ok(())
+}
+
+// What the desk answers to the receipt for a batch of this edit.
+fn answer_to(
+    trial: &Trial,
+    store: &mut Store<MemoryDisk>,
+    desk: &mut Desk,
+    first: u64,
+    edit: &str,
+) -> Result<Answer, TrialFault>
+    requires { desk.old.store ≡ store.old.store }
+{
+    let draw = batch_of(trial.alloc, first, edit)?;
     match staged(store, draw) {
-        Ok(true) => {}
-        Ok(false) => return Ok(Answer::Word("no room")),
-        Err(fault) => return not_done(trial, fault),
+        Ok(true) => answer_to_staged(trial, store, desk),
+        Ok(false) => Ok(Answer::Word("no room")),
+        Err(fault) => not_done(trial, fault),
     }
+}
+
+fn answer_to_staged(
+    trial: &Trial,
+    store: &mut Store<MemoryDisk>,
+    desk: &mut Desk,
+) -> Result<Answer, TrialFault>
+    requires one { desk.old.store ≡ store.old.store }
+    requires staged { store.old.step ≡ Staged }
+{
     match sealed(store) {
         Ok(receipt) => {
             store.confirm(&receipt);
-            settled(&mut desk, receipt)
+            settled(desk, receipt)
         }
         Err(fault) => not_done(trial, fault),
     }

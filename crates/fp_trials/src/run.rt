@@ -52,11 +52,24 @@ pub fn repeat(
     out: &mut String,
 ) -> Result<(), TrialFault> {
     for word in words.split_whitespace() {
-        match word.split_once("..") {
-            Some((from, to)) => count(trial, number(from)?, number(to)?, block, out)?,
-            None => row(trial, word, block, out)?,
-        }
+        repeat_word(trial, word, block, out)?;
     }
+    Ok(())
+}
+
+fn repeat_word(
+    trial: &mut Trial,
+    word: &str,
+    block: &[String],
+    out: &mut String,
+) -> Result<(), TrialFault> {
+    let Some((from, to)) = word.split_once("..") else {
+        row(trial, word, block, out)?;
+        return Ok(());
+    };
+    let from = number(from)?;
+    let to = number(to)?;
+    count(trial, from, to, block, out)?;
     Ok(())
 }
 
