@@ -2,6 +2,7 @@
 #![tactic(auto)]
 
 use fp_commands::command;
+use fp_files::SystemFiles;
 use fp_streams::FailureCounted;
 use std::alloc::AllocGlobal;
 use std::env;
@@ -25,5 +26,13 @@ fn main(rt: HostRuntime) -> ExitCode {
     let mut input = FailureCounted::new(rt.reader());
     let mut output = FailureCounted::new(rt.stdout());
     let mut errors = FailureCounted::new(rt.stderr());
-    ExitCode::from(command(&rt, words, &mut input, &mut output, &mut errors))
+    let mut files = SystemFiles::of(&rt);
+    ExitCode::from(command(
+        rt.alloc(),
+        &mut files,
+        words,
+        &mut input,
+        &mut output,
+        &mut errors,
+    ))
 }

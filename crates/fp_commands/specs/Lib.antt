@@ -3,3 +3,4 @@ pub mod Kept
 pub mod Documents
 pub mod Disks
 pub mod Task
+pub mod Files

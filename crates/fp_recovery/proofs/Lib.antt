@@ -1,7 +1,10 @@
 pub mod Cases
 pub mod Restored
+pub mod Read
+pub mod Flags
 pub mod Agreed
 pub mod Kept
 pub mod Single
 pub mod One
 pub mod Refused
+pub mod OneFault

@@ -1,6 +1,8 @@
 pub mod Stands
+pub mod Reading
 pub mod Refusals
 pub mod Durable
 pub mod Room
 pub mod Admitting
 pub mod Laws
+pub mod Exact
