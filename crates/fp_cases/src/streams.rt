@@ -71,7 +71,8 @@ impl Subscriber {
         for cut in 0..=bytes.len() {
             let text = outcome(alloc, self.hello, &bytes[..cut], &bytes[cut..], bytes.len())?;
             if text != before {
-                write!(out, "from {cut}:\n{text}\n")?;
+                let told = text.as_str().trim_end();
+                write!(out, "from {cut}:\n{told}\n")?;
                 before = text;
             }
         }
