@@ -11,6 +11,7 @@ mod records;
 mod requests;
 mod rules;
 mod session;
+mod streams;
 mod values;
 
 use fp_transcript::{report, rewrite};

@@ -3,6 +3,7 @@
 use crate::data::put_datum;
 use crate::expand::{Texts, expanded};
 use crate::requests::Asking;
+use crate::streams::Subscriber;
 use crate::{definitions, edits, imports, operators, records, rules, values};
 use fp_base::read_json;
 use fp_definition::{FlagKey, KeyFault};
@@ -29,6 +30,8 @@ pub struct Session {
     kept: FlagSet,
     /// What requests have in common.
     asking: Asking,
+    /// Who reads frames.
+    subscriber: Subscriber,
 }
 
 fn first_key(alloc: Global) -> Result<FlagKey, AllocError> {
@@ -51,6 +54,7 @@ impl Session {
             set: FlagSet::new(alloc, 1 << 23),
             kept: FlagSet::new(alloc, 1 << 23),
             asking: Asking::new(alloc)?,
+            subscriber: Subscriber::new(alloc),
         })
     }
 
@@ -111,6 +115,9 @@ impl Session {
             "if-none-match" => self.asking.set_if_none_match(alloc, operand),
             "ask" => self.ask(first, Body::Whole(operand), out),
             "ask-too-long" => self.ask(first, Body::TooLong, out),
+            "hello" | "subscriber" | "frame" | "feed" | "pieces" | "halves" | "waiting" => {
+                self.subscribe(word, first, operand, out)
+            }
             _ => self.run_word(word, first, out),
         }
     }
@@ -141,6 +148,17 @@ impl Session {
     fn ask(&self, target: &str, body: Body<'_>, out: &mut String) -> Result<(), AllocError> {
         self.asking
             .ask(self.alloc, &self.set, target, body, self.now, out)
+    }
+
+    fn subscribe(
+        &mut self,
+        word: &str,
+        first: &str,
+        operand: &[u8],
+        out: &mut String,
+    ) -> Result<(), AllocError> {
+        self.subscriber
+            .run(self.alloc, word, number_in(first), operand, out)
     }
 
     // An empty set under a limit, at a revision.
@@ -232,6 +250,9 @@ fn has_first(word: &str) -> bool {
             | "now"
             | "ask"
             | "ask-too-long"
+            | "frame"
+            | "pieces"
+            | "waiting"
     )
 }
 

@@ -26,7 +26,7 @@ not_none None f P e = absurd cc
 not_none (Some g) f P e = tt
 
 -- a fault stays where it stands, whatever comes behind it
-Reads-on : (has : Hello) (bytes : List ℕ) (frames : List Snapshot) (rest piece : List ℕ) (f : FrameFault) → Reads has bytes frames rest (Some f) → Reads has (bytes ++ piece) frames (rest ++ piece) (Some f)
+pub Reads-on : (has : Hello) (bytes : List ℕ) (frames : List Snapshot) (rest piece : List ℕ) (f : FrameFault) → Reads has bytes frames rest (Some f) → Reads has (bytes ++ piece) frames (rest ++ piece) (Some f)
 Reads-on has bytes frames rest piece f r =
     let s = r.stops in
     record {

@@ -1,14 +1,15 @@
 //! What a subscriber has, and how it says so.
 
-ghost use Rattle.std.specs.Prelude.{◌≡◌, ◌≤◌, ◌<◌, ◌++◌, ℕ, List, length, take, Some, IfOk, IfErr, IfSome, OnOk};
-ghost use Rattle.std.specs.Io.KnownBytes.{Consumes, IsAtEnd};
+ghost use Rattle.std.specs.Prelude.{◌≡◌, ◌≤◌, ◌<◌, ◌++◌, ◌∷◌, ℕ, List, length, take, Some, IfOk, IfErr, IfSome, OnOk};
+ghost use Rattle.std.specs.Int.{w64, to_be_bytes};
+ghost use Rattle.std.specs.Io.KnownBytes.{Appends, Consumes, IsAtEnd};
 ghost use Rattle.fp_streams.specs.Failures.{CountsFailures};
 ghost use Rattle.fp_streams.specs.declared.counted.StreamFault.TheVariants.{Device};
 ghost use Rattle.fp_stream.specs.declared.hello.Hello.{Hello};
 ghost use Rattle.fp_stream.specs.Hellos.{hello_bytes, CountsHello, IsHello, Hears, IsSaid, IsSpelled};
 
 use fp_streams::{FailureCounted, StreamFault};
-use std::io::Read;
+use std::io::{Read, Write};
 use thiserror::Error;
 
 /// What a subscriber says that it has.
@@ -36,6 +37,28 @@ pub enum HelloFault {
 
 /// How long a hello is.
 const HELLO: usize = 9;
+
+/// Says hello. At an error some of it may have been said.
+pub fn write_hello<W: Write>(w: &mut FailureCounted<W>, hello: Hello) -> Result<(), StreamFault>
+    ensures hello { OnOk result (Appends (W.contents w.old.inner) (W.contents w.new.inner)
+        (hello_bytes hello)) }
+    ensures fault { IfErr result (λ f. f ≡ Device) }
+    ensures counted { CountsFailures w.old.failures w.new.failures result }
+{
+    let (first, revision) = match hello {
+        Hello::Nothing => (0, 0),
+        Hello::Has(revision) => (1, revision),
+    };
+    w.send(&bytes_of(first, revision))
+}
+
+// A first byte, and a number of eight.
+fn bytes_of(first: u8, revision: u64) -> [u8; HELLO]
+    ensures { result ≡ first ∷ to_be_bytes w64 revision }
+{
+    let r = revision.to_be_bytes();
+    [first, r[0], r[1], r[2], r[3], r[4], r[5], r[6], r[7]]
+}
 
 /// Reads a hello, and not a byte behind it.
 pub fn read_hello<R: Read>(r: &mut FailureCounted<R>) -> Result<Hello, HelloFault>

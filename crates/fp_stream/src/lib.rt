@@ -13,5 +13,5 @@ pub use decoder::Decoder;
 pub use fault::FrameFault;
 pub use frame::{Frame, write_frame};
 pub use head::MOST_BODY;
-pub use hello::{Hello, HelloFault, read_hello};
+pub use hello::{Hello, HelloFault, read_hello, write_hello};
 pub use laws::{no_other_frames, one_reading, what_is_written_is_read};
