@@ -2,6 +2,5 @@ pub mod Cases
 pub mod Restored
 pub mod Agreed
 pub mod Kept
-pub mod Single
 pub mod One
 pub mod Refused

@@ -2,5 +2,4 @@ pub mod Stands
 pub mod Refusals
 pub mod Durable
 pub mod Room
-pub mod Admitting
 pub mod Laws

@@ -7,8 +7,9 @@ use crate::words::{bytes, line_of, number};
 use fp_commands::{CommandFault, apply_disk, import_disk, init_disk, show_disk};
 use fp_disk::MemoryDisk;
 use fp_edit::{Edit, EditFault, FlagSet};
+use fp_group_commit::{CreateFault, Store};
 use fp_layout::SlotSize;
-use fp_recovery::{AdmitFault, DurableSet};
+use fp_session::{Declined, DiskSession, EditStore};
 use fp_streams::FailureCounted;
 use std::alloc::{AllocError, Global};
 use std::fmt::Write;
@@ -34,24 +35,43 @@ fn create(trial: &mut Trial, rest: &str) -> Result<Answer, TrialFault> {
         return Ok(Answer::Word("no size of a slot"));
     };
     let disk = trial.take_disk();
-    match DurableSet::create(trial.alloc, disk, size) {
+    match created(trial.alloc, disk, size) {
         Ok(set) => {
             trial.held = Held::Open(OpenSet { set });
             Ok(Answer::Revision(0))
         }
         Err((fault, disk)) => {
             trial.put_disk(disk);
-            trial.fault(fault.into())
+            trial.fault(fault)
         }
+    }
+}
+
+type Refused = (CommandFault, MemoryDisk);
+
+// A session over a new disk.
+fn created(
+    alloc: Global,
+    disk: MemoryDisk,
+    size: SlotSize,
+) -> Result<DiskSession<MemoryDisk>, Refused> {
+    match Store::create(alloc, disk, size.bytes()) {
+        Ok((store, opening)) => match DiskSession::new(alloc, store, opening) {
+            Ok(session) => Ok(session),
+            Err(store) => Err((CommandFault::Memory, store.into_disk())),
+        },
+        Err((CreateFault::NotEmpty, disk)) => Err((CommandFault::NotEmpty, disk)),
+        Err((CreateFault::Device, disk)) => Err((CommandFault::Device, disk)),
+        Err((_, disk)) => Err((CommandFault::Memory, disk)),
     }
 }
 
 /// `open`.
 pub fn open(trial: &mut Trial) -> Result<Answer, TrialFault> {
     let disk = trial.take_disk();
-    match DurableSet::open(trial.alloc, disk) {
+    match DiskSession::open(trial.alloc, disk) {
         Ok(set) => {
-            let revision = set.set().revision();
+            let revision = set.flags().revision();
             trial.held = Held::Open(OpenSet { set });
             Ok(Answer::Revision(revision))
         }
@@ -66,7 +86,7 @@ fn of_open_set(trial: &Trial, word: &str) -> Result<Answer, TrialFault> {
     let Held::Open(open) = &trial.held else {
         return Err(TrialFault::NotUnderstood);
     };
-    let flags = open.set.set();
+    let flags = open.set.flags();
     match word {
         "show" => Ok(Answer::Text(text_of(trial.alloc, &flags.document()?)?)),
         "marks" => Ok(Answer::Text(marks(trial.alloc, flags)?)),
@@ -90,37 +110,25 @@ fn tell_mark(text: &mut String, key: &str, changed: u64) -> Result<(), AllocErro
     write!(text, "{key} {changed}")
 }
 
-/// Makes an edit on the open set. One for which memory was wanting is given back, and is tried once more.
+/// Makes an edit on the open set. One for which memory was wanting is tried once more.
 pub fn admit(trial: &mut Trial, edit: Edit) -> Result<Answer, TrialFault> {
     let Held::Open(open) = &mut trial.held else {
         return Err(TrialFault::NotUnderstood);
     };
+    let again = edit.try_copy()?;
     let outcome = match open.set.admit(edit) {
-        Err(
-            AdmitFault::Refused {
-                fault: EditFault::Memory,
-                edit,
-            },
-        ) => open.set.admit(edit),
+        Err(Declined::Refused(EditFault::Memory)) => open.set.admit(again),
         outcome => outcome,
     };
-    let is_ready = open.set.is_ready();
     match outcome {
         Ok(revision) => {
             trial.tell(revision);
             Ok(Answer::Revision(revision))
         }
-        Err(
-            AdmitFault::Refused {
-                fault: EditFault::Memory,
-                edit: _,
-            },
-        ) => Err(TrialFault::Memory),
-        Err(AdmitFault::Refused { fault, edit: _ }) => Ok(Answer::Refused(fault)),
-        Err(AdmitFault::StoreFailed) if is_ready || trial.is_failing => {
-            Ok(Answer::Fault(CommandFault::StoreFailed))
-        }
-        Err(AdmitFault::StoreFailed) => Err(TrialFault::Memory),
+        Err(Declined::Refused(EditFault::Memory)) => Err(TrialFault::Memory),
+        Err(Declined::Refused(fault)) => Ok(Answer::Refused(fault)),
+        Err(Declined::StoreFailed) => Ok(Answer::Fault(CommandFault::StoreFailed)),
+        Err(Declined::CommitMemory) => Err(TrialFault::Memory),
     }
 }
 

@@ -4,7 +4,7 @@ use fp_commands::CommandFault;
 use fp_disk::{DiskFault, FailedWrite, Failing, MemoryDisk};
 use fp_edit::{Edit, EditFault};
 use fp_journal::synced_bytes;
-use fp_recovery::DurableSet;
+use fp_session::DiskSession;
 use std::alloc::{AllocError, AllocFailed, Global};
 use std::{fmt, mem};
 
@@ -81,7 +81,7 @@ impl fmt::Display for Answer {
 
 /// A set on a disk that may be let go.
 pub struct OpenSet {
-    pub set: DurableSet<MemoryDisk>,
+    pub set: DiskSession<MemoryDisk>,
 }
 
 impl OpenSet {
