@@ -12,7 +12,7 @@ pub type Texts = BTreeMap<String, Vec<u8>>;
 
 // How often a part is put, and the numbers that stand for `#`.
 #[derive(Clone, Copy)]
-struct FailureCounted {
+struct Counted {
     first: u32,
     last: u32,
     digits: usize,
@@ -43,14 +43,14 @@ fn put_part(alloc: Global, texts: &Texts, part: &str, out: &mut Vec<u8>) -> Resu
     out.extend_from_slice(&piece_of(alloc, texts, part)?)
 }
 
-fn counted_by(head: &str) -> Option<FailureCounted> {
+fn counted_by(head: &str) -> Option<Counted> {
     match head.split_once("..") {
-        Some((first, last)) => Some(FailureCounted {
+        Some((first, last)) => Some(Counted {
             first: first.parse().ok()?,
             last: last.parse().ok()?,
             digits: first.len(),
         }),
-        None => Some(FailureCounted {
+        None => Some(Counted {
             first: 1,
             last: head.parse().ok()?,
             digits: 1,
@@ -60,7 +60,7 @@ fn counted_by(head: &str) -> Option<FailureCounted> {
 
 fn put_counted(
     alloc: Global,
-    counted: FailureCounted,
+    counted: Counted,
     piece: &[u8],
     out: &mut Vec<u8>,
 ) -> Result<(), AllocError> {

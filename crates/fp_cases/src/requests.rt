@@ -2,7 +2,7 @@
 
 use crate::values::put_utf8;
 use fp_edit::FlagSet;
-use fp_ofrep::{Body, Reply, answer};
+use fp_ofrep::{Body, Reply, answer_over};
 use http::Method;
 use http::method::MethodError;
 use std::alloc::{AllocError, Global};
@@ -57,7 +57,7 @@ impl Asking {
             Err(MethodError::OutOfMemory) => return Err(AllocError),
         };
         let field = self.if_none_match.as_deref();
-        let reply = answer(alloc, set, &method, target, field, body, now)?;
+        let reply = answer_over(alloc, set, &method, target, field, body, now)?;
         put_reply(&reply, out)
     }
 }

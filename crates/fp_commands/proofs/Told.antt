@@ -2,7 +2,6 @@
 use Rattle.std.proofs.Common.{◌≡◌, List, [], ◌∷◌, ◌++◌, sym, ◌∙◌, append_assoc, ℕ, Bool, Option, Some, None, Result, Ok, Err, IfSome, IfOk, OnOk, refl, subst}
 use Rattle.std.proofs.lemmas.Option.{IfSome_then}
 use Rattle.fp_edit.specs.Flags.{State}
-use Rattle.fp_disk.specs.Outcomes.{PendingState}
 use Rattle.fp_session.specs.Lines.{lines, answered}
 use Rattle.fp_edit.specs.Admits.{Admits, accepted}
 use Rattle.fp_edit.specs.Edits.{Proposal}
@@ -19,8 +18,8 @@ use Rattle.fp_recovery.specs.Refusals.{RefusesBytes, IsUnlessWanting}
 use Rattle.fp_commands.specs.declared.fault.CommandFault.{CommandFault}
 use Rattle.fp_commands.specs.declared.fault.CommandFault.TheVariants as command
 use Rattle.fp_commands.specs.Faults.{of_open, of_run}
-use Rattle.fp_commands.specs.Disks.{IsShowingFault, IsApplyingFault, IsStreamFault, IsShown, IsRunOnDisk, Applies, Imports}
-use Rattle.fp_commands.specs.Task.{ShowsFlags, IsImported}
+use Rattle.fp_commands.specs.Disks.{IsShowingFault, IsApplyingFault, IsStreamFault, IfFileRefused, IfRefused}
+use Rattle.fp_commands.specs.Documents.{IsDocumentFault}
 
 -- what opening refuses
 pub showing-open : (is_honest : Type 0) (c : List ℕ) (f : OpenFault) → (is_honest → RefusesBytes c f) → (is_honest → IsUnlessWanting c f) → IsShowingFault is_honest c (of_open f)
@@ -77,20 +76,62 @@ pub some_if : {A : Type 0} (o : Option A) (C : Type 0) (P Q : A → Type 0) → 
 some_if None C P Q p q = tt
 some_if (Some x) C P Q p q = λ c. (p c, q c)
 
-pub shows : {A E : Type 0} (r : Result A E) (is_honest : Type 0) (bytes : List ℕ) (old new : Option (List ℕ)) → OnOk r (IsShown is_honest bytes old new) → OnOk r (ShowsFlags old new)
-shows r is_honest bytes old new h = ok_more r (IsShown is_honest bytes old new) (ShowsFlags old new) (λ s. (s.flags, s.written)) h
+-- ---- what was refused
 
-pub applies : {E : Type 0} (r : Result Bool E) (told : Bool) (is_honest : Type 0) (bytes : List ℕ) (after : PendingState) (left old new : Option (List ℕ)) → r ≡ Ok told
-    → IfOk r (λ t. IsRunOnDisk is_honest bytes after left (Applies t old new)) → IfSome left (λ input. (start : State) × IsApplied start input old new)
-applies {E} r told is_honest bytes after left old new is h =
-    let run : IsRunOnDisk is_honest bytes after left (Applies told old new) = subst (λ (o : Result Bool E). IfOk o (λ t. IsRunOnDisk is_honest bytes after left (Applies t old new))) is h in
-    IfSome_then left run.run (λ input over. (run.start, (told, run.flags, over.0)))
+-- where this holds, it holds of whatever was refused
+pub refused-if : (P : Type 0) (f : CommandFault) → P → IfRefused P f
+refused-if P command.NotEmpty h = h
+refused-if P command.Unformatted h = h
+refused-if P (command.UnknownVersion version) h = h
+refused-if P (command.Damaged at) h = h
+refused-if P command.Device h = tt
+refused-if P command.StoreFailed h = tt
+refused-if P command.Memory h = tt
+refused-if P command.NotDocument h = h
+refused-if P (command.UnknownEvaluator name) h = h
+refused-if P command.EvaluatorsTooDeep h = h
+refused-if P command.BadKey h = h
+refused-if P (command.Flag key fault) h = h
 
-pub imports : {E : Type 0} (r : Result Bool E) (told : Bool) (is_honest : Type 0) (bytes : List ℕ) (after : PendingState) (left old new : Option (List ℕ)) → r ≡ Ok told
-    → IfOk r (λ t. IsRunOnDisk is_honest bytes after left (Imports t old new)) → IfSome left (λ input. (start : State) × IsImported start input old new)
-imports {E} r told is_honest bytes after left old new is h =
-    let run : IsRunOnDisk is_honest bytes after left (Imports told old new) = subst (λ (o : Result Bool E). IfOk o (λ t. IsRunOnDisk is_honest bytes after left (Imports t old new))) is h in
-    IfSome_then left run.run (λ input over. (run.start, (over.0, over.1, told, run.flags, over.2)))
+pub file_refused-if : (P : Type 0) (f : CommandFault) → P → IfFileRefused P f
+file_refused-if P command.NotEmpty h = h
+file_refused-if P command.Unformatted h = h
+file_refused-if P (command.UnknownVersion version) h = h
+file_refused-if P (command.Damaged at) h = h
+file_refused-if P command.Device h = tt
+file_refused-if P command.StoreFailed h = tt
+file_refused-if P command.Memory h = tt
+file_refused-if P command.NotDocument h = tt
+file_refused-if P (command.UnknownEvaluator name) h = tt
+file_refused-if P command.EvaluatorsTooDeep h = tt
+file_refused-if P command.BadKey h = tt
+file_refused-if P (command.Flag key fault) h = tt
+
+-- a run refuses neither bytes nor what was read
+pub refused-run : (P : Type 0) (f : ApplyFault) → IfRefused P (of_run f)
+refused-run P run.Device = tt
+refused-run P run.StoreFailed = tt
+refused-run P run.Memory = tt
+
+pub file_refused-run : (P : Type 0) (f : ApplyFault) → IfFileRefused P (of_run f)
+file_refused-run P run.Device = tt
+file_refused-run P run.StoreFailed = tt
+file_refused-run P run.Memory = tt
+
+-- what a document is refused for is no fault of a file
+pub file_refused-document : (P : Type 0) (left : Option (List ℕ)) (f : CommandFault) → IsDocumentFault left f → IfFileRefused P f
+file_refused-document P left command.NotEmpty h = absurd h
+file_refused-document P left command.Unformatted h = absurd h
+file_refused-document P left (command.UnknownVersion version) h = absurd h
+file_refused-document P left (command.Damaged at) h = absurd h
+file_refused-document P left command.Device h = tt
+file_refused-document P left command.StoreFailed h = tt
+file_refused-document P left command.Memory h = tt
+file_refused-document P left command.NotDocument h = tt
+file_refused-document P left (command.UnknownEvaluator name) h = tt
+file_refused-document P left command.EvaluatorsTooDeep h = tt
+file_refused-document P left command.BadKey h = tt
+file_refused-document P left (command.Flag key fault) h = tt
 
 -- no line was answered
 pub left-at_once : (start : State) (input : List ℕ) → IsLeftBy start input start

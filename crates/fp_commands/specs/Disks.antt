@@ -1,7 +1,11 @@
 -- What a command over a disk comes to.
-use Rattle.std.specs.Prelude.{◌≡◌, ◌⊎◌, ◌<◌, ℕ, List, ◌∷◌, [], Bool, true, Option, None, IfSome, Result, Ok, Err}
+use Rattle.std.specs.Prelude.{◌≡◌, ◌⊎◌, ◌<◌, ℕ, List, [], ◌∷◌, Bool, true, Option, None, IfSome, Result, Ok, Err}
 use Rattle.std.specs.Io.KnownBytes.{Appends}
-use Rattle.fp_disk.specs.Outcomes.{PendingState}
+use Rattle.fp_disk.specs.Crashes.{AtAnyMoment}
+use Rattle.fp_disk.specs.History.{MakesSome}
+use Rattle.fp_disk.specs.Outcomes.{PendingState, IsOutcome}
+use Rattle.fp_disk.specs.declared.disk.Disk.{Ghosts}
+use Rattle.fp_disk.specs.declared.history.CallKind.TheVariants.{Length, Read, Sync}
 use Rattle.fp_edit.specs.Admits.{refusal}
 use Rattle.fp_edit.specs.Edits.{Proposal}
 use Rattle.fp_edit.specs.Flags.{State}
@@ -69,6 +73,20 @@ IfRefused p Device = Unit {0}
 IfRefused p StoreFailed = Unit {0}
 IfRefused p Memory = Unit {0}
 IfRefused p f = p
+
+-- this holds where the bytes are at fault
+abbrev pub IfFileRefused : Type 0 → CommandFault → Type 0
+IfFileRefused p NotEmpty = p
+IfFileRefused p Unformatted = p
+IfFileRefused p (UnknownVersion version) = p
+IfFileRefused p (Damaged at) = p
+IfFileRefused p f = Unit {0}
+
+-- a disk was opened at most, and nothing was written on it: a crash leaves what it might have left before
+pub record IsOnlyRead {D : Type 0} (disk : Ghosts D) (before after : D) : Type 0 where
+  pub same : disk.honest before → disk.bytes after ≡ disk.bytes before
+  pub any_moment : AtAnyMoment disk before after (IsOutcome (disk.unsynced before))
+  pub called : MakesSome (Sync ∷ Length ∷ Read ∷ []) (disk.calls before) (disk.calls after)
 
 -- ---- what is written, and what the disk then stands for
 

@@ -1,20 +1,13 @@
 -- What the program's words ask for, and how it ends.
-use Rattle.std.specs.Prelude.{◌≡◌, ◌≤◌, ℕ, ◌+◌, ◌^◌, List, [], ◌∷◌, ◌++◌, codes, bytes_eq, Bool, Option, Some, None, Ok, Err, if◌then◌else◌, IfSome}
+use Rattle.std.specs.Prelude.{◌≡◌, ◌≤◌, ℕ, ◌+◌, ◌^◌, List, [], ◌∷◌, ◌++◌, codes, bytes_eq, Option, Some, None, if◌then◌else◌}
 use Rattle.std.specs.FinMap as fin
-use Rattle.std.specs.Io.KnownBytes.{Appends}
 use Rattle.fp_edit.specs.Flags.{State}
-use Rattle.fp_imports.specs.Document.{Flag}
-use Rattle.fp_session.specs.Import.{IsImport}
-use Rattle.fp_session.specs.Run.{IsApplied}
-use Rattle.fp_session.specs.Verdicts.{show_line}
 use Rattle.fp_streams.specs.Failures.{Stream}
 use Rattle.fp_streams.specs.Said.{AppendsLine}
-use Rattle.fp_commands.specs.Disks.{Blames, IfRefused, IsApplyingFault, IsImportingFault, IsMakingFault, IsShowingFault, IsStreamFault}
-use Rattle.fp_commands.specs.Documents.{import_of}
 use Rattle.fp_commands.specs.Faults.{text_of}
 use Rattle.fp_commands.specs.declared.fault.CommandFault.{CommandFault}
 use Rattle.fp_commands.specs.declared.program.Task.{Task}
-use Rattle.fp_commands.specs.declared.program.Task.TheVariants.{Apply, InitFile, ApplyFile, ShowFile, ImportFile}
+use Rattle.fp_commands.specs.declared.program.Task.TheVariants.{Apply, InitFile, ApplyFile, ShowFile, ImportFile, EvalFile}
 
 -- a command's name that wants the path of a file behind it
 abbrev pub over_file : List ℕ → Option Task
@@ -24,51 +17,32 @@ over_file word =
     if bytes_eq word (codes "show") then Some ShowFile else
     if bytes_eq word (codes "import") then Some ImportFile else None
 
-abbrev pub with_path : List ℕ → Option Task → Option (Task × List ℕ)
+abbrev pub with_path : List ℕ → Option Task → Option (Task × List ℕ × List ℕ)
 with_path path None = None
-with_path path (Some task) = Some (task, path)
+with_path path (Some task) = Some (task, path, [])
 
--- the task and its path, which `apply` alone has none of; all other words are no command
-abbrev pub named : List (List ℕ) → Option (Task × List ℕ)
+-- a command's name that wants the key of a flag behind the path; the empty key is none
+abbrev pub of_flag : List ℕ → List ℕ → List ℕ → Option (Task × List ℕ × List ℕ)
+of_flag word path [] = None
+of_flag word path (b ∷ key) = if bytes_eq word (codes "eval") then Some (EvalFile, path, b ∷ key) else None
+
+-- the task, the path, which `apply` alone has none of, and the key, which `eval` alone has; all other words are no command
+abbrev pub named : List (List ℕ) → Option (Task × List ℕ × List ℕ)
 named [] = None
-named (word ∷ []) = if bytes_eq word (codes "apply") then Some (Apply, []) else None
+named (word ∷ []) = if bytes_eq word (codes "apply") then Some (Apply, [], []) else None
 named (word ∷ path ∷ []) = with_path path (over_file word)
-named (word ∷ path ∷ next ∷ more) = None
+named (word ∷ path ∷ key ∷ []) = of_flag word path key
+named (word ∷ path ∷ key ∷ next ∷ more) = None
 
 -- what a run over memory starts from, and what a new disk stands for
 abbrev pub no_flags : State
 no_flags = record { flags = fin.empty; revision = 0; limit = 2 ^ 23 }
-
--- the line of some flags is written
-abbrev pub ShowsFlags : Option (List ℕ) → Option (List ℕ) → Type 0
-ShowsFlags old new = (s : State) × Appends old new (show_line s)
-
--- a writer holds what an import of the document writes, wherever it leads
-abbrev pub IsImported : State → List ℕ → Option (List ℕ) → Option (List ℕ) → Type 0
-IsImported start input old new = (puts : List Flag) × (import_of input ≡ Ok puts) × (told : Bool) × (now : State) × IsImport start puts told old new now
-
--- what is written once a task is done; what a file held is known to nobody
-abbrev pub IsDone : Task → Option (List ℕ) → Option (List ℕ) → Option (List ℕ) → Type 0
-IsDone Apply left old new = IfSome left (λ input. IsApplied no_flags input old new)
-IsDone InitFile left old new = new ≡ old
-IsDone ApplyFile left old new = IfSome left (λ input. (start : State) × IsApplied start input old new)
-IsDone ShowFile left old new = ShowsFlags old new
-IsDone ImportFile left old new = IfSome left (λ input. (start : State) × IsImported start input old new)
 
 -- ---- how a task ends
 
 -- neither the reader nor the writer failed
 abbrev pub NoneFailed : {R W : Type 0} → Stream R → Stream R → Stream W → Stream W → Type 0
 NoneFailed r0 r w0 w = r.failures + w.failures ≤ r0.failures + w0.failures
-
--- what may end a task. Over memory: want of it, or a stream that failed. Over a file, which claims no honesty: a fault of making, showing, applying or importing,
--- where nothing was written if it refuses the file or the input
-abbrev pub Ends : {R W : Type 0} → (R → Option (List ℕ)) → Stream R → Stream R → Stream W → Stream W → Task → CommandFault → Type 0
-Ends remaining r0 r w0 w Apply f = IsStreamFault f × Blames {A = Unit {0}} (r0.failures + w0.failures) (r.failures + w.failures) (Err f)
-Ends remaining r0 r w0 w InitFile f = IsMakingFault f × (w ≡ w0)
-Ends remaining r0 r w0 w ApplyFile f = IsApplyingFault ⊥ [] f × IfRefused (w ≡ w0) f
-Ends remaining r0 r w0 w ShowFile f = IsShowingFault ⊥ [] f × IfRefused (w ≡ w0) f
-Ends remaining r0 r w0 w ImportFile f = IsImportingFault ⊥ [] (remaining r0.inner) f × IfRefused (w ≡ w0) f
 
 -- ---- what is told on the error stream
 

@@ -1,6 +1,6 @@
 //! The commands over a disk. Each gives the disk back.
 
-ghost use Rattle.fp_disk.specs.Crashes.{EachCrash, SameHonesty};
+ghost use Rattle.fp_disk.specs.Crashes.{AtAnyMoment, EachCrash, SameHonesty};
 ghost use Rattle.std.specs.Prelude.{◌≡◌, ◌≢◌, ◌⊎◌, ◌<◌, ◌+◌, ◌^◌, [], ◌∷◌, IfOk, IfErr, OnOk};
 ghost use Rattle.std.specs.Io.KnownBytes.{Appends};
 ghost use Rattle.fp_disk.specs.History.{Makes, MakesSome};
@@ -10,7 +10,7 @@ ghost use Rattle.fp_layout.specs.NewDisk.{IsNewDisk, format_calls};
 ghost use Rattle.fp_session.specs.Run.{IsLeftBy, IsStoppedBy};
 ghost use Rattle.fp_session.specs.Verdicts.{show_line};
 ghost use Rattle.fp_recovery.specs.Durable.{IsNewSetOrNone, IsDurable};
-ghost use Rattle.fp_commands.specs.Disks.{Applies, Blames, IfRefused, Imports, IsApplyingFault, IsImportingFault, IsLeftByImport, IsLeftOnDisk, IsMakingFault, IsRunOnDisk, IsShowingFault, IsShown, IsStoppedByImport, IsStreamFault, LacksRoom};
+ghost use Rattle.fp_commands.specs.Disks.{Applies, Blames, IfFileRefused, IfRefused, Imports, IsApplyingFault, IsImportingFault, IsLeftByImport, IsLeftOnDisk, IsMakingFault, IsOnlyRead, IsRunOnDisk, IsShowingFault, IsShown, IsStoppedByImport, IsStreamFault, LacksRoom};
 ghost use Rattle.fp_commands.specs.Task.{no_flags};
 ghost use Rattle.fp_commands.specs.declared.fault.CommandFault.TheVariants.{Device, Memory, NotEmpty, StoreFailed};
 
@@ -66,6 +66,8 @@ pub fn show_disk<D: Disk, W: Write>(
     ensures nothing_written { IfErr result.1 (IfRefused (w.new ≡ w.old)) }
     ensures device { Blames (D.faults disk + w.old.failures) (D.faults result.0 + w.new.failures)
         result.1 }
+    ensures no_failure { OnOk result.1 (D.faults result.0 ≡ D.faults disk) }
+    ensures any_moment { AtAnyMoment D.Disk disk result.0 (IsOutcome (D.unsynced disk)) }
     ensures honest { SameHonesty D.Disk disk result.0 }
 {
     match Store::open(alloc, disk) {
@@ -104,9 +106,14 @@ pub fn apply_disk<D: Disk, R: Read, W: Write>(
         → LacksRoom (D.honest disk) (D.bytes disk) (D.unsynced result.0)
         (R.remaining r.old.inner) IsStoppedBy ⊎ (D.faults disk < D.faults result.0)) }
 
+    // Where the bytes or what was read is refused, the disk was only read, and a file is refused before anything is read.
+    ensures only_read { IfErr result.1 (IfRefused (IsOnlyRead D.Disk disk result.0)) }
+    ensures unread { IfErr result.1 (IfFileRefused (r.new ≡ r.old)) }
+
     // `Device` comes only where the disk, the reader or the writer failed, and a good end only where none did.
     ensures device { Blames (D.faults disk + (r.old.failures + w.old.failures))
         (D.faults result.0 + (r.new.failures + w.new.failures)) result.1 }
+    ensures no_failure { OnOk result.1 (D.faults result.0 ≡ D.faults disk) }
     ensures honest { SameHonesty D.Disk disk result.0 }
 {
     let session = match DiskSession::open(alloc, disk) {
@@ -150,9 +157,14 @@ pub fn import_disk<D: Disk, R: Read, W: Write>(
         → LacksRoom (D.honest disk) (D.bytes disk) (D.unsynced result.0)
         (R.remaining r.old.inner) IsStoppedByImport ⊎ (D.faults disk < D.faults result.0)) }
 
+    // Where the bytes or what was read is refused, the disk was only read, and a file is refused before anything is read.
+    ensures only_read { IfErr result.1 (IfRefused (IsOnlyRead D.Disk disk result.0)) }
+    ensures unread { IfErr result.1 (IfFileRefused (r.new ≡ r.old)) }
+
     // `Device` comes only where the disk, the reader or the writer failed, and a good end only where none did.
     ensures device { Blames (D.faults disk + (r.old.failures + w.old.failures))
         (D.faults result.0 + (r.new.failures + w.new.failures)) result.1 }
+    ensures no_failure { OnOk result.1 (D.faults result.0 ≡ D.faults disk) }
     ensures honest { SameHonesty D.Disk disk result.0 }
 {
     let session = match DiskSession::open(alloc, disk) {

@@ -3,9 +3,11 @@
 
 mod disk;
 mod document;
+mod eval;
 mod fault;
 mod program;
 
 pub use disk::{apply_disk, import_disk, init_disk, show_disk};
+pub use eval::eval_disk;
 pub use fault::CommandFault;
 pub use program::command;

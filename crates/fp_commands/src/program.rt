@@ -1,19 +1,19 @@
 //! The program: its words, its files, its streams and its status.
 
-ghost use Rattle.std.specs.Prelude.{◌≡◌, ◌≤◌, ◌↔◌, None, Some, [], IfErr, IfSome, OnOk, MatchOption, map, string_bytes};
-ghost use Rattle.fp_commands.specs.Disks.{IfRefused, IsMakingFault, IsShowingFault};
-ghost use Rattle.fp_commands.specs.Task.{Ends, IsDone, NoneFailed, ShowsFlags, Tells, TellsFault, named, over_file, usage};
-ghost use Rattle.fp_commands.specs.declared.program.Task.TheVariants.{Apply, ApplyFile, ImportFile};
+ghost use Rattle.std.specs.Prelude.{◌≡◌, ◌<◌, ◌≤◌, ◌^◌, ◌↔◌, [], Ok, Err, None, Some, IfSome, OnOk, MatchOption, map, string_bytes};
+ghost use Rattle.fp_commands.specs.Files.{AppliesInMemory, Performs};
+ghost use Rattle.fp_commands.specs.Task.{NoneFailed, Tells, TellsFault, named, of_flag, over_file, usage};
+ghost use Rattle.fp_commands.specs.declared.program.Task.TheVariants.{ApplyFile, EvalFile, ImportFile, InitFile, ShowFile};
 
 use crate::disk::{apply_disk, import_disk, init_disk, show_disk};
+use crate::eval::eval_disk;
 use crate::fault::CommandFault;
-use fp_disk::{create_file, open_file};
 use fp_edit::FlagSet;
+use fp_files::DiskFiles;
 use fp_session::apply_lines;
 use fp_streams::FailureCounted;
-use std::alloc::{AllocGlobal, Global};
+use std::alloc::Global;
 use std::io::{Read, Write};
-use std::rt::Files;
 
 const USAGE: &str =
     "usage: flagplane init FILE | apply [FILE] | show FILE | eval FILE KEY | import FILE | serve FILE OFREP EDIT STREAM | watch ADDR";
@@ -29,39 +29,50 @@ enum Task {
     ApplyFile,
     ShowFile,
     ImportFile,
+    EvalFile,
 }
 
-/// Runs the command that the words name, and answers the program's status: 0 where it was done, 1 where
-/// a fault ended it, which `e` is told, and 2 where the words name no command, where `e` is told the usage. It takes no memory
-/// to tell either.
-pub fn command<X, R, W, E>(
-    rt: &X,
+/// Runs the command that the words name, over files and streams, and answers the program's status: 0 where it was done, 1
+/// where a fault ended it, which `e` is told, and 2 where the words name no command, where `e` is told the usage. It takes
+/// no memory to tell either. No file is opened but the one that the words name, and that once. The moment is in seconds
+/// since 1970.
+pub fn command<F, R, W, E>(
+    alloc: Global,
+    files: &mut F,
     words: &[String],
     r: &mut FailureCounted<R>,
     w: &mut FailureCounted<W>,
     e: &mut FailureCounted<E>,
+    now: u64,
 ) -> u8
 where
-    X: Files + AllocGlobal,
+    F: DiskFiles,
     R: Read,
     W: Write,
     E: Write,
+    requires { now < 2 ^ 63 }
     ensures usage { (result ≡ 2) ↔ (named (map string_bytes words.now) ≡ None) }
     ensures helps { result ≡ 2 → Tells E.contents e.old e.new usage }
-    ensures untouched { result ≡ 2 → (r.new ≡ r.old) × (w.new ≡ w.old) }
+    ensures untouched { result ≡ 2
+        → (files.new ≡ files.old) × (r.new ≡ r.old) × (w.new ≡ w.old) }
     ensures done { result ≡ 0 → IfSome (named (map string_bytes words.now)) (λ task.
-        IsDone task.0 (R.remaining r.old.inner) (W.contents w.old.inner) (W.contents w.new.inner)) }
+        Performs F.DiskFiles F.Disk.Disk R.remaining W.contents
+        (record { files = files.old; reader = r.old; writer = w.old })
+        (record { files = files.new; reader = r.new; writer = w.new }) task.0 task.1 task.2 now (Ok tt)) }
     ensures no_failure { result ≡ 0 → NoneFailed r.old r.new w.old w.new }
     ensures quiet { result ≡ 0 → e.new ≡ e.old }
     ensures ends { result ≡ 1 → IfSome (named (map string_bytes words.now)) (λ task.
-        TellsFault E.contents e.old e.new (Ends R.remaining r.old r.new w.old w.new task.0)) }
+        TellsFault E.contents e.old e.new (λ fault.
+        Performs F.DiskFiles F.Disk.Disk R.remaining W.contents
+        (record { files = files.old; reader = r.old; writer = w.old })
+        (record { files = files.new; reader = r.new; writer = w.new }) task.0 task.1 task.2 now (Err fault))) }
     ensures small { result ≤ 2 }
 {
-    let Some((task, path)) = task_of(words) else {
+    let Some((task, path, key)) = task_of(words) else {
         let _ = e.say(&USAGE);
         return 2;
     };
-    match perform(rt, task, path, r, w) {
+    match perform(alloc, files, task, path, key, now, r, w) {
         Ok(()) => 0,
         Err(fault) => {
             let _ = e.say(&format_args!("flagplane: {fault}"));
@@ -70,15 +81,30 @@ where
     }
 }
 
-fn task_of(words: &[String]) -> Option<(Task, &str)>
+fn task_of(words: &[String]) -> Option<(Task, &str, &str)>
     ensures { MatchOption result (named (map string_bytes words.now) ≡ None)
-        (λ task. named (map string_bytes words.now) ≡ Some (task.0, task.1.now)) }
+        (λ task. named (map string_bytes words.now) ≡ Some (task.0, task.1.now, task.2.now)) }
 {
     match words {
-        [word] if word.as_str() == "apply" => Some((Task::Apply, "")),
-        [word, path] => Some((task_over_file(word.as_str())?, path.as_str())),
+        [word] if word.as_str() == "apply" => Some((Task::Apply, "", "")),
+        [word, path] => Some((task_over_file(word.as_str())?, path.as_str(), "")),
+        [word, path, key] => task_of_flag(word.as_str(), path.as_str(), key.as_str()),
         _ => None,
     }
+}
+
+// The empty key is none.
+fn task_of_flag<'w>(word: &str, path: &'w str, key: &'w str) -> Option<(Task, &'w str, &'w str)>
+    ensures { MatchOption result (of_flag word.now path.now key.now ≡ None)
+        (λ task. of_flag word.now path.now key.now ≡ Some (task.0, task.1.now, task.2.now)) }
+{
+    if key.is_empty() {
+        return None;
+    }
+    if word != "eval" {
+        return None;
+    }
+    Some((Task::EvalFile, path, key))
 }
 
 fn task_over_file(word: &str) -> Option<Task>
@@ -93,28 +119,33 @@ fn task_over_file(word: &str) -> Option<Task>
     }
 }
 
-fn perform<X, R, W>(
-    rt: &X,
+fn perform<F, R, W>(
+    alloc: Global,
+    files: &mut F,
     task: Task,
     path: &str,
+    key: &str,
+    now: u64,
     r: &mut FailureCounted<R>,
     w: &mut FailureCounted<W>,
 ) -> Result<(), CommandFault>
 where
-    X: Files + AllocGlobal,
+    F: DiskFiles,
     R: Read,
     W: Write,
-    ensures done { OnOk result
-        (IsDone task (R.remaining r.old.inner) (W.contents w.old.inner) (W.contents w.new.inner)) }
+    requires { now < 2 ^ 63 }
+    ensures performs { Performs F.DiskFiles F.Disk.Disk R.remaining W.contents
+        (record { files = files.old; reader = r.old; writer = w.old })
+        (record { files = files.new; reader = r.new; writer = w.new }) task path.now key.now now result }
     ensures no_failure { OnOk result (NoneFailed r.old r.new w.old w.new) }
-    ensures ends { IfErr result (Ends R.remaining r.old r.new w.old w.new task) }
 {
     match task {
-        Task::Apply => apply(rt.alloc(), r, w),
-        Task::InitFile => init_file(rt, path),
-        Task::ApplyFile => apply_file(rt, path, r, w),
-        Task::ShowFile => show_file(rt, path, w),
-        Task::ImportFile => import_file(rt, path, r, w),
+        Task::Apply => apply(alloc, r, w),
+        Task::InitFile => init_file(alloc, files, path, r, w),
+        Task::ApplyFile => apply_file(alloc, files, path, r, w),
+        Task::ShowFile => show_file(alloc, files, path, r, w),
+        Task::ImportFile => import_file(alloc, files, path, r, w),
+        Task::EvalFile => eval_file(alloc, files, path, key, now, r, w),
     }
 }
 
@@ -124,79 +155,129 @@ fn apply<R: Read, W: Write>(
     r: &mut FailureCounted<R>,
     w: &mut FailureCounted<W>,
 ) -> Result<(), CommandFault>
-    ensures done { OnOk result
-        (IsDone Apply (R.remaining r.old.inner) (W.contents w.old.inner) (W.contents w.new.inner)) }
+    ensures applies { AppliesInMemory R.remaining W.contents r.old r.new w.old w.new result }
     ensures no_failure { OnOk result (NoneFailed r.old r.new w.old w.new) }
-    ensures ends { IfErr result (Ends R.remaining r.old r.new w.old w.new Apply) }
 {
     let (_flags, outcome) = apply_lines(alloc, r, w, FlagSet::new(alloc, IMAGE_LIMIT));
     let _told = outcome?;
     Ok(())
 }
 
-// Makes the file a disk of no flags.
-fn init_file<X: Files + AllocGlobal>(rt: &X, path: &str) -> Result<(), CommandFault>
-    ensures { IfErr result IsMakingFault }
+// Makes the file a disk of no flags. Neither stream is used.
+fn init_file<F, R, W>(
+    alloc: Global,
+    files: &mut F,
+    path: &str,
+    _r: &FailureCounted<R>,
+    _w: &FailureCounted<W>,
+) -> Result<(), CommandFault>
+where
+    F: DiskFiles,
+    R: Read,
+    W: Write,
+    ensures { Performs F.DiskFiles F.Disk.Disk R.remaining W.contents
+        (record { files = files.old; reader = _r.now; writer = _w.now })
+        (record { files = files.new; reader = _r.now; writer = _w.now }) InitFile path.now [] 0 result }
 {
-    let disk = create_file(rt, path)?;
-    let (_disk, outcome) = init_disk(rt.alloc(), disk);
+    let disk = files.create(path)?;
+    let (disk, outcome) = init_disk(alloc, disk);
+    files.close(path, disk);
     outcome
 }
 
 // Answers the input's lines over what the file stands for.
-fn apply_file<X, R, W>(
-    rt: &X,
+fn apply_file<F, R, W>(
+    alloc: Global,
+    files: &mut F,
     path: &str,
     r: &mut FailureCounted<R>,
     w: &mut FailureCounted<W>,
 ) -> Result<(), CommandFault>
 where
-    X: Files + AllocGlobal,
+    F: DiskFiles,
     R: Read,
     W: Write,
-    ensures done { OnOk result
-        (IsDone ApplyFile (R.remaining r.old.inner) (W.contents w.old.inner) (W.contents w.new.inner)) }
+    ensures performs { Performs F.DiskFiles F.Disk.Disk R.remaining W.contents
+        (record { files = files.old; reader = r.old; writer = w.old })
+        (record { files = files.new; reader = r.new; writer = w.new }) ApplyFile path.now [] 0 result }
     ensures no_failure { OnOk result (NoneFailed r.old r.new w.old w.new) }
-    ensures ends { IfErr result (Ends R.remaining r.old r.new w.old w.new ApplyFile) }
 {
-    let disk = open_file(rt, path)?;
-    let (_disk, outcome) = apply_disk(rt.alloc(), r, w, disk);
+    let disk = files.open(path)?;
+    let (disk, outcome) = apply_disk(alloc, r, w, disk);
+    files.close(path, disk);
     let _told = outcome?;
     Ok(())
 }
 
-// Shows what the file stands for.
-fn show_file<X, W>(rt: &X, path: &str, w: &mut FailureCounted<W>) -> Result<(), CommandFault>
+// Shows what the file stands for. The reader isn't used.
+fn show_file<F, R, W>(
+    alloc: Global,
+    files: &mut F,
+    path: &str,
+    _r: &FailureCounted<R>,
+    w: &mut FailureCounted<W>,
+) -> Result<(), CommandFault>
 where
-    X: Files + AllocGlobal,
+    F: DiskFiles,
+    R: Read,
     W: Write,
-    ensures done { OnOk result (ShowsFlags (W.contents w.old.inner) (W.contents w.new.inner)) }
+    ensures performs { Performs F.DiskFiles F.Disk.Disk R.remaining W.contents
+        (record { files = files.old; reader = _r.now; writer = w.old })
+        (record { files = files.new; reader = _r.now; writer = w.new }) ShowFile path.now [] 0 result }
     ensures no_failure { OnOk result (w.new.failures ≤ w.old.failures) }
-    ensures ends { IfErr result (λ f. IsShowingFault ⊥ [] f × IfRefused (w.new ≡ w.old) f) }
 {
-    let disk = open_file(rt, path)?;
-    let (_disk, outcome) = show_disk(rt.alloc(), w, disk);
+    let disk = files.open(path)?;
+    let (disk, outcome) = show_disk(alloc, w, disk);
+    files.close(path, disk);
     outcome
 }
 
 // Puts the flags of the document that is read over what the file stands for.
-fn import_file<X, R, W>(
-    rt: &X,
+fn import_file<F, R, W>(
+    alloc: Global,
+    files: &mut F,
     path: &str,
     r: &mut FailureCounted<R>,
     w: &mut FailureCounted<W>,
 ) -> Result<(), CommandFault>
 where
-    X: Files + AllocGlobal,
+    F: DiskFiles,
     R: Read,
     W: Write,
-    ensures done { OnOk result
-        (IsDone ImportFile (R.remaining r.old.inner) (W.contents w.old.inner) (W.contents w.new.inner)) }
+    ensures performs { Performs F.DiskFiles F.Disk.Disk R.remaining W.contents
+        (record { files = files.old; reader = r.old; writer = w.old })
+        (record { files = files.new; reader = r.new; writer = w.new }) ImportFile path.now [] 0 result }
     ensures no_failure { OnOk result (NoneFailed r.old r.new w.old w.new) }
-    ensures ends { IfErr result (Ends R.remaining r.old r.new w.old w.new ImportFile) }
 {
-    let disk = open_file(rt, path)?;
-    let (_disk, outcome) = import_disk(rt.alloc(), r, w, disk);
+    let disk = files.open(path)?;
+    let (disk, outcome) = import_disk(alloc, r, w, disk);
+    files.close(path, disk);
     let _told = outcome?;
     Ok(())
+}
+
+// Answers the request that is read for a flag of what the file stands for.
+fn eval_file<F, R, W>(
+    alloc: Global,
+    files: &mut F,
+    path: &str,
+    key: &str,
+    now: u64,
+    r: &mut FailureCounted<R>,
+    w: &mut FailureCounted<W>,
+) -> Result<(), CommandFault>
+where
+    F: DiskFiles,
+    R: Read,
+    W: Write,
+    requires { now < 2 ^ 63 }
+    ensures performs { Performs F.DiskFiles F.Disk.Disk R.remaining W.contents
+        (record { files = files.old; reader = r.old; writer = w.old })
+        (record { files = files.new; reader = r.new; writer = w.new }) EvalFile path.now key.now now result }
+    ensures no_failure { OnOk result (NoneFailed r.old r.new w.old w.new) }
+{
+    let disk = files.open(path)?;
+    let (disk, outcome) = eval_disk(alloc, r, w, disk, key, now);
+    files.close(path, disk);
+    outcome
 }

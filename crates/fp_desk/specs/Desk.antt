@@ -10,7 +10,7 @@ use Rattle.fp_record.specs.declared.batch.TheConstants.{LONGEST_EDIT, MOST_EDITS
 use Rattle.fp_desk.specs.declared.desk.TheConstants.{MOST_QUEUED}
 use Rattle.fp_edit.specs.Following.{Follows}
 use Rattle.fp_group_commit.specs.Changes.{GoesOn, batch_len}
-use Rattle.fp_group_commit.specs.Tokens.{Identity, ReceiptState}
+use Rattle.fp_group_commit.specs.Tokens.{FrontState, Identity, ReceiptState}
 use Rattle.fp_desk.specs.declared.fault.SubmitFault.{SubmitFault}
 use Rattle.fp_desk.specs.declared.fault.SubmitFault.TheVariants as submit
 use Rattle.fp_desk.specs.declared.fault.SettleFault.{SettleFault}
@@ -33,6 +33,10 @@ head d = after_all d.store.start (log d)
 
 abbrev pub settled_set : DeskState → State
 settled_set d = after_all d.store.start d.settled
+
+-- the front of the store's edits that is settled
+abbrev pub settled_front : DeskState → FrontState
+settled_front d = record { store = d.store; edits = d.settled }
 
 abbrev pub settled_revision : DeskState → ℕ
 settled_revision d = d.store.start.revision + length d.settled

@@ -5,7 +5,8 @@ ghost use mathlib.Core.List.{IsPrefix};
 ghost use Rattle.fp_edit.specs.Edits.{Change, proposal_of};
 ghost use Rattle.fp_edit.specs.Flags.{State};
 ghost use Rattle.fp_edit.specs.Following.{change_of, changes_of};
-ghost use Rattle.fp_desk.specs.Desk.{head, log, queued, settled_revision, settled_set, most_of, IsAccepted, IsDrawn, Draws, Refuses, SettlesNot};
+ghost use Rattle.fp_group_commit.specs.Tokens.{EndsWith};
+ghost use Rattle.fp_desk.specs.Desk.{head, log, queued, settled_front, settled_revision, settled_set, most_of, IsAccepted, IsDrawn, Draws, Refuses, SettlesNot};
 
 use crate::fault::{SettleFault, SubmitFault};
 use crate::queue::{copies_of_front, first_part, move_front, same_changes};
@@ -110,7 +111,7 @@ impl Desk {
         };
         // Its revision is below 2^63, which is known where it is asked.
         let _ = head.revision();
-        let (base, settled) = Settled::of(opening);
+        let (base, settled) = Settled::of(alloc, opening);
         Ok(Desk {
             head,
             base,
@@ -165,6 +166,7 @@ impl Desk {
     /// Draws the longest first part of what waits that makes a batch, where none is out.
     pub fn draw(&mut self) -> Result<Option<Draw>, AllocError>
         ensures drawn { IfOk result (Draws self.old self.new) }
+        ensures memory { OnErr result ((self.old.drawn ≡ []) × (self.old.waiting ≢ [])) }
         ensures unchanged { OnErr result (self.new ≡ self.old) }
     {
         if !self.drawn.is_empty() || self.waiting.is_empty() {
@@ -233,6 +235,30 @@ impl Desk {
         ensures { result ≡ settled_revision self.now }
     {
         self.settled.revision()
+    }
+
+    /// Tells all that is settled.
+    pub fn told(&self) -> Told
+        ensures { result ≡ settled_front self.now }
+    {
+        self.settled.tell()
+    }
+
+    /// The edits of the batch that was settled last.
+    pub fn last_batch(&self) -> &[Edit]
+        ensures { EndsWith self.now.settled (changes_of result.now) }
+    {
+        self.settled.last_batch()
+    }
+
+    /// An equal set to the settled one, which shares the definitions.
+    pub fn settled_copy(&self) -> Result<FlagSet, AllocError>
+        ensures { IfOk result (λ copy. copy ≡ settled_set self.now) }
+    {
+        let mut copy = self.base.try_copy()?;
+        let lag = copies_of_front(self.alloc, &self.lag, self.lag.len())?;
+        copy.catch_up(&mut VecDeque::from(lag))?;
+        Ok(copy)
     }
 
     /// Takes no further edits. What waits goes on.

@@ -4,6 +4,7 @@ use crate::stores::{Failing, Full, flags, written_out};
 use fp_commands::command;
 use fp_definition::DefFault;
 use fp_edit::{EditFault, LineFault};
+use fp_files::SystemFiles;
 use fp_session::{ApplyFault, Reply, apply_lines};
 use fp_streams::FailureCounted;
 use std::alloc::{AllocGlobal, Global};
@@ -247,11 +248,28 @@ fn streams_that_fail_are_told_on_the_error_stream(rt: HostRuntime) -> Result<(),
     let mut broken = FailureCounted::new(Broken);
     let mut output = FailureCounted::new(Vec::new(alloc));
     let mut errors = FailureCounted::new(Vec::new(alloc));
-    let read = command(&rt, words.as_slice(), &mut broken, &mut output, &mut errors);
+    let files = &mut SystemFiles::of(&rt);
+    let read = command(
+        alloc,
+        files,
+        words.as_slice(),
+        &mut broken,
+        &mut output,
+        &mut errors,
+        0,
+    );
     assert_eq!(rt; (read, output.get_ref().len()), (1, 0));
     let mut input = FailureCounted::new(b"[]\n".as_slice());
     let mut full = FailureCounted::new(Broken);
-    let written = command(&rt, words.as_slice(), &mut input, &mut full, &mut errors);
+    let written = command(
+        alloc,
+        files,
+        words.as_slice(),
+        &mut input,
+        &mut full,
+        &mut errors,
+        0,
+    );
     assert_eq!(rt; written, 1);
     assert_eq!(rt;
         errors.get_ref().as_slice(),

@@ -1,5 +1,5 @@
 -- A store from call to call.
-use Rattle.std.proofs.Common.{◌≡◌, ◌≢◌, ◌⊎◌, ◌<◌, ◌≤◌, ◌+◌, ◌-◌, ℕ, List, [], ◌∷◌, ◌++◌, length, true, refl, sym, ap, subst, ◌∙◌, inl, inr, arith}
+use Rattle.std.proofs.Common.{◌≡◌, ◌≢◌, ◌⊎◌, ◌<◌, ◌≤◌, ◌+◌, ◌-◌, ℕ, List, [], ◌∷◌, ◌++◌, length, true, refl, sym, ap, subst, ◌∙◌, inl, inr, arith, length-append}
 use Rattle.fp_disk.specs.Outcomes.{PendingState, IsOutcome, LeavesOnly}
 use Rattle.fp_disk.specs.Moments.{leaves_still}
 use Rattle.fp_edit.specs.Edits.{Change}
@@ -10,6 +10,7 @@ use Rattle.fp_journal.specs.declared.journal.Phase.TheVariants.{Idle, Staged, Bo
 use Rattle.fp_journal.specs.declared.slot.Slot.{Slot}
 use Rattle.fp_journal.specs.Moments.{KeepsFirm}
 use Rattle.fp_journal.specs.Chain.{spell}
+use Rattle.fp_journal.proofs.Gates.{text-more}
 use Rattle.fp_journal.specs.State.{CrashStates, ClaimsAt, HasChain, HasChainOrNext, JournalState, Outside, room}
 use Rattle.fp_record.specs.Group.{Group}
 use Rattle.fp_record.specs.WellFormed.{IsBatch}
@@ -25,7 +26,7 @@ use Rattle.fp_group_commit.proofs.Moves.{all_firm, chain_leaves, either_leaves, 
 use Rattle.fp_edit.specs.Following.{Follows}
 use Rattle.fp_group_commit.specs.declared.fault.StoreFault.{StoreFault}
 use Rattle.fp_group_commit.specs.declared.fault.StoreFault.TheVariants as fault
-use Rattle.fp_group_commit.specs.Changes.{GoesOn}
+use Rattle.fp_group_commit.specs.Changes.{GoesOn, batch_len}
 use Rattle.fp_group_commit.specs.Calls.{Breaks, IsStrange, RefusesBy}
 use Rattle.fp_group_commit.specs.Tokens.{Identity, ReceiptState, IsReceipt}
 use Rattle.fp_group_commit.specs.Store.{is_failed, reached, reached_at, StoreState, Leaves, kept, coming, begun_at}
@@ -41,9 +42,12 @@ goes p q never (inl e) = e
 goes p q never (inr e) = absurd (never e)
 
 -- the slot, the front and the sealed bodies are the same, and so is the room
-room_same : {D : Type 0} (a b : JournalState D) → b.slot ≡ a.slot → b.front ≡ a.front → b.sealed ≡ a.sealed → room b ≡ room a
+pub room_same : {D : Type 0} (a b : JournalState D) → b.slot ≡ a.slot → b.front ≡ a.front → b.sealed ≡ a.sealed → room b ≡ room a
 room_same a b slot front sealed = ap (λ (p : Slot). p.stop - (p.start + length (b.front ++ spell b.sealed))) slot
     ∙ ap (λ (l : List ℕ). a.slot.stop - (a.slot.start + length (l ++ spell b.sealed))) front ∙ ap (λ (l : List (List ℕ)). a.slot.stop - (a.slot.start + length (a.front ++ spell l))) sealed
+
+pub same_room : {D : Type 0} (a b : JournalState D) → b.slot ≡ a.slot → b.front ≡ a.front → b.sealed ≡ a.sealed → (b.slot.most ≡ a.slot.most) × (room b ≡ room a)
+same_room a b slot front sealed = (ap (λ (p : Slot). p.most) slot, room_same a b slot front sealed)
 
 -- the device failed in a call
 pub breaks : {D : Type 0} (faults : D → ℕ) {old new : StoreState D} → old.journal.phase ≢ Failed → new.journal.phase ≡ Failed → faults old.journal.disk < faults new.journal.disk → new.step ≡ old.step
@@ -108,11 +112,11 @@ module _ {D : Type 0} (honest : D → Type 0) (bytes : D → List ℕ) (moment :
   next_stands f new h apart = moves.next_stands honest moment crash_states_since unsynced s.journal.disk new (kept s) s.journal (i.kept_is h) apart (coming s) s.journal.staged f.takes f.short
 
   -- the batch goes on its way, or the device failed
-  pub on_its_way : ((d : D) → honest d → IsOutcome (unsynced d) (bytes d)) → IsFlight s first ahead copies → (step : Phase) (j : JournalState D) → j.slot ≡ s.journal.slot → j.staged ≡ s.journal.staged → (j.phase ≡ step) ⊎ (j.phase ≡ Failed) → (honest j.disk → IsKept (unsynced j.disk) (kept s) j)
+  pub on_its_way : ((d : D) → honest d → IsOutcome (unsynced d) (bytes d)) → IsFlight s first ahead copies → (step : Phase) (j : JournalState D) → j.slot ≡ s.journal.slot → j.front ≡ s.journal.front → j.sealed ≡ s.journal.sealed → j.staged ≡ s.journal.staged → (j.phase ≡ step) ⊎ (j.phase ≡ Failed) → (honest j.disk → IsKept (unsynced j.disk) (kept s) j)
       → (honest j.disk → (c : List ℕ) → IsOutcome (unsynced j.disk) c → Leaves (record { store = s.store; sealed = s.sealed; staged = s.staged; step = step; journal = j }) c)
       → (honest j.disk → step ≡ GateOpened → j.phase ≢ Failed → StandsFor (bytes j.disk) (coming s))
       → IsSound honest bytes unsynced (record { store = s.store; sealed = s.sealed; staged = s.staged; step = step; journal = j }) set first ahead copies
-  on_its_way present f step j slot staged going kept_is now opened = record {
+  on_its_way present f step j slot front sealed staged going kept_is now opened = record {
     set_is = i.set_is;
     follows = i.follows;
     going = going;
@@ -124,6 +128,8 @@ module _ {D : Type 0} (honest : D → Type 0) (bytes : D → List ℕ) (moment :
       lawful = f.lawful;
       short = subst (λ (b : List ℕ). length b ≤ j.slot.most) (sym staged) (subst (λ (p : Slot). length s.journal.staged ≤ p.most) (sym slot) f.short);
       takes = subst (λ (b : List ℕ). TakesBatch (kept s) b (coming s)) (sym staged) f.takes;
+      len = ap length staged ∙ f.len;
+      fits = (let left = room_same s.journal j slot front sealed in let l = ap length staged in let fits = f.fits in omega (arith, left, l, fits));
     });
     kept_is = kept_is;
     now = now;
@@ -148,6 +154,15 @@ module _ {D : Type 0} (honest : D → Type 0) (bytes : D → List ℕ) (moment :
   bytes_moved later new is b = subst (λ (d : D). honest d → IsKept (unsynced d) (kept s) later) (sym is) b
 
   -- ---- the batch is sealed
+  pub takes_room : IsFlight s first ahead copies → (n : JournalState D) → n.slot ≡ s.journal.slot → n.front ≡ s.journal.front → n.sealed ≡ s.journal.sealed ++ s.journal.staged ∷ []
+      → (n.slot.most ≡ s.journal.slot.most) × (room n + batch_len (record { first = 0; changes = s.staged }) + 5 ≡ room s.journal)
+  takes_room f n slot front sealed =
+      let more : JournalState D = record s.journal { sealed = s.journal.sealed ++ s.journal.staged ∷ [] } in
+      let same = room_same more n slot front sealed in
+      let text = ap length (text-more s.journal.front s.journal.sealed s.journal.staged) ∙ length-append (s.journal.front ++ spell s.journal.sealed) _ in
+      let len = f.len in let fits = f.fits in
+      (ap (λ (p : Slot). p.most) slot, omega (arith, same, text, len, fits))
+
   pub sound_sealed : ((d : D) → honest d → IsOutcome (unsynced d) (bytes d)) → IsFlight s first ahead copies → (n : StoreState D) (later : D) → n.store ≡ s.store → n.sealed ≡ s.sealed ++ s.staged → n.step ≡ Idle → n.journal.phase ≡ Idle → n.journal.slot ≡ s.journal.slot → n.journal.front ≡ s.journal.front
       → n.journal.sealed ≡ s.journal.sealed ++ s.journal.staged ∷ [] → n.journal.disk ≡ later → (honest later → honest s.journal.disk) → (honest s.journal.disk → KeepsFirm moment crash_states_since unsynced s.journal.disk later (Outside s.journal.slot))
       → (honest n.journal.disk → (c : List ℕ) → IsOutcome (unsynced n.journal.disk) c → HasChain n.journal.slot n.journal.front n.journal.sealed c) → (next_first : ℕ) (rest : List Change) → IsSound honest bytes unsynced n set next_first copies rest
@@ -197,10 +212,10 @@ module _ {D : Type 0} (honest : D → Type 0) (bytes : D → List ℕ) (moment :
   }
 
   pub sound_staged : ((d : D) → honest d → IsOutcome (unsynced d) (bytes d)) → (group : Group) (j : JournalState D) (later : State) (left twice : List Change) → after_all later left ≡ after_all set ahead → Follows later left → left ≡ [] → twice ≡ group.changes → GoesOn (after_all set ahead) group → IsBatch group
-      → j.staged ≡ encoding_of_batch group → length j.staged ≤ j.slot.most → j.phase ≡ Staged → (honest j.disk → IsKept (unsynced j.disk) (kept s) j)
+      → j.staged ≡ encoding_of_batch group → length j.staged ≤ j.slot.most → length j.staged ≡ batch_len group → length j.staged + 6 ≤ room j → j.phase ≡ Staged → (honest j.disk → IsKept (unsynced j.disk) (kept s) j)
       → (honest j.disk → (c : List ℕ) → IsOutcome (unsynced j.disk) c → Leaves (record { store = s.store; sealed = s.sealed; staged = group.changes; step = Staged; journal = j }) c)
       → IsSound honest bytes unsynced (record { store = s.store; sealed = s.sealed; staged = group.changes; step = Staged; journal = j }) later group.first left twice
-  sound_staged present group j later left twice same follows none copied on lawful spelled short phase kept_is now =
+  sound_staged present group j later left twice same follows none copied on lawful spelled short len fits phase kept_is now =
       let goes_on = goes_kept group on in
       record {
         set_is = same ∙ i.set_is;
@@ -220,6 +235,8 @@ module _ {D : Type 0} (honest : D → Type 0) (bytes : D → List ℕ) (moment :
             follows = goes_on.0;
             leads = subst (λ (t : State). Leads (kept s) group.changes t) (sym (after-append s.store.start s.sealed group.changes)) (leads_all (kept s) group.changes goes_on.1);
           };
+          len = len;
+          fits = fits;
         });
         kept_is = kept_is;
         now = now;

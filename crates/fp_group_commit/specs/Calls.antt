@@ -1,17 +1,27 @@
 -- What a call of a store changes, and why it wasn't done.
-use Rattle.std.specs.Prelude.{◌≡◌, ◌≢◌, ◌<◌, ℕ}
+use Rattle.std.specs.Prelude.{◌≡◌, ◌≢◌, ◌<◌, ◌+◌, ℕ}
 use Rattle.fp_edit.specs.Flags.{State}
 use Rattle.fp_journal.specs.State.{room}
 use Rattle.fp_journal.specs.declared.journal.Phase.{Phase}
 use Rattle.fp_journal.specs.declared.journal.Phase.TheVariants.{Failed}
 use Rattle.fp_record.specs.Group.{Group}
-use Rattle.fp_group_commit.specs.Changes.{GoesOn}
+use Rattle.fp_group_commit.specs.Changes.{GoesOn, batch_len}
 use Rattle.fp_group_commit.specs.Store.{StoreState, kept}
 use Rattle.fp_group_commit.specs.declared.fault.StoreFault.{StoreFault}
 use Rattle.fp_group_commit.specs.declared.fault.StoreFault.TheVariants as fault
 
 abbrev pub SameStore : {D : Type 0} → StoreState D → StoreState D → Type 0
 SameStore old new = (new.store ≡ old.store) × (new.sealed ≡ old.sealed) × (new.staged ≡ old.staged)
+
+-- a batch may take as many bytes as before, and as many are left for batches
+abbrev pub SameRoom : {D : Type 0} → StoreState D → StoreState D → Type 0
+SameRoom old new =
+    (new.journal.slot.most ≡ old.journal.slot.most) × (room new.journal ≡ room old.journal)
+
+-- of the bytes left the batch took those of its body, the number of its length and a gate
+abbrev pub TakesRoom : {D : Type 0} → StoreState D → StoreState D → Type 0
+TakesRoom old new = (new.journal.slot.most ≡ old.journal.slot.most)
+    × (room new.journal + batch_len (record { first = 0; changes = old.staged }) + 5 ≡ room old.journal)
 
 -- the store goes on to this phase, and the device failed neither before nor in the call
 pub record MovesTo {D : Type 0} (faults : D → ℕ) (phase : Phase) (old new : StoreState D) : Type 0 where

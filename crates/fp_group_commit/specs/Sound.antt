@@ -9,6 +9,8 @@ use Rattle.fp_journal.specs.declared.journal.Phase.TheVariants.{Idle, Failed}
 use Rattle.fp_record.specs.WellFormed.{IsBatch}
 use Rattle.fp_recovery.specs.Durable.{IsKept}
 use Rattle.fp_recovery.specs.Stands.{StandsFor, TakesBatch}
+use Rattle.fp_journal.specs.State.{room}
+use Rattle.fp_group_commit.specs.Changes.{batch_len}
 use Rattle.fp_group_commit.specs.Store.{StoreState, Leaves, coming, kept, reached}
 
 -- the batch on its way leads on from what is sealed, its edits are kept for the set, and those before it are all in the set
@@ -20,6 +22,8 @@ pub record IsFlight {D : Type 0} (s : StoreState D) (first : ℕ) (ahead copies 
   pub lawful : IsBatch (record { first = first; changes = s.staged })
   pub short : length s.journal.staged ≤ s.journal.slot.most
   pub takes : TakesBatch (kept s) s.journal.staged (coming s)
+  pub len : length s.journal.staged ≡ batch_len (record { first = first; changes = s.staged })
+  pub fits : length s.journal.staged + 6 ≤ room s.journal
 
 -- the set is behind by the edits that are ahead of it
 pub record IsSound {D : Type 0} (honest : D → Type 0) (bytes : D → List ℕ) (unsynced : D → PendingState)

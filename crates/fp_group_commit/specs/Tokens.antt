@@ -3,6 +3,7 @@ use Rattle.std.specs.Prelude.{◌≡◌, ◌+◌, ◌≤◌, ◌^◌, ℕ, List,
 use Rattle.std.specs.FinMap as map
 use Rattle.fp_edit.specs.Edits.{Change}
 use Rattle.fp_edit.specs.Flags.{State}
+use Rattle.fp_edit.specs.Log.{after_all}
 use Rattle.fp_record.specs.Group.{Group}
 
 -- which store it is, and the set that it started from
@@ -18,6 +19,14 @@ pub record FrontState : Type 0 where
 -- the last revision that it reaches
 abbrev pub front_revision : FrontState → ℕ
 front_revision f = f.store.start.revision + length f.edits
+
+-- the set that it leads to
+abbrev pub front_set : FrontState → State
+front_set f = after_all f.store.start f.edits
+
+-- some edits, and then these
+abbrev pub EndsWith : List Change → List Change → Type 0
+EndsWith edits last = (before : List Change) × (edits ≡ before ++ last)
 
 -- what a receipt says: all that the store kept, and the batch that came last
 pub record ReceiptState : Type 0 where

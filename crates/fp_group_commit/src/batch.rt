@@ -5,7 +5,7 @@ ghost use Rattle.std.specs.Prelude.{◌≡◌, ◌+◌, ◌++◌, [], ◌∷◌,
 ghost use Rattle.fp_disk.specs.History.{Makes};
 ghost use Rattle.fp_disk.specs.declared.history.CallKind.TheVariants.{Sync, Write};
 ghost use Rattle.fp_journal.specs.declared.journal.Phase.TheVariants.{Idle, Staged, BodySynced, GateOpened};
-ghost use Rattle.fp_group_commit.specs.Calls.{FailsBy, MovesTo, RefusesBy, SameStore};
+ghost use Rattle.fp_group_commit.specs.Calls.{FailsBy, MovesTo, RefusesBy, SameRoom, SameStore, TakesRoom};
 ghost use Rattle.fp_group_commit.specs.Changes.{GoesOn, HasRoom};
 ghost use Rattle.fp_group_commit.specs.Store.{Leaves, kept};
 
@@ -30,6 +30,7 @@ impl<D: Disk> Store<D> {
         ensures phase { OnErr result (self.new.step ≡ self.old.step) }
         ensures fault { IfErr result (λ e. RefusesBy D.faults self.old self.new draw e.0) }
         ensures given_back { IfErr result (λ e. e.1 ≡ draw) }
+        ensures same_room { SameRoom self.old self.new }
         ensures called { Makes (Write ∷ []) (D.calls self.old.journal.disk)
             (D.calls self.new.journal.disk) result }
         ensures any_moment { AtAnyMoment D.Disk self.old.journal.disk self.new.journal.disk
@@ -67,6 +68,7 @@ impl<D: Disk> Store<D> {
         ensures ok { OnOk result (MovesTo D.faults BodySynced self.old self.new) }
         ensures phase { OnErr result (self.new.step ≡ self.old.step) }
         ensures fault { IfErr result (FailsBy D.faults self.old self.new) }
+        ensures same_room { SameRoom self.old self.new }
         ensures called { Makes (Sync ∷ []) (D.calls self.old.journal.disk)
             (D.calls self.new.journal.disk) result }
         ensures any_moment { AtAnyMoment D.Disk self.old.journal.disk self.new.journal.disk
@@ -92,6 +94,7 @@ impl<D: Disk> Store<D> {
         ensures ok { OnOk result (MovesTo D.faults GateOpened self.old self.new) }
         ensures phase { OnErr result (self.new.step ≡ self.old.step) }
         ensures fault { IfErr result (FailsBy D.faults self.old self.new) }
+        ensures same_room { SameRoom self.old self.new }
         ensures called { Makes (Write ∷ []) (D.calls self.old.journal.disk)
             (D.calls self.new.journal.disk) result }
         // This call begins to open the gate, so what it leaves is said of the store after it.
@@ -122,6 +125,7 @@ impl<D: Disk> Store<D> {
         ensures err { IfErr result (λ _. SameStore self.old self.new) }
         ensures phase { OnErr result (self.new.step ≡ self.old.step) }
         ensures fault { IfErr result (FailsBy D.faults self.old self.new) }
+        ensures takes_room { OnOk result (TakesRoom self.old self.new) }
         ensures called { Makes (Sync ∷ []) (D.calls self.old.journal.disk)
             (D.calls self.new.journal.disk) result }
         ensures any_moment { AtAnyMoment D.Disk self.old.journal.disk self.new.journal.disk

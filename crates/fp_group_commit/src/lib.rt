@@ -14,6 +14,7 @@ mod store;
 pub use draw::{Draw, spelled_sum};
 pub use fault::{CreateFault, StoreFault};
 pub use opening::Opening;
+pub use part::Part;
 pub use receipt::Receipt;
 pub use settled::{Settled, Told};
 pub use store::Store;

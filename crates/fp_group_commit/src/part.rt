@@ -88,7 +88,7 @@ impl Model for Applied {
 
 /// A beginning of a store's sealed edits. It has no bytes.
 #[derive(Drop)]
-pub(crate) struct Part {
+pub struct Part {
     origin: Origin,
     front: Front<Applied>,
 }

@@ -2,12 +2,13 @@
 
 ghost use Rattle.std.specs.Prelude.{◌≡◌, ◌<◌, ◌+◌, ◌^◌, ◌++◌, [], length};
 ghost use Rattle.fp_edit.specs.Following.{changes_of};
-ghost use Rattle.fp_group_commit.specs.Tokens.{front_revision};
+ghost use Rattle.fp_group_commit.specs.Tokens.{EndsWith, front_revision};
 
 use crate::opening::Opening;
 use crate::part::Part;
 use crate::receipt::Receipt;
 use fp_edit::{Edit, FlagSet};
+use std::alloc::Global;
 use std::marker::Model;
 
 /// The right to tell what is settled. It comes from an opening, and goes on by receipts alone.
@@ -15,14 +16,16 @@ use std::marker::Model;
 pub struct Settled {
     revision: u64,
     part: Part,
+    last: Vec<Edit>,
 }
 
 impl Model for Settled {
     ghost use Rattle.std.specs.Coded.{codes};
     ghost use Rattle.std.specs.Prelude.{◌≡◌};
     ghost use Rattle.fp_edit.specs.Flags.{coded_state};
+    ghost use Rattle.fp_edit.specs.Following.{changes_of};
     ghost use Rattle.fp_group_commit.specs.Changes.{coded_change};
-    ghost use Rattle.fp_group_commit.specs.Tokens.{FrontState, front_revision};
+    ghost use Rattle.fp_group_commit.specs.Tokens.{EndsWith, FrontState, front_revision};
 
     ghost Value = { FrontState };
 
@@ -30,7 +33,8 @@ impl Model for Settled {
 
     ghost view = { λ s. s.part };
 
-    ghost invariant = { λ s. s.revision ≡ front_revision s.part };
+    ghost invariant = { λ s. (s.revision ≡ front_revision s.part)
+        × EndsWith s.part.edits (changes_of s.last.items) };
 }
 
 /// That these edits are settled.
@@ -65,7 +69,8 @@ impl Told {
         self.revision
     }
 
-    pub(crate) fn part(&self) -> &Part
+    /// The beginning of the store's sealed edits that it tells of.
+    pub fn part(&self) -> &Part
         ensures { result.now ≡ self.now }
     {
         &self.part
@@ -74,7 +79,7 @@ impl Told {
 
 impl Settled {
     /// Nothing is settled yet.
-    pub fn of(opening: Opening) -> (FlagSet, Settled)
+    pub fn of(alloc: Global, opening: Opening) -> (FlagSet, Settled)
         ensures set { result.0 ≡ opening.start }
         ensures settled { (result.1.store ≡ opening) × (result.1.edits ≡ []) }
     {
@@ -82,6 +87,7 @@ impl Settled {
         let settled = Settled {
             revision: set.revision(),
             part,
+            last: Vec::new(alloc),
         };
         (set, settled)
     }
@@ -103,20 +109,27 @@ impl Settled {
         self.revision
     }
 
-    /// Spends a receipt for the batch that comes next, and gives back its edits.
-    pub fn advance(&mut self, receipt: Receipt) -> Vec<Edit>
+    /// Spends a receipt for the batch that comes next, and keeps its edits.
+    pub fn advance(&mut self, receipt: Receipt)
         requires store { receipt.store ≡ self.old.store }
         requires next { receipt.batch.first ≡ front_revision self.old + 1 }
         ensures store { self.new.store ≡ self.old.store }
         ensures edits { self.new.edits ≡ self.old.edits ++ receipt.batch.changes }
         ensures all { self.new.edits ≡ receipt.edits }
-        ensures batch { changes_of result.items ≡ receipt.batch.changes }
     {
         let Receipt { draw, part } = receipt;
         self.part.meets(&part);
         self.revision += draw.edits.len() as u64;
         self.part = part;
-        draw.edits
+        self.last = draw.edits;
+    }
+
+    /// The edits of the batch that came last.
+    pub fn last_batch(&self) -> &[Edit]
+        ensures { EndsWith self.now.edits (changes_of result.now) }
+    {
+        let _ = &self.part;
+        &self.last
     }
 
     /// Tells what is settled.

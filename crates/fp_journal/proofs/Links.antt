@@ -58,12 +58,13 @@ same_body c at a b p short q short2 = sym (body_read c at (length_at c at) a p (
 pub record HasRead (most from stop : ℕ) (c : List ℕ) (found : List (List ℕ)) (at : ℕ) : Type 0 where
   pub holds : Holds c from (spell found)
   pub place : at ≡ from + length (spell found)
+  pub within : (at ≡ from) ⊎ (at ≤ stop)
   pub short : AllShort most found
   pub only : (bs : List (List ℕ)) → IsChain most from stop bs c → (rest : List (List ℕ)) × (bs ≡ found ++ rest) × IsChain most at stop rest c
 
 module _ (most from stop : ℕ) (c : List ℕ) (small : most < 2 ^ 32) where
   pub read_none : from ≤ length c → HasRead most from stop c [] from
-  read_none le = record { holds = record { long = omega (arith, le); same = λ k lt. absurd (omega (arith, lt)) }; place = omega arith; short = tt; only = λ bs h. (bs, refl, h) }
+  read_none le = record { holds = record { long = omega (arith, le); same = λ k lt. absurd (omega (arith, lt)) }; place = omega arith; within = inl refl; short = tt; only = λ bs h. (bs, refl, h) }
 
   pub read_more : (found : List (List ℕ)) (at next : ℕ) (b : List ℕ) → HasRead most from stop c found at → IsNext most at stop b next c → HasRead most from stop c (found ++ b ∷ []) next
   read_more found at next b r n =
@@ -71,6 +72,7 @@ module _ (most from stop : ℕ) (c : List ℕ) (small : most < 2 ^ 32) where
       record {
         holds = subst (λ (t : List ℕ). Holds c from t) (sym e) (holds_append c from (spell found) (OPEN ∷ framed b) r.holds (subst (λ (k : ℕ). Holds c k (OPEN ∷ framed b)) place n.holds));
         place = omega (arith, place, np, len, size);
+        within = inr n.within;
         short = All-push (λ (x : List ℕ). length x ≤ most) found b r.short n.short;
         only = λ bs h. let o = r.only bs h in let t = chain_opened most at stop o.0 c (byte_held c at OPEN (framed b) n.holds) o.2 in let ts = t.3.short in
             let same : t.0 ≡ b = same_body c at t.0 b t.3.holds (omega (arith, ts, small)) n.holds (omega (arith, ns, small)) in
@@ -112,7 +114,7 @@ module _ {R : Type 0} (takes : R → List ℕ → R → Type 0) (refuses : R →
   reading_all at now r shut = let all = read_all most from stop c small r.bodies at r.read shut in record { bodies = r.bodies; chain = all.0; only = all.1; place = r.read.place; reads = r.reads }
 
   stops : (at : ℕ) (now : R) (k : ℕ) → IsReading takes most from stop c before at now → Breaks most stop c at k ⊎ ((body : List ℕ) × (next : ℕ) × (offset : ℕ) × IsNext most at stop body next c × refuses now body offset × (k ≡ at + 5 + offset)) → StopsAt takes refuses most from stop c before k
-  stops at now k r fault = record { bodies = r.bodies; gate = at; last = now; holds = r.read.holds; short = r.read.short; place = r.read.place; reads = r.reads; fault = fault }
+  stops at now k r fault = record { bodies = r.bodies; gate = at; last = now; holds = r.read.holds; short = r.read.short; place = r.read.place; within = r.read.within; reads = r.reads; fault = fault }
 
   pub reading_breaks : (at : ℕ) (now : R) (k : ℕ) → IsReading takes most from stop c before at now → Breaks most stop c at k → StopsAt takes refuses most from stop c before k
   reading_breaks at now k r broken = stops at now k r (inl broken)

@@ -14,7 +14,7 @@ use Rattle.fp_journal.specs.Chain.{Ends, framed, with_gate, body_of, spell}
 use Rattle.fp_journal.specs.Moments.{KeepsFirm, KeepsHeld}
 use Rattle.fp_journal.specs.declared.held.Held.{Held}
 use Rattle.fp_journal.specs.declared.held.Held.TheVariants as held
-use Rattle.fp_journal.specs.State.{JournalState, HasAmong, HasChain, HasChainOrNext, HasNext, CrashStates, StatesAfterSync, Outside, EndsClosed, IsBetween, IsAt, IsFrame, InFlight, AllShort, IsHeld, IsKept, IsLeft, SameSlot, begun_of, has_begun, phase_of, room}
+use Rattle.fp_journal.specs.State.{JournalState, HasAmong, HasChain, HasChainOrNext, HasNext, CrashStates, StatesAfterSync, Outside, EndsClosed, IsBetween, IsAt, IsFrame, IsOnWay, InFlight, AllShort, IsHeld, IsKept, IsLeft, SameSlot, begun_of, has_begun, phase_of, room}
 use Rattle.fp_journal.proofs.Gates.{text-more, ready_written}
 use Rattle.fp_journal.proofs.Calls as calls
 use Rattle.fp_journal.proofs.Firm as firm
@@ -67,6 +67,17 @@ module _ {D : Type 0} (honest : D → Type 0) (bytes : D → List ℕ) (unsynced
 
   flight_is : (p : Phase) → k.phase ≡ p → InFlight p k.slot.most (k.slot.stop - end) k.staged in_flight
   flight_is p is = subst (λ (q : Phase). InFlight q k.slot.most (k.slot.stop - end) k.staged in_flight) is kept.flight
+
+  -- the bytes of a body on its way
+  frame_at : (p : Phase) → IsOnWay p → InFlight p k.slot.most (k.slot.stop - end) k.staged in_flight → IsFrame k.slot.most (k.slot.stop - end) k.staged in_flight
+  frame_at Idle on f = absurd on
+  frame_at Staged on f = f
+  frame_at BodySynced on f = f
+  frame_at GateOpened on f = f
+  frame_at Failed on f = absurd on
+
+  pub frame_on_way : IsOnWay k.phase → IsFrame k.slot.most (k.slot.stop - end) k.staged in_flight
+  frame_on_way on = frame_at k.phase on kept.flight
 
   goes_on : (d : D) (body : List ℕ) (p : Phase) (begun : Bool) (written : List ℕ) → InFlight p k.slot.most (k.slot.stop - end) body written → (honest d → State p begun body d) → Kept d body p begun written
   goes_on d body p begun written flight state = record { place = kept.place; within = kept.within; short = kept.short; flight = flight; state = state }

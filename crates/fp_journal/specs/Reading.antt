@@ -54,7 +54,7 @@ pub record FoundChain {R : Type 0} (takes : R → List ℕ → R → Type 0) (mo
   pub place : end ≡ at + length (spell bodies)
   pub reads : Reads takes before bodies after
 
--- Bodies stand there, and the reader takes them; behind them there is no link, or one whose body it refuses. k is the first byte to show it
+-- Bodies stand there, none of them past the stop, and the reader takes them; behind them there is no link, or one whose body it refuses. k is the first byte to show it
 pub record StopsAt {R : Type 0} (takes : R → List ℕ → R → Type 0) (refuses : R → List ℕ → ℕ → Type 0) (most at stop : ℕ) (c : List ℕ) (before : R) (k : ℕ) : Type 0 where
   pub bodies : List (List ℕ)
   pub gate : ℕ
@@ -62,6 +62,7 @@ pub record StopsAt {R : Type 0} (takes : R → List ℕ → R → Type 0) (refus
   pub holds : Holds c at (spell bodies)
   pub short : AllShort most bodies
   pub place : gate ≡ at + length (spell bodies)
+  pub within : (gate ≡ at) ⊎ (gate ≤ stop)
   pub reads : Reads takes before bodies last
   pub fault : Breaks most stop c gate k ⊎ ((body : List ℕ) × (next : ℕ) × (offset : ℕ) × IsNext most gate stop body next c × refuses last body offset × (k ≡ gate + 5 + offset))
 

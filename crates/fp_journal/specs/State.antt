@@ -44,6 +44,14 @@ pub record HasNext (slot : Slot) (front : List ℕ) (bodies : List (List ℕ)) (
   pub chain : HasChain slot front bodies c
   pub next : Ends (slot.start + length (front ++ spell bodies) + 1) slot.stop (framed body) c
 
+-- a body is on its way
+abbrev pub IsOnWay : Phase → Type 0
+IsOnWay Idle = ⊥
+IsOnWay Staged = Unit {0}
+IsOnWay BodySynced = Unit {0}
+IsOnWay GateOpened = Unit {0}
+IsOnWay Failed = ⊥
+
 -- did a call begin to open the gate in front of the body on its way; where one failed, this says it
 abbrev pub has_begun : Phase → Bool → Bool
 has_begun Idle begun = false

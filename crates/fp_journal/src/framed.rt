@@ -44,6 +44,13 @@ impl Framed {
         self.bytes.len() as u64 + 1
     }
 
+    /// The bytes of its write: its length, the body, and a closed gate.
+    pub fn as_slice(&self) -> &[u8]
+        ensures { result.now ≡ with_gate self.now }
+    {
+        self.bytes.as_slice()
+    }
+
     pub(crate) fn into_bytes(self) -> Vec<u8>
         ensures bytes { result.items ≡ with_gate self }
         ensures short { length self < 2 ^ 32 }

@@ -4,11 +4,13 @@ ghost use Rattle.fp_disk.specs.Crashes.{AtAnyMoment, EachCrash, SameHonesty};
 ghost use Rattle.fp_disk.specs.Outcomes.{Answers, IsOutcome, Written as HasWritten, all_synced, with_write};
 ghost use Rattle.fp_disk.specs.History.{Makes};
 ghost use Rattle.fp_disk.specs.declared.history.CallKind.TheVariants.{Sync, Write};
-ghost use Rattle.fp_gate.specs.Gates.{IsSyncOf};
+ghost use Rattle.fp_gate.specs.Gates.{IsOpen, IsShut, IsSyncOf, StaysAsRead};
+ghost use Rattle.fp_gate.specs.declared.gate.TheConstants.{OPEN};
 ghost use Rattle.std.specs.Prelude.{◌≡◌, ◌⊎◌, ◌<◌, ◌≤◌, ◌+◌, ◌∷◌, [], ◌++◌, List, ℕ, true, false, length, slice_range, IfOk, OnOk, OnErr, IsErr};
+ghost use Rattle.fp_journal.specs.Chain.{with_gate};
 ghost use Rattle.fp_journal.specs.Holds.{Apart};
 ghost use Rattle.fp_journal.specs.Moments.{KeepsSynced, KeepsRead};
-ghost use Rattle.fp_journal.specs.State.{AllShort, CrashStates, HasChain, HasChainOrNext, HasNext, EndsClosed, Outside, SameSlot, StatesAfterSync, room};
+ghost use Rattle.fp_journal.specs.State.{AllShort, CrashStates, HasChain, HasChainOrNext, HasNext, EndsClosed, IsOnWay, Outside, SameSlot, StatesAfterSync, has_begun, room};
 ghost use Rattle.fp_journal.specs.declared.journal.Phase.TheVariants.{Idle, Staged, BodySynced, GateOpened, Failed};
 
 use crate::framed::Framed;
@@ -17,7 +19,7 @@ use crate::sealed::{Body, InFrame, Sealed};
 use crate::slot::Slot;
 use fp_disk::{Checked, Disk, DiskFault, Synced};
 use fp_fronts::Growing;
-use fp_gate::Gate;
+use fp_gate::{Closed, Gate, Open, Written};
 use std::alloc::Global;
 use std::marker::Model;
 use std::mem;
@@ -48,6 +50,7 @@ pub struct Journal<D: Disk> {
     in_flight: Vec<u8>,
     sealed: Growing<Body>,
     opened: Snapshot<Vec<u8>>,
+    first: Snapshot<u64>,
     begin: Snapshot<u64>,
 }
 
@@ -58,9 +61,9 @@ impl<D: Disk> Model for Journal<D> {
 
     ghost Value = { JournalState D };
 
-    ghost view = { λ s. record { disk = s.disk.disk; disk_name = s.disk.name; name = s.sealed.name; slot = s.slot; front = slice_range s.opened.value.items s.slot.start s.begin.value; sealed = s.sealed.log; staged = body_of s.in_flight.items; phase = phase_of s.held; begun = begun_of s.held } };
+    ghost view = { λ s. record { disk = s.disk.disk; disk_name = s.disk.name; name = s.sealed.name; slot = s.slot; front = slice_range s.opened.value.items s.first.value s.begin.value; sealed = s.sealed.log; staged = body_of s.in_flight.items; phase = phase_of s.held; begun = begun_of s.held } };
 
-    ghost invariant = { λ s. IsKept D.honest D.bytes D.unsynced (record { disk = s.disk.disk; disk_name = s.disk.name; name = s.sealed.name; slot = s.slot; front = slice_range s.opened.value.items s.slot.start s.begin.value; sealed = s.sealed.log; staged = body_of s.in_flight.items; phase = phase_of s.held; begun = begun_of s.held }) s.end s.in_flight.items × IsHeld D.honest D.moment s.disk.disk s.disk.name s.end s.held };
+    ghost invariant = { λ s. IsKept D.honest D.bytes D.unsynced (record { disk = s.disk.disk; disk_name = s.disk.name; name = s.sealed.name; slot = s.slot; front = slice_range s.opened.value.items s.first.value s.begin.value; sealed = s.sealed.log; staged = body_of s.in_flight.items; phase = phase_of s.held; begun = begun_of s.held }) s.end s.in_flight.items × IsHeld D.honest D.moment s.disk.disk s.disk.name s.end s.held };
 }
 
 impl<D: Disk> Journal<D> {
@@ -82,8 +85,28 @@ impl<D: Disk> Journal<D> {
             in_flight: Vec::new(alloc),
             sealed,
             opened: Snapshot::of(opened),
+            first: Snapshot::of(&slot.start),
             begin: Snapshot::of(&end),
         }
+    }
+
+    /// Goes on in another slot, where these bytes stand up to a closed gate behind the first so many. It makes no call of the disk.
+    pub fn switch(&mut self, slot: Slot, text: &Vec<u8>, len: u64)
+        requires idle { self.old.phase ≡ Idle }
+        requires place { len ≤ length text.now.items }
+        requires within { slot.start + len < slot.stop }
+        requires quiet { D.honest self.old.disk → EndsClosed slot.start slot.stop (slice_range text.now.items 0 len) (D.unsynced self.old.disk) }
+        ensures slot { (self.new.slot ≡ slot) × (self.new.front ≡ slice_range text.now.items 0 len) }
+        ensures begins { (self.new.sealed ≡ []) × (self.new.phase ≡ Idle) × (self.new.begun ≡ false) }
+        ensures disk { (self.new.disk ≡ self.old.disk) × (self.new.disk_name ≡ self.old.disk_name) }
+    {
+        self.slot = slot;
+        self.held = Held::Idle;
+        self.end = slot.start + len;
+        self.sealed = Growing::new().0;
+        self.opened = Snapshot::of(text);
+        self.first = Snapshot::of(&0);
+        self.begin = Snapshot::of(&len);
     }
 
     /// Where it lies.
@@ -102,9 +125,20 @@ impl<D: Disk> Journal<D> {
         self.slot.stop - self.end
     }
 
+    /// The bytes of the body on its way: its length, the body, and a closed gate.
+    pub fn bytes_on_way(&self) -> &[u8]
+        requires { IsOnWay self.now.phase }
+        ensures bytes { result.now ≡ with_gate self.now.staged }
+        ensures short { length self.now.staged ≤ self.now.slot.most }
+    {
+        let _ = &self.end;
+        self.in_flight.as_slice()
+    }
+
     /// How far the body on its way is, which says what a crash would leave now.
     pub fn phase(&self) -> Phase
         ensures phase { result ≡ self.now.phase }
+        ensures begun { has_begun self.now.phase self.now.begun ≡ self.now.begun }
         ensures outcomes { EachCrash D.Disk self.now.disk (CrashStates self.now) }
     {
         self.held.phase()
@@ -123,6 +157,7 @@ impl<D: Disk> Journal<D> {
             in_flight: _,
             sealed: _,
             opened: _,
+            first: _,
             begin: _,
         } = self;
         disk.into_disk()
@@ -289,5 +324,52 @@ impl<D: Disk> Journal<D> {
         self.disk.write_at(at, from)?;
         self.held = held;
         Ok(())
+    }
+
+    /// The gate at a place outside the slot, where no crash leaves an open one.
+    pub fn gate_outside(&self, at: u64) -> Gate<Closed>
+        requires shut { D.honest self.now.disk → IsShut (D.unsynced self.now.disk) at }
+        ensures gate { result ≡ record { at = at; from = 0; to = 0 } }
+    {
+        Gate::adopt(&self.disk, at)
+    }
+
+    /// Opens a gate outside the slot, at any phase, for a sync made after what it guards was written.
+    pub fn open_outside(
+        &mut self,
+        gate: Gate<Closed>,
+        synced: Synced<D>,
+    ) -> Result<Gate<Written>, DiskFault>
+        requires outside { Outside self.old.slot gate.at 1 }
+        requires shut { D.honest self.old.disk → IsShut (D.unsynced self.old.disk) gate.at }
+        requires firm { D.honest self.old.disk → StaysAsRead (D.unsynced self.old.disk) (D.bytes self.old.disk) gate.from gate.to }
+        requires token { IsSyncOf D.honest D.moment self.old.disk self.old.disk_name synced }
+        ensures gate { IfOk result (λ g. g ≡ gate) }
+        ensures written { D.honest self.old.disk → OnOk result (HasWritten (D.bytes self.old.disk) gate.at (OPEN ∷ []) (D.bytes self.new.disk) × (D.unsynced self.new.disk ≡ with_write (D.unsynced self.old.disk) gate.at 1)) }
+        ensures same { SameSlot self.old self.new }
+        ensures bodies { (self.new.sealed ≡ self.old.sealed) × (self.new.staged ≡ self.old.staged) }
+        ensures phase { OnOk result (self.new.phase ≡ self.old.phase) × OnErr result (self.new.phase ≡ Failed) }
+        ensures begun { self.new.begun ≡ self.old.begun }
+        ensures any_moment { AtAnyMoment D.Disk self.old.disk self.new.disk (CrashStates self.old) }
+        ensures apart { KeepsSynced D.Disk self.old.disk self.new.disk (Apart gate.at 1) }
+        ensures beside { KeepsRead D.Disk self.old.disk self.new.disk (Apart gate.at 1) }
+        ensures honest { SameHonesty D.Disk self.old.disk self.new.disk }
+        ensures called { D.calls self.new.disk ≡ D.calls self.old.disk ++ Write ∷ [] }
+        ensures cause { Answers (D.faults self.old.disk) (D.faults self.new.disk) result }
+    {
+        let failed = self.held.failed();
+        let held = mem::replace(&mut self.held, failed);
+        let written = gate.open(&mut self.disk, synced)?;
+        self.held = held;
+        Ok(written)
+    }
+
+    /// The gate outside the slot as open for good, for a sync made after its byte was written.
+    pub fn seal_outside(&self, gate: Gate<Written>, synced: Synced<D>) -> Gate<Open>
+        requires token { IsSyncOf D.honest D.moment self.now.disk self.now.disk_name synced }
+        requires open { D.honest self.now.disk → IsOpen (D.unsynced self.now.disk) gate.at }
+        ensures gate { result ≡ gate }
+    {
+        gate.seal(&self.disk, synced)
     }
 }

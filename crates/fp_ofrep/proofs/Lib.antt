@@ -1,4 +1,5 @@
 pub mod Faults
+pub mod LawLemmas
 pub mod Lists
 pub mod Parts
 pub mod Utf8

@@ -2,6 +2,7 @@ pub mod Bodies
 pub mod Bulk
 pub mod Context
 pub mod Failures
+pub mod Laws
 pub mod Reply
 pub mod Response
 pub mod Route

@@ -4,13 +4,14 @@ use Rattle.std.specs.Prelude.{ℕ, List, length, codes, nat_lt, if◌then◌else
 use Rattle.fp_edit.specs.Flags.{State}
 use Rattle.fp_ofrep.specs.Bulk.{bulk_reply}
 use Rattle.fp_ofrep.specs.Response.{Response, empty, not_allowed}
-use Rattle.fp_ofrep.specs.Route.{Route, bulk, single, route_of}
-use Rattle.fp_ofrep.specs.Single.{single_reply}
+use Rattle.fp_ofrep.specs.Route.{Route, bulk, single, key, route_of}
+use Rattle.fp_ofrep.specs.Single.{keyed, single_reply}
 use Rattle.fp_ofrep.specs.declared.request.TheConstants.{LONGEST_BODY}
 
 abbrev pub evaluated : State → Route → Option (List ℕ) → List ℕ → ℕ → Response
 evaluated set bulk if_none_match body now = bulk_reply set if_none_match body now
 evaluated set (single segment) if_none_match body now = single_reply set segment body now
+evaluated set (key text) if_none_match body now = keyed set text body now
 
 -- no body stands for one whose reading was given up
 abbrev pub posted : State → Route → Option (List ℕ) → Option (List ℕ) → ℕ → Response
@@ -27,3 +28,7 @@ routed set (Some route) method if_none_match body now = if bytes_eq method (code
 abbrev pub reply : State → List ℕ → List ℕ → Option (List ℕ) → Option (List ℕ) → ℕ → Response
 reply set method target if_none_match body now =
     routed set (route_of target) method if_none_match body now
+
+-- the same for a flag by its key itself, where there is no path and no method
+abbrev pub reply_for : State → List ℕ → Option (List ℕ) → ℕ → Response
+reply_for set text body now = posted set (key text) None body now

@@ -1,10 +1,12 @@
--- What a target asks for: `/ofrep/v1/evaluate/flags`, or a flag below it.
+-- What is asked for. A target asks by `/ofrep/v1/evaluate/flags`, or by a flag below it.
 use Rattle.std.specs.Prelude.{ℕ, List, [], ◌∷◌, codes, ◌==◌, Bool, false, ◌||◌, Option, Some, None, if◌then◌else◌}
 
 pub data Route : Type 0 where
   bulk : Route
   -- the flag's key is this segment of the path, still encoded
   single : List ℕ → Route
+  -- the flag's key is given itself, which no target does
+  key : List ℕ → Route
 
 abbrev pub flags_path : List ℕ
 flags_path = codes "/ofrep/v1/evaluate/flags"

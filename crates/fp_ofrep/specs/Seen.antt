@@ -23,6 +23,7 @@ seen r = record {
 abbrev pub route_seen : Route → route.Route
 route_seen Route.Bulk = route.bulk
 route_seen (Route.Single segment) = route.single segment.now
+route_seen (Route.Key text) = route.key text.now
 
 abbrev pub body_seen : Body → Option (List ℕ)
 body_seen (Body.Whole bytes) = Some bytes.now

@@ -1,9 +1,10 @@
-//! Replies to requests of the OpenFeature Remote Evaluation Protocol, over a set of flags.
+//! Replies to requests of the OpenFeature Remote Evaluation Protocol, over what is published.
 #![tactic(auto)]
 
 mod bulk;
 mod context;
 mod failure;
+mod laws;
 mod reply;
 mod request;
 mod route;
@@ -11,5 +12,6 @@ mod single;
 mod tag;
 mod write;
 
+pub use laws::{all_flags_agree_with_each, one_flag_is_looked_at, same_flags_have_the_same_tag};
 pub use reply::{Headers, Reply};
-pub use request::{Body, LONGEST_BODY, answer};
+pub use request::{Body, LONGEST_BODY, answer, answer_for, answer_over};

@@ -2,15 +2,17 @@
 
 ghost use Rattle.std.specs.Prelude.{◌≡◌, ◌<◌, ◌^◌, IfOk, option_map};
 ghost use Rattle.std.specs.Option.{option_copied};
-ghost use Rattle.fp_ofrep.specs.Reply.{evaluated as evaluated_by, posted as posted_by, reply, routed as routed_by};
+ghost use Rattle.fp_group_commit.specs.Tokens.{front_set};
+ghost use Rattle.fp_ofrep.specs.Reply.{evaluated as evaluated_by, posted as posted_by, reply, reply_for, routed as routed_by};
 ghost use Rattle.fp_ofrep.specs.Response.{empty as empty_response, not_allowed};
 ghost use Rattle.fp_ofrep.specs.Seen.{body_seen, route_seen, seen};
 
 use crate::bulk::evaluate_bulk;
 use crate::reply::{Headers, Reply};
 use crate::route::{Route, route_of};
-use crate::single::evaluate_single;
+use crate::single::{evaluate_key, evaluate_single};
 use fp_edit::FlagSet;
+use fp_publish::View;
 use http::{Method, StatusCode};
 use std::alloc::{AllocError, Global};
 
@@ -25,8 +27,41 @@ pub enum Body<'b> {
     TooLong,
 }
 
-/// The reply to a request, at a moment in seconds since 1970.
+/// The reply to a request over what is published, at a moment in seconds since 1970.
 pub fn answer(
+    alloc: Global,
+    view: &View<'_>,
+    method: &Method,
+    target: &str,
+    if_none_match: Option<&[u8]>,
+    body: Body<'_>,
+    now: u64,
+) -> Result<Reply, AllocError>
+    requires { now < 2 ^ 63 }
+    ensures { IfOk result (λ r. seen r
+        ≡ reply (front_set view.now) method.now target.now (option_copied if_none_match.entry)
+        (body_seen body.entry) now) }
+{
+    answer_over(alloc, view.set(), method, target, if_none_match, body, now)
+}
+
+/// The same for one flag by its key itself, where there is no path and no method.
+pub fn answer_for(
+    alloc: Global,
+    view: &View<'_>,
+    key: &str,
+    body: Body<'_>,
+    now: u64,
+) -> Result<Reply, AllocError>
+    requires { now < 2 ^ 63 }
+    ensures { IfOk result (λ r. seen r
+        ≡ reply_for (front_set view.now) key.now (body_seen body.entry) now) }
+{
+    posted(alloc, view.set(), Route::Key(key), None, body, now)
+}
+
+/// The same over any set of flags.
+pub fn answer_over(
     alloc: Global,
     set: &FlagSet,
     method: &Method,
@@ -105,6 +140,7 @@ fn evaluated(
     match route {
         Route::Bulk => evaluate_bulk(alloc, set, if_none_match, body, now),
         Route::Single(segment) => evaluate_single(alloc, set, segment, body, now),
+        Route::Key(text) => evaluate_key(alloc, set, text, body, now),
     }
 }
 

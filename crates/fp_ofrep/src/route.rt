@@ -1,4 +1,4 @@
-//! What a target asks for.
+//! What is asked for.
 
 ghost use Rattle.std.specs.Prelude.{◌≡◌, option_map};
 ghost use Rattle.fp_ofrep.specs.Route.{has_byte as has_byte_in, path_of as path_in, route_below as route_below_by, route_of as route_by};
@@ -13,6 +13,8 @@ pub enum Route<'t> {
     Bulk,
     /// One flag, by a segment of the path.
     Single(&'t [u8]),
+    /// One flag, by its key itself.
+    Key(&'t str),
 }
 
 /// What a target asks for, if anything stands there.

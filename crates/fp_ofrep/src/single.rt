@@ -52,7 +52,7 @@ fn decoded_reply(
     ensures { IfOk result (λ r. seen r ≡ decoded set.now key.now body.now now) }
 {
     match str::from_utf8(key) {
-        Ok(text) => keyed_reply(alloc, set, text, body, now),
+        Ok(text) => evaluate_key(alloc, set, text, body, now),
         Err(_) => broken_reply(alloc, key, body),
     }
 }
@@ -78,7 +78,8 @@ fn body_failure(alloc: Global, body: &[u8]) -> Result<Failure, AllocError>
     }
 }
 
-fn keyed_reply(
+/// The evaluation of the flag of a key.
+pub(crate) fn evaluate_key(
     alloc: Global,
     set: &FlagSet,
     text: &str,

@@ -9,7 +9,7 @@ use Rattle.fp_record.specs.Group.{Group}
 use Rattle.fp_base.specs.Steps.{◌>>=◌}
 use Rattle.fp_record.specs.Fields.{number_at, key_at, definition_at}
 use Rattle.fp_record.specs.WellFormed.{IsChange, IsBatch}
-use Rattle.fp_record.specs.Reading.{put_at, delete_at, change_at, changes_at, can_count, batch_at, batch_in}
+use Rattle.fp_record.specs.Reading.{put_at, delete_at, change_at, changes_at, can_count, count_at, batch_at, batch_in}
 use Rattle.fp_record.specs.Encoding.{encoding_of_key, encoding_of_definition, encoding_of_change, encoding_of_batch}
 use Rattle.fp_record.proofs.Keyed.{key_takes, key_again, definition_takes, definition_again}
 use Rattle.fp_record.proofs.Many.{Leads, many_take, many_again}
@@ -111,26 +111,38 @@ can_count_all first count e =
 can_count_back : (first count : ℕ) → 0 < count → count ≤ MOST_EDITS → first + count ≤ REVISIONS_END → can_count first count ≡ true
 can_count_back first count some few revisions = rw (le-leb 1 count some, le-leb count MOST_EDITS few, le-leb (first + count) REVISIONS_END revisions) refl
 
+count_takes : (first : ℕ) (bytes : List ℕ) (at : ℕ) (x : ℕ × ℕ) → IsBytes bytes → count_at first bytes at ≡ Ok x → Takes bytes at (to_be_bytes w16 x.0) x.1 × (0 < x.0) × (x.0 ≤ MOST_EDITS) × (first + x.0 ≤ REVISIONS_END)
+unfolding count_at
+count_takes first bytes at x fits e =
+    let a = bind_ok (number_at w16 bytes at) (λ count. cond (can_count first count.0) (Ok count) (Err at)) x e in
+    let m = met (can_count first a.0.0) at (Ok a.0) x a.2 in
+    let number = number_takes w16 (2 ^ 16) wide16 bytes at a.0 fits a.1 in
+    subst (λ (y : ℕ × ℕ). Takes bytes at (to_be_bytes w16 y.0) y.1 × (0 < y.0) × (y.0 ≤ MOST_EDITS) × (first + y.0 ≤ REVISIONS_END)) (ok_is a.0 x m.1) (let can = can_count_all first a.0.0 m.0 in (number.0, can.0, can.1, can.2))
+
+count_again : (first : ℕ) (bytes : List ℕ) (at count : ℕ) (rest : List ℕ) → 0 < count → count ≤ MOST_EDITS → first + count ≤ REVISIONS_END → From bytes at (to_be_bytes w16 count ++ rest) → (next : ℕ) × (count_at first bytes at ≡ Ok (count, next)) × From bytes next rest
+unfolding count_at
+count_again first bytes at count rest some few revisions h =
+    let n = number_again w16 (2 ^ 16) wide16 bytes at count rest (omega (arith, few)) h in
+    (n.0, rw (n.1, can_count_back first count some few revisions) (refl {a = Ok (count, n.0)}), n.2)
+
 pub batch_takes : (bytes : List ℕ) (x : Group × ℕ) → IsBytes bytes → batch_at bytes ≡ Ok x → Takes bytes 0 (encoding_of_batch x.0) x.1 × IsBatch x.0
 unfolding batch_at encoding_of_batch
 batch_takes bytes x fits e =
-    let a = bind_ok (number_at w64 bytes 0) (λ first. number_at w16 bytes first.1 >>= λ count. cond (can_count first.0 count.0) (changes_at count.0 bytes count.1) (Err first.1) >>= λ changes. Ok (record { first = first.0; changes = changes.0 }, changes.1)) x e in
+    let a = bind_ok (number_at w64 bytes 0) (λ first. count_at first.0 bytes first.1 >>= λ count. changes_at count.0 bytes count.1 >>= λ changes. Ok (record { first = first.0; changes = changes.0 }, changes.1)) x e in
     let first = a.0 in
-    let b = bind_ok (number_at w16 bytes first.1) (λ count. cond (can_count first.0 count.0) (changes_at count.0 bytes count.1) (Err first.1) >>= λ changes. Ok (record { first = first.0; changes = changes.0 }, changes.1)) x a.2 in
+    let b = bind_ok (count_at first.0 bytes first.1) (λ count. changes_at count.0 bytes count.1 >>= λ changes. Ok (record { first = first.0; changes = changes.0 }, changes.1)) x a.2 in
     let count = b.0 in
-    let c = bind_ok (cond (can_count first.0 count.0) (changes_at count.0 bytes count.1) (Err first.1)) (λ changes. Ok (record { first = first.0; changes = changes.0 }, changes.1)) x b.2 in
+    let c = bind_ok (changes_at count.0 bytes count.1) (λ changes. Ok (record { first = first.0; changes = changes.0 }, changes.1)) x b.2 in
     let changes = c.0 in
-    let g = met (can_count first.0 count.0) first.1 (changes_at count.0 bytes count.1) changes c.1 in
     let one = number_takes w64 (2 ^ 64) wide64 bytes 0 first fits a.1 in
-    let two = number_takes w16 (2 ^ 16) wide16 bytes first.1 count fits b.1 in
-    let three = changes_take bytes count.0 count.1 changes fits two.0.within g.1 in
+    let two = count_takes first.0 bytes first.1 count fits b.1 in
+    let three = changes_take bytes count.0 count.1 changes fits two.0.within c.1 in
     let counted : Takes bytes first.1 (to_be_bytes w16 (length changes.0)) count.1 = subst (λ (n : ℕ). Takes bytes first.1 (to_be_bytes w16 n) count.1) (sym {a = length changes.0} {b = count.0} three.1) two.0 in
     let behind = Takes-then bytes first.1 (to_be_bytes w16 (length changes.0)) count.1 (flat_map encoding_of_change changes.0) changes.1 counted three.0 in
     let all = Takes-then bytes 0 (to_be_bytes w64 first.0) first.1 (to_be_bytes w16 (length changes.0) ++ flat_map encoding_of_change changes.0) changes.1 one.0 behind in
-    let can = can_count_all first.0 count.0 g.0 in
     let made : Group × ℕ = (record { first = first.0; changes = changes.0 }, changes.1) in
     subst (λ (y : Group × ℕ). Takes bytes 0 (to_be_bytes w64 y.0.first ++ (to_be_bytes w16 (length y.0.changes) ++ flat_map encoding_of_change y.0.changes)) y.1 × IsBatch y.0) {x = made} {y = x} (ok_is made x c.2)
-    (all, record { some = omega (arith, three.1, can.0); few = omega (arith, three.1, can.1); revisions = omega (arith, three.1, can.2); changes = three.2 })
+    (all, record { some = omega (arith, three.1, two.1); few = omega (arith, three.1, two.2); revisions = omega (arith, three.1, two.3); changes = three.2 })
 
 pub batch_again : (bytes : List ℕ) (group : Group) (rest : List ℕ) → IsBatch group → bytes ≡ encoding_of_batch group ++ rest → (next : ℕ) × (batch_at bytes ≡ Ok (group, next)) × From bytes next rest
 unfolding batch_at encoding_of_batch
@@ -143,9 +155,9 @@ batch_again bytes group rest is e =
     let start : From bytes 0 (to_be_bytes w64 group.first ++ (to_be_bytes w16 count ++ (changes ++ rest))) =
     subst (λ (t : List ℕ). From bytes 0 t) (e ∙ append_assoc (to_be_bytes w64 group.first) (to_be_bytes w16 count ++ changes) rest ∙ ap (λ (t : List ℕ). to_be_bytes w64 group.first ++ t) (append_assoc (to_be_bytes w16 count) changes rest)) (From-start bytes) in
     let one = number_again w64 (2 ^ 64) wide64 bytes 0 group.first (to_be_bytes w16 count ++ (changes ++ rest)) (omega arith) start in
-    let two = number_again w16 (2 ^ 16) wide16 bytes one.0 count (changes ++ rest) (omega arith) one.2 in
+    let two = count_again group.first bytes one.0 count (changes ++ rest) some few revisions one.2 in
     let three = changes_again bytes two.0 group.changes rest is.changes two.2 in
-    (three.0, rw (one.1, two.1, can_count_back group.first count some few revisions, three.1) (refl {a = Ok (group, three.0)}), three.2)
+    (three.0, rw (one.1, two.1, three.1) (refl {a = Ok (group, three.0)}), three.2)
 
 -- ---- the whole input
 

@@ -38,7 +38,7 @@ length-encoding_of_flag flag =
     let text = encoding_of_definition flag.1.definition in
     omega (arith, length-append (encoding_of_key flag.0) (to_be_bytes w64 flag.1.changed ++ text), length-append (to_be_bytes w64 flag.1.changed) text, length-encoding_of_key flag.0, length-encoding_of_definition flag.1.definition)
 
-length-flags : (flags : List (List ℕ × Flag)) → length (flat_map encoding_of_flag flags) ≡ total_cost flags
+pub length-flags : (flags : List (List ℕ × Flag)) → length (flat_map encoding_of_flag flags) ≡ total_cost flags
 length-flags [] = refl
 length-flags (flag ∷ flags) = rw flat_map-cons (omega (arith, length-append (encoding_of_flag flag) (flat_map encoding_of_flag flags), length-encoding_of_flag flag, length-flags flags))
 

@@ -1,5 +1,6 @@
 pub mod Batches
 pub mod Images
+pub mod Inside
 pub mod Keyed
 pub mod Lengths
 pub mod Loop

@@ -1,5 +1,5 @@
 -- One after the other: what is read so is spelled so, and what is spelled so is read.
-use Rattle.std.proofs.Common.{◌≡◌, ℕ, zero, suc, ◌≤◌, List, [], ◌∷◌, ◌++◌, length, Result, Ok, refl, ap, subst, ◌∙◌, append_assoc}
+use Rattle.std.proofs.Common.{◌≡◌, ℕ, zero, suc, ◌<◌, ◌≤◌, List, [], ◌∷◌, ◌++◌, length, Result, Ok, Err, refl, ap, subst, ◌∙◌, append_assoc, arith}
 use Rattle.std.specs.List.{flat_map}
 use Rattle.std.proofs.lemmas.List.Concat.{flat_map-cons}
 use Rattle.fp_base.specs.Steps.{◌>>=◌}
@@ -41,3 +41,43 @@ many_again bytes step place spelling Can one_again (a ∷ all) s rest can h =
     let one = one_again s a all (flat_map spelling all ++ rest) can (subst (λ (t : List ℕ). From bytes (place s) t) regrouped h) in
     let others = many_again bytes step place spelling Can one_again all one.0 rest one.3 one.2 in
     (others.0, rw (one.1, others.1) (refl {a = Ok (a ∷ all, others.0)}), others.2)
+
+-- one, and those behind it
+pub many_next : {A S : Type 0} (step : S → Result (A × S) ℕ) (n : ℕ) (s : S) (one : A × S) (others : List A × S) → step s ≡ Ok one → many_from step n one.1 ≡ Ok others → many_from step (suc n) s ≡ Ok (one.0 ∷ others.0, others.1)
+unfolding many_from
+many_next step n s one others e h = rw (e, h) (refl {a = Ok (one.0 ∷ others.0, others.1)})
+
+next_stops : {A S : Type 0} (step : S → Result (A × S) ℕ) (n : ℕ) (s : S) (one : A × S) (at : ℕ) → step s ≡ Ok one → many_from step n one.1 ≡ Err at → many_from step (suc n) s ≡ Err at
+unfolding many_from
+next_stops step n s one at e h = rw (e, h) (refl {a = Err at})
+
+-- one more behind those that were read
+pub many_more : {A S : Type 0} (step : S → Result (A × S) ℕ) (n : ℕ) (s : S) (x : List A × S) (y : A × S) → many_from step n s ≡ Ok x → step x.1 ≡ Ok y → many_from step (suc n) s ≡ Ok (x.0 ++ y.0 ∷ [], y.1)
+unfolding many_from
+many_more {A = A} {S = S} step zero s x y e h =
+    let start : List A × S = ([], s) in
+    let none : List A × S = ([], y.1) in
+    let Steps : List A × S → Type 0 = λ z. step z.1 ≡ Ok y → many_from step (suc zero) s ≡ Ok (z.0 ++ y.0 ∷ [], y.1) in
+    subst Steps (ok_is start x e) (λ one. many_next step zero s y none one refl) h
+many_more {A = A} {S = S} step (suc n) s x y e h =
+    let a = bind_ok (step s) (λ one. many_from step n one.1 >>= λ others. Ok (one.0 ∷ others.0, others.1)) x e in
+    let b = bind_ok (many_from step n a.0.1) (λ others. Ok (a.0.0 ∷ others.0, others.1)) x a.2 in
+    let made : List A × S = (a.0.0 ∷ b.0.0, b.0.1) in
+    let more : List A × S = (b.0.0 ++ y.0 ∷ [], y.1) in
+    let Steps : List A × S → Type 0 = λ z. step z.1 ≡ Ok y → many_from step (suc (suc n)) s ≡ Ok (z.0 ++ y.0 ∷ [], y.1) in
+    subst Steps (ok_is made x b.2) (λ one. many_next step (suc n) s a.0 more a.1 (many_more step n a.0.1 b.0 y b.1 one)) h
+
+-- where the one behind those that were read isn't there, no more are
+pub many_stops : {A S : Type 0} (step : S → Result (A × S) ℕ) (n count : ℕ) (s : S) (x : List A × S) (at : ℕ) → n < count → many_from step n s ≡ Ok x → step x.1 ≡ Err at → many_from step count s ≡ Err at
+unfolding many_from
+many_stops step n zero s x at lt e h = absurd (omega (arith, lt))
+many_stops {A = A} {S = S} step zero (suc count) s x at lt e h =
+    let start : List A × S = ([], s) in
+    let Steps : List A × S → Type 0 = λ z. step z.1 ≡ Err at → many_from step (suc count) s ≡ Err at in
+    subst Steps (ok_is start x e) (λ one. rw one (refl {a = Err at})) h
+many_stops {A = A} {S = S} step (suc n) (suc count) s x at lt e h =
+    let a = bind_ok (step s) (λ one. many_from step n one.1 >>= λ others. Ok (one.0 ∷ others.0, others.1)) x e in
+    let b = bind_ok (many_from step n a.0.1) (λ others. Ok (a.0.0 ∷ others.0, others.1)) x a.2 in
+    let made : List A × S = (a.0.0 ∷ b.0.0, b.0.1) in
+    let Steps : List A × S → Type 0 = λ z. step z.1 ≡ Err at → many_from step (suc count) s ≡ Err at in
+    subst Steps (ok_is made x b.2) (λ one. next_stops step count s a.0 at a.1 (many_stops step n count a.0.1 b.0 at (omega (arith, lt)) b.1 one)) h

@@ -1,5 +1,5 @@
 -- Reading batches and images forward, field by field.
-use Rattle.std.specs.Prelude.{ℕ, zero, suc, ◌+◌, Bool, ◌&&◌, List, [], ◌∷◌, length, nat_le, ◌==◌, Result, Ok, Err, if◌then◌else◌}
+use Rattle.std.specs.Prelude.{ℕ, zero, suc, ◌+◌, ◌-◌, ◌^◌, Bool, ◌&&◌, List, [], ◌∷◌, length, nat_le, ◌==◌, Result, Ok, Err, if◌then◌else◌}
 use Rattle.std.specs.Int.{w8, w16, w32, w64}
 use Rattle.std.specs.Ordering.{is_lt}
 use Rattle.fp_base.specs.Bytes.{bytes_cmp}
@@ -45,12 +45,18 @@ abbrev pub can_count : ℕ → ℕ → Bool
 can_count first count =
     nat_le 1 count && nat_le count MOST_EDITS && nat_le (first + count) REVISIONS_END
 
+-- how many changes there are, behind that first revision
+unfoldable pub count_at : ℕ → List ℕ → ℕ → Result (ℕ × ℕ) ℕ
+count_at first bytes at = do
+  count ← number_at w16 bytes at
+  if can_count first count.0 then Ok count else Err at
+
 -- the batch at the front, and where it ends
 unfoldable pub batch_at : List ℕ → Result (Group × ℕ) ℕ
 batch_at bytes = do
   first ← number_at w64 bytes 0
-  count ← number_at w16 bytes first.1
-  changes ← if can_count first.0 count.0 then changes_at count.0 bytes count.1 else Err first.1
+  count ← count_at first.0 bytes first.1
+  changes ← changes_at count.0 bytes count.1
   Ok (record { first = first.0; changes = changes.0 }, changes.1)
 
 -- what was read, where nothing is left over
@@ -69,31 +75,43 @@ key_above_at before bytes at = do
   key ← key_at bytes at
   if is_lt (bytes_cmp before key.0) then Ok key else Err (at + 2)
 
--- the revision of a flag's last put, from 1 on
-unfoldable pub changed_at : List ℕ → ℕ → Result (ℕ × ℕ) ℕ
-changed_at bytes at = do
+-- the revision of a flag's last put, from 1 on and up to the newest that there may be
+unfoldable pub changed_at : ℕ → List ℕ → ℕ → Result (ℕ × ℕ) ℕ
+changed_at newest bytes at = do
   changed ← number_at w64 bytes at
-  if nat_le 1 changed.0 then Ok changed else Err at
+  if nat_le 1 changed.0 && nat_le changed.0 newest then Ok changed else Err at
 
 -- a flag, from the key before and an offset on to its own key and the offset behind it
-unfoldable pub flag_at : List ℕ → List ℕ × ℕ → Result ((List ℕ × Flag) × (List ℕ × ℕ)) ℕ
-flag_at bytes from = do
+unfoldable pub flag_at :
+    ℕ → List ℕ → List ℕ × ℕ → Result ((List ℕ × Flag) × (List ℕ × ℕ)) ℕ
+flag_at newest bytes from = do
   key ← key_above_at from.0 bytes from.1
-  changed ← changed_at bytes key.1
+  changed ← changed_at newest bytes key.1
   text ← definition_at bytes changed.1
   Ok ((key.0, record { definition = text.0; changed = changed.0 }), (key.0, text.1))
 
 -- that many flags; each key is above the one of no bytes
-unfoldable pub flags_at : ℕ → List ℕ → ℕ → Result (List (List ℕ × Flag) × ℕ) ℕ
-flags_at count bytes at = do
-  flags ← many_from (flag_at bytes) count ([], at)
+unfoldable pub flags_at : ℕ → ℕ → List ℕ → ℕ → Result (List (List ℕ × Flag) × ℕ) ℕ
+flags_at newest count bytes at = do
+  flags ← many_from (flag_at newest bytes) count ([], at)
   Ok (flags.0, flags.1.1)
 
--- the image at the front, and where it ends
-unfoldable pub image_at : List ℕ → Result (List (List ℕ × Flag) × ℕ) ℕ
-image_at bytes = do
+-- how many flags there are
+unfoldable pub flag_count : List ℕ → Result (ℕ × ℕ) ℕ
+flag_count bytes = do
   count ← number_at w32 bytes 0
-  if nat_le count.0 MOST_FLAGS then flags_at count.0 bytes count.1 else Err 0
+  if nat_le count.0 MOST_FLAGS then Ok count else Err 0
 
-unfoldable pub image_in : List ℕ → Result (List (List ℕ × Flag)) ℕ
-image_in bytes = whole bytes (image_at bytes)
+-- the image at the front, whose flags were changed at the newest revision or before, and where it
+-- ends
+unfoldable pub image_at : ℕ → List ℕ → Result (List (List ℕ × Flag) × ℕ) ℕ
+image_at newest bytes = do
+  count ← flag_count bytes
+  flags_at newest count.0 bytes count.1
+
+unfoldable pub image_in : ℕ → List ℕ → Result (List (List ℕ × Flag)) ℕ
+image_in newest bytes = whole bytes (image_at newest bytes)
+
+-- the greatest number that eight bytes can tell: up to it, no revision is too new
+abbrev pub any_revision : ℕ
+any_revision = 2 ^ 64 - 1

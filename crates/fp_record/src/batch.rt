@@ -3,12 +3,14 @@
 ghost use Rattle.std.specs.Prelude.{◌≡◌, ◌+◌, ◌<◌, ◌≤◌, ◌^◌, ◌++◌, ◌⊎◌, length, vec_len, IfOk, OnOk, Ok, Err};
 ghost use Rattle.std.specs.List.{AllByRecursion};
 ghost use Rattle.fp_base.specs.Answer.{Gives};
+ghost use Rattle.fp_edit.specs.Edits.{proposal_of};
+ghost use Rattle.fp_edit.specs.Following.{unconditional};
 ghost use Rattle.fp_record.specs.Group.{Group};
 ghost use Rattle.fp_record.specs.Edits.{change_of, changes_of};
 ghost use Rattle.fp_record.specs.Fields.{Tells};
 ghost use Rattle.fp_record.specs.declared.fault.RecordFault.TheVariants.{Memory};
 ghost use Rattle.fp_record.specs.WellFormed.{IsBatch, IsChange};
-ghost use Rattle.fp_record.specs.Reading.{change_at, put_at, delete_at, changes_at, batch_at, batch_in};
+ghost use Rattle.fp_record.specs.Reading.{change_at, put_at, delete_at, changes_at, count_at, batch_at, batch_in};
 ghost use Rattle.fp_record.specs.Encoding.{encoding_of_batch, encoding_of_change};
 
 use crate::fault::RecordFault;
@@ -152,6 +154,7 @@ fn spelled(alloc: Global, first: u64, edits: &[Edit]) -> Result<Vec<u8>, AllocEr
 #[tactic(auto, unfolding(crate::specs::Reading::put_at))]
 fn put_from(alloc: Global, bytes: &[u8], at: usize) -> Result<(Edit, usize), RecordFault>
     requires { at ≤ length bytes.now }
+    ensures free { IfOk result (λ x. proposal_of x.0 ≡ unconditional (change_of x.0)) }
     ensures value { Gives (λ x. (change_of x.0, x.1)) Tells result (put_at bytes.now at) }
     ensures within { IfOk result (λ x. x.1 ≤ length bytes.now) }
 {
@@ -164,6 +167,7 @@ fn put_from(alloc: Global, bytes: &[u8], at: usize) -> Result<(Edit, usize), Rec
 #[tactic(auto, unfolding(crate::specs::Reading::delete_at))]
 fn delete_from(alloc: Global, bytes: &[u8], at: usize) -> Result<(Edit, usize), RecordFault>
     requires { at ≤ length bytes.now }
+    ensures free { IfOk result (λ x. proposal_of x.0 ≡ unconditional (change_of x.0)) }
     ensures value { Gives (λ x. (change_of x.0, x.1)) Tells result (delete_at bytes.now at) }
     ensures within { IfOk result (λ x. x.1 ≤ length bytes.now) }
 {
@@ -172,9 +176,11 @@ fn delete_from(alloc: Global, bytes: &[u8], at: usize) -> Result<(Edit, usize), 
     Ok((Edit::Delete { key, expect }, next))
 }
 
+/// The edit at this place, by an editor that expects nothing, and the place behind it.
 #[tactic(auto, unfolding(crate::specs::Reading::change_at))]
-fn edit_from(alloc: Global, bytes: &[u8], at: usize) -> Result<(Edit, usize), RecordFault>
+pub fn edit_from(alloc: Global, bytes: &[u8], at: usize) -> Result<(Edit, usize), RecordFault>
     requires { at ≤ length bytes.now }
+    ensures free { IfOk result (λ x. proposal_of x.0 ≡ unconditional (change_of x.0)) }
     ensures value { Gives (λ x. (change_of x.0, x.1)) Tells result (change_at bytes.now at) }
     ensures within { IfOk result (λ x. x.1 ≤ length bytes.now) }
 {
@@ -208,17 +214,29 @@ fn edits_from(
     Ok((edits, place))
 }
 
+/// How many edits a batch has, behind that first revision, and the place of the first.
+#[tactic(auto, unfolding(crate::specs::Reading::count_at))]
+pub fn count_from(bytes: &[u8], first: u64, at: usize) -> Result<(u16, usize), RecordFault>
+    requires { at ≤ length bytes.now }
+    ensures value { Gives (λ x. x) Tells result (count_at first bytes.now at) }
+    ensures within { IfOk result (λ x. x.1 ≤ length bytes.now) }
+    ensures some { IfOk result (λ x. (0 < x.0) × (x.0 ≤ MOST_EDITS) × (first + x.0 ≤ REVISIONS_END)) }
+{
+    let (count, next) = u16_at(bytes, at)?;
+    if count == 0 || count as usize > MOST_EDITS || first > REVISIONS_END - count as u64 {
+        return Err(RecordFault::BadRecord { at });
+    }
+    Ok((count, next))
+}
+
 #[tactic(auto, unfolding(crate::specs::Reading::batch_at))]
 fn batch_from(alloc: Global, bytes: &[u8]) -> Result<(Batch, usize), RecordFault>
     ensures value { Gives (λ x. x) Tells result (batch_at bytes.now) }
     ensures within { IfOk result (λ x. x.1 ≤ length bytes.now) }
 {
-    let (first, count_at) = u64_at(bytes, 0)?;
-    let (count, next) = u16_at(bytes, count_at)?;
-    if count == 0 || count as usize > MOST_EDITS || first > REVISIONS_END - count as u64 {
-        return Err(RecordFault::BadRecord { at: count_at });
-    }
-    let (edits, next) = edits_from(alloc, bytes, count, next)?;
+    let (first, at) = u64_at(bytes, 0)?;
+    let (count, at) = count_from(bytes, first, at)?;
+    let (edits, next) = edits_from(alloc, bytes, count, at)?;
     Ok((Batch { first, edits }, next))
 }
 

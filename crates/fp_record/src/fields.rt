@@ -46,6 +46,7 @@ pub fn u32_at(bytes: &[u8], at: usize) -> Result<(u32, usize), RecordFault>
     Ok((number, at + 4))
 }
 
+/// The number in the eight bytes from this place on, and the place behind it.
 pub fn u64_at(bytes: &[u8], at: usize) -> Result<(u64, usize), RecordFault>
     requires { at ≤ length bytes.now }
     ensures value { Gives (λ x. x) Tells result (number_at w64 bytes.now at) }

@@ -13,7 +13,7 @@ ghost use Rattle.fp_edit.specs.declared.flags.Flag.{Flag};
 ghost use Rattle.fp_record.specs.declared.fault.RecordFault.TheVariants.{Memory};
 ghost use Rattle.fp_record.specs.Fields.{Tells, key_at};
 ghost use Rattle.fp_record.specs.WellFormed.{IsFlag, IsImage, IsOrdered};
-ghost use Rattle.fp_record.specs.Reading.{key_above_at, changed_at, flag_at, flags_at, image_at, image_in};
+ghost use Rattle.fp_record.specs.Reading.{any_revision, changed_at, flag_at, flag_count, flags_at, image_at, image_in, key_above_at};
 ghost use Rattle.fp_record.specs.Encoding.{encoding_of_image, encoding_of_flag};
 
 use crate::fault::RecordFault;
@@ -96,7 +96,8 @@ impl Image {
         ensures found { (image : List (List ℕ × Flag)) → IsImage image
             → bytes.now ≡ encoding_of_image image → (result ≡ Ok image) ⊎ (result ≡ Err Memory) }
         // Where the first fault is.
-        ensures place { Gives (λ image. image) Tells result (image_in bytes.now) }
+        ensures place { Gives (λ image. image) Tells result
+            (image_in any_revision bytes.now) }
     {
         whole_image(alloc, bytes)
     }
@@ -173,40 +174,43 @@ fn key_text_above<'a>(
 }
 
 #[tactic(auto, unfolding(crate::specs::Reading::changed_at))]
-fn changed_from(bytes: &[u8], at: usize) -> Result<(u64, usize), RecordFault>
+fn changed_from(bytes: &[u8], newest: u64, at: usize) -> Result<(u64, usize), RecordFault>
     requires { at ≤ length bytes.now }
-    ensures value { Gives (λ x. x) Tells result (changed_at bytes.now at) }
+    ensures value { Gives (λ x. x) Tells result (changed_at newest bytes.now at) }
     ensures within { IfOk result (λ x. x.1 ≤ length bytes.now) }
 {
     let (changed, next) = u64_at(bytes, at)?;
-    if changed == 0 {
+    if changed == 0 || changed > newest {
         return Err(RecordFault::BadRecord { at });
     }
     Ok((changed, next))
 }
 
-/// A flag that was read, its key's text, and the offset behind it.
+/// A flag that was read, its key's text, and the place behind it.
 #[derive(Drop)]
-struct Found<'a> {
-    flag: (FlagKey, Flag),
-    text: &'a str,
-    next: usize,
+pub struct FoundFlag<'a> {
+    pub flag: (FlagKey, Flag),
+    pub text: &'a str,
+    pub next: usize,
 }
 
+/// The flag at this place, under a key above the one before, changed at the newest revision or
+/// before.
 #[tactic(auto, unfolding(crate::specs::Reading::flag_at))]
-fn flag_from<'a>(
+pub fn flag_from<'a>(
     alloc: Global,
     bytes: &'a [u8],
+    newest: u64,
     before: &[u8],
     at: usize,
-) -> Result<Found<'a>, RecordFault>
+) -> Result<FoundFlag<'a>, RecordFault>
     requires { at ≤ length bytes.now }
     ensures value { Gives (λ x. (entry_of x.flag, (x.text.now, x.next))) Tells result
-        (flag_at bytes.now (before.now, at)) }
+        (flag_at newest bytes.now (before.now, at)) }
     ensures within { IfOk result (λ x. x.next ≤ length bytes.now) }
 {
     let (text, next) = key_text_above(bytes, before, at)?;
-    let (changed, next) = changed_from(bytes, next)?;
+    let (changed, next) = changed_from(bytes, newest, next)?;
     let (definition, next) = definition_from(alloc, bytes, next)?;
     let key = key_of(alloc, text)?;
     let flag = (
@@ -216,18 +220,19 @@ fn flag_from<'a>(
             changed,
         },
     );
-    Ok(Found { flag, text, next })
+    Ok(FoundFlag { flag, text, next })
 }
 
 fn flags_from(
     alloc: Global,
     bytes: &[u8],
+    newest: u64,
     count: u32,
     at: usize,
 ) -> Result<(Vec<(FlagKey, Flag)>, usize), RecordFault>
     requires { at ≤ length bytes.now }
     ensures value { Gives (λ x. (entries_of x.0.items, x.1)) Tells result
-        (flags_at count bytes.now at) }
+        (flags_at newest count bytes.now at) }
     ensures count { IfOk result (λ x. length x.0.items ≡ count) }
     ensures within { IfOk result (λ x. x.1 ≤ length bytes.now) }
 {
@@ -235,7 +240,7 @@ fn flags_from(
     let mut before: &[u8] = &[];
     let mut place = at;
     for _ in 0..count {
-        let found = flag_from(alloc, bytes, before, place)?;
+        let found = flag_from(alloc, bytes, newest, before, place)?;
         flags.push(found.flag)?;
         before = found.text.as_bytes();
         place = found.next;
@@ -243,22 +248,33 @@ fn flags_from(
     Ok((flags, place))
 }
 
-#[tactic(auto, unfolding(crate::specs::Reading::image_at))]
-fn image_from(alloc: Global, bytes: &[u8]) -> Result<(Image, usize), RecordFault>
-    ensures value { Gives (λ x. x) Tells result (image_at bytes.now) }
+/// How many flags an image has, and the place of the first.
+#[tactic(auto, unfolding(crate::specs::Reading::flag_count))]
+pub fn flag_count_from(bytes: &[u8]) -> Result<(u32, usize), RecordFault>
+    ensures value { Gives (λ x. x) Tells result (flag_count bytes.now) }
     ensures within { IfOk result (λ x. x.1 ≤ length bytes.now) }
+    ensures few { IfOk result (λ x. x.0 ≤ MOST_FLAGS) }
 {
     let (count, next) = u32_at(bytes, 0)?;
     if count as usize > MOST_FLAGS {
         return Err(RecordFault::BadRecord { at: 0 });
     }
-    let (flags, next) = flags_from(alloc, bytes, count, next)?;
+    Ok((count, next))
+}
+
+#[tactic(auto, unfolding(crate::specs::Reading::image_at))]
+fn image_from(alloc: Global, bytes: &[u8]) -> Result<(Image, usize), RecordFault>
+    ensures value { Gives (λ x. x) Tells result (image_at any_revision bytes.now) }
+    ensures within { IfOk result (λ x. x.1 ≤ length bytes.now) }
+{
+    let (count, at) = flag_count_from(bytes)?;
+    let (flags, next) = flags_from(alloc, bytes, u64::MAX, count, at)?;
     Ok((Image { flags }, next))
 }
 
 #[tactic(auto, unfolding(crate::specs::Reading::image_in))]
 fn whole_image(alloc: Global, bytes: &[u8]) -> Result<Image, RecordFault>
-    ensures { Gives (λ image. image) Tells result (image_in bytes.now) }
+    ensures { Gives (λ image. image) Tells result (image_in any_revision bytes.now) }
 {
     let (image, next) = image_from(alloc, bytes)?;
     if next < bytes.len() {

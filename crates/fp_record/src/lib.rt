@@ -8,9 +8,10 @@ mod image;
 mod laws;
 mod writing;
 
-pub use batch::{Batch, LONGEST_EDIT, MOST_EDITS, encoded_len};
+pub use batch::{Batch, LONGEST_EDIT, MOST_EDITS, count_from, edit_from, encoded_len};
 pub use fault::RecordFault;
-pub use image::Image;
+pub use fields::u64_at;
+pub use image::{FoundFlag, Image, flag_count_from, flag_from};
 pub use laws::{
     batches_stand_alone, batches_take_their_changes, images_stand_alone,
     images_take_their_sets_size,

@@ -1,6 +1,9 @@
 pub mod Cases
 pub mod Restored
+pub mod Read
+pub mod Flags
 pub mod Agreed
 pub mod Kept
 pub mod One
 pub mod Refused
+pub mod OneFault

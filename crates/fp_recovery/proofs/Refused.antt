@@ -1,6 +1,7 @@
 -- Bytes that stand for a set aren't refused.
 use Rattle.std.proofs.Common.{◌≡◌, ◌⊎◌, ◌<◌, ◌≤◌, ◌+◌, ◌/◌, ◌^◌, ℕ, List, [], ◌∷◌, ◌++◌, length, refl, sym, ap, subst, ◌∙◌, inl, inr, arith, length-append, add-zero}
-use Rattle.std.specs.Prelude.{slice_index}
+use Rattle.std.specs.Prelude.{slice_index, Result, Ok, Err}
+use Rattle.std.specs.FinMap as fin
 use Rattle.std.specs.Int.{w32, w64, to_be_bytes}
 use Rattle.fp_edit.specs.Flags.{State}
 use Rattle.fp_journal.specs.Holds.{Holds}
@@ -16,9 +17,15 @@ use Rattle.fp_layout.specs.Opening.{BreaksFront, in_header, in_slot, in_image, B
 use Rattle.fp_layout.specs.declared.fault.OpenFault.{OpenFault}
 use Rattle.fp_layout.specs.declared.fault.OpenFault.TheVariants.{Unformatted, UnknownVersion, Damaged, Device, Memory}
 use Rattle.fp_recovery.specs.Stands.{IsImageOf, TakesBatch, StandsFor}
+use Rattle.fp_recovery.specs.Reading.{image_under, batch_onto}
 use Rattle.fp_recovery.specs.Refusals.{BeginsWith, RejectsImage, RefusesBatch, RefusesBytes, IsUnlessWanting, nothing_read}
+use Rattle.fp_recovery.proofs.Read.{image_back, batch_back}
 use Rattle.fp_recovery.proofs.One.{number32_one, number64_one, size_one, front_one, image_one, reads_one}
 use Rattle.fp_gate.specs.declared.gate.TheConstants.{OPEN}
+
+-- what is read isn't refused
+pub apart : {A : Type 0} (r : Result A ℕ) (x : A) (at : ℕ) → r ≡ Ok x → r ≡ Err at → ⊥
+apart {A = A} r x at read refused = let both : Ok x ≡ Err at = sym read ∙ refused in absurd cc
 
 -- ---- a chain and what was read of it
 pub chain_after : (most at stop : ℕ) (bodies bs : List (List ℕ)) (c : List ℕ) → most < 2 ^ 32 → Holds c at (spell bodies) → AllShort most bodies → IsChain most at stop bs c
@@ -69,42 +76,44 @@ chain_read most at stop k c first s bs small chain reads stops =
         let t = chain_opened most stops.gate stop rest c (byte_held c stops.gate OPEN (framed body) n.holds) here in let fits = t.3.short in let fits_b = n.short in
         let same : t.0 ≡ body = same_body c stops.gate t.0 body t.3.holds (omega (arith, fits, small)) n.holds (omega (arith, fits_b, small)) in
         let r : Reads TakesBatch stops.last (t.0 ∷ t.1) s = subst (λ (l : List (List ℕ)). Reads TakesBatch stops.last l s) t.2 left in
-        refuses r.0 (subst (λ (x : List ℕ). TakesBatch stops.last x r.0) same r.1)
+        apart (batch_onto stops.last body) r.0 offset (batch_back stops.last r.0 body (subst (λ (x : List ℕ). TakesBatch stops.last x r.0) same r.1)) refuses
 
     by_fault : (rest : List (List ℕ)) → IsChain most stops.gate stop rest c → Reads TakesBatch stops.last rest s
         → Breaks most stop c stops.gate k ⊎ ((body : List ℕ) × (next : ℕ) × (offset : ℕ) × IsNext most stops.gate stop body next c × RefusesBatch stops.last body offset × (k ≡ stops.gate + 5 + offset)) → ⊥
     by_fault rest here left (inl broken) = chain_sound most stops.gate stop k rest c small here broken
     by_fault rest here left (inr f) = next_refused rest here left f.0 f.1 f.2 f.3 f.4
 
+-- ---- the parts of a disk
+module _ (c : List ℕ) (whole : ℕ) (there : IsHeader c whole) where
+  pub header_sound : (size k : ℕ) → size < 2 ^ 64 → Holds c 10 (to_be_bytes w64 size) → BreaksHeader c size k → ⊥
+  header_sound size k small text broken = let large = there.allowed.greatest in by_case (number64_one c 10 size whole text small there.size_text (omega (arith, large))) broken
+    where
+      by_case : size ≡ whole → BreaksHeader c size k → ⊥
+      by_case same (bad_size none is) = none (subst IsSlotSize (sym same) there.allowed)
+      by_case same (not_zero allowed other) = other.other (there.zeros k other.after other.before)
+      by_case same (too_short allowed zeros short is) = let long = there.long in omega (arith, short, long, same)
+
+  pub slot_sound : (generation first : ℕ) (image : List ℕ) (size k : ℕ) → IsFirstSlot c whole generation first image → IsHeader c size → BreaksFirstSlot c size k → ⊥
+  slot_sound generation first image size k slot header (other_open is at_is) = slot.other (ap (λ (n : ℕ). slice_index c (64 + n)) (size_one c whole size there header) ∙ is)
+  slot_sound generation first image size k slot header (none_open closed shut at_is) = shut slot.gate
+  slot_sound generation first image size k slot header (bad_version closed gate bad at_is) = bad slot.version
+  slot_sound generation first image size k slot header (bad_base closed gate version base text large small at_is) =
+      let low = slot.base_small in let same = number64_one c 74 base first text small slot.base_text (omega (arith, low)) in omega (arith, same, low, large)
+  slot_sound generation first image size k slot header (bad_length closed gate version base len base_text base_small text large small at_is) =
+      let greatest = there.allowed.greatest in let short = slot.image_small in let size_is = size_one c size whole header there in
+      let same = number32_one c 82 len (length image) text small slot.length_text (omega (arith, greatest, short)) in omega (arith, same, short, large, size_is)
+
 -- ---- the parts of a disk that stands for a set
 module _ (c : List ℕ) (s : State) (p : StandsFor c s) where
-  header_sound : (size k : ℕ) → size < 2 ^ 64 → Holds c 10 (to_be_bytes w64 size) → BreaksHeader c size k → ⊥
-  header_sound size k small text broken = let large = p.header.allowed.greatest in by_case (number64_one c 10 size p.size text small p.header.size_text (omega (arith, large))) broken
-    where
-      by_case : size ≡ p.size → BreaksHeader c size k → ⊥
-      by_case same (bad_size none is) = none (subst IsSlotSize (sym same) p.header.allowed)
-      by_case same (not_zero allowed other) = other.other (p.header.zeros k other.after other.before)
-      by_case same (too_short allowed zeros short is) = let long = p.header.long in omega (arith, short, long, same)
-
-  slot_sound : (size k : ℕ) → IsHeader c size → BreaksFirstSlot c size k → ⊥
-  slot_sound size k header (other_open is at_is) = p.slot.other (ap (λ (n : ℕ). slice_index c (64 + n)) (size_one c p.size size p.header header) ∙ is)
-  slot_sound size k header (none_open closed shut at_is) = shut p.slot.gate
-  slot_sound size k header (bad_version closed gate bad at_is) = bad p.slot.version
-  slot_sound size k header (bad_base closed gate version base text large small at_is) =
-      let low = p.slot.base_small in let same = number64_one c 74 base p.base text small p.slot.base_text (omega (arith, low)) in omega (arith, same, low, large)
-  slot_sound size k header (bad_length closed gate version base len base_text base_small text large small at_is) =
-      let greatest = p.header.allowed.greatest in let short = p.slot.image_small in let size_is = size_one c size p.size header p.header in
-      let same = number32_one c 82 len (length p.image) text small p.slot.length_text (omega (arith, greatest, short)) in omega (arith, same, short, large, size_is)
-
   image_there : (size generation base : ℕ) (image : List ℕ) → IsHeader c size → IsFirstSlot c size generation base image → IsImageOf base (size / 2) image p.first
   image_there size generation base image header slot =
       let f = front_one c p.size p.generation p.base p.image size generation base image p.header p.slot header slot in
       subst (λ (i : List ℕ). IsImageOf base (size / 2) i p.first) f.image_is (subst (λ (b : ℕ). IsImageOf b (size / 2) p.image p.first) f.base_is (subst (λ (z : ℕ). IsImageOf p.base (z / 2) p.image p.first) f.size_is p.image_is))
 
   front_sound : (before : State) (k : ℕ) → BreaksFront RejectsImage c before k → ⊥
-  front_sound before k (in_header r) = header_sound r.2.0 k r.2.1 r.2.2 r.2.3
-  front_sound before k (in_slot size header broken) = slot_sound size k header broken
-  front_sound before k (in_image size generation base image offset header slot rejects at_is) = rejects p.first (image_there size generation base image header slot)
+  front_sound before k (in_header r) = header_sound c p.size p.header r.2.0 k r.2.1 r.2.2 r.2.3
+  front_sound before k (in_slot size header broken) = slot_sound c p.size p.header p.generation p.base p.image size k p.slot header broken
+  front_sound before k (in_image size generation base image offset header slot rejects at_is) = apart (image_under base (size / 2) image) (fin.entries p.first.flags) offset (image_back base (size / 2) image p.first (image_there size generation base image header slot)) rejects
 
   disk_sound : (before : State) (k : ℕ) → BreaksDisk BeginsWith RejectsImage TakesBatch RefusesBatch c before k → ⊥
   disk_sound before k (in_front broken) = front_sound before k broken

@@ -1,29 +1,40 @@
 -- What is read of a disk, and what is refused there.
-use Rattle.std.specs.Prelude.{ℕ, List}
+use Rattle.std.specs.Prelude.{◌≡◌, ℕ, List, Err}
 use Rattle.std.specs.FinMap as map
 use Rattle.fp_edit.specs.Flags.{State}
+use Rattle.fp_journal.specs.declared.chain.BodyFault.{BodyFault}
+use Rattle.fp_journal.specs.declared.chain.BodyFault.TheVariants as body
 use Rattle.fp_layout.specs.Opening.{RefusesDisk}
 use Rattle.fp_layout.specs.declared.fault.OpenFault.{OpenFault}
 use Rattle.fp_layout.specs.declared.fault.OpenFault.TheVariants.{Unformatted, UnknownVersion, Damaged, Device, Memory}
+use Rattle.fp_record.specs.declared.fault.RecordFault.{RecordFault}
+use Rattle.fp_record.specs.declared.fault.RecordFault.TheVariants as record_fault
+use Rattle.fp_recovery.specs.Reading.{image_under, batch_onto}
 use Rattle.fp_recovery.specs.Stands.{IsImageOf, TakesBatch, StandsFor}
 
 -- whatever was read before, the image says all
 abbrev pub BeginsWith : State → ℕ → ℕ → List ℕ → State → Type 0
 BeginsWith s base limit bytes t = IsImageOf base limit bytes t
 
--- the bytes are no set's image
+-- the first field of the image that can't stand begins there
 abbrev pub RejectsImage : State → ℕ → ℕ → List ℕ → ℕ → Type 0
-RejectsImage s base limit bytes at = (t : State) → IsImageOf base limit bytes t → ⊥
+RejectsImage s base limit bytes at = image_under base limit bytes ≡ Err at
 
--- the bytes are no batch that leads the set on
+-- the first field of the batch that can't stand, or the first edit that the set doesn't accept,
+-- begins there
 abbrev pub RefusesBatch : State → List ℕ → ℕ → Type 0
-RefusesBatch s bytes at = (t : State) → TakesBatch s bytes t → ⊥
+RefusesBatch s bytes at = batch_onto s bytes ≡ Err at
+
+-- a fault of a record, as one of the body that it is
+abbrev pub body_fault : RecordFault → BodyFault
+body_fault (record_fault.BadRecord at) = body.BadBody at
+body_fault record_fault.Memory = body.Memory
 
 -- where reading begins
 abbrev pub nothing_read : State
 nothing_read = record { flags = map.empty; revision = 0; limit = 0 }
 
--- why these bytes can't be opened. Inside an image or a batch it says that no set stands there, and of the place only that it lies inside
+-- why these bytes can't be opened: the first fault in the order of the layout
 abbrev pub RefusesBytes : List ℕ → OpenFault → Type 0
 RefusesBytes c fault = RefusesDisk BeginsWith RejectsImage TakesBatch RefusesBatch c nothing_read fault
 

@@ -1,9 +1,9 @@
 //! Disks of which single bytes were changed.
 
 use crate::disk::part;
-use crate::set::open;
 use crate::trial::{Answer, Trial, TrialFault};
 use crate::words::{FIRST_SEED, first_number, next_seed, number};
+use crate::world::open;
 use fp_commands::CommandFault;
 use fp_disk::MemoryDisk;
 use std::alloc::{AllocError, Global};
@@ -49,12 +49,25 @@ impl fmt::Display for Found {
 // What these bytes are opened as, with this byte at this place.
 fn found_with(alloc: Global, bytes: &[u8], at: u64, byte: u8) -> Result<Found, TrialFault> {
     let disk = with_byte(alloc, bytes, at, byte)?;
-    match open(&mut Trial::new(alloc, disk))? {
+    let answer = opened_as(alloc, disk)?;
+    match answer {
         Answer::Revision(revision) => Ok(Found::Revision(revision)),
-        Answer::Fault(CommandFault::Unformatted) => Ok(Found::NoDisk),
-        Answer::Fault(CommandFault::UnknownVersion(_)) => Ok(Found::UnknownVersion),
-        Answer::Fault(CommandFault::Damaged { at: place }) if place == at => Ok(Found::Here),
-        Answer::Fault(CommandFault::Damaged { at: place }) => Ok(Found::Damaged(place)),
+        Answer::Fault(fault) => found_fault(&fault, at),
+        _ => Err(TrialFault::NotUnderstood),
+    }
+}
+
+fn opened_as(alloc: Global, disk: MemoryDisk) -> Result<Answer, TrialFault> {
+    let mut trial = Trial::new(alloc, disk);
+    open(&mut trial)
+}
+
+fn found_fault(fault: &CommandFault, at: u64) -> Result<Found, TrialFault> {
+    match fault {
+        CommandFault::Unformatted => Ok(Found::NoDisk),
+        CommandFault::UnknownVersion(_) => Ok(Found::UnknownVersion),
+        CommandFault::Damaged { at: place } if *place == at => Ok(Found::Here),
+        CommandFault::Damaged { at: place } => Ok(Found::Damaged(*place)),
         _ => Err(TrialFault::NotUnderstood),
     }
 }
@@ -102,11 +115,15 @@ fn flips(alloc: Global, bytes: &[u8], from: u64, to: u64) -> Result<String, Tria
     for at in from..to {
         let row = flips_at(alloc, bytes, at)?;
         if row.as_str() != last.as_str() {
-            writeln!(text, "from {at}: {row}")?;
+            tell_row(&mut text, at, row.as_str())?;
             last = row;
         }
     }
     Ok(text)
+}
+
+fn tell_row(text: &mut String, at: u64, row: &str) -> Result<(), AllocError> {
+    writeln!(text, "from {at}: {row}")
 }
 
 fn byte_at(bytes: &[u8], at: u64) -> u8 {

@@ -4,7 +4,7 @@ ghost use Rattle.std.specs.Prelude.{◌≤◌, ◌+◌};
 
 use crate::trial::{Answer, Trial, TrialFault};
 use crate::words::{bytes, fill, first_number, first_word, number};
-use fp_disk::{Call, Choice, Disk, DiskFault, FailedWrite, Failing, Progress, Request};
+use fp_disk::{Call, Choice, Disk, DiskFault, FailedWrite, Failing, Fill, Progress, Request};
 use std::alloc::{AllocError, Global};
 use std::fmt::Write;
 
@@ -157,17 +157,10 @@ pub fn failed_write(word: &str) -> Result<FailedWrite, TrialFault> {
 
 fn crash(trial: &mut Trial, rest: &str) -> Result<Answer, TrialFault> {
     let (word, rest) = first_word(rest);
-    let length = match word {
-        "least" => 0,
-        "most" => u64::MAX,
-        _ => number(word)?,
-    };
+    let length = left_length(word)?;
     let (word, rest) = first_word(rest);
     let others = fill(trial.alloc, word)?;
-    let mut writes = Vec::new(trial.alloc);
-    for word in rest.split_whitespace() {
-        writes.push(fill(trial.alloc, word)?)?;
-    }
+    let writes = fills(trial.alloc, rest)?;
     crash_as(
         trial,
         Choice {
@@ -177,6 +170,23 @@ fn crash(trial: &mut Trial, rest: &str) -> Result<Answer, TrialFault> {
         },
     )?;
     Ok(Answer::Done)
+}
+
+fn left_length(word: &str) -> Result<u64, TrialFault> {
+    match word {
+        "least" => Ok(0),
+        "most" => Ok(u64::MAX),
+        _ => number(word),
+    }
+}
+
+fn fills(alloc: Global, words: &str) -> Result<Vec<Fill>, TrialFault> {
+    let mut writes = Vec::new(alloc);
+    for word in words.split_whitespace() {
+        let fill = fill(alloc, word)?;
+        writes.push(fill)?;
+    }
+    Ok(writes)
 }
 
 /// The disk is what a crash leaves of it.

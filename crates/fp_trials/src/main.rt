@@ -2,15 +2,19 @@
 //! file named, standard input is written out again with the answers.
 #![tactic(auto)]
 
+mod commands;
 mod damage;
 mod disk;
+mod eval;
+mod event;
 mod journal;
+mod parts;
 mod run;
 mod script;
-mod set;
 mod sweep;
 mod trial;
 mod words;
+mod world;
 
 use crate::script::Script;
 use fp_transcript::{report, rewrite};

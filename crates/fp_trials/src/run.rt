@@ -2,7 +2,7 @@
 
 use crate::trial::{Answer, Trial, TrialFault};
 use crate::words::{first_word, number};
-use crate::{damage, disk, journal, set};
+use crate::{commands, damage, disk, eval, event, journal, parts, world};
 use std::alloc::{AllocError, Global};
 
 fn understood(trial: &mut Trial, line: &str) -> Result<Answer, TrialFault> {
@@ -12,14 +12,18 @@ fn understood(trial: &mut Trial, line: &str) -> Result<Answer, TrialFault> {
             disk::on_bytes(trial, word, rest)
         }
         "fuse" | "fail" | "calm" | "crash" | "calls" => disk::on_faults(trial, word, rest),
-        "create" | "open" | "close" | "show" | "marks" | "size" | "ready" => {
-            set::on_set(trial, word, rest)
+        "create" | "open" | "close" | "show" | "marks" | "size" | "room" => {
+            world::on_world(trial, word, rest)
         }
-        "input" | "last" | "raw" => set::on_input(trial, word, rest),
-        "init" | "apply" | "import" | "shown" => set::on_commands(trial, word, rest),
-        "edit" | "submit" | "batch" | "room" | "chain" | "slot" => journal::on_edits(
-            trial, word, rest,
-        ),
+        "draw" | "stage" | "sync-body" | "open-gate" | "sync-gate" | "settle" | "ack" => {
+            event::on_events(trial, word, rest)
+        }
+        "submit" | "submits" | "edit" | "with" | "batch" => event::on_edits(trial, word, rest),
+        "stop" | "stray" | "receipt" => parts::on_parts(trial, word, rest),
+        "input" | "last" | "raw" => commands::on_input(trial, word, rest),
+        "init" | "apply" | "import" | "shown" => commands::on_commands(trial, word, rest),
+        "eval" => eval::on_eval(trial, rest),
+        "chain" | "slot" => journal::on_slots(trial, word, rest),
         "flips" | "seeds" => damage::on_damage(trial, word, rest),
         _ => Err(TrialFault::NotUnderstood),
     }
@@ -48,11 +52,24 @@ pub fn repeat(
     out: &mut String,
 ) -> Result<(), TrialFault> {
     for word in words.split_whitespace() {
-        match word.split_once("..") {
-            Some((from, to)) => count(trial, number(from)?, number(to)?, block, out)?,
-            None => row(trial, word, block, out)?,
-        }
+        repeat_word(trial, word, block, out)?;
     }
+    Ok(())
+}
+
+fn repeat_word(
+    trial: &mut Trial,
+    word: &str,
+    block: &[String],
+    out: &mut String,
+) -> Result<(), TrialFault> {
+    let Some((from, to)) = word.split_once("..") else {
+        row(trial, word, block, out)?;
+        return Ok(());
+    };
+    let from = number(from)?;
+    let to = number(to)?;
+    count(trial, from, to, block, out)?;
     Ok(())
 }
 

@@ -7,6 +7,7 @@ use crate::trial::{Answer, Trial, TrialFault};
 use crate::words::first_word;
 use fp_commands::{CommandFault, command};
 use fp_disk::MemoryDisk;
+use fp_files::SystemFiles;
 use fp_streams::FailureCounted;
 use fp_transcript::Answers;
 use std::alloc::{AllocError, AllocGlobal, Global};
@@ -130,7 +131,16 @@ fn program<R: Files + AllocGlobal>(
     let mut reader = FailureCounted::new(input.as_slice());
     let mut writer = FailureCounted::new(Vec::new(alloc));
     let mut errors = FailureCounted::new(Vec::new(alloc));
-    let status = command(rt, &words, &mut reader, &mut writer, &mut errors);
+    let mut files = SystemFiles::of(rt);
+    let status = command(
+        alloc,
+        &mut files,
+        &words,
+        &mut reader,
+        &mut writer,
+        &mut errors,
+        0,
+    );
     let mut text = text_of(alloc, &writer.into_inner())?;
     let told = text_of(alloc, &errors.into_inner())?;
     if text.as_str().contains("out-of-memory") || told.as_str().contains("out of memory") {

@@ -4,7 +4,7 @@ use fp_commands::CommandFault;
 use fp_disk::{DiskFault, FailedWrite, Failing, MemoryDisk};
 use fp_edit::{Edit, EditFault};
 use fp_journal::synced_bytes;
-use fp_session::DiskSession;
+use fp_world::World;
 use std::alloc::{AllocError, AllocFailed, Global};
 use std::{fmt, mem};
 
@@ -36,15 +36,17 @@ pub enum Answer {
     Done,
     /// The line is no command.
     NotUnderstood,
-    /// The set is at this revision.
+    /// The flags are at this revision.
     Revision(u64),
     /// A number that was asked for.
     Number(u64),
+    /// What became of an event, and the number that goes with it.
+    Named(&'static str, u64),
     /// How far it came.
     Word(&'static str),
     /// A text that was asked for.
     Text(String),
-    /// The set doesn't admit the edit.
+    /// The flags don't admit the edit.
     Refused(EditFault),
     /// The disk or its bytes are at fault.
     Fault(CommandFault),
@@ -66,6 +68,7 @@ impl fmt::Display for Answer {
             Answer::NotUnderstood => f.write_str("not understood"),
             Answer::Revision(revision) => write!(f, "revision {revision}"),
             Answer::Number(number) => write!(f, "{number}"),
+            Answer::Named(name, number) => write!(f, "{name} {number}"),
             Answer::Word(word) => f.write_str(word),
             Answer::Text(text) => f.write_str(text.as_str()),
             Answer::Refused(EditFault::Conflict { current: Some(n) }) => {
@@ -79,33 +82,33 @@ impl fmt::Display for Answer {
     }
 }
 
-/// A set on a disk that may be let go.
-pub struct OpenSet {
-    pub set: DiskSession<MemoryDisk>,
+/// A world that may be let go.
+pub struct OpenWorld {
+    pub world: World<MemoryDisk>,
 }
 
-impl OpenSet {
+impl OpenWorld {
     pub fn into_disk(self) -> MemoryDisk {
-        let OpenSet { set } = self;
-        set.into_disk()
+        let OpenWorld { world } = self;
+        world.into_disk()
     }
 }
 
-impl Drop for OpenSet {
+impl Drop for OpenWorld {
     fn drop(self) {
-        let OpenSet { set } = self;
-        let _disk = set.into_disk();
+        let OpenWorld { world } = self;
+        let _disk = world.into_disk();
     }
 }
 
-/// A disk, or the set that is open on it.
+/// A disk, or the world that is open on it.
 #[derive(Drop)]
 pub enum Held {
     Closed(MemoryDisk),
-    Open(OpenSet),
+    Open(OpenWorld),
 }
 
-/// What commands work on: a disk or an open set, the bytes that were kept of one, the edits and the lines that wait, and the
+/// What commands work on: a disk or an open world, the bytes that were kept of one, the edits and the lines that wait, and the
 /// greatest revision that was told.
 #[derive(Drop)]
 pub struct Trial {
@@ -138,7 +141,7 @@ impl Trial {
         let none = Held::Closed(MemoryDisk::new(self.alloc));
         match mem::replace(&mut self.held, none) {
             Held::Closed(disk) => disk,
-            Held::Open(set) => set.into_disk(),
+            Held::Open(open) => open.into_disk(),
         }
     }
 

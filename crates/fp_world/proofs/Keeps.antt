@@ -7,11 +7,11 @@ use Rattle.fp_edit.specs.Edits.{Change}
 use Rattle.fp_edit.specs.Flags.{State}
 use Rattle.fp_edit.specs.Log.{after_all}
 use Rattle.fp_journal.specs.declared.journal.Phase.{Phase}
-use Rattle.fp_journal.specs.declared.journal.Phase.TheVariants.{Idle, BodySynced, GateOpened}
+use Rattle.fp_journal.specs.declared.journal.Phase.TheVariants.{Idle, GateOpened}
 use Rattle.fp_recovery.specs.Stands.{StandsFor}
 use Rattle.fp_group_commit.specs.Store.{StoreState, Leaves, has_begun, begun_at}
 use Rattle.fp_group_commit.specs.Tokens.{Identity}
-use Rattle.fp_desk.specs.Desk.{DeskState, log, settled_revision}
+use Rattle.fp_desk.specs.Desk.{DeskState, TicketState, log, settled_revision}
 use Rattle.fp_world.specs.World.{IsOut, IsWorld, KeptFrom, WorldState}
 use Rattle.fp_world.specs.declared.world.Held.{Held}
 use Rattle.fp_world.specs.declared.world.Held.TheVariants as held
@@ -56,7 +56,7 @@ module _ {D : Type 0} (s : StoreState D) (d : DeskState) where
       let b = coming_begins h o both.0 in let more = b.2 in
       front_kept d (s.sealed ++ s.staged) b.0 low c b.1 (omega (arith, le, more)) (subst (λ (x : Identity). StandsFor c (after_all x.start (s.sealed ++ s.staged))) (sym same) both.1)
 
-module _ {D : Type 0} (honest : D → Type 0) (moment : D → ℕ) (crash_states_since : D → ℕ → List ℕ → Type 0) (unsynced : D → PendingState) {h : Held} {s : StoreState D} {d : DeskState} {told : ℕ} (w : IsWorld honest unsynced h s d told) where
+module _ {D : Type 0} (honest : D → Type 0) (moment : D → ℕ) (crash_states_since : D → ℕ → List ℕ → Type 0) (unsynced : D → PendingState) {h : Held} {ts : List TicketState} {start : ℕ} {s : StoreState D} {d : DeskState} {told : ℕ} (w : IsWorld honest unsynced h ts start s d told) where
   -- what a crash leaves now
   pub kept_now : honest s.journal.disk → (c : List ℕ) → IsOutcome (unsynced s.journal.disk) c → KeptFrom d told c
   kept_now honest_now c out = leaves_kept s d w.same h w.out told w.low c (w.now honest_now c out)
@@ -96,13 +96,6 @@ kept_more d n more low c store grows k =
 
 pub log_more : (d : DeskState) (c : Change) → d.settled ++ (d.drawn ++ (d.waiting ++ c ∷ [])) ≡ log d ++ c ∷ []
 log_more d c = ap (λ (l : List Change). d.settled ++ l) (sym (append_assoc d.drawn d.waiting (c ∷ []))) ∙ sym (append_assoc d.settled (d.drawn ++ d.waiting) (c ∷ []))
-
--- what is in flight stays in flight while the store goes on
-pub flight_on : {D : Type 0} (s n : StoreState D) (d : DeskState) (h : Held) → IsOut h s d → s.step ≡ BodySynced → n.sealed ≡ s.sealed → n.staged ≡ s.staged → n.step ≢ Idle → IsOut h n d
-flight_on s n d held.Nothing o at sealed staged busy = let both : Idle ≡ BodySynced = sym o.0 ∙ at in absurd cc
-flight_on s n d (held.Drawn group) o at sealed staged busy = let both : Idle ≡ BodySynced = sym o.0 ∙ at in absurd cc
-flight_on s n d held.InFlight o at sealed staged busy = (busy, sealed ∙ o.1, staged ∙ o.2, o.3)
-flight_on s n d (held.Sealed receipt) o at sealed staged busy = let both : Idle ≡ BodySynced = sym o.0 ∙ at in absurd cc
 
 module _ {D : Type 0} (moment : D → ℕ) (crash_states_since : D → ℕ → List ℕ → Type 0) where
   -- at each moment of the call that begins to open the gate

@@ -2,6 +2,7 @@
 #![tactic(auto)]
 
 mod event;
+mod steps;
 mod world;
 
 pub use event::{Answer, Event};

@@ -1,21 +1,23 @@
 //! A store and a desk over one list of events.
 
 ghost use Rattle.fp_disk.specs.Crashes.{AtAnyMoment, EachCrash, SameHonesty};
-ghost use Rattle.std.specs.Prelude.{◌≡◌, ◌≢◌, ◌<◌, ◌≤◌, ◌+◌, List, ℕ, [], length, IfOk, IfErr};
+ghost use Rattle.std.specs.Prelude.{◌≡◌, ◌≢◌, ◌⊎◌, ◌<◌, ◌≤◌, ◌+◌, List, ℕ, [], false, length, IfOk, IfErr, OnErr};
 ghost use mathlib.Core.List.{IsPrefix};
 ghost use Rattle.fp_desk.specs.Desk.{log};
-ghost use Rattle.fp_world.specs.World.{IsNewWorld, KeptFrom, TellsUpTo};
-ghost use Rattle.fp_group_commit.specs.Store.{IsFresh};
+ghost use Rattle.fp_journal.specs.declared.journal.Phase.TheVariants.{Failed};
+ghost use Rattle.fp_recovery.specs.Stands.{StandsFor};
+ghost use Rattle.fp_world.specs.Machine.{Run, Step, opened_set};
+ghost use Rattle.fp_layout.specs.declared.fault.OpenFault.TheVariants.{Device, Memory};
+ghost use Rattle.fp_world.specs.World.{Course, IsNewWorld, KeptFrom, MakesItsCall, RisesFor, TellsUpTo, machine};
+ghost use Rattle.fp_group_commit.specs.Store.{IsFresh, reached};
 
 use crate::event::{Answer, Event};
-use fp_desk::{Desk, SettleFault, SubmitFault, Ticket};
+use fp_desk::{Desk, Ticket};
 use fp_disk::Disk;
-use fp_edit::Edit;
-use fp_group_commit::{Draw, Opening, Receipt, Store, StoreFault};
-use fp_journal::Phase;
+use fp_group_commit::{Draw, Opening, Receipt, Store};
+use fp_layout::OpenFault;
 use std::alloc::{AllocError, Global};
 use std::marker::Model;
-use std::mem;
 
 /// Where the edits are that the desk has drawn.
 pub(crate) enum Held {
@@ -26,7 +28,7 @@ pub(crate) enum Held {
 }
 
 // Ends what is held no longer.
-fn end(held: Held) {
+pub(crate) fn end(held: Held) {
     match held {
         Held::Sealed(receipt) => receipt.forgo(),
         Held::Nothing => {}
@@ -37,231 +39,35 @@ fn end(held: Held) {
 
 /// A store, a desk, and what is between them.
 pub struct World<D: Disk> {
-    store: Store<D>,
-    desk: Desk,
-    held: Held,
-    tickets: Vec<Ticket>,
+    pub(crate) store: Store<D>,
+    pub(crate) desk: Desk,
+    pub(crate) held: Held,
+    // One for each accepted edit, in their order.
+    pub(crate) tickets: Vec<Ticket>,
     // The revision that the store began at.
-    start: u64,
-    told: u64,
+    pub(crate) start: u64,
+    pub(crate) told: u64,
 }
 
 impl<D: Disk> Model for World<D> {
     ghost use Rattle.std.specs.Coded.{codes};
     ghost use Rattle.fp_edit.specs.Flags.{coded_state};
     ghost use Rattle.fp_group_commit.specs.Changes.{coded_change};
-    ghost use Rattle.fp_world.specs.World.{IsWorld, WorldState};
+    ghost use Rattle.fp_world.specs.World.{IsWorld, WorldState, progress_of};
 
     ghost Value = { WorldState D };
 
     ghost coded = { Prim.hlevel (codes, coded_state, coded_change) };
 
-    ghost view = { λ w. record { store = w.store; desk = w.desk; told = w.told } };
+    ghost view = { λ w. record {
+      store = w.store;
+      desk = w.desk;
+      progress = progress_of w.held w.store.step;
+      told = w.told;
+    } };
 
-    ghost invariant = { λ w. IsWorld D.honest D.unsynced w.held w.store w.desk w.told };
-}
-
-impl<D: Disk> World<D> {
-    // Takes an edit. The room for its ticket is taken first.
-    fn submit(&mut self, edit: &Edit) -> Answer
-        ensures tells { TellsUpTo self.new.told result }
-        ensures log { IsPrefix (log self.old.desk) (log self.new.desk) }
-        ensures same { (self.new.store ≡ self.old.store) × (self.new.told ≡ self.old.told)
-            × (self.new.desk.store ≡ self.old.desk.store) }
-        ensures exit { EachCrash D.Disk self.new.store.journal.disk (KeptFrom self.new.desk self.new.told) }
-    {
-        let _ = &self.told;
-        let Ok(edit) = edit.try_copy() else {
-            return Answer::Refused(SubmitFault::Memory);
-        };
-        if self.tickets.try_reserve(1).is_err() {
-            return Answer::Refused(SubmitFault::Memory);
-        }
-        match self.desk.submit(edit) {
-            Ok(ticket) => {
-                let revision = ticket.revision();
-                self.tickets.push_reserved(ticket);
-                Answer::Ticket(revision)
-            }
-            Err((fault, _)) => Answer::Refused(fault),
-        }
-    }
-
-    // Writes what is drawn.
-    fn stage(&mut self) -> Answer
-        ensures tells { TellsUpTo self.new.told result }
-        ensures same { (self.new.desk ≡ self.old.desk) × (self.new.told ≡ self.old.told)
-            × (self.new.store.store ≡ self.old.store.store) }
-        ensures any_moment { AtAnyMoment D.Disk self.old.store.journal.disk
-            self.new.store.journal.disk (KeptFrom self.new.desk self.old.told) }
-        ensures exit { EachCrash D.Disk self.new.store.journal.disk (KeptFrom self.new.desk self.new.told) }
-        ensures honest { SameHonesty D.Disk self.old.store.journal.disk self.new.store.journal.disk }
-    {
-        let _ = &self.told;
-        if self.store.failed() {
-            return Answer::Fault(StoreFault::Failed);
-        }
-        let draw = match mem::replace(&mut self.held, Held::InFlight) {
-            Held::Drawn(draw) => draw,
-            other => {
-                end(mem::replace(&mut self.held, other));
-                return Answer::NotNow;
-            }
-        };
-        if !self.store.has_room(&draw) {
-            end(mem::replace(&mut self.held, Held::Drawn(draw)));
-            return Answer::NotNow;
-        }
-        let Err((fault, draw)) = self.store.stage(draw) else {
-            return Answer::Done;
-        };
-        end(mem::replace(&mut self.held, Held::Drawn(draw)));
-        if let StoreFault::Stranger = fault {
-            unreachable!()
-        }
-        Answer::Fault(fault)
-    }
-
-    // Draws a batch.
-    fn draw(&mut self) -> Answer
-        ensures tells { TellsUpTo self.new.told result }
-        ensures log { log self.new.desk ≡ log self.old.desk }
-        ensures same { (self.new.store ≡ self.old.store) × (self.new.told ≡ self.old.told)
-            × (self.new.desk.store ≡ self.old.desk.store) }
-        ensures exit { EachCrash D.Disk self.new.store.journal.disk (KeptFrom self.new.desk self.new.told) }
-    {
-        let _ = &self.told;
-        let Ok(drawn) = self.desk.draw() else {
-            return Answer::Memory;
-        };
-        let Some(draw) = drawn else {
-            return Answer::NotNow;
-        };
-        let count = draw.len();
-        end(mem::replace(&mut self.held, Held::Drawn(draw)));
-        Answer::Drawn(count)
-    }
-
-    // Makes sure of what is in flight.
-    fn sync_body(&mut self) -> Answer
-        ensures tells { TellsUpTo self.new.told result }
-        ensures same { (self.new.desk ≡ self.old.desk) × (self.new.told ≡ self.old.told)
-            × (self.new.store.store ≡ self.old.store.store) }
-        ensures any_moment { AtAnyMoment D.Disk self.old.store.journal.disk
-            self.new.store.journal.disk (KeptFrom self.new.desk self.old.told) }
-        ensures exit { EachCrash D.Disk self.new.store.journal.disk (KeptFrom self.new.desk self.new.told) }
-        ensures honest { SameHonesty D.Disk self.old.store.journal.disk self.new.store.journal.disk }
-    {
-        let _ = &self.told;
-        if self.store.failed() {
-            return Answer::Fault(StoreFault::Failed);
-        }
-        let Phase::Staged = self.store.phase() else {
-            return Answer::NotNow;
-        };
-        let Err(fault) = self.store.sync_body() else {
-            return Answer::Done;
-        };
-        Answer::Fault(fault)
-    }
-
-    // Opens the gate of what is in flight.
-    fn open_gate(&mut self) -> Answer
-        ensures tells { TellsUpTo self.new.told result }
-        ensures same { (self.new.desk ≡ self.old.desk) × (self.new.told ≡ self.old.told)
-            × (self.new.store.store ≡ self.old.store.store) }
-        ensures any_moment { AtAnyMoment D.Disk self.old.store.journal.disk
-            self.new.store.journal.disk (KeptFrom self.new.desk self.old.told) }
-        ensures exit { EachCrash D.Disk self.new.store.journal.disk (KeptFrom self.new.desk self.new.told) }
-        ensures honest { SameHonesty D.Disk self.old.store.journal.disk self.new.store.journal.disk }
-    {
-        let _ = &self.told;
-        if self.store.failed() {
-            return Answer::Fault(StoreFault::Failed);
-        }
-        let Phase::BodySynced = self.store.phase() else {
-            return Answer::NotNow;
-        };
-        let Err(fault) = self.store.open_gate() else {
-            return Answer::Done;
-        };
-        Answer::Fault(fault)
-    }
-
-    // Seals what is in flight.
-    fn sync_gate(&mut self) -> Answer
-        ensures tells { TellsUpTo self.new.told result }
-        ensures same { (self.new.desk ≡ self.old.desk) × (self.new.told ≡ self.old.told)
-            × (self.new.store.store ≡ self.old.store.store) }
-        ensures any_moment { AtAnyMoment D.Disk self.old.store.journal.disk
-            self.new.store.journal.disk (KeptFrom self.new.desk self.old.told) }
-        ensures exit { EachCrash D.Disk self.new.store.journal.disk (KeptFrom self.new.desk self.new.told) }
-        ensures honest { SameHonesty D.Disk self.old.store.journal.disk self.new.store.journal.disk }
-    {
-        let _ = &self.told;
-        if self.store.failed() {
-            return Answer::Fault(StoreFault::Failed);
-        }
-        let Phase::GateOpened = self.store.phase() else {
-            return Answer::NotNow;
-        };
-        match self.store.sync_gate() {
-            Ok(receipt) => {
-                end(mem::replace(&mut self.held, Held::Sealed(receipt)));
-                Answer::Sealed(self.store.revision())
-            }
-            Err(fault) => Answer::Fault(fault),
-        }
-    }
-
-    // Settles what is sealed.
-    fn settle(&mut self) -> Answer
-        ensures tells { TellsUpTo self.new.told result }
-        ensures log { log self.new.desk ≡ log self.old.desk }
-        ensures same { (self.new.store ≡ self.old.store) × (self.new.told ≡ self.old.told)
-            × (self.new.desk.store ≡ self.old.desk.store) }
-        ensures exit { EachCrash D.Disk self.new.store.journal.disk (KeptFrom self.new.desk self.new.told) }
-    {
-        let _ = &self.told;
-        match mem::replace(&mut self.held, Held::Nothing) {
-            Held::Sealed(receipt) => match self.desk.settle(receipt) {
-                Ok(()) => Answer::Settled(self.desk.settled_revision()),
-                Err((SettleFault::Stranger, receipt)) => {
-                    receipt.forgo();
-                    unreachable!()
-                }
-                Err((SettleFault::Memory, receipt)) => {
-                    end(mem::replace(&mut self.held, Held::Sealed(receipt)));
-                    Answer::Memory
-                }
-            },
-            other => {
-                end(mem::replace(&mut self.held, other));
-                Answer::NotNow
-            }
-        }
-    }
-
-    // Tells whether the edit of this revision is settled, where its ticket was given.
-    fn ack(&mut self, revision: u64) -> Answer
-        ensures tells { TellsUpTo self.new.told result }
-        ensures same { (self.new.desk ≡ self.old.desk) × (self.new.store ≡ self.old.store) }
-        ensures told { self.old.told ≤ self.new.told }
-        ensures exit { EachCrash D.Disk self.new.store.journal.disk (KeptFrom self.new.desk self.new.told) }
-    {
-        let _ = &self.told;
-        if revision <= self.start {
-            return Answer::NotNow;
-        }
-        let Some(ticket) = self.tickets.get((revision - self.start - 1) as usize) else {
-            return Answer::NotNow;
-        };
-        let Some(_) = self.desk.ack(ticket) else {
-            return Answer::Waiting;
-        };
-        self.told = u64::max(self.told, ticket.revision());
-        Answer::Acked(ticket.revision())
-    }
+    ghost invariant = { λ w. IsWorld D.honest D.unsynced w.held w.tickets.items w.start w.store w.desk
+        w.told };
 }
 
 impl<D: Disk> World<D> {
@@ -278,12 +84,13 @@ impl<D: Disk> World<D> {
     {
         let start = opening.revision();
         let _ = store.phase();
+        let tickets = Vec::new(alloc);
         match Desk::new(alloc, opening) {
             Ok(desk) => Ok(World {
                 store,
                 desk,
                 held: Held::Nothing,
-                tickets: Vec::new(alloc),
+                tickets,
                 start,
                 told: start,
             }),
@@ -294,6 +101,7 @@ impl<D: Disk> World<D> {
     /// Does what the event asks. A crash at any moment of it keeps all that was told before it, and a crash after it all that was told by then.
     pub fn step(&mut self, event: &Event) -> Answer
         ensures tells { TellsUpTo self.new.told result }
+        ensures steps { Step (machine self.old) event.now result (machine self.new) }
         ensures log { IsPrefix (log self.old.desk) (log self.new.desk) }
         ensures same { (self.new.store.store ≡ self.old.store.store)
             × (self.new.desk.store ≡ self.old.desk.store) }
@@ -302,6 +110,10 @@ impl<D: Disk> World<D> {
             self.new.store.journal.disk (KeptFrom self.new.desk self.old.told) }
         ensures exit { EachCrash D.Disk self.new.store.journal.disk (KeptFrom self.new.desk self.new.told) }
         ensures honest { SameHonesty D.Disk self.old.store.journal.disk self.new.store.journal.disk }
+        ensures called { MakesItsCall event.now result (D.calls self.old.store.journal.disk)
+            (D.calls self.new.store.journal.disk) }
+        ensures cause { RisesFor result (D.faults self.old.store.journal.disk)
+            (D.faults self.new.store.journal.disk) }
     {
         match event {
             Event::Submit(edit) => self.submit(edit),
@@ -313,5 +125,71 @@ impl<D: Disk> World<D> {
             Event::Settle => self.settle(),
             Event::Ack(revision) => self.ack(*revision),
         }
+    }
+
+    // The events in their order, each a step. The answers' room is taken first.
+    fn follow(&mut self, alloc: Global, events: &[Event]) -> Result<Vec<Answer>, AllocError>
+        ensures course { IfOk result (λ answers.
+            Course D.Disk self.old events.now answers.items self.new) }
+        ensures err { OnErr result (self.new ≡ self.old) }
+    {
+        let _ = &self.told;
+        let mut answers = Vec::with_capacity(alloc, events.len())?;
+        for event in events {
+            answers.push_reserved(self.step(event));
+        }
+        Ok(answers)
+    }
+
+    /// Does what the events ask, one after another. At `Err` none of them was asked.
+    pub fn run(&mut self, alloc: Global, events: &[Event]) -> Result<Vec<Answer>, AllocError>
+        ensures course { IfOk result (λ answers.
+            Course D.Disk self.old events.now answers.items self.new) }
+        ensures run { IfOk result (λ answers.
+            Run (machine self.old) events.now answers.items (machine self.new)) }
+        ensures any_moment { AtAnyMoment D.Disk self.old.store.journal.disk
+            self.new.store.journal.disk (KeptFrom self.new.desk self.old.told) }
+        ensures exit { EachCrash D.Disk self.new.store.journal.disk (KeptFrom self.new.desk self.new.told) }
+        ensures honest { SameHonesty D.Disk self.old.store.journal.disk self.new.store.journal.disk }
+        ensures err { OnErr result (self.new ≡ self.old) }
+    {
+        let _ = &self.told;
+        let answers = self.follow(alloc, events)?;
+        Ok(answers)
+    }
+
+    /// Gives the disk back.
+    pub fn into_disk(self) -> D
+        ensures disk { result ≡ self.store.journal.disk }
+        ensures outcomes { EachCrash D.Disk result (KeptFrom self.desk self.told) }
+        ensures reads { D.honest result → self.store.journal.phase ≢ Failed →
+            StandsFor (D.bytes result) (reached self.store) }
+        ensures stands { D.honest result → (machine self).failed ≡ false →
+            StandsFor (D.bytes result) (opened_set (machine self)) }
+    {
+        let World {
+            store,
+            desk: _,
+            held,
+            tickets: _,
+            start: _,
+            told: _,
+        } = self;
+        end(held);
+        store.into_disk()
+    }
+
+    /// Opens the disk again, and gives the set that it then stands for.
+    pub fn reopen(self, alloc: Global) -> Result<(Store<D>, Opening), (OpenFault, D)>
+        ensures fresh { IfOk result (λ r. IsFresh r.0 r.0.store.start) }
+        ensures opening { IfOk result (λ r. r.1 ≡ r.0.store) }
+
+        // Where no call failed: what is sealed, and with it what is in flight once its gate was opened.
+        ensures set { D.honest self.store.journal.disk → (machine self).failed ≡ false →
+            IfOk result (λ r. r.0.store.start ≡ opened_set (machine self)) }
+        ensures refused { D.honest self.store.journal.disk → (machine self).failed ≡ false →
+            IfErr result (λ e. (e.0 ≡ Device) ⊎ (e.0 ≡ Memory)) }
+    {
+        Store::open(alloc, self.into_disk())
     }
 }

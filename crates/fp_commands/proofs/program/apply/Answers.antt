@@ -17,7 +17,6 @@ returns g c =
     let run : IfSome left (λ input. IsRunOver c.new.result input told old new now) = subst (λ o. IfOk o (λ b. IfSome left (λ input. IsRunOver c.new.result input b old new now))) c.in_ok-_told.was c.apply_lines-flags.ensures.run in
     let same = subst (λ (o : Result Bool ApplyFault). plane.Blames before after o) c.in_ok-_told.was c.apply_lines-flags.ensures.device in
     record {
-      done = IfSome_then left run (λ input r. (told, now, subst (λ s. IsRunOver s input told old new now) c.new.ensures r));
+      applies = IfSome_then left run (λ input r. (told, now, subst (λ s. IsRunOver s input told old new now) c.new.ensures r));
       no_failure = omega (arith, same);
-      ends = tt;
     }

@@ -6,6 +6,6 @@ use Rattle.fp_record.proofs.image.flags_from.Given as goal
 
 abbrev pub invariant-loop : goal.invariant-loop
 invariant-loop l =
-    (with_front (entries_of l.flags.items) (many_from (flag_at l.bytes) (l.count - l.counter) (l.before, l.place)) ≡ many_from (flag_at l.bytes) l.count ([], l.at))
+    (with_front (entries_of l.flags.items) (many_from (flag_at l.newest l.bytes) (l.count - l.counter) (l.before, l.place)) ≡ many_from (flag_at l.newest l.bytes) l.count ([], l.at))
     × (length l.flags.items ≡ l.counter)
     × (l.place ≤ length l.bytes)

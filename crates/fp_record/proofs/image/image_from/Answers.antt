@@ -1,9 +1,10 @@
 use Rattle.std.proofs.Common.{arith}
 use Rattle.fp_edit.specs.Entries.{entries_of}
+use Rattle.fp_record.specs.Reading.{any_revision}
 use Rattle.fp_record.proofs.Images.{read_in_order}
 use Rattle.fp_record.proofs.image.image_from.Goals as goal
 
 pub invariant_of-result : goal.invariant_of-result
 invariant_of-result c =
-    read_in_order c.args.bytes.now c.in_ok-count.count c.in_ok-count.next (entries_of c.in_ok-flags.flags.items, c.in_ok-flags.next) (λ i. omega (arith, c.type_inv.bytes i))
-    c.in_ok-count.ensures.within c.if-count-gt-MOST_FLAGS.false c.in_ok-flags.ensures.value
+    read_in_order any_revision c.args.bytes.now c.in_ok-count.count c.in_ok-count.at (entries_of c.in_ok-flags.flags.items, c.in_ok-flags.next) (λ i. omega (arith, c.type_inv.bytes i))
+    c.in_ok-count.ensures.within c.in_ok-count.ensures.few c.in_ok-flags.ensures.value

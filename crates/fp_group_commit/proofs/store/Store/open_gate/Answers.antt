@@ -21,7 +21,7 @@ invariant_of-self g c =
     let f = steps.not_idle c.self.inside.step BodySynced _ at (λ (e : BodySynced ≡ Idle). absurd cc) c.self.invariant.flight in
     let leaves : (h : D.honest j.disk) → LeavesOnly D.moment D.crash_states_since j.disk j1.disk (λ o. StandsFor o _ ⊎ StandsFor o _) = λ h. steps.open_or_shut D.honest D.bytes D.moment D.crash_states_since D.unsynced c.self.invariant f j1.disk h (w.apart h) (w.any_moment h) in
     let begun : begun_at c.self.inside.step j1.phase ≡ true = steps.begun_failed c.self.inside.step j1.phase at c.in_default-open_gate.ensures.phase.1 in
-    steps.on_its_way D.honest D.bytes D.moment D.crash_states_since D.unsynced c.self.invariant m.present f c.self.inside.step j1 w.same.1 w.bodies.1 (inr c.in_default-open_gate.ensures.phase.1)
+    steps.on_its_way D.honest D.bytes D.moment D.crash_states_since D.unsynced c.self.invariant m.present f c.self.inside.step j1 w.same.1 w.same.2 w.bodies.0 w.bodies.1 (inr c.in_default-open_gate.ensures.phase.1)
     (λ h1. let h = w.honest.1 h1 in steps.bytes_same D.honest D.bytes D.moment D.crash_states_since D.unsynced c.self.invariant j1 j1.disk h (w.apart h) w.same.1 w.same.2 w.bodies.0)
     (λ h1 o out. let h = w.honest.1 h1 in ⊎_elim (λ a. inl a) (λ b. inr (begun, b)) (moves.exit_has D.honest D.moment D.crash_states_since D.unsynced m.counts_now j.disk j1.disk _ (leaves h) h1 o out))
     (λ h1 at well. absurd (well c.in_default-open_gate.ensures.phase.1))
@@ -38,6 +38,7 @@ returns-in_default-open_gate g c =
       ok = tt;
       phase = refl;
       fault = steps.breaks D.faults (λ e. c.in_default.not-Failed (c.phase.ensures.phase ∙ e)) c.in_default-open_gate.ensures.phase.1 (search rules) refl w.same.1 w.same.2 w.bodies.0;
+      same_room = steps.same_room j j1 w.same.1 w.same.2 w.bodies.0;
       called = inr w.called;
       any_moment = λ h. leaves_map D.moment D.crash_states_since j.disk j1.disk _ _ (λ o e. ⊎_elim (λ a. inl a) (λ b. inr (begun, b)) e) (leaves h);
       exit = (λ h1 o out. let h = w.honest.1 h1 in ⊎_elim (λ a. inl a) (λ b. inr (begun, b)) (moves.exit_has D.honest D.moment D.crash_states_since D.unsynced m.counts_now j.disk j1.disk _ (leaves h) h1 o out));
@@ -50,7 +51,7 @@ invariant_of-self-2 g c =
     let at : c.self.inside.step ≡ BodySynced = ap (λ (k : StoreState g.row.D.Denot). k.step) c.self.view_is ∙ c.requires in
     let f = steps.not_idle c.self.inside.step BodySynced _ at (λ (e : BodySynced ≡ Idle). absurd cc) c.self.invariant.flight in
     let leaves : (h : D.honest j.disk) → LeavesOnly D.moment D.crash_states_since j.disk j1.disk (λ o. StandsFor o _ ⊎ StandsFor o _) = λ h. steps.open_or_shut D.honest D.bytes D.moment D.crash_states_since D.unsynced c.self.invariant f j1.disk h (w.apart h) (w.any_moment h) in
-    steps.on_its_way D.honest D.bytes D.moment D.crash_states_since D.unsynced c.self.invariant m.present f GateOpened j1 w.same.1 w.bodies.1 (inl c.in-Ok.ensures.phase.0)
+    steps.on_its_way D.honest D.bytes D.moment D.crash_states_since D.unsynced c.self.invariant m.present f GateOpened j1 w.same.1 w.same.2 w.bodies.0 w.bodies.1 (inl c.in-Ok.ensures.phase.0)
     (λ h1. let h = w.honest.1 h1 in steps.bytes_same D.honest D.bytes D.moment D.crash_states_since D.unsynced c.self.invariant j1 j1.disk h (w.apart h) w.same.1 w.same.2 w.bodies.0)
     (λ h1 o out. let h = w.honest.1 h1 in ⊎_elim (λ a. inl a) (λ b. inr (refl, b)) (moves.exit_has D.honest D.moment D.crash_states_since D.unsynced m.counts_now j.disk j1.disk _ (leaves h) h1 o out))
     (λ h1 at well. let h = w.honest.1 h1 in steps.next_stands D.honest D.bytes D.moment D.crash_states_since D.unsynced c.self.invariant f j1.disk h (w.apart h) (D.bytes j1.disk) (m.present j1.disk h1) (c.in-Ok.ensures.reads h))
@@ -66,6 +67,7 @@ returns g c =
       ok = record { step = refl; well_before = (λ e. c.in_default.not-Failed (c.phase.ensures.phase ∙ e)); well_now = (λ e. let both : GateOpened ≡ Failed = sym c.in-Ok.ensures.phase.0 ∙ e in absurd cc); no_failure = search rules };
       phase = tt;
       fault = tt;
+      same_room = steps.same_room j j1 w.same.1 w.same.2 w.bodies.0;
       called = w.called;
       any_moment = λ h. leaves_map D.moment D.crash_states_since j.disk j1.disk _ _ (λ o e. ⊎_elim (λ a. inl a) (λ b. inr (refl, b)) e) (leaves h);
       exit = (λ h1 o out. let h = w.honest.1 h1 in ⊎_elim (λ a. inl a) (λ b. inr (refl, b)) (moves.exit_has D.honest D.moment D.crash_states_since D.unsynced m.counts_now j.disk j1.disk _ (leaves h) h1 o out));

@@ -5,7 +5,7 @@ use Rattle.fp_journal.specs.declared.journal.Phase.TheVariants.{Idle, Staged, Fa
 use Rattle.fp_journal.specs.declared.slot.Slot.{Slot}
 use Rattle.fp_edit.specs.Following.{changes_of}
 use Rattle.fp_record.proofs.Lengths.{length-encoding_of_batch}
-use Rattle.fp_group_commit.specs.Changes.{HasRoom}
+use Rattle.fp_group_commit.specs.Changes.{HasRoom, batch_len}
 use Rattle.fp_recovery.specs.Stands.{StandsFor}
 use Rattle.fp_group_commit.specs.Store.{StoreState}
 use Rattle.fp_edit.proofs.Followed.{none_left}
@@ -31,6 +31,7 @@ returns-in-Err g c =
       phase = refl;
       fault = steps.refuses D.honest D.bytes D.moment D.crash_states_since D.unsynced c.self.invariant D.faults (λ e. c.in_default.not-Failed (c.phase.ensures.phase ∙ e)) c.args.draw c.in-Err.fault c.in-Err.ensures.fault;
       given_back = refl;
+      same_room = (refl, refl);
       called = inl refl;
       any_moment = λ h. steps.still D.honest D.bytes D.moment D.crash_states_since D.unsynced c.self.invariant m.only_now h;
       exit = c.self.invariant.now;
@@ -71,6 +72,7 @@ returns-in_default-stage g c =
       phase = refl;
       fault = (steps.breaks D.faults (λ e. c.in_default.not-Failed (c.phase.ensures.phase ∙ e)) c.in_default-stage.ensures.phase.1 (search rules) refl w.same.1 w.same.2 w.bodies.0, steps.goes_kept D.honest D.bytes D.moment D.crash_states_since D.unsynced c.self.invariant c.args.draw c.in-Ok.ensures.goes_on);
       given_back = refl;
+      same_room = steps.same_room j j1 w.same.1 w.same.2 w.bodies.0;
       called = inr w.called;
       any_moment = λ h. leaves_map D.moment D.crash_states_since j.disk j1.disk _ _ (λ o stands. inl stands) (leaves h);
       exit = (λ h1 o out. let h = w.honest.1 h1 in inl (moves.exit_has D.honest D.moment D.crash_states_since D.unsynced m.counts_now j.disk j1.disk _ (leaves h) h1 o out));
@@ -87,9 +89,11 @@ invariant_of-self-2 g c =
     let j1 = c.stage.new.self in let w = c.stage.ensures in
     let leaves : (h : D.honest j.disk) → LeavesOnly D.moment D.crash_states_since j.disk j1.disk (λ o. StandsFor o _) = λ h. steps.shut D.honest D.bytes D.moment D.crash_states_since D.unsynced c.self.invariant j1.disk h (w.apart h) (w.any_moment h) in
     let short = room.short in
+    let body : length j1.staged ≡ batch_len c.args.draw = ap length w.bodies.1 ∙ len in
+    let left = steps.room_same j j1 w.same.1 w.same.2 w.bodies.0 in let needs = room.room in
     let fits : length j1.staged ≤ j1.slot.most = subst (λ (b : List ℕ). length b ≤ j1.slot.most) (sym w.bodies.1) (subst (λ (p : Slot). length c.in-Ok.ready.0 ≤ p.most) (sym w.same.1) (omega (arith, len, short))) in
     steps.sound_staged D.honest D.bytes D.moment D.crash_states_since D.unsynced c.self.invariant m.present c.args.draw j1 c.ready.new.set (changes_of c.ready.new.ahead.items) (changes_of c.in-Ok.ready.1.items) c.ready.ensures.same c.ready.ensures.follows (none_left c.ready.new.ahead.items c.in-Ok.ensures.done) c.in-Ok.ensures.copied
-    c.in-Ok.ensures.goes_on c.in-Ok.ensures.lawful (w.bodies.1 ∙ c.in-Ok.ensures.spelled) fits c.in-Ok-stage.ensures.phase.0
+    c.in-Ok.ensures.goes_on c.in-Ok.ensures.lawful (w.bodies.1 ∙ c.in-Ok.ensures.spelled) fits body (omega (arith, body, left, needs)) c.in-Ok-stage.ensures.phase.0
     (λ h1. let h = w.honest.1 h1 in steps.bytes_same D.honest D.bytes D.moment D.crash_states_since D.unsynced c.self.invariant j1 j1.disk h (w.apart h) w.same.1 w.same.2 w.bodies.0)
     (λ h1 o out. let h = w.honest.1 h1 in inl (moves.exit_has D.honest D.moment D.crash_states_since D.unsynced m.counts_now j.disk j1.disk _ (leaves h) h1 o out))
 
@@ -107,6 +111,7 @@ returns g c =
       phase = tt;
       fault = tt;
       given_back = tt;
+      same_room = steps.same_room j j1 w.same.1 w.same.2 w.bodies.0;
       called = w.called;
       any_moment = λ h. leaves_map D.moment D.crash_states_since j.disk j1.disk _ _ (λ o stands. inl stands) (leaves h);
       exit = (λ h1 o out. let h = w.honest.1 h1 in inl (moves.exit_has D.honest D.moment D.crash_states_since D.unsynced m.counts_now j.disk j1.disk _ (leaves h) h1 o out));

@@ -28,7 +28,7 @@ invariant_of-self g c =
     let f = steps.not_idle c.self.inside.step GateOpened _ at (λ (e : GateOpened ≡ Idle). absurd cc) c.self.invariant.flight in
     let leaves : (h : D.honest j.disk) → LeavesOnly D.moment D.crash_states_since j.disk j1.disk (λ o. StandsFor o _ ⊎ StandsFor o _) = λ h. steps.sync_open D.honest D.bytes D.moment D.crash_states_since D.unsynced c.self.invariant is f j1.disk h (w.apart h) (w.any_moment h) in
     let begun : (p : Phase) → begun_at c.self.inside.step p ≡ true = λ p. steps.begun_opened c.self.inside.step p at in
-    steps.on_its_way D.honest D.bytes D.moment D.crash_states_since D.unsynced c.self.invariant m.present f c.self.inside.step j1 w.same.1 w.bodies.1 (inr c.in_default-sync.ensures.phase.1)
+    steps.on_its_way D.honest D.bytes D.moment D.crash_states_since D.unsynced c.self.invariant m.present f c.self.inside.step j1 w.same.1 w.same.2 w.bodies.0 w.bodies.1 (inr c.in_default-sync.ensures.phase.1)
     (λ h1. let h = w.honest.1 h1 in steps.bytes_same D.honest D.bytes D.moment D.crash_states_since D.unsynced c.self.invariant j1 j1.disk h (moves.all_firm D.honest D.moment D.crash_states_since D.unsynced j.disk j1.disk (Outside j.slot) (w.apart h)) w.same.1 w.same.2 w.bodies.0)
     (λ h1 o out. let h = w.honest.1 h1 in ⊎_elim (λ a. inl a) (λ b. inr (begun j1.phase, b)) (moves.exit_has D.honest D.moment D.crash_states_since D.unsynced m.counts_now j.disk j1.disk _ (leaves h) h1 o out))
     (λ h1 at well. absurd (well c.in_default-sync.ensures.phase.1))
@@ -50,6 +50,7 @@ returns-in_default-sync g c =
       err = (refl, refl, refl);
       phase = refl;
       fault = steps.breaks D.faults (λ e. c.in_default.not-Failed (c.phase.ensures.phase ∙ e)) c.in_default-sync.ensures.phase.1 (search rules) refl w.same.1 w.same.2 w.bodies.0;
+      takes_room = tt;
       called = inr w.called;
       any_moment = λ h. leaves_map D.moment D.crash_states_since j.disk j1.disk _ _ (λ o e. ⊎_elim (λ a. inl a) (λ b. inr (begun j.phase, b)) e) (leaves h);
       exit = (λ h1 o out. let h = w.honest.1 h1 in ⊎_elim (λ a. inl a) (λ b. inr (begun j1.phase, b)) (moves.exit_has D.honest D.moment D.crash_states_since D.unsynced m.counts_now j.disk j1.disk _ (leaves h) h1 o out));
@@ -109,6 +110,7 @@ returns g c =
       err = tt;
       phase = tt;
       fault = tt;
+      takes_room = steps.takes_room D.honest D.bytes D.moment D.crash_states_since D.unsynced c.self.invariant f j2 (v.same.1 ∙ w.same.1) (v.same.2 ∙ w.same.2) bodies;
       called = ap (λ (d : g.row.D.Denot). D.calls d) v.disk ∙ w.called;
       any_moment = rw v.disk (λ h. leaves_map D.moment D.crash_states_since j.disk j1.disk _ _ (λ o e. ⊎_elim (λ a. inl a) (λ b. inr (begun j.phase, b)) e) (leaves h));
       exit = sound.now;

@@ -5,3 +5,6 @@ pub returns-clause-outcomes : goal.returns-clause-outcomes
 returns-clause-outcomes g c =
     let D = g.D.Disk in let m = g.met.D.Disk in
     rw (← c.self.view_is) (steps.outcomes D.honest D.bytes D.unsynced D.moment D.crash_states_since m.present m.only_now c.self.invariant.0)
+
+pub returns-clause-begun : goal.returns-clause-begun
+returns-clause-begun g c = rw (← c.self.view_is) (steps.begun_is c.self.inside.held)

@@ -1,11 +1,22 @@
-use Rattle.std.proofs.Common.{rules, ◌≡◌, ◌++◌, List, length, refl, sym, ap, ◌∙◌, arith}
+use Rattle.std.proofs.Common.{rules, ◌≡◌, ◌++◌, List, length, refl, sym, ap, subst, ◌∙◌, arith}
+use Rattle.fp_disk.specs.declared.history.CallKind.TheVariants.{Sync}
 use Rattle.fp_edit.specs.Edits.{Change}
-use Rattle.fp_journal.specs.declared.journal.Phase.TheVariants.{GateOpened}
-use Rattle.fp_group_commit.specs.Tokens.{Identity}
-use Rattle.fp_group_commit.proofs.Moves as moves
 use Rattle.fp_edit.proofs.Runs.{revision-after_all}
+use Rattle.fp_journal.specs.declared.journal.Phase.TheVariants.{Idle, GateOpened}
+use Rattle.fp_group_commit.specs.Tokens.{Identity}
+use Rattle.fp_world.specs.Machine.{Seals, gate_opened}
+use Rattle.fp_disk.specs.Outcomes.{LeavesOnly}
+use Rattle.fp_world.specs.World.{KeptFrom, WorldState, in_flight_at, is_in_flight, machine, progress_of}
+use Rattle.fp_world.specs.declared.event.Answer.TheVariants as answer
+use Rattle.fp_world.specs.declared.world.Held.TheVariants as held
+use Rattle.fp_group_commit.proofs.Moves as moves
+use Rattle.fp_world.proofs.Goes as goes
 use Rattle.fp_world.proofs.Keeps as keeps
+use Rattle.fp_world.proofs.Sound as sound
 use Rattle.fp_world.proofs.world.World.sync_gate.Goals as goal
+
+pub returns-then-failed-clause-steps : goal.returns-then-failed-clause-steps
+returns-then-failed-clause-steps g c = rw (← c.self.view_is) (goes.ill_by c.failed.result c.self.inside.store.journal.phase c.failed.ensures c.if-failed.true, refl)
 
 pub returns-then-failed-clause-any_moment : goal.returns-then-failed-clause-any_moment
 returns-then-failed-clause-any_moment g c = let D = g.D.Disk in let m = g.met.D.Disk in rw (← c.self.view_is) (λ h. keeps.still D.honest D.moment D.crash_states_since D.unsynced c.self.invariant m.only_now h)
@@ -14,39 +25,80 @@ pub returns-then-failed-clause-exit : goal.returns-then-failed-clause-exit
 returns-then-failed-clause-exit g c = let D = g.D.Disk in rw (← c.self.view_is) (λ h o out. keeps.kept_now D.honest D.moment D.crash_states_since D.unsynced c.self.invariant h o out)
 
 pub returns-in_default : goal.returns-in_default
-returns-in_default g c = let D = g.D.Disk in let m = g.met.D.Disk in rw (← c.self.view_is) (record {
-  tells = tt;
-  same = (refl, refl, refl);
-  any_moment = λ h. keeps.still D.honest D.moment D.crash_states_since D.unsynced c.self.invariant m.only_now h;
-  exit = λ h o out. keeps.kept_now D.honest D.moment D.crash_states_since D.unsynced c.self.invariant h o out;
-  honest = (λ h. h, λ h. h);
-})
+returns-in_default g c =
+    let D = g.D.Disk in let m = g.met.D.Disk in let s = c.self.inside.store in let d = c.self.inside.desk in let h = c.self.inside.held in let told = c.self.inside.told in let i = c.self.invariant in
+    rw (← c.self.view_is) (record {
+      steps = (goes.well_by c.failed.result s.journal.phase c.failed.ensures c.if-failed.false, (λ at. c.in_default.not-GateOpened (c.phase.ensures.phase ∙ goes.when_opened s d h i.out at)), refl);
+      tells = tt;
+      same = (refl, refl, refl);
+      any_moment = λ h0. keeps.still D.honest D.moment D.crash_states_since D.unsynced i m.only_now h0;
+      exit = λ h0 o out. keeps.kept_now D.honest D.moment D.crash_states_since D.unsynced i h0 o out;
+      honest = (λ h0. h0, λ h0. h0);
+      called = refl;
+      cause = refl;
+    })
 
 pub invariant_of-self : goal.invariant_of-self
 invariant_of-self g c =
-    let s = c.self.inside.store in let d = c.self.inside.desk in let w = c.in-Ok.ensures in
+    let D = g.D.Disk in let m = g.met.D.Disk in let s = c.self.inside.store in let d = c.self.inside.desk in let h = c.self.inside.held in let told = c.self.inside.told in let i = c.self.invariant in
+    let w = c.sync_gate.ensures in let n = c.sync_gate.new.self in
     let at : s.step ≡ GateOpened = search rules in
-    let f = keeps.in_flight s d c.self.inside.held c.self.invariant.out at in
-    let start = ap (λ (x : Identity). x.start.revision) c.self.invariant.same in let len = ap length f.0 in let place = w.batch.1 in let all = revision-after_all s.store.start s.sealed in
-    rw c.replace.ensures.after (record {
-      same = c.self.invariant.same ∙ sym w.store;
-      out = (w.ok.step, w.sealed ∙ ap (λ (l : List Change). l ++ s.staged) f.0 ∙ ap (λ (l : List Change). d.settled ++ l) f.1, w.receipt.0, w.batch.0 ∙ f.1, omega (arith, place, start, len, all), f.2);
-      low = c.self.invariant.low;
-      now = w.exit;
+    let busy = goes.unless s.step GateOpened at (λ (e : GateOpened ≡ Idle). absurd cc) in
+    let point : progress_of h s.step ≡ gate_opened = goes.in_air s d h i.out busy s.step ∙ ap in_flight_at at in
+    let leaves : D.honest s.journal.disk → LeavesOnly D.moment D.crash_states_since s.journal.disk n.journal.disk (KeptFrom d told) = (λ h0. keeps.kept_leaves D.honest D.moment D.crash_states_since D.unsynced i n.journal.disk (w.any_moment h0)) in
+    let w = c.in-Ok.ensures in
+    let f = keeps.in_flight s d h i.out at in
+    let start = ap (λ (x : Identity). x.start.revision) i.same in let len = ap length f.0 in let place = w.batch.1 in let all = revision-after_all s.store.start s.sealed in
+    rw c.replace.ensures.after (sound.went D.honest D.unsynced i (held.Sealed c.in-Ok.receipt) n w.store (w.ok.step, w.sealed ∙ ap (λ (l : List Change). l ++ s.staged) f.0 ∙ ap (λ (l : List Change). d.settled ++ l) f.1, w.receipt.0, w.batch.0 ∙ f.1, omega (arith, place, start, len, all), f.2) w.exit)
+
+pub invariant_of-self-in-Err : goal.invariant_of-self-in-Err
+invariant_of-self-in-Err g c =
+    let D = g.D.Disk in let m = g.met.D.Disk in let s = c.self.inside.store in let d = c.self.inside.desk in let h = c.self.inside.held in let told = c.self.inside.told in let i = c.self.invariant in
+    let w = c.sync_gate.ensures in let n = c.sync_gate.new.self in
+    let at : s.step ≡ GateOpened = search rules in
+    let busy = goes.unless s.step GateOpened at (λ (e : GateOpened ≡ Idle). absurd cc) in
+    let point : progress_of h s.step ≡ gate_opened = goes.in_air s d h i.out busy s.step ∙ ap in_flight_at at in
+    let leaves : D.honest s.journal.disk → LeavesOnly D.moment D.crash_states_since s.journal.disk n.journal.disk (KeptFrom d told) = (λ h0. keeps.kept_leaves D.honest D.moment D.crash_states_since D.unsynced i n.journal.disk (w.any_moment h0)) in
+    let e = c.in-Err.ensures in
+    let on : n.step ≡ GateOpened = e.phase ∙ at in
+    sound.went D.honest D.unsynced i h n e.err.0 (sound.out_moved s n d h i.out busy e.err.1 e.err.2 (ap is_in_flight on)) e.exit
+
+pub returns-in-Ok : goal.returns-in-Ok
+returns-in-Ok g c =
+    let D = g.D.Disk in let m = g.met.D.Disk in let s = c.self.inside.store in let d = c.self.inside.desk in let h = c.self.inside.held in let told = c.self.inside.told in let i = c.self.invariant in
+    let w = c.sync_gate.ensures in let n = c.sync_gate.new.self in
+    let at : s.step ≡ GateOpened = search rules in
+    let busy = goes.unless s.step GateOpened at (λ (e : GateOpened ≡ Idle). absurd cc) in
+    let point : progress_of h s.step ≡ gate_opened = goes.in_air s d h i.out busy s.step ∙ ap in_flight_at at in
+    let leaves : D.honest s.journal.disk → LeavesOnly D.moment D.crash_states_since s.journal.disk n.journal.disk (KeptFrom d told) = (λ h0. keeps.kept_leaves D.honest D.moment D.crash_states_since D.unsynced i n.journal.disk (w.any_moment h0)) in
+    let k = c.in-Ok.ensures in let f = keeps.in_flight s d h i.out at in let ok = k.ok in
+    rw (← c.self.view_is, c.replace.ensures.after) (record {
+      steps = goes.seals D.faults h c.in-Ok.receipt s n d told c.revision.result i.same ok k.takes_room k.store f.0 f.1 k.sealed point c.revision.ensures;
+      tells = tt;
+      same = (refl, refl, k.store);
+      any_moment = leaves;
+      exit = λ h1. let h0 = w.honest.1 h1 in moves.exit_has D.honest D.moment D.crash_states_since D.unsynced m.counts_now s.journal.disk n.journal.disk _ (leaves h0) h1;
+      honest = w.honest;
+      called = k.called;
+      cause = ok.no_failure;
     })
 
-pub returns-in-Ok-clause-any_moment : goal.returns-in-Ok-clause-any_moment
-returns-in-Ok-clause-any_moment g c = let D = g.D.Disk in rw (← c.self.view_is) (λ h. keeps.kept_leaves D.honest D.moment D.crash_states_since D.unsynced c.self.invariant c.sync_gate.new.self.journal.disk (c.sync_gate.ensures.any_moment h))
-
-pub returns-in-Ok-clause-exit : goal.returns-in-Ok-clause-exit
-returns-in-Ok-clause-exit g c = λ h1.
-    let D = g.D.Disk in let m = g.met.D.Disk in let w = c.sync_gate.ensures in let h = w.honest.1 h1 in
-    moves.exit_has D.honest D.moment D.crash_states_since D.unsynced m.counts_now c.self.inside.store.journal.disk c.sync_gate.new.self.journal.disk _ (keeps.kept_leaves D.honest D.moment D.crash_states_since D.unsynced c.self.invariant c.sync_gate.new.self.journal.disk (w.any_moment h)) h1
-
-pub returns-in-Err-clause-any_moment : goal.returns-in-Err-clause-any_moment
-returns-in-Err-clause-any_moment g c = let D = g.D.Disk in rw (← c.self.view_is) (λ h. keeps.kept_leaves D.honest D.moment D.crash_states_since D.unsynced c.self.invariant c.sync_gate.new.self.journal.disk (c.sync_gate.ensures.any_moment h))
-
-pub returns-in-Err-clause-exit : goal.returns-in-Err-clause-exit
-returns-in-Err-clause-exit g c = λ h1.
-    let D = g.D.Disk in let m = g.met.D.Disk in let w = c.sync_gate.ensures in let h = w.honest.1 h1 in
-    moves.exit_has D.honest D.moment D.crash_states_since D.unsynced m.counts_now c.self.inside.store.journal.disk c.sync_gate.new.self.journal.disk _ (keeps.kept_leaves D.honest D.moment D.crash_states_since D.unsynced c.self.invariant c.sync_gate.new.self.journal.disk (w.any_moment h)) h1
+pub returns-in-Err : goal.returns-in-Err
+returns-in-Err g c =
+    let D = g.D.Disk in let m = g.met.D.Disk in let s = c.self.inside.store in let d = c.self.inside.desk in let h = c.self.inside.held in let told = c.self.inside.told in let i = c.self.invariant in
+    let w = c.sync_gate.ensures in let n = c.sync_gate.new.self in
+    let at : s.step ≡ GateOpened = search rules in
+    let busy = goes.unless s.step GateOpened at (λ (e : GateOpened ≡ Idle). absurd cc) in
+    let point : progress_of h s.step ≡ gate_opened = goes.in_air s d h i.out busy s.step ∙ ap in_flight_at at in
+    let leaves : D.honest s.journal.disk → LeavesOnly D.moment D.crash_states_since s.journal.disk n.journal.disk (KeptFrom d told) = (λ h0. keeps.kept_leaves D.honest D.moment D.crash_states_since D.unsynced i n.journal.disk (w.any_moment h0)) in
+    let e = c.in-Err.ensures in let f = c.in-Err.fault in
+    rw (← c.self.view_is) (record {
+      steps = subst (λ (x : WorldState g.row.D.Denot). Seals (machine x) (answer.Fault f) (goes.At h n d told)) c.self.view_is (goes.seal_fails D.faults f h s n d told e.fault e.phase point);
+      tells = tt;
+      same = (refl, refl, e.err.0);
+      any_moment = leaves;
+      exit = λ h1. let h0 = w.honest.1 h1 in moves.exit_has D.honest D.moment D.crash_states_since D.unsynced m.counts_now s.journal.disk n.journal.disk _ (leaves h0) h1;
+      honest = w.honest;
+      called = goes.calls_of_fail D.faults D.calls Sync f s n e.fault e.called;
+      cause = goes.rise_of_fail D.faults f s n e.fault;
+    })

@@ -1,0 +1,171 @@
+-- What a command does with the file that its words name.
+use Rattle.std.specs.Prelude.{◌≡◌, ◌≢◌, ◌⊎◌, ◌<◌, ◌+◌, ◌^◌, ℕ, List, [], ◌∷◌, Bool, Option, Result, Ok, Err, IfErr, OnOk, IfOk, IfSome}
+use Rattle.fp_disk.specs.Crashes.{AtAnyMoment, SameHonesty}
+use Rattle.fp_disk.specs.History.{Makes}
+use Rattle.fp_disk.specs.Outcomes.{all_synced}
+use Rattle.fp_disk.specs.declared.disk.Disk.{Ghosts as DiskGhosts}
+use Rattle.fp_disk.specs.declared.history.CallKind.TheVariants.{Length}
+use Rattle.fp_files.specs.Lending.{IsLentOnce, IsNotOpened, IsThere, IsThereOrNew}
+use Rattle.fp_files.specs.declared.files.DiskFiles.{Ghosts as FileGhosts}
+use Rattle.fp_layout.specs.NewDisk.{IsNewDisk, format_calls}
+use Rattle.fp_recovery.specs.Durable.{IsNewSetOrNone, IsDurable}
+use Rattle.fp_session.specs.Run.{IsApplied, IsLeftBy, IsStoppedBy}
+use Rattle.fp_streams.specs.Failures.{Stream}
+use Rattle.fp_commands.specs.Disks.{Applies, Blames, IfFileRefused, IfRefused, Imports, IsApplyingFault, IsImportingFault, IsLeftByImport, IsLeftOnDisk, IsMakingFault, IsOnlyRead, IsRunOnDisk, IsShowingFault, IsShown, IsStreamFault, IsStoppedByImport, LacksRoom}
+use Rattle.fp_commands.specs.Eval.{IsEvaluated}
+use Rattle.fp_commands.specs.Task.{no_flags}
+use Rattle.fp_commands.specs.declared.fault.CommandFault.{CommandFault}
+use Rattle.fp_commands.specs.declared.fault.CommandFault.TheVariants.{Device, Memory, NotEmpty, StoreFailed}
+use Rattle.fp_commands.specs.declared.program.Task.{Task}
+use Rattle.fp_commands.specs.declared.program.Task.TheVariants.{Apply, InitFile, ApplyFile, ShowFile, ImportFile, EvalFile}
+
+-- what a command reads from, writes to and opens, at a moment
+pub record Outside (F R W : Type 0) : Type 0 where
+  pub files : F
+  pub reader : Stream R
+  pub writer : Stream W
+
+-- how often its streams have failed
+abbrev pub failures : {F R W : Type 0} → Outside F R W → ℕ
+failures o = o.reader.failures + o.writer.failures
+
+-- over memory: what a run from no flags writes, or that memory ran out or a stream failed
+abbrev pub AppliesInMemory : {R W : Type 0} → (R → Option (List ℕ)) → (W → Option (List ℕ)) → Stream R → Stream R
+    → Stream W → Stream W → Result (Unit {0}) CommandFault → Type 0
+AppliesInMemory remaining contents r0 r w0 w (Ok x) = IfSome (remaining r0.inner) (λ input.
+    IsApplied no_flags input (contents w0.inner) (contents w.inner))
+AppliesInMemory remaining contents r0 r w0 w (Err f) = IsStreamFault f
+    × Blames {A = Unit {0}} (r0.failures + w0.failures) (r.failures + w.failures) (Err f)
+
+-- ---- what becomes of a disk: by these, as `init_disk`, `show_disk`, `apply_disk` and `import_disk` promise it
+
+-- a disk of no flags was made of an empty one
+pub record MakesDisk {F R W D : Type 0} (disk : DiskGhosts D) (old new : Outside F R W)
+    (before after : D) (outcome : Result (Unit {0}) CommandFault) : Type 0 where
+  pub unread : new.reader ≡ old.reader
+  pub nothing_written : new.writer ≡ old.writer
+  pub made : disk.honest before → OnOk outcome (IsNewDisk (2 ^ 24) (disk.bytes after))
+  pub sure : disk.honest before → OnOk outcome (IsDurable (disk.unsynced after) no_flags)
+  pub empty : disk.honest before → OnOk outcome (disk.bytes before ≡ [])
+  pub not_empty : disk.honest before → IfErr outcome (λ f. f ≡ NotEmpty
+      → (disk.bytes before ≢ []) × (disk.bytes after ≡ disk.bytes before))
+  pub memory : disk.honest before → IfErr outcome (λ f. f ≡ Memory
+      → (disk.bytes after ≡ disk.bytes before) × (disk.unsynced after ≡ disk.unsynced before))
+  pub any_moment : disk.unsynced before ≡ all_synced []
+      → AtAnyMoment disk before after (IsNewSetOrNone (2 ^ 24))
+  pub called : Makes (Length ∷ format_calls) (disk.calls before) (disk.calls after) outcome
+  pub fault : IfErr outcome IsMakingFault
+  pub cause : IfErr outcome (λ f. f ≡ Device → disk.faults before < disk.faults after)
+  pub honest : SameHonesty disk before after
+
+-- the line of what the disk stands for was written, and nothing on the disk
+pub record ShowsDisk {F R W D : Type 0} (disk : DiskGhosts D) (contents : W → Option (List ℕ))
+    (old new : Outside F R W) (before after : D) (outcome : Result (Unit {0}) CommandFault) : Type 0 where
+  pub unread : new.reader ≡ old.reader
+  pub shown : OnOk outcome (IsShown (disk.honest before) (disk.bytes before)
+      (contents old.writer.inner) (contents new.writer.inner))
+  pub only_read : IsOnlyRead disk before after
+  pub fault : IfErr outcome (IsShowingFault (disk.honest before) (disk.bytes before))
+  pub nothing_written : IfErr outcome (IfRefused (new.writer ≡ old.writer))
+  pub device : Blames (disk.faults before + old.writer.failures)
+      (disk.faults after + new.writer.failures) outcome
+  pub no_failure : OnOk outcome (disk.faults after ≡ disk.faults before)
+  pub honest : SameHonesty disk before after
+
+-- the lines that were read were answered, and led what the disk stood for to what it stands for
+pub record AppliesToDisk {F R W D : Type 0} (disk : DiskGhosts D) (remaining : R → Option (List ℕ))
+    (contents : W → Option (List ℕ)) (old new : Outside F R W) (before after : D)
+    (outcome : Result Bool CommandFault) : Type 0 where
+  pub run : IfOk outcome (λ told. IsRunOnDisk (disk.honest before) (disk.bytes before)
+      (disk.unsynced after) (remaining old.reader.inner)
+      (Applies told (contents old.writer.inner) (contents new.writer.inner)))
+  pub left : disk.honest before → IfErr outcome (λ f. f ≢ StoreFailed
+      → IsLeftOnDisk (disk.bytes before) (disk.bytes after) (remaining old.reader.inner) IsLeftBy)
+  pub fault : IfErr outcome (IsApplyingFault (disk.honest before) (disk.bytes before))
+  pub nothing_written : IfErr outcome (IfRefused (new.writer ≡ old.writer))
+  pub only_read : IfErr outcome (IfRefused (IsOnlyRead disk before after))
+  pub unread : IfErr outcome (IfFileRefused (new.reader ≡ old.reader))
+  pub cause : IfErr outcome (λ f. f ≡ StoreFailed
+      → LacksRoom (disk.honest before) (disk.bytes before) (disk.unsynced after)
+      (remaining old.reader.inner) IsStoppedBy ⊎ (disk.faults before < disk.faults after))
+  pub device : Blames (disk.faults before + failures old) (disk.faults after + failures new) outcome
+  pub no_failure : OnOk outcome (disk.faults after ≡ disk.faults before)
+  pub honest : SameHonesty disk before after
+
+-- the same of the puts of a document
+pub record ImportsToDisk {F R W D : Type 0} (disk : DiskGhosts D) (remaining : R → Option (List ℕ))
+    (contents : W → Option (List ℕ)) (old new : Outside F R W) (before after : D)
+    (outcome : Result Bool CommandFault) : Type 0 where
+  pub run : IfOk outcome (λ told. IsRunOnDisk (disk.honest before) (disk.bytes before)
+      (disk.unsynced after) (remaining old.reader.inner)
+      (Imports told (contents old.writer.inner) (contents new.writer.inner)))
+  pub left : disk.honest before → IfErr outcome (λ f. f ≢ StoreFailed → IsLeftOnDisk
+      (disk.bytes before) (disk.bytes after) (remaining old.reader.inner) IsLeftByImport)
+  pub fault : IfErr outcome (IsImportingFault (disk.honest before) (disk.bytes before)
+      (remaining old.reader.inner))
+  pub nothing_written : IfErr outcome (IfRefused (new.writer ≡ old.writer))
+  pub only_read : IfErr outcome (IfRefused (IsOnlyRead disk before after))
+  pub unread : IfErr outcome (IfFileRefused (new.reader ≡ old.reader))
+  pub cause : IfErr outcome (λ f. f ≡ StoreFailed
+      → LacksRoom (disk.honest before) (disk.bytes before) (disk.unsynced after)
+      (remaining old.reader.inner) IsStoppedByImport ⊎ (disk.faults before < disk.faults after))
+  pub device : Blames (disk.faults before + failures old) (disk.faults after + failures new) outcome
+  pub no_failure : OnOk outcome (disk.faults after ≡ disk.faults before)
+  pub honest : SameHonesty disk before after
+
+-- the reply for a flag of what the disk stands for was written, and nothing on the disk
+pub record EvaluatesOnDisk {F R W D : Type 0} (disk : DiskGhosts D) (remaining : R → Option (List ℕ))
+    (contents : W → Option (List ℕ)) (old new : Outside F R W) (key : List ℕ) (now : ℕ)
+    (before after : D) (outcome : Result (Unit {0}) CommandFault) : Type 0 where
+  pub evaluated : OnOk outcome (IsEvaluated (disk.honest before) (disk.bytes before) key now
+      (remaining old.reader.inner) (contents old.writer.inner) (contents new.writer.inner))
+  pub only_read : IsOnlyRead disk before after
+  pub fault : IfErr outcome (IsShowingFault (disk.honest before) (disk.bytes before))
+  pub unread : IfErr outcome (IfFileRefused (new.reader ≡ old.reader))
+  pub nothing_written : IfErr outcome (IfRefused (new.writer ≡ old.writer))
+  pub device : Blames (disk.faults before + failures old) (disk.faults after + failures new) outcome
+  pub no_failure : OnOk outcome (disk.faults after ≡ disk.faults before)
+  pub honest : SameHonesty disk before after
+
+-- ---- over files
+
+-- A file was opened alone, the disk that was found there became another, which stands there now, and this is what was done with it
+pub record OverFile {F D : Type 0} (files : FileGhosts F D) (disk : DiskGhosts D) (old new : F)
+    (path : List ℕ) (Found : D → Type 0) (Does : D → D → Type 0) : Type 0 where
+  pub before : D
+  pub after : D
+  pub found : Found before
+  pub lent : IsLentOnce files disk old new path after
+  pub does : Does before after
+
+-- the file wasn't opened, for which a device is blamed, and nothing was read or written
+pub record FailsToOpen {F R W D : Type 0} (files : FileGhosts F D) (old new : Outside F R W)
+    (path : List ℕ) (fault : CommandFault) : Type 0 where
+  pub not_opened : IsNotOpened files old.files new.files path
+  pub is_device : fault ≡ Device
+  pub unread : new.reader ≡ old.reader
+  pub nothing_written : new.writer ≡ old.writer
+
+-- what a task over the disk at a path comes to
+abbrev pub OnFile : {F R W D A : Type 0} → FileGhosts F D → DiskGhosts D → Outside F R W → Outside F R W
+    → List ℕ → (D → Type 0) → (D → D → Result A CommandFault → Type 0) → Result (Unit {0}) CommandFault → Type 0
+OnFile {A = A} files disk old new path Found Does (Ok x) =
+    (a : A) × OverFile files disk old.files new.files path Found (λ before after. Does before after (Ok a))
+OnFile files disk old new path Found Does (Err f) = FailsToOpen files old new path f
+    ⊎ OverFile files disk old.files new.files path Found (λ before after. Does before after (Err f))
+
+-- what a task comes to: it is done, or this fault ended it. Over memory no file is opened
+abbrev pub Performs : {F R W D : Type 0} → FileGhosts F D → DiskGhosts D → (R → Option (List ℕ)) → (W → Option (List ℕ))
+    → Outside F R W → Outside F R W → Task → List ℕ → List ℕ → ℕ → Result (Unit {0}) CommandFault → Type 0
+Performs files disk remaining contents old new Apply path key now outcome = (new.files ≡ old.files)
+    × AppliesInMemory remaining contents old.reader new.reader old.writer new.writer outcome
+Performs files disk remaining contents old new InitFile path key now outcome =
+    OnFile files disk old new path (IsThereOrNew files disk old.files path) (MakesDisk disk old new) outcome
+Performs files disk remaining contents old new ShowFile path key now outcome =
+    OnFile files disk old new path (IsThere files old.files path) (ShowsDisk disk contents old new) outcome
+Performs files disk remaining contents old new ApplyFile path key now outcome =
+    OnFile files disk old new path (IsThere files old.files path) (AppliesToDisk disk remaining contents old new) outcome
+Performs files disk remaining contents old new ImportFile path key now outcome =
+    OnFile files disk old new path (IsThere files old.files path) (ImportsToDisk disk remaining contents old new) outcome
+Performs files disk remaining contents old new EvalFile path key now outcome =
+    OnFile files disk old new path (IsThere files old.files path) (EvaluatesOnDisk disk remaining contents old new key now) outcome

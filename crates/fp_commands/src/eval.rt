@@ -1,0 +1,103 @@
+//! The evaluation of one flag of what a disk stands for.
+
+ghost use Rattle.std.specs.Prelude.{◌≡◌, ◌<◌, ◌+◌, ◌^◌, [], ◌∷◌, IfOk, IfErr, OnOk};
+ghost use Rattle.fp_disk.specs.Crashes.{AtAnyMoment, SameHonesty};
+ghost use Rattle.fp_disk.specs.History.{MakesSome};
+ghost use Rattle.fp_disk.specs.Outcomes.{IsOutcome};
+ghost use Rattle.fp_disk.specs.declared.history.CallKind.TheVariants.{Length, Read, Sync};
+ghost use Rattle.fp_ofrep.specs.Seen.{seen};
+ghost use Rattle.fp_commands.specs.Disks.{Blames, IfFileRefused, IfRefused, IsShowingFault, IsStreamFault};
+ghost use Rattle.fp_commands.specs.Eval.{IsAnswered, IsEvaluated, reply_line};
+
+use crate::fault::CommandFault;
+use fp_desk::Desk;
+use fp_disk::Disk;
+use fp_group_commit::{Opening, Store};
+use fp_ofrep::{Body, Reply, answer_for};
+use fp_publish::Published;
+use fp_streams::FailureCounted;
+use itoa::Buffer;
+use std::alloc::{AllocError, Global};
+use std::io::{Read, Write};
+
+/// Writes the reply to the evaluation request that the reader gives, for the flag of this key in what a disk stands for, at a
+/// moment in seconds since 1970. Nothing is written on the disk.
+pub fn eval_disk<D: Disk, R: Read, W: Write>(
+    alloc: Global,
+    r: &mut FailureCounted<R>,
+    w: &mut FailureCounted<W>,
+    disk: D,
+    key: &str,
+    now: u64,
+) -> (D, Result<(), CommandFault>)
+    requires { now < 2 ^ 63 }
+    ensures evaluated { OnOk result.1 (IsEvaluated (D.honest disk) (D.bytes disk) key.now now
+        (R.remaining r.old.inner) (W.contents w.old.inner) (W.contents w.new.inner)) }
+    ensures same { D.honest disk → D.bytes result.0 ≡ D.bytes disk }
+    ensures any_moment { AtAnyMoment D.Disk disk result.0 (IsOutcome (D.unsynced disk)) }
+    ensures called { MakesSome (Sync ∷ Length ∷ Read ∷ []) (D.calls disk) (D.calls result.0) }
+    ensures fault { IfErr result.1 (IsShowingFault (D.honest disk) (D.bytes disk)) }
+
+    // A disk is refused before anything is read or written.
+    ensures unread { IfErr result.1 (IfFileRefused (r.new ≡ r.old)) }
+    ensures nothing_written { IfErr result.1 (IfRefused (w.new ≡ w.old)) }
+    ensures device { Blames (D.faults disk + (r.old.failures + w.old.failures))
+        (D.faults result.0 + (r.new.failures + w.new.failures)) result.1 }
+    ensures no_failure { OnOk result.1 (D.faults result.0 ≡ D.faults disk) }
+    ensures honest { SameHonesty D.Disk disk result.0 }
+{
+    match Store::open(alloc, disk) {
+        Ok((store, opening)) => {
+            let outcome = eval(alloc, r, w, opening, key, now);
+            (store.into_disk(), outcome)
+        }
+        Err((fault, disk)) => (disk, Err(fault.into())),
+    }
+}
+
+// Writes the reply over the set that a store was opened with.
+fn eval<R: Read, W: Write>(
+    alloc: Global,
+    r: &mut FailureCounted<R>,
+    w: &mut FailureCounted<W>,
+    opening: Opening,
+    key: &str,
+    now: u64,
+) -> Result<(), CommandFault>
+    requires { now < 2 ^ 63 }
+    ensures answered { OnOk result (IsAnswered opening.start key.now now
+        (R.remaining r.old.inner) (W.contents w.old.inner) (W.contents w.new.inner)) }
+    ensures fault { IfErr result IsStreamFault }
+    ensures device { Blames (r.old.failures + w.old.failures) (r.new.failures + w.new.failures) result }
+{
+    let published = published_of(alloc, opening)?;
+    let body = r.read_to_end(alloc)?;
+    let reply = answer_for(alloc, &published.view(), key, Body::Whole(&body), now)?;
+    let line = line_of(alloc, &reply)?;
+    w.send(&line)?;
+    Ok(())
+}
+
+// What a desk publishes before any edit.
+fn published_of(alloc: Global, opening: Opening) -> Result<Published, AllocError>
+    ensures { IfOk result (λ p. p ≡ record { store = opening; edits = [] }) }
+{
+    match Desk::new(alloc, opening) {
+        Ok(desk) => Published::build(&desk),
+        Err((fault, _opening)) => Err(fault),
+    }
+}
+
+// The line that shows a reply.
+fn line_of(alloc: Global, reply: &Reply) -> Result<Vec<u8>, AllocError>
+    ensures { IfOk result (λ line. line.items ≡ reply_line (seen reply.now)) }
+{
+    let mut line = Vec::from_slice(
+        alloc,
+        Buffer::new().format(reply.status.as_u16()).as_bytes(),
+    )?;
+    line.push(b' ')?;
+    line.extend_from_slice(&reply.body)?;
+    line.push(b'\n')?;
+    Ok(line)
+}

@@ -1,0 +1,51 @@
+//! Files that are disks.
+
+ghost use Rattle.std.specs.Prelude.{◌≡◌, ◌⊎◌, [], ◌∷◌, ◌++◌, List, ℕ, Option, Some, None, IfOk, OnOk, OnErr};
+ghost use Rattle.fp_disk.specs.Outcomes.{Answers};
+ghost use Rattle.fp_files.specs.Openings.{KeepsAll, KeepsOthers};
+
+use fp_disk::{Disk, DiskFault};
+
+/// Files that are disks, each at its path. A disk that was opened is lent until it is closed.
+pub trait DiskFiles {
+    type Disk: Disk;
+
+    /// The disk at a path, as whoever had it last left it.
+    ghost at: { Self → List ℕ → Option Self.Disk };
+
+    /// That the disk at this path is lent.
+    ghost lent: { Self → List ℕ → Type 0 };
+
+    /// Which paths were to be opened so far, in order.
+    ghost asked: { Self → List (List ℕ) };
+
+    /// How often a file wasn't opened.
+    ghost faults: { Self → ℕ };
+
+    /// Lends the disk at this path, an empty one where there is none.
+    fn create(&mut self, path: &str) -> Result<Self::Disk, DiskFault>
+        ensures found { IfOk result (λ d. (at self.old path.now ≡ Some d)
+            ⊎ ((at self.old path.now ≡ None) × (Self.Disk.honest d → Self.Disk.bytes d ≡ []))) }
+        ensures lent { OnOk result (lent self.new path.now) }
+        ensures others { KeepsOthers at self.old self.new path.now }
+        ensures failed { OnErr result (KeepsAll at self.old self.new) }
+        ensures asked { asked self.new ≡ asked self.old ++ path.now ∷ [] }
+        ensures cause { Answers (faults self.old) (faults self.new) result };
+
+    /// Lends the disk at this path. It is a fault where there is none.
+    fn open(&mut self, path: &str) -> Result<Self::Disk, DiskFault>
+        ensures found { IfOk result (λ d. at self.old path.now ≡ Some d) }
+        ensures lent { OnOk result (lent self.new path.now) }
+        ensures others { KeepsOthers at self.old self.new path.now }
+        ensures failed { OnErr result (KeepsAll at self.old self.new) }
+        ensures asked { asked self.new ≡ asked self.old ++ path.now ∷ [] }
+        ensures cause { Answers (faults self.old) (faults self.new) result };
+
+    /// Takes back the disk of this path.
+    fn close(&mut self, path: &str, disk: Self::Disk)
+        ensures kept { lent self.old path.now → Self.Disk.honest disk
+            → at self.new path.now ≡ Some disk }
+        ensures others { KeepsOthers at self.old self.new path.now }
+        ensures asked { asked self.new ≡ asked self.old }
+        ensures faults { faults self.new ≡ faults self.old };
+}

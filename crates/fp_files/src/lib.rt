@@ -1,0 +1,12 @@
+//! What opens the disk at a path.
+#![tactic(auto)]
+
+mod files;
+mod openings;
+mod single;
+mod system;
+
+pub use files::DiskFiles;
+pub use openings::OpeningLog;
+pub use single::SingleFile;
+pub use system::SystemFiles;

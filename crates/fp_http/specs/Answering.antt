@@ -1,0 +1,35 @@
+-- The response to what was asked, by the replies that may be given to it.
+use Rattle.std.specs.Prelude.{◌≡◌, ℕ, List, Option, Some, None, Result, Ok, Err, min, option_map, string_bytes, length, ◌==◌, if◌then◌else◌}
+use Rattle.http.specs.declared.response.Parts.{Parts}
+use Rattle.http_body_util.specs.Collected.{collected_bytes}
+use Rattle.http_body_util.specs.declared.collected.Collected.{Collected}
+use Rattle.http_body_util.specs.declared.limited.LimitedError.{LimitedError}
+use Rattle.http_body_util.specs.declared.limited.LimitedError.TheVariants as limited
+use Rattle.fp_ofrep.specs.Response as reply
+use Rattle.fp_http.specs.Responses.{IsHeadOf}
+use Rattle.fp_http.specs.declared.asked.Asked.{Asked}
+use Rattle.fp_http.specs.declared.service.TheConstants.{LATEST}
+
+-- the replies to a method, a target, the text of `if-none-match`, a body and a moment
+abbrev pub Replies : Type 1
+Replies = List ℕ → List ℕ → Option (List ℕ) → Option (List ℕ) → ℕ → reply.Response → Type 0
+
+-- a reply to what was asked; no moment is later than the last one
+abbrev pub MayReply : Replies → Asked → Option (List ℕ) → ℕ → reply.Response → Type 0
+MayReply replies asked body moment said =
+    replies asked.method (string_bytes asked.target) (option_map (λ v. v.items) asked.if_none_match)
+    body (min moment LATEST) said
+
+-- what came is this body, or one that is too long
+abbrev pub WasCollected : {E : Type 0} → Result Collected (LimitedError E) → Option (List ℕ) → Type 0
+WasCollected (Ok whole) body = body ≡ Some (collected_bytes whole)
+WasCollected (Err limited.LengthLimit) body = body ≡ None
+WasCollected (Err (limited.Body cause)) body = ⊥
+
+-- a head and a body are sent for a reply that may be given
+pub record Answers (replies : Replies) (asked : Asked) (body : Option (List ℕ)) (moment : ℕ)
+    (head : Parts) (sent : Option (List ℕ)) : Type 0 where
+  pub said : reply.Response
+  pub may : MayReply replies asked body moment said
+  pub head_is : IsHeadOf said head
+  pub whole : sent ≡ (if length said.body == 0 then None else Some said.body)

@@ -1,0 +1,3 @@
+pub mod Responses
+pub mod Asking
+pub mod Answering

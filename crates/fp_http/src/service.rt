@@ -1,0 +1,160 @@
+//! The service that hyper asks: a request's reply once its body came.
+
+ghost use Rattle.std.specs.Prelude.{◌≡◌, ◌<◌, ◌^◌, ℕ, List, Option, IfOk, IfSome, IsSomeAnd, option_map, string_bytes};
+ghost use Rattle.std.specs.Option.{option_copied};
+ghost use Rattle.http.specs.Request.{head_of};
+ghost use Rattle.http.specs.Response as reply;
+ghost use Rattle.fp_ofrep.specs.Seen.{body_seen, seen};
+ghost use Rattle.fp_http.specs.Asking.{IsAsked};
+ghost use Rattle.fp_http.specs.Answering.{Answers as IsAnswer, MayReply, WasCollected};
+
+use crate::asked::Asked;
+use crate::evaluator::Evaluator;
+use crate::fault::NoReply;
+use crate::response::response_of;
+use bytes::Bytes;
+use fp_ofrep::{Body, LONGEST_BODY, Reply};
+use futures::Future;
+use futures::task::{Context, Poll};
+use http_body_util::combinators::Collect;
+use http_body_util::{BodyExt, Collected, Full, Limited, LimitedError};
+use hyper::body::Incoming;
+use hyper::service::Service;
+use hyper::{Request, Response};
+use std::alloc::Global;
+use std::cell::RefCell;
+use std::rc::Rc;
+
+/// The last moment that a reply knows, in seconds since 1970.
+pub const LATEST: u64 = 0x7fff_ffff_ffff_ffff;
+
+/// The evaluator of a connection, where it is still there.
+pub type Shared<E> = Rc<RefCell<Option<E>>>;
+
+/// A service over an evaluator, which it shares with the reply under way.
+#[derive(Drop)]
+pub struct Answers<E: Drop, N: Drop> {
+    pub alloc: Global,
+    pub evaluator: Shared<E>,
+    pub now: N,
+}
+
+/// The reply to one request, once its body came. What memory was wanting for is `None`.
+#[derive(Drop)]
+pub struct Answering<C: Drop, E: Drop> {
+    alloc: Global,
+    asked: Option<Asked>,
+    body: C,
+    evaluator: Option<Shared<E>>,
+    moment: u64,
+}
+
+impl<I: Drop, E: Evaluator, N: Fn() -> u64 + Drop> Service<Request<Incoming<I>>> for Answers<E, N> {
+    type Response = Response<Full<Bytes>>;
+
+    type Error = NoReply;
+
+    type Future = Answering<Collect<Limited<Incoming<I>>>, E>;
+
+    ghost can_call = { λ s. N.IsAlwaysCallable s.now };
+
+    ghost calls = { λ _ request future. IfSome future.asked (IsAsked (head_of request)) };
+
+    fn call(&self, request: Request<Incoming<I>>) -> Self::Future {
+        let moment = (self.now)();
+        Answering {
+            alloc: self.alloc,
+            asked: Asked::of(self.alloc, &request).ok(),
+            body: Limited::new(request.into_body(), LONGEST_BODY).collect(self.alloc),
+            evaluator: self.evaluator.clone().ok(),
+            moment,
+        }
+    }
+}
+
+impl<C, E> Future for Answering<C, E>
+where
+    C: Future<Output = Result<Collected, LimitedError<hyper::Error>>>,
+    E: Evaluator,
+{
+    type Output = Result<Response<Full<Bytes>>, NoReply>;
+
+    ghost can_poll = { λ f. C.can_poll f.body };
+
+    ghost needs = { λ f. C.needs f.body };
+
+    // A response is that of a reply which may be given to what was asked and to the body that came.
+    ghost gives = { λ f given. IfOk given (λ response. IsSomeAnd f.asked (λ asked.
+        (collected : _) × C.gives f.body collected × (body : Option (List ℕ))
+        × WasCollected collected body × IsAnswer E.replies asked body f.moment
+        (reply.head_of response) (reply.body_of response).buf)) };
+
+    fn poll(&mut self, cx: &mut Context<'_>) -> Poll<Self::Output> {
+        let collected = match self.body.poll(cx) {
+            Poll::Pending => return Poll::Pending,
+            Poll::Ready(collected) => collected,
+        };
+        Poll::Ready(answered(
+            self.alloc,
+            &self.asked,
+            collected,
+            &self.evaluator,
+            self.moment,
+        ))
+    }
+}
+
+// The body, or none where it is too long.
+fn whole_body(
+    collected: Result<Collected, LimitedError<hyper::Error>>,
+) -> Result<Option<Bytes>, NoReply>
+    ensures { IfOk result (WasCollected collected) }
+{
+    match collected {
+        Ok(whole) => whole.to_bytes().map(Some).map_err(|_| NoReply),
+        Err(LimitedError::LengthLimit) => Ok(None),
+        Err(LimitedError::Body(_cause)) => Err(NoReply),
+    }
+}
+
+// The response to a request whose body came.
+fn answered<E: Evaluator>(
+    alloc: Global,
+    asked: &Option<Asked>,
+    collected: Result<Collected, LimitedError<hyper::Error>>,
+    evaluator: &Option<Shared<E>>,
+    moment: u64,
+) -> Result<Response<Full<Bytes>>, NoReply>
+    ensures { IfOk result (λ response. IsSomeAnd asked.now (λ asked. (body : Option (List ℕ))
+        × WasCollected collected body × IsAnswer E.replies asked body moment
+        (reply.head_of response) (reply.body_of response).buf)) }
+{
+    let body = whole_body(collected)?;
+    let (Some(asked), Some(evaluator)) = (asked, evaluator) else {
+        return Err(NoReply);
+    };
+    let body = match &body {
+        Some(whole) => Body::Whole(whole.as_slice()),
+        None => Body::TooLong,
+    };
+    let reply = reply_to(alloc, evaluator, asked, body, moment)?;
+    response_of(alloc, reply)
+}
+
+// Asks the evaluator.
+fn reply_to<E: Evaluator>(
+    alloc: Global,
+    evaluator: &Shared<E>,
+    asked: &Asked,
+    body: Body<'_>,
+    moment: u64,
+) -> Result<Reply, NoReply>
+    ensures { IfOk result (λ reply.
+        MayReply E.replies asked.now (body_seen body.entry) moment (seen reply)) }
+{
+    let mut held = evaluator.try_borrow_mut().map_err(|_| NoReply)?;
+    let there = held.as_mut().ok_or(NoReply)?;
+    let tags = asked.if_none_match.as_ref().map(|tags| tags.as_slice());
+    let now = moment.min(LATEST);
+    there.answer(alloc, &asked.method, asked.target.as_str(), tags, body, now)
+}

@@ -1,0 +1,7 @@
+//! Tests, and nothing else: requests over a connection in memory.
+#![tactic(auto)]
+
+#[cfg(test)]
+mod connection;
+#[cfg(test)]
+mod peer;

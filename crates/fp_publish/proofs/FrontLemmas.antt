@@ -1,0 +1,21 @@
+-- Two fronts of one list.
+use Rattle.std.proofs.Common.{◌≡◌, ◌<◌, ◌≤◌, ◌+◌, ℕ, Bool, true, false, nat_lt, List, [], ◌∷◌, length, refl, arith}
+use Rattle.std.specs.Prelude.{MatchBool}
+use Rattle.std.proofs.lemmas.Bool.{ltb-true, ltb-false}
+use mathlib.Core.List.{IsPrefix}
+use Rattle.fp_edit.specs.Edits.{Change}
+
+-- the shorter one begins the longer
+shorter : (xs ys w : List Change) → IsPrefix xs w → IsPrefix ys w → length xs ≤ length ys → IsPrefix xs ys
+shorter [] ys w p q le = (ys, refl)
+shorter (x ∷ xs) [] w p q le = absurd (omega (arith, le))
+shorter (x ∷ xs) (y ∷ ys) [] p q le = absurd (cc (p.1))
+shorter (x ∷ xs) (y ∷ ys) (z ∷ w) p q le =
+    let here : x ≡ y = cc (p.1, q.1) in
+    let rest = shorter xs ys w (p.0, cc (p.1)) (q.0, cc (q.1)) (omega (arith, le)) in
+    (rest.0, cc (here, rest.1))
+
+-- the revisions tell which one begins the other
+pub compared : (b : Bool) (start m n : ℕ) (xs ys w : List Change) → nat_lt m n ≡ b → IsPrefix xs w → IsPrefix ys w → m ≡ start + length xs → n ≡ start + length ys → MatchBool b (IsPrefix xs ys × (length xs < length ys)) (IsPrefix ys xs)
+compared true start m n xs ys w is p q left right = let lt : m < n = ltb-true m n is in (shorter xs ys w p q (omega (arith, lt, left, right)), omega (arith, lt, left, right))
+compared false start m n xs ys w is p q left right = let le : n ≤ m = ltb-false m n is in shorter ys xs w q p (omega (arith, le, left, right))

@@ -1,0 +1,4 @@
+pub mod Board
+pub mod Evaluator
+pub mod Fronts
+pub mod Rule

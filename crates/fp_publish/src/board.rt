@@ -1,0 +1,220 @@
+//! The board: who publishes.
+
+ghost use Rattle.std.specs.Prelude.{◌≡◌, ◌<◌, ◌≤◌, true, None, drop, fold, IfOk, OnOk, OnErr, MatchOption};
+ghost use Rattle.fp_edit.specs.Following.{changes_of};
+ghost use Rattle.fp_desk.specs.Desk.{settled_front};
+ghost use Rattle.fp_group_commit.specs.Tokens.{front_revision};
+ghost use Rattle.fp_publish.specs.Fronts.{Begins};
+ghost use Rattle.fp_publish.specs.Rule.{applied, page_at, with_changes};
+ghost use Rattle.fp_publish.specs.declared.board.TheConstants.{MOST_EVALUATORS};
+
+use crate::evaluator::Evaluator;
+use crate::page::{Page, Step};
+use crate::published::{Published, View};
+use crate::rule::{Learns, OnlyGrows, Sees, Tells};
+use crate::shown::Shown;
+use fp_desk::Desk;
+use fp_edit::Edit;
+use fp_group_commit::{Part, Told};
+use left_right::writer::Writer;
+use std::alloc::{AllocError, Global};
+use std::marker::Model;
+use std::mem;
+use std::sync::Wait;
+
+/// The most evaluators of a board.
+pub const MOST_EVALUATORS: usize = 16;
+
+type Pages = Writer<Page, Step, Option<Part>, OnlyGrows>;
+
+/// What publishes. It is no `Drop`: `end` ends it.
+///
+/// `next` is the front that readers would take once the steps that are pending are taken, where `leads` says that they lead
+/// to one.
+pub struct Board {
+    writer: Option<Pages>,
+    shown: Shown,
+    next: Shown,
+    leads: bool,
+}
+
+impl Model for Board {
+    ghost use Rattle.std.specs.Coded.{codes};
+    ghost use Rattle.std.specs.Prelude.{IsSomeAnd, drop};
+    ghost use Rattle.left_right.specs.Sides.{view as view_of};
+    ghost use Rattle.fp_edit.specs.Flags.{coded_state};
+    ghost use Rattle.fp_group_commit.specs.Changes.{coded_change};
+    ghost use Rattle.fp_group_commit.specs.Tokens.{FrontState};
+    ghost use Rattle.fp_publish.specs.Board.{IsReady};
+
+    ghost Value = { FrontState };
+
+    ghost coded = { Prim.hlevel (codes, coded_state, coded_change) };
+
+    ghost view = { λ b. b.shown };
+
+    ghost invariant = { λ b. IsSomeAnd b.writer (λ w. IsReady w.desk.shown.value
+        (view_of w.desk.place) (drop w.behind w.log.items) b.shown b.next b.leads) };
+}
+
+// Appends one step.
+fn put(writer: &mut Pages, step: Step) -> Result<(), AllocError>
+    ensures desk { writer.new.desk ≡ writer.old.desk }
+    ensures appended { OnOk result ((p : Page)
+        → fold applied p (drop writer.new.behind writer.new.log.items)
+        ≡ applied (fold applied p (drop writer.old.behind writer.old.log.items)) step) }
+{
+    if writer.append(step).is_err() {
+        return Err(AllocError);
+    }
+    Ok(())
+}
+
+// Appends the edits.
+fn put_edits(writer: &mut Pages, edits: &[Edit]) -> Result<(), AllocError>
+    ensures desk { writer.new.desk ≡ writer.old.desk }
+    ensures appended { OnOk result ((p : Page)
+        → fold applied p (drop writer.new.behind writer.new.log.items)
+        ≡ with_changes (fold applied p (drop writer.old.behind writer.old.log.items)) (changes_of edits.now)) }
+{
+    for edit in edits {
+        put(writer, Step::Change(edit.try_copy()?))?;
+    }
+    Ok(())
+}
+
+// Appends what leads to the settled set: nothing, or the batch that was settled last, or all of the set.
+fn put_settled(writer: &mut Pages, next: &Shown, leads: bool, desk: &Desk) -> Result<(), AllocError>
+    requires store { next.now.store ≡ desk.now.store }
+    requires leads { leads ≡ true → fold applied writer.old.desk.shown.value
+        (drop writer.old.behind writer.old.log.items) ≡ page_at next.now }
+    ensures desk { writer.new.desk ≡ writer.old.desk }
+    ensures appended { OnOk result (fold applied writer.old.desk.shown.value
+        (drop writer.new.behind writer.new.log.items) ≡ page_at (settled_front desk.now)) }
+{
+    let told = Shown::of(&desk.told());
+    let last = desk.last_batch();
+    if leads && next.is_same(&told) {
+        return Ok(());
+    }
+    if leads && next.is_just_before(&told, last) {
+        put_edits(writer, last)?;
+        put(writer, Step::Settled(told.front()))?;
+        return Ok(());
+    }
+    let set = desk.settled_copy()?;
+    put(writer, Step::Whole(set, told.front()))
+}
+
+// Ends a writer, where there is one.
+fn end_writer<R: Wait>(rt: &R, writer: Option<Pages>) {
+    if let Some(writer) = writer {
+        writer.take(rt);
+    }
+}
+
+impl Board {
+    /// Shows the desk's settled set. There is room for so many evaluators.
+    pub fn new<R: Wait>(
+        rt: &R,
+        alloc: Global,
+        desk: &Desk,
+        evaluators: usize,
+    ) -> Result<Board, AllocError>
+        requires { (0 < evaluators) × (evaluators ≤ MOST_EVALUATORS) }
+        ensures { IfOk result (λ b. b ≡ settled_front desk.now) }
+    {
+        let shown = Shown::of(&desk.told());
+        let first = Published::build(desk)?.into_page();
+        let second = first.try_copy()?;
+        let writer: Pages = Writer::new(alloc, first, second, evaluators)?;
+        let (writer, done) = writer.publish_as::<Sees, R>(rt);
+        if done.is_err() {
+            writer.take(rt);
+            return Err(AllocError);
+        }
+        Ok(Board {
+            writer: Some(writer),
+            next: shown.again(),
+            shown,
+            leads: true,
+        })
+    }
+
+    /// An evaluator more, which knows what is shown. `Err` also where there is no room for it.
+    pub fn evaluator(&mut self) -> Result<Evaluator, AllocError>
+        ensures same { self.new ≡ self.old }
+        ensures made { IfOk result (λ e. e ≡ record { known = self.old; lent = None }) }
+    {
+        let known = self.shown.again();
+        let Some(writer) = &mut self.writer else {
+            unreachable!()
+        };
+        let mut reader = writer.factory().reader()?;
+        reader.learn::<Learns>(writer.tell::<Tells>());
+        Ok(Evaluator::new(reader, known))
+    }
+
+    /// Shows the desk's settled set. It may wait for evaluators that don't rest. At `Err` they take what they took, and the
+    /// next call goes on from there.
+    pub fn publish<R: Wait>(&mut self, rt: &R, desk: &Desk) -> Result<Shown, AllocError>
+        requires { Begins self.old (settled_front desk.now) }
+        ensures published { OnOk result (self.new ≡ settled_front desk.now) }
+        ensures shown { IfOk result (λ s. s ≡ self.new) }
+        ensures unchanged { OnErr result (self.new ≡ self.old) }
+    {
+        let told = Shown::of(&desk.told());
+        let Some(mut writer) = self.writer.take() else {
+            unreachable!()
+        };
+        let Ok(()) = put_settled(&mut writer, &self.next, self.leads, desk) else {
+            self.leads = false;
+            end_writer(rt, mem::replace(&mut self.writer, Some(writer)));
+            return Err(AllocError);
+        };
+        let (writer, done) = writer.publish_as::<Sees, R>(rt);
+        end_writer(rt, mem::replace(&mut self.writer, Some(writer)));
+        self.next = told.again();
+        self.leads = true;
+        if done.is_err() {
+            return Err(AllocError);
+        }
+        self.shown = told.again();
+        Ok(told)
+    }
+
+    /// What evaluators take now.
+    pub fn view(&self) -> View<'_>
+        ensures { result ≡ self.now }
+    {
+        let Some(writer) = &self.writer else {
+            unreachable!()
+        };
+        View::of(writer.published())
+    }
+
+    /// What is shown, where it is no less than what was told.
+    pub fn shown(&self, told: &Told) -> Option<Shown>
+        requires { told.now.store ≡ self.now.store }
+        ensures { MatchOption result (front_revision self.now < front_revision told.now)
+            (λ s. (s ≡ self.now) × Begins told.now s) }
+    {
+        let _ = &self.writer;
+        let told = Shown::of(told);
+        if self.shown.is_behind(&told) {
+            return None;
+        }
+        Some(self.shown.again())
+    }
+
+    /// Waits for evaluators that don't rest, and ends what they take.
+    pub fn end<R: Wait>(self, rt: &R) {
+        let Board {
+            writer,
+            shown: _,
+            next: _,
+            leads: _,
+        } = self;
+        end_writer(rt, writer);
+    }
+}

@@ -1,0 +1,4 @@
+pub mod Rules
+pub mod Head
+pub mod State
+pub mod Laws

@@ -1,0 +1,55 @@
+//! The text that the other slot is to hold grows by the batches that are sealed beside a compaction.
+
+ghost use Rattle.std.specs.Prelude.{◌≡◌, ◌≢◌, ◌<◌, ◌+◌, [], ◌∷◌, ◌++◌, length, OnOk};
+ghost use Rattle.fp_gate.specs.declared.gate.TheConstants.{OPEN};
+ghost use Rattle.fp_journal.specs.Chain.{body_of, framed as framed_text, with_gate};
+ghost use Rattle.fp_journal.specs.State.{IsOnWay};
+ghost use Rattle.fp_journal.specs.declared.journal.Phase.TheVariants.{Failed};
+ghost use Rattle.fp_slots.specs.State.{IsGrowing, SamePlan};
+
+use crate::planning::{open_between, put_behind};
+use crate::slots::Slots;
+use fp_disk::Disk;
+use fp_journal::Framed;
+use std::alloc::AllocError;
+
+impl<D: Disk> Slots<D> {
+    /// Keeps a body ready to go behind the planned text. It makes no call of the disk, and takes all memory that `lengthen` needs.
+    pub fn plan_body(&mut self, framed: &Framed) -> Result<(), AllocError>
+        requires growing { IsGrowing self.old.step }
+        requires live { self.old.journal.phase ≢ Failed }
+        ensures same { SamePlan self.old self.new }
+        ensures ready { OnOk result (self.new.coming ≡ with_gate framed.now) }
+    {
+        put_behind(&mut self.planned, self.ended + 1, framed.as_slice())?;
+        Ok(())
+    }
+
+    /// Keeps the body on its way ready so.
+    pub fn plan_body_on_way(&mut self) -> Result<(), AllocError>
+        requires growing { IsGrowing self.old.step }
+        requires on_way { IsOnWay self.old.journal.phase }
+        requires live { self.old.journal.phase ≢ Failed }
+        ensures same { SamePlan self.old self.new }
+        ensures ready { OnOk result (self.new.coming ≡ with_gate self.old.journal.staged) }
+    {
+        put_behind(
+            &mut self.planned,
+            self.ended + 1,
+            self.journal.bytes_on_way(),
+        )?;
+        Ok(())
+    }
+
+    /// Puts the body that is kept ready behind the planned text, behind an open gate.
+    pub fn lengthen(&mut self)
+        requires growing { IsGrowing self.old.step }
+        requires live { self.old.journal.phase ≢ Failed }
+        requires ready { self.old.coming ≡ with_gate (body_of self.old.coming) }
+        requires fits { self.old.other.start + length (self.old.text ++ OPEN ∷ framed_text (body_of self.old.coming)) < self.old.other.stop }
+        ensures grown { (self.new.text ≡ self.old.text ++ OPEN ∷ framed_text (body_of self.old.coming)) × (self.new.coming ≡ []) }
+        ensures same { (self.new.journal ≡ self.old.journal) × (self.new.other ≡ self.old.other) × (self.new.generation ≡ self.old.generation) × (self.new.may_open ≡ self.old.may_open) × (self.new.step ≡ self.old.step) × (self.new.head ≡ self.old.head) × (self.new.left ≡ self.old.left) }
+    {
+        self.ended = open_between(&mut self.planned, self.ended);
+    }
+}

@@ -1,0 +1,61 @@
+//! The text that a slot is to hold, as its bytes.
+
+ghost use Rattle.std.specs.Prelude.{◌≡◌, ◌<◌, ◌≤◌, ◌+◌, ◌-◌, ◌^◌, [], ◌∷◌, ◌++◌, length, slice_range, slice_set, IfOk, OnOk, OnErr};
+ghost use Rattle.fp_gate.specs.declared.gate.TheConstants.{OPEN};
+ghost use Rattle.fp_slots.specs.Head.{head_text};
+
+use crate::places::{IMAGE_PLACE, VERSION};
+use fp_gate::OPEN;
+use std::alloc::{AllocError, Global};
+
+// The head of a slot, and the closed gate of its first batch.
+pub(crate) fn shut_head(
+    alloc: Global,
+    generation: u64,
+    base: u64,
+    image: &[u8],
+) -> Result<Vec<u8>, AllocError>
+    requires { length image.now < 2 ^ 32 }
+    ensures { IfOk result (λ v. v.items ≡ head_text generation base image.now ++ 0 ∷ []) }
+{
+    let mut bytes = Vec::with_capacity(alloc, IMAGE_PLACE)?;
+    bytes.push(OPEN)?;
+    bytes.extend_from_slice(&generation.to_be_bytes())?;
+    bytes.push(VERSION)?;
+    bytes.extend_from_slice(&base.to_be_bytes())?;
+    bytes.extend_from_slice(&(image.len() as u32).to_be_bytes())?;
+    bytes.extend_from_slice(image)?;
+    bytes.push(0)?;
+    Ok(bytes)
+}
+
+// The planned bytes from one place up to another.
+pub(crate) fn piece(planned: &Vec<u8>, from: usize, to: usize) -> &[u8]
+    requires within { (from ≤ to) × (to ≤ length planned.now.items) }
+    ensures bytes { result.now ≡ slice_range planned.now.items from to }
+    ensures len { length result.now ≡ to - from }
+{
+    &planned[from..to]
+}
+
+// Puts these bytes behind the first so many, in place of all that was there.
+pub(crate) fn put_behind(planned: &mut Vec<u8>, len: usize, bytes: &[u8]) -> Result<(), AllocError>
+    requires { len ≤ length planned.old.items }
+    ensures ok { OnOk result (planned.new.items ≡ slice_range planned.old.items 0 len ++ bytes.now) }
+    ensures err { OnErr result (planned.new.items ≡ slice_range planned.old.items 0 len) }
+{
+    planned.truncate(len);
+    planned.extend_from_slice(bytes)?;
+    Ok(())
+}
+
+// Opens a gate among the bytes, and answers the place of the last of them.
+pub(crate) fn open_between(planned: &mut Vec<u8>, at: usize) -> usize
+    requires { at < length planned.old.items }
+    ensures opened { planned.new.items ≡ slice_set planned.old.items at OPEN }
+    ensures last { result + 1 ≡ length planned.old.items }
+{
+    let last = planned.len() - 1;
+    planned[at] = OPEN;
+    last
+}

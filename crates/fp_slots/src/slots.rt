@@ -1,0 +1,145 @@
+//! Two slots, and what a compaction does next.
+
+ghost use Rattle.fp_disk.specs.Crashes.{EachCrash};
+ghost use Rattle.std.specs.Prelude.{◌≡◌, ◌≢◌, ◌⊎◌, ◌<◌, ◌≤◌, ◌+◌, ◌^◌, [], length, OnOk, OnErr};
+ghost use Rattle.fp_journal.specs.declared.journal.Phase.TheVariants.{Failed};
+ghost use Rattle.fp_slots.specs.Head.{head_text};
+ghost use Rattle.fp_slots.specs.State.{IsBeaten, IsFrontOf, Leaves};
+ghost use Rattle.fp_slots.specs.declared.places.TheConstants.{IMAGE_PLACE, VERSION_PLACE};
+ghost use Rattle.fp_slots.specs.declared.slots.Step.TheVariants.{Begin, Close};
+
+use crate::held::Held;
+use crate::places::IMAGE_PLACE;
+use crate::planning::shut_head;
+use fp_disk::Disk;
+use fp_journal::{Journal, Slot};
+use std::alloc::{AllocError, Global};
+use std::marker::Model;
+
+/// What a compaction does next.
+#[derive(Clone, Copy, Debug, PartialEq, Eq)]
+pub enum Step {
+    /// None runs.
+    Begin,
+    /// It closes the other slot's gate, if that is open.
+    Close,
+    /// It makes sure of that.
+    SyncClose,
+    /// It writes a part of the image.
+    Part,
+    /// It writes what is left, and a closed gate.
+    Tail,
+    /// It makes sure of that.
+    SyncBody,
+    /// It opens the other slot's gate.
+    Open,
+    /// It makes sure of that, and goes on in that slot.
+    SyncOpen,
+}
+
+/// Two slots, of which a journal fills the one that rules.
+#[derive(Drop)]
+pub struct Slots<D: Disk> {
+    pub(crate) journal: Journal<D>,
+    pub(crate) other: Slot,
+    pub(crate) generation: u64,
+    pub(crate) held: Held<D>,
+    pub(crate) may_open: bool,
+    // The text that the other slot is to hold, a closed gate, and what is to stand behind that one.
+    pub(crate) planned: Vec<u8>,
+    pub(crate) ended: usize,
+    pub(crate) head: usize,
+    pub(crate) done: usize,
+}
+
+impl<D: Disk> Model for Slots<D> {
+    ghost use Rattle.std.specs.Prelude.{slice_range, drop, ◌+◌, ◌-◌};
+    ghost use Rattle.fp_slots.specs.State.{SlotsState, IsKept, IsHeld, IsWithin, step_of};
+
+    ghost Value = { SlotsState D };
+
+    ghost view = { λ s. record { journal = s.journal; other = s.other; generation = s.generation; may_open = s.may_open; step = step_of s.held; text = slice_range s.planned.items 0 s.ended; head = s.head; left = s.head - s.done; coming = drop (s.ended + 1) s.planned.items } };
+
+    ghost invariant = { λ s. IsKept D.honest D.bytes D.unsynced (record { journal = s.journal; other = s.other; generation = s.generation; may_open = s.may_open; step = step_of s.held; text = slice_range s.planned.items 0 s.ended; head = s.head; left = s.head - s.done; coming = drop (s.ended + 1) s.planned.items }) s.may_open (slice_range s.planned.items 0 (s.ended + 1)) s.done × IsHeld D.honest D.moment s.journal s.other.start s.held × IsWithin s.planned.items s.ended s.head s.done };
+}
+
+impl<D: Disk> Slots<D> {
+    /// Two slots, of which a journal fills the one that rules.
+    pub fn new(
+        alloc: Global,
+        journal: Journal<D>,
+        other: Slot,
+        generation: u64,
+        may_open: bool,
+    ) -> Slots<D>
+        requires apart { (journal.slot.stop ≤ other.start) ⊎ (other.stop ≤ journal.slot.start) }
+        requires wide { (other.start + VERSION_PLACE ≤ other.stop) × (journal.slot.start + VERSION_PLACE ≤ journal.slot.stop) }
+        requires front { IsFrontOf generation journal.front }
+        requires live { journal.phase ≢ Failed }
+        requires beaten { D.honest journal.disk → IsBeaten may_open other.start generation (D.unsynced journal.disk) }
+        ensures same { (result.journal ≡ journal) × (result.other ≡ other) × (result.generation ≡ generation) × (result.may_open ≡ may_open) × (result.step ≡ Begin) }
+    {
+        let _phase = journal.phase();
+        Slots {
+            journal,
+            other,
+            generation,
+            held: Held::Begin,
+            may_open,
+            planned: Vec::new(alloc),
+            ended: 0,
+            head: 0,
+            done: 0,
+        }
+    }
+
+    /// The disk alone.
+    pub fn into_disk(self) -> D
+        ensures disk { result ≡ self.journal.disk }
+        ensures outcomes { EachCrash D.Disk result (Leaves self.step self) }
+    {
+        let Slots {
+            journal,
+            other: _,
+            generation: _,
+            held: _,
+            may_open: _,
+            planned: _,
+            ended: _,
+            head: _,
+            done: _,
+        } = self;
+        journal.into_disk()
+    }
+
+    /// What a compaction does next, which says what a crash would leave now.
+    pub fn step(&self) -> Step
+        ensures step { result ≡ self.now.step }
+        ensures outcomes { EachCrash D.Disk self.now.journal.disk (Leaves result self.now) }
+    {
+        let _phase = self.journal.phase();
+        self.held.step()
+    }
+
+    /// Begins a compaction that is to leave this image of that revision in the other slot, under the next generation. It makes no call
+    /// of the disk; where memory runs out all stays as it was.
+    pub fn begin(&mut self, alloc: Global, base: u64, image: &[u8]) -> Result<(), AllocError>
+        requires step { self.old.step ≡ Begin }
+        requires live { self.old.journal.phase ≢ Failed }
+        requires next { self.old.generation + 1 < 2 ^ 64 }
+        requires short { length image.now < 2 ^ 32 }
+        requires fits { self.old.other.start + IMAGE_PLACE + length image.now < self.old.other.stop }
+        ensures same { (self.new.journal ≡ self.old.journal) × (self.new.other ≡ self.old.other) × (self.new.generation ≡ self.old.generation) × (self.new.may_open ≡ self.old.may_open) }
+        ensures text { OnOk result ((self.new.text ≡ head_text (self.old.generation + 1) base image.now) × (self.new.head ≡ IMAGE_PLACE + length image.now) × (self.new.left + 1 ≡ self.new.head) × (self.new.coming ≡ [])) }
+        ensures step { OnOk result (self.new.step ≡ Close) × OnErr result (self.new.step ≡ Begin) }
+    {
+        let next = self.generation + 1;
+        let planned = shut_head(alloc, next, base, image)?;
+        self.ended = IMAGE_PLACE + image.len();
+        self.head = self.ended;
+        self.done = 1;
+        self.planned = planned;
+        self.held = Held::Close;
+        Ok(())
+    }
+}

@@ -1,0 +1,5 @@
+pub mod HeadBytes
+pub mod Streams
+pub mod Same
+pub mod Hellos
+pub mod Feeding

@@ -1,0 +1,38 @@
+//! What a frame carries, and how it is written.
+
+ghost use Rattle.std.specs.Prelude.{◌≡◌, ◌≤◌, ◌<◌, ◌^◌, length, IfErr, OnOk};
+ghost use Rattle.std.specs.Io.KnownBytes.{Appends};
+ghost use Rattle.fp_streams.specs.Failures.{CountsFailures};
+ghost use Rattle.fp_streams.specs.declared.counted.StreamFault.TheVariants.{Device};
+ghost use Rattle.fp_stream.specs.declared.head.TheConstants.{MOST_BODY};
+ghost use Rattle.fp_stream.specs.Frames.{frame};
+
+use crate::head::head_bytes;
+use fp_streams::{FailureCounted, StreamFault};
+use std::io::Write;
+
+/// A snapshot as a frame carries it. The body is not read: whoever wrote it says that it is a document.
+#[derive(Debug, Drop, PartialEq, Eq)]
+pub struct Frame {
+    /// The revision of the set of flags.
+    pub revision: u64,
+    /// Its document.
+    pub body: Vec<u8>,
+}
+
+/// Writes the frame of a document. At an error some of it may have been written.
+pub fn write_frame<W: Write>(
+    w: &mut FailureCounted<W>,
+    revision: u64,
+    document: &[u8],
+) -> Result<(), StreamFault>
+    requires { length document.now ≤ MOST_BODY }
+    ensures frame { OnOk result (Appends (W.contents w.old.inner) (W.contents w.new.inner)
+        (frame revision document.now)) }
+    ensures fault { IfErr result (λ f. f ≡ Device) }
+    ensures counted { CountsFailures w.old.failures w.new.failures result }
+{
+    w.send(&head_bytes(revision, document.len() as u32))?;
+    w.send(document)?;
+    Ok(())
+}

@@ -1,0 +1,86 @@
+//! The 16 bytes in front of a body.
+
+ghost use Rattle.std.specs.Prelude.{◌≡◌, ◌<◌, ◌≤◌, ◌+◌, ◌++◌, length, take, codes, slice_range, IfOk, IfErr, IsTrue, ◌↔◌};
+ghost use Rattle.std.specs.Int.{w32, w64, from_be_bytes};
+ghost use Rattle.fp_stream.specs.Heads.{head, IsHead, IsNewer, HasFault};
+
+use crate::fault::FrameFault;
+use crate::hello::Hello;
+
+/// The longest body of a frame.
+pub const MOST_BODY: usize = 134_217_728;
+
+/// How long a head is.
+pub(crate) const HEAD: usize = 16;
+
+// A head that was read: what its frame's revision is, and how long its body.
+#[derive(Drop, Clone, Copy)]
+pub(crate) struct Head {
+    pub(crate) revision: u64,
+    pub(crate) size: usize,
+}
+
+// The head that the bytes are, for a subscriber that has this.
+pub(crate) fn head_of(has: Hello, bytes: &[u8]) -> Result<Head, FrameFault>
+    requires { length bytes.now ≡ HEAD }
+    ensures is { IfOk result (λ h. bytes.now ≡ head h.revision h.size) }
+    ensures lawful { IfOk result (λ h. IsHead has h.revision h.size) }
+    ensures fault { IfErr result (λ f. HasFault has bytes.now f) }
+{
+    if !has_magic(bytes) {
+        return Err(FrameFault::BadMagic);
+    }
+    let revision = revision_in(bytes);
+    let size = size_in(bytes) as usize;
+    if size > MOST_BODY {
+        return Err(FrameFault::TooLong);
+    }
+    if !is_newer(has, revision) {
+        return Err(FrameFault::NotRising);
+    }
+    Ok(Head { revision, size })
+}
+
+fn has_magic(bytes: &[u8]) -> bool
+    ensures { IsTrue result ↔ (take 4 bytes.now ≡ codes "SNP1") }
+{
+    bytes.starts_with(b"SNP1")
+}
+
+fn revision_in(bytes: &[u8]) -> u64
+    requires { length bytes.now ≡ HEAD }
+    ensures { result ≡ from_be_bytes w64 (slice_range bytes.now 4 12) }
+{
+    u64::from_be_bytes([
+        bytes[4], bytes[5], bytes[6], bytes[7], bytes[8], bytes[9], bytes[10], bytes[11],
+    ])
+}
+
+fn size_in(bytes: &[u8]) -> u32
+    requires { length bytes.now ≡ HEAD }
+    ensures { result ≡ from_be_bytes w32 (slice_range bytes.now 12 16) }
+{
+    u32::from_be_bytes([bytes[12], bytes[13], bytes[14], bytes[15]])
+}
+
+// Whether a revision is news to a subscriber that has this.
+fn is_newer(has: Hello, revision: u64) -> bool
+    ensures { IsTrue result ↔ IsNewer has revision }
+{
+    match has {
+        Hello::Nothing => true,
+        Hello::Has(before) => before < revision,
+    }
+}
+
+// The bytes of a head.
+pub(crate) fn head_bytes(revision: u64, size: u32) -> [u8; HEAD]
+    ensures { result ≡ head revision size }
+{
+    let r = revision.to_be_bytes();
+    let s = size.to_be_bytes();
+    [
+        b'S', b'N', b'P', b'1', r[0], r[1], r[2], r[3], r[4], r[5], r[6], r[7], s[0], s[1], s[2],
+        s[3],
+    ]
+}

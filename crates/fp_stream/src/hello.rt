@@ -1,0 +1,91 @@
+//! What a subscriber has, and how it says so.
+
+ghost use Rattle.std.specs.Prelude.{◌≡◌, ◌≤◌, ◌<◌, ◌++◌, ℕ, List, length, take, Some, IfOk, IfErr, IfSome, OnOk};
+ghost use Rattle.std.specs.Io.KnownBytes.{Consumes, IsAtEnd};
+ghost use Rattle.fp_streams.specs.Failures.{CountsFailures};
+ghost use Rattle.fp_streams.specs.declared.counted.StreamFault.TheVariants.{Device};
+ghost use Rattle.fp_stream.specs.declared.hello.Hello.{Hello};
+ghost use Rattle.fp_stream.specs.Hellos.{hello_bytes, CountsHello, IsHello, Hears, IsSaid, IsSpelled};
+
+use fp_streams::{FailureCounted, StreamFault};
+use std::io::Read;
+use thiserror::Error;
+
+/// What a subscriber says that it has.
+#[derive(Debug, Drop, Clone, Copy, PartialEq, Eq)]
+pub enum Hello {
+    /// No snapshot yet.
+    Nothing,
+    /// The snapshot of this revision.
+    Has(u64),
+}
+
+/// Why a hello wasn't read.
+#[derive(Debug, Drop, Clone, Copy, PartialEq, Eq, Error)]
+pub enum HelloFault {
+    /// The stream ended within it.
+    #[error("a hello that is cut")]
+    Cut,
+    /// Its bytes say nothing that a hello may.
+    #[error("no hello")]
+    BadHello,
+    /// The reader failed.
+    #[error("device fault")]
+    Device,
+}
+
+/// How long a hello is.
+const HELLO: usize = 9;
+
+/// Reads a hello, and not a byte behind it.
+pub fn read_hello<R: Read>(r: &mut FailureCounted<R>) -> Result<Hello, HelloFault>
+    ensures heard { Hears (R.remaining r.old.inner) (R.remaining r.new.inner) result }
+    ensures counted { CountsHello r.old.failures r.new.failures result }
+    ensures only { (hello : Hello) (rest : List ℕ) → IsHello hello →
+        R.remaining r.old.inner ≡ Some (hello_bytes hello ++ rest) → IsSaid hello result }
+{
+    let mut bytes = [0; HELLO];
+    match fill(r, &mut bytes) {
+        Err(_) => Err(HelloFault::Device),
+        Ok(len) if len < HELLO => Err(HelloFault::Cut),
+        Ok(_) => match hello_in(&bytes) {
+            Some(hello) => Ok(hello),
+            None => Err(HelloFault::BadHello),
+        },
+    }
+}
+
+// Reads as many bytes as there are, up to all of a hello's. One by one, so that none behind them is taken.
+fn fill<R: Read>(r: &mut FailureCounted<R>, bytes: &mut [u8; HELLO]) -> Result<usize, StreamFault>
+    ensures within { IfOk result (λ len. len ≤ 9) }
+    ensures read { IfOk result (λ len.
+        Consumes (R.remaining r.old.inner) (R.remaining r.new.inner) (take len bytes.new)) }
+    ensures end { IfOk result (λ len. len < 9 → IsAtEnd (R.remaining r.new.inner)) }
+    ensures fault { IfErr result (λ f. f ≡ Device) }
+    ensures counted { CountsFailures r.old.failures r.new.failures result }
+{
+    let mut len = 0;
+    let mut one = [0u8; 1];
+    'bytes: while len < HELLO {
+        if r.read(&mut one)? == 0 {
+            return Ok(len);
+        }
+        bytes[len] = one[0];
+        len += 1;
+    }
+    Ok(len)
+}
+
+// The hello that the bytes spell.
+fn hello_in(bytes: &[u8; HELLO]) -> Option<Hello>
+    ensures { IsSpelled bytes.now result }
+{
+    let revision = u64::from_be_bytes([
+        bytes[1], bytes[2], bytes[3], bytes[4], bytes[5], bytes[6], bytes[7], bytes[8],
+    ]);
+    match bytes[0] {
+        0 if revision == 0 => Some(Hello::Nothing),
+        1 => Some(Hello::Has(revision)),
+        _ => None,
+    }
+}

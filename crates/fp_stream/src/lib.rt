@@ -1,0 +1,17 @@
+//! What subscribers say, and the snapshots that they get: hellos and frames.
+#![tactic(auto)]
+
+mod decoder;
+mod fault;
+mod frame;
+mod head;
+mod hello;
+mod laws;
+mod reading;
+
+pub use decoder::Decoder;
+pub use fault::FrameFault;
+pub use frame::{Frame, write_frame};
+pub use head::MOST_BODY;
+pub use hello::{Hello, HelloFault, read_hello};
+pub use laws::{no_other_frames, one_reading, what_is_written_is_read};

@@ -1,0 +1,282 @@
+-- A world as the plain machine, from call to call.
+use Rattle.std.proofs.Common.{◌≡◌, ◌≢◌, ◌⊎◌, ◌<◌, ◌≤◌, ◌+◌, ℕ, max, Bool, true, false, List, [], ◌∷◌, ◌++◌, length, refl, sym, ap, subst, ◌∙◌, inl, inr, arith, length-append}
+use Rattle.fp_disk.specs.History.{Makes, MakesSome}
+use Rattle.fp_disk.specs.declared.history.CallKind.{CallKind}
+use Rattle.fp_edit.specs.Edits.{Change, Proposal}
+use Rattle.fp_edit.specs.Flags.{State}
+use Rattle.fp_journal.specs.State.{room}
+use Rattle.fp_journal.specs.declared.journal.Phase.{Phase}
+use Rattle.fp_journal.specs.declared.journal.Phase.TheVariants.{Idle, Staged, BodySynced, GateOpened, Failed}
+use Rattle.fp_record.specs.Group.{Group}
+use Rattle.fp_group_commit.specs.Calls.{Breaks, FailsBy, MovesTo, RefusesBy, SameRoom, TakesRoom}
+use Rattle.fp_group_commit.specs.Changes.{HasRoom, batch_len}
+use Rattle.std.specs.Prelude.{if◌then◌else◌, IsTrue, ◌↔◌}
+use Rattle.fp_edit.specs.Log.{after_all}
+use Rattle.fp_group_commit.specs.Store.{StoreState, coming, is_failed, kept, reached, reached_at}
+use Rattle.fp_group_commit.specs.Tokens.{Identity, ReceiptState}
+use Rattle.fp_group_commit.specs.declared.fault.StoreFault.{StoreFault}
+use Rattle.fp_group_commit.specs.declared.fault.StoreFault.TheVariants as fault
+use Rattle.fp_desk.specs.Desk.{DeskState, Refuses, log, settled_revision}
+use Rattle.fp_desk.specs.declared.fault.SubmitFault.{SubmitFault}
+use Rattle.fp_desk.specs.declared.fault.SubmitFault.TheVariants as submit
+use Rattle.std.specs.Prelude.{Result, Ok, Err, IfOk, IfErr}
+use Rattle.fp_layout.specs.declared.fault.OpenFault.{OpenFault}
+use Rattle.fp_layout.specs.declared.fault.OpenFault.TheVariants as opening
+use Rattle.fp_recovery.specs.Refusals.{IsUnlessWanting}
+use Rattle.fp_recovery.specs.Stands.{StandsFor}
+use Rattle.fp_world.specs.declared.event.Answer.{Answer}
+use Rattle.fp_world.specs.declared.event.Answer.TheVariants as answer
+use Rattle.fp_world.specs.declared.world.Held.{Held}
+use Rattle.fp_world.specs.declared.world.Held.TheVariants as held
+use Rattle.fp_world.specs.Machine.{Advances, CanStage, IsAt, Machine, Progress, Seals, Settles, Stages, Submits, Tells, all_settled, is_read, last_revision, opened_set}
+use Rattle.fp_world.specs.Machine.{nothing_drawn, batch_drawn, batch_staged, body_synced, gate_opened, batch_sealed}
+use Rattle.fp_world.specs.World.{IsOut, MakesOne, RisesFor, in_flight_at, is_in_flight, progress_of}
+
+-- machines are the same by their parts
+pub machine_is : (a b : Machine) → a.desk ≡ b.desk → a.progress ≡ b.progress → a.failed ≡ b.failed → a.most ≡ b.most → a.room ≡ b.room → a.told ≡ b.told → a ≡ b
+machine_is a b desk progress failed most left told =
+    ap (λ (x : DeskState). record a { desk = x }) desk
+    ∙ ap (λ (x : Progress). record b { progress = x; failed = a.failed; most = a.most; room = a.room; told = a.told }) progress
+    ∙ ap (λ (x : Bool). record b { failed = x; most = a.most; room = a.room; told = a.told }) failed
+    ∙ ap (λ (x : ℕ). record b { most = x; room = a.room; told = a.told }) most
+    ∙ ap (λ (x : ℕ). record b { room = x; told = a.told }) left
+    ∙ ap (λ (x : ℕ). record b { told = x }) told
+
+pub is_well : (p : Phase) → p ≢ Failed → is_failed p ≡ false
+is_well Idle never = refl
+is_well Staged never = refl
+is_well BodySynced never = refl
+is_well GateOpened never = refl
+is_well Failed never = absurd (never refl)
+
+-- the world without its disk
+abbrev pub At : {D : Type 0} → Held → StoreState D → DeskState → ℕ → Machine
+At h s d told = record {
+  desk = d;
+  progress = progress_of h s.step;
+  failed = is_failed s.journal.phase;
+  most = s.journal.slot.most;
+  room = room s.journal;
+  told = told;
+}
+
+-- ---- where the drawn edits are
+pub some_in : (xs : List Change) → xs ≢ [] → 0 < length xs
+some_in [] never = absurd (never refl)
+some_in (x ∷ xs) never = omega arith
+
+-- while the store is busy they are in flight
+pub in_air : {D : Type 0} (s : StoreState D) (d : DeskState) (h : Held) → IsOut h s d → s.step ≢ Idle → (p : Phase) → progress_of h p ≡ in_flight_at p
+in_air s d held.Nothing o busy p = absurd (busy o.0)
+in_air s d (held.Drawn group) o busy p = absurd (busy o.0)
+in_air s d held.InFlight o busy p = refl
+in_air s d (held.Sealed receipt) o busy p = absurd (busy o.0)
+
+-- and only then
+pub by_phase : {D : Type 0} (s : StoreState D) (d : DeskState) (h : Held) → IsOut h s d → (p : Phase) (point : Progress) → in_flight_at p ≡ point → is_in_flight p ≡ true
+    → ((q : Phase) → is_in_flight q ≡ true → in_flight_at q ≡ point → q ≡ p) → (nothing_drawn ≢ point) → (batch_drawn ≢ point) → (batch_sealed ≢ point) → progress_of h s.step ≡ point → s.step ≡ p
+by_phase s d held.Nothing o p point at air one no0 no1 no2 e = absurd (no0 e)
+by_phase s d (held.Drawn group) o p point at air one no0 no1 no2 e = absurd (no1 e)
+by_phase s d held.InFlight o p point at air one no0 no1 no2 e = one s.step o.0 e
+by_phase s d (held.Sealed receipt) o p point at air one no0 no1 no2 e = absurd (no2 e)
+
+only_staged : (q : Phase) → is_in_flight q ≡ true → in_flight_at q ≡ batch_staged → q ≡ Staged
+only_staged Idle air e = absurd cc
+only_staged Staged air e = refl
+only_staged BodySynced air e = absurd cc
+only_staged GateOpened air e = absurd cc
+only_staged Failed air e = absurd cc
+
+only_synced : (q : Phase) → is_in_flight q ≡ true → in_flight_at q ≡ body_synced → q ≡ BodySynced
+only_synced Idle air e = absurd cc
+only_synced Staged air e = absurd cc
+only_synced BodySynced air e = refl
+only_synced GateOpened air e = absurd cc
+only_synced Failed air e = absurd cc
+
+only_opened : (q : Phase) → is_in_flight q ≡ true → in_flight_at q ≡ gate_opened → q ≡ GateOpened
+only_opened Idle air e = absurd cc
+only_opened Staged air e = absurd cc
+only_opened BodySynced air e = absurd cc
+only_opened GateOpened air e = refl
+only_opened Failed air e = absurd cc
+
+pub when_staged : {D : Type 0} (s : StoreState D) (d : DeskState) (h : Held) → IsOut h s d → progress_of h s.step ≡ batch_staged → s.step ≡ Staged
+when_staged s d h o e = by_phase s d h o Staged batch_staged refl refl only_staged (λ x. absurd cc) (λ x. absurd cc) (λ x. absurd cc) e
+
+pub when_synced : {D : Type 0} (s : StoreState D) (d : DeskState) (h : Held) → IsOut h s d → progress_of h s.step ≡ body_synced → s.step ≡ BodySynced
+when_synced s d h o e = by_phase s d h o BodySynced body_synced refl refl only_synced (λ x. absurd cc) (λ x. absurd cc) (λ x. absurd cc) e
+
+pub when_opened : {D : Type 0} (s : StoreState D) (d : DeskState) (h : Held) → IsOut h s d → progress_of h s.step ≡ gate_opened → s.step ≡ GateOpened
+when_opened s d h o e = by_phase s d h o GateOpened gate_opened refl refl only_opened (λ x. absurd cc) (λ x. absurd cc) (λ x. absurd cc) e
+
+-- ---- calls of the store
+module _ {D : Type 0} (faults : D → ℕ) (May : Machine → Type 0) (to : Progress) where
+  pub done : (h h2 : Held) (s n : StoreState D) (d : DeskState) (told : ℕ) (phase : Phase) → MovesTo faults phase s n → SameRoom s n → May (At h s d told) → progress_of h2 n.step ≡ to → Advances May to (At h s d told) answer.Done (At h2 n d told)
+  done h h2 s n d told phase moves same may is =
+      let well = is_well s.journal.phase moves.well_before in
+      (well, may, machine_is (At h2 n d told) (record (At h s d told) { progress = to }) refl is (is_well n.journal.phase moves.well_now ∙ sym well) same.0 same.1 refl)
+
+  pub broke : (h h2 : Held) (s n : StoreState D) (d : DeskState) (told : ℕ) → Breaks faults s n → May (At h s d told) → progress_of h2 n.step ≡ progress_of h s.step → Advances May to (At h s d told) (answer.Fault fault.Device) (At h2 n d told)
+  broke h h2 s n d told b may is =
+      (is_well s.journal.phase b.well_before, may, machine_is (At h2 n d told) (record (At h s d told) { failed = true }) refl is (ap is_failed b.failed) b.most b.room refl)
+
+  pub fails : (e : StoreFault) (h : Held) (s n : StoreState D) (d : DeskState) (told : ℕ) → FailsBy faults s n e → n.step ≡ s.step → May (At h s d told) → Advances May to (At h s d told) (answer.Fault e) (At h n d told)
+  fails fault.Device h s n d told b step may = broke h h s n d told b may (ap (λ (p : Phase). progress_of h p) step)
+  fails fault.Failed h s n d told b step may = (ap is_failed b.0, ap (λ (x : StoreState D). At h x d told) b.1)
+  fails fault.Memory h s n d told b step may = absurd b
+  fails fault.Stranger h s n d told b step may = absurd b
+
+module _ {D : Type 0} (faults : D → ℕ) (calls : D → List CallKind) (kind : CallKind) where
+  pub calls_of_fail : (e : StoreFault) (s n : StoreState D) → FailsBy faults s n e → MakesSome (kind ∷ []) (calls s.journal.disk) (calls n.journal.disk) → MakesOne kind (answer.Fault e) (calls s.journal.disk) (calls n.journal.disk)
+  calls_of_fail fault.Device s n b made = made
+  calls_of_fail fault.Failed s n b made = ap (λ (x : StoreState D). calls x.journal.disk) b.1
+  calls_of_fail fault.Memory s n b made = absurd b
+  calls_of_fail fault.Stranger s n b made = absurd b
+
+  pub calls_of_refusal : (e : StoreFault) (s n : StoreState D) (group : Group) → RefusesBy faults s n group e → MakesSome (kind ∷ []) (calls s.journal.disk) (calls n.journal.disk) → MakesOne kind (answer.Fault e) (calls s.journal.disk) (calls n.journal.disk)
+  calls_of_refusal fault.Device s n group b made = made
+  calls_of_refusal fault.Failed s n group b made = ap (λ (x : StoreState D). calls x.journal.disk) b.1
+  calls_of_refusal fault.Memory s n group b made = ap (λ (x : StoreState D). calls x.journal.disk) b.1
+  calls_of_refusal fault.Stranger s n group b made = ap (λ (x : StoreState D). calls x.journal.disk) b.1
+
+module _ {D : Type 0} (faults : D → ℕ) where
+  pub rise_of_fail : (e : StoreFault) (s n : StoreState D) → FailsBy faults s n e → RisesFor (answer.Fault e) (faults s.journal.disk) (faults n.journal.disk)
+  rise_of_fail fault.Device s n b = b.cause
+  rise_of_fail fault.Failed s n b = ap (λ (x : StoreState D). faults x.journal.disk) b.1
+  rise_of_fail fault.Memory s n b = absurd b
+  rise_of_fail fault.Stranger s n b = absurd b
+
+  pub rise_of_refusal : (e : StoreFault) (s n : StoreState D) (group : Group) → RefusesBy faults s n group e → RisesFor (answer.Fault e) (faults s.journal.disk) (faults n.journal.disk)
+  rise_of_refusal fault.Device s n group b = let broke = b.0 in broke.cause
+  rise_of_refusal fault.Failed s n group b = ap (λ (x : StoreState D). faults x.journal.disk) b.1
+  rise_of_refusal fault.Memory s n group b = ap (λ (x : StoreState D). faults x.journal.disk) b.1
+  rise_of_refusal fault.Stranger s n group b = ap (λ (x : StoreState D). faults x.journal.disk) b.1
+
+-- ---- the drawn edits are written
+pub can_stage : {D : Type 0} (group : Group) (s : StoreState D) (d : DeskState) (told : ℕ) → group.changes ≡ d.drawn → HasRoom s.journal group → CanStage (At (held.Drawn group) s d told)
+can_stage group s d told is r =
+    let len = ap length is in let bytes = ap (λ (l : List Change). batch_len (record { first = 0; changes = l })) is in
+    let few = r.few in let short = r.short in let left = r.room in
+    record { drawn = refl; few = omega (arith, len, few); short = omega (arith, bytes, short); room = omega (arith, bytes, left) }
+
+pub cannot_stage : {D : Type 0} (group : Group) (s : StoreState D) (d : DeskState) (told : ℕ) → group.changes ≡ d.drawn → d.drawn ≢ [] → (HasRoom s.journal group → ⊥) → CanStage (At (held.Drawn group) s d told) → ⊥
+cannot_stage group s d told is some never can =
+    let len = ap length is in let bytes = ap (λ (l : List Change). batch_len (record { first = 0; changes = l })) is in
+    let any = some_in d.drawn some in let few = can.few in let short = can.short in let left = can.room in
+    never (record { some = omega (arith, len, any); few = omega (arith, len, few); short = omega (arith, bytes, short); room = omega (arith, bytes, left) })
+
+not_in_flight : (p : Phase) → in_flight_at p ≡ batch_drawn → ⊥
+not_in_flight Idle e = absurd cc
+not_in_flight Staged e = absurd cc
+not_in_flight BodySynced e = absurd cc
+not_in_flight GateOpened e = absurd cc
+not_in_flight Failed e = absurd cc
+
+pub none_held : {D : Type 0} (h : Held) (s : StoreState D) (d : DeskState) (told : ℕ) → ((group : Group) → h ≡ held.Drawn group → ⊥) → CanStage (At h s d told) → ⊥
+none_held held.Nothing s d told other can = let e = can.drawn in absurd cc
+none_held (held.Drawn group) s d told other can = other group refl
+none_held held.InFlight s d told other can = not_in_flight s.step can.drawn
+none_held (held.Sealed receipt) s d told other can = let e = can.drawn in absurd cc
+
+pub refused_stage : {D : Type 0} (faults : D → ℕ) (e : StoreFault) (g g2 : Group) (s n : StoreState D) (d : DeskState) (told : ℕ) → RefusesBy faults s n g e → e ≢ fault.Stranger → CanStage (At (held.Drawn g) s d told) → Stages (At (held.Drawn g) s d told) (answer.Fault e) (At (held.Drawn g2) n d told)
+refused_stage faults fault.Device g g2 s n d told b never can = broke faults CanStage batch_staged (held.Drawn g) (held.Drawn g2) s n d told b.0 can refl
+refused_stage faults fault.Failed g g2 s n d told b never can = (ap is_failed b.0, ap (λ (x : StoreState _). At (held.Drawn g2) x d told) b.1)
+refused_stage faults fault.Memory g g2 s n d told b never can = (is_well s.journal.phase b.0, can, ap (λ (x : StoreState _). At (held.Drawn g2) x d told) b.1)
+refused_stage faults fault.Stranger g g2 s n d told b never can = absurd (never refl)
+
+-- ---- and sealed
+pub seals : {D : Type 0} (faults : D → ℕ) (h : Held) (r : ReceiptState) (s n : StoreState D) (d : DeskState) (told revision : ℕ) → d.store ≡ s.store → MovesTo faults Idle s n → TakesRoom s n → n.store ≡ s.store → s.sealed ≡ d.settled → s.staged ≡ d.drawn → n.sealed ≡ s.sealed ++ s.staged
+    → progress_of h s.step ≡ gate_opened → revision ≡ n.store.start.revision + length n.sealed → Seals (At h s d told) (answer.Sealed revision) (At (held.Sealed r) n d told)
+seals faults h r s n d told revision same moves takes store settled drawn all point is =
+    let well = is_well s.journal.phase moves.well_before in
+    let start = ap (λ (x : Identity). x.start.revision) store in let start' = ap (λ (x : Identity). x.start.revision) same in
+    let len = ap length all in let both = length-append s.sealed s.staged in let a = ap length settled in let b = ap length drawn in
+    let bytes = ap (λ (l : List Change). batch_len (record { first = 0; changes = l })) drawn in let left = takes.1 in (
+      well,
+      point,
+      omega (arith, is, start, start', len, both, a, b),
+      omega (arith, bytes, left),
+      machine_is (At (held.Sealed r) n d told) (record (At h s d told) { progress = batch_sealed; room = room n.journal }) refl refl (is_well n.journal.phase moves.well_now ∙ sym well) takes.0 refl refl,
+    )
+
+pub seal_fails : {D : Type 0} (faults : D → ℕ) (e : StoreFault) (h : Held) (s n : StoreState D) (d : DeskState) (told : ℕ) → FailsBy faults s n e → n.step ≡ s.step → progress_of h s.step ≡ gate_opened → Seals (At h s d told) (answer.Fault e) (At h n d told)
+seal_fails faults fault.Device h s n d told b step point = fails faults (IsAt gate_opened) batch_sealed fault.Device h s n d told b step point
+seal_fails faults fault.Failed h s n d told b step point = fails faults (IsAt gate_opened) batch_sealed fault.Failed h s n d told b step point
+seal_fails faults fault.Memory h s n d told b step point = absurd b
+seal_fails faults fault.Stranger h s n d told b step point = absurd b
+
+-- ---- and settled
+air_not_sealed : (p : Phase) → in_flight_at p ≡ batch_sealed → ⊥
+air_not_sealed Idle e = absurd cc
+air_not_sealed Staged e = absurd cc
+air_not_sealed BodySynced e = absurd cc
+air_not_sealed GateOpened e = absurd cc
+air_not_sealed Failed e = absurd cc
+
+pub not_sealed : {D : Type 0} (h : Held) (s : StoreState D) → ((receipt : ReceiptState) → h ≡ held.Sealed receipt → ⊥) → progress_of h s.step ≢ batch_sealed
+not_sealed held.Nothing s other e = absurd cc
+not_sealed (held.Drawn group) s other e = absurd cc
+not_sealed held.InFlight s other e = air_not_sealed s.step e
+not_sealed (held.Sealed receipt) s other e = other receipt refl
+
+-- ---- an edit isn't taken
+pub refuses : (f : SubmitFault) (p : Proposal) (m : Machine) → m.desk.stopped ≡ false → Refuses m.desk p f → Submits p m (answer.Refused f) m
+refuses submit.Stopped p m going why = let both : false ≡ true = sym going ∙ why in absurd cc
+refuses (submit.Edit f) p m going why = (refl, why)
+refuses submit.QueueFull p m going why = (refl, why)
+refuses submit.Memory p m going why = refl
+
+-- ---- what a read gives
+read_by : (p : Phase) (now more start : State) (few all : List Change) → is_in_flight p ≡ true → now ≡ after_all start few → more ≡ after_all start all → reached_at p now more ≡ after_all start (if is_read (in_flight_at p) then all else few)
+read_by Idle now more start few all air a b = absurd cc
+read_by Staged now more start few all air a b = a
+read_by BodySynced now more start few all air a b = a
+read_by GateOpened now more start few all air a b = b
+read_by Failed now more start few all air a b = absurd cc
+
+sealed_is : {D : Type 0} (s : StoreState D) (d : DeskState) (few : List Change) → d.store ≡ s.store → s.sealed ≡ few → kept s ≡ after_all d.store.start few
+sealed_is s d few same is = ap (λ (l : List Change). after_all s.store.start l) is ∙ ap (λ (x : Identity). after_all x.start few) (sym same)
+
+pub reads_as : {D : Type 0} (s : StoreState D) (d : DeskState) (h : Held) (told : ℕ) → d.store ≡ s.store → IsOut h s d → reached s ≡ opened_set (At h s d told)
+reads_as s d held.Nothing told same o = ap (λ (p : Phase). reached_at p (kept s) (coming s)) o.0 ∙ sealed_is s d d.settled same o.1
+reads_as s d (held.Drawn group) told same o = ap (λ (p : Phase). reached_at p (kept s) (coming s)) o.0 ∙ sealed_is s d d.settled same o.1
+reads_as s d held.InFlight told same o =
+    read_by s.step (kept s) (coming s) d.store.start d.settled (d.settled ++ d.drawn) o.0 (sealed_is s d d.settled same o.1)
+    (ap (λ (l : List Change). after_all s.store.start (l ++ s.staged)) o.1 ∙ ap (λ (l : List Change). after_all s.store.start (d.settled ++ l)) o.2 ∙ ap (λ (x : Identity). after_all x.start (d.settled ++ d.drawn)) (sym same))
+reads_as s d (held.Sealed receipt) told same o = ap (λ (p : Phase). reached_at p (kept s) (coming s)) o.0 ∙ sealed_is s d (d.settled ++ d.drawn) same o.1
+
+pub well_is : (p : Phase) → is_failed p ≡ false → p ≢ Failed
+well_is p e f = let both : false ≡ true = sym e ∙ ap is_failed f in absurd cc
+
+pub well_by : (b : Bool) (p : Phase) → (IsTrue b ↔ (p ≡ Failed)) → b ≡ false → is_failed p ≡ false
+well_by b p same off = is_well p (λ e. let both : false ≡ true = sym off ∙ same.1 e in absurd cc)
+
+pub ill_by : (b : Bool) (p : Phase) → (IsTrue b ↔ (p ≡ Failed)) → b ≡ true → is_failed p ≡ true
+ill_by b p same on = ap is_failed (same.0 on)
+
+pub unless : (p q : Phase) → p ≡ q → (q ≡ Idle → ⊥) → p ≢ Idle
+unless p q is never e = never (sym is ∙ e)
+
+-- the answers that change nothing
+pub not_now : (May : Machine → Type 0) (to : Progress) (m : Machine) → m.failed ≡ false → (May m → ⊥) → Advances May to m answer.NotNow m
+not_now May to m well never = (well, never, refl)
+
+pub failed_before : (May : Machine → Type 0) (to : Progress) (m : Machine) → m.failed ≡ true → Advances May to m (answer.Fault fault.Failed) m
+failed_before May to m ill = (ill, refl)
+
+-- ---- the disk is opened again
+pub ok_map : {T E : Type 0} (r : Result T E) (P Q : T → Type 0) → IfOk r P → ((x : T) → P x → Q x) → IfOk r Q
+ok_map (Ok x) P Q p f = f x p
+ok_map (Err e) P Q p f = tt
+
+pub err_map : {T E : Type 0} (r : Result T E) (P Q : E → Type 0) → IfErr r P → ((x : E) → P x → Q x) → IfErr r Q
+err_map (Ok x) P Q p f = tt
+err_map (Err e) P Q p f = f e p
+
+pub wanting : (c : List ℕ) (t : State) (e : OpenFault) → StandsFor c t → IsUnlessWanting c e → (e ≡ opening.Device) ⊎ (e ≡ opening.Memory)
+wanting c t opening.Unformatted stands none = absurd (none t stands)
+wanting c t (opening.UnknownVersion v) stands none = absurd (none t stands)
+wanting c t (opening.Damaged at) stands none = absurd (none t stands)
+wanting c t opening.Device stands none = inl refl
+wanting c t opening.Memory stands none = inr refl
