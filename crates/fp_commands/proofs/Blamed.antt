@@ -28,3 +28,4 @@ pub blames-run : (A B : Type 0) (a b s t : ℕ) (f : ApplyFault) → (f ≡ run.
 blames-run A B a b s t run.Device no_failure h = let same = no_failure refl in omega (arith, same, h)
 blames-run A B a b s t run.StoreFailed no_failure h = tt
 blames-run A B a b s t run.Memory no_failure h = tt
+blames-run A B a b s t run.CommitMemory no_failure h = tt

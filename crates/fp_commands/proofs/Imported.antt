@@ -46,6 +46,7 @@ pub importing-run : (is_honest : Type 0) (c : List ℕ) (left : Option (List ℕ
 importing-run is_honest c left run.Device = tt
 importing-run is_honest c left run.StoreFailed = tt
 importing-run is_honest c left run.Memory = tt
+importing-run is_honest c left run.CommitMemory = tt
 
 pub importing-document : (is_honest : Type 0) (c : List ℕ) (left : Option (List ℕ)) (f : CommandFault) → IsDocumentFault left f → IsImportingFault is_honest c left f
 importing-document is_honest c left command.NotDocument h = h

@@ -19,6 +19,7 @@ use Rattle.fp_session.specs.Verdicts.{show_line}
 use Rattle.fp_recovery.specs.Durable.{IsDurable}
 use Rattle.fp_recovery.specs.Refusals.{RefusesBytes, StandsForNone}
 use Rattle.fp_recovery.specs.Room.{IsFull}
+use Rattle.fp_group_commit.specs.Changes.{batch_len}
 use Rattle.fp_recovery.specs.Stands.{StandsFor}
 use Rattle.fp_commands.specs.Documents.{import_of, IsDocumentFault}
 use Rattle.fp_commands.specs.declared.fault.CommandFault.{CommandFault}
@@ -132,7 +133,7 @@ pub record LacksRoom (is_honest : Type 0) (bytes : List ℕ) (after : PendingSta
   pub stood : is_honest → StandsFor bytes start
   pub stops : IfSome left (λ input. Stops start input flags edit)
   pub admitted : refusal flags edit ≡ None
-  pub full : is_honest → IsFull after flags edit.change
+  pub full : is_honest → IsFull after flags (batch_len (record { first = 0; changes = edit.change ∷ [] }))
 
 -- ---- what failed
 

@@ -6,8 +6,6 @@ use Rattle.fp_imports.specs.declared.faults.ImportFault.{ImportFault}
 use Rattle.fp_imports.specs.declared.faults.ImportFault.TheVariants as import
 use Rattle.fp_layout.specs.declared.fault.OpenFault.{OpenFault}
 use Rattle.fp_layout.specs.declared.fault.OpenFault.TheVariants as opening
-use Rattle.fp_layout.specs.declared.format.CreateFault.{CreateFault}
-use Rattle.fp_layout.specs.declared.format.CreateFault.TheVariants as create
 use Rattle.fp_session.specs.Fault as run_fault
 use Rattle.fp_session.specs.declared.fault.ApplyFault.{ApplyFault}
 use Rattle.fp_session.specs.declared.fault.ApplyFault.TheVariants as run
@@ -33,11 +31,6 @@ text_of (Flag key fault) = codes "flag " ++ key_bytes key ++ codes ": " ++ defin
 
 -- ---- the faults of what a command does
 
-abbrev pub of_create : CreateFault → CommandFault
-of_create create.NotEmpty = NotEmpty
-of_create create.Device = Device
-of_create create.Memory = Memory
-
 abbrev pub of_open : OpenFault → CommandFault
 of_open opening.Unformatted = Unformatted
 of_open (opening.UnknownVersion version) = UnknownVersion version
@@ -57,6 +50,7 @@ abbrev pub of_run : ApplyFault → CommandFault
 of_run run.Device = Device
 of_run run.StoreFailed = StoreFailed
 of_run run.Memory = Memory
+of_run run.CommitMemory = Memory
 
 abbrev pub of_stream : StreamFault → CommandFault
 of_stream stream.Device = Device

@@ -1,5 +1,4 @@
 pub mod Faults
-pub mod Kept
 pub mod Documents
 pub mod Disks
 pub mod Task

@@ -1,6 +1,6 @@
 //! The commands over a disk. Each gives the disk back.
 
-ghost use Rattle.fp_disk.specs.Crashes.{AtAnyMoment, SameHonesty};
+ghost use Rattle.fp_disk.specs.Crashes.{AtAnyMoment, EachCrash, SameHonesty};
 ghost use Rattle.std.specs.Prelude.{◌≡◌, ◌≢◌, ◌⊎◌, ◌<◌, ◌+◌, ◌^◌, [], ◌∷◌, IfOk, IfErr, OnOk};
 ghost use Rattle.std.specs.Io.KnownBytes.{Appends};
 ghost use Rattle.fp_disk.specs.History.{Makes, MakesSome};
@@ -16,12 +16,11 @@ ghost use Rattle.fp_commands.specs.declared.fault.CommandFault.TheVariants.{Devi
 
 use crate::document::read_document;
 use crate::fault::CommandFault;
-use crate::kept::Kept;
 use fp_disk::Disk;
 use fp_edit::FlagSet;
+use fp_group_commit::{CreateFault, Store};
 use fp_layout::SlotSize;
-use fp_recovery::DurableSet;
-use fp_session::{apply_lines, import_flags, shown};
+use fp_session::{DiskSession, apply_lines, import_flags, shown};
 use fp_streams::FailureCounted;
 use std::alloc::Global;
 use std::io::{Read, Write};
@@ -44,9 +43,12 @@ pub fn init_disk<D: Disk>(alloc: Global, disk: D) -> (D, Result<(), CommandFault
     ensures cause { IfErr result.1 (λ f. f ≡ Device → D.faults disk < D.faults result.0) }
     ensures honest { SameHonesty D.Disk disk result.0 }
 {
-    match DurableSet::create(alloc, disk, SlotSize::standard()) {
-        Ok(set) => (set.into_disk(), Ok(())),
-        Err((fault, disk)) => (disk, Err(fault.into())),
+    match Store::create(alloc, disk, SlotSize::standard().bytes()) {
+        Ok((store, _)) => (store.into_disk(), Ok(())),
+        Err((CreateFault::NotEmpty, disk)) => (disk, Err(CommandFault::NotEmpty)),
+        Err((CreateFault::Device, disk)) => (disk, Err(CommandFault::Device)),
+        Err((CreateFault::Memory, disk)) => (disk, Err(CommandFault::Memory)),
+        Err((CreateFault::BadSize, _)) => unreachable!(),
     }
 }
 
@@ -68,10 +70,10 @@ pub fn show_disk<D: Disk, W: Write>(
     ensures any_moment { AtAnyMoment D.Disk disk result.0 (IsOutcome (D.unsynced disk)) }
     ensures honest { SameHonesty D.Disk disk result.0 }
 {
-    match DurableSet::open(alloc, disk) {
-        Ok(set) => {
-            let outcome = show(alloc, w, set.set());
-            (set.into_disk(), outcome)
+    match Store::open(alloc, disk) {
+        Ok((store, opening)) => {
+            let outcome = show(alloc, w, opening.set());
+            (store.into_disk(), outcome)
         }
         Err((fault, disk)) => (disk, Err(fault.into())),
     }
@@ -89,9 +91,13 @@ pub fn apply_disk<D: Disk, R: Read, W: Write>(
         (D.unsynced result.0) (R.remaining r.old.inner)
         (Applies told (W.contents w.old.inner) (W.contents w.new.inner))) }
 
-    // At a fault too the disk stands for what some first lines leave, but where the store failed.
-    ensures left { D.honest disk → IfErr result.1 (λ f. f ≢ StoreFailed
-        → IsLeftOnDisk (D.bytes disk) (D.bytes result.0) (R.remaining r.old.inner) IsLeftBy) }
+    // At a fault too the disk stands for what some first lines leave, and so does whatever a crash leaves then, but for
+    // what one might have left before.
+    ensures left { D.honest disk → IfErr result.1 (λ _.
+        IsLeftOnDisk (D.bytes disk) (D.bytes result.0) (R.remaining r.old.inner) IsLeftBy) }
+    ensures crash { D.honest disk → IfErr result.1 (λ _. EachCrash D.Disk result.0
+        (λ c. IsOutcome (D.unsynced disk) c
+        ⊎ IsLeftOnDisk (D.bytes disk) c (R.remaining r.old.inner) IsLeftBy)) }
     ensures fault { IfErr result.1 (IsApplyingFault (D.honest disk) (D.bytes disk)) }
     ensures nothing_written { IfErr result.1 (IfRefused (w.new ≡ w.old)) }
 
@@ -110,11 +116,11 @@ pub fn apply_disk<D: Disk, R: Read, W: Write>(
     ensures no_failure { OnOk result.1 (D.faults result.0 ≡ D.faults disk) }
     ensures honest { SameHonesty D.Disk disk result.0 }
 {
-    let set = match DurableSet::open(alloc, disk) {
-        Ok(set) => set,
+    let session = match DiskSession::open(alloc, disk) {
+        Ok(session) => session,
         Err((fault, disk)) => return (disk, Err(fault.into())),
     };
-    let (kept, outcome) = apply_lines(alloc, r, w, Kept { set });
+    let (kept, outcome) = apply_lines(alloc, r, w, session);
     let disk = kept.into_disk();
     match outcome {
         Ok(told) => (disk, Ok(told)),
@@ -135,9 +141,13 @@ pub fn import_disk<D: Disk, R: Read, W: Write>(
         (D.unsynced result.0) (R.remaining r.old.inner)
         (Imports told (W.contents w.old.inner) (W.contents w.new.inner))) }
 
-    // At a fault too the disk stands for what some first puts leave, but where the store failed.
-    ensures left { D.honest disk → IfErr result.1 (λ f. f ≢ StoreFailed
-        → IsLeftOnDisk (D.bytes disk) (D.bytes result.0) (R.remaining r.old.inner) IsLeftByImport) }
+    // At a fault too the disk stands for what some first puts leave, and so does whatever a crash leaves then, but for
+    // what one might have left before.
+    ensures left { D.honest disk → IfErr result.1 (λ _.
+        IsLeftOnDisk (D.bytes disk) (D.bytes result.0) (R.remaining r.old.inner) IsLeftByImport) }
+    ensures crash { D.honest disk → IfErr result.1 (λ _. EachCrash D.Disk result.0
+        (λ c. IsOutcome (D.unsynced disk) c
+        ⊎ IsLeftOnDisk (D.bytes disk) c (R.remaining r.old.inner) IsLeftByImport)) }
     ensures fault { IfErr result.1
         (IsImportingFault (D.honest disk) (D.bytes disk) (R.remaining r.old.inner)) }
     ensures nothing_written { IfErr result.1 (IfRefused (w.new ≡ w.old)) }
@@ -157,15 +167,15 @@ pub fn import_disk<D: Disk, R: Read, W: Write>(
     ensures no_failure { OnOk result.1 (D.faults result.0 ≡ D.faults disk) }
     ensures honest { SameHonesty D.Disk disk result.0 }
 {
-    let set = match DurableSet::open(alloc, disk) {
-        Ok(set) => set,
+    let session = match DiskSession::open(alloc, disk) {
+        Ok(session) => session,
         Err((fault, disk)) => return (disk, Err(fault.into())),
     };
     let flags = match read_document(alloc, r) {
         Ok(flags) => flags,
-        Err(fault) => return (set.into_disk(), Err(fault)),
+        Err(fault) => return (session.into_disk(), Err(fault)),
     };
-    let (kept, outcome) = import_flags(alloc, w, Kept { set }, flags);
+    let (kept, outcome) = import_flags(alloc, w, session, flags);
     let disk = kept.into_disk();
     match outcome {
         Ok(told) => (disk, Ok(told)),

@@ -1,13 +1,13 @@
 //! Why a command gave up.
 
 ghost use Rattle.std.specs.Prelude.{◌≡◌};
-ghost use Rattle.fp_commands.specs.Faults.{of_create, of_import, of_open, of_run, of_stream};
+ghost use Rattle.fp_commands.specs.Faults.{of_import, of_open, of_run, of_stream};
 ghost use Rattle.fp_commands.specs.declared.fault.CommandFault.TheVariants.{Device, Memory};
 
 use fp_definition::{DefFault, FlagKey};
 use fp_disk::DiskFault;
 use fp_imports::ImportFault;
-use fp_layout::{CreateFault, OpenFault};
+use fp_layout::OpenFault;
 use fp_session::ApplyFault;
 use fp_streams::StreamFault;
 use std::alloc::AllocError;
@@ -100,18 +100,6 @@ impl From<DiskFault> for CommandFault {
     }
 }
 
-impl From<CreateFault> for CommandFault {
-    ghost from_gives = { λ f e. e ≡ of_create f };
-
-    fn from(fault: CreateFault) -> CommandFault {
-        match fault {
-            CreateFault::NotEmpty => CommandFault::NotEmpty,
-            CreateFault::Device => CommandFault::Device,
-            CreateFault::Memory => CommandFault::Memory,
-        }
-    }
-}
-
 impl From<OpenFault> for CommandFault {
     ghost from_gives = { λ f e. e ≡ of_open f };
 
@@ -148,7 +136,7 @@ impl From<ApplyFault> for CommandFault {
         match fault {
             ApplyFault::Device => CommandFault::Device,
             ApplyFault::StoreFailed => CommandFault::StoreFailed,
-            ApplyFault::Memory => CommandFault::Memory,
+            ApplyFault::Memory | ApplyFault::CommitMemory => CommandFault::Memory,
         }
     }
 }

@@ -5,7 +5,6 @@ mod disk;
 mod document;
 mod eval;
 mod fault;
-mod kept;
 mod program;
 
 pub use disk::{apply_disk, import_disk, init_disk, show_disk};

@@ -223,6 +223,13 @@ impl Desk {
         }
     }
 
+    /// The set that all accepted edits lead to.
+    pub fn head(&self) -> &FlagSet
+        ensures { result.now ≡ head self.now }
+    {
+        &self.head
+    }
+
     /// The last revision that is settled.
     pub fn settled_revision(&self) -> u64
         ensures { result ≡ settled_revision self.now }

@@ -3,8 +3,9 @@
 use crate::flaky::{Calls, in_temp, noted, passing};
 use fp_disk::{Disk, DiskFault};
 use fp_edit::parse_line;
+use fp_group_commit::Store;
 use fp_layout::{SlotSize, create};
-use fp_recovery::DurableSet;
+use fp_session::{DiskSession, EditStore};
 use std::alloc::{AllocGlobal, Global};
 use std::cell::RefCell;
 use std::fs;
@@ -132,8 +133,8 @@ fn a_new_disk_is_written_in_this_order(rt: HostRuntime) -> Result<(), Fail> {
 // A disk of no flags at that path.
 fn make(rt: &HostRuntime, path: &PathBuf) -> Result<(), Fail> {
     let calls = passing(rt.alloc(), ALL);
-    match DurableSet::create(rt.alloc(), noted(rt, path, &calls)?, smallest()?) {
-        Ok(set) => drop(set.into_disk()),
+    match Store::create(rt.alloc(), noted(rt, path, &calls)?, smallest()?.bytes()) {
+        Ok((store, _)) => drop(store.into_disk()),
         Err(_) => return Err(Fail::new("not made")),
     }
     Ok(())
@@ -146,7 +147,7 @@ const PUT: &[u8] =
 fn put(rt: &HostRuntime, path: &PathBuf, calls: &RefCell<Calls>) -> Result<(bool, bool), Fail> {
     let alloc = rt.alloc();
     let edit = parse_line(alloc, PUT)?;
-    match DurableSet::open(alloc, noted(rt, path, calls)?) {
+    match DiskSession::open(alloc, noted(rt, path, calls)?) {
         Ok(mut set) => {
             let is_put = set.admit(edit).is_ok();
             drop(set.into_disk());

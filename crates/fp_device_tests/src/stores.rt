@@ -74,7 +74,7 @@ impl EditStore for Failing {
 
     ghost continues_to = { λ a b. Unit {0} };
 
-    ghost fails_on = { λ a p b. a.edits_left ≡ 0 };
+    ghost fails_on = { λ f a p b. a.edits_left ≡ 0 };
 
     ghost leads_to_itself = { λ s. tt };
 

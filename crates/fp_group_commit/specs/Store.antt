@@ -1,5 +1,5 @@
 -- A store: what it keeps, what is on its way, and what a crash may leave of it.
-use Rattle.std.specs.Prelude.{◌≡◌, ◌⊎◌, ◌/◌, Bool, true, false, List, [], ◌++◌, ℕ}
+use Rattle.std.specs.Prelude.{◌≡◌, ◌≢◌, ◌⊎◌, ◌/◌, Bool, true, false, List, [], ◌++◌, ℕ}
 use Rattle.std.specs.FinMap as map
 use Rattle.fp_edit.specs.Edits.{Change}
 use Rattle.fp_edit.specs.Flags.{State}
@@ -65,6 +65,10 @@ pub record IsFresh {D : Type 0} (s : StoreState D) (set : State) : Type 0 where
   pub sealed : s.sealed ≡ []
   pub step : s.step ≡ Idle
   pub phase : s.journal.phase ≡ Idle
+
+-- nothing is on its way, and no call of the device has failed
+abbrev pub IsAtRest : {D : Type 0} → StoreState D → Type 0
+IsAtRest s = (s.step ≡ Idle) × (s.journal.phase ≢ Failed)
 
 -- no flags, in slots of this size
 abbrev pub new_set : ℕ → State

@@ -6,14 +6,14 @@ ghost use Rattle.fp_disk.specs.History.{MakesSome};
 ghost use Rattle.fp_disk.specs.Outcomes.{IsOutcome, LeavesOnly, all_synced};
 ghost use Rattle.fp_disk.specs.declared.history.CallKind.TheVariants.{Length, Read, Sync};
 ghost use Rattle.fp_edit.specs.Flags.{State};
-ghost use Rattle.fp_layout.specs.NewDisk.{format_calls};
+ghost use Rattle.fp_layout.specs.NewDisk.{IsNewDisk, format_calls};
 ghost use Rattle.fp_layout.specs.Size.{IsSlotSize};
 ghost use Rattle.fp_layout.specs.declared.fault.OpenFault.TheVariants as opening;
 ghost use Rattle.fp_recovery.specs.Durable.{IsNewSetOrNone, IsDurable};
 ghost use Rattle.fp_recovery.specs.Refusals.{IsUnlessWanting, RefusesBytes};
 ghost use Rattle.fp_recovery.specs.Stands.{StandsFor};
 ghost use Rattle.fp_group_commit.specs.Store.{IsFresh, new_set};
-ghost use Rattle.fp_group_commit.specs.declared.fault.CreateFault.TheVariants.{NotEmpty, BadSize, Device};
+ghost use Rattle.fp_group_commit.specs.declared.fault.CreateFault.TheVariants.{NotEmpty, BadSize, Device, Memory};
 
 use crate::fault::CreateFault;
 use crate::opening::Opening;
@@ -53,11 +53,16 @@ impl<D: Disk> Store<D> {
         ensures empty { D.honest disk → IsOk result → D.bytes disk ≡ [] }
         ensures fresh { IfOk result (λ r. IsFresh r.0 (new_set size)) }
         ensures opening { IfOk result (λ r. r.1 ≡ r.0.store) }
+        ensures made { D.honest disk →
+            IfOk result (λ r. IsNewDisk size (D.bytes r.0.journal.disk)) }
         ensures sure { D.honest disk →
             IfOk result (λ r. IsDurable (D.unsynced r.0.journal.disk) (new_set size)) }
 
         ensures not_empty { D.honest disk → IfErr result (λ e. e.0 ≡ NotEmpty →
-            (D.bytes disk ≢ []) × (D.unsynced e.1 ≡ D.unsynced disk)) }
+            (D.bytes disk ≢ []) × (D.bytes e.1 ≡ D.bytes disk)
+            × (D.unsynced e.1 ≡ D.unsynced disk)) }
+        ensures memory { D.honest disk → IfErr result (λ e. e.0 ≡ Memory →
+            (D.bytes e.1 ≡ D.bytes disk) × (D.unsynced e.1 ≡ D.unsynced disk)) }
         ensures bad_size { D.honest disk → IfErr result (λ e. e.0 ≡ BadSize →
             (D.bytes disk ≡ []) × (D.unsynced e.1 ≡ D.unsynced disk)) }
         ensures no_size { IfErr result (λ e. e.0 ≡ BadSize → IsSlotSize size → ⊥) }

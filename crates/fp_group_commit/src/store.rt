@@ -7,8 +7,9 @@ ghost use Rattle.fp_journal.specs.declared.journal.Phase.TheVariants.{Idle, Fail
 ghost use Rattle.fp_journal.specs.State.{room};
 ghost use Rattle.fp_recovery.specs.Durable.{IsKept};
 ghost use Rattle.fp_recovery.specs.Stands.{StandsFor};
-ghost use Rattle.fp_group_commit.specs.Changes.{HasRoom};
-ghost use Rattle.fp_group_commit.specs.Store.{IsFresh, Leaves, reached};
+ghost use Rattle.fp_recovery.specs.Room.{HasNoRoom, IsFullFor};
+ghost use Rattle.fp_group_commit.specs.Changes.{HasRoom, batch_len};
+ghost use Rattle.fp_group_commit.specs.Store.{IsAtRest, IsFresh, Leaves, kept, reached};
 
 use crate::draw::{Draw, has_room};
 use crate::opening::Opening;
@@ -121,8 +122,15 @@ impl<D: Disk> Store<D> {
 
     /// Whether the draw is within the limits of a batch, and fits.
     pub fn has_room(&self, draw: &Draw) -> bool
-        ensures { IsTrue result ↔ HasRoom self.now.journal draw.now }
+        ensures room { IsTrue result ↔ HasRoom self.now.journal draw.now }
+
+        // Where the journal has none, nor has whatever a crash leaves.
+        ensures full { IsAtRest self.now → HasNoRoom self.now.journal (batch_len draw.now)
+            → EachCrash D.Disk self.now.journal.disk
+            (λ c. IsFullFor c (kept self.now) (batch_len draw.now)) }
     {
+        // What the journal's outcomes are is known only where it is asked.
+        let _ = self.journal.phase();
         has_room(&self.journal, draw)
     }
 

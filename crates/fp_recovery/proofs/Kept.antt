@@ -25,11 +25,10 @@ use Rattle.fp_layout.specs.Opening.{FoundDisk}
 use Rattle.fp_layout.proofs.Making.{new_header, new_slot}
 use Rattle.fp_record.specs.WellFormed.{IsImage}
 use Rattle.fp_record.specs.Encoding.{encoding_of_image}
-use Rattle.fp_recovery.specs.Admitting.{StandsForEither}
 use Rattle.fp_recovery.specs.Stands.{IsImageOf, TakesBatch, StandsFor}
 use Rattle.fp_recovery.specs.Refusals.{BeginsWith}
 use Rattle.fp_recovery.specs.Durable.{IsKept, IsNewSetOrNone, IsDurable}
-use Rattle.fp_recovery.specs.Room.{batch_len, HasNoRoom, IsFullFor}
+use Rattle.fp_recovery.specs.Room.{HasNoRoom, IsFullFor}
 use Rattle.fp_recovery.proofs.Restored.{image_of, entries-empty}
 use Rattle.fp_recovery.proofs.Agreed.{Agrees, agrees_range, header_agreed, slot_agreed, holds_agreed, chain_behind, spell-append}
 
@@ -65,13 +64,13 @@ module _ {D : Type 0} (u : PendingState) (set : State) (journal : JournalState D
   pub kept_stands : (c : List ℕ) → IsOutcome u c → HasChain journal.slot journal.front journal.sealed c → StandsFor c set
   kept_stands c o h = held_stands c (firm_outcome u 0 (slice_range k.bytes 0 64) c k.header_firm o) (firm_outcome u (64 + k.size) (slice_index k.bytes (64 + k.size) ∷ []) c k.gate_firm o) h
 
-  -- and where the journal has no room for a change, nor have the bytes
-  pub kept_full : (change : Change) → HasNoRoom journal change → (c : List ℕ) → IsOutcome u c → HasChain journal.slot journal.front journal.sealed c → IsFullFor c set change
+  -- and where the journal has no room for a batch, nor have the bytes
+  pub kept_full : (n : ℕ) → HasNoRoom journal n → (c : List ℕ) → IsOutcome u c → HasChain journal.slot journal.front journal.sealed c → IsFullFor c set n
   unfolding kept_stands held_stands
-  kept_full change none c o h = record { stands = kept_stands c o h; full = behind none }
+  kept_full n none c o h = record { stands = kept_stands c o h; full = behind none }
     where
-      behind : HasNoRoom journal change → ((first_slot k.size).most < batch_len change) ⊎ ((first_slot k.size).stop < 86 + length k.image + length (spell (k.opened ++ journal.sealed)) + (6 + batch_len change))
-      behind (inl long) = inl (subst (λ (s : Slot). s.most < batch_len change) k.slot_is long)
+      behind : HasNoRoom journal n → ((first_slot k.size).most < n) ⊎ ((first_slot k.size).stop < 86 + length k.image + length (spell (k.opened ++ journal.sealed)) + (6 + n))
+      behind (inl long) = inl (subst (λ (s : Slot). s.most < n) k.slot_is long)
       behind (inr narrow) =
           let start : journal.slot.start ≡ 64 = ap (λ (s : Slot). s.start) k.slot_is in
           let stop : journal.slot.stop ≡ 64 + k.size = ap (λ (s : Slot). s.stop) k.slot_is in
@@ -127,34 +126,6 @@ either_stands {D} u set t journal b k takes short c head gate (inr chain) =
     let later : JournalState D = record journal { sealed = journal.sealed ++ b ∷ [] } in
     let more : IsKept u t later = kept_more u set journal k u t later b takes short refl refl refl (λ at text out f. f) in
     inr (held_stands u t later more c head gate chain)
-
--- and no time goes by where nothing is done
-pub still_leaves : {D : Type 0} (moment : D → ℕ) (crash_states_since : D → ℕ → List ℕ → Type 0) (unsynced : D → PendingState) (disk : D) (set : State) (edit : Proposal) (journal : JournalState D) → IsKept (unsynced disk) set journal
-    → ((c : List ℕ) → crash_states_since disk (moment disk) c → IsOutcome (unsynced disk) c) → ((c : List ℕ) → IsOutcome (unsynced disk) c → HasChain journal.slot journal.front journal.sealed c)
-    → LeavesOnly moment crash_states_since disk disk (StandsForEither set edit)
-still_leaves moment crash_states_since unsynced disk set edit journal k now chain =
-    leaves_still moment crash_states_since disk (StandsForEither set edit) (λ c left. inl (kept_stands (unsynced disk) set journal k c (now c left) (chain c (now c left))))
-
--- at each moment, where the batch is an edit
-pub either_leaves : {D : Type 0} (moment : D → ℕ) (crash_states_since : D → ℕ → List ℕ → Type 0) (unsynced : D → PendingState) (old new : D) (set t : State) (edit : Proposal) (journal : JournalState D) (b : List ℕ) → IsKept (unsynced old) set journal
-    → Admits set edit (accepted t) → TakesBatch set b t → length b ≤ journal.slot.most → LeavesOnly moment crash_states_since old new (HasChainOrNext journal.slot journal.front journal.sealed b)
-    → KeepsFirm moment crash_states_since unsynced old new (Outside journal.slot) → LeavesOnly moment crash_states_since old new (StandsForEither set edit)
-either_leaves moment crash_states_since unsynced old new set t edit journal b k admits takes short chain apart =
-    let u = unsynced old in let header = slice_range k.bytes 0 64 in let gate = slice_index k.bytes (64 + k.size) ∷ [] in
-    let Head : List ℕ → Type 0 = λ c. Holds c 0 header in let Gate : List ℕ → Type 0 = λ c. Holds c (64 + k.size) gate in
-    let Chain : List ℕ → Type 0 = λ c. HasChainOrNext journal.slot journal.front journal.sealed b c in
-    let head = (apart 0 header (header_apart u set journal k) k.header_firm).1 in let shut = (apart (64 + k.size) gate (gate_apart u set journal k) k.gate_firm).1 in
-    leaves_map moment crash_states_since old new (λ c. Chain c × (Head c × Gate c)) (StandsForEither set edit)
-    (λ c p. ⊎_elim (λ before. inl before) (λ after. inr (t, admits, after)) (either_stands u set t journal b k takes short c p.1.0 p.1.1 p.0))
-    (leaves_both moment crash_states_since old new Chain (λ c. Head c × Gate c) chain (leaves_both moment crash_states_since old new Head Gate head shut))
-
--- ---- room
-pub has_room : {D : Type 0} (journal : JournalState D) (change : Change) (b : Bool) → (IsTrue b ↔ HasNoRoom journal change) → b ≡ false → (batch_len change ≤ journal.slot.most) × (6 + batch_len change ≤ room journal)
-has_room journal change b says not =
-    let never : HasNoRoom journal change → ⊥ = λ none. let both : false ≡ true = sym not ∙ says.1 none in absurd cc in
-    let short : (journal.slot.most < batch_len change) → ⊥ = λ lt. never (inl lt) in
-    let wide : (room journal < 6 + batch_len change) → ⊥ = λ lt. never (inr lt) in
-    (omega (arith, short), omega (arith, wide))
 
 -- ---- at first
 module _ (c : List ℕ) (before set : State) (slot : Slot) (front : List ℕ) (f : FoundDisk BeginsWith TakesBatch c before set slot front) where

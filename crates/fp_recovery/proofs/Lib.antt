@@ -4,7 +4,6 @@ pub mod Read
 pub mod Flags
 pub mod Agreed
 pub mod Kept
-pub mod Single
 pub mod One
 pub mod Refused
 pub mod OneFault

@@ -1,8 +1,7 @@
--- A set and the journal that keeps it.
+-- Sets that a disk is sure to keep.
 use Rattle.std.specs.Prelude.{◌≡◌, ◌⊎◌, ◌+◌, ◌/◌, ℕ, List, [], ◌∷◌, ◌++◌, length, slice_index, slice_range}
 use Rattle.std.specs.FinMap as map
 use Rattle.fp_disk.specs.Outcomes.{PendingState, IsOutcome}
-use Rattle.fp_edit.specs.Edits.{Change}
 use Rattle.fp_edit.specs.Flags.{State}
 use Rattle.fp_journal.specs.Holds.{Holds, IsSynced}
 use Rattle.fp_journal.specs.Chain.{spell}
@@ -10,22 +9,13 @@ use Rattle.fp_journal.specs.Reading.{Reads}
 use Rattle.fp_journal.specs.State.{AllShort, JournalState}
 use Rattle.fp_layout.specs.Size.{first_slot}
 use Rattle.fp_layout.specs.Layout.{IsHeader, IsFirstSlot}
-use Rattle.fp_record.specs.Group.{Group}
 use Rattle.fp_layout.specs.declared.fault.OpenFault.TheVariants.{Unformatted}
 use Rattle.fp_recovery.specs.Refusals.{RefusesBytes}
 use Rattle.fp_recovery.specs.Stands.{IsImageOf, TakesBatch, StandsFor}
 
-pub record Durable (D : Type 0) : Type 0 where
-  pub set : State
-  pub journal : JournalState D
-
 -- whatever a crash leaves now stands for the set
 abbrev pub IsDurable : PendingState → State → Type 0
 IsDurable u s = (c : List ℕ) → IsOutcome u c → StandsFor c s
-
--- a batch of one change
-abbrev pub single : ℕ → Change → Group
-single first change = record { first = first; changes = change ∷ [] }
 
 -- what nobody made a disk of, or a disk of no flags
 abbrev pub IsNewSetOrNone : ℕ → List ℕ → Type 0

@@ -3,6 +3,5 @@ pub mod Reading
 pub mod Refusals
 pub mod Durable
 pub mod Room
-pub mod Admitting
 pub mod Laws
 pub mod Exact

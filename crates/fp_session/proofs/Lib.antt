@@ -1,3 +1,5 @@
+pub mod Commits
+pub mod Sessions
 pub mod LineLemmas
 pub mod VerdictLemmas
 pub mod RunLemmas

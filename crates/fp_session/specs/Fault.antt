@@ -1,9 +1,10 @@
 -- The texts of the faults that end a run.
 use Rattle.std.specs.Prelude.{ℕ, List, codes}
 use Rattle.fp_session.specs.declared.fault.ApplyFault.{ApplyFault}
-use Rattle.fp_session.specs.declared.fault.ApplyFault.TheVariants.{Device, StoreFailed, Memory}
+use Rattle.fp_session.specs.declared.fault.ApplyFault.TheVariants.{Device, StoreFailed, Memory, CommitMemory}
 
 abbrev pub text_of : ApplyFault → List ℕ
 text_of Device = codes "device fault"
 text_of StoreFailed = codes "store failed"
 text_of Memory = codes "out of memory"
+text_of CommitMemory = codes "out of memory"

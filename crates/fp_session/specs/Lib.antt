@@ -1,3 +1,5 @@
+pub mod Session
+pub mod SessionLaws
 pub mod Declined
 pub mod Fault
 pub mod Lines

@@ -3,7 +3,7 @@ use Rattle.std.specs.Prelude.{◌≡◌, ◌<◌, ◌≤◌, ℕ, Result, Ok, Er
 use Rattle.fp_streams.specs.declared.counted.StreamFault.{StreamFault}
 use Rattle.fp_streams.specs.declared.counted.StreamFault.TheVariants as stream
 use Rattle.fp_session.specs.declared.fault.ApplyFault.{ApplyFault}
-use Rattle.fp_session.specs.declared.fault.ApplyFault.TheVariants.{Device, StoreFailed, Memory}
+use Rattle.fp_session.specs.declared.fault.ApplyFault.TheVariants.{Device, StoreFailed, Memory, CommitMemory}
 
 abbrev pub of_stream : StreamFault → ApplyFault
 of_stream stream.Device = Device
@@ -15,9 +15,11 @@ Blames before after (Ok x) = after ≡ before
 Blames before after (Err Device) = before < after
 Blames before after (Err StoreFailed) = before ≤ after
 Blames before after (Err Memory) = before ≤ after
+Blames before after (Err CommitMemory) = before ≤ after
 
 -- a fault that no stream is behind
 abbrev pub IsFromWithin : ApplyFault → Type 0
 IsFromWithin Device = ⊥
 IsFromWithin StoreFailed = Unit {0}
 IsFromWithin Memory = Unit {0}
+IsFromWithin CommitMemory = Unit {0}

@@ -6,6 +6,7 @@ ghost use Rattle.fp_edit.specs.Edits.{proposal_of};
 ghost use Rattle.fp_edit.specs.Admits.{Admits, accepted};
 ghost use Rattle.fp_edit.specs.Edits.{Proposal};
 ghost use Rattle.fp_session.specs.Declined.{IsDeclined, IsDeclinedBy};
+ghost use Rattle.fp_session.specs.declared.commit.CommitFault.{CommitFault};
 
 use fp_edit::{Edit, EditFault, FlagSet};
 
@@ -16,6 +17,8 @@ pub enum Declined {
     Refused(EditFault),
     /// What keeps the flags failed, and holds the edit or not; no further edit is taken.
     StoreFailed,
+    /// Memory was wanting to keep the edit, which is there or not; no further edit is taken.
+    CommitMemory,
 }
 
 /// Flags that take one edit after another, and keep each one before they answer it.
@@ -26,8 +29,8 @@ pub trait EditStore {
     // What keeps the flags may become this, as long as it doesn't fail.
     ghost continues_to: { Self → Self → Type 0 };
 
-    // It may fail at this edit, and become that.
-    ghost fails_on: { Self → Proposal → Self → Type 0 };
+    // It may stop at this edit for that reason, and become that.
+    ghost fails_on: { CommitFault → Self → Proposal → Self → Type 0 };
 
     ghost leads_to_itself: { (s : Self) → continues_to s s };
 
@@ -54,7 +57,7 @@ impl EditStore for FlagSet {
 
     ghost continues_to = { λ a b. Unit {0} };
 
-    ghost fails_on = { λ a p b. ⊥ };
+    ghost fails_on = { λ f a p b. ⊥ };
 
     ghost leads_to_itself = { λ s. tt };
 

@@ -277,5 +277,6 @@ fn reply_to_edit<E: EditStore>(edits: &mut E, edit: Edit) -> Result<Reply, Apply
         Ok(revision) => Ok(Reply::Revision(revision)),
         Err(Declined::Refused(fault)) => Ok(Reply::Refused(fault)),
         Err(Declined::StoreFailed) => Err(ApplyFault::StoreFailed),
+        Err(Declined::CommitMemory) => Err(ApplyFault::CommitMemory),
     }
 }

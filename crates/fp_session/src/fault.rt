@@ -16,6 +16,8 @@ pub enum ApplyFault {
     StoreFailed,
     /// A growth was refused that no reply could tell of.
     Memory,
+    /// A growth was refused that an edit wanted to be kept.
+    CommitMemory,
 }
 
 impl ApplyFault {
@@ -28,7 +30,7 @@ impl ApplyFault {
         match self {
             ApplyFault::Device => "device fault",
             ApplyFault::StoreFailed => "store failed",
-            ApplyFault::Memory => "out of memory",
+            ApplyFault::Memory | ApplyFault::CommitMemory => "out of memory",
         }
     }
 }

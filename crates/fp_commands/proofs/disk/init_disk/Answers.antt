@@ -1,13 +1,11 @@
-use Rattle.std.proofs.Common.{◌≡◌, sym, ap, subst, ◌∙◌}
-use Rattle.fp_edit.specs.Flags.{State}
+use Rattle.std.proofs.Common.{◌≡◌, ◌^◌, sym, subst, ◌∙◌}
 use Rattle.fp_recovery.specs.Durable.{IsDurable}
-use Rattle.fp_recovery.proofs.Kept.{new_set}
-use Rattle.fp_commands.specs.Task.{no_flags}
+use Rattle.fp_group_commit.specs.Store.{new_set}
 use Rattle.fp_commands.proofs.disk.init_disk.Goals as goal
 
 pub returns-in-Ok-clause-sure : goal.returns-in-Ok-clause-sure
 returns-in-Ok-clause-sure g c = λ h.
-    let D = g.D.Disk in let made = c.in-Ok.ensures in
-    let set : c.in-Ok.set.set ≡ no_flags = made.set ∙ ap new_set c.standard.ensures in
-    let there : D.honest c.into_disk.result = subst D.honest (sym c.into_disk.ensures.disk) (made.honest.0 h) in
-    subst (λ (s : State). IsDurable (D.unsynced c.into_disk.result) s) set (c.into_disk.ensures.sure there made.ready)
+    let D = g.D.Disk in
+    let size : c.bytes.result ≡ 2 ^ 24 = c.bytes.ensures.bytes ∙ c.standard.ensures in
+    subst (λ n. IsDurable (D.unsynced c.into_disk.result) (new_set n)) size
+    (subst (λ (d : g.row.D.Denot). IsDurable (D.unsynced d) (new_set c.bytes.result)) (sym c.into_disk.ensures.disk) (c.in-Ok.ensures.sure h))

@@ -1,4 +1,5 @@
-use Rattle.std.proofs.Common.{sym, subst}
+use Rattle.std.proofs.Common.{sym, ap, subst, ◌∙◌}
+use Rattle.fp_group_commit.specs.Tokens.{Identity}
 use Rattle.std.specs.Io.KnownBytes.{Appends}
 use Rattle.fp_edit.specs.Flags.{State}
 use Rattle.fp_session.specs.Script.{show_line}
@@ -12,7 +13,7 @@ pub returns-in-Ok-clause-shown : goal.returns-in-Ok-clause-shown
 returns-in-Ok-clause-shown g c =
     let D = g.D.Disk in let old = g.W.Write.contents c.args.w.now.inner in let new = g.W.Write.contents c.show-outcome.new.w.inner in
     ok_more c.show-outcome.result (Appends old new (show_line c.set.result.now)) (IsShown (D.honest c.args.disk) (D.bytes c.args.disk) old new)
-    (λ w. record { flags = c.in-Ok.set.set; stood = c.in-Ok.ensures.stands; written = subst (λ (s : State). Appends old new (show_line s)) c.set.ensures w })
+    (λ w. record { flags = c.in-Ok.store.store.start; stood = c.in-Ok.ensures.stands; written = subst (λ (s : State). Appends old new (show_line s)) (c.set.ensures ∙ ap (λ (i : Identity). i.start) c.in-Ok.ensures.opening) w })
     c.show-outcome.ensures.shown
 
 pub returns-in-Ok-clause-fault : goal.returns-in-Ok-clause-fault

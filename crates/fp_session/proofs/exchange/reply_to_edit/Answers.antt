@@ -15,3 +15,8 @@ pub returns-in-Err-StoreFailed-clause-stopped : goal.returns-in-Err-StoreFailed-
 returns-in-Err-StoreFailed-clause-stopped g c =
     let is = rw c.in-Err-StoreFailed.field-0-is at c.in-Err-StoreFailed.ensures in
     failed-answers (g.E.EditStore.state c.args.edits.now) (g.E.EditStore.state c.admit.new.self) (proposal_of c.args.edit) is.declined
+
+pub returns-in-Err-CommitMemory-clause-stopped : goal.returns-in-Err-CommitMemory-clause-stopped
+returns-in-Err-CommitMemory-clause-stopped g c =
+    let is = rw c.in-Err-CommitMemory.field-0-is at c.in-Err-CommitMemory.ensures in
+    failed-answers (g.E.EditStore.state c.args.edits.now) (g.E.EditStore.state c.admit.new.self) (proposal_of c.args.edit) is.declined

@@ -3,7 +3,7 @@ use Rattle.fp_disk.specs.Moments.{leaves_map}
 use Rattle.fp_disk.specs.Outcomes.{LeavesOnly}
 use Rattle.fp_edit.specs.Flags.{State}
 use Rattle.fp_journal.specs.State.{JournalState}
-use Rattle.fp_layout.specs.NewDisk.{IsNewOrNone}
+use Rattle.fp_layout.specs.NewDisk.{IsNewDisk, IsNewOrNone}
 use Rattle.fp_recovery.specs.Durable.{IsKept, IsNewSetOrNone, IsDurable}
 use Rattle.fp_recovery.proofs.Kept.{new_kept, new_or_none, new_set, new_stands, settled_sure}
 use Rattle.fp_group_commit.proofs.store.Store.create.Goals as goal
@@ -48,3 +48,10 @@ returns-clause-any_moment g c = λ h is.
     subst (λ (k : JournalState g.row.D.Denot). LeavesOnly D.moment D.crash_states_since c.args.disk k.disk (IsNewSetOrNone size)) (sym disk)
     (leaves_map D.moment D.crash_states_since c.args.disk j.disk (IsNewOrNone size) (IsNewSetOrNone size) (new_or_none size (c.in-Some.ensures.allowed.0 refl))
     (subst (λ (n : ℕ). LeavesOnly D.moment D.crash_states_since c.args.disk j.disk (IsNewOrNone n)) c.in-Some.ensures.value (c.in-Ok.ensures.any_moment h is)))
+
+pub returns-clause-made : goal.returns-clause-made
+returns-clause-made g c = λ h.
+    let D = g.D.Disk in let j = c.in-Ok.journal in
+    let disk : c.adopt.result.0.journal ≡ j = c.adopt.ensures.journal in
+    subst (λ (k : JournalState g.row.D.Denot). IsNewDisk c.args.size (D.bytes k.disk)) (sym disk)
+    (subst (λ (n : ℕ). IsNewDisk n (D.bytes j.disk)) c.in-Some.ensures.value (c.in-Ok.ensures.made h))

@@ -50,7 +50,7 @@ returns-then-not-has_room-clause-steps g c =
     let is : h ≡ held.Drawn draw = sym c.replace.ensures.value ∙ c.in-Drawn.is in
     let o = subst (λ (x : Held). IsOut x s d) is i.out in
     let well = goes.well_by c.failed.result s.journal.phase c.failed.ensures c.if-failed.false in
-    let none : HasRoom s.journal draw → ⊥ = (λ room. let yes = c.has_room.ensures.1 room in absurd (search rules)) in
+    let none : HasRoom s.journal draw → ⊥ = (λ room. let yes = c.has_room.ensures.room.1 room in absurd (search rules)) in
     rw (← c.self.view_is, c.replace-then-not-has_room.ensures.after) (subst (λ (x : Held). Stages (goes.At x s d told) answer.NotNow (goes.At (held.Drawn draw) s d told)) (sym is) (well, goes.cannot_stage draw s d told o.2 o.3 none, refl))
 
 pub returns-then-not-has_room-clause-any_moment : goal.returns-then-not-has_room-clause-any_moment
@@ -92,7 +92,7 @@ returns-in_default-stage g c =
     let w = c.stage.ensures in let n = c.stage.new.self in
     let leaves : D.honest s.journal.disk → LeavesOnly D.moment D.crash_states_since s.journal.disk n.journal.disk (KeptFrom d told) = (λ h0. keeps.kept_leaves D.honest D.moment D.crash_states_since D.unsynced i n.journal.disk (w.any_moment h0)) in
     let ok = c.in_default-stage.ensures.ok in
-    let room : HasRoom s.journal draw = c.has_room.ensures.0 (search rules) in
+    let room : HasRoom s.journal draw = c.has_room.ensures.room.0 (search rules) in
     rw (← c.self.view_is, c.replace.ensures.after) (record {
       steps = subst (λ (x : Held). Stages (goes.At x s d told) answer.Done (goes.At held.InFlight n d told)) (sym is) (goes.done D.faults CanStage batch_staged (held.Drawn draw) held.InFlight s n d told Staged ok w.same_room (goes.can_stage draw s d told o.2 room) (ap in_flight_at ok.step));
       tells = tt;
@@ -114,7 +114,7 @@ returns g c =
     let w = c.stage.ensures in let n = c.stage.new.self in
     let leaves : D.honest s.journal.disk → LeavesOnly D.moment D.crash_states_since s.journal.disk n.journal.disk (KeptFrom d told) = (λ h0. keeps.kept_leaves D.honest D.moment D.crash_states_since D.unsynced i n.journal.disk (w.any_moment h0)) in
     let e = c.in-Err.ensures in let f = c.in-Err.fault in
-    let room : HasRoom s.journal draw = c.has_room.ensures.0 (search rules) in
+    let room : HasRoom s.journal draw = c.has_room.ensures.room.0 (search rules) in
     rw (← c.self.view_is) (record {
       steps = subst (λ (x : WorldState g.row.D.Denot). Stages (machine x) (answer.Fault f) (goes.At c.replace-2.new.dest n d told)) c.self.view_is
           (subst (λ (x : Held). Stages (goes.At h s d told) (answer.Fault f) (goes.At x n d told)) (sym c.replace-2.ensures.after)

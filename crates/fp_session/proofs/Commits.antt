@@ -1,0 +1,116 @@
+-- What a crash may leave while a batch is sealed.
+use Rattle.std.proofs.Common.{◌≡◌, ◌≢◌, ◌⊎◌, ◌<◌, ◌≤◌, ◌+◌, ℕ, true, false, List, [], ◌∷◌, ◌++◌, length, take, refl, sym, ap, subst, ◌∙◌, inl, inr, arith, append_assoc, length-append}
+use Rattle.std.proofs.lemmas.List.{take_at}
+use Rattle.fp_disk.specs.Crashes.{AtAnyMoment, EachCrash, SameHonesty}
+use Rattle.fp_disk.specs.Moments.{leaves_map, leaves_still, leaves_then}
+use Rattle.fp_disk.specs.Outcomes.{IsOutcome}
+use Rattle.fp_disk.specs.declared.disk.Disk.{Ghosts}
+use Rattle.fp_edit.specs.Edits.{Change}
+use Rattle.fp_edit.specs.Flags.{State}
+use Rattle.fp_edit.specs.Log.{after_all}
+use Rattle.fp_journal.specs.declared.journal.Phase.{Phase}
+use Rattle.fp_journal.specs.declared.journal.Phase.TheVariants.{Idle}
+use Rattle.fp_recovery.specs.Stands.{StandsFor}
+use Rattle.fp_group_commit.specs.Store.{StoreState, Leaves, begun_at, has_begun, kept}
+use Rattle.fp_group_commit.specs.Tokens.{Identity}
+use Rattle.fp_desk.specs.Desk.{DeskState, log}
+use Rattle.fp_session.specs.Session.{IsInStep, KeepsOrGains, StandsAhead}
+use Rattle.std.specs.Prelude.{◌↔◌, Bool, IsTrue, nat_le}
+use borrow.Author.Tests.{leb-true, leb-false}
+use Rattle.fp_edit.proofs.Runs.{revision-after_all}
+use Rattle.fp_journal.specs.State.{JournalState, room}
+use Rattle.fp_record.specs.Group.{Group}
+use Rattle.fp_recovery.specs.Room.{HasNoRoom}
+use Rattle.fp_group_commit.specs.Changes.{HasRoom, batch_len}
+use Rattle.fp_group_commit.specs.Tokens.{ReceiptState}
+use Rattle.fp_desk.specs.Desk.{IsDrawn, IsNewDraw}
+
+module _ {D : Type 0} (disk : Ghosts D) where
+  -- what has P has Q
+  pub weaker : (a b : D) (P Q : List ℕ → Type 0) → ((c : List ℕ) → P c → Q c) → AtAnyMoment disk a b P → AtAnyMoment disk a b Q
+  weaker a b P Q f l = λ h. leaves_map disk.moment disk.crash_states_since a b P Q f (l h)
+
+  -- one stretch of time and the next
+  pub next_moment : (a b c : D) (P : List ℕ → Type 0) → SameHonesty disk a b → AtAnyMoment disk a b P → AtAnyMoment disk b c P → AtAnyMoment disk a c P
+  next_moment a b c P same first second = λ h. leaves_then disk.moment disk.crash_states_since a b c P (first h) (second (same.0 h))
+
+  pub honest_on : (a b c : D) → SameHonesty disk a b → SameHonesty disk b c → SameHonesty disk a c
+  honest_on a b c h k = (λ x. k.0 (h.0 x), λ x. h.1 (k.1 x))
+
+-- where nothing is on its way, no gate was begun
+pub idle_not : {D : Type 0} (s : StoreState D) → s.step ≡ Idle → has_begun s ≡ true → ⊥
+idle_not s idle begun = let both : false ≡ true = ap (λ (p : Phase). begun_at p s.journal.phase) (sym idle) ∙ begun in absurd cc
+
+pub idle_keeps : {D : Type 0} (s : StoreState D) → s.step ≡ Idle → (c : List ℕ) → Leaves s c → StandsFor c (kept s)
+idle_keeps s idle c (inl stands) = stands
+idle_keeps s idle c (inr both) = absurd (idle_not s idle both.0)
+
+-- a store on the way to this batch leaves what was kept, or that and the batch
+pub leaves_either : {D : Type 0} (old s : StoreState D) (batch : List Change) → s.store ≡ old.store → s.sealed ≡ old.sealed → (s.step ≡ Idle) ⊎ (s.staged ≡ batch) → (c : List ℕ) → Leaves s c → KeepsOrGains old batch c
+leaves_either old s batch store sealed going c (inl stands) =
+    inl (subst (λ (u : State). StandsFor c u) (ap (λ (x : Identity). after_all x.start s.sealed) store ∙ ap (λ (l : List Change). after_all old.store.start l) sealed) stands)
+leaves_either old s batch store sealed (inl idle) c (inr both) = absurd (idle_not s idle both.0)
+leaves_either old s batch store sealed (inr staged) c (inr both) =
+    inr (subst (λ (u : State). StandsFor c u)
+    (ap (λ (x : Identity). after_all x.start (s.sealed ++ s.staged)) store ∙ ap (λ (l : List Change). after_all old.store.start (l ++ s.staged)) sealed ∙ ap (λ (l : List Change). after_all old.store.start (old.sealed ++ l)) staged) both.1)
+
+-- one call more
+pub call_more : {D : Type 0} (disk : Ghosts D) (old s : StoreState D) (batch : List Change) (first a b : D) → s.store ≡ old.store → s.sealed ≡ old.sealed → (s.step ≡ Idle) ⊎ (s.staged ≡ batch)
+    → SameHonesty disk first a → AtAnyMoment disk first a (KeepsOrGains old batch) → AtAnyMoment disk a b (Leaves s) → AtAnyMoment disk first b (KeepsOrGains old batch)
+call_more disk old s batch first a b store sealed going same before call =
+    next_moment disk first a b (KeepsOrGains old batch) same before (weaker disk a b (Leaves s) (KeepsOrGains old batch) (leaves_either old s batch store sealed going) call)
+
+-- ---- and of its desk
+front_ahead : (d : DeskState) (xs rest : List Change) (c : List ℕ) → log d ≡ xs ++ rest → length d.settled ≤ length xs → StandsFor c (after_all d.store.start xs) → StandsAhead d c
+front_ahead d xs rest c is le stands =
+    let n = length xs in let len = ap length is in let all = length-append xs rest in
+    let cut : take n (log d) ≡ xs = ap (λ (l : List Change). take n l) is ∙ take_at xs rest n refl in
+    (n, le, omega (arith, len, all), subst (λ (l : List Change). StandsFor c (after_all d.store.start l)) (sym cut) stands)
+
+module _ {D : Type 0} (s : StoreState D) (d : DeskState) (same : d.store ≡ s.store) (settled : s.sealed ≡ d.settled) (none_drawn : d.drawn ≡ []) where
+  pub log_parts : (batch rest : List Change) → d.waiting ≡ batch ++ rest → log d ≡ (d.settled ++ batch) ++ rest
+  log_parts batch rest parts =
+      ap (λ (l : List Change). d.settled ++ (l ++ d.waiting)) none_drawn ∙ ap (λ (l : List Change). d.settled ++ l) parts ∙ sym (append_assoc d.settled batch rest)
+
+  -- a first part of what waits is ahead of what is settled
+  pub stands_ahead : (batch rest : List Change) → d.waiting ≡ batch ++ rest → (c : List ℕ) → KeepsOrGains s batch c → StandsAhead d c
+  stands_ahead batch rest parts c (inl stands) =
+      front_ahead d d.settled (batch ++ rest) c (log_parts batch rest parts ∙ append_assoc d.settled batch rest) (omega arith)
+      (subst (λ (u : State). StandsFor c u) (ap (λ (x : Identity). after_all x.start s.sealed) (sym same) ∙ ap (λ (l : List Change). after_all d.store.start l) settled) stands)
+  stands_ahead batch rest parts c (inr stands) =
+      let all = length-append d.settled batch in
+      front_ahead d (d.settled ++ batch) rest c (log_parts batch rest parts) (omega (arith, all))
+      (subst (λ (u : State). StandsFor c u) (ap (λ (x : Identity). after_all x.start (s.sealed ++ batch)) (sym same) ∙ ap (λ (l : List Change). after_all d.store.start (l ++ batch)) settled) stands)
+
+module _ {D : Type 0} (disk : Ghosts D) (s : StoreState D) (d : DeskState) (i : IsInStep disk s d) where
+  -- nothing is done
+  pub still_ahead : ((x : D) (c : List ℕ) → disk.honest x → disk.crash_states_since x (disk.moment x) c → IsOutcome (disk.unsynced x) c) → AtAnyMoment disk s.journal.disk s.journal.disk (StandsAhead d)
+  still_ahead only_now = λ h. leaves_still disk.moment disk.crash_states_since s.journal.disk (StandsAhead d)
+      (λ c left. stands_ahead s d i.same i.settled i.none_drawn [] d.waiting refl c (inl (i.keeps h c (only_now s.journal.disk c h left))))
+
+  -- a batch that is sealed
+  pub sealed_ahead : (new : D) (batch rest : List Change) → d.waiting ≡ batch ++ rest → AtAnyMoment disk s.journal.disk new (KeepsOrGains s batch) → AtAnyMoment disk s.journal.disk new (StandsAhead d)
+  sealed_ahead new batch rest parts l = weaker disk s.journal.disk new (KeepsOrGains s batch) (StandsAhead d) (stands_ahead s d i.same i.settled i.none_drawn batch rest parts) l
+
+  -- the receipt for it is for what is drawn
+  pub receipt_drawn : (group : Group) (new : DeskState) (r : ReceiptState) → IsNewDraw d new group → r.batch.changes ≡ group.changes → r.batch.first ≡ (kept s).revision + 1 → IsDrawn new r
+  receipt_drawn group new r draw changes first =
+      let some = draw.longest.some in
+      let drawn : new.drawn ≡ group.changes = ap (λ (x : DeskState). x.drawn) draw.new_is in
+      let settled = ap (λ (x : DeskState). x.settled) draw.new_is in
+      let store = ap (λ (x : DeskState). x.store.start.revision) draw.new_is in
+      let same = ap (λ (x : Identity). x.start.revision) i.same in
+      let len = ap length settled in let sealed = ap length i.settled in
+      let all = revision-after_all s.store.start s.sealed in
+      (λ none. let empty = ap length (sym drawn ∙ none) in omega (arith, some, empty), omega (arith, first, all, store, same, len, sealed), changes ∙ sym drawn)
+
+-- ---- room
+pub no_room : {D : Type 0} (journal : JournalState D) (group : Group) (b : Bool) → (IsTrue b ↔ HasRoom journal group) → b ≡ false → 0 < length group.changes → length group.changes ≤ 64 → HasNoRoom journal (batch_len group)
+no_room journal group b says not some few =
+    elim (nat_le (batch_len group) journal.slot.most) as (λ t. nat_le (batch_len group) journal.slot.most ≡ t → HasNoRoom journal (batch_len group)) [
+      | false ↦ λ e. inl (leb-false _ _ e)
+      | true ↦ λ e. elim (nat_le (batch_len group + 6) (room journal)) as (λ t. nat_le (batch_len group + 6) (room journal) ≡ t → HasNoRoom journal (batch_len group)) [
+        | false ↦ λ f. let narrow = leb-false _ _ f in inr (omega (arith, narrow))
+        | true ↦ λ f. let both : false ≡ true = sym not ∙ says.1 (record { some = some; few = few; short = leb-true _ _ e; room = leb-true _ _ f }) in absurd cc
+      ] refl
+    ] refl

@@ -1,0 +1,129 @@
+//! Batches of a desk's edits, sealed by its store and settled.
+
+ghost use Rattle.std.specs.Prelude.{◌≡◌, ◌≢◌, ◌⊎◌, ◌<◌, ◌+◌, ◌++◌, List, ℕ, [], IfOk, IfErr, OnOk, OnErr};
+ghost use Rattle.fp_disk.specs.Crashes.{AtAnyMoment, EachCrash, SameHonesty};
+ghost use Rattle.fp_journal.specs.declared.journal.Phase.TheVariants.{Staged};
+ghost use Rattle.fp_recovery.specs.Stands.{StandsFor};
+ghost use Rattle.fp_group_commit.specs.Calls.{MovesTo};
+ghost use Rattle.fp_group_commit.specs.Changes.{GoesOn, HasRoom};
+ghost use Rattle.fp_group_commit.specs.Store.{IsAtRest, Leaves, kept};
+ghost use Rattle.fp_desk.specs.Desk.{IsDrawn, log};
+ghost use Rattle.fp_session.specs.Session.{Commits, IsInStep, IsSealed, KeepsOrGains, LacksRoomFor, StandsAhead};
+ghost use Rattle.fp_session.specs.declared.commit.CommitFault.TheVariants.{Memory, StoreFailed};
+
+use fp_desk::{Desk, SettleFault};
+use fp_disk::Disk;
+use fp_group_commit::{Draw, Receipt, Store, StoreFault};
+
+/// Why a batch wasn't sealed and settled.
+#[derive(Debug, Drop, Clone, Copy, PartialEq, Eq)]
+pub enum CommitFault {
+    /// The device failed, or there is no room for the batch.
+    StoreFailed,
+    /// Memory was wanting.
+    Memory,
+}
+
+// Writes the batch.
+fn stage<D: Disk>(store: &mut Store<D>, draw: Draw) -> Result<(), CommitFault>
+    requires rest { IsAtRest store.old }
+    requires room { HasRoom store.old.journal draw }
+    requires goes_on { GoesOn (kept store.old) draw }
+    ensures same { (store.new.store ≡ store.old.store) × (store.new.sealed ≡ store.old.sealed) }
+    ensures staged { OnOk result (MovesTo D.faults Staged store.old store.new
+        × (store.new.staged ≡ draw.changes)) }
+    ensures cause { IfErr result (λ f. f ≡ StoreFailed
+        → D.faults store.old.journal.disk < D.faults store.new.journal.disk) }
+    ensures any_moment { AtAnyMoment D.Disk store.old.journal.disk store.new.journal.disk
+        (Leaves store.old) }
+    ensures honest { SameHonesty D.Disk store.old.journal.disk store.new.journal.disk }
+{
+    match store.stage(draw) {
+        Ok(()) => Ok(()),
+        Err((StoreFault::Device, _)) => Err(CommitFault::StoreFailed),
+        Err((StoreFault::Memory, _)) => Err(CommitFault::Memory),
+        Err((StoreFault::Failed, _)) => unreachable!(),
+        Err((StoreFault::Stranger, _)) => unreachable!(),
+    }
+}
+
+// Seals the batch, by a call of the disk each.
+fn seal<D: Disk>(store: &mut Store<D>, draw: Draw) -> Result<Receipt, CommitFault>
+    requires rest { IsAtRest store.old }
+    requires room { HasRoom store.old.journal draw }
+    requires goes_on { GoesOn (kept store.old) draw }
+    ensures same { store.new.store ≡ store.old.store }
+    ensures sealed { OnOk result (IsSealed D.faults draw.changes store.old store.new) }
+    ensures receipt { IfOk result (λ r. (r.store ≡ store.new.store)
+        × (r.batch.changes ≡ draw.changes)
+        × (r.batch.first ≡ (kept store.old).revision + 1)) }
+    ensures cause { IfErr result (λ f. f ≡ StoreFailed
+        → D.faults store.old.journal.disk < D.faults store.new.journal.disk) }
+    ensures any_moment { AtAnyMoment D.Disk store.old.journal.disk store.new.journal.disk
+        (KeepsOrGains store.old draw.changes) }
+    ensures keeps { OnOk result (EachCrash D.Disk store.new.journal.disk
+        (λ c. StandsFor c (kept store.new))) }
+    ensures honest { SameHonesty D.Disk store.old.journal.disk store.new.journal.disk }
+{
+    if let Err(fault) = stage(store, draw) {
+        return Err(fault);
+    }
+    let Ok(()) = store.sync_body() else {
+        return Err(CommitFault::StoreFailed);
+    };
+    let Ok(()) = store.open_gate() else {
+        return Err(CommitFault::StoreFailed);
+    };
+    let Ok(receipt) = store.sync_gate() else {
+        return Err(CommitFault::StoreFailed);
+    };
+    Ok(receipt)
+}
+
+// Spends the receipt for what is drawn.
+fn settle(desk: &mut Desk, receipt: Receipt) -> Result<(), CommitFault>
+    requires store { receipt.store ≡ desk.old.store }
+    requires drawn { IsDrawn desk.old receipt }
+    ensures settled { OnOk result (desk.new
+        ≡ record desk.old { settled = desk.old.settled ++ desk.old.drawn; drawn = [] }) }
+    ensures unchanged { OnErr result (desk.new ≡ desk.old) }
+    ensures fault { IfErr result (λ f. f ≡ Memory) }
+{
+    match desk.settle(receipt) {
+        Ok(()) => Ok(()),
+        Err((SettleFault::Memory, receipt)) => {
+            receipt.forgo();
+            Err(CommitFault::Memory)
+        }
+        Err((SettleFault::Stranger, receipt)) => {
+            receipt.forgo();
+            unreachable!()
+        }
+    }
+}
+
+/// Seals and settles the longest first part of what waits.
+pub fn commit<D: Disk>(store: &mut Store<D>, desk: &mut Desk) -> Result<(), CommitFault>
+    requires in_step { IsInStep D.Disk store.old desk.old }
+    requires waits { desk.old.waiting ≢ [] }
+    ensures committed { OnOk result (Commits D.Disk store.old store.new desk.old desk.new) }
+    ensures log { (desk.new.store ≡ desk.old.store) × (log desk.new ≡ log desk.old) }
+    ensures cause { IfErr result (λ f. f ≡ StoreFailed
+        → LacksRoomFor D.Disk store.old store.new desk.old
+        ⊎ (D.faults store.old.journal.disk < D.faults store.new.journal.disk)) }
+    ensures any_moment { AtAnyMoment D.Disk store.old.journal.disk store.new.journal.disk
+        (StandsAhead desk.old) }
+    ensures honest { SameHonesty D.Disk store.old.journal.disk store.new.journal.disk }
+{
+    let Ok(drawn) = desk.draw() else {
+        return Err(CommitFault::Memory);
+    };
+    let Some(draw) = drawn else { unreachable!() };
+    if !store.has_room(&draw) {
+        return Err(CommitFault::StoreFailed);
+    }
+    match seal(store, draw) {
+        Ok(receipt) => settle(desk, receipt),
+        Err(fault) => Err(fault),
+    }
+}

@@ -1,0 +1,167 @@
+//! Edits that go to a store on a disk, by way of a desk.
+
+ghost use Rattle.std.specs.Prelude.{◌≡◌, ◌<◌, ◌++◌, [], ◌∷◌, IfOk, IfErr, IsTrue, MatchResult, ◌↔◌};
+ghost use Rattle.fp_disk.specs.Crashes.{EachCrash, SameHonesty};
+ghost use Rattle.fp_disk.specs.History.{MakesSome};
+ghost use Rattle.fp_disk.specs.Outcomes.{IsOutcome, LeavesOnly};
+ghost use Rattle.fp_disk.specs.declared.history.CallKind.TheVariants.{Length, Read, Sync};
+ghost use Rattle.fp_edit.specs.Flags.{State};
+ghost use Rattle.fp_layout.specs.declared.fault.OpenFault.TheVariants as opening;
+ghost use Rattle.fp_recovery.specs.Refusals.{IsUnlessWanting, RefusesBytes};
+ghost use Rattle.fp_recovery.specs.Stands.{StandsFor};
+ghost use Rattle.fp_group_commit.specs.Store.{IsFresh};
+ghost use Rattle.fp_session.specs.Session.{Fails, IsReady, Keeps, disk_of, flags_of};
+ghost use Rattle.fp_session.specs.SessionLaws.{keeps_itself, keeps_on};
+
+use crate::commit::commit;
+use crate::{CommitFault, Declined, EditStore};
+use fp_desk::{Desk, SubmitFault};
+use fp_disk::Disk;
+use fp_edit::{Edit, EditFault, FlagSet};
+use fp_group_commit::{Opening, Store};
+use fp_layout::OpenFault;
+use std::alloc::Global;
+use std::marker::Model;
+
+/// A set of flags, and the disk that keeps it: each edit is sealed there and settled before it is
+/// answered.
+///
+/// It isn't `Drop`, so that the disk comes back by `into_disk`.
+pub struct DiskSession<D: Disk> {
+    store: Store<D>,
+    desk: Desk,
+    // An edit was taken and wasn't settled. No other is taken then.
+    is_stopped: bool,
+}
+
+impl<D: Disk> Model for DiskSession<D> {
+    ghost use Rattle.std.specs.Coded.{codes};
+    ghost use Rattle.std.specs.Prelude.{◌≡◌, false, []};
+    ghost use Rattle.fp_edit.specs.Flags.{coded_state};
+    ghost use Rattle.fp_group_commit.specs.Changes.{coded_change};
+    ghost use Rattle.fp_session.specs.Session.{IsInStep, SessionState};
+
+    ghost Value = { SessionState D };
+
+    ghost coded = { Prim.hlevel (codes, coded_state, coded_change) };
+
+    ghost view = { λ s. record { store = s.store; desk = s.desk; stopped = s.is_stopped } };
+
+    ghost invariant = { λ s. s.is_stopped ≡ false
+        → IsInStep D.Disk s.store s.desk × (s.desk.waiting ≡ []) };
+}
+
+impl<D: Disk> DiskSession<D> {
+    /// Over a store as it was made or opened. It takes memory for a copy of the set.
+    pub fn new(alloc: Global, store: Store<D>, opening: Opening) -> Result<DiskSession<D>, Store<D>>
+        requires opening { opening ≡ store.store }
+        requires fresh { IsFresh store store.store.start }
+        ensures made { IfOk result (λ s. (s.store ≡ store) × IsReady D.Disk s) }
+        ensures flags { IfOk result (λ s. flags_of s ≡ store.store.start) }
+        ensures given_back { IfErr result (λ e. e ≡ store) }
+    {
+        // What a crash leaves is known only where it is asked.
+        let _ = store.phase();
+        match Desk::new(alloc, opening) {
+            Ok(desk) => Ok(DiskSession {
+                store,
+                desk,
+                is_stopped: false,
+            }),
+            Err(_) => Err(store),
+        }
+    }
+
+    /// Goes on from what a disk stands for. It syncs before it reads, and writes nothing.
+    pub fn open(alloc: Global, disk: D) -> Result<DiskSession<D>, (OpenFault, D)>
+        ensures stands { D.honest disk → IfOk result (λ s. StandsFor (D.bytes disk) (flags_of s)) }
+        ensures only { D.honest disk → IfOk result (λ s. (other : State) →
+            StandsFor (D.bytes disk) other → other ≡ flags_of s) }
+        ensures ready { IfOk result (λ s. IsReady D.Disk s) }
+        ensures fault { D.honest disk → IfErr result (λ e. RefusesBytes (D.bytes disk) e.0) }
+        ensures refused { D.honest disk → IfErr result (λ e. IsUnlessWanting (D.bytes disk) e.0) }
+        ensures no_failure { IfOk result (λ s. D.faults (disk_of s) ≡ D.faults disk) }
+        ensures cause { IfErr result (λ e. e.0 ≡ opening.Device → D.faults disk < D.faults e.1) }
+        ensures called { MatchResult result
+            (λ s. D.calls (disk_of s) ≡ D.calls disk ++ Sync ∷ Length ∷ Read ∷ [])
+            (λ e. MakesSome (Sync ∷ Length ∷ Read ∷ []) (D.calls disk) (D.calls e.1)) }
+        ensures same { D.honest disk → MatchResult result
+            (λ s. D.bytes (disk_of s) ≡ D.bytes disk) (λ e. D.bytes e.1 ≡ D.bytes disk) }
+        ensures any_moment { D.honest disk → MatchResult result
+            (λ s. LeavesOnly D.moment D.crash_states_since disk (disk_of s)
+            (IsOutcome (D.unsynced disk)))
+            (λ e. LeavesOnly D.moment D.crash_states_since disk e.1 (IsOutcome (D.unsynced disk))) }
+        ensures honest { MatchResult result (λ s. SameHonesty D.Disk disk (disk_of s))
+            (λ e. SameHonesty D.Disk disk e.1) }
+    {
+        let (store, opening) = match Store::open(alloc, disk) {
+            Ok(opened) => opened,
+            Err(refused) => return Err(refused),
+        };
+        match DiskSession::new(alloc, store, opening) {
+            Ok(session) => Ok(session),
+            Err(store) => Err((OpenFault::Memory, store.into_disk())),
+        }
+    }
+
+    /// Whether it takes edits: each one that was taken is settled.
+    pub fn is_ready(&self) -> bool
+        ensures { IsTrue result ↔ IsReady D.Disk self.now }
+    {
+        !self.is_stopped
+    }
+
+    /// Gives the disk back.
+    pub fn into_disk(self) -> D
+        ensures disk { result ≡ disk_of self }
+        ensures keeps { IsReady D.Disk self
+            → EachCrash D.Disk result (λ c. StandsFor c (flags_of self)) }
+    {
+        let DiskSession {
+            store,
+            desk: _,
+            is_stopped: _,
+        } = self;
+        store.into_disk()
+    }
+}
+
+impl<D: Disk> EditStore for DiskSession<D> {
+    ghost state = { λ s. flags_of s };
+
+    ghost continues_to = { λ a b. Keeps D.Disk a b };
+
+    ghost fails_on = { λ f a p b. Fails D.Disk f a p b };
+
+    ghost leads_to_itself = { λ s. keeps_itself D.Disk s };
+
+    ghost leads_on = { λ a b c h k. keeps_on D.Disk a b c h k };
+
+    fn admit(&mut self, edit: Edit) -> Result<u64, Declined> {
+        if self.is_stopped {
+            return Err(Declined::StoreFailed);
+        }
+        let ticket = match self.desk.submit(edit) {
+            Ok(ticket) => ticket,
+            Err((SubmitFault::Edit(fault), _)) => return Err(Declined::Refused(fault)),
+            Err((SubmitFault::Memory, _)) => return Err(Declined::Refused(EditFault::Memory)),
+            Err((SubmitFault::Stopped, _)) => unreachable!(),
+            Err((SubmitFault::QueueFull, _)) => unreachable!(),
+        };
+        self.is_stopped = true;
+        match commit(&mut self.store, &mut self.desk) {
+            Ok(()) => {}
+            Err(CommitFault::StoreFailed) => return Err(Declined::StoreFailed),
+            Err(CommitFault::Memory) => return Err(Declined::CommitMemory),
+        }
+        self.is_stopped = false;
+        let Some(_) = self.desk.ack(&ticket) else {
+            unreachable!()
+        };
+        Ok(ticket.revision())
+    }
+
+    fn flags(&self) -> &FlagSet {
+        self.desk.head()
+    }
+}
