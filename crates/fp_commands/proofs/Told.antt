@@ -112,11 +112,13 @@ pub refused-run : (P : Type 0) (f : ApplyFault) → IfRefused P (of_run f)
 refused-run P run.Device = tt
 refused-run P run.StoreFailed = tt
 refused-run P run.Memory = tt
+refused-run P run.CommitMemory = tt
 
 pub file_refused-run : (P : Type 0) (f : ApplyFault) → IfFileRefused P (of_run f)
 file_refused-run P run.Device = tt
 file_refused-run P run.StoreFailed = tt
 file_refused-run P run.Memory = tt
+file_refused-run P run.CommitMemory = tt
 
 -- what a document is refused for is no fault of a file
 pub file_refused-document : (P : Type 0) (left : Option (List ℕ)) (f : CommandFault) → IsDocumentFault left f → IfFileRefused P f

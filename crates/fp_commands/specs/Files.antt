@@ -1,8 +1,8 @@
 -- What a command does with the file that its words name.
 use Rattle.std.specs.Prelude.{◌≡◌, ◌≢◌, ◌⊎◌, ◌<◌, ◌+◌, ◌^◌, ℕ, List, [], ◌∷◌, Bool, Option, Result, Ok, Err, IfErr, OnOk, IfOk, IfSome}
-use Rattle.fp_disk.specs.Crashes.{AtAnyMoment, SameHonesty}
+use Rattle.fp_disk.specs.Crashes.{AtAnyMoment, EachCrash, SameHonesty}
 use Rattle.fp_disk.specs.History.{Makes}
-use Rattle.fp_disk.specs.Outcomes.{all_synced}
+use Rattle.fp_disk.specs.Outcomes.{IsOutcome, all_synced}
 use Rattle.fp_disk.specs.declared.disk.Disk.{Ghosts as DiskGhosts}
 use Rattle.fp_disk.specs.declared.history.CallKind.TheVariants.{Length}
 use Rattle.fp_files.specs.Lending.{IsLentOnce, IsNotOpened, IsThere, IsThereOrNew}
@@ -79,8 +79,11 @@ pub record AppliesToDisk {F R W D : Type 0} (disk : DiskGhosts D) (remaining : R
   pub run : IfOk outcome (λ told. IsRunOnDisk (disk.honest before) (disk.bytes before)
       (disk.unsynced after) (remaining old.reader.inner)
       (Applies told (contents old.writer.inner) (contents new.writer.inner)))
-  pub left : disk.honest before → IfErr outcome (λ f. f ≢ StoreFailed
-      → IsLeftOnDisk (disk.bytes before) (disk.bytes after) (remaining old.reader.inner) IsLeftBy)
+  pub left : disk.honest before → IfErr outcome (λ f.
+      IsLeftOnDisk (disk.bytes before) (disk.bytes after) (remaining old.reader.inner) IsLeftBy)
+  pub crash : disk.honest before → IfErr outcome (λ f. EachCrash disk after
+      (λ c. IsOutcome (disk.unsynced before) c
+      ⊎ IsLeftOnDisk (disk.bytes before) c (remaining old.reader.inner) IsLeftBy))
   pub fault : IfErr outcome (IsApplyingFault (disk.honest before) (disk.bytes before))
   pub nothing_written : IfErr outcome (IfRefused (new.writer ≡ old.writer))
   pub only_read : IfErr outcome (IfRefused (IsOnlyRead disk before after))
@@ -99,8 +102,11 @@ pub record ImportsToDisk {F R W D : Type 0} (disk : DiskGhosts D) (remaining : R
   pub run : IfOk outcome (λ told. IsRunOnDisk (disk.honest before) (disk.bytes before)
       (disk.unsynced after) (remaining old.reader.inner)
       (Imports told (contents old.writer.inner) (contents new.writer.inner)))
-  pub left : disk.honest before → IfErr outcome (λ f. f ≢ StoreFailed → IsLeftOnDisk
+  pub left : disk.honest before → IfErr outcome (λ f. IsLeftOnDisk
       (disk.bytes before) (disk.bytes after) (remaining old.reader.inner) IsLeftByImport)
+  pub crash : disk.honest before → IfErr outcome (λ f. EachCrash disk after
+      (λ c. IsOutcome (disk.unsynced before) c
+      ⊎ IsLeftOnDisk (disk.bytes before) c (remaining old.reader.inner) IsLeftByImport))
   pub fault : IfErr outcome (IsImportingFault (disk.honest before) (disk.bytes before)
       (remaining old.reader.inner))
   pub nothing_written : IfErr outcome (IfRefused (new.writer ≡ old.writer))
