@@ -1,7 +1,7 @@
 //! The program's evaluation of one flag.
 
-use crate::disk::text_of;
 use crate::commands::stopped;
+use crate::disk::text_of;
 use crate::trial::{Answer, Trial, TrialFault};
 use crate::words::number;
 use fp_commands::eval_disk;
