@@ -1,11 +1,11 @@
 //! Bytes behind a gate, in four calls.
 
-ghost use Rattle.fp_disk.specs.Crashes.{AtAnyMoment, SameHonesty};
-ghost use Rattle.std.specs.Prelude.{◌≡◌, ◌≢◌, ◌⊎◌, ◌≤◌, ◌<◌, ◌+◌, ◌^◌, ℕ, List, [], ◌∷◌, length, slice_index, IfOk, OnOk, IsErr};
-ghost use Rattle.fp_disk.specs.Outcomes.{Answers, Written as HasWritten, all_synced};
-ghost use Rattle.fp_disk.specs.History.{Makes};
+ghost use Rattle.fp_disk.specs.Crashes.{AtAnyMoment};
+ghost use Rattle.std.specs.Prelude.{◌≡◌, ◌≢◌, ◌⊎◌, ◌≤◌, ◌<◌, ◌+◌, ◌^◌, ℕ, List, [], ◌∷◌, length, slice_index, IfOk, OnOk};
+ghost use Rattle.fp_disk.specs.Outcomes.{Written as HasWritten, all_synced};
 ghost use Rattle.fp_disk.specs.declared.history.CallKind.TheVariants.{Sync, Write};
-ghost use Rattle.fp_gate.specs.Gates.{IsSyncOf, IsShut, IsOpen, StaysAsRead, Agrees, Guards, IsClosedAt, HasAt, HasBehind};
+ghost use Rattle.fp_gate.specs.Calls.{MakesCalls};
+ghost use Rattle.fp_gate.specs.Gates.{IsSyncOf, IsShut, IsOpen, StaysAsRead, Guards, IsClosedAt, HasBehind};
 
 use crate::gate::{Closed, Gate, OPEN, Open};
 use fp_disk::{Checked, Disk, DiskFault, Synced};
@@ -21,16 +21,13 @@ fn write_and_sync<D: Disk>(
     requires closed { D.honest disk.old.disk → IsClosedAt (D.unsynced disk.old.disk) gate.now.at }
     ensures token { IfOk result
         (λ s. (s.disk ≡ disk.new.name) × (s.moment ≡ D.moment disk.new.disk)) }
-    ensures name { disk.new.name ≡ disk.old.name }
     ensures each { AtAnyMoment D.Disk disk.old.disk disk.new.disk
         (λ c. (gate.now.at < length c) × (slice_index c gate.now.at ≢ OPEN)) }
     ensures written { D.honest disk.old.disk →
         OnOk result (HasWritten (D.bytes disk.old.disk) at from.now (D.bytes disk.new.disk)) }
     ensures all_synced { D.honest disk.old.disk →
         OnOk result (D.unsynced disk.new.disk ≡ all_synced (D.bytes disk.new.disk)) }
-    ensures honest { SameHonesty D.Disk disk.old.disk disk.new.disk }
-    ensures called { Makes (Write ∷ Sync ∷ []) (D.calls disk.old.disk) (D.calls disk.new.disk) result }
-    ensures cause { Answers (D.faults disk.old.disk) (D.faults disk.new.disk) result }
+    ensures calls { MakesCalls D.Disk (Write ∷ Sync ∷ []) disk.old disk.new result }
 {
     let _ = gate;
     disk.write_at(at, from)?;
@@ -48,14 +45,11 @@ fn open_and_seal<D: Disk>(
         StaysAsRead (D.unsynced disk.old.disk) (D.bytes disk.old.disk) gate.from gate.to }
     requires token { IsSyncOf D.honest D.moment disk.old.disk disk.old.name synced }
     ensures gate { IfOk result (λ g. g ≡ gate) }
-    ensures name { disk.new.name ≡ disk.old.name }
     ensures each { AtAnyMoment D.Disk disk.old.disk disk.new.disk
         (Guards gate (D.bytes disk.old.disk)) }
     ensures open { D.honest disk.old.disk →
         OnOk result (IsOpen (D.unsynced disk.new.disk) gate.at) }
-    ensures honest { SameHonesty D.Disk disk.old.disk disk.new.disk }
-    ensures called { Makes (Write ∷ Sync ∷ []) (D.calls disk.old.disk) (D.calls disk.new.disk) result }
-    ensures cause { Answers (D.faults disk.old.disk) (D.faults disk.new.disk) result }
+    ensures calls { MakesCalls D.Disk (Write ∷ Sync ∷ []) disk.old disk.new result }
 {
     let gate = gate.open(disk, synced)?;
     let synced = disk.sync()?;
@@ -75,14 +69,11 @@ pub fn write_behind<D: Disk>(
     requires closed { D.honest disk.old.disk → IsClosedAt (D.unsynced disk.old.disk) gate.at }
     ensures gate { IfOk result
         (λ g. g ≡ record { at = gate.at; from = at; to = at + length from.now }) }
-    ensures name { disk.new.name ≡ disk.old.name }
     ensures each { AtAnyMoment D.Disk disk.old.disk disk.new.disk
         (HasBehind gate.at at from.now) }
     ensures open { D.honest disk.old.disk →
         OnOk result (IsOpen (D.unsynced disk.new.disk) gate.at) }
-    ensures honest { SameHonesty D.Disk disk.old.disk disk.new.disk }
-    ensures called { Makes (Write ∷ Sync ∷ Write ∷ Sync ∷ []) (D.calls disk.old.disk) (D.calls disk.new.disk) result }
-    ensures cause { Answers (D.faults disk.old.disk) (D.faults disk.new.disk) result }
+    ensures calls { MakesCalls D.Disk (Write ∷ Sync ∷ Write ∷ Sync ∷ []) disk.old disk.new result }
 {
     let synced = write_and_sync(disk, &gate, at, from)?;
     let gate = gate.guarding(at, at + from.len() as u64);

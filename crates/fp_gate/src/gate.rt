@@ -1,9 +1,8 @@
 //! A gate: its place, its state as a type, and the two calls that open it.
 
-ghost use Rattle.fp_disk.specs.Crashes.{AtAnyMoment, SameHonesty};
-ghost use Rattle.std.specs.Prelude.{◌≡◌, ◌⊎◌, ◌≤◌, ◌<◌, ℕ, List, [], ◌∷◌, ◌++◌, length, slice_index, IfOk, OnOk, IsErr};
-ghost use Rattle.fp_disk.specs.Outcomes.{Answers, ChangesWithin, Elapses, IsOutcome, Written as HasWritten, with_write};
-ghost use Rattle.fp_disk.specs.declared.history.CallKind.TheVariants.{Write};
+ghost use Rattle.fp_disk.specs.Crashes.{AtAnyMoment};
+ghost use Rattle.std.specs.Prelude.{◌≡◌, ◌⊎◌, ◌≤◌, ◌<◌, ℕ, length, slice_index, IfOk, OnOk};
+ghost use Rattle.fp_gate.specs.Calls.{WritesByte};
 ghost use Rattle.fp_gate.specs.Gates.{Gated, IsSyncOf, IsShut, IsOpen, StaysAsRead, Guards, IsButFor};
 
 use fp_disk::{Checked, Disk, DiskFault, Synced};
@@ -53,22 +52,7 @@ impl<S> Gate<S> {
 impl Gate<Closed> {
     /// Writes a closed byte. After the next sync that succeeds a gate may adopt the place.
     pub fn place_closed<D: Disk>(disk: &mut Checked<D>, at: u64) -> Result<(), DiskFault>
-        ensures name { disk.new.name ≡ disk.old.name }
-        ensures written { D.honest disk.old.disk →
-            OnOk result (HasWritten (D.bytes disk.old.disk) at (0 ∷ []) (D.bytes disk.new.disk)) }
-        ensures honest { SameHonesty D.Disk disk.old.disk disk.new.disk }
-        ensures unsynced { D.honest disk.old.disk →
-            OnOk result (D.unsynced disk.new.disk ≡ with_write (D.unsynced disk.old.disk) at 1) }
-        ensures partly { D.honest disk.old.disk → IsErr result →
-            ChangesWithin (D.bytes disk.old.disk) at 1 (D.bytes disk.new.disk) }
-        ensures failed { D.honest disk.old.disk → IsErr result →
-            (D.unsynced disk.new.disk ≡ D.unsynced disk.old.disk)
-            ⊎ (D.unsynced disk.new.disk ≡ with_write (D.unsynced disk.old.disk) at 1) }
-        ensures time { D.honest disk.old.disk →
-            Elapses (D.moment disk.old.disk) (D.moment disk.new.disk) (D.crash_states_since disk.old.disk)
-            (D.crash_states_since disk.new.disk) (IsOutcome (with_write (D.unsynced disk.old.disk) at 1)) }
-        ensures called { D.calls disk.new.disk ≡ D.calls disk.old.disk ++ Write ∷ [] }
-        ensures cause { Answers (D.faults disk.old.disk) (D.faults disk.new.disk) result }
+        ensures wrote { WritesByte D.Disk disk.old disk.new at CLOSED result }
     {
         disk.write_at(at, &[CLOSED])
     }
@@ -112,7 +96,6 @@ impl Gate<Closed> {
         requires token { IsSyncOf D.honest D.moment disk.old.disk disk.old.name synced }
 
         ensures gate { IfOk result (λ g. g ≡ self) }
-        ensures name { disk.new.name ≡ disk.old.name }
 
         // A crash at any moment since leaves what it might have left before, but for the gate's byte; and where that is open,
         // what it guards is there.
@@ -121,28 +104,12 @@ impl Gate<Closed> {
         ensures guards { AtAnyMoment D.Disk disk.old.disk disk.new.disk
             (Guards self (D.bytes disk.old.disk)) }
 
-        // The disk is as after a write of that byte.
-        ensures written { D.honest disk.old.disk →
-            OnOk result
-            (HasWritten (D.bytes disk.old.disk) self.at (OPEN ∷ []) (D.bytes disk.new.disk)) }
+        // The disk is as after a write of that byte, which is read back.
+        ensures wrote { WritesByte D.Disk disk.old disk.new self.at OPEN result }
         ensures shown { D.honest disk.old.disk →
             OnOk result
             ((self.at < length (D.bytes disk.new.disk))
             × (slice_index (D.bytes disk.new.disk) self.at ≡ OPEN)) }
-        ensures honest { SameHonesty D.Disk disk.old.disk disk.new.disk }
-        ensures unsynced { D.honest disk.old.disk →
-            OnOk result (D.unsynced disk.new.disk ≡ with_write (D.unsynced disk.old.disk) self.at 1) }
-        ensures partly { D.honest disk.old.disk → IsErr result →
-            ChangesWithin (D.bytes disk.old.disk) self.at 1 (D.bytes disk.new.disk) }
-        ensures failed { D.honest disk.old.disk → IsErr result →
-            (D.unsynced disk.new.disk ≡ D.unsynced disk.old.disk)
-            ⊎ (D.unsynced disk.new.disk ≡ with_write (D.unsynced disk.old.disk) self.at 1) }
-        ensures time { D.honest disk.old.disk →
-            Elapses (D.moment disk.old.disk) (D.moment disk.new.disk) (D.crash_states_since disk.old.disk)
-            (D.crash_states_since disk.new.disk)
-            (IsOutcome (with_write (D.unsynced disk.old.disk) self.at 1)) }
-        ensures called { D.calls disk.new.disk ≡ D.calls disk.old.disk ++ Write ∷ [] }
-        ensures cause { Answers (D.faults disk.old.disk) (D.faults disk.new.disk) result }
     {
         let _ = synced;
         disk.write_at(self.at, &[OPEN])?;

@@ -3,3 +3,4 @@ pub mod Chain
 pub mod Moments
 pub mod State
 pub mod Reading
+pub mod Calls

@@ -1,7 +1,7 @@
 //! A slot of a disk as a chain of bodies behind gates, which grows by four calls a body.
 
-ghost use Rattle.fp_disk.specs.Crashes.{AtAnyMoment, EachCrash, SameHonesty};
-ghost use Rattle.fp_disk.specs.Outcomes.{Answers, IsOutcome, Written as HasWritten, all_synced, with_write};
+ghost use Rattle.fp_disk.specs.Crashes.{EachCrash};
+ghost use Rattle.fp_disk.specs.Outcomes.{IsOutcome, Written as HasWritten, all_synced, with_write};
 ghost use Rattle.fp_disk.specs.History.{Makes};
 ghost use Rattle.fp_disk.specs.declared.history.CallKind.TheVariants.{Sync, Write};
 ghost use Rattle.fp_gate.specs.Gates.{IsOpen, IsShut, IsSyncOf, StaysAsRead};
@@ -9,7 +9,7 @@ ghost use Rattle.fp_gate.specs.declared.gate.TheConstants.{OPEN};
 ghost use Rattle.std.specs.Prelude.{◌≡◌, ◌⊎◌, ◌<◌, ◌≤◌, ◌+◌, ◌∷◌, [], ◌++◌, List, ℕ, true, false, length, slice_range, IfOk, OnOk, OnErr, IsErr};
 ghost use Rattle.fp_journal.specs.Chain.{with_gate};
 ghost use Rattle.fp_journal.specs.Holds.{Apart};
-ghost use Rattle.fp_journal.specs.Moments.{KeepsSynced, KeepsRead};
+ghost use Rattle.fp_journal.specs.Calls.{KeepsAround};
 ghost use Rattle.fp_journal.specs.State.{AllShort, CrashStates, HasChain, HasChainOrNext, HasNext, EndsClosed, IsOnWay, Outside, SameSlot, StatesAfterSync, has_begun, room};
 ghost use Rattle.fp_journal.specs.declared.journal.Phase.TheVariants.{Idle, Staged, BodySynced, GateOpened, Failed};
 
@@ -170,16 +170,13 @@ impl<D: Disk> Journal<D> {
         requires idle { self.old.phase ≡ Idle }
         requires short { length framed ≤ self.old.slot.most }
         requires room { length framed + 6 ≤ room self.old }
-        ensures same { SameSlot self.old self.new }
         ensures bodies { (self.new.sealed ≡ self.old.sealed) × (self.new.staged ≡ framed) }
         ensures phase { OnOk result (self.new.phase ≡ Staged) × OnErr result (self.new.phase ≡ Failed) }
         ensures begun { self.new.begun ≡ false }
-        ensures any_moment { AtAnyMoment D.Disk self.old.disk self.new.disk (HasChain self.old.slot self.old.front self.old.sealed) }
-        ensures apart { KeepsSynced D.Disk self.old.disk self.new.disk (Outside self.old.slot) }
-        ensures beside { KeepsRead D.Disk self.old.disk self.new.disk (Outside self.old.slot) }
-        ensures honest { SameHonesty D.Disk self.old.disk self.new.disk }
+        ensures kept { KeepsAround D.Disk self.old self.new
+            (HasChain self.old.slot self.old.front self.old.sealed)
+            (Outside self.old.slot) result }
         ensures called { D.calls self.new.disk ≡ D.calls self.old.disk ++ Write ∷ [] }
-        ensures cause { Answers (D.faults self.old.disk) (D.faults self.new.disk) result }
     {
         self.held = Held::Failed(false);
         self.in_flight = framed.into_bytes();
@@ -197,15 +194,13 @@ impl<D: Disk> Journal<D> {
         // What was staged, or the open gate, is in every outcome now.
         ensures firm { D.honest self.new.disk → OnOk result ((c : List ℕ) → IsOutcome (D.unsynced self.new.disk) c → StatesAfterSync self.new c) }
 
-        ensures same { SameSlot self.old self.new }
         ensures bodies { (self.new.sealed ≡ self.old.sealed) × (self.new.staged ≡ self.old.staged) }
         ensures phase { OnOk result (self.new.phase ≡ self.old.phase) × OnErr result (self.new.phase ≡ Failed) }
         ensures begun { self.new.begun ≡ self.old.begun }
-        ensures any_moment { AtAnyMoment D.Disk self.old.disk self.new.disk (CrashStates self.old) }
-        ensures apart { KeepsSynced D.Disk self.old.disk self.new.disk (λ at n. Unit {0}) }
-        ensures honest { SameHonesty D.Disk self.old.disk self.new.disk }
+        ensures kept { KeepsAround D.Disk self.old self.new
+            (CrashStates self.old)
+            (λ at n. Unit {0}) result }
         ensures called { D.calls self.new.disk ≡ D.calls self.old.disk ++ Sync ∷ [] }
-        ensures cause { Answers (D.faults self.old.disk) (D.faults self.new.disk) result }
     {
         let failed = self.held.failed();
         let held = mem::replace(&mut self.held, failed);
@@ -230,19 +225,16 @@ impl<D: Disk> Journal<D> {
     /// Opens the gate in front of the body.
     pub fn open_gate(&mut self) -> Result<(), DiskFault>
         requires { self.old.phase ≡ BodySynced }
-        ensures same { SameSlot self.old self.new }
         ensures bodies { (self.new.sealed ≡ self.old.sealed) × (self.new.staged ≡ self.old.staged) }
         ensures phase { OnOk result (self.new.phase ≡ GateOpened) × OnErr result (self.new.phase ≡ Failed) }
         ensures begun { self.new.begun ≡ true }
 
         // What a read gives now has the body.
         ensures reads { D.honest self.old.disk → OnOk result (HasChain self.old.slot self.old.front (self.old.sealed ++ self.old.staged ∷ []) (D.bytes self.new.disk)) }
-        ensures any_moment { AtAnyMoment D.Disk self.old.disk self.new.disk (HasChainOrNext self.old.slot self.old.front self.old.sealed self.old.staged) }
-        ensures apart { KeepsSynced D.Disk self.old.disk self.new.disk (Outside self.old.slot) }
-        ensures beside { KeepsRead D.Disk self.old.disk self.new.disk (Outside self.old.slot) }
-        ensures honest { SameHonesty D.Disk self.old.disk self.new.disk }
+        ensures kept { KeepsAround D.Disk self.old self.new
+            (HasChainOrNext self.old.slot self.old.front self.old.sealed self.old.staged)
+            (Outside self.old.slot) result }
         ensures called { D.calls self.new.disk ≡ D.calls self.old.disk ++ Write ∷ [] }
-        ensures cause { Answers (D.faults self.old.disk) (D.faults self.new.disk) result }
     {
         let Held::BodySynced(synced) = mem::replace(&mut self.held, Held::Failed(true)) else {
             unreachable!()
@@ -284,17 +276,14 @@ impl<D: Disk> Journal<D> {
         requires idle { self.old.phase ≡ Idle }
         requires short { length framed ≤ self.old.slot.most }
         requires room { length framed + 6 ≤ room self.old }
-        ensures same { SameSlot self.old self.new }
         ensures ok { OnOk result ((self.new.sealed ≡ self.old.sealed ++ framed ∷ []) × (self.new.phase ≡ Idle)) }
         ensures token { IfOk result (λ t. (t.name ≡ self.new.name) × (t.bodies ≡ self.new.sealed)) }
         ensures err { OnErr result ((self.new.sealed ≡ self.old.sealed) × (self.new.staged ≡ framed) × (self.new.phase ≡ Failed)) }
-        ensures any_moment { AtAnyMoment D.Disk self.old.disk self.new.disk (HasChainOrNext self.old.slot self.old.front self.old.sealed framed) }
-        ensures apart { KeepsSynced D.Disk self.old.disk self.new.disk (Outside self.old.slot) }
-        ensures beside { KeepsRead D.Disk self.old.disk self.new.disk (Outside self.old.slot) }
+        ensures kept { KeepsAround D.Disk self.old self.new
+            (HasChainOrNext self.old.slot self.old.front self.old.sealed framed)
+            (Outside self.old.slot) result }
         ensures exit { D.honest self.new.disk → OnOk result ((c : List ℕ) → IsOutcome (D.unsynced self.new.disk) c → HasChain self.new.slot self.new.front self.new.sealed c) }
-        ensures honest { SameHonesty D.Disk self.old.disk self.new.disk }
         ensures called { Makes (Write ∷ Sync ∷ Write ∷ Sync ∷ []) (D.calls self.old.disk) (D.calls self.new.disk) result }
-        ensures cause { Answers (D.faults self.old.disk) (D.faults self.new.disk) result }
     {
         self.stage(framed)?;
         let body = self.sync()?;
@@ -308,16 +297,13 @@ impl<D: Disk> Journal<D> {
     pub fn write_outside(&mut self, at: u64, from: &[u8]) -> Result<(), DiskFault>
         requires { Outside self.old.slot at (length from.now) }
         ensures written { D.honest self.old.disk → OnOk result (HasWritten (D.bytes self.old.disk) at from.now (D.bytes self.new.disk) × (D.unsynced self.new.disk ≡ with_write (D.unsynced self.old.disk) at (length from.now))) }
-        ensures same { SameSlot self.old self.new }
         ensures bodies { (self.new.sealed ≡ self.old.sealed) × (self.new.staged ≡ self.old.staged) }
         ensures phase { OnOk result (self.new.phase ≡ self.old.phase) × OnErr result (self.new.phase ≡ Failed) }
         ensures begun { self.new.begun ≡ self.old.begun }
-        ensures any_moment { AtAnyMoment D.Disk self.old.disk self.new.disk (CrashStates self.old) }
-        ensures apart { KeepsSynced D.Disk self.old.disk self.new.disk (Apart at (length from.now)) }
-        ensures beside { KeepsRead D.Disk self.old.disk self.new.disk (Apart at (length from.now)) }
-        ensures honest { SameHonesty D.Disk self.old.disk self.new.disk }
+        ensures kept { KeepsAround D.Disk self.old self.new
+            (CrashStates self.old)
+            (Apart at (length from.now)) result }
         ensures called { D.calls self.new.disk ≡ D.calls self.old.disk ++ Write ∷ [] }
-        ensures cause { Answers (D.faults self.old.disk) (D.faults self.new.disk) result }
     {
         let failed = self.held.failed();
         let held = mem::replace(&mut self.held, failed);
@@ -346,16 +332,13 @@ impl<D: Disk> Journal<D> {
         requires token { IsSyncOf D.honest D.moment self.old.disk self.old.disk_name synced }
         ensures gate { IfOk result (λ g. g ≡ gate) }
         ensures written { D.honest self.old.disk → OnOk result (HasWritten (D.bytes self.old.disk) gate.at (OPEN ∷ []) (D.bytes self.new.disk) × (D.unsynced self.new.disk ≡ with_write (D.unsynced self.old.disk) gate.at 1)) }
-        ensures same { SameSlot self.old self.new }
         ensures bodies { (self.new.sealed ≡ self.old.sealed) × (self.new.staged ≡ self.old.staged) }
         ensures phase { OnOk result (self.new.phase ≡ self.old.phase) × OnErr result (self.new.phase ≡ Failed) }
         ensures begun { self.new.begun ≡ self.old.begun }
-        ensures any_moment { AtAnyMoment D.Disk self.old.disk self.new.disk (CrashStates self.old) }
-        ensures apart { KeepsSynced D.Disk self.old.disk self.new.disk (Apart gate.at 1) }
-        ensures beside { KeepsRead D.Disk self.old.disk self.new.disk (Apart gate.at 1) }
-        ensures honest { SameHonesty D.Disk self.old.disk self.new.disk }
+        ensures kept { KeepsAround D.Disk self.old self.new
+            (CrashStates self.old)
+            (Apart gate.at 1) result }
         ensures called { D.calls self.new.disk ≡ D.calls self.old.disk ++ Write ∷ [] }
-        ensures cause { Answers (D.faults self.old.disk) (D.faults self.new.disk) result }
     {
         let failed = self.held.failed();
         let held = mem::replace(&mut self.held, failed);

@@ -10,7 +10,7 @@ pub returns-clause-each : goal.returns-clause-each
 returns-clause-each g c = let D = g.D.Disk in let old = c.args.disk.now.disk in let between = c.write_and_sync.new.disk.disk in let new = c.open_and_seal.new.disk.disk in let gate = c.args.gate.at in let at = c.args.at in let more = c.args.from.now in
     let there : Gated = record { at = gate; from = at; to = at + length more } in
     let same : c.guarding-gate.result ≡ there = search rules in
-    λ h. let h' = c.write_and_sync.ensures.honest.0 h in
+    λ h. let h' = c.write_and_sync.ensures.calls.honest.0 h in
     let put : Written (D.bytes old) at more (D.bytes between) = c.in_ok-synced.ensures.written h in
     leaves_then D.moment D.crash_states_since old between new (HasBehind gate at more)
     (leaves_map D.moment D.crash_states_since old between (λ l. (gate < length l) × (slice_index l gate ≢ OPEN)) (HasBehind gate at more) (λ l shut. (shut.0, λ is_open. absurd (shut.1 is_open))) (c.write_and_sync.ensures.each h))

@@ -53,30 +53,30 @@ invariant_of-self-in_default-stage g c =
     let D = g.D.Disk in let m = g.met.D.Disk in let j = c.self.inside.journal in
     let at : c.self.inside.step ≡ Idle = ap (λ (k : StoreState g.row.D.Denot). k.step) c.self.view_is ∙ c.requires.idle in
     let j1 = c.stage.new.self in let w = c.stage.ensures in
-    let leaves : (h : D.honest j.disk) → LeavesOnly D.moment D.crash_states_since j.disk j1.disk (λ o. StandsFor o _) = λ h. steps.shut D.honest D.bytes D.moment D.crash_states_since D.unsynced c.self.invariant j1.disk h (w.apart h) (w.any_moment h) in
+    let leaves : (h : D.honest j.disk) → LeavesOnly D.moment D.crash_states_since j.disk j1.disk (λ o. StandsFor o _) = λ h. steps.shut D.honest D.bytes D.moment D.crash_states_since D.unsynced c.self.invariant j1.disk h (w.kept.apart h) (w.kept.any_moment h) in
     steps.sound_at_rest D.honest D.bytes D.moment D.crash_states_since D.unsynced c.self.invariant m.present at j1 c.ready.new.set (changes_of c.ready.new.ahead.items) c.ready.ensures.same c.ready.ensures.follows (inr c.in_default-stage.ensures.phase.1)
-    (λ h1. let h = w.honest.1 h1 in steps.bytes_same D.honest D.bytes D.moment D.crash_states_since D.unsynced c.self.invariant j1 j1.disk h (w.apart h) w.same.1 w.same.2 w.bodies.0)
-    (λ h1 o out. let h = w.honest.1 h1 in inl (moves.exit_has D.honest D.moment D.crash_states_since D.unsynced m.counts_now j.disk j1.disk _ (leaves h) h1 o out))
+    (λ h1. let h = w.kept.honest.1 h1 in steps.bytes_same D.honest D.bytes D.moment D.crash_states_since D.unsynced c.self.invariant j1 j1.disk h (w.kept.apart h) w.kept.same.1 w.kept.same.2 w.bodies.0)
+    (λ h1 o out. let h = w.kept.honest.1 h1 in inl (moves.exit_has D.honest D.moment D.crash_states_since D.unsynced m.counts_now j.disk j1.disk _ (leaves h) h1 o out))
 
 pub returns-in_default-stage : goal.returns-in_default-stage
 returns-in_default-stage g c =
     let D = g.D.Disk in let m = g.met.D.Disk in let j = c.self.inside.journal in
     let at : c.self.inside.step ≡ Idle = ap (λ (k : StoreState g.row.D.Denot). k.step) c.self.view_is ∙ c.requires.idle in
     let j1 = c.stage.new.self in let w = c.stage.ensures in
-    let leaves : (h : D.honest j.disk) → LeavesOnly D.moment D.crash_states_since j.disk j1.disk (λ o. StandsFor o _) = λ h. steps.shut D.honest D.bytes D.moment D.crash_states_since D.unsynced c.self.invariant j1.disk h (w.apart h) (w.any_moment h) in
+    let leaves : (h : D.honest j.disk) → LeavesOnly D.moment D.crash_states_since j.disk j1.disk (λ o. StandsFor o _) = λ h. steps.shut D.honest D.bytes D.moment D.crash_states_since D.unsynced c.self.invariant j1.disk h (w.kept.apart h) (w.kept.any_moment h) in
     rw (← c.self.view_is) (record {
       same = (refl, refl);
       ok = tt;
       staged = tt;
       goes_on = tt;
       phase = refl;
-      fault = (steps.breaks D.faults (λ e. c.in_default.not-Failed (c.phase.ensures.phase ∙ e)) c.in_default-stage.ensures.phase.1 (search rules) refl w.same.1 w.same.2 w.bodies.0, steps.goes_kept D.honest D.bytes D.moment D.crash_states_since D.unsynced c.self.invariant c.args.draw c.in-Ok.ensures.goes_on);
+      fault = (steps.breaks D.faults (λ e. c.in_default.not-Failed (c.phase.ensures.phase ∙ e)) c.in_default-stage.ensures.phase.1 (search rules) refl w.kept.same.1 w.kept.same.2 w.bodies.0, steps.goes_kept D.honest D.bytes D.moment D.crash_states_since D.unsynced c.self.invariant c.args.draw c.in-Ok.ensures.goes_on);
       given_back = refl;
-      same_room = steps.same_room j j1 w.same.1 w.same.2 w.bodies.0;
+      same_room = steps.same_room j j1 w.kept.same.1 w.kept.same.2 w.bodies.0;
       called = inr w.called;
       any_moment = λ h. leaves_map D.moment D.crash_states_since j.disk j1.disk _ _ (λ o stands. inl stands) (leaves h);
-      exit = (λ h1 o out. let h = w.honest.1 h1 in inl (moves.exit_has D.honest D.moment D.crash_states_since D.unsynced m.counts_now j.disk j1.disk _ (leaves h) h1 o out));
-      honest = w.honest;
+      exit = (λ h1 o out. let h = w.kept.honest.1 h1 in inl (moves.exit_has D.honest D.moment D.crash_states_since D.unsynced m.counts_now j.disk j1.disk _ (leaves h) h1 o out));
+      honest = w.kept.honest;
     })
 
 pub invariant_of-self-2 : goal.invariant_of-self-2
@@ -87,22 +87,22 @@ invariant_of-self-2 g c =
     let room : HasRoom j c.args.draw = subst (λ (k : StoreState g.row.D.Denot). HasRoom k.journal c.args.draw) (sym c.self.view_is) c.requires.room in
     let len = ap length c.in-Ok.ensures.spelled ∙ length-encoding_of_batch c.args.draw in
     let j1 = c.stage.new.self in let w = c.stage.ensures in
-    let leaves : (h : D.honest j.disk) → LeavesOnly D.moment D.crash_states_since j.disk j1.disk (λ o. StandsFor o _) = λ h. steps.shut D.honest D.bytes D.moment D.crash_states_since D.unsynced c.self.invariant j1.disk h (w.apart h) (w.any_moment h) in
+    let leaves : (h : D.honest j.disk) → LeavesOnly D.moment D.crash_states_since j.disk j1.disk (λ o. StandsFor o _) = λ h. steps.shut D.honest D.bytes D.moment D.crash_states_since D.unsynced c.self.invariant j1.disk h (w.kept.apart h) (w.kept.any_moment h) in
     let short = room.short in
     let body : length j1.staged ≡ batch_len c.args.draw = ap length w.bodies.1 ∙ len in
-    let left = steps.room_same j j1 w.same.1 w.same.2 w.bodies.0 in let needs = room.room in
-    let fits : length j1.staged ≤ j1.slot.most = subst (λ (b : List ℕ). length b ≤ j1.slot.most) (sym w.bodies.1) (subst (λ (p : Slot). length c.in-Ok.ready.0 ≤ p.most) (sym w.same.1) (omega (arith, len, short))) in
+    let left = steps.room_same j j1 w.kept.same.1 w.kept.same.2 w.bodies.0 in let needs = room.room in
+    let fits : length j1.staged ≤ j1.slot.most = subst (λ (b : List ℕ). length b ≤ j1.slot.most) (sym w.bodies.1) (subst (λ (p : Slot). length c.in-Ok.ready.0 ≤ p.most) (sym w.kept.same.1) (omega (arith, len, short))) in
     steps.sound_staged D.honest D.bytes D.moment D.crash_states_since D.unsynced c.self.invariant m.present c.args.draw j1 c.ready.new.set (changes_of c.ready.new.ahead.items) (changes_of c.in-Ok.ready.1.items) c.ready.ensures.same c.ready.ensures.follows (none_left c.ready.new.ahead.items c.in-Ok.ensures.done) c.in-Ok.ensures.copied
     c.in-Ok.ensures.goes_on c.in-Ok.ensures.lawful (w.bodies.1 ∙ c.in-Ok.ensures.spelled) fits body (omega (arith, body, left, needs)) c.in-Ok-stage.ensures.phase.0
-    (λ h1. let h = w.honest.1 h1 in steps.bytes_same D.honest D.bytes D.moment D.crash_states_since D.unsynced c.self.invariant j1 j1.disk h (w.apart h) w.same.1 w.same.2 w.bodies.0)
-    (λ h1 o out. let h = w.honest.1 h1 in inl (moves.exit_has D.honest D.moment D.crash_states_since D.unsynced m.counts_now j.disk j1.disk _ (leaves h) h1 o out))
+    (λ h1. let h = w.kept.honest.1 h1 in steps.bytes_same D.honest D.bytes D.moment D.crash_states_since D.unsynced c.self.invariant j1 j1.disk h (w.kept.apart h) w.kept.same.1 w.kept.same.2 w.bodies.0)
+    (λ h1 o out. let h = w.kept.honest.1 h1 in inl (moves.exit_has D.honest D.moment D.crash_states_since D.unsynced m.counts_now j.disk j1.disk _ (leaves h) h1 o out))
 
 pub returns : goal.returns
 returns g c =
     let D = g.D.Disk in let m = g.met.D.Disk in let j = c.self.inside.journal in
     let at : c.self.inside.step ≡ Idle = ap (λ (k : StoreState g.row.D.Denot). k.step) c.self.view_is ∙ c.requires.idle in
     let j1 = c.stage.new.self in let w = c.stage.ensures in
-    let leaves : (h : D.honest j.disk) → LeavesOnly D.moment D.crash_states_since j.disk j1.disk (λ o. StandsFor o _) = λ h. steps.shut D.honest D.bytes D.moment D.crash_states_since D.unsynced c.self.invariant j1.disk h (w.apart h) (w.any_moment h) in
+    let leaves : (h : D.honest j.disk) → LeavesOnly D.moment D.crash_states_since j.disk j1.disk (λ o. StandsFor o _) = λ h. steps.shut D.honest D.bytes D.moment D.crash_states_since D.unsynced c.self.invariant j1.disk h (w.kept.apart h) (w.kept.any_moment h) in
     rw (← c.self.view_is) (record {
       same = (refl, refl);
       ok = record { step = refl; well_before = (λ e. c.in_default.not-Failed (c.phase.ensures.phase ∙ e)); well_now = (λ e. let both : Staged ≡ Failed = sym c.in-Ok-stage.ensures.phase.0 ∙ e in absurd cc); no_failure = search rules };
@@ -111,9 +111,9 @@ returns g c =
       phase = tt;
       fault = tt;
       given_back = tt;
-      same_room = steps.same_room j j1 w.same.1 w.same.2 w.bodies.0;
+      same_room = steps.same_room j j1 w.kept.same.1 w.kept.same.2 w.bodies.0;
       called = w.called;
       any_moment = λ h. leaves_map D.moment D.crash_states_since j.disk j1.disk _ _ (λ o stands. inl stands) (leaves h);
-      exit = (λ h1 o out. let h = w.honest.1 h1 in inl (moves.exit_has D.honest D.moment D.crash_states_since D.unsynced m.counts_now j.disk j1.disk _ (leaves h) h1 o out));
-      honest = w.honest;
+      exit = (λ h1 o out. let h = w.kept.honest.1 h1 in inl (moves.exit_has D.honest D.moment D.crash_states_since D.unsynced m.counts_now j.disk j1.disk _ (leaves h) h1 o out));
+      honest = w.kept.honest;
     })

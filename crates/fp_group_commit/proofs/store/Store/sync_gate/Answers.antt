@@ -26,11 +26,11 @@ invariant_of-self g c =
     let at : c.self.inside.step ≡ GateOpened = ap (λ (k : StoreState g.row.D.Denot). k.step) c.self.view_is ∙ c.requires in
     let is : j.phase ≡ GateOpened = steps.goes j.phase c.self.inside.step (λ e. c.in_default.not-Failed (c.phase.ensures.phase ∙ e)) c.self.invariant.going ∙ at in
     let f = steps.not_idle c.self.inside.step GateOpened _ at (λ (e : GateOpened ≡ Idle). absurd cc) c.self.invariant.flight in
-    let leaves : (h : D.honest j.disk) → LeavesOnly D.moment D.crash_states_since j.disk j1.disk (λ o. StandsFor o _ ⊎ StandsFor o _) = λ h. steps.sync_open D.honest D.bytes D.moment D.crash_states_since D.unsynced c.self.invariant is f j1.disk h (w.apart h) (w.any_moment h) in
+    let leaves : (h : D.honest j.disk) → LeavesOnly D.moment D.crash_states_since j.disk j1.disk (λ o. StandsFor o _ ⊎ StandsFor o _) = λ h. steps.sync_open D.honest D.bytes D.moment D.crash_states_since D.unsynced c.self.invariant is f j1.disk h (w.kept.apart h) (w.kept.any_moment h) in
     let begun : (p : Phase) → begun_at c.self.inside.step p ≡ true = λ p. steps.begun_opened c.self.inside.step p at in
-    steps.on_its_way D.honest D.bytes D.moment D.crash_states_since D.unsynced c.self.invariant m.present f c.self.inside.step j1 w.same.1 w.same.2 w.bodies.0 w.bodies.1 (inr c.in_default-sync.ensures.phase.1)
-    (λ h1. let h = w.honest.1 h1 in steps.bytes_same D.honest D.bytes D.moment D.crash_states_since D.unsynced c.self.invariant j1 j1.disk h (moves.all_firm D.honest D.moment D.crash_states_since D.unsynced j.disk j1.disk (Outside j.slot) (w.apart h)) w.same.1 w.same.2 w.bodies.0)
-    (λ h1 o out. let h = w.honest.1 h1 in ⊎_elim (λ a. inl a) (λ b. inr (begun j1.phase, b)) (moves.exit_has D.honest D.moment D.crash_states_since D.unsynced m.counts_now j.disk j1.disk _ (leaves h) h1 o out))
+    steps.on_its_way D.honest D.bytes D.moment D.crash_states_since D.unsynced c.self.invariant m.present f c.self.inside.step j1 w.kept.same.1 w.kept.same.2 w.bodies.0 w.bodies.1 (inr c.in_default-sync.ensures.phase.1)
+    (λ h1. let h = w.kept.honest.1 h1 in steps.bytes_same D.honest D.bytes D.moment D.crash_states_since D.unsynced c.self.invariant j1 j1.disk h (moves.all_firm D.honest D.moment D.crash_states_since D.unsynced j.disk j1.disk (Outside j.slot) (w.kept.apart h)) w.kept.same.1 w.kept.same.2 w.bodies.0)
+    (λ h1 o out. let h = w.kept.honest.1 h1 in ⊎_elim (λ a. inl a) (λ b. inr (begun j1.phase, b)) (moves.exit_has D.honest D.moment D.crash_states_since D.unsynced m.counts_now j.disk j1.disk _ (leaves h) h1 o out))
     (λ h1 at well. absurd (well c.in_default-sync.ensures.phase.1))
 
 pub returns-in_default-sync : goal.returns-in_default-sync
@@ -39,7 +39,7 @@ returns-in_default-sync g c =
     let at : c.self.inside.step ≡ GateOpened = ap (λ (k : StoreState g.row.D.Denot). k.step) c.self.view_is ∙ c.requires in
     let is : j.phase ≡ GateOpened = steps.goes j.phase c.self.inside.step (λ e. c.in_default.not-Failed (c.phase.ensures.phase ∙ e)) c.self.invariant.going ∙ at in
     let f = steps.not_idle c.self.inside.step GateOpened _ at (λ (e : GateOpened ≡ Idle). absurd cc) c.self.invariant.flight in
-    let leaves : (h : D.honest j.disk) → LeavesOnly D.moment D.crash_states_since j.disk j1.disk (λ o. StandsFor o _ ⊎ StandsFor o _) = λ h. steps.sync_open D.honest D.bytes D.moment D.crash_states_since D.unsynced c.self.invariant is f j1.disk h (w.apart h) (w.any_moment h) in
+    let leaves : (h : D.honest j.disk) → LeavesOnly D.moment D.crash_states_since j.disk j1.disk (λ o. StandsFor o _ ⊎ StandsFor o _) = λ h. steps.sync_open D.honest D.bytes D.moment D.crash_states_since D.unsynced c.self.invariant is f j1.disk h (w.kept.apart h) (w.kept.any_moment h) in
     let begun : (p : Phase) → begun_at c.self.inside.step p ≡ true = λ p. steps.begun_opened c.self.inside.step p at in
     rw (← c.self.view_is) (record {
       store = refl;
@@ -49,12 +49,12 @@ returns-in_default-sync g c =
       batch = tt;
       err = (refl, refl, refl);
       phase = refl;
-      fault = steps.breaks D.faults (λ e. c.in_default.not-Failed (c.phase.ensures.phase ∙ e)) c.in_default-sync.ensures.phase.1 (search rules) refl w.same.1 w.same.2 w.bodies.0;
+      fault = steps.breaks D.faults (λ e. c.in_default.not-Failed (c.phase.ensures.phase ∙ e)) c.in_default-sync.ensures.phase.1 (search rules) refl w.kept.same.1 w.kept.same.2 w.bodies.0;
       takes_room = tt;
       called = inr w.called;
       any_moment = λ h. leaves_map D.moment D.crash_states_since j.disk j1.disk _ _ (λ o e. ⊎_elim (λ a. inl a) (λ b. inr (begun j.phase, b)) e) (leaves h);
-      exit = (λ h1 o out. let h = w.honest.1 h1 in ⊎_elim (λ a. inl a) (λ b. inr (begun j1.phase, b)) (moves.exit_has D.honest D.moment D.crash_states_since D.unsynced m.counts_now j.disk j1.disk _ (leaves h) h1 o out));
-      honest = w.honest;
+      exit = (λ h1 o out. let h = w.kept.honest.1 h1 in ⊎_elim (λ a. inl a) (λ b. inr (begun j1.phase, b)) (moves.exit_has D.honest D.moment D.crash_states_since D.unsynced m.counts_now j.disk j1.disk _ (leaves h) h1 o out));
+      honest = w.kept.honest;
     })
 
 pub invariant_of-result : goal.invariant_of-result
@@ -81,8 +81,8 @@ invariant_of-self-2 g c =
     let store : ◌≡◌ {A = Identity} (record { name = c.lengthen-front.new.self.name; start = c.self.inside.origin }) (record { name = c.self.inside.sealed.name; start = c.self.inside.origin }) = ap (λ (n : ℕ). record { name = n; start = c.self.inside.origin }) l.0 in
     let bodies : j2.sealed ≡ j.sealed ++ j.staged ∷ [] = v.sealed.0 ∙ ap (λ (b : List (List ℕ)). b ++ j1.staged ∷ []) w.bodies.0 ∙ ap (λ (b : List ℕ). j.sealed ++ b ∷ []) w.bodies.1 in
     let sound = steps.sound_sealed D.honest D.bytes D.moment D.crash_states_since D.unsynced c.self.invariant m.present f
-    (record { store = record { name = c.lengthen-front.new.self.name; start = c.self.inside.origin }; sealed = c.lengthen-front.new.self.log; staged = c.replace-draw.new.dest.changes; step = Idle; journal = j2 }) j1.disk store l.1 refl v.sealed.1 (v.same.1 ∙ w.same.1) (v.same.2 ∙ w.same.2)
-    bodies v.disk w.honest.1 (λ h. moves.all_firm D.honest D.moment D.crash_states_since D.unsynced j.disk j1.disk (Outside j.slot) (w.apart h)) v.exit c.replace-draw.new.dest.first (changes_of c.swap.new.y.items) in
+    (record { store = record { name = c.lengthen-front.new.self.name; start = c.self.inside.origin }; sealed = c.lengthen-front.new.self.log; staged = c.replace-draw.new.dest.changes; step = Idle; journal = j2 }) j1.disk store l.1 refl v.sealed.1 (v.same.1 ∙ w.kept.same.1) (v.same.2 ∙ w.kept.same.2)
+    bodies v.disk w.kept.honest.1 (λ h. moves.all_firm D.honest D.moment D.crash_states_since D.unsynced j.disk j1.disk (Outside j.slot) (w.kept.apart h)) v.exit c.replace-draw.new.dest.first (changes_of c.swap.new.y.items) in
     rw c.swap.ensures.x_after sound
 
 pub returns : goal.returns
@@ -91,15 +91,15 @@ returns g c =
     let at : c.self.inside.step ≡ GateOpened = ap (λ (k : StoreState g.row.D.Denot). k.step) c.self.view_is ∙ c.requires in
     let is : j.phase ≡ GateOpened = steps.goes j.phase c.self.inside.step (λ e. c.in_default.not-Failed (c.phase.ensures.phase ∙ e)) c.self.invariant.going ∙ at in
     let f = steps.not_idle c.self.inside.step GateOpened _ at (λ (e : GateOpened ≡ Idle). absurd cc) c.self.invariant.flight in
-    let leaves : (h : D.honest j.disk) → LeavesOnly D.moment D.crash_states_since j.disk j1.disk (λ o. StandsFor o _ ⊎ StandsFor o _) = λ h. steps.sync_open D.honest D.bytes D.moment D.crash_states_since D.unsynced c.self.invariant is f j1.disk h (w.apart h) (w.any_moment h) in
+    let leaves : (h : D.honest j.disk) → LeavesOnly D.moment D.crash_states_since j.disk j1.disk (λ o. StandsFor o _ ⊎ StandsFor o _) = λ h. steps.sync_open D.honest D.bytes D.moment D.crash_states_since D.unsynced c.self.invariant is f j1.disk h (w.kept.apart h) (w.kept.any_moment h) in
     let begun : (p : Phase) → begun_at c.self.inside.step p ≡ true = λ p. steps.begun_opened c.self.inside.step p at in
     let j2 = c.gate_synced.new.self in let v = c.gate_synced.ensures in let l = c.lengthen-front.ensures in
     let phase : j1.phase ≡ GateOpened = c.in-Ok.ensures.phase.0 ∙ is in
     let store : ◌≡◌ {A = Identity} (record { name = c.lengthen-front.new.self.name; start = c.self.inside.origin }) (record { name = c.self.inside.sealed.name; start = c.self.inside.origin }) = ap (λ (n : ℕ). record { name = n; start = c.self.inside.origin }) l.0 in
     let bodies : j2.sealed ≡ j.sealed ++ j.staged ∷ [] = v.sealed.0 ∙ ap (λ (b : List (List ℕ)). b ++ j1.staged ∷ []) w.bodies.0 ∙ ap (λ (b : List ℕ). j.sealed ++ b ∷ []) w.bodies.1 in
     let sound = steps.sound_sealed D.honest D.bytes D.moment D.crash_states_since D.unsynced c.self.invariant m.present f
-    (record { store = record { name = c.lengthen-front.new.self.name; start = c.self.inside.origin }; sealed = c.lengthen-front.new.self.log; staged = c.replace-draw.new.dest.changes; step = Idle; journal = j2 }) j1.disk store l.1 refl v.sealed.1 (v.same.1 ∙ w.same.1) (v.same.2 ∙ w.same.2)
-    bodies v.disk w.honest.1 (λ h. moves.all_firm D.honest D.moment D.crash_states_since D.unsynced j.disk j1.disk (Outside j.slot) (w.apart h)) v.exit c.replace-draw.new.dest.first (changes_of c.swap.new.y.items) in
+    (record { store = record { name = c.lengthen-front.new.self.name; start = c.self.inside.origin }; sealed = c.lengthen-front.new.self.log; staged = c.replace-draw.new.dest.changes; step = Idle; journal = j2 }) j1.disk store l.1 refl v.sealed.1 (v.same.1 ∙ w.kept.same.1) (v.same.2 ∙ w.kept.same.2)
+    bodies v.disk w.kept.honest.1 (λ h. moves.all_firm D.honest D.moment D.crash_states_since D.unsynced j.disk j1.disk (Outside j.slot) (w.kept.apart h)) v.exit c.replace-draw.new.dest.first (changes_of c.swap.new.y.items) in
     let start : c.again.result ≡ c.self.inside.origin = c.again.ensures in
     rw (← c.self.view_is) (record {
       store = store;
@@ -110,9 +110,9 @@ returns g c =
       err = tt;
       phase = tt;
       fault = tt;
-      takes_room = steps.takes_room D.honest D.bytes D.moment D.crash_states_since D.unsynced c.self.invariant f j2 (v.same.1 ∙ w.same.1) (v.same.2 ∙ w.same.2) bodies;
+      takes_room = steps.takes_room D.honest D.bytes D.moment D.crash_states_since D.unsynced c.self.invariant f j2 (v.same.1 ∙ w.kept.same.1) (v.same.2 ∙ w.kept.same.2) bodies;
       called = ap (λ (d : g.row.D.Denot). D.calls d) v.disk ∙ w.called;
       any_moment = rw v.disk (λ h. leaves_map D.moment D.crash_states_since j.disk j1.disk _ _ (λ o e. ⊎_elim (λ a. inl a) (λ b. inr (begun j.phase, b)) e) (leaves h));
       exit = sound.now;
-      honest = rw v.disk w.honest;
+      honest = rw v.disk w.kept.honest;
     })

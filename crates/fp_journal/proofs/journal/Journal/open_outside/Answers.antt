@@ -13,51 +13,41 @@ open-requires-clause-firm g c =
 
 pub invariant_of-self : goal.invariant_of-self
 invariant_of-self g c =
-    let D = g.D.Disk in let m = g.met.D.Disk in let w = c.open.ensures in let new = c.open.new.disk.disk in
+    let D = g.D.Disk in let m = g.met.D.Disk in let w = c.open.ensures.wrote in let new = c.open.new.disk.disk in
     let out = subst (λ (k : JournalState g.row.D.Denot). Outside k.slot c.args.gate.at 1) (sym c.self.view_is) c.requires.outside in
     rw (w.name, c.replace-held.ensures.after, c.failed-failed.ensures) (steps.outside_failed D.honest D.bytes D.unsynced D.moment D.crash_states_since m.present m.only_now c.self.invariant.0 new c.args.gate.at (OPEN ∷ []) out (begun_of c.self.inside.held) (steps.begun_is c.self.inside.held) w.honest.1 (λ h. w.failed h (search rules)), tt)
 
-pub returns-in_err-written-clause-any_moment : goal.returns-in_err-written-clause-any_moment
-returns-in_err-written-clause-any_moment g c =
-    let D = g.D.Disk in let m = g.met.D.Disk in let w = c.open.ensures in let new = c.open.new.disk.disk in
+pub returns-in_err-written-clause-kept : goal.returns-in_err-written-clause-kept
+returns-in_err-written-clause-kept g c =
+    let D = g.D.Disk in let m = g.met.D.Disk in let w = c.open.ensures.wrote in let new = c.open.new.disk.disk in
     let out = subst (λ (k : JournalState g.row.D.Denot). Outside k.slot c.args.gate.at 1) (sym c.self.view_is) c.requires.outside in
-    rw (← c.self.view_is) (steps.outside_leaves D.honest D.bytes D.unsynced D.moment D.crash_states_since m.present m.only_now c.self.invariant.0 new c.args.gate.at (OPEN ∷ []) out w.time)
-
-pub returns-in_err-written-clause-apart : goal.returns-in_err-written-clause-apart
-returns-in_err-written-clause-apart g c =
-    let D = g.D.Disk in let m = g.met.D.Disk in let w = c.open.ensures in let new = c.open.new.disk.disk in
-    let out = subst (λ (k : JournalState g.row.D.Denot). Outside k.slot c.args.gate.at 1) (sym c.self.view_is) c.requires.outside in
-    rw (← c.self.view_is) (steps.outside_apart D.honest D.bytes D.unsynced D.moment D.crash_states_since m.present m.only_now c.self.invariant.0 new c.args.gate.at (OPEN ∷ []) out w.time (λ h. w.failed h (search rules)))
-
-pub returns-in_err-written-clause-beside : goal.returns-in_err-written-clause-beside
-returns-in_err-written-clause-beside g c =
-    let D = g.D.Disk in let m = g.met.D.Disk in let w = c.open.ensures in let new = c.open.new.disk.disk in
-    let out = subst (λ (k : JournalState g.row.D.Denot). Outside k.slot c.args.gate.at 1) (sym c.self.view_is) c.requires.outside in
-    rw (← c.self.view_is) (λ h. steps.outside_beside D.honest D.bytes D.unsynced D.moment D.crash_states_since m.present m.only_now c.self.invariant.0 new c.args.gate.at (OPEN ∷ []) out (w.partly h (search rules)))
+    record {
+      same = search rules;
+      any_moment = rw (← c.self.view_is) (steps.outside_leaves D.honest D.bytes D.unsynced D.moment D.crash_states_since m.present m.only_now c.self.invariant.0 new c.args.gate.at (OPEN ∷ []) out w.time);
+      apart = rw (← c.self.view_is) (steps.outside_apart D.honest D.bytes D.unsynced D.moment D.crash_states_since m.present m.only_now c.self.invariant.0 new c.args.gate.at (OPEN ∷ []) out w.time (λ h. w.failed h (search rules)));
+      beside = rw (← c.self.view_is) (λ h. steps.outside_beside D.honest D.bytes D.unsynced D.moment D.crash_states_since m.present m.only_now c.self.invariant.0 new c.args.gate.at (OPEN ∷ []) out (w.partly h (search rules)));
+      honest = search rules;
+      cause = search rules;
+    }
 
 pub invariant_of-self-2 : goal.invariant_of-self-2
 invariant_of-self-2 g c =
-    let D = g.D.Disk in let m = g.met.D.Disk in let w = c.open.ensures in let new = c.open.new.disk.disk in
+    let D = g.D.Disk in let m = g.met.D.Disk in let w = c.open.ensures.wrote in let new = c.open.new.disk.disk in
     let out = subst (λ (k : JournalState g.row.D.Denot). Outside k.slot c.args.gate.at 1) (sym c.self.view_is) c.requires.outside in
     rw (w.name, c.replace-held.ensures.value) (
-      steps.outside_done D.honest D.bytes D.unsynced D.moment D.crash_states_since m.present m.only_now c.self.invariant.0 new c.args.gate.at (OPEN ∷ []) out w.honest.1 c.in_ok-written.ensures.written c.in_ok-written.ensures.unsynced,
+      steps.outside_done D.honest D.bytes D.unsynced D.moment D.crash_states_since m.present m.only_now c.self.invariant.0 new c.args.gate.at (OPEN ∷ []) out w.honest.1 c.in_ok-written.ensures.wrote.written c.in_ok-written.ensures.wrote.unsynced,
       steps.held_stays D.honest D.moment c.self.inside.disk.disk new c.self.inside.disk.name c.self.inside.end c.self.inside.held w.honest.1 (λ h. (w.time h).later) c.self.invariant.1,
     )
 
-pub returns-clause-any_moment : goal.returns-clause-any_moment
-returns-clause-any_moment g c =
-    let D = g.D.Disk in let m = g.met.D.Disk in let w = c.open.ensures in let new = c.open.new.disk.disk in
+pub returns-clause-kept : goal.returns-clause-kept
+returns-clause-kept g c =
+    let D = g.D.Disk in let m = g.met.D.Disk in let w = c.open.ensures.wrote in let new = c.open.new.disk.disk in
     let out = subst (λ (k : JournalState g.row.D.Denot). Outside k.slot c.args.gate.at 1) (sym c.self.view_is) c.requires.outside in
-    rw (← c.self.view_is) (steps.outside_leaves D.honest D.bytes D.unsynced D.moment D.crash_states_since m.present m.only_now c.self.invariant.0 new c.args.gate.at (OPEN ∷ []) out w.time)
-
-pub returns-clause-apart : goal.returns-clause-apart
-returns-clause-apart g c =
-    let D = g.D.Disk in let m = g.met.D.Disk in let w = c.open.ensures in let new = c.open.new.disk.disk in
-    let out = subst (λ (k : JournalState g.row.D.Denot). Outside k.slot c.args.gate.at 1) (sym c.self.view_is) c.requires.outside in
-    rw (← c.self.view_is) (steps.outside_apart D.honest D.bytes D.unsynced D.moment D.crash_states_since m.present m.only_now c.self.invariant.0 new c.args.gate.at (OPEN ∷ []) out w.time (λ h. inr (c.in_ok-written.ensures.unsynced h)))
-
-pub returns-clause-beside : goal.returns-clause-beside
-returns-clause-beside g c =
-    let D = g.D.Disk in let m = g.met.D.Disk in let w = c.open.ensures in let new = c.open.new.disk.disk in
-    let out = subst (λ (k : JournalState g.row.D.Denot). Outside k.slot c.args.gate.at 1) (sym c.self.view_is) c.requires.outside in
-    rw (← c.self.view_is) (λ h. steps.outside_beside D.honest D.bytes D.unsynced D.moment D.crash_states_since m.present m.only_now c.self.invariant.0 new c.args.gate.at (OPEN ∷ []) out (written_within _ (OPEN ∷ []) (D.bytes new) c.args.gate.at (c.in_ok-written.ensures.written h)))
+    record {
+      same = search rules;
+      any_moment = rw (← c.self.view_is) (steps.outside_leaves D.honest D.bytes D.unsynced D.moment D.crash_states_since m.present m.only_now c.self.invariant.0 new c.args.gate.at (OPEN ∷ []) out w.time);
+      apart = rw (← c.self.view_is) (steps.outside_apart D.honest D.bytes D.unsynced D.moment D.crash_states_since m.present m.only_now c.self.invariant.0 new c.args.gate.at (OPEN ∷ []) out w.time (λ h. inr (c.in_ok-written.ensures.wrote.unsynced h)));
+      beside = rw (← c.self.view_is) (λ h. steps.outside_beside D.honest D.bytes D.unsynced D.moment D.crash_states_since m.present m.only_now c.self.invariant.0 new c.args.gate.at (OPEN ∷ []) out (written_within _ (OPEN ∷ []) (D.bytes new) c.args.gate.at (c.in_ok-written.ensures.wrote.written h)));
+      honest = search rules;
+      cause = search rules;
+    }

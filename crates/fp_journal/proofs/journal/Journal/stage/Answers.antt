@@ -13,21 +13,22 @@ invariant_of-self g c =
     let n = length c.deref.result.now in let written = c.into_bytes.result.items in
     rw w.name (steps.stage_failed D.honest D.bytes D.unsynced D.moment D.crash_states_since m.present m.only_now c.self.invariant.0 new is (body_of written) written n w.honest.1 (λ h. w.failed h (search rules)), tt)
 
-pub returns-in_err-write_at-clause-any_moment : goal.returns-in_err-write_at-clause-any_moment
-returns-in_err-write_at-clause-any_moment g c =
+pub returns-in_err-write_at-clause-kept : goal.returns-in_err-write_at-clause-kept
+returns-in_err-write_at-clause-kept g c =
     let D = g.D.Disk in let m = g.met.D.Disk in let w = c.write_at.ensures in let new = c.write_at.new.self.disk in
     let is : phase_of c.self.inside.held ≡ Idle = ap (λ (k : JournalState g.row.D.Denot). k.phase) c.self.view_is ∙ c.requires.idle in
     let n = length c.deref.result.now in let written = c.into_bytes.result.items in
-    rw (← c.self.view_is) (steps.stage_leaves D.honest D.bytes D.unsynced D.moment D.crash_states_since m.present m.only_now c.self.invariant.0 new is n w.time)
-
-pub returns-in_err-write_at-clause-apart : goal.returns-in_err-write_at-clause-apart
-returns-in_err-write_at-clause-apart g c =
-    let D = g.D.Disk in let m = g.met.D.Disk in let w = c.write_at.ensures in let new = c.write_at.new.self.disk in
-    let is : phase_of c.self.inside.held ≡ Idle = ap (λ (k : JournalState g.row.D.Denot). k.phase) c.self.view_is ∙ c.requires.idle in
-    let n = length c.deref.result.now in let written = c.into_bytes.result.items in
-    let shape : c.deref.result.now ≡ with_gate c.args.framed = c.deref.ensures.value ∙ c.into_bytes.ensures.bytes in
-    let fits = subst (λ (k : JournalState g.row.D.Denot). length c.args.framed + 6 ≤ room k) (sym c.self.view_is) c.requires.room in
-    rw (← c.self.view_is) (steps.stage_apart D.honest D.bytes D.unsynced D.moment D.crash_states_since m.present m.only_now c.self.invariant.0 new is c.args.framed written c.deref.result.now c.into_bytes.ensures.bytes shape fits w.time (λ h. w.failed h (search rules)))
+    record {
+      same = search rules;
+      any_moment = rw (← c.self.view_is) (steps.stage_leaves D.honest D.bytes D.unsynced D.moment D.crash_states_since m.present m.only_now c.self.invariant.0 new is n w.time);
+      apart =
+        let shape : c.deref.result.now ≡ with_gate c.args.framed = c.deref.ensures.value ∙ c.into_bytes.ensures.bytes in
+        let fits = subst (λ (k : JournalState g.row.D.Denot). length c.args.framed + 6 ≤ room k) (sym c.self.view_is) c.requires.room in
+        rw (← c.self.view_is) (steps.stage_apart D.honest D.bytes D.unsynced D.moment D.crash_states_since m.present m.only_now c.self.invariant.0 new is c.args.framed written c.deref.result.now c.into_bytes.ensures.bytes shape fits w.time (λ h. w.failed h (search rules)));
+      beside = search rules;
+      honest = search rules;
+      cause = search rules;
+    }
 
 pub invariant_of-self-2 : goal.invariant_of-self-2
 invariant_of-self-2 g c =
@@ -39,27 +40,25 @@ invariant_of-self-2 g c =
     let short = subst (λ (k : JournalState g.row.D.Denot). length c.args.framed ≤ k.slot.most) (sym c.self.view_is) c.requires.short in
     rw w.name (steps.stage_done D.honest D.bytes D.unsynced D.moment D.crash_states_since m.present m.only_now c.self.invariant.0 new is c.args.framed written c.deref.result.now c.into_bytes.ensures.bytes shape fits short w.honest.1 c.in_ok-write_at.ensures.written c.in_ok-write_at.ensures.unsynced, tt)
 
-pub returns-clause-any_moment : goal.returns-clause-any_moment
-returns-clause-any_moment g c =
+pub returns-clause-kept : goal.returns-clause-kept
+returns-clause-kept g c =
     let D = g.D.Disk in let m = g.met.D.Disk in let w = c.write_at.ensures in let new = c.write_at.new.self.disk in
     let is : phase_of c.self.inside.held ≡ Idle = ap (λ (k : JournalState g.row.D.Denot). k.phase) c.self.view_is ∙ c.requires.idle in
-    let n = length c.deref.result.now in let written = c.into_bytes.result.items in
-    rw (← c.self.view_is) (steps.stage_leaves D.honest D.bytes D.unsynced D.moment D.crash_states_since m.present m.only_now c.self.invariant.0 new is n w.time)
-
-pub returns-clause-apart : goal.returns-clause-apart
-returns-clause-apart g c =
-    let D = g.D.Disk in let m = g.met.D.Disk in let w = c.write_at.ensures in let new = c.write_at.new.self.disk in
-    let is : phase_of c.self.inside.held ≡ Idle = ap (λ (k : JournalState g.row.D.Denot). k.phase) c.self.view_is ∙ c.requires.idle in
-    let n = length c.deref.result.now in let written = c.into_bytes.result.items in
-    let shape : c.deref.result.now ≡ with_gate c.args.framed = c.deref.ensures.value ∙ c.into_bytes.ensures.bytes in
-    let fits = subst (λ (k : JournalState g.row.D.Denot). length c.args.framed + 6 ≤ room k) (sym c.self.view_is) c.requires.room in
-    rw (← c.self.view_is) (steps.stage_apart D.honest D.bytes D.unsynced D.moment D.crash_states_since m.present m.only_now c.self.invariant.0 new is c.args.framed written c.deref.result.now c.into_bytes.ensures.bytes shape fits w.time (λ h. inr (c.in_ok-write_at.ensures.unsynced h)))
-
-pub returns-clause-beside : goal.returns-clause-beside
-returns-clause-beside g c =
-    let D = g.D.Disk in let m = g.met.D.Disk in let w = c.write_at.ensures in let new = c.write_at.new.self.disk in
-    let is : phase_of c.self.inside.held ≡ Idle = ap (λ (k : JournalState g.row.D.Denot). k.phase) c.self.view_is ∙ c.requires.idle in
-    let written = c.into_bytes.result.items in
-    let shape : c.deref.result.now ≡ with_gate c.args.framed = c.deref.ensures.value ∙ c.into_bytes.ensures.bytes in
-    let fits = subst (λ (k : JournalState g.row.D.Denot). length c.args.framed + 6 ≤ room k) (sym c.self.view_is) c.requires.room in
-    rw (← c.self.view_is) (λ h. steps.stage_beside D.honest D.bytes D.unsynced D.moment D.crash_states_since m.present m.only_now c.self.invariant.0 new is c.args.framed written c.deref.result.now c.into_bytes.ensures.bytes shape fits h (written_within _ c.deref.result.now (D.bytes new) _ (c.in_ok-write_at.ensures.written h)))
+    record {
+      same = search rules;
+      any_moment =
+        let n = length c.deref.result.now in let written = c.into_bytes.result.items in
+        rw (← c.self.view_is) (steps.stage_leaves D.honest D.bytes D.unsynced D.moment D.crash_states_since m.present m.only_now c.self.invariant.0 new is n w.time);
+      apart =
+        let n = length c.deref.result.now in let written = c.into_bytes.result.items in
+        let shape : c.deref.result.now ≡ with_gate c.args.framed = c.deref.ensures.value ∙ c.into_bytes.ensures.bytes in
+        let fits = subst (λ (k : JournalState g.row.D.Denot). length c.args.framed + 6 ≤ room k) (sym c.self.view_is) c.requires.room in
+        rw (← c.self.view_is) (steps.stage_apart D.honest D.bytes D.unsynced D.moment D.crash_states_since m.present m.only_now c.self.invariant.0 new is c.args.framed written c.deref.result.now c.into_bytes.ensures.bytes shape fits w.time (λ h. inr (c.in_ok-write_at.ensures.unsynced h)));
+      beside =
+        let written = c.into_bytes.result.items in
+        let shape : c.deref.result.now ≡ with_gate c.args.framed = c.deref.ensures.value ∙ c.into_bytes.ensures.bytes in
+        let fits = subst (λ (k : JournalState g.row.D.Denot). length c.args.framed + 6 ≤ room k) (sym c.self.view_is) c.requires.room in
+        rw (← c.self.view_is) (λ h. steps.stage_beside D.honest D.bytes D.unsynced D.moment D.crash_states_since m.present m.only_now c.self.invariant.0 new is c.args.framed written c.deref.result.now c.into_bytes.ensures.bytes shape fits h (written_within _ c.deref.result.now (D.bytes new) _ (c.in_ok-write_at.ensures.written h)));
+      honest = search rules;
+      cause = search rules;
+    }

@@ -8,15 +8,17 @@ invariant_of-self g c =
     let D = g.D.Disk in let m = g.met.D.Disk in let w = c.sync.ensures in let new = c.sync.new.self.disk in
     rw (w.name, c.replace-held.ensures.after, c.failed-failed.ensures) (steps.sync_failed D.honest D.bytes D.unsynced D.moment D.crash_states_since m.present m.only_now c.self.invariant.0 new (begun_of c.self.inside.held) (steps.begun_is c.self.inside.held) w.honest.1 (λ h. w.failed h (search rules)), tt)
 
-pub returns-in_err-synced-clause-any_moment : goal.returns-in_err-synced-clause-any_moment
-returns-in_err-synced-clause-any_moment g c =
+pub returns-in_err-synced-clause-kept : goal.returns-in_err-synced-clause-kept
+returns-in_err-synced-clause-kept g c =
     let D = g.D.Disk in let m = g.met.D.Disk in let w = c.sync.ensures in let new = c.sync.new.self.disk in
-    rw (← c.self.view_is) (steps.sync_leaves D.honest D.bytes D.unsynced D.moment D.crash_states_since m.present m.only_now c.self.invariant.0 new w.time)
-
-pub returns-in_err-synced-clause-apart : goal.returns-in_err-synced-clause-apart
-returns-in_err-synced-clause-apart g c =
-    let D = g.D.Disk in let m = g.met.D.Disk in let w = c.sync.ensures in let new = c.sync.new.self.disk in
-    rw (← c.self.view_is) (steps.sync_apart D.honest D.bytes D.unsynced D.moment D.crash_states_since m.present m.only_now c.self.invariant.0 new (λ at n. Unit {0}) w.time (λ h. inl (w.failed h (search rules))))
+    record {
+      same = search rules;
+      any_moment = rw (← c.self.view_is) (steps.sync_leaves D.honest D.bytes D.unsynced D.moment D.crash_states_since m.present m.only_now c.self.invariant.0 new w.time);
+      apart = rw (← c.self.view_is) (steps.sync_apart D.honest D.bytes D.unsynced D.moment D.crash_states_since m.present m.only_now c.self.invariant.0 new (λ at n. Unit {0}) w.time (λ h. inl (w.failed h (search rules))));
+      beside = search rules;
+      honest = search rules;
+      cause = search rules;
+    }
 
 pub invariant_of-self-2 : goal.invariant_of-self-2
 invariant_of-self-2 g c =
@@ -31,12 +33,14 @@ returns-clause-firm g c =
     let D = g.D.Disk in let m = g.met.D.Disk in let w = c.sync.ensures in let new = c.sync.new.self.disk in
     rw c.replace-held.ensures.value (steps.sync_secures D.honest D.bytes D.unsynced D.moment D.crash_states_since m.present m.only_now c.self.invariant.0 new w.honest.1 c.in_ok-synced.ensures.durable)
 
-pub returns-clause-any_moment : goal.returns-clause-any_moment
-returns-clause-any_moment g c =
+pub returns-clause-kept : goal.returns-clause-kept
+returns-clause-kept g c =
     let D = g.D.Disk in let m = g.met.D.Disk in let w = c.sync.ensures in let new = c.sync.new.self.disk in
-    rw (← c.self.view_is) (steps.sync_leaves D.honest D.bytes D.unsynced D.moment D.crash_states_since m.present m.only_now c.self.invariant.0 new w.time)
-
-pub returns-clause-apart : goal.returns-clause-apart
-returns-clause-apart g c =
-    let D = g.D.Disk in let m = g.met.D.Disk in let w = c.sync.ensures in let new = c.sync.new.self.disk in
-    rw (← c.self.view_is) (steps.sync_apart D.honest D.bytes D.unsynced D.moment D.crash_states_since m.present m.only_now c.self.invariant.0 new (λ at n. Unit {0}) w.time (λ h. inr (c.in_ok-synced.ensures.durable h)))
+    record {
+      same = search rules;
+      any_moment = rw (← c.self.view_is) (steps.sync_leaves D.honest D.bytes D.unsynced D.moment D.crash_states_since m.present m.only_now c.self.invariant.0 new w.time);
+      apart = rw (← c.self.view_is) (steps.sync_apart D.honest D.bytes D.unsynced D.moment D.crash_states_since m.present m.only_now c.self.invariant.0 new (λ at n. Unit {0}) w.time (λ h. inr (c.in_ok-synced.ensures.durable h)));
+      beside = search rules;
+      honest = search rules;
+      cause = search rules;
+    }

@@ -51,8 +51,8 @@ invariant_of-self g c =
     let is : step_of c.self.inside.held ≡ Open = ap (λ (k : SlotsState g.row.D.Denot). k.step) c.self.view_is ∙ c.requires.step in
     let w = c.open_outside.ensures in let j = c.open_outside.new.self in
     let at_is : c.guarding-gate.result.at ≡ s.other.start = search rules in
-    let apart : D.honest s.journal.disk → KeepsFirm D.moment D.crash_states_since D.unsynced s.journal.disk j.disk (Apart s.other.start 1) = λ h. subst (λ (k : ℕ). KeepsFirm D.moment D.crash_states_since D.unsynced s.journal.disk j.disk (Apart k 1)) at_is (w.apart h) in
-    rw c.replace.ensures.after (steps.broke_at D.honest D.bytes D.unsynced D.moment D.crash_states_since m.counts_now c.self.invariant.0 alive j w.same w.bodies w.begun (search rules) w.honest.1 Open is (steps.opening_leaves D.honest D.bytes D.unsynced D.moment D.crash_states_since m.counts_now c.self.invariant.0 alive j w.same is w.any_moment apart), search rules, c.self.invariant.2)
+    let apart : D.honest s.journal.disk → KeepsFirm D.moment D.crash_states_since D.unsynced s.journal.disk j.disk (Apart s.other.start 1) = λ h. subst (λ (k : ℕ). KeepsFirm D.moment D.crash_states_since D.unsynced s.journal.disk j.disk (Apart k 1)) at_is (w.kept.apart h) in
+    rw c.replace.ensures.after (steps.broke_at D.honest D.bytes D.unsynced D.moment D.crash_states_since m.counts_now c.self.invariant.0 alive j w.kept.same w.bodies w.begun (search rules) w.kept.honest.1 Open is (steps.opening_leaves D.honest D.bytes D.unsynced D.moment D.crash_states_since m.counts_now c.self.invariant.0 alive j w.kept.same is w.kept.any_moment apart), search rules, c.self.invariant.2)
 
 pub returns-in_err-open_outside-clause-any_moment : goal.returns-in_err-open_outside-clause-any_moment
 returns-in_err-open_outside-clause-any_moment g c =
@@ -61,8 +61,8 @@ returns-in_err-open_outside-clause-any_moment g c =
     let is : step_of c.self.inside.held ≡ Open = ap (λ (k : SlotsState g.row.D.Denot). k.step) c.self.view_is ∙ c.requires.step in
     let w = c.open_outside.ensures in let j = c.open_outside.new.self in
     let at_is : c.guarding-gate.result.at ≡ s.other.start = search rules in
-    let apart : D.honest s.journal.disk → KeepsFirm D.moment D.crash_states_since D.unsynced s.journal.disk j.disk (Apart s.other.start 1) = λ h. subst (λ (k : ℕ). KeepsFirm D.moment D.crash_states_since D.unsynced s.journal.disk j.disk (Apart k 1)) at_is (w.apart h) in
-    rw (← c.self.view_is) (steps.opening_leaves D.honest D.bytes D.unsynced D.moment D.crash_states_since m.counts_now c.self.invariant.0 alive j w.same is w.any_moment apart)
+    let apart : D.honest s.journal.disk → KeepsFirm D.moment D.crash_states_since D.unsynced s.journal.disk j.disk (Apart s.other.start 1) = λ h. subst (λ (k : ℕ). KeepsFirm D.moment D.crash_states_since D.unsynced s.journal.disk j.disk (Apart k 1)) at_is (w.kept.apart h) in
+    rw (← c.self.view_is) (steps.opening_leaves D.honest D.bytes D.unsynced D.moment D.crash_states_since m.counts_now c.self.invariant.0 alive j w.kept.same is w.kept.any_moment apart)
 
 pub returns-in_err-open_outside-clause-apart : goal.returns-in_err-open_outside-clause-apart
 returns-in_err-open_outside-clause-apart g c =
@@ -71,8 +71,8 @@ returns-in_err-open_outside-clause-apart g c =
     let is : step_of c.self.inside.held ≡ Open = ap (λ (k : SlotsState g.row.D.Denot). k.step) c.self.view_is ∙ c.requires.step in
     let w = c.open_outside.ensures in let j = c.open_outside.new.self in
     let at_is : c.guarding-gate.result.at ≡ s.other.start = search rules in
-    let apart : D.honest s.journal.disk → KeepsFirm D.moment D.crash_states_since D.unsynced s.journal.disk j.disk (Apart s.other.start 1) = λ h. subst (λ (k : ℕ). KeepsFirm D.moment D.crash_states_since D.unsynced s.journal.disk j.disk (Apart k 1)) at_is (w.apart h) in
-    rw (← c.self.view_is) (λ h. steps.gate_frame D.honest D.bytes D.unsynced D.moment D.crash_states_since m.counts_now c.self.invariant.0 alive j w.same (apart h))
+    let apart : D.honest s.journal.disk → KeepsFirm D.moment D.crash_states_since D.unsynced s.journal.disk j.disk (Apart s.other.start 1) = λ h. subst (λ (k : ℕ). KeepsFirm D.moment D.crash_states_since D.unsynced s.journal.disk j.disk (Apart k 1)) at_is (w.kept.apart h) in
+    rw (← c.self.view_is) (λ h. steps.gate_frame D.honest D.bytes D.unsynced D.moment D.crash_states_since m.counts_now c.self.invariant.0 alive j w.kept.same (apart h))
 
 pub invariant_of-self-2 : goal.invariant_of-self-2
 invariant_of-self-2 g c =
@@ -81,8 +81,8 @@ invariant_of-self-2 g c =
     let is : step_of c.self.inside.held ≡ Open = ap (λ (k : SlotsState g.row.D.Denot). k.step) c.self.view_is ∙ c.requires.step in
     let w = c.open_outside.ensures in let j = c.open_outside.new.self in
     let at_is : c.guarding-gate.result.at ≡ s.other.start = search rules in
-    let apart : D.honest s.journal.disk → KeepsFirm D.moment D.crash_states_since D.unsynced s.journal.disk j.disk (Apart s.other.start 1) = λ h. subst (λ (k : ℕ). KeepsFirm D.moment D.crash_states_since D.unsynced s.journal.disk j.disk (Apart k 1)) at_is (w.apart h) in
-    (steps.opened D.honest D.bytes D.unsynced D.moment D.crash_states_since m.counts_now c.self.invariant.0 alive j w.same is w.any_moment apart (search rules) w.begun w.honest.1 (λ h. subst (λ (k : ℕ). Written (D.bytes s.journal.disk) k (OPEN ∷ []) (D.bytes j.disk)) at_is (c.in_ok-open_outside.ensures.written h).0), search rules, c.self.invariant.2)
+    let apart : D.honest s.journal.disk → KeepsFirm D.moment D.crash_states_since D.unsynced s.journal.disk j.disk (Apart s.other.start 1) = λ h. subst (λ (k : ℕ). KeepsFirm D.moment D.crash_states_since D.unsynced s.journal.disk j.disk (Apart k 1)) at_is (w.kept.apart h) in
+    (steps.opened D.honest D.bytes D.unsynced D.moment D.crash_states_since m.counts_now c.self.invariant.0 alive j w.kept.same is w.kept.any_moment apart (search rules) w.begun w.kept.honest.1 (λ h. subst (λ (k : ℕ). Written (D.bytes s.journal.disk) k (OPEN ∷ []) (D.bytes j.disk)) at_is (c.in_ok-open_outside.ensures.written h).0), search rules, c.self.invariant.2)
 
 pub returns-clause-any_moment : goal.returns-clause-any_moment
 returns-clause-any_moment g c =
@@ -91,8 +91,8 @@ returns-clause-any_moment g c =
     let is : step_of c.self.inside.held ≡ Open = ap (λ (k : SlotsState g.row.D.Denot). k.step) c.self.view_is ∙ c.requires.step in
     let w = c.open_outside.ensures in let j = c.open_outside.new.self in
     let at_is : c.guarding-gate.result.at ≡ s.other.start = search rules in
-    let apart : D.honest s.journal.disk → KeepsFirm D.moment D.crash_states_since D.unsynced s.journal.disk j.disk (Apart s.other.start 1) = λ h. subst (λ (k : ℕ). KeepsFirm D.moment D.crash_states_since D.unsynced s.journal.disk j.disk (Apart k 1)) at_is (w.apart h) in
-    rw (← c.self.view_is) (steps.opening_leaves D.honest D.bytes D.unsynced D.moment D.crash_states_since m.counts_now c.self.invariant.0 alive j w.same is w.any_moment apart)
+    let apart : D.honest s.journal.disk → KeepsFirm D.moment D.crash_states_since D.unsynced s.journal.disk j.disk (Apart s.other.start 1) = λ h. subst (λ (k : ℕ). KeepsFirm D.moment D.crash_states_since D.unsynced s.journal.disk j.disk (Apart k 1)) at_is (w.kept.apart h) in
+    rw (← c.self.view_is) (steps.opening_leaves D.honest D.bytes D.unsynced D.moment D.crash_states_since m.counts_now c.self.invariant.0 alive j w.kept.same is w.kept.any_moment apart)
 
 pub returns-clause-apart : goal.returns-clause-apart
 returns-clause-apart g c =
@@ -101,5 +101,5 @@ returns-clause-apart g c =
     let is : step_of c.self.inside.held ≡ Open = ap (λ (k : SlotsState g.row.D.Denot). k.step) c.self.view_is ∙ c.requires.step in
     let w = c.open_outside.ensures in let j = c.open_outside.new.self in
     let at_is : c.guarding-gate.result.at ≡ s.other.start = search rules in
-    let apart : D.honest s.journal.disk → KeepsFirm D.moment D.crash_states_since D.unsynced s.journal.disk j.disk (Apart s.other.start 1) = λ h. subst (λ (k : ℕ). KeepsFirm D.moment D.crash_states_since D.unsynced s.journal.disk j.disk (Apart k 1)) at_is (w.apart h) in
-    rw (← c.self.view_is) (λ h. steps.gate_frame D.honest D.bytes D.unsynced D.moment D.crash_states_since m.counts_now c.self.invariant.0 alive j w.same (apart h))
+    let apart : D.honest s.journal.disk → KeepsFirm D.moment D.crash_states_since D.unsynced s.journal.disk j.disk (Apart s.other.start 1) = λ h. subst (λ (k : ℕ). KeepsFirm D.moment D.crash_states_since D.unsynced s.journal.disk j.disk (Apart k 1)) at_is (w.kept.apart h) in
+    rw (← c.self.view_is) (λ h. steps.gate_frame D.honest D.bytes D.unsynced D.moment D.crash_states_since m.counts_now c.self.invariant.0 alive j w.kept.same (apart h))

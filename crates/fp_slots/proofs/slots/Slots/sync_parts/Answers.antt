@@ -10,39 +10,39 @@ invariant_of-self g c =
     let D = g.D.Disk in let m = g.met.D.Disk in let w = c.sync.ensures in let j = c.sync.new.self in
     let alive = subst (λ (k : SlotsState g.row.D.Denot). k.journal.phase ≢ Failed) (sym c.self.view_is) c.requires.live in
     let is : step_of c.self.inside.held ≡ SyncBody = ap (λ (k : SlotsState g.row.D.Denot). k.step) c.self.view_is ∙ c.requires.step in
-    (steps.broke D.honest D.bytes D.unsynced D.moment D.crash_states_since m.counts_now c.self.invariant.0 alive j w.same w.bodies w.begun (search rules) w.honest.1 SyncBody is (steps.body_leaves D.honest D.bytes D.unsynced D.moment D.crash_states_since m.counts_now c.self.invariant.0 alive j w.same w.any_moment w.apart is), steps.held_on D.honest D.moment c.self.inside.journal j c.self.inside.other.start c.self.inside.held (λ e. let no : SyncBody ≡ Open = sym is ∙ e in absurd (cc no)) c.self.invariant.1, c.self.invariant.2)
+    (steps.broke D.honest D.bytes D.unsynced D.moment D.crash_states_since m.counts_now c.self.invariant.0 alive j w.kept.same w.bodies w.begun (search rules) w.kept.honest.1 SyncBody is (steps.body_leaves D.honest D.bytes D.unsynced D.moment D.crash_states_since m.counts_now c.self.invariant.0 alive j w.kept.same w.kept.any_moment w.kept.apart is), steps.held_on D.honest D.moment c.self.inside.journal j c.self.inside.other.start c.self.inside.held (λ e. let no : SyncBody ≡ Open = sym is ∙ e in absurd (cc no)) c.self.invariant.1, c.self.invariant.2)
 
 pub returns-in_err-synced-clause-any_moment : goal.returns-in_err-synced-clause-any_moment
 returns-in_err-synced-clause-any_moment g c =
     let D = g.D.Disk in let m = g.met.D.Disk in let w = c.sync.ensures in let j = c.sync.new.self in
     let alive = subst (λ (k : SlotsState g.row.D.Denot). k.journal.phase ≢ Failed) (sym c.self.view_is) c.requires.live in
     let is : step_of c.self.inside.held ≡ SyncBody = ap (λ (k : SlotsState g.row.D.Denot). k.step) c.self.view_is ∙ c.requires.step in
-    rw (← c.self.view_is) (steps.body_leaves D.honest D.bytes D.unsynced D.moment D.crash_states_since m.counts_now c.self.invariant.0 alive j w.same w.any_moment w.apart is)
+    rw (← c.self.view_is) (steps.body_leaves D.honest D.bytes D.unsynced D.moment D.crash_states_since m.counts_now c.self.invariant.0 alive j w.kept.same w.kept.any_moment w.kept.apart is)
 
 pub returns-in_err-synced-clause-apart : goal.returns-in_err-synced-clause-apart
 returns-in_err-synced-clause-apart g c =
     let D = g.D.Disk in let m = g.met.D.Disk in let w = c.sync.ensures in let j = c.sync.new.self in
     let alive = subst (λ (k : SlotsState g.row.D.Denot). k.journal.phase ≢ Failed) (sym c.self.view_is) c.requires.live in
     let is : step_of c.self.inside.held ≡ SyncBody = ap (λ (k : SlotsState g.row.D.Denot). k.step) c.self.view_is ∙ c.requires.step in
-    rw (← c.self.view_is) (λ h. steps.sync_frame D.honest D.bytes D.unsynced D.moment D.crash_states_since m.counts_now c.self.invariant.0 alive j w.same (w.apart h))
+    rw (← c.self.view_is) (λ h. steps.sync_frame D.honest D.bytes D.unsynced D.moment D.crash_states_since m.counts_now c.self.invariant.0 alive j w.kept.same (w.kept.apart h))
 
 pub invariant_of-self-2 : goal.invariant_of-self-2
 invariant_of-self-2 g c =
     let D = g.D.Disk in let m = g.met.D.Disk in let w = c.sync.ensures in let j = c.sync.new.self in
     let alive = subst (λ (k : SlotsState g.row.D.Denot). k.journal.phase ≢ Failed) (sym c.self.view_is) c.requires.live in
     let is : step_of c.self.inside.held ≡ SyncBody = ap (λ (k : SlotsState g.row.D.Denot). k.step) c.self.view_is ∙ c.requires.step in
-    (steps.body_synced D.honest D.bytes D.unsynced D.moment D.crash_states_since m.counts_now c.self.invariant.0 alive j w.same w.any_moment w.apart m.present w.honest.1 (λ h. (w.same_bytes h, c.in_ok-synced.ensures.durable h)) (search rules) w.begun is, search rules, c.self.invariant.2)
+    (steps.body_synced D.honest D.bytes D.unsynced D.moment D.crash_states_since m.counts_now c.self.invariant.0 alive j w.kept.same w.kept.any_moment w.kept.apart m.present w.kept.honest.1 (λ h. (w.same_bytes h, c.in_ok-synced.ensures.durable h)) (search rules) w.begun is, search rules, c.self.invariant.2)
 
 pub returns-clause-any_moment : goal.returns-clause-any_moment
 returns-clause-any_moment g c =
     let D = g.D.Disk in let m = g.met.D.Disk in let w = c.sync.ensures in let j = c.sync.new.self in
     let alive = subst (λ (k : SlotsState g.row.D.Denot). k.journal.phase ≢ Failed) (sym c.self.view_is) c.requires.live in
     let is : step_of c.self.inside.held ≡ SyncBody = ap (λ (k : SlotsState g.row.D.Denot). k.step) c.self.view_is ∙ c.requires.step in
-    rw (← c.self.view_is) (steps.body_leaves D.honest D.bytes D.unsynced D.moment D.crash_states_since m.counts_now c.self.invariant.0 alive j w.same w.any_moment w.apart is)
+    rw (← c.self.view_is) (steps.body_leaves D.honest D.bytes D.unsynced D.moment D.crash_states_since m.counts_now c.self.invariant.0 alive j w.kept.same w.kept.any_moment w.kept.apart is)
 
 pub returns-clause-apart : goal.returns-clause-apart
 returns-clause-apart g c =
     let D = g.D.Disk in let m = g.met.D.Disk in let w = c.sync.ensures in let j = c.sync.new.self in
     let alive = subst (λ (k : SlotsState g.row.D.Denot). k.journal.phase ≢ Failed) (sym c.self.view_is) c.requires.live in
     let is : step_of c.self.inside.held ≡ SyncBody = ap (λ (k : SlotsState g.row.D.Denot). k.step) c.self.view_is ∙ c.requires.step in
-    rw (← c.self.view_is) (λ h. steps.sync_frame D.honest D.bytes D.unsynced D.moment D.crash_states_since m.counts_now c.self.invariant.0 alive j w.same (w.apart h))
+    rw (← c.self.view_is) (λ h. steps.sync_frame D.honest D.bytes D.unsynced D.moment D.crash_states_since m.counts_now c.self.invariant.0 alive j w.kept.same (w.kept.apart h))

@@ -15,9 +15,9 @@ invariant_of-self g c =
     let at : s.journal.phase ≡ Staged = ap (λ (k : SlotsState g.row.D.Denot). k.journal.phase) c.self.view_is ∙ c.requires.staged in
     let alive : s.journal.phase ≢ Failed = λ e. let no : Staged ≡ Failed = sym at ∙ e in absurd (cc no) in
     let early = subst (λ (k : SlotsState g.row.D.Denot). IsEarly k.step) (sym c.self.view_is) c.requires.early in
-    let leave : D.honest s.journal.disk → LeavesOnly D.moment D.crash_states_since s.journal.disk j.disk (λ o. HasChain s.journal.slot s.journal.front s.journal.sealed o) = λ h. subst (λ (p : Phase). LeavesOnly D.moment D.crash_states_since s.journal.disk j.disk (λ o. ClaimsAt p s.journal.begun s.journal.slot s.journal.front s.journal.sealed s.journal.staged o)) at (w.any_moment h) in
+    let leave : D.honest s.journal.disk → LeavesOnly D.moment D.crash_states_since s.journal.disk j.disk (λ o. HasChain s.journal.slot s.journal.front s.journal.sealed o) = λ h. subst (λ (p : Phase). LeavesOnly D.moment D.crash_states_since s.journal.disk j.disk (λ o. ClaimsAt p s.journal.begun s.journal.slot s.journal.front s.journal.sealed s.journal.staged o)) at (w.kept.any_moment h) in
     let begun : s.journal.begun ≡ false = sym c.self.invariant.0.told ∙ ap (λ (p : Phase). has_begun p s.journal.begun) at in
-    (steps.early_broke D.honest D.bytes D.unsynced D.moment D.crash_states_since m.counts_now c.self.invariant.0 alive j w.same ((λ o. HasChain s.journal.slot s.journal.front s.journal.sealed o)) (λ o e. rw (w.begun ∙ begun, w.bodies.0) e) (search rules) early w.honest.1 (steps.early_rules D.honest D.bytes D.unsynced D.moment D.crash_states_since m.counts_now c.self.invariant.0 alive j w.same early (steps.Always D.honest D.bytes D.unsynced D.moment D.crash_states_since m.counts_now c.self.invariant.0 alive j w.same) (steps.always_inside D.honest D.bytes D.unsynced D.moment D.crash_states_since m.counts_now c.self.invariant.0 alive j w.same) ((λ o. HasChain s.journal.slot s.journal.front s.journal.sealed o)) (steps.sealed_front D.honest D.bytes D.unsynced D.moment D.crash_states_since m.counts_now c.self.invariant.0 alive j w.same) leave w.apart), steps.held_on D.honest D.moment c.self.inside.journal j c.self.inside.other.start c.self.inside.held (steps.early_not_open (step_of c.self.inside.held) early) c.self.invariant.1, c.self.invariant.2)
+    (steps.early_broke D.honest D.bytes D.unsynced D.moment D.crash_states_since m.counts_now c.self.invariant.0 alive j w.kept.same ((λ o. HasChain s.journal.slot s.journal.front s.journal.sealed o)) (λ o e. rw (w.begun ∙ begun, w.bodies.0) e) (search rules) early w.kept.honest.1 (steps.early_rules D.honest D.bytes D.unsynced D.moment D.crash_states_since m.counts_now c.self.invariant.0 alive j w.kept.same early (steps.Always D.honest D.bytes D.unsynced D.moment D.crash_states_since m.counts_now c.self.invariant.0 alive j w.kept.same) (steps.always_inside D.honest D.bytes D.unsynced D.moment D.crash_states_since m.counts_now c.self.invariant.0 alive j w.kept.same) ((λ o. HasChain s.journal.slot s.journal.front s.journal.sealed o)) (steps.sealed_front D.honest D.bytes D.unsynced D.moment D.crash_states_since m.counts_now c.self.invariant.0 alive j w.kept.same) leave w.kept.apart), steps.held_on D.honest D.moment c.self.inside.journal j c.self.inside.other.start c.self.inside.held (steps.early_not_open (step_of c.self.inside.held) early) c.self.invariant.1, c.self.invariant.2)
 
 pub returns-in_err-synced-clause-any_moment : goal.returns-in_err-synced-clause-any_moment
 returns-in_err-synced-clause-any_moment g c =
@@ -25,8 +25,8 @@ returns-in_err-synced-clause-any_moment g c =
     let at : s.journal.phase ≡ Staged = ap (λ (k : SlotsState g.row.D.Denot). k.journal.phase) c.self.view_is ∙ c.requires.staged in
     let alive : s.journal.phase ≢ Failed = λ e. let no : Staged ≡ Failed = sym at ∙ e in absurd (cc no) in
     let early = subst (λ (k : SlotsState g.row.D.Denot). IsEarly k.step) (sym c.self.view_is) c.requires.early in
-    let leave : D.honest s.journal.disk → LeavesOnly D.moment D.crash_states_since s.journal.disk j.disk (λ o. HasChain s.journal.slot s.journal.front s.journal.sealed o) = λ h. subst (λ (p : Phase). LeavesOnly D.moment D.crash_states_since s.journal.disk j.disk (λ o. ClaimsAt p s.journal.begun s.journal.slot s.journal.front s.journal.sealed s.journal.staged o)) at (w.any_moment h) in
-    rw (← c.self.view_is) (steps.early_rules D.honest D.bytes D.unsynced D.moment D.crash_states_since m.counts_now c.self.invariant.0 alive j w.same early (steps.Always D.honest D.bytes D.unsynced D.moment D.crash_states_since m.counts_now c.self.invariant.0 alive j w.same) (steps.always_inside D.honest D.bytes D.unsynced D.moment D.crash_states_since m.counts_now c.self.invariant.0 alive j w.same) ((λ o. HasChain s.journal.slot s.journal.front s.journal.sealed o)) (steps.sealed_front D.honest D.bytes D.unsynced D.moment D.crash_states_since m.counts_now c.self.invariant.0 alive j w.same) leave w.apart)
+    let leave : D.honest s.journal.disk → LeavesOnly D.moment D.crash_states_since s.journal.disk j.disk (λ o. HasChain s.journal.slot s.journal.front s.journal.sealed o) = λ h. subst (λ (p : Phase). LeavesOnly D.moment D.crash_states_since s.journal.disk j.disk (λ o. ClaimsAt p s.journal.begun s.journal.slot s.journal.front s.journal.sealed s.journal.staged o)) at (w.kept.any_moment h) in
+    rw (← c.self.view_is) (steps.early_rules D.honest D.bytes D.unsynced D.moment D.crash_states_since m.counts_now c.self.invariant.0 alive j w.kept.same early (steps.Always D.honest D.bytes D.unsynced D.moment D.crash_states_since m.counts_now c.self.invariant.0 alive j w.kept.same) (steps.always_inside D.honest D.bytes D.unsynced D.moment D.crash_states_since m.counts_now c.self.invariant.0 alive j w.kept.same) ((λ o. HasChain s.journal.slot s.journal.front s.journal.sealed o)) (steps.sealed_front D.honest D.bytes D.unsynced D.moment D.crash_states_since m.counts_now c.self.invariant.0 alive j w.kept.same) leave w.kept.apart)
 
 pub returns-in_err-synced-clause-apart : goal.returns-in_err-synced-clause-apart
 returns-in_err-synced-clause-apart g c =
@@ -34,8 +34,8 @@ returns-in_err-synced-clause-apart g c =
     let at : s.journal.phase ≡ Staged = ap (λ (k : SlotsState g.row.D.Denot). k.journal.phase) c.self.view_is ∙ c.requires.staged in
     let alive : s.journal.phase ≢ Failed = λ e. let no : Staged ≡ Failed = sym at ∙ e in absurd (cc no) in
     let early = subst (λ (k : SlotsState g.row.D.Denot). IsEarly k.step) (sym c.self.view_is) c.requires.early in
-    let leave : D.honest s.journal.disk → LeavesOnly D.moment D.crash_states_since s.journal.disk j.disk (λ o. HasChain s.journal.slot s.journal.front s.journal.sealed o) = λ h. subst (λ (p : Phase). LeavesOnly D.moment D.crash_states_since s.journal.disk j.disk (λ o. ClaimsAt p s.journal.begun s.journal.slot s.journal.front s.journal.sealed s.journal.staged o)) at (w.any_moment h) in
-    rw (← c.self.view_is) (λ h. steps.sync_frame D.honest D.bytes D.unsynced D.moment D.crash_states_since m.counts_now c.self.invariant.0 alive j w.same (w.apart h))
+    let leave : D.honest s.journal.disk → LeavesOnly D.moment D.crash_states_since s.journal.disk j.disk (λ o. HasChain s.journal.slot s.journal.front s.journal.sealed o) = λ h. subst (λ (p : Phase). LeavesOnly D.moment D.crash_states_since s.journal.disk j.disk (λ o. ClaimsAt p s.journal.begun s.journal.slot s.journal.front s.journal.sealed s.journal.staged o)) at (w.kept.any_moment h) in
+    rw (← c.self.view_is) (λ h. steps.sync_frame D.honest D.bytes D.unsynced D.moment D.crash_states_since m.counts_now c.self.invariant.0 alive j w.kept.same (w.kept.apart h))
 
 pub invariant_of-self-2 : goal.invariant_of-self-2
 invariant_of-self-2 g c =
@@ -43,13 +43,13 @@ invariant_of-self-2 g c =
     let at : s.journal.phase ≡ Staged = ap (λ (k : SlotsState g.row.D.Denot). k.journal.phase) c.self.view_is ∙ c.requires.staged in
     let alive : s.journal.phase ≢ Failed = λ e. let no : Staged ≡ Failed = sym at ∙ e in absurd (cc no) in
     let early = subst (λ (k : SlotsState g.row.D.Denot). IsEarly k.step) (sym c.self.view_is) c.requires.early in
-    let leave : D.honest s.journal.disk → LeavesOnly D.moment D.crash_states_since s.journal.disk j.disk (λ o. HasChain s.journal.slot s.journal.front s.journal.sealed o) = λ h. subst (λ (p : Phase). LeavesOnly D.moment D.crash_states_since s.journal.disk j.disk (λ o. ClaimsAt p s.journal.begun s.journal.slot s.journal.front s.journal.sealed s.journal.staged o)) at (w.any_moment h) in
+    let leave : D.honest s.journal.disk → LeavesOnly D.moment D.crash_states_since s.journal.disk j.disk (λ o. HasChain s.journal.slot s.journal.front s.journal.sealed o) = λ h. subst (λ (p : Phase). LeavesOnly D.moment D.crash_states_since s.journal.disk j.disk (λ o. ClaimsAt p s.journal.begun s.journal.slot s.journal.front s.journal.sealed s.journal.staged o)) at (w.kept.any_moment h) in
     let k = c.body_synced.new.self in let v = c.body_synced.ensures in let e = v.disk in
-    let same2 : SameSlot s.journal k = (v.same.0 ∙ w.same.0, v.same.1 ∙ w.same.1, v.same.2 ∙ w.same.2, v.same.3 ∙ w.same.3) in
+    let same2 : SameSlot s.journal k = (v.same.0 ∙ w.kept.same.0, v.same.1 ∙ w.kept.same.1, v.same.2 ∙ w.kept.same.2, v.same.3 ∙ w.kept.same.3) in
     let leave2 : D.honest s.journal.disk → LeavesOnly D.moment D.crash_states_since s.journal.disk k.disk (λ o. HasChain s.journal.slot s.journal.front s.journal.sealed o) = λ h. subst (λ (d : g.row.D.Denot). LeavesOnly D.moment D.crash_states_since s.journal.disk d (λ o. HasChain s.journal.slot s.journal.front s.journal.sealed o)) (sym e) (leave h) in
-    let frame2 : D.honest s.journal.disk → KeepsFirm D.moment D.crash_states_since D.unsynced s.journal.disk k.disk (λ from n. Unit {0}) = λ h. subst (λ (d : g.row.D.Denot). KeepsFirm D.moment D.crash_states_since D.unsynced s.journal.disk d (λ from n. Unit {0})) (sym e) (w.apart h) in
+    let frame2 : D.honest s.journal.disk → KeepsFirm D.moment D.crash_states_since D.unsynced s.journal.disk k.disk (λ from n. Unit {0}) = λ h. subst (λ (d : g.row.D.Denot). KeepsFirm D.moment D.crash_states_since D.unsynced s.journal.disk d (λ from n. Unit {0})) (sym e) (w.kept.apart h) in
     let held2 : D.honest s.journal.disk → KeepsHeld D.bytes s.journal.disk k.disk (λ from n. Unit {0}) = λ h from t out p. subst (λ (d : g.row.D.Denot). Holds (D.bytes d) from t) (sym e) (subst (λ (b : List ℕ). Holds b from t) (sym (w.same_bytes h)) p) in
-    let back : D.honest k.disk → D.honest s.journal.disk = λ h. w.honest.1 (subst D.honest e h) in
+    let back : D.honest k.disk → D.honest s.journal.disk = λ h. w.kept.honest.1 (subst D.honest e h) in
     let told : has_begun k.phase k.begun ≡ k.begun = rw (v.phase.0, v.phase.1) refl in
     (steps.early_done D.honest D.bytes D.unsynced D.moment D.crash_states_since m.counts_now c.self.invariant.0 alive k same2 early (λ x. let no : BodySynced ≡ Failed = sym v.phase.0 ∙ x in absurd (cc no)) told back (λ from n. Unit {0}) (λ from n low high. tt) frame2 held2, steps.held_on D.honest D.moment c.self.inside.journal k c.self.inside.other.start c.self.inside.held (steps.early_not_open (step_of c.self.inside.held) early) c.self.invariant.1, c.self.invariant.2)
 
@@ -59,14 +59,14 @@ returns-clause-any_moment g c =
     let at : s.journal.phase ≡ Staged = ap (λ (k : SlotsState g.row.D.Denot). k.journal.phase) c.self.view_is ∙ c.requires.staged in
     let alive : s.journal.phase ≢ Failed = λ e. let no : Staged ≡ Failed = sym at ∙ e in absurd (cc no) in
     let early = subst (λ (k : SlotsState g.row.D.Denot). IsEarly k.step) (sym c.self.view_is) c.requires.early in
-    let leave : D.honest s.journal.disk → LeavesOnly D.moment D.crash_states_since s.journal.disk j.disk (λ o. HasChain s.journal.slot s.journal.front s.journal.sealed o) = λ h. subst (λ (p : Phase). LeavesOnly D.moment D.crash_states_since s.journal.disk j.disk (λ o. ClaimsAt p s.journal.begun s.journal.slot s.journal.front s.journal.sealed s.journal.staged o)) at (w.any_moment h) in
+    let leave : D.honest s.journal.disk → LeavesOnly D.moment D.crash_states_since s.journal.disk j.disk (λ o. HasChain s.journal.slot s.journal.front s.journal.sealed o) = λ h. subst (λ (p : Phase). LeavesOnly D.moment D.crash_states_since s.journal.disk j.disk (λ o. ClaimsAt p s.journal.begun s.journal.slot s.journal.front s.journal.sealed s.journal.staged o)) at (w.kept.any_moment h) in
     let k = c.body_synced.new.self in let v = c.body_synced.ensures in let e = v.disk in
-    let same2 : SameSlot s.journal k = (v.same.0 ∙ w.same.0, v.same.1 ∙ w.same.1, v.same.2 ∙ w.same.2, v.same.3 ∙ w.same.3) in
+    let same2 : SameSlot s.journal k = (v.same.0 ∙ w.kept.same.0, v.same.1 ∙ w.kept.same.1, v.same.2 ∙ w.kept.same.2, v.same.3 ∙ w.kept.same.3) in
     let leave2 : D.honest s.journal.disk → LeavesOnly D.moment D.crash_states_since s.journal.disk k.disk (λ o. HasChain s.journal.slot s.journal.front s.journal.sealed o) = λ h. subst (λ (d : g.row.D.Denot). LeavesOnly D.moment D.crash_states_since s.journal.disk d (λ o. HasChain s.journal.slot s.journal.front s.journal.sealed o)) (sym e) (leave h) in
-    let frame2 : D.honest s.journal.disk → KeepsFirm D.moment D.crash_states_since D.unsynced s.journal.disk k.disk (λ from n. Unit {0}) = λ h. subst (λ (d : g.row.D.Denot). KeepsFirm D.moment D.crash_states_since D.unsynced s.journal.disk d (λ from n. Unit {0})) (sym e) (w.apart h) in
+    let frame2 : D.honest s.journal.disk → KeepsFirm D.moment D.crash_states_since D.unsynced s.journal.disk k.disk (λ from n. Unit {0}) = λ h. subst (λ (d : g.row.D.Denot). KeepsFirm D.moment D.crash_states_since D.unsynced s.journal.disk d (λ from n. Unit {0})) (sym e) (w.kept.apart h) in
     let held2 : D.honest s.journal.disk → KeepsHeld D.bytes s.journal.disk k.disk (λ from n. Unit {0}) = λ h from t out p. subst (λ (d : g.row.D.Denot). Holds (D.bytes d) from t) (sym e) (subst (λ (b : List ℕ). Holds b from t) (sym (w.same_bytes h)) p) in
-    let back : D.honest k.disk → D.honest s.journal.disk = λ h. w.honest.1 (subst D.honest e h) in
-    rw (← c.self.view_is) (steps.early_rules D.honest D.bytes D.unsynced D.moment D.crash_states_since m.counts_now c.self.invariant.0 alive k same2 early (steps.Always D.honest D.bytes D.unsynced D.moment D.crash_states_since m.counts_now c.self.invariant.0 alive k same2) (steps.always_inside D.honest D.bytes D.unsynced D.moment D.crash_states_since m.counts_now c.self.invariant.0 alive k same2) ((λ o. HasChain s.journal.slot s.journal.front s.journal.sealed o)) (steps.sealed_front D.honest D.bytes D.unsynced D.moment D.crash_states_since m.counts_now c.self.invariant.0 alive j w.same) leave2 frame2)
+    let back : D.honest k.disk → D.honest s.journal.disk = λ h. w.kept.honest.1 (subst D.honest e h) in
+    rw (← c.self.view_is) (steps.early_rules D.honest D.bytes D.unsynced D.moment D.crash_states_since m.counts_now c.self.invariant.0 alive k same2 early (steps.Always D.honest D.bytes D.unsynced D.moment D.crash_states_since m.counts_now c.self.invariant.0 alive k same2) (steps.always_inside D.honest D.bytes D.unsynced D.moment D.crash_states_since m.counts_now c.self.invariant.0 alive k same2) ((λ o. HasChain s.journal.slot s.journal.front s.journal.sealed o)) (steps.sealed_front D.honest D.bytes D.unsynced D.moment D.crash_states_since m.counts_now c.self.invariant.0 alive j w.kept.same) leave2 frame2)
 
 pub returns-clause-apart : goal.returns-clause-apart
 returns-clause-apart g c =
@@ -74,11 +74,11 @@ returns-clause-apart g c =
     let at : s.journal.phase ≡ Staged = ap (λ (k : SlotsState g.row.D.Denot). k.journal.phase) c.self.view_is ∙ c.requires.staged in
     let alive : s.journal.phase ≢ Failed = λ e. let no : Staged ≡ Failed = sym at ∙ e in absurd (cc no) in
     let early = subst (λ (k : SlotsState g.row.D.Denot). IsEarly k.step) (sym c.self.view_is) c.requires.early in
-    let leave : D.honest s.journal.disk → LeavesOnly D.moment D.crash_states_since s.journal.disk j.disk (λ o. HasChain s.journal.slot s.journal.front s.journal.sealed o) = λ h. subst (λ (p : Phase). LeavesOnly D.moment D.crash_states_since s.journal.disk j.disk (λ o. ClaimsAt p s.journal.begun s.journal.slot s.journal.front s.journal.sealed s.journal.staged o)) at (w.any_moment h) in
+    let leave : D.honest s.journal.disk → LeavesOnly D.moment D.crash_states_since s.journal.disk j.disk (λ o. HasChain s.journal.slot s.journal.front s.journal.sealed o) = λ h. subst (λ (p : Phase). LeavesOnly D.moment D.crash_states_since s.journal.disk j.disk (λ o. ClaimsAt p s.journal.begun s.journal.slot s.journal.front s.journal.sealed s.journal.staged o)) at (w.kept.any_moment h) in
     let k = c.body_synced.new.self in let v = c.body_synced.ensures in let e = v.disk in
-    let same2 : SameSlot s.journal k = (v.same.0 ∙ w.same.0, v.same.1 ∙ w.same.1, v.same.2 ∙ w.same.2, v.same.3 ∙ w.same.3) in
+    let same2 : SameSlot s.journal k = (v.same.0 ∙ w.kept.same.0, v.same.1 ∙ w.kept.same.1, v.same.2 ∙ w.kept.same.2, v.same.3 ∙ w.kept.same.3) in
     let leave2 : D.honest s.journal.disk → LeavesOnly D.moment D.crash_states_since s.journal.disk k.disk (λ o. HasChain s.journal.slot s.journal.front s.journal.sealed o) = λ h. subst (λ (d : g.row.D.Denot). LeavesOnly D.moment D.crash_states_since s.journal.disk d (λ o. HasChain s.journal.slot s.journal.front s.journal.sealed o)) (sym e) (leave h) in
-    let frame2 : D.honest s.journal.disk → KeepsFirm D.moment D.crash_states_since D.unsynced s.journal.disk k.disk (λ from n. Unit {0}) = λ h. subst (λ (d : g.row.D.Denot). KeepsFirm D.moment D.crash_states_since D.unsynced s.journal.disk d (λ from n. Unit {0})) (sym e) (w.apart h) in
+    let frame2 : D.honest s.journal.disk → KeepsFirm D.moment D.crash_states_since D.unsynced s.journal.disk k.disk (λ from n. Unit {0}) = λ h. subst (λ (d : g.row.D.Denot). KeepsFirm D.moment D.crash_states_since D.unsynced s.journal.disk d (λ from n. Unit {0})) (sym e) (w.kept.apart h) in
     let held2 : D.honest s.journal.disk → KeepsHeld D.bytes s.journal.disk k.disk (λ from n. Unit {0}) = λ h from t out p. subst (λ (d : g.row.D.Denot). Holds (D.bytes d) from t) (sym e) (subst (λ (b : List ℕ). Holds b from t) (sym (w.same_bytes h)) p) in
-    let back : D.honest k.disk → D.honest s.journal.disk = λ h. w.honest.1 (subst D.honest e h) in
+    let back : D.honest k.disk → D.honest s.journal.disk = λ h. w.kept.honest.1 (subst D.honest e h) in
     rw (← c.self.view_is) (λ h. steps.sync_frame D.honest D.bytes D.unsynced D.moment D.crash_states_since m.counts_now c.self.invariant.0 alive k same2 (frame2 h))

@@ -15,7 +15,7 @@ invariant_of-self g c =
     let D = g.D.Disk in let m = g.met.D.Disk in let w = c.write_outside.ensures in let j = c.write_outside.new.self in
     let alive = subst (λ (k : SlotsState g.row.D.Denot). k.journal.phase ≢ Failed) (sym c.self.view_is) c.requires.live in
     let is : step_of c.self.inside.held ≡ Part = ap (λ (k : SlotsState g.row.D.Denot). k.step) c.self.view_is ∙ c.requires.step in
-    let part = steps.plan_is D.honest D.bytes D.unsynced D.moment D.crash_states_since m.counts_now c.self.invariant.0 alive j w.same Part is in
+    let part = steps.plan_is D.honest D.bytes D.unsynced D.moment D.crash_states_since m.counts_now c.self.invariant.0 alive j w.kept.same Part is in
     let some = part.1.some in let short = part.1.part in let min = c.min.ensures in
     let q = c.self.inside in let z = c.self.invariant.2 in let image = z.image in let past = z.part in let there = there_is q.planned.items q.ended z.there part.0.bytes_are in
     let size : length (slice_range q.planned.items 0 (q.ended + 1)) ≡ q.ended + 1 = front_long q.planned.items (q.ended + 1) (omega (arith, there)) in
@@ -25,14 +25,14 @@ invariant_of-self g c =
     let le : c.self.inside.done ≤ c.self.inside.done + c.min.result = omega arith in
     let within : q.done + c.min.result < length (slice_range q.planned.items 0 (q.ended + 1)) = omega (arith, size, to_head, image) in
     let within2 : q.done + c.min.result ≤ length (slice_range q.planned.items 0 (q.ended + 1)) = omega (arith, within) in
-    (steps.broke D.honest D.bytes D.unsynced D.moment D.crash_states_since m.counts_now c.self.invariant.0 alive j w.same w.bodies w.begun (search rules) w.honest.1 Part is (steps.next_leaves D.honest D.bytes D.unsynced D.moment D.crash_states_since m.counts_now c.self.invariant.0 alive j w.same (c.self.inside.done + c.min.result) n le within2 w.any_moment w.apart is), steps.held_on D.honest D.moment c.self.inside.journal j c.self.inside.other.start c.self.inside.held (λ e. let no : Part ≡ Open = sym is ∙ e in absurd (cc no)) c.self.invariant.1, c.self.invariant.2)
+    (steps.broke D.honest D.bytes D.unsynced D.moment D.crash_states_since m.counts_now c.self.invariant.0 alive j w.kept.same w.bodies w.begun (search rules) w.kept.honest.1 Part is (steps.next_leaves D.honest D.bytes D.unsynced D.moment D.crash_states_since m.counts_now c.self.invariant.0 alive j w.kept.same (c.self.inside.done + c.min.result) n le within2 w.kept.any_moment w.kept.apart is), steps.held_on D.honest D.moment c.self.inside.journal j c.self.inside.other.start c.self.inside.held (λ e. let no : Part ≡ Open = sym is ∙ e in absurd (cc no)) c.self.invariant.1, c.self.invariant.2)
 
 pub returns-in_err-write_outside-clause-any_moment : goal.returns-in_err-write_outside-clause-any_moment
 returns-in_err-write_outside-clause-any_moment g c =
     let D = g.D.Disk in let m = g.met.D.Disk in let w = c.write_outside.ensures in let j = c.write_outside.new.self in
     let alive = subst (λ (k : SlotsState g.row.D.Denot). k.journal.phase ≢ Failed) (sym c.self.view_is) c.requires.live in
     let is : step_of c.self.inside.held ≡ Part = ap (λ (k : SlotsState g.row.D.Denot). k.step) c.self.view_is ∙ c.requires.step in
-    let part = steps.plan_is D.honest D.bytes D.unsynced D.moment D.crash_states_since m.counts_now c.self.invariant.0 alive j w.same Part is in
+    let part = steps.plan_is D.honest D.bytes D.unsynced D.moment D.crash_states_since m.counts_now c.self.invariant.0 alive j w.kept.same Part is in
     let some = part.1.some in let short = part.1.part in let min = c.min.ensures in
     let q = c.self.inside in let z = c.self.invariant.2 in let image = z.image in let past = z.part in let there = there_is q.planned.items q.ended z.there part.0.bytes_are in
     let size : length (slice_range q.planned.items 0 (q.ended + 1)) ≡ q.ended + 1 = front_long q.planned.items (q.ended + 1) (omega (arith, there)) in
@@ -42,14 +42,14 @@ returns-in_err-write_outside-clause-any_moment g c =
     let le : c.self.inside.done ≤ c.self.inside.done + c.min.result = omega arith in
     let within : q.done + c.min.result < length (slice_range q.planned.items 0 (q.ended + 1)) = omega (arith, size, to_head, image) in
     let within2 : q.done + c.min.result ≤ length (slice_range q.planned.items 0 (q.ended + 1)) = omega (arith, within) in
-    rw (← c.self.view_is) (steps.next_leaves D.honest D.bytes D.unsynced D.moment D.crash_states_since m.counts_now c.self.invariant.0 alive j w.same (c.self.inside.done + c.min.result) n le within2 w.any_moment w.apart is)
+    rw (← c.self.view_is) (steps.next_leaves D.honest D.bytes D.unsynced D.moment D.crash_states_since m.counts_now c.self.invariant.0 alive j w.kept.same (c.self.inside.done + c.min.result) n le within2 w.kept.any_moment w.kept.apart is)
 
 pub returns-in_err-write_outside-clause-apart : goal.returns-in_err-write_outside-clause-apart
 returns-in_err-write_outside-clause-apart g c =
     let D = g.D.Disk in let m = g.met.D.Disk in let w = c.write_outside.ensures in let j = c.write_outside.new.self in
     let alive = subst (λ (k : SlotsState g.row.D.Denot). k.journal.phase ≢ Failed) (sym c.self.view_is) c.requires.live in
     let is : step_of c.self.inside.held ≡ Part = ap (λ (k : SlotsState g.row.D.Denot). k.step) c.self.view_is ∙ c.requires.step in
-    let part = steps.plan_is D.honest D.bytes D.unsynced D.moment D.crash_states_since m.counts_now c.self.invariant.0 alive j w.same Part is in
+    let part = steps.plan_is D.honest D.bytes D.unsynced D.moment D.crash_states_since m.counts_now c.self.invariant.0 alive j w.kept.same Part is in
     let some = part.1.some in let short = part.1.part in let min = c.min.ensures in
     let q = c.self.inside in let z = c.self.invariant.2 in let image = z.image in let past = z.part in let there = there_is q.planned.items q.ended z.there part.0.bytes_are in
     let size : length (slice_range q.planned.items 0 (q.ended + 1)) ≡ q.ended + 1 = front_long q.planned.items (q.ended + 1) (omega (arith, there)) in
@@ -59,14 +59,14 @@ returns-in_err-write_outside-clause-apart g c =
     let le : c.self.inside.done ≤ c.self.inside.done + c.min.result = omega arith in
     let within : q.done + c.min.result < length (slice_range q.planned.items 0 (q.ended + 1)) = omega (arith, size, to_head, image) in
     let within2 : q.done + c.min.result ≤ length (slice_range q.planned.items 0 (q.ended + 1)) = omega (arith, within) in
-    rw (← c.self.view_is) (λ h. steps.part_frame D.honest D.bytes D.unsynced D.moment D.crash_states_since m.counts_now c.self.invariant.0 alive j w.same (c.self.inside.other.start + c.self.inside.done) n (omega arith) (omega (arith, fits, len_is, size, within2)) (w.apart h))
+    rw (← c.self.view_is) (λ h. steps.part_frame D.honest D.bytes D.unsynced D.moment D.crash_states_since m.counts_now c.self.invariant.0 alive j w.kept.same (c.self.inside.other.start + c.self.inside.done) n (omega arith) (omega (arith, fits, len_is, size, within2)) (w.kept.apart h))
 
 pub invariant_of-self-2 : goal.invariant_of-self-2
 invariant_of-self-2 g c =
     let D = g.D.Disk in let m = g.met.D.Disk in let w = c.write_outside.ensures in let j = c.write_outside.new.self in
     let alive = subst (λ (k : SlotsState g.row.D.Denot). k.journal.phase ≢ Failed) (sym c.self.view_is) c.requires.live in
     let is : step_of c.self.inside.held ≡ Part = ap (λ (k : SlotsState g.row.D.Denot). k.step) c.self.view_is ∙ c.requires.step in
-    let part = steps.plan_is D.honest D.bytes D.unsynced D.moment D.crash_states_since m.counts_now c.self.invariant.0 alive j w.same Part is in
+    let part = steps.plan_is D.honest D.bytes D.unsynced D.moment D.crash_states_since m.counts_now c.self.invariant.0 alive j w.kept.same Part is in
     let some = part.1.some in let short = part.1.part in let min = c.min.ensures in
     let q = c.self.inside in let z = c.self.invariant.2 in let image = z.image in let past = z.part in let there = there_is q.planned.items q.ended z.there part.0.bytes_are in
     let size : length (slice_range q.planned.items 0 (q.ended + 1)) ≡ q.ended + 1 = front_long q.planned.items (q.ended + 1) (omega (arith, there)) in
@@ -76,14 +76,14 @@ invariant_of-self-2 g c =
     let le : c.self.inside.done ≤ c.self.inside.done + c.min.result = omega arith in
     let within : q.done + c.min.result < length (slice_range q.planned.items 0 (q.ended + 1)) = omega (arith, size, to_head, image) in
     let within2 : q.done + c.min.result ≤ length (slice_range q.planned.items 0 (q.ended + 1)) = omega (arith, within) in
-    (steps.next_written D.honest D.bytes D.unsynced D.moment D.crash_states_since m.counts_now c.self.invariant.0 alive j w.same (c.self.inside.done + c.min.result) n le within2 w.any_moment w.apart is Tail (q.head - (q.done + c.min.result)) (inr refl) within (search rules) w.begun w.honest.1 (λ h. subst (λ (t : List ℕ). Written (D.bytes q.journal.disk) (q.other.start + q.done) t (D.bytes j.disk)) (c.piece.ensures.bytes ∙ sym (range_of_front q.planned.items q.done (q.done + c.min.result) (q.ended + 1) le (omega (arith, to_head, image)) (omega (arith, there)))) (c.in_ok-write_outside.ensures.written h).0), tt, record { there = z.there; image = image; part = to_head })
+    (steps.next_written D.honest D.bytes D.unsynced D.moment D.crash_states_since m.counts_now c.self.invariant.0 alive j w.kept.same (c.self.inside.done + c.min.result) n le within2 w.kept.any_moment w.kept.apart is Tail (q.head - (q.done + c.min.result)) (inr refl) within (search rules) w.begun w.kept.honest.1 (λ h. subst (λ (t : List ℕ). Written (D.bytes q.journal.disk) (q.other.start + q.done) t (D.bytes j.disk)) (c.piece.ensures.bytes ∙ sym (range_of_front q.planned.items q.done (q.done + c.min.result) (q.ended + 1) le (omega (arith, to_head, image)) (omega (arith, there)))) (c.in_ok-write_outside.ensures.written h).0), tt, record { there = z.there; image = image; part = to_head })
 
 pub returns-clause-any_moment : goal.returns-clause-any_moment
 returns-clause-any_moment g c =
     let D = g.D.Disk in let m = g.met.D.Disk in let w = c.write_outside.ensures in let j = c.write_outside.new.self in
     let alive = subst (λ (k : SlotsState g.row.D.Denot). k.journal.phase ≢ Failed) (sym c.self.view_is) c.requires.live in
     let is : step_of c.self.inside.held ≡ Part = ap (λ (k : SlotsState g.row.D.Denot). k.step) c.self.view_is ∙ c.requires.step in
-    let part = steps.plan_is D.honest D.bytes D.unsynced D.moment D.crash_states_since m.counts_now c.self.invariant.0 alive j w.same Part is in
+    let part = steps.plan_is D.honest D.bytes D.unsynced D.moment D.crash_states_since m.counts_now c.self.invariant.0 alive j w.kept.same Part is in
     let some = part.1.some in let short = part.1.part in let min = c.min.ensures in
     let q = c.self.inside in let z = c.self.invariant.2 in let image = z.image in let past = z.part in let there = there_is q.planned.items q.ended z.there part.0.bytes_are in
     let size : length (slice_range q.planned.items 0 (q.ended + 1)) ≡ q.ended + 1 = front_long q.planned.items (q.ended + 1) (omega (arith, there)) in
@@ -93,14 +93,14 @@ returns-clause-any_moment g c =
     let le : c.self.inside.done ≤ c.self.inside.done + c.min.result = omega arith in
     let within : q.done + c.min.result < length (slice_range q.planned.items 0 (q.ended + 1)) = omega (arith, size, to_head, image) in
     let within2 : q.done + c.min.result ≤ length (slice_range q.planned.items 0 (q.ended + 1)) = omega (arith, within) in
-    rw (← c.self.view_is) (steps.next_leaves D.honest D.bytes D.unsynced D.moment D.crash_states_since m.counts_now c.self.invariant.0 alive j w.same (c.self.inside.done + c.min.result) n le within2 w.any_moment w.apart is)
+    rw (← c.self.view_is) (steps.next_leaves D.honest D.bytes D.unsynced D.moment D.crash_states_since m.counts_now c.self.invariant.0 alive j w.kept.same (c.self.inside.done + c.min.result) n le within2 w.kept.any_moment w.kept.apart is)
 
 pub returns-clause-apart : goal.returns-clause-apart
 returns-clause-apart g c =
     let D = g.D.Disk in let m = g.met.D.Disk in let w = c.write_outside.ensures in let j = c.write_outside.new.self in
     let alive = subst (λ (k : SlotsState g.row.D.Denot). k.journal.phase ≢ Failed) (sym c.self.view_is) c.requires.live in
     let is : step_of c.self.inside.held ≡ Part = ap (λ (k : SlotsState g.row.D.Denot). k.step) c.self.view_is ∙ c.requires.step in
-    let part = steps.plan_is D.honest D.bytes D.unsynced D.moment D.crash_states_since m.counts_now c.self.invariant.0 alive j w.same Part is in
+    let part = steps.plan_is D.honest D.bytes D.unsynced D.moment D.crash_states_since m.counts_now c.self.invariant.0 alive j w.kept.same Part is in
     let some = part.1.some in let short = part.1.part in let min = c.min.ensures in
     let q = c.self.inside in let z = c.self.invariant.2 in let image = z.image in let past = z.part in let there = there_is q.planned.items q.ended z.there part.0.bytes_are in
     let size : length (slice_range q.planned.items 0 (q.ended + 1)) ≡ q.ended + 1 = front_long q.planned.items (q.ended + 1) (omega (arith, there)) in
@@ -110,14 +110,14 @@ returns-clause-apart g c =
     let le : c.self.inside.done ≤ c.self.inside.done + c.min.result = omega arith in
     let within : q.done + c.min.result < length (slice_range q.planned.items 0 (q.ended + 1)) = omega (arith, size, to_head, image) in
     let within2 : q.done + c.min.result ≤ length (slice_range q.planned.items 0 (q.ended + 1)) = omega (arith, within) in
-    rw (← c.self.view_is) (λ h. steps.part_frame D.honest D.bytes D.unsynced D.moment D.crash_states_since m.counts_now c.self.invariant.0 alive j w.same (c.self.inside.other.start + c.self.inside.done) n (omega arith) (omega (arith, fits, len_is, size, within2)) (w.apart h))
+    rw (← c.self.view_is) (λ h. steps.part_frame D.honest D.bytes D.unsynced D.moment D.crash_states_since m.counts_now c.self.invariant.0 alive j w.kept.same (c.self.inside.other.start + c.self.inside.done) n (omega arith) (omega (arith, fits, len_is, size, within2)) (w.kept.apart h))
 
 pub invariant_of-self-then-to-self : goal.invariant_of-self-then-to-self
 invariant_of-self-then-to-self g c =
     let D = g.D.Disk in let m = g.met.D.Disk in let w = c.write_outside.ensures in let j = c.write_outside.new.self in
     let alive = subst (λ (k : SlotsState g.row.D.Denot). k.journal.phase ≢ Failed) (sym c.self.view_is) c.requires.live in
     let is : step_of c.self.inside.held ≡ Part = ap (λ (k : SlotsState g.row.D.Denot). k.step) c.self.view_is ∙ c.requires.step in
-    let part = steps.plan_is D.honest D.bytes D.unsynced D.moment D.crash_states_since m.counts_now c.self.invariant.0 alive j w.same Part is in
+    let part = steps.plan_is D.honest D.bytes D.unsynced D.moment D.crash_states_since m.counts_now c.self.invariant.0 alive j w.kept.same Part is in
     let some = part.1.some in let short = part.1.part in let min = c.min.ensures in
     let q = c.self.inside in let z = c.self.invariant.2 in let image = z.image in let past = z.part in let there = there_is q.planned.items q.ended z.there part.0.bytes_are in
     let size : length (slice_range q.planned.items 0 (q.ended + 1)) ≡ q.ended + 1 = front_long q.planned.items (q.ended + 1) (omega (arith, there)) in
@@ -127,14 +127,14 @@ invariant_of-self-then-to-self g c =
     let le : c.self.inside.done ≤ c.self.inside.done + c.min.result = omega arith in
     let within : q.done + c.min.result < length (slice_range q.planned.items 0 (q.ended + 1)) = omega (arith, size, to_head, image) in
     let within2 : q.done + c.min.result ≤ length (slice_range q.planned.items 0 (q.ended + 1)) = omega (arith, within) in
-    (steps.next_written D.honest D.bytes D.unsynced D.moment D.crash_states_since m.counts_now c.self.invariant.0 alive j w.same (c.self.inside.done + c.min.result) n le within2 w.any_moment w.apart is (step_of c.self.inside.held) (q.head - (q.done + c.min.result)) (inl is) within (search rules) w.begun w.honest.1 (λ h. subst (λ (t : List ℕ). Written (D.bytes q.journal.disk) (q.other.start + q.done) t (D.bytes j.disk)) (c.piece.ensures.bytes ∙ sym (range_of_front q.planned.items q.done (q.done + c.min.result) (q.ended + 1) le (omega (arith, to_head, image)) (omega (arith, there)))) (c.in_ok-write_outside.ensures.written h).0), steps.held_on D.honest D.moment c.self.inside.journal j c.self.inside.other.start c.self.inside.held (λ e. let no : Part ≡ Open = sym is ∙ e in absurd (cc no)) c.self.invariant.1, record { there = z.there; image = image; part = to_head })
+    (steps.next_written D.honest D.bytes D.unsynced D.moment D.crash_states_since m.counts_now c.self.invariant.0 alive j w.kept.same (c.self.inside.done + c.min.result) n le within2 w.kept.any_moment w.kept.apart is (step_of c.self.inside.held) (q.head - (q.done + c.min.result)) (inl is) within (search rules) w.begun w.kept.honest.1 (λ h. subst (λ (t : List ℕ). Written (D.bytes q.journal.disk) (q.other.start + q.done) t (D.bytes j.disk)) (c.piece.ensures.bytes ∙ sym (range_of_front q.planned.items q.done (q.done + c.min.result) (q.ended + 1) le (omega (arith, to_head, image)) (omega (arith, there)))) (c.in_ok-write_outside.ensures.written h).0), steps.held_on D.honest D.moment c.self.inside.journal j c.self.inside.other.start c.self.inside.held (λ e. let no : Part ≡ Open = sym is ∙ e in absurd (cc no)) c.self.invariant.1, record { there = z.there; image = image; part = to_head })
 
 pub returns-then-to-self-clause-any_moment : goal.returns-then-to-self-clause-any_moment
 returns-then-to-self-clause-any_moment g c =
     let D = g.D.Disk in let m = g.met.D.Disk in let w = c.write_outside.ensures in let j = c.write_outside.new.self in
     let alive = subst (λ (k : SlotsState g.row.D.Denot). k.journal.phase ≢ Failed) (sym c.self.view_is) c.requires.live in
     let is : step_of c.self.inside.held ≡ Part = ap (λ (k : SlotsState g.row.D.Denot). k.step) c.self.view_is ∙ c.requires.step in
-    let part = steps.plan_is D.honest D.bytes D.unsynced D.moment D.crash_states_since m.counts_now c.self.invariant.0 alive j w.same Part is in
+    let part = steps.plan_is D.honest D.bytes D.unsynced D.moment D.crash_states_since m.counts_now c.self.invariant.0 alive j w.kept.same Part is in
     let some = part.1.some in let short = part.1.part in let min = c.min.ensures in
     let q = c.self.inside in let z = c.self.invariant.2 in let image = z.image in let past = z.part in let there = there_is q.planned.items q.ended z.there part.0.bytes_are in
     let size : length (slice_range q.planned.items 0 (q.ended + 1)) ≡ q.ended + 1 = front_long q.planned.items (q.ended + 1) (omega (arith, there)) in
@@ -144,14 +144,14 @@ returns-then-to-self-clause-any_moment g c =
     let le : c.self.inside.done ≤ c.self.inside.done + c.min.result = omega arith in
     let within : q.done + c.min.result < length (slice_range q.planned.items 0 (q.ended + 1)) = omega (arith, size, to_head, image) in
     let within2 : q.done + c.min.result ≤ length (slice_range q.planned.items 0 (q.ended + 1)) = omega (arith, within) in
-    rw (← c.self.view_is) (steps.next_leaves D.honest D.bytes D.unsynced D.moment D.crash_states_since m.counts_now c.self.invariant.0 alive j w.same (c.self.inside.done + c.min.result) n le within2 w.any_moment w.apart is)
+    rw (← c.self.view_is) (steps.next_leaves D.honest D.bytes D.unsynced D.moment D.crash_states_since m.counts_now c.self.invariant.0 alive j w.kept.same (c.self.inside.done + c.min.result) n le within2 w.kept.any_moment w.kept.apart is)
 
 pub returns-then-to-self-clause-apart : goal.returns-then-to-self-clause-apart
 returns-then-to-self-clause-apart g c =
     let D = g.D.Disk in let m = g.met.D.Disk in let w = c.write_outside.ensures in let j = c.write_outside.new.self in
     let alive = subst (λ (k : SlotsState g.row.D.Denot). k.journal.phase ≢ Failed) (sym c.self.view_is) c.requires.live in
     let is : step_of c.self.inside.held ≡ Part = ap (λ (k : SlotsState g.row.D.Denot). k.step) c.self.view_is ∙ c.requires.step in
-    let part = steps.plan_is D.honest D.bytes D.unsynced D.moment D.crash_states_since m.counts_now c.self.invariant.0 alive j w.same Part is in
+    let part = steps.plan_is D.honest D.bytes D.unsynced D.moment D.crash_states_since m.counts_now c.self.invariant.0 alive j w.kept.same Part is in
     let some = part.1.some in let short = part.1.part in let min = c.min.ensures in
     let q = c.self.inside in let z = c.self.invariant.2 in let image = z.image in let past = z.part in let there = there_is q.planned.items q.ended z.there part.0.bytes_are in
     let size : length (slice_range q.planned.items 0 (q.ended + 1)) ≡ q.ended + 1 = front_long q.planned.items (q.ended + 1) (omega (arith, there)) in
@@ -161,7 +161,7 @@ returns-then-to-self-clause-apart g c =
     let le : c.self.inside.done ≤ c.self.inside.done + c.min.result = omega arith in
     let within : q.done + c.min.result < length (slice_range q.planned.items 0 (q.ended + 1)) = omega (arith, size, to_head, image) in
     let within2 : q.done + c.min.result ≤ length (slice_range q.planned.items 0 (q.ended + 1)) = omega (arith, within) in
-    rw (← c.self.view_is) (λ h. steps.part_frame D.honest D.bytes D.unsynced D.moment D.crash_states_since m.counts_now c.self.invariant.0 alive j w.same (c.self.inside.other.start + c.self.inside.done) n (omega arith) (omega (arith, fits, len_is, size, within2)) (w.apart h))
+    rw (← c.self.view_is) (λ h. steps.part_frame D.honest D.bytes D.unsynced D.moment D.crash_states_since m.counts_now c.self.invariant.0 alive j w.kept.same (c.self.inside.other.start + c.self.inside.done) n (omega arith) (omega (arith, fits, len_is, size, within2)) (w.kept.apart h))
 
 pub piece-requires : goal.piece-requires
 piece-requires g c =

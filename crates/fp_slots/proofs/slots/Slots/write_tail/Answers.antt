@@ -16,7 +16,7 @@ invariant_of-self g c =
     let idle : c.self.inside.journal.phase ≡ Idle = ap (λ (k : SlotsState g.row.D.Denot). k.journal.phase) c.self.view_is ∙ c.requires.live in
     let alive : c.self.inside.journal.phase ≢ Failed = λ e. absurd (cc (sym idle ∙ e)) in
     let is : step_of c.self.inside.held ≡ Tail = ap (λ (k : SlotsState g.row.D.Denot). k.step) c.self.view_is ∙ c.requires.step in
-    let part = steps.plan_is D.honest D.bytes D.unsynced D.moment D.crash_states_since m.counts_now c.self.invariant.0 alive j w.same Tail is in
+    let part = steps.plan_is D.honest D.bytes D.unsynced D.moment D.crash_states_since m.counts_now c.self.invariant.0 alive j w.kept.same Tail is in
     let short = part.1.part in
     let q = c.self.inside in let z = c.self.invariant.2 in let image = z.image in let past = z.part in let there = there_is q.planned.items q.ended z.there part.0.bytes_are in
     let size : length (slice_range q.planned.items 0 (q.ended + 1)) ≡ q.ended + 1 = front_long q.planned.items (q.ended + 1) (omega (arith, there)) in
@@ -25,7 +25,7 @@ invariant_of-self g c =
     let len : q.ended + 1 ≡ length (slice_range q.planned.items 0 (q.ended + 1)) = sym size in
     let le : q.done ≤ q.ended + 1 = omega (arith, past, image) in
     let within2 : q.ended + 1 ≤ length (slice_range q.planned.items 0 (q.ended + 1)) = omega (arith, size) in
-    (steps.broke D.honest D.bytes D.unsynced D.moment D.crash_states_since m.counts_now c.self.invariant.0 alive j w.same w.bodies w.begun (search rules) w.honest.1 Tail is (steps.tail_leaves D.honest D.bytes D.unsynced D.moment D.crash_states_since m.counts_now c.self.invariant.0 alive j w.same (q.ended + 1) n le within2 w.any_moment w.apart is), steps.held_on D.honest D.moment c.self.inside.journal j c.self.inside.other.start c.self.inside.held (λ e. let no : Tail ≡ Open = sym is ∙ e in absurd (cc no)) c.self.invariant.1, c.self.invariant.2)
+    (steps.broke D.honest D.bytes D.unsynced D.moment D.crash_states_since m.counts_now c.self.invariant.0 alive j w.kept.same w.bodies w.begun (search rules) w.kept.honest.1 Tail is (steps.tail_leaves D.honest D.bytes D.unsynced D.moment D.crash_states_since m.counts_now c.self.invariant.0 alive j w.kept.same (q.ended + 1) n le within2 w.kept.any_moment w.kept.apart is), steps.held_on D.honest D.moment c.self.inside.journal j c.self.inside.other.start c.self.inside.held (λ e. let no : Tail ≡ Open = sym is ∙ e in absurd (cc no)) c.self.invariant.1, c.self.invariant.2)
 
 pub returns-in_err-write_outside-clause-any_moment : goal.returns-in_err-write_outside-clause-any_moment
 returns-in_err-write_outside-clause-any_moment g c =
@@ -33,7 +33,7 @@ returns-in_err-write_outside-clause-any_moment g c =
     let idle : c.self.inside.journal.phase ≡ Idle = ap (λ (k : SlotsState g.row.D.Denot). k.journal.phase) c.self.view_is ∙ c.requires.live in
     let alive : c.self.inside.journal.phase ≢ Failed = λ e. absurd (cc (sym idle ∙ e)) in
     let is : step_of c.self.inside.held ≡ Tail = ap (λ (k : SlotsState g.row.D.Denot). k.step) c.self.view_is ∙ c.requires.step in
-    let part = steps.plan_is D.honest D.bytes D.unsynced D.moment D.crash_states_since m.counts_now c.self.invariant.0 alive j w.same Tail is in
+    let part = steps.plan_is D.honest D.bytes D.unsynced D.moment D.crash_states_since m.counts_now c.self.invariant.0 alive j w.kept.same Tail is in
     let short = part.1.part in
     let q = c.self.inside in let z = c.self.invariant.2 in let image = z.image in let past = z.part in let there = there_is q.planned.items q.ended z.there part.0.bytes_are in
     let size : length (slice_range q.planned.items 0 (q.ended + 1)) ≡ q.ended + 1 = front_long q.planned.items (q.ended + 1) (omega (arith, there)) in
@@ -42,7 +42,7 @@ returns-in_err-write_outside-clause-any_moment g c =
     let len : q.ended + 1 ≡ length (slice_range q.planned.items 0 (q.ended + 1)) = sym size in
     let le : q.done ≤ q.ended + 1 = omega (arith, past, image) in
     let within2 : q.ended + 1 ≤ length (slice_range q.planned.items 0 (q.ended + 1)) = omega (arith, size) in
-    rw (← c.self.view_is) (steps.tail_leaves D.honest D.bytes D.unsynced D.moment D.crash_states_since m.counts_now c.self.invariant.0 alive j w.same (q.ended + 1) n le within2 w.any_moment w.apart is)
+    rw (← c.self.view_is) (steps.tail_leaves D.honest D.bytes D.unsynced D.moment D.crash_states_since m.counts_now c.self.invariant.0 alive j w.kept.same (q.ended + 1) n le within2 w.kept.any_moment w.kept.apart is)
 
 pub returns-in_err-write_outside-clause-apart : goal.returns-in_err-write_outside-clause-apart
 returns-in_err-write_outside-clause-apart g c =
@@ -50,7 +50,7 @@ returns-in_err-write_outside-clause-apart g c =
     let idle : c.self.inside.journal.phase ≡ Idle = ap (λ (k : SlotsState g.row.D.Denot). k.journal.phase) c.self.view_is ∙ c.requires.live in
     let alive : c.self.inside.journal.phase ≢ Failed = λ e. absurd (cc (sym idle ∙ e)) in
     let is : step_of c.self.inside.held ≡ Tail = ap (λ (k : SlotsState g.row.D.Denot). k.step) c.self.view_is ∙ c.requires.step in
-    let part = steps.plan_is D.honest D.bytes D.unsynced D.moment D.crash_states_since m.counts_now c.self.invariant.0 alive j w.same Tail is in
+    let part = steps.plan_is D.honest D.bytes D.unsynced D.moment D.crash_states_since m.counts_now c.self.invariant.0 alive j w.kept.same Tail is in
     let short = part.1.part in
     let q = c.self.inside in let z = c.self.invariant.2 in let image = z.image in let past = z.part in let there = there_is q.planned.items q.ended z.there part.0.bytes_are in
     let size : length (slice_range q.planned.items 0 (q.ended + 1)) ≡ q.ended + 1 = front_long q.planned.items (q.ended + 1) (omega (arith, there)) in
@@ -59,7 +59,7 @@ returns-in_err-write_outside-clause-apart g c =
     let len : q.ended + 1 ≡ length (slice_range q.planned.items 0 (q.ended + 1)) = sym size in
     let le : q.done ≤ q.ended + 1 = omega (arith, past, image) in
     let within2 : q.ended + 1 ≤ length (slice_range q.planned.items 0 (q.ended + 1)) = omega (arith, size) in
-    rw (← c.self.view_is) (λ h. steps.part_frame D.honest D.bytes D.unsynced D.moment D.crash_states_since m.counts_now c.self.invariant.0 alive j w.same (c.self.inside.other.start + c.self.inside.done) n (omega arith) (omega (arith, fits, len_is, size, within2)) (w.apart h))
+    rw (← c.self.view_is) (λ h. steps.part_frame D.honest D.bytes D.unsynced D.moment D.crash_states_since m.counts_now c.self.invariant.0 alive j w.kept.same (c.self.inside.other.start + c.self.inside.done) n (omega arith) (omega (arith, fits, len_is, size, within2)) (w.kept.apart h))
 
 pub invariant_of-self-2 : goal.invariant_of-self-2
 invariant_of-self-2 g c =
@@ -67,7 +67,7 @@ invariant_of-self-2 g c =
     let idle : c.self.inside.journal.phase ≡ Idle = ap (λ (k : SlotsState g.row.D.Denot). k.journal.phase) c.self.view_is ∙ c.requires.live in
     let alive : c.self.inside.journal.phase ≢ Failed = λ e. absurd (cc (sym idle ∙ e)) in
     let is : step_of c.self.inside.held ≡ Tail = ap (λ (k : SlotsState g.row.D.Denot). k.step) c.self.view_is ∙ c.requires.step in
-    let part = steps.plan_is D.honest D.bytes D.unsynced D.moment D.crash_states_since m.counts_now c.self.invariant.0 alive j w.same Tail is in
+    let part = steps.plan_is D.honest D.bytes D.unsynced D.moment D.crash_states_since m.counts_now c.self.invariant.0 alive j w.kept.same Tail is in
     let short = part.1.part in
     let q = c.self.inside in let z = c.self.invariant.2 in let image = z.image in let past = z.part in let there = there_is q.planned.items q.ended z.there part.0.bytes_are in
     let size : length (slice_range q.planned.items 0 (q.ended + 1)) ≡ q.ended + 1 = front_long q.planned.items (q.ended + 1) (omega (arith, there)) in
@@ -76,7 +76,7 @@ invariant_of-self-2 g c =
     let len : q.ended + 1 ≡ length (slice_range q.planned.items 0 (q.ended + 1)) = sym size in
     let le : q.done ≤ q.ended + 1 = omega (arith, past, image) in
     let within2 : q.ended + 1 ≤ length (slice_range q.planned.items 0 (q.ended + 1)) = omega (arith, size) in
-    (steps.tail_written D.honest D.bytes D.unsynced D.moment D.crash_states_since m.counts_now c.self.invariant.0 alive j w.same (q.ended + 1) n le within2 w.any_moment w.apart is len idle (search rules) w.begun w.honest.1 (λ h. subst (λ (t : List ℕ). Written (D.bytes q.journal.disk) (q.other.start + q.done) t (D.bytes j.disk)) (c.piece.ensures.bytes ∙ sym (range_of_front q.planned.items q.done (q.ended + 1) (q.ended + 1) le (omega arith) (omega (arith, there)))) (c.in_ok-write_outside.ensures.written h).0), tt, c.self.invariant.2)
+    (steps.tail_written D.honest D.bytes D.unsynced D.moment D.crash_states_since m.counts_now c.self.invariant.0 alive j w.kept.same (q.ended + 1) n le within2 w.kept.any_moment w.kept.apart is len idle (search rules) w.begun w.kept.honest.1 (λ h. subst (λ (t : List ℕ). Written (D.bytes q.journal.disk) (q.other.start + q.done) t (D.bytes j.disk)) (c.piece.ensures.bytes ∙ sym (range_of_front q.planned.items q.done (q.ended + 1) (q.ended + 1) le (omega arith) (omega (arith, there)))) (c.in_ok-write_outside.ensures.written h).0), tt, c.self.invariant.2)
 
 pub returns-clause-any_moment : goal.returns-clause-any_moment
 returns-clause-any_moment g c =
@@ -84,7 +84,7 @@ returns-clause-any_moment g c =
     let idle : c.self.inside.journal.phase ≡ Idle = ap (λ (k : SlotsState g.row.D.Denot). k.journal.phase) c.self.view_is ∙ c.requires.live in
     let alive : c.self.inside.journal.phase ≢ Failed = λ e. absurd (cc (sym idle ∙ e)) in
     let is : step_of c.self.inside.held ≡ Tail = ap (λ (k : SlotsState g.row.D.Denot). k.step) c.self.view_is ∙ c.requires.step in
-    let part = steps.plan_is D.honest D.bytes D.unsynced D.moment D.crash_states_since m.counts_now c.self.invariant.0 alive j w.same Tail is in
+    let part = steps.plan_is D.honest D.bytes D.unsynced D.moment D.crash_states_since m.counts_now c.self.invariant.0 alive j w.kept.same Tail is in
     let short = part.1.part in
     let q = c.self.inside in let z = c.self.invariant.2 in let image = z.image in let past = z.part in let there = there_is q.planned.items q.ended z.there part.0.bytes_are in
     let size : length (slice_range q.planned.items 0 (q.ended + 1)) ≡ q.ended + 1 = front_long q.planned.items (q.ended + 1) (omega (arith, there)) in
@@ -93,7 +93,7 @@ returns-clause-any_moment g c =
     let len : q.ended + 1 ≡ length (slice_range q.planned.items 0 (q.ended + 1)) = sym size in
     let le : q.done ≤ q.ended + 1 = omega (arith, past, image) in
     let within2 : q.ended + 1 ≤ length (slice_range q.planned.items 0 (q.ended + 1)) = omega (arith, size) in
-    rw (← c.self.view_is) (steps.tail_leaves D.honest D.bytes D.unsynced D.moment D.crash_states_since m.counts_now c.self.invariant.0 alive j w.same (q.ended + 1) n le within2 w.any_moment w.apart is)
+    rw (← c.self.view_is) (steps.tail_leaves D.honest D.bytes D.unsynced D.moment D.crash_states_since m.counts_now c.self.invariant.0 alive j w.kept.same (q.ended + 1) n le within2 w.kept.any_moment w.kept.apart is)
 
 pub returns-clause-apart : goal.returns-clause-apart
 returns-clause-apart g c =
@@ -101,7 +101,7 @@ returns-clause-apart g c =
     let idle : c.self.inside.journal.phase ≡ Idle = ap (λ (k : SlotsState g.row.D.Denot). k.journal.phase) c.self.view_is ∙ c.requires.live in
     let alive : c.self.inside.journal.phase ≢ Failed = λ e. absurd (cc (sym idle ∙ e)) in
     let is : step_of c.self.inside.held ≡ Tail = ap (λ (k : SlotsState g.row.D.Denot). k.step) c.self.view_is ∙ c.requires.step in
-    let part = steps.plan_is D.honest D.bytes D.unsynced D.moment D.crash_states_since m.counts_now c.self.invariant.0 alive j w.same Tail is in
+    let part = steps.plan_is D.honest D.bytes D.unsynced D.moment D.crash_states_since m.counts_now c.self.invariant.0 alive j w.kept.same Tail is in
     let short = part.1.part in
     let q = c.self.inside in let z = c.self.invariant.2 in let image = z.image in let past = z.part in let there = there_is q.planned.items q.ended z.there part.0.bytes_are in
     let size : length (slice_range q.planned.items 0 (q.ended + 1)) ≡ q.ended + 1 = front_long q.planned.items (q.ended + 1) (omega (arith, there)) in
@@ -110,7 +110,7 @@ returns-clause-apart g c =
     let len : q.ended + 1 ≡ length (slice_range q.planned.items 0 (q.ended + 1)) = sym size in
     let le : q.done ≤ q.ended + 1 = omega (arith, past, image) in
     let within2 : q.ended + 1 ≤ length (slice_range q.planned.items 0 (q.ended + 1)) = omega (arith, size) in
-    rw (← c.self.view_is) (λ h. steps.part_frame D.honest D.bytes D.unsynced D.moment D.crash_states_since m.counts_now c.self.invariant.0 alive j w.same (c.self.inside.other.start + c.self.inside.done) n (omega arith) (omega (arith, fits, len_is, size, within2)) (w.apart h))
+    rw (← c.self.view_is) (λ h. steps.part_frame D.honest D.bytes D.unsynced D.moment D.crash_states_since m.counts_now c.self.invariant.0 alive j w.kept.same (c.self.inside.other.start + c.self.inside.done) n (omega arith) (omega (arith, fits, len_is, size, within2)) (w.kept.apart h))
 
 pub piece-requires : goal.piece-requires
 piece-requires g c =

@@ -1,0 +1,38 @@
+-- What a step over a disk keeps to, and what a write of one byte leaves.
+use Rattle.std.specs.Prelude.{◌≡◌, ◌⊎◌, ℕ, List, [], ◌∷◌, ◌++◌, Result, OnOk, IsErr}
+use Rattle.fp_disk.specs.Checked.{Named}
+use Rattle.fp_disk.specs.Crashes.{SameHonesty}
+use Rattle.fp_disk.specs.History.{Makes}
+use Rattle.fp_disk.specs.Outcomes.{Answers, ChangesWithin, Elapses, IsOutcome, Written, with_write}
+use Rattle.fp_disk.specs.declared.disk.Disk.{Ghosts}
+use Rattle.fp_disk.specs.declared.disk.DiskFault.{DiskFault}
+use Rattle.fp_disk.specs.declared.history.CallKind.{CallKind}
+use Rattle.fp_disk.specs.declared.history.CallKind.TheVariants.{Write}
+
+-- A step makes these calls and keeps the disk's name and its word; it answers a fault exactly where the device failed
+pub record MakesCalls {D T : Type 0} (disk : Ghosts D) (kinds : List CallKind)
+    (old new : Named D) (result : Result T DiskFault) : Type 0 where
+  pub name : new.name ≡ old.name
+  pub honest : SameHonesty disk old.disk new.disk
+  pub called : Makes kinds (disk.calls old.disk) (disk.calls new.disk) result
+  pub cause : Answers (disk.faults old.disk) (disk.faults new.disk) result
+
+-- A call writes this byte at a place, or fails and did so or nothing. A crash may show it from then on
+pub record WritesByte {D T : Type 0} (disk : Ghosts D) (old new : Named D) (at byte : ℕ)
+    (result : Result T DiskFault) : Type 0 where
+  pub name : new.name ≡ old.name
+  pub written : disk.honest old.disk →
+    OnOk result (Written (disk.bytes old.disk) at (byte ∷ []) (disk.bytes new.disk))
+  pub honest : SameHonesty disk old.disk new.disk
+  pub unsynced : disk.honest old.disk →
+    OnOk result (disk.unsynced new.disk ≡ with_write (disk.unsynced old.disk) at 1)
+  pub partly : disk.honest old.disk → IsErr result →
+    ChangesWithin (disk.bytes old.disk) at 1 (disk.bytes new.disk)
+  pub failed : disk.honest old.disk → IsErr result →
+    (disk.unsynced new.disk ≡ disk.unsynced old.disk)
+    ⊎ (disk.unsynced new.disk ≡ with_write (disk.unsynced old.disk) at 1)
+  pub time : disk.honest old.disk →
+    Elapses (disk.moment old.disk) (disk.moment new.disk) (disk.crash_states_since old.disk)
+    (disk.crash_states_since new.disk) (IsOutcome (with_write (disk.unsynced old.disk) at 1))
+  pub called : disk.calls new.disk ≡ disk.calls old.disk ++ Write ∷ []
+  pub cause : Answers (disk.faults old.disk) (disk.faults new.disk) result
