@@ -72,21 +72,35 @@ impl Session {
         out: &mut String,
     ) -> Result<(), AllocError> {
         let alloc = self.alloc;
-        let number = number_in(first);
         match word {
-            "json" => values::put_canonical(alloc, &value, out),
-            "fits" => values::fits(alloc, number, &value, out),
-            "nests" => values::nests(number, &value, out),
-            "budget" => values::budget(number, &value, out),
             "member" => values::member(alloc, first, value, out),
-            "op" => operators::applied(alloc, &self.data, first, &value, out),
-            "versions" => operators::compared(alloc, first, &value, out),
-            "compile" => rules::compiled(alloc, &value, out),
-            "rule" => rules::evaluated(alloc, &self.data, self.key.as_str(), self.now, &value, out),
             "flag" => definitions::canonical(alloc, value, out),
             "resolve" => definitions::resolved(alloc, &self.data, &self.key, self.now, value, out),
             "import" => imports::imported(alloc, value, out),
-            _ => self.set_data(value, out),
+            "data" => self.set_data(value, out),
+            _ => self.run_shown_json(word, first, &value, out),
+        }
+    }
+
+    // Commands that only read their JSON.
+    fn run_shown_json(
+        &self,
+        word: &str,
+        first: &str,
+        value: &Value,
+        out: &mut String,
+    ) -> Result<(), AllocError> {
+        let alloc = self.alloc;
+        let number = number_in(first);
+        match word {
+            "json" => values::put_canonical(alloc, value, out),
+            "fits" => values::fits(alloc, number, value, out),
+            "nests" => values::nests(number, value, out),
+            "budget" => values::budget(number, value, out),
+            "op" => operators::applied(alloc, &self.data, first, value, out),
+            "versions" => operators::compared(alloc, first, value, out),
+            "compile" => rules::compiled(alloc, value, out),
+            _ => rules::evaluated(alloc, &self.data, self.key.as_str(), self.now, value, out),
         }
     }
 
@@ -97,28 +111,53 @@ impl Session {
         operand: &[u8],
         out: &mut String,
     ) -> Result<(), AllocError> {
-        let alloc = self.alloc;
         match word {
-            "text" => definitions::read_back(alloc, operand, out),
-            "line" => edits::parsed(alloc, operand, out),
-            "edit" => edits::admitted(alloc, &mut self.set, operand, out),
-            "judge" => edits::judged(alloc, &self.set, operand, out),
-            "restore" => edits::restored(alloc, &mut self.set, number_in(first), operand, out),
-            "batch" => records::batch(alloc, operand, out),
-            "image" => records::image(alloc, operand, out),
-            "beginnings" => records::beginnings(alloc, operand, out),
-            "changed" => records::changed(alloc, operand, out),
-            "spell" => records::spelled(alloc, number_in(first), operand, out),
-            "key" => self.set_key(operand, out),
-            "set" => self.start_set(number_in(first), operand, out),
-            "method" => self.asking.set_method(alloc, operand),
-            "if-none-match" => self.asking.set_if_none_match(alloc, operand),
-            "ask" => self.ask(first, Body::Whole(operand), out),
-            "ask-too-long" => self.ask(first, Body::TooLong, out),
+            "text" | "line" | "batch" | "image" | "beginnings" | "changed" | "spell" => {
+                tell_bytes(self.alloc, word, number_in(first), operand, out)
+            }
+            "edit" | "judge" | "restore" | "key" | "set" => {
+                self.run_on_set(word, number_in(first), operand, out)
+            }
+            "method" | "if-none-match" | "ask" | "ask-too-long" => {
+                self.run_request(word, first, operand, out)
+            }
             "hello" | "subscriber" | "frame" | "feed" | "pieces" | "halves" | "waiting" => {
                 self.subscribe(word, first, operand, out)
             }
             _ => self.run_word(word, first, out),
+        }
+    }
+
+    // Commands on the set, and on the key.
+    fn run_on_set(
+        &mut self,
+        word: &str,
+        number: u64,
+        operand: &[u8],
+        out: &mut String,
+    ) -> Result<(), AllocError> {
+        let alloc = self.alloc;
+        match word {
+            "edit" => edits::admitted(alloc, &mut self.set, operand, out),
+            "judge" => edits::judged(alloc, &self.set, operand, out),
+            "restore" => edits::restored(alloc, &mut self.set, number, operand, out),
+            "key" => self.set_key(operand, out),
+            _ => self.start_set(number, operand, out),
+        }
+    }
+
+    fn run_request(
+        &mut self,
+        word: &str,
+        target: &str,
+        operand: &[u8],
+        out: &mut String,
+    ) -> Result<(), AllocError> {
+        match word {
+            "method" => self.asking.set_method(self.alloc, operand),
+            "if-none-match" => self.asking.set_if_none_match(self.alloc, operand),
+            "ask" => self.ask(target, Body::Whole(operand), out),
+            _ => self.ask(target, Body::TooLong, out),
         }
     }
 
@@ -201,6 +240,25 @@ impl Session {
     }
 }
 
+// What bytes are: a definition, an edit line, a batch, an image.
+fn tell_bytes(
+    alloc: Global,
+    word: &str,
+    number: u64,
+    operand: &[u8],
+    out: &mut String,
+) -> Result<(), AllocError> {
+    match word {
+        "text" => definitions::read_back(alloc, operand, out),
+        "line" => edits::parsed(alloc, operand, out),
+        "batch" => records::batch(alloc, operand, out),
+        "image" => records::image(alloc, operand, out),
+        "beginnings" => records::beginnings(alloc, operand, out),
+        "changed" => records::changed(alloc, operand, out),
+        _ => records::spelled(alloc, number, operand, out),
+    }
+}
+
 impl Answers for Session {
     /// A command is its word, for some words a name or a number, and the operand, which is all that is left of the line.
     fn answer(&mut self, command: &str, out: &mut String) -> Result<(), AllocError> {
@@ -211,16 +269,28 @@ impl Answers for Session {
             ("", rest)
         };
         let operand = expanded(self.alloc, &self.texts, rest)?;
-        if takes_json(word) {
-            return match read_json(self.alloc, &operand)? {
-                Some(value) => self.run_json(word, first, value, out),
-                None => out.push_str("no JSON"),
-            };
-        }
         if word == "let" {
             return self.name_text(first, operand);
         }
-        self.run_bytes(word, first, &operand, out)
+        self.run(word, first, &operand, out)
+    }
+}
+
+impl Session {
+    fn run(
+        &mut self,
+        word: &str,
+        first: &str,
+        operand: &[u8],
+        out: &mut String,
+    ) -> Result<(), AllocError> {
+        if !takes_json(word) {
+            return self.run_bytes(word, first, operand, out);
+        }
+        match read_json(self.alloc, operand)? {
+            Some(value) => self.run_json(word, first, value, out),
+            None => out.push_str("no JSON"),
+        }
     }
 }
 

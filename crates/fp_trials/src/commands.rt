@@ -78,24 +78,45 @@ fn room_in(rest: &str) -> Result<usize, TrialFault> {
 /// bytes.
 pub fn on_commands(trial: &mut Trial, word: &str, rest: &str) -> Result<Answer, TrialFault> {
     let room = room_in(rest)?;
-    let input = trial.take_input();
-    let source = Source {
-        bytes: &input,
-        is_broken: rest == "broken",
-    };
-    let (output, outcome) = run(trial, word, source, room);
+    let (output, outcome) = run_on_input(trial, word, rest == "broken", room);
     let output = text_of(trial.alloc, &output)?;
     tell_replies(trial, output.as_str());
     match outcome {
         Ok(true) if output.is_empty() => Ok(Answer::Done),
         Ok(true) => Ok(Answer::Text(output)),
         Ok(false) => Err(TrialFault::Memory),
-        Err(CommandFault::Device) if !rest.is_empty() => {
+        Err(fault) => gave_up(trial, rest, output, fault),
+    }
+}
+
+fn gave_up(
+    trial: &mut Trial,
+    rest: &str,
+    output: String,
+    fault: CommandFault,
+) -> Result<Answer, TrialFault> {
+    match fault {
+        CommandFault::Device if !rest.is_empty() => {
             Ok(Answer::Stopped(with_end(output)?, CommandFault::Device))
         }
-        Err(CommandFault::StoreFailed) => store_failed(trial, output),
-        Err(fault) => stopped(trial, output, fault),
+        CommandFault::StoreFailed => store_failed(trial, output),
+        fault => stopped(trial, output, fault),
     }
+}
+
+// The command on the lines that wait.
+fn run_on_input(
+    trial: &mut Trial,
+    word: &str,
+    is_broken: bool,
+    room: usize,
+) -> (Vec<u8>, Result<bool, CommandFault>) {
+    let input = trial.take_input();
+    let source = Source {
+        bytes: &input,
+        is_broken,
+    };
+    run(trial, word, source, room)
 }
 
 // What a command writes, and how it ends.

@@ -87,7 +87,7 @@ struct Tally {
     count: u64,
 }
 
-// CountsFailures what was found. What came first stands first.
+// Counts what was found. What came first stands first.
 fn add(tallies: &mut Vec<Tally>, found: Found) -> Result<(), AllocError> {
     for tally in tallies.iter_mut() {
         if tally.found == found {

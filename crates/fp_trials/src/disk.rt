@@ -89,14 +89,22 @@ fn read(trial: &mut Trial, word: &str, rest: &str) -> Result<Answer, TrialFault>
     let (at, rest) = first_number(rest)?;
     let length = number(rest)?;
     let mut disk = trial.take_disk();
-    let found = read_from(trial.alloc, &mut disk, at, length)?;
+    let found = read_from(trial.alloc, &mut disk, at, length);
     trial.put_disk(disk);
-    match found {
-        Ok(bytes) if bytes.is_empty() => Ok(Answer::Word("nothing")),
-        Ok(bytes) if word == "text" => Ok(Answer::Text(text_of(trial.alloc, &bytes)?)),
-        Ok(bytes) => Ok(Answer::Text(hex::encode(trial.alloc, bytes.as_slice())?)),
+    match found? {
+        Ok(bytes) => Ok(of_bytes(trial.alloc, word, &bytes)?),
         Err(fault) => trial.fault(fault.into()),
     }
+}
+
+fn of_bytes(alloc: Global, word: &str, bytes: &[u8]) -> Result<Answer, AllocError> {
+    if bytes.is_empty() {
+        return Ok(Answer::Word("nothing"));
+    }
+    if word == "text" {
+        return Ok(Answer::Text(text_of(alloc, bytes)?));
+    }
+    Ok(Answer::Text(hex::encode(alloc, bytes)?))
 }
 
 /// The text that bytes are.
@@ -121,7 +129,7 @@ fn sync(trial: &mut Trial) -> Result<Answer, TrialFault> {
     trial.of_call(outcome)
 }
 
-/// `fuse CALL`, `fuse CALL half`, `fail CALL`, `fail CALL half`, `no_failure`, `crash LENGTH REST FILL ..`, `calls`.
+/// `fuse CALL`, `fuse CALL half`, `fail CALL`, `fail CALL half`, `calm`, `crash LENGTH REST FILL ..`, `calls`.
 pub fn on_faults(trial: &mut Trial, word: &str, rest: &str) -> Result<Answer, TrialFault> {
     match word {
         "fuse" | "fail" => fail(trial, word, rest),
@@ -217,17 +225,25 @@ pub fn part(text: &mut String) -> Result<(), AllocError> {
 
 fn tell_call(text: &mut String, call: &Call) -> Result<(), AllocError> {
     part(text)?;
-    match &call.request {
-        Request::Len => text.push_str("len")?,
-        Request::Read { at, length } => write!(text, "read {at} {length}")?,
-        Request::Write { at, bytes } => tell_write(text, *at, bytes.as_slice().len())?,
-        Request::Sync => text.push_str("sync")?,
+    tell_request(text, &call.request)?;
+    text.push_str(match call.progress {
+        Progress::Whole => "",
+        Progress::Half => " half",
+        Progress::Nothing => " failed",
+    })
+}
+
+fn tell_request(text: &mut String, request: &Request) -> Result<(), AllocError> {
+    match request {
+        Request::Len => text.push_str("len"),
+        Request::Read { at, length } => tell_read(text, *at, *length),
+        Request::Write { at, bytes } => tell_write(text, *at, bytes.as_slice().len()),
+        Request::Sync => text.push_str("sync"),
     }
-    match call.progress {
-        Progress::Whole => Ok(()),
-        Progress::Half => text.push_str(" half"),
-        Progress::Nothing => text.push_str(" failed"),
-    }
+}
+
+fn tell_read(text: &mut String, at: u64, length: usize) -> Result<(), AllocError> {
+    write!(text, "read {at} {length}")
 }
 
 fn tell_write(text: &mut String, at: u64, length: usize) -> Result<(), AllocError> {

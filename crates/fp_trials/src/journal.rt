@@ -1,6 +1,6 @@
 //! Chains and journals in slots of a few bytes.
 
-ghost use Rattle.std.specs.Prelude.{◌≡◌, ◌≤◌, ◌+◌, length};
+ghost use Rattle.std.specs.Prelude.{◌≡◌, ◌≤◌, ◌<◌, ◌+◌, ◌^◌, length};
 ghost use Rattle.fp_journal.specs.State.{room};
 ghost use Rattle.fp_journal.specs.declared.journal.Phase.TheVariants.{Idle};
 
@@ -11,7 +11,7 @@ use fp_disk::{Disk, DiskFault, MemoryDisk};
 use fp_journal::{
     BodyFault, ChainFault, Framed, Journal, Phase, Reader, Slot, read_chain, resume, synced_bytes,
 };
-use std::alloc::Global;
+use std::alloc::{AllocError, Global};
 
 /// `chain STOP MOST BYTES`, `slot START STOP MOST AT [BODY]`.
 pub fn on_slots(trial: &mut Trial, word: &str, rest: &str) -> Result<Answer, TrialFault> {
@@ -92,35 +92,67 @@ fn journal_in(
 
 // `slot START STOP MOST AT BODY`: seals a body, if one is there, and answers the room that is left.
 fn in_slot(trial: &mut Trial, rest: &str) -> Result<Answer, TrialFault> {
-    let alloc = trial.alloc;
-    let (start, rest) = first_number(rest)?;
-    let (stop, rest) = first_number(rest)?;
-    let (most, rest) = first_number(rest)?;
+    let (slot, rest) = slot_in(rest)?;
     let (at, rest) = first_number(rest)?;
-    let body = bytes(alloc, rest)?;
+    let body = bytes(trial.alloc, rest)?;
     if body.len() > 1 << 30 {
         return Err(TrialFault::NotUnderstood);
     }
-    let most = most.min(0xffff_ffff) as u32;
-    let slot = Slot { start, stop, most };
     let disk = trial.take_disk();
-    match journal_in(alloc, disk, slot, at) {
-        Ok(mut journal) => {
-            let has_room = body.is_empty() || sent(&mut journal, Framed::new(alloc, &body)?);
-            let (phase, room) = (journal.phase(), journal.room());
-            trial.put_disk(journal.into_disk());
-            match phase {
-                Phase::Idle if has_room => Ok(Answer::Number(room)),
-                Phase::Idle => Ok(Answer::Word("no room")),
-                _ if trial.is_failing => Ok(Answer::Fault(CommandFault::StoreFailed)),
-                _ => Err(TrialFault::Memory),
-            }
-        }
+    match journal_in(trial.alloc, disk, slot, at) {
+        Ok(journal) => in_journal(trial, journal, &body),
         Err((fault, disk)) => {
             trial.put_disk(disk);
             trial.fault(fault)
         }
     }
+}
+
+// `START STOP MOST`, and what stands behind it.
+fn slot_in(rest: &str) -> Result<(Slot, &str), TrialFault> {
+    let (start, rest) = first_number(rest)?;
+    let (stop, rest) = first_number(rest)?;
+    let (most, rest) = first_number(rest)?;
+    let most = most.min(0xffff_ffff) as u32;
+    Ok((Slot { start, stop, most }, rest))
+}
+
+// Seals the body, if one is there, and goes on with the disk.
+fn in_journal(
+    trial: &mut Trial,
+    journal: Journal<MemoryDisk>,
+    body: &[u8],
+) -> Result<Answer, TrialFault>
+    requires { length body.now < 2 ^ 32 }
+{
+    let mut journal = journal;
+    let has_room = sent_if_any(trial.alloc, &mut journal, body);
+    let (phase, room) = (journal.phase(), journal.room());
+    trial.put_disk(journal.into_disk());
+    if phase == Phase::Idle {
+        return Ok(if has_room? {
+            Answer::Number(room)
+        } else {
+            Answer::Word("no room")
+        });
+    }
+    if trial.is_failing {
+        return Ok(Answer::Fault(CommandFault::StoreFailed));
+    }
+    Err(TrialFault::Memory)
+}
+
+fn sent_if_any(
+    alloc: Global,
+    journal: &mut Journal<MemoryDisk>,
+    body: &[u8],
+) -> Result<bool, AllocError>
+    requires { length body.now < 2 ^ 32 }
+{
+    if body.is_empty() {
+        return Ok(true);
+    }
+    Ok(sent(journal, Framed::new(alloc, body)?))
 }
 
 // The place of the closed gate behind the chain that begins with these bytes, in a slot that ends at this place and whose

@@ -77,11 +77,24 @@ fn drawn(desk: &mut Desk) -> Result<Answer, AllocError>
 fn stop(alloc: Global, opening: Opening, rest: &str) -> Result<Answer, TrialFault> {
     let mut text = String::new(alloc);
     let mut desk = desk_over(alloc, opening)?;
-    tell_submitted(alloc, &mut desk, rest, &mut text)?;
-    desk.stop();
-    tell_submitted(alloc, &mut desk, rest, &mut text)?;
-    tell_drawn(&mut desk, &mut text)?;
+    tell_stopped(alloc, &mut desk, rest, &mut text)?;
     Ok(Answer::Text(text))
+}
+
+fn tell_stopped(
+    alloc: Global,
+    desk: &mut Desk,
+    rest: &str,
+    out: &mut String,
+) -> Result<(), TrialFault> {
+    tell_submitted(alloc, desk, rest, out)?;
+    stop_desk(desk);
+    tell_submitted(alloc, desk, rest, out)?;
+    Ok(tell_drawn(desk, out)?)
+}
+
+fn stop_desk(desk: &mut Desk) {
+    desk.stop();
 }
 
 fn tell_submitted(

@@ -18,6 +18,13 @@ fn understood(trial: &mut Trial, line: &str) -> Result<Answer, TrialFault> {
         "draw" | "stage" | "sync-body" | "open-gate" | "sync-gate" | "settle" | "ack" => {
             event::on_events(trial, word, rest)
         }
+        _ => composed(trial, word, rest),
+    }
+}
+
+// Edits, parts of a world, commands of the program, slots, changed bytes.
+fn composed(trial: &mut Trial, word: &str, rest: &str) -> Result<Answer, TrialFault> {
+    match word {
         "submit" | "submits" | "edit" | "with" | "batch" => event::on_edits(trial, word, rest),
         "stop" | "stray" | "receipt" => parts::on_parts(trial, word, rest),
         "input" | "last" | "raw" => commands::on_input(trial, word, rest),
@@ -102,15 +109,20 @@ fn row(
         let line = line.replace(alloc, "%", word)?;
         let answer = step(trial, line.as_str())?;
         if !matches!(answer, Answer::Done) {
-            out.push_str(if is_first { " " } else { " | " })?;
-            push_in_row(alloc, &answer, out)?;
+            push_in_row(alloc, &answer, is_first, out)?;
             is_first = false;
         }
     }
     out.push_str("\n")
 }
 
-fn push_in_row(alloc: Global, answer: &Answer, out: &mut String) -> Result<(), AllocError> {
+fn push_in_row(
+    alloc: Global,
+    answer: &Answer,
+    is_first: bool,
+    out: &mut String,
+) -> Result<(), AllocError> {
+    out.push_str(if is_first { " " } else { " | " })?;
     let text = format!(in alloc; "{answer}")?;
     let line = text.as_str().trim_end().replace(alloc, "\n", " ")?;
     out.push_str(line.as_str())

@@ -118,39 +118,63 @@ fn words_of(alloc: Global, text: &str) -> Result<Vec<String>, TrialFault> {
     Ok(words)
 }
 
-// `$ WORD ..`: the program's command of these words, of which `''` is the empty one, on the lines that wait. It answers what was written, what was told on the
-// error stream, and a status that isn't 0.
+// What a run of the program wrote, what it told on the error stream, and its status.
+#[derive(Drop)]
+struct Ran {
+    output: Vec<u8>,
+    errors: Vec<u8>,
+    status: u8,
+}
+
+// `$ WORD ..`: the program's command of these words, of which `''` is the empty one, on the lines that wait. It answers
+// what was written, what was told on the error stream, and a status that isn't 0.
 fn program<R: Files + AllocGlobal>(
     rt: &R,
     trial: &mut Trial,
     line: &str,
 ) -> Result<Answer, TrialFault> {
-    let alloc = trial.alloc;
-    let words = words_of(alloc, line)?;
+    let words = words_of(trial.alloc, line)?;
     let input = trial.take_input();
-    let mut reader = FailureCounted::new(input.as_slice());
+    let ran = run(rt, trial.alloc, &words, &input);
+    Ok(Answer::Text(text_of_run(trial.alloc, &ran)?))
+}
+
+fn run<R: Files + AllocGlobal>(rt: &R, alloc: Global, words: &[String], input: &[u8]) -> Ran {
+    let mut reader = FailureCounted::new(input);
     let mut writer = FailureCounted::new(Vec::new(alloc));
     let mut errors = FailureCounted::new(Vec::new(alloc));
     let mut files = SystemFiles::of(rt);
     let status = command(
         alloc,
         &mut files,
-        &words,
+        words,
         &mut reader,
         &mut writer,
         &mut errors,
         0,
     );
-    let mut text = text_of(alloc, &writer.into_inner())?;
-    let told = text_of(alloc, &errors.into_inner())?;
-    if text.as_str().contains("out-of-memory") || told.as_str().contains("out of memory") {
-        return Err(TrialFault::Memory);
+    Ran {
+        output: writer.into_inner(),
+        errors: errors.into_inner(),
+        status,
+    }
+}
+
+fn text_of_run(alloc: Global, ran: &Ran) -> Result<String, AllocError> {
+    let mut text = text_of(alloc, &ran.output)?;
+    let told = text_of(alloc, &ran.errors)?;
+    if tells_of_memory(text.as_str(), told.as_str()) {
+        return Err(AllocError);
     }
     text.push_str(told.as_str())?;
-    if status != 0 {
-        tell_status(status, &mut text)?;
+    if ran.status != 0 {
+        tell_status(ran.status, &mut text)?;
     }
-    Ok(Answer::Text(text))
+    Ok(text)
+}
+
+fn tells_of_memory(output: &str, errors: &str) -> bool {
+    output.contains("out-of-memory") || errors.contains("out of memory")
 }
 
 fn tell_status(status: u8, out: &mut String) -> Result<(), AllocError> {

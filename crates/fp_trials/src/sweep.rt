@@ -80,17 +80,35 @@ fn row(
     found: &mut Vec<(u64, String)>,
     out: &mut String,
 ) -> Result<bool, AllocError> {
-    let (trial, stop) = run_to(alloc, course)?;
-    tell_stop(&stop, trial.told, out)?;
-    for fill in FILLS {
-        after_crash(alloc, course, 0, fill, found, out)?;
-    }
+    let is_stopped = tell_run(alloc, course, out)?;
+    after_crashes(alloc, course, 0, found, out)?;
     out.push_str(" |")?;
-    for fill in FILLS {
-        after_crash(alloc, course, u64::MAX, fill, found, out)?;
-    }
+    after_crashes(alloc, course, u64::MAX, found, out)?;
     out.push_str("\n")?;
+    Ok(is_stopped)
+}
+
+// Runs the block, and tells where it ended and whether the disk failed.
+fn tell_run(alloc: Global, course: StoreRun<'_>, out: &mut String) -> Result<bool, AllocError> {
+    let mut trial = begun(alloc, course)?;
+    let stop = run_to(&mut trial, course.block)?;
+    tell_stop(&stop, trial.told, out)?;
     Ok(matches!(stop, Stop::In(_)))
+}
+
+// What is found behind a crash with each choice of what is pending, of disks so long.
+fn after_crashes(
+    alloc: Global,
+    course: StoreRun<'_>,
+    length: u64,
+    found: &mut Vec<(u64, String)>,
+    out: &mut String,
+) -> Result<(), AllocError> {
+    for fill in FILLS {
+        let mut trial = crashed(alloc, course, length, fill)?;
+        tell_opened(&mut trial, found, out)?;
+    }
+    Ok(())
 }
 
 // How a run of a block ended.
@@ -112,32 +130,36 @@ fn tell_stop(stop: &Stop<'_>, told: u64, out: &mut String) -> Result<(), AllocEr
     }
 }
 
-// Runs the block to the line at which the disk fails, or to its end.
-fn run_to<'a>(alloc: Global, course: StoreRun<'a>) -> Result<(Trial, Stop<'a>), AllocError> {
+// A disk of these bytes, whose calls fail so.
+fn begun(alloc: Global, course: StoreRun<'_>) -> Result<Trial, AllocError> {
     let disk = MemoryDisk::holding(alloc, course.bytes.to_vec(alloc)?)?;
     let mut trial = Trial::new(alloc, disk);
     trial.set_failing(course.failing, course.writes);
-    for line in course.block {
+    Ok(trial)
+}
+
+// Runs the block to the line at which the disk fails, or to its end.
+fn run_to<'a>(trial: &mut Trial, block: &'a [String]) -> Result<Stop<'a>, AllocError> {
+    for line in block {
         let line = line.as_str();
-        match step(&mut trial, line)? {
-            Answer::NotUnderstood => return Ok((trial, Stop::NotUnderstood(line))),
-            answer if answer.is_fault() => return Ok((trial, Stop::In(line))),
+        match step(trial, line)? {
+            Answer::NotUnderstood => return Ok(Stop::NotUnderstood(line)),
+            answer if answer.is_fault() => return Ok(Stop::In(line)),
             _ => {}
         }
     }
-    Ok((trial, Stop::None))
+    Ok(Stop::None)
 }
 
-// Runs the block, cuts the power, and tells what the disk is opened as.
-fn after_crash(
+// Runs the block, and cuts the power.
+fn crashed(
     alloc: Global,
     course: StoreRun<'_>,
     length: u64,
     rest: Fill,
-    found: &mut Vec<(u64, String)>,
-    out: &mut String,
-) -> Result<(), AllocError> {
-    let (mut trial, _) = run_to(alloc, course)?;
+) -> Result<Trial, AllocError> {
+    let mut trial = begun(alloc, course)?;
+    let _stop = run_to(&mut trial, course.block)?;
     crash_as(
         &mut trial,
         Choice {
@@ -146,8 +168,17 @@ fn after_crash(
             rest,
         },
     )?;
-    match step(&mut trial, "open")? {
-        Answer::Revision(revision) => tell_revision(&mut trial, revision, found, out),
+    Ok(trial)
+}
+
+// What the disk is opened as.
+fn tell_opened(
+    trial: &mut Trial,
+    found: &mut Vec<(u64, String)>,
+    out: &mut String,
+) -> Result<(), AllocError> {
+    match step(trial, "open")? {
+        Answer::Revision(revision) => tell_revision(trial, revision, found, out),
         Answer::Fault(CommandFault::Unformatted) => out.push_str(" -"),
         answer => write!(out, " ({answer})"),
     }
@@ -240,13 +271,14 @@ fn round(trial: &mut Trial, each: u64, seed: u64) -> Result<u64, TrialFault> {
     trial.set_failing(Failing::From(3 + seed % 48), FailedWrite::Half);
     let _revision = step(trial, "open")?;
     let seed = edits(trial, each, seed)?;
-    crash_as(
-        trial,
-        Choice {
-            length: if seed / 8 % 2 == 0 { 0 } else { u64::MAX },
-            writes: &[],
-            rest: FILLS[(seed % 8) as usize],
-        },
-    )?;
+    crash_as(trial, drawn_choice(seed))?;
     Ok(seed)
+}
+
+fn drawn_choice(seed: u64) -> Choice<'static> {
+    Choice {
+        length: if seed / 8 % 2 == 0 { 0 } else { u64::MAX },
+        writes: &[],
+        rest: FILLS[(seed % 8) as usize],
+    }
 }

@@ -67,10 +67,18 @@ fn push_word(alloc: Global, bytes: &mut Vec<u8>, word: &str) -> Result<(), Trial
         bytes.extend_from_slice(text.as_bytes())?;
         return Ok(());
     }
-    let (digits, times) = match word.split_once('*') {
-        Some((digits, times)) => (digits, number(times)?),
-        None => (word, 1),
-    };
+    match word.split_once('*') {
+        Some((digits, times)) => push_digits(alloc, bytes, digits, number(times)?),
+        None => push_digits(alloc, bytes, word, 1),
+    }
+}
+
+fn push_digits(
+    alloc: Global,
+    bytes: &mut Vec<u8>,
+    digits: &str,
+    times: u64,
+) -> Result<(), TrialFault> {
     let some = of_hex(alloc, digits)?;
     for _ in 0..times {
         bytes.extend_from_slice(&some)?;
@@ -119,6 +127,10 @@ pub fn line_of(alloc: Global, text: &str) -> Result<String, TrialFault> {
         Some((text, expected)) => (text, expected),
         None => (text, "any"),
     };
+    spelled(alloc, text, expected)
+}
+
+fn spelled(alloc: Global, text: &str, expected: &str) -> Result<String, TrialFault> {
     let (word, rest) = first_word(text);
     let (key, length) = first_word(rest);
     match word {
