@@ -58,8 +58,9 @@ most_of limit = limit / 4 - 6
 abbrev pub and_more : Group → Change → Group
 and_more group c = record { first = group.first; changes = group.changes ++ c ∷ [] }
 
--- The group is a first part of what waits, and the longest of 1 to 64 edits within the most bytes. Where these are
--- fewer than the longest edit takes, which they are in no slot, one edit is taken whatever it takes
+-- The group is a first part of what waits, and the longest of 1 to 64 edits within the most bytes.
+-- Where these are fewer than the longest edit takes, which they are in no slot, one edit is taken
+-- whatever it takes
 pub record IsLongestPart (most : ℕ) (group : Group) (waiting rest : List Change) : Type 0 where
   pub parts : waiting ≡ group.changes ++ rest
   pub some : 0 < length group.changes
@@ -92,12 +93,15 @@ pub record IsAccepted (old new : DeskState) (edit : Proposal) : Type 0 where
 abbrev pub Refuses : DeskState → Proposal → SubmitFault → Type 0
 Refuses d edit submit.Stopped = d.stopped ≡ true
 Refuses d edit (submit.Edit fault) = (d.stopped ≡ false) × (refusal (head d) edit ≡ Some fault)
-Refuses d edit submit.QueueFull = (d.stopped ≡ false) × (refusal (head d) edit ≡ None) × (queued d ≡ MOST_QUEUED)
-Refuses d edit submit.Memory = (d.stopped ≡ false) × (refusal (head d) edit ≡ None) × (queued d < MOST_QUEUED)
+Refuses d edit submit.QueueFull = (d.stopped ≡ false) × (refusal (head d) edit ≡ None)
+    × (queued d ≡ MOST_QUEUED)
+Refuses d edit submit.Memory = (d.stopped ≡ false) × (refusal (head d) edit ≡ None)
+    × (queued d < MOST_QUEUED)
 
 -- the receipt's batch is what is drawn
 abbrev pub IsDrawn : DeskState → ReceiptState → Type 0
-IsDrawn d r = (d.drawn ≢ []) × (r.batch.first ≡ settled_revision d + 1) × (r.batch.changes ≡ d.drawn)
+IsDrawn d r = (d.drawn ≢ []) × (r.batch.first ≡ settled_revision d + 1)
+    × (r.batch.changes ≡ d.drawn)
 
 -- why a receipt wasn't spent
 abbrev pub SettlesNot : DeskState → ReceiptState → SettleFault → Type 0

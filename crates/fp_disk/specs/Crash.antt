@@ -26,12 +26,19 @@ fill_of fills rest n = unwrap_or (slice_get fills n) rest
 abbrev pub reaches : ℕ × List ℕ → ℕ → Bool
 reaches w k = nat_le w.0 k && nat_lt k (w.0 + length w.1)
 
--- the byte at place k, which was this before these writes, the last of them first, came out as they were chosen
+-- the byte at place k, which was this before these writes, the last of them first,
+-- came out as they were chosen
 abbrev pub laid : List Fill → Fill → List (ℕ × List ℕ) → ℕ → ℕ → ℕ
 laid fills rest [] k byte = byte
-laid fills rest (w ∷ ws) k byte = (if reaches w k then filled (fill_of fills rest (length ws)) k (laid fills rest ws k byte) (slice_index w.1 (k - w.0)) else laid fills rest ws k byte)
+laid fills rest (w ∷ ws) k byte =
+    (if reaches w k
+     then filled (fill_of fills rest (length ws)) k (laid fills rest ws k byte)
+       (slice_index w.1 (k - w.0))
+     else laid fills rest ws k byte)
 
 -- a crash in this state leaves this, by this choice
-pub record IsLeft (wanted : ℕ) (fills : List Fill) (rest : Fill) (s : State) (c : List ℕ) : Type 0 where
+pub record IsLeft (wanted : ℕ) (fills : List Fill) (rest : Fill) (s : State)
+    (c : List ℕ) : Type 0 where
   pub length_is : length c ≡ max (length s.synced) (min wanted (unsynced_of s).reach)
-  pub places : (k : ℕ) → k < length c → slice_index c k ≡ laid fills rest s.writes k (slice_index_or s.synced k (filled rest k 0 0))
+  pub places : (k : ℕ) → k < length c →
+      slice_index c k ≡ laid fills rest s.writes k (slice_index_or s.synced k (filled rest k 0 0))

@@ -57,7 +57,8 @@ synced_after Nothing s = s
 abbrev pub after_request : Request → Progress → State → State
 after_request Len p s = s
 after_request (Read at n) p s = s
-after_request (Write at more) p s = record { bytes = written p s.bytes at more; synced = s.synced; writes = (at, more) ∷ s.writes }
+after_request (Write at more) p s =
+    record { bytes = written p s.bytes at more; synced = s.synced; writes = (at, more) ∷ s.writes }
 after_request Sync p s = synced_after p s
 
 abbrev pub after : State → Call → State
@@ -81,7 +82,8 @@ reach_of n [] = n
 reach_of n (w ∷ ws) = max (reach_of n ws) (w.0 + length w.1)
 
 abbrev pub unsynced_of : State → PendingState
-unsynced_of s = record { synced = s.synced; ranges = ranges_of s.writes; reach = reach_of (length s.synced) s.writes }
+unsynced_of s = record { synced = s.synced; ranges = ranges_of s.writes;
+    reach = reach_of (length s.synced) s.writes }
 
 -- the state after the first k calls
 abbrev pub state_at : List ℕ → List Call → ℕ → State
@@ -89,7 +91,8 @@ state_at first calls k = replay (at_first first) (take k calls)
 
 -- a crash after one of the calls since the t-th might have left this
 abbrev pub LeftSince : List ℕ → List Call → ℕ → List ℕ → Type 0
-LeftSince first calls t c = (k : ℕ) × (t ≤ k) × (k ≤ length calls) × IsOutcome (unsynced_of (state_at first calls k)) c
+LeftSince first calls t c = (k : ℕ) × (t ≤ k) × (k ≤ length calls)
+    × IsOutcome (unsynced_of (state_at first calls k)) c
 
 -- what a request asks for
 abbrev pub kind_of : Request → CallKind
@@ -124,24 +127,34 @@ state m = replay (at_first m.first) m.calls
 
 -- a disk that holds this, with nothing pending and no call made
 abbrev pub fresh : List ℕ → Memory
-fresh bytes = record { first = bytes; calls = []; failing = Never; failed_writes = Failed.Nothing; made = []; faults = 0 }
+fresh bytes = record { first = bytes; calls = []; failing = Never; failed_writes = Failed.Nothing;
+    made = []; faults = 0 }
 
 -- a call that was recorded
 abbrev pub recorded : Memory → Call → Memory
-recorded m c = record { first = m.first; calls = m.calls ++ c ∷ []; failing = after_call m.failing; failed_writes = m.failed_writes; made = m.made ++ kind_of c.request ∷ []; faults = m.faults }
+recorded m c = record { first = m.first; calls = m.calls ++ c ∷ []; failing = after_call m.failing;
+    failed_writes = m.failed_writes; made = m.made ++ kind_of c.request ∷ []; faults = m.faults }
 
 -- a call that failed as it was told to
 abbrev pub failed : Memory → Call → Memory
-failed m c = record { first = m.first; calls = m.calls ++ c ∷ []; failing = after_call m.failing; failed_writes = m.failed_writes; made = m.made ++ kind_of c.request ∷ []; faults = m.faults + 1 }
+failed m c = record { first = m.first; calls = m.calls ++ c ∷ []; failing = after_call m.failing;
+    failed_writes = m.failed_writes; made = m.made ++ kind_of c.request ∷ [];
+    faults = m.faults + 1 }
 
 -- a call that failed since there was no memory to record it
 abbrev pub refused : Memory → Request → Memory
-refused m request = record { first = m.first; calls = m.calls; failing = after_call m.failing; failed_writes = m.failed_writes; made = m.made ++ kind_of request ∷ []; faults = m.faults + 1 }
+refused m request = record { first = m.first; calls = m.calls; failing = after_call m.failing;
+    failed_writes = m.failed_writes; made = m.made ++ kind_of request ∷ []; faults = m.faults + 1 }
 
--- What a call did. It succeeds only if it passes; one that is to fail, fails; and one that leaves no record found no memory for it.
-pub record Answered {T : Type 0} (old new : Memory) (request : Request) (progress : Progress) (result : Result T DiskFault) : Type 0 where
-  pub ok : OnOk result (IsTrue (passes old.failing) × (new ≡ recorded old (record { request = request; progress = Whole })))
-  pub err : OnErr result ((((IsTrue (passes old.failing)) → ⊥) × (new ≡ failed old (record { request = request; progress = progress }))) ⊎ (new ≡ refused old request))
+-- What a call did. It succeeds only if it passes; one that is to fail, fails;
+-- and one that leaves no record found no memory for it.
+pub record Answered {T : Type 0} (old new : Memory) (request : Request) (progress : Progress)
+    (result : Result T DiskFault) : Type 0 where
+  pub ok : OnOk result (IsTrue (passes old.failing)
+      × (new ≡ recorded old (record { request = request; progress = Whole })))
+  pub err : OnErr result ((((IsTrue (passes old.failing)) → ⊥)
+      × (new ≡ failed old (record { request = request; progress = progress })))
+      ⊎ (new ≡ refused old request))
 
 -- the writes with one more, if this is a write
 abbrev pub with_request : List (ℕ × List ℕ) → Request → List (ℕ × List ℕ)
@@ -155,8 +168,10 @@ abbrev pub writes_after : List (ℕ × List ℕ) → List Call → List (ℕ × 
 writes_after ws [] = ws
 writes_after ws (c ∷ cs) = writes_after (with_request ws c.request) cs
 
--- the fields of a disk in memory are those of its state, the calls from the settled ones on made its pending writes, and all is bytes
-pub record Keeps (first bytes synced : List ℕ) (calls : List Call) (all_synced reach : ℕ) : Type 0 where
+-- the fields of a disk in memory are those of its state,
+-- the calls from the settled ones on made its pending writes, and all is bytes
+pub record Keeps (first bytes synced : List ℕ) (calls : List Call)
+    (all_synced reach : ℕ) : Type 0 where
   pub bytes_are : bytes ≡ (replay (at_first first) calls).bytes
   pub synced_are : synced ≡ (replay (at_first first) calls).synced
   pub pending : writes_after [] (drop all_synced calls) ≡ (replay (at_first first) calls).writes

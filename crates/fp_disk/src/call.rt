@@ -1,3 +1,5 @@
+//! The calls of a disk in memory, as it records them.
+
 ghost use Rattle.std.specs.Prelude.{◌≡◌, ◌↔◌, List, ℕ, IfOk, IsTrue};
 
 use std::alloc::{AllocError, Global};

@@ -1,3 +1,5 @@
+//! What a crash leaves, as a trial chooses it.
+
 ghost use Rattle.std.specs.Prelude.{◌≡◌};
 ghost use Rattle.fp_disk.specs.Crash.{drawn, filled};
 

@@ -1,3 +1,5 @@
+//! A crash of a disk in memory: the synced bytes, and each pending write as it was chosen.
+
 ghost use Rattle.std.specs.Prelude.{◌≡◌, ◌≤◌, ◌<◌, ◌-◌, ℕ, [], length, slice_index, slice_index_or, if◌then◌else◌, IfOk};
 ghost use Rattle.fp_disk.specs.Outcomes.{IsOutcome};
 ghost use Rattle.fp_disk.specs.Memory.{HoldsBytes, state, fresh, unsynced_of, writes_after};

@@ -1,3 +1,5 @@
+//! Which calls of a disk in memory fail, and what a write does that fails.
+
 ghost use Rattle.std.specs.Prelude.{◌≡◌};
 ghost use Rattle.fp_disk.specs.Memory.{passes, after_call, call_progress, write_progress};
 

@@ -249,7 +249,8 @@ impl FlagSet {
 
     // What the key's flag takes in the image, 0 without one.
     pub(crate) fn cost_at(&self, key: &FlagKey) -> u128
-        ensures { result ≡ cost_found (key_bytes key.now) (map.get self.now.flags (key_bytes key.now)) }
+        ensures { result ≡ cost_found (key_bytes key.now)
+            (map.get self.now.flags (key_bytes key.now)) }
     {
         cost_at(&self.flags, key)
     }

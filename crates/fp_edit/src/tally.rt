@@ -22,7 +22,8 @@ fn is_key_of(edit: &Edit, key: &FlagKey) -> bool
 
 // What a key's flag takes after an edit, where it took that much before.
 pub(crate) fn key_cost(edit: &Edit, key: &FlagKey, before: u128) -> u128
-    ensures { (s : State) → before ≡ cost_found (key_bytes key.now) (map.get s.flags (key_bytes key.now))
+    ensures { (s : State) → before ≡ cost_found (key_bytes key.now)
+        (map.get s.flags (key_bytes key.now))
         → result ≡ cost_found (key_bytes key.now)
         (map.get (next s (change_of edit.now)).flags (key_bytes key.now)) }
 {
@@ -43,7 +44,8 @@ fn with_flag(limit: u64, count: usize, size: u64, found: u128, cost: u128) -> Op
     ensures within { IfSome result (λ n. (n.0 ≤ MOST_FLAGS) × (n.1 ≤ limit)) }
     ensures count { IfSome result (λ n. (found ≡ 0 → n.0 ≡ count + 1) × (0 < found → n.0 ≡ count)) }
     ensures size { IfSome result (λ n. n.1 + found ≡ size + cost) }
-    ensures none { IfNone result (((found ≡ 0) × (MOST_FLAGS < count + 1)) ⊎ ((0 < found) × (MOST_FLAGS < count))
+    ensures none { IfNone result (((found ≡ 0) × (MOST_FLAGS < count + 1))
+        ⊎ ((0 < found) × (MOST_FLAGS < count))
         ⊎ (limit + found < size + cost)) }
 {
     let there = if found > 0 { 1 } else { 0 };
@@ -67,11 +69,13 @@ pub(crate) fn judged(
     requires found { found ≤ size }
     requires some { 0 < found → 0 < count }
     ensures accepted { (s : State) → Tallies limit revision count size s
-        → found ≡ cost_found (changed_key (change_of edit.now)) (map.get s.flags (changed_key (change_of edit.now)))
+        → found ≡ cost_found (changed_key (change_of edit.now))
+            (map.get s.flags (changed_key (change_of edit.now)))
         → IfSome result (λ n. (refusal s (unconditional (change_of edit.now)) ≡ None)
         × Tallies limit (revision + 1) n.0 n.1 (next s (change_of edit.now))) }
     ensures refused { (s : State) → Tallies limit revision count size s
-        → found ≡ cost_found (changed_key (change_of edit.now)) (map.get s.flags (changed_key (change_of edit.now)))
+        → found ≡ cost_found (changed_key (change_of edit.now))
+            (map.get s.flags (changed_key (change_of edit.now)))
         → IfNone result (refusal s (unconditional (change_of edit.now)) ≡ None → ⊥) }
 {
     if revision >= REVISIONS_END - 1 {

@@ -5,7 +5,8 @@ use Rattle.fp_files.specs.Openings.{KeepsAll, KeepsOthers}
 use Rattle.fp_files.specs.declared.files.DiskFiles.{Ghosts}
 
 -- the file at the path was to be opened and wasn't, which was counted
-pub record IsNotOpened {F D : Type 0} (files : Ghosts F D) (old new : F) (path : List ℕ) : Type 0 where
+pub record IsNotOpened {F D : Type 0} (files : Ghosts F D) (old new : F)
+    (path : List ℕ) : Type 0 where
   pub asked : files.asked new ≡ files.asked old ++ path ∷ []
   pub same : KeepsAll files.at old new
   pub counted : files.faults old < files.faults new
@@ -25,4 +26,5 @@ IsThere files old path before = files.at old path ≡ Some before
 -- it is, or there was none and it is empty
 abbrev pub IsThereOrNew : {F D : Type 0} → Ghosts F D → DiskGhosts D → F → List ℕ → D → Type 0
 IsThereOrNew files disk old path before =
-    IsThere files old path before ⊎ ((files.at old path ≡ None) × (disk.honest before → disk.bytes before ≡ []))
+    IsThere files old path before ⊎ ((files.at old path ≡ None)
+        × (disk.honest before → disk.bytes before ≡ []))

@@ -1,3 +1,5 @@
+//! A number in proofs alone that only grows.
+
 ghost use Rattle.std.specs.Prelude.{◌≡◌, ◌+◌, ℕ, [], ◌∷◌, length};
 
 use crate::growing::{Growing, Lists};

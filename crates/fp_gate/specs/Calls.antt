@@ -9,7 +9,8 @@ use Rattle.fp_disk.specs.declared.disk.DiskFault.{DiskFault}
 use Rattle.fp_disk.specs.declared.history.CallKind.{CallKind}
 use Rattle.fp_disk.specs.declared.history.CallKind.TheVariants.{Write}
 
--- A step makes these calls and keeps the disk's name and its word; it answers a fault exactly where the device failed
+-- A step makes these calls and keeps the disk's name and its word;
+-- it answers a fault exactly where the device failed
 pub record MakesCalls {D T : Type 0} (disk : Ghosts D) (kinds : List CallKind)
     (old new : Named D) (result : Result T DiskFault) : Type 0 where
   pub name : new.name ≡ old.name
@@ -17,7 +18,8 @@ pub record MakesCalls {D T : Type 0} (disk : Ghosts D) (kinds : List CallKind)
   pub called : Makes kinds (disk.calls old.disk) (disk.calls new.disk) result
   pub cause : Answers (disk.faults old.disk) (disk.faults new.disk) result
 
--- A call writes this byte at a place, or fails and did so or nothing. A crash may show it from then on
+-- A call writes this byte at a place, or fails and did so or nothing.
+-- A crash may show it from then on
 pub record WritesByte {D T : Type 0} (disk : Ghosts D) (old new : Named D) (at byte : ℕ)
     (result : Result T DiskFault) : Type 0 where
   pub name : new.name ≡ old.name

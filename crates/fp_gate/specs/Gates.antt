@@ -10,9 +10,11 @@ pub record Gated : Type 0 where
   pub from : ℕ
   pub to : ℕ
 
--- A sync of the disk of this name, no later than now. The clock of a disk that isn't honest says nothing
+-- A sync of the disk of this name, no later than now.
+-- The clock of a disk that isn't honest says nothing
 abbrev pub IsSyncOf : {D : Type 0} (honest : D → Type 0) (moment : D → ℕ) → D → ℕ → Mark → Type 0
-IsSyncOf honest moment disk name mark = (mark.disk ≡ name) × (honest disk → mark.moment ≤ moment disk)
+IsSyncOf honest moment disk name mark = (mark.disk ≡ name)
+    × (honest disk → mark.moment ≤ moment disk)
 
 -- its byte is there and isn't a5, whatever a crash leaves
 abbrev pub IsShut : PendingState → ℕ → Type 0
@@ -24,7 +26,8 @@ IsOpen u at = (c : List ℕ) → IsOutcome u c → (at < length c) × (slice_ind
 
 -- these places are there
 abbrev pub Agrees : ℕ → ℕ → List ℕ → List ℕ → Type 0
-Agrees from to bytes c = (k : ℕ) → from ≤ k → k < to → (k < length c) × (slice_index c k ≡ slice_index bytes k)
+Agrees from to bytes c = (k : ℕ) → from ≤ k → k < to → (k < length c)
+    × (slice_index c k ≡ slice_index bytes k)
 
 -- these places are there and as they are read, whatever a crash leaves
 abbrev pub StaysAsRead : PendingState → List ℕ → ℕ → ℕ → Type 0
@@ -49,7 +52,8 @@ pub record IsClosedAt (u : PendingState) (at : ℕ) : Type 0 where
 
 -- these bytes stand at a place
 abbrev pub HasAt : ℕ → List ℕ → List ℕ → Type 0
-HasAt at bytes c = (k : ℕ) → k < length bytes → (at + k < length c) × (slice_index c (at + k) ≡ slice_index bytes k)
+HasAt at bytes c = (k : ℕ) → k < length bytes → (at + k < length c)
+    × (slice_index c (at + k) ≡ slice_index bytes k)
 
 -- where the gate is open, these bytes stand behind it
 abbrev pub HasBehind : ℕ → ℕ → List ℕ → List ℕ → Type 0

@@ -21,7 +21,8 @@ abbrev pub spell : List (List ℕ) → List ℕ
 spell [] = []
 spell (b ∷ bs) = OPEN ∷ (framed b ++ spell bs)
 
--- The text stands there, and before this stop it ends at a closed gate. Behind that gate may be anything
+-- The text stands there, and before this stop it ends at a closed gate.
+-- Behind that gate may be anything
 pub record Ends (at stop : ℕ) (text c : List ℕ) : Type 0 where
   pub gate : ℕ
   pub shut : gate ≢ OPEN

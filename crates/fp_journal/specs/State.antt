@@ -17,8 +17,9 @@ pub record SealedBodies : Type 0 where
   pub name : ℕ
   pub bodies : List (List ℕ)
 
--- In its slot lie the front, which was there when the journal began, and the bodies sealed since; one body more may be on its way.
--- `begun` says whether a call began to open the gate in front of it, which the phase alone tells until a call fails
+-- In its slot lie the front, which was there when the journal began, and the bodies sealed since;
+-- one body more may be on its way. `begun` says whether a call began to open the gate in front of
+-- it, which the phase alone tells until a call fails
 pub record JournalState (D : Type 0) : Type 0 where
   pub disk : D
   pub disk_name : ℕ
@@ -37,10 +38,12 @@ HasChain slot front bodies c = Ends slot.start slot.stop (front ++ spell bodies)
 
 -- the same, or with one body more
 abbrev pub HasChainOrNext : Slot → List ℕ → List (List ℕ) → List ℕ → List ℕ → Type 0
-HasChainOrNext slot front bodies body c = HasChain slot front bodies c ⊎ HasChain slot front (bodies ++ body ∷ []) c
+HasChainOrNext slot front bodies body c = HasChain slot front bodies c
+    ⊎ HasChain slot front (bodies ++ body ∷ []) c
 
 -- behind the closed gate stand the next body with its length, and a closed gate
-pub record HasNext (slot : Slot) (front : List ℕ) (bodies : List (List ℕ)) (body c : List ℕ) : Type 0 where
+pub record HasNext (slot : Slot) (front : List ℕ) (bodies : List (List ℕ))
+    (body c : List ℕ) : Type 0 where
   pub chain : HasChain slot front bodies c
   pub next : Ends (slot.start + length (front ++ spell bodies) + 1) slot.stop (framed body) c
 
@@ -67,7 +70,8 @@ HasAmong true slot front bodies body c = HasChainOrNext slot front bodies body c
 
 -- what each outcome is at each phase
 abbrev pub ClaimsAt : Phase → Bool → Slot → List ℕ → List (List ℕ) → List ℕ → List ℕ → Type 0
-ClaimsAt phase begun slot front bodies body c = HasAmong (has_begun phase begun) slot front bodies body c
+ClaimsAt phase begun slot front bodies body c =
+    HasAmong (has_begun phase begun) slot front bodies body c
 
 abbrev pub CrashStates : {D : Type 0} → JournalState D → List ℕ → Type 0
 CrashStates k c = ClaimsAt k.phase k.begun k.slot k.front k.sealed k.staged c
@@ -93,9 +97,11 @@ room k = k.slot.stop - (k.slot.start + length (k.front ++ spell k.sealed))
 
 -- the journal, its slot, the front and the disk's name are the same
 abbrev pub SameSlot : {D : Type 0} → JournalState D → JournalState D → Type 0
-SameSlot old new = (new.name ≡ old.name) × (new.slot ≡ old.slot) × (new.front ≡ old.front) × (new.disk_name ≡ old.disk_name)
+SameSlot old new = (new.name ≡ old.name) × (new.slot ≡ old.slot) × (new.front ≡ old.front)
+    × (new.disk_name ≡ old.disk_name)
 
--- ---- what the disk may be at each phase; text is the front and the bodies, more the staged one behind its length
+-- ---- what the disk may be at each phase; text is the front and the bodies,
+-- more the staged one behind its length
 -- the text and its closed gate are firm
 pub record EndsClosed (start stop : ℕ) (text : List ℕ) (u : PendingState) : Type 0 where
   pub gate : ℕ
@@ -129,9 +135,12 @@ IsLeft true u start stop text more = EndsClosed start stop text u ⊎ IsBetween 
 
 abbrev pub IsAt : Phase → Bool → PendingState → List ℕ → ℕ → ℕ → List ℕ → List ℕ → List ℕ → Type 0
 IsAt Idle begun u b start stop text more next = EndsClosed start stop text u
-IsAt Staged begun u b start stop text more next = EndsClosed start stop text u × IsReady start stop text more b
-IsAt BodySynced begun u b start stop text more next = EndsClosed start stop text u × IsDurable start stop text more u
-IsAt GateOpened begun u b start stop text more next = Ends start stop next b × IsBetween start stop text more u
+IsAt Staged begun u b start stop text more next = EndsClosed start stop text u
+    × IsReady start stop text more b
+IsAt BodySynced begun u b start stop text more next = EndsClosed start stop text u
+    × IsDurable start stop text more u
+IsAt GateOpened begun u b start stop text more next = Ends start stop next b
+    × IsBetween start stop text more u
 IsAt Failed begun u b start stop text more next = IsLeft begun u start stop text more
 
 -- ---- what holds of the numbers alone
@@ -152,13 +161,17 @@ InFlight Failed most left body bytes = Unit {0}
 abbrev pub AllShort : ℕ → List (List ℕ) → Type 0
 AllShort most bodies = AllByRecursion (λ (b : List ℕ). length b ≤ most) bodies
 
--- ---- the invariant of a journal whose closed gate lies at this end, and whose body on its way has these bytes
-pub record IsKept {D : Type 0} (honest : D → Type 0) (bytes : D → List ℕ) (unsynced : D → PendingState) (k : JournalState D) (end : ℕ) (in_flight : List ℕ) : Type 0 where
+-- ---- the invariant of a journal whose closed gate lies at this end,
+-- and whose body on its way has these bytes
+pub record IsKept {D : Type 0} (honest : D → Type 0) (bytes : D → List ℕ)
+    (unsynced : D → PendingState) (k : JournalState D) (end : ℕ) (in_flight : List ℕ) : Type 0 where
   pub place : end ≡ k.slot.start + length (k.front ++ spell k.sealed)
   pub within : end < k.slot.stop
   pub short : AllShort k.slot.most k.sealed
   pub flight : InFlight k.phase k.slot.most (k.slot.stop - end) k.staged in_flight
-  pub state : honest k.disk → IsAt k.phase k.begun (unsynced k.disk) (bytes k.disk) k.slot.start k.slot.stop (k.front ++ spell k.sealed) (framed k.staged) (k.front ++ spell (k.sealed ++ k.staged ∷ []))
+  pub state : honest k.disk → IsAt k.phase k.begun (unsynced k.disk)
+      (bytes k.disk) k.slot.start k.slot.stop (k.front ++ spell k.sealed) (framed k.staged)
+      (k.front ++ spell (k.sealed ++ k.staged ∷ []))
 
 -- ---- what a journal keeps for its next call
 abbrev pub phase_of : {D : Type 0} → Held D → Phase
@@ -177,9 +190,11 @@ begun_of (held.GateOpened gate) = true
 begun_of (held.Failed begun) = begun
 
 -- the token is of a sync of its disk; the gate is the one in front of the body
-abbrev pub IsHeld : {D : Type 0} (honest : D → Type 0) (moment : D → ℕ) → D → ℕ → ℕ → Held D → Type 0
+abbrev pub IsHeld : {D : Type 0} (honest : D → Type 0) (moment : D → ℕ) → D → ℕ → ℕ → Held D →
+    Type 0
 IsHeld honest moment disk disk_name end held.Idle = Unit {0}
 IsHeld honest moment disk disk_name end held.Staged = Unit {0}
-IsHeld honest moment disk disk_name end (held.BodySynced synced) = IsSyncOf honest moment disk disk_name synced
+IsHeld honest moment disk disk_name end (held.BodySynced synced) =
+    IsSyncOf honest moment disk disk_name synced
 IsHeld honest moment disk disk_name end (held.GateOpened gate) = gate.at ≡ end
 IsHeld honest moment disk disk_name end (held.Failed begun) = Unit {0}

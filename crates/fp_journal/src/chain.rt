@@ -1,3 +1,5 @@
+//! Reading the chain of a slot, body by body.
+
 ghost use Rattle.std.specs.Prelude.{◌≡◌, ◌<◌, ◌≤◌, ◌^◌, List, ℕ, length, IfOk, IfErr, OnOk, MatchOption};
 ghost use Rattle.fp_journal.specs.Reading.{Breaks, FoundChain, IsClosed, IsNext, IsOnlyDamage, IsWrong, Refuses};
 ghost use Rattle.fp_journal.specs.declared.chain.ChainFault.TheVariants.{Damaged, Memory};
@@ -44,7 +46,8 @@ fn next_body(
     stop: u64,
     most: u32,
 ) -> Result<Option<(&[u8], u64)>, ChainFault>
-    ensures found { IfOk result (λ o. MatchOption o (IsClosed at stop bytes.now) (λ p. IsNext most at stop p.0.now p.1 bytes.now)) }
+    ensures found { IfOk result (λ o. MatchOption o (IsClosed at stop bytes.now)
+        (λ p. IsNext most at stop p.0.now p.1 bytes.now)) }
     ensures fault { IfErr result (IsOnlyDamage (Breaks most stop bytes.now at)) }
     ensures small { most < 2 ^ 32 }
 {
@@ -85,8 +88,10 @@ pub fn read_chain<R: Reader>(
     reader: &mut R,
 ) -> Result<u64, ChainFault>
     requires { at ≤ length bytes.now }
-    ensures found { IfOk result (FoundChain R.takes slot.most at slot.stop bytes.now reader.old reader.new) }
-    ensures fault { IfErr result (Refuses R.takes R.refuses slot.most at slot.stop bytes.now reader.old) }
+    ensures found { IfOk result (FoundChain R.takes slot.most at slot.stop bytes.now reader.old
+        reader.new) }
+    ensures fault { IfErr result (Refuses R.takes R.refuses slot.most at slot.stop bytes.now
+        reader.old) }
 {
     let mut place = at;
     while let Some((body, next)) = next_body(bytes, place, slot.stop, slot.most)? {

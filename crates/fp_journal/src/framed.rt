@@ -1,3 +1,5 @@
+//! A body in its frame, as one write puts it down.
+
 ghost use Rattle.std.specs.Prelude.{◌≡◌, ◌<◌, ◌+◌, ◌^◌, length, IfOk};
 ghost use Rattle.fp_journal.specs.Chain.{with_gate};
 
@@ -21,7 +23,8 @@ impl Model for Framed {
 
     ghost view = { λ f. body_of f.bytes.items };
 
-    ghost invariant = { λ f. (f.bytes.items ≡ with_gate (body_of f.bytes.items)) × (length (body_of f.bytes.items) < 2 ^ 32) };
+    ghost invariant = { λ f. (f.bytes.items ≡ with_gate (body_of f.bytes.items))
+        × (length (body_of f.bytes.items) < 2 ^ 32) };
 }
 
 impl Framed {

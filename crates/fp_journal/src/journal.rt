@@ -61,9 +61,16 @@ impl<D: Disk> Model for Journal<D> {
 
     ghost Value = { JournalState D };
 
-    ghost view = { λ s. record { disk = s.disk.disk; disk_name = s.disk.name; name = s.sealed.name; slot = s.slot; front = slice_range s.opened.value.items s.first.value s.begin.value; sealed = s.sealed.log; staged = body_of s.in_flight.items; phase = phase_of s.held; begun = begun_of s.held } };
+    ghost view = { λ s. record { disk = s.disk.disk; disk_name = s.disk.name; name = s.sealed.name;
+        slot = s.slot; front = slice_range s.opened.value.items s.first.value s.begin.value;
+        sealed = s.sealed.log; staged = body_of s.in_flight.items; phase = phase_of s.held;
+        begun = begun_of s.held } };
 
-    ghost invariant = { λ s. IsKept D.honest D.bytes D.unsynced (record { disk = s.disk.disk; disk_name = s.disk.name; name = s.sealed.name; slot = s.slot; front = slice_range s.opened.value.items s.first.value s.begin.value; sealed = s.sealed.log; staged = body_of s.in_flight.items; phase = phase_of s.held; begun = begun_of s.held }) s.end s.in_flight.items × IsHeld D.honest D.moment s.disk.disk s.disk.name s.end s.held };
+    ghost invariant = { λ s. IsKept D.honest D.bytes D.unsynced
+        (record { disk = s.disk.disk; disk_name = s.disk.name; name = s.sealed.name; slot = s.slot;
+        front = slice_range s.opened.value.items s.first.value s.begin.value; sealed = s.sealed.log;
+        staged = body_of s.in_flight.items; phase = phase_of s.held; begun = begun_of s.held })
+        s.end s.in_flight.items × IsHeld D.honest D.moment s.disk.disk s.disk.name s.end s.held };
 }
 
 impl<D: Disk> Journal<D> {
@@ -71,8 +78,11 @@ impl<D: Disk> Journal<D> {
     pub fn adopt(alloc: Global, disk: D, slot: Slot, opened: &Vec<u8>, end: u64) -> Journal<D>
         requires place { (slot.start ≤ end) × (end ≤ length opened.now.items) }
         requires within { end < slot.stop }
-        requires quiet { D.honest disk → EndsClosed slot.start slot.stop (slice_range opened.now.items slot.start end) (D.unsynced disk) }
-        ensures slot { (result.slot ≡ slot) × (result.front ≡ slice_range opened.now.items slot.start end) }
+        requires quiet { D.honest disk →
+            EndsClosed slot.start slot.stop (slice_range opened.now.items slot.start end)
+            (D.unsynced disk) }
+        ensures slot { (result.slot ≡ slot)
+            × (result.front ≡ slice_range opened.now.items slot.start end) }
         ensures begins { (result.sealed ≡ []) × (result.phase ≡ Idle) }
         ensures disk { result.disk ≡ disk }
     {
@@ -95,9 +105,13 @@ impl<D: Disk> Journal<D> {
         requires idle { self.old.phase ≡ Idle }
         requires place { len ≤ length text.now.items }
         requires within { slot.start + len < slot.stop }
-        requires quiet { D.honest self.old.disk → EndsClosed slot.start slot.stop (slice_range text.now.items 0 len) (D.unsynced self.old.disk) }
-        ensures slot { (self.new.slot ≡ slot) × (self.new.front ≡ slice_range text.now.items 0 len) }
-        ensures begins { (self.new.sealed ≡ []) × (self.new.phase ≡ Idle) × (self.new.begun ≡ false) }
+        requires quiet { D.honest self.old.disk →
+            EndsClosed slot.start slot.stop (slice_range text.now.items 0 len)
+            (D.unsynced self.old.disk) }
+        ensures slot { (self.new.slot ≡ slot)
+            × (self.new.front ≡ slice_range text.now.items 0 len) }
+        ensures begins { (self.new.sealed ≡ []) × (self.new.phase ≡ Idle)
+            × (self.new.begun ≡ false) }
         ensures disk { (self.new.disk ≡ self.old.disk) × (self.new.disk_name ≡ self.old.disk_name) }
     {
         self.slot = slot;
@@ -171,7 +185,8 @@ impl<D: Disk> Journal<D> {
         requires short { length framed ≤ self.old.slot.most }
         requires room { length framed + 6 ≤ room self.old }
         ensures bodies { (self.new.sealed ≡ self.old.sealed) × (self.new.staged ≡ framed) }
-        ensures phase { OnOk result (self.new.phase ≡ Staged) × OnErr result (self.new.phase ≡ Failed) }
+        ensures phase { OnOk result (self.new.phase ≡ Staged)
+            × OnErr result (self.new.phase ≡ Failed) }
         ensures begun { self.new.begun ≡ false }
         ensures kept { KeepsAround D.Disk self.old self.new
             (HasChain self.old.slot self.old.front self.old.sealed)
@@ -187,15 +202,21 @@ impl<D: Disk> Journal<D> {
 
     /// Makes sure of all that was written, at any phase, and tells it by a token.
     pub fn sync(&mut self) -> Result<Synced<D>, DiskFault>
-        ensures token { IfOk result (λ s. (s.disk ≡ self.new.disk_name) × (s.moment ≡ D.moment self.new.disk)) }
-        ensures same_bytes { D.honest self.old.disk → D.bytes self.new.disk ≡ D.bytes self.old.disk }
-        ensures durable { D.honest self.old.disk → OnOk result (D.unsynced self.new.disk ≡ all_synced (D.bytes self.old.disk)) }
+        ensures token { IfOk result (λ s. (s.disk ≡ self.new.disk_name)
+            × (s.moment ≡ D.moment self.new.disk)) }
+        ensures same_bytes { D.honest self.old.disk →
+            D.bytes self.new.disk ≡ D.bytes self.old.disk }
+        ensures durable { D.honest self.old.disk →
+            OnOk result (D.unsynced self.new.disk ≡ all_synced (D.bytes self.old.disk)) }
 
         // What was staged, or the open gate, is in every outcome now.
-        ensures firm { D.honest self.new.disk → OnOk result ((c : List ℕ) → IsOutcome (D.unsynced self.new.disk) c → StatesAfterSync self.new c) }
+        ensures firm { D.honest self.new.disk →
+            OnOk result ((c : List ℕ) → IsOutcome (D.unsynced self.new.disk) c →
+            StatesAfterSync self.new c) }
 
         ensures bodies { (self.new.sealed ≡ self.old.sealed) × (self.new.staged ≡ self.old.staged) }
-        ensures phase { OnOk result (self.new.phase ≡ self.old.phase) × OnErr result (self.new.phase ≡ Failed) }
+        ensures phase { OnOk result (self.new.phase ≡ self.old.phase)
+            × OnErr result (self.new.phase ≡ Failed) }
         ensures begun { self.new.begun ≡ self.old.begun }
         ensures kept { KeepsAround D.Disk self.old self.new
             (CrashStates self.old)
@@ -213,7 +234,8 @@ impl<D: Disk> Journal<D> {
     pub fn body_synced(&mut self, synced: Synced<D>)
         requires staged { self.old.phase ≡ Staged }
         requires token { IsSyncOf D.honest D.moment self.old.disk self.old.disk_name synced }
-        requires firm { EachCrash D.Disk self.old.disk (HasNext self.old.slot self.old.front self.old.sealed self.old.staged) }
+        requires firm { EachCrash D.Disk self.old.disk
+            (HasNext self.old.slot self.old.front self.old.sealed self.old.staged) }
         ensures same { SameSlot self.old self.new }
         ensures disk { self.new.disk ≡ self.old.disk }
         ensures bodies { (self.new.sealed ≡ self.old.sealed) × (self.new.staged ≡ self.old.staged) }
@@ -226,11 +248,14 @@ impl<D: Disk> Journal<D> {
     pub fn open_gate(&mut self) -> Result<(), DiskFault>
         requires { self.old.phase ≡ BodySynced }
         ensures bodies { (self.new.sealed ≡ self.old.sealed) × (self.new.staged ≡ self.old.staged) }
-        ensures phase { OnOk result (self.new.phase ≡ GateOpened) × OnErr result (self.new.phase ≡ Failed) }
+        ensures phase { OnOk result (self.new.phase ≡ GateOpened)
+            × OnErr result (self.new.phase ≡ Failed) }
         ensures begun { self.new.begun ≡ true }
 
         // What a read gives now has the body.
-        ensures reads { D.honest self.old.disk → OnOk result (HasChain self.old.slot self.old.front (self.old.sealed ++ self.old.staged ∷ []) (D.bytes self.new.disk)) }
+        ensures reads { D.honest self.old.disk →
+            OnOk result (HasChain self.old.slot self.old.front
+            (self.old.sealed ++ self.old.staged ∷ []) (D.bytes self.new.disk)) }
         ensures kept { KeepsAround D.Disk self.old self.new
             (HasChainOrNext self.old.slot self.old.front self.old.sealed self.old.staged)
             (Outside self.old.slot) result }
@@ -252,13 +277,16 @@ impl<D: Disk> Journal<D> {
     pub fn gate_synced(&mut self, synced: Synced<D>) -> Sealed
         requires opened { self.old.phase ≡ GateOpened }
         requires token { IsSyncOf D.honest D.moment self.old.disk self.old.disk_name synced }
-        requires firm { EachCrash D.Disk self.old.disk (HasChain self.old.slot self.old.front (self.old.sealed ++ self.old.staged ∷ [])) }
+        requires firm { EachCrash D.Disk self.old.disk
+            (HasChain self.old.slot self.old.front (self.old.sealed ++ self.old.staged ∷ [])) }
         ensures same { SameSlot self.old self.new }
         ensures disk { self.new.disk ≡ self.old.disk }
-        ensures sealed { (self.new.sealed ≡ self.old.sealed ++ self.old.staged ∷ []) × (self.new.phase ≡ Idle) }
+        ensures sealed { (self.new.sealed ≡ self.old.sealed ++ self.old.staged ∷ [])
+            × (self.new.phase ≡ Idle) }
         ensures begun { self.new.begun ≡ false }
         ensures token { (result.name ≡ self.new.name) × (result.bodies ≡ self.new.sealed) }
-        ensures exit { EachCrash D.Disk self.new.disk (HasChain self.new.slot self.new.front self.new.sealed) }
+        ensures exit { EachCrash D.Disk self.new.disk
+            (HasChain self.new.slot self.new.front self.new.sealed) }
     {
         let Held::GateOpened(gate) = mem::replace(&mut self.held, Held::Idle) else {
             unreachable!()
@@ -276,14 +304,19 @@ impl<D: Disk> Journal<D> {
         requires idle { self.old.phase ≡ Idle }
         requires short { length framed ≤ self.old.slot.most }
         requires room { length framed + 6 ≤ room self.old }
-        ensures ok { OnOk result ((self.new.sealed ≡ self.old.sealed ++ framed ∷ []) × (self.new.phase ≡ Idle)) }
+        ensures ok { OnOk result ((self.new.sealed ≡ self.old.sealed ++ framed ∷ [])
+            × (self.new.phase ≡ Idle)) }
         ensures token { IfOk result (λ t. (t.name ≡ self.new.name) × (t.bodies ≡ self.new.sealed)) }
-        ensures err { OnErr result ((self.new.sealed ≡ self.old.sealed) × (self.new.staged ≡ framed) × (self.new.phase ≡ Failed)) }
+        ensures err { OnErr result ((self.new.sealed ≡ self.old.sealed) × (self.new.staged ≡ framed)
+            × (self.new.phase ≡ Failed)) }
         ensures kept { KeepsAround D.Disk self.old self.new
             (HasChainOrNext self.old.slot self.old.front self.old.sealed framed)
             (Outside self.old.slot) result }
-        ensures exit { D.honest self.new.disk → OnOk result ((c : List ℕ) → IsOutcome (D.unsynced self.new.disk) c → HasChain self.new.slot self.new.front self.new.sealed c) }
-        ensures called { Makes (Write ∷ Sync ∷ Write ∷ Sync ∷ []) (D.calls self.old.disk) (D.calls self.new.disk) result }
+        ensures exit { D.honest self.new.disk →
+            OnOk result ((c : List ℕ) → IsOutcome (D.unsynced self.new.disk) c →
+            HasChain self.new.slot self.new.front self.new.sealed c) }
+        ensures called { Makes (Write ∷ Sync ∷ Write ∷ Sync ∷ []) (D.calls self.old.disk)
+            (D.calls self.new.disk) result }
     {
         self.stage(framed)?;
         let body = self.sync()?;
@@ -296,9 +329,13 @@ impl<D: Disk> Journal<D> {
     /// Writes outside the slot, at any phase.
     pub fn write_outside(&mut self, at: u64, from: &[u8]) -> Result<(), DiskFault>
         requires { Outside self.old.slot at (length from.now) }
-        ensures written { D.honest self.old.disk → OnOk result (HasWritten (D.bytes self.old.disk) at from.now (D.bytes self.new.disk) × (D.unsynced self.new.disk ≡ with_write (D.unsynced self.old.disk) at (length from.now))) }
+        ensures written { D.honest self.old.disk →
+            OnOk result (HasWritten (D.bytes self.old.disk) at from.now (D.bytes self.new.disk)
+            × (D.unsynced self.new.disk
+                ≡ with_write (D.unsynced self.old.disk) at (length from.now))) }
         ensures bodies { (self.new.sealed ≡ self.old.sealed) × (self.new.staged ≡ self.old.staged) }
-        ensures phase { OnOk result (self.new.phase ≡ self.old.phase) × OnErr result (self.new.phase ≡ Failed) }
+        ensures phase { OnOk result (self.new.phase ≡ self.old.phase)
+            × OnErr result (self.new.phase ≡ Failed) }
         ensures begun { self.new.begun ≡ self.old.begun }
         ensures kept { KeepsAround D.Disk self.old self.new
             (CrashStates self.old)
@@ -328,12 +365,17 @@ impl<D: Disk> Journal<D> {
     ) -> Result<Gate<Written>, DiskFault>
         requires outside { Outside self.old.slot gate.at 1 }
         requires shut { D.honest self.old.disk → IsShut (D.unsynced self.old.disk) gate.at }
-        requires firm { D.honest self.old.disk → StaysAsRead (D.unsynced self.old.disk) (D.bytes self.old.disk) gate.from gate.to }
+        requires firm { D.honest self.old.disk →
+            StaysAsRead (D.unsynced self.old.disk) (D.bytes self.old.disk) gate.from gate.to }
         requires token { IsSyncOf D.honest D.moment self.old.disk self.old.disk_name synced }
         ensures gate { IfOk result (λ g. g ≡ gate) }
-        ensures written { D.honest self.old.disk → OnOk result (HasWritten (D.bytes self.old.disk) gate.at (OPEN ∷ []) (D.bytes self.new.disk) × (D.unsynced self.new.disk ≡ with_write (D.unsynced self.old.disk) gate.at 1)) }
+        ensures written { D.honest self.old.disk →
+            OnOk result
+            (HasWritten (D.bytes self.old.disk) gate.at (OPEN ∷ []) (D.bytes self.new.disk)
+            × (D.unsynced self.new.disk ≡ with_write (D.unsynced self.old.disk) gate.at 1)) }
         ensures bodies { (self.new.sealed ≡ self.old.sealed) × (self.new.staged ≡ self.old.staged) }
-        ensures phase { OnOk result (self.new.phase ≡ self.old.phase) × OnErr result (self.new.phase ≡ Failed) }
+        ensures phase { OnOk result (self.new.phase ≡ self.old.phase)
+            × OnErr result (self.new.phase ≡ Failed) }
         ensures begun { self.new.begun ≡ self.old.begun }
         ensures kept { KeepsAround D.Disk self.old self.new
             (CrashStates self.old)

@@ -43,11 +43,13 @@ impl From<AllocError> for BytesFault {
 /// All bytes of a disk. They are synced before they are read, so that no crash takes back what was read.
 pub fn synced_bytes<D: Disk>(alloc: Global, disk: &mut D) -> Result<Vec<u8>, BytesFault>
     ensures bytes { D.honest disk.old → IfOk result (λ v. v.items ≡ D.bytes disk.old) }
-    ensures all_synced { D.honest disk.old → OnOk result (D.unsynced disk.new ≡ all_synced (D.bytes disk.old)) }
+    ensures all_synced { D.honest disk.old →
+        OnOk result (D.unsynced disk.new ≡ all_synced (D.bytes disk.old)) }
     ensures same { D.honest disk.old → D.bytes disk.new ≡ D.bytes disk.old }
     ensures any_moment { AtAnyMoment D.Disk disk.old disk.new (IsOutcome (D.unsynced disk.old)) }
     ensures honest { SameHonesty D.Disk disk.old disk.new }
-    ensures called { Makes (Sync ∷ Length ∷ Read ∷ []) (D.calls disk.old) (D.calls disk.new) result }
+    ensures called { Makes (Sync ∷ Length ∷ Read ∷ []) (D.calls disk.old)
+        (D.calls disk.new) result }
     ensures no_failure { OnOk result (D.faults disk.new ≡ D.faults disk.old) }
     ensures cause { IsErrOf result Device → D.faults disk.old < D.faults disk.new }
 {
@@ -70,10 +72,14 @@ pub fn resume<D: Disk, R: Reader>(
 ) -> Result<Journal<D>, (ChainFault, D)>
     requires place { (slot.start ≤ at) × (at ≤ length bytes.now.items) }
     requires synced { D.honest disk → D.unsynced disk ≡ all_synced bytes.now.items }
-    ensures begins { IfOk result (λ j. (j.disk ≡ disk) × (j.slot ≡ slot) × (j.sealed ≡ []) × (j.phase ≡ Idle)) }
-    ensures front { IfOk result (λ j. j.front ≡ slice_range bytes.now.items slot.start (slot.start + length j.front)) }
-    ensures found { IfOk result (λ j. FoundChain R.takes slot.most at slot.stop bytes.now.items reader.old reader.new (slot.start + length j.front)) }
-    ensures fault { IfErr result (λ e. (e.1 ≡ disk) × Refuses R.takes R.refuses slot.most at slot.stop bytes.now.items reader.old e.0) }
+    ensures begins { IfOk result (λ j. (j.disk ≡ disk) × (j.slot ≡ slot) × (j.sealed ≡ [])
+        × (j.phase ≡ Idle)) }
+    ensures front { IfOk result (λ j. j.front ≡ slice_range bytes.now.items slot.start
+        (slot.start + length j.front)) }
+    ensures found { IfOk result (λ j. FoundChain R.takes slot.most at slot.stop bytes.now.items
+        reader.old reader.new (slot.start + length j.front)) }
+    ensures fault { IfErr result (λ e. (e.1 ≡ disk)
+        × Refuses R.takes R.refuses slot.most at slot.stop bytes.now.items reader.old e.0) }
 {
     match read_chain(bytes, at, slot, reader) {
         Ok(end) => Ok(Journal::adopt(alloc, disk, slot, bytes, end)),

@@ -1,3 +1,5 @@
+//! The token of sealed bodies.
+
 ghost use Rattle.std.specs.Prelude.{◌≡◌, [], ◌∷◌};
 ghost use Rattle.fp_journal.specs.Chain.{body_of};
 

@@ -1,3 +1,5 @@
+//! A slot of a disk.
+
 /// A part of a disk, and how long a body in it may be.
 #[derive(Clone, Copy, Debug)]
 pub struct Slot {

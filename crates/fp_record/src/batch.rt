@@ -220,7 +220,8 @@ pub fn count_from(bytes: &[u8], first: u64, at: usize) -> Result<(u16, usize), R
     requires { at ≤ length bytes.now }
     ensures value { Gives (λ x. x) Tells result (count_at first bytes.now at) }
     ensures within { IfOk result (λ x. x.1 ≤ length bytes.now) }
-    ensures some { IfOk result (λ x. (0 < x.0) × (x.0 ≤ MOST_EDITS) × (first + x.0 ≤ REVISIONS_END)) }
+    ensures some { IfOk result (λ x. (0 < x.0) × (x.0 ≤ MOST_EDITS)
+        × (first + x.0 ≤ REVISIONS_END)) }
 {
     let (count, next) = u16_at(bytes, at)?;
     if count == 0 || count as usize > MOST_EDITS || first > REVISIONS_END - count as u64 {

@@ -16,21 +16,24 @@ pub record Reader : Type 0 where
   pub owed : Option FrameFault
 
 -- of who has this, these bytes give these frames and leave the reader so
-pub record Leaves (has : Hello) (bytes : List ℕ) (frames : List Snapshot) (after : Reader) : Type 0 where
+pub record Leaves (has : Hello) (bytes : List ℕ) (frames : List Snapshot)
+    (after : Reader) : Type 0 where
   pub rest : List ℕ
   pub reads : Reads has bytes frames rest after.owed
   pub held : IfNone after.owed (after.held ≡ rest)
   pub last : after.has ≡ has_after has frames
 
 -- a fault that is answered at once: the bytes give no frame before it
-pub record Refuses (has : Hello) (bytes : List ℕ) (fault : FrameFault) (after : Reader) : Type 0 where
+pub record Refuses (has : Hello) (bytes : List ℕ) (fault : FrameFault)
+    (after : Reader) : Type 0 where
   pub rest : List ℕ
   pub reads : Reads has bytes [] rest (Some fault)
   pub failed : after.owed ≡ Some Failed
 
 -- frames that are answered: all that the bytes give; a fault behind them is owed, and none where
 -- there are no frames
-pub record Answers (has : Hello) (bytes : List ℕ) (frames : List Snapshot) (after : Reader) : Type 0 where
+pub record Answers (has : Hello) (bytes : List ℕ) (frames : List Snapshot)
+    (after : Reader) : Type 0 where
   pub leaves : Leaves has bytes frames after
   pub turn : IsSome after.owed → frames ≢ []
 
@@ -44,9 +47,10 @@ Feeds before piece (Err NotRising) after = Refuses before.has (before.held ++ pi
 Feeds before piece (Err Memory) after = after ≡ before
 Feeds before piece (Err Failed) after = ⊥
 
--- a decoder of who had this has taken these bytes, and has given these frames of them: all that they
--- hold; a fault that stands behind them is owed, or was answered
-pub record HasRead (has : Hello) (bytes : List ℕ) (frames : List Snapshot) (now : Reader) : Type 0 where
+-- a decoder of who had this has taken these bytes, and has given these frames of them: all that
+-- they hold; a fault that stands behind them is owed, or was answered
+pub record HasRead (has : Hello) (bytes : List ℕ) (frames : List Snapshot)
+    (now : Reader) : Type 0 where
   pub rest : List ℕ
   pub fault : Option FrameFault
   pub reads : Reads has bytes frames rest fault

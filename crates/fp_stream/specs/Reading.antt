@@ -28,7 +28,8 @@ abbrev pub Stops : Hello → List ℕ → Option FrameFault → Type 0
 Stops has rest None = (length rest < HEAD) ⊎ LacksBody has rest
 Stops has rest (Some fault) = FaultStands has rest fault
 
--- who has this reads these frames at the front of the bytes, and there stops: at a fault, or at none
+-- who has this reads these frames at the front of the bytes, and there stops:
+-- at a fault, or at none
 pub record Reads (has : Hello) (bytes : List ℕ) (frames : List Snapshot) (rest : List ℕ)
     (fault : Option FrameFault) : Type 0 where
   pub whole : bytes ≡ stream_of frames ++ rest

@@ -36,13 +36,15 @@ pub record IsWhole (has : Hello) (front behind : List ℕ) (s : Snapshot) : Type
   pub behind_is : behind ≡ s.document ++ drop (length s.document) behind
 
 -- frames were added, which are what these bytes give
-pub record Adds (has : Hello) (bytes : List ℕ) (before now : List Frame) (after : Reader) : Type 0 where
+pub record Adds (has : Hello) (bytes : List ℕ) (before now : List Frame)
+    (after : Reader) : Type 0 where
   pub added : List Snapshot
   pub adds : snapshots_of now ≡ snapshots_of before ++ added
   pub leaves : Leaves has bytes added after
 
 -- frames were added, which stand before the rest
-pub record Passes (has : Hello) (bytes : List ℕ) (before now : List Frame) (last : Hello) (rest : List ℕ) : Type 0 where
+pub record Passes (has : Hello) (bytes : List ℕ) (before now : List Frame) (last : Hello)
+    (rest : List ℕ) : Type 0 where
   pub added : List Snapshot
   pub adds : snapshots_of now ≡ snapshots_of before ++ added
   pub news : AreNews has added

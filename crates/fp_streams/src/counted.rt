@@ -1,3 +1,5 @@
+//! Readers and writers whose failures are counted.
+
 ghost use Rattle.std.specs.Prelude.{◌≡◌, ◌+◌, ◌-◌, ◌<◌, ◌≤◌, ◌^◌, IfOk, IfSome, IfErr, OnOk};
 ghost use Rattle.std.specs.Io.{ReadsAtMost};
 ghost use Rattle.std.specs.Io.KnownBytes.{Appends, ReadConsumes};
@@ -38,7 +40,8 @@ impl<S> Model for FailureCounted<S> {
 
     ghost coded = { Prim.hlevel (codes) };
 
-    ghost view = { λ c. record { inner = c.stream; failures = c.failures; reads_left = c.reads_left } };
+    ghost view = { λ c. record { inner = c.stream; failures = c.failures;
+        reads_left = c.reads_left } };
 }
 
 impl<S> FailureCounted<S> {

@@ -1,4 +1,5 @@
--- The plain machine that a world is a run of: a desk, and how far its drawn edits are. It has no disk.
+-- The plain machine that a world is a run of: a desk, and how far its drawn edits are.
+-- It has no disk.
 use Rattle.std.specs.Prelude.{◌≡◌, ◌≢◌, ◌⊎◌, ◌<◌, ◌≤◌, ◌+◌, ℕ, max, Bool, true, false, List, [], ◌∷◌, ◌++◌, length, if◌then◌else◌}
 use Rattle.fp_edit.specs.Edits.{Change, Proposal, proposal_of}
 use Rattle.fp_edit.specs.Flags.{State}
@@ -23,8 +24,8 @@ pub data Progress : Type 0 where
   gate_opened : Progress
   batch_sealed : Progress
 
--- The desk, how far its drawn edits are, whether the device failed, the most bytes of a batch's body
--- and those left for batches, and the greatest revision that was told
+-- The desk, how far its drawn edits are, whether the device failed, the most bytes of a batch's
+-- body and those left for batches, and the greatest revision that was told
 pub record Machine : Type 0 where
   pub desk : DeskState
   pub progress : Progress
@@ -60,20 +61,23 @@ Submits edit old (answer.Ticket revision) new =
     × (new ≡ record old { desk = new.desk })
 Submits edit old (answer.Refused submit.Memory) new = new ≡ old
 Submits edit old (answer.Refused submit.Stopped) new = ⊥
-Submits edit old (answer.Refused submit.QueueFull) new = (new ≡ old) × Refuses old.desk edit submit.QueueFull
-Submits edit old (answer.Refused (submit.Edit f)) new = (new ≡ old) × Refuses old.desk edit (submit.Edit f)
+Submits edit old (answer.Refused submit.QueueFull) new = (new ≡ old)
+    × Refuses old.desk edit submit.QueueFull
+Submits edit old (answer.Refused (submit.Edit f)) new = (new ≡ old)
+    × Refuses old.desk edit (submit.Edit f)
 Submits edit old _ new = ⊥
 
 -- the longest first part of what waits is drawn, where nothing is and something waits
 abbrev pub DrawsNext : Machine → Answer → Machine → Type 0
 DrawsNext old (answer.Drawn count) new = (group : Group) × IsNewDraw old.desk new.desk group
-    × (count ≡ length group.changes) × (new ≡ record old { desk = new.desk; progress = batch_drawn })
+    × (count ≡ length group.changes)
+        × (new ≡ record old { desk = new.desk; progress = batch_drawn })
 DrawsNext old answer.Memory new = (new ≡ old) × (old.desk.drawn ≡ []) × (old.desk.waiting ≢ [])
 DrawsNext old answer.NotNow new = (new ≡ old) × ((old.desk.drawn ≢ []) ⊎ (old.desk.waiting ≡ []))
 DrawsNext old _ new = ⊥
 
--- A call of the disk that takes the drawn edits from one point of their way to the next, where it may
--- be made. A device that fails leaves them where they are; once it has failed nothing is done
+-- A call of the disk that takes the drawn edits from one point of their way to the next, where it
+-- may be made. A device that fails leaves them where they are; once it has failed nothing is done
 abbrev pub Advances : (Machine → Type 0) → Progress → Machine → Answer → Machine → Type 0
 Advances May to old answer.Done new =
     (old.failed ≡ false) × May old × (new ≡ record old { progress = to })
@@ -133,7 +137,8 @@ Step old (event.Ack revision) a new = Tells revision old a new
 -- the machine may give these answers to these events, one step after another
 abbrev pub Run : Machine → List Event → List Answer → Machine → Type 0
 Run old [] [] new = new ≡ old
-Run old (e ∷ events) (a ∷ answers) new = (mid : Machine) × Step old e a mid × Run mid events answers new
+Run old (e ∷ events) (a ∷ answers) new = (mid : Machine) × Step old e a mid
+    × Run mid events answers new
 Run old [] (a ∷ answers) new = ⊥
 Run old (e ∷ events) [] new = ⊥
 

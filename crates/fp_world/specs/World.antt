@@ -66,14 +66,19 @@ progress_of (held.Sealed receipt) phase = batch_sealed
 
 -- bytes stand for the set after some first n edits of the desk's log, n at least `low`
 abbrev pub KeptFrom : DeskState → ℕ → List ℕ → Type 0
-KeptFrom d low c = (n : ℕ) × (low ≤ n) × (n ≤ d.store.start.revision + length (log d)) × StandsFor c (after d.store.start (log d) n)
+KeptFrom d low c = (n : ℕ) × (low ≤ n) × (n ≤ d.store.start.revision + length (log d))
+    × StandsFor c (after d.store.start (log d) n)
 
 -- where the edits are that the desk has drawn
 abbrev pub IsOut : {D : Type 0} → Held → StoreState D → DeskState → Type 0
 IsOut held.Nothing s d = (s.step ≡ Idle) × (s.sealed ≡ d.settled) × (d.drawn ≡ [])
-IsOut (held.Drawn group) s d = (s.step ≡ Idle) × (s.sealed ≡ d.settled) × (group.changes ≡ d.drawn) × (d.drawn ≢ []) × GoesOn (settled_set d) group
-IsOut held.InFlight s d = (is_in_flight s.step ≡ true) × (s.sealed ≡ d.settled) × (s.staged ≡ d.drawn) × (d.drawn ≢ [])
-IsOut (held.Sealed receipt) s d = (s.step ≡ Idle) × (s.sealed ≡ d.settled ++ d.drawn) × (receipt.store ≡ s.store) × (receipt.batch.changes ≡ d.drawn) × (receipt.batch.first ≡ settled_revision d + 1) × (d.drawn ≢ [])
+IsOut (held.Drawn group) s d = (s.step ≡ Idle) × (s.sealed ≡ d.settled) × (group.changes ≡ d.drawn)
+    × (d.drawn ≢ []) × GoesOn (settled_set d) group
+IsOut held.InFlight s d = (is_in_flight s.step ≡ true) × (s.sealed ≡ d.settled)
+    × (s.staged ≡ d.drawn) × (d.drawn ≢ [])
+IsOut (held.Sealed receipt) s d = (s.step ≡ Idle) × (s.sealed ≡ d.settled ++ d.drawn)
+    × (receipt.store ≡ s.store) × (receipt.batch.changes ≡ d.drawn)
+    × (receipt.batch.first ≡ settled_revision d + 1) × (d.drawn ≢ [])
 
 -- an answer tells of no revision above this one
 abbrev pub TellsUpTo : ℕ → Answer → Type 0
@@ -90,8 +95,8 @@ TellsUpTo told (answer.Settled revision) = Unit {0}
 TellsUpTo told answer.Waiting = Unit {0}
 
 -- ---- calls of the disk
--- one call of this kind is made where the event is done, and none elsewhere; where the device failed
--- it is the one that failed
+-- one call of this kind is made where the event is done, and none elsewhere; where the device
+-- failed it is the one that failed
 abbrev pub MakesOne : CallKind → Answer → (old new : List CallKind) → Type 0
 MakesOne kind answer.Done old new = new ≡ old ++ kind ∷ []
 MakesOne kind (answer.Sealed revision) old new = new ≡ old ++ kind ∷ []
@@ -124,7 +129,8 @@ pub record StepsTo {D : Type 0} (disk : Ghosts D) (old : WorldState D) (e : Even
       (KeptFrom new.desk old.told)
   pub exit : EachCrash disk new.store.journal.disk (KeptFrom new.desk new.told)
   pub honest : SameHonesty disk old.store.journal.disk new.store.journal.disk
-  pub called : MakesItsCall e a (disk.calls old.store.journal.disk) (disk.calls new.store.journal.disk)
+  pub called : MakesItsCall e a (disk.calls old.store.journal.disk)
+      (disk.calls new.store.journal.disk)
   pub cause : RisesFor a (disk.faults old.store.journal.disk) (disk.faults new.store.journal.disk)
 
 -- each event was answered in its turn
@@ -143,11 +149,13 @@ NumberedFrom n [] = Unit {0}
 NumberedFrom n (t ∷ tickets) = (t.revision ≡ n) × NumberedFrom (n + 1) tickets
 
 pub record IsWorld {D : Type 0} (honest : D → Type 0) (unsynced : D → PendingState) (held : Held)
-    (tickets : List TicketState) (start : ℕ) (s : StoreState D) (d : DeskState) (told : ℕ) : Type 0 where
+    (tickets : List TicketState) (start : ℕ) (s : StoreState D) (d : DeskState)
+        (told : ℕ) : Type 0 where
   pub same : d.store ≡ s.store
   pub out : IsOut held s d
   pub low : told ≤ settled_revision d
-  pub now : honest s.journal.disk → (c : List ℕ) → IsOutcome (unsynced s.journal.disk) c → Leaves s c
+  pub now : honest s.journal.disk → (c : List ℕ) → IsOutcome (unsynced s.journal.disk) c →
+      Leaves s c
   pub open_desk : d.stopped ≡ false
   pub start_is : start ≡ d.store.start.revision
   pub numbered : NumberedFrom (start + 1) tickets

@@ -22,12 +22,14 @@ use std::mem;
 impl<D: Disk> World<D> {
     // Takes an edit. The room for its ticket is taken first.
     pub(crate) fn submit(&mut self, edit: &Edit) -> Answer
-        ensures steps { Submits (proposal_of edit.now) (machine self.old) result (machine self.new) }
+        ensures steps { Submits (proposal_of edit.now) (machine self.old) result
+            (machine self.new) }
         ensures tells { TellsUpTo self.new.told result }
         ensures log { IsPrefix (log self.old.desk) (log self.new.desk) }
         ensures same { (self.new.store ≡ self.old.store) × (self.new.told ≡ self.old.told)
             × (self.new.desk.store ≡ self.old.desk.store) }
-        ensures exit { EachCrash D.Disk self.new.store.journal.disk (KeptFrom self.new.desk self.new.told) }
+        ensures exit { EachCrash D.Disk self.new.store.journal.disk
+            (KeptFrom self.new.desk self.new.told) }
     {
         let _ = &self.told;
         let Ok(edit) = edit.try_copy() else {
@@ -54,8 +56,10 @@ impl<D: Disk> World<D> {
             × (self.new.store.store ≡ self.old.store.store) }
         ensures any_moment { AtAnyMoment D.Disk self.old.store.journal.disk
             self.new.store.journal.disk (KeptFrom self.new.desk self.old.told) }
-        ensures exit { EachCrash D.Disk self.new.store.journal.disk (KeptFrom self.new.desk self.new.told) }
-        ensures honest { SameHonesty D.Disk self.old.store.journal.disk self.new.store.journal.disk }
+        ensures exit { EachCrash D.Disk self.new.store.journal.disk
+            (KeptFrom self.new.desk self.new.told) }
+        ensures honest { SameHonesty D.Disk self.old.store.journal.disk
+            self.new.store.journal.disk }
         ensures called { MakesOne Write result (D.calls self.old.store.journal.disk)
             (D.calls self.new.store.journal.disk) }
         ensures cause { RisesFor result (D.faults self.old.store.journal.disk)
@@ -93,7 +97,8 @@ impl<D: Disk> World<D> {
         ensures log { log self.new.desk ≡ log self.old.desk }
         ensures same { (self.new.store ≡ self.old.store) × (self.new.told ≡ self.old.told)
             × (self.new.desk.store ≡ self.old.desk.store) }
-        ensures exit { EachCrash D.Disk self.new.store.journal.disk (KeptFrom self.new.desk self.new.told) }
+        ensures exit { EachCrash D.Disk self.new.store.journal.disk
+            (KeptFrom self.new.desk self.new.told) }
     {
         let _ = &self.told;
         let Ok(drawn) = self.desk.draw() else {
@@ -109,14 +114,17 @@ impl<D: Disk> World<D> {
 
     // Makes sure of what is in flight.
     pub(crate) fn sync_body(&mut self) -> Answer
-        ensures steps { Advances (IsAt batch_staged) body_synced (machine self.old) result (machine self.new) }
+        ensures steps { Advances (IsAt batch_staged) body_synced (machine self.old) result
+            (machine self.new) }
         ensures tells { TellsUpTo self.new.told result }
         ensures same { (self.new.desk ≡ self.old.desk) × (self.new.told ≡ self.old.told)
             × (self.new.store.store ≡ self.old.store.store) }
         ensures any_moment { AtAnyMoment D.Disk self.old.store.journal.disk
             self.new.store.journal.disk (KeptFrom self.new.desk self.old.told) }
-        ensures exit { EachCrash D.Disk self.new.store.journal.disk (KeptFrom self.new.desk self.new.told) }
-        ensures honest { SameHonesty D.Disk self.old.store.journal.disk self.new.store.journal.disk }
+        ensures exit { EachCrash D.Disk self.new.store.journal.disk
+            (KeptFrom self.new.desk self.new.told) }
+        ensures honest { SameHonesty D.Disk self.old.store.journal.disk
+            self.new.store.journal.disk }
         ensures called { MakesOne Sync result (D.calls self.old.store.journal.disk)
             (D.calls self.new.store.journal.disk) }
         ensures cause { RisesFor result (D.faults self.old.store.journal.disk)
@@ -137,14 +145,17 @@ impl<D: Disk> World<D> {
 
     // Opens the gate of what is in flight.
     pub(crate) fn open_gate(&mut self) -> Answer
-        ensures steps { Advances (IsAt body_synced) gate_opened (machine self.old) result (machine self.new) }
+        ensures steps { Advances (IsAt body_synced) gate_opened (machine self.old) result
+            (machine self.new) }
         ensures tells { TellsUpTo self.new.told result }
         ensures same { (self.new.desk ≡ self.old.desk) × (self.new.told ≡ self.old.told)
             × (self.new.store.store ≡ self.old.store.store) }
         ensures any_moment { AtAnyMoment D.Disk self.old.store.journal.disk
             self.new.store.journal.disk (KeptFrom self.new.desk self.old.told) }
-        ensures exit { EachCrash D.Disk self.new.store.journal.disk (KeptFrom self.new.desk self.new.told) }
-        ensures honest { SameHonesty D.Disk self.old.store.journal.disk self.new.store.journal.disk }
+        ensures exit { EachCrash D.Disk self.new.store.journal.disk
+            (KeptFrom self.new.desk self.new.told) }
+        ensures honest { SameHonesty D.Disk self.old.store.journal.disk
+            self.new.store.journal.disk }
         ensures called { MakesOne Write result (D.calls self.old.store.journal.disk)
             (D.calls self.new.store.journal.disk) }
         ensures cause { RisesFor result (D.faults self.old.store.journal.disk)
@@ -171,8 +182,10 @@ impl<D: Disk> World<D> {
             × (self.new.store.store ≡ self.old.store.store) }
         ensures any_moment { AtAnyMoment D.Disk self.old.store.journal.disk
             self.new.store.journal.disk (KeptFrom self.new.desk self.old.told) }
-        ensures exit { EachCrash D.Disk self.new.store.journal.disk (KeptFrom self.new.desk self.new.told) }
-        ensures honest { SameHonesty D.Disk self.old.store.journal.disk self.new.store.journal.disk }
+        ensures exit { EachCrash D.Disk self.new.store.journal.disk
+            (KeptFrom self.new.desk self.new.told) }
+        ensures honest { SameHonesty D.Disk self.old.store.journal.disk
+            self.new.store.journal.disk }
         ensures called { MakesOne Sync result (D.calls self.old.store.journal.disk)
             (D.calls self.new.store.journal.disk) }
         ensures cause { RisesFor result (D.faults self.old.store.journal.disk)
@@ -201,7 +214,8 @@ impl<D: Disk> World<D> {
         ensures log { log self.new.desk ≡ log self.old.desk }
         ensures same { (self.new.store ≡ self.old.store) × (self.new.told ≡ self.old.told)
             × (self.new.desk.store ≡ self.old.desk.store) }
-        ensures exit { EachCrash D.Disk self.new.store.journal.disk (KeptFrom self.new.desk self.new.told) }
+        ensures exit { EachCrash D.Disk self.new.store.journal.disk
+            (KeptFrom self.new.desk self.new.told) }
     {
         let _ = &self.told;
         match mem::replace(&mut self.held, Held::Nothing) {
@@ -229,7 +243,8 @@ impl<D: Disk> World<D> {
         ensures tells { TellsUpTo self.new.told result }
         ensures same { (self.new.desk ≡ self.old.desk) × (self.new.store ≡ self.old.store) }
         ensures told { self.old.told ≤ self.new.told }
-        ensures exit { EachCrash D.Disk self.new.store.journal.disk (KeptFrom self.new.desk self.new.told) }
+        ensures exit { EachCrash D.Disk self.new.store.journal.disk
+            (KeptFrom self.new.desk self.new.told) }
     {
         let _ = &self.told;
         if revision <= self.start {

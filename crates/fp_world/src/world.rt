@@ -66,7 +66,8 @@ impl<D: Disk> Model for World<D> {
       told = w.told;
     } };
 
-    ghost invariant = { λ w. IsWorld D.honest D.unsynced w.held w.tickets.items w.start w.store w.desk
+    ghost invariant = { λ w. IsWorld D.honest D.unsynced w.held w.tickets.items w.start w.store
+        w.desk
         w.told };
 }
 
@@ -108,8 +109,10 @@ impl<D: Disk> World<D> {
         ensures told { self.old.told ≤ self.new.told }
         ensures any_moment { AtAnyMoment D.Disk self.old.store.journal.disk
             self.new.store.journal.disk (KeptFrom self.new.desk self.old.told) }
-        ensures exit { EachCrash D.Disk self.new.store.journal.disk (KeptFrom self.new.desk self.new.told) }
-        ensures honest { SameHonesty D.Disk self.old.store.journal.disk self.new.store.journal.disk }
+        ensures exit { EachCrash D.Disk self.new.store.journal.disk
+            (KeptFrom self.new.desk self.new.told) }
+        ensures honest { SameHonesty D.Disk self.old.store.journal.disk
+            self.new.store.journal.disk }
         ensures called { MakesItsCall event.now result (D.calls self.old.store.journal.disk)
             (D.calls self.new.store.journal.disk) }
         ensures cause { RisesFor result (D.faults self.old.store.journal.disk)
@@ -149,8 +152,10 @@ impl<D: Disk> World<D> {
             Run (machine self.old) events.now answers.items (machine self.new)) }
         ensures any_moment { AtAnyMoment D.Disk self.old.store.journal.disk
             self.new.store.journal.disk (KeptFrom self.new.desk self.old.told) }
-        ensures exit { EachCrash D.Disk self.new.store.journal.disk (KeptFrom self.new.desk self.new.told) }
-        ensures honest { SameHonesty D.Disk self.old.store.journal.disk self.new.store.journal.disk }
+        ensures exit { EachCrash D.Disk self.new.store.journal.disk
+            (KeptFrom self.new.desk self.new.told) }
+        ensures honest { SameHonesty D.Disk self.old.store.journal.disk
+            self.new.store.journal.disk }
         ensures err { OnErr result (self.new ≡ self.old) }
     {
         let _ = &self.told;
