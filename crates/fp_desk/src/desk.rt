@@ -40,8 +40,11 @@ impl Model for Ticket {
 
     ghost coded = { Prim.hlevel (codes, coded_state, coded_change) };
 
-    ghost view = { λ t. record { store = t.settled.store; revision = t.revision;
-        edit = change_of t.edit.value } };
+    ghost view = { λ t. record {
+      store = t.settled.store;
+      revision = t.revision;
+      edit = change_of t.edit.value;
+    } };
 }
 
 impl Ticket {

@@ -32,9 +32,9 @@ abbrev pub laid : List Fill → Fill → List (ℕ × List ℕ) → ℕ → ℕ 
 laid fills rest [] k byte = byte
 laid fills rest (w ∷ ws) k byte =
     (if reaches w k
-     then filled (fill_of fills rest (length ws)) k (laid fills rest ws k byte)
-       (slice_index w.1 (k - w.0))
-     else laid fills rest ws k byte)
+    then filled (fill_of fills rest (length ws)) k (laid fills rest ws k byte)
+    (slice_index w.1 (k - w.0))
+    else laid fills rest ws k byte)
 
 -- a crash in this state leaves this, by this choice
 pub record IsLeft (wanted : ℕ) (fills : List Fill) (rest : Fill) (s : State)

@@ -82,8 +82,11 @@ reach_of n [] = n
 reach_of n (w ∷ ws) = max (reach_of n ws) (w.0 + length w.1)
 
 abbrev pub unsynced_of : State → PendingState
-unsynced_of s = record { synced = s.synced; ranges = ranges_of s.writes;
-    reach = reach_of (length s.synced) s.writes }
+unsynced_of s = record {
+  synced = s.synced;
+  ranges = ranges_of s.writes;
+  reach = reach_of (length s.synced) s.writes;
+}
 
 -- the state after the first k calls
 abbrev pub state_at : List ℕ → List Call → ℕ → State
@@ -127,24 +130,47 @@ state m = replay (at_first m.first) m.calls
 
 -- a disk that holds this, with nothing pending and no call made
 abbrev pub fresh : List ℕ → Memory
-fresh bytes = record { first = bytes; calls = []; failing = Never; failed_writes = Failed.Nothing;
-    made = []; faults = 0 }
+fresh bytes = record {
+  first = bytes;
+  calls = [];
+  failing = Never;
+  failed_writes = Failed.Nothing;
+  made = [];
+  faults = 0;
+}
 
 -- a call that was recorded
 abbrev pub recorded : Memory → Call → Memory
-recorded m c = record { first = m.first; calls = m.calls ++ c ∷ []; failing = after_call m.failing;
-    failed_writes = m.failed_writes; made = m.made ++ kind_of c.request ∷ []; faults = m.faults }
+recorded m c = record {
+  first = m.first;
+  calls = m.calls ++ c ∷ [];
+  failing = after_call m.failing;
+  failed_writes = m.failed_writes;
+  made = m.made ++ kind_of c.request ∷ [];
+  faults = m.faults;
+}
 
 -- a call that failed as it was told to
 abbrev pub failed : Memory → Call → Memory
-failed m c = record { first = m.first; calls = m.calls ++ c ∷ []; failing = after_call m.failing;
-    failed_writes = m.failed_writes; made = m.made ++ kind_of c.request ∷ [];
-    faults = m.faults + 1 }
+failed m c = record {
+  first = m.first;
+  calls = m.calls ++ c ∷ [];
+  failing = after_call m.failing;
+  failed_writes = m.failed_writes;
+  made = m.made ++ kind_of c.request ∷ [];
+  faults = m.faults + 1;
+}
 
 -- a call that failed since there was no memory to record it
 abbrev pub refused : Memory → Request → Memory
-refused m request = record { first = m.first; calls = m.calls; failing = after_call m.failing;
-    failed_writes = m.failed_writes; made = m.made ++ kind_of request ∷ []; faults = m.faults + 1 }
+refused m request = record {
+  first = m.first;
+  calls = m.calls;
+  failing = after_call m.failing;
+  failed_writes = m.failed_writes;
+  made = m.made ++ kind_of request ∷ [];
+  faults = m.faults + 1;
+}
 
 -- What a call did. It succeeds only if it passes; one that is to fail, fails;
 -- and one that leaves no record found no memory for it.

@@ -37,8 +37,11 @@ all_synced bytes = record { synced = bytes; ranges = []; reach = length bytes }
 
 -- after n bytes were written at this place, or a part of them
 abbrev pub with_write : PendingState → ℕ → ℕ → PendingState
-with_write u at n = record { synced = u.synced; ranges = (at, n) ∷ u.ranges;
-    reach = max u.reach (at + n) }
+with_write u at n = record {
+  synced = u.synced;
+  ranges = (at, n) ∷ u.ranges;
+  reach = max u.reach (at + n);
+}
 
 -- these bytes with others at this place, and zeros in a gap
 abbrev pub overwritten : List ℕ → ℕ → List ℕ → List ℕ

@@ -67,7 +67,8 @@ impl<D: Disk> Checked<D> {
         ensures same { D.honest self.old.disk → (D.bytes self.new.disk ≡ D.bytes self.old.disk)
             × (D.unsynced self.new.disk ≡ D.unsynced self.old.disk) }
         ensures time { D.honest self.old.disk →
-            Elapses (D.moment self.old.disk) (D.moment self.new.disk) (D.crash_states_since self.old.disk)
+            Elapses (D.moment self.old.disk) (D.moment self.new.disk)
+            (D.crash_states_since self.old.disk)
             (D.crash_states_since self.new.disk) (IsOutcome (D.unsynced self.old.disk)) }
         ensures called { D.calls self.new.disk ≡ D.calls self.old.disk ++ CallKind.Length ∷ [] }
         ensures cause { Answers (D.faults self.old.disk) (D.faults self.new.disk) result }
@@ -85,7 +86,8 @@ impl<D: Disk> Checked<D> {
         ensures same { D.honest self.old.disk → (D.bytes self.new.disk ≡ D.bytes self.old.disk)
             × (D.unsynced self.new.disk ≡ D.unsynced self.old.disk) }
         ensures time { D.honest self.old.disk →
-            Elapses (D.moment self.old.disk) (D.moment self.new.disk) (D.crash_states_since self.old.disk)
+            Elapses (D.moment self.old.disk) (D.moment self.new.disk)
+            (D.crash_states_since self.old.disk)
             (D.crash_states_since self.new.disk) (IsOutcome (D.unsynced self.old.disk)) }
         ensures called { D.calls self.new.disk ≡ D.calls self.old.disk ++ CallKind.Read ∷ [] }
         ensures cause { Answers (D.faults self.old.disk) (D.faults self.new.disk) result }
@@ -101,14 +103,17 @@ impl<D: Disk> Checked<D> {
         ensures honest { D.honest self.old.disk ↔ D.honest self.new.disk }
         ensures unsynced { D.honest self.old.disk →
             OnOk result
-            (D.unsynced self.new.disk ≡ with_write (D.unsynced self.old.disk) at (length from.now)) }
+            (D.unsynced self.new.disk
+            ≡ with_write (D.unsynced self.old.disk) at (length from.now)) }
         ensures partly { D.honest self.old.disk → IsErr result →
             ChangesWithin (D.bytes self.old.disk) at (length from.now) (D.bytes self.new.disk) }
         ensures failed { D.honest self.old.disk → IsErr result →
             (D.unsynced self.new.disk ≡ D.unsynced self.old.disk)
-            ⊎ (D.unsynced self.new.disk ≡ with_write (D.unsynced self.old.disk) at (length from.now)) }
+            ⊎ (D.unsynced self.new.disk
+            ≡ with_write (D.unsynced self.old.disk) at (length from.now)) }
         ensures time { D.honest self.old.disk →
-            Elapses (D.moment self.old.disk) (D.moment self.new.disk) (D.crash_states_since self.old.disk)
+            Elapses (D.moment self.old.disk) (D.moment self.new.disk)
+            (D.crash_states_since self.old.disk)
             (D.crash_states_since self.new.disk)
             (IsOutcome (with_write (D.unsynced self.old.disk) at (length from.now))) }
         ensures called { D.calls self.new.disk ≡ D.calls self.old.disk ++ CallKind.Write ∷ [] }
@@ -129,7 +134,8 @@ impl<D: Disk> Checked<D> {
         ensures honest { D.honest self.old.disk ↔ D.honest self.new.disk }
         ensures same { D.honest self.old.disk → D.bytes self.new.disk ≡ D.bytes self.old.disk }
         ensures time { D.honest self.old.disk →
-            Elapses (D.moment self.old.disk) (D.moment self.new.disk) (D.crash_states_since self.old.disk)
+            Elapses (D.moment self.old.disk) (D.moment self.new.disk)
+            (D.crash_states_since self.old.disk)
             (D.crash_states_since self.new.disk) (IsOutcome (D.unsynced self.old.disk)) }
         ensures called { D.calls self.new.disk ≡ D.calls self.old.disk ++ CallKind.Sync ∷ [] }
         ensures cause { Answers (D.faults self.old.disk) (D.faults self.new.disk) result }

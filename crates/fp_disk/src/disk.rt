@@ -43,7 +43,8 @@ pub trait Disk {
         ensures same { honest self.old → (bytes self.new ≡ bytes self.old)
             × (unsynced self.new ≡ unsynced self.old) }
         ensures time { honest self.old →
-            Elapses (moment self.old) (moment self.new) (crash_states_since self.old) (crash_states_since self.new)
+            Elapses (moment self.old) (moment self.new) (crash_states_since self.old)
+            (crash_states_since self.new)
             (IsOutcome (unsynced self.old)) }
         ensures called { calls self.new ≡ calls self.old ++ CallKind.Length ∷ [] }
         ensures cause { Answers (faults self.old) (faults self.new) result };
@@ -57,7 +58,8 @@ pub trait Disk {
         ensures same { honest self.old → (bytes self.new ≡ bytes self.old)
             × (unsynced self.new ≡ unsynced self.old) }
         ensures time { honest self.old →
-            Elapses (moment self.old) (moment self.new) (crash_states_since self.old) (crash_states_since self.new)
+            Elapses (moment self.old) (moment self.new) (crash_states_since self.old)
+            (crash_states_since self.new)
             (IsOutcome (unsynced self.old)) }
         ensures called { calls self.new ≡ calls self.old ++ CallKind.Read ∷ [] }
         ensures cause { Answers (faults self.old) (faults self.new) result };
@@ -74,7 +76,8 @@ pub trait Disk {
         ensures failed { honest self.old → IsErr result → (unsynced self.new ≡ unsynced self.old)
             ⊎ (unsynced self.new ≡ with_write (unsynced self.old) at (length from.now)) }
         ensures time { honest self.old →
-            Elapses (moment self.old) (moment self.new) (crash_states_since self.old) (crash_states_since self.new)
+            Elapses (moment self.old) (moment self.new) (crash_states_since self.old)
+            (crash_states_since self.new)
             (IsOutcome (with_write (unsynced self.old) at (length from.now))) }
         ensures called { calls self.new ≡ calls self.old ++ CallKind.Write ∷ [] }
         ensures cause { Answers (faults self.old) (faults self.new) result };
@@ -87,7 +90,8 @@ pub trait Disk {
         ensures honest { honest self.old ↔ honest self.new }
         ensures same { honest self.old → bytes self.new ≡ bytes self.old }
         ensures time { honest self.old →
-            Elapses (moment self.old) (moment self.new) (crash_states_since self.old) (crash_states_since self.new)
+            Elapses (moment self.old) (moment self.new) (crash_states_since self.old)
+            (crash_states_since self.new)
             (IsOutcome (unsynced self.old)) }
         ensures called { calls self.new ≡ calls self.old ++ CallKind.Sync ∷ [] }
         ensures cause { Answers (faults self.old) (faults self.new) result };

@@ -53,8 +53,10 @@ impl History {
 
     /// One call more.
     pub(crate) fn add(&mut self, kind: CallKind)
-        ensures { self.new ≡ record { made = self.old.made ++ kind ∷ [];
-            faults = self.old.faults } }
+        ensures { self.new ≡ record {
+          made = self.old.made ++ kind ∷ [];
+          faults = self.old.faults;
+        } }
     {
         self.calls.lengthen::<CallKind, OfOne>(&kind);
     }

@@ -41,12 +41,12 @@ all_known no_members = true
 all_known (member name d ms) = is_known name && all_known ms
 
 -- `op`: one of two texts
-abbrev pub op_named : List ℕ → Result Op Fault
-op_named s = if bytes_eq s (codes "put") then Ok Put
+abbrev pub op_by_name : List ℕ → Result Op Fault
+op_by_name s = if bytes_eq s (codes "put") then Ok Put
     else if bytes_eq s (codes "delete") then Ok Delete else Err bad_op
 
 abbrev pub op_of : Option Data → Result Op Fault
-op_of (Some (string s)) = op_named s
+op_of (Some (string s)) = op_by_name s
 op_of d = Err bad_op
 
 -- `key`: a text that is a key
@@ -55,8 +55,8 @@ key_of (Some (string s)) = if is_key s then Ok s else Err bad_key
 key_of d = Err bad_key
 
 -- `if`: absent, null, one of two texts, or a revision
-abbrev pub expect_named : List ℕ → Result Expect Fault
-expect_named s = if bytes_eq s (codes "any") then Ok Any
+abbrev pub expect_by_name : List ℕ → Result Expect Fault
+expect_by_name s = if bytes_eq s (codes "any") then Ok Any
     else if bytes_eq s (codes "absent") then Ok Absent else Err bad_if
 
 abbrev pub expect_at : Option ℕ → Result Expect Fault
@@ -66,7 +66,7 @@ expect_at (Some n) = if nat_lt 0 n && nat_lt n REVISIONS_END then Ok (At n) else
 abbrev pub expect_of : Option Data → Result Expect Fault
 expect_of None = Ok Any
 expect_of (Some null) = Ok Any
-expect_of (Some (string s)) = expect_named s
+expect_of (Some (string s)) = expect_by_name s
 expect_of (Some (number n)) = expect_at (as_u64 n)
 expect_of (Some d) = Err bad_if
 

@@ -129,13 +129,13 @@ fn op_of(value: &Value) -> Result<Op, LineFault>
     ensures { Gives (λ op. op) Tells result (says.op_of (get (codes "op") (view value.now))) }
 {
     match value.get("op") {
-        Some(Value::String(text)) => op_named(text.as_str()),
+        Some(Value::String(text)) => op_by_name(text.as_str()),
         _ => Err(LineFault::BadOp),
     }
 }
 
-fn op_named(text: &str) -> Result<Op, LineFault>
-    ensures { Gives (λ op. op) Tells result (says.op_named text.now) }
+fn op_by_name(text: &str) -> Result<Op, LineFault>
+    ensures { Gives (λ op. op) Tells result (says.op_by_name text.now) }
 {
     if text == "put" {
         Ok(Op::Put)
@@ -165,14 +165,14 @@ fn expect_of(value: &Value) -> Result<Expect, LineFault>
 {
     match value.get("if") {
         None | Some(Value::Null) => Ok(Expect::Any),
-        Some(Value::String(text)) => expect_named(text.as_str()),
+        Some(Value::String(text)) => expect_by_name(text.as_str()),
         Some(Value::Number(number)) => expect_at(number.as_u64()),
         Some(_) => Err(LineFault::BadIf),
     }
 }
 
-fn expect_named(text: &str) -> Result<Expect, LineFault>
-    ensures { Gives (λ expect. expect) Tells result (says.expect_named text.now) }
+fn expect_by_name(text: &str) -> Result<Expect, LineFault>
+    ensures { Gives (λ expect. expect) Tells result (says.expect_by_name text.now) }
 {
     if text == "any" {
         Ok(Expect::Any)

@@ -70,12 +70,12 @@ pub(crate) fn judged(
     requires some { 0 < found → 0 < count }
     ensures accepted { (s : State) → Tallies limit revision count size s
         → found ≡ cost_found (changed_key (change_of edit.now))
-            (map.get s.flags (changed_key (change_of edit.now)))
+        (map.get s.flags (changed_key (change_of edit.now)))
         → IfSome result (λ n. (refusal s (unconditional (change_of edit.now)) ≡ None)
         × Tallies limit (revision + 1) n.0 n.1 (next s (change_of edit.now))) }
     ensures refused { (s : State) → Tallies limit revision count size s
         → found ≡ cost_found (changed_key (change_of edit.now))
-            (map.get s.flags (changed_key (change_of edit.now)))
+        (map.get s.flags (changed_key (change_of edit.now)))
         → IfNone result (refusal s (unconditional (change_of edit.now)) ≡ None → ⊥) }
 {
     if revision >= REVISIONS_END - 1 {

@@ -27,4 +27,4 @@ IsThere files old path before = files.at old path ≡ Some before
 abbrev pub IsThereOrNew : {F D : Type 0} → Ghosts F D → DiskGhosts D → F → List ℕ → D → Type 0
 IsThereOrNew files disk old path before =
     IsThere files old path before ⊎ ((files.at old path ≡ None)
-        × (disk.honest before → disk.bytes before ≡ []))
+    × (disk.honest before → disk.bytes before ≡ []))

@@ -41,8 +41,10 @@ impl OpeningLog {
 
     /// One path more.
     pub fn ask(&mut self, path: &str)
-        ensures { self.new ≡ record { asked = self.old.asked ++ path.now ∷ [];
-            faults = self.old.faults } }
+        ensures { self.new ≡ record {
+          asked = self.old.asked ++ path.now ∷ [];
+          faults = self.old.faults;
+        } }
     {
         self.paths.lengthen::<&str, OfPath>(&path);
     }

@@ -32,8 +32,11 @@ impl<D: Drop> Model for SingleFile<D> {
 impl<D: Drop> SingleFile<D> {
     /// The disk at this path.
     pub fn new(path: String, disk: D) -> SingleFile<D>
-        ensures { result ≡ record { path = string_bytes path; disk = Some disk;
-            openings = record { asked = []; faults = 0 } } }
+        ensures { result ≡ record {
+          path = string_bytes path;
+          disk = Some disk;
+          openings = record { asked = []; faults = 0 };
+        } }
     {
         SingleFile {
             path,

@@ -24,17 +24,17 @@ pub record WritesByte {D T : Type 0} (disk : Ghosts D) (old new : Named D) (at b
     (result : Result T DiskFault) : Type 0 where
   pub name : new.name ≡ old.name
   pub written : disk.honest old.disk →
-    OnOk result (Written (disk.bytes old.disk) at (byte ∷ []) (disk.bytes new.disk))
+      OnOk result (Written (disk.bytes old.disk) at (byte ∷ []) (disk.bytes new.disk))
   pub honest : SameHonesty disk old.disk new.disk
   pub unsynced : disk.honest old.disk →
-    OnOk result (disk.unsynced new.disk ≡ with_write (disk.unsynced old.disk) at 1)
+      OnOk result (disk.unsynced new.disk ≡ with_write (disk.unsynced old.disk) at 1)
   pub partly : disk.honest old.disk → IsErr result →
-    ChangesWithin (disk.bytes old.disk) at 1 (disk.bytes new.disk)
+      ChangesWithin (disk.bytes old.disk) at 1 (disk.bytes new.disk)
   pub failed : disk.honest old.disk → IsErr result →
-    (disk.unsynced new.disk ≡ disk.unsynced old.disk)
-    ⊎ (disk.unsynced new.disk ≡ with_write (disk.unsynced old.disk) at 1)
+      (disk.unsynced new.disk ≡ disk.unsynced old.disk)
+      ⊎ (disk.unsynced new.disk ≡ with_write (disk.unsynced old.disk) at 1)
   pub time : disk.honest old.disk →
-    Elapses (disk.moment old.disk) (disk.moment new.disk) (disk.crash_states_since old.disk)
-    (disk.crash_states_since new.disk) (IsOutcome (with_write (disk.unsynced old.disk) at 1))
+      Elapses (disk.moment old.disk) (disk.moment new.disk) (disk.crash_states_since old.disk)
+      (disk.crash_states_since new.disk) (IsOutcome (with_write (disk.unsynced old.disk) at 1))
   pub called : disk.calls new.disk ≡ disk.calls old.disk ++ Write ∷ []
   pub cause : Answers (disk.faults old.disk) (disk.faults new.disk) result

@@ -8,7 +8,7 @@ use Rattle.serde_json.specs.View.{members_view}
 use Rattle.serde_json.proofs.Views.{Entry}
 use Rattle.fp_definition.specs.Key.{key_bytes, flag_cmp, is_key}
 use Rattle.fp_definition.specs.declared.key.FlagKey.{FlagKey}
-use Rattle.fp_imports.specs.Document.{Flag, Refusal, bad_key, flag_unless, flag_defined, flag_expanded, flag_of, flags_of, before, and_others}
+use Rattle.fp_imports.specs.Document.{Flag, Refusal, bad_key, flag_unless, flag_of_data, flag_expansion, flag_of, flags_of, before, and_others}
 use Rattle.fp_imports.proofs.Walks.{names}
 use Rattle.std.specs.Prelude.{Some, None, Option, Bool, true, false, if◌then◌else◌}
 use Rattle.fp_base.specs.Bytes.{bytes_cmp}
@@ -49,7 +49,7 @@ key_or-unless : (o : Option Fault) (k : List ℕ) (d : Data) → key_or k (flag_
 key_or-unless None k d = refl
 key_or-unless (Some f) k d = refl
 
-key_or-defined : (k : List ℕ) (r : Result Data Broken) → key_or k (flag_defined k r) ≡ k
+key_or-defined : (k : List ℕ) (r : Result Data Broken) → key_or k (flag_of_data k r) ≡ k
 key_or-defined k (Ok d) = key_or-unless (first_fault d) k d
 key_or-defined k (Err e) = refl
 
@@ -60,7 +60,7 @@ key_or-if false k r h = refl
 -- a flag has the name that it was looked for by
 pub flag-named : (evaluators : Members) (k : List ℕ) (d : Data) (f : Flag) → flag_of evaluators k d ≡ Ok f → f.0 ≡ k
 flag-named evaluators k d f h =
-    sym (ap (key_or k) h) ∙ key_or-if (is_key k) k (flag_defined k (flag_expanded evaluators d)) (key_or-defined k (flag_expanded evaluators d))
+    sym (ap (key_or k) h) ∙ key_or-if (is_key k) k (flag_of_data k (flag_expansion evaluators d)) (key_or-defined k (flag_expansion evaluators d))
 
 below_all : (k : FlagKey) (s : String Global) (ks : List FlagKey) (ss : List (String Global)) → key_bytes k ≡ string_bytes s → map key_bytes ks ≡ map string_bytes ss
     → AllByRecursion (λ t. string_cmp s t ≡ Less) ss → AllByRecursion (λ l. flag_cmp k l ≡ Less) ks

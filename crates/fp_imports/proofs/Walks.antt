@@ -12,7 +12,7 @@ use Rattle.serde_json.specs.Find.{get_member}
 use Rattle.serde_json.specs.declared.value.Value.{Value}
 use Rattle.serde_json.proofs.Views.{Entry}
 use Rattle.fp_base.specs.Answer.{Gives}
-use Rattle.fp_imports.specs.References.{Walked, Broken, unknown, too_deep, too_large, onward, counted, reference, placed, walked, items_walked, members_walked, put_in, replaced}
+use Rattle.fp_imports.specs.References.{Walked, Broken, unknown, too_deep, too_large, onward, count_one, reference, reference_or, expansion, items_expansion, members_expansion, put_in, replacement}
 use Rattle.fp_imports.specs.Faults.{TellsBroken}
 use Rattle.fp_imports.specs.declared.faults.ReferenceFault.{ReferenceFault}
 use Rattle.fp_imports.specs.declared.faults.ReferenceFault.TheVariants.{Unknown, TooDeep, TooLarge, Memory}
@@ -126,29 +126,29 @@ falls_replaced m n top d t h k l =
     let t_is : t ≡ 2 * ((n + 1) * suc top) + 1 = k ∙ ap (λ x. 2 * (x * suc top) + 1) h in omega arith
 
 -- a reference, and what stands for its name
-pub at_reference : (at : List ℕ → ℕ → Walked Data) (ms : Members) (name : List ℕ) (left : ℕ) → reference ms ≡ Some name → walked at (object ms) left ≡ at name left
-at_reference at ms name left h = ap (λ r. placed (λ n. at n left) r (counted left (λ n. onward (members_walked at ms n) (λ es m. Ok (object es, m))))) h
+pub at_reference : (at : List ℕ → ℕ → Walked Data) (ms : Members) (name : List ℕ) (left : ℕ) → reference ms ≡ Some name → expansion at (object ms) left ≡ at name left
+at_reference at ms name left h = ap (λ r. reference_or (λ n. at n left) r (count_one left (λ n. onward (members_expansion at ms n) (λ es m. Ok (object es, m))))) h
 
 pub at_name : (evaluators : Members) (name : List ℕ) (m more left : ℕ) (r : Option Data) → get_member name evaluators ≡ r → m ≡ suc more
-    → replaced evaluators m name left ≡ put_in (walked (replaced evaluators more)) name r left
-at_name evaluators name m more left r e k = ap (λ x. replaced evaluators x name left) k ∙ ap (λ x. put_in (walked (replaced evaluators more)) name x left) e
+    → replacement evaluators m name left ≡ put_in (expansion (replacement evaluators more)) name r left
+at_name evaluators name m more left r e k = ap (λ x. replacement evaluators x name left) k ∙ ap (λ x. put_in (expansion (replacement evaluators more)) name x left) e
 
 -- a list, and an object that is no reference
-pub at_array : (at : List ℕ → ℕ → Walked Data) (ds : Items) (left n : ℕ) → left ≡ suc n → walked at (array ds) left ≡ onward (items_walked at ds n) (λ es m. Ok (array (items_of es), m))
-at_array at ds left n h = ap (walked at (array ds)) h
+pub at_array : (at : List ℕ → ℕ → Walked Data) (ds : Items) (left n : ℕ) → left ≡ suc n → expansion at (array ds) left ≡ onward (items_expansion at ds n) (λ es m. Ok (array (items_of es), m))
+at_array at ds left n h = ap (expansion at (array ds)) h
 
-pub at_object : (at : List ℕ → ℕ → Walked Data) (ms : Members) (left n : ℕ) → reference ms ≡ None → left ≡ suc n → walked at (object ms) left ≡ onward (members_walked at ms n) (λ es m. Ok (object es, m))
+pub at_object : (at : List ℕ → ℕ → Walked Data) (ms : Members) (left n : ℕ) → reference ms ≡ None → left ≡ suc n → expansion at (object ms) left ≡ onward (members_expansion at ms n) (λ es m. Ok (object es, m))
 at_object at ms left n h k =
-    ap (walked at (object ms)) k ∙ ap (λ r. placed (λ name. at name (suc n)) r (onward (members_walked at ms n) (λ es m. Ok (object es, m)))) h
+    ap (expansion at (object ms)) k ∙ ap (λ r. reference_or (λ name. at name (suc n)) r (onward (members_expansion at ms n) (λ es m. Ok (object es, m)))) h
 
 -- the walk of one more part
-pub items_err : (at : List ℕ → ℕ → Walked Data) (d : Data) (ds : Items) (left : ℕ) (x : Broken) → walked at d left ≡ Err x → items_walked at (item d ds) left ≡ Err x
-items_err at d ds left x h = ap (λ r. onward r (λ e n. onward (items_walked at ds n) (λ es m. Ok (e ∷ es, m)))) h
+pub items_err : (at : List ℕ → ℕ → Walked Data) (d : Data) (ds : Items) (left : ℕ) (x : Broken) → expansion at d left ≡ Err x → items_expansion at (item d ds) left ≡ Err x
+items_err at d ds left x h = ap (λ r. onward r (λ e n. onward (items_expansion at ds n) (λ es m. Ok (e ∷ es, m)))) h
 
-pub items_ok : (at : List ℕ → ℕ → Walked Data) (d : Data) (ds : Items) (left : ℕ) (e : Data) (n : ℕ) → walked at d left ≡ Ok (e, n)
-    → items_walked at (item d ds) left ≡ onward (items_walked at ds n) (λ es m. Ok (e ∷ es, m))
-items_ok at d ds left e n h = ap (λ r. onward r (λ f p. onward (items_walked at ds p) (λ es m. Ok (f ∷ es, m)))) h
+pub items_ok : (at : List ℕ → ℕ → Walked Data) (d : Data) (ds : Items) (left : ℕ) (e : Data) (n : ℕ) → expansion at d left ≡ Ok (e, n)
+    → items_expansion at (item d ds) left ≡ onward (items_expansion at ds n) (λ es m. Ok (e ∷ es, m))
+items_ok at d ds left e n h = ap (λ r. onward r (λ f p. onward (items_expansion at ds p) (λ es m. Ok (f ∷ es, m)))) h
 
-pub members_ok : (at : List ℕ → ℕ → Walked Data) (k : List ℕ) (d : Data) (ds : Members) (left : ℕ) (e : Data) (n : ℕ) → walked at d left ≡ Ok (e, n)
-    → members_walked at (member k d ds) left ≡ onward (members_walked at ds n) (λ es m. Ok (member k e es, m))
-members_ok at k d ds left e n h = ap (λ r. onward r (λ f p. onward (members_walked at ds p) (λ es m. Ok (member k f es, m)))) h
+pub members_ok : (at : List ℕ → ℕ → Walked Data) (k : List ℕ) (d : Data) (ds : Members) (left : ℕ) (e : Data) (n : ℕ) → expansion at d left ≡ Ok (e, n)
+    → members_expansion at (member k d ds) left ≡ onward (members_expansion at ds n) (λ es m. Ok (member k e es, m))
+members_ok at k d ds left e n h = ap (λ r. onward r (λ f p. onward (members_expansion at ds p) (λ es m. Ok (member k f es, m)))) h

@@ -6,7 +6,7 @@ use Rattle.serde_json.specs.Written.{compact_text}
 use Rattle.fp_definition.specs.Key.{is_key}
 use Rattle.fp_definition.specs.Valid as definition
 use Rattle.fp_definition.specs.Valid.{Fault, first_fault}
-use Rattle.fp_imports.specs.References.{Walked, Broken, unknown, too_deep, too_large, expanded}
+use Rattle.fp_imports.specs.References.{Walked, Broken, unknown, too_deep, too_large, whole_expansion}
 
 -- why a document isn't taken
 pub data Refusal : Type 0 where
@@ -27,9 +27,9 @@ walk_made (Ok p) = Ok (Some p.0)
 walk_made (Err e) = Err e
 
 -- a targeting with its references replaced, where there is one
-abbrev pub targeting_expanded : Members → Option Data → Result (Option Data) Broken
-targeting_expanded evaluators None = Ok None
-targeting_expanded evaluators (Some t) = walk_made (expanded evaluators t)
+abbrev pub targeting_expansion : Members → Option Data → Result (Option Data) Broken
+targeting_expansion evaluators None = Ok None
+targeting_expansion evaluators (Some t) = walk_made (whole_expansion evaluators t)
 
 abbrev pub with_targeting : Members → Result (Option Data) Broken → Result Data Broken
 with_targeting ms (Ok None) = Ok (object ms)
@@ -37,10 +37,10 @@ with_targeting ms (Ok (Some t)) = Ok (object (put (codes "targeting") t ms))
 with_targeting ms (Err e) = Err e
 
 -- a flag's data with the references in its targeting replaced. Nothing else in it changes
-abbrev pub flag_expanded : Members → Data → Result Data Broken
-flag_expanded evaluators (object ms) =
-    with_targeting ms (targeting_expanded evaluators (get_member (codes "targeting") ms))
-flag_expanded evaluators d = Ok d
+abbrev pub flag_expansion : Members → Data → Result Data Broken
+flag_expansion evaluators (object ms) =
+    with_targeting ms (targeting_expansion evaluators (get_member (codes "targeting") ms))
+flag_expansion evaluators d = Ok d
 
 abbrev pub flag_broken : List ℕ → Broken → Refusal
 flag_broken k (unknown name) = unknown_evaluator name
@@ -51,17 +51,17 @@ abbrev pub flag_unless : Option Fault → List ℕ → Data → Result Flag Refu
 flag_unless None k d = Ok (k, compact_text d)
 flag_unless (Some f) k d = Err (bad_flag k f)
 
-abbrev pub definition_tested : List ℕ → Data → Result Flag Refusal
-definition_tested k d = flag_unless (first_fault d) k d
+abbrev pub flag_if_valid : List ℕ → Data → Result Flag Refusal
+flag_if_valid k d = flag_unless (first_fault d) k d
 
-abbrev pub flag_defined : List ℕ → Result Data Broken → Result Flag Refusal
-flag_defined k (Ok d) = definition_tested k d
-flag_defined k (Err e) = Err (flag_broken k e)
+abbrev pub flag_of_data : List ℕ → Result Data Broken → Result Flag Refusal
+flag_of_data k (Ok d) = flag_if_valid k d
+flag_of_data k (Err e) = Err (flag_broken k e)
 
 -- the flag of that name: its key is looked at first, then its references, then its definition
 abbrev pub flag_of : Members → List ℕ → Data → Result Flag Refusal
 flag_of evaluators k d =
-    if is_key k then flag_defined k (flag_expanded evaluators d) else Err (bad_key k)
+    if is_key k then flag_of_data k (flag_expansion evaluators d) else Err (bad_key k)
 
 -- ---- all flags
 
@@ -90,11 +90,11 @@ evaluators_in (Some d) = as_object d
 abbrev pub flags_in : Option Data → Option Members
 flags_in found = option_and_then as_object found
 
-abbrev pub imported : Option Members → Option Members → Result (List Flag) Refusal
-imported (Some evaluators) (Some flags) = flags_of evaluators flags
-imported evaluators flags = Err not_document
+abbrev pub flags_of_parts : Option Members → Option Members → Result (List Flag) Refusal
+flags_of_parts (Some evaluators) (Some flags) = flags_of evaluators flags
+flags_of_parts evaluators flags = Err not_document
 
 -- the flags of a document, or its first fault. Data that are no object have no members
 abbrev pub document : Data → Result (List Flag) Refusal
 document d =
-    imported (evaluators_in (get (codes "$evaluators") d)) (flags_in (get (codes "flags") d))
+    flags_of_parts (evaluators_in (get (codes "$evaluators") d)) (flags_in (get (codes "flags") d))

@@ -7,7 +7,7 @@ ghost use Rattle.serde_json.specs.Find.{get, get_member, as_object};
 ghost use Rattle.serde_json.specs.View.{view, members_view};
 ghost use Rattle.fp_base.specs.Answer.{Gives};
 ghost use Rattle.fp_definition.specs.Key.{flag_cmp, key_bytes};
-ghost use Rattle.fp_imports.specs.Document.{document as document_of, evaluators_in, flags_in, flags_of as every_flag, flag_of as one_flag, definition_tested, flag_expanded, targeting_expanded};
+ghost use Rattle.fp_imports.specs.Document.{document as document_of, evaluators_in, flags_in, flags_of as every_flag, flag_of as one_flag, flag_if_valid, flag_expansion, targeting_expansion};
 ghost use Rattle.fp_imports.specs.Faults.{Tells, TellsBroken, seen_flag};
 
 use crate::faults::{ImportFault, ReferenceFault};
@@ -133,7 +133,7 @@ fn flag_defined(
     key: FlagKey,
     flag: Value,
 ) -> Result<(FlagKey, Definition), ImportFault>
-    ensures { Gives seen_flag Tells result (definition_tested (key_bytes key) (view flag)) }
+    ensures { Gives seen_flag Tells result (flag_if_valid (key_bytes key) (view flag)) }
 {
     match Definition::from_value(alloc, flag) {
         Ok(definition) => Ok((key, definition)),
@@ -149,7 +149,7 @@ fn expand_flag(
     flag: Value,
 ) -> Result<Value, ReferenceFault>
     ensures { Gives view TellsBroken result
-        (flag_expanded (members_view evaluators.now.entries) (view flag)) }
+        (flag_expansion (members_view evaluators.now.entries) (view flag)) }
 {
     let mut members = match flag {
         Value::Object(members) => members,
@@ -171,7 +171,7 @@ fn expand_targeting(
     members: &Map<String, Value>,
 ) -> Result<Option<Value>, ReferenceFault>
     ensures { Gives (option_map view) TellsBroken result
-        (targeting_expanded (members_view evaluators.now.entries)
+        (targeting_expansion (members_view evaluators.now.entries)
         (get_member (codes "targeting") (members_view members.now.entries))) }
 {
     match member_named(members, "targeting") {

@@ -4,7 +4,7 @@ ghost use Rattle.std.specs.Prelude.{◌≡◌, map, option_map, Ok};
 ghost use Rattle.serde_json.specs.Find.{get_member};
 ghost use Rattle.serde_json.specs.View.{view, items_view, members_view};
 ghost use Rattle.fp_base.specs.Answer.{Gives};
-ghost use Rattle.fp_imports.specs.References.{reference as reference_of, counted, walked, items_walked, members_walked, replaced, expanded};
+ghost use Rattle.fp_imports.specs.References.{reference as reference_of, count_one, expansion, items_expansion, members_expansion, replacement, whole_expansion};
 ghost use Rattle.fp_imports.specs.Faults.{TellsBroken, with_rest};
 
 use crate::faults::ReferenceFault;
@@ -24,7 +24,7 @@ pub(crate) fn expand(
     targeting: &Value,
 ) -> Result<(Value, usize), ReferenceFault>
     ensures { Gives (with_rest view) TellsBroken result
-        (expanded (members_view evaluators.now.entries) (view targeting.now)) }
+        (whole_expansion (members_view evaluators.now.entries) (view targeting.now)) }
 {
     expand_value(
         alloc,
@@ -45,7 +45,7 @@ fn expand_value(
     left: usize,
 ) -> Result<(Value, usize), ReferenceFault>
     ensures { Gives (with_rest view) TellsBroken result
-        (walked (replaced (members_view evaluators.now.entries) more) (view value.now) left) }
+        (expansion (replacement (members_view evaluators.now.entries) more) (view value.now) left) }
 {
     match value {
         Value::Object(members) => match reference(members) {
@@ -86,7 +86,7 @@ fn expand_reference(
     left: usize,
 ) -> Result<(Value, usize), ReferenceFault>
     ensures { Gives (with_rest view) TellsBroken result
-        (replaced (members_view evaluators.now.entries) more name.now left) }
+        (replacement (members_view evaluators.now.entries) more name.now left) }
 {
     if more == 0 {
         return Err(ReferenceFault::TooDeep);
@@ -106,7 +106,7 @@ fn expand_items(
     left: usize,
 ) -> Result<(Vec<Value>, usize), ReferenceFault>
     ensures { Gives (with_rest (λ v. map view v.items)) TellsBroken result
-        (items_walked (replaced (members_view evaluators.now.entries) more)
+        (items_expansion (replacement (members_view evaluators.now.entries) more)
         (items_view items.now.items) left) }
 {
     let mut found = Vec::with_capacity(alloc, items.len())?;
@@ -132,7 +132,7 @@ fn expand_members(
     left: usize,
 ) -> Result<(Map<String, Value>, usize), ReferenceFault>
     ensures { Gives (with_rest (λ m. members_view m.entries)) TellsBroken result
-        (members_walked (replaced (members_view evaluators.now.entries) more)
+        (members_expansion (replacement (members_view evaluators.now.entries) more)
         (members_view members.now.entries) left) }
 {
     let mut found = Map::new(alloc);
@@ -152,7 +152,7 @@ fn expand_members(
 
 // A value that holds no others, if it may be counted.
 fn counted_alone(value: Value, left: usize) -> Result<(Value, usize), ReferenceFault>
-    ensures { Gives (with_rest view) TellsBroken result (counted left (λ n. Ok (view value, n))) }
+    ensures { Gives (with_rest view) TellsBroken result (count_one left (λ n. Ok (view value, n))) }
 {
     if left == 0 {
         Err(ReferenceFault::TooLarge)

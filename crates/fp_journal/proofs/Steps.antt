@@ -14,7 +14,7 @@ use Rattle.fp_journal.specs.Chain.{Ends, framed, with_gate, body_of, spell}
 use Rattle.fp_journal.specs.Moments.{KeepsFirm, KeepsHeld}
 use Rattle.fp_journal.specs.declared.held.Held.{Held}
 use Rattle.fp_journal.specs.declared.held.Held.TheVariants as held
-use Rattle.fp_journal.specs.State.{JournalState, HasAmong, HasChain, HasChainOrNext, HasNext, CrashStates, StatesAfterSync, Outside, EndsClosed, IsBetween, IsAt, IsFrame, IsOnWay, InFlight, AllShort, IsHeld, IsKept, IsLeft, SameSlot, begun_of, has_begun, phase_of, room}
+use Rattle.fp_journal.specs.State.{JournalState, HasAmong, HasChain, HasChainOrNext, HasNext, CrashStates, StatesAfterSync, Outside, EndsClosed, IsAt, IsFrame, IsOnWay, InFlight, AllShort, IsHeld, IsKept, IsLeft, SameSlot, begun_of, has_begun, phase_of, room}
 use Rattle.fp_journal.proofs.Gates.{text-more, ready_written}
 use Rattle.fp_journal.proofs.Calls as calls
 use Rattle.fp_journal.proofs.Firm as firm

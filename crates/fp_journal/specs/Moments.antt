@@ -11,7 +11,7 @@ abbrev pub KeepsFirm : {D : Type 0} (moment : D → ℕ) (crash_states_since : D
 KeepsFirm moment crash_states_since unsynced old new Out = (at : ℕ) (text : List ℕ) →
     Out at (length text) → IsSynced (unsynced old) at text
     → IsSynced (unsynced new) at text
-        × LeavesOnly moment crash_states_since old new (λ c. Holds c at text)
+    × LeavesOnly moment crash_states_since old new (λ c. Holds c at text)
 
 -- Text at a place that Out allows is read as it was
 abbrev pub KeepsHeld : {D : Type 0} (bytes : D → List ℕ) (old new : D) → (Out : ℕ → ℕ → Type 0) →

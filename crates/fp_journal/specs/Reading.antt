@@ -34,7 +34,7 @@ pub record IsNext (most at stop : ℕ) (body : List ℕ) (next : ℕ) (c : List 
 abbrev pub length_at : List ℕ → ℕ → ℕ
 length_at c at = from_be_bytes w32
     (slice_index c (at + 1) ∷ slice_index c (at + 2) ∷ slice_index c (at + 3)
-      ∷ slice_index c (at + 4) ∷ [])
+    ∷ slice_index c (at + 4) ∷ [])
 
 -- There is neither, and k is the first byte to show it:
 -- the bytes or the slot end before a field does, or the length is above the most

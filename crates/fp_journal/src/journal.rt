@@ -61,15 +61,30 @@ impl<D: Disk> Model for Journal<D> {
 
     ghost Value = { JournalState D };
 
-    ghost view = { λ s. record { disk = s.disk.disk; disk_name = s.disk.name; name = s.sealed.name;
-        slot = s.slot; front = slice_range s.opened.value.items s.first.value s.begin.value;
-        sealed = s.sealed.log; staged = body_of s.in_flight.items; phase = phase_of s.held;
-        begun = begun_of s.held } };
+    ghost view = { λ s. record {
+      disk = s.disk.disk;
+      disk_name = s.disk.name;
+      name = s.sealed.name;
+      slot = s.slot;
+      front = slice_range s.opened.value.items s.first.value s.begin.value;
+      sealed = s.sealed.log;
+      staged = body_of s.in_flight.items;
+      phase = phase_of s.held;
+      begun = begun_of s.held;
+    } };
 
     ghost invariant = { λ s. IsKept D.honest D.bytes D.unsynced
-        (record { disk = s.disk.disk; disk_name = s.disk.name; name = s.sealed.name; slot = s.slot;
-        front = slice_range s.opened.value.items s.first.value s.begin.value; sealed = s.sealed.log;
-        staged = body_of s.in_flight.items; phase = phase_of s.held; begun = begun_of s.held })
+        (record {
+          disk = s.disk.disk;
+          disk_name = s.disk.name;
+          name = s.sealed.name;
+          slot = s.slot;
+          front = slice_range s.opened.value.items s.first.value s.begin.value;
+          sealed = s.sealed.log;
+          staged = body_of s.in_flight.items;
+          phase = phase_of s.held;
+          begun = begun_of s.held;
+        })
         s.end s.in_flight.items × IsHeld D.honest D.moment s.disk.disk s.disk.name s.end s.held };
 }
 
@@ -332,7 +347,7 @@ impl<D: Disk> Journal<D> {
         ensures written { D.honest self.old.disk →
             OnOk result (HasWritten (D.bytes self.old.disk) at from.now (D.bytes self.new.disk)
             × (D.unsynced self.new.disk
-                ≡ with_write (D.unsynced self.old.disk) at (length from.now))) }
+            ≡ with_write (D.unsynced self.old.disk) at (length from.now))) }
         ensures bodies { (self.new.sealed ≡ self.old.sealed) × (self.new.staged ≡ self.old.staged) }
         ensures phase { OnOk result (self.new.phase ≡ self.old.phase)
             × OnErr result (self.new.phase ≡ Failed) }

@@ -40,8 +40,11 @@ impl<S> Model for FailureCounted<S> {
 
     ghost coded = { Prim.hlevel (codes) };
 
-    ghost view = { λ c. record { inner = c.stream; failures = c.failures;
-        reads_left = c.reads_left } };
+    ghost view = { λ c. record {
+      inner = c.stream;
+      failures = c.failures;
+      reads_left = c.reads_left;
+    } };
 }
 
 impl<S> FailureCounted<S> {

@@ -36,6 +36,13 @@ struct StoreRun<'a> {
     writes: FailedWrite,
 }
 
+// The document of a revision that was found.
+#[derive(Drop)]
+struct Shown {
+    revision: u64,
+    document: String,
+}
+
 /// `sweep`, `sweep half`, `alone`, `alone half`. For each call of the block's disk, from 0 on until a run has no stop: the block
 /// is run on a disk of the same bytes of which that call fails, and all behind it or it alone; the power is cut with each
 /// choice of what is pending, and the disk is opened. A row has the call, the line that it belongs to, the greatest revision
@@ -77,7 +84,7 @@ pub fn sweep(
 fn row(
     alloc: Global,
     course: StoreRun<'_>,
-    found: &mut Vec<(u64, String)>,
+    found: &mut Vec<Shown>,
     out: &mut String,
 ) -> Result<bool, AllocError> {
     let is_stopped = tell_run(alloc, course, out)?;
@@ -101,7 +108,7 @@ fn after_crashes(
     alloc: Global,
     course: StoreRun<'_>,
     length: u64,
-    found: &mut Vec<(u64, String)>,
+    found: &mut Vec<Shown>,
     out: &mut String,
 ) -> Result<(), AllocError> {
     for fill in FILLS {
@@ -174,7 +181,7 @@ fn crashed(
 // What the disk is opened as.
 fn tell_opened(
     trial: &mut Trial,
-    found: &mut Vec<(u64, String)>,
+    found: &mut Vec<Shown>,
     out: &mut String,
 ) -> Result<(), AllocError> {
     match step(trial, "open")? {
@@ -187,7 +194,7 @@ fn tell_opened(
 fn tell_revision(
     trial: &mut Trial,
     revision: u64,
-    found: &mut Vec<(u64, String)>,
+    found: &mut Vec<Shown>,
     out: &mut String,
 ) -> Result<(), AllocError> {
     write!(out, " {revision}")?;
@@ -203,23 +210,19 @@ fn tell_revision(
 }
 
 // Whether each disk of this revision had the same document so far.
-fn agrees(
-    found: &mut Vec<(u64, String)>,
-    revision: u64,
-    document: String,
-) -> Result<bool, AllocError> {
-    for (other, shown) in found.iter() {
-        if *other == revision {
-            return Ok(shown.as_str() == document.as_str());
+fn agrees(found: &mut Vec<Shown>, revision: u64, document: String) -> Result<bool, AllocError> {
+    for shown in found.iter() {
+        if shown.revision == revision {
+            return Ok(shown.document.as_str() == document.as_str());
         }
     }
-    found.push((revision, document))?;
+    found.push(Shown { revision, document })?;
     Ok(true)
 }
 
-fn tell_all(found: &[(u64, String)], out: &mut String) -> Result<(), AllocError> {
-    for (revision, document) in found {
-        writeln!(out, "{revision} {document}")?;
+fn tell_all(found: &[Shown], out: &mut String) -> Result<(), AllocError> {
+    for shown in found {
+        writeln!(out, "{} {}", shown.revision, shown.document)?;
     }
     Ok(())
 }

@@ -71,7 +71,7 @@ Submits edit old _ new = ⊥
 abbrev pub DrawsNext : Machine → Answer → Machine → Type 0
 DrawsNext old (answer.Drawn count) new = (group : Group) × IsNewDraw old.desk new.desk group
     × (count ≡ length group.changes)
-        × (new ≡ record old { desk = new.desk; progress = batch_drawn })
+    × (new ≡ record old { desk = new.desk; progress = batch_drawn })
 DrawsNext old answer.Memory new = (new ≡ old) × (old.desk.drawn ≡ []) × (old.desk.waiting ≢ [])
 DrawsNext old answer.NotNow new = (new ≡ old) × ((old.desk.drawn ≢ []) ⊎ (old.desk.waiting ≡ []))
 DrawsNext old _ new = ⊥

@@ -150,7 +150,7 @@ NumberedFrom n (t ∷ tickets) = (t.revision ≡ n) × NumberedFrom (n + 1) tick
 
 pub record IsWorld {D : Type 0} (honest : D → Type 0) (unsynced : D → PendingState) (held : Held)
     (tickets : List TicketState) (start : ℕ) (s : StoreState D) (d : DeskState)
-        (told : ℕ) : Type 0 where
+    (told : ℕ) : Type 0 where
   pub same : d.store ≡ s.store
   pub out : IsOut held s d
   pub low : told ≤ settled_revision d

@@ -7,7 +7,7 @@ use Rattle.serde_json.specs.Find.{get_member}
 use Rattle.serde_json.specs.View.{view, items_of, items_view, members_view}
 use Rattle.serde_json.proofs.Views.{Entry, view-Array, view-Object, members_view-insert_entry}
 use Rattle.serde_json.specs.declared.value.Value.{Value}
-use Rattle.fp_imports.specs.References.{unknown, onward, walked, items_walked, members_walked, replaced, reference}
+use Rattle.fp_imports.specs.References.{unknown, onward, expansion, items_expansion, members_expansion, replacement, reference}
 use Rattle.fp_base.specs.Answer.{Gives}
 use Rattle.fp_imports.specs.Faults.{TellsBroken, with_rest}
 use Rattle.fp_imports.proofs.Walks.{append, append-nil, names, names-append_one, names-view_one, Above, put_above, above_those, after_items, after_members, after_items-one, after_members-one, gives_err, item_depth, member_depth, member_found_depth, falls_part, falls_reference, falls_replaced, at_reference, at_name, at_array, at_object, items_err, items_ok, members_ok}
@@ -24,31 +24,31 @@ expand_items-expand_value-requires t c =
 
 pub expand_items-returns-in-Err : goal.expand_items-returns-in-Err
 expand_items-returns-in-Err t c =
-    let at = replaced (members_view c.args.evaluators.now.entries) c.args.more in
+    let at = replacement (members_view c.args.evaluators.now.entries) c.args.more in
     let vs = c.deref-item-items.result.now in
     let l = c.loop-item in
     let v = c.item-item.result in
     let rest = drop (l.item-index + 1) vs in
     let here : drop l.item-index vs ≡ v ∷ rest = drop_more vs l.item-index v (omega arith) ∙ ap (λ y. y ∷ rest) (sym c.item-item.is) in
-    gives_err {C = Vec Value Global × ℕ} (with_rest view) (with_rest (λ w. map view w.items)) c.in-Err.fault (walked at (view v) l.unused) (items_walked at (items_view c.args.items.now.items) c.args.left)
-    (subst (λ r. Gives (with_rest view) TellsBroken r (walked at (view v) l.unused)) c.in-Err.is c.expand_value.ensures)
-    (λ x h. ap (λ ys. items_walked at (items_view ys) c.args.left) (sym c.deref-item-items.ensures.value) ∙ sym l.invariant
-    ∙ ap (after_items (map view l.found.items)) (ap (λ ys. items_walked at (items_view ys) l.unused) here ∙ items_err at (view v) (items_view rest) l.unused x h))
+    gives_err {C = Vec Value Global × ℕ} (with_rest view) (with_rest (λ w. map view w.items)) c.in-Err.fault (expansion at (view v) l.unused) (items_expansion at (items_view c.args.items.now.items) c.args.left)
+    (subst (λ r. Gives (with_rest view) TellsBroken r (expansion at (view v) l.unused)) c.in-Err.is c.expand_value.ensures)
+    (λ x h. ap (λ ys. items_expansion at (items_view ys) c.args.left) (sym c.deref-item-items.ensures.value) ∙ sym l.invariant
+    ∙ ap (after_items (map view l.found.items)) (ap (λ ys. items_expansion at (items_view ys) l.unused) here ∙ items_err at (view v) (items_view rest) l.unused x h))
 
 pub expand_items-loop-item-preserved : goal.expand_items-loop-item-preserved
 expand_items-loop-item-preserved t c =
-    let at = replaced (members_view c.args.evaluators.now.entries) c.args.more in
+    let at = replacement (members_view c.args.evaluators.now.entries) c.args.more in
     let vs = c.deref-item-items.result.now in
     let l = c.loop-item in
     let v = c.item-item.result in
     let made = c.in-Ok.made in
     let rest = drop (l.item-index + 1) vs in
-    let next = items_walked at (items_view rest) c.in-Ok.rest in
+    let next = items_expansion at (items_view rest) c.in-Ok.rest in
     let here : drop l.item-index vs ≡ v ∷ rest = drop_more vs l.item-index v (omega arith) ∙ ap (λ y. y ∷ rest) (sym c.item-item.is) in
-    let walk : walked at (view v) l.unused ≡ Ok (view made, c.in-Ok.rest) = subst (λ r. Gives (with_rest view) TellsBroken r (walked at (view v) l.unused)) c.in-Ok.is c.expand_value.ensures in
+    let walk : expansion at (view v) l.unused ≡ Ok (view made, c.in-Ok.rest) = subst (λ r. Gives (with_rest view) TellsBroken r (expansion at (view v) l.unused)) c.in-Ok.is c.expand_value.ensures in
     ap (λ ys. after_items ys next) (ap (map view) c.in_ok-push-in-Ok.ensures.items ∙ map-append view l.found.items (made ∷ []))
     ∙ after_items-one (map view l.found.items) (view made) next
-    ∙ ap (after_items (map view l.found.items)) (sym (ap (λ ys. items_walked at (items_view ys) l.unused) here ∙ items_ok at (view v) (items_view rest) l.unused (view made) c.in-Ok.rest walk))
+    ∙ ap (after_items (map view l.found.items)) (sym (ap (λ ys. items_expansion at (items_view ys) l.unused) here ∙ items_ok at (view v) (items_view rest) l.unused (view made) c.in-Ok.rest walk))
     ∙ l.invariant
 
 pub expand_members-expand_value-requires : goal.expand_members-expand_value-requires
@@ -64,7 +64,7 @@ expand_members-expand_value-requires t c =
 
 pub expand_members-loop-key-preserved : goal.expand_members-loop-key-preserved
 expand_members-loop-key-preserved t c =
-    let at = replaced (members_view c.args.evaluators.now.entries) c.args.more in
+    let at = replacement (members_view c.args.evaluators.now.entries) c.args.more in
     let l = c.loop-key in
     let done = l.invariant.0 in
     let e : Entry = (c.in-Some.key.now, c.in-Some.member.now) in
@@ -72,26 +72,26 @@ expand_members-loop-key-preserved t c =
     let k = string_bytes e.0 in
     let made = view c.in-Ok.made in
     let found = members_view l.found.entries in
-    let next = members_walked at (members_view left) c.in-Ok.rest in
+    let next = members_expansion at (members_view left) c.in-Ok.rest in
     let all : c.args.members.now.entries ≡ done ++ e ∷ left = l.invariant.1 ∙ ap (λ es. done ++ es) c.in-Some.ensures.steps in
     let sorted = subst (λ es. IsStrictlySortedBy string_cmp (keys_of es)) all c.iter-key-items.ensures.ordered in
     let above : Above k (names found) = subst (Above k) (sym l.invariant.2) (above_those done e left sorted) in
     let named : string_bytes c.in_ok-name.name ≡ k = c.in_ok-name.ensures.cases in
     let stored : members_view c.insert.new.self.entries ≡ append found (member k made no_members) =
     ap members_view c.in_ok-insert-in-Ok.ensures.entries ∙ members_view-insert_entry l.found.entries c.in_ok-name.name c.in-Ok.made ∙ ap (λ n. put n made found) named ∙ put_above k made found above in
-    let walk : walked at (view e.1) l.unused ≡ Ok (made, c.in-Ok.rest) = subst (λ r. Gives (with_rest view) TellsBroken r (walked at (view e.1) l.unused)) c.in-Ok.is c.expand_value.ensures in (
+    let walk : expansion at (view e.1) l.unused ≡ Ok (made, c.in-Ok.rest) = subst (λ r. Gives (with_rest view) TellsBroken r (expansion at (view e.1) l.unused)) c.in-Ok.is c.expand_value.ensures in (
       done ++ e ∷ [],
       all ∙ sym (append_assoc done (e ∷ []) left),
       ap names stored ∙ names-append_one found k made ∙ ap (λ ns. ns ++ k ∷ []) l.invariant.2 ∙ sym (names-view_one done e),
       ap (λ ms. after_members ms next) stored ∙ after_members-one found k made next
-          ∙ ap (after_members found) (sym (ap (λ es. members_walked at (members_view es) l.unused) c.in-Some.ensures.steps ∙ members_ok at k (view e.1) (members_view left) l.unused made c.in-Ok.rest walk))
+          ∙ ap (after_members found) (sym (ap (λ es. members_expansion at (members_view es) l.unused) c.in-Some.ensures.steps ∙ members_ok at k (view e.1) (members_view left) l.unused made c.in-Ok.rest walk))
           ∙ l.invariant.3,
     )
 
 pub expand_members-returns : goal.expand_members-returns
 expand_members-returns t c =
     let l = c.loop-key in
-    let walk = members_walked (replaced (members_view c.args.evaluators.now.entries) c.args.more) in
+    let walk = members_expansion (replacement (members_view c.args.evaluators.now.entries) c.args.more) in
     let over : l.key-iterator ≡ [] = search rules in
     sym l.invariant.3 ∙ ap (λ es. after_members (members_view l.found.entries) (walk (members_view es) l.unused)) over ∙ ap (λ (ms : Members). Ok (ms, l.unused)) (append-nil (members_view l.found.entries))
 
@@ -104,11 +104,11 @@ expand_value-expand_reference-requires t c =
 
 pub expand_value-returns-in-Some : goal.expand_value-returns-in-Some
 expand_value-returns-in-Some t c =
-    let at = replaced (members_view c.args.evaluators.now.entries) c.args.more in
+    let at = replacement (members_view c.args.evaluators.now.entries) c.args.more in
     let ms = members_view c.in-Object.members.entries in
     let named : reference ms ≡ Some c.in-Some.name.now = sym c.reference.ensures ∙ ap (option_map (λ s. s.now)) c.in-Some.is in
     let seen : view c.args.value.now ≡ object ms = ap view c.in-Object.is ∙ view-Object c.in-Object.members in
-    let same : walked at (view c.args.value.now) c.args.left ≡ at c.in-Some.name.now c.args.left = ap (λ d. walked at d c.args.left) seen ∙ at_reference at ms c.in-Some.name.now c.args.left named in
+    let same : expansion at (view c.args.value.now) c.args.left ≡ at c.in-Some.name.now c.args.left = ap (λ d. expansion at d c.args.left) seen ∙ at_reference at ms c.in-Some.name.now c.args.left named in
     subst (λ w. Gives (with_rest view) TellsBroken c.expand_reference.result w) (sym same) c.expand_reference.ensures
 
 pub expand_reference-expand_value-requires : goal.expand_reference-expand_value-requires
@@ -132,42 +132,42 @@ expand_reference-returns-in_ok-from_str-in-None t c =
 
 pub expand_value-returns-in-Ok : goal.expand_value-returns-in-Ok
 expand_value-returns-in-Ok t c =
-    let at = replaced (members_view c.args.evaluators.now.entries) c.args.more in
+    let at = replacement (members_view c.args.evaluators.now.entries) c.args.more in
     let ms = members_view c.in-Object.members.entries in
     let plain : reference ms ≡ None = sym c.reference.ensures ∙ ap (option_map (λ s. s.now)) c.in-None.is in
     let seen : view c.args.value.now ≡ object ms = ap view c.in-Object.is ∙ view-Object c.in-Object.members in
-    let inner : members_walked at ms (c.args.left - 1) ≡ Ok (members_view c.in-Ok.found.entries, c.in-Ok.rest) =
-    subst (λ r. Gives (with_rest (λ m. members_view m.entries)) TellsBroken r (members_walked at ms (c.args.left - 1))) c.in-Ok.is c.expand_members.ensures in
-    ap (λ d. walked at d c.args.left) seen ∙ at_object at ms c.args.left (c.args.left - 1) plain (omega arith)
+    let inner : members_expansion at ms (c.args.left - 1) ≡ Ok (members_view c.in-Ok.found.entries, c.in-Ok.rest) =
+    subst (λ r. Gives (with_rest (λ m. members_view m.entries)) TellsBroken r (members_expansion at ms (c.args.left - 1))) c.in-Ok.is c.expand_members.ensures in
+    ap (λ d. expansion at d c.args.left) seen ∙ at_object at ms c.args.left (c.args.left - 1) plain (omega arith)
     ∙ ap (λ w. onward w (λ es m. Ok (object es, m))) inner ∙ ap (λ d. Ok (d, c.in-Ok.rest)) (sym (view-Object c.in-Ok.found))
 
 pub expand_value-returns-in-Err : goal.expand_value-returns-in-Err
 expand_value-returns-in-Err t c =
-    let at = replaced (members_view c.args.evaluators.now.entries) c.args.more in
+    let at = replacement (members_view c.args.evaluators.now.entries) c.args.more in
     let ms = members_view c.in-Object.members.entries in
     let plain : reference ms ≡ None = sym c.reference.ensures ∙ ap (option_map (λ s. s.now)) c.in-None.is in
     let seen : view c.args.value.now ≡ object ms = ap view c.in-Object.is ∙ view-Object c.in-Object.members in
-    let inner = members_walked at ms (c.args.left - 1) in
-    gives_err {A = BTreeMap (String Global) Value × ℕ} (with_rest (λ m. members_view m.entries)) (with_rest view) c.in-Err.fault inner (walked at (view c.args.value.now) c.args.left)
+    let inner = members_expansion at ms (c.args.left - 1) in
+    gives_err {A = BTreeMap (String Global) Value × ℕ} (with_rest (λ m. members_view m.entries)) (with_rest view) c.in-Err.fault inner (expansion at (view c.args.value.now) c.args.left)
     (subst (λ r. Gives (with_rest (λ m. members_view m.entries)) TellsBroken r inner) c.in-Err.is c.expand_members.ensures)
-    (λ x h. ap (λ d. walked at d c.args.left) seen ∙ at_object at ms c.args.left (c.args.left - 1) plain (omega arith) ∙ ap (λ w. onward w (λ es m. Ok (object es, m))) h)
+    (λ x h. ap (λ d. expansion at d c.args.left) seen ∙ at_object at ms c.args.left (c.args.left - 1) plain (omega arith) ∙ ap (λ w. onward w (λ es m. Ok (object es, m))) h)
 
 pub expand_value-returns-in-Ok-expand_items : goal.expand_value-returns-in-Ok-expand_items
 expand_value-returns-in-Ok-expand_items t c =
-    let at = replaced (members_view c.args.evaluators.now.entries) c.args.more in
+    let at = replacement (members_view c.args.evaluators.now.entries) c.args.more in
     let ds = items_view c.in-Array.items.items in
     let seen : view c.args.value.now ≡ array ds = ap view c.in-Array.is ∙ view-Array c.in-Array.items in
-    let inner : items_walked at ds (c.args.left - 1) ≡ Ok (map view c.in-Ok-expand_items.found.items, c.in-Ok-expand_items.rest) =
-    subst (λ r. Gives (with_rest (λ v. map view v.items)) TellsBroken r (items_walked at ds (c.args.left - 1))) c.in-Ok-expand_items.is c.expand_items.ensures in
-    ap (λ d. walked at d c.args.left) seen ∙ at_array at ds c.args.left (c.args.left - 1) (omega arith)
+    let inner : items_expansion at ds (c.args.left - 1) ≡ Ok (map view c.in-Ok-expand_items.found.items, c.in-Ok-expand_items.rest) =
+    subst (λ r. Gives (with_rest (λ v. map view v.items)) TellsBroken r (items_expansion at ds (c.args.left - 1))) c.in-Ok-expand_items.is c.expand_items.ensures in
+    ap (λ d. expansion at d c.args.left) seen ∙ at_array at ds c.args.left (c.args.left - 1) (omega arith)
     ∙ ap (λ w. onward w (λ es m. Ok (array (items_of es), m))) inner ∙ ap (λ d. Ok (d, c.in-Ok-expand_items.rest)) (sym (view-Array c.in-Ok-expand_items.found))
 
 pub expand_value-returns-in-Err-expand_items : goal.expand_value-returns-in-Err-expand_items
 expand_value-returns-in-Err-expand_items t c =
-    let at = replaced (members_view c.args.evaluators.now.entries) c.args.more in
+    let at = replacement (members_view c.args.evaluators.now.entries) c.args.more in
     let ds = items_view c.in-Array.items.items in
     let seen : view c.args.value.now ≡ array ds = ap view c.in-Array.is ∙ view-Array c.in-Array.items in
-    let inner = items_walked at ds (c.args.left - 1) in
-    gives_err {A = Vec Value Global × ℕ} (with_rest (λ v. map view v.items)) (with_rest view) c.in-Err-expand_items.fault inner (walked at (view c.args.value.now) c.args.left)
+    let inner = items_expansion at ds (c.args.left - 1) in
+    gives_err {A = Vec Value Global × ℕ} (with_rest (λ v. map view v.items)) (with_rest view) c.in-Err-expand_items.fault inner (expansion at (view c.args.value.now) c.args.left)
     (subst (λ r. Gives (with_rest (λ v. map view v.items)) TellsBroken r inner) c.in-Err-expand_items.is c.expand_items.ensures)
-    (λ x h. ap (λ d. walked at d c.args.left) seen ∙ at_array at ds c.args.left (c.args.left - 1) (omega arith) ∙ ap (λ w. onward w (λ es m. Ok (array (items_of es), m))) h)
+    (λ x h. ap (λ d. expansion at d c.args.left) seen ∙ at_array at ds c.args.left (c.args.left - 1) (omega arith) ∙ ap (λ w. onward w (λ es m. Ok (array (items_of es), m))) h)

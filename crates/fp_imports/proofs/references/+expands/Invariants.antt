@@ -2,7 +2,7 @@ use Rattle.std.proofs.Common.{◌≡◌, ◌+◌, ◌*◌, suc, List, ◌++◌, 
 use Rattle.serde_json.specs.Data.{depth, items_depth, members_depth}
 use Rattle.serde_json.specs.View.{view, items_view, members_view}
 use Rattle.serde_json.proofs.Views.{Entry}
-use Rattle.fp_imports.specs.References.{replaced, items_walked, members_walked}
+use Rattle.fp_imports.specs.References.{replacement, items_expansion, members_expansion}
 use Rattle.fp_imports.proofs.Walks.{after_items, after_members, names}
 use Rattle.fp_imports.proofs.references.+expands.Given as goal
 
@@ -22,11 +22,11 @@ decreases-expand_members l = 2 * (l.more * suc (members_depth (members_view l.ev
 -- what is found, before the walk of what is left, is the walk of all
 abbrev pub invariant-expand_items-loop-item : goal.invariant-expand_items-loop-item
 invariant-expand_items-loop-item l =
-    after_items (map view l.found.items) (items_walked (replaced (members_view l.evaluators.entries) l.more) (items_view (drop l.item-index l.item-items)) l.unused)
-    ≡ items_walked (replaced (members_view l.evaluators.entries) l.more) (items_view l.item-items) l.left
+    after_items (map view l.found.items) (items_expansion (replacement (members_view l.evaluators.entries) l.more) (items_view (drop l.item-index l.item-items)) l.unused)
+    ≡ items_expansion (replacement (members_view l.evaluators.entries) l.more) (items_view l.item-items) l.left
 
 abbrev pub invariant-expand_members-loop-key : goal.invariant-expand_members-loop-key
 invariant-expand_members-loop-key l =
     (done : List Entry) × (l.members.entries ≡ done ++ l.key-iterator) × (names (members_view l.found.entries) ≡ names (members_view done))
-    × (after_members (members_view l.found.entries) (members_walked (replaced (members_view l.evaluators.entries) l.more) (members_view l.key-iterator) l.unused)
-    ≡ members_walked (replaced (members_view l.evaluators.entries) l.more) (members_view l.members.entries) l.left)
+    × (after_members (members_view l.found.entries) (members_expansion (replacement (members_view l.evaluators.entries) l.more) (members_view l.key-iterator) l.unused)
+    ≡ members_expansion (replacement (members_view l.evaluators.entries) l.more) (members_view l.members.entries) l.left)

@@ -1,4 +1,4 @@
-use Rattle.std.proofs.Common.{rules, [], ◌∷◌, length, sym, subst, inr}
+use Rattle.std.proofs.Common.{rules, [], ◌∷◌, sym, subst, inr}
 use Rattle.fp_gate.specs.Gates.{StaysAsRead}
 use Rattle.fp_gate.specs.declared.gate.TheConstants.{OPEN}
 use Rattle.fp_journal.specs.State.{JournalState, Outside, begun_of}

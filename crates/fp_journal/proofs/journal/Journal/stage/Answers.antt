@@ -22,9 +22,9 @@ returns-in_err-write_at-clause-kept g c =
       same = search rules;
       any_moment = rw (← c.self.view_is) (steps.stage_leaves D.honest D.bytes D.unsynced D.moment D.crash_states_since m.present m.only_now c.self.invariant.0 new is n w.time);
       apart =
-        let shape : c.deref.result.now ≡ with_gate c.args.framed = c.deref.ensures.value ∙ c.into_bytes.ensures.bytes in
-        let fits = subst (λ (k : JournalState g.row.D.Denot). length c.args.framed + 6 ≤ room k) (sym c.self.view_is) c.requires.room in
-        rw (← c.self.view_is) (steps.stage_apart D.honest D.bytes D.unsynced D.moment D.crash_states_since m.present m.only_now c.self.invariant.0 new is c.args.framed written c.deref.result.now c.into_bytes.ensures.bytes shape fits w.time (λ h. w.failed h (search rules)));
+          let shape : c.deref.result.now ≡ with_gate c.args.framed = c.deref.ensures.value ∙ c.into_bytes.ensures.bytes in
+          let fits = subst (λ (k : JournalState g.row.D.Denot). length c.args.framed + 6 ≤ room k) (sym c.self.view_is) c.requires.room in
+          rw (← c.self.view_is) (steps.stage_apart D.honest D.bytes D.unsynced D.moment D.crash_states_since m.present m.only_now c.self.invariant.0 new is c.args.framed written c.deref.result.now c.into_bytes.ensures.bytes shape fits w.time (λ h. w.failed h (search rules)));
       beside = search rules;
       honest = search rules;
       cause = search rules;
@@ -47,18 +47,18 @@ returns-clause-kept g c =
     record {
       same = search rules;
       any_moment =
-        let n = length c.deref.result.now in let written = c.into_bytes.result.items in
-        rw (← c.self.view_is) (steps.stage_leaves D.honest D.bytes D.unsynced D.moment D.crash_states_since m.present m.only_now c.self.invariant.0 new is n w.time);
+          let n = length c.deref.result.now in let written = c.into_bytes.result.items in
+          rw (← c.self.view_is) (steps.stage_leaves D.honest D.bytes D.unsynced D.moment D.crash_states_since m.present m.only_now c.self.invariant.0 new is n w.time);
       apart =
-        let n = length c.deref.result.now in let written = c.into_bytes.result.items in
-        let shape : c.deref.result.now ≡ with_gate c.args.framed = c.deref.ensures.value ∙ c.into_bytes.ensures.bytes in
-        let fits = subst (λ (k : JournalState g.row.D.Denot). length c.args.framed + 6 ≤ room k) (sym c.self.view_is) c.requires.room in
-        rw (← c.self.view_is) (steps.stage_apart D.honest D.bytes D.unsynced D.moment D.crash_states_since m.present m.only_now c.self.invariant.0 new is c.args.framed written c.deref.result.now c.into_bytes.ensures.bytes shape fits w.time (λ h. inr (c.in_ok-write_at.ensures.unsynced h)));
+          let n = length c.deref.result.now in let written = c.into_bytes.result.items in
+          let shape : c.deref.result.now ≡ with_gate c.args.framed = c.deref.ensures.value ∙ c.into_bytes.ensures.bytes in
+          let fits = subst (λ (k : JournalState g.row.D.Denot). length c.args.framed + 6 ≤ room k) (sym c.self.view_is) c.requires.room in
+          rw (← c.self.view_is) (steps.stage_apart D.honest D.bytes D.unsynced D.moment D.crash_states_since m.present m.only_now c.self.invariant.0 new is c.args.framed written c.deref.result.now c.into_bytes.ensures.bytes shape fits w.time (λ h. inr (c.in_ok-write_at.ensures.unsynced h)));
       beside =
-        let written = c.into_bytes.result.items in
-        let shape : c.deref.result.now ≡ with_gate c.args.framed = c.deref.ensures.value ∙ c.into_bytes.ensures.bytes in
-        let fits = subst (λ (k : JournalState g.row.D.Denot). length c.args.framed + 6 ≤ room k) (sym c.self.view_is) c.requires.room in
-        rw (← c.self.view_is) (λ h. steps.stage_beside D.honest D.bytes D.unsynced D.moment D.crash_states_since m.present m.only_now c.self.invariant.0 new is c.args.framed written c.deref.result.now c.into_bytes.ensures.bytes shape fits h (written_within _ c.deref.result.now (D.bytes new) _ (c.in_ok-write_at.ensures.written h)));
+          let written = c.into_bytes.result.items in
+          let shape : c.deref.result.now ≡ with_gate c.args.framed = c.deref.ensures.value ∙ c.into_bytes.ensures.bytes in
+          let fits = subst (λ (k : JournalState g.row.D.Denot). length c.args.framed + 6 ≤ room k) (sym c.self.view_is) c.requires.room in
+          rw (← c.self.view_is) (λ h. steps.stage_beside D.honest D.bytes D.unsynced D.moment D.crash_states_since m.present m.only_now c.self.invariant.0 new is c.args.framed written c.deref.result.now c.into_bytes.ensures.bytes shape fits h (written_within _ c.deref.result.now (D.bytes new) _ (c.in_ok-write_at.ensures.written h)));
       honest = search rules;
       cause = search rules;
     }
