@@ -1,3 +1,5 @@
+//! Why a disk can't be opened.
+
 ghost use Rattle.std.specs.Prelude.{◌≡◌};
 ghost use Rattle.fp_layout.specs.Faults.{fault_of_bytes, fault_of_chain};
 

@@ -1,3 +1,5 @@
+//! The header in front of all the bytes of a disk.
+
 ghost use Rattle.std.specs.Prelude.{◌≡◌, ◌≤◌, ◌<◌, length, IfOk, IfErr, IfSome, IfNone};
 ghost use Rattle.fp_layout.specs.Layout.{IsHeader, AreZeros, IsFirstOther};
 ghost use Rattle.fp_layout.specs.Faults.{RefusesHeader};

@@ -1,3 +1,5 @@
+//! How many bytes a slot has.
+
 ghost use Rattle.std.specs.Prelude.{◌≡◌, ◌<◌, ◌≤◌, ◌+◌, ◌-◌, ◌/◌, ◌^◌, ◌↔◌, IsSome, IfSome};
 ghost use Rattle.fp_layout.specs.Size.{IsSlotSize, first_slot};
 
