@@ -6,8 +6,8 @@ ghost use Rattle.fp_disk.specs.History.{Makes, MakesSome};
 ghost use Rattle.fp_disk.specs.declared.history.CallKind.TheVariants.{Length, Sync, Write};
 ghost use Rattle.fp_disk.specs.Outcomes.{Answers, IsOutcome, LeavesOnly, Written, all_synced, with_write};
 ghost use Rattle.fp_journal.specs.declared.journal.Phase.TheVariants.{Idle};
-ghost use Rattle.fp_layout.specs.Size.{IsSlotSize, first_slot};
-ghost use Rattle.fp_layout.specs.Layout.{IsHeader, IsFirstSlot};
+ghost use Rattle.fp_layout.specs.Size.{IsSlotSize, first_slot, second_slot};
+ghost use Rattle.fp_layout.specs.Layout.{IsHeader, IsHead, IsActive};
 ghost use Rattle.fp_layout.specs.NewDisk.{IsNewDisk, IsNewOrNone, closed_bytes, empty_image, format_calls, new_front};
 ghost use Rattle.fp_layout.specs.declared.format.CreateFault.TheVariants.{NotEmpty, Device, Memory};
 
@@ -87,7 +87,7 @@ pub fn create<D: Disk>(
     ensures journal { IfOk result (λ j. (j.slot ≡ first_slot size) × (j.front ≡ new_front) × (j.sealed ≡ []) × (j.phase ≡ Idle)) }
     ensures made { D.honest disk → IfOk result (λ j. IsNewDisk size (D.bytes j.disk)) }
     ensures all_synced { D.honest disk → IfOk result (λ j. D.unsynced j.disk ≡ all_synced (D.bytes j.disk)) }
-    ensures stands { D.honest disk → IfOk result (λ j. IsHeader (D.bytes j.disk) size × IsFirstSlot (D.bytes j.disk) size 1 0 empty_image) }
+    ensures stands { D.honest disk → IfOk result (λ j. IsHeader (D.bytes j.disk) size × IsActive (D.bytes j.disk) size (first_slot size) (second_slot size) × IsHead (D.bytes j.disk) 64 size 1 0 empty_image) }
     ensures not_empty { D.honest disk → IfErr result (λ e. e.0 ≡ NotEmpty → (D.bytes disk ≢ []) × (D.bytes e.1 ≡ D.bytes disk) × (D.unsynced e.1 ≡ D.unsynced disk)) }
     ensures empty { D.honest disk → IsOk result → D.bytes disk ≡ [] }
     ensures any_moment { D.honest disk → D.unsynced disk ≡ all_synced [] → MatchResult result (λ j. LeavesOnly D.moment D.crash_states_since disk j.disk (IsNewOrNone size)) (λ e. LeavesOnly D.moment D.crash_states_since disk e.1 (IsNewOrNone size)) }

@@ -7,7 +7,10 @@ ghost use Rattle.fp_disk.specs.declared.history.CallKind.TheVariants.{Length, Re
 ghost use Rattle.fp_disk.specs.Outcomes.{IsOutcome, LeavesOnly, all_synced};
 ghost use Rattle.fp_journal.specs.Reading.{IsWrong};
 ghost use Rattle.fp_journal.specs.declared.journal.Phase.TheVariants.{Idle};
-ghost use Rattle.fp_layout.specs.Size.{first_slot};
+ghost use Rattle.fp_layout.specs.Faults.{IsDamage};
+ghost use Rattle.fp_layout.specs.Layout.{IsActive, IsHeader};
+ghost use Rattle.fp_layout.specs.Size.{first_slot, second_slot};
+ghost use Rattle.fp_slots.specs.Rules.{RulesNeither};
 ghost use Rattle.fp_layout.specs.Opening.{FoundFront, FoundDisk, RefusesFront, RefusesDisk};
 ghost use Rattle.fp_layout.specs.declared.fault.OpenFault.TheVariants.{Device};
 
@@ -16,7 +19,8 @@ use crate::head::{Head, read_head};
 use crate::header::read_header;
 use crate::size::SlotSize;
 use fp_disk::Disk;
-use fp_journal::{BodyFault, Journal, Reader, resume, synced_bytes};
+use fp_journal::{BodyFault, Journal, Reader, Slot, resume, synced_bytes};
+use fp_slots::{Active, IMAGE_PLACE, pick};
 use std::alloc::Global;
 
 /// What takes a slot's image, and then the bodies of its chain.
@@ -33,25 +37,40 @@ pub trait SlotReader: Reader {
         ensures fault { IfErr result (IsWrong (length image.now) (rejects self.old base limit image.now)) };
 }
 
-// Reads what stands in front of the batches, and answers the slot's size and the place of the first batch's gate.
-fn read_front<R: SlotReader>(bytes: &[u8], reader: &mut R) -> Result<(SlotSize, u64), OpenFault>
+// Which of the two slots rules.
+fn read_active(bytes: &[u8], size: SlotSize) -> Result<Active, OpenFault>
+    requires header { IsHeader bytes.now size }
+    ensures found { IfOk result (λ r. IsActive bytes.now size r.slot r.other) }
+    ensures there { IfOk result (λ r. r.slot.start < length bytes.now) }
+    ensures fault { IfErr result
+        (IsDamage (RulesNeither (first_slot size).start (second_slot size).start bytes.now)) }
+{
+    let active = pick(bytes, size.first_slot(), size.second_slot())?;
+    Ok(active)
+}
+
+// Reads what stands in front of the batches, and answers the slot that rules and the place of the first batch's gate.
+fn read_front<R: SlotReader>(bytes: &[u8], reader: &mut R) -> Result<(Slot, u64), OpenFault>
     ensures found { IfOk result (λ p. FoundFront R.begins bytes.now reader.old reader.new p.0 p.1) }
+    ensures within { IfOk result (λ p. (p.0.start ≤ p.1) × (p.1 ≤ length bytes.now)) }
     ensures fault { IfErr result (RefusesFront R.rejects bytes.now reader.old) }
 {
     let size = read_header(bytes)?;
+    let slot = read_active(bytes, size)?.slot;
     let Head {
         generation: _,
         base,
         image,
-    } = read_head(bytes, size)?;
+    } = read_head(bytes, slot.start as usize, size)?;
+    let place = slot.start + IMAGE_PLACE as u64;
     match reader.begin(base, size.bytes() / 2, image) {
-        Ok(()) => Ok((size, 86 + image.len() as u64)),
-        Err(BodyFault::BadBody { at }) => Err(OpenFault::Damaged { at: 86 + at }),
+        Ok(()) => Ok((slot, place + image.len() as u64)),
+        Err(BodyFault::BadBody { at }) => Err(OpenFault::Damaged { at: place + at }),
         Err(BodyFault::Memory) => Err(OpenFault::Memory),
     }
 }
 
-/// Opens a disk: gives what stands in its first slot to the reader, and goes on behind it.
+/// Opens a disk: gives what stands in the slot that rules to the reader, and goes on behind it.
 pub fn open<D: Disk, R: SlotReader>(
     alloc: Global,
     mut disk: D,
@@ -72,11 +91,11 @@ pub fn open<D: Disk, R: SlotReader>(
         Ok(bytes) => bytes,
         Err(fault) => return Err((fault.into(), disk)),
     };
-    let (size, at) = match read_front(&bytes, reader) {
+    let (slot, at) = match read_front(&bytes, reader) {
         Ok(front) => front,
         Err(fault) => return Err((fault, disk)),
     };
-    match resume(alloc, disk, &bytes, size.first_slot(), at, reader) {
+    match resume(alloc, disk, &bytes, slot, at, reader) {
         Ok(journal) => Ok(journal),
         Err((fault, disk)) => Err((fault.into(), disk)),
     }

@@ -1,5 +1,5 @@
 ghost use Rattle.std.specs.Prelude.{◌≡◌, ◌<◌, ◌≤◌, ◌+◌, ◌-◌, ◌/◌, ◌^◌, ◌↔◌, IsSome, IfSome};
-ghost use Rattle.fp_layout.specs.Size.{IsSlotSize, first_slot};
+ghost use Rattle.fp_layout.specs.Size.{IsSlotSize, first_slot, second_slot};
 
 use fp_journal::Slot;
 use std::marker::Model;
@@ -62,6 +62,17 @@ impl SlotSize {
         Slot {
             start: 64,
             stop: 64 + self.bytes,
+            most: (self.bytes / 8 - 6) as u32,
+        }
+    }
+
+    /// The second slot, which begins behind the first.
+    pub fn second_slot(self) -> Slot
+        ensures slot { result ≡ second_slot self }
+    {
+        Slot {
+            start: 64 + self.bytes,
+            stop: 64 + self.bytes + self.bytes,
             most: (self.bytes / 8 - 6) as u32,
         }
     }

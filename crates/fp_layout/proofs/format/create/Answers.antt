@@ -20,7 +20,7 @@ returns-clause-stands g c =
     let D = g.D.Disk in let s = c.args.size in let d = c.format.new.disk in let allowed = c.first_slot.ensures.allowed in
     λ h. let h1 = c.len.ensures.honest.0 h in
     let new : IsNewDisk s (D.bytes d) = c.in-Ok-format.ensures.made h1 ((c.len.ensures.same h).0 ∙ making.no_bytes (D.bytes c.args.disk) (sym (c.in-Ok-eq0.ensures.answer h) ∙ c.in-Ok-eq0.field-0-test)) in
-    rw c.adopt.ensures.disk (making.new_header s (D.bytes d) allowed new, making.new_slot s (D.bytes d) allowed new)
+    rw c.adopt.ensures.disk (making.new_header s (D.bytes d) allowed new, making.new_active s (D.bytes d) allowed new, making.new_head s (D.bytes d) allowed new)
 
 pub returns-clause-any_moment : goal.returns-clause-any_moment
 returns-clause-any_moment g c =

@@ -1,6 +1,5 @@
 use Rattle.std.proofs.Common.{rules, ◌≡◌, ◌∙◌, ℕ, List, subst}
 use Rattle.fp_journal.specs.Reading.{Refuses}
-use Rattle.fp_layout.specs.Size.{first_slot}
 use Rattle.fp_layout.specs.Faults.{fault_of_chain}
 use Rattle.fp_layout.specs.Opening.{FoundFront, RefusesFront, RefusesDisk}
 use Rattle.fp_layout.proofs.Refusals.{front_refuses, chain_refuses}
@@ -18,6 +17,6 @@ returns-clause-fault g c = λ h.
     let S = g.R.SlotReader in let R = g.R.Reader in let b = c.in-Ok.bytes.items in let front = c.in-Ok-read_front.front in let middle = c.read_front.new.reader in let fault = c.in-Err-resume.fault in
     let begun : FoundFront S.begins c.deref.result.now c.args.reader.now middle front.0 front.1 = search rules in
     let found : FoundFront S.begins b c.args.reader.now middle front.0 front.1 = subst (λ (bs : List ℕ). FoundFront S.begins bs c.args.reader.now middle front.0 front.1) c.deref.ensures.value begun in
-    let refused : Refuses R.takes R.refuses (first_slot front.0).most front.1 (first_slot front.0).stop b middle fault = search rules in
+    let refused : Refuses R.takes R.refuses front.0.most front.1 front.0.stop b middle fault = search rules in
     let is : c.into-in-Err-resume.result ≡ fault_of_chain fault = search rules in
     subst (λ (bs : List ℕ). RefusesDisk S.begins S.rejects R.takes R.refuses bs c.args.reader.now c.into-in-Err-resume.result) (c.in-Ok.ensures.bytes h) (rw is (chain_refuses S.begins S.rejects R.takes R.refuses b c.args.reader.now front.0 front.1 middle fault found refused))

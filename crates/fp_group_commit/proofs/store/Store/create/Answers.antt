@@ -31,7 +31,7 @@ adopt-requires-clause-kept g c = λ h.
     let D = g.D.Disk in let e = c.in-Ok.ensures in let j = c.in-Ok.journal in let size = c.in-Some.size in let h0 = e.honest.1 h in let parts = e.journal in let stands = e.stands h0 in
     let set : c.new-set.result ≡ new_set size = c.new-set.ensures ∙ ap new_set c.bytes-limit.ensures.bytes in
     subst (λ (s : State). IsKept (D.unsynced j.disk) s j) (sym set)
-    (new_kept size (D.bytes j.disk) stands.0.allowed (e.made h0) stands.0 stands.1 (D.unsynced j.disk) j parts.0 parts.1 parts.2 (e.all_synced h0))
+    (new_kept size (D.bytes j.disk) stands.0.allowed (e.made h0) stands.0 stands.1 stands.2 (D.unsynced j.disk) j parts.0 parts.1 parts.2 (e.all_synced h0))
 
 pub returns-clause-sure : goal.returns-clause-sure
 returns-clause-sure g c = λ h0.
@@ -39,7 +39,7 @@ returns-clause-sure g c = λ h0.
     let disk : c.adopt.result.0.journal ≡ j = c.adopt.ensures.journal in
     subst (λ (k : JournalState g.row.D.Denot). IsDurable (D.unsynced k.disk) (new_set c.args.size)) (sym disk)
     (subst (λ (n : ℕ). IsDurable (D.unsynced j.disk) (new_set n)) c.in-Some.ensures.value
-    (settled_sure (D.unsynced j.disk) (D.bytes j.disk) (new_set size) (e.all_synced h0) (new_stands size (D.bytes j.disk) stands.0.allowed (e.made h0) stands.0 stands.1)))
+    (settled_sure (D.unsynced j.disk) (D.bytes j.disk) (new_set size) (e.all_synced h0) (new_stands size (D.bytes j.disk) stands.0.allowed (e.made h0) stands.0 stands.1 stands.2)))
 
 pub returns-clause-any_moment : goal.returns-clause-any_moment
 returns-clause-any_moment g c = λ h is.
