@@ -69,16 +69,24 @@ pub fn read_head(bytes: &[u8], slot: usize, size: SlotSize) -> Result<Head<'_>, 
 {
     let at = slot as u64;
     if bytes.len() - slot < VERSION_PLACE {
-        return Err(OpenFault::Damaged { at: at + GENERATION_PLACE as u64 });
+        return Err(OpenFault::Damaged {
+            at: at + GENERATION_PLACE as u64,
+        });
     }
     if !has_version(bytes, slot) {
-        return Err(OpenFault::Damaged { at: at + VERSION_PLACE as u64 });
+        return Err(OpenFault::Damaged {
+            at: at + VERSION_PLACE as u64,
+        });
     }
     let Some(base) = base_at(bytes, slot) else {
-        return Err(OpenFault::Damaged { at: at + BASE_PLACE as u64 });
+        return Err(OpenFault::Damaged {
+            at: at + BASE_PLACE as u64,
+        });
     };
     let Some(len) = length_at(bytes, slot, size) else {
-        return Err(OpenFault::Damaged { at: at + LENGTH_PLACE as u64 });
+        return Err(OpenFault::Damaged {
+            at: at + LENGTH_PLACE as u64,
+        });
     };
     let image = slot + IMAGE_PLACE;
     if bytes.len() - image < len {
