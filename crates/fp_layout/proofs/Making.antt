@@ -10,6 +10,7 @@ use Rattle.fp_disk.specs.Outcomes.{Elapses, IsOutcome, LeavesOnly, PendingState,
 use Rattle.fp_journal.specs.Holds.{Holds, IsSynced}
 use Rattle.fp_journal.proofs.Holds.{holds_append, holds_front, holds_back, holds_byte, byte_held, holds_written, holds_apart, written_after, written_gap, written_long, firm_outcome, firm_touched, firm_settled}
 use Rattle.fp_disk.specs.Moments.{leaves_call, leaves_then, leaves_map}
+use Rattle.fp_slots.specs.State as slots
 use Rattle.fp_layout.specs.Layout.{magic, IsFormatted, IsHeader, IsHead, IsActive}
 use Rattle.fp_layout.specs.NewDisk.{header_text, slot_text, empty_image, new_front, IsMade, IsNewDisk, IsNewOrNone}
 use Rattle.fp_gate.specs.declared.gate.TheConstants.{OPEN}
@@ -214,6 +215,15 @@ module _ (size : ℕ) (c : List ℕ) (allowed : IsSlotSize size) (n : IsNewDisk 
         slot_is = refl;
         other_is = refl;
         rules = record { there = omega (arith, long); opened = byte_held c 64 OPEN (slot_text 1 0 empty_image) front; over = inl (λ e. omega (arith, zero, e)) };
+      }
+
+  -- the second slot is closed
+  pub new_shut : (u : PendingState) → u ≡ all_synced c → slots.IsShut (64 + size) u
+  new_shut u sure = let long = n.made.long in let least = allowed.least in
+      let zero : slice_index c (64 + size) ≡ 0 = n.made.zeros (64 + size) (omega (arith, least)) (omega arith) in record {
+        gate = 0;
+        shut = λ e. omega (arith, e);
+        firm = subst (λ (v : PendingState). IsSynced v (64 + size) (0 ∷ [])) (sym sure) (firm_settled c (64 + size) (0 ∷ []) (subst (λ (x : ℕ). Holds c (64 + size) (x ∷ [])) zero (holds_byte c (64 + size) (omega (arith, long)))));
       }
 
   pub new_ends : Ends 64 (64 + size) new_front c

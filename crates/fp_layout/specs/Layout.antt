@@ -67,3 +67,10 @@ pub record IsActive (c : List ℕ) (size : ℕ) (slot other : Slot) : Type 0 whe
   pub slot_is : slot ≡ slot_of size side
   pub other_is : other ≡ slot_of size (other_side side)
   pub rules : Rules slot.start other.start c
+
+-- a header is there, these are the disk's two slots, and the first rules under this generation
+pub record HasSlots (c : List ℕ) (slot other : Slot) (generation : ℕ) : Type 0 where
+  pub size : ℕ
+  pub header : IsHeader c size
+  pub active : IsActive c size slot other
+  pub generation_is : HasGeneration slot.start generation c
