@@ -11,13 +11,15 @@ use Rattle.fp_journal.specs.Moments.{KeepsFirm}
 use Rattle.fp_journal.specs.State.{HasAmong, HasChain, Outside, has_begun}
 use Rattle.fp_journal.specs.declared.slot.Slot.{Slot}
 use Rattle.fp_journal.proofs.Gates.{text-more}
-use Rattle.fp_layout.specs.Size.{Side, first, second, other_side, slot_of}
+use Rattle.fp_layout.specs.Layout.{IsHeader, IsActive}
+use Rattle.fp_layout.specs.Size.{IsSlotSize, Side, first, second, other_side, slot_of}
+use Rattle.fp_recovery.specs.Durable.{IsKept}
 use Rattle.fp_slots.specs.Rules.{Rules, Tells}
 use Rattle.fp_slots.specs.State.{SlotsState, Keeps, KeepsEither, KeepsOrNext, KeepsSealed, OutsideBoth, SameCompaction, SameSlots, sealed_text}
 use Rattle.fp_recovery.specs.Stands.{Spells, StandsFor, TakesBatch}
 use Rattle.fp_recovery.proofs.Kept.{side_long}
 use Rattle.fp_recovery.proofs.Texts.{spells_on}
-use Rattle.fp_compaction.specs.Sets.{IsKeptOn, IsPlannedFor, IsTaken, LeavesSet}
+use Rattle.fp_compaction.specs.Sets.{IsKeptOn, IsKeptIn, IsPlannedFor, IsTaken, LeavesSet}
 use Rattle.fp_compaction.specs.Batches.{LeadsTo}
 
 module _ {D : Type 0} (u : PendingState) (slots : SlotsState D) (size : ℕ) (side : Side) (s : State) (k : IsKeptOn u slots size side s) where
@@ -116,3 +118,33 @@ module _ {D : Type 0} (u : PendingState) (slots : SlotsState D) (size : ℕ) (si
       its = other ∙ k.mine ∙ sym (ap (λ (x : Side). slot_of size x) (twice side));
       sealed = subst (λ (t : List ℕ). Spells size t s) (sym (ap (λ (l : List (List ℕ)). after.journal.front ++ spell l) none ∙ append-nil after.journal.front ∙ front)) planned;
     }
+
+-- ---- a disk as it is opened
+-- of two sizes and sides with one slot
+size_same : (n m : ℕ) (x y : Side) → slot_of n x ≡ slot_of m y → n ≡ m
+size_same n m first first is = let e = ap (λ (z : Slot). z.stop) is in omega (arith, e)
+size_same n m first second is = let b = ap (λ (z : Slot). z.start) is in let e = ap (λ (z : Slot). z.stop) is in omega (arith, b, e)
+size_same n m second first is = let b = ap (λ (z : Slot). z.start) is in let e = ap (λ (z : Slot). z.stop) is in omega (arith, b, e)
+size_same n m second second is = let b = ap (λ (z : Slot). z.start) is in omega (arith, b)
+
+side_same : (n : ℕ) (x y : Side) → 1 ≤ n → slot_of n x ≡ slot_of n y → x ≡ y
+side_same n first first some is = refl
+side_same n first second some is = let b = ap (λ (z : Slot). z.start) is in absurd (omega (arith, b, some))
+side_same n second first some is = let b = ap (λ (z : Slot). z.start) is in absurd (omega (arith, b, some))
+side_same n second second some is = refl
+
+-- what a journal in one slot keeps, both do
+pub kept_in : {D : Type 0} (u : PendingState) (slots : SlotsState D) (s : State) (c : List ℕ) (size : ℕ) → IsSlotSize size → IsActive c size slots.journal.slot slots.other → IsKept u s slots.journal → (n : ℕ) × IsKeptIn u slots n s
+kept_in u slots s c size allowed a k =
+    let both : slot_of k.size k.side ≡ slot_of size a.side = sym k.slot_is ∙ a.slot_is in let n : k.size ≡ size = size_same k.size size k.side a.side both in
+    let least = allowed.least in
+    let x : k.side ≡ a.side = side_same size k.side a.side (omega (arith, least)) (subst (λ (z : ℕ). slot_of z k.side ≡ slot_of size a.side) n both) in
+    (size, (a.side, record {
+      header = k.header;
+      is_header = λ o h l. subst (λ (z : ℕ). IsHeader o z) n (k.is_header o h (subst (λ (z : ℕ). 65 + z ≤ length o) (sym n) l));
+      header_long = k.header_long;
+      firm = k.header_firm;
+      mine = a.slot_is;
+      its = a.other_is;
+      sealed = subst (λ (z : ℕ). Spells z (sealed_text slots.journal) s) n k.spells;
+    }))

@@ -3,10 +3,12 @@
 
 mod batches;
 mod image;
+mod opening;
 mod room;
 mod steps;
 
 pub use batches::{make_ready, make_ready_on_way, open_gate, stage, sync_body, sync_gate};
 pub use image::image_of;
+pub use opening::open;
 pub use room::has_room;
 pub use steps::{begin, chunk, close, copy_tail, finish, open_other, seal, sync_close};
