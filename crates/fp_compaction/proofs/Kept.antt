@@ -138,13 +138,18 @@ pub kept_in : {D : Type 0} (u : PendingState) (slots : SlotsState D) (s : State)
 kept_in u slots s c size allowed a k =
     let both : slot_of k.size k.side ≡ slot_of size a.side = sym k.slot_is ∙ a.slot_is in let n : k.size ≡ size = size_same k.size size k.side a.side both in
     let least = allowed.least in
-    let x : k.side ≡ a.side = side_same size k.side a.side (omega (arith, least)) (subst (λ (z : ℕ). slot_of z k.side ≡ slot_of size a.side) n both) in
-    (size, (a.side, record {
-      header = k.header;
-      is_header = λ o h l. subst (λ (z : ℕ). IsHeader o z) n (k.is_header o h (subst (λ (z : ℕ). 65 + z ≤ length o) (sym n) l));
-      header_long = k.header_long;
-      firm = k.header_firm;
-      mine = a.slot_is;
-      its = a.other_is;
-      sealed = subst (λ (z : ℕ). Spells z (sealed_text slots.journal) s) n k.spells;
-    }))
+    let x : k.side ≡ a.side = side_same size k.side a.side (omega (arith, least)) (subst (λ (z : ℕ). slot_of z k.side ≡ slot_of size a.side) n both) in (
+      size,
+      (
+        a.side,
+        record {
+          header = k.header;
+          is_header = λ o h l. subst (λ (z : ℕ). IsHeader o z) n (k.is_header o h (subst (λ (z : ℕ). 65 + z ≤ length o) (sym n) l));
+          header_long = k.header_long;
+          firm = k.header_firm;
+          mine = a.slot_is;
+          its = a.other_is;
+          sealed = subst (λ (z : ℕ). Spells z (sealed_text slots.journal) s) n k.spells;
+        },
+      ),
+    )

@@ -1,3 +1,4 @@
 pub mod Images
 pub mod Kept
 pub mod Grown
+pub mod Stepping

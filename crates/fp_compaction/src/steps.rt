@@ -11,6 +11,7 @@ ghost use Rattle.fp_slots.specs.State.{SameSlots};
 ghost use Rattle.fp_slots.specs.declared.places.TheConstants.{IMAGE_PLACE, PART};
 ghost use Rattle.fp_slots.specs.declared.slots.Step.TheVariants.{Begin, Close, SyncClose, Part, Tail, SyncBody, Open, SyncOpen};
 ghost use Rattle.fp_edit.specs.Flags.{size as size_of};
+ghost use Rattle.fp_compaction.specs.Steps.{TakesStep};
 ghost use Rattle.fp_compaction.specs.Sets.{GoesOnKept, IsKeptIn, IsPlannedFor, LeavesEither, LeavesOld};
 
 use crate::image::image_of;
@@ -26,6 +27,7 @@ pub fn begin<D: Disk>(alloc: Global, slots: &mut Slots<D>, set: &FlagSet) -> Res
     requires next { slots.old.generation + 1 < 2 ^ 64 }
     requires limit { (4 ≤ set.now.limit) × (set.now.limit < 2 ^ 32) }
     requires wide { slots.old.other.start + IMAGE_PLACE + set.now.limit < slots.old.other.stop }
+    ensures taken { TakesStep D.Disk slots.old slots.new }
     ensures step { OnOk result (slots.new.step ≡ Close) × OnErr result (slots.new.step ≡ Begin) }
     ensures planned { OnOk result ((size : ℕ) → set.now.limit ≡ size / 2
         → IsPlannedFor slots.new size set.now) }
@@ -35,6 +37,8 @@ pub fn begin<D: Disk>(alloc: Global, slots: &mut Slots<D>, set: &FlagSet) -> Res
         × (slots.new.generation ≡ slots.old.generation)
         × (slots.new.may_open ≡ slots.old.may_open) }
 {
+    // What a crash leaves now is known only where it is asked.
+    let _ = slots.step();
     let image = image_of(alloc, set)?;
     slots.begin(alloc, set.revision(), &image)?;
     Ok(())
@@ -44,6 +48,7 @@ pub fn begin<D: Disk>(alloc: Global, slots: &mut Slots<D>, set: &FlagSet) -> Res
 pub fn close<D: Disk>(slots: &mut Slots<D>) -> Result<(), DiskFault>
     requires step { slots.old.step ≡ Close }
     requires live { slots.old.journal.phase ≢ Failed }
+    ensures taken { TakesStep D.Disk slots.old slots.new }
     ensures stands { LeavesOld D.Disk slots.old slots.new }
     ensures kept { GoesOnKept D.Disk slots.old slots.new }
     ensures step { OnOk result (slots.new.step ≡ SyncClose) × OnErr result (slots.new.step ≡ Close) }
@@ -62,6 +67,7 @@ pub fn close<D: Disk>(slots: &mut Slots<D>) -> Result<(), DiskFault>
 pub fn sync_close<D: Disk>(slots: &mut Slots<D>) -> Result<(), DiskFault>
     requires step { slots.old.step ≡ SyncClose }
     requires live { slots.old.journal.phase ≢ Failed }
+    ensures taken { TakesStep D.Disk slots.old slots.new }
     ensures stands { LeavesOld D.Disk slots.old slots.new }
     ensures kept { GoesOnKept D.Disk slots.old slots.new }
     ensures step { OnOk result (slots.new.step ≡ Part) × OnErr result (slots.new.step ≡ SyncClose) }
@@ -80,6 +86,7 @@ pub fn sync_close<D: Disk>(slots: &mut Slots<D>) -> Result<(), DiskFault>
 pub fn chunk<D: Disk>(slots: &mut Slots<D>) -> Result<(), DiskFault>
     requires step { slots.old.step ≡ Part }
     requires live { slots.old.journal.phase ≢ Failed }
+    ensures taken { TakesStep D.Disk slots.old slots.new }
     ensures stands { LeavesOld D.Disk slots.old slots.new }
     ensures kept { GoesOnKept D.Disk slots.old slots.new }
     ensures step { OnOk result ((PART < slots.old.left → slots.new.step ≡ Part)
@@ -100,6 +107,7 @@ pub fn chunk<D: Disk>(slots: &mut Slots<D>) -> Result<(), DiskFault>
 pub fn copy_tail<D: Disk>(slots: &mut Slots<D>) -> Result<(), DiskFault>
     requires step { slots.old.step ≡ Tail }
     requires live { slots.old.journal.phase ≡ Idle }
+    ensures taken { TakesStep D.Disk slots.old slots.new }
     ensures stands { LeavesOld D.Disk slots.old slots.new }
     ensures kept { GoesOnKept D.Disk slots.old slots.new }
     ensures step { OnOk result (slots.new.step ≡ SyncBody) × OnErr result (slots.new.step ≡ Tail) }
@@ -118,6 +126,7 @@ pub fn copy_tail<D: Disk>(slots: &mut Slots<D>) -> Result<(), DiskFault>
 pub fn seal<D: Disk>(slots: &mut Slots<D>) -> Result<(), DiskFault>
     requires step { slots.old.step ≡ SyncBody }
     requires live { slots.old.journal.phase ≢ Failed }
+    ensures taken { TakesStep D.Disk slots.old slots.new }
     ensures stands { LeavesOld D.Disk slots.old slots.new }
     ensures kept { GoesOnKept D.Disk slots.old slots.new }
     ensures step { OnOk result (slots.new.step ≡ Open) × OnErr result (slots.new.step ≡ SyncBody) }
@@ -136,6 +145,7 @@ pub fn seal<D: Disk>(slots: &mut Slots<D>) -> Result<(), DiskFault>
 pub fn open_other<D: Disk>(slots: &mut Slots<D>) -> Result<(), DiskFault>
     requires step { slots.old.step ≡ Open }
     requires live { slots.old.journal.phase ≢ Failed }
+    ensures taken { TakesStep D.Disk slots.old slots.new }
     ensures stands { LeavesEither D.Disk slots.old slots.new }
     ensures kept { GoesOnKept D.Disk slots.old slots.new }
     ensures step { OnOk result (slots.new.step ≡ SyncOpen) × OnErr result (slots.new.step ≡ Open) }
@@ -154,6 +164,7 @@ pub fn open_other<D: Disk>(slots: &mut Slots<D>) -> Result<(), DiskFault>
 pub fn finish<D: Disk>(slots: &mut Slots<D>) -> Result<(), DiskFault>
     requires step { slots.old.step ≡ SyncOpen }
     requires live { slots.old.journal.phase ≢ Failed }
+    ensures taken { TakesStep D.Disk slots.old slots.new }
     ensures stands { LeavesEither D.Disk slots.old slots.new }
     ensures turned { D.honest slots.old.journal.disk → OnOk result ((size : ℕ) (s : State)
         → IsKeptIn (D.unsynced slots.old.journal.disk) slots.old size s

@@ -146,6 +146,14 @@ impl<D: Disk> Slots<D> {
         &self.journal
     }
 
+    /// The generation of the slot that rules.
+    pub fn generation(&self) -> u64
+        ensures { result ≡ self.now.generation }
+    {
+        let _ = &self.journal;
+        self.generation
+    }
+
     /// How many bytes the other slot has, and how many of them it is to hold behind the image.
     pub fn beside(&self) -> (u64, u64)
         ensures size { result.0 ≡ self.now.other.stop - self.now.other.start }

@@ -1,7 +1,8 @@
-use Rattle.std.proofs.Common.{◌≡◌, ◌≤◌, ◌+◌, ℕ, List, length, ap, sym, subst, ◌∙◌, arith}
+use Rattle.std.proofs.Common.{refl, ◌≡◌, ◌≤◌, ◌+◌, ℕ, List, length, ap, sym, subst, ◌∙◌, arith}
 use Rattle.fp_slots.specs.Head.{head_text}
 use Rattle.fp_recovery.specs.Stands.{IsImageOf}
 use Rattle.fp_compaction.proofs.Images.{planned_for}
+use Rattle.fp_compaction.proofs.Stepping as steps
 use Rattle.fp_compaction.proofs.steps.begin.Goals as goal
 
 pub begin-requires-clause-short : goal.begin-requires-clause-short
@@ -23,3 +24,12 @@ pub returns-clause-head : goal.returns-clause-head
 returns-clause-head g c =
     let len = ap length c.deref.ensures.value ∙ c.in_ok-image.ensures.len in let t = c.in_ok-begin.ensures.text in
     (t.1 ∙ ap (λ (n : ℕ). 22 + n) len, t.2, t.3)
+
+pub returns-in_err-image-clause-taken : goal.returns-in_err-image-clause-taken
+returns-in_err-image-clause-taken g c = steps.still_step g.D.Disk c.args.slots.now c.args.slots.now g.met.D.Disk.only_now c.requires.step refl refl (λ h o left. steps.begins_now c.args.slots.now c.step.result (c.step.ensures.step ∙ c.requires.step) o (c.step.ensures.outcomes h o left))
+
+pub returns-in_err-begin-clause-taken : goal.returns-in_err-begin-clause-taken
+returns-in_err-begin-clause-taken g c = steps.still_step g.D.Disk c.args.slots.now c.begin.new.self g.met.D.Disk.only_now c.requires.step c.begin.ensures.same.0 c.begin.ensures.same.1 (λ h o left. steps.begins_now c.args.slots.now c.step.result (c.step.ensures.step ∙ c.requires.step) o (c.step.ensures.outcomes h o left))
+
+pub returns-clause-taken : goal.returns-clause-taken
+returns-clause-taken g c = steps.still_step g.D.Disk c.args.slots.now c.begin.new.self g.met.D.Disk.only_now c.requires.step c.begin.ensures.same.0 c.begin.ensures.same.1 (λ h o left. steps.begins_now c.args.slots.now c.step.result (c.step.ensures.step ∙ c.requires.step) o (c.step.ensures.outcomes h o left))
