@@ -70,10 +70,11 @@ impl SlotSize {
     pub fn second_slot(self) -> Slot
         ensures slot { result ≡ second_slot self }
     {
+        let first = self.first_slot();
         Slot {
-            start: 64 + self.bytes,
-            stop: 64 + self.bytes + self.bytes,
-            most: (self.bytes / 8 - 6) as u32,
+            start: first.stop,
+            stop: first.stop + self.bytes,
+            most: first.most,
         }
     }
 }
