@@ -4,11 +4,10 @@ use Rattle.std.proofs.lemmas.List.{append-nil}
 use Rattle.fp_disk.specs.Outcomes.{LeavesOnly, PendingState}
 use Rattle.fp_disk.specs.Moments.{leaves_both, leaves_map}
 use Rattle.fp_edit.specs.Flags.{State}
-use Rattle.fp_gate.specs.declared.gate.TheConstants.{OPEN}
 use Rattle.fp_journal.specs.Holds.{Holds, IsSynced}
-use Rattle.fp_journal.specs.Chain.{Ends, framed, spell}
+use Rattle.fp_journal.specs.Chain.{Ends, spell}
 use Rattle.fp_journal.specs.Moments.{KeepsFirm}
-use Rattle.fp_journal.specs.State.{HasAmong, HasChain, Outside, has_begun}
+use Rattle.fp_journal.specs.State.{HasAmong, Outside, has_begun}
 use Rattle.fp_journal.specs.declared.slot.Slot.{Slot}
 use Rattle.fp_journal.proofs.Gates.{text-more}
 use Rattle.fp_layout.specs.Layout.{IsHeader, IsActive}

@@ -1,5 +1,5 @@
 -- The two slots of a disk that was read, as what holds of them before anything is written.
-use Rattle.std.proofs.Common.{◌≡◌, ◌≢◌, ◌⊎◌, inl, inr, ⊎_elim, Bool, true, false, ℕ, ◌+◌, ◌-◌, ◌≤◌, ◌<◌, List, [], ◌∷◌, ◌++◌, length, take, drop, sym, ◌∙◌, ap, subst, arith, refl}
+use Rattle.std.proofs.Common.{◌≡◌, ◌⊎◌, inl, inr, ⊎_elim, Bool, true, false, ℕ, ◌+◌, ◌≤◌, List, [], ◌∷◌, ◌++◌, length, take, drop, sym, ◌∙◌, ap, subst, arith}
 use Rattle.std.specs.Prelude.{◌↔◌, IsTrue, slice_index, slice_range}
 use Rattle.std.specs.Int.{w64, to_be_bytes}
 use Rattle.std.proofs.lemmas.List.{take-append-drop, length-take-le}
@@ -9,7 +9,7 @@ use Rattle.fp_journal.specs.Holds.{Holds, IsSynced}
 use Rattle.fp_journal.specs.declared.slot.Slot.{Slot}
 use Rattle.fp_journal.proofs.Holds.{firm_settled, held_range, holds_append, holds_byte, holds_front}
 use Rattle.fp_layout.proofs.Numbers.{number64_one, text_one}
-use Rattle.fp_layout.specs.Layout.{IsHeader, IsActive}
+use Rattle.fp_layout.specs.Layout.{IsActive}
 use Rattle.fp_layout.specs.Size.{IsSlotSize, Side, first, second, other_side, slot_of}
 use Rattle.fp_slots.specs.Rules.{HasGeneration}
 use Rattle.fp_slots.specs.State.{IsBeaten, IsFrontOf}

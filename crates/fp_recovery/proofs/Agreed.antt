@@ -1,14 +1,10 @@
 -- Bytes that agree with others over a stretch.
-use Rattle.std.proofs.Common.{◌≡◌, ◌<◌, ◌≤◌, ◌+◌, ◌-◌, ℕ, List, [], ◌∷◌, ◌++◌, length, refl, sym, ap, subst, ◌∙◌, arith, length-append, append_assoc}
+use Rattle.std.proofs.Common.{◌≡◌, ◌<◌, ◌≤◌, ◌+◌, ◌-◌, ℕ, List, length, sym, ap, ◌∙◌, arith}
 use Rattle.std.specs.Prelude.{slice_index, slice_range}
-use Rattle.std.specs.Int.{w32, w64, to_be_bytes}
+use Rattle.std.specs.Int.{w64, to_be_bytes}
 use Rattle.fp_journal.specs.Holds.{Holds}
-use Rattle.fp_journal.specs.Chain.{Ends, framed, spell}
-use Rattle.fp_journal.specs.Reading.{IsChain}
-use Rattle.fp_journal.specs.State.{AllShort}
-use Rattle.fp_journal.proofs.Holds.{holds_append, holds_back, held_range}
+use Rattle.fp_journal.proofs.Holds.{held_range}
 use Rattle.fp_layout.specs.Layout.{magic, IsHeader}
-use Rattle.fp_gate.specs.declared.gate.TheConstants.{OPEN}
 
 -- both are as long, and have the same there
 pub record Agrees (b c : List ℕ) (from stop : ℕ) : Type 0 where

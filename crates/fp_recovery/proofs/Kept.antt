@@ -105,7 +105,7 @@ module _ {D : Type 0} (u : PendingState) (set : State) (journal : JournalState D
       let most : journal.slot.most ≡ k.size / 8 - 6 = ap (λ (s : Slot). s.most) k.slot_is ∙ most_of k.size k.side in
       let fits : length b ≤ k.size / 8 - 6 = subst (λ (n : ℕ). length b ≤ n) most short in
       let text : later.front ++ spell later.sealed ≡ (journal.front ++ spell journal.sealed) ++ OPEN ∷ framed b =
-          ap (λ (f : List ℕ). f ++ spell later.sealed) front ∙ ap (λ (l : List (List ℕ)). journal.front ++ spell l) sealed ∙ text-more journal.front journal.sealed b in
+      ap (λ (f : List ℕ). f ++ spell later.sealed) front ∙ ap (λ (l : List (List ℕ)). journal.front ++ spell l) sealed ∙ text-more journal.front journal.sealed b in
       kept_over v t later slot front (subst (λ (x : List ℕ). Spells k.size x t) (sym text) (spells_on k.size (journal.front ++ spell journal.sealed) b set t k.spells takes fits)) firm
 
   -- and none was

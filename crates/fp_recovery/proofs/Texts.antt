@@ -16,7 +16,7 @@ use Rattle.fp_journal.proofs.Steps.{All-push}
 use Rattle.fp_layout.specs.Size.{Side, first, second, slot_of, other_side}
 use Rattle.fp_layout.specs.Layout.{IsHeader, IsHead, IsActive}
 use Rattle.fp_slots.specs.Head.{head_text}
-use Rattle.fp_slots.specs.Rules.{Rules, Tells}
+use Rattle.fp_slots.specs.Rules.{Tells}
 use Rattle.fp_recovery.specs.Stands.{IsImageOf, TakesBatch, Spells, StandsFor}
 
 -- ---- a batch more

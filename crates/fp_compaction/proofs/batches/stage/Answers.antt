@@ -1,6 +1,6 @@
-use Rattle.std.proofs.Common.{◌⊎◌, refl}
+use Rattle.std.proofs.Common.{refl}
 use Rattle.fp_recovery.specs.Stands.{StandsFor}
-use Rattle.fp_slots.specs.State.{KeepsOrNext, KeepsSealed}
+use Rattle.fp_slots.specs.State.{KeepsSealed}
 use Rattle.fp_compaction.proofs.Kept as kept
 use Rattle.fp_compaction.proofs.batches.stage.Goals as goal
 

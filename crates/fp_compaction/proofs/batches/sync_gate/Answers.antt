@@ -1,5 +1,5 @@
-use Rattle.std.proofs.Common.{◌≡◌, ◌⊎◌, ◌++◌, ◌∷◌, [], ℕ, List, refl, sym, ap, subst, ◌∙◌}
-use Rattle.fp_disk.specs.Outcomes.{LeavesOnly, PendingState}
+use Rattle.std.proofs.Common.{◌⊎◌, refl, sym, ap, subst, ◌∙◌}
+use Rattle.fp_disk.specs.Outcomes.{LeavesOnly}
 use Rattle.fp_journal.specs.State.{JournalState}
 use Rattle.fp_recovery.specs.Stands.{StandsFor}
 use Rattle.fp_slots.specs.State.{KeepsOrNext}

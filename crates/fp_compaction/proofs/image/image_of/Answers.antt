@@ -1,4 +1,4 @@
-use Rattle.std.proofs.Common.{◌≡◌, ◌≤◌, ◌<◌, ℕ, List, length, ap, sym, subst, ◌∙◌}
+use Rattle.std.proofs.Common.{◌≤◌, ◌<◌, ℕ, List, length, ap, subst, ◌∙◌}
 use Rattle.std.specs.FinMap as fin
 use Rattle.fp_edit.specs.Flags.{size}
 use Rattle.fp_edit.specs.declared.flags.Flag.{Flag}

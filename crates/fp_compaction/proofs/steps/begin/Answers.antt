@@ -1,4 +1,4 @@
-use Rattle.std.proofs.Common.{refl, ◌≡◌, ◌≤◌, ◌+◌, ℕ, List, length, ap, sym, subst, ◌∙◌, arith}
+use Rattle.std.proofs.Common.{refl, ◌≡◌, ◌+◌, ℕ, List, length, ap, sym, subst, ◌∙◌, arith}
 use Rattle.fp_slots.specs.Head.{head_text}
 use Rattle.fp_recovery.specs.Stands.{IsImageOf}
 use Rattle.fp_compaction.proofs.Images.{planned_for}

@@ -1,10 +1,7 @@
-use Rattle.std.proofs.Common.{refl, inl}
-use Rattle.fp_recovery.specs.Stands.{StandsFor}
-use Rattle.fp_slots.specs.State.{Keeps, KeepsEither}
+use Rattle.std.proofs.Common.{refl}
+use Rattle.fp_slots.specs.State.{Keeps}
 use Rattle.fp_compaction.specs.Sets.{LeavesSet}
-use Rattle.fp_layout.specs.Size.{other_side}
 use Rattle.fp_compaction.proofs.Kept as kept
-use Rattle.fp_slots.specs.declared.slots.Step.TheVariants.{Begin, Close, SyncClose, Part, Tail, SyncBody, Open, SyncOpen}
 use Rattle.fp_compaction.proofs.Stepping as steps
 use Rattle.fp_compaction.proofs.steps.close.Goals as goal
 

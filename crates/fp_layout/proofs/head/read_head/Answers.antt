@@ -1,5 +1,5 @@
-use Rattle.std.proofs.Common.{rules, ◌≡◌, ◌+◌, ◌<◌, ℕ, length, refl, arith}
-use Rattle.fp_layout.specs.Layout.{HasVersion, HasBase, HasLength}
+use Rattle.std.proofs.Common.{rules, refl, arith}
+use Rattle.fp_layout.specs.Layout.{HasVersion}
 use Rattle.fp_layout.specs.Faults.{no_length, no_image}
 use Rattle.fp_layout.proofs.head.read_head.Goals as goal
 

@@ -1,7 +1,6 @@
 use Rattle.std.proofs.Common.{rules, ℕ, ◌+◌, ap}
 use Rattle.std.proofs.lemmas.Result.{err_from_is_err_and}
-use Rattle.fp_slots.specs.Rules.{RulesNeither}
-use Rattle.fp_layout.specs.Layout.{IsHeader, IsHead, IsActive}
+use Rattle.fp_layout.specs.Layout.{IsHeader, IsHead}
 use Rattle.fp_layout.specs.Faults.{IsDamage, BreaksHead}
 use Rattle.fp_layout.specs.Opening.{in_image}
 use Rattle.fp_layout.proofs.Refusals.{slots_refuse, head_refuses}
