@@ -1,14 +1,11 @@
 -- What a call of the journal leaves, as what it leaves of a store.
-use Rattle.std.proofs.Common.{◌≡◌, ◌⊎◌, ◌≤◌, ◌+◌, ℕ, List, [], ◌∷◌, ◌++◌, length, refl, sym, ap, subst, ◌∙◌}
-use Rattle.std.specs.Prelude.{slice_index, slice_range}
+use Rattle.std.proofs.Common.{◌≡◌, ◌⊎◌, ◌≤◌, ℕ, List, [], ◌∷◌, ◌++◌, length, refl}
 use Rattle.fp_disk.specs.Outcomes.{PendingState, IsOutcome, LeavesOnly}
 use Rattle.fp_disk.specs.Moments.{leaves_both, leaves_map}
 use Rattle.fp_edit.specs.Flags.{State}
-use Rattle.fp_journal.specs.Holds.{Holds, IsSynced}
+use Rattle.fp_journal.specs.Holds.{Holds}
 use Rattle.fp_journal.specs.Moments.{KeepsFirm}
-use Rattle.fp_journal.specs.State.{AllShort, HasChain, HasChainOrNext, JournalState, Outside}
-use Rattle.fp_journal.specs.Reading.{Reads}
-use Rattle.fp_layout.specs.Size.{first_slot}
+use Rattle.fp_journal.specs.State.{HasChain, HasChainOrNext, JournalState, Outside}
 use Rattle.fp_recovery.specs.Durable.{IsKept}
 use Rattle.fp_recovery.specs.Stands.{StandsFor, TakesBatch}
 use Rattle.fp_recovery.proofs.Kept.{held_stands, kept_stands, kept_more, kept_same, either_stands, header_apart}
