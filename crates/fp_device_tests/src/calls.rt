@@ -122,7 +122,7 @@ fn a_new_disk_is_written_in_this_order(rt: HostRuntime) -> Result<(), Fail> {
     let calls = passing(rt.alloc(), ALL);
     let disk = noted(&rt, &path, &calls)?;
     match create(rt.alloc(), disk, smallest()?) {
-        Ok(journal) => drop(journal.into_disk()),
+        Ok(slots) => drop(slots.into_disk()),
         Err(_) => return Err(Fail::new("not made")),
     }
     assert_calls(&rt, calls, MAKING);

@@ -1,41 +1,14 @@
 -- What a call of the journal leaves, as what it leaves of a store.
-use Rattle.std.proofs.Common.{◌≡◌, ◌⊎◌, ◌≤◌, ◌+◌, ℕ, List, [], ◌∷◌, ◌++◌, length, refl, sym, ap, subst, ◌∙◌}
-use Rattle.std.specs.Prelude.{slice_index, slice_range}
+use Rattle.std.proofs.Common.{◌≡◌, ◌⊎◌, ◌≤◌, ℕ, List, [], ◌∷◌, ◌++◌, length, refl}
 use Rattle.fp_disk.specs.Outcomes.{PendingState, IsOutcome, LeavesOnly}
 use Rattle.fp_disk.specs.Moments.{leaves_both, leaves_map}
 use Rattle.fp_edit.specs.Flags.{State}
-use Rattle.fp_journal.specs.Holds.{Holds, IsSynced}
+use Rattle.fp_journal.specs.Holds.{Holds}
 use Rattle.fp_journal.specs.Moments.{KeepsFirm}
-use Rattle.fp_journal.specs.State.{AllShort, HasChain, HasChainOrNext, JournalState, Outside}
-use Rattle.fp_journal.specs.Reading.{Reads}
-use Rattle.fp_layout.specs.Size.{first_slot}
+use Rattle.fp_journal.specs.State.{HasChain, HasChainOrNext, JournalState, Outside}
 use Rattle.fp_recovery.specs.Durable.{IsKept}
 use Rattle.fp_recovery.specs.Stands.{StandsFor, TakesBatch}
-use Rattle.fp_recovery.proofs.Kept.{held_stands, kept_stands, kept_more, either_stands, header_apart, gate_apart}
-
--- a journal whose slot and sealed bodies stay, and whose firm text stays
-pub kept_same : {D : Type 0} (u v : PendingState) (set : State) (journal later : JournalState D) → IsKept u set journal → later.slot ≡ journal.slot → later.front ≡ journal.front → later.sealed ≡ journal.sealed
-    → ((at : ℕ) (text : List ℕ) → Outside journal.slot at (length text) → IsSynced u at text → IsSynced v at text) → IsKept v set later
-kept_same u v set journal later k slot front sealed firm = record {
-  bytes = k.bytes;
-  size = k.size;
-  generation = k.generation;
-  base = k.base;
-  image = k.image;
-  first = k.first;
-  opened = k.opened;
-  header = k.header;
-  slot = k.slot;
-  image_is = k.image_is;
-  slot_is = slot ∙ k.slot_is;
-  front_is = front ∙ k.front_is ∙ ap (λ (t : List ℕ). slice_range k.bytes 64 (64 + length t)) (sym front);
-  front_ends = ap (λ (t : List ℕ). 64 + length t) front ∙ k.front_ends;
-  opened_there = k.opened_there;
-  short = subst (λ (l : List (List ℕ)). AllShort (first_slot k.size).most (k.opened ++ l)) (sym sealed) k.short;
-  leads = subst (λ (l : List (List ℕ)). Reads TakesBatch k.first (k.opened ++ l) set) (sym sealed) k.leads;
-  header_firm = firm 0 (slice_range k.bytes 0 64) (header_apart u set journal k) k.header_firm;
-  gate_firm = firm (64 + k.size) (slice_index k.bytes (64 + k.size) ∷ []) (gate_apart u set journal k) k.gate_firm;
-}
+use Rattle.fp_recovery.proofs.Kept.{held_stands, kept_stands, kept_more, kept_same, either_stands, header_apart}
 
 module _ {D : Type 0} (honest : D → Type 0) (moment : D → ℕ) (crash_states_since : D → ℕ → List ℕ → Type 0) (unsynced : D → PendingState) where
   -- what is left at the end is left at some moment
@@ -48,31 +21,31 @@ module _ {D : Type 0} (honest : D → Type 0) (moment : D → ℕ) (crash_states
 
   module _ (old new : D) (set : State) (journal : JournalState D) (k : IsKept (unsynced old) set journal) (apart : KeepsFirm moment crash_states_since unsynced old new (Outside journal.slot)) where
     abbrev Head : List ℕ → Type 0
-    Head c = Holds c 0 (slice_range k.bytes 0 64)
+    Head c = Holds c 0 k.header
 
-    abbrev Gate : List ℕ → Type 0
-    Gate c = Holds c (64 + k.size) (slice_index k.bytes (64 + k.size) ∷ [])
+    abbrev Guard : List ℕ → Type 0
+    Guard c = Holds c k.guard_at k.guard
 
-    around : LeavesOnly moment crash_states_since old new (λ c. Head c × Gate c)
-    around = leaves_both moment crash_states_since old new Head Gate
-        ((apart 0 (slice_range k.bytes 0 64) (header_apart (unsynced old) set journal k) k.header_firm).1)
-        ((apart (64 + k.size) (slice_index k.bytes (64 + k.size) ∷ []) (gate_apart (unsynced old) set journal k) k.gate_firm).1)
+    around : LeavesOnly moment crash_states_since old new (λ c. Head c × Guard c)
+    around = leaves_both moment crash_states_since old new Head Guard
+        ((apart 0 k.header (header_apart (unsynced old) set journal k) k.header_firm).1)
+        ((apart k.guard_at k.guard k.guard_apart k.guard_firm).1)
 
     pub chain_leaves : LeavesOnly moment crash_states_since old new (HasChain journal.slot journal.front journal.sealed) → LeavesOnly moment crash_states_since old new (λ c. StandsFor c set)
     chain_leaves chain = let Chain : List ℕ → Type 0 = HasChain journal.slot journal.front journal.sealed in
-        leaves_map moment crash_states_since old new (λ c. Chain c × (Head c × Gate c)) (λ c. StandsFor c set)
+        leaves_map moment crash_states_since old new (λ c. Chain c × (Head c × Guard c)) (λ c. StandsFor c set)
         (λ c p. held_stands (unsynced old) set journal k c p.1.0 p.1.1 p.0)
-        (leaves_both moment crash_states_since old new Chain (λ c. Head c × Gate c) chain around)
+        (leaves_both moment crash_states_since old new Chain (λ c. Head c × Guard c) chain around)
 
     pub either_leaves : (t : State) (b : List ℕ) → TakesBatch set b t → length b ≤ journal.slot.most → LeavesOnly moment crash_states_since old new (HasChainOrNext journal.slot journal.front journal.sealed b)
         → LeavesOnly moment crash_states_since old new (λ c. StandsFor c set ⊎ StandsFor c t)
     either_leaves t b takes short chain = let Chain : List ℕ → Type 0 = HasChainOrNext journal.slot journal.front journal.sealed b in
-        leaves_map moment crash_states_since old new (λ c. Chain c × (Head c × Gate c)) (λ c. StandsFor c set ⊎ StandsFor c t)
+        leaves_map moment crash_states_since old new (λ c. Chain c × (Head c × Guard c)) (λ c. StandsFor c set ⊎ StandsFor c t)
         (λ c p. either_stands (unsynced old) set t journal b k takes short c p.1.0 p.1.1 p.0)
-        (leaves_both moment crash_states_since old new Chain (λ c. Head c × Gate c) chain around)
+        (leaves_both moment crash_states_since old new Chain (λ c. Head c × Guard c) chain around)
 
     pub same_kept : (later : JournalState D) → later.slot ≡ journal.slot → later.front ≡ journal.front → later.sealed ≡ journal.sealed → IsKept (unsynced new) set later
-    same_kept later slot front sealed = kept_same (unsynced old) (unsynced new) set journal later k slot front sealed (λ at text out f. (apart at text out f).0)
+    same_kept later slot front sealed = kept_same (unsynced old) set journal k (unsynced new) later slot front sealed (λ at text out f. (apart at text out f).0)
 
     -- and with one batch more in the chain
     pub next_stands : (t : State) (b : List ℕ) → TakesBatch set b t → length b ≤ journal.slot.most → (c : List ℕ) → IsOutcome (unsynced new) c → HasChain journal.slot journal.front (journal.sealed ++ b ∷ []) c → StandsFor c t

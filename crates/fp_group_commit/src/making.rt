@@ -81,14 +81,15 @@ impl<D: Disk> Store<D> {
         let Some(size) = SlotSize::new(size) else {
             return Err((refusal_of_size(&mut disk), disk));
         };
-        let journal = match fp_layout::create(alloc, disk, size) {
-            Ok(journal) => journal,
+        let slots = match fp_layout::create(alloc, disk, size) {
+            Ok(slots) => slots,
             Err((LayoutFault::NotEmpty, disk)) => return Err((CreateFault::NotEmpty, disk)),
             Err((LayoutFault::Device, disk)) => return Err((CreateFault::Device, disk)),
             Err((LayoutFault::Memory, disk)) => return Err((CreateFault::Memory, disk)),
         };
         let limit = size.bytes() / 2;
         let set = FlagSet::new(alloc, limit);
+        let journal = slots.into_journal();
         Ok(Store::adopt(alloc, set, FlagSet::new(alloc, limit), journal))
     }
 
@@ -122,7 +123,8 @@ impl<D: Disk> Store<D> {
             (λ e. SameHonesty D.Disk disk e.1) }
     {
         let mut restoring = Replayer::new(alloc);
-        let journal = fp_layout::open(alloc, disk, &mut restoring)?;
+        let slots = fp_layout::open(alloc, disk, &mut restoring)?;
+        let journal = slots.into_journal();
         let set = restoring.into_set();
         let Ok(own) = set.try_copy() else {
             return Err((OpenFault::Memory, journal.into_disk()));

@@ -1,2 +1,4 @@
 pub mod Refusals
+pub mod Numbers
+pub mod Both
 pub mod Making

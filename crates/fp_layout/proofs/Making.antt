@@ -5,12 +5,13 @@ use Rattle.std.proofs.lemmas.Bool.{cases_eq}
 use Rattle.std.specs.Int.{w32, w64, to_be_bytes}
 use Rattle.std.proofs.lemmas.List.{get_or-replicate}
 use Rattle.fp_journal.specs.Chain.{Ends}
-use Rattle.fp_layout.specs.Size.{IsSlotSize}
+use Rattle.fp_layout.specs.Size.{IsSlotSize, first, first_slot, second_slot}
 use Rattle.fp_disk.specs.Outcomes.{Elapses, IsOutcome, LeavesOnly, PendingState, Written, all_synced, with_write}
 use Rattle.fp_journal.specs.Holds.{Holds, IsSynced}
 use Rattle.fp_journal.proofs.Holds.{holds_append, holds_front, holds_back, holds_byte, byte_held, holds_written, holds_apart, written_after, written_gap, written_long, firm_outcome, firm_touched, firm_settled}
 use Rattle.fp_disk.specs.Moments.{leaves_call, leaves_then, leaves_map}
-use Rattle.fp_layout.specs.Layout.{magic, IsFormatted, IsHeader, IsFirstSlot}
+use Rattle.fp_slots.specs.State as slots
+use Rattle.fp_layout.specs.Layout.{magic, IsFormatted, IsHeader, IsHead, IsActive}
 use Rattle.fp_layout.specs.NewDisk.{header_text, slot_text, empty_image, new_front, IsMade, IsNewDisk, IsNewOrNone}
 use Rattle.fp_gate.specs.declared.gate.TheConstants.{OPEN}
 
@@ -188,22 +189,41 @@ module _ (size : ℕ) (c : List ℕ) (allowed : IsSlotSize size) (n : IsNewDisk 
     long = omega (arith, long);
   }
 
-  pub new_slot : IsFirstSlot c size 1 0 empty_image
-  new_slot = let least = allowed.least in
-      let rest : Holds c 65 (slot_text 1 0 empty_image) = holds_back c 64 (OPEN ∷ []) (slot_text 1 0 empty_image) front in
-      let version : Holds c 73 (1 ∷ (to_be_bytes w64 0 ++ (to_be_bytes w32 4 ++ empty_image))) = holds_back c 65 (to_be_bytes w64 1) (1 ∷ (to_be_bytes w64 0 ++ (to_be_bytes w32 4 ++ empty_image))) rest in
-      let base : Holds c 74 (to_be_bytes w64 0 ++ (to_be_bytes w32 4 ++ empty_image)) = holds_back c 73 (1 ∷ []) (to_be_bytes w64 0 ++ (to_be_bytes w32 4 ++ empty_image)) version in
+  behind_gate : Holds c 65 (slot_text 1 0 empty_image)
+  behind_gate = holds_back c 64 (OPEN ∷ []) (slot_text 1 0 empty_image) front
+
+  abbrev Behind : List ℕ
+  Behind = to_be_bytes w64 0 ++ (to_be_bytes w32 4 ++ empty_image)
+
+  pub new_head : IsHead c 64 size 1 0 empty_image
+  new_head = let least = allowed.least in
+      let version : Holds c 73 (1 ∷ Behind) = holds_back c 65 (to_be_bytes w64 1) (1 ∷ Behind) behind_gate in
+      let base : Holds c 74 Behind = holds_back c 73 (1 ∷ []) Behind version in
       let len : Holds c 82 (to_be_bytes w32 4 ++ empty_image) = holds_back c 74 (to_be_bytes w64 0) (to_be_bytes w32 4 ++ empty_image) base in
-      let zero : slice_index c (64 + size) ≡ 0 = n.made.zeros (64 + size) (omega (arith, least)) (omega arith) in record {
-        other = λ e. omega (arith, zero, e);
-        gate = byte_held c 64 OPEN (slot_text 1 0 empty_image) front;
-        generation_text = holds_front c 65 (to_be_bytes w64 1) (1 ∷ (to_be_bytes w64 0 ++ (to_be_bytes w32 4 ++ empty_image))) rest;
-        version = byte_held c 73 1 (to_be_bytes w64 0 ++ (to_be_bytes w32 4 ++ empty_image)) version;
-        base_text = holds_front c 74 (to_be_bytes w64 0) (to_be_bytes w32 4 ++ empty_image) base;
-        base_small = lit< tt;
-        length_text = holds_front c 82 (to_be_bytes w32 4) empty_image len;
-        image_small = omega (arith, least);
+      let long = base.long in record {
+        generation_is = record { small = lit< tt; text = holds_front c 65 (to_be_bytes w64 1) (1 ∷ Behind) behind_gate };
+        version = record { long = omega (arith, long); is = byte_held c 73 1 Behind version };
+        base_is = record { text = holds_front c 74 (to_be_bytes w64 0) (to_be_bytes w32 4 ++ empty_image) base; small = lit< tt };
+        length_is = record { text = holds_front c 82 (to_be_bytes w32 4) empty_image len; small = omega (arith, least) };
         image_text = holds_back c 82 (to_be_bytes w32 4) empty_image len;
+      }
+
+  pub new_active : IsActive c size (first_slot size) (second_slot size)
+  new_active = let least = allowed.least in let long = n.made.long in
+      let zero : slice_index c (64 + size) ≡ 0 = n.made.zeros (64 + size) (omega (arith, least)) (omega arith) in record {
+        side = first;
+        slot_is = refl;
+        other_is = refl;
+        rules = record { there = omega (arith, long); opened = byte_held c 64 OPEN (slot_text 1 0 empty_image) front; over = inl (λ e. omega (arith, zero, e)) };
+      }
+
+  -- the second slot is closed
+  pub new_shut : (u : PendingState) → u ≡ all_synced c → slots.IsShut (64 + size) u
+  new_shut u sure = let long = n.made.long in let least = allowed.least in
+      let zero : slice_index c (64 + size) ≡ 0 = n.made.zeros (64 + size) (omega (arith, least)) (omega arith) in record {
+        gate = 0;
+        shut = λ e. omega (arith, e);
+        firm = subst (λ (v : PendingState). IsSynced v (64 + size) (0 ∷ [])) (sym sure) (firm_settled c (64 + size) (0 ∷ []) (subst (λ (x : ℕ). Holds c (64 + size) (x ∷ [])) zero (holds_byte c (64 + size) (omega (arith, long)))));
       }
 
   pub new_ends : Ends 64 (64 + size) new_front c

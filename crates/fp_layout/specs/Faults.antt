@@ -1,16 +1,18 @@
 -- Why bytes are no disk. Each fault comes where those before it don't.
-use Rattle.std.specs.Prelude.{◌≡◌, ◌≢◌, ◌<◌, ◌≤◌, ◌+◌, ◌/◌, ◌^◌, ℕ, List, length, slice_index}
-use Rattle.std.specs.Int.{w32, w64, to_be_bytes}
+use Rattle.std.specs.Prelude.{◌≡◌, ◌≢◌, ◌<◌, ◌≤◌, ◌+◌, ◌^◌, ℕ, List, length, slice_index}
+use Rattle.std.specs.Int.{w64, to_be_bytes}
 use Rattle.fp_journal.specs.Holds.{Holds}
 use Rattle.fp_journal.specs.declared.chain.ChainFault.{ChainFault}
 use Rattle.fp_journal.specs.declared.chain.ChainFault.TheVariants as chain_fault
 use Rattle.fp_journal.specs.declared.opening.BytesFault.{BytesFault}
 use Rattle.fp_journal.specs.declared.opening.BytesFault.TheVariants as bytes_fault
 use Rattle.fp_layout.specs.Size.{IsSlotSize}
-use Rattle.fp_layout.specs.Layout.{IsFormatted, IsFirstOther, AreZeros}
+use Rattle.fp_slots.specs.declared.choosing.SlotFault.{SlotFault}
+use Rattle.fp_slots.specs.declared.choosing.SlotFault.TheVariants as slot_fault
+use Rattle.fp_slots.specs.declared.places.TheConstants.{GENERATION_PLACE, VERSION_PLACE, BASE_PLACE, LENGTH_PLACE, IMAGE_PLACE}
+use Rattle.fp_layout.specs.Layout.{IsFormatted, IsFirstOther, AreZeros, HasVersion, HasBase, HasLength}
 use Rattle.fp_layout.specs.declared.fault.OpenFault.{OpenFault}
 use Rattle.fp_layout.specs.declared.fault.OpenFault.TheVariants.{Unformatted, UnknownVersion, Damaged, Device, Memory}
-use Rattle.fp_gate.specs.declared.gate.TheConstants.{OPEN}
 
 -- ---- the header, in which the number at the size's place is this one; k is the first byte to show the damage
 pub data BreaksHeader (c : List ℕ) (size k : ℕ) : Type 0 where
@@ -25,13 +27,18 @@ RefusesHeader c (Damaged at) = IsFormatted c × (slice_index c 9 ≡ 1) × ((siz
 RefusesHeader c Device = ⊥
 RefusesHeader c Memory = ⊥
 
--- ---- the slots' gates, and the head of the first
-pub data BreaksFirstSlot (c : List ℕ) (size k : ℕ) : Type 0 where
-  other_open : slice_index c (64 + size) ≡ OPEN → k ≡ 64 + size → BreaksFirstSlot c size k
-  none_open : slice_index c (64 + size) ≢ OPEN → slice_index c 64 ≢ OPEN → k ≡ 64 → BreaksFirstSlot c size k
-  bad_version : slice_index c (64 + size) ≢ OPEN → slice_index c 64 ≡ OPEN → slice_index c 73 ≢ 1 → k ≡ 73 → BreaksFirstSlot c size k
-  bad_base : slice_index c (64 + size) ≢ OPEN → slice_index c 64 ≡ OPEN → slice_index c 73 ≡ 1 → (base : ℕ) → Holds c 74 (to_be_bytes w64 base) → 2 ^ 63 ≤ base → base < 2 ^ 64 → k ≡ 74 → BreaksFirstSlot c size k
-  bad_length : slice_index c (64 + size) ≢ OPEN → slice_index c 64 ≡ OPEN → slice_index c 73 ≡ 1 → (base len : ℕ) → Holds c 74 (to_be_bytes w64 base) → base < 2 ^ 63 → Holds c 82 (to_be_bytes w32 len) → size / 2 < len → len < 2 ^ 32 → k ≡ 82 → BreaksFirstSlot c size k
+-- ---- the head of the slot that begins at this place. A field that passes the end of the bytes, or has
+-- a value that isn't allowed, shows it at its own first byte
+pub data BreaksHead (c : List ℕ) (at size k : ℕ) : Type 0 where
+  no_generation : length c < at + VERSION_PLACE → k ≡ at + GENERATION_PLACE → BreaksHead c at size k
+  no_version : at + VERSION_PLACE ≤ length c → (HasVersion c at → ⊥) → k ≡ at + VERSION_PLACE
+      → BreaksHead c at size k
+  no_base : HasVersion c at → ((base : ℕ) → HasBase c at base → ⊥) → k ≡ at + BASE_PLACE
+      → BreaksHead c at size k
+  no_length : HasVersion c at → (base : ℕ) → HasBase c at base
+      → ((len : ℕ) → HasLength c at size len → ⊥) → k ≡ at + LENGTH_PLACE → BreaksHead c at size k
+  no_image : HasVersion c at → (base len : ℕ) → HasBase c at base → HasLength c at size len
+      → length c < at + IMAGE_PLACE + len → k ≡ at + IMAGE_PLACE → BreaksHead c at size k
 
 abbrev pub IsDamage : (ℕ → Type 0) → OpenFault → Type 0
 IsDamage P Unformatted = ⊥
@@ -48,3 +55,6 @@ fault_of_bytes bytes_fault.Memory = Memory
 abbrev pub fault_of_chain : ChainFault → OpenFault
 fault_of_chain (chain_fault.Damaged at) = Damaged at
 fault_of_chain chain_fault.Memory = Memory
+
+abbrev pub fault_of_slots : SlotFault → OpenFault
+fault_of_slots (slot_fault.Damaged at) = Damaged at

@@ -2,7 +2,10 @@
 use Rattle.std.specs.Prelude.{◌≡◌, ◌≢◌, ◌<◌, ◌≤◌, ◌+◌, ◌/◌, ◌^◌, ℕ, List, length, slice_index, codes}
 use Rattle.std.specs.Int.{w32, w64, to_be_bytes}
 use Rattle.fp_journal.specs.Holds.{Holds}
-use Rattle.fp_layout.specs.Size.{IsSlotSize}
+use Rattle.fp_journal.specs.declared.slot.Slot.{Slot}
+use Rattle.fp_slots.specs.Rules.{HasGeneration, Rules}
+use Rattle.fp_slots.specs.declared.places.TheConstants.{VERSION_PLACE, BASE_PLACE, LENGTH_PLACE, IMAGE_PLACE, VERSION}
+use Rattle.fp_layout.specs.Size.{IsSlotSize, Side, other_side, slot_of}
 use Rattle.fp_gate.specs.declared.gate.TheConstants.{OPEN}
 
 abbrev pub magic : List ℕ
@@ -35,15 +38,39 @@ pub record IsHeader (c : List ℕ) (size : ℕ) : Type 0 where
   pub zeros : AreZeros c 18 64
   pub long : 65 + size ≤ length c
 
--- ---- the first slot, behind the header
--- the second slot's gate is closed, and in the first stand its head and an image of this revision
-pub record IsFirstSlot (c : List ℕ) (size generation base : ℕ) (image : List ℕ) : Type 0 where
-  pub other : slice_index c (64 + size) ≢ OPEN
-  pub gate : slice_index c 64 ≡ OPEN
-  pub generation_text : Holds c 65 (to_be_bytes w64 generation)
-  pub version : slice_index c 73 ≡ 1
-  pub base_text : Holds c 74 (to_be_bytes w64 base)
-  pub base_small : base < 2 ^ 63
-  pub length_text : Holds c 82 (to_be_bytes w32 (length image))
-  pub image_small : length image ≤ size / 2
-  pub image_text : Holds c 86 image
+-- ---- the head of the slot that begins at this place, behind its gate
+pub record HasVersion (c : List ℕ) (at : ℕ) : Type 0 where
+  pub long : at + BASE_PLACE ≤ length c
+  pub is : slice_index c (at + VERSION_PLACE) ≡ VERSION
+
+-- its image is one of this revision
+pub record HasBase (c : List ℕ) (at base : ℕ) : Type 0 where
+  pub text : Holds c (at + BASE_PLACE) (to_be_bytes w64 base)
+  pub small : base < 2 ^ 63
+
+-- and has this many bytes, half the slot's at most
+pub record HasLength (c : List ℕ) (at size len : ℕ) : Type 0 where
+  pub text : Holds c (at + LENGTH_PLACE) (to_be_bytes w32 len)
+  pub small : len ≤ size / 2
+
+-- all of it
+pub record IsHead (c : List ℕ) (at size generation base : ℕ) (image : List ℕ) : Type 0 where
+  pub generation_is : HasGeneration at generation c
+  pub version : HasVersion c at
+  pub base_is : HasBase c at base
+  pub length_is : HasLength c at size (length image)
+  pub image_text : Holds c (at + IMAGE_PLACE) image
+
+-- these two are the slots of a disk, and the first of them rules
+pub record IsActive (c : List ℕ) (size : ℕ) (slot other : Slot) : Type 0 where
+  pub side : Side
+  pub slot_is : slot ≡ slot_of size side
+  pub other_is : other ≡ slot_of size (other_side side)
+  pub rules : Rules slot.start other.start c
+
+-- a header is there, these are the disk's two slots, and the first rules under this generation
+pub record HasSlots (c : List ℕ) (slot other : Slot) (generation : ℕ) : Type 0 where
+  pub size : ℕ
+  pub header : IsHeader c size
+  pub active : IsActive c size slot other
+  pub generation_is : HasGeneration slot.start generation c

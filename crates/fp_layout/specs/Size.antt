@@ -11,3 +11,20 @@ pub record IsSlotSize (bytes : ℕ) : Type 0 where
 -- the slot behind the header, in which a batch with its two gates has an eighth of its bytes at most
 abbrev pub first_slot : ℕ → Slot
 first_slot bytes = record { start = 64; stop = 64 + bytes; most = bytes / 8 - 6 }
+
+-- the slot behind that one
+abbrev pub second_slot : ℕ → Slot
+second_slot bytes = record { start = 64 + bytes; stop = 64 + bytes + bytes; most = bytes / 8 - 6 }
+
+-- which of the two
+pub data Side : Type 0 where
+  first : Side
+  second : Side
+
+abbrev pub other_side : Side → Side
+other_side first = second
+other_side second = first
+
+abbrev pub slot_of : ℕ → Side → Slot
+slot_of bytes first = first_slot bytes
+slot_of bytes second = second_slot bytes

@@ -1,9 +1,10 @@
 //! Why a disk can't be opened.
 
 ghost use Rattle.std.specs.Prelude.{◌≡◌};
-ghost use Rattle.fp_layout.specs.Faults.{fault_of_bytes, fault_of_chain};
+ghost use Rattle.fp_layout.specs.Faults.{fault_of_bytes, fault_of_chain, fault_of_slots};
 
 use fp_journal::{BytesFault, ChainFault};
+use fp_slots::SlotFault;
 
 /// Why a disk can't be opened.
 #[derive(Clone, Copy, Debug, PartialEq, Eq)]
@@ -38,6 +39,16 @@ impl From<ChainFault> for OpenFault {
         match fault {
             ChainFault::Damaged { at } => OpenFault::Damaged { at },
             ChainFault::Memory => OpenFault::Memory,
+        }
+    }
+}
+
+impl From<SlotFault> for OpenFault {
+    ghost from_gives = { λ f e. e ≡ fault_of_slots f };
+
+    fn from(fault: SlotFault) -> OpenFault {
+        match fault {
+            SlotFault::Damaged { at } => OpenFault::Damaged { at },
         }
     }
 }

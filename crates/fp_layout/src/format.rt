@@ -6,15 +6,17 @@ ghost use Rattle.fp_disk.specs.History.{Makes, MakesSome};
 ghost use Rattle.fp_disk.specs.declared.history.CallKind.TheVariants.{Length, Sync, Write};
 ghost use Rattle.fp_disk.specs.Outcomes.{Answers, IsOutcome, LeavesOnly, Written, all_synced, with_write};
 ghost use Rattle.fp_journal.specs.declared.journal.Phase.TheVariants.{Idle};
-ghost use Rattle.fp_layout.specs.Size.{IsSlotSize, first_slot};
-ghost use Rattle.fp_layout.specs.Layout.{IsHeader, IsFirstSlot};
+ghost use Rattle.fp_layout.specs.Size.{IsSlotSize, first_slot, second_slot};
+ghost use Rattle.fp_layout.specs.Layout.{IsHeader, IsHead, IsActive};
 ghost use Rattle.fp_layout.specs.NewDisk.{IsNewDisk, IsNewOrNone, closed_bytes, empty_image, format_calls, new_front};
+ghost use Rattle.fp_slots.specs.declared.slots.Step.TheVariants.{Begin};
 ghost use Rattle.fp_layout.specs.declared.format.CreateFault.TheVariants.{NotEmpty, Device, Memory};
 
 use crate::size::SlotSize;
 use fp_disk::{Disk, DiskFault};
 use fp_gate::OPEN;
 use fp_journal::Journal;
+use fp_slots::Slots;
 use std::alloc::{AllocError, Global};
 
 /// Why a disk wasn't made.
@@ -78,21 +80,24 @@ fn format<D: Disk>(disk: &mut D, size: SlotSize, closed: &[u8]) -> Result<(), Di
     write_synced(disk, 0, &[OPEN])
 }
 
-/// Makes an empty disk one of this layout, with no flag and revision 0, and a journal over its first slot.
+/// Makes an empty disk one of this layout, with no flag and revision 0, and its two slots, of which the first rules.
 pub fn create<D: Disk>(
     alloc: Global,
     mut disk: D,
     size: SlotSize,
-) -> Result<Journal<D>, (CreateFault, D)>
-    ensures journal { IfOk result (λ j. (j.slot ≡ first_slot size) × (j.front ≡ new_front) × (j.sealed ≡ []) × (j.phase ≡ Idle)) }
-    ensures made { D.honest disk → IfOk result (λ j. IsNewDisk size (D.bytes j.disk)) }
-    ensures all_synced { D.honest disk → IfOk result (λ j. D.unsynced j.disk ≡ all_synced (D.bytes j.disk)) }
-    ensures stands { D.honest disk → IfOk result (λ j. IsHeader (D.bytes j.disk) size × IsFirstSlot (D.bytes j.disk) size 1 0 empty_image) }
+) -> Result<Slots<D>, (CreateFault, D)>
+    ensures journal { IfOk result (λ s. (s.journal.slot ≡ first_slot size)
+        × (s.journal.front ≡ new_front) × (s.journal.sealed ≡ []) × (s.journal.phase ≡ Idle)) }
+    ensures beside { IfOk result (λ s. (s.other ≡ second_slot size) × (s.generation ≡ 1)
+        × (s.step ≡ Begin)) }
+    ensures made { D.honest disk → IfOk result (λ s. IsNewDisk size (D.bytes s.journal.disk)) }
+    ensures all_synced { D.honest disk → IfOk result (λ s. D.unsynced s.journal.disk ≡ all_synced (D.bytes s.journal.disk)) }
+    ensures stands { D.honest disk → IfOk result (λ s. IsHeader (D.bytes s.journal.disk) size × IsActive (D.bytes s.journal.disk) size (first_slot size) (second_slot size) × IsHead (D.bytes s.journal.disk) 64 size 1 0 empty_image) }
     ensures not_empty { D.honest disk → IfErr result (λ e. e.0 ≡ NotEmpty → (D.bytes disk ≢ []) × (D.bytes e.1 ≡ D.bytes disk) × (D.unsynced e.1 ≡ D.unsynced disk)) }
     ensures empty { D.honest disk → IsOk result → D.bytes disk ≡ [] }
-    ensures any_moment { D.honest disk → D.unsynced disk ≡ all_synced [] → MatchResult result (λ j. LeavesOnly D.moment D.crash_states_since disk j.disk (IsNewOrNone size)) (λ e. LeavesOnly D.moment D.crash_states_since disk e.1 (IsNewOrNone size)) }
-    ensures honest { MatchResult result (λ j. SameHonesty D.Disk disk j.disk) (λ e. SameHonesty D.Disk disk e.1) }
-    ensures called { MatchResult result (λ j. D.calls j.disk ≡ D.calls disk ++ Length ∷ format_calls) (λ e. MakesSome (Length ∷ format_calls) (D.calls disk) (D.calls e.1)) }
+    ensures any_moment { D.honest disk → D.unsynced disk ≡ all_synced [] → MatchResult result (λ s. LeavesOnly D.moment D.crash_states_since disk s.journal.disk (IsNewOrNone size)) (λ e. LeavesOnly D.moment D.crash_states_since disk e.1 (IsNewOrNone size)) }
+    ensures honest { MatchResult result (λ s. SameHonesty D.Disk disk s.journal.disk) (λ e. SameHonesty D.Disk disk e.1) }
+    ensures called { MatchResult result (λ s. D.calls s.journal.disk ≡ D.calls disk ++ Length ∷ format_calls) (λ e. MakesSome (Length ∷ format_calls) (D.calls disk) (D.calls e.1)) }
     ensures memory { D.honest disk → IfErr result (λ e. e.0 ≡ Memory → (D.bytes e.1 ≡ D.bytes disk) × (D.unsynced e.1 ≡ D.unsynced disk)) }
     ensures cause { IfErr result (λ e. e.0 ≡ Device → D.faults disk < D.faults e.1) }
 {
@@ -108,5 +113,6 @@ pub fn create<D: Disk>(
         return Err((CreateFault::Device, disk));
     };
     bytes[64] = OPEN;
-    Ok(Journal::adopt(alloc, disk, size.first_slot(), &bytes, 90))
+    let journal = Journal::adopt(alloc, disk, size.first_slot(), &bytes, 90);
+    Ok(Slots::new(alloc, journal, size.second_slot(), 1, false))
 }

@@ -1,13 +1,19 @@
 //! A disk that is there, opened.
 
 ghost use Rattle.fp_disk.specs.Crashes.{SameHonesty};
-ghost use Rattle.std.specs.Prelude.{◌≡◌, ◌≤◌, ◌<◌, ◌+◌, ◌-◌, ◌/◌, [], ◌∷◌, ◌++◌, List, ℕ, length, IfOk, IfErr, OnOk, MatchResult, IsErrOf};
+ghost use Rattle.std.specs.Prelude.{◌≡◌, ◌≤◌, ◌<◌, ◌+◌, ◌-◌, ◌/◌, [], ◌∷◌, ◌++◌, List, ℕ, ◌↔◌, IsTrue, slice_index, length, IfOk, IfErr, OnOk, MatchResult, IsErrOf};
 ghost use Rattle.fp_disk.specs.History.{MakesSome};
 ghost use Rattle.fp_disk.specs.declared.history.CallKind.TheVariants.{Length, Read, Sync};
 ghost use Rattle.fp_disk.specs.Outcomes.{IsOutcome, LeavesOnly, all_synced};
 ghost use Rattle.fp_journal.specs.Reading.{IsWrong};
 ghost use Rattle.fp_journal.specs.declared.journal.Phase.TheVariants.{Idle};
-ghost use Rattle.fp_layout.specs.Size.{first_slot};
+ghost use Rattle.fp_layout.specs.Faults.{IsDamage};
+ghost use Rattle.fp_layout.specs.Layout.{HasSlots, IsActive, IsHeader};
+ghost use Rattle.fp_gate.specs.declared.gate.TheConstants.{OPEN};
+ghost use Rattle.fp_slots.specs.declared.places.TheConstants.{IMAGE_PLACE};
+ghost use Rattle.fp_slots.specs.declared.slots.Step.TheVariants.{Begin};
+ghost use Rattle.fp_layout.specs.Size.{first_slot, second_slot};
+ghost use Rattle.fp_slots.specs.Rules.{RulesNeither};
 ghost use Rattle.fp_layout.specs.Opening.{FoundFront, FoundDisk, RefusesFront, RefusesDisk};
 ghost use Rattle.fp_layout.specs.declared.fault.OpenFault.TheVariants.{Device};
 
@@ -16,7 +22,8 @@ use crate::head::{Head, read_head};
 use crate::header::read_header;
 use crate::size::SlotSize;
 use fp_disk::Disk;
-use fp_journal::{BodyFault, Journal, Reader, resume, synced_bytes};
+use fp_journal::{BodyFault, Reader, resume, synced_bytes};
+use fp_slots::{Active, IMAGE_PLACE, Slots, pick};
 use std::alloc::Global;
 
 /// What takes a slot's image, and then the bodies of its chain.
@@ -33,51 +40,97 @@ pub trait SlotReader: Reader {
         ensures fault { IfErr result (IsWrong (length image.now) (rejects self.old base limit image.now)) };
 }
 
-// Reads what stands in front of the batches, and answers the slot's size and the place of the first batch's gate.
-fn read_front<R: SlotReader>(bytes: &[u8], reader: &mut R) -> Result<(SlotSize, u64), OpenFault>
-    ensures found { IfOk result (λ p. FoundFront R.begins bytes.now reader.old reader.new p.0 p.1) }
+// Which of the two slots rules.
+fn read_active(bytes: &[u8], size: SlotSize) -> Result<Active, OpenFault>
+    requires header { IsHeader bytes.now size }
+    ensures found { IfOk result (λ r. IsActive bytes.now size r.slot r.other) }
+    ensures there { IfOk result (λ r. r.slot.start < length bytes.now) }
+    ensures open { IfOk result (λ r.
+        IsTrue r.is_open ↔ (slice_index bytes.now r.other.start ≡ OPEN)) }
+    ensures fault { IfErr result
+        (IsDamage (RulesNeither (first_slot size).start (second_slot size).start bytes.now)) }
+{
+    let active = pick(bytes, size.first_slot(), size.second_slot())?;
+    Ok(active)
+}
+
+// Where reading goes on behind the image, and what was found on the way there.
+#[derive(Drop)]
+struct Front {
+    active: Active,
+    generation: u64,
+    at: u64,
+}
+
+// Reads what stands in front of the batches.
+fn read_front<R: SlotReader>(bytes: &[u8], reader: &mut R) -> Result<Front, OpenFault>
+    ensures found { IfOk result (λ p.
+        FoundFront R.begins bytes.now reader.old reader.new p.active.slot p.at) }
+    ensures active { IfOk result (λ p.
+        HasSlots bytes.now p.active.slot p.active.other p.generation) }
+    ensures open { IfOk result (λ p.
+        IsTrue p.active.is_open ↔ (slice_index bytes.now p.active.other.start ≡ OPEN)) }
+    ensures within { IfOk result (λ p.
+        (p.active.slot.start + IMAGE_PLACE ≤ p.at) × (p.at ≤ length bytes.now)) }
     ensures fault { IfErr result (RefusesFront R.rejects bytes.now reader.old) }
 {
     let size = read_header(bytes)?;
+    let active = read_active(bytes, size)?;
     let Head {
-        generation: _,
+        generation,
         base,
         image,
-    } = read_head(bytes, size)?;
+    } = read_head(bytes, active.slot.start as usize, size)?;
+    let place = active.slot.start + IMAGE_PLACE as u64;
     match reader.begin(base, size.bytes() / 2, image) {
-        Ok(()) => Ok((size, 86 + image.len() as u64)),
-        Err(BodyFault::BadBody { at }) => Err(OpenFault::Damaged { at: 86 + at }),
+        Ok(()) => Ok(Front {
+            active,
+            generation,
+            at: place + image.len() as u64,
+        }),
+        Err(BodyFault::BadBody { at }) => Err(OpenFault::Damaged { at: place + at }),
         Err(BodyFault::Memory) => Err(OpenFault::Memory),
     }
 }
 
-/// Opens a disk: gives what stands in its first slot to the reader, and goes on behind it.
+/// Opens a disk: gives what stands in the slot that rules to the reader, and goes on behind it.
 pub fn open<D: Disk, R: SlotReader>(
     alloc: Global,
     mut disk: D,
     reader: &mut R,
-) -> Result<Journal<D>, (OpenFault, D)>
-    ensures begins { IfOk result (λ j. (j.sealed ≡ []) × (j.phase ≡ Idle)) }
-    ensures found { D.honest disk → IfOk result (λ j. FoundDisk R.begins R.takes (D.bytes disk) reader.old reader.new j.slot j.front) }
+) -> Result<Slots<D>, (OpenFault, D)>
+    ensures begins { IfOk result (λ s. (s.journal.sealed ≡ []) × (s.journal.phase ≡ Idle)
+        × (s.step ≡ Begin)) }
+    ensures found { D.honest disk → IfOk result (λ s. FoundDisk R.begins R.takes (D.bytes disk)
+        reader.old reader.new s.journal.slot s.journal.front) }
+    ensures slots { D.honest disk → IfOk result (λ s.
+        HasSlots (D.bytes disk) s.journal.slot s.other s.generation) }
     ensures fault { D.honest disk → IfErr result (λ e. RefusesDisk R.begins R.rejects R.takes R.refuses (D.bytes disk) reader.old e.0) }
-    ensures same { D.honest disk → MatchResult result (λ j. D.bytes j.disk ≡ D.bytes disk) (λ e. D.bytes e.1 ≡ D.bytes disk) }
-    ensures all_synced { D.honest disk → IfOk result (λ j. D.unsynced j.disk ≡ all_synced (D.bytes disk)) }
-    ensures any_moment { D.honest disk → MatchResult result (λ j. LeavesOnly D.moment D.crash_states_since disk j.disk (IsOutcome (D.unsynced disk))) (λ e. LeavesOnly D.moment D.crash_states_since disk e.1 (IsOutcome (D.unsynced disk))) }
-    ensures honest { MatchResult result (λ j. SameHonesty D.Disk disk j.disk) (λ e. SameHonesty D.Disk disk e.1) }
-    ensures called { MatchResult result (λ j. D.calls j.disk ≡ D.calls disk ++ Sync ∷ Length ∷ Read ∷ []) (λ e. MakesSome (Sync ∷ Length ∷ Read ∷ []) (D.calls disk) (D.calls e.1)) }
-    ensures no_failure { IfOk result (λ j. D.faults j.disk ≡ D.faults disk) }
+    ensures same { D.honest disk → MatchResult result (λ s. D.bytes s.journal.disk ≡ D.bytes disk) (λ e. D.bytes e.1 ≡ D.bytes disk) }
+    ensures all_synced { D.honest disk → IfOk result (λ s. D.unsynced s.journal.disk ≡ all_synced (D.bytes disk)) }
+    ensures any_moment { D.honest disk → MatchResult result (λ s. LeavesOnly D.moment D.crash_states_since disk s.journal.disk (IsOutcome (D.unsynced disk))) (λ e. LeavesOnly D.moment D.crash_states_since disk e.1 (IsOutcome (D.unsynced disk))) }
+    ensures honest { MatchResult result (λ s. SameHonesty D.Disk disk s.journal.disk) (λ e. SameHonesty D.Disk disk e.1) }
+    ensures called { MatchResult result (λ s. D.calls s.journal.disk ≡ D.calls disk ++ Sync ∷ Length ∷ Read ∷ []) (λ e. MakesSome (Sync ∷ Length ∷ Read ∷ []) (D.calls disk) (D.calls e.1)) }
+    ensures no_failure { IfOk result (λ s. D.faults s.journal.disk ≡ D.faults disk) }
     ensures cause { IfErr result (λ e. e.0 ≡ Device → D.faults disk < D.faults e.1) }
 {
     let bytes = match synced_bytes(alloc, &mut disk) {
         Ok(bytes) => bytes,
         Err(fault) => return Err((fault.into(), disk)),
     };
-    let (size, at) = match read_front(&bytes, reader) {
+    let front = match read_front(&bytes, reader) {
         Ok(front) => front,
         Err(fault) => return Err((fault, disk)),
     };
-    match resume(alloc, disk, &bytes, size.first_slot(), at, reader) {
-        Ok(journal) => Ok(journal),
+    let active = front.active;
+    match resume(alloc, disk, &bytes, active.slot, front.at, reader) {
+        Ok(journal) => Ok(Slots::new(
+            alloc,
+            journal,
+            active.other,
+            front.generation,
+            active.is_open,
+        )),
         Err((fault, disk)) => Err((fault.into(), disk)),
     }
 }

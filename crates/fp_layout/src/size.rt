@@ -1,7 +1,7 @@
 //! How many bytes a slot has.
 
 ghost use Rattle.std.specs.Prelude.{◌≡◌, ◌<◌, ◌≤◌, ◌+◌, ◌-◌, ◌/◌, ◌^◌, ◌↔◌, IsSome, IfSome};
-ghost use Rattle.fp_layout.specs.Size.{IsSlotSize, first_slot};
+ghost use Rattle.fp_layout.specs.Size.{IsSlotSize, first_slot, second_slot};
 
 use fp_journal::Slot;
 use std::marker::Model;
@@ -65,6 +65,18 @@ impl SlotSize {
             start: 64,
             stop: 64 + self.bytes,
             most: (self.bytes / 8 - 6) as u32,
+        }
+    }
+
+    /// The second slot, which begins behind the first.
+    pub fn second_slot(self) -> Slot
+        ensures slot { result ≡ second_slot self }
+    {
+        let first = self.first_slot();
+        Slot {
+            start: first.stop,
+            stop: first.stop + self.bytes,
+            most: first.most,
         }
     }
 }

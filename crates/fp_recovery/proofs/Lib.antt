@@ -4,6 +4,7 @@ pub mod Read
 pub mod Flags
 pub mod Agreed
 pub mod Kept
+pub mod Texts
 pub mod One
 pub mod Refused
 pub mod OneFault

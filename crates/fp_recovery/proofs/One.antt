@@ -1,40 +1,28 @@
 -- Bytes stand for one set at most.
-use Rattle.std.proofs.Common.{◌≡◌, ◌<◌, ◌+◌, ◌/◌, ◌^◌, ℕ, List, [], ◌∷◌, length, refl, sym, ap, subst, ◌∙◌, arith}
-use Rattle.std.specs.Prelude.{slice_range}
-use Rattle.std.specs.Int.{w32, w64, to_be_bytes, from_be_bytes}
+use Rattle.std.proofs.Common.{◌≡◌, ◌<◌, ◌+◌, ◌-◌, ◌/◌, ◌^◌, ℕ, List, [], ◌∷◌, length, refl, sym, ap, subst, ◌∙◌, arith}
 use Rattle.std.specs.FinMap as fin
 use Rattle.std.proofs.lemmas.List.{append-nil}
-use Rattle.std.proofs.lemmas.Nat.{from_be_bytes-to_be_bytes_4, from_be_bytes-to_be_bytes_8}
 use Rattle.fp_edit.specs.Flags.{State, Flags}
-use Rattle.fp_journal.specs.Holds.{Holds}
+use Rattle.fp_gate.specs.declared.gate.TheConstants.{OPEN}
 use Rattle.fp_journal.specs.Chain.{framed}
 use Rattle.fp_journal.specs.Reading.{IsChain, Reads}
-use Rattle.fp_journal.proofs.Holds.{byte_held, range_held}
+use Rattle.fp_journal.specs.declared.slot.Slot.{Slot}
+use Rattle.fp_journal.proofs.Holds.{byte_held}
 use Rattle.fp_journal.proofs.Links.{chain_first, same_body}
-use Rattle.fp_layout.specs.Size.{first_slot}
-use Rattle.fp_layout.specs.Layout.{IsHeader, IsFirstSlot}
+use Rattle.fp_layout.specs.Size.{Side, first, second, other_side, slot_of}
+use Rattle.fp_layout.specs.Layout.{IsHeader, IsHead, IsActive}
+use Rattle.fp_layout.proofs.Numbers.{number32_one, number64_one, text_one}
 use Rattle.fp_record.proofs.Images.{image_alone}
 use Rattle.fp_record.proofs.Batches.{batch_alone}
 use Rattle.fp_record.specs.Encoding.{encoding_of_image, encoding_of_batch}
 use Rattle.fp_record.specs.Group.{Group}
+use Rattle.fp_slots.specs.Rules.{Rules}
+use Rattle.fp_slots.proofs.Ruling.{rules_alone}
 use Rattle.fp_recovery.specs.Stands.{IsImageOf, TakesBatch, StandsFor, Leads}
 use Rattle.fp_recovery.proofs.Restored.{leads_one}
-use Rattle.fp_gate.specs.declared.gate.TheConstants.{OPEN}
+use Rattle.fp_recovery.proofs.Texts.{IsReadFrom, most_of, stands_read}
 
 -- ---- numbers
-pub number64_one : (c : List ℕ) (at m n : ℕ) → Holds c at (to_be_bytes w64 m) → m < 2 ^ 64 → Holds c at (to_be_bytes w64 n) → n < 2 ^ 64 → m ≡ n
-number64_one c at m n p small q small2 =
-    let same : to_be_bytes w64 m ≡ to_be_bytes w64 n = sym (range_held c at (to_be_bytes w64 m) p) ∙ range_held c at (to_be_bytes w64 n) q in
-    sym (from_be_bytes-to_be_bytes_8 m small) ∙ ap (from_be_bytes w64) same ∙ from_be_bytes-to_be_bytes_8 n small2
-
-pub number32_one : (c : List ℕ) (at m n : ℕ) → Holds c at (to_be_bytes w32 m) → m < 2 ^ 32 → Holds c at (to_be_bytes w32 n) → n < 2 ^ 32 → m ≡ n
-number32_one c at m n p small q small2 =
-    let same : to_be_bytes w32 m ≡ to_be_bytes w32 n = sym (range_held c at (to_be_bytes w32 m) p) ∙ range_held c at (to_be_bytes w32 n) q in
-    sym (from_be_bytes-to_be_bytes_4 m small) ∙ ap (from_be_bytes w32) same ∙ from_be_bytes-to_be_bytes_4 n small2
-
-pub text_one : (c : List ℕ) (at : ℕ) (x y : List ℕ) → length x ≡ length y → Holds c at x → Holds c at y → x ≡ y
-text_one c at x y len p q = sym (range_held c at x p) ∙ ap (λ (n : ℕ). slice_range c at (at + n)) len ∙ range_held c at y q
-
 pub size_one : (c : List ℕ) (m n : ℕ) → IsHeader c m → IsHeader c n → m ≡ n
 size_one c m n p q = let a = p.allowed.greatest in let b = q.allowed.greatest in number64_one c 10 m n p.size_text (omega (arith, a)) q.size_text (omega (arith, b))
 
@@ -72,29 +60,65 @@ chain_one most at stop (x ∷ xs) (y ∷ ys) c small p q =
     ap (λ (z : List ℕ). z ∷ xs) same ∙ ap (λ (zs : List (List ℕ)). y ∷ zs) rest
 
 -- ---- the whole
--- the front of a slot is read in one way
-pub record SameFront (size generation base : ℕ) (image : List ℕ) (size' generation' base' : ℕ) (image' : List ℕ) : Type 0 where
+-- of the two slots one rules
+pub active_one : (c : List ℕ) (size : ℕ) (slot other slot' other' : Slot) → IsActive c size slot other → IsActive c size slot' other' → slot ≡ slot'
+active_one c size slot other slot' other' a b = by_side a.side b.side a.slot_is a.other_is b.slot_is b.other_is
+  where
+    crossed : slot' ≡ other → other' ≡ slot → ⊥
+    crossed p q = rules_alone c slot.start other.start a.rules (subst (λ (x : Slot). Rules other.start x.start c) q (subst (λ (x : Slot). Rules x.start other'.start c) p b.rules))
+
+    by_side : (x y : Side) → slot ≡ slot_of size x → other ≡ slot_of size (other_side x) → slot' ≡ slot_of size y → other' ≡ slot_of size (other_side y) → slot ≡ slot'
+    by_side first first p q p' q' = p ∙ sym p'
+    by_side first second p q p' q' = absurd (crossed (p' ∙ sym q) (q' ∙ sym p))
+    by_side second first p q p' q' = absurd (crossed (p' ∙ sym q) (q' ∙ sym p))
+    by_side second second p q p' q' = p ∙ sym p'
+
+-- a batch's length is a number of four bytes
+pub most_small : (c : List ℕ) (size : ℕ) (slot other : Slot) → IsHeader c size → IsActive c size slot other → slot.most < 2 ^ 32
+most_small c size slot other h a = let large = h.allowed.greatest in let most : slot.most ≡ size / 8 - 6 = ap (λ (x : Slot). x.most) a.slot_is ∙ most_of size a.side in omega (arith, large, most)
+
+-- its front is read in one way
+pub record SameFront (size base : ℕ) (slot : Slot) (image : List ℕ) (size' base' : ℕ) (slot' : Slot) (image' : List ℕ) : Type 0 where
   pub size_is : size ≡ size'
   pub base_is : base ≡ base'
+  pub slot_is : slot ≡ slot'
   pub image_is : image ≡ image'
 
-pub front_one : (c : List ℕ) (size generation base : ℕ) (image : List ℕ) (size' generation' base' : ℕ) (image' : List ℕ) → IsHeader c size → IsFirstSlot c size generation base image → IsHeader c size' → IsFirstSlot c size' generation' base' image'
-    → SameFront size generation base image size' generation' base' image'
-front_one c size generation base image size' generation' base' image' h s h' s' =
-    let a = h.allowed.greatest in let a' = h'.allowed.greatest in let n = s.image_small in let n' = s'.image_small in let b = s.base_small in let b' = s'.base_small in
-    let len : length image ≡ length image' = number32_one c 82 (length image) (length image') s.length_text (omega (arith, a, n)) s'.length_text (omega (arith, a', n')) in
-    record {
-      size_is = size_one c size size' h h';
-      base_is = number64_one c 74 base base' s.base_text (omega (arith, b)) s'.base_text (omega (arith, b'));
-      image_is = text_one c 86 image image' len s.image_text s'.image_text;
-    }
+module _ (c : List ℕ) where
+  -- a header, the slot that rules, and its head
+  pub record HasFront (size generation base : ℕ) (slot other : Slot) (image : List ℕ) : Type 0 where
+    pub header : IsHeader c size
+    pub active : IsActive c size slot other
+    pub head : IsHead c slot.start size generation base image
+
+  pub front_one : (size generation base : ℕ) (slot other : Slot) (image : List ℕ) (size' generation' base' : ℕ) (slot' other' : Slot) (image' : List ℕ) → HasFront size generation base slot other image → HasFront size' generation' base' slot' other' image'
+      → SameFront size base slot image size' base' slot' image'
+  front_one size generation base slot other image size' generation' base' slot' other' image' p q =
+      let size_is = size_one c size size' p.header q.header in
+      let active : IsActive c size' slot other = subst (λ (n : ℕ). IsActive c n slot other) size_is p.active in
+      let slot_is = active_one c size' slot other slot' other' active q.active in
+      let h : IsHead c slot'.start size generation base image = subst (λ (x : Slot). IsHead c x.start size generation base image) slot_is p.head in
+      let a = p.header.allowed.greatest in let a' = q.header.allowed.greatest in let n = h.length_is.small in let n' = q.head.length_is.small in let b = h.base_is.small in let b' = q.head.base_is.small in
+      let len : length image ≡ length image' = number32_one c (slot'.start + 18) (length image) (length image') h.length_is.text (omega (arith, a, n)) q.head.length_is.text (omega (arith, a', n')) in
+      record {
+        size_is = size_is;
+        base_is = number64_one c (slot'.start + 10) base base' h.base_is.text (omega (arith, b)) q.head.base_is.text (omega (arith, b'));
+        slot_is = slot_is;
+        image_is = text_one c (slot'.start + 22) image image' len h.image_text q.head.image_text;
+      }
+
+pub read_front : (c : List ℕ) (size : ℕ) (slot other : Slot) (s : State) (r : IsReadFrom c size slot other s) → HasFront c size r.generation r.base slot other r.image
+read_front c size slot other s r = record { header = r.header; active = r.active; head = r.head }
+
+pub read_one : (c : List ℕ) (size : ℕ) (slot other : Slot) (size' : ℕ) (slot' other' : Slot) (s t : State) → IsReadFrom c size slot other s → IsReadFrom c size' slot' other' t → s ≡ t
+read_one c size slot other size' slot' other' s t p q =
+    let f = front_one c size p.generation p.base slot other p.image size' q.generation q.base slot' other' q.image (read_front c size slot other s p) (read_front c size' slot' other' t q) in
+    let large = q.header.allowed.greatest in
+    let begun : IsImageOf q.base (size' / 2) q.image p.first = subst (λ (i : List ℕ). IsImageOf q.base (size' / 2) i p.first) f.image_is (subst (λ (b : ℕ). IsImageOf b (size' / 2) p.image p.first) f.base_is (subst (λ (z : ℕ). IsImageOf p.base (z / 2) p.image p.first) f.size_is p.image_is)) in
+    let start : p.first ≡ q.first = image_one q.base (size' / 2) q.image p.first q.first begun q.image_is in
+    let chain : IsChain slot'.most (slot'.start + 22 + length q.image) slot'.stop p.batches c = subst (λ (i : List ℕ). IsChain slot'.most (slot'.start + 22 + length i) slot'.stop p.batches c) f.image_is (subst (λ (x : Slot). IsChain x.most (x.start + 22 + length p.image) x.stop p.batches c) f.slot_is p.chain) in
+    let bodies : p.batches ≡ q.batches = chain_one slot'.most (slot'.start + 22 + length q.image) slot'.stop p.batches q.batches c (most_small c size' slot' other' q.header q.active) chain q.chain in
+    reads_one q.first s t q.batches (subst (λ (bs : List (List ℕ)). Reads TakesBatch q.first bs s) bodies (subst (λ (v : State). Reads TakesBatch v p.batches s) start p.leads)) q.leads
 
 pub stands_one : (c : List ℕ) (s t : State) → StandsFor c s → StandsFor c t → s ≡ t
-stands_one c s t p q =
-    let f = front_one c p.size p.generation p.base p.image q.size q.generation q.base q.image p.header p.slot q.header q.slot in
-    let size = f.size_is in let base = f.base_is in let image = f.image_is in let large = q.header.allowed.greatest in
-    let first : IsImageOf q.base (q.size / 2) q.image p.first = subst (λ (i : List ℕ). IsImageOf q.base (q.size / 2) i p.first) image (subst (λ (b : ℕ). IsImageOf b (q.size / 2) p.image p.first) base (subst (λ (z : ℕ). IsImageOf p.base (z / 2) p.image p.first) size p.image_is)) in
-    let start : p.first ≡ q.first = image_one q.base (q.size / 2) q.image p.first q.first first q.image_is in
-    let chain : IsChain (first_slot q.size).most (86 + length q.image) (first_slot q.size).stop p.batches c = subst (λ (i : List ℕ). IsChain (first_slot q.size).most (86 + length i) (first_slot q.size).stop p.batches c) image (subst (λ (z : ℕ). IsChain (first_slot z).most (86 + length p.image) (first_slot z).stop p.batches c) size p.chain) in
-    let bodies : p.batches ≡ q.batches = chain_one (first_slot q.size).most (86 + length q.image) (first_slot q.size).stop p.batches q.batches c (omega (arith, large)) chain q.chain in
-    reads_one q.first s t q.batches (subst (λ (bs : List (List ℕ)). Reads TakesBatch q.first bs s) bodies (subst (λ (v : State). Reads TakesBatch v p.batches s) start p.leads)) q.leads
+stands_one c s t p q = read_one c p.size (slot_of p.size p.side) (slot_of p.size (other_side p.side)) q.size (slot_of q.size q.side) (slot_of q.size (other_side q.side)) s t (stands_read c s p) (stands_read c t q)

@@ -1,6 +1,6 @@
 -- A disk that is refused shows one fault, at one place within it.
-use Rattle.std.proofs.Common.{◌≡◌, ◌≢◌, ◌⊎◌, ◌<◌, ◌≤◌, ◌+◌, ◌/◌, ◌^◌, ℕ, List, [], ◌∷◌, ◌++◌, length, Result, Err, refl, sym, ap, subst, ◌∙◌, inl, inr, arith, length-append, add-zero}
-use Rattle.std.specs.Prelude.{slice_index, min}
+use Rattle.std.proofs.Common.{◌≡◌, ◌⊎◌, ◌<◌, ◌≤◌, ◌+◌, ◌/◌, ◌^◌, ℕ, List, [], ◌∷◌, length, Result, Err, refl, sym, ap, subst, ◌∙◌, inl, inr, arith, length-append, add-zero}
+use Rattle.std.specs.Prelude.{slice_index}
 use Rattle.std.specs.Int.{w32, w64, to_be_bytes}
 use Rattle.std.specs.FinMap as fin
 use Rattle.std.proofs.lemmas.Bool.{cases_lt}
@@ -12,19 +12,24 @@ use Rattle.fp_journal.specs.Reading.{IsNext, Breaks, no_gate, no_length, too_lon
 use Rattle.fp_journal.specs.State.{AllShort}
 use Rattle.fp_journal.proofs.Holds.{holds_front, holds_back}
 use Rattle.fp_journal.proofs.Links.{same_body, length_read}
-use Rattle.fp_layout.specs.Faults.{BreaksHeader, bad_size, not_zero, too_short, BreaksFirstSlot, other_open, none_open, bad_version, bad_base, bad_length}
-use Rattle.fp_layout.specs.Layout.{IsFormatted, IsHeader, IsFirstSlot, IsFirstOther}
-use Rattle.fp_layout.specs.Opening.{FoundFront, BreaksFront, in_header, in_slot, in_image, BreaksDisk, in_front, in_chain}
-use Rattle.fp_layout.specs.Size.{first_slot}
+use Rattle.fp_journal.specs.declared.slot.Slot.{Slot}
+use Rattle.fp_layout.proofs.Numbers.{number64_one}
+use Rattle.fp_layout.specs.Faults.{BreaksHeader, bad_size, not_zero, too_short, BreaksHead, no_generation, no_version, no_base, no_image}
+use Rattle.fp_layout.specs.Faults as faults
+use Rattle.fp_layout.specs.Layout.{IsFormatted, IsHeader, IsHead, IsActive, IsFirstOther}
+use Rattle.fp_layout.specs.Opening.{FoundFront, BreaksFront, in_header, in_slots, in_head, in_image, BreaksDisk, in_front, in_chain}
+use Rattle.fp_layout.specs.Size.{Side, slot_of}
+use Rattle.fp_layout.specs.Size as sides
+use Rattle.fp_slots.specs.Rules.{RulesNeither, none_open, cut, equal}
 use Rattle.fp_layout.specs.declared.fault.OpenFault.{OpenFault}
 use Rattle.fp_layout.specs.declared.fault.OpenFault.TheVariants.{Unformatted, UnknownVersion, Damaged, Device, Memory}
 use Rattle.fp_recovery.specs.Exact.{IsOfBytes}
 use Rattle.fp_recovery.specs.Reading.{image_under, batch_onto}
 use Rattle.fp_recovery.specs.Refusals.{BeginsWith, RejectsImage, RefusesBatch, RefusesBytes, nothing_read}
 use Rattle.fp_recovery.specs.Stands.{IsImageOf, TakesBatch, StandsFor}
-use Rattle.fp_recovery.proofs.One.{number32_one, number64_one, size_one, front_one, image_one, batch_one}
+use Rattle.fp_recovery.proofs.One.{HasFront, active_one, batch_one, front_one, image_one, most_small, size_one}
 use Rattle.fp_recovery.proofs.Read.{image_back, batch_back, batch_within, image_within_bytes}
-use Rattle.fp_recovery.proofs.Refused.{apart, header_sound, slot_sound, unless_wanting}
+use Rattle.fp_recovery.proofs.Refused.{apart, head_sound, header_sound, slots_sound, unless_wanting}
 
 err_is : {A : Type 0} (r : Result A ℕ) (j k : ℕ) → r ≡ Err j → r ≡ Err k → j ≡ k
 err_is {A = A} r j k a b = let one : Result A ℕ = Err j in let two : Result A ℕ = Err k in let both : one ≡ two = sym a ∙ b in cc
@@ -182,34 +187,45 @@ module _ (c : List ℕ) where
   header_one size j k (too_short allowed zeros short is) (not_zero allowed' other) = absurd (other.other (zeros k other.after other.before))
   header_one size j k (too_short allowed zeros short is) (too_short allowed' zeros' short' is') = is ∙ sym is'
 
-  slot_one : (size j k : ℕ) → BreaksFirstSlot c size j → BreaksFirstSlot c size k → j ≡ k
-  slot_one size j k (other_open o is) (other_open o' is') = is ∙ sym is'
-  slot_one size j k (other_open o is) (none_open closed shut is') = absurd (closed o)
-  slot_one size j k (other_open o is) (bad_version closed gate bad is') = absurd (closed o)
-  slot_one size j k (other_open o is) (bad_base closed gate version base text large small is') = absurd (closed o)
-  slot_one size j k (other_open o is) (bad_length closed gate version base len base_text base_small text large small is') = absurd (closed o)
-  slot_one size j k (none_open closed shut is) (other_open o is') = absurd (closed o)
-  slot_one size j k (none_open closed shut is) (none_open closed' shut' is') = is ∙ sym is'
-  slot_one size j k (none_open closed shut is) (bad_version closed' gate bad is') = absurd (shut gate)
-  slot_one size j k (none_open closed shut is) (bad_base closed' gate version base text large small is') = absurd (shut gate)
-  slot_one size j k (none_open closed shut is) (bad_length closed' gate version base len base_text base_small text large small is') = absurd (shut gate)
-  slot_one size j k (bad_version closed gate bad is) (other_open o is') = absurd (closed o)
-  slot_one size j k (bad_version closed gate bad is) (none_open closed' shut is') = absurd (shut gate)
-  slot_one size j k (bad_version closed gate bad is) (bad_version closed' gate' bad' is') = is ∙ sym is'
-  slot_one size j k (bad_version closed gate bad is) (bad_base closed' gate' version base text large small is') = absurd (bad version)
-  slot_one size j k (bad_version closed gate bad is) (bad_length closed' gate' version base len base_text base_small text large small is') = absurd (bad version)
-  slot_one size j k (bad_base closed gate version base text large small is) (other_open o is') = absurd (closed o)
-  slot_one size j k (bad_base closed gate version base text large small is) (none_open closed' shut is') = absurd (shut gate)
-  slot_one size j k (bad_base closed gate version base text large small is) (bad_version closed' gate' bad is') = absurd (bad version)
-  slot_one size j k (bad_base closed gate version base text large small is) (bad_base closed' gate' version' base' text' large' small' is') = is ∙ sym is'
-  slot_one size j k (bad_base closed gate version base text large small is) (bad_length closed' gate' version' base' len base_text base_small text' large' small' is') =
-      let same = number64_one c 74 base base' text small base_text (omega (arith, base_small)) in absurd (omega (arith, same, large, base_small))
-  slot_one size j k (bad_length closed gate version base len base_text base_small text large small is) (other_open o is') = absurd (closed o)
-  slot_one size j k (bad_length closed gate version base len base_text base_small text large small is) (none_open closed' shut is') = absurd (shut gate)
-  slot_one size j k (bad_length closed gate version base len base_text base_small text large small is) (bad_version closed' gate' bad is') = absurd (bad version)
-  slot_one size j k (bad_length closed gate version base len base_text base_small text large small is) (bad_base closed' gate' version' base' text' large' small' is') =
-      let same = number64_one c 74 base base' base_text (omega (arith, base_small)) text' small' in absurd (omega (arith, same, large', base_small))
-  slot_one size j k (bad_length closed gate version base len base_text base_small text large small is) (bad_length closed' gate' version' base' len' base_text' base_small' text' large' small' is') = is ∙ sym is'
+  -- neither slot rules
+  neither_one : (first second j k : ℕ) → RulesNeither first second c j → RulesNeither first second c k → j ≡ k
+  neither_one first second j k (none_open a b is) (none_open a' b' is') = is ∙ sym is'
+  neither_one first second j k (none_open a b is) (cut a' b' short is') = absurd (a a')
+  neither_one first second j k (none_open a b is) (equal a' b' n p q is') = absurd (a a')
+  neither_one first second j k (cut a b short is) (none_open a' b' is') = absurd (a' a)
+  neither_one first second j k (cut a b short is) (cut a' b' short' is') = is ∙ sym is'
+  neither_one first second j k (cut a b short is) (equal a' b' n p q is') = let long = q.text.long in absurd (omega (arith, long, short))
+  neither_one first second j k (equal a b n p q is) (none_open a' b' is') = absurd (a' a)
+  neither_one first second j k (equal a b n p q is) (cut a' b' short is') = let long = q.text.long in absurd (omega (arith, long, short))
+  neither_one first second j k (equal a b n p q is) (equal a' b' n' p' q' is') = is ∙ sym is'
+
+  -- the head's first fault
+  head_one : (at size j k : ℕ) → BreaksHead c at size j → BreaksHead c at size k → j ≡ k
+  head_one at size j k (no_generation short is) (no_generation short' is') = is ∙ sym is'
+  head_one at size j k (no_generation short is) (no_version there none is') = absurd (omega (arith, short, there))
+  head_one at size j k (no_generation short is) (no_base v none is') = let long = v.long in absurd (omega (arith, short, long))
+  head_one at size j k (no_generation short is) (faults.no_length v b b_is none is') = let long = v.long in absurd (omega (arith, short, long))
+  head_one at size j k (no_generation short is) (no_image v b len b_is len_is short' is') = let long = v.long in absurd (omega (arith, short, long))
+  head_one at size j k (no_version there none is) (no_generation short is') = absurd (omega (arith, short, there))
+  head_one at size j k (no_version there none is) (no_version there' none' is') = is ∙ sym is'
+  head_one at size j k (no_version there none is) (no_base v none' is') = absurd (none v)
+  head_one at size j k (no_version there none is) (faults.no_length v b b_is none' is') = absurd (none v)
+  head_one at size j k (no_version there none is) (no_image v b len b_is len_is short is') = absurd (none v)
+  head_one at size j k (no_base v none is) (no_generation short is') = let long = v.long in absurd (omega (arith, short, long))
+  head_one at size j k (no_base v none is) (no_version there none' is') = absurd (none' v)
+  head_one at size j k (no_base v none is) (no_base v' none' is') = is ∙ sym is'
+  head_one at size j k (no_base v none is) (faults.no_length v' b b_is none' is') = absurd (none b b_is)
+  head_one at size j k (no_base v none is) (no_image v' b len b_is len_is short is') = absurd (none b b_is)
+  head_one at size j k (faults.no_length v b b_is none is) (no_generation short is') = let long = v.long in absurd (omega (arith, short, long))
+  head_one at size j k (faults.no_length v b b_is none is) (no_version there none' is') = absurd (none' v)
+  head_one at size j k (faults.no_length v b b_is none is) (no_base v' none' is') = absurd (none' b b_is)
+  head_one at size j k (faults.no_length v b b_is none is) (faults.no_length v' b' b_is' none' is') = is ∙ sym is'
+  head_one at size j k (faults.no_length v b b_is none is) (no_image v' b' len b_is' len_is short is') = absurd (none len len_is)
+  head_one at size j k (no_image v b len b_is len_is short is) (no_generation short' is') = let long = v.long in absurd (omega (arith, short', long))
+  head_one at size j k (no_image v b len b_is len_is short is) (no_version there none is') = absurd (none v)
+  head_one at size j k (no_image v b len b_is len_is short is) (no_base v' none is') = absurd (none b b_is)
+  head_one at size j k (no_image v b len b_is len_is short is) (faults.no_length v' b' b_is' none is') = absurd (none len len_is)
+  head_one at size j k (no_image v b len b_is len_is short is) (no_image v' b' len' b_is' len_is' short' is') = is ∙ sym is'
 
   -- the header is damaged
   abbrev IsHeaderDamage : ℕ → Type 0
@@ -227,71 +243,108 @@ module _ (c : List ℕ) where
   abbrev Rejected : ℕ → ℕ → List ℕ → ℕ → Type 0
   Rejected size base image offset = image_under base (size / 2) image ≡ Err offset
 
-  image_rejected_one : (size generation base offset size' generation' base' offset' : ℕ) (image image' : List ℕ) → IsHeader c size → IsFirstSlot c size generation base image → Rejected size base image offset
-      → IsHeader c size' → IsFirstSlot c size' generation' base' image' → Rejected size' base' image' offset' → offset ≡ offset'
-  image_rejected_one size generation base offset size' generation' base' offset' image image' h s r h' s' r' =
-      let f = front_one c size generation base image size' generation' base' image' h s h' s' in
+  abbrev Front : ℕ → ℕ → ℕ → Slot → Slot → List ℕ → Type 0
+  Front size generation base slot other image = HasFront c size generation base slot other image
+
+  front_of : (size generation base : ℕ) (slot other : Slot) (image : List ℕ) → IsHeader c size → IsActive c size slot other → IsHead c slot.start size generation base image → Front size generation base slot other image
+  front_of size generation base slot other image h a d = record { header = h; active = a; head = d }
+
+  image_rejected_one : (size generation base offset size' generation' base' offset' : ℕ) (slot other slot' other' : Slot) (image image' : List ℕ) → Front size generation base slot other image → Rejected size base image offset
+      → Front size' generation' base' slot' other' image' → Rejected size' base' image' offset' → slot.start + 22 + offset ≡ slot'.start + 22 + offset'
+  image_rejected_one size generation base offset size' generation' base' offset' slot other slot' other' image image' h r h' r' =
+      let f = front_one c size generation base slot other image size' generation' base' slot' other' image' h h' in
       let same : Rejected size' base' image' offset = subst (λ (i : List ℕ). Rejected size' base' i offset) f.image_is (subst (λ (b : ℕ). Rejected size' b image offset) f.base_is (subst (λ (z : ℕ). Rejected z base image offset) f.size_is r)) in
-      err_is (image_under base' (size' / 2) image') offset offset' same r'
+      ap (λ (x : Slot). x.start + 22 + offset) f.slot_is ∙ ap (λ (n : ℕ). slot'.start + 22 + n) (err_is (image_under base' (size' / 2) image') offset offset' same r')
 
   -- ---- the front
   abbrev Broken : State → ℕ → Type 0
   Broken before k = BreaksFront RejectsImage c before k
 
+  -- a slot that rules, told by two
+  moved_active : (size size' : ℕ) (slot other : Slot) → IsHeader c size → IsHeader c size' → IsActive c size slot other → IsActive c size' slot other
+  moved_active size size' slot other h h' a = subst (λ (n : ℕ). IsActive c n slot other) (size_one c size size' h h') a
+
+  head_told : (size size' k : ℕ) (slot other slot' other' : Slot) → IsHeader c size → IsHeader c size' → IsActive c size slot other → IsActive c size' slot' other' → BreaksHead c slot.start size k → BreaksHead c slot'.start size' k
+  head_told size size' k slot other slot' other' h h' a a' b =
+      subst (λ (x : Slot). BreaksHead c x.start size' k) (active_one c size' slot other slot' other' (moved_active size size' slot other h h' a) a') (subst (λ (n : ℕ). BreaksHead c slot.start n k) (size_one c size size' h h') b)
+
+  -- where there is a front, neither its slots nor its head are at fault
+  slots_fine : (size size' k : ℕ) (slot other : Slot) → IsHeader c size → IsHeader c size' → IsActive c size slot other → RulesNeither 64 (64 + size') c k → ⊥
+  slots_fine size size' k slot other h h' a r = slots_sound c size' k slot other (moved_active size size' slot other h h' a) r
+
+  head_fine : (size generation base : ℕ) (slot other : Slot) (image : List ℕ) (size' k : ℕ) (slot' other' : Slot) → Front size generation base slot other image → IsHeader c size' → IsActive c size' slot' other' → BreaksHead c slot'.start size' k → ⊥
+  head_fine size generation base slot other image size' k slot' other' f h' a' b = let large = f.header.allowed.greatest in
+      head_sound c slot.start size generation base image k large f.head (head_told size' size k slot' other' slot other h' f.header a' f.active b)
+
   front_fault_one : (before : State) (j k : ℕ) → Broken before j → Broken before k → j ≡ k
   front_fault_one before j k (in_header p) (in_header q) = damage_one j k p q
-  front_fault_one before j k (in_header p) (in_slot size h b) = absurd (damage_sound size j h p)
-  front_fault_one before j k (in_header p) (in_image size generation base image offset h s r is) = absurd (damage_sound size j h p)
-  front_fault_one before j k (in_slot size h b) (in_header q) = absurd (damage_sound size k h q)
-  front_fault_one before j k (in_slot size h b) (in_slot size' h' b') = slot_one size' j k (subst (λ (n : ℕ). BreaksFirstSlot c n j) (size_one c size size' h h') b) b'
-  front_fault_one before j k (in_slot size h b) (in_image size' generation base image offset h' s r is) = absurd (slot_sound c size' h' generation base image size j s h b)
-  front_fault_one before j k (in_image size generation base image offset h s r is) (in_header q) = absurd (damage_sound size k h q)
-  front_fault_one before j k (in_image size generation base image offset h s r is) (in_slot size' h' b) = absurd (slot_sound c size h generation base image size' k s h' b)
-  front_fault_one before j k (in_image size generation base image offset h s r is) (in_image size' generation' base' image' offset' h' s' r' is') =
-      is ∙ ap (λ (n : ℕ). 86 + n) (image_rejected_one size generation base offset size' generation' base' offset' image image' h s r h' s' r') ∙ sym is'
+  front_fault_one before j k (in_header p) (in_slots size h b) = absurd (damage_sound size j h p)
+  front_fault_one before j k (in_header p) (in_head size slot other h a b) = absurd (damage_sound size j h p)
+  front_fault_one before j k (in_header p) (in_image size generation base slot other image offset h a d r is) = absurd (damage_sound size j h p)
+  front_fault_one before j k (in_slots size h b) (in_header q) = absurd (damage_sound size k h q)
+  front_fault_one before j k (in_slots size h b) (in_slots size' h' b') = neither_one 64 (64 + size') j k (subst (λ (n : ℕ). RulesNeither 64 (64 + n) c j) (size_one c size size' h h') b) b'
+  front_fault_one before j k (in_slots size h b) (in_head size' slot' other' h' a' b') = absurd (slots_fine size' size j slot' other' h' h a' b)
+  front_fault_one before j k (in_slots size h b) (in_image size' generation base slot' other' image offset h' a' d r is) = absurd (slots_fine size' size j slot' other' h' h a' b)
+  front_fault_one before j k (in_head size slot other h a b) (in_header q) = absurd (damage_sound size k h q)
+  front_fault_one before j k (in_head size slot other h a b) (in_slots size' h' b') = absurd (slots_fine size size' k slot other h h' a b')
+  front_fault_one before j k (in_head size slot other h a b) (in_head size' slot' other' h' a' b') = head_one slot'.start size' j k (head_told size size' j slot other slot' other' h h' a a' b) b'
+  front_fault_one before j k (in_head size slot other h a b) (in_image size' generation base slot' other' image offset h' a' d r is) = absurd (head_fine size' generation base slot' other' image size j slot other (front_of size' generation base slot' other' image h' a' d) h a b)
+  front_fault_one before j k (in_image size generation base slot other image offset h a d r is) (in_header q) = absurd (damage_sound size k h q)
+  front_fault_one before j k (in_image size generation base slot other image offset h a d r is) (in_slots size' h' b') = absurd (slots_fine size size' k slot other h h' a b')
+  front_fault_one before j k (in_image size generation base slot other image offset h a d r is) (in_head size' slot' other' h' a' b') = absurd (head_fine size generation base slot other image size' k slot' other' (front_of size generation base slot other image h a d) h' a' b')
+  front_fault_one before j k (in_image size generation base slot other image offset h a d r is) (in_image size' generation' base' slot' other' image' offset' h' a' d' r' is') =
+      is ∙ image_rejected_one size generation base offset size' generation' base' offset' slot other slot' other' image image' (front_of size generation base slot other image h a d) r (front_of size' generation' base' slot' other' image' h' a' d') r' ∙ sym is'
 
-  front_found_sound : (before middle : State) (size at k : ℕ) → FoundFront BeginsWith c before middle size at → Broken before k → ⊥
-  front_found_sound before middle size at k f (in_header p) = damage_sound size k f.header p
-  front_found_sound before middle size at k f (in_slot size' h b) = slot_sound c size f.header f.generation f.base f.image size' k f.slot h b
-  front_found_sound before middle size at k f (in_image size' generation base image offset h s r is) =
-      let o = front_one c size' generation base image size f.generation f.base f.image h s f.header f.slot in
-      let same : Rejected size f.base f.image offset = subst (λ (i : List ℕ). Rejected size f.base i offset) o.image_is (subst (λ (b : ℕ). Rejected size b image offset) o.base_is (subst (λ (z : ℕ). Rejected z base image offset) o.size_is r)) in
-      apart (image_under f.base (size / 2) f.image) (fin.entries middle.flags) offset (image_back f.base (size / 2) f.image middle f.begun) same
+  found_front : (before middle : State) (slot : Slot) (at : ℕ) (f : FoundFront BeginsWith c before middle slot at) → Front f.size f.generation f.base slot f.other f.image
+  found_front before middle slot at f = front_of f.size f.generation f.base slot f.other f.image f.header f.active f.head
+
+  front_found_sound : (before middle : State) (slot : Slot) (at k : ℕ) → FoundFront BeginsWith c before middle slot at → Broken before k → ⊥
+  front_found_sound before middle slot at k f (in_header p) = damage_sound f.size k f.header p
+  front_found_sound before middle slot at k f (in_slots size' h b) = slots_fine f.size size' k slot f.other f.header h f.active b
+  front_found_sound before middle slot at k f (in_head size' slot' other' h a b) = head_fine f.size f.generation f.base slot f.other f.image size' k slot' other' (found_front before middle slot at f) h a b
+  front_found_sound before middle slot at k f (in_image size' generation base slot' other' image offset h a d r is) =
+      let o = front_one c size' generation base slot' other' image f.size f.generation f.base slot f.other f.image (front_of size' generation base slot' other' image h a d) (found_front before middle slot at f) in
+      let same : Rejected f.size f.base f.image offset = subst (λ (i : List ℕ). Rejected f.size f.base i offset) o.image_is (subst (λ (b : ℕ). Rejected f.size b image offset) o.base_is (subst (λ (z : ℕ). Rejected z base image offset) o.size_is r)) in
+      apart (image_under f.base (f.size / 2) f.image) (fin.entries middle.flags) offset (image_back f.base (f.size / 2) f.image middle f.begun) same
 
   -- ---- the whole
   abbrev Damage : ℕ → Type 0
   Damage k = BreaksDisk BeginsWith RejectsImage TakesBatch RefusesBatch c nothing_read k
 
-  record SameStart (size at : ℕ) (middle : State) (size' at' : ℕ) (middle' : State) : Type 0 where
-    size_is : size ≡ size'
+  record SameStart (slot : Slot) (at : ℕ) (middle : State) (slot' : Slot) (at' : ℕ) (middle' : State) : Type 0 where
+    slot_is : slot ≡ slot'
     at_is : at ≡ at'
     middle_is : middle ≡ middle'
 
-  start_one : (before middle middle' : State) (size at size' at' : ℕ) → FoundFront BeginsWith c before middle size at → FoundFront BeginsWith c before middle' size' at' → SameStart size at middle size' at' middle'
-  start_one before middle middle' size at size' at' f g =
-      let o = front_one c size f.generation f.base f.image size' g.generation g.base g.image f.header f.slot g.header g.slot in
-      let image : IsImageOf g.base (size' / 2) g.image middle = subst (λ (i : List ℕ). IsImageOf g.base (size' / 2) i middle) o.image_is (subst (λ (b : ℕ). IsImageOf b (size' / 2) f.image middle) o.base_is (subst (λ (z : ℕ). IsImageOf f.base (z / 2) f.image middle) o.size_is f.begun)) in
-      record { size_is = o.size_is; at_is = f.place ∙ ap (λ (i : List ℕ). 86 + length i) o.image_is ∙ sym g.place; middle_is = image_one g.base (size' / 2) g.image middle middle' image g.begun }
+  start_one : (before middle middle' : State) (slot : Slot) (at : ℕ) (slot' : Slot) (at' : ℕ) → FoundFront BeginsWith c before middle slot at → FoundFront BeginsWith c before middle' slot' at' → SameStart slot at middle slot' at' middle'
+  start_one before middle middle' slot at slot' at' f g =
+      let o = front_one c f.size f.generation f.base slot f.other f.image g.size g.generation g.base slot' g.other g.image (found_front before middle slot at f) (found_front before middle' slot' at' g) in
+      let image : IsImageOf g.base (g.size / 2) g.image middle = subst (λ (i : List ℕ). IsImageOf g.base (g.size / 2) i middle) o.image_is (subst (λ (b : ℕ). IsImageOf b (g.size / 2) f.image middle) o.base_is (subst (λ (z : ℕ). IsImageOf f.base (z / 2) f.image middle) o.size_is f.begun)) in
+      record {
+        slot_is = o.slot_is;
+        at_is = f.place ∙ ap (λ (x : Slot). x.start + 22 + length f.image) o.slot_is ∙ ap (λ (i : List ℕ). slot'.start + 22 + length i) o.image_is ∙ sym g.place;
+        middle_is = image_one g.base (g.size / 2) g.image middle middle' image g.begun;
+      }
 
-  abbrev StopsIn : ℕ → ℕ → State → ℕ → Type 0
-  StopsIn size at middle k = StopsAt TakesBatch RefusesBatch (first_slot size).most at (first_slot size).stop c middle k
+  abbrev StopsIn : Slot → ℕ → State → ℕ → Type 0
+  StopsIn slot at middle k = StopsAt TakesBatch RefusesBatch slot.most at slot.stop c middle k
 
   damaged_one : (j k : ℕ) → Damage j → Damage k → j ≡ k
   damaged_one j k (in_front p) (in_front q) = front_fault_one nothing_read j k p q
-  damaged_one j k (in_front p) (in_chain size at middle f s) = absurd (front_found_sound nothing_read middle size at j f p)
-  damaged_one j k (in_chain size at middle f s) (in_front q) = absurd (front_found_sound nothing_read middle size at k f q)
-  damaged_one j k (in_chain size at middle f s) (in_chain size' at' middle' g t) =
-      let o = start_one nothing_read middle middle' size at size' at' f g in
-      let greatest = g.header.allowed.greatest in
-      let same : StopsIn size' at' middle' j = subst (λ (m : State). StopsIn size' at' m j) o.middle_is (subst (λ (n : ℕ). StopsIn size' n middle j) o.at_is (subst (λ (z : ℕ). StopsIn z at middle j) o.size_is s)) in
-      stops_at_one (first_slot size').most (first_slot size').stop c (omega (arith, greatest)) at' middle' j k same t
+  damaged_one j k (in_front p) (in_chain slot at middle f s) = absurd (front_found_sound nothing_read middle slot at j f p)
+  damaged_one j k (in_chain slot at middle f s) (in_front q) = absurd (front_found_sound nothing_read middle slot at k f q)
+  damaged_one j k (in_chain slot at middle f s) (in_chain slot' at' middle' g t) =
+      let o = start_one nothing_read middle middle' slot at slot' at' f g in
+      let same : StopsIn slot' at' middle' j = subst (λ (m : State). StopsIn slot' at' m j) o.middle_is (subst (λ (n : ℕ). StopsIn slot' n middle j) o.at_is (subst (λ (x : Slot). StopsIn x at middle j) o.slot_is s)) in
+      stops_at_one slot'.most slot'.stop c (most_small c g.size slot' g.other g.header g.active) at' middle' j k same t
 
   -- damage shows on a disk of this version
   damaged_front : (k : ℕ) → Damage k → IsFormatted c × (slice_index c 9 ≡ 1)
   damaged_front k (in_front (in_header p)) = (p.0, p.1)
-  damaged_front k (in_front (in_slot size h b)) = (h.formatted, h.version)
-  damaged_front k (in_front (in_image size generation base image offset h s r is)) = (h.formatted, h.version)
-  damaged_front k (in_chain size at middle f s) = (f.header.formatted, f.header.version)
+  damaged_front k (in_front (in_slots size h b)) = (h.formatted, h.version)
+  damaged_front k (in_front (in_head size slot other h a b)) = (h.formatted, h.version)
+  damaged_front k (in_front (in_image size generation base slot other image offset h a d r is)) = (h.formatted, h.version)
+  damaged_front k (in_chain slot at middle f s) = (f.header.formatted, f.header.version)
 
 pub one_fault : (c : List ℕ) (f g : OpenFault) → IsOfBytes f → IsOfBytes g → RefusesBytes c f → RefusesBytes c g → f ≡ g
 one_fault c Unformatted Unformatted a b p q = refl
@@ -326,21 +379,34 @@ module _ (c : List ℕ) where
   header_within size k f (not_zero allowed other) = let long = f.long in let lt = other.before in omega (arith, long, lt)
   header_within size k f (too_short allowed zeros short is) = omega (arith, is)
 
-  slot_within : (size k : ℕ) → IsHeader c size → BreaksFirstSlot c size k → k ≤ length c
-  slot_within size k h (other_open o is) = let long = h.long in omega (arith, long, is)
-  slot_within size k h (none_open closed shut is) = let long = h.long in omega (arith, long, is)
-  slot_within size k h (bad_version closed gate bad is) = let long = h.long in let least = h.allowed.least in omega (arith, long, least, is)
-  slot_within size k h (bad_base closed gate version base text large small is) = let long = text.long in omega (arith, long, is)
-  slot_within size k h (bad_length closed gate version base len base_text base_small text large small is) = let long = text.long in omega (arith, long, is)
+  slots_within : (size k : ℕ) → IsHeader c size → RulesNeither 64 (64 + size) c k → k ≤ length c
+  slots_within size k h (none_open a b is) = let long = h.long in omega (arith, long, is)
+  slots_within size k h (cut a b short is) = omega (arith, is)
+  slots_within size k h (equal a b n p q is) = let long = q.text.long in omega (arith, long, is)
+
+  active_there : (size : ℕ) (slot other : Slot) → IsHeader c size → IsActive c size slot other → slot.start < length c
+  active_there size slot other h a = by_side a.side a.slot_is
+    where
+      by_side : (x : Side) → slot ≡ slot_of size x → slot.start < length c
+      by_side sides.first p = let long = h.long in let at = ap (λ (y : Slot). y.start) p in omega (arith, long, at)
+      by_side sides.second p = let long = h.long in let at = ap (λ (y : Slot). y.start) p in omega (arith, long, at)
+
+  head_within : (at size k : ℕ) → at < length c → BreaksHead c at size k → k ≤ length c
+  head_within at size k there (no_generation short is) = omega (arith, there, is)
+  head_within at size k there (no_version long none is) = omega (arith, long, is)
+  head_within at size k there (no_base v none is) = let long = v.long in omega (arith, long, is)
+  head_within at size k there (faults.no_length v b b_is none is) = let long = b_is.text.long in omega (arith, long, is)
+  head_within at size k there (no_image v b len b_is len_is short is) = let long = len_is.text.long in omega (arith, long, is)
 
   pub damage_within : (before : State) (k : ℕ) → BreaksDisk BeginsWith RejectsImage TakesBatch RefusesBatch c before k → k ≤ length c
   damage_within before k (in_front (in_header p)) = header_within p.2.0 k p.0 p.2.3
-  damage_within before k (in_front (in_slot size h b)) = slot_within size k h b
-  damage_within before k (in_front (in_image size generation base image offset h s r is)) =
-      let inside = image_within_bytes base (size / 2) image offset r in let long = s.image_text.long in omega (arith, inside, long, is)
-  damage_within before k (in_chain size at middle f s) =
-      let greatest = f.header.allowed.greatest in let long = f.slot.image_text.long in let place = f.place in
-      stops_within (first_slot size).most (first_slot size).stop c (omega (arith, greatest)) at middle k (omega (arith, long, place)) s
+  damage_within before k (in_front (in_slots size h b)) = slots_within size k h b
+  damage_within before k (in_front (in_head size slot other h a b)) = head_within slot.start size k (active_there size slot other h a) b
+  damage_within before k (in_front (in_image size generation base slot other image offset h a d r is)) =
+      let inside = image_within_bytes base (size / 2) image offset r in let long = d.image_text.long in omega (arith, inside, long, is)
+  damage_within before k (in_chain slot at middle f s) =
+      let long = f.head.image_text.long in let place = f.place in
+      stops_within slot.most slot.stop c (most_small c f.size slot f.other f.header f.active) at middle k (omega (arith, long, place)) s
 
 pub faults_within : (c : List ℕ) (k : ℕ) → RefusesBytes c (Damaged k) → k ≤ length c
 faults_within c k r = damage_within c nothing_read k r

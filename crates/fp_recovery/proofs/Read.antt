@@ -1,5 +1,5 @@
 -- What is read forward is what stands there, and what stands there is read so.
-use Rattle.std.proofs.Common.{◌≡◌, ◌≢◌, ◌<◌, ◌≤◌, ◌+◌, ◌-◌, ◌^◌, ◌&&◌, ℕ, zero, suc, Bool, true, false, cond, eqb, leb, ltb, List, [], ◌∷◌, length, Option, Some, None, Result, Ok, Err, refl, sym, ap, subst, ◌∙◌, arith}
+use Rattle.std.proofs.Common.{◌≡◌, ◌<◌, ◌≤◌, ◌+◌, ◌-◌, ◌&&◌, ℕ, zero, suc, Bool, true, false, cond, eqb, leb, ltb, List, [], ◌∷◌, length, Option, Some, None, Result, Ok, Err, refl, sym, ap, subst, ◌∙◌, arith}
 use Rattle.std.specs.Prelude.{is_none}
 use Rattle.std.specs.Int.{w64}
 use Rattle.std.specs.FinMap as fin
@@ -11,13 +11,13 @@ use Rattle.fp_edit.specs.Flags.{State}
 use Rattle.fp_edit.specs.declared.edit.TheConstants.{REVISIONS_END}
 use Rattle.fp_edit.specs.declared.flags.Flag.{Flag}
 use Rattle.fp_journal.specs.Reading.{IsWrong}
-use Rattle.fp_record.specs.Encoding.{encoding_of_batch, encoding_of_image}
+use Rattle.fp_record.specs.Encoding.{encoding_of_image}
 use Rattle.fp_record.specs.Fields.{number_at}
 use Rattle.fp_record.specs.Group.{Group}
 use Rattle.fp_record.specs.Reading.{many_from, change_at, changes_at, count_at, batch_at, batch_in, image_at, image_in, whole}
 use Rattle.fp_record.specs.declared.fault.RecordFault.{RecordFault}
 use Rattle.fp_record.specs.declared.fault.RecordFault.TheVariants as fault
-use Rattle.fp_record.specs.WellFormed.{IsBatch, IsImage}
+use Rattle.fp_record.specs.WellFormed.{IsImage}
 use Rattle.fp_record.proofs.Batches.{batch_spelled, batch_found}
 use Rattle.fp_record.proofs.Images.{AreUpTo, image_spelled, image_found}
 use Rattle.fp_record.proofs.Inside.{Inside, inside_then, inside_if, change_inside, count_inside, first_inside, whole_inside, image_in_inside}

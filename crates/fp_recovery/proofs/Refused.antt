@@ -10,17 +10,24 @@ use Rattle.fp_journal.specs.Reading.{IsChain, IsNext, Breaks, no_gate, no_length
 use Rattle.fp_journal.specs.State.{AllShort}
 use Rattle.fp_journal.proofs.Holds.{byte_held, holds_front, holds_back}
 use Rattle.fp_journal.proofs.Links.{chain_within, chain_opened, same_body, length_read}
-use Rattle.fp_layout.specs.Size.{IsSlotSize, first_slot}
-use Rattle.fp_layout.specs.Layout.{IsHeader, IsFirstSlot}
-use Rattle.fp_layout.specs.Faults.{BreaksHeader, bad_size, not_zero, too_short, BreaksFirstSlot, other_open, none_open, bad_version, bad_base, bad_length}
-use Rattle.fp_layout.specs.Opening.{BreaksFront, in_header, in_slot, in_image, BreaksDisk, in_front, in_chain}
+use Rattle.fp_journal.specs.declared.slot.Slot.{Slot}
+use Rattle.fp_slots.specs.Rules.{Rules, RulesNeither}
+use Rattle.fp_slots.proofs.Ruling.{refuses_rightly}
+use Rattle.fp_layout.specs.Size.{IsSlotSize, Side, other_side, slot_of, first_slot, second_slot}
+use Rattle.fp_layout.specs.Size as sides
+use Rattle.fp_layout.specs.Layout.{IsHeader, IsHead, IsActive}
+use Rattle.fp_layout.specs.Faults.{BreaksHeader, bad_size, not_zero, too_short, BreaksHead, no_generation, no_version, no_base, no_image}
+use Rattle.fp_layout.specs.Faults as faults
+use Rattle.fp_layout.specs.Opening.{BreaksFront, in_header, in_slots, in_head, in_image, BreaksDisk, in_front, in_chain}
+use Rattle.fp_layout.proofs.Numbers.{number32_one, number64_one}
 use Rattle.fp_layout.specs.declared.fault.OpenFault.{OpenFault}
 use Rattle.fp_layout.specs.declared.fault.OpenFault.TheVariants.{Unformatted, UnknownVersion, Damaged, Device, Memory}
 use Rattle.fp_recovery.specs.Stands.{IsImageOf, TakesBatch, StandsFor}
 use Rattle.fp_recovery.specs.Reading.{image_under, batch_onto}
 use Rattle.fp_recovery.specs.Refusals.{BeginsWith, RejectsImage, RefusesBatch, RefusesBytes, IsUnlessWanting, nothing_read}
 use Rattle.fp_recovery.proofs.Read.{image_back, batch_back}
-use Rattle.fp_recovery.proofs.One.{number32_one, number64_one, size_one, front_one, image_one, reads_one}
+use Rattle.fp_recovery.proofs.Texts.{IsReadFrom, stands_read}
+use Rattle.fp_recovery.proofs.One.{HasFront, active_one, front_one, image_one, most_small, read_front, reads_one, size_one}
 use Rattle.fp_gate.specs.declared.gate.TheConstants.{OPEN}
 
 -- what is read isn't refused
@@ -93,42 +100,65 @@ module _ (c : List ℕ) (whole : ℕ) (there : IsHeader c whole) where
       by_case same (not_zero allowed other) = other.other (there.zeros k other.after other.before)
       by_case same (too_short allowed zeros short is) = let long = there.long in omega (arith, short, long, same)
 
-  pub slot_sound : (generation first : ℕ) (image : List ℕ) (size k : ℕ) → IsFirstSlot c whole generation first image → IsHeader c size → BreaksFirstSlot c size k → ⊥
-  slot_sound generation first image size k slot header (other_open is at_is) = slot.other (ap (λ (n : ℕ). slice_index c (64 + n)) (size_one c whole size there header) ∙ is)
-  slot_sound generation first image size k slot header (none_open closed shut at_is) = shut slot.gate
-  slot_sound generation first image size k slot header (bad_version closed gate bad at_is) = bad slot.version
-  slot_sound generation first image size k slot header (bad_base closed gate version base text large small at_is) =
-      let low = slot.base_small in let same = number64_one c 74 base first text small slot.base_text (omega (arith, low)) in omega (arith, same, low, large)
-  slot_sound generation first image size k slot header (bad_length closed gate version base len base_text base_small text large small at_is) =
-      let greatest = there.allowed.greatest in let short = slot.image_small in let size_is = size_one c size whole header there in
-      let same = number32_one c 82 len (length image) text small slot.length_text (omega (arith, greatest, short)) in omega (arith, same, short, large, size_is)
+-- ---- the slots
+-- one rules, so neither is no fault
+pub slots_sound : (c : List ℕ) (size k : ℕ) (slot other : Slot) → IsActive c size slot other → RulesNeither (first_slot size).start (second_slot size).start c k → ⊥
+slots_sound c size k slot other a r = by_side a.side a.slot_is a.other_is
+  where
+    never : (Rules 64 (64 + size) c → ⊥) × (Rules (64 + size) 64 c → ⊥)
+    never = refuses_rightly c 64 (64 + size) k r
+
+    ruled : (x y : Slot) → slot ≡ x → other ≡ y → Rules x.start y.start c
+    ruled x y p q = subst (λ (z : Slot). Rules x.start z.start c) q (subst (λ (z : Slot). Rules z.start other.start c) p a.rules)
+
+    by_side : (x : Side) → slot ≡ slot_of size x → other ≡ slot_of size (other_side x) → ⊥
+    by_side sides.first p q = never.0 (ruled (first_slot size) (second_slot size) p q)
+    by_side sides.second p q = never.1 (ruled (second_slot size) (first_slot size) p q)
+
+pub head_sound : (c : List ℕ) (at size generation base : ℕ) (image : List ℕ) (k : ℕ) → size ≤ 2 ^ 30 → IsHead c at size generation base image → BreaksHead c at size k → ⊥
+head_sound c at size generation base image k large h (no_generation short is) = let long = h.generation_is.text.long in omega (arith, long, short)
+head_sound c at size generation base image k large h (no_version there none is) = none h.version
+head_sound c at size generation base image k large h (no_base v none is) = none base h.base_is
+head_sound c at size generation base image k large h (faults.no_length v b b_is none is) = none (length image) h.length_is
+head_sound c at size generation base image k large h (no_image v b len b_is len_is short is) =
+    let n = len_is.small in let m = h.length_is.small in let long = h.image_text.long in
+    let same = number32_one c (at + 18) len (length image) len_is.text (omega (arith, large, n)) h.length_is.text (omega (arith, large, m)) in omega (arith, long, same, short)
 
 -- ---- the parts of a disk that stands for a set
-module _ (c : List ℕ) (s : State) (p : StandsFor c s) where
-  image_there : (size generation base : ℕ) (image : List ℕ) → IsHeader c size → IsFirstSlot c size generation base image → IsImageOf base (size / 2) image p.first
-  image_there size generation base image header slot =
-      let f = front_one c p.size p.generation p.base p.image size generation base image p.header p.slot header slot in
-      subst (λ (i : List ℕ). IsImageOf base (size / 2) i p.first) f.image_is (subst (λ (b : ℕ). IsImageOf b (size / 2) p.image p.first) f.base_is (subst (λ (z : ℕ). IsImageOf p.base (z / 2) p.image p.first) f.size_is p.image_is))
+module _ (c : List ℕ) (size : ℕ) (slot other : Slot) (s : State) (p : IsReadFrom c size slot other s) where
+  mine : HasFront c size p.generation p.base slot other p.image
+  mine = read_front c size slot other s p
+
+  image_there : (size' generation base : ℕ) (slot' other' : Slot) (image : List ℕ) → HasFront c size' generation base slot' other' image → IsImageOf base (size' / 2) image p.first
+  image_there size' generation base slot' other' image h =
+      let f = front_one c size p.generation p.base slot other p.image size' generation base slot' other' image mine h in
+      subst (λ (i : List ℕ). IsImageOf base (size' / 2) i p.first) f.image_is (subst (λ (b : ℕ). IsImageOf b (size' / 2) p.image p.first) f.base_is (subst (λ (z : ℕ). IsImageOf p.base (z / 2) p.image p.first) f.size_is p.image_is))
 
   front_sound : (before : State) (k : ℕ) → BreaksFront RejectsImage c before k → ⊥
-  front_sound before k (in_header r) = header_sound c p.size p.header r.2.0 k r.2.1 r.2.2 r.2.3
-  front_sound before k (in_slot size header broken) = slot_sound c p.size p.header p.generation p.base p.image size k p.slot header broken
-  front_sound before k (in_image size generation base image offset header slot rejects at_is) = apart (image_under base (size / 2) image) (fin.entries p.first.flags) offset (image_back base (size / 2) image p.first (image_there size generation base image header slot)) rejects
+  front_sound before k (in_header r) = header_sound c size p.header r.2.0 k r.2.1 r.2.2 r.2.3
+  front_sound before k (in_slots size' header broken) = slots_sound c size' k slot other (subst (λ (n : ℕ). IsActive c n slot other) (size_one c size size' p.header header) p.active) broken
+  front_sound before k (in_head size' slot' other' header active broken) =
+      let size_is = size_one c size size' p.header header in let large = header.allowed.greatest in
+      let slot_is = active_one c size' slot other slot' other' (subst (λ (n : ℕ). IsActive c n slot other) size_is p.active) active in
+      let head : IsHead c slot'.start size' p.generation p.base p.image = subst (λ (x : Slot). IsHead c x.start size' p.generation p.base p.image) slot_is (subst (λ (n : ℕ). IsHead c slot.start n p.generation p.base p.image) size_is p.head) in
+      head_sound c slot'.start size' p.generation p.base p.image k large head broken
+  front_sound before k (in_image size' generation base slot' other' image offset header active head rejects at_is) =
+      apart (image_under base (size' / 2) image) (fin.entries p.first.flags) offset (image_back base (size' / 2) image p.first (image_there size' generation base slot' other' image (record { header = header; active = active; head = head }))) rejects
 
   disk_sound : (before : State) (k : ℕ) → BreaksDisk BeginsWith RejectsImage TakesBatch RefusesBatch c before k → ⊥
   disk_sound before k (in_front broken) = front_sound before k broken
-  disk_sound before k (in_chain size at middle found stops) =
-      let f = front_one c p.size p.generation p.base p.image size found.generation found.base found.image p.header p.slot found.header found.slot in
-      let greatest = found.header.allowed.greatest in
-      let start : p.first ≡ middle = image_one found.base (size / 2) found.image p.first middle (image_there size found.generation found.base found.image found.header found.slot) found.begun in
-      let chain : IsChain (first_slot size).most at (first_slot size).stop p.batches c = subst (λ (n : ℕ). IsChain (first_slot size).most n (first_slot size).stop p.batches c) (sym found.place)
-      (subst (λ (i : List ℕ). IsChain (first_slot size).most (86 + length i) (first_slot size).stop p.batches c) f.image_is (subst (λ (z : ℕ). IsChain (first_slot z).most (86 + length p.image) (first_slot z).stop p.batches c) f.size_is p.chain)) in
-      chain_read (first_slot size).most at (first_slot size).stop k c middle s p.batches (omega (arith, greatest)) chain (subst (λ (v : State). Reads TakesBatch v p.batches s) start p.leads) stops
+  disk_sound before k (in_chain slot' at middle found stops) =
+      let theirs : HasFront c found.size found.generation found.base slot' found.other found.image = record { header = found.header; active = found.active; head = found.head } in
+      let f = front_one c size p.generation p.base slot other p.image found.size found.generation found.base slot' found.other found.image mine theirs in
+      let start : p.first ≡ middle = image_one found.base (found.size / 2) found.image p.first middle (image_there found.size found.generation found.base slot' found.other found.image theirs) found.begun in
+      let chain : IsChain slot'.most at slot'.stop p.batches c = subst (λ (n : ℕ). IsChain slot'.most n slot'.stop p.batches c) (sym found.place)
+      (subst (λ (i : List ℕ). IsChain slot'.most (slot'.start + 22 + length i) slot'.stop p.batches c) f.image_is (subst (λ (x : Slot). IsChain x.most (x.start + 22 + length p.image) x.stop p.batches c) f.slot_is p.chain)) in
+      chain_read slot'.most at slot'.stop k c middle s p.batches (most_small c found.size slot' found.other found.header found.active) chain (subst (λ (v : State). Reads TakesBatch v p.batches s) start p.leads) stops
 
 pub unless_wanting : (c : List ℕ) (f : OpenFault) → RefusesBytes c f → IsUnlessWanting c f
 unless_wanting c Unformatted r = λ s p. r p.header.formatted
 unless_wanting c (UnknownVersion v) r = λ s p. r.2 (sym r.1 ∙ p.header.version)
-unless_wanting c (Damaged at) r = λ s p. disk_sound c s p nothing_read at r
+unless_wanting c (Damaged at) r = λ s p. disk_sound c p.size (slot_of p.size p.side) (slot_of p.size (other_side p.side)) s (stands_read c s p) nothing_read at r
 unless_wanting c Device r = tt
 unless_wanting c Memory r = tt
 

@@ -1,5 +1,5 @@
 -- Sets on their way back.
-use Rattle.std.proofs.Common.{T, Less, ◌≡◌, ◌≤◌, ◌+◌, ◌&&◌, ℕ, true, leb, Bool, false, List, [], ◌∷◌, ◌++◌, length, map, refl, sym, ap, subst, ◌∙◌, arith}
+use Rattle.std.proofs.Common.{T, Less, ◌≡◌, ◌≤◌, ◌&&◌, ℕ, true, leb, Bool, false, List, [], ◌∷◌, ◌++◌, length, map, refl, sym, ap, subst, ◌∙◌, arith}
 use Rattle.std.specs.List.{AllByRecursion}
 use Rattle.std.specs.FinMap as fin
 use Rattle.std.proofs.lemmas.Bool.{le-leb}

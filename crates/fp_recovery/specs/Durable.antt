@@ -1,17 +1,17 @@
 -- Sets that a disk is sure to keep.
-use Rattle.std.specs.Prelude.{◌≡◌, ◌⊎◌, ◌+◌, ◌/◌, ℕ, List, [], ◌∷◌, ◌++◌, length, slice_index, slice_range}
+use Rattle.std.specs.Prelude.{◌≡◌, ◌⊎◌, ◌≤◌, ◌+◌, ◌/◌, ℕ, List, ◌++◌, length}
 use Rattle.std.specs.FinMap as map
 use Rattle.fp_disk.specs.Outcomes.{PendingState, IsOutcome}
 use Rattle.fp_edit.specs.Flags.{State}
 use Rattle.fp_journal.specs.Holds.{Holds, IsSynced}
 use Rattle.fp_journal.specs.Chain.{spell}
-use Rattle.fp_journal.specs.Reading.{Reads}
-use Rattle.fp_journal.specs.State.{AllShort, JournalState}
-use Rattle.fp_layout.specs.Size.{first_slot}
-use Rattle.fp_layout.specs.Layout.{IsHeader, IsFirstSlot}
+use Rattle.fp_journal.specs.State.{JournalState, Outside}
+use Rattle.fp_layout.specs.Size.{Side, other_side, slot_of}
+use Rattle.fp_layout.specs.Layout.{IsHeader}
 use Rattle.fp_layout.specs.declared.fault.OpenFault.TheVariants.{Unformatted}
+use Rattle.fp_slots.specs.Rules.{Rules}
 use Rattle.fp_recovery.specs.Refusals.{RefusesBytes}
-use Rattle.fp_recovery.specs.Stands.{IsImageOf, TakesBatch, StandsFor}
+use Rattle.fp_recovery.specs.Stands.{Spells, StandsFor}
 
 -- whatever a crash leaves now stands for the set
 abbrev pub IsDurable : PendingState → State → Type 0
@@ -21,23 +21,20 @@ IsDurable u s = (c : List ℕ) → IsOutcome u c → StandsFor c s
 abbrev pub IsNewSetOrNone : ℕ → List ℕ → Type 0
 IsNewSetOrNone size c = RefusesBytes c Unformatted ⊎ StandsFor c (record { flags = map.empty; revision = 0; limit = size / 2 })
 
--- What the disk held as the journal began, and the batches sealed since, come to the set; the bytes in front of the slot and the gate behind it are firm
+-- A journal's slot is one of a disk's two, and what it sealed there spells the set. Outside the slot the
+-- header is firm, and so is a text by which the other slot doesn't rule
 pub record IsKept {D : Type 0} (u : PendingState) (set : State) (journal : JournalState D) : Type 0 where
-  pub bytes : List ℕ
   pub size : ℕ
-  pub generation : ℕ
-  pub base : ℕ
-  pub image : List ℕ
-  pub first : State
-  pub opened : List (List ℕ)
-  pub header : IsHeader bytes size
-  pub slot : IsFirstSlot bytes size generation base image
-  pub image_is : IsImageOf base (size / 2) image first
-  pub slot_is : journal.slot ≡ first_slot size
-  pub front_is : journal.front ≡ slice_range bytes 64 (64 + length journal.front)
-  pub front_ends : 64 + length journal.front ≡ 86 + length image + length (spell opened)
-  pub opened_there : Holds bytes (86 + length image) (spell opened)
-  pub short : AllShort (first_slot size).most (opened ++ journal.sealed)
-  pub leads : Reads TakesBatch first (opened ++ journal.sealed) set
-  pub header_firm : IsSynced u 0 (slice_range bytes 0 64)
-  pub gate_firm : IsSynced u (64 + size) (slice_index bytes (64 + size) ∷ [])
+  pub side : Side
+  pub header : List ℕ
+  pub is_header : (c : List ℕ) → Holds c 0 header → 65 + size ≤ length c → IsHeader c size
+  pub header_long : length header ≡ 64
+  pub header_firm : IsSynced u 0 header
+  pub slot_is : journal.slot ≡ slot_of size side
+  pub spells : Spells size (journal.front ++ spell journal.sealed) set
+  pub guard_at : ℕ
+  pub guard : List ℕ
+  pub guard_apart : Outside journal.slot guard_at (length guard)
+  pub guard_firm : IsSynced u guard_at guard
+  pub beats : (c : List ℕ) → Holds c journal.slot.start journal.front → Holds c guard_at guard
+      → Rules journal.slot.start (slot_of size (other_side side)).start c

@@ -2,23 +2,23 @@
 use Rattle.std.specs.Prelude.{◌⊎◌, ◌<◌, ◌+◌, ℕ, List, length}
 use Rattle.fp_disk.specs.Outcomes.{PendingState, IsOutcome}
 use Rattle.fp_edit.specs.Flags.{State}
-use Rattle.fp_journal.specs.Chain.{spell}
 use Rattle.fp_journal.specs.State.{JournalState, room}
-use Rattle.fp_layout.specs.Size.{first_slot}
+use Rattle.fp_layout.specs.Size.{slot_of}
 use Rattle.fp_recovery.specs.Stands.{StandsFor}
 
 -- the journal has no room for a batch of n bytes; its gate, the number of its length and the gate behind it take six bytes more
 abbrev pub HasNoRoom : {D : Type 0} → JournalState D → ℕ → Type 0
 HasNoRoom journal n = (journal.slot.most < n) ⊎ (room journal < 6 + n)
 
--- the place of the closed gate behind the chain by which bytes stand for a set
+-- the place of the closed gate behind the text by which bytes stand for a set
 abbrev pub gate_of : {c : List ℕ} {s : State} → StandsFor c s → ℕ
-gate_of stands = 86 + length stands.image + length (spell stands.batches)
+gate_of stands = (slot_of stands.size stands.side).start + length stands.text
 
 -- the bytes stand for the set, and a batch of n bytes is longer than their slot takes, or would reach past its end
 pub record IsFullFor (c : List ℕ) (s : State) (n : ℕ) : Type 0 where
   pub stands : StandsFor c s
-  pub full : ((first_slot stands.size).most < n) ⊎ ((first_slot stands.size).stop < gate_of stands + (6 + n))
+  pub full : ((slot_of stands.size stands.side).most < n)
+      ⊎ ((slot_of stands.size stands.side).stop < gate_of stands + (6 + n))
 
 -- so is whatever a crash leaves now
 abbrev pub IsFull : PendingState → State → ℕ → Type 0

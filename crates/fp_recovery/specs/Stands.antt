@@ -1,5 +1,5 @@
 -- What the bytes of a disk stand for: a set of flags at a revision.
-use Rattle.std.specs.Prelude.{◌≡◌, ◌<◌, ◌≤◌, ◌+◌, ◌/◌, ◌^◌, ℕ, List, [], ◌∷◌, length}
+use Rattle.std.specs.Prelude.{◌≡◌, ◌<◌, ◌≤◌, ◌+◌, ◌-◌, ◌/◌, ◌^◌, ℕ, List, [], ◌∷◌, ◌++◌, length}
 use Rattle.std.specs.List.{AllByRecursion}
 use Rattle.std.specs.FinMap as map
 use Rattle.fp_edit.specs.Flags.{State, total_cost}
@@ -7,9 +7,13 @@ use Rattle.fp_edit.specs.declared.flags.Flag.{Flag}
 use Rattle.fp_edit.specs.Edits.{Change, Proposal}
 use Rattle.fp_edit.specs.Admits.{Admits, accepted}
 use Rattle.fp_edit.specs.declared.edit.Expect.TheVariants.{Any}
-use Rattle.fp_journal.specs.Reading.{IsChain, Reads}
-use Rattle.fp_layout.specs.Size.{first_slot}
-use Rattle.fp_layout.specs.Layout.{IsHeader, IsFirstSlot}
+use Rattle.fp_journal.specs.Chain.{spell}
+use Rattle.fp_journal.specs.Reading.{Reads}
+use Rattle.fp_journal.specs.State.{AllShort}
+use Rattle.fp_layout.specs.Size.{Side, other_side, slot_of}
+use Rattle.fp_layout.specs.Layout.{IsHeader}
+use Rattle.fp_slots.specs.Head.{head_text}
+use Rattle.fp_slots.specs.Rules.{Tells}
 use Rattle.fp_record.specs.Group.{Group}
 use Rattle.fp_record.specs.WellFormed.{IsBatch, IsImage}
 use Rattle.fp_record.specs.Encoding.{encoding_of_batch, encoding_of_image}
@@ -47,17 +51,28 @@ pub record TakesBatch (s : State) (bytes : List ℕ) (t : State) : Type 0 where
   pub follows : group.first ≡ s.revision + 1
   pub leads : Leads s group.changes t
 
--- ---- a disk
--- a header, a slot with an image, and a chain of batches that lead from the image's set to s, each from where the one before it led
-pub record StandsFor (c : List ℕ) (s : State) : Type 0 where
-  pub size : ℕ
+-- ---- a slot
+-- The text of a slot, up to the closed gate behind its last batch: a head with the image of a set, and
+-- batches that lead from that set to s, each from where the one before it led
+pub record Spells (size : ℕ) (text : List ℕ) (s : State) : Type 0 where
   pub generation : ℕ
   pub base : ℕ
   pub image : List ℕ
   pub first : State
   pub batches : List (List ℕ)
-  pub header : IsHeader c size
-  pub slot : IsFirstSlot c size generation base image
+  pub text_is : text ≡ head_text generation base image ++ spell batches
+  pub numbered : generation < 2 ^ 64
+  pub small : length image ≤ size / 2
   pub image_is : IsImageOf base (size / 2) image first
-  pub chain : IsChain (first_slot size).most (86 + length image) (first_slot size).stop batches c
+  pub short : AllShort (size / 8 - 6) batches
   pub leads : Reads TakesBatch first batches s
+
+-- ---- a disk
+-- a header, and one of the two slots rules, with a text that spells s
+pub record StandsFor (c : List ℕ) (s : State) : Type 0 where
+  pub size : ℕ
+  pub side : Side
+  pub text : List ℕ
+  pub header : IsHeader c size
+  pub tells : Tells (slot_of size side) (slot_of size (other_side side)) text c
+  pub spells : Spells size text s

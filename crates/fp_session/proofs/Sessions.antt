@@ -1,5 +1,5 @@
 -- An edit on its way through a session.
-use Rattle.std.proofs.Common.{◌≡◌, ◌≢◌, ◌⊎◌, ◌<◌, ◌≤◌, ◌+◌, ℕ, true, false, None, List, [], ◌∷◌, ◌++◌, length, take, refl, sym, ap, subst, ◌∙◌, inl, inr, arith, append_assoc, length-append}
+use Rattle.std.proofs.Common.{◌≡◌, ◌⊎◌, ◌<◌, ◌+◌, ℕ, true, false, None, List, [], ◌∷◌, ◌++◌, length, take, refl, sym, ap, subst, ◌∙◌, inl, inr, arith, append_assoc, length-append}
 use Rattle.std.specs.Prelude.{nat_le, Bool, ◌&&◌, Option, Some, if◌then◌else◌}
 use Rattle.std.proofs.lemmas.List.{take_all, take_at}
 use borrow.Author.Tests.{leb-true, leb-false}
@@ -21,7 +21,6 @@ use Rattle.fp_group_commit.specs.Tokens.{Identity}
 use Rattle.fp_desk.specs.Desk.{DeskState, head, IsAccepted, log}
 use Rattle.fp_session.specs.Session.{CanFail, Commits, disk_of, Fails, flags_of, IsInStep, IsReady, Keeps, LacksRoomFor, SessionState, StandsAhead, StandsBetween, StandsForEither}
 use Rattle.fp_session.specs.SessionLaws.{flags_kept, log_at_rest}
-use Rattle.fp_session.specs.declared.commit.CommitFault.{CommitFault}
 use Rattle.fp_session.specs.declared.commit.CommitFault.TheVariants.{StoreFailed, Memory}
 use Rattle.fp_session.proofs.Commits.{idle_keeps, weaker}
 

@@ -1,7 +1,6 @@
 -- Going on is of any length.
-use Rattle.std.proofs.Common.{◌≡◌, ◌⊎◌, ◌<◌, ◌≤◌, ◌+◌, ℕ, List, [], ◌∷◌, ◌++◌, length, take, refl, sym, ap, subst, ◌∙◌, inl, inr, arith, append_assoc, append-nil, length-append}
+use Rattle.std.proofs.Common.{◌≡◌, ◌⊎◌, List, [], ◌++◌, length, take, refl, sym, ap, subst, ◌∙◌, inl, inr, arith, append_assoc, append-nil, length-append}
 use Rattle.std.proofs.lemmas.List.{take-append-le}
-use mathlib.Core.List.{IsPrefix}
 use Rattle.fp_disk.specs.Crashes.{AtAnyMoment}
 use Rattle.fp_disk.specs.Moments.{leaves_map, leaves_then}
 use Rattle.fp_disk.specs.declared.disk.Disk.{Ghosts}
@@ -10,7 +9,7 @@ use Rattle.fp_edit.specs.Flags.{State}
 use Rattle.fp_edit.specs.Log.{after_all}
 use Rattle.fp_group_commit.specs.Store.{kept}
 use Rattle.fp_group_commit.specs.Tokens.{Identity}
-use Rattle.fp_desk.specs.Desk.{DeskState, head, log}
+use Rattle.fp_desk.specs.Desk.{DeskState, log}
 use Rattle.fp_session.specs.Session.{disk_of, flags_of, IsReady, Keeps, Passes, SessionState, StandsBetween}
 
 -- nothing waits, so the log is what is settled

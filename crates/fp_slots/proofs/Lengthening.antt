@@ -1,15 +1,14 @@
 -- A body behind the planned text, while that can grow.
-use Rattle.std.proofs.Common.{◌≡◌, ◌≢◌, ◌⊎◌, ℕ, ◌+◌, ◌<◌, ◌≤◌, List, [], ◌∷◌, ◌++◌, length, sym, subst, arith, length-append}
+use Rattle.std.proofs.Common.{◌≡◌, ◌≢◌, ℕ, ◌+◌, ◌<◌, List, [], ◌∷◌, ◌++◌, length, sym, subst, arith, length-append}
 use Rattle.std.specs.Prelude.{Bool}
 use Rattle.fp_disk.specs.Outcomes.{PendingState}
 use Rattle.fp_gate.specs.declared.gate.TheConstants.{OPEN}
 use Rattle.fp_journal.specs.Chain.{framed}
 use Rattle.fp_journal.specs.declared.slot.Slot.{Slot}
-use Rattle.fp_journal.specs.declared.journal.Phase.{Phase}
 use Rattle.fp_journal.specs.declared.journal.Phase.TheVariants.{Failed}
 use Rattle.fp_slots.specs.declared.slots.Step.{Step}
 use Rattle.fp_slots.specs.declared.slots.Step.TheVariants.{Begin, Close, SyncClose, Part, Tail, SyncBody, Open, SyncOpen}
-use Rattle.fp_slots.specs.State.{SlotsState, IsBeside, IsCopied, IsGrowing, IsKept, IsPart, IsPlan, IsPlanned, IsStill}
+use Rattle.fp_slots.specs.State.{SlotsState, IsBeside, IsCopied, IsGrowing, IsKept, IsPart, IsPlan, IsPlanned}
 use Rattle.fp_slots.proofs.Beside.{plan_longer, copied_longer, part_longer}
 
 module _ (slot : Slot) (generation done : ℕ) (text body planned : List ℕ) (fits : slot.start + length (text ++ OPEN ∷ framed body) < slot.stop) where

@@ -5,7 +5,7 @@ use Rattle.std.specs.Int.{w64, to_be_bytes, from_be_bytes}
 use Rattle.std.proofs.lemmas.Nat.{from_be_bytes-to_be_bytes_8}
 use Rattle.fp_journal.specs.Holds.{Holds}
 use Rattle.fp_journal.specs.Chain.{spell}
-use Rattle.fp_journal.specs.State.{ClaimsAt, HasAmong, HasChain, HasChainOrNext, has_begun}
+use Rattle.fp_journal.specs.State.{ClaimsAt, HasAmong, HasChain, has_begun}
 use Rattle.fp_gate.specs.declared.gate.TheConstants.{OPEN}
 use Rattle.fp_journal.specs.declared.slot.Slot.{Slot}
 use Rattle.fp_journal.specs.declared.journal.Phase.{Phase}

@@ -1,7 +1,7 @@
 //! Two slots, and what a compaction does next.
 
 ghost use Rattle.fp_disk.specs.Crashes.{EachCrash};
-ghost use Rattle.std.specs.Prelude.{◌≡◌, ◌≢◌, ◌⊎◌, ◌<◌, ◌≤◌, ◌+◌, ◌^◌, [], length, OnOk, OnErr};
+ghost use Rattle.std.specs.Prelude.{◌≡◌, ◌≢◌, ◌⊎◌, ◌<◌, ◌≤◌, ◌+◌, ◌-◌, ◌^◌, [], length, OnOk, OnErr};
 ghost use Rattle.fp_journal.specs.declared.journal.Phase.TheVariants.{Failed};
 ghost use Rattle.fp_slots.specs.Head.{head_text};
 ghost use Rattle.fp_slots.specs.State.{IsBeaten, IsFrontOf, Leaves};
@@ -112,6 +112,24 @@ impl<D: Disk> Slots<D> {
         journal.into_disk()
     }
 
+    /// The journal in the slot that rules, alone: nothing says any more that the other slot is left as it is.
+    pub fn into_journal(self) -> Journal<D>
+        ensures { result ≡ self.journal }
+    {
+        let Slots {
+            journal,
+            other: _,
+            generation: _,
+            held: _,
+            may_open: _,
+            planned: _,
+            ended: _,
+            head: _,
+            done: _,
+        } = self;
+        journal
+    }
+
     /// What a compaction does next, which says what a crash would leave now.
     pub fn step(&self) -> Step
         ensures step { result ≡ self.now.step }
@@ -119,6 +137,32 @@ impl<D: Disk> Slots<D> {
     {
         let _phase = self.journal.phase();
         self.held.step()
+    }
+
+    /// The journal in the slot that rules.
+    pub fn journal(&self) -> &Journal<D>
+        ensures { result.now ≡ self.now.journal }
+    {
+        &self.journal
+    }
+
+    /// The generation of the slot that rules.
+    pub fn generation(&self) -> u64
+        ensures { result ≡ self.now.generation }
+    {
+        let _ = &self.journal;
+        self.generation
+    }
+
+    /// How many bytes the other slot has, and how many of them it is to hold behind the image.
+    pub fn beside(&self) -> (u64, u64)
+        ensures size { result.0 ≡ self.now.other.stop - self.now.other.start }
+        ensures tail { result.1 ≡ length self.now.text - self.now.head }
+    {
+        (
+            self.other.stop - self.other.start,
+            (self.ended - self.head) as u64,
+        )
     }
 
     /// Begins a compaction that is to leave this image of that revision in the other slot, under the next generation. It makes no call

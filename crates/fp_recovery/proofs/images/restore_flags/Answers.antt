@@ -1,4 +1,4 @@
-use Rattle.std.proofs.Common.{◌≡◌, ◌+◌, ◌≤◌, ℕ, List, length, Ok, sym, ap, subst, ◌∙◌, refl, arith}
+use Rattle.std.proofs.Common.{◌≡◌, ◌+◌, ℕ, List, Ok, sym, ap, subst, ◌∙◌, refl, arith}
 use Rattle.std.specs.FinMap as fin
 use Rattle.std.proofs.lemmas.Result.{err_from_is_err_and}
 use Rattle.fp_definition.specs.Key.{key_bytes}

@@ -1,4 +1,4 @@
-use Rattle.std.proofs.Common.{◌≡◌, ◌⊎◌, List, ℕ, sym, subst}
+use Rattle.std.proofs.Common.{◌≡◌, ◌⊎◌, sym, subst}
 use Rattle.fp_edit.specs.Flags.{State}
 use Rattle.fp_layout.specs.declared.fault.OpenFault.{OpenFault}
 use Rattle.fp_layout.specs.declared.fault.OpenFault.TheVariants.{Device, Memory}

@@ -1,6 +1,3 @@
-use Rattle.std.proofs.Common.{◌≡◌, ℕ, List, sym}
-use Rattle.fp_disk.specs.Outcomes.{IsOutcome}
-use Rattle.fp_group_commit.specs.Store.{Leaves}
 use Rattle.fp_group_commit.proofs.store.Store.phase.Goals as goal
 
 pub returns-clause-outcomes : goal.returns-clause-outcomes

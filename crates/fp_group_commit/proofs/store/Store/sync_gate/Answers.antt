@@ -1,9 +1,9 @@
-use Rattle.std.proofs.Common.{rules, ◌≡◌, ◌⊎◌, ℕ, List, [], ◌∷◌, ◌++◌, refl, sym, ap, ◌∙◌, inl, inr, ⊎_elim, true}
+use Rattle.std.proofs.Common.{rules, ◌≡◌, ◌⊎◌, ℕ, List, [], ◌∷◌, ◌++◌, refl, sym, ap, ◌∙◌, inl, inr, ⊎_elim, true, subst, arith}
 use Rattle.fp_disk.specs.Outcomes.{LeavesOnly}
 use Rattle.fp_disk.specs.Moments.{leaves_map}
 use Rattle.fp_journal.specs.declared.journal.Phase.{Phase}
 use Rattle.fp_journal.specs.declared.journal.Phase.TheVariants.{Idle, GateOpened, Failed}
-use Rattle.fp_journal.specs.State.{Outside}
+use Rattle.fp_journal.specs.State.{Outside, SecuresAt}
 use Rattle.fp_edit.specs.Flags.{State}
 use Rattle.fp_edit.specs.Following.{changes_of}
 use Rattle.fp_record.specs.Group.{Group}
@@ -69,6 +69,17 @@ invariant_of-result g c =
     let edits = ap (λ (p : FrontState). p.edits) c.new-2.ensures ∙ l.3 ∙ l.1 in
     steps.receipt_of D.honest D.bytes D.moment D.crash_states_since D.unsynced c.self.invariant f (record { store = c.new-2.result.store; edits = c.new-2.result.edits; batch = c.replace-draw.result }) store edits
     (ap (λ (b : Group). b.changes) c.replace-draw.ensures.value) (ap (λ (b : Group). b.first) c.replace-draw.ensures.value)
+
+pub gate_synced-requires : goal.gate_synced-requires
+gate_synced-requires g c =
+    let j = c.self.inside.journal in let j1 = c.sync.new.self in
+    let at : c.self.inside.step ≡ GateOpened = ap (λ (k : StoreState g.row.D.Denot). k.step) c.self.view_is ∙ c.requires in
+    let is : j.phase ≡ GateOpened = steps.goes j.phase c.self.inside.step (λ e. c.in_default.not-Failed (c.phase.ensures.phase ∙ e)) c.self.invariant.going ∙ at in
+    let phase : j1.phase ≡ GateOpened = c.in-Ok.ensures.phase.0 ∙ is in let now = c.in-Ok.ensures.token.1 in record {
+      opened = phase;
+      token = (c.in-Ok.ensures.token.0, λ h. omega (arith, now));
+      firm = λ h o out. subst (λ (p : Phase). SecuresAt p j1.begun j1.slot j1.front j1.sealed j1.staged o) phase (c.in-Ok.ensures.firm h o out);
+    }
 
 pub invariant_of-self-2 : goal.invariant_of-self-2
 invariant_of-self-2 g c =

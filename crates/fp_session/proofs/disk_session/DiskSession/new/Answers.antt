@@ -1,4 +1,4 @@
-use Rattle.std.proofs.Common.{◌≡◌, refl, sym, ap, subst, ◌∙◌}
+use Rattle.std.proofs.Common.{refl, ap}
 use Rattle.fp_desk.specs.Desk.{DeskState}
 use Rattle.fp_session.proofs.Sessions.{new_in_step}
 use Rattle.fp_session.proofs.disk_session.DiskSession.new.Goals as goal

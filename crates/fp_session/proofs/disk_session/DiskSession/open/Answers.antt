@@ -2,7 +2,7 @@ use Rattle.std.proofs.Common.{◌≡◌, sym, ap, subst, ◌∙◌}
 use Rattle.fp_edit.specs.Flags.{State}
 use Rattle.fp_group_commit.specs.Store.{StoreState}
 use Rattle.fp_recovery.specs.Stands.{StandsFor}
-use Rattle.fp_session.specs.Session.{disk_of, flags_of}
+use Rattle.fp_session.specs.Session.{disk_of}
 use Rattle.fp_session.proofs.disk_session.DiskSession.open.Goals as goal
 
 pub returns-in-Ok-new-clause-stands : goal.returns-in-Ok-new-clause-stands

@@ -1,4 +1,4 @@
-use Rattle.std.proofs.Common.{◌≡◌, ◌∙◌, false, true, refl, sym, ap, subst}
+use Rattle.std.proofs.Common.{◌∙◌, false, true, refl, sym, ap, subst}
 use Rattle.fp_edit.specs.Edits.{proposal_of}
 use Rattle.fp_edit.specs.Flags.{State}
 use Rattle.fp_desk.specs.Desk.{DeskState}

@@ -1,4 +1,4 @@
-use Rattle.std.proofs.Common.{rules, refl, ◌≡◌, ◌≢◌, inl, ap, sym, ◌∙◌, subst}
+use Rattle.std.proofs.Common.{rules, refl, ◌≡◌, ◌≢◌, ap, sym, ◌∙◌, subst}
 use Rattle.fp_journal.specs.State.{Outside, has_begun}
 use Rattle.fp_journal.specs.declared.journal.Phase.TheVariants.{Idle, Staged, Failed}
 use Rattle.fp_slots.specs.State.{step_of, SlotsState, IsEarly}

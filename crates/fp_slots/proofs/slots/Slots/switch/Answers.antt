@@ -1,4 +1,4 @@
-use Rattle.std.proofs.Common.{ℕ, rules, ◌≡◌, ◌≢◌, ap, sym, ◌∙◌, subst, length, arith}
+use Rattle.std.proofs.Common.{ℕ, rules, ◌≡◌, ◌≢◌, ap, sym, ◌∙◌, subst, arith}
 use Rattle.fp_journal.specs.declared.journal.Phase.TheVariants.{Failed}
 use Rattle.fp_gate.specs.Gates.{IsOpen}
 use Rattle.fp_slots.specs.declared.held.Held.{Held}

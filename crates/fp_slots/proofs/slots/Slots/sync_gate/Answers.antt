@@ -1,4 +1,4 @@
-use Rattle.std.proofs.Common.{rules, refl, true, Bool, ◌≡◌, ◌≢◌, ℕ, List, ap, sym, ◌∙◌, subst}
+use Rattle.std.proofs.Common.{rules, refl, true, ◌≡◌, ◌≢◌, ℕ, List, ap, sym, ◌∙◌, subst}
 use Rattle.fp_journal.specs.State.{ClaimsAt, HasChainOrNext, SameSlot, has_begun}
 use Rattle.fp_disk.specs.Outcomes.{LeavesOnly}
 use Rattle.fp_journal.specs.Holds.{Holds}

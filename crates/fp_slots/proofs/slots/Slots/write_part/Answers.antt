@@ -1,4 +1,4 @@
-use Rattle.std.proofs.Common.{rules, refl, [], ◌∷◌, ◌++◌, ◌≡◌, ◌≢◌, inl, inr, ℕ, ◌+◌, ◌-◌, ◌<◌, ◌≤◌, List, ap, sym, ◌∙◌, subst, arith, length}
+use Rattle.std.proofs.Common.{rules, refl, ◌≡◌, ◌≢◌, inl, inr, ℕ, ◌+◌, ◌-◌, ◌<◌, ◌≤◌, List, ap, sym, ◌∙◌, subst, arith, length}
 use Rattle.fp_journal.specs.declared.journal.Phase.TheVariants.{Failed}
 use Rattle.std.specs.Prelude.{slice_range}
 use Rattle.fp_disk.specs.Outcomes.{Written}

@@ -1,0 +1,154 @@
+-- What slots keep, as sets of flags.
+use Rattle.std.proofs.Common.{◌≡◌, ◌⊎◌, inl, inr, ⊎_elim, Bool, true, false, ℕ, ◌+◌, ◌-◌, ◌/◌, ◌≤◌, List, [], ◌∷◌, ◌++◌, length, refl, sym, ◌∙◌, ap, subst, arith}
+use Rattle.std.proofs.lemmas.List.{append-nil}
+use Rattle.fp_disk.specs.Outcomes.{LeavesOnly, PendingState}
+use Rattle.fp_disk.specs.Moments.{leaves_both, leaves_map}
+use Rattle.fp_edit.specs.Flags.{State}
+use Rattle.fp_journal.specs.Holds.{Holds, IsSynced}
+use Rattle.fp_journal.specs.Chain.{Ends, spell}
+use Rattle.fp_journal.specs.Moments.{KeepsFirm}
+use Rattle.fp_journal.specs.State.{HasAmong, Outside, has_begun}
+use Rattle.fp_journal.specs.declared.slot.Slot.{Slot}
+use Rattle.fp_journal.proofs.Gates.{text-more}
+use Rattle.fp_layout.specs.Layout.{IsHeader, IsActive}
+use Rattle.fp_layout.specs.Size.{IsSlotSize, Side, first, second, other_side, slot_of}
+use Rattle.fp_recovery.specs.Durable.{IsKept}
+use Rattle.fp_slots.specs.Rules.{Rules, Tells}
+use Rattle.fp_slots.specs.State.{SlotsState, Keeps, KeepsEither, KeepsOrNext, KeepsSealed, OutsideBoth, SameCompaction, SameSlots, sealed_text}
+use Rattle.fp_recovery.specs.Stands.{Spells, StandsFor, TakesBatch}
+use Rattle.fp_recovery.proofs.Kept.{side_long}
+use Rattle.fp_recovery.proofs.Texts.{spells_on}
+use Rattle.fp_compaction.specs.Sets.{IsKeptOn, IsKeptIn, IsPlannedFor, IsTaken, LeavesSet}
+use Rattle.fp_compaction.specs.Batches.{LeadsTo}
+
+module _ {D : Type 0} (u : PendingState) (slots : SlotsState D) (size : ℕ) (side : Side) (s : State) (k : IsKeptOn u slots size side s) where
+  side_stands : (t : State) (x : Side) (text c : List ℕ) → Holds c 0 k.header → Spells size text t → Tells (slot_of size x) (slot_of size (other_side x)) text c → StandsFor c t
+  side_stands t x text c h spells tells = record { size = size; side = x; text = text; header = k.is_header c h (side_long size x text c tells); tells = tells; spells = spells }
+
+  flipped : (x : Side) (text c : List ℕ) → Holds c 0 k.header → Spells size text s → Tells (slot_of size (other_side x)) (slot_of size x) text c → StandsFor c s
+  flipped first text c h spells t = side_stands s second text c h spells t
+  flipped second text c h spells t = side_stands s first text c h spells t
+
+  moved : (a b x y : Slot) (text c : List ℕ) → a ≡ x → b ≡ y → Tells a b text c → Tells x y text c
+  moved a b x y text c p q t = subst (λ (z : Slot). Tells z y text c) p (subst (λ (z : Slot). Tells a z text c) q t)
+
+  -- the slot that rules, with a text that spells a set
+  mine_stands : (t : State) (text c : List ℕ) → Holds c 0 k.header → Spells size text t → Rules slots.journal.slot.start slots.other.start c → Ends slots.journal.slot.start slots.journal.slot.stop text c → StandsFor c t
+  mine_stands t text c h spells rules ends = side_stands t side text c h spells (moved slots.journal.slot slots.other (slot_of size side) (slot_of size (other_side side)) text c k.mine k.its (record { rules = rules; ends = ends }))
+
+  longer : (t : State) (body : List ℕ) → TakesBatch s body t → length body ≤ size / 8 - 6 → Spells size (slots.journal.front ++ spell (slots.journal.sealed ++ body ∷ [])) t
+  longer t body takes short = subst (λ (x : List ℕ). Spells size x t) (sym (text-more slots.journal.front slots.journal.sealed body)) (spells_on size (sealed_text slots.journal) body s t k.sealed takes short)
+
+  pub keeps_stands : IsTaken slots.journal size s → (c : List ℕ) → Holds c 0 k.header → Keeps slots c → LeavesSet slots.journal s c
+  keeps_stands taken c h p = among (has_begun slots.journal.phase slots.journal.begun) p.1 taken
+    where
+      among : (b : Bool) → HasAmong b slots.journal.slot slots.journal.front slots.journal.sealed slots.journal.staged c → (b ≡ true → (t : State) × TakesBatch s slots.journal.staged t × (length slots.journal.staged ≤ size / 8 - 6))
+          → StandsFor c s ⊎ ((b ≡ true) × ((t : State) × TakesBatch s slots.journal.staged t × StandsFor c t))
+      among false e taken = inl (mine_stands s (sealed_text slots.journal) c h k.sealed p.0 e)
+      among true (inl e) taken = inl (mine_stands s (sealed_text slots.journal) c h k.sealed p.0 e)
+      among true (inr e) taken = let t = taken refl in inr (refl, (t.0, t.1, mine_stands t.0 (slots.journal.front ++ spell (slots.journal.sealed ++ slots.journal.staged ∷ [])) c h (longer t.0 slots.journal.staged t.1 t.2) p.0 e))
+
+  pub either_stands : IsPlannedFor slots size s → (c : List ℕ) → Holds c 0 k.header → KeepsEither slots c → StandsFor c s
+  either_stands planned c h p = ⊎_elim
+      (λ t. mine_stands s (sealed_text slots.journal) c h k.sealed t.rules t.ends)
+      (λ t. flipped side slots.text c h planned (moved slots.other slots.journal.slot (slot_of size (other_side side)) (slot_of size side) slots.text c k.its k.mine t)) p
+
+  pub sealed_stands : (c : List ℕ) → Holds c 0 k.header → KeepsSealed slots c → StandsFor c s
+  sealed_stands c h p = mine_stands s (sealed_text slots.journal) c h k.sealed p.0 p.1
+
+  pub next_stands : (t : State) → LeadsTo slots size s t → (c : List ℕ) → Holds c 0 k.header → KeepsOrNext slots slots.journal.staged c → StandsFor c s ⊎ StandsFor c t
+  next_stands t leads c h p = ⊎_elim
+      (λ e. inl (mine_stands s (sealed_text slots.journal) c h k.sealed p.0 e))
+      (λ e. inr (mine_stands t (slots.journal.front ++ spell (slots.journal.sealed ++ slots.journal.staged ∷ [])) c h (longer t slots.journal.staged leads.0 leads.1) p.0 e)) p.1
+
+  -- the header lies in front of both slots
+  in_front : (x : Side) (slot : Slot) → slot ≡ slot_of size x → Outside slot 0 (length k.header)
+  in_front first slot is = let len = k.header_long in let at : slot.start ≡ 64 = ap (λ (z : Slot). z.start) is in inl (omega (arith, len, at))
+  in_front second slot is = let len = k.header_long in let at : slot.start ≡ 64 + size = ap (λ (z : Slot). z.start) is in inl (omega (arith, len, at))
+
+  pub header_outside : OutsideBoth slots 0 (length k.header)
+  header_outside = (in_front side slots.journal.slot k.mine, in_front (other_side side) slots.other k.its)
+
+  module _ (moment : D → ℕ) (crash_states_since : D → ℕ → List ℕ → Type 0) (unsynced : D → PendingState) (old new : D) (is : unsynced old ≡ u) (frame : KeepsFirm moment crash_states_since unsynced old new (OutsideBoth slots)) where
+    firm_old : IsSynced (unsynced old) 0 k.header
+    firm_old = subst (λ (v : PendingState). IsSynced v 0 k.header) (sym is) k.firm
+
+    pub leaves_stands : (P Q : List ℕ → Type 0) → ((c : List ℕ) → Holds c 0 k.header → P c → Q c) → LeavesOnly moment crash_states_since old new P → LeavesOnly moment crash_states_since old new Q
+    leaves_stands P Q shows leaves = let Head : List ℕ → Type 0 = λ c. Holds c 0 k.header in
+        leaves_map moment crash_states_since old new (λ c. P c × Head c) Q (λ c p. shows c p.1 p.0) (leaves_both moment crash_states_since old new P Head leaves (frame 0 k.header header_outside firm_old).1)
+
+    -- the slots as they are afterwards
+    kept_as : (after : SlotsState D) (t : State) → after.journal.slot ≡ slots.journal.slot → after.other ≡ slots.other → Spells size (sealed_text after.journal) t → IsKeptOn (unsynced new) after size side t
+    kept_as after t slot other spells = record {
+      header = k.header;
+      is_header = k.is_header;
+      header_long = k.header_long;
+      firm = (frame 0 k.header header_outside firm_old).0;
+      mine = slot ∙ k.mine;
+      its = other ∙ k.its;
+      sealed = spells;
+    }
+
+    same_text : (after : SlotsState D) (bodies : List (List ℕ)) → after.journal.front ≡ slots.journal.front → after.journal.sealed ≡ bodies → sealed_text after.journal ≡ slots.journal.front ++ spell bodies
+    same_text after bodies front is = ap (λ (t : List ℕ). t ++ spell after.journal.sealed) front ∙ ap (λ (l : List (List ℕ)). slots.journal.front ++ spell l) is
+
+    pub kept_on : (after : SlotsState D) → SameSlots slots after → IsKeptOn (unsynced new) after size side s
+    kept_on after same = kept_as after s same.0.1 same.3 (subst (λ (t : List ℕ). Spells size t s) (sym (same_text after slots.journal.sealed same.0.2 same.1)) k.sealed)
+
+    pub kept_beside : (after : SlotsState D) → SameCompaction slots after → after.journal.sealed ≡ slots.journal.sealed → IsKeptOn (unsynced new) after size side s
+    kept_beside after same sealed = kept_as after s same.0.1 same.1 (subst (λ (t : List ℕ). Spells size t s) (sym (same_text after slots.journal.sealed same.0.2 sealed)) k.sealed)
+
+    -- and with the batch that was on its way
+    pub kept_next : (after : SlotsState D) (t : State) → LeadsTo slots size s t → after.journal.slot ≡ slots.journal.slot → after.journal.front ≡ slots.journal.front → after.other ≡ slots.other → after.journal.sealed ≡ slots.journal.sealed ++ slots.journal.staged ∷ []
+        → IsKeptOn (unsynced new) after size side t
+    kept_next after t leads slot front other sealed = kept_as after t slot other (subst (λ (x : List ℕ). Spells size x t) (sym (same_text after (slots.journal.sealed ++ slots.journal.staged ∷ []) front sealed)) (longer t slots.journal.staged leads.0 leads.1))
+
+    twice : (x : Side) → other_side (other_side x) ≡ x
+    twice first = refl
+    twice second = refl
+
+    pub turned : (after : SlotsState D) → IsPlannedFor slots size s → after.journal.slot ≡ slots.other → after.journal.front ≡ slots.text → after.journal.sealed ≡ [] → after.other ≡ slots.journal.slot → IsKeptOn (unsynced new) after size (other_side side) s
+    turned after planned slot front none other = record {
+      header = k.header;
+      is_header = k.is_header;
+      header_long = k.header_long;
+      firm = (frame 0 k.header header_outside firm_old).0;
+      mine = slot ∙ k.its;
+      its = other ∙ k.mine ∙ sym (ap (λ (x : Side). slot_of size x) (twice side));
+      sealed = subst (λ (t : List ℕ). Spells size t s) (sym (ap (λ (l : List (List ℕ)). after.journal.front ++ spell l) none ∙ append-nil after.journal.front ∙ front)) planned;
+    }
+
+-- ---- a disk as it is opened
+-- of two sizes and sides with one slot
+size_same : (n m : ℕ) (x y : Side) → slot_of n x ≡ slot_of m y → n ≡ m
+size_same n m first first is = let e = ap (λ (z : Slot). z.stop) is in omega (arith, e)
+size_same n m first second is = let b = ap (λ (z : Slot). z.start) is in let e = ap (λ (z : Slot). z.stop) is in omega (arith, b, e)
+size_same n m second first is = let b = ap (λ (z : Slot). z.start) is in let e = ap (λ (z : Slot). z.stop) is in omega (arith, b, e)
+size_same n m second second is = let b = ap (λ (z : Slot). z.start) is in omega (arith, b)
+
+side_same : (n : ℕ) (x y : Side) → 1 ≤ n → slot_of n x ≡ slot_of n y → x ≡ y
+side_same n first first some is = refl
+side_same n first second some is = let b = ap (λ (z : Slot). z.start) is in absurd (omega (arith, b, some))
+side_same n second first some is = let b = ap (λ (z : Slot). z.start) is in absurd (omega (arith, b, some))
+side_same n second second some is = refl
+
+-- what a journal in one slot keeps, both do
+pub kept_in : {D : Type 0} (u : PendingState) (slots : SlotsState D) (s : State) (c : List ℕ) (size : ℕ) → IsSlotSize size → IsActive c size slots.journal.slot slots.other → IsKept u s slots.journal → (n : ℕ) × IsKeptIn u slots n s
+kept_in u slots s c size allowed a k =
+    let both : slot_of k.size k.side ≡ slot_of size a.side = sym k.slot_is ∙ a.slot_is in let n : k.size ≡ size = size_same k.size size k.side a.side both in
+    let least = allowed.least in
+    let x : k.side ≡ a.side = side_same size k.side a.side (omega (arith, least)) (subst (λ (z : ℕ). slot_of z k.side ≡ slot_of size a.side) n both) in (
+      size,
+      (
+        a.side,
+        record {
+          header = k.header;
+          is_header = λ o h l. subst (λ (z : ℕ). IsHeader o z) n (k.is_header o h (subst (λ (z : ℕ). 65 + z ≤ length o) (sym n) l));
+          header_long = k.header_long;
+          firm = k.header_firm;
+          mine = a.slot_is;
+          its = a.other_is;
+          sealed = subst (λ (z : ℕ). Spells z (sealed_text slots.journal) s) n k.spells;
+        },
+      ),
+    )

@@ -1,0 +1,4 @@
+pub mod Images
+pub mod Kept
+pub mod Grown
+pub mod Stepping

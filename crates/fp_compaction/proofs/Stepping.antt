@@ -1,0 +1,54 @@
+-- Steps by the step that is next.
+use Rattle.std.proofs.Common.{◌≡◌, ℕ, List, ◌++◌, sym, ◌∙◌, ap, subst}
+use Rattle.std.proofs.lemmas.List.{append-nil}
+use Rattle.fp_disk.specs.Moments.{leaves_still}
+use Rattle.fp_disk.specs.Outcomes.{IsOutcome, LeavesOnly}
+use Rattle.fp_disk.specs.declared.disk.Disk.{Ghosts}
+use Rattle.fp_journal.specs.Holds.{IsSynced}
+use Rattle.fp_journal.specs.State.{JournalState}
+use Rattle.fp_journal.proofs.Holds.{firm_outcome}
+use Rattle.fp_recovery.specs.Stands.{Spells}
+use Rattle.fp_slots.specs.State.{Keeps, Leaves, sealed_text}
+use Rattle.fp_slots.specs.declared.slots.Step.TheVariants.{Begin}
+use Rattle.fp_compaction.specs.Sets.{LeavesSet}
+use Rattle.fp_compaction.specs.Steps.{TakesStep}
+use Rattle.fp_compaction.proofs.Kept.{keeps_stands}
+use Rattle.fp_disk.specs.declared.history.CallKind.{CallKind}
+use Rattle.fp_slots.specs.State.{SlotsState}
+use Rattle.fp_slots.specs.declared.slots.Step.{Step}
+use Rattle.fp_compaction.specs.Steps.{IsLate, calls_of}
+
+-- the calls of a step whose name is known
+pub called_at : {D : Type 0} (calls : D → List CallKind) (old new : SlotsState D) {p : Step} → old.step ≡ p → calls new.journal.disk ≡ calls old.journal.disk ++ calls_of p old.may_open → calls new.journal.disk ≡ calls old.journal.disk ++ calls_of old.step old.may_open
+called_at calls old new is made = made ∙ ap (λ (q : Step). calls old.journal.disk ++ calls_of q old.may_open) (sym is)
+
+pub is_late : (p q : Step) → p ≡ q → IsLate q → IsLate p
+is_late p q is late = subst (λ (x : Step). IsLate x) (sym is) late
+
+-- no call was made: what is left now is what was left before
+pub still_step : {D : Type 0} (disk : Ghosts D) (old new : SlotsState D) → ((d : D) (c : List ℕ) → disk.honest d → disk.crash_states_since d (disk.moment d) c → IsOutcome (disk.unsynced d) c)
+    → old.step ≡ Begin → new.journal ≡ old.journal → new.other ≡ old.other → (disk.honest old.journal.disk → (c : List ℕ) → IsOutcome (disk.unsynced old.journal.disk) c → Keeps old c) → TakesStep disk old new
+still_step {D} disk old new only_now is journal other now =
+    let same : new.journal.disk ≡ old.journal.disk = ap (λ (j : JournalState D). j.disk) journal in record {
+      stands = λ h size s k taken late. subst (λ (d : D). LeavesOnly disk.moment disk.crash_states_since old.journal.disk d (LeavesSet old.journal s)) (sym same)
+          (leaves_still disk.moment disk.crash_states_since old.journal.disk (LeavesSet old.journal s) (λ c left. let o = only_now old.journal.disk c h left in
+          keeps_stands (disk.unsynced old.journal.disk) old size k.0 s k.1 taken c (firm_outcome (disk.unsynced old.journal.disk) 0 k.1.header c k.1.firm o) (now h c o)));
+      kept = λ h size s k late. (
+        k.0,
+        record {
+          header = k.1.header;
+          is_header = k.1.is_header;
+          header_long = k.1.header_long;
+          firm = subst (λ (d : D). IsSynced (disk.unsynced d) 0 k.1.header) (sym same) k.1.firm;
+          mine = ap (λ (j : JournalState D). j.slot) journal ∙ k.1.mine;
+          its = other ∙ k.1.its;
+          sealed = subst (λ (j : JournalState D). Spells size (sealed_text j) s) (sym journal) k.1.sealed;
+        },
+      );
+      honest = subst (λ (d : D). (disk.honest old.journal.disk → disk.honest d) × (disk.honest d → disk.honest old.journal.disk)) (sym same) (λ h. h, λ h. h);
+      called = ap disk.calls same ∙ sym (append-nil (disk.calls old.journal.disk)) ∙ ap (λ (q : Step). disk.calls old.journal.disk ++ calls_of q old.may_open) (sym is);
+    }
+
+-- where none runs, the slot that rules keeps what its journal claims
+pub begins_now : {D : Type 0} (slots : SlotsState D) (p : Step) → p ≡ Begin → (c : List ℕ) → Leaves p slots c → Keeps slots c
+begins_now slots p is c left = subst (λ (q : Step). Leaves q slots c) is left

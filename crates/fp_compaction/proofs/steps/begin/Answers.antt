@@ -1,0 +1,35 @@
+use Rattle.std.proofs.Common.{refl, ◌≡◌, ◌+◌, ℕ, List, length, ap, sym, subst, ◌∙◌, arith}
+use Rattle.fp_slots.specs.Head.{head_text}
+use Rattle.fp_recovery.specs.Stands.{IsImageOf}
+use Rattle.fp_compaction.proofs.Images.{planned_for}
+use Rattle.fp_compaction.proofs.Stepping as steps
+use Rattle.fp_compaction.proofs.steps.begin.Goals as goal
+
+pub begin-requires-clause-short : goal.begin-requires-clause-short
+begin-requires-clause-short g c =
+    let len = ap length c.deref.ensures.value ∙ c.in_ok-image.ensures.len in let within = c.in_ok-image.ensures.within in let limit = c.requires.limit.1 in omega (arith, len, within, limit)
+
+pub begin-requires-clause-fits : goal.begin-requires-clause-fits
+begin-requires-clause-fits g c =
+    let len = ap length c.deref.ensures.value ∙ c.in_ok-image.ensures.len in let within = c.in_ok-image.ensures.within in let wide = c.requires.wide in omega (arith, len, within, wide)
+
+pub returns-clause-planned : goal.returns-clause-planned
+returns-clause-planned g c = λ size limit.
+    let set = c.args.set.now in
+    let image : IsImageOf set.revision set.limit c.deref.result.now set = subst (λ (b : List ℕ). IsImageOf set.revision set.limit b set) (sym c.deref.ensures.value) c.in_ok-image.ensures.image in
+    let text = subst (λ (n : ℕ). c.begin.new.self.text ≡ head_text (c.args.slots.now.generation + 1) n c.deref.result.now) c.revision.ensures.revision c.in_ok-begin.ensures.text.0 in
+    planned_for size set (c.args.slots.now.generation + 1) c.deref.result.now c.begin.new.self.text limit c.requires.next image text
+
+pub returns-clause-head : goal.returns-clause-head
+returns-clause-head g c =
+    let len = ap length c.deref.ensures.value ∙ c.in_ok-image.ensures.len in let t = c.in_ok-begin.ensures.text in
+    (t.1 ∙ ap (λ (n : ℕ). 22 + n) len, t.2, t.3)
+
+pub returns-in_err-image-clause-taken : goal.returns-in_err-image-clause-taken
+returns-in_err-image-clause-taken g c = steps.still_step g.D.Disk c.args.slots.now c.args.slots.now g.met.D.Disk.only_now c.requires.step refl refl (λ h o left. steps.begins_now c.args.slots.now c.step.result (c.step.ensures.step ∙ c.requires.step) o (c.step.ensures.outcomes h o left))
+
+pub returns-in_err-begin-clause-taken : goal.returns-in_err-begin-clause-taken
+returns-in_err-begin-clause-taken g c = steps.still_step g.D.Disk c.args.slots.now c.begin.new.self g.met.D.Disk.only_now c.requires.step c.begin.ensures.same.0 c.begin.ensures.same.1 (λ h o left. steps.begins_now c.args.slots.now c.step.result (c.step.ensures.step ∙ c.requires.step) o (c.step.ensures.outcomes h o left))
+
+pub returns-clause-taken : goal.returns-clause-taken
+returns-clause-taken g c = steps.still_step g.D.Disk c.args.slots.now c.begin.new.self g.met.D.Disk.only_now c.requires.step c.begin.ensures.same.0 c.begin.ensures.same.1 (λ h o left. steps.begins_now c.args.slots.now c.step.result (c.step.ensures.step ∙ c.requires.step) o (c.step.ensures.outcomes h o left))

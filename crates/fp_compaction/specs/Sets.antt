@@ -1,0 +1,68 @@
+-- Two slots of a disk, as the set of flags that they keep.
+use Rattle.std.specs.Prelude.{◌≡◌, ◌⊎◌, ◌≤◌, ◌+◌, ◌-◌, ◌/◌, ℕ, true, List, length}
+use Rattle.fp_disk.specs.Outcomes.{PendingState, LeavesOnly}
+use Rattle.fp_disk.specs.declared.disk.Disk.{Ghosts}
+use Rattle.fp_edit.specs.Flags.{State}
+use Rattle.fp_journal.specs.Holds.{Holds, IsSynced}
+use Rattle.fp_journal.specs.State.{JournalState, has_begun}
+use Rattle.fp_layout.specs.Layout.{IsHeader}
+use Rattle.fp_layout.specs.Size.{Side, other_side, slot_of}
+use Rattle.fp_recovery.specs.Stands.{Spells, StandsFor, TakesBatch}
+use Rattle.fp_slots.specs.State.{SlotsState, sealed_text}
+
+-- The slots are those of a disk whose header no crash takes away, and what is sealed in the one that
+-- rules spells the set
+pub record IsKeptOn {D : Type 0} (u : PendingState) (slots : SlotsState D) (size : ℕ) (side : Side)
+    (s : State) : Type 0 where
+  pub header : List ℕ
+  pub is_header : (c : List ℕ) → Holds c 0 header → 65 + size ≤ length c → IsHeader c size
+  pub header_long : length header ≡ 64
+  pub firm : IsSynced u 0 header
+  pub mine : slots.journal.slot ≡ slot_of size side
+  pub its : slots.other ≡ slot_of size (other_side side)
+  pub sealed : Spells size (sealed_text slots.journal) s
+
+-- the same, on one of a disk's two sides
+abbrev pub IsKeptIn : {D : Type 0} → PendingState → SlotsState D → ℕ → State → Type 0
+IsKeptIn u slots size s = (side : Side) × IsKeptOn u slots size side s
+
+-- what the other slot is to hold spells the set too
+abbrev pub IsPlannedFor : {D : Type 0} → SlotsState D → ℕ → State → Type 0
+IsPlannedFor slots size s = Spells size slots.text s
+
+-- ---- a batch on its way
+-- did a call begin to open its gate
+abbrev pub HasBegun : {D : Type 0} → JournalState D → Type 0
+HasBegun j = has_begun j.phase j.begun ≡ true
+
+-- then it is one that the set takes
+abbrev pub IsTaken : {D : Type 0} → JournalState D → ℕ → State → Type 0
+IsTaken j size s =
+    HasBegun j → (t : State) × TakesBatch s j.staged t × (length j.staged ≤ size / 8 - 6)
+
+-- what a crash leaves: the set, and once a call began to open the gate of the batch on its way perhaps
+-- what that makes of it
+abbrev pub LeavesSet : {D : Type 0} → JournalState D → State → List ℕ → Type 0
+LeavesSet j s c =
+    StandsFor c s ⊎ (HasBegun j × ((t : State) × TakesBatch s j.staged t × StandsFor c t))
+
+-- ---- what a call leaves
+-- at each moment of a call beside which a batch may be on its way
+abbrev pub LeavesOld : {D : Type 0} → Ghosts D → SlotsState D → SlotsState D → Type 0
+LeavesOld disk old new = disk.honest old.journal.disk → (size : ℕ) (s : State)
+    → IsKeptIn (disk.unsynced old.journal.disk) old size s → IsTaken old.journal size s
+    → LeavesOnly disk.moment disk.crash_states_since old.journal.disk new.journal.disk
+    (LeavesSet old.journal s)
+
+-- at each moment of one at which either slot may rule: both stand for one set
+abbrev pub LeavesEither : {D : Type 0} → Ghosts D → SlotsState D → SlotsState D → Type 0
+LeavesEither disk old new = disk.honest old.journal.disk → (size : ℕ) (s : State)
+    → IsKeptIn (disk.unsynced old.journal.disk) old size s → IsPlannedFor old size s
+    → LeavesOnly disk.moment disk.crash_states_since old.journal.disk new.journal.disk
+    (λ c. StandsFor c s)
+
+-- what was kept is kept
+abbrev pub GoesOnKept : {D : Type 0} → Ghosts D → SlotsState D → SlotsState D → Type 0
+GoesOnKept disk old new = disk.honest old.journal.disk → (size : ℕ) (s : State)
+    → IsKeptIn (disk.unsynced old.journal.disk) old size s
+    → IsKeptIn (disk.unsynced new.journal.disk) new size s

@@ -1,0 +1,82 @@
+-- A compaction step by step: which follows which, what each calls, leaves and keeps.
+use Rattle.std.specs.Prelude.{◌≡◌, ◌<◌, ◌≤◌, ◌+◌, ◌^◌, ℕ, Bool, List, [], ◌∷◌, ◌++◌, if◌then◌else◌, nat_lt}
+use Rattle.fp_disk.specs.Crashes.{SameHonesty}
+use Rattle.fp_disk.specs.Outcomes.{LeavesOnly}
+use Rattle.fp_disk.specs.declared.disk.Disk.{Ghosts}
+use Rattle.fp_disk.specs.declared.history.CallKind.{CallKind}
+use Rattle.fp_disk.specs.declared.history.CallKind.TheVariants.{Sync, Write}
+use Rattle.fp_edit.specs.Flags.{State}
+use Rattle.fp_journal.specs.State.{IsOnWay}
+use Rattle.fp_slots.specs.State.{SlotsState}
+use Rattle.fp_slots.specs.declared.places.TheConstants.{IMAGE_PLACE, PART}
+use Rattle.fp_slots.specs.declared.slots.Step.{Step}
+use Rattle.fp_slots.specs.declared.slots.Step.TheVariants.{Begin, Close, SyncClose, Part, Tail, SyncBody, Open, SyncOpen}
+use Rattle.fp_compaction.specs.Sets.{IsKeptIn, IsPlannedFor, IsTaken, LeavesSet}
+
+-- the step behind this one, while so many bytes of head and image are left
+abbrev pub next_step : Step → ℕ → Step
+next_step Begin left = Close
+next_step Close left = SyncClose
+next_step SyncClose left = Part
+next_step Part left = if nat_lt PART left then Part else Tail
+next_step Tail left = SyncBody
+next_step SyncBody left = Open
+next_step Open left = SyncOpen
+next_step SyncOpen left = Begin
+
+-- the calls of the disk that it makes; a gate that is closed already isn't closed again
+abbrev pub calls_of : Step → Bool → List CallKind
+calls_of Begin may_open = []
+calls_of Close may_open = if may_open then Write ∷ [] else []
+calls_of SyncClose may_open = Sync ∷ []
+calls_of Part may_open = Write ∷ []
+calls_of Tail may_open = Write ∷ []
+calls_of SyncBody may_open = Sync ∷ []
+calls_of Open may_open = Write ∷ []
+calls_of SyncOpen may_open = Sync ∷ []
+
+-- from this step on the other slot may rule
+abbrev pub IsLate : Step → Type 0
+IsLate Begin = ⊥
+IsLate Close = ⊥
+IsLate SyncClose = ⊥
+IsLate Part = ⊥
+IsLate Tail = ⊥
+IsLate SyncBody = ⊥
+IsLate Open = Unit {0}
+IsLate SyncOpen = Unit {0}
+
+-- there is a generation behind the present one, where none runs, and no batch is on its way at the tail
+pub record MayStep {D : Type 0} (slots : SlotsState D) : Type 0 where
+  pub next : slots.step ≡ Begin → slots.generation + 1 < 2 ^ 64
+  pub still : slots.step ≡ Tail → IsOnWay slots.journal.phase → ⊥
+
+-- the image of the set has room in the other slot
+pub record HasPlace {D : Type 0} (slots : SlotsState D) (s : State) : Type 0 where
+  pub least : 4 ≤ s.limit
+  pub short : s.limit < 2 ^ 32
+  pub wide : slots.other.start + IMAGE_PLACE + s.limit < slots.other.stop
+
+-- What a step leaves at each moment: the kept set, or what a batch makes of it whose gate was begun.
+-- It asks that the other slot is to hold the kept set from where it may rule
+abbrev pub LeavesStep : {D : Type 0} → Ghosts D → SlotsState D → SlotsState D → Type 0
+LeavesStep disk old new = disk.honest old.journal.disk → (size : ℕ) (s : State)
+    → IsKeptIn (disk.unsynced old.journal.disk) old size s → IsTaken old.journal size s
+    → (IsLate old.step → IsPlannedFor old size s)
+    → LeavesOnly disk.moment disk.crash_states_since old.journal.disk new.journal.disk
+    (LeavesSet old.journal s)
+
+-- and what was kept is kept, in the one slot or the other
+abbrev pub KeepsStep : {D : Type 0} → Ghosts D → SlotsState D → SlotsState D → Type 0
+KeepsStep disk old new = disk.honest old.journal.disk → (size : ℕ) (s : State)
+    → IsKeptIn (disk.unsynced old.journal.disk) old size s
+    → (IsLate old.step → IsPlannedFor old size s)
+    → IsKeptIn (disk.unsynced new.journal.disk) new size s
+
+-- all of it, and the calls
+pub record TakesStep {D : Type 0} (disk : Ghosts D) (old new : SlotsState D) : Type 0 where
+  pub stands : LeavesStep disk old new
+  pub kept : KeepsStep disk old new
+  pub honest : SameHonesty disk old.journal.disk new.journal.disk
+  pub called : disk.calls new.journal.disk
+      ≡ disk.calls old.journal.disk ++ calls_of old.step old.may_open

@@ -1,0 +1,148 @@
+//! Batches beside a compaction, by the sets that they lead from and to.
+
+ghost use Rattle.fp_disk.specs.Crashes.{SameHonesty};
+ghost use Rattle.fp_disk.specs.Outcomes.{Answers};
+ghost use Rattle.fp_disk.specs.declared.history.CallKind.TheVariants.{Sync, Write};
+ghost use Rattle.std.specs.Prelude.{◌≡◌, ◌≢◌, ◌≤◌, ◌+◌, ◌↔◌, [], ◌∷◌, ◌++◌, IsTrue, length, IfOk, OnOk, OnErr};
+ghost use Rattle.fp_journal.specs.Chain.{body_of, framed as framed_text, with_gate};
+ghost use Rattle.fp_gate.specs.declared.gate.TheConstants.{OPEN};
+ghost use Rattle.fp_journal.specs.State.{IsOnWay};
+ghost use Rattle.fp_journal.specs.declared.journal.Phase.TheVariants.{Idle, Staged, BodySynced, GateOpened, Failed};
+ghost use Rattle.fp_slots.specs.State.{HasBegun, IsEarly, IsGrowing, SameCompaction, SamePlan};
+ghost use Rattle.fp_compaction.specs.Sets.{GoesOnKept};
+ghost use Rattle.fp_compaction.specs.Batches.{FitsBeside, HasRoomFor, IsReadyFor, KeepsNext, LeavesNext, LeavesSealed, PlansNext};
+
+use crate::room::is_growing;
+use fp_disk::{Disk, DiskFault};
+use fp_journal::{Framed, Sealed};
+use fp_slots::Slots;
+use std::alloc::AllocError;
+
+/// Keeps a body ready to join what the other slot is to hold, where a compaction can take it. All memory is taken here.
+pub fn make_ready<D: Disk>(slots: &mut Slots<D>, framed: &Framed) -> Result<(), AllocError>
+    requires live { slots.old.journal.phase ≢ Failed }
+    ensures same { SamePlan slots.old slots.new }
+    ensures ready { OnOk result (IsReadyFor slots.new framed.now) }
+{
+    if !is_growing(slots.step()) {
+        return Ok(());
+    }
+    slots.plan_body(framed)?;
+    Ok(())
+}
+
+/// Keeps the body on its way ready so, where a compaction has begun beside it.
+pub fn make_ready_on_way<D: Disk>(slots: &mut Slots<D>) -> Result<(), AllocError>
+    requires on_way { IsOnWay slots.old.journal.phase }
+    requires live { slots.old.journal.phase ≢ Failed }
+    ensures same { SamePlan slots.old slots.new }
+    ensures ready { OnOk result (IsReadyFor slots.new slots.old.journal.staged) }
+{
+    if !is_growing(slots.step()) {
+        return Ok(());
+    }
+    slots.plan_body_on_way()?;
+    Ok(())
+}
+
+/// Writes a body behind the closed gate of the slot that rules.
+pub fn stage<D: Disk>(slots: &mut Slots<D>, framed: Framed) -> Result<(), DiskFault>
+    requires idle { slots.old.journal.phase ≡ Idle }
+    requires room { HasRoomFor slots.old (length framed) }
+    ensures stands { LeavesSealed D.Disk slots.old slots.new }
+    ensures kept { GoesOnKept D.Disk slots.old slots.new }
+    ensures same { SameCompaction slots.old slots.new }
+    ensures bodies { (slots.new.journal.sealed ≡ slots.old.journal.sealed)
+        × (slots.new.journal.staged ≡ framed) }
+    ensures phase { OnOk result (slots.new.journal.phase ≡ Staged)
+        × OnErr result (slots.new.journal.phase ≡ Failed) }
+    ensures honest { SameHonesty D.Disk slots.old.journal.disk slots.new.journal.disk }
+    ensures called { D.calls slots.new.journal.disk
+        ≡ D.calls slots.old.journal.disk ++ Write ∷ [] }
+    ensures cause { Answers (D.faults slots.old.journal.disk) (D.faults slots.new.journal.disk) result }
+{
+    slots.stage(framed)
+}
+
+/// Makes sure of the body.
+pub fn sync_body<D: Disk>(slots: &mut Slots<D>) -> Result<(), DiskFault>
+    requires early { IsEarly slots.old.step }
+    requires staged { slots.old.journal.phase ≡ Staged }
+    ensures stands { LeavesSealed D.Disk slots.old slots.new }
+    ensures kept { GoesOnKept D.Disk slots.old slots.new }
+    ensures same { SameCompaction slots.old slots.new }
+    ensures bodies { (slots.new.journal.sealed ≡ slots.old.journal.sealed)
+        × (slots.new.journal.staged ≡ slots.old.journal.staged) }
+    ensures phase { OnOk result (slots.new.journal.phase ≡ BodySynced)
+        × OnErr result (slots.new.journal.phase ≡ Failed) }
+    ensures honest { SameHonesty D.Disk slots.old.journal.disk slots.new.journal.disk }
+    ensures called { D.calls slots.new.journal.disk
+        ≡ D.calls slots.old.journal.disk ++ Sync ∷ [] }
+    ensures cause { Answers (D.faults slots.old.journal.disk) (D.faults slots.new.journal.disk) result }
+{
+    slots.sync_staged()
+}
+
+/// Opens the gate in front of the body.
+pub fn open_gate<D: Disk>(slots: &mut Slots<D>) -> Result<(), DiskFault>
+    requires early { IsEarly slots.old.step }
+    requires synced { slots.old.journal.phase ≡ BodySynced }
+    ensures stands { LeavesNext D.Disk slots.old slots.new }
+    ensures kept { GoesOnKept D.Disk slots.old slots.new }
+    ensures same { SameCompaction slots.old slots.new }
+    ensures bodies { (slots.new.journal.sealed ≡ slots.old.journal.sealed)
+        × (slots.new.journal.staged ≡ slots.old.journal.staged) }
+    ensures phase { OnOk result (slots.new.journal.phase ≡ GateOpened)
+        × OnErr result (slots.new.journal.phase ≡ Failed) }
+    ensures honest { SameHonesty D.Disk slots.old.journal.disk slots.new.journal.disk }
+    ensures called { D.calls slots.new.journal.disk
+        ≡ D.calls slots.old.journal.disk ++ Write ∷ [] }
+    ensures cause { Answers (D.faults slots.old.journal.disk) (D.faults slots.new.journal.disk) result }
+{
+    slots.open_gate()
+}
+
+// Lets the body that is kept ready join what the other slot is to hold, where a compaction can take it.
+fn grow<D: Disk>(slots: &mut Slots<D>)
+    requires live { slots.old.journal.phase ≢ Failed }
+    requires ready { IsReadyFor slots.old (body_of slots.old.coming) }
+    requires fits { FitsBeside slots.old (body_of slots.old.coming) }
+    ensures grown { IsGrowing slots.old.step →
+        slots.new.text ≡ slots.old.text ++ OPEN ∷ framed_text (body_of slots.old.coming) }
+    ensures journal { (slots.new.journal ≡ slots.old.journal)
+        × (slots.new.other ≡ slots.old.other) × (slots.new.generation ≡ slots.old.generation)
+        × (slots.new.may_open ≡ slots.old.may_open) × (slots.new.step ≡ slots.old.step)
+        × (slots.new.head ≡ slots.old.head) × (slots.new.left ≡ slots.old.left) }
+{
+    if is_growing(slots.step()) {
+        slots.lengthen();
+    }
+}
+
+/// Makes sure of the open gate: the batch is sealed, and a compaction that can take it will have it in the other slot.
+pub fn sync_gate<D: Disk>(slots: &mut Slots<D>) -> Result<Sealed, DiskFault>
+    requires early { IsEarly slots.old.step }
+    requires opened { slots.old.journal.phase ≡ GateOpened }
+    requires ready { IsReadyFor slots.old slots.old.journal.staged }
+    requires fits { FitsBeside slots.old slots.old.journal.staged }
+    ensures stands { LeavesNext D.Disk slots.old slots.new }
+    ensures sealed { OnOk result ((slots.new.journal.phase ≡ Idle) × (slots.new.journal.sealed
+        ≡ slots.old.journal.sealed ++ slots.old.journal.staged ∷ [])) }
+    ensures next { OnOk result (KeepsNext D.Disk slots.old slots.new) }
+    ensures planned { OnOk result (PlansNext slots.old slots.new) }
+    ensures token { IfOk result (λ t. (t.name ≡ slots.new.journal.name)
+        × (t.bodies ≡ slots.new.journal.sealed)) }
+    ensures broken { OnErr result ((slots.new.journal.phase ≡ Failed)
+        × GoesOnKept D.Disk slots.old slots.new × SameCompaction slots.old slots.new) }
+    ensures beside { (slots.new.other ≡ slots.old.other)
+        × (slots.new.generation ≡ slots.old.generation) × (slots.new.step ≡ slots.old.step)
+        × (slots.new.head ≡ slots.old.head) × (slots.new.left ≡ slots.old.left) }
+    ensures honest { SameHonesty D.Disk slots.old.journal.disk slots.new.journal.disk }
+    ensures called { D.calls slots.new.journal.disk
+        ≡ D.calls slots.old.journal.disk ++ Sync ∷ [] }
+    ensures cause { Answers (D.faults slots.old.journal.disk) (D.faults slots.new.journal.disk) result }
+{
+    let sealed = slots.sync_gate()?;
+    grow(slots);
+    Ok(sealed)
+}

@@ -1,0 +1,26 @@
+//! The image of a set.
+
+ghost use Rattle.std.specs.Prelude.{◌≡◌, ◌≤◌, length, IfOk};
+ghost use Rattle.fp_edit.specs.Flags.{size as size_of};
+ghost use Rattle.fp_recovery.specs.Stands.{IsImageOf};
+
+use fp_edit::FlagSet;
+use fp_record::Image;
+use std::alloc::{AllocError, Global};
+
+/// The bytes of a set's image.
+pub fn image_of(alloc: Global, set: &FlagSet) -> Result<Vec<u8>, AllocError>
+    requires { 4 ≤ set.now.limit }
+    ensures image { IfOk result (λ bytes.
+        IsImageOf set.now.revision set.now.limit bytes.items set.now) }
+    ensures len { IfOk result (λ bytes. length bytes.items ≡ size_of set.now.flags) }
+    ensures within { size_of set.now.flags ≤ set.now.limit }
+{
+    // What the set's flags, its size and its revision may be is known only where it is asked.
+    let _ = set.iter();
+    let _ = set.size();
+    let _ = set.revision();
+    let image = Image::of(alloc, set)?;
+    let bytes = image.encode(alloc)?;
+    Ok(bytes)
+}

@@ -1,0 +1,105 @@
+//! A compaction's next step, whichever it is.
+
+ghost use Rattle.std.specs.Prelude.{◌≡◌, ◌≢◌, ◌<◌, ◌/◌, ◌↔◌, ℕ, IsTrue, IfErr, OnOk, OnErr};
+ghost use Rattle.fp_journal.specs.declared.journal.Phase.TheVariants.{Failed};
+ghost use Rattle.fp_slots.specs.declared.slots.Step.TheVariants.{Begin};
+ghost use Rattle.fp_compaction.specs.Sets.{IsPlannedFor};
+ghost use Rattle.fp_compaction.specs.Steps.{HasPlace, MayStep, TakesStep, next_step};
+ghost use Rattle.fp_compaction.specs.declared.machine.StepFault.TheVariants.{Device, Memory};
+
+use crate::steps::{begin, chunk, close, copy_tail, finish, open_other, seal, sync_close};
+use fp_disk::{Disk, DiskFault};
+use fp_edit::FlagSet;
+use fp_journal::Phase;
+use fp_slots::{Slots, Step};
+use std::alloc::{AllocError, Global};
+
+/// Why a step wasn't taken.
+#[derive(Clone, Copy, Debug, PartialEq, Eq)]
+pub enum StepFault {
+    /// The device refused.
+    Device,
+    /// Memory ran out, which it can only as a compaction begins.
+    Memory,
+}
+
+impl From<DiskFault> for StepFault {
+    ghost from_gives = { λ _ e. e ≡ Device };
+
+    fn from(_fault: DiskFault) -> StepFault {
+        StepFault::Device
+    }
+}
+
+impl From<AllocError> for StepFault {
+    ghost from_gives = { λ _ e. e ≡ Memory };
+
+    fn from(_fault: AllocError) -> StepFault {
+        StepFault::Memory
+    }
+}
+
+/// Whether a step may be taken: there is a generation behind the present one, where none runs, and no batch is on its way at the tail.
+pub fn may_step<D: Disk>(slots: &Slots<D>) -> bool
+    ensures { IsTrue result ↔ MayStep slots.now }
+{
+    match slots.step() {
+        Step::Begin => slots.generation() < u64::MAX,
+        Step::Tail => matches!(slots.journal().phase(), Phase::Idle | Phase::Failed),
+        _ => true,
+    }
+}
+
+/// Takes the next step, with one call of the disk at most. The set is what is kept, and is looked at only where none runs.
+pub fn take_step<D: Disk>(
+    alloc: Global,
+    slots: &mut Slots<D>,
+    set: &FlagSet,
+) -> Result<(), StepFault>
+    requires live { slots.old.journal.phase ≢ Failed }
+    requires may { MayStep slots.old }
+    requires place { slots.old.step ≡ Begin → HasPlace slots.old set.now }
+    ensures taken { TakesStep D.Disk slots.old slots.new }
+    ensures order { OnOk result (slots.new.step ≡ next_step slots.old.step slots.old.left)
+        × OnErr result (slots.new.step ≡ slots.old.step) }
+    ensures planned { OnOk result (slots.old.step ≡ Begin → (size : ℕ)
+        → set.now.limit ≡ size / 2 → IsPlannedFor slots.new size set.now) }
+    ensures device { IfErr result (λ e. e ≡ Device →
+        D.faults slots.old.journal.disk < D.faults slots.new.journal.disk) }
+    ensures memory { IfErr result (λ e. e ≡ Memory → slots.old.step ≡ Begin) }
+{
+    match slots.step() {
+        Step::Begin => {
+            begin(alloc, slots, set)?;
+            Ok(())
+        }
+        Step::Close => {
+            close(slots)?;
+            Ok(())
+        }
+        Step::SyncClose => {
+            sync_close(slots)?;
+            Ok(())
+        }
+        Step::Part => {
+            chunk(slots)?;
+            Ok(())
+        }
+        Step::Tail => {
+            copy_tail(slots)?;
+            Ok(())
+        }
+        Step::SyncBody => {
+            seal(slots)?;
+            Ok(())
+        }
+        Step::Open => {
+            open_other(slots)?;
+            Ok(())
+        }
+        Step::SyncOpen => {
+            finish(slots)?;
+            Ok(())
+        }
+    }
+}
