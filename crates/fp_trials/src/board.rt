@@ -1,17 +1,19 @@
 //! A board over a disk in memory: what is published of a desk, and what two evaluators take of it.
 
-ghost use Rattle.std.specs.Prelude.{◌≡◌, IfOk, IfSome};
+ghost use Rattle.std.specs.Prelude.{◌≡◌, ◌<◌, ◌≤◌, IfOk, IfSome};
+ghost use Rattle.fp_publish.specs.declared.board.TheConstants.{MOST_EVALUATORS};
 ghost use Rattle.fp_desk.specs.Desk.{settled_front};
 
 use crate::disk::text_of;
 use crate::parts::{committed, taken};
 use crate::trial::{Answer, Trial, TrialFault};
 use crate::world::found;
+use fp_commands::CommandFault;
 use fp_desk::Desk;
 use fp_disk::MemoryDisk;
 use fp_group_commit::{Opening, Store};
 use fp_ofrep::{Body, Reply, answer};
-use fp_publish::{Board, Evaluator, MOST_EVALUATORS, View};
+use fp_publish::{Board, Evaluator, View};
 use http::Method;
 use std::alloc::{AllocError, Global};
 use std::fmt::Write;
@@ -59,25 +61,21 @@ fn desk_of(alloc: Global, opening: Opening) -> Result<Desk, TrialFault>
 }
 
 impl OpenBoard {
-    /// A board with places for so many evaluators, 1 to 16, over what the disk stands for; or the disk comes back.
+    /// A board with places for so many evaluators over what the disk stands for; or the disk comes back.
     pub fn new<R: Wait>(
         rt: &R,
         alloc: Global,
         disk: MemoryDisk,
         places: usize,
-    ) -> Result<OpenBoard, (TrialFault, MemoryDisk)> {
-        if places == 0 || places > MOST_EVALUATORS {
-            return Err((TrialFault::NotUnderstood, disk));
-        }
-        let (store, opening) = match found(alloc, disk) {
-            Ok(begun) => begun,
-            Err((_fault, disk)) => return Err((TrialFault::NotUnderstood, disk)),
-        };
+    ) -> Result<OpenBoard, (CommandFault, MemoryDisk)>
+        requires { (0 < places) × (places ≤ MOST_EVALUATORS) }
+    {
+        let (store, opening) = found(alloc, disk)?;
         let Ok(desk) = desk_of(alloc, opening) else {
-            return Err((TrialFault::Memory, store.into_disk()));
+            return Err((CommandFault::Memory, store.into_disk()));
         };
         let Ok(board) = Board::new(rt, alloc, &desk, places) else {
-            return Err((TrialFault::Memory, store.into_disk()));
+            return Err((CommandFault::Memory, store.into_disk()));
         };
         Ok(OpenBoard::begun(store, desk, board))
     }

@@ -9,6 +9,7 @@ use crate::words::{first_word, number};
 use fp_commands::{CommandFault, command};
 use fp_disk::MemoryDisk;
 use fp_files::SystemFiles;
+use fp_publish::MOST_EVALUATORS;
 use fp_streams::FailureCounted;
 use fp_transcript::Answers;
 use std::alloc::{AllocError, AllocGlobal, Global};
@@ -218,9 +219,9 @@ fn begin_board<R: Wait>(
     rest: &str,
 ) -> Result<Answer, TrialFault> {
     let places = number(rest)? as usize;
-    let None = board else {
+    if board.is_some() || places == 0 || places > MOST_EVALUATORS {
         return Err(TrialFault::NotUnderstood);
-    };
+    }
     let disk = trial.take_disk();
     match OpenBoard::new(rt, trial.alloc, disk, places) {
         Ok(open) => {
@@ -231,7 +232,7 @@ fn begin_board<R: Wait>(
         }
         Err((fault, disk)) => {
             trial.put_disk(disk);
-            Err(fault)
+            trial.fault(fault)
         }
     }
 }
