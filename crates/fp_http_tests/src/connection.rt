@@ -20,8 +20,10 @@ const LINE: &[u8] =
 
 const CONTEXT: &str = r#"{"context":{"targetingKey":"u1"}}"#;
 
-const REPLY: &str =
+pub const REPLY: &str =
     "HTTP/1.1 200 OK\r\ncontent-type: application/json\r\nflag-revision: 1\r\ncontent-length: 57\r\n\r\n{\"key\":\"a\",\"reason\":\"STATIC\",\"value\":true,\"variant\":\"on\"}";
+
+const TOO_LONG: &str = "HTTP/1.1 413 Payload Too Large\r\ncontent-length: 0\r\n\r\n";
 
 // Answers of one set of flags, until it is closed.
 #[derive(Drop)]
@@ -51,8 +53,22 @@ impl Evaluator for Fixed {
     }
 }
 
+fn bytes_of(alloc: Global, text: &str) -> anyhow::Result<Bytes> {
+    let mut bytes = Vec::new(alloc);
+    bytes.extend_from_slice(text.as_bytes())?;
+    Ok(Bytes::from_vec(bytes)?)
+}
+
 // What the program says to a peer that says this.
 fn heard<R>(rt: &R, is_closed: bool, says: &str) -> anyhow::Result<Vec<u8>>
+where
+    R: Wait + RandomSource + AllocGlobal,
+{
+    heard_by(rt, is_closed, says, "")
+}
+
+// What the program says to a peer that says this, and something else once it was answered.
+fn heard_by<R>(rt: &R, is_closed: bool, says: &str, then: &str) -> anyhow::Result<Vec<u8>>
 where
     R: Wait + RandomSource + AllocGlobal,
 {
@@ -61,19 +77,40 @@ where
     if let Ok(edit) = parse_line(alloc, LINE) {
         let _ = set.admit(edit);
     }
-    let mut text = Vec::new(alloc);
-    text.extend_from_slice(says.as_bytes())?;
+    said_by(rt, Fixed { set, is_closed }, says, then)
+}
+
+/// What a peer hears of this evaluator that says this, and something else once it was answered.
+pub fn said_by<R, E>(rt: &R, evaluator: E, says: &str, then: &str) -> anyhow::Result<Vec<u8>>
+where
+    R: Wait + RandomSource + AllocGlobal,
+    E: Evaluator,
+{
+    let alloc = rt.alloc();
     let heard = Rc::new(alloc, RefCell::new(Vec::new(alloc)))?;
     let peer = Peer {
-        says: Bytes::from_vec(text)?,
+        says: bytes_of(alloc, says)?,
+        then: bytes_of(alloc, then)?,
         heard: heard.clone()?,
     };
-    let _ended = serve_ofrep(rt, peer, Fixed { set, is_closed }, || 1_700_000_000);
+    let _ended = serve_ofrep(rt, peer, evaluator, || 1_700_000_000);
     let mut out = Vec::new(alloc);
     if let Ok(held) = heard.try_borrow() {
         out.extend_from_slice(held.as_slice())?;
     }
     Ok(out)
+}
+
+/// The bytes as a text.
+pub fn text_of(bytes: &[u8]) -> &str {
+    std::str::from_utf8(bytes).unwrap_or("?")
+}
+
+/// Two requests for the flag `a`, one right behind the other.
+pub fn two_requests(alloc: Global) -> anyhow::Result<String> {
+    let one = post(alloc, "/ofrep/v1/evaluate/flags/a", CONTEXT.len(), CONTEXT)?;
+    let one = one.as_str();
+    Ok(format!(in alloc; "{one}{one}")?)
 }
 
 fn post(alloc: Global, target: &str, length: usize, body: &str) -> anyhow::Result<String> {
@@ -89,23 +126,52 @@ fn answers_a_request(rt: HostRuntime) -> Result<(), Fail> {
     let target = "/ofrep/v1/evaluate/flags/a";
     let says = post(alloc, target, CONTEXT.len(), CONTEXT)?;
     let got = heard(&rt, false, says.as_str())?;
-    assert_eq!(rt; std::str::from_utf8(got.as_slice()).unwrap_or("?"), REPLY);
+    assert_eq!(rt; text_of(&got), REPLY);
     Ok(())
 }
 
 #[test]
 fn answers_each_of_a_pipelined_pair(rt: HostRuntime) -> Result<(), Fail> {
     let alloc = rt.alloc();
-    let target = "/ofrep/v1/evaluate/flags/a";
-    let one = post(alloc, target, CONTEXT.len(), CONTEXT)?;
-    let one = one.as_str();
-    let two = format!(in alloc; "{one}{one}")?;
+    let two = two_requests(alloc)?;
     let got = heard(&rt, false, two.as_str())?;
     let wanted = format!(in alloc; "{REPLY}{REPLY}")?;
-    assert_eq!(rt;
-        std::str::from_utf8(got.as_slice()).unwrap_or("?"),
-        wanted.as_str()
-    );
+    assert_eq!(rt; text_of(&got), wanted.as_str());
+    Ok(())
+}
+
+#[test]
+fn answers_a_second_request_after_the_first(rt: HostRuntime) -> Result<(), Fail> {
+    let alloc = rt.alloc();
+    let target = "/ofrep/v1/evaluate/flags/a";
+    let one = post(alloc, target, CONTEXT.len(), CONTEXT)?;
+    let got = heard_by(&rt, false, one.as_str(), one.as_str())?;
+    let wanted = format!(in alloc; "{REPLY}{REPLY}")?;
+    assert_eq!(rt; text_of(&got), wanted.as_str());
+    Ok(())
+}
+
+// A request whose body has a context, and so many bytes in all, from 20 on.
+fn long_post(alloc: Global, length: usize) -> anyhow::Result<String> {
+    let letters = "x".repeat(alloc, length.saturating_sub(20))?;
+    let body = format!(in alloc; r#"{{"context":{{"x":"{letters}"}}}}"#)?;
+    post(
+        alloc,
+        "/ofrep/v1/evaluate/flags/a",
+        body.len(),
+        body.as_str(),
+    )
+}
+
+#[test]
+fn takes_a_body_of_65536_bytes_and_none_of_a_byte_more(rt: HostRuntime) -> Result<(), Fail> {
+    let alloc = rt.alloc();
+    let says = long_post(alloc, 65_536)?;
+    let got = heard(&rt, false, says.as_str())?;
+    assert_eq!(rt; text_of(&got), REPLY);
+    let says = long_post(alloc, 65_537)?;
+    let got = heard(&rt, false, says.as_str())?;
+    assert_eq!(rt; text_of(&got), TOO_LONG);
     Ok(())
 }
 
@@ -129,7 +195,7 @@ fn knows_two_targets_and_one_method(rt: HostRuntime) -> Result<(), Fail> {
         "POST /other HTTP/1.1\r\nhost: h\r\ncontent-length: 0\r\n\r\n",
     )?;
     assert_eq!(rt;
-        std::str::from_utf8(got.as_slice()).unwrap_or("?"),
+        text_of(&got),
         "HTTP/1.1 404 Not Found\r\ncontent-length: 0\r\n\r\n"
     );
     let got = heard(
@@ -138,7 +204,7 @@ fn knows_two_targets_and_one_method(rt: HostRuntime) -> Result<(), Fail> {
         "GET /ofrep/v1/evaluate/flags HTTP/1.1\r\nhost: h\r\n\r\n",
     )?;
     assert_eq!(rt;
-        std::str::from_utf8(got.as_slice()).unwrap_or("?"),
+        text_of(&got),
         "HTTP/1.1 405 Method Not Allowed\r\nallow: POST\r\ncontent-length: 0\r\n\r\n"
     );
     Ok(())

@@ -5,3 +5,5 @@
 mod connection;
 #[cfg(test)]
 mod peer;
+#[cfg(test)]
+mod published;

@@ -2,6 +2,7 @@
 //! file named, standard input is written out again with the answers.
 #![tactic(auto)]
 
+mod board;
 mod commands;
 mod damage;
 mod disk;
@@ -24,10 +25,16 @@ fn main(rt: HostRuntime) -> io::Result<()> {
     let mut named = false;
     for name in env::args(&rt)?.skip(1) {
         named = true;
-        report(&rt, name.as_str(), &mut Script::new(&rt))?;
+        let mut script = Script::new(&rt);
+        let reported = report(&rt, name.as_str(), &mut script);
+        script.end();
+        reported?;
     }
     if named {
         return Ok(());
     }
-    rewrite(&rt, &mut Script::new(&rt))
+    let mut script = Script::new(&rt);
+    let rewritten = rewrite(&rt, &mut script);
+    script.end();
+    rewritten
 }

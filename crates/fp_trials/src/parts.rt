@@ -1,6 +1,7 @@
 //! A store and a desk without a world, for what no list of events leads to.
 
 ghost use Rattle.std.specs.Prelude.{◌≡◌, IfOk, OnOk, IsTrue};
+ghost use mathlib.Core.List.{IsPrefix};
 ghost use Rattle.fp_journal.specs.declared.journal.Phase.TheVariants.{Staged, BodySynced, GateOpened};
 
 use crate::event::{not_done, refused};
@@ -49,7 +50,8 @@ fn desk_over(alloc: Global, opening: Opening) -> Result<Desk, TrialFault>
 }
 
 fn submitted(desk: &mut Desk, edit: Edit) -> Result<Answer, TrialFault>
-    ensures { desk.new.store ≡ desk.old.store }
+    ensures store { desk.new.store ≡ desk.old.store }
+    ensures settled { desk.new.settled ≡ desk.old.settled }
 {
     match desk.submit(edit) {
         Ok(ticket) => Ok(Answer::Named("ticket", ticket.revision())),
@@ -57,8 +59,10 @@ fn submitted(desk: &mut Desk, edit: Edit) -> Result<Answer, TrialFault>
     }
 }
 
-fn taken(alloc: Global, desk: &mut Desk, rest: &str) -> Result<Answer, TrialFault>
-    ensures { desk.new.store ≡ desk.old.store }
+/// The desk takes an edit.
+pub fn taken(alloc: Global, desk: &mut Desk, rest: &str) -> Result<Answer, TrialFault>
+    ensures store { desk.new.store ≡ desk.old.store }
+    ensures settled { desk.new.settled ≡ desk.old.settled }
 {
     let edit = edit(alloc, rest)?;
     submitted(desk, edit)
@@ -187,6 +191,8 @@ fn sealed(store: &mut Store<MemoryDisk>) -> Result<Receipt, StoreFault>
 // What a receipt is for, of which the desk may know nothing.
 fn settled(desk: &mut Desk, receipt: Receipt) -> Result<Answer, TrialFault>
     requires { receipt.store ≡ desk.old.store }
+    ensures store { desk.new.store ≡ desk.old.store }
+    ensures grows { IsPrefix desk.old.settled desk.new.settled }
 {
     match desk.settle(receipt) {
         Ok(()) => Ok(Answer::Named("settled", desk.settled_revision())),
@@ -254,12 +260,42 @@ fn answer_to_staged(
 ) -> Result<Answer, TrialFault>
     requires one { desk.old.store ≡ store.old.store }
     requires staged { store.old.step ≡ Staged }
+    ensures store { (store.new.store ≡ store.old.store) × (desk.new.store ≡ desk.old.store) }
+    ensures grows { IsPrefix desk.old.settled desk.new.settled }
 {
     match sealed(store) {
         Ok(receipt) => {
             store.confirm(&receipt);
             settled(desk, receipt)
         }
+        Err(fault) => not_done(trial, fault),
+    }
+}
+
+// A batch of what waits, where something does.
+fn drawn_batch(desk: &mut Desk) -> Result<Option<Draw>, AllocError>
+    ensures store { desk.new.store ≡ desk.old.store }
+    ensures settled { desk.new.settled ≡ desk.old.settled }
+{
+    desk.draw()
+}
+
+/// What waits is drawn, sealed and settled as a batch.
+pub fn committed(
+    trial: &Trial,
+    store: &mut Store<MemoryDisk>,
+    desk: &mut Desk,
+) -> Result<Answer, TrialFault>
+    requires { desk.old.store ≡ store.old.store }
+    ensures store { (store.new.store ≡ store.old.store) × (desk.new.store ≡ desk.old.store) }
+    ensures grows { IsPrefix desk.old.settled desk.new.settled }
+{
+    let Some(draw) = drawn_batch(desk)? else {
+        return Ok(Answer::Word("not now"));
+    };
+    match staged(store, draw) {
+        Ok(true) => answer_to_staged(trial, store, desk),
+        Ok(false) => Ok(Answer::Word("no room")),
         Err(fault) => not_done(trial, fault),
     }
 }

@@ -1,43 +1,61 @@
 //! A file of trials: its lines in order, its blocks, and the program's commands over files.
 
+use crate::board::OpenBoard;
 use crate::disk::text_of;
 use crate::run::{answered, repeat, step};
 use crate::sweep::{rounds, sweep};
 use crate::trial::{Answer, Trial, TrialFault};
-use crate::words::first_word;
+use crate::words::{first_word, number};
 use fp_commands::{CommandFault, command};
 use fp_disk::MemoryDisk;
 use fp_files::SystemFiles;
+use fp_publish::MOST_EVALUATORS;
 use fp_streams::FailureCounted;
 use fp_transcript::Answers;
 use std::alloc::{AllocError, AllocGlobal, Global};
 use std::fmt::Write;
 use std::rt::Files;
+use std::sync::Wait;
 use std::{fs, mem};
 
-/// What answers the lines of a file: what they work on, and the block that is open, if one is.
-#[derive(Drop)]
-pub struct Script<'a, R: Files + AllocGlobal> {
+/// What answers the lines of a file: what they work on, the board that is open, and the block that is open, if there are any.
+pub struct Script<'a, R: Files + AllocGlobal + Wait> {
     rt: &'a R,
     trial: Trial,
+    board: Option<OpenBoard>,
     head: String,
     block: Vec<String>,
 }
 
-impl<'a, R: Files + AllocGlobal> Script<'a, R> {
+impl<'a, R: Files + AllocGlobal + Wait> Script<'a, R> {
     /// Over an empty disk.
     pub fn new(rt: &'a R) -> Script<'a, R> {
         let alloc = rt.alloc();
         Script {
             rt,
             trial: Trial::new(alloc, MemoryDisk::new(alloc)),
+            board: None,
             head: String::new(alloc),
             block: Vec::new(alloc),
         }
     }
+
+    /// Ends the board, if one is open.
+    pub fn end(self) {
+        let Script {
+            rt,
+            trial: _,
+            board,
+            head: _,
+            block: _,
+        } = self;
+        if let Some(board) = board {
+            let _disk = board.end(rt);
+        }
+    }
 }
 
-impl<'a, R: Files + AllocGlobal> Answers for Script<'a, R> {
+impl<'a, R: Files + AllocGlobal + Wait> Answers for Script<'a, R> {
     // The lines between one that ends in `{` and a `}` are a block, for which the latter answers.
     fn answer(&mut self, command: &str, out: &mut String) -> Result<(), AllocError> {
         let line = command.trim();
@@ -52,12 +70,12 @@ impl<'a, R: Files + AllocGlobal> Answers for Script<'a, R> {
         if let Some(head) = head_of(line) {
             return self.head.push_str(head);
         }
-        let answer = answered(alone(self.rt, &mut self.trial, line))?;
+        let answer = answered(alone(self.rt, &mut self.trial, &mut self.board, line))?;
         write!(out, "{answer}")
     }
 }
 
-impl<'a, R: Files + AllocGlobal> Script<'a, R> {
+impl<'a, R: Files + AllocGlobal + Wait> Script<'a, R> {
     fn answer_block(&mut self, out: &mut String) -> Result<(), AllocError> {
         let alloc = self.trial.alloc;
         let head = mem::replace(&mut self.head, String::new(alloc));
@@ -93,14 +111,29 @@ fn run_block(
     }
 }
 
-// What can't stand in a block: `$ WORD ..`, `load NAME`, `save NAME`, `rounds COUNT EDITS`; and any other line.
-fn alone<R: Files + AllocGlobal>(
+// What can't stand in a block: `$ WORD ..`, `load NAME`, `save NAME`, `rounds COUNT EDITS`, what works on a board; and any
+// other line.
+fn alone<R: Files + AllocGlobal + Wait>(
     rt: &R,
     trial: &mut Trial,
+    board: &mut Option<OpenBoard>,
     line: &str,
 ) -> Result<Answer, TrialFault> {
     let (word, rest) = first_word(line);
     match word {
+        "board" => begin_board(rt, trial, board, rest),
+        "end-board" => end_board(rt, trial, board),
+        "queue"
+        | "commit"
+        | "publish"
+        | "is-shown"
+        | "published"
+        | "evaluator"
+        | "enter"
+        | "rest"
+        | "learn"
+        | "leave"
+        | "ask" => on_board(rt, trial, board, word, rest),
         "$" => program(rt, trial, rest),
         "load" => load(rt, trial, rest),
         "save" => save(rt, trial, rest),
@@ -199,5 +232,70 @@ fn save<R: Files>(rt: &R, trial: &mut Trial, name: &str) -> Result<Answer, Trial
     match fs::write(rt, name, bytes.as_slice()) {
         Ok(()) => Ok(Answer::Done),
         Err(_) => Ok(Answer::Fault(CommandFault::Device)),
+    }
+}
+
+// `board PLACES`: a board over the disk, which is lent to it until `end-board`.
+fn begin_board<R: Wait>(
+    rt: &R,
+    trial: &mut Trial,
+    board: &mut Option<OpenBoard>,
+    rest: &str,
+) -> Result<Answer, TrialFault> {
+    let places = number(rest)? as usize;
+    if board.is_some() || places == 0 || places > MOST_EVALUATORS {
+        return Err(TrialFault::NotUnderstood);
+    }
+    let disk = trial.take_disk();
+    match OpenBoard::new(rt, trial.alloc, disk, places) {
+        Ok(open) => {
+            if let Some(before) = mem::replace(board, Some(open)) {
+                let _disk = before.end(rt);
+            }
+            Ok(Answer::Done)
+        }
+        Err((fault, disk)) => {
+            trial.put_disk(disk);
+            trial.fault(fault)
+        }
+    }
+}
+
+fn end_board<R: Wait>(
+    rt: &R,
+    trial: &mut Trial,
+    board: &mut Option<OpenBoard>,
+) -> Result<Answer, TrialFault> {
+    let Some(open) = board.take() else {
+        return Err(TrialFault::NotUnderstood);
+    };
+    trial.put_disk(open.end(rt));
+    Ok(Answer::Done)
+}
+
+// What works on the board that is open.
+fn on_board<R: Wait>(
+    rt: &R,
+    trial: &mut Trial,
+    board: &mut Option<OpenBoard>,
+    word: &str,
+    rest: &str,
+) -> Result<Answer, TrialFault> {
+    let Some(board) = board else {
+        return Err(TrialFault::NotUnderstood);
+    };
+    match word {
+        "queue" => board.queue(trial.alloc, rest),
+        "commit" => board.commit(trial, rest),
+        "publish" => board.publish(rt),
+        "is-shown" => board.shown(),
+        "published" => board.published(trial.alloc),
+        "evaluator" => board.seat(rest),
+        "ask" => {
+            let (place, target) = first_word(rest);
+            let body = trial.take_input();
+            board.ask(trial.alloc, place, target, &body)
+        }
+        _ => board.turn(word, rest),
     }
 }
