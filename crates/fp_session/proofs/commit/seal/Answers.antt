@@ -6,6 +6,11 @@ use Rattle.fp_session.specs.Session.{KeepsOrGains}
 use Rattle.fp_session.proofs.Commits.{call_more, honest_on, idle_keeps, leaves_either, weaker}
 use Rattle.fp_session.proofs.commit.seal.Goals as goal
 
+pub returns-in-Err-clause-any_moment : goal.returns-in-Err-clause-any_moment
+returns-in-Err-clause-any_moment g c =
+    let D = g.D.Disk in let old = c.args.store.now in let batch = c.args.draw.changes in let s1 = c.stage.new.store in
+    weaker D old.journal.disk s1.journal.disk (Leaves old) (KeepsOrGains old batch) (leaves_either old old batch refl refl (inl c.requires.rest.0)) c.stage.ensures.any_moment
+
 pub returns-in_default-sync_body-clause-any_moment : goal.returns-in_default-sync_body-clause-any_moment
 returns-in_default-sync_body-clause-any_moment g c =
     let D = g.D.Disk in let old = c.args.store.now in let batch = c.args.draw.changes in let s1 = c.stage.new.store in
