@@ -58,7 +58,8 @@ impl<D: Disk> DiskSession<D> {
         requires opening { opening ≡ store.store }
         requires fresh { IsFresh store store.store.start }
         ensures made { IfOk result (λ s. (s.store ≡ store) × IsReady D.Disk s) }
-        ensures none { IfOk result (λ s. s.desk.waiting ≡ []) }
+        ensures kept { IfOk result (λ s. (flags : State) → IsAhead s.desk flags
+            → flags ≡ flags_of s) }
         ensures flags { IfOk result (λ s. flags_of s ≡ store.store.start) }
         ensures given_back { IfErr result (λ e. e ≡ store) }
     {
@@ -80,6 +81,8 @@ impl<D: Disk> DiskSession<D> {
         ensures only { D.honest disk → IfOk result (λ s. (other : State) →
             StandsFor (D.bytes disk) other → other ≡ flags_of s) }
         ensures ready { IfOk result (λ s. IsReady D.Disk s) }
+        ensures kept { IfOk result (λ s. (flags : State) → IsAhead s.desk flags
+            → flags ≡ flags_of s) }
         ensures fault { D.honest disk → IfErr result (λ e. RefusesBytes (D.bytes disk) e.0) }
         ensures refused { D.honest disk → IfErr result (λ e. IsUnlessWanting (D.bytes disk) e.0) }
         ensures no_failure { IfOk result (λ s. D.faults (disk_of s) ≡ D.faults disk) }
