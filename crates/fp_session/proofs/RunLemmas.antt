@@ -225,6 +225,8 @@ told_up_to-rest is_kept text all r q n waiting h is same =
     let rest = texts_of (first (drop n r.waiting.items)) in
     let whole : first waiting ≡ first (take n r.waiting.items) ++ first (drop n r.waiting.items) =
     ap first (sym is) ∙ ap first (sym (take-append-drop n r.waiting.items)) ∙ ap (λ (l : List Reply). map (told_if is_kept) l) (map-append said (take n r.waiting.items) (drop n r.waiting.items))
-    ∙ map-append (told_if is_kept) (map said (take n r.waiting.items)) (map said (drop n r.waiting.items)) in
-    (rest, ap (λ (l : List ℕ). l ++ rest) (same ∙ h.texts) ∙ append_assoc text (texts_of (first (take n r.waiting.items))) rest
-    ∙ ap (λ (l : List ℕ). text ++ l) (sym (texts_of-append (first (take n r.waiting.items)) (first (drop n r.waiting.items)))) ∙ ap (λ (l : List Reply). text ++ texts_of l) (sym whole))
+    ∙ map-append (told_if is_kept) (map said (take n r.waiting.items)) (map said (drop n r.waiting.items)) in (
+      rest,
+      ap (λ (l : List ℕ). l ++ rest) (same ∙ h.texts) ∙ append_assoc text (texts_of (first (take n r.waiting.items))) rest
+          ∙ ap (λ (l : List ℕ). text ++ l) (sym (texts_of-append (first (take n r.waiting.items)) (first (drop n r.waiting.items)))) ∙ ap (λ (l : List Reply). text ++ texts_of l) (sym whole),
+    )

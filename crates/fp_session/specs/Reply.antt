@@ -118,4 +118,3 @@ said (Revision n) = revision n
 said (Refused e) = refusal_of e
 said (NoEdit f) = fault_of f
 said StoreFailed = store_failed
-

@@ -31,7 +31,7 @@ module _ {D : Type 0} (disk : Ghosts D) where
     called = (
       h.called.0 + k.called.0,
       k.called.1 ∙ ap (λ (l : List CallKind). l ++ calls_of k.called.0) h.called.1 ∙ append_assoc (disk.calls (disk_of a)) (calls_of h.called.0) (calls_of k.called.0)
-      ∙ ap (λ (l : List CallKind). disk.calls (disk_of a) ++ l) (calls_more h.called.0 k.called.0),
+          ∙ ap (λ (l : List CallKind). disk.calls (disk_of a) ++ l) (calls_more h.called.0 k.called.0),
     );
   }
 
@@ -45,5 +45,5 @@ module _ {D : Type 0} (disk : Ghosts D) where
   flags_as a b P Q f h = (
     h.0,
     λ x. leaves_map disk.moment disk.crash_states_since (disk_of a) (disk_of b) (λ o. (flags : State) × P flags × StandsFor o flags) (λ o. (flags : State) × Q flags × StandsFor o flags)
-    (λ o s. (s.0, f s.0 s.1, s.2)) (h.1 x),
+        (λ o s. (s.0, f s.0 s.1, s.2)) (h.1 x),
   )

@@ -152,7 +152,7 @@ impl<D: Disk> EditStore for DiskSession<D> {
     ghost leaves_as = { λ a b P Q f h. flags_as D.Disk a b P Q f h };
 
     fn joins(&self, edit: &Edit) -> bool {
-        !self.is_stopped && self.desk.joins(edit)
+        self.desk.joins(edit) && !self.is_stopped
     }
 
     fn submit(&mut self, edit: Edit) -> Result<u64, EditFault> {

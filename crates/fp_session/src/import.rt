@@ -9,6 +9,7 @@ ghost use Rattle.fp_session.specs.Progress.{Ends, IsAtWith, IsBrokenWith, IsSent
 ghost use Rattle.fp_session.specs.Run.{IsAfterPrefix, IsRunWritten, IsToldBy, after, script};
 ghost use Rattle.fp_session.specs.StoreRun.{StoreRun};
 ghost use Rattle.fp_session.specs.Streams.{Blames};
+ghost use Rattle.fp_session.specs.declared.replies.TheConstants.{MOST_WAITING};
 ghost use Rattle.fp_session.specs.declared.fault.ApplyFault.TheVariants.{Device};
 
 use crate::replies::{Replies, conclude, give_up};
@@ -89,7 +90,13 @@ fn put_flags<W: Write, E: EditStore>(
     let mut replies = Replies::new(alloc);
     for (key, flag) in flags {
         let expect = Expect::Any;
-        put_flag(alloc, w, &mut replies, edits, Edit::Put { key, flag, expect })?;
+        put_flag(
+            alloc,
+            w,
+            &mut replies,
+            edits,
+            Edit::Put { key, flag, expect },
+        )?;
     }
     let ended = replies.end(alloc, edits);
     conclude(w, &mut replies, ended)
@@ -110,7 +117,8 @@ fn put_flag<W: Write, E: EditStore>(
         before (W.contents w.new.inner) replies.new)
         (IsBrokenWith E.EditStore first edits.new (asked ++ Ok (proposal_of put) ∷ [])
         before (W.contents w.new.inner) w.old.failures w.new.failures) }
-    ensures bounded { OnOk result (length replies.new.text.items ≤ 65536) }
+    ensures bounded { OnOk result ((length replies.new.text.items ≤ 65536)
+        × (length replies.new.waiting.items ≤ MOST_WAITING)) }
     ensures device { Blames w.old.failures w.new.failures result }
 {
     match replies.ask(alloc, edits, Ok(put)) {
@@ -120,14 +128,12 @@ fn put_flag<W: Write, E: EditStore>(
 }
 
 // Sends the replies where many wait.
-fn send_long<W: Write>(
-    w: &mut FailureCounted<W>,
-    replies: &mut Replies,
-) -> Result<(), ApplyFault>
+fn send_long<W: Write>(w: &mut FailureCounted<W>, replies: &mut Replies) -> Result<(), ApplyFault>
     ensures sent { (sent : List ℕ) (before : Option (List ℕ))
         → Appends before (W.contents w.old.inner) sent → OnOk result
         (IsSentFurther before (W.contents w.new.inner) sent replies.old replies.new) }
     ensures bounded { OnOk result (length replies.new.text.items ≤ 65536) }
+    ensures waiting { replies.new.waiting ≡ replies.old.waiting }
     ensures failed { IfErr result (λ f. (f ≡ Device) × (w.old.failures < w.new.failures)) }
     ensures device { Blames w.old.failures w.new.failures result }
 {

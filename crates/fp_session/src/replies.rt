@@ -1,6 +1,6 @@
 //! Replies: those that wait until their batch is kept, and the texts of the others.
 
-ghost use Rattle.std.specs.Prelude.{◌≡◌, ◌⊎◌, ◌++◌, ◌&&◌, ◌^◌, [], ◌∷◌, ℕ, List, Bool, Ok, Err, IfErr, OnErr, OnOk, ◌+◌, MatchResult, ◌<◌, ◌≤◌, if◌then◌else◌, is_ok, nat_lt, length, map, true};
+ghost use Rattle.std.specs.Prelude.{◌≡◌, ◌⊎◌, ◌++◌, ◌&&◌, ◌^◌, [], ◌∷◌, ℕ, List, Bool, Ok, Err, IfErr, IfOk, OnErr, OnOk, ◌+◌, MatchResult, ◌<◌, ◌≤◌, if◌then◌else◌, is_ok, nat_lt, length, map, true};
 ghost use Rattle.std.specs.List.{list_all};
 ghost use Rattle.std.specs.Io.KnownBytes.{Appends};
 ghost use Rattle.fp_edit.specs.Edits.{Change, proposal_of};
@@ -10,6 +10,7 @@ ghost use Rattle.fp_session.specs.Asks.{Ask};
 ghost use Rattle.fp_session.specs.Progress.{AsksFor, IsAt, IsBroken, IsEnded, IsToldUpTo, Takes};
 ghost use Rattle.fp_session.specs.Reply.{is_told, said, store_failed, texts_of, told_if};
 ghost use Rattle.fp_session.specs.Streams.{IsFromWithin};
+ghost use Rattle.fp_session.specs.declared.replies.TheConstants.{MOST_WAITING};
 ghost use Rattle.fp_session.specs.declared.fault.ApplyFault.TheVariants as run;
 ghost use Rattle.fp_streams.specs.Failures.{CountsFailures};
 ghost use Rattle.fp_streams.specs.declared.counted.StreamFault.TheVariants.{Device};
@@ -22,6 +23,9 @@ use std::alloc::{AllocError, Global};
 use std::io::Write;
 
 const LONG: usize = 65_536;
+
+/// The most replies that wait until what they tell of is kept.
+pub const MOST_WAITING: usize = 1_024;
 
 /// What is answered, and isn't sent yet: the texts of replies, and behind them those that wait
 /// until what they tell of is kept.
@@ -58,6 +62,8 @@ impl Replies {
             → IsAt E.EditStore first edits.old asked sent self.old → MatchResult result
             (λ _. IsAt E.EditStore first edits.new (asked ++ x ∷ []) sent self.new)
             (IsBroken E.EditStore first edits.new (asked ++ x ∷ []) sent self.new) }
+        ensures bounded { IfOk edit (λ _. OnOk result
+            (length self.new.waiting.items ≤ MOST_WAITING)) }
         ensures fault { IfErr result IsFromWithin }
     {
         match edit {
@@ -80,6 +86,7 @@ impl Replies {
             → IsAt E.EditStore first edits.old asked sent self.old → MatchResult result
             (λ _. IsAt E.EditStore first edits.new (asked ++ Ok (proposal_of edit) ∷ []) sent self.new)
             (IsBroken E.EditStore first edits.new (asked ++ Ok (proposal_of edit) ∷ []) sent self.new) }
+        ensures bounded { OnOk result (length self.new.waiting.items ≤ MOST_WAITING) }
         ensures fault { IfErr result IsFromWithin }
     {
         self.make_place(alloc, edits, &edit)?;
@@ -96,16 +103,18 @@ impl Replies {
         edit: &Edit,
     ) -> Result<(), ApplyFault>
         ensures place { OnOk result (E.has_place edits.new (change_of edit.now)) }
+        ensures room { OnOk result (length self.new.waiting.items < MOST_WAITING) }
         ensures asked { (first : E) (asked : List Ask) (sent : List ℕ)
             → IsAt E.EditStore first edits.old asked sent self.old → MatchResult result
             (λ _. IsAt E.EditStore first edits.new asked sent self.new)
             (IsBroken E.EditStore first edits.new asked sent self.new) }
         ensures fault { IfErr result IsFromWithin }
     {
-        if edits.joins(edit) {
+        if self.waiting.len() < MOST_WAITING && edits.joins(edit) {
             return Ok(());
         }
-        self.seal(alloc, edits)
+        self.seal(alloc, edits)?;
+        Ok(())
     }
 
     /// Has what waits kept, and then tells of it. Where that fails, its replies tell no revision.

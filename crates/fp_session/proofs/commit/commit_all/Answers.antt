@@ -34,7 +34,7 @@ loop-store-preserved g c =
       called = (
         inv.called.0 + 1,
         c.in_ok-commit.ensures.called ∙ ap (λ (l : List CallKind). l ++ calls_of 1) inv.called.1 ∙ append_assoc (D.calls first) (calls_of inv.called.0) (calls_of 1)
-        ∙ ap (λ (l : List CallKind). D.calls first ++ l) (calls_more inv.called.0 1),
+            ∙ ap (λ (l : List CallKind). D.calls first ++ l) (calls_more inv.called.0 1),
       );
       honest = honest_on D first mid last inv.honest w.honest;
     }

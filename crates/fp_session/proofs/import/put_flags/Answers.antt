@@ -9,7 +9,6 @@ use Rattle.fp_session.proofs.Endings.{broken_with-more, concluded}
 use Rattle.fp_session.proofs.ProgressLemmas.{is_at-start}
 use Rattle.fp_session.proofs.import.put_flags.Goals as goal
 
-
 pub loop-key-init : goal.loop-key-init
 loop-key-init g c =
     let gives = c.into_iter-key-iterator.ensures.into_iter_gives in

@@ -21,12 +21,11 @@ loop-at-preserved g c = λ first seen sent h.
     let inv = c.loop-at.invariant first seen sent h in let rest = c.loop-at.rest.now in let at = c.in-Some.at in
     let found = newline_found rest at (sym c.newline_in.ensures.first ∙ c.in-Some.is) in
     let before = inv.0 ++ take at rest in let st = g.E.EditStore in
-    let i = reading-more st first sent c.loop-at.edits inv.0 (take at rest) c.loop-at.replies c.loop-at.line c.extend.new.self inv.2 found.one (c.in_ok-extend.ensures.grown inv.2.line inv.2.held) in
-    (
+    let i = reading-more st first sent c.loop-at.edits inv.0 (take at rest) c.loop-at.replies c.loop-at.line c.extend.new.self inv.2 found.one (c.in_ok-extend.ensures.grown inv.2.line inv.2.held) in (
       before ++ 10 ∷ [],
       ap (λ l. (before ++ 10 ∷ []) ++ l) (rest_is rest at) ∙ append_assoc before (10 ∷ []) (drop (at + 1) rest) ∙ regroup inv.0 rest (seen ++ c.args.bytes.now) at found inv.1,
       reading-newline st first sent c.loop-at.edits c.answer_line.new.edits before c.loop-at.replies c.answer_line.new.replies c.extend.new.self c.answer_line.new.line i
-      (c.in_ok-answer_line.ensures.answered first (asked_by_lines i.done) sent i.line i.held i.none i.at) (c.in_ok-answer_line.ensures.none i.none) c.answer_line.ensures.ended,
+          (c.in_ok-answer_line.ensures.answered first (asked_by_lines i.done) sent i.line i.held i.none i.at) (c.in_ok-answer_line.ensures.none i.none) c.answer_line.ensures.ended,
     )
 
 pub returns-in_err-extend-clause-answered : goal.returns-in_err-extend-clause-answered
