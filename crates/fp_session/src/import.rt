@@ -90,13 +90,8 @@ fn put_flags<W: Write, E: EditStore>(
     let mut replies = Replies::new(alloc);
     for (key, flag) in flags {
         let expect = Expect::Any;
-        put_flag(
-            alloc,
-            w,
-            &mut replies,
-            edits,
-            Edit::Put { key, flag, expect },
-        )?;
+        let put = Edit::Put { key, flag, expect };
+        put_flag(alloc, w, &mut replies, edits, put)?;
     }
     let ended = replies.end(alloc, edits);
     conclude(w, &mut replies, ended)
