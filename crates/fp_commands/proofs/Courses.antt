@@ -1,85 +1,118 @@
--- What a course of edits leaves of a session and its disk.
-use Rattle.std.proofs.Common.{◌≡◌, ◌≢◌, ◌⊎◌, ◌<◌, ◌≤◌, ℕ, List, [], ◌∷◌, Option, IfSome, Ok, Err, Result, refl, sym, ap, subst, inl, inr, ⊎_elim, ◌∙◌, arith}
-use Rattle.fp_disk.specs.Crashes.{EachCrash, SameHonesty}
-use Rattle.fp_disk.specs.Outcomes.{IsOutcome}
+-- What a run over a session leaves of it and of its disk.
+use Rattle.std.proofs.Common.{◌≡◌, ◌⊎◌, ◌<◌, ◌≤◌, ◌++◌, ◌∷◌, [], ℕ, List, Bool, Option, IfSome, Ok, Err, Result, refl, sym, ap, subst, inl, inr, ◌∙◌, arith}
+use Rattle.std.proofs.lemmas.Option.{IfSome_then}
+use Rattle.fp_disk.specs.Crashes.{AtAnyMoment, EachCrash, SameHonesty}
+use Rattle.fp_disk.specs.Moments.{leaves_map, leaves_then}
+use Rattle.fp_disk.specs.Outcomes.{IsOutcome, LeavesOnly}
 use Rattle.fp_disk.specs.declared.disk.Disk.{Ghosts}
-use Rattle.fp_edit.specs.Admits.{Admits, accepted}
-use Rattle.fp_edit.specs.Edits.{Proposal}
+use Rattle.fp_disk.specs.declared.history.CallKind.{CallKind}
+use Rattle.fp_disk.specs.declared.history.CallKind.TheVariants.{Length, Read, Sync}
 use Rattle.fp_edit.specs.Flags.{State}
+use Rattle.fp_edit.specs.Log.{after_all}
+use Rattle.fp_recovery.specs.Durable.{IsDurable}
 use Rattle.fp_recovery.specs.Room.{IsFull}
 use Rattle.fp_recovery.specs.Stands.{StandsFor}
 use Rattle.fp_group_commit.specs.Changes.{batch_len}
-use Rattle.fp_session.specs.Session.{disk_of, Fails, flags_of, IsReady, Keeps, SessionState}
-use Rattle.fp_session.specs.StoreRun.{StoreRun}
+use Rattle.fp_session.specs.Asks.{Ask}
+use Rattle.fp_session.specs.Run.{IsAfterPrefix, IsToldBy}
+use Rattle.fp_session.specs.Session.{calls_of, disk_of, Fails, flags_of, HasPlace, IsAhead, IsReady, Keeps, LacksRoomFor, LeavesFlags, SessionState, StandsAhead}
+use Rattle.fp_session.specs.SessionLaws.{flags_as, flags_on, keeps_itself, keeps_on}
+use Rattle.fp_session.specs.StoreRun.{FailsFrom, StoreRun}
+use Rattle.fp_session.specs.declared.commit.CommitFault.{CommitFault}
+use Rattle.fp_session.specs.declared.commit.CommitFault.TheVariants as commit
+use Rattle.fp_session.specs.declared.edit_store.EditStore.{Ghosts as StoreGhosts}
 use Rattle.fp_session.specs.declared.fault.ApplyFault.{ApplyFault}
 use Rattle.fp_session.specs.declared.fault.ApplyFault.TheVariants.{Device, StoreFailed, Memory, CommitMemory}
-use Rattle.fp_commands.specs.Disks.{LacksRoom}
+use Rattle.fp_commands.specs.Disks.{Asked, CallsBatches, IsLeftOnDisk, IsToldOnDisk, LacksRoom}
 use Rattle.fp_commands.specs.Faults.{of_run}
 use Rattle.fp_commands.specs.declared.fault.CommandFault.TheVariants as command
 
-module _ {D : Type 0} (disk : Ghosts D) (asks : SessionState D → Proposal → Type 0) (a b : SessionState D) where
-  -- how sessions lead to one another, and how they fail
-  abbrev pub CourseOf : {A : Type 0} → Result A ApplyFault → Type 0
-  CourseOf r = StoreRun (λ x y. Keeps disk x y) (λ f x p y. Fails disk f x p y) asks a b r
+-- ---- whatever keeps the flags
+module _ {E : Type 0} (store : StoreGhosts E) (P : State → Type 0) (a b : E) where
+  pub course-goes : {A : Type 0} (r : Result A ApplyFault) (told : A) → r ≡ Ok told → StoreRun store P a b r → store.continues_to a b
+  course-goes {A} r told is k = subst (λ (o : Result A ApplyFault). StoreRun store P a b o) is k
 
-  pub course-honest : {A : Type 0} (r : Result A ApplyFault) → CourseOf r → SameHonesty disk (disk_of a) (disk_of b)
-  course-honest (Ok told) k = k.honest
-  course-honest (Err Device) k = k.honest
-  course-honest (Err Memory) k = k.honest
-  course-honest (Err StoreFailed) f = (λ h. f.failed.honest.0 (f.led.honest.0 h), λ h. f.led.honest.1 (f.failed.honest.1 h))
-  course-honest (Err CommitMemory) f = (λ h. f.failed.honest.0 (f.led.honest.0 h), λ h. f.led.honest.1 (f.failed.honest.1 h))
+  -- where it failed, it was told of nothing else
+  pub course-failed : {A : Type 0} (r : Result A ApplyFault) (f : ApplyFault) → r ≡ Err f → of_run f ≡ command.StoreFailed → StoreRun store P a b r → FailsFrom store P commit.StoreFailed a b
+  course-failed {A} r f is told k = by_fault f told (subst (λ (o : Result A ApplyFault). StoreRun store P a b o) is k)
+    where
+      by_fault : (x : ApplyFault) → of_run x ≡ command.StoreFailed → StoreRun {A = A} store P a b (Err x) → FailsFrom store P commit.StoreFailed a b
+      by_fault Device e h = absurd (cc)
+      by_fault Memory e h = absurd (cc)
+      by_fault CommitMemory e h = absurd (cc)
+      by_fault StoreFailed e h = h
 
-  pub course-goes : {A : Type 0} (r : Result A ApplyFault) (told : A) → r ≡ Ok told → CourseOf r → Keeps disk a b
-  course-goes {A} r told is k = subst (λ (o : Result A ApplyFault). CourseOf o) is k
+-- ---- a session
 
-  -- where a stream failed, the disk didn't
-  pub course-no_failure : (A : Type 0) (f : ApplyFault) → CourseOf {A = A} (Err f) → f ≡ Device → disk.faults (disk_of b) ≡ disk.faults (disk_of a)
-  course-no_failure A Device k is = k.no_failure
-  course-no_failure A Memory k is = k.no_failure
-  course-no_failure A StoreFailed k is = absurd (cc)
-  course-no_failure A CommitMemory k is = absurd (cc)
+-- as a place where edits go
+abbrev pub session_store : {D : Type 0} → Ghosts D → StoreGhosts (SessionState D)
+session_store disk = record {
+  state = λ s. flags_of s;
+  may_stand = λ s flags. IsAhead s.desk flags;
+  has_place = λ s change. HasPlace s change;
+  continues_to = λ a b. Keeps disk a b;
+  fails_on = λ f a b. Fails disk f a b;
+  leaves = λ a b P. LeavesFlags disk a b P;
+  leads_to_itself = λ s. keeps_itself disk s;
+  leads_on = λ a b c h k. keeps_on disk a b c h k;
+  leaves_on = λ a b c P h k. flags_on disk a b c P h k;
+  leaves_as = λ a b P Q f h. flags_as disk a b P Q f h;
+}
 
-  -- Whatever ended it, a crash then leaves a set that has P, if the set that the run came to has it, and if an edit that was asked for comes upon one that has it and leads to one
-  module _ (P : State → Type 0) (here : P (flags_of b)) (asked : (s : SessionState D) (p : Proposal) → asks s p → P (flags_of s) × ((t : State) → Admits (flags_of s) p (accepted t) → P t))
-      (counts_now : (d : D) (t : ℕ) (c : List ℕ) → disk.honest d → t ≤ disk.moment d → IsOutcome (disk.unsynced d) c → disk.crash_states_since d t c)
-      (keeps : IsReady disk b → EachCrash disk (disk_of b) (λ c. StandsFor c (flags_of b))) (ready : IsReady disk a) where
-    abbrev pub StandsForSome : List ℕ → Type 0
-    StandsForSome c = (u : State) × P u × StandsFor c u
+module _ {D : Type 0} (disk : Ghosts D) (d0 d1 : D) (s k : SessionState D) (stands : disk.honest d0 → StandsFor (disk.bytes d0) (flags_of s))
+    (only : disk.honest d0 → (other : State) → StandsFor (disk.bytes d0) other → other ≡ flags_of s) (opened : AtAnyMoment disk d0 (disk_of s) (IsOutcome (disk.unsynced d0)))
+    (honest : SameHonesty disk d0 (disk_of s)) (here : d1 ≡ disk_of k) (P : State → Type 0) (moved : LeavesFlags disk s k P) (left : Option (List ℕ)) (Reads : List ℕ → List Ask → Type 0)
+    (joins : (u v : State) → P u → P v → Asked left Reads (λ asks. IsAfterPrefix (flags_of s) asks u × IsAfterPrefix (flags_of s) asks v)) where
+  leads : disk.honest d0 → (c : List ℕ) → ((u : State) × P u × StandsFor c u) → IsLeftOnDisk (disk.bytes d0) c left Reads
+  leads h c t = λ start there.
+      (t.0, t.2, inr (subst (λ x. Asked left Reads (λ asks. IsAfterPrefix x asks t.0)) (sym (only h start there)) (IfSome_then left (joins t.0 t.0 t.1 t.1) (λ input a. (a.0, a.1, a.2.0)))))
 
-    pub course-leaves : (A : Type 0) (f : ApplyFault) → CourseOf {A = A} (Err f) → EachCrash disk (disk_of b) StandsForSome
-    course-leaves A Device k = λ h c o. (flags_of b, here, keeps (k.ready ready) h c o)
-    course-leaves A Memory k = λ h c o. (flags_of b, here, keeps (k.ready ready) h c o)
-    course-leaves A StoreFailed k = λ h c o.
-        let l = k.failed.leaves (k.led.ready ready) (k.failed.honest.1 h) in let known = asked k.before k.edit k.asked in
-        ⊎_elim (λ s. (flags_of k.before, known.0, s)) (λ t. (t.0, known.1 t.0 t.1, t.2)) (l.each c (counts_now (disk_of b) (disk.moment (disk_of k.before)) c h l.later o))
-    course-leaves A CommitMemory k = λ h c o.
-        let l = k.failed.leaves (k.led.ready ready) (k.failed.honest.1 h) in let known = asked k.before k.edit k.asked in
-        ⊎_elim (λ s. (flags_of k.before, known.0, s)) (λ t. (t.0, known.1 t.0 t.1, t.2)) (l.each c (counts_now (disk_of b) (disk.moment (disk_of k.before)) c h l.later o))
+  -- it keeps its word as before
+  pub ran-honest : SameHonesty disk d0 d1
+  ran-honest = (λ h. subst disk.honest (sym here) (moved.0.0 (honest.0 h)), λ h. honest.1 (moved.0.1 (subst disk.honest here h)))
 
-  -- where it failed, there was no room for the edit that was asked for, or the disk failed
-  pub course-cause : (A : Type 0) (f : ApplyFault) (d : D) (before : ℕ) (is_honest : Type 0) (bytes : List ℕ) (left : Option (List ℕ)) (Stops : State → List ℕ → State → Proposal → Type 0)
-      → disk.faults (disk_of a) ≡ before → CourseOf {A = A} (Err f) → of_run f ≡ command.StoreFailed → IsReady disk a → d ≡ disk_of b → (is_honest → disk.honest d)
-      → (is_honest → StandsFor bytes (flags_of a)) → ((s : SessionState D) (p : Proposal) → asks s p → IfSome left (λ input. Stops (flags_of a) input (flags_of s) p))
-      → LacksRoom is_honest bytes (disk.unsynced d) left Stops ⊎ (before < disk.faults d)
-  course-cause A Device d before is_honest bytes left Stops no_failure k is ready at there stood stops = absurd (cc)
-  course-cause A Memory d before is_honest bytes left Stops no_failure k is ready at there stood stops = absurd (cc)
-  course-cause A CommitMemory d before is_honest bytes left Stops no_failure k is ready at there stood stops = absurd (cc)
-  course-cause A StoreFailed d before is_honest bytes left Stops no_failure k is ready at there stood stops =
-      let failed = k.failed.cause (k.led.ready ready) in
-      elim failed.1 [
-        | inl wants ↦
-            let still : d ≡ disk_of k.before = at ∙ wants.same in
-            inl (record {
-              start = flags_of a;
-              flags = flags_of k.before;
-              edit = k.edit;
-              stood = stood;
-              stops = stops k.before k.edit k.asked;
-              admitted = failed.0;
-              full = λ h. subst (λ (x : D). IsFull (disk.unsynced x) (flags_of k.before) (batch_len (record { first = 0; changes = k.edit.change ∷ [] }))) (sym still) (wants.full (subst disk.honest still (there h)));
-            })
-        | inr more ↦
-            let went : disk.faults (disk_of k.before) ≡ disk.faults (disk_of a) = k.led.no_failure in
-            let same : disk.faults d ≡ disk.faults (disk_of b) = ap disk.faults at in
-            inr (omega (arith, more, went, same, no_failure))
-      ]
+  -- at each moment of it
+  pub ran-any_moment : AtAnyMoment disk d0 d1 (λ c. IsOutcome (disk.unsynced d0) c ⊎ IsLeftOnDisk (disk.bytes d0) c left Reads)
+  ran-any_moment = λ h.
+      let m = disk.moment in let since = disk.crash_states_since in let Q : List ℕ → Type 0 = λ c. IsOutcome (disk.unsynced d0) c ⊎ IsLeftOnDisk (disk.bytes d0) c left Reads in
+      subst (λ x. LeavesOnly m since d0 x Q) (sym here)
+      (leaves_then m since d0 (disk_of s) (disk_of k) Q (leaves_map m since d0 (disk_of s) (IsOutcome (disk.unsynced d0)) Q (λ c o. inl o) (opened h))
+      (leaves_map m since (disk_of s) (disk_of k) (λ c. (u : State) × P u × StandsFor c u) Q (λ c t. inr (leads h c t)) (moved.1 (honest.0 h))))
+
+  -- at its end
+  pub ran-left : ((x : D) (t : ℕ) (c : List ℕ) → disk.honest x → t ≤ disk.moment x → IsOutcome (disk.unsynced x) c → disk.crash_states_since x t c) → ((x : D) → disk.honest x → IsOutcome (disk.unsynced x) (disk.bytes x))
+      → disk.honest d0 → IsLeftOnDisk (disk.bytes d0) (disk.bytes d1) left Reads
+  ran-left counts_now present h =
+      let l = moved.1 (honest.0 h) in let there = moved.0.0 (honest.0 h) in
+      subst (λ x. IsLeftOnDisk (disk.bytes d0) (disk.bytes x) left Reads) (sym here)
+      (leads h (disk.bytes (disk_of k)) (l.each (disk.bytes (disk_of k)) (counts_now (disk_of k) (disk.moment (disk_of s)) (disk.bytes (disk_of k)) there l.later (present (disk_of k) there))))
+
+  -- what was told of it
+  pub ran-told : (old new : Option (List ℕ)) → disk.honest d0 → EachCrash disk d1 (StandsAhead k.desk) → ((u : State) → IsAhead k.desk u → Asked left Reads (λ asks. IsToldBy (flags_of s) asks old new u))
+      → EachCrash disk d1 (λ c. IsToldOnDisk (disk.bytes d0) c left Reads old new)
+  ran-told old new h0 keeps tells = λ h c o.
+      let t = keeps h c o in λ start there. (t.0, t.2, subst (λ x. Asked left Reads (λ asks. IsToldBy x asks old new t.0)) (sym (only h0 start there)) (tells t.0 t.1))
+
+  -- why it failed
+  pub ran-cause : (x : SessionState D) → Keeps disk s x → ((u : State) → IsAhead x.desk u → P u) → Fails disk commit.StoreFailed x k → IsReady disk s → disk.faults (disk_of s) ≡ disk.faults d0
+      → LacksRoom (disk.honest d0) (disk.bytes d0) (disk.unsynced d1) left Reads ⊎ (disk.faults d0 < disk.faults d1)
+  ran-cause x led asked failed ready well = by_cause (failed.cause (led.ready ready))
+    where
+      by_cause : LacksRoomFor disk x.desk (disk_of k) ⊎ (disk.faults (disk_of x) < disk.faults (disk_of k)) → LacksRoom (disk.honest d0) (disk.bytes d0) (disk.unsynced d1) left Reads ⊎ (disk.faults d0 < disk.faults d1)
+      by_cause (inl lacks) = inl (record {
+        start = flags_of s;
+        flags = lacks.flags;
+        batch = lacks.batch;
+        stood = stands;
+        some = lacks.some;
+        asked = joins lacks.flags (after_all lacks.flags lacks.batch) (asked lacks.flags lacks.from) (asked (after_all lacks.flags lacks.batch) lacks.to);
+        full = λ h. subst (λ y. IsFull (disk.unsynced y) lacks.flags (batch_len (record { first = 0; changes = lacks.batch }))) (sym here) (lacks.full (moved.0.0 (honest.0 h)));
+      })
+      by_cause (inr more) = let same = led.no_failure in let at = ap disk.faults here in inr (omega (arith, more, same, at, well))
+
+  -- ---- where it went on
+  pub ran-called : Keeps disk s k → disk.calls (disk_of s) ≡ disk.calls d0 ++ Sync ∷ Length ∷ Read ∷ [] → CallsBatches (disk.calls d0) (disk.calls d1)
+  ran-called went called = (went.called.0, ap disk.calls here ∙ went.called.1 ∙ ap (λ (l : List CallKind). l ++ calls_of went.called.0) called)
+
+  pub ran-sure : EachCrash disk d1 (StandsAhead k.desk) → ((u : State) → IsAhead k.desk u → u ≡ flags_of k) → disk.honest d0 → IsDurable (disk.unsynced d1) (flags_of k)
+  ran-sure keeps settled h = λ c o. let t = keeps (ran-honest.0 h) c o in subst (λ u. StandsFor c u) (settled t.0 t.1) t.2

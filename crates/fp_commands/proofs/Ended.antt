@@ -1,7 +1,5 @@
 -- How a task ends.
 use Rattle.std.proofs.Common.{◌≡◌, ◌≤◌, ◌+◌, ℕ, Bool, Result, Ok, Err, IfErr, OnOk, subst, arith}
-use Rattle.fp_edit.specs.Edits.{Proposal}
-use Rattle.fp_session.specs.StoreRun.{StoreRun}
 use Rattle.fp_session.specs.Streams as plane
 use Rattle.fp_session.specs.declared.fault.ApplyFault.{ApplyFault}
 use Rattle.fp_session.specs.declared.fault.ApplyFault.TheVariants as run
@@ -11,15 +9,6 @@ use Rattle.fp_streams.specs.declared.counted.StreamFault.TheVariants as stream
 use Rattle.fp_commands.specs.declared.fault.CommandFault.{CommandFault}
 use Rattle.fp_commands.specs.Disks.{Blames, IsStreamFault}
 use Rattle.fp_commands.specs.Faults.{of_run}
-
--- flags that are kept in memory don't fail
-pub memory-ends : {S : Type 0} (asks : S → Proposal → Type 0) (a b : S) (before after : ℕ) (f : ApplyFault)
-    → StoreRun {A = Bool} (λ x y. Unit {0}) (λ f x p y. ⊥) asks a b (Err f) → plane.Blames {A = Bool} before after (Err f)
-    → IsStreamFault (of_run f) × Blames {A = Unit {0}} before after (Err (of_run f))
-memory-ends asks a b before after run.Device k h = (tt, h)
-memory-ends asks a b before after run.StoreFailed k h = absurd k.failed
-memory-ends asks a b before after run.Memory k h = (tt, tt)
-memory-ends asks a b before after run.CommitMemory k h = absurd k.failed
 
 -- a file that was opened had not failed
 pub file-no_failure : {A : Type 0} (r : Result A CommandFault) (a : A) (d e s t : ℕ) → r ≡ Ok a → d ≡ 0 → Blames (d + s) (e + t) r → t ≤ s

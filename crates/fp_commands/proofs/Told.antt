@@ -2,14 +2,6 @@
 use Rattle.std.proofs.Common.{◌≡◌, List, [], ◌∷◌, ◌++◌, sym, ◌∙◌, append_assoc, ℕ, Bool, Option, Some, None, Result, Ok, Err, IfSome, IfOk, OnOk, refl, subst}
 use Rattle.std.proofs.lemmas.Option.{IfSome_then}
 use Rattle.fp_edit.specs.Flags.{State}
-use Rattle.fp_session.specs.Lines.{lines, answered}
-use Rattle.fp_edit.specs.Admits.{Admits, accepted}
-use Rattle.fp_edit.specs.Edits.{Proposal}
-use Rattle.fp_session.specs.Reply.{Reply, revision}
-use Rattle.fp_session.specs.Script.{proposed}
-use Rattle.fp_session.specs.Verdicts.{AnswersBy, IsAfterPrefix, StopsBefore, Verdict}
-use Rattle.fp_session.proofs.VerdictLemmas.{accepted-answers, run-append}
-use Rattle.fp_session.specs.Run.{IsLeftBy, IsApplied}
 use Rattle.fp_layout.specs.declared.fault.OpenFault.{OpenFault}
 use Rattle.fp_layout.specs.declared.fault.OpenFault.TheVariants.{Unformatted, UnknownVersion, Damaged, Device, Memory}
 use Rattle.fp_session.specs.declared.fault.ApplyFault.{ApplyFault}
@@ -134,25 +126,3 @@ file_refused-document P left (command.UnknownEvaluator name) h = tt
 file_refused-document P left command.EvaluatorsTooDeep h = tt
 file_refused-document P left command.BadKey h = tt
 file_refused-document P left (command.Flag key fault) h = tt
-
--- no line was answered
-pub left-at_once : (start : State) (input : List ℕ) → IsLeftBy start input start
-left-at_once start input = record { done = []; later = answered (lines input); replies = []; split = refl; run = refl }
-
--- ---- where a run stopped
-pub stopped_stays : {A : Type 0} (judge : Verdict A) (Asks : A → Proposal → Type 0) (start : State) (xs : List A) (now : State) (p : Proposal) → StopsBefore judge Asks start xs now p → IsAfterPrefix judge start xs now
-stopped_stays judge Asks start xs now p s = record { done = s.done; later = s.next ∷ s.later; replies = s.replies; split = s.split; run = s.run }
-
--- and where the edit at which it stopped was made
-pub stopped_made : {A : Type 0} (judge : Verdict A) (Asks : A → Proposal → Type 0) (start : State) (xs : List A) (now t : State) (p : Proposal) → ((x : A) (r : Reply) → Asks x p → AnswersBy proposed now p r t → AnswersBy judge now x r t)
-    → Admits now p (accepted t) → StopsBefore judge Asks start xs now p → IsAfterPrefix judge start xs t
-stopped_made judge Asks start xs now t p alike admits s =
-    let r = revision t.revision in
-    let answers : AnswersBy judge now s.next r t = alike s.next r s.asks (accepted-answers now t p t.revision admits refl) in
-    record {
-      done = s.done ++ s.next ∷ [];
-      later = s.later;
-      replies = s.replies ++ r ∷ [];
-      split = s.split ∙ sym (append_assoc s.done (s.next ∷ []) s.later);
-      run = run-append judge start now t s.done (s.next ∷ []) s.replies (r ∷ []) s.run (t, answers, refl);
-    }

@@ -1,21 +1,21 @@
 -- What a command over a disk comes to.
-use Rattle.std.specs.Prelude.{◌≡◌, ◌⊎◌, ◌<◌, ℕ, List, [], ◌∷◌, Bool, true, Option, None, IfSome, Result, Ok, Err}
+use Rattle.std.specs.Prelude.{◌≡◌, ◌⊎◌, ◌<◌, ℕ, List, [], ◌∷◌, ◌++◌, length, Bool, true, Option, None, IfSome, Result, Ok, Err}
 use Rattle.std.specs.Io.KnownBytes.{Appends}
 use Rattle.fp_disk.specs.Crashes.{AtAnyMoment}
 use Rattle.fp_disk.specs.History.{MakesSome}
 use Rattle.fp_disk.specs.Outcomes.{PendingState, IsOutcome}
 use Rattle.fp_disk.specs.declared.disk.Disk.{Ghosts}
 use Rattle.fp_disk.specs.declared.history.CallKind.TheVariants.{Length, Read, Sync}
-use Rattle.fp_edit.specs.Admits.{refusal}
-use Rattle.fp_edit.specs.Edits.{Proposal}
 use Rattle.fp_edit.specs.Flags.{State}
 use Rattle.fp_layout.specs.declared.fault.OpenFault.{OpenFault}
 use Rattle.fp_layout.specs.declared.fault.OpenFault.TheVariants as opening
 use Rattle.fp_imports.specs.Document as document
-use Rattle.fp_session.specs.Import.{IsImport, IsLeftByPuts, IsStoppedByPuts, import_script, after_import}
-use Rattle.fp_session.specs.Run.{IsRunOver}
-use Rattle.fp_session.specs.Script.{script, after_input}
-use Rattle.fp_session.specs.Verdicts.{show_line}
+use Rattle.fp_edit.specs.Edits.{Change}
+use Rattle.fp_edit.specs.Log.{after_all}
+use Rattle.fp_session.specs.Asks.{Ask, asked_by_flags, asked_by_input}
+use Rattle.fp_session.specs.Run.{after, IsAfterPrefix, IsRunWritten, IsToldBy, script, show_line}
+use Rattle.fp_session.specs.Session.{calls_of}
+use Rattle.fp_disk.specs.declared.history.CallKind.{CallKind}
 use Rattle.fp_recovery.specs.Durable.{IsDurable}
 use Rattle.fp_recovery.specs.Refusals.{RefusesBytes, StandsForNone}
 use Rattle.fp_recovery.specs.Room.{IsFull}
@@ -96,44 +96,59 @@ pub record IsShown (is_honest : Type 0) (bytes : List ℕ) (old new : Option (Li
   pub stood : is_honest → StandsFor bytes flags
   pub written : Appends old new (show_line flags)
 
--- what a run over the input writes, and where it leads the flags
-abbrev pub Applies : Bool → Option (List ℕ) → Option (List ℕ) → State → List ℕ → State → Type 0
-Applies told old new start input flags = IsRunOver start input told old new flags × (told ≡ true → Appends old new (script start input) × (flags ≡ after_input start input))
+-- ---- what is asked of it
 
--- the same of the puts of a document
-abbrev pub Imports : Bool → Option (List ℕ) → Option (List ℕ) → State → List ℕ → State → Type 0
-Imports told old new start input flags = (puts : List document.Flag) × (import_of input ≡ Ok puts) × IsImport start puts told old new flags
-    × (told ≡ true → Appends old new (import_script start puts) × (flags ≡ after_import start puts))
+-- what the lines of an input ask
+abbrev pub AskedByLines : List ℕ → List Ask → Type 0
+AskedByLines input asks = asks ≡ asked_by_input input
 
--- the input leads from what the bytes stood for to what every crash leaves now
-pub record IsRunOnDisk (is_honest : Type 0) (bytes : List ℕ) (after : PendingState) (left : Option (List ℕ)) (Leads : State → List ℕ → State → Type 0) : Type 0 where
+-- a put for each flag of the document that the input is
+abbrev pub AskedByDocument : List ℕ → List Ask → Type 0
+AskedByDocument input asks = (flags : List document.Flag) × (import_of input ≡ Ok flags) × (asks ≡ asked_by_flags flags)
+
+-- of what the reader gives, read in this way, this holds
+abbrev pub Asked : Option (List ℕ) → (List ℕ → List Ask → Type 0) → (List Ask → Type 0) → Type 0
+Asked left Reads Holds = IfSome left (λ input. (asks : List Ask) × Reads input asks × Holds asks)
+
+-- all that is asked was answered, and the flags are shown: where memory didn't want, by the script
+abbrev pub IsRunOver : State → Bool → Option (List ℕ) → Option (List ℕ) → State → List Ask → Type 0
+IsRunOver start told old new flags asks = IsRunWritten start asks told old new flags
+    × (told ≡ true → Appends old new (script start asks) × (flags ≡ after start asks))
+
+-- it led from what the bytes stood for to what every crash leaves now
+pub record IsRunOnDisk (is_honest : Type 0) (bytes : List ℕ) (now : PendingState) (left : Option (List ℕ))
+    (Reads : List ℕ → List Ask → Type 0) (told : Bool) (old new : Option (List ℕ)) : Type 0 where
   pub start : State
   pub flags : State
   pub stood : is_honest → StandsFor bytes start
-  pub sure : is_honest → IsDurable after flags
-  pub run : IfSome left (λ input. Leads start input flags)
+  pub sure : is_honest → IsDurable now flags
+  pub run : Asked left Reads (IsRunOver start told old new flags)
 
--- some first puts of the document lead there; none do where it is no document
-abbrev pub IsLeftByImport : State → List ℕ → State → Type 0
-IsLeftByImport start input flags = (flags ≡ start) ⊎ ((puts : List document.Flag) × (import_of input ≡ Ok puts) × IsLeftByPuts start puts flags)
+-- whatever the bytes stood for, they stand for that, or for what some first of what is asked makes of it
+abbrev pub IsLeftOnDisk : List ℕ → List ℕ → Option (List ℕ) → (List ℕ → List Ask → Type 0) → Type 0
+IsLeftOnDisk before now left Reads = (start : State) → StandsFor before start → (flags : State) × StandsFor now flags
+    × ((flags ≡ start) ⊎ Asked left Reads (λ asks. IsAfterPrefix start asks flags))
 
--- whatever the bytes stood for, they stand for what some beginning of the input makes of it
-abbrev pub IsLeftOnDisk : List ℕ → List ℕ → Option (List ℕ) → (State → List ℕ → State → Type 0) → Type 0
-IsLeftOnDisk before after left Leaves = (start : State) → StandsFor before start → IfSome left (λ input. (flags : State) × Leaves start input flags × StandsFor after flags)
+-- and for flags that hold all that was told
+abbrev pub IsToldOnDisk : List ℕ → List ℕ → Option (List ℕ) → (List ℕ → List Ask → Type 0) → (old new : Option (List ℕ)) → Type 0
+IsToldOnDisk before now left Reads old new = (start : State) → StandsFor before start → (flags : State) × StandsFor now flags
+    × Asked left Reads (λ asks. IsToldBy start asks old new flags)
 
--- some first puts of the document were answered, and the next one is this edit
-abbrev pub IsStoppedByImport : State → List ℕ → State → Proposal → Type 0
-IsStoppedByImport start input flags edit = (puts : List document.Flag) × (import_of input ≡ Ok puts) × IsStoppedByPuts start puts flags edit
-
--- the flags that some beginning of the input led to admit the next edit of it, for which whatever a crash leaves of the disk has no room
-pub record LacksRoom (is_honest : Type 0) (bytes : List ℕ) (after : PendingState) (left : Option (List ℕ)) (Stops : State → List ℕ → State → Proposal → Type 0) : Type 0 where
+-- Flags that some first of what is asked led to, and edits behind them that more of it asks for, for which whatever a
+-- crash leaves of the disk has no room
+pub record LacksRoom (is_honest : Type 0) (bytes : List ℕ) (now : PendingState) (left : Option (List ℕ))
+    (Reads : List ℕ → List Ask → Type 0) : Type 0 where
   pub start : State
   pub flags : State
-  pub edit : Proposal
+  pub batch : List Change
   pub stood : is_honest → StandsFor bytes start
-  pub stops : IfSome left (λ input. Stops start input flags edit)
-  pub admitted : refusal flags edit ≡ None
-  pub full : is_honest → IsFull after flags (batch_len (record { first = 0; changes = edit.change ∷ [] }))
+  pub some : 0 < length batch
+  pub asked : Asked left Reads (λ asks. IsAfterPrefix start asks flags × IsAfterPrefix start asks (after_all flags batch))
+  pub full : is_honest → IsFull now flags (batch_len (record { first = 0; changes = batch }))
+
+-- the disk was opened, and its calls then were those of whole batches
+abbrev pub CallsBatches : (old new : List CallKind) → Type 0
+CallsBatches old new = (n : ℕ) × (new ≡ (old ++ Sync ∷ Length ∷ Read ∷ []) ++ calls_of n)
 
 -- ---- what failed
 

@@ -9,9 +9,11 @@ use Rattle.fp_files.specs.Lending.{IsLentOnce, IsNotOpened, IsThere, IsThereOrNe
 use Rattle.fp_files.specs.declared.files.DiskFiles.{Ghosts as FileGhosts}
 use Rattle.fp_layout.specs.NewDisk.{IsNewDisk, format_calls}
 use Rattle.fp_recovery.specs.Durable.{IsNewSetOrNone, IsDurable}
-use Rattle.fp_session.specs.Run.{IsApplied, IsLeftBy, IsStoppedBy}
+use Rattle.fp_edit.specs.Flags.{State}
+use Rattle.fp_session.specs.Asks.{Ask, asked_by_input}
+use Rattle.fp_session.specs.Run.{IsRunWritten}
 use Rattle.fp_streams.specs.Failures.{Stream}
-use Rattle.fp_commands.specs.Disks.{Applies, Blames, IfFileRefused, IfRefused, Imports, IsApplyingFault, IsImportingFault, IsLeftByImport, IsLeftOnDisk, IsMakingFault, IsOnlyRead, IsRunOnDisk, IsShowingFault, IsShown, IsStreamFault, IsStoppedByImport, LacksRoom}
+use Rattle.fp_commands.specs.Disks.{AskedByDocument, AskedByLines, Blames, CallsBatches, IfFileRefused, IfRefused, IsApplyingFault, IsImportingFault, IsLeftOnDisk, IsMakingFault, IsOnlyRead, IsRunOnDisk, IsShowingFault, IsShown, IsStreamFault, IsToldOnDisk, LacksRoom}
 use Rattle.fp_commands.specs.Eval.{IsEvaluated}
 use Rattle.fp_commands.specs.Task.{no_flags}
 use Rattle.fp_commands.specs.declared.fault.CommandFault.{CommandFault}
@@ -33,7 +35,7 @@ failures o = o.reader.failures + o.writer.failures
 abbrev pub AppliesInMemory : {R W : Type 0} → (R → Option (List ℕ)) → (W → Option (List ℕ)) → Stream R → Stream R
     → Stream W → Stream W → Result (Unit {0}) CommandFault → Type 0
 AppliesInMemory remaining contents r0 r w0 w (Ok x) = IfSome (remaining r0.inner) (λ input.
-    IsApplied no_flags input (contents w0.inner) (contents w.inner))
+    (told : Bool) × (flags : State) × IsRunWritten no_flags (asked_by_input input) told (contents w0.inner) (contents w.inner) flags)
 AppliesInMemory remaining contents r0 r w0 w (Err f) = IsStreamFault f
     × Blames {A = Unit {0}} (r0.failures + w0.failures) (r.failures + w.failures) (Err f)
 
@@ -72,52 +74,40 @@ pub record ShowsDisk {F R W D : Type 0} (disk : DiskGhosts D) (contents : W → 
   pub no_failure : OnOk outcome (disk.faults after ≡ disk.faults before)
   pub honest : SameHonesty disk before after
 
--- the lines that were read were answered, and led what the disk stood for to what it stands for
-pub record AppliesToDisk {F R W D : Type 0} (disk : DiskGhosts D) (remaining : R → Option (List ℕ))
-    (contents : W → Option (List ℕ)) (old new : Outside F R W) (before after : D)
-    (outcome : Result Bool CommandFault) : Type 0 where
-  pub run : IfOk outcome (λ told. IsRunOnDisk (disk.honest before) (disk.bytes before)
-      (disk.unsynced after) (remaining old.reader.inner)
-      (Applies told (contents old.writer.inner) (contents new.writer.inner)))
-  pub left : disk.honest before → IfErr outcome (λ f.
-      IsLeftOnDisk (disk.bytes before) (disk.bytes after) (remaining old.reader.inner) IsLeftBy)
-  pub crash : disk.honest before → IfErr outcome (λ f. EachCrash disk after
-      (λ c. IsOutcome (disk.unsynced before) c
-      ⊎ IsLeftOnDisk (disk.bytes before) c (remaining old.reader.inner) IsLeftBy))
-  pub fault : IfErr outcome (IsApplyingFault (disk.honest before) (disk.bytes before))
+-- what is asked of it, read from the reader in this way, was answered, and led what the disk stood for to what it stands for
+pub record RunsOnDisk {F R W D : Type 0} (disk : DiskGhosts D) (remaining : R → Option (List ℕ)) (contents : W → Option (List ℕ))
+    (Reads : List ℕ → List Ask → Type 0) (MayEnd : Type 0 → List ℕ → Option (List ℕ) → CommandFault → Type 0)
+    (old new : Outside F R W) (before after : D) (outcome : Result Bool CommandFault) : Type 0 where
+  pub run : IfOk outcome (λ told. IsRunOnDisk (disk.honest before) (disk.bytes before) (disk.unsynced after)
+      (remaining old.reader.inner) Reads told (contents old.writer.inner) (contents new.writer.inner))
+  pub called : OnOk outcome (CallsBatches (disk.calls before) (disk.calls after))
+  pub left : disk.honest before →
+      IsLeftOnDisk (disk.bytes before) (disk.bytes after) (remaining old.reader.inner) Reads
+  pub any_moment : AtAnyMoment disk before after (λ c. IsOutcome (disk.unsynced before) c
+      ⊎ IsLeftOnDisk (disk.bytes before) c (remaining old.reader.inner) Reads)
+  pub told : disk.honest before → IfErr outcome (λ f. new.writer.failures ≡ old.writer.failures → (new.writer ≡ old.writer)
+      ⊎ EachCrash disk after (λ c. IsToldOnDisk (disk.bytes before) c (remaining old.reader.inner) Reads
+      (contents old.writer.inner) (contents new.writer.inner)))
+  pub fault : IfErr outcome (MayEnd (disk.honest before) (disk.bytes before) (remaining old.reader.inner))
   pub nothing_written : IfErr outcome (IfRefused (new.writer ≡ old.writer))
   pub only_read : IfErr outcome (IfRefused (IsOnlyRead disk before after))
   pub unread : IfErr outcome (IfFileRefused (new.reader ≡ old.reader))
-  pub cause : IfErr outcome (λ f. f ≡ StoreFailed
-      → LacksRoom (disk.honest before) (disk.bytes before) (disk.unsynced after)
-      (remaining old.reader.inner) IsStoppedBy ⊎ (disk.faults before < disk.faults after))
+  pub cause : IfErr outcome (λ f. f ≡ StoreFailed → LacksRoom (disk.honest before) (disk.bytes before)
+      (disk.unsynced after) (remaining old.reader.inner) Reads ⊎ (disk.faults before < disk.faults after))
   pub device : Blames (disk.faults before + failures old) (disk.faults after + failures new) outcome
   pub no_failure : OnOk outcome (disk.faults after ≡ disk.faults before)
   pub honest : SameHonesty disk before after
 
--- the same of the puts of a document
-pub record ImportsToDisk {F R W D : Type 0} (disk : DiskGhosts D) (remaining : R → Option (List ℕ))
-    (contents : W → Option (List ℕ)) (old new : Outside F R W) (before after : D)
-    (outcome : Result Bool CommandFault) : Type 0 where
-  pub run : IfOk outcome (λ told. IsRunOnDisk (disk.honest before) (disk.bytes before)
-      (disk.unsynced after) (remaining old.reader.inner)
-      (Imports told (contents old.writer.inner) (contents new.writer.inner)))
-  pub left : disk.honest before → IfErr outcome (λ f. IsLeftOnDisk
-      (disk.bytes before) (disk.bytes after) (remaining old.reader.inner) IsLeftByImport)
-  pub crash : disk.honest before → IfErr outcome (λ f. EachCrash disk after
-      (λ c. IsOutcome (disk.unsynced before) c
-      ⊎ IsLeftOnDisk (disk.bytes before) c (remaining old.reader.inner) IsLeftByImport))
-  pub fault : IfErr outcome (IsImportingFault (disk.honest before) (disk.bytes before)
-      (remaining old.reader.inner))
-  pub nothing_written : IfErr outcome (IfRefused (new.writer ≡ old.writer))
-  pub only_read : IfErr outcome (IfRefused (IsOnlyRead disk before after))
-  pub unread : IfErr outcome (IfFileRefused (new.reader ≡ old.reader))
-  pub cause : IfErr outcome (λ f. f ≡ StoreFailed
-      → LacksRoom (disk.honest before) (disk.bytes before) (disk.unsynced after)
-      (remaining old.reader.inner) IsStoppedByImport ⊎ (disk.faults before < disk.faults after))
-  pub device : Blames (disk.faults before + failures old) (disk.faults after + failures new) outcome
-  pub no_failure : OnOk outcome (disk.faults after ≡ disk.faults before)
-  pub honest : SameHonesty disk before after
+-- the lines that were read, and the puts of the document that was
+abbrev pub AppliesToDisk : {F R W D : Type 0} → DiskGhosts D → (R → Option (List ℕ)) → (W → Option (List ℕ))
+    → Outside F R W → Outside F R W → D → D → Result Bool CommandFault → Type 0
+AppliesToDisk disk remaining contents old new before after outcome =
+    RunsOnDisk disk remaining contents AskedByLines (λ is_honest c left. IsApplyingFault is_honest c) old new before after outcome
+
+abbrev pub ImportsToDisk : {F R W D : Type 0} → DiskGhosts D → (R → Option (List ℕ)) → (W → Option (List ℕ))
+    → Outside F R W → Outside F R W → D → D → Result Bool CommandFault → Type 0
+ImportsToDisk disk remaining contents old new before after outcome =
+    RunsOnDisk disk remaining contents AskedByDocument IsImportingFault old new before after outcome
 
 -- the reply for a flag of what the disk stands for was written, and nothing on the disk
 pub record EvaluatesOnDisk {F R W D : Type 0} (disk : DiskGhosts D) (remaining : R → Option (List ℕ))

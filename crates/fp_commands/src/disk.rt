@@ -7,10 +7,9 @@ ghost use Rattle.fp_disk.specs.History.{Makes, MakesSome};
 ghost use Rattle.fp_disk.specs.Outcomes.{IsOutcome, LeavesOnly, all_synced};
 ghost use Rattle.fp_disk.specs.declared.history.CallKind.TheVariants.{Length, Read, Sync};
 ghost use Rattle.fp_layout.specs.NewDisk.{IsNewDisk, format_calls};
-ghost use Rattle.fp_session.specs.Run.{IsLeftBy, IsStoppedBy};
-ghost use Rattle.fp_session.specs.Verdicts.{show_line};
+ghost use Rattle.fp_session.specs.Run.{show_line};
 ghost use Rattle.fp_recovery.specs.Durable.{IsNewSetOrNone, IsDurable};
-ghost use Rattle.fp_commands.specs.Disks.{Applies, Blames, IfFileRefused, IfRefused, Imports, IsApplyingFault, IsImportingFault, IsLeftByImport, IsLeftOnDisk, IsMakingFault, IsOnlyRead, IsRunOnDisk, IsShowingFault, IsShown, IsStoppedByImport, IsStreamFault, LacksRoom};
+ghost use Rattle.fp_commands.specs.Disks.{AskedByDocument, AskedByLines, Blames, CallsBatches, IfFileRefused, IfRefused, IsApplyingFault, IsImportingFault, IsLeftOnDisk, IsMakingFault, IsOnlyRead, IsRunOnDisk, IsShowingFault, IsShown, IsStreamFault, IsToldOnDisk, LacksRoom};
 ghost use Rattle.fp_commands.specs.Task.{no_flags};
 ghost use Rattle.fp_commands.specs.declared.fault.CommandFault.TheVariants.{Device, Memory, NotEmpty, StoreFailed};
 
@@ -88,23 +87,28 @@ pub fn apply_disk<D: Disk, R: Read, W: Write>(
     disk: D,
 ) -> (D, Result<bool, CommandFault>)
     ensures run { IfOk result.1 (λ told. IsRunOnDisk (D.honest disk) (D.bytes disk)
-        (D.unsynced result.0) (R.remaining r.old.inner)
-        (Applies told (W.contents w.old.inner) (W.contents w.new.inner))) }
+        (D.unsynced result.0) (R.remaining r.old.inner) AskedByLines told
+        (W.contents w.old.inner) (W.contents w.new.inner)) }
+    ensures called { OnOk result.1 (CallsBatches (D.calls disk) (D.calls result.0)) }
 
-    // At a fault too the disk stands for what some first lines leave, and so does whatever a crash leaves then, but for
-    // what one might have left before.
-    ensures left { D.honest disk → IfErr result.1 (λ _.
-        IsLeftOnDisk (D.bytes disk) (D.bytes result.0) (R.remaining r.old.inner) IsLeftBy) }
-    ensures crash { D.honest disk → IfErr result.1 (λ _. EachCrash D.Disk result.0
-        (λ c. IsOutcome (D.unsynced disk) c
-        ⊎ IsLeftOnDisk (D.bytes disk) c (R.remaining r.old.inner) IsLeftBy)) }
+    // Whatever comes back, the disk stands for what some first lines leave, and so does whatever a crash leaves at any
+    // moment, but for what one might have left before.
+    ensures left { D.honest disk →
+        IsLeftOnDisk (D.bytes disk) (D.bytes result.0) (R.remaining r.old.inner) AskedByLines }
+    ensures any_moment { AtAnyMoment D.Disk disk result.0 (λ c. IsOutcome (D.unsynced disk) c
+        ⊎ IsLeftOnDisk (D.bytes disk) c (R.remaining r.old.inner) AskedByLines) }
+
+    // At a fault nothing was written, or no more than what flags hold that each crash then leaves, unless the writer failed.
+    ensures told { D.honest disk → IfErr result.1 (λ _. w.new.failures ≡ w.old.failures → (w.new ≡ w.old)
+        ⊎ EachCrash D.Disk result.0 (λ c. IsToldOnDisk (D.bytes disk) c
+        (R.remaining r.old.inner) AskedByLines (W.contents w.old.inner) (W.contents w.new.inner))) }
     ensures fault { IfErr result.1 (IsApplyingFault (D.honest disk) (D.bytes disk)) }
     ensures nothing_written { IfErr result.1 (IfRefused (w.new ≡ w.old)) }
 
-    // The store fails where the disk does, or has no room for an edit that the input asks for.
+    // The store fails where the disk does, or has no room for edits that are asked for.
     ensures cause { IfErr result.1 (λ f. f ≡ StoreFailed
         → LacksRoom (D.honest disk) (D.bytes disk) (D.unsynced result.0)
-        (R.remaining r.old.inner) IsStoppedBy ⊎ (D.faults disk < D.faults result.0)) }
+        (R.remaining r.old.inner) AskedByLines ⊎ (D.faults disk < D.faults result.0)) }
 
     // Where the bytes or what was read is refused, the disk was only read, and a file is refused before anything is read.
     ensures only_read { IfErr result.1 (IfRefused (IsOnlyRead D.Disk disk result.0)) }
@@ -138,24 +142,28 @@ pub fn import_disk<D: Disk, R: Read, W: Write>(
     disk: D,
 ) -> (D, Result<bool, CommandFault>)
     ensures run { IfOk result.1 (λ told. IsRunOnDisk (D.honest disk) (D.bytes disk)
-        (D.unsynced result.0) (R.remaining r.old.inner)
-        (Imports told (W.contents w.old.inner) (W.contents w.new.inner))) }
+        (D.unsynced result.0) (R.remaining r.old.inner) AskedByDocument told
+        (W.contents w.old.inner) (W.contents w.new.inner)) }
+    ensures called { OnOk result.1 (CallsBatches (D.calls disk) (D.calls result.0)) }
 
-    // At a fault too the disk stands for what some first puts leave, and so does whatever a crash leaves then, but for
-    // what one might have left before.
-    ensures left { D.honest disk → IfErr result.1 (λ _.
-        IsLeftOnDisk (D.bytes disk) (D.bytes result.0) (R.remaining r.old.inner) IsLeftByImport) }
-    ensures crash { D.honest disk → IfErr result.1 (λ _. EachCrash D.Disk result.0
-        (λ c. IsOutcome (D.unsynced disk) c
-        ⊎ IsLeftOnDisk (D.bytes disk) c (R.remaining r.old.inner) IsLeftByImport)) }
-    ensures fault { IfErr result.1
-        (IsImportingFault (D.honest disk) (D.bytes disk) (R.remaining r.old.inner)) }
+    // Whatever comes back, the disk stands for what some first puts leave, and so does whatever a crash leaves at any
+    // moment, but for what one might have left before.
+    ensures left { D.honest disk →
+        IsLeftOnDisk (D.bytes disk) (D.bytes result.0) (R.remaining r.old.inner) AskedByDocument }
+    ensures any_moment { AtAnyMoment D.Disk disk result.0 (λ c. IsOutcome (D.unsynced disk) c
+        ⊎ IsLeftOnDisk (D.bytes disk) c (R.remaining r.old.inner) AskedByDocument) }
+
+    // At a fault nothing was written, or no more than what flags hold that each crash then leaves, unless the writer failed.
+    ensures told { D.honest disk → IfErr result.1 (λ _. w.new.failures ≡ w.old.failures → (w.new ≡ w.old)
+        ⊎ EachCrash D.Disk result.0 (λ c. IsToldOnDisk (D.bytes disk) c
+        (R.remaining r.old.inner) AskedByDocument (W.contents w.old.inner) (W.contents w.new.inner))) }
+    ensures fault { IfErr result.1 (IsImportingFault (D.honest disk) (D.bytes disk) (R.remaining r.old.inner)) }
     ensures nothing_written { IfErr result.1 (IfRefused (w.new ≡ w.old)) }
 
-    // The store fails where the disk does, or has no room for an edit that the input asks for.
+    // The store fails where the disk does, or has no room for edits that are asked for.
     ensures cause { IfErr result.1 (λ f. f ≡ StoreFailed
         → LacksRoom (D.honest disk) (D.bytes disk) (D.unsynced result.0)
-        (R.remaining r.old.inner) IsStoppedByImport ⊎ (D.faults disk < D.faults result.0)) }
+        (R.remaining r.old.inner) AskedByDocument ⊎ (D.faults disk < D.faults result.0)) }
 
     // Where the bytes or what was read is refused, the disk was only read, and a file is refused before anything is read.
     ensures only_read { IfErr result.1 (IfRefused (IsOnlyRead D.Disk disk result.0)) }

@@ -1,7 +1,7 @@
 //! Flagd documents as they are read.
 
 ghost use Rattle.std.specs.Prelude.{◌≡◌, Ok, IfSome, IfOk, IfErr, map};
-ghost use Rattle.fp_session.specs.Import.{seen};
+ghost use Rattle.fp_session.specs.Asks.{seen};
 ghost use Rattle.fp_commands.specs.Disks.{Blames};
 ghost use Rattle.fp_commands.specs.Documents.{import_of, IsDocumentFault};
 

@@ -6,10 +6,10 @@ ghost use Rattle.fp_edit.specs.Edits.{Change, proposal_of};
 ghost use Rattle.fp_edit.specs.Flags.{State};
 ghost use Rattle.fp_edit.specs.Following.{change_of, changes_of};
 ghost use Rattle.fp_group_commit.specs.Tokens.{EndsWith};
-ghost use Rattle.fp_desk.specs.Desk.{head, log, queued, settled_front, settled_revision, settled_set, most_of, IsAccepted, IsDrawn, Draws, Refuses, SettlesNot};
+ghost use Rattle.fp_desk.specs.Desk.{head, log, queued, settled_front, settled_revision, settled_set, most_of, FitsBehind, IsAccepted, IsDrawn, Draws, Refuses, SettlesNot};
 
 use crate::fault::{SettleFault, SubmitFault};
-use crate::queue::{copies_of_front, first_part, move_front, same_changes};
+use crate::queue::{copies_of_front, first_part, fits_behind, move_front, same_changes};
 use fp_edit::{Edit, EditFault, FlagSet};
 use fp_group_commit::{Draw, Opening, Receipt, Settled, Told};
 use std::alloc::{AllocError, Global};
@@ -167,6 +167,28 @@ impl Desk {
         }
     }
 
+    /// Whether an edit waits to be drawn.
+    pub fn is_waiting(&self) -> bool
+        ensures { IsTrue result ↔ (self.now.waiting ≢ []) }
+    {
+        !self.waiting.is_empty()
+    }
+
+    /// Whether the edit would be drawn together with all that wait before it.
+    pub fn joins(&self, edit: &Edit) -> bool
+        ensures { IsTrue result ↔ FitsBehind (most_of self.now.store.start.limit)
+            self.now.waiting (change_of edit.now) }
+    {
+        fits_behind(&self.waiting, edit, self.longest_body())
+    }
+
+    // The most bytes of a batch's body.
+    fn longest_body(&self) -> u64
+        ensures { result ≡ most_of self.now.store.start.limit }
+    {
+        (self.head.limit() / 4).saturating_sub(6)
+    }
+
     /// Draws the longest first part of what waits that makes a batch, where none is out.
     pub fn draw(&mut self) -> Result<Option<Draw>, AllocError>
         ensures drawn { IfOk result (Draws self.old self.new) }
@@ -177,8 +199,7 @@ impl Desk {
             return Ok(None);
         }
         let first = self.settled.revision() + 1;
-        let most = (self.head.limit() / 4).saturating_sub(6);
-        let n = first_part(&self.waiting, most);
+        let n = first_part(&self.waiting, self.longest_body());
         let edits = copies_of_front(self.alloc, &self.waiting, n)?;
         self.drawn.try_reserve(n)?;
         move_front(&mut self.waiting, &mut self.drawn, n);

@@ -2,7 +2,7 @@
 
 ghost use Rattle.std.specs.Prelude.{◌≡◌, ◌<◌, ◌≤◌, ◌+◌, ◌++◌, ◌↔◌, length, take, drop, IfOk, IsTrue, OnOk, OnErr};
 ghost use Rattle.std.specs.VecDeque.{deque_len, deque_capacity};
-ghost use Rattle.fp_desk.specs.Desk.{IsLongestPart};
+ghost use Rattle.fp_desk.specs.Desk.{FitsBehind, IsLongestPart};
 ghost use Rattle.fp_edit.specs.Edits.{proposal_of};
 ghost use Rattle.fp_edit.specs.Following.{change_of, changes_of};
 
@@ -67,6 +67,26 @@ pub fn first_part(waiting: &VecDeque<Edit>, most: u64) -> usize
         n += 1;
     }
     n
+}
+
+// Whether an edit makes one batch with those that wait before it.
+pub fn fits_behind(waiting: &VecDeque<Edit>, edit: &Edit, most: u64) -> bool
+    ensures { IsTrue result ↔
+        FitsBehind most (changes_of waiting.now.items) (change_of edit.now) }
+{
+    if waiting.is_empty() {
+        return true;
+    }
+    if waiting.len() >= MOST_EDITS {
+        return false;
+    }
+    let mut sum = 10 + encoded_len(edit) as u64;
+    let mut i = 0;
+    while i < waiting.len() {
+        sum += encoded_len(&waiting[i]) as u64;
+        i += 1;
+    }
+    sum <= most
 }
 
 // The first edits once more.

@@ -149,7 +149,7 @@ fn put(rt: &HostRuntime, path: &PathBuf, calls: &RefCell<Calls>) -> Result<(bool
     let edit = parse_line(alloc, PUT)?;
     match DiskSession::open(alloc, noted(rt, path, calls)?) {
         Ok(mut set) => {
-            let is_put = set.admit(edit).is_ok();
+            let is_put = set.joins(&edit) && set.submit(edit).is_ok() && set.commit().is_ok();
             drop(set.into_disk());
             Ok((true, is_put))
         }

@@ -145,23 +145,28 @@ fn a_writer_that_fails_ends_the_run(rt: HostRuntime) -> Result<(), Fail> {
     Ok(())
 }
 
-// EditStore that the store takes, an input, what is written, and the revision.
+// Edits that the store keeps, an input, what is written, and the edits that are kept.
 type Row = (usize, &'static str, &'static str, u64);
 
 // In the last two rows the line that the store loses is the last, and has no newline.
 const LOST: [Row; 4] = [
-    (0, INPUT, "", 0),
+    (0, INPUT, "{\"error\":\"store-failed\"}\n", 0),
     (
-        2,
+        1,
         INPUT,
-        "{\"revision\":1}\n{\"current\":null,\"error\":\"conflict\"}\n",
+        "{\"revision\":1}\n{\"current\":null,\"error\":\"conflict\"}\n{\"error\":\"store-failed\"}\n",
         1,
     ),
-    (0, "{\"flag\":ON,\"key\":\"a\",\"op\":\"put\"}", "", 0),
+    (
+        0,
+        "{\"flag\":ON,\"key\":\"a\",\"op\":\"put\"}",
+        "{\"error\":\"store-failed\"}\n",
+        0,
+    ),
     (
         1,
         "{\"flag\":ON,\"key\":\"a\",\"op\":\"put\"}\n{\"flag\":ON,\"key\":\"b\",\"op\":\"put\"}",
-        "{\"revision\":1}\n",
+        "{\"revision\":1}\n{\"error\":\"store-failed\"}\n",
         1,
     ),
 ];
@@ -169,7 +174,7 @@ const LOST: [Row; 4] = [
 #[test]
 fn a_store_that_fails_ends_the_run_behind_its_replies(rt: HostRuntime) -> Result<(), Fail> {
     let alloc = rt.alloc();
-    for (edits_left, input, output, revision) in LOST {
+    for (edits_left, input, output, kept) in LOST {
         let input = written_out(alloc, input)?;
         let mut r = FailureCounted::new(input.as_bytes());
         let mut w = FailureCounted::new(Vec::new(alloc));
@@ -181,7 +186,7 @@ fn a_store_that_fails_ends_the_run_behind_its_replies(rt: HostRuntime) -> Result
         );
         assert_eq!(rt; outcome, Err(ApplyFault::StoreFailed));
         assert_eq!(rt; w.get_ref().as_slice(), output.as_bytes(), "{input}");
-        assert_eq!(rt; edits.flags.revision(), revision);
+        assert_eq!(rt; edits.kept, kept);
     }
     Ok(())
 }

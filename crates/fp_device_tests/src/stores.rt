@@ -1,7 +1,7 @@
 //! Writers and stores that fail.
 
-use fp_edit::{Edit, FlagSet};
-use fp_session::{Declined, EditStore};
+use fp_edit::{Edit, EditFault, FlagSet};
+use fp_session::{CommitFault, EditStore};
 use std::alloc::{AllocError, Global};
 use std::io;
 use std::io::{ErrorKind, Write};
@@ -50,19 +50,23 @@ impl Write for Full {
     }
 }
 
-/// Flags whose store takes some edits, and fails from then on.
+/// Flags whose store keeps some edits, and fails from then on.
 #[derive(Drop)]
 pub struct Failing {
     pub flags: FlagSet,
     pub edits_left: usize,
+    pub waiting: usize,
+    pub kept: u64,
 }
 
 impl Failing {
-    /// A store of no flags that takes so many edits.
+    /// A store of no flags that keeps so many edits.
     pub fn after(alloc: Global, edits_left: usize) -> Failing {
         Failing {
             flags: flags(alloc),
             edits_left,
+            waiting: 0,
+            kept: 0,
         }
     }
 }
@@ -72,20 +76,42 @@ impl EditStore for Failing {
 
     ghost state = { λ s. s.flags };
 
+    ghost may_stand = { λ s t. t ≡ s.flags };
+
+    ghost has_place = { λ s c. Unit {0} };
+
     ghost continues_to = { λ a b. Unit {0} };
 
-    ghost fails_on = { λ f a p b. a.edits_left ≡ 0 };
+    ghost fails_on = { λ f a b. Unit {0} };
+
+    ghost leaves = { λ a b P. Unit {0} };
 
     ghost leads_to_itself = { λ s. tt };
 
     ghost leads_on = { λ a b c h k. tt };
 
-    fn admit(&mut self, edit: Edit) -> Result<u64, Declined> {
-        if self.edits_left == 0 {
-            return Err(Declined::StoreFailed);
+    ghost leaves_on = { λ a b c P h k. tt };
+
+    ghost leaves_as = { λ a b P Q f h. tt };
+
+    fn joins(&self, _edit: &Edit) -> bool {
+        true
+    }
+
+    fn submit(&mut self, edit: Edit) -> Result<u64, EditFault> {
+        let revision = EditStore::submit(&mut self.flags, edit)?;
+        self.waiting = self.waiting.saturating_add(1);
+        Ok(revision)
+    }
+
+    fn commit(&mut self) -> Result<(), CommitFault> {
+        if self.waiting > self.edits_left {
+            return Err(CommitFault::StoreFailed);
         }
-        self.edits_left -= 1;
-        EditStore::admit(&mut self.flags, edit)
+        self.edits_left -= self.waiting;
+        self.kept = self.kept.saturating_add(self.waiting as u64);
+        self.waiting = 0;
+        Ok(())
     }
 
     fn flags(&self) -> &FlagSet {

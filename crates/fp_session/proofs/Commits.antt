@@ -14,13 +14,14 @@ use Rattle.fp_recovery.specs.Stands.{StandsFor}
 use Rattle.fp_group_commit.specs.Store.{StoreState, Leaves, begun_at, has_begun, kept}
 use Rattle.fp_group_commit.specs.Tokens.{Identity}
 use Rattle.fp_desk.specs.Desk.{DeskState, log}
-use Rattle.fp_session.specs.Session.{IsInStep, KeepsOrGains, StandsAhead}
+use Rattle.fp_session.specs.Session.{IsAhead, IsInStep, KeepsOrGains, LacksRoomFor, StandsAhead}
 use Rattle.std.specs.Prelude.{◌↔◌, Bool, IsTrue, nat_le}
 use borrow.Author.Tests.{leb-true, leb-false}
+use Rattle.fp_edit.proofs.Followed.{after-append}
 use Rattle.fp_edit.proofs.Runs.{revision-after_all}
 use Rattle.fp_journal.specs.State.{JournalState, room}
 use Rattle.fp_record.specs.Group.{Group}
-use Rattle.fp_recovery.specs.Room.{HasNoRoom}
+use Rattle.fp_recovery.specs.Room.{HasNoRoom, IsFullFor}
 use Rattle.fp_group_commit.specs.Changes.{HasRoom, batch_len}
 use Rattle.fp_group_commit.specs.Tokens.{ReceiptState}
 use Rattle.fp_desk.specs.Desk.{IsDrawn, IsNewDraw}
@@ -61,11 +62,33 @@ call_more disk old s batch first a b store sealed going same before call =
     next_moment disk first a b (KeepsOrGains old batch) same before (weaker disk a b (Leaves s) (KeepsOrGains old batch) (leaves_either old s batch store sealed going) call)
 
 -- ---- and of its desk
-front_ahead : (d : DeskState) (xs rest : List Change) (c : List ℕ) → log d ≡ xs ++ rest → length d.settled ≤ length xs → StandsFor c (after_all d.store.start xs) → StandsAhead d c
-front_ahead d xs rest c is le stands =
+ahead_at : (d : DeskState) (xs rest : List Change) → log d ≡ xs ++ rest → length d.settled ≤ length xs → IsAhead d (after_all d.store.start xs)
+ahead_at d xs rest is le =
     let n = length xs in let len = ap length is in let all = length-append xs rest in
     let cut : take n (log d) ≡ xs = ap (λ (l : List Change). take n l) is ∙ take_at xs rest n refl in
-    (n, le, omega (arith, len, all), subst (λ (l : List Change). StandsFor c (after_all d.store.start l)) (sym cut) stands)
+    (n, le, omega (arith, len, all), ap (λ (l : List Change). after_all d.store.start l) (sym cut))
+
+front_ahead : (d : DeskState) (xs rest : List Change) (c : List ℕ) → log d ≡ xs ++ rest → length d.settled ≤ length xs → StandsFor c (after_all d.store.start xs) → StandsAhead d c
+front_ahead d xs rest c is le stands = (after_all d.store.start xs, ahead_at d xs rest is le, stands)
+
+-- what is ahead of a desk was ahead of it when less was settled
+pub ahead_on : (d e : DeskState) → e.store ≡ d.store → log e ≡ log d → length d.settled ≤ length e.settled → (u : State) → IsAhead e u → IsAhead d u
+ahead_on d e store all more u a =
+    let low = a.1 in let high = a.2 in let len = ap length all in
+    (a.0, omega (arith, low, more), omega (arith, high, len), a.3 ∙ ap (λ (x : Identity). after_all x.start (take a.0 (log e))) store ∙ ap (λ (l : List Change). after_all d.store.start (take a.0 l)) all)
+
+pub stands_on : (d e : DeskState) → e.store ≡ d.store → log e ≡ log d → length d.settled ≤ length e.settled → (c : List ℕ) → StandsAhead e c → StandsAhead d c
+stands_on d e store all more c s = (s.0, ahead_on d e store all more s.0 s.1, s.2)
+
+pub lacks_on : {D : Type 0} (disk : Ghosts D) (now : D) (d e : DeskState) → e.store ≡ d.store → log e ≡ log d → length d.settled ≤ length e.settled → LacksRoomFor disk e now → LacksRoomFor disk d now
+lacks_on disk now d e store all more l = record {
+  flags = l.flags;
+  batch = l.batch;
+  from = ahead_on d e store all more l.flags l.from;
+  to = ahead_on d e store all more (after_all l.flags l.batch) l.to;
+  some = l.some;
+  full = l.full;
+}
 
 module _ {D : Type 0} (s : StoreState D) (d : DeskState) (same : d.store ≡ s.store) (settled : s.sealed ≡ d.settled) (none_drawn : d.drawn ≡ []) where
   pub log_parts : (batch rest : List Change) → d.waiting ≡ batch ++ rest → log d ≡ (d.settled ++ batch) ++ rest
@@ -92,6 +115,25 @@ module _ {D : Type 0} (disk : Ghosts D) (s : StoreState D) (d : DeskState) (i : 
   pub sealed_ahead : (new : D) (batch rest : List Change) → d.waiting ≡ batch ++ rest → AtAnyMoment disk s.journal.disk new (KeepsOrGains s batch) → AtAnyMoment disk s.journal.disk new (StandsAhead d)
   sealed_ahead new batch rest parts l = weaker disk s.journal.disk new (KeepsOrGains s batch) (StandsAhead d) (stands_ahead s d i.same i.settled i.none_drawn batch rest parts) l
 
+  -- a first part of what waits that has no room
+  pub lacks_part : (batch rest : List Change) → d.waiting ≡ batch ++ rest → 0 < length batch → EachCrash disk s.journal.disk (λ c. IsFullFor c (kept s) (batch_len (record { first = 0; changes = batch }))) → LacksRoomFor disk d s.journal.disk
+  lacks_part batch rest parts some full =
+      let same_kept : kept s ≡ after_all d.store.start d.settled = ap (λ (x : Identity). after_all x.start s.sealed) (sym i.same) ∙ ap (λ (l : List Change). after_all d.store.start l) i.settled in
+      let whole = log_parts s d i.same i.settled i.none_drawn batch rest parts in
+      let more = length-append d.settled batch in
+      record {
+        flags = kept s;
+        batch = batch;
+        from = subst (λ (u : State). IsAhead d u) (sym same_kept) (ahead_at d d.settled (batch ++ rest) (whole ∙ append_assoc d.settled batch rest) (omega arith));
+        to = subst (λ (u : State). IsAhead d u) (after-append d.store.start d.settled batch ∙ ap (λ (u : State). after_all u batch) (sym same_kept)) (ahead_at d (d.settled ++ batch) rest whole (omega (arith, more)));
+        some = some;
+        full = full;
+      }
+
+  -- what is kept is ahead of nothing
+  pub now_ahead : EachCrash disk s.journal.disk (StandsAhead d)
+  now_ahead = λ h c o. stands_ahead s d i.same i.settled i.none_drawn [] d.waiting refl c (inl (i.keeps h c o))
+
   -- the receipt for it is for what is drawn
   pub receipt_drawn : (group : Group) (new : DeskState) (r : ReceiptState) → IsNewDraw d new group → r.batch.changes ≡ group.changes → r.batch.first ≡ (kept s).revision + 1 → IsDrawn new r
   receipt_drawn group new r draw changes first =
@@ -104,6 +146,12 @@ module _ {D : Type 0} (disk : Ghosts D) (s : StoreState D) (d : DeskState) (i : 
       let all = revision-after_all s.store.start s.sealed in
       (λ none. let empty = ap length (sym drawn ∙ none) in omega (arith, some, empty), omega (arith, first, all, store, same, len, sealed), changes ∙ sym drawn)
 
+-- what is ahead of a desk at each moment of a call is so at its end
+pub present_ahead : {D : Type 0} (disk : Ghosts D) (old new : D) (d e : DeskState) → ((x : D) (t : ℕ) (c : List ℕ) → disk.honest x → t ≤ disk.moment x → IsOutcome (disk.unsynced x) c → disk.crash_states_since x t c)
+    → SameHonesty disk old new → e.store ≡ d.store → log e ≡ log d → length d.settled ≤ length e.settled → AtAnyMoment disk old new (StandsAhead e) → EachCrash disk new (StandsAhead d)
+present_ahead disk old new d e counts_now same store all more moment = λ h c o.
+    let l = moment (same.1 h) in stands_on d e store all more c (l.each c (counts_now new (disk.moment old) c h l.later o))
+
 -- ---- room
 pub no_room : {D : Type 0} (journal : JournalState D) (group : Group) (b : Bool) → (IsTrue b ↔ HasRoom journal group) → b ≡ false → 0 < length group.changes → length group.changes ≤ 64 → HasNoRoom journal (batch_len group)
 no_room journal group b says not some few =
@@ -114,3 +162,8 @@ no_room journal group b says not some few =
         | true ↦ λ f. let both : false ≡ true = sym not ∙ says.1 (record { some = some; few = few; short = leb-true _ _ e; room = leb-true _ _ f }) in absurd cc
       ] refl
     ] refl
+
+-- a list that isn't told of having something has nothing
+pub nothing_left : (xs : List Change) (b : Bool) → (IsTrue b ↔ (xs ≢ [])) → b ≡ false → xs ≡ []
+nothing_left [] b says not = refl
+nothing_left (x ∷ xs) b says not = let both : false ≡ true = sym not ∙ says.1 (λ e. cc) in absurd cc

@@ -1,9 +1,7 @@
 pub mod Commits
 pub mod Sessions
 pub mod LineLemmas
-pub mod VerdictLemmas
 pub mod RunLemmas
-pub mod CourseLemmas
 pub mod ProgressLemmas
-pub mod RunOverLemmas
-pub mod UnderWayLemmas
+pub mod Readings
+pub mod Endings

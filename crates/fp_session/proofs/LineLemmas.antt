@@ -1,11 +1,16 @@
 -- The lines of an input that comes in pieces.
-use Rattle.std.proofs.Common.{◌≡◌, ℕ, ◌+◌, ◌-◌, ◌≤◌, ◌<◌, zero, suc, min, List, [], ◌∷◌, ◌++◌, length, take, drop, position, Some, None, Bool, true, false, cond, not, nat_lt, ◌==◌, refl, sym, ap, subst, ◌∙◌, length-take, take_all, arith}
+use Rattle.std.proofs.Common.{◌≡◌, ℕ, ◌+◌, ◌-◌, ◌≤◌, ◌<◌, zero, suc, min, List, [], ◌∷◌, ◌++◌, length, take, drop, position, Some, None, Bool, true, false, cond, not, map, nat_le, nat_lt, ◌==◌, ◌&&◌, Err, refl, sym, ap, subst, ◌∙◌, length-take, take_all, arith}
 use Rattle.std.proofs.lemmas.List.{take_min}
 use Rattle.std.proofs.lemmas.Bool.{eqb-true}
-use borrow.Author.Tests.{ltb-true, ltb-false}
-use Rattle.std.specs.List.{prefix_len}
+use Rattle.std.proofs.lemmas.List.{map-append}
+use Rattle.std.proofs.lemmas.List.Elements.{filter-append}
+use borrow.Author.Tests.{leb-true, leb-false, lt-leb, ltb-true, ltb-false}
+use Rattle.std.specs.List.{list_all, prefix_len}
+use Rattle.fp_edit.specs.Line as line
+use Rattle.fp_edit.specs.Line.{line_of}
 use Rattle.fp_edit.specs.declared.line.TheConstants.{LONGEST_LINE}
-use Rattle.fp_session.specs.Lines.{lines, onto_first}
+use Rattle.fp_session.specs.Asks.{Ask, asked_by_input, asked_by_lines}
+use Rattle.fp_session.specs.Lines.{answered, is_blank, is_space, lines, onto_first}
 use Rattle.fp_session.specs.Progress.{cut}
 
 abbrev Lists : Type 0
@@ -139,3 +144,40 @@ cut-short line h = take_all (LONGEST_LINE + 1) line (omega arith)
 
 pub cut-long : (line : List ℕ) → LONGEST_LINE < length line → LONGEST_LINE < length (cut line)
 cut-long line h = omega (arith, length-take (LONGEST_LINE + 1) line)
+
+-- ---- what lines ask
+
+line_of-long : (l : List ℕ) → LONGEST_LINE < length l → line_of l ≡ Err line.too_long
+unfolding line_of
+line_of-long l h = rw (lt-leb (length l) LONGEST_LINE h) refl
+
+is_blank-long : (l : List ℕ) → LONGEST_LINE < length l → is_blank l ≡ false
+is_blank-long l h = ap (λ b. b && list_all is_space l) (lt-leb (length l) LONGEST_LINE h)
+
+-- of a line that is too long no more is looked at
+pub cut-same : (l : List ℕ) → (is_blank (cut l) ≡ is_blank l) × (line_of (cut l) ≡ line_of l)
+cut-same l =
+    elim (nat_le (length l) LONGEST_LINE) as (λ b. nat_le (length l) LONGEST_LINE ≡ b → (is_blank (cut l) ≡ is_blank l) × (line_of (cut l) ≡ line_of l)) [
+      | true ↦ λ short. let same = cut-short l (leb-true _ _ short) in (ap is_blank same, ap line_of same)
+      | false ↦ λ long.
+          let over : LONGEST_LINE < length l = leb-false _ _ long in
+          let cut_over = cut-long l over in
+          (is_blank-long (cut l) cut_over ∙ sym (is_blank-long l over), line_of-long (cut l) cut_over ∙ sym (line_of-long l over))
+    ] refl
+
+pub asked-append : (ls ms : List (List ℕ)) → asked_by_lines (ls ++ ms) ≡ asked_by_lines ls ++ asked_by_lines ms
+asked-append ls ms = ap (λ (l : List (List ℕ)). map line_of l) (filter-append (λ l. not (is_blank l)) ls ms) ∙ map-append line_of (answered ls) (answered ms)
+
+-- a blank line asks nothing, another one what it says
+pub asked-blank : (l : List ℕ) → is_blank l ≡ true → asked_by_lines (l ∷ []) ≡ []
+asked-blank l blank = ap (λ k. map line_of (cond (not k) (l ∷ []) [])) blank
+
+pub asked-line : (l : List ℕ) → is_blank l ≡ false → asked_by_lines (l ∷ []) ≡ line_of l ∷ []
+asked-line l blank = ap (λ k. map line_of (cond (not k) (l ∷ []) [])) blank
+
+-- what the lines that ended ask is a beginning of what the input asks, however it goes on
+pub asked-within : (front back input : List ℕ) (done : Lists) (line : List ℕ) → front ++ back ≡ input → lines front ≡ done ++ line ∷ [] → (later : List Ask) × (asked_by_lines done ++ later ≡ asked_by_input input)
+asked-within front back input done line parts split =
+    let some = lines-some back in
+    let all : lines input ≡ done ++ (line ++ some.0) ∷ some.1 = sym (ap lines parts) ∙ lines-append front back some.0 some.1 some.2 done line split in
+    (asked_by_lines ((line ++ some.0) ∷ some.1), sym (ap asked_by_lines all ∙ asked-append done ((line ++ some.0) ∷ some.1)))

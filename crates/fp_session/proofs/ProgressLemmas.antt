@@ -1,168 +1,270 @@
--- How what was answered grows.
-use Rattle.std.proofs.Common.{◌≡◌, ℕ, List, not, cond, [], ◌∷◌, ◌++◌, ◌&&◌, true, false, inl, inr, refl, sym, ap, subst, ◌∙◌, append_assoc, append-nil}
+-- How what was answered grows, and where it breaks off.
+use Rattle.std.proofs.Common.{◌≡◌, ℕ, List, [], ◌∷◌, ◌++◌, map, Bool, true, false, ◌&&◌, ◌⊎◌, ⊎_elim, inl, inr, Result, Ok, Err, refl, sym, ap, subst, ◌∙◌, append_assoc, append-nil}
 use Rattle.std.proofs.lemmas.List.Folds.{list_all-append}
 use Rattle.std.specs.List.{list_all}
+use Rattle.fp_edit.specs.Edits.{Change}
 use Rattle.fp_edit.specs.Flags.{State}
-use Rattle.fp_edit.specs.Edits.{Proposal}
-use Rattle.fp_session.specs.Lines.{lines, answered, is_blank}
-use Rattle.fp_session.specs.Reply.{Reply, texts_of, is_told}
-use Rattle.fp_session.specs.Script.{verdict, IsRun, show_line}
-use Rattle.fp_session.specs.Verdicts.{Verdict}
-use Rattle.fp_session.specs.Run.{IsLeftBy, IsStoppedBy}
-use Rattle.fp_session.specs.Progress.{cut, IsReached, IsReachedWithin, IsSoFar, IsAnswered, IsAdded, EndsLine, EndsOrStays, IsAskedBy, IsStoppedWithin}
-use Rattle.fp_session.specs.declared.exchange.Exchange.{Exchange}
-use Rattle.fp_session.proofs.LineLemmas.{lines-append, lines-some}
-use Rattle.fp_session.proofs.VerdictLemmas.{run-append, texts_of-append}
-use Rattle.fp_session.proofs.RunLemmas.{answered-append}
+use Rattle.fp_session.specs.Asks.{Ask}
+use Rattle.fp_session.specs.Fault.{of_commit}
+use Rattle.fp_session.specs.Progress.{At, IsAt, IsBroken, IsEnded, StopsAt, Takes}
+use Rattle.fp_session.specs.Reply.{Reply, is_told, said, texts_of, told_if}
+use Rattle.fp_session.specs.Run.{Answers, IsRun, IsAfterPrefix, IsTold, show_line}
+use Rattle.fp_session.specs.StoreRun.{StoreRun}
+use Rattle.fp_session.specs.declared.commit.CommitFault.{CommitFault}
+use Rattle.fp_session.specs.declared.commit.CommitFault.TheVariants as commit
+use Rattle.fp_session.specs.declared.edit_store.EditStore.{Ghosts}
+use Rattle.fp_session.specs.declared.fault.ApplyFault.{ApplyFault}
+use Rattle.fp_session.specs.declared.fault.ApplyFault.TheVariants.{Device, StoreFailed, Memory, CommitMemory}
+use Rattle.fp_session.specs.declared.replies.Replies.{Replies}
+use Rattle.fp_session.specs.declared.reply.Reply as code
+use Rattle.fp_session.proofs.RunLemmas.{run-append, run-single, run-none, texts_of-append, prefix-start, prefix-whole, prefix-more, prefix-behind, told-more, told_if-kept}
 
-pub so_far-start : (start : State) (x : Exchange) → x.line.items ≡ [] → x.replies.items ≡ [] → x.is_told ≡ true → IsSoFar start [] [] x start
-so_far-start start x line replies told = record {
-  reached = record { done = []; line = []; replies = []; split = refl; run = refl };
-  kept = line;
-  written = replies;
-  told = told;
-}
+module _ {E : Type 0} (store : Ghosts E) where
+  -- nothing was asked yet
+  at-start : (first : E) (r : Replies) → r.text.items ≡ [] → r.is_told ≡ true → ((u : State) → store.may_stand first u → u ≡ store.state first)
+      → store.leaves first first (store.may_stand first) → At store first first [] [] r.text.items [] r.is_told
+  at-start first r text told fresh still = record {
+    done = [];
+    batch = [];
+    kept = store.state first;
+    replies = [];
+    split = refl;
+    run = refl;
+    on = refl;
+    ahead = λ u a. subst (λ s. IsAfterPrefix (store.state first) [] s) (sym (fresh u a)) (prefix-start (store.state first) []);
+    written = text;
+    told = told;
+    led = store.leads_to_itself first;
+    leaves = store.leaves_as first first (store.may_stand first) (IsAfterPrefix (store.state first) []) (λ u a. subst (λ s. IsAfterPrefix (store.state first) [] s) (sym (fresh u a)) (prefix-start (store.state first) [])) still;
+  }
 
--- a piece without a newline lengthens the line
-reached-more : (start : State) (seen piece : List ℕ) (now : State) → lines piece ≡ piece ∷ [] → IsReached start seen now → IsReached start (seen ++ piece) now
-reached-more start seen piece now one r = record {
-  done = r.done;
-  line = r.line ++ piece;
-  replies = r.replies;
-  split = lines-append seen piece piece [] one r.done r.line r.split;
-  run = r.run;
-}
+  pub is_at-start : (first : E) (r : Replies) → r.text.items ≡ [] → r.waiting.items ≡ [] → r.is_told ≡ true → ((u : State) → store.may_stand first u → u ≡ store.state first)
+      → store.leaves first first (store.may_stand first) → IsAt store first first [] [] r
+  is_at-start first r text none told fresh still =
+      subst (λ (rs : List Reply). At store first first [] [] r.text.items rs r.is_told) (ap (λ (ws : List code.Reply). map said ws) (sym none)) (at-start first r text told fresh still)
 
-pub so_far-more : (start : State) (seen sent piece : List ℕ) (x y : Exchange) (now : State) (h : IsSoFar start seen sent x now) → lines piece ≡ piece ∷ []
-    → y.line.items ≡ cut (h.reached.line ++ piece) → y.replies ≡ x.replies → y.is_told ≡ x.is_told → IsSoFar start (seen ++ piece) sent y now
-unfolding reached-more
-so_far-more start seen sent piece x y now h one kept replies told = record {
-  reached = reached-more start seen piece now one h.reached;
-  kept = kept;
-  written = ap (λ r. sent ++ r.items) replies ∙ h.written;
-  told = told ∙ h.told;
-}
+  module _ (first now : E) (asked : List Ask) (sent text : List ℕ) (waiting : List Reply) (told : Bool) (i : At store first now asked sent text waiting told) where
+    abbrev pub start : State
+    start = store.state first
 
-run-done : (start s t : State) (done : List (List ℕ)) (line : List ℕ) (rs qs : List Reply) → IsRun start (answered done) rs s → IsRun s (answered (line ∷ [])) qs t → IsRun start (answered (done ++ line ∷ [])) (rs ++ qs) t
-run-done start s t done line rs qs h k = subst (λ ls. IsRun start ls (rs ++ qs) t) (sym (answered-append done (line ∷ []))) (run-append verdict start s t (answered done) (answered (line ∷ [])) rs qs h k)
+    whole : IsRun start asked (i.replies ++ waiting) (store.state now)
+    whole = subst (λ xs. IsRun start xs (i.replies ++ waiting) (store.state now)) (sym i.split) (run-append start i.kept (store.state now) i.done i.batch i.replies waiting i.run i.on)
 
--- a newline ends the line
-reached-newline : (start : State) (seen : List ℕ) (s t : State) (r : IsReached start seen s) (qs : List Reply) → IsRun s (answered (r.line ∷ [])) qs t → IsReached start (seen ++ 10 ∷ []) t
-reached-newline start seen s t r qs run = record {
-  done = r.done ++ r.line ∷ [];
-  line = [];
-  replies = r.replies ++ qs;
-  split =
-      lines-append seen (10 ∷ []) [] ([] ∷ []) refl r.done r.line r.split
-      ∙ ap (λ l. r.done ++ l ∷ [] ∷ []) (append-nil r.line)
-      ∙ sym (append_assoc r.done (r.line ∷ []) ([] ∷ []));
-  run = run-done start s t r.done r.line r.replies qs r.run run;
-}
+    -- what may stand is as some first of what was asked leaves it
+    pub at-ahead : (u : State) → store.may_stand now u → IsAfterPrefix start asked u
+    at-ahead u a = subst (λ xs. IsAfterPrefix start xs u) (sym i.split) (prefix-behind start i.kept u i.done i.batch i.replies i.run (i.ahead u a))
 
-pub written-more : {A : Type 0} (judge : Verdict A) (s t : State) (xs : List A) (x y : Exchange) (sent : List ℕ) (rs : List Reply) → sent ++ x.replies.items ≡ texts_of rs → (e : IsAdded judge s xs x y t)
-    → sent ++ y.replies.items ≡ texts_of (rs ++ e.replies)
-written-more judge s t xs x y sent rs was e =
-    ap (λ r. sent ++ r) e.written ∙ sym (append_assoc sent x.replies.items (texts_of e.replies)) ∙ ap (λ r. r ++ texts_of e.replies) was ∙ sym (texts_of-append rs e.replies)
+    pub at-left : IsAfterPrefix start asked (store.state now)
+    at-left = prefix-whole start (store.state now) asked (i.replies ++ waiting) whole
 
-pub told-more : {A : Type 0} (judge : Verdict A) (s t : State) (xs : List A) (x y : Exchange) (rs : List Reply) → x.is_told ≡ list_all is_told rs → (e : IsAdded judge s xs x y t)
-    → y.is_told ≡ list_all is_told (rs ++ e.replies)
-told-more judge s t xs x y rs was e = e.told ∙ ap (λ b. b && list_all is_told e.replies) was ∙ sym (list_all-append is_told rs e.replies)
+    -- one thing more was answered
+    pub at-more : (next : E) (x : Ask) (reply : Reply) → Answers (store.state now) x reply (store.state next)
+        → ((u : State) → store.may_stand next u → store.may_stand now u ⊎ (u ≡ store.state next)) → store.continues_to first next → store.leaves first next (IsAfterPrefix start (asked ++ x ∷ []))
+        → At store first next (asked ++ x ∷ []) sent text (waiting ++ reply ∷ []) told
+    at-more next x reply answers ahead led leaves =
+        let on : IsRun i.kept (i.batch ++ x ∷ []) (waiting ++ reply ∷ []) (store.state next) =
+        run-append i.kept (store.state now) (store.state next) i.batch (x ∷ []) waiting (reply ∷ []) i.on (run-single (store.state now) (store.state next) x reply answers) in
+        record {
+          done = i.done;
+          batch = i.batch ++ x ∷ [];
+          kept = i.kept;
+          replies = i.replies;
+          split = ap (λ (l : List Ask). l ++ x ∷ []) i.split ∙ append_assoc i.done i.batch (x ∷ []);
+          run = i.run;
+          on = on;
+          ahead = λ u a. ⊎_elim (λ was. prefix-more i.kept u i.batch (x ∷ []) (i.ahead u was))
+              (λ is. subst (λ s. IsAfterPrefix i.kept (i.batch ++ x ∷ []) s) (sym is) (prefix-whole i.kept (store.state next) (i.batch ++ x ∷ []) (waiting ++ reply ∷ []) on)) (ahead u a);
+          written = i.written;
+          told = i.told;
+          led = led;
+          leaves = leaves;
+        }
 
-pub so_far-newline : (start : State) (seen sent : List ℕ) (x y : Exchange) (s t : State) (h : IsSoFar start seen sent x s) → EndsLine s h.reached.line x y t → IsSoFar start (seen ++ 10 ∷ []) sent y t
-unfolding reached-newline
-so_far-newline start seen sent x y s t h e = record {
-  reached = reached-newline start seen s t h.reached e.added.replies e.added.run;
-  kept = e.empty;
-  written = written-more verdict s t (answered (h.reached.line ∷ [])) x y sent h.reached.replies h.written e.added;
-  told = told-more verdict s t (answered (h.reached.line ∷ [])) x y h.reached.replies h.told e.added;
-}
+    pub at-asked : (next : E) (x : Ask) (reply : Reply) → Takes store now x reply next → At store first next (asked ++ x ∷ []) sent text (waiting ++ reply ∷ []) told
+    at-asked next x reply t =
+        let more = λ (u : State) (p : IsAfterPrefix start asked u). prefix-more start u asked (x ∷ []) p in
+        at-more next x reply t.answered t.ahead (store.leads_on first now next i.led t.goes_on)
+        (store.leaves_on first now next (IsAfterPrefix start (asked ++ x ∷ []))
+        (store.leaves_as first now (IsAfterPrefix start asked) (IsAfterPrefix start (asked ++ x ∷ [])) more i.leaves)
+        (store.leaves_as now next (store.may_stand now) (IsAfterPrefix start (asked ++ x ∷ [])) (λ u a. more u (at-ahead u a)) t.leaves))
 
--- the end of the input ends the last line, and the flags are shown
-pub so_far-end : (start : State) (seen sent : List ℕ) (x y z : Exchange) (s t : State) (h : IsSoFar start seen sent x s) → EndsLine s h.reached.line x y t
-    → z.replies.items ≡ y.replies.items ++ show_line t → z.is_told ≡ y.is_told → IsAnswered start seen sent z t
-so_far-end start seen sent x y z s t h e shown same = record {
-  replies = h.reached.replies ++ e.added.replies;
-  run = subst (λ ls. IsRun start (answered ls) (h.reached.replies ++ e.added.replies) t) (sym h.reached.split) (run-done start s t h.reached.done h.reached.line h.reached.replies e.added.replies h.reached.run e.added.run);
-  written =
-      ap (λ r. sent ++ r) shown
-      ∙ sym (append_assoc sent y.replies.items (show_line t))
-      ∙ ap (λ r. r ++ show_line t) (written-more verdict s t (answered (h.reached.line ∷ [])) x y sent h.reached.replies h.written e.added);
-  told = same ∙ told-more verdict s t (answered (h.reached.line ∷ [])) x y h.reached.replies h.told e.added;
-}
+    -- what was asked is no edit
+    pub at-no_edit : (x : Ask) (reply : Reply) → Answers (store.state now) x reply (store.state now) → At store first now (asked ++ x ∷ []) sent text (waiting ++ reply ∷ []) told
+    at-no_edit x reply answers =
+        at-more now x reply answers (λ u a. inl a) i.led (store.leaves_as first now (IsAfterPrefix start asked) (IsAfterPrefix start (asked ++ x ∷ [])) (λ u p. prefix-more start u asked (x ∷ []) p) i.leaves)
 
--- what waited was sent
-pub so_far-sent : (start : State) (seen sent : List ℕ) (x y : Exchange) (now : State) → IsSoFar start seen sent x now
-    → y.replies.items ≡ [] → y.line ≡ x.line → y.is_told ≡ x.is_told → IsSoFar start seen (sent ++ x.replies.items) y now
-so_far-sent start seen sent x y now h none line told = record {
-  reached = h.reached;
-  kept = ap (λ l. l.items) line ∙ h.kept;
-  written = ap (λ r. (sent ++ x.replies.items) ++ r) none ∙ append-nil (sent ++ x.replies.items) ∙ h.written;
-  told = told ∙ h.told;
-}
+    -- ---- what waited is kept
+    module _ (next : E) (same : store.state next ≡ store.state now) (kept : (u : State) → store.may_stand next u → u ≡ store.state next) (moment : store.leaves now next (store.may_stand now)) (goes : store.continues_to now next) where
+      next_leaves : store.leaves first next (IsAfterPrefix start asked)
+      next_leaves = store.leaves_on first now next (IsAfterPrefix start asked) i.leaves (store.leaves_as now next (store.may_stand now) (IsAfterPrefix start asked) at-ahead moment)
 
--- ---- where it stops
+      whole_next : IsRun start asked (i.replies ++ waiting) (store.state next)
+      whole_next = subst (λ s. IsRun start asked (i.replies ++ waiting) s) (sym same) whole
 
-pub within-here : (start : State) (seen rest input : List ℕ) (s t : State) → seen ++ rest ≡ input → t ≡ s → IsReached start seen s → IsReachedWithin start input t
-within-here start seen rest input s t all stays r = (seen, rest, all, subst (IsReached start seen) (sym stays) r)
+      all_texts : sent ++ (text ++ texts_of (map (told_if true) waiting)) ≡ texts_of (i.replies ++ waiting)
+      all_texts =
+          sym (append_assoc sent text (texts_of (map (told_if true) waiting))) ∙ ap (λ (l : List ℕ). l ++ texts_of (map (told_if true) waiting)) i.written
+          ∙ ap (λ (rs : List Reply). texts_of i.replies ++ texts_of rs) (told_if-kept waiting) ∙ sym (texts_of-append i.replies waiting)
 
-pub within-line : (start : State) (seen rest input : List ℕ) (s t : State) → seen ++ 10 ∷ rest ≡ input → (r : IsReached start seen s) → EndsOrStays s r.line t → IsReachedWithin start input t
-within-line start seen rest input s t all r (inl run) = (seen ++ 10 ∷ [], rest, append_assoc seen (10 ∷ []) rest ∙ all, reached-newline start seen s t r run.0 run.1)
-within-line start seen rest input s t all r (inr stays) = within-here start seen (10 ∷ rest) input s t all stays r
+      -- and told
+      pub at-sealed : (text' : List ℕ) (told' : Bool) → text' ≡ text ++ texts_of (map (told_if true) waiting) → told' ≡ (told && list_all is_told (map (told_if true) waiting)) → At store first next asked sent text' [] told'
+      at-sealed text' told' texts tells = record {
+        done = asked;
+        batch = [];
+        kept = store.state next;
+        replies = i.replies ++ waiting;
+        split = sym (append-nil asked);
+        run = whole_next;
+        on = refl;
+        ahead = λ u a. subst (λ s. IsAfterPrefix (store.state next) [] s) (sym (kept u a)) (prefix-start (store.state next) []);
+        written = ap (λ (l : List ℕ). sent ++ l) texts ∙ all_texts;
+        told = tells ∙ ap (λ b. b && list_all is_told (map (told_if true) waiting)) i.told
+            ∙ ap (λ (rs : List Reply). list_all is_told i.replies && list_all is_told rs) (told_if-kept waiting) ∙ sym (list_all-append is_told i.replies waiting);
+        led = store.leads_on first now next i.led goes;
+        leaves = next_leaves;
+      }
 
--- what stands before some lines was answered
-left-split : (start : State) (input : List ℕ) (done later : List (List ℕ)) (rs : List Reply) (now : State) → lines input ≡ done ++ later → IsRun start (answered done) rs now → IsLeftBy start input now
-left-split start input done later rs now split run = record {
-  done = answered done;
-  later = answered later;
-  replies = rs;
-  split = ap answered split ∙ answered-append done later;
-  run = run;
-}
+      -- but memory was wanting to tell all of it
+      pub sealed-broken : (q : Replies) (rest : List ℕ) → q.text.items ++ rest ≡ text ++ texts_of (map (told_if true) waiting) → IsBroken store first next asked sent q Memory
+      sealed-broken q rest texts = record {
+        told = λ u a. record {
+          done = asked;
+          batch = [];
+          later = [];
+          kept = store.state next;
+          ahead = store.state next;
+          replies = i.replies ++ waiting;
+          waiting = [];
+          untold = rest;
+          split = sym (append-nil asked);
+          run = whole_next;
+          on = refl;
+          holds = subst (λ s. IsAfterPrefix (store.state next) [] s) (sym (kept u a)) (prefix-start (store.state next) []);
+          written = append_assoc sent q.text.items rest ∙ ap (λ (l : List ℕ). sent ++ l) texts ∙ all_texts ∙ ap texts_of (sym (append-nil (i.replies ++ waiting)));
+        };
+        stops = record {
+          left = prefix-whole start (store.state next) asked (i.replies ++ waiting) whole_next;
+          course = store.leads_on first now next i.led goes;
+          leaves = next_leaves;
+        };
+      }
 
-pub left-within : (start : State) (seen rest input : List ℕ) (now : State) → input ≡ seen ++ rest → IsReachedWithin start seen now → IsLeftBy start input now
-left-within start seen rest input now all (front, back, parts, r) =
-    let whole : input ≡ front ++ (back ++ rest) = all ∙ ap (λ l. l ++ rest) (sym parts) ∙ append_assoc front back rest in
-    let next = lines-some (back ++ rest) in
-    left-split start input r.done ((r.line ++ next.0) ∷ next.1) r.replies now (ap lines whole ∙ lines-append front (back ++ rest) next.0 next.1 next.2 r.done r.line r.split) r.run
+    -- ---- what waited isn't kept
+    pub seal-broken : (next : E) (q : Replies) (rest : List ℕ) (f : CommitFault) → store.state next ≡ store.state now → ((u : State) → store.may_stand next u → store.may_stand now u)
+        → store.leaves now next (store.may_stand now) → store.fails_on f now next → q.text.items ++ rest ≡ text ++ texts_of (map (told_if false) waiting) → IsBroken store first next asked sent q (of_commit f)
+    seal-broken next q rest f same ahead moment fails texts = record {
+      told = λ u a. record {
+        done = i.done;
+        batch = i.batch;
+        later = [];
+        kept = i.kept;
+        ahead = store.state now;
+        replies = i.replies;
+        waiting = waiting;
+        untold = rest;
+        split = i.split ∙ ap (λ (l : List Ask). i.done ++ l) (sym (append-nil i.batch));
+        run = i.run;
+        on = i.on;
+        holds = i.ahead u (ahead u a);
+        written =
+            append_assoc sent q.text.items rest ∙ ap (λ (l : List ℕ). sent ++ l) texts ∙ sym (append_assoc sent text (texts_of (map (told_if false) waiting)))
+            ∙ ap (λ (l : List ℕ). l ++ texts_of (map (told_if false) waiting)) i.written ∙ sym (texts_of-append i.replies (map (told_if false) waiting));
+      };
+      stops = record {
+        left = subst (λ s. IsAfterPrefix start asked s) (sym same) at-left;
+        course = failed f fails;
+        leaves = store.leaves_on first now next (IsAfterPrefix start asked) i.leaves (store.leaves_as now next (store.may_stand now) (IsAfterPrefix start asked) at-ahead moment);
+      };
+    }
+      where
+        failed : (f : CommitFault) → store.fails_on f now next → StoreRun {A = Unit {0}} store (IsAfterPrefix start asked) first next (Err (of_commit f))
+        failed commit.StoreFailed h = record { before = now; led = i.led; asked = at-ahead; failed = h }
+        failed commit.Memory h = record { before = now; led = i.led; asked = at-ahead; failed = h }
 
-pub left-end : (start : State) (seen : List ℕ) (s t : State) (r : IsReached start seen s) → EndsOrStays s r.line t → IsLeftBy start seen t
-left-end start seen s t r (inl run) =
-    left-split start seen (r.done ++ r.line ∷ []) [] (r.replies ++ run.0) t (r.split ∙ sym (append-nil (r.done ++ r.line ∷ []))) (run-done start s t r.done r.line r.replies run.0 r.run run.1)
-left-end start seen s t r (inr stays) =
-    left-split start seen r.done (r.line ∷ []) r.replies t r.split (subst (IsRun start (answered r.done) r.replies) (sym stays) r.run)
+    -- ---- memory is wanting here
+    pub at-broken : (q : Replies) → q.text.items ≡ text → IsBroken store first now asked sent q Memory
+    at-broken q same = record {
+      told = λ u a. record {
+        done = i.done;
+        batch = i.batch;
+        later = [];
+        kept = i.kept;
+        ahead = store.state now;
+        replies = i.replies;
+        waiting = waiting;
+        untold = texts_of (map (told_if false) waiting);
+        split = i.split ∙ ap (λ (l : List Ask). i.done ++ l) (sym (append-nil i.batch));
+        run = i.run;
+        on = i.on;
+        holds = i.ahead u a;
+        written = ap (λ (l : List ℕ). (sent ++ l) ++ texts_of (map (told_if false) waiting)) same
+            ∙ ap (λ (l : List ℕ). l ++ texts_of (map (told_if false) waiting)) i.written ∙ sym (texts_of-append i.replies (map (told_if false) waiting));
+      };
+      stops = record { left = at-left; course = i.led; leaves = i.leaves };
+    }
 
--- ---- where the store fails
+  -- ---- the texts were sent
+  pub at-sent : (first now : E) (asked : List Ask) (sent : List ℕ) (r q : Replies) → IsAt store first now asked sent r → q.text.items ≡ [] → q.waiting ≡ r.waiting → q.is_told ≡ r.is_told → IsAt store first now asked (sent ++ r.text.items) q
+  at-sent first now asked sent r q i none waiting told = record {
+    done = i.done;
+    batch = i.batch;
+    kept = i.kept;
+    replies = i.replies;
+    split = i.split;
+    run = i.run;
+    on = subst (λ (rs : List Reply). IsRun i.kept i.batch rs (store.state now)) (ap (λ v. map said v.items) (sym waiting)) i.on;
+    ahead = i.ahead;
+    written = ap (λ (l : List ℕ). (sent ++ r.text.items) ++ l) none ∙ append-nil (sent ++ r.text.items) ∙ i.written;
+    told = told ∙ i.told;
+    led = i.led;
+    leaves = i.leaves;
+  }
 
--- a line that isn't blank is answered
-answered-one : (line : List ℕ) (later : List (List ℕ)) → is_blank line ≡ false → answered (line ∷ later) ≡ line ∷ answered later
-answered-one line later counted = ap (λ b. cond (not b) (line ∷ answered later) (answered later)) counted
+  -- ---- the end, where nothing waits
+  pub at-ended : (first now : E) (asked : List Ask) (sent text : List ℕ) (told : Bool) (q : Replies) → At store first now asked sent text [] told
+      → q.text.items ≡ text ++ show_line (store.state now) → q.is_told ≡ told → IsEnded store first now asked sent q
+  at-ended first now asked sent text told q i shown same =
+      let none = run-none i.kept (store.state now) i.batch i.on in
+      let all : asked ≡ i.done = i.split ∙ ap (λ (l : List Ask). i.done ++ l) none ∙ append-nil i.done in
+      let here : store.state now ≡ i.kept = subst (λ xs. IsRun i.kept xs [] (store.state now)) none i.on in
+      record {
+        replies = i.replies;
+        run = subst (λ xs. IsRun (store.state first) xs i.replies (store.state now)) (sym all) (subst (λ s. IsRun (store.state first) i.done i.replies s) (sym here) i.run);
+        kept = λ u a. only i.kept u (subst (λ xs. IsAfterPrefix i.kept xs u) none (i.ahead u a)) ∙ sym here;
+        written = ap (λ (l : List ℕ). sent ++ l) shown ∙ sym (append_assoc sent text (show_line (store.state now))) ∙ ap (λ (l : List ℕ). l ++ show_line (store.state now)) i.written;
+        told = same ∙ i.told;
+        led = i.led;
+        leaves = i.leaves;
+      }
+    where
+      no_run : (s u : State) (xs : List Ask) (rs : List Reply) → xs ≡ [] → IsRun s xs rs u → u ≡ s
+      no_run s u [] [] e h = h
+      no_run s u [] (r ∷ rs) e h = absurd h
+      no_run s u (x ∷ xs) rs e h = absurd cc
 
-stopped-split : (start : State) (input : List ℕ) (later : List (List ℕ)) (seen : List ℕ) (now : State) (p : Proposal) (r : IsReached start seen now)
-    → lines input ≡ r.done ++ r.line ∷ later → IsAskedBy now r.line now p → IsStoppedBy start input now p
-stopped-split start input later seen now p r split asked = record {
-  done = answered r.done;
-  next = r.line;
-  later = answered later;
-  replies = r.replies;
-  split = ap answered split ∙ answered-append r.done (r.line ∷ later) ∙ ap (λ ls. answered r.done ++ ls) (answered-one r.line later asked.counted);
-  run = r.run;
-  asks = asked.is;
-}
+      no_front : (xs ys : List Ask) → [] ≡ xs ++ ys → xs ≡ []
+      no_front [] ys e = refl
+      no_front (x ∷ xs) ys e = absurd cc
 
--- a line that ended is the next one
-pub stopped-within : (start : State) (seen rest input : List ℕ) (now : State) (p : Proposal) → input ≡ seen ++ rest → IsStoppedWithin start seen now p → IsStoppedBy start input now p
-stopped-within start seen rest input now p all h =
-    let r = h.reached in
-    let whole : input ≡ h.front ++ 10 ∷ (h.back ++ rest) = all ∙ ap (λ l. l ++ rest) (sym h.parts) ∙ append_assoc h.front (10 ∷ h.back) rest in
-    let split = ap lines whole ∙ lines-append h.front (10 ∷ (h.back ++ rest)) [] (lines (h.back ++ rest)) refl r.done r.line r.split in
-    stopped-split start input (lines (h.back ++ rest)) h.front now p r (split ∙ ap (λ l. r.done ++ l ∷ lines (h.back ++ rest)) (append-nil r.line)) h.asked
+      only : (s u : State) → IsAfterPrefix s [] u → u ≡ s
+      only s u p = no_run s u p.done p.replies (no_front p.done p.later p.split) p.run
 
--- the last one is
-pub stopped-end : (start : State) (seen : List ℕ) (s now : State) (p : Proposal) (r : IsReached start seen s) → IsAskedBy s r.line now p → IsStoppedBy start seen now p
-stopped-end start seen s now p r asked =
-    subst (λ t. IsStoppedBy start seen t p) (sym asked.here) (stopped-split start seen [] seen s p r r.split (record { here = refl; counted = asked.counted; is = asked.is }))
+  -- ---- whatever was to be asked behind
+  pub stops-more : (first now : E) (asked more : List Ask) (f : ApplyFault) → StopsAt store first now asked f → StopsAt store first now (asked ++ more) f
+  stops-more first now asked more f s = record {
+    left = prefix-more (store.state first) (store.state now) asked more s.left;
+    course = wider f s.course;
+    leaves = store.leaves_as first now (IsAfterPrefix (store.state first) asked) (IsAfterPrefix (store.state first) (asked ++ more)) (λ u p. prefix-more (store.state first) u asked more p) s.leaves;
+  }
+    where
+      wider : (f : ApplyFault) → StoreRun {A = Unit {0}} store (IsAfterPrefix (store.state first) asked) first now (Err f) → StoreRun {A = Unit {0}} store (IsAfterPrefix (store.state first) (asked ++ more)) first now (Err f)
+      wider Device c = c
+      wider Memory c = c
+      wider StoreFailed c = record { before = c.before; led = c.led; asked = λ u a. prefix-more (store.state first) u asked more (c.asked u a); failed = c.failed }
+      wider CommitMemory c = record { before = c.before; led = c.led; asked = λ u a. prefix-more (store.state first) u asked more (c.asked u a); failed = c.failed }
 
--- a line that ends here is asked for
-pub stopped-line : (start : State) (seen rest input : List ℕ) (s now : State) (p : Proposal) → seen ++ 10 ∷ rest ≡ input → (r : IsReached start seen s) → IsAskedBy s r.line now p → IsStoppedWithin start input now p
-stopped-line start seen rest input s now p all r asked =
-    subst (λ t. IsStoppedWithin start input t p) (sym asked.here) (record { front = seen; back = rest; parts = all; reached = r; asked = record { here = refl; counted = asked.counted; is = asked.is } })
+  pub broken-more : (first now : E) (asked more : List Ask) (sent : List ℕ) (q : Replies) (f : ApplyFault) → IsBroken store first now asked sent q f → IsBroken store first now (asked ++ more) sent q f
+  broken-more first now asked more sent q f b = record {
+    told = λ u a. told-more (store.state first) u asked more (sent ++ q.text.items) (b.told u a);
+    stops = stops-more first now asked more f b.stops;
+  }

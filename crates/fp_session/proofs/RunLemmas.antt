@@ -1,104 +1,145 @@
--- Runs over lines: over cut lines, blank ones, edits and others.
-use Rattle.std.proofs.Common.{◌≡◌, ℕ, ◌<◌, List, [], ◌∷◌, ◌++◌, length, Option, Some, None, IsSomeAnd, Result, Ok, Err, Bool, true, false, cond, not, ◌&&◌, nat_le, inl, inr, refl, sym, ap, subst, ◌∙◌}
-use Rattle.std.proofs.lemmas.List.Elements.{filter-append}
-use borrow.Author.Tests.{leb-true, leb-false, lt-leb}
+-- Runs over what is asked: joined, cut off, and where no reply tells of wanting memory.
+use Rattle.std.proofs.Common.{◌≡◌, ℕ, ◌+◌, List, [], ◌∷◌, ◌++◌, map, Option, Some, None, IsSomeAnd, Result, Ok, Err, Bool, true, false, ◌&&◌, ◌⊎◌, inl, inr, true≢false, refl, sym, ap, subst, ◌∙◌, append_assoc, append-nil, ◌<◌, drop, get_or, length, take}
+use Rattle.std.proofs.lemmas.List.{map-append, take-append-drop, take_more}
+use Rattle.std.proofs.lemmas.List.Folds.{list_all-append}
 use Rattle.std.specs.List.{list_all}
+use Rattle.std.specs.Io.KnownBytes.{Appends}
+use Rattle.fp_definition.specs.Faults.{tells}
+use Rattle.fp_definition.specs.Valid as flag
 use Rattle.fp_edit.specs.Flags.{State}
 use Rattle.fp_edit.specs.Edits.{Proposal}
+use Rattle.fp_edit.specs.Admits.{refusal, next, Admits, accepted, IsRefusedOrWanting}
 use Rattle.fp_edit.specs.Line as line
-use Rattle.fp_edit.specs.Line.{line_of}
 use Rattle.fp_edit.specs.Spelled.{Tells}
+use Rattle.fp_edit.specs.declared.edit.EditFault.{EditFault}
+use Rattle.fp_edit.specs.declared.edit.EditFault.TheVariants as edit
 use Rattle.fp_edit.specs.declared.line.LineFault.{LineFault}
 use Rattle.fp_edit.specs.declared.line.LineFault.TheVariants.{TooLong, NotJson, NotObject, BadMember, BadOp, BadKey, BadIf, BadFlag, Memory}
-use Rattle.fp_definition.specs.Valid as flag
-use Rattle.fp_definition.specs.Faults.{tells}
-use Rattle.fp_edit.specs.declared.line.TheConstants.{LONGEST_LINE}
-use Rattle.fp_session.specs.Lines.{answered, is_blank, is_space}
-use Rattle.fp_session.specs.Reply.{Reply, no_edit, said, fault_of, bad_flag_or_memory}
-use Rattle.fp_session.specs.declared.reply.Reply.TheVariants.{NoEdit}
-use Rattle.fp_session.specs.Verdicts.{AnswersBy, AnswersOrStays}
-use Rattle.fp_session.specs.Script.{judged, proposed, verdict, Answers, IsRun}
-use Rattle.fp_session.specs.Progress.{cut, EndsOrStays, IsAskedBy}
-use Rattle.fp_session.proofs.LineLemmas.{cut-short, cut-long}
-use Rattle.fp_session.proofs.VerdictLemmas.{answers-as}
+use Rattle.fp_session.specs.Asks.{Ask}
+use Rattle.fp_session.specs.Reply.{Reply, revision, conflict, set_too_large, revisions_used, no_edit, out_of_memory, store_failed, is_told, texts_of, text_of, told_if, said, refusal_of, fault_of, bad_flag_or_memory}
+use Rattle.fp_session.specs.Progress.{IsToldUpTo}
+use Rattle.fp_session.specs.declared.replies.Replies.{Replies}
+use Rattle.fp_session.specs.declared.reply.Reply as code
+use Rattle.fp_session.specs.declared.reply.Reply.TheVariants.{Refused, NoEdit}
+use Rattle.fp_session.specs.Run.{decided, verdict, after, replies_to, script, show_line, Answers, IsRun, IsRunWritten, IsAfterPrefix, IsTold, IsToldBy}
 
-pub answered-append : (ls ms : List (List ℕ)) → answered (ls ++ ms) ≡ answered ls ++ answered ms
-answered-append ls ms = filter-append (λ l. not (is_blank l)) ls ms
+-- one run after another
+pub run-append : (s t u : State) (xs ys : List Ask) (rs qs : List Reply) → IsRun s xs rs t → IsRun t ys qs u → IsRun s (xs ++ ys) (rs ++ qs) u
+run-append s t u [] ys [] qs h k = subst (λ v. IsRun v ys qs u) h k
+run-append s t u [] ys (r ∷ rs) qs h k = absurd h
+run-append s t u (x ∷ xs) ys [] qs h k = absurd h
+run-append s t u (x ∷ xs) ys (r ∷ rs) qs h k = (h.0, h.1, run-append h.0 t u xs ys rs qs h.2 k)
 
--- ---- one line
+pub run-single : (s t : State) (x : Ask) (r : Reply) → Answers s x r t → IsRun s (x ∷ []) (r ∷ []) t
+run-single s t x r h = (t, h, refl)
 
--- two lines that say the same are answered alike
-run-same : (s t : State) (a b : List ℕ) (rs : List Reply) → is_blank a ≡ is_blank b → line_of a ≡ line_of b → IsRun s (answered (a ∷ [])) rs t → IsRun s (answered (b ∷ [])) rs t
-run-same s t a b rs blank e h = by_blank (is_blank b) (subst (λ k. IsRun s (cond (not k) (a ∷ []) []) rs t) blank h)
+-- without a reply nothing was asked
+pub run-none : (s t : State) (xs : List Ask) → IsRun s xs [] t → xs ≡ []
+run-none s t [] h = refl
+run-none s t (x ∷ xs) h = absurd h
+
+pub texts_of-append : (rs qs : List Reply) → texts_of (rs ++ qs) ≡ texts_of rs ++ texts_of qs
+texts_of-append [] qs = refl
+texts_of-append (r ∷ rs) qs = ap (λ t. (text_of r ++ 10 ∷ []) ++ t) (texts_of-append rs qs) ∙ sym (append_assoc (text_of r ++ 10 ∷ []) (texts_of rs) (texts_of qs))
+
+-- ---- some first of what is asked
+
+pub prefix-start : (s : State) (xs : List Ask) → IsAfterPrefix s xs s
+prefix-start s xs = record { done = []; later = xs; replies = []; split = refl; run = refl }
+
+pub prefix-whole : (s t : State) (xs : List Ask) (rs : List Reply) → IsRun s xs rs t → IsAfterPrefix s xs t
+prefix-whole s t xs rs run = record { done = xs; later = []; replies = rs; split = sym (append-nil xs); run = run }
+
+pub prefix-more : (s u : State) (xs ys : List Ask) → IsAfterPrefix s xs u → IsAfterPrefix s (xs ++ ys) u
+prefix-more s u xs ys p = record {
+  done = p.done;
+  later = p.later ++ ys;
+  replies = p.replies;
+  split = ap (λ (l : List Ask). l ++ ys) p.split ∙ append_assoc p.done p.later ys;
+  run = p.run;
+}
+
+pub prefix-behind : (s t u : State) (xs ys : List Ask) (rs : List Reply) → IsRun s xs rs t → IsAfterPrefix t ys u → IsAfterPrefix s (xs ++ ys) u
+prefix-behind s t u xs ys rs run p = record {
+  done = xs ++ p.done;
+  later = p.later;
+  replies = rs ++ p.replies;
+  split = ap (λ (l : List Ask). xs ++ l) p.split ∙ sym (append_assoc xs p.done p.later);
+  run = run-append s t u xs p.done rs p.replies run p.run;
+}
+
+-- ---- what was told
+
+pub told-more : (s u : State) (xs ys : List Ask) (text : List ℕ) → IsTold s xs text u → IsTold s (xs ++ ys) text u
+told-more s u xs ys text t = record {
+  done = t.done;
+  batch = t.batch;
+  later = t.later ++ ys;
+  kept = t.kept;
+  ahead = t.ahead;
+  replies = t.replies;
+  waiting = t.waiting;
+  untold = t.untold;
+  split = ap (λ (l : List Ask). l ++ ys) t.split ∙ append_assoc t.done (t.batch ++ t.later) ys ∙ ap (λ (l : List Ask). t.done ++ l) (append_assoc t.batch t.later ys);
+  run = t.run;
+  on = t.on;
+  holds = t.holds;
+  written = t.written;
+}
+
+pub told-first : (s u : State) (xs : List Ask) (text rest all : List ℕ) → text ++ rest ≡ all → IsTold s xs all u → IsTold s xs text u
+told-first s u xs text rest all parts t = record {
+  done = t.done;
+  batch = t.batch;
+  later = t.later;
+  kept = t.kept;
+  ahead = t.ahead;
+  replies = t.replies;
+  waiting = t.waiting;
+  untold = rest ++ t.untold;
+  split = t.split;
+  run = t.run;
+  on = t.on;
+  holds = t.holds;
+  written = sym (append_assoc text rest t.untold) ∙ ap (λ (l : List ℕ). l ++ t.untold) parts ∙ t.written;
+}
+
+pub told_by-more : (s u : State) (xs ys : List Ask) (old new : Option (List ℕ)) → IsToldBy s xs old new u → IsToldBy s (xs ++ ys) old new u
+told_by-more s u xs ys old new t = (t.0, t.1, told-more s u xs ys t.0 t.2)
+
+-- ---- one edit
+
+-- that was admitted
+pub accepted-answers : (s t : State) (p : Proposal) (n : ℕ) → Admits s p (accepted t) → n ≡ t.revision → Answers s (Ok p) (revision n) t
+accepted-answers s t p n admits counted =
+    let made : s.revision + 1 ≡ n = sym (counted ∙ ap (λ u. u.revision) admits.1) in
+    ap (decided s p) admits.0 ∙ ap (λ m. (revision m, next s p.change)) made ∙ ap (λ u. (revision n, u)) (sym admits.1)
+
+-- that wasn't
+pub refused-answers : (s t : State) (p : Proposal) (e : EditFault) → IsRefusedOrWanting s p e → t ≡ s → Answers s (Ok p) (said (Refused e)) t
+refused-answers s t p e refused stays = by_fault e refused
   where
-    moved : (rs : List Reply) → IsRun s (a ∷ []) rs t → IsRun s (b ∷ []) rs t
-    moved [] h = absurd h
-    moved (r ∷ rs) h = (h.0, answers-as verdict verdict s h.0 a b r (ap (judged s) e) h.1, h.2)
+    stands : (e : EditFault) → refusal s p ≡ Some e → verdict s (Ok p) ≡ (refusal_of e, t)
+    stands e h = ap (decided s p) h ∙ ap (λ u. (refusal_of e, u)) (sym stays)
 
-    by_blank : (k : Bool) → IsRun s (cond (not k) (a ∷ []) []) rs t → IsRun s (cond (not k) (b ∷ []) []) rs t
-    by_blank true h = h
-    by_blank false h = moved rs h
+    by_fault : (e : EditFault) → IsRefusedOrWanting s p e → Answers s (Ok p) (refusal_of e) t
+    by_fault (edit.Conflict current) h = stands (edit.Conflict current) h
+    by_fault edit.SetTooLarge h = stands edit.SetTooLarge h
+    by_fault edit.RevisionsUsed h = stands edit.RevisionsUsed h
+    by_fault edit.Memory h = stays
 
-line_of-long : (l : List ℕ) → LONGEST_LINE < length l → line_of l ≡ Err line.too_long
-unfolding line_of
-line_of-long l h = rw (lt-leb (length l) LONGEST_LINE h) refl
-
-is_blank-long : (l : List ℕ) → LONGEST_LINE < length l → is_blank l ≡ false
-is_blank-long l h = ap (λ b. b && list_all is_space l) (lt-leb (length l) LONGEST_LINE h)
-
--- of a line that is too long no more is looked at
-pub run-cut : (s t : State) (l : List ℕ) (rs : List Reply) → IsRun s (answered (cut l ∷ [])) rs t → IsRun s (answered (l ∷ [])) rs t
-run-cut s t l rs h =
-    elim (nat_le (length l) LONGEST_LINE) as (λ b. nat_le (length l) LONGEST_LINE ≡ b → IsRun s (answered (l ∷ [])) rs t) [
-      | true ↦ λ short. subst (λ k. IsRun s (answered (k ∷ [])) rs t) (cut-short l (leb-true _ _ short)) h
-      | false ↦ λ long.
-          let over : LONGEST_LINE < length l = leb-false _ _ long in
-          let cut_over = cut-long l over in
-          run-same s t (cut l) l rs (is_blank-long (cut l) cut_over ∙ sym (is_blank-long l over)) (line_of-long (cut l) cut_over ∙ sym (line_of-long l over)) h
-    ] refl
-
--- so it is where it stops
-pub ends_or_stays-cut : (s t : State) (l : List ℕ) → EndsOrStays s (cut l) t → EndsOrStays s l t
-ends_or_stays-cut s t l (inl run) = inl (run.0, run-cut s t l run.0 run.1)
-ends_or_stays-cut s t l (inr stays) = inr stays
-
--- only a line that isn't cut is an edit
-pub asked-uncut : (s : State) (l : List ℕ) (now : State) (p : Proposal) → IsAskedBy s (cut l) now p → IsAskedBy s l now p
-asked-uncut s l now p h =
-    elim (nat_le (length l) LONGEST_LINE) as (λ b. nat_le (length l) LONGEST_LINE ≡ b → IsAskedBy s l now p) [
-      | true ↦ λ short. subst (λ k. IsAskedBy s k now p) (cut-short l (leb-true _ _ short)) h
-      | false ↦ λ long. absurd (too_long (line_of (cut l)) (line_of-long (cut l) (cut-long l (leb-false _ _ long))) h.is)
-    ] refl
+-- ---- what is no edit
+pub no_edit-answers : (s : State) (x : Ask) (e : LineFault) → Tells e (λ f. x ≡ Err f) → Answers s x (said (NoEdit e)) s
+no_edit-answers s x e fault = by_fault e fault
   where
-    too_long : (r : Result Proposal line.Fault) → r ≡ Err line.too_long → r ≡ Ok p → ⊥
-    too_long r e o = cc
+    stands : (f : line.Fault) → x ≡ Err f → verdict s x ≡ (no_edit f, s)
+    stands f h = ap (verdict s) h
 
-pub run-one : (s t : State) (l : List ℕ) (r : Reply) → is_blank l ≡ false → Answers s l r t → IsRun s (answered (l ∷ [])) (r ∷ []) t
-run-one s t l r blank h = subst (λ k. IsRun s (cond (not k) (l ∷ []) []) (r ∷ []) t) (sym blank) (t, h, refl)
-
-pub run-blank : (s : State) (l : List ℕ) → is_blank l ≡ true → IsRun s (answered (l ∷ [])) [] s
-run-blank s l blank = subst (λ k. IsRun s (cond (not k) (l ∷ []) []) [] s) (sym blank) refl
-
--- a line that is an edit is answered as the edit is
-pub edit-answers : (s t : State) (l : List ℕ) (p : Proposal) (r : Reply) → line_of l ≡ Ok p → AnswersBy proposed s p r t → Answers s l r t
-edit-answers s t l p r reads h = answers-as proposed verdict s t p l r (sym (ap (judged s) reads)) h
-
-pub edit-ends_or_stays : (s t : State) (l : List ℕ) (p : Proposal) → is_blank l ≡ false → line_of l ≡ Ok p → AnswersOrStays proposed s p t → EndsOrStays s l t
-edit-ends_or_stays s t l p blank reads (inl h) = inl (h.0 ∷ [], run-one s t l h.0 blank (edit-answers s t l p h.0 reads h.1))
-edit-ends_or_stays s t l p blank reads (inr stays) = inr stays
-
--- a line that is no edit
-pub no_edit-answers : (s t : State) (l : List ℕ) (e : LineFault) → Tells e (λ f. line_of l ≡ Err f) → t ≡ s → Answers s l (said (NoEdit e)) t
-no_edit-answers s t l e fault stays = by_fault e fault
-  where
-    stands : (f : line.Fault) → line_of l ≡ Err f → verdict s l ≡ (no_edit f, t)
-    stands f h = ap (judged s) h ∙ ap (λ u. (no_edit f, u)) (sym stays)
-
-    of_flag : (o : Option flag.Fault) → IsSomeAnd o (λ f. line_of l ≡ Err (line.bad_flag f)) → Answers s l (bad_flag_or_memory o) t
+    of_flag : (o : Option flag.Fault) → IsSomeAnd o (λ f. x ≡ Err (line.bad_flag f)) → Answers s x (bad_flag_or_memory o) s
     of_flag None h = absurd h
     of_flag (Some f) h = stands (line.bad_flag f) h
 
-    by_fault : (e : LineFault) → Tells e (λ f. line_of l ≡ Err f) → Answers s l (fault_of e) t
+    by_fault : (e : LineFault) → Tells e (λ f. x ≡ Err f) → Answers s x (fault_of e) s
     by_fault TooLong h = stands line.too_long h
     by_fault NotJson h = stands line.not_json h
     by_fault NotObject h = stands line.not_object h
@@ -107,4 +148,85 @@ no_edit-answers s t l e fault stays = by_fault e fault
     by_fault BadKey h = stands line.bad_key h
     by_fault BadIf h = stands line.bad_if h
     by_fault (BadFlag f) h = of_flag (tells f) h
-    by_fault Memory h = stays
+    by_fault Memory h = refl
+
+-- ---- where no reply tells of wanting memory
+
+told-verdict : (s t : State) (x : Ask) (r : Reply) → is_told r ≡ true → Answers s x r t → verdict s x ≡ (r, t)
+told-verdict s t x (revision n) e h = h
+told-verdict s t x (conflict current) e h = h
+told-verdict s t x set_too_large e h = h
+told-verdict s t x revisions_used e h = h
+told-verdict s t x (no_edit f) e h = h
+told-verdict s t x out_of_memory e h = absurd (true≢false (sym e))
+told-verdict s t x store_failed e h = absurd h
+
+both : (a b : Bool) → a && b ≡ true → (a ≡ true) × (b ≡ true)
+both true b h = (refl, h)
+both false b h = absurd (true≢false (sym h))
+
+-- each reply is the verdict
+pub run-told : (s t : State) (xs : List Ask) (rs : List Reply) → IsRun s xs rs t → list_all is_told rs ≡ true → (rs ≡ replies_to s xs) × (t ≡ after s xs)
+run-told s t [] [] h e = (refl, h)
+run-told s t [] (r ∷ rs) h e = absurd h
+run-told s t (x ∷ xs) [] h e = absurd h
+run-told s t (x ∷ xs) (r ∷ rs) h e =
+    let parts = both (is_told r) (list_all is_told rs) e in
+    let is = told-verdict s h.0 x r parts.0 h.1 in
+    let rest = run-told h.0 t xs rs h.2 parts.1 in
+    (ap (λ qs. r ∷ qs) rest.0 ∙ ap (λ v. v.0 ∷ replies_to v.1 xs) (sym is), rest.1 ∙ ap (λ v. after v.1 xs) (sym is))
+
+pub written-flags : (start : State) (xs : List Ask) (told : Bool) (old new : Option (List ℕ)) (now : State) → IsRunWritten start xs told old new now → told ≡ true → now ≡ after start xs
+written-flags start xs told old new now r all = (run-told start now xs r.replies r.run (sym r.told_is ∙ all)).1
+
+pub written-script : (start : State) (xs : List Ask) (told : Bool) (old new : Option (List ℕ)) (now : State) → IsRunWritten start xs told old new now → told ≡ true → Appends old new (script start xs)
+written-script start xs told old new now r all =
+    let is = run-told start now xs r.replies r.run (sym r.told_is ∙ all) in
+    let said : texts_of r.replies ++ show_line now ≡ script start xs = ap (λ rs. texts_of rs ++ show_line now) is.0 ∙ ap (λ t. texts_of (replies_to start xs) ++ show_line t) is.1 in
+    subst (Appends old new) said r.written
+
+-- where what waited is kept, each reply is told as it is
+pub told_if-kept : (rs : List Reply) → map (told_if true) rs ≡ rs
+told_if-kept [] = refl
+told_if-kept (r ∷ rs) = ap (λ (l : List Reply). r ∷ l) (told_if-kept rs)
+
+-- one more of those that wait was told
+pub told_up_to-more : (is_kept : Bool) (text : List ℕ) (all : Bool) (r q : Replies) (n : ℕ) (reply : code.Reply) (told : Reply) → n < length r.waiting.items → reply ≡ get_or r.waiting.items n reply → told ≡ told_if is_kept (said reply)
+    → q.waiting.items ≡ r.waiting.items → q.text.items ≡ r.text.items ++ texts_of (told ∷ []) → q.is_told ≡ (r.is_told && is_told told) → IsToldUpTo is_kept text all r n → IsToldUpTo is_kept text all q (n + 1)
+told_up_to-more is_kept text all r q n reply told lt here is waiting texts tells h =
+    let first = λ (xs : List code.Reply). map (told_if is_kept) (map said xs) in
+    let taken : take (n + 1) q.waiting.items ≡ take n r.waiting.items ++ reply ∷ [] = ap (λ (l : List code.Reply). take (n + 1) l) waiting ∙ take_more r.waiting.items n reply lt ∙ ap (λ (x : code.Reply). take n r.waiting.items ++ x ∷ []) (sym here) in
+    let all_of : first (take (n + 1) q.waiting.items) ≡ first (take n r.waiting.items) ++ told ∷ [] =
+    ap first taken ∙ ap (λ (l : List Reply). map (told_if is_kept) l) (map-append said (take n r.waiting.items) (reply ∷ [])) ∙ map-append (told_if is_kept) (map said (take n r.waiting.items)) (said reply ∷ [])
+    ∙ ap (λ (x : Reply). first (take n r.waiting.items) ++ x ∷ []) (sym is) in
+    record {
+      texts = texts ∙ ap (λ (l : List ℕ). l ++ texts_of (told ∷ [])) h.texts ∙ append_assoc text (texts_of (first (take n r.waiting.items))) (texts_of (told ∷ []))
+          ∙ ap (λ (l : List ℕ). text ++ l) (sym (texts_of-append (first (take n r.waiting.items)) (told ∷ []))) ∙ ap (λ (l : List Reply). text ++ texts_of l) (sym all_of);
+      tells = tells ∙ ap (λ b. b && is_told told) h.tells ∙ bool_assoc all (list_all is_told (first (take n r.waiting.items))) (is_told told)
+          ∙ ap (λ b. all && b) (sym (one_more (first (take n r.waiting.items)))) ∙ ap (λ (l : List Reply). all && list_all is_told l) (sym all_of);
+    }
+  where
+    bool_assoc : (a b c : Bool) → (a && b) && c ≡ a && (b && c)
+    bool_assoc true b c = refl
+    bool_assoc false b c = refl
+
+    last : (b : Bool) → b && true ≡ b
+    last true = refl
+    last false = refl
+
+    one_more : (rs : List Reply) → list_all is_told (rs ++ told ∷ []) ≡ list_all is_told rs && is_told told
+    one_more rs = list_all-append is_told rs (told ∷ []) ∙ ap (λ b. list_all is_told rs && b) (last (is_told told))
+
+-- and what is left of them
+pub told_up_to-rest : (is_kept : Bool) (text : List ℕ) (all : Bool) (r q : Replies) (n : ℕ) (waiting : List code.Reply) → IsToldUpTo is_kept text all r n → r.waiting.items ≡ waiting → q.text.items ≡ r.text.items
+    → (rest : List ℕ) × (q.text.items ++ rest ≡ text ++ texts_of (map (told_if is_kept) (map said waiting)))
+told_up_to-rest is_kept text all r q n waiting h is same =
+    let first = λ (xs : List code.Reply). map (told_if is_kept) (map said xs) in
+    let rest = texts_of (first (drop n r.waiting.items)) in
+    let whole : first waiting ≡ first (take n r.waiting.items) ++ first (drop n r.waiting.items) =
+    ap first (sym is) ∙ ap first (sym (take-append-drop n r.waiting.items)) ∙ ap (λ (l : List Reply). map (told_if is_kept) l) (map-append said (take n r.waiting.items) (drop n r.waiting.items))
+    ∙ map-append (told_if is_kept) (map said (take n r.waiting.items)) (map said (drop n r.waiting.items)) in (
+      rest,
+      ap (λ (l : List ℕ). l ++ rest) (same ∙ h.texts) ∙ append_assoc text (texts_of (first (take n r.waiting.items))) rest
+          ∙ ap (λ (l : List ℕ). text ++ l) (sym (texts_of-append (first (take n r.waiting.items)) (first (drop n r.waiting.items)))) ∙ ap (λ (l : List Reply). text ++ texts_of l) (sym whole),
+    )

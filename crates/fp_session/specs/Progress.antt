@@ -1,92 +1,142 @@
--- How far an input was answered.
-use Rattle.std.specs.Prelude.{◌≡◌, ℕ, ◌+◌, List, [], ◌∷◌, ◌++◌, take, ◌&&◌, ◌⊎◌, Option, Ok, false}
+-- How far what is asked was answered.
+use Rattle.std.specs.Prelude.{◌≡◌, ◌⊎◌, ℕ, ◌+◌, List, [], ◌∷◌, ◌++◌, map, take, Bool, ◌&&◌, Option, Ok, Err, Result, IfSome, OnOk}
 use Rattle.std.specs.List.{list_all}
 use Rattle.std.specs.Io.KnownBytes.{Appends}
-use Rattle.fp_edit.specs.Edits.{Proposal}
+use Rattle.fp_edit.specs.Edits.{proposal_of}
 use Rattle.fp_edit.specs.Flags.{State}
-use Rattle.fp_edit.specs.Line.{line_of}
+use Rattle.fp_edit.specs.Spelled.{Tells}
+use Rattle.fp_edit.specs.declared.edit.Edit.{Edit}
+use Rattle.fp_edit.specs.declared.line.LineFault.{LineFault}
 use Rattle.fp_edit.specs.declared.line.TheConstants.{LONGEST_LINE}
-use Rattle.fp_session.specs.Lines.{lines, answered, is_blank}
-use Rattle.fp_session.specs.Reply.{Reply, texts_of, is_told}
-use Rattle.fp_session.specs.Script.{verdict, IsRun}
-use Rattle.fp_session.specs.Verdicts.{Verdict, IsRunBy, show_line}
-use Rattle.fp_session.specs.declared.exchange.Exchange.{Exchange}
+use Rattle.fp_session.specs.Asks.{Ask, asked_by_input, asked_by_lines}
+use Rattle.fp_session.specs.Lines.{lines}
+use Rattle.fp_session.specs.Reply.{Reply, said, texts_of, is_told, told_if}
+use Rattle.fp_session.specs.Run.{Answers, IsRun, IsAfterPrefix, IsRunWritten, IsTold, IsToldBy, show_line}
+use Rattle.fp_session.specs.StoreRun.{StoreRun}
+use Rattle.fp_session.specs.declared.edit_store.EditStore.{Ghosts}
+use Rattle.fp_session.specs.declared.fault.ApplyFault.{ApplyFault}
+use Rattle.fp_session.specs.declared.line.IncomingLine.{IncomingLine}
+use Rattle.fp_session.specs.declared.replies.Replies.{Replies}
 
 -- ---- whatever is asked
 
--- replies to what was asked came to those that wait
-pub record IsAdded {A : Type 0} (judge : Verdict A) (s : State) (xs : List A) (old new : Exchange) (t : State) : Type 0 where
-  pub replies : List Reply
-  pub run : IsRunBy judge s xs replies t
-  pub written : new.replies.items ≡ old.replies.items ++ texts_of replies
-  pub told : new.is_told ≡ (old.is_told && list_all is_told replies)
+-- an edit asks for itself, and a fault for what it is told of
+abbrev pub AsksFor : Result Edit LineFault → Ask → Type 0
+AsksFor (Ok edit) x = x ≡ Ok (proposal_of edit)
+AsksFor (Err fault) x = Tells fault (λ f. x ≡ Err f)
 
--- a writer that held `old` holds some of the replies behind it, and the others wait
-pub record IsUnderWay {A : Type 0} (judge : Verdict A) (start : State) (xs : List A) (old new : Option (List ℕ)) (x : Exchange) (now : State) : Type 0 where
+-- an edit was answered, and waits to be kept where it was accepted
+pub record Takes {E : Type 0} (store : Ghosts E) (a : E) (x : Ask) (reply : Reply) (b : E) : Type 0 where
+  pub answered : Answers (store.state a) x reply (store.state b)
+  pub ahead : (flags : State) → store.may_stand b flags → store.may_stand a flags ⊎ (flags ≡ store.state b)
+  pub leaves : store.leaves a b (store.may_stand a)
+  pub goes_on : store.continues_to a b
+
+-- what was asked was answered: what is kept, with texts of which `sent` was sent, and behind it a batch whose replies wait
+pub record At {E : Type 0} (store : Ghosts E) (first now : E) (asked : List Ask) (sent text : List ℕ) (waiting : List Reply) (is_told_all : Bool) : Type 0 where
+  pub done : List Ask
+  pub batch : List Ask
+  pub kept : State
   pub replies : List Reply
+  pub split : asked ≡ done ++ batch
+  pub run : IsRun (store.state first) done replies kept
+  pub on : IsRun kept batch waiting (store.state now)
+  pub ahead : (flags : State) → store.may_stand now flags → IsAfterPrefix kept batch flags
+  pub written : sent ++ text ≡ texts_of replies
+  pub told : is_told_all ≡ list_all is_told replies
+  pub led : store.continues_to first now
+  pub leaves : store.leaves first now (IsAfterPrefix (store.state first) asked)
+
+abbrev pub IsAt : {E : Type 0} → Ghosts E → E → E → List Ask → List ℕ → Replies → Type 0
+IsAt store first now asked sent r = At store first now asked sent r.text.items (map said r.waiting.items) r.is_told
+
+-- where it broke off
+pub record StopsAt {E : Type 0} (store : Ghosts E) (first now : E) (asked : List Ask) (fault : ApplyFault) : Type 0 where
+  pub left : IsAfterPrefix (store.state first) asked (store.state now)
+  pub course : StoreRun {A = Unit {0}} store (IsAfterPrefix (store.state first) asked) first now (Err fault)
+  pub leaves : store.leaves first now (IsAfterPrefix (store.state first) asked)
+
+-- it broke off: whatever flags may stand hold all that the texts tell
+pub record IsBroken {E : Type 0} (store : Ghosts E) (first now : E) (asked : List Ask) (sent : List ℕ) (r : Replies) (fault : ApplyFault) : Type 0 where
+  pub told : (flags : State) → store.may_stand now flags → IsTold (store.state first) asked (sent ++ r.text.items) flags
+  pub stops : StopsAt store first now asked fault
+
+-- all of it was answered and is kept, and the flags are shown
+pub record IsEnded {E : Type 0} (store : Ghosts E) (first now : E) (asked : List Ask) (sent : List ℕ) (r : Replies) : Type 0 where
+  pub replies : List Reply
+  pub run : IsRun (store.state first) asked replies (store.state now)
+  pub kept : (flags : State) → store.may_stand now flags → flags ≡ store.state now
+  pub written : sent ++ r.text.items ≡ texts_of replies ++ show_line (store.state now)
+  pub told : r.is_told ≡ list_all is_told replies
+  pub led : store.continues_to first now
+  pub leaves : store.leaves first now (IsAfterPrefix (store.state first) asked)
+
+-- the first of the replies that wait were told behind a text
+pub record IsToldUpTo (is_kept : Bool) (text : List ℕ) (told : Bool) (r : Replies) (n : ℕ) : Type 0 where
+  pub texts : r.text.items ≡ text ++ texts_of (map (told_if is_kept) (map said (take n r.waiting.items)))
+  pub tells : r.is_told ≡ (told && list_all is_told (map (told_if is_kept) (map said (take n r.waiting.items))))
+
+-- ---- with a writer that held `before` and holds `now_held`, and failed so often
+
+pub record IsAtWith {E : Type 0} (store : Ghosts E) (first now : E) (asked : List Ask) (before now_held : Option (List ℕ)) (r : Replies) : Type 0 where
   pub sent : List ℕ
-  pub run : IsRunBy judge start xs replies now
-  pub appended : Appends old new sent
-  pub written : sent ++ x.replies.items ≡ texts_of replies
-  pub told : x.is_told ≡ list_all is_told replies
+  pub appended : Appends before now_held sent
+  pub at : IsAt store first now asked sent r
+
+-- of the texts `sent` and what waited behind it more was sent, or nothing
+pub record IsSentFurther (before now_held : Option (List ℕ)) (sent : List ℕ) (old new : Replies) : Type 0 where
+  pub all : List ℕ
+  pub appended : Appends before now_held all
+  pub same : all ++ new.text.items ≡ sent ++ old.text.items
+  pub waiting : new.waiting ≡ old.waiting
+  pub told : new.is_told ≡ old.is_told
+
+-- it broke off, and unless the writer failed it holds nothing that flags which may stand don't
+pub record IsBrokenWith {E : Type 0} (store : Ghosts E) (first now : E) (asked : List Ask) (before now_held : Option (List ℕ)) (f0 f : ℕ) (fault : ApplyFault) : Type 0 where
+  pub told : f ≡ f0 → (flags : State) → store.may_stand now flags → IsToldBy (store.state first) asked before now_held flags
+  pub stops : StopsAt store first now asked fault
+
+-- all was answered, kept, shown and sent
+pub record IsDone {E : Type 0} (store : Ghosts E) (first now : E) (asked : List Ask) (before now_held : Option (List ℕ)) (told : Bool) : Type 0 where
+  pub written : IsRunWritten (store.state first) asked told before now_held (store.state now)
+  pub kept : (flags : State) → store.may_stand now flags → flags ≡ store.state now
+  pub led : store.continues_to first now
+  pub leaves : store.leaves first now (IsAfterPrefix (store.state first) asked)
+
+-- how a run ends
+abbrev pub Ends : {E : Type 0} → Ghosts E → E → E → List Ask → Option (List ℕ) → Option (List ℕ) → ℕ → ℕ → Result Bool ApplyFault → Type 0
+Ends store first now asked before now_held f0 f (Ok told) = IsDone store first now asked before now_held told
+Ends store first now asked before now_held f0 f (Err fault) = IsBrokenWith store first now asked before now_held f0 f fault
 
 -- ---- lines
-
--- each line that ended in `seen` was answered, and the last one hasn't ended
-pub record IsReached (start : State) (seen : List ℕ) (now : State) : Type 0 where
-  pub done : List (List ℕ)
-  pub line : List ℕ
-  pub replies : List Reply
-  pub split : lines seen ≡ done ++ line ∷ []
-  pub run : IsRun start (answered done) replies now
 
 -- a line, or one byte more of it than is looked at
 abbrev pub cut : List ℕ → List ℕ
 cut line = take (LONGEST_LINE + 1) line
 
--- the same, with what was sent of the replies and what waits
-pub record IsSoFar (start : State) (seen sent : List ℕ) (x : Exchange) (now : State) : Type 0 where
-  pub reached : IsReached start seen now
-  pub kept : x.line.items ≡ cut reached.line
-  pub written : sent ++ x.replies.items ≡ texts_of reached.replies
-  pub told : x.is_told ≡ list_all is_told reached.replies
+-- each line that ended in `seen` was answered and is kept, and the last one hasn't ended
+pub record IsReading {E : Type 0} (store : Ghosts E) (first now : E) (seen sent : List ℕ) (r : Replies) (l : IncomingLine) : Type 0 where
+  pub done : List (List ℕ)
+  pub line : List ℕ
+  pub split : lines seen ≡ done ++ line ∷ []
+  pub held : l.bytes.items ≡ cut line
+  pub at : IsAt store first now (asked_by_lines done) sent r
+  pub none : r.waiting.items ≡ []
 
--- some beginning of the input was reached
-abbrev pub IsReachedWithin : State → List ℕ → State → Type 0
-IsReachedWithin start input now = (front back : List ℕ) × (front ++ back ≡ input) × IsReached start front now
-
--- each line of the input was answered, and the flags are shown
-pub record IsAnswered (start : State) (input sent : List ℕ) (x : Exchange) (now : State) : Type 0 where
-  pub replies : List Reply
-  pub run : IsRun start (answered (lines input)) replies now
-  pub written : sent ++ x.replies.items ≡ texts_of replies ++ show_line now
-  pub told : x.is_told ≡ list_all is_told replies
-
--- a line was answered, and the next one begins
-pub record EndsLine (s : State) (line : List ℕ) (old new : Exchange) (t : State) : Type 0 where
-  pub added : IsAdded verdict s (answered (line ∷ [])) old new t
-  pub empty : new.line.items ≡ []
-
--- a line was answered, or nothing was done
-abbrev pub EndsOrStays : State → List ℕ → State → Type 0
-EndsOrStays s line t = ((replies : List Reply) × IsRun s (answered (line ∷ [])) replies t) ⊎ (t ≡ s)
-
--- ---- where the store fails
-
--- this edit is to be made, and nothing was done yet
-abbrev pub IsAsked : State → Proposal → State → Proposal → Type 0
-IsAsked s edit now p = (now ≡ s) × (p ≡ edit)
-
--- the line that came in is this edit, and nothing was done with it yet
-pub record IsAskedBy (s : State) (line : List ℕ) (now : State) (edit : Proposal) : Type 0 where
-  pub here : now ≡ s
-  pub counted : is_blank line ≡ false
-  pub is : line_of line ≡ Ok edit
-
--- a line that ended in `seen` is this edit, and those before it were answered
-pub record IsStoppedWithin (start : State) (seen : List ℕ) (now : State) (edit : Proposal) : Type 0 where
+-- it broke off at a line that ended in `seen`
+pub record IsBrokenWithin {E : Type 0} (store : Ghosts E) (first now : E) (seen sent : List ℕ) (r : Replies) (fault : ApplyFault) : Type 0 where
   pub front : List ℕ
   pub back : List ℕ
-  pub parts : front ++ 10 ∷ back ≡ seen
-  pub reached : IsReached start front now
-  pub asked : IsAskedBy now reached.line now edit
+  pub done : List (List ℕ)
+  pub line : List ℕ
+  pub parts : front ++ back ≡ seen
+  pub split : lines front ≡ done ++ line ∷ []
+  pub broken : IsBroken store first now (asked_by_lines done) sent r fault
+
+-- how a run over what a reader gives ends: over some first things that the input asks, and where it is done over all
+pub record EndsOver {E : Type 0} (store : Ghosts E) (first now : E) (reads : Option (List ℕ)) (before now_held : Option (List ℕ)) (f0 f : ℕ) (outcome : Result Bool ApplyFault) : Type 0 where
+  pub asked : List Ask
+  pub later : List Ask
+  pub parts : IfSome reads (λ input. asked ++ later ≡ asked_by_input input)
+  pub whole : OnOk outcome (later ≡ [])
+  pub ends : Ends store first now asked before now_held f0 f outcome

@@ -1,5 +1,5 @@
 -- Replies to lines, and their texts.
-use Rattle.std.specs.Prelude.{ℕ, List, [], ◌∷◌, ◌++◌, codes, decimal, Bool, true, false, Option, Some, None}
+use Rattle.std.specs.Prelude.{ℕ, List, [], ◌∷◌, ◌++◌, codes, decimal, Bool, true, false, not, ◌||◌, if◌then◌else◌, Option, Some, None}
 use Rattle.serde_json.specs.Data.{string}
 use Rattle.serde_json.specs.Written.{compact_text}
 use Rattle.fp_definition.specs.Valid as flag
@@ -10,7 +10,7 @@ use Rattle.fp_edit.specs.declared.edit.EditFault.TheVariants as edit
 use Rattle.fp_edit.specs.declared.line.LineFault.{LineFault}
 use Rattle.fp_edit.specs.declared.line.LineFault.TheVariants.{TooLong, NotJson, NotObject, BadMember, BadOp, BadKey, BadIf, BadFlag, Memory}
 use Rattle.fp_session.specs.declared.reply.Reply as code
-use Rattle.fp_session.specs.declared.reply.Reply.TheVariants.{Revision, Refused, NoEdit}
+use Rattle.fp_session.specs.declared.reply.Reply.TheVariants.{Revision, Refused, NoEdit, StoreFailed}
 
 pub data Reply : Type 0 where
   -- the revision that the edit made
@@ -21,6 +21,8 @@ pub data Reply : Type 0 where
   revisions_used : Reply
   no_edit : line.Fault → Reply
   out_of_memory : Reply
+  -- the edit isn't known to be kept
+  store_failed : Reply
 
 -- ---- texts
 
@@ -57,6 +59,7 @@ text_of set_too_large = error_text (codes "set-too-large")
 text_of revisions_used = error_text (codes "revisions-used")
 text_of (no_edit f) = line_text f
 text_of out_of_memory = error_text (codes "out-of-memory")
+text_of store_failed = error_text (codes "store-failed")
 
 -- each reply on a line of its own
 abbrev pub texts_of : List Reply → List ℕ
@@ -71,6 +74,21 @@ is_told set_too_large = true
 is_told revisions_used = true
 is_told (no_edit f) = true
 is_told out_of_memory = false
+is_told store_failed = true
+
+-- whether a reply tells of a revision
+abbrev pub tells_revision : Reply → Bool
+tells_revision (revision n) = true
+tells_revision (conflict current) = true
+tells_revision set_too_large = false
+tells_revision revisions_used = false
+tells_revision (no_edit f) = false
+tells_revision out_of_memory = false
+tells_revision store_failed = false
+
+-- how a reply is told where the batch that it waits for is kept, and where it isn't: then no revision is told
+abbrev pub told_if : Bool → Reply → Reply
+told_if is_kept r = if is_kept || not (tells_revision r) then r else store_failed
 
 -- ---- the replies of the code
 
@@ -99,8 +117,4 @@ abbrev pub said : code.Reply → Reply
 said (Revision n) = revision n
 said (Refused e) = refusal_of e
 said (NoEdit f) = fault_of f
-
--- a blank line has no reply
-abbrev pub replies_of : Option code.Reply → List Reply
-replies_of None = []
-replies_of (Some r) = said r ∷ []
+said StoreFailed = store_failed

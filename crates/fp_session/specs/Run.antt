@@ -1,24 +1,97 @@
--- A run over an input: what is written, and where it leaves the flags.
-use Rattle.std.specs.Prelude.{◌≡◌, ℕ, List, Bool, Option, Ok}
+-- Runs over what is asked: the reply to each, where it leads the flags, and what is written.
+use Rattle.std.specs.Prelude.{◌≡◌, ◌⊎◌, ℕ, ◌+◌, List, [], ◌∷◌, ◌++◌, decimal, map, Bool, false, Option, None, Some, Ok, Err}
+use Rattle.std.specs.List.{list_all}
+use Rattle.std.specs.Io.KnownBytes.{Appends}
+use Rattle.fp_edit.specs.Admits.{refusal, next}
+use Rattle.fp_edit.specs.Document.{document}
 use Rattle.fp_edit.specs.Edits.{Proposal}
 use Rattle.fp_edit.specs.Flags.{State}
-use Rattle.fp_edit.specs.Line.{line_of}
-use Rattle.fp_session.specs.Lines.{lines, answered}
-use Rattle.fp_session.specs.Script.{verdict}
-use Rattle.fp_session.specs.Verdicts.{IsRunWritten, IsAfterPrefix, StopsBefore}
+use Rattle.fp_edit.specs.declared.edit.EditFault.{EditFault}
+use Rattle.fp_session.specs.Asks.{Ask}
+use Rattle.fp_session.specs.Reply.{Reply, revision, conflict, set_too_large, revisions_used, no_edit, out_of_memory, store_failed, refusal_of, told_if, texts_of, is_told}
 
--- a writer that held `old` holds a reply to each line of the input behind it, and then the flags
-abbrev pub IsRunOver : State → List ℕ → Bool → Option (List ℕ) → Option (List ℕ) → State → Type 0
-IsRunOver start input told old new now = IsRunWritten verdict start (answered (lines input)) told old new now
+abbrev pub decided : State → Proposal → Option EditFault → Reply × State
+decided s p None = (revision (s.revision + 1), next s p.change)
+decided s p (Some e) = (refusal_of e, s)
 
--- the flags are as some first lines of the input leave them
-abbrev pub IsLeftBy : State → List ℕ → State → Type 0
-IsLeftBy start input now = IsAfterPrefix verdict start (answered (lines input)) now
+-- by the flags that it comes upon: the reply to what is asked, and the flags after it
+abbrev pub verdict : State → Ask → Reply × State
+verdict s (Ok p) = decided s p (refusal s p)
+verdict s (Err f) = (no_edit f, s)
 
--- some first lines of the input were answered, and the next one is this edit
-abbrev pub IsStoppedBy : State → List ℕ → State → Proposal → Type 0
-IsStoppedBy start input now edit = StopsBefore verdict (λ line p. line_of line ≡ Ok p) start (answered (lines input)) now edit
+-- ---- where memory never wants
 
--- a writer holds what a run over the input writes, wherever it leads
-abbrev pub IsApplied : State → List ℕ → Option (List ℕ) → Option (List ℕ) → Type 0
-IsApplied start input old new = (told : Bool) × (now : State) × IsRunOver start input told old new now
+-- the flags after all that is asked
+abbrev pub after : State → List Ask → State
+after s [] = s
+after s (x ∷ xs) = after (verdict s x).1 xs
+
+-- each is judged after those before it
+abbrev pub replies_to : State → List Ask → List Reply
+replies_to s [] = []
+replies_to s (x ∷ xs) = (verdict s x).0 ∷ replies_to (verdict s x).1 xs
+
+-- the revision and the document
+abbrev pub show_line : State → List ℕ
+show_line s = decimal s.revision ++ 32 ∷ document s.flags ++ 10 ∷ []
+
+-- what is written: the replies, and then the flags
+abbrev pub script : State → List Ask → List ℕ
+script s xs = texts_of (replies_to s xs) ++ show_line (after s xs)
+
+-- ---- with want of memory, which a reply may tell anywhere
+
+-- a reply, and the flags after it: the verdict, or want of memory, which changes nothing
+abbrev pub Answers : State → Ask → Reply → State → Type 0
+Answers s x out_of_memory t = t ≡ s
+Answers s x store_failed t = ⊥
+Answers s x (revision n) t = verdict s x ≡ (revision n, t)
+Answers s x (conflict current) t = verdict s x ≡ (conflict current, t)
+Answers s x set_too_large t = verdict s x ≡ (set_too_large, t)
+Answers s x revisions_used t = verdict s x ≡ (revisions_used, t)
+Answers s x (no_edit f) t = verdict s x ≡ (no_edit f, t)
+
+-- a reply to each, in order
+abbrev pub IsRun : State → List Ask → List Reply → State → Type 0
+IsRun s [] [] t = t ≡ s
+IsRun s [] (r ∷ rs) t = ⊥
+IsRun s (x ∷ xs) [] t = ⊥
+IsRun s (x ∷ xs) (r ∷ rs) t = (u : State) × Answers s x r u × IsRun u xs rs t
+
+-- a writer that held `old` holds a reply to each behind it, and then the flags
+pub record IsRunWritten (start : State) (xs : List Ask) (told : Bool) (old new : Option (List ℕ)) (now : State) : Type 0 where
+  pub replies : List Reply
+  pub run : IsRun start xs replies now
+  pub written : Appends old new (texts_of replies ++ show_line now)
+  pub told_is : told ≡ list_all is_told replies
+
+-- the flags are as some first of them leave them
+pub record IsAfterPrefix (start : State) (xs : List Ask) (now : State) : Type 0 where
+  pub done : List Ask
+  pub later : List Ask
+  pub replies : List Reply
+  pub split : xs ≡ done ++ later
+  pub run : IsRun start done replies now
+
+-- ---- where it breaks off
+
+-- The text is a beginning of the replies to some first of them, whose edits these flags hold, and to a batch behind them,
+-- of whose edits they hold some first and no revision is told
+pub record IsTold (start : State) (xs : List Ask) (text : List ℕ) (flags : State) : Type 0 where
+  pub done : List Ask
+  pub batch : List Ask
+  pub later : List Ask
+  pub kept : State
+  pub ahead : State
+  pub replies : List Reply
+  pub waiting : List Reply
+  pub untold : List ℕ
+  pub split : xs ≡ done ++ (batch ++ later)
+  pub run : IsRun start done replies kept
+  pub on : IsRun kept batch waiting ahead
+  pub holds : IsAfterPrefix kept batch flags
+  pub written : text ++ untold ≡ texts_of (replies ++ map (told_if false) waiting)
+
+-- what a writer that held `old` holds behind it is such a text
+abbrev pub IsToldBy : State → List Ask → Option (List ℕ) → Option (List ℕ) → State → Type 0
+IsToldBy start xs old new flags = (text : List ℕ) × Appends old new text × IsTold start xs text flags

@@ -1,14 +1,16 @@
 //! Batches of a desk's edits, sealed by its store and settled.
 
-ghost use Rattle.std.specs.Prelude.{◌≡◌, ◌≢◌, ◌⊎◌, ◌<◌, ◌+◌, ◌++◌, List, ℕ, [], IfOk, IfErr, OnOk, OnErr};
+ghost use Rattle.std.specs.Prelude.{◌≡◌, ◌≢◌, ◌⊎◌, ◌<◌, ◌≤◌, ◌+◌, ◌++◌, List, ℕ, [], ◌∷◌, length, IfOk, IfErr, MatchResult, OnOk, OnErr};
 ghost use Rattle.fp_disk.specs.Crashes.{AtAnyMoment, EachCrash, SameHonesty};
+ghost use Rattle.fp_disk.specs.History.{Makes, MakesSome};
+ghost use Rattle.fp_disk.specs.declared.history.CallKind.TheVariants.{Write};
 ghost use Rattle.fp_journal.specs.declared.journal.Phase.TheVariants.{Staged};
 ghost use Rattle.fp_recovery.specs.Stands.{StandsFor};
 ghost use Rattle.fp_group_commit.specs.Calls.{MovesTo};
 ghost use Rattle.fp_group_commit.specs.Changes.{GoesOn, HasRoom};
 ghost use Rattle.fp_group_commit.specs.Store.{IsAtRest, Leaves, kept};
 ghost use Rattle.fp_desk.specs.Desk.{IsDrawn, log};
-ghost use Rattle.fp_session.specs.Session.{Commits, IsInStep, IsSealed, KeepsOrGains, LacksRoomFor, StandsAhead};
+ghost use Rattle.fp_session.specs.Session.{Commits, IsInStep, IsSealed, KeepsOrGains, LacksRoomFor, StandsAhead, batch_calls, calls_of};
 ghost use Rattle.fp_session.specs.declared.commit.CommitFault.TheVariants.{Memory, StoreFailed};
 
 use fp_desk::{Desk, SettleFault};
@@ -36,6 +38,8 @@ fn stage<D: Disk>(store: &mut Store<D>, draw: Draw) -> Result<(), CommitFault>
         → D.faults store.old.journal.disk < D.faults store.new.journal.disk) }
     ensures any_moment { AtAnyMoment D.Disk store.old.journal.disk store.new.journal.disk
         (Leaves store.old) }
+    ensures called { Makes (Write ∷ []) (D.calls store.old.journal.disk)
+        (D.calls store.new.journal.disk) result }
     ensures honest { SameHonesty D.Disk store.old.journal.disk store.new.journal.disk }
 {
     match store.stage(draw) {
@@ -61,6 +65,8 @@ fn seal<D: Disk>(store: &mut Store<D>, draw: Draw) -> Result<Receipt, CommitFaul
         → D.faults store.old.journal.disk < D.faults store.new.journal.disk) }
     ensures any_moment { AtAnyMoment D.Disk store.old.journal.disk store.new.journal.disk
         (KeepsOrGains store.old draw.changes) }
+    ensures called { Makes batch_calls (D.calls store.old.journal.disk)
+        (D.calls store.new.journal.disk) result }
     ensures keeps { OnOk result (EachCrash D.Disk store.new.journal.disk
         (λ c. StandsFor c (kept store.new))) }
     ensures honest { SameHonesty D.Disk store.old.journal.disk store.new.journal.disk }
@@ -102,17 +108,20 @@ fn settle(desk: &mut Desk, receipt: Receipt) -> Result<(), CommitFault>
     }
 }
 
-/// Seals and settles the longest first part of what waits.
-pub fn commit<D: Disk>(store: &mut Store<D>, desk: &mut Desk) -> Result<(), CommitFault>
+// Seals and settles the longest first part of what waits.
+fn commit<D: Disk>(store: &mut Store<D>, desk: &mut Desk) -> Result<(), CommitFault>
     requires in_step { IsInStep D.Disk store.old desk.old }
     requires waits { desk.old.waiting ≢ [] }
     ensures committed { OnOk result (Commits D.Disk store.old store.new desk.old desk.new) }
     ensures log { (desk.new.store ≡ desk.old.store) × (log desk.new ≡ log desk.old) }
     ensures cause { IfErr result (λ f. f ≡ StoreFailed
-        → LacksRoomFor D.Disk store.old store.new desk.old
+        → LacksRoomFor D.Disk desk.old store.new.journal.disk
         ⊎ (D.faults store.old.journal.disk < D.faults store.new.journal.disk)) }
     ensures any_moment { AtAnyMoment D.Disk store.old.journal.disk store.new.journal.disk
         (StandsAhead desk.old) }
+    ensures settled { OnErr result (desk.new.settled ≡ desk.old.settled) }
+    ensures called { Makes batch_calls (D.calls store.old.journal.disk)
+        (D.calls store.new.journal.disk) result }
     ensures honest { SameHonesty D.Disk store.old.journal.disk store.new.journal.disk }
 {
     let Ok(drawn) = desk.draw() else {
@@ -126,4 +135,31 @@ pub fn commit<D: Disk>(store: &mut Store<D>, desk: &mut Desk) -> Result<(), Comm
         Ok(receipt) => settle(desk, receipt),
         Err(fault) => Err(fault),
     }
+}
+
+/// Seals and settles all that waits, in batches that are as long as they may be.
+pub fn commit_all<D: Disk>(store: &mut Store<D>, desk: &mut Desk) -> Result<(), CommitFault>
+    requires in_step { IsInStep D.Disk store.old desk.old }
+    ensures committed { OnOk result (IsInStep D.Disk store.new desk.new × (desk.new.waiting ≡ [])
+        × (D.faults store.new.journal.disk ≡ D.faults store.old.journal.disk)) }
+    ensures log { (desk.new.store ≡ desk.old.store) × (log desk.new ≡ log desk.old) }
+    ensures settled { length desk.old.settled ≤ length desk.new.settled }
+    ensures cause { IfErr result (λ f. f ≡ StoreFailed
+        → LacksRoomFor D.Disk desk.old store.new.journal.disk
+        ⊎ (D.faults store.old.journal.disk < D.faults store.new.journal.disk)) }
+    ensures any_moment { AtAnyMoment D.Disk store.old.journal.disk store.new.journal.disk
+        (StandsAhead desk.old) }
+    ensures now { EachCrash D.Disk store.new.journal.disk (StandsAhead desk.new) }
+    ensures called { (n : ℕ) × MatchResult result
+        (λ _. D.calls store.new.journal.disk ≡ D.calls store.old.journal.disk ++ calls_of n)
+        (λ _. MakesSome batch_calls (D.calls store.old.journal.disk ++ calls_of n)
+        (D.calls store.new.journal.disk)) }
+    ensures honest { SameHonesty D.Disk store.old.journal.disk store.new.journal.disk }
+{
+    // What a crash leaves is known only where it is asked.
+    let _ = store.phase();
+    while desk.is_waiting() {
+        commit(store, desk)?;
+    }
+    Ok(())
 }

@@ -10,11 +10,11 @@ ghost use Rattle.fp_layout.specs.declared.fault.OpenFault.TheVariants as opening
 ghost use Rattle.fp_recovery.specs.Refusals.{IsUnlessWanting, RefusesBytes};
 ghost use Rattle.fp_recovery.specs.Stands.{StandsFor};
 ghost use Rattle.fp_group_commit.specs.Store.{IsFresh};
-ghost use Rattle.fp_session.specs.Session.{Fails, IsReady, Keeps, disk_of, flags_of};
-ghost use Rattle.fp_session.specs.SessionLaws.{keeps_itself, keeps_on};
+ghost use Rattle.fp_session.specs.Session.{Fails, HasPlace, IsAhead, IsReady, Keeps, LeavesFlags, StandsAhead, disk_of, flags_of};
+ghost use Rattle.fp_session.specs.SessionLaws.{flags_as, flags_on, keeps_itself, keeps_on};
 
-use crate::commit::commit;
-use crate::{CommitFault, Declined, EditStore};
+use crate::commit::commit_all;
+use crate::{CommitFault, EditStore};
 use fp_desk::{Desk, SubmitFault};
 use fp_disk::Disk;
 use fp_edit::{Edit, EditFault, FlagSet};
@@ -23,14 +23,14 @@ use fp_layout::OpenFault;
 use std::alloc::Global;
 use std::marker::Model;
 
-/// A set of flags, and the disk that keeps it: each edit is sealed there and settled before it is
-/// answered.
+/// A set of flags, and the disk that keeps it: edits wait at a desk, and `commit` seals and
+/// settles them in batches.
 ///
 /// It isn't `Drop`, so that the disk comes back by `into_disk`.
 pub struct DiskSession<D: Disk> {
     store: Store<D>,
     desk: Desk,
-    // An edit was taken and wasn't settled. No other is taken then.
+    // Edits weren't kept. No other is taken then.
     is_stopped: bool,
 }
 
@@ -39,7 +39,8 @@ impl<D: Disk> Model for DiskSession<D> {
     ghost use Rattle.std.specs.Prelude.{◌≡◌, false, []};
     ghost use Rattle.fp_edit.specs.Flags.{coded_state};
     ghost use Rattle.fp_group_commit.specs.Changes.{coded_change};
-    ghost use Rattle.fp_session.specs.Session.{IsInStep, SessionState};
+    ghost use Rattle.fp_disk.specs.Crashes.{EachCrash};
+    ghost use Rattle.fp_session.specs.Session.{IsInStep, SessionState, StandsAhead};
 
     ghost Value = { SessionState D };
 
@@ -47,8 +48,8 @@ impl<D: Disk> Model for DiskSession<D> {
 
     ghost view = { λ s. record { store = s.store; desk = s.desk; stopped = s.is_stopped } };
 
-    ghost invariant = { λ s. s.is_stopped ≡ false
-        → IsInStep D.Disk s.store s.desk × (s.desk.waiting ≡ []) };
+    ghost invariant = { λ s. EachCrash D.Disk s.store.journal.disk (StandsAhead s.desk)
+        × (s.is_stopped ≡ false → IsInStep D.Disk s.store s.desk) };
 }
 
 impl<D: Disk> DiskSession<D> {
@@ -57,6 +58,8 @@ impl<D: Disk> DiskSession<D> {
         requires opening { opening ≡ store.store }
         requires fresh { IsFresh store store.store.start }
         ensures made { IfOk result (λ s. (s.store ≡ store) × IsReady D.Disk s) }
+        ensures kept { IfOk result (λ s. (flags : State) → IsAhead s.desk flags
+            → flags ≡ flags_of s) }
         ensures flags { IfOk result (λ s. flags_of s ≡ store.store.start) }
         ensures given_back { IfErr result (λ e. e ≡ store) }
     {
@@ -78,6 +81,8 @@ impl<D: Disk> DiskSession<D> {
         ensures only { D.honest disk → IfOk result (λ s. (other : State) →
             StandsFor (D.bytes disk) other → other ≡ flags_of s) }
         ensures ready { IfOk result (λ s. IsReady D.Disk s) }
+        ensures kept { IfOk result (λ s. (flags : State) → IsAhead s.desk flags
+            → flags ≡ flags_of s) }
         ensures fault { D.honest disk → IfErr result (λ e. RefusesBytes (D.bytes disk) e.0) }
         ensures refused { D.honest disk → IfErr result (λ e. IsUnlessWanting (D.bytes disk) e.0) }
         ensures no_failure { IfOk result (λ s. D.faults (disk_of s) ≡ D.faults disk) }
@@ -104,7 +109,7 @@ impl<D: Disk> DiskSession<D> {
         }
     }
 
-    /// Whether it takes edits: each one that was taken is settled.
+    /// Whether it takes edits.
     pub fn is_ready(&self) -> bool
         ensures { IsTrue result ↔ IsReady D.Disk self.now }
     {
@@ -114,8 +119,7 @@ impl<D: Disk> DiskSession<D> {
     /// Gives the disk back.
     pub fn into_disk(self) -> D
         ensures disk { result ≡ disk_of self }
-        ensures keeps { IsReady D.Disk self
-            → EachCrash D.Disk result (λ c. StandsFor c (flags_of self)) }
+        ensures keeps { EachCrash D.Disk result (StandsAhead self.desk) }
     {
         let DiskSession {
             store,
@@ -129,36 +133,46 @@ impl<D: Disk> DiskSession<D> {
 impl<D: Disk> EditStore for DiskSession<D> {
     ghost state = { λ s. flags_of s };
 
+    ghost may_stand = { λ s flags. IsAhead s.desk flags };
+
+    ghost has_place = { λ s change. HasPlace s change };
+
     ghost continues_to = { λ a b. Keeps D.Disk a b };
 
-    ghost fails_on = { λ f a p b. Fails D.Disk f a p b };
+    ghost fails_on = { λ f a b. Fails D.Disk f a b };
+
+    ghost leaves = { λ a b P. LeavesFlags D.Disk a b P };
 
     ghost leads_to_itself = { λ s. keeps_itself D.Disk s };
 
     ghost leads_on = { λ a b c h k. keeps_on D.Disk a b c h k };
 
-    fn admit(&mut self, edit: Edit) -> Result<u64, Declined> {
-        if self.is_stopped {
-            return Err(Declined::StoreFailed);
-        }
-        let ticket = match self.desk.submit(edit) {
-            Ok(ticket) => ticket,
-            Err((SubmitFault::Edit(fault), _)) => return Err(Declined::Refused(fault)),
-            Err((SubmitFault::Memory, _)) => return Err(Declined::Refused(EditFault::Memory)),
+    ghost leaves_on = { λ a b c P h k. flags_on D.Disk a b c P h k };
+
+    ghost leaves_as = { λ a b P Q f h. flags_as D.Disk a b P Q f h };
+
+    fn joins(&self, edit: &Edit) -> bool {
+        self.desk.joins(edit) && !self.is_stopped
+    }
+
+    fn submit(&mut self, edit: Edit) -> Result<u64, EditFault> {
+        match self.desk.submit(edit) {
+            Ok(ticket) => Ok(ticket.revision()),
+            Err((SubmitFault::Edit(fault), _)) => Err(fault),
+            Err((SubmitFault::Memory, _)) => Err(EditFault::Memory),
             Err((SubmitFault::Stopped, _)) => unreachable!(),
             Err((SubmitFault::QueueFull, _)) => unreachable!(),
-        };
-        self.is_stopped = true;
-        match commit(&mut self.store, &mut self.desk) {
-            Ok(()) => {}
-            Err(CommitFault::StoreFailed) => return Err(Declined::StoreFailed),
-            Err(CommitFault::Memory) => return Err(Declined::CommitMemory),
         }
+    }
+
+    fn commit(&mut self) -> Result<(), CommitFault> {
+        if self.is_stopped {
+            return Err(CommitFault::StoreFailed);
+        }
+        self.is_stopped = true;
+        commit_all(&mut self.store, &mut self.desk)?;
         self.is_stopped = false;
-        let Some(_) = self.desk.ack(&ticket) else {
-            unreachable!()
-        };
-        Ok(ticket.revision())
+        Ok(())
     }
 
     fn flags(&self) -> &FlagSet {

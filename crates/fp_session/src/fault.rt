@@ -2,6 +2,7 @@
 
 ghost use Rattle.std.specs.Prelude.{◌≡◌};
 
+use crate::CommitFault;
 use fp_streams::StreamFault;
 use std::alloc::{AllocError, AllocFailed};
 use std::error::Error;
@@ -57,6 +58,19 @@ impl From<StreamFault> for ApplyFault {
         match fault {
             StreamFault::Device => ApplyFault::Device,
             StreamFault::Memory => ApplyFault::Memory,
+        }
+    }
+}
+
+impl From<CommitFault> for ApplyFault {
+    ghost use Rattle.fp_session.specs.Fault.{of_commit};
+
+    ghost from_gives = { λ f e. e ≡ of_commit f };
+
+    fn from(fault: CommitFault) -> ApplyFault {
+        match fault {
+            CommitFault::StoreFailed => ApplyFault::StoreFailed,
+            CommitFault::Memory => ApplyFault::CommitMemory,
         }
     }
 }

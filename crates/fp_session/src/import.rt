@@ -1,17 +1,18 @@
 //! Imports.
 
-ghost use Rattle.std.specs.Prelude.{◌≡◌, ◌≤◌, length, ◌++◌, List, [], ◌∷◌, Option, ℕ, true, map, IfOk, OnOk};
+ghost use Rattle.std.specs.Prelude.{◌≡◌, ◌<◌, ◌≤◌, length, ◌++◌, [], ◌∷◌, List, ℕ, Ok, Option, true, map, IfErr, IfOk, MatchResult, OnOk};
 ghost use Rattle.std.specs.Io.KnownBytes.{Appends};
+ghost use Rattle.fp_edit.specs.Edits.{proposal_of};
 ghost use Rattle.fp_edit.specs.Flags.{State};
-ghost use Rattle.fp_edit.specs.Edits.{Proposal, proposal_of};
+ghost use Rattle.fp_session.specs.Asks.{Ask, asked_by_flags, seen};
+ghost use Rattle.fp_session.specs.Progress.{Ends, IsAtWith, IsBrokenWith, IsSentFurther};
+ghost use Rattle.fp_session.specs.Run.{IsAfterPrefix, IsRunWritten, IsToldBy, after, script};
 ghost use Rattle.fp_session.specs.StoreRun.{StoreRun};
-ghost use Rattle.fp_session.specs.Script.{proposed};
-ghost use Rattle.fp_session.specs.Verdicts.{AnswersOrStays};
-ghost use Rattle.fp_session.specs.Import.{seen, import_script, after_import, IsImport, IsLeftByPuts, IsStoppedByPuts};
-ghost use Rattle.fp_session.specs.Progress.{IsAsked, IsUnderWay};
 ghost use Rattle.fp_session.specs.Streams.{Blames};
+ghost use Rattle.fp_session.specs.declared.replies.TheConstants.{MOST_WAITING};
+ghost use Rattle.fp_session.specs.declared.fault.ApplyFault.TheVariants.{Device};
 
-use crate::exchange::Exchange;
+use crate::replies::{Replies, conclude, give_up};
 use crate::{ApplyFault, EditStore};
 use fp_definition::{Definition, FlagKey};
 use fp_edit::{Edit, Expect};
@@ -20,34 +21,49 @@ use std::alloc::Global;
 use std::io::Write;
 
 /// Puts each flag, whatever stands at its key, answers each put by a reply line, and shows the
-/// flags behind the last reply.
+/// flags behind the last reply. As many puts as may wait together are kept at once, and then
+/// answered.
 ///
 /// A put that is refused is answered, and the next ones go on. `Ok(false)` says that a reply told
-/// of wanting memory. A writer that fails is `Device`, unless the store failed or memory was wanting just before.
+/// of wanting memory. Where puts aren't kept their replies are `store-failed`, the last ones.
+/// A writer that fails is `Device`, unless the store failed or memory was wanting just before.
 pub fn import_flags<W: Write, E: EditStore>(
     alloc: Global,
     w: &mut FailureCounted<W>,
     edits: E,
     flags: Vec<(FlagKey, Definition)>,
 ) -> (E, Result<bool, ApplyFault>)
+    // Nothing waits to be kept yet.
+    requires fresh { (s : State) → E.may_stand edits s → s ≡ E.state edits }
+
     // What is written is the import's script, and the flags are as it leaves them.
     ensures script { IfOk result.1 (λ told. told ≡ true →
         Appends (W.contents w.old.inner) (W.contents w.new.inner)
-        (import_script (E.state edits) (map seen flags.items))) }
+        (script (E.state edits) (asked_by_flags (map seen flags.items)))) }
     ensures flags { IfOk result.1 (λ told. told ≡ true →
-        E.state result.0 ≡ after_import (E.state edits) (map seen flags.items)) }
+        E.state result.0 ≡ after (E.state edits) (asked_by_flags (map seen flags.items))) }
 
     // Where a reply tells of wanting memory, its put changed nothing, and all else is as before.
     ensures run { IfOk result.1 (λ told.
-        IsImport (E.state edits) (map seen flags.items) told
+        IsRunWritten (E.state edits) (asked_by_flags (map seen flags.items)) told
         (W.contents w.old.inner) (W.contents w.new.inner) (E.state result.0)) }
+    ensures kept { OnOk result.1 ((flags : State) → E.may_stand result.0 flags
+        → flags ≡ E.state result.0) }
 
-    // At a fault too the flags are as some first puts leave them.
-    ensures left { IsLeftByPuts (E.state edits) (map seen flags.items) (E.state result.0) }
+    // At a fault what was written tells nothing that any flags which may stand don't hold, unless the writer failed.
+    ensures told { IfErr result.1 (λ _. w.new.failures ≡ w.old.failures
+        → (s : State) → E.may_stand result.0 s
+        → IsToldBy (E.state edits) (asked_by_flags (map seen flags.items))
+        (W.contents w.old.inner) (W.contents w.new.inner) s) }
 
-    // What keeps the flags goes on, but where it failed: that was at one of the puts, which those before it led to.
-    ensures course { StoreRun E.continues_to E.fails_on
-        (λ s p. IsStoppedByPuts (E.state edits) (map seen flags.items) (E.state s) p)
+    // Whatever comes back, the flags are as some first puts leave them, and so is whatever a crash leaves at any moment.
+    ensures left { IsAfterPrefix (E.state edits) (asked_by_flags (map seen flags.items)) (E.state result.0) }
+    ensures any_moment { E.leaves edits result.0
+        (IsAfterPrefix (E.state edits) (asked_by_flags (map seen flags.items))) }
+
+    // What keeps the flags goes on, but where it failed to keep what waited.
+    ensures course { StoreRun E.EditStore
+        (IsAfterPrefix (E.state edits) (asked_by_flags (map seen flags.items)))
         edits result.0 result.1 }
 
     // `Device` comes only where the writer failed, and a run to the end only where it didn't.
@@ -64,54 +80,60 @@ fn put_flags<W: Write, E: EditStore>(
     edits: &mut E,
     flags: Vec<(FlagKey, Definition)>,
 ) -> Result<bool, ApplyFault>
-    ensures run { IfOk result (λ told.
-        IsImport (E.state edits.old) (map seen flags.items) told
-        (W.contents w.old.inner) (W.contents w.new.inner) (E.state edits.new)) }
-    ensures left { IsLeftByPuts (E.state edits.old) (map seen flags.items) (E.state edits.new) }
-    ensures course { StoreRun E.continues_to E.fails_on
-        (λ s p. IsStoppedByPuts (E.state edits.old) (map seen flags.items) (E.state s) p)
-        edits.old edits.new result }
+    requires fresh { (s : State) → E.may_stand edits.old s → s ≡ E.state edits.old }
+    ensures ends { Ends E.EditStore edits.old edits.new (asked_by_flags (map seen flags.items))
+        (W.contents w.old.inner) (W.contents w.new.inner) w.old.failures w.new.failures result }
     ensures device { Blames w.old.failures w.new.failures result }
 {
-    let mut exchange = Exchange::new(alloc);
+    // What a crash leaves is known only where it is asked.
+    let _ = edits.flags();
+    let mut replies = Replies::new(alloc);
     for (key, flag) in flags {
         let expect = Expect::Any;
         let put = Edit::Put { key, flag, expect };
-        put_flag(alloc, w, &mut exchange, edits, put)?;
+        put_flag(alloc, w, &mut replies, edits, put)?;
     }
-    let shown = exchange.show(alloc, edits.flags());
-    let sent = exchange.send(w);
-    shown?;
-    sent?;
-    Ok(exchange.is_told())
+    let ended = replies.end(alloc, edits);
+    conclude(w, &mut replies, ended)
 }
 
-// Answers a put. The replies are sent where many wait, and before a fault is answered.
+// Puts a flag. The replies are sent where many wait, and before a fault is answered.
 fn put_flag<W: Write, E: EditStore>(
     alloc: Global,
     w: &mut FailureCounted<W>,
-    exchange: &mut Exchange,
+    replies: &mut Replies,
     edits: &mut E,
     put: Edit,
 ) -> Result<(), ApplyFault>
-    ensures put { OnOk result ((start : State) (done : List Proposal) (before : Option (List ℕ))
-        → IsUnderWay proposed start done before (W.contents w.old.inner) exchange.old
-        (E.state edits.old)
-        → IsUnderWay proposed start (done ++ proposal_of put ∷ []) before (W.contents w.new.inner)
-        exchange.new (E.state edits.new)) }
-    ensures bounded { OnOk result (length exchange.new.replies.items ≤ 65536) }
-    ensures stopped { AnswersOrStays proposed (E.state edits.old) (proposal_of put) (E.state edits.new) }
-    ensures course { StoreRun E.continues_to E.fails_on
-        (λ s p. IsAsked (E.state edits.old) (proposal_of put) (E.state s) p)
-        edits.old edits.new result }
+    ensures put { (first : E) (asked : List Ask) (before : Option (List ℕ))
+        → IsAtWith E.EditStore first edits.old asked before (W.contents w.old.inner) replies.old
+        → MatchResult result
+        (λ _. IsAtWith E.EditStore first edits.new (asked ++ Ok (proposal_of put) ∷ [])
+        before (W.contents w.new.inner) replies.new)
+        (IsBrokenWith E.EditStore first edits.new (asked ++ Ok (proposal_of put) ∷ [])
+        before (W.contents w.new.inner) w.old.failures w.new.failures) }
+    ensures bounded { OnOk result ((length replies.new.text.items ≤ 65536)
+        × (length replies.new.waiting.items ≤ MOST_WAITING)) }
     ensures device { Blames w.old.failures w.new.failures result }
 {
-    let answered = exchange.answer(alloc, edits, put);
-    if answered.is_ok() && !exchange.is_long() {
-        return Ok(());
+    match replies.ask(alloc, edits, Ok(put)) {
+        Ok(()) => send_long(w, replies),
+        Err(fault) => Err(give_up(w, replies, fault)),
     }
-    let sent = exchange.send(w);
-    answered?;
-    sent?;
+}
+
+// Sends the replies where many wait.
+fn send_long<W: Write>(w: &mut FailureCounted<W>, replies: &mut Replies) -> Result<(), ApplyFault>
+    ensures sent { (sent : List ℕ) (before : Option (List ℕ))
+        → Appends before (W.contents w.old.inner) sent → OnOk result
+        (IsSentFurther before (W.contents w.new.inner) sent replies.old replies.new) }
+    ensures bounded { OnOk result (length replies.new.text.items ≤ 65536) }
+    ensures waiting { replies.new.waiting ≡ replies.old.waiting }
+    ensures failed { IfErr result (λ f. (f ≡ Device) × (w.old.failures < w.new.failures)) }
+    ensures device { Blames w.old.failures w.new.failures result }
+{
+    if replies.is_long() {
+        replies.send(w)?;
+    }
     Ok(())
 }

@@ -1,21 +1,22 @@
 //! Laws of sessions.
 
 ghost use Rattle.std.specs.Prelude.{◌≡◌, ◌⊎◌, ◌<◌, IfOk, IfErr};
+ghost use Rattle.fp_edit.specs.Flags.{State};
 ghost use Rattle.fp_layout.specs.declared.fault.OpenFault.TheVariants.{Device, Memory};
-ghost use Rattle.fp_session.specs.Session.{IsReady, disk_of, flags_of};
+ghost use Rattle.fp_session.specs.Session.{IsAhead, IsReady, disk_of, flags_of};
 
 use crate::DiskSession;
 use fp_disk::Disk;
 use fp_layout::OpenFault;
 use std::alloc::Global;
 
-/// Closing a session that takes edits and opening its disk gives the same flags at the same revision, unless the device
+/// Closing a session that keeps all its edits and opening its disk gives the same flags at the same revision, unless the device
 /// refuses or memory runs out.
 pub fn closes_and_opens<D: Disk>(
     alloc: Global,
     session: DiskSession<D>,
 ) -> Result<DiskSession<D>, (OpenFault, D)>
-    requires ready { IsReady D.Disk session }
+    requires kept { (flags : State) → IsAhead session.desk flags → flags ≡ flags_of session }
     ensures same { D.honest (disk_of session) → IfOk result (λ s. flags_of s ≡ flags_of session) }
     ensures ready { IfOk result (λ s. IsReady D.Disk s) }
     ensures refused { D.honest (disk_of session) →

@@ -1,20 +1,21 @@
-//! EditStore and where they go: the loop from edit lines to replies, over streams.
+//! Edits and where they go: the loop from what is asked to replies, over streams.
 #![tactic(auto)]
 
 mod commit;
 mod disk_session;
 mod edit_store;
-mod exchange;
 mod fault;
 mod import;
 mod input;
 mod laws;
+mod line;
+mod replies;
 mod reply;
 mod show;
 
 pub use commit::CommitFault;
 pub use disk_session::DiskSession;
-pub use edit_store::{Declined, EditStore};
+pub use edit_store::EditStore;
 pub use fault::ApplyFault;
 pub use import::import_flags;
 pub use input::apply_lines;

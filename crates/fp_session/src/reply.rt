@@ -4,7 +4,7 @@ ghost use Rattle.std.specs.Prelude.{◌≡◌, ◌++◌, not, Some, IfOk, OnOk};
 ghost use Rattle.fp_definition.specs.Faults as flag;
 ghost use Rattle.fp_definition.specs.Valid as flag_fault;
 ghost use Rattle.fp_session.specs.Reply as say;
-ghost use Rattle.fp_session.specs.Reply.{said, text_of, is_told};
+ghost use Rattle.fp_session.specs.Reply.{said, text_of, is_told, tells_revision};
 
 use fp_base::put_quoted;
 use fp_definition::DefFault;
@@ -21,6 +21,8 @@ pub enum Reply {
     Refused(EditFault),
     /// The line is no edit.
     NoEdit(LineFault),
+    /// The edit isn't known to be kept.
+    StoreFailed,
 }
 
 impl Reply {
@@ -32,7 +34,18 @@ impl Reply {
             Reply::Revision(revision) => revision_text(alloc, *revision),
             Reply::Refused(fault) => refusal_text(alloc, fault),
             Reply::NoEdit(fault) => fault_text(alloc, fault),
+            Reply::StoreFailed => error_text(alloc, "store-failed"),
         }
+    }
+
+    /// Whether the reply tells of a revision.
+    pub fn tells_revision(&self) -> bool
+        ensures { result ≡ tells_revision (said self.now) }
+    {
+        matches!(
+            self,
+            Reply::Revision(_) | Reply::Refused(EditFault::Conflict { .. })
+        )
     }
 
     /// Whether the reply says nothing of the line, for want of memory.

@@ -1,7 +1,7 @@
 //! The flags as they are shown.
 
 ghost use Rattle.std.specs.Prelude.{◌≡◌, IfOk};
-ghost use Rattle.fp_session.specs.Verdicts.{show_line};
+ghost use Rattle.fp_session.specs.Run.{show_line};
 
 use fp_edit::FlagSet;
 use itoa::Buffer;

@@ -2,7 +2,7 @@ use Rattle.std.proofs.Common.{sym, ap, subst, ◌∙◌}
 use Rattle.fp_group_commit.specs.Tokens.{Identity}
 use Rattle.std.specs.Io.KnownBytes.{Appends}
 use Rattle.fp_edit.specs.Flags.{State}
-use Rattle.fp_session.specs.Script.{show_line}
+use Rattle.fp_session.specs.Run.{show_line}
 use Rattle.fp_recovery.proofs.Cases.{err_more}
 use Rattle.fp_commands.specs.declared.fault.CommandFault.{CommandFault}
 use Rattle.fp_commands.specs.Disks.{IsShown, IsShowingFault, IsStreamFault}

@@ -1,6 +1,6 @@
 use Rattle.std.proofs.Common.{inl, refl}
 use Rattle.fp_desk.specs.Desk.{IsNewDraw}
-use Rattle.fp_session.proofs.Commits.{no_room, receipt_drawn, sealed_ahead, still_ahead}
+use Rattle.fp_session.proofs.Commits.{lacks_part, no_room, receipt_drawn, sealed_ahead, still_ahead}
 use Rattle.fp_session.proofs.commit.commit.Goals as goal
 
 pub returns-in_default-clause-any_moment : goal.returns-in_default-clause-any_moment
@@ -14,14 +14,8 @@ returns-then-not-has_room-clause-cause g c = λ is.
     let s = c.args.store.now in let group = c.in-Some.draw in
     let draw : IsNewDraw c.args.desk.now c.draw.new.self group = rw c.in-Some.is at c.in-Ok.ensures.drawn in
     let none = no_room s.journal group c.has_room.result c.has_room.ensures.room c.if-not-has_room.true draw.longest.some draw.longest.few in
-    inl (record {
-      batch = group.changes;
-      rest = c.draw.new.self.waiting;
-      parts = draw.longest.parts;
-      some = draw.longest.some;
-      same = refl;
-      full = λ h o left. c.has_room.ensures.full c.requires.in_step.rest none h o left;
-    })
+    inl (lacks_part g.D.Disk s c.args.desk.now c.requires.in_step group.changes c.draw.new.self.waiting draw.longest.parts draw.longest.some
+    (λ h o left. c.has_room.ensures.full c.requires.in_step.rest none h o left))
 
 pub settle-requires-clause-drawn : goal.settle-requires-clause-drawn
 settle-requires-clause-drawn g c =

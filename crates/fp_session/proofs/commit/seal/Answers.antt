@@ -1,14 +1,15 @@
-use Rattle.std.proofs.Common.{◌≡◌, ◌∙◌, refl, inl, inr}
+use Rattle.std.proofs.Common.{◌≡◌, List, ◌∙◌, refl, inl, inr}
 use Rattle.fp_disk.specs.Crashes.{AtAnyMoment, SameHonesty}
-use Rattle.fp_group_commit.specs.Store.{Leaves}
+use Rattle.fp_edit.specs.Edits.{Change}
+use Rattle.fp_group_commit.specs.Store.{Leaves, StoreState}
 use Rattle.fp_session.specs.Session.{KeepsOrGains}
 use Rattle.fp_session.proofs.Commits.{call_more, honest_on, idle_keeps, leaves_either, weaker}
 use Rattle.fp_session.proofs.commit.seal.Goals as goal
 
 pub returns-in-Err-clause-any_moment : goal.returns-in-Err-clause-any_moment
 returns-in-Err-clause-any_moment g c =
-    let old = c.args.store.now in let batch = c.args.draw.changes in let s1 = c.stage.new.store in
-    weaker g.D.Disk old.journal.disk s1.journal.disk (Leaves old) (KeepsOrGains old batch) (leaves_either old old batch refl refl (inl c.requires.rest.0)) c.stage.ensures.any_moment
+    let D = g.D.Disk in let old = c.args.store.now in let batch = c.args.draw.changes in let s1 = c.stage.new.store in
+    weaker D old.journal.disk s1.journal.disk (Leaves old) (KeepsOrGains old batch) (leaves_either old old batch refl refl (inl c.requires.rest.0)) c.stage.ensures.any_moment
 
 pub returns-in_default-sync_body-clause-any_moment : goal.returns-in_default-sync_body-clause-any_moment
 returns-in_default-sync_body-clause-any_moment g c =

@@ -1,27 +1,24 @@
-use Rattle.std.proofs.Common.{◌≡◌, map, true}
-use Rattle.std.proofs.lemmas.Result.{IfOk-weaker}
-use Rattle.std.specs.Io.KnownBytes.{Appends}
-use Rattle.fp_session.specs.Script.{proposed}
-use Rattle.fp_session.specs.Import.{seen, put_of, import_script, after_import, IsImport}
-use Rattle.fp_session.proofs.VerdictLemmas.{written-script, written-flags}
+use Rattle.std.proofs.Common.{map}
+use Rattle.fp_session.specs.Asks.{asked_by_flags, seen}
+use Rattle.fp_session.proofs.Endings.{ends-flags, ends-left, ends-script, ends-told}
 use Rattle.fp_session.proofs.import.import_flags.Goals as goal
 
 pub returns-clause-script : goal.returns-clause-script
 returns-clause-script g c =
-    let start = g.E.EditStore.state c.args.edits in
-    let now = g.E.EditStore.state c.put_flags-outcome.new.edits in
-    let old = g.W.Write.contents c.args.w.now.inner in
-    let new = g.W.Write.contents c.put_flags-outcome.new.w.inner in
-    let flags = map seen c.args.flags.items in
-    IfOk-weaker c.put_flags-outcome.result (λ told. IsImport start flags told old new now) (λ told. told ≡ true → Appends old new (import_script start flags))
-    (λ told run all. written-script proposed start (map put_of flags) told old new now run all) c.put_flags-outcome.ensures.run
+    let a = c.put_flags-outcome in
+    ends-script g.E.EditStore c.args.edits a.new.edits (asked_by_flags (map seen c.args.flags.items)) (g.W.Write.contents c.args.w.now.inner) (g.W.Write.contents a.new.w.inner) c.args.w.now.failures a.new.w.failures a.result a.ensures.ends
 
 pub returns-clause-flags : goal.returns-clause-flags
 returns-clause-flags g c =
-    let start = g.E.EditStore.state c.args.edits in
-    let now = g.E.EditStore.state c.put_flags-outcome.new.edits in
-    let old = g.W.Write.contents c.args.w.now.inner in
-    let new = g.W.Write.contents c.put_flags-outcome.new.w.inner in
-    let flags = map seen c.args.flags.items in
-    IfOk-weaker c.put_flags-outcome.result (λ told. IsImport start flags told old new now) (λ told. told ≡ true → now ≡ after_import start flags)
-    (λ told run all. written-flags proposed start (map put_of flags) told old new now run all) c.put_flags-outcome.ensures.run
+    let a = c.put_flags-outcome in
+    ends-flags g.E.EditStore c.args.edits a.new.edits (asked_by_flags (map seen c.args.flags.items)) (g.W.Write.contents c.args.w.now.inner) (g.W.Write.contents a.new.w.inner) c.args.w.now.failures a.new.w.failures a.result a.ensures.ends
+
+pub returns-clause-told : goal.returns-clause-told
+returns-clause-told g c =
+    let a = c.put_flags-outcome in
+    ends-told g.E.EditStore c.args.edits a.new.edits (asked_by_flags (map seen c.args.flags.items)) (g.W.Write.contents c.args.w.now.inner) (g.W.Write.contents a.new.w.inner) c.args.w.now.failures a.new.w.failures a.result a.ensures.ends
+
+pub returns-clause-left : goal.returns-clause-left
+returns-clause-left g c =
+    let a = c.put_flags-outcome in
+    ends-left g.E.EditStore c.args.edits a.new.edits (asked_by_flags (map seen c.args.flags.items)) (g.W.Write.contents c.args.w.now.inner) (g.W.Write.contents a.new.w.inner) c.args.w.now.failures a.new.w.failures a.result a.ensures.ends

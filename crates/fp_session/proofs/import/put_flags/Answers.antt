@@ -1,90 +1,61 @@
-use Rattle.std.proofs.Common.{◌≡◌, ℕ, Bool, refl, List, [], ◌∷◌, ◌++◌, map, length, sym, ap, subst, ◌∙◌, append_assoc, append-nil, arith}
+use Rattle.std.proofs.Common.{◌≡◌, ℕ, Ok, refl, List, [], ◌∷◌, ◌++◌, map, length, sym, ap, subst, ◌∙◌, append_assoc, append-nil, arith}
 use Rattle.std.proofs.lemmas.Result.{err_from_is_err_and}
 use Rattle.std.proofs.lemmas.List.{nil_from_length}
 use Rattle.std.specs.Vec.Iter.{into_iter_items}
-use Rattle.fp_definition.specs.declared.key.FlagKey.{FlagKey}
-use Rattle.fp_edit.specs.Edits.{Proposal}
-use Rattle.fp_session.specs.Script.{proposed, show_line}
-use Rattle.fp_session.specs.Import.{seen, put_of, IsStoppedByPuts}
-use Rattle.fp_session.specs.Progress.{IsAsked, IsUnderWay}
-use Rattle.fp_session.proofs.CourseLemmas.{course-fault}
-use Rattle.fp_session.proofs.UnderWayLemmas.{under_way-start, under_way-shown, left-here, left-next, stopped-next}
+use Rattle.fp_base.proofs.Known.{Appends-nil}
+use Rattle.fp_session.specs.Asks.{Ask, asked_by_flags, put_of, seen}
+use Rattle.fp_session.specs.Progress.{Ends, IsBrokenWith}
+use Rattle.fp_session.proofs.Endings.{broken_with-more, concluded}
+use Rattle.fp_session.proofs.ProgressLemmas.{is_at-start}
 use Rattle.fp_session.proofs.import.put_flags.Goals as goal
-
-abbrev puts_of : List (FlagKey × List ℕ) → List Proposal
-puts_of flags = map put_of (map seen flags)
 
 pub loop-key-init : goal.loop-key-init
 loop-key-init g c =
     let gives = c.into_iter-key-iterator.ensures.into_iter_gives in
-    let all = ap length gives.0 in
-    let len = gives.1 in
-    let kept = c.args.flags.ok.0 in record {
-      put = (
-        [],
-        ap puts_of gives.0,
-        under_way-start proposed (g.E.EditStore.state c.args.edits.now) (g.W.Write.contents c.args.w.now.inner) c.new-exchange.result c.new-exchange.ensures.none c.new-exchange.ensures.told,
-      );
+    let all = ap length gives.0 in let len = gives.1 in let kept = c.args.flags.ok.0 in record {
+      done = [];
+      parts = ap (λ flags. asked_by_flags (map seen flags)) gives.0;
+      at = record {
+        sent = [];
+        appended = Appends-nil (g.W.Write.contents c.args.w.now.inner);
+        at = is_at-start g.E.EditStore c.args.edits.now c.new-replies.result c.new-replies.ensures.text c.new-replies.ensures.none c.new-replies.ensures.told c.requires.fresh c.flags.ensures.still;
+      };
       counted = omega arith;
-      led = g.E.EditStore.leads_to_itself c.args.edits.now;
-      no_failure = refl;
+      sent_well = refl;
     }
 
 pub loop-key-preserved : goal.loop-key-preserved
 loop-key-preserved g c =
-    let inv = c.loop-key.invariant in
-    let one = put_of (seen (c.in-Some.key, c.in-Some.flag)) in
-    let rest = puts_of (into_iter_items c.next.new.self) in
-    let steps = c.in-Some.ensures.steps in
-    let short = ap length steps.0 in
-    let was = inv.counted in
-    let gone = steps.1 in record {
-      put = (
-        inv.put.0 ++ one ∷ [],
-        append_assoc inv.put.0 (one ∷ []) rest ∙ ap (λ items. inv.put.0 ++ puts_of items) (sym steps.0) ∙ inv.put.1,
-        c.in_ok-put_flag.ensures.put (g.E.EditStore.state c.args.edits.now) inv.put.0 (g.W.Write.contents c.args.w.now.inner) inv.put.2,
-      );
+    let inv = c.loop-key.invariant in let one = Ok (put_of (seen (c.in-Some.key, c.in-Some.flag))) in
+    let rest = asked_by_flags (map seen (into_iter_items c.next.new.self)) in
+    let steps = c.in-Some.ensures.steps in let short = ap length steps.0 in let was = inv.counted in let gone = steps.1 in record {
+      done = inv.done ++ one ∷ [];
+      parts = append_assoc inv.done (one ∷ []) rest ∙ ap (λ items. inv.done ++ asked_by_flags (map seen items)) (sym steps.0) ∙ inv.parts;
+      at = c.in_ok-put_flag.ensures.put c.args.edits.now inv.done (g.W.Write.contents c.args.w.now.inner) inv.at;
       counted = omega arith;
-      led = g.E.EditStore.leads_on c.args.edits.now c.loop-key.edits c.put_flag.new.edits inv.led c.in_ok-put_flag.ensures.course;
-      no_failure = c.in_ok-put_flag.ensures.device ∙ inv.no_failure;
+      sent_well = c.in_ok-put_flag.ensures.device ∙ inv.sent_well;
     }
 
-pub returns-clause-run : goal.returns-clause-run
-returns-clause-run g c =
-    let inv = c.loop-key.invariant in
-    let start = g.E.EditStore.state c.args.edits.now in
-    let now = g.E.EditStore.state c.loop-key.edits in
-    let old = g.W.Write.contents c.args.w.now.inner in
-    let none : into_iter_items c.loop-key.key-iterator ≡ [] = nil_from_length _ (inv.counted ∙ c.in-None.ensures.steps.0) in
-    let whole : inv.put.0 ≡ puts_of c.args.flags.items = sym (append-nil inv.put.0) ∙ ap (λ items. inv.put.0 ++ puts_of items) (sym none) ∙ inv.put.1 in
-    let shown : c.show-shown.new.self.replies.items ≡ c.loop-key.exchange.replies.items ++ show_line now = rw (← c.flags.ensures) c.in_ok-shown.ensures.shown in
-    let told : c.is_told.result ≡ c.loop-key.exchange.is_told = cc in
-    under_way-shown proposed start (puts_of c.args.flags.items) old (g.W.Write.contents c.loop-key.w.inner) (g.W.Write.contents c.send-sent.new.w.inner) c.loop-key.exchange c.show-shown.new.self now c.is_told.result
-    (subst (λ done. IsUnderWay proposed start done old (g.W.Write.contents c.loop-key.w.inner) c.loop-key.exchange now) whole inv.put.2) shown c.in_ok-sent.ensures.sent told
-
-pub returns-clause-left : goal.returns-clause-left
-returns-clause-left g c =
-    let inv = c.loop-key.invariant in
-    left-here proposed (g.E.EditStore.state c.args.edits.now) (puts_of c.args.flags.items) inv.put.0 (puts_of (into_iter_items c.loop-key.key-iterator)) (g.W.Write.contents c.args.w.now.inner) (g.W.Write.contents c.loop-key.w.inner)
-    c.loop-key.exchange (g.E.EditStore.state c.loop-key.edits) inv.put.1 inv.put.2
-
-pub returns-in_err-put_flag-clause-left : goal.returns-in_err-put_flag-clause-left
-returns-in_err-put_flag-clause-left g c =
-    let inv = c.loop-key.invariant in
-    let one = put_of (seen (c.in-Some.key, c.in-Some.flag)) in
-    left-next proposed (g.E.EditStore.state c.args.edits.now) (puts_of c.args.flags.items) inv.put.0 (puts_of (into_iter_items c.next.new.self)) one (g.W.Write.contents c.args.w.now.inner) (g.W.Write.contents c.loop-key.w.inner)
-    c.loop-key.exchange (g.E.EditStore.state c.loop-key.edits) (g.E.EditStore.state c.put_flag.new.edits) (ap (λ items. inv.put.0 ++ puts_of items) (sym c.in-Some.ensures.steps.0) ∙ inv.put.1) inv.put.2 c.put_flag.ensures.stopped
-
-pub returns-in_err-put_flag-clause-course : goal.returns-in_err-put_flag-clause-course
-returns-in_err-put_flag-clause-course g c =
+pub returns-in_err-put_flag-clause-ends : goal.returns-in_err-put_flag-clause-ends
+returns-in_err-put_flag-clause-ends g c =
     let p = err_from_is_err_and c.from_residual.result c.from_residual.ensures.1 in
-    let start = g.E.EditStore.state c.args.edits.now in
-    let s = g.E.EditStore.state c.loop-key.edits in
-    let inv = c.loop-key.invariant in
-    let one = put_of (seen (c.in-Some.key, c.in-Some.flag)) in
-    rw (p.1, p.2) (course-fault g.E.EditStore.continues_to g.E.EditStore.fails_on (Unit {0}) Bool g.E.EditStore.leads_on
-    (λ x q. IsAsked s one (g.E.EditStore.state x) q) (λ x q. IsStoppedByPuts start (map seen c.args.flags.items) (g.E.EditStore.state x) q)
-    c.args.edits.now c.loop-key.edits c.put_flag.new.edits c.in_err-put_flag.field-0.0
-    (λ x q asked. stopped-next proposed start (puts_of c.args.flags.items) inv.put.0 (puts_of (into_iter_items c.next.new.self)) one q (g.W.Write.contents c.args.w.now.inner) (g.W.Write.contents c.loop-key.w.inner)
-    c.loop-key.exchange s (g.E.EditStore.state x) (ap (λ items. inv.put.0 ++ puts_of items) (sym c.in-Some.ensures.steps.0) ∙ inv.put.1) inv.put.2 asked)
-    inv.led c.in_err-put_flag.ensures.course)
+    let inv = c.loop-key.invariant in let one = Ok (put_of (seen (c.in-Some.key, c.in-Some.flag))) in
+    let rest = asked_by_flags (map seen (into_iter_items c.next.new.self)) in
+    let first = c.args.edits.now in let now = c.put_flag.new.edits in let before = g.W.Write.contents c.args.w.now.inner in let w = g.W.Write.contents c.put_flag.new.w.inner in
+    let f0 = c.args.w.now.failures in let f = c.put_flag.new.w.failures in let e = c.in_err-put_flag.field-0.0 in
+    let all : (inv.done ++ one ∷ []) ++ rest ≡ asked_by_flags (map seen c.args.flags.items) =
+    append_assoc inv.done (one ∷ []) rest ∙ ap (λ items. inv.done ++ asked_by_flags (map seen items)) (sym c.in-Some.ensures.steps.0) ∙ inv.parts in
+    let broken : IsBrokenWith g.E.EditStore first now (inv.done ++ one ∷ []) before w f0 f e =
+    subst (λ (n : ℕ). IsBrokenWith g.E.EditStore first now (inv.done ++ one ∷ []) before w n f e) inv.sent_well (c.in_err-put_flag.ensures.put first inv.done before inv.at) in
+    rw (p.1, p.2) (subst (λ (xs : List Ask). IsBrokenWith g.E.EditStore first now xs before w f0 f e) all (broken_with-more g.E.EditStore first now (inv.done ++ one ∷ []) rest before w f0 f e broken))
+
+pub returns-clause-ends : goal.returns-clause-ends
+returns-clause-ends g c =
+    let inv = c.loop-key.invariant in let first = c.args.edits.now in let now = c.end-ended.new.edits in
+    let before = g.W.Write.contents c.args.w.now.inner in let held = g.W.Write.contents c.loop-key.w.inner in let w = g.W.Write.contents c.conclude.new.w.inner in
+    let f0 = c.args.w.now.failures in let f = c.conclude.new.w.failures in
+    let none : into_iter_items c.loop-key.key-iterator ≡ [] = nil_from_length _ (inv.counted ∙ c.in-None.ensures.steps.0) in
+    let whole : inv.done ≡ asked_by_flags (map seen c.args.flags.items) = sym (append-nil inv.done) ∙ ap (λ items. inv.done ++ asked_by_flags (map seen items)) (sym none) ∙ inv.parts in
+    subst (λ (xs : List Ask). Ends g.E.EditStore first now xs before w f0 f c.conclude.result) whole
+    (concluded g.E.EditStore first now inv.done inv.at.sent before held w f0 c.loop-key.w.failures f c.end-ended.new.self c.end-ended.result c.conclude.result
+    (c.end-ended.ensures.ended first inv.done inv.at.sent inv.at.at) inv.at.appended inv.sent_well c.conclude.ensures.sent c.conclude.ensures.fault c.conclude.ensures.outcome)

@@ -1,136 +1,94 @@
-use Rattle.std.proofs.Common.{Bool, ℕ, List, ◌++◌, IfSome, take, refl, subst, arith}
+use Rattle.std.proofs.Common.{◌≡◌, ◌<◌, ◌++◌, ℕ, Bool, Err, Result, [], refl, sym, subst, ◌∙◌, append-nil, ap, take, arith}
 use Rattle.std.proofs.lemmas.Result.{err_from_is_err_and}
-use Rattle.fp_base.proofs.Known.{IfSome-each}
-use Rattle.fp_session.specs.Run.{IsRunOver, IsLeftBy, IsStoppedBy}
-use Rattle.fp_session.specs.Progress.{IsSoFar, IsStoppedWithin}
-use Rattle.fp_edit.specs.Flags.{State}
-use Rattle.fp_session.proofs.CourseLemmas.{course-fault}
-use Rattle.fp_session.proofs.RunOverLemmas.{going-start, going-more, going-stopped, going-ended, going-left, going-within}
+use Rattle.fp_base.proofs.Known.{Appends-nil, Appends-more}
+use Rattle.fp_session.specs.Asks.{asked_by_input, asked_by_lines}
+use Rattle.fp_session.specs.Progress.{EndsOver, IsBrokenWith}
+use Rattle.fp_session.specs.Streams.{of_stream}
+use Rattle.fp_session.specs.declared.fault.ApplyFault.{ApplyFault}
+use Rattle.fp_session.specs.declared.fault.ApplyFault.TheVariants.{Device}
+use Rattle.fp_streams.specs.Failures.{CountsFailures}
+use Rattle.fp_session.proofs.Endings.{broken-sent, concluded, ends-over, ends-whole, IsPartRead, part-more, part-whole, sent-device}
+use Rattle.fp_session.proofs.Readings.{reading-sent, reading-start}
 use Rattle.fp_session.proofs.input.answer_input.Goals as goal
 
-pub loop-exchange-init : goal.loop-exchange-init
-loop-exchange-init g c =
-    let start = g.E.EditStore.state c.args.edits.now in record {
-      going = λ input is. going-start start input (g.R.Read.remaining c.args.r.now.inner) (g.W.Write.contents c.args.w.now.inner) c.new-exchange.result is (c.new-exchange.ensures.lines start);
-      led = g.E.EditStore.leads_to_itself c.args.edits.now;
-      no_failure = refl;
-    }
-
-pub returns-in_err-count-clause-left : goal.returns-in_err-count-clause-left
-returns-in_err-count-clause-left g c =
-    let start = g.E.EditStore.state c.args.edits.now in
-    let now = g.E.EditStore.state c.loop-exchange.edits in
-    IfSome-each (g.R.Read.remaining c.args.r.now.inner) (λ input. IsLeftBy start input now) (λ input is.
-    going-left start input (g.R.Read.remaining c.loop-exchange.r.inner) (g.W.Write.contents c.args.w.now.inner) (g.W.Write.contents c.loop-exchange.w.inner) c.loop-exchange.exchange now (c.loop-exchange.invariant.going input is))
-
-pub returns-in_err-told-clause-left : goal.returns-in_err-told-clause-left
-returns-in_err-told-clause-left g c =
-    let start = g.E.EditStore.state c.args.edits.now in
-    let now = g.E.EditStore.state c.finish.new.edits in
-    let left = g.R.Read.remaining c.loop-exchange.r.inner in
-    let new_left = g.R.Read.remaining c.read.new.self.inner in
-    let old = g.W.Write.contents c.args.w.now.inner in
-    let w = g.W.Write.contents c.loop-exchange.w.inner in
-    IfSome-each (g.R.Read.remaining c.args.r.now.inner) (λ input. IsLeftBy start input now) (λ input is.
-    let i = c.loop-exchange.invariant.going input is in
-    let whole = going-ended start input c.read.new.buf c.in_ok-count.count left new_left old w c.loop-exchange.exchange (g.E.EditStore.state c.loop-exchange.edits) i
-    c.in_ok-count.ensures.bytes.0 c.if-count-eq0.true (c.in_ok-count.ensures.bytes.1 c.if-count-eq0.true (omega arith)) in
-    subst (λ seen. IsLeftBy start seen now) whole (c.finish.ensures.left start i.seen i.sent i.so_far))
-
-pub returns-then-count-eq0-clause-run : goal.returns-then-count-eq0-clause-run
-returns-then-count-eq0-clause-run g c =
-    let start = g.E.EditStore.state c.args.edits.now in
-    let now = g.E.EditStore.state c.finish.new.edits in
-    let left = g.R.Read.remaining c.loop-exchange.r.inner in
-    let new_left = g.R.Read.remaining c.read.new.self.inner in
-    let old = g.W.Write.contents c.args.w.now.inner in
-    let w = g.W.Write.contents c.loop-exchange.w.inner in
-    let v = g.W.Write.contents c.finish.new.w.inner in
-    let told = c.in_ok-told.told in
-    IfSome-each (g.R.Read.remaining c.args.r.now.inner) (λ input. IsRunOver start input told old v now) (λ input is.
-    let i = c.loop-exchange.invariant.going input is in
-    let whole = going-ended start input c.read.new.buf c.in_ok-count.count left new_left old w c.loop-exchange.exchange (g.E.EditStore.state c.loop-exchange.edits) i
-    c.in_ok-count.ensures.bytes.0 c.if-count-eq0.true (c.in_ok-count.ensures.bytes.1 c.if-count-eq0.true (omega arith)) in
-    subst (λ seen. IsRunOver start seen told old v now) whole (c.in_ok-told.ensures.run start i.seen i.sent old i.so_far i.written))
-
-pub returns-then-count-eq0-clause-left : goal.returns-then-count-eq0-clause-left
-returns-then-count-eq0-clause-left g c =
-    let start = g.E.EditStore.state c.args.edits.now in
-    let now = g.E.EditStore.state c.finish.new.edits in
-    let left = g.R.Read.remaining c.loop-exchange.r.inner in
-    let new_left = g.R.Read.remaining c.read.new.self.inner in
-    let old = g.W.Write.contents c.args.w.now.inner in
-    let w = g.W.Write.contents c.loop-exchange.w.inner in
-    IfSome-each (g.R.Read.remaining c.args.r.now.inner) (λ input. IsLeftBy start input now) (λ input is.
-    let i = c.loop-exchange.invariant.going input is in
-    let whole = going-ended start input c.read.new.buf c.in_ok-count.count left new_left old w c.loop-exchange.exchange (g.E.EditStore.state c.loop-exchange.edits) i
-    c.in_ok-count.ensures.bytes.0 c.if-count-eq0.true (c.in_ok-count.ensures.bytes.1 c.if-count-eq0.true (omega arith)) in
-    subst (λ seen. IsLeftBy start seen now) whole (c.finish.ensures.left start i.seen i.sent i.so_far))
-
-pub returns-in_err-sent-clause-left : goal.returns-in_err-sent-clause-left
-returns-in_err-sent-clause-left g c =
-    let start = g.E.EditStore.state c.args.edits.now in
-    let now = g.E.EditStore.state c.take-taken.new.edits in
-    let s = g.E.EditStore.state c.loop-exchange.edits in
-    IfSome-each (g.R.Read.remaining c.args.r.now.inner) (λ input. IsLeftBy start input now) (λ input is.
-    let i = c.loop-exchange.invariant.going input is in
-    going-within start input (take c.in_ok-count.count c.read.new.buf) (g.R.Read.remaining c.loop-exchange.r.inner) (g.R.Read.remaining c.read.new.self.inner) (g.W.Write.contents c.args.w.now.inner) (g.W.Write.contents c.loop-exchange.w.inner)
-    c.loop-exchange.exchange s now i c.in_ok-count.ensures.bytes.0 (c.take-taken.ensures.within start i.seen i.sent i.so_far))
-
-pub returns-in_err-taken-clause-left : goal.returns-in_err-taken-clause-left
-returns-in_err-taken-clause-left g c =
-    let start = g.E.EditStore.state c.args.edits.now in
-    let now = g.E.EditStore.state c.take-taken.new.edits in
-    let s = g.E.EditStore.state c.loop-exchange.edits in
-    IfSome-each (g.R.Read.remaining c.args.r.now.inner) (λ input. IsLeftBy start input now) (λ input is.
-    let i = c.loop-exchange.invariant.going input is in
-    going-within start input (take c.in_ok-count.count c.read.new.buf) (g.R.Read.remaining c.loop-exchange.r.inner) (g.R.Read.remaining c.read.new.self.inner) (g.W.Write.contents c.args.w.now.inner) (g.W.Write.contents c.loop-exchange.w.inner)
-    c.loop-exchange.exchange s now i c.in_ok-count.ensures.bytes.0 (c.take-taken.ensures.within start i.seen i.sent i.so_far))
-
-pub loop-exchange-preserved : goal.loop-exchange-preserved
-loop-exchange-preserved g c = record {
-  going = λ input is.
-      let start = g.E.EditStore.state c.args.edits.now in
-      let i = c.loop-exchange.invariant.going input is in
-      going-more start input (take c.in_ok-count.count c.read.new.buf) (g.R.Read.remaining c.loop-exchange.r.inner) (g.R.Read.remaining c.read.new.self.inner) (g.W.Write.contents c.args.w.now.inner) (g.W.Write.contents c.loop-exchange.w.inner) (g.W.Write.contents c.send-sent.new.w.inner)
-      c.loop-exchange.exchange c.take-taken.new.self c.send-sent.new.self (g.E.EditStore.state c.loop-exchange.edits) (g.E.EditStore.state c.take-taken.new.edits) i
-      c.in_ok-count.ensures.bytes.0 (c.in_ok-taken.ensures.taken start i.seen i.sent i.so_far) c.in_ok-sent.ensures.sent c.in_ok-sent.ensures.none c.send-sent.ensures.line c.send-sent.ensures.told;
-  led = g.E.EditStore.leads_on c.args.edits.now c.loop-exchange.edits c.take-taken.new.edits c.loop-exchange.invariant.led c.in_ok-taken.ensures.course;
-  no_failure =
-      let before = c.loop-exchange.invariant.no_failure in let read = c.in_ok-count.ensures.counted in let sent = c.in_ok-sent.ensures.counted in
-      omega (arith, before, read, sent);
+pub loop-replies-init : goal.loop-replies-init
+loop-replies-init g c = record {
+  seen = [];
+  sent = [];
+  reading = reading-start g.E.EditStore c.args.edits.now c.new-replies.result c.new-line.result c.new-replies.ensures.text c.new-replies.ensures.none c.new-replies.ensures.told c.new-line.ensures c.requires.fresh c.flags.ensures.still;
+  appended = Appends-nil (g.W.Write.contents c.args.w.now.inner);
+  part = λ input is. (input, is, refl);
+  read_well = refl;
+  sent_well = refl;
 }
 
-pub returns-in_err-told-clause-course : goal.returns-in_err-told-clause-course
-returns-in_err-told-clause-course g c =
-    let p = err_from_is_err_and c.from_residual-in_err-told.result c.from_residual-in_err-told.ensures.1 in
-    let start = g.E.EditStore.state c.args.edits.now in
-    let s = g.E.EditStore.state c.loop-exchange.edits in
-    let left = g.R.Read.remaining c.args.r.now.inner in
-    rw (p.1, p.2) (course-fault g.E.EditStore.continues_to g.E.EditStore.fails_on Bool Bool g.E.EditStore.leads_on
-    (λ x q. (begun : State) (input sent : List ℕ) → IsSoFar begun input sent c.loop-exchange.exchange s → IsStoppedBy begun input (g.E.EditStore.state x) q)
-    (λ x q. IfSome left (λ input. IsStoppedBy start input (g.E.EditStore.state x) q))
-    c.args.edits.now c.loop-exchange.edits c.finish.new.edits c.in_err-told.field-0.0
-    (λ x q asked. IfSome-each left (λ input. IsStoppedBy start input (g.E.EditStore.state x) q) (λ input is.
-    let i = c.loop-exchange.invariant.going input is in
-    let whole = going-ended start input c.read.new.buf c.in_ok-count.count (g.R.Read.remaining c.loop-exchange.r.inner) (g.R.Read.remaining c.read.new.self.inner) (g.W.Write.contents c.args.w.now.inner) (g.W.Write.contents c.loop-exchange.w.inner) c.loop-exchange.exchange s i
-    c.in_ok-count.ensures.bytes.0 c.if-count-eq0.true (c.in_ok-count.ensures.bytes.1 c.if-count-eq0.true (omega arith)) in
-    subst (λ seen. IsStoppedBy start seen (g.E.EditStore.state x) q) whole (asked start i.seen i.sent i.so_far)))
-    c.loop-exchange.invariant.led c.in_err-told.ensures.course)
+pub loop-replies-preserved : goal.loop-replies-preserved
+loop-replies-preserved g c =
+    let inv = c.loop-replies.invariant in let first = c.args.edits.now in let r = c.answer_bytes.new.replies in
+    let piece = take c.in_ok-count.count c.read.new.buf in let bytes = c.in-Ok.ensures.answered first inv.seen inv.sent inv.reading in
+    let read = c.in_ok-count.ensures in let sent = c.in_ok-send-in-Ok.ensures in
+    record {
+      seen = inv.seen ++ piece;
+      sent = inv.sent ++ r.text.items;
+      reading = reading-sent g.E.EditStore first inv.sent c.answer_bytes.new.edits (inv.seen ++ piece) r c.send.new.self c.answer_bytes.new.line bytes sent.none c.send.ensures.waiting c.send.ensures.told;
+      appended = Appends-more (g.W.Write.contents c.args.w.now.inner) (g.W.Write.contents c.loop-replies.w.inner) (g.W.Write.contents c.send.new.w.inner) inv.sent r.text.items inv.appended sent.sent;
+      part = part-more (g.R.Read.remaining c.args.r.now.inner) (g.R.Read.remaining c.loop-replies.r.inner) (g.R.Read.remaining c.read.new.self.inner) inv.seen piece read.bytes.0 inv.part;
+      read_well = read.counted ∙ inv.read_well;
+      sent_well = sent.counted ∙ inv.sent_well;
+    }
 
-pub returns-in_err-taken-clause-course : goal.returns-in_err-taken-clause-course
-returns-in_err-taken-clause-course g c =
-    let p = err_from_is_err_and c.from_residual-in_err-taken.result c.from_residual-in_err-taken.ensures.1 in
-    let start = g.E.EditStore.state c.args.edits.now in
-    let s = g.E.EditStore.state c.loop-exchange.edits in
-    let left = g.R.Read.remaining c.args.r.now.inner in
-    let bytes = take c.in_ok-count.count c.read.new.buf in
-    rw (p.1, p.2) (course-fault g.E.EditStore.continues_to g.E.EditStore.fails_on (Unit {0}) Bool g.E.EditStore.leads_on
-    (λ x q. (begun : State) (seen sent : List ℕ) → IsSoFar begun seen sent c.loop-exchange.exchange s → IsStoppedWithin begun (seen ++ bytes) (g.E.EditStore.state x) q)
-    (λ x q. IfSome left (λ input. IsStoppedBy start input (g.E.EditStore.state x) q))
-    c.args.edits.now c.loop-exchange.edits c.take-taken.new.edits c.in_err-taken.field-0.0
-    (λ x q asked. IfSome-each left (λ input. IsStoppedBy start input (g.E.EditStore.state x) q) (λ input is.
-    let i = c.loop-exchange.invariant.going input is in
-    going-stopped start input bytes (g.R.Read.remaining c.loop-exchange.r.inner) (g.R.Read.remaining c.read.new.self.inner) (g.W.Write.contents c.args.w.now.inner) (g.W.Write.contents c.loop-exchange.w.inner)
-    c.loop-exchange.exchange s (g.E.EditStore.state x) q i c.in_ok-count.ensures.bytes.0 (asked start i.seen i.sent i.so_far)))
-    c.loop-exchange.invariant.led c.in_err-taken.ensures.course)
+-- the reader failed, and all replies are sent
+pub returns-in_err-count-clause-ends : goal.returns-in_err-count-clause-ends
+returns-in_err-count-clause-ends g c =
+    let p = err_from_is_err_and c.from_residual.result c.from_residual.ensures.1 in
+    let inv = c.loop-replies.invariant in let first = c.args.edits.now in let now = c.loop-replies.edits in let i = inv.reading in
+    let before = g.W.Write.contents c.args.w.now.inner in let held = g.W.Write.contents c.loop-replies.w.inner in
+    let reads = g.R.Read.remaining c.args.r.now.inner in let left = g.R.Read.remaining c.loop-replies.r.inner in
+    let f0 = c.args.w.now.failures in let f = c.loop-replies.w.failures in
+    let part : IsPartRead reads left (inv.seen ++ []) = subst (IsPartRead reads left) (sym (append-nil inv.seen)) inv.part in
+    rw (p.1) (subst (λ (e : ApplyFault). EndsOver g.E.EditStore first now reads before held f0 f (Err e)) (sym (p.2 ∙ ap of_stream c.in_err-count.ensures.fault))
+    (ends-over g.E.EditStore first now reads left before inv.seen [] i.done i.line held f0 f Device i.split part
+    (sent-device g.E.EditStore first now (asked_by_lines i.done) inv.sent before held f0 f c.loop-replies.replies i.at (λ same. inv.appended))))
+
+-- the end of the input
+pub returns-then-count-eq0-clause-ends : goal.returns-then-count-eq0-clause-ends
+returns-then-count-eq0-clause-ends g c =
+    let inv = c.loop-replies.invariant in let first = c.args.edits.now in let now = c.answer_end-ended.new.edits in
+    let before = g.W.Write.contents c.args.w.now.inner in let held = g.W.Write.contents c.loop-replies.w.inner in let w = g.W.Write.contents c.conclude.new.w.inner in
+    let reads = g.R.Read.remaining c.args.r.now.inner in let left = g.R.Read.remaining c.loop-replies.r.inner in
+    let f0 = c.args.w.now.failures in let f = c.conclude.new.w.failures in let read = c.in_ok-count.ensures.bytes in
+    ends-whole g.E.EditStore first now reads left before inv.seen w f0 f c.conclude.result
+    (part-whole reads left (g.R.Read.remaining c.read.new.self.inner) inv.seen c.read.new.buf c.in_ok-count.count read.0 c.if-count-eq0.true (read.1 c.if-count-eq0.true (omega arith)) inv.part)
+    (concluded g.E.EditStore first now (asked_by_input inv.seen) inv.sent before held w f0 c.loop-replies.w.failures f c.answer_end-ended.new.replies c.answer_end-ended.result c.conclude.result
+    (c.answer_end-ended.ensures.ended first inv.seen inv.sent inv.reading) inv.appended inv.sent_well c.conclude.ensures.sent c.conclude.ensures.fault c.conclude.ensures.outcome)
+
+-- it broke off among the lines
+pub returns-in-Err-clause-ends : goal.returns-in-Err-clause-ends
+returns-in-Err-clause-ends g c =
+    let inv = c.loop-replies.invariant in let first = c.args.edits.now in let now = c.answer_bytes.new.edits in
+    let before = g.W.Write.contents c.args.w.now.inner in let held = g.W.Write.contents c.loop-replies.w.inner in let w = g.W.Write.contents c.give_up.new.w.inner in
+    let reads = g.R.Read.remaining c.args.r.now.inner in let left = g.R.Read.remaining c.loop-replies.r.inner in let now_left = g.R.Read.remaining c.read.new.self.inner in
+    let f0 = c.args.w.now.failures in let f = c.give_up.new.w.failures in let piece = take c.in_ok-count.count c.read.new.buf in
+    let b = c.in-Err.ensures.answered first inv.seen inv.sent inv.reading in
+    let part : IsPartRead reads now_left (b.front ++ b.back) = subst (IsPartRead reads now_left) (sym b.parts) (part-more reads left now_left inv.seen piece c.in_ok-count.ensures.bytes.0 inv.part) in
+    subst (λ (e : ApplyFault). EndsOver g.E.EditStore first now reads before w f0 f (Err e)) (sym c.give_up.ensures.same)
+    (ends-over g.E.EditStore first now reads now_left before b.front b.back b.done b.line w f0 f c.in-Err.fault b.split part
+    (broken-sent g.E.EditStore first now (asked_by_lines b.done) inv.sent before held w f0 f c.answer_bytes.new.replies c.in-Err.fault b.broken inv.appended
+    (λ same. c.give_up.ensures.sent (same ∙ sym inv.sent_well))))
+
+-- the writer failed
+pub returns-in_err-send-in-Ok-clause-ends : goal.returns-in_err-send-in-Ok-clause-ends
+returns-in_err-send-in-Ok-clause-ends g c =
+    let p = err_from_is_err_and c.from_residual-in_err-send-in-Ok.result c.from_residual-in_err-send-in-Ok.ensures.1 in
+    let inv = c.loop-replies.invariant in let first = c.args.edits.now in let now = c.answer_bytes.new.edits in
+    let before = g.W.Write.contents c.args.w.now.inner in let w = g.W.Write.contents c.send.new.w.inner in
+    let reads = g.R.Read.remaining c.args.r.now.inner in let left = g.R.Read.remaining c.loop-replies.r.inner in let now_left = g.R.Read.remaining c.read.new.self.inner in
+    let f0 = c.args.w.now.failures in let f = c.send.new.w.failures in let piece = take c.in_ok-count.count c.read.new.buf in
+    let i = c.in-Ok.ensures.answered first inv.seen inv.sent inv.reading in
+    let part : IsPartRead reads now_left ((inv.seen ++ piece) ++ []) = subst (IsPartRead reads now_left) (sym (append-nil (inv.seen ++ piece))) (part-more reads left now_left inv.seen piece c.in_ok-count.ensures.bytes.0 inv.part) in
+    let kind = c.in_err-send-in-Ok.ensures.fault in
+    let rose : c.loop-replies.w.failures < f = subst (λ r. CountsFailures {A = Unit {0}} c.loop-replies.w.failures f (Err r)) kind c.in_err-send-in-Ok.ensures.counted in
+    let was = inv.sent_well in
+    rw (p.1) (subst (λ (e : ApplyFault). EndsOver g.E.EditStore first now reads before w f0 f (Err e)) (sym (p.2 ∙ ap of_stream kind))
+    (ends-over g.E.EditStore first now reads now_left before (inv.seen ++ piece) [] i.done i.line w f0 f Device i.split part
+    (sent-device g.E.EditStore first now (asked_by_lines i.done) inv.sent before w f0 f c.answer_bytes.new.replies i.at (λ same. absurd (omega (arith, rose, same, was))))))

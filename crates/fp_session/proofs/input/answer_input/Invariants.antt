@@ -1,15 +1,20 @@
-use Rattle.std.proofs.Common.{◌≡◌, ◌+◌, ℕ, List, Some}
-use Rattle.fp_session.proofs.RunOverLemmas.{IsGoing}
+use Rattle.std.proofs.Common.{◌≡◌, ℕ, List}
+use Rattle.std.specs.Io.KnownBytes.{Appends}
+use Rattle.fp_session.specs.Progress.{IsReading}
+use Rattle.fp_session.proofs.Endings.{IsPartRead}
 use Rattle.fp_session.proofs.input.answer_input.Given as goal
 
-abbrev pub invariant-loop-exchange : goal.invariant-loop-exchange
-invariant-loop-exchange g l = record {
-  going :
-      (input : List ℕ) → g.R.Read.remaining l.initial.r.inner ≡ Some input
-      → IsGoing (g.E.EditStore.state l.initial.edits) input (g.R.Read.remaining l.r.inner) (g.W.Write.contents l.initial.w.inner) (g.W.Write.contents l.w.inner) l.exchange (g.E.EditStore.state l.edits);
-  led : g.E.EditStore.continues_to l.initial.edits l.edits;
-  no_failure : l.r.failures + l.w.failures ≡ l.initial.r.failures + l.initial.w.failures;
+-- what came in was answered and sent, and nothing failed
+abbrev pub invariant-loop-replies : goal.invariant-loop-replies
+invariant-loop-replies g l = record {
+  seen : List ℕ;
+  sent : List ℕ;
+  reading : IsReading g.E.EditStore l.initial.edits l.edits seen sent l.replies l.line;
+  appended : Appends (g.W.Write.contents l.initial.w.inner) (g.W.Write.contents l.w.inner) sent;
+  part : IsPartRead (g.R.Read.remaining l.initial.r.inner) (g.R.Read.remaining l.r.inner) seen;
+  read_well : l.r.failures ≡ l.initial.r.failures;
+  sent_well : l.w.failures ≡ l.initial.w.failures;
 }
 
-abbrev pub decreases-loop-exchange : goal.decreases-loop-exchange
-decreases-loop-exchange g l = l.r.reads_left
+abbrev pub decreases-loop-replies : goal.decreases-loop-replies
+decreases-loop-replies g l = l.r.reads_left

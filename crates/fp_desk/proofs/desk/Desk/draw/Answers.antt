@@ -42,13 +42,12 @@ returns-clause-drawn c =
     let n = c.first_part-n.result in
     let changes : changes_of c.in_ok-edits.edits.items ≡ changes_of (take n (Waits c)) = c.in_ok-edits.ensures in
     let group : c.new.result ≡ record { first = c.revision-first.result + 1; changes = changes_of (take n (Waits c)) } = c.new.ensures ∙ ap (λ (l : List Change). record { first = c.revision-first.result + 1; changes = l }) changes in
-    let limit : c.limit.result ≡ c.self.inside.settled.store.start.limit = c.limit.ensures ∙ ap (λ (t : State). t.limit) c.self.invariant.head_is ∙ limit-after_all c.self.inside.settled.store.start (log (record { store = c.self.inside.settled.store; settled = c.self.inside.settled.edits; drawn = changes_of c.self.inside.drawn.items; waiting = changes_of (Waits c); stopped = c.self.inside.stopped })) in
-    let most : c.saturating_sub-most.result ≡ most_of c.self.inside.settled.store.start.limit = (let is = c.saturating_sub-most.ensures in is ∙ ap most_of limit) in
+    let most : c.longest_body.result ≡ most_of c.self.inside.settled.store.start.limit = rw (← c.self.view_is) at c.longest_body.ensures in
     let longest : IsLongestPart (most_of c.self.inside.settled.store.start.limit) c.new.result (changes_of (Waits c)) (changes_of c.move_front.new.waiting.items) =
     subst (λ (g : Group). IsLongestPart (most_of c.self.inside.settled.store.start.limit) g (changes_of (Waits c)) (changes_of c.move_front.new.waiting.items)) (sym group)
     (subst (λ (l : List Edit). IsLongestPart (most_of c.self.inside.settled.store.start.limit) (record { first = c.revision-first.result + 1; changes = changes_of (take n (Waits c)) }) (changes_of (Waits c)) (changes_of l)) (sym (parts c).1)
     (subst (λ (m : ℕ). IsLongestPart m (record { first = c.revision-first.result + 1; changes = changes_of (take n (Waits c)) }) (changes_of (Waits c)) (changes_of (drop n (Waits c)))) most
-    (renumbered c.saturating_sub-most.result (c.revision-first.result + 1) (changes_of (take n (Waits c))) (changes_of (Waits c)) (changes_of (drop n (Waits c))) c.first_part-n.ensures.longest))) in
+    (renumbered c.longest_body.result (c.revision-first.result + 1) (changes_of (take n (Waits c))) (changes_of (Waits c)) (changes_of (drop n (Waits c))) c.first_part-n.ensures.longest))) in
     let first : c.new.result.first ≡ c.revision-first.result + 1 = ap (λ (g : Group). g.first) group in
     let drawn : changes_of c.move_front.new.drawn.items ≡ c.new.result.changes = ap changes_of (parts c).0 ∙ sym (ap (λ (g : Group). g.changes) group) in
     let start = c.self.inside.settled.store.start in let settled = c.self.inside.settled.edits in

@@ -1,0 +1,67 @@
+use Rattle.std.proofs.Common.{◌≡◌, ◌+◌, ◌++◌, List, length, refl, sym, ap, ◌∙◌, inl, inr, ⊎_elim, arith, append_assoc, append-nil, length-append}
+use Rattle.std.proofs.lemmas.Result.{err_from_is_err_and}
+use Rattle.fp_disk.specs.declared.history.CallKind.{CallKind}
+use Rattle.fp_desk.specs.Desk.{DeskState}
+use Rattle.fp_session.specs.Session.{StandsAhead, calls_of}
+use Rattle.fp_session.specs.SessionLaws.{calls_more}
+use Rattle.fp_session.proofs.Commits.{honest_on, lacks_on, next_moment, nothing_left, now_ahead, present_ahead, stands_on, still_ahead, weaker}
+use Rattle.fp_session.proofs.commit.commit_all.Goals as goal
+
+pub loop-store-init : goal.loop-store-init
+loop-store-init g c = record {
+  in_step = c.requires.in_step;
+  log = (refl, refl);
+  settled = omega arith;
+  no_failure = refl;
+  any_moment = still_ahead g.D.Disk c.args.store.now c.args.desk.now c.requires.in_step g.met.D.Disk.only_now;
+  called = (0, sym (append-nil (g.D.Disk.calls c.args.store.now.journal.disk)));
+  honest = (λ h. h, λ h. h);
+}
+
+pub loop-store-preserved : goal.loop-store-preserved
+loop-store-preserved g c =
+    let D = g.D.Disk in let inv = c.loop-store.invariant in let did = c.in_ok-commit.ensures.committed in let w = c.commit.ensures in
+    let first = c.args.store.now.journal.disk in let mid = c.loop-store.store.journal.disk in let last = c.commit.new.store.journal.disk in
+    let d0 = c.args.desk.now in let d1 = c.loop-store.desk in
+    let settled = ap (λ (x : DeskState). length x.settled) did.desk in let more = length-append d1.settled did.batch in let was = inv.settled in
+    record {
+      in_step = did.in_step;
+      log = (w.log.0 ∙ inv.log.0, w.log.1 ∙ inv.log.1);
+      settled = omega (arith, settled, more, was);
+      no_failure = did.no_failure ∙ inv.no_failure;
+      any_moment = next_moment D first mid last (StandsAhead d0) inv.honest inv.any_moment
+          (weaker D mid last (StandsAhead d1) (StandsAhead d0) (stands_on d0 d1 inv.log.0 inv.log.1 inv.settled) w.any_moment);
+      called = (
+        inv.called.0 + 1,
+        c.in_ok-commit.ensures.called ∙ ap (λ (l : List CallKind). l ++ calls_of 1) inv.called.1 ∙ append_assoc (D.calls first) (calls_of inv.called.0) (calls_of 1)
+            ∙ ap (λ (l : List CallKind). D.calls first ++ l) (calls_more inv.called.0 1),
+      );
+      honest = honest_on D first mid last inv.honest w.honest;
+    }
+
+pub returns-in_err-commit-clause-cause : goal.returns-in_err-commit-clause-cause
+returns-in_err-commit-clause-cause g c =
+    let p = err_from_is_err_and c.from_residual.result c.from_residual.ensures.1 in
+    let D = g.D.Disk in let inv = c.loop-store.invariant in let same = inv.no_failure in
+    rw (p.1, p.2) (λ is. ⊎_elim (λ lacks. inl (lacks_on D c.commit.new.store.journal.disk c.args.desk.now c.loop-store.desk inv.log.0 inv.log.1 inv.settled lacks)) (λ more. inr (omega (arith, more, same))) (c.in_err-commit.ensures.cause is))
+
+pub returns-in_err-commit-clause-any_moment : goal.returns-in_err-commit-clause-any_moment
+returns-in_err-commit-clause-any_moment g c =
+    let D = g.D.Disk in let inv = c.loop-store.invariant in
+    let first = c.args.store.now.journal.disk in let mid = c.loop-store.store.journal.disk in let last = c.commit.new.store.journal.disk in
+    let d0 = c.args.desk.now in let d1 = c.loop-store.desk in
+    next_moment D first mid last (StandsAhead d0) inv.honest inv.any_moment
+    (weaker D mid last (StandsAhead d1) (StandsAhead d0) (stands_on d0 d1 inv.log.0 inv.log.1 inv.settled) c.commit.ensures.any_moment)
+
+pub returns-in_err-commit-clause-now : goal.returns-in_err-commit-clause-now
+returns-in_err-commit-clause-now g c =
+    let w = c.commit.ensures in let settled = ap length c.in_err-commit.ensures.settled in
+    present_ahead g.D.Disk c.loop-store.store.journal.disk c.commit.new.store.journal.disk c.commit.new.desk c.loop-store.desk g.met.D.Disk.counts_now w.honest
+    (sym w.log.0) (sym w.log.1) (omega (arith, settled)) w.any_moment
+
+pub returns-clause-committed : goal.returns-clause-committed
+returns-clause-committed g c =
+    let inv = c.loop-store.invariant in (inv.in_step, nothing_left c.loop-store.desk.waiting c.is_waiting.result c.is_waiting.ensures c.loop-store-test.false, inv.no_failure)
+
+pub returns-clause-now : goal.returns-clause-now
+returns-clause-now g c = now_ahead g.D.Disk c.loop-store.store c.loop-store.desk c.loop-store.invariant.in_step

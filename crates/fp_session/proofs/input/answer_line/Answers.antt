@@ -1,0 +1,20 @@
+use Rattle.std.proofs.Common.{◌∷◌, [], ◌++◌, List, sym, subst}
+use Rattle.std.proofs.lemmas.Result.{err_from_is_err_and}
+use Rattle.fp_edit.specs.Line.{line_of}
+use Rattle.fp_session.specs.Asks.{Ask, asked_by_lines}
+use Rattle.fp_session.specs.Progress.{IsAt, IsBroken}
+use Rattle.fp_session.proofs.LineLemmas.{asked-line}
+use Rattle.fp_session.proofs.input.answer_line.Goals as goal
+
+pub returns-in_err-seal-clause-answered : goal.returns-in_err-seal-clause-answered
+returns-in_err-seal-clause-answered g c = λ first asked sent bytes kept none i.
+    let p = err_from_is_err_and c.from_residual-in_err-seal.result c.from_residual-in_err-seal.ensures.1 in
+    let asks = c.in-Some.ensures.asks bytes kept in
+    rw (p.1, p.2) (subst (λ (xs : List Ask). IsBroken g.E.EditStore first c.seal.new.edits (asked ++ xs) sent c.seal.new.self c.in_err-seal.field-0.0) (sym (asked-line bytes asks.0))
+    (c.in_err-seal.ensures.asked first (asked ++ line_of bytes ∷ []) sent (c.in_ok-ask.ensures.asked first asked sent (line_of bytes) asks.1 i)))
+
+pub returns-in_ok-seal-clause-answered : goal.returns-in_ok-seal-clause-answered
+returns-in_ok-seal-clause-answered g c = λ first asked sent bytes kept none i.
+    let asks = c.in-Some.ensures.asks bytes kept in
+    subst (λ (xs : List Ask). IsAt g.E.EditStore first c.seal.new.edits (asked ++ xs) sent c.seal.new.self) (sym (asked-line bytes asks.0))
+    (c.in_ok-seal.ensures.asked first (asked ++ line_of bytes ∷ []) sent (c.in_ok-ask.ensures.asked first asked sent (line_of bytes) asks.1 i))
