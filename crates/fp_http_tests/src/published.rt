@@ -36,10 +36,10 @@ fn opening_of_one_edit(alloc: Global) -> anyhow::Result<Opening> {
         bail!("no edit")
     };
     let mut session = new_session(alloc)?;
-    let admitted = session.admit(edit);
+    let is_kept = session.joins(&edit) && session.submit(edit).is_ok() && session.commit().is_ok();
     let disk = session.into_disk();
-    if admitted.is_err() {
-        bail!("not admitted")
+    if !is_kept {
+        bail!("not kept")
     }
     let Ok((store, opening)) = Store::open(alloc, disk) else {
         bail!("not opened")
