@@ -1,5 +1,5 @@
 -- What a command does with the file that its words name.
-use Rattle.std.specs.Prelude.{◌≡◌, ◌≢◌, ◌⊎◌, ◌<◌, ◌+◌, ◌^◌, ℕ, List, [], ◌∷◌, Bool, Option, Result, Ok, Err, IfErr, OnOk, IfOk, IfSome}
+use Rattle.std.specs.Prelude.{◌≡◌, ◌≢◌, ◌⊎◌, ◌<◌, ◌+◌, ◌^◌, ℕ, List, [], ◌∷◌, ◌++◌, Bool, Option, Result, Ok, Err, IfErr, OnOk, IfOk, IfSome}
 use Rattle.fp_disk.specs.Crashes.{AtAnyMoment, EachCrash, SameHonesty}
 use Rattle.fp_disk.specs.History.{Makes}
 use Rattle.fp_disk.specs.Outcomes.{IsOutcome, all_synced}
@@ -56,6 +56,7 @@ pub record MakesDisk {F R W D : Type 0} (disk : DiskGhosts D) (old new : Outside
   pub any_moment : disk.unsynced before ≡ all_synced []
       → AtAnyMoment disk before after (IsNewSetOrNone (2 ^ 24))
   pub called : Makes (Length ∷ format_calls) (disk.calls before) (disk.calls after) outcome
+  pub untouched : IfErr outcome (λ f. (f ≡ Device) ⊎ (disk.calls after ≡ disk.calls before ++ Length ∷ []))
   pub fault : IfErr outcome IsMakingFault
   pub cause : IfErr outcome (λ f. f ≡ Device → disk.faults before < disk.faults after)
   pub honest : SameHonesty disk before after

@@ -1,7 +1,7 @@
 //! The commands over a disk. Each gives the disk back.
 
 ghost use Rattle.fp_disk.specs.Crashes.{AtAnyMoment, EachCrash, SameHonesty};
-ghost use Rattle.std.specs.Prelude.{◌≡◌, ◌≢◌, ◌⊎◌, ◌<◌, ◌+◌, ◌^◌, [], ◌∷◌, IfOk, IfErr, OnOk};
+ghost use Rattle.std.specs.Prelude.{◌≡◌, ◌≢◌, ◌⊎◌, ◌<◌, ◌+◌, ◌++◌, ◌^◌, [], ◌∷◌, IfOk, IfErr, OnOk};
 ghost use Rattle.std.specs.Io.KnownBytes.{Appends};
 ghost use Rattle.fp_disk.specs.History.{Makes, MakesSome};
 ghost use Rattle.fp_disk.specs.Outcomes.{IsOutcome, LeavesOnly, all_synced};
@@ -38,6 +38,8 @@ pub fn init_disk<D: Disk>(alloc: Global, disk: D) -> (D, Result<(), CommandFault
     ensures any_moment { D.honest disk → D.unsynced disk ≡ all_synced []
         → LeavesOnly D.moment D.crash_states_since disk result.0 (IsNewSetOrNone (2 ^ 24)) }
     ensures called { Makes (Length ∷ format_calls) (D.calls disk) (D.calls result.0) result.1 }
+    ensures untouched { IfErr result.1 (λ f. (f ≡ Device)
+        ⊎ (D.calls result.0 ≡ D.calls disk ++ Length ∷ [])) }
     ensures fault { IfErr result.1 IsMakingFault }
     ensures cause { IfErr result.1 (λ f. f ≡ Device → D.faults disk < D.faults result.0) }
     ensures honest { SameHonesty D.Disk disk result.0 }

@@ -1,7 +1,7 @@
 //! Stores on new disks and on disks that kept edits before.
 
 ghost use Rattle.fp_disk.specs.Crashes.{AtAnyMoment, SameHonesty};
-ghost use Rattle.std.specs.Prelude.{◌≡◌, ◌≢◌, ◌<◌, ◌++◌, [], ◌∷◌, List, ℕ, length, IfOk, IfErr, IsOk, MatchResult};
+ghost use Rattle.std.specs.Prelude.{◌≡◌, ◌≢◌, ◌⊎◌, ◌<◌, ◌++◌, [], ◌∷◌, List, ℕ, length, IfOk, IfErr, IsOk, MatchResult};
 ghost use Rattle.fp_disk.specs.History.{MakesSome};
 ghost use Rattle.fp_disk.specs.Outcomes.{IsOutcome, LeavesOnly, all_synced};
 ghost use Rattle.fp_disk.specs.declared.history.CallKind.TheVariants.{Length, Read, Sync};
@@ -75,6 +75,8 @@ impl<D: Disk> Store<D> {
         ensures called { MatchResult result
             (λ r. D.calls r.0.journal.disk ≡ D.calls disk ++ Length ∷ format_calls)
             (λ e. MakesSome (Length ∷ format_calls) (D.calls disk) (D.calls e.1)) }
+        ensures untouched { IfErr result (λ e. (e.0 ≡ Device)
+            ⊎ (D.calls e.1 ≡ D.calls disk ++ Length ∷ [])) }
         ensures honest { MatchResult result (λ r. SameHonesty D.Disk disk r.0.journal.disk)
             (λ e. SameHonesty D.Disk disk e.1) }
     {

@@ -1,7 +1,7 @@
 //! A new disk.
 
 ghost use Rattle.fp_disk.specs.Crashes.{AtAnyMoment, SameHonesty};
-ghost use Rattle.std.specs.Prelude.{◌≡◌, ◌≢◌, ◌<◌, ◌+◌, ◌∷◌, ◌++◌, [], List, ℕ, length, IfOk, IfErr, OnOk, IsOk, IsErr, MatchResult};
+ghost use Rattle.std.specs.Prelude.{◌≡◌, ◌≢◌, ◌⊎◌, ◌<◌, ◌+◌, ◌∷◌, ◌++◌, [], List, ℕ, length, IfOk, IfErr, OnOk, IsOk, IsErr, MatchResult};
 ghost use Rattle.fp_disk.specs.History.{Makes, MakesSome};
 ghost use Rattle.fp_disk.specs.declared.history.CallKind.TheVariants.{Length, Sync, Write};
 ghost use Rattle.fp_disk.specs.Outcomes.{Answers, IsOutcome, LeavesOnly, Written, all_synced, with_write};
@@ -98,6 +98,8 @@ pub fn create<D: Disk>(
     ensures any_moment { D.honest disk → D.unsynced disk ≡ all_synced [] → MatchResult result (λ s. LeavesOnly D.moment D.crash_states_since disk s.journal.disk (IsNewOrNone size)) (λ e. LeavesOnly D.moment D.crash_states_since disk e.1 (IsNewOrNone size)) }
     ensures honest { MatchResult result (λ s. SameHonesty D.Disk disk s.journal.disk) (λ e. SameHonesty D.Disk disk e.1) }
     ensures called { MatchResult result (λ s. D.calls s.journal.disk ≡ D.calls disk ++ Length ∷ format_calls) (λ e. MakesSome (Length ∷ format_calls) (D.calls disk) (D.calls e.1)) }
+    ensures untouched { IfErr result (λ e. (e.0 ≡ Device)
+        ⊎ (D.calls e.1 ≡ D.calls disk ++ Length ∷ [])) }
     ensures memory { D.honest disk → IfErr result (λ e. e.0 ≡ Memory → (D.bytes e.1 ≡ D.bytes disk) × (D.unsynced e.1 ≡ D.unsynced disk)) }
     ensures cause { IfErr result (λ e. e.0 ≡ Device → D.faults disk < D.faults e.1) }
 {

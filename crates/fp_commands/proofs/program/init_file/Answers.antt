@@ -29,6 +29,7 @@ returns g c =
         memory = made.memory;
         any_moment = λ synced h. made.any_moment h synced;
         called = made.called;
+        untouched = made.untouched;
         fault = made.fault;
         cause = made.cause;
         honest = made.honest;
