@@ -47,7 +47,8 @@ IsRefusal is_honest c fault = is_honest → RefusesBytes c fault × StandsForNon
 -- the faults of showing what bytes stand for: opening refuses them, or memory, the device or the writer failed
 abbrev pub IsShowingFault : Type 0 → List ℕ → CommandFault → Type 0
 IsShowingFault is_honest c Unformatted = IsRefusal is_honest c opening.Unformatted
-IsShowingFault is_honest c (UnknownVersion version) = IsRefusal is_honest c (opening.UnknownVersion version)
+IsShowingFault is_honest c (UnknownVersion version) = IsRefusal is_honest c
+    (opening.UnknownVersion version)
 IsShowingFault is_honest c (Damaged at) = IsRefusal is_honest c (opening.Damaged at)
 IsShowingFault is_honest c Device = Unit {0}
 IsShowingFault is_honest c Memory = Unit {0}
@@ -61,7 +62,8 @@ IsApplyingFault is_honest c f = IsShowingFault is_honest c f
 -- the same where a document is read as well
 abbrev pub IsImportingFault : Type 0 → List ℕ → Option (List ℕ) → CommandFault → Type 0
 IsImportingFault is_honest c left NotDocument = IsDocumentFault left NotDocument
-IsImportingFault is_honest c left (UnknownEvaluator name) = IsDocumentFault left (UnknownEvaluator name)
+IsImportingFault is_honest c left (UnknownEvaluator name) = IsDocumentFault left
+    (UnknownEvaluator name)
 IsImportingFault is_honest c left EvaluatorsTooDeep = IsDocumentFault left EvaluatorsTooDeep
 IsImportingFault is_honest c left BadKey = IsDocumentFault left BadKey
 IsImportingFault is_honest c left (Flag key fault) = IsDocumentFault left (Flag key fault)
@@ -104,7 +106,8 @@ AskedByLines input asks = asks ≡ asked_by_input input
 
 -- a put for each flag of the document that the input is
 abbrev pub AskedByDocument : List ℕ → List Ask → Type 0
-AskedByDocument input asks = (flags : List document.Flag) × (import_of input ≡ Ok flags) × (asks ≡ asked_by_flags flags)
+AskedByDocument input asks = (flags : List document.Flag) × (import_of input ≡ Ok flags)
+    × (asks ≡ asked_by_flags flags)
 
 -- of what the reader gives, read in this way, this holds
 abbrev pub Asked : Option (List ℕ) → (List ℕ → List Ask → Type 0) → (List Ask → Type 0) → Type 0
@@ -116,7 +119,8 @@ IsRunOver start told old new flags asks = IsRunWritten start asks told old new f
     × (told ≡ true → Appends old new (script start asks) × (flags ≡ after start asks))
 
 -- it led from what the bytes stood for to what every crash leaves now
-pub record IsRunOnDisk (is_honest : Type 0) (bytes : List ℕ) (now : PendingState) (left : Option (List ℕ))
+pub record IsRunOnDisk (is_honest : Type 0) (bytes : List ℕ) (now : PendingState) (left : Option
+    (List ℕ))
     (Reads : List ℕ → List Ask → Type 0) (told : Bool) (old new : Option (List ℕ)) : Type 0 where
   pub start : State
   pub flags : State
@@ -126,24 +130,29 @@ pub record IsRunOnDisk (is_honest : Type 0) (bytes : List ℕ) (now : PendingSta
 
 -- whatever the bytes stood for, they stand for that, or for what some first of what is asked makes of it
 abbrev pub IsLeftOnDisk : List ℕ → List ℕ → Option (List ℕ) → (List ℕ → List Ask → Type 0) → Type 0
-IsLeftOnDisk before now left Reads = (start : State) → StandsFor before start → (flags : State) × StandsFor now flags
+IsLeftOnDisk before now left Reads = (start : State) → StandsFor before start
+    → (flags : State) × StandsFor now flags
     × ((flags ≡ start) ⊎ Asked left Reads (λ asks. IsAfterPrefix start asks flags))
 
 -- and for flags that hold all that was told
-abbrev pub IsToldOnDisk : List ℕ → List ℕ → Option (List ℕ) → (List ℕ → List Ask → Type 0) → (old new : Option (List ℕ)) → Type 0
-IsToldOnDisk before now left Reads old new = (start : State) → StandsFor before start → (flags : State) × StandsFor now flags
+abbrev pub IsToldOnDisk : List ℕ → List ℕ → Option (List ℕ) → (List ℕ → List Ask → Type 0)
+    → (old new : Option (List ℕ)) → Type 0
+IsToldOnDisk before now left Reads old new = (start : State) → StandsFor before start
+    → (flags : State) × StandsFor now flags
     × Asked left Reads (λ asks. IsToldBy start asks old new flags)
 
 -- Flags that some first of what is asked led to, and edits behind them that more of it asks for, for which whatever a
 -- crash leaves of the disk has no room
-pub record LacksRoom (is_honest : Type 0) (bytes : List ℕ) (now : PendingState) (left : Option (List ℕ))
+pub record LacksRoom (is_honest : Type 0) (bytes : List ℕ) (now : PendingState) (left : Option
+    (List ℕ))
     (Reads : List ℕ → List Ask → Type 0) : Type 0 where
   pub start : State
   pub flags : State
   pub batch : List Change
   pub stood : is_honest → StandsFor bytes start
   pub some : 0 < length batch
-  pub asked : Asked left Reads (λ asks. IsAfterPrefix start asks flags × IsAfterPrefix start asks (after_all flags batch))
+  pub asked : Asked left Reads (λ asks. IsAfterPrefix start asks flags
+      × IsAfterPrefix start asks (after_all flags batch))
   pub full : is_honest → IsFull now flags (batch_len (record { first = 0; changes = batch }))
 
 -- the disk was opened, and its calls then were those of whole batches

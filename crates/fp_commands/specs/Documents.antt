@@ -19,10 +19,14 @@ import_of bytes = defined (json_of bytes)
 -- the fault is that of the document that is read, or reading it failed
 abbrev pub IsDocumentFault : Option (List ℕ) → CommandFault → Type 0
 IsDocumentFault left fault.NotDocument = IfSome left (λ input. import_of input ≡ Err not_document)
-IsDocumentFault left (fault.UnknownEvaluator name) = IfSome left (λ input. import_of input ≡ Err (unknown_evaluator (string_bytes name)))
-IsDocumentFault left fault.EvaluatorsTooDeep = IfSome left (λ input. import_of input ≡ Err nested_too_deep)
-IsDocumentFault left fault.BadKey = IfSome left (λ input. (key : List ℕ) × (import_of input ≡ Err (bad_key key)))
-IsDocumentFault left (fault.Flag key broken) = IfSome left (λ input. IsSomeAnd (tells broken) (λ f. import_of input ≡ Err (bad_flag (key_bytes key) f)))
+IsDocumentFault left (fault.UnknownEvaluator name) = IfSome left (λ input. import_of input
+    ≡ Err (unknown_evaluator (string_bytes name)))
+IsDocumentFault left fault.EvaluatorsTooDeep = IfSome left (λ input. import_of input
+    ≡ Err nested_too_deep)
+IsDocumentFault left fault.BadKey = IfSome left (λ input. (key : List ℕ)
+    × (import_of input ≡ Err (bad_key key)))
+IsDocumentFault left (fault.Flag key broken) = IfSome left (λ input. IsSomeAnd (tells broken)
+    (λ f. import_of input ≡ Err (bad_flag (key_bytes key) f)))
 IsDocumentFault left fault.Device = Unit {0}
 IsDocumentFault left fault.Memory = Unit {0}
 IsDocumentFault left other = ⊥

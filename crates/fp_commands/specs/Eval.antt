@@ -11,11 +11,14 @@ abbrev pub reply_line : Response → List ℕ
 reply_line r = decimal r.status ++ 32 ∷ r.body ++ 10 ∷ []
 
 -- a writer holds the reply to what was read, for the flag of this key in a set, at a moment
-abbrev pub IsAnswered : State → List ℕ → ℕ → Option (List ℕ) → Option (List ℕ) → Option (List ℕ) → Type 0
-IsAnswered flags key now left old new = IfSome left (λ body. Appends old new (reply_line (reply_for flags key (Some body) now)))
+abbrev pub IsAnswered : State → List ℕ → ℕ → Option (List ℕ) → Option (List ℕ) → Option (List ℕ)
+    → Type 0
+IsAnswered flags key now left old new = IfSome left (λ body. Appends old new (reply_line
+    (reply_for flags key (Some body) now)))
 
 -- the same in the set that the bytes stand for
-pub record IsEvaluated (is_honest : Type 0) (bytes key : List ℕ) (now : ℕ) (left old new : Option (List ℕ)) : Type 0 where
+pub record IsEvaluated (is_honest : Type 0) (bytes key : List ℕ) (now : ℕ) (left old new : Option
+    (List ℕ)) : Type 0 where
   pub flags : State
   pub stood : is_honest → StandsFor bytes flags
   pub answered : IsAnswered flags key now left old new

@@ -32,10 +32,12 @@ abbrev pub failures : {F R W : Type 0} → Outside F R W → ℕ
 failures o = o.reader.failures + o.writer.failures
 
 -- over memory: what a run from no flags writes, or that memory ran out or a stream failed
-abbrev pub AppliesInMemory : {R W : Type 0} → (R → Option (List ℕ)) → (W → Option (List ℕ)) → Stream R → Stream R
+abbrev pub AppliesInMemory : {R W : Type 0} → (R → Option (List ℕ)) → (W → Option (List ℕ))
+    → Stream R → Stream R
     → Stream W → Stream W → Result (Unit {0}) CommandFault → Type 0
 AppliesInMemory remaining contents r0 r w0 w (Ok x) = IfSome (remaining r0.inner) (λ input.
-    (told : Bool) × (flags : State) × IsRunWritten no_flags (asked_by_input input) told (contents w0.inner) (contents w.inner) flags)
+    (told : Bool) × (flags : State) × IsRunWritten no_flags (asked_by_input input) told
+    (contents w0.inner) (contents w.inner) flags)
 AppliesInMemory remaining contents r0 r w0 w (Err f) = IsStreamFault f
     × Blames {A = Unit {0}} (r0.failures + w0.failures) (r.failures + w.failures) (Err f)
 
@@ -56,14 +58,16 @@ pub record MakesDisk {F R W D : Type 0} (disk : DiskGhosts D) (old new : Outside
   pub any_moment : disk.unsynced before ≡ all_synced []
       → AtAnyMoment disk before after (IsNewSetOrNone (2 ^ 24))
   pub called : Makes (Length ∷ format_calls) (disk.calls before) (disk.calls after) outcome
-  pub untouched : IfErr outcome (λ f. (f ≡ Device) ⊎ (disk.calls after ≡ disk.calls before ++ Length ∷ []))
+  pub untouched : IfErr outcome (λ f. (f ≡ Device) ⊎ (disk.calls after
+      ≡ disk.calls before ++ Length ∷ []))
   pub fault : IfErr outcome IsMakingFault
   pub cause : IfErr outcome (λ f. f ≡ Device → disk.faults before < disk.faults after)
   pub honest : SameHonesty disk before after
 
 -- the line of what the disk stands for was written, and nothing on the disk
 pub record ShowsDisk {F R W D : Type 0} (disk : DiskGhosts D) (contents : W → Option (List ℕ))
-    (old new : Outside F R W) (before after : D) (outcome : Result (Unit {0}) CommandFault) : Type 0 where
+    (old new : Outside F R W) (before after : D) (outcome : Result
+    (Unit {0}) CommandFault) : Type 0 where
   pub unread : new.reader ≡ old.reader
   pub shown : OnOk outcome (IsShown (disk.honest before) (disk.bytes before)
       (contents old.writer.inner) (contents new.writer.inner))
@@ -76,42 +80,55 @@ pub record ShowsDisk {F R W D : Type 0} (disk : DiskGhosts D) (contents : W → 
   pub honest : SameHonesty disk before after
 
 -- what is asked of it, read from the reader in this way, was answered, and led what the disk stood for to what it stands for
-pub record RunsOnDisk {F R W D : Type 0} (disk : DiskGhosts D) (remaining : R → Option (List ℕ)) (contents : W → Option (List ℕ))
-    (Reads : List ℕ → List Ask → Type 0) (MayEnd : Type 0 → List ℕ → Option (List ℕ) → CommandFault → Type 0)
+pub record RunsOnDisk {F R W D : Type 0} (disk : DiskGhosts D) (remaining : R
+    → Option (List ℕ)) (contents : W → Option (List ℕ))
+    (Reads : List ℕ → List Ask → Type 0) (MayEnd : Type 0 → List ℕ → Option (List ℕ) → CommandFault
+    → Type 0)
     (old new : Outside F R W) (before after : D) (outcome : Result Bool CommandFault) : Type 0 where
-  pub run : IfOk outcome (λ told. IsRunOnDisk (disk.honest before) (disk.bytes before) (disk.unsynced after)
-      (remaining old.reader.inner) Reads told (contents old.writer.inner) (contents new.writer.inner))
+  pub run : IfOk outcome (λ told. IsRunOnDisk (disk.honest before) (disk.bytes before)
+      (disk.unsynced after)
+      (remaining old.reader.inner) Reads told (contents old.writer.inner)
+      (contents new.writer.inner))
   pub called : OnOk outcome (CallsBatches (disk.calls before) (disk.calls after))
   pub left : disk.honest before →
       IsLeftOnDisk (disk.bytes before) (disk.bytes after) (remaining old.reader.inner) Reads
   pub any_moment : AtAnyMoment disk before after (λ c. IsOutcome (disk.unsynced before) c
       ⊎ IsLeftOnDisk (disk.bytes before) c (remaining old.reader.inner) Reads)
-  pub told : disk.honest before → IfErr outcome (λ f. new.writer.failures ≡ old.writer.failures → (new.writer ≡ old.writer)
-      ⊎ EachCrash disk after (λ c. IsToldOnDisk (disk.bytes before) c (remaining old.reader.inner) Reads
+  pub told : disk.honest before → IfErr outcome (λ f. new.writer.failures ≡ old.writer.failures
+      → (new.writer ≡ old.writer)
+      ⊎ EachCrash disk after (λ c. IsToldOnDisk (disk.bytes before) c
+      (remaining old.reader.inner) Reads
       (contents old.writer.inner) (contents new.writer.inner)))
-  pub fault : IfErr outcome (MayEnd (disk.honest before) (disk.bytes before) (remaining old.reader.inner))
+  pub fault : IfErr outcome (MayEnd (disk.honest before) (disk.bytes before)
+      (remaining old.reader.inner))
   pub nothing_written : IfErr outcome (IfRefused (new.writer ≡ old.writer))
   pub only_read : IfErr outcome (IfRefused (IsOnlyRead disk before after))
   pub unread : IfErr outcome (IfFileRefused (new.reader ≡ old.reader))
-  pub cause : IfErr outcome (λ f. f ≡ StoreFailed → LacksRoom (disk.honest before) (disk.bytes before)
-      (disk.unsynced after) (remaining old.reader.inner) Reads ⊎ (disk.faults before < disk.faults after))
+  pub cause : IfErr outcome (λ f. f ≡ StoreFailed → LacksRoom (disk.honest before)
+      (disk.bytes before)
+      (disk.unsynced after) (remaining old.reader.inner) Reads
+      ⊎ (disk.faults before < disk.faults after))
   pub device : Blames (disk.faults before + failures old) (disk.faults after + failures new) outcome
   pub no_failure : OnOk outcome (disk.faults after ≡ disk.faults before)
   pub honest : SameHonesty disk before after
 
 -- the lines that were read, and the puts of the document that was
-abbrev pub AppliesToDisk : {F R W D : Type 0} → DiskGhosts D → (R → Option (List ℕ)) → (W → Option (List ℕ))
+abbrev pub AppliesToDisk : {F R W D : Type 0} → DiskGhosts D → (R → Option (List ℕ)) → (W
+    → Option (List ℕ))
     → Outside F R W → Outside F R W → D → D → Result Bool CommandFault → Type 0
 AppliesToDisk disk remaining contents old new before after outcome =
-    RunsOnDisk disk remaining contents AskedByLines (λ is_honest c left. IsApplyingFault is_honest c) old new before after outcome
+    RunsOnDisk disk remaining contents AskedByLines
+    (λ is_honest c left. IsApplyingFault is_honest c) old new before after outcome
 
-abbrev pub ImportsToDisk : {F R W D : Type 0} → DiskGhosts D → (R → Option (List ℕ)) → (W → Option (List ℕ))
+abbrev pub ImportsToDisk : {F R W D : Type 0} → DiskGhosts D → (R → Option (List ℕ)) → (W
+    → Option (List ℕ))
     → Outside F R W → Outside F R W → D → D → Result Bool CommandFault → Type 0
 ImportsToDisk disk remaining contents old new before after outcome =
     RunsOnDisk disk remaining contents AskedByDocument IsImportingFault old new before after outcome
 
 -- the reply for a flag of what the disk stands for was written, and nothing on the disk
-pub record EvaluatesOnDisk {F R W D : Type 0} (disk : DiskGhosts D) (remaining : R → Option (List ℕ))
+pub record EvaluatesOnDisk {F R W D : Type 0} (disk : DiskGhosts D) (remaining : R
+    → Option (List ℕ))
     (contents : W → Option (List ℕ)) (old new : Outside F R W) (key : List ℕ) (now : ℕ)
     (before after : D) (outcome : Result (Unit {0}) CommandFault) : Type 0 where
   pub evaluated : OnOk outcome (IsEvaluated (disk.honest before) (disk.bytes before) key now
@@ -144,25 +161,35 @@ pub record FailsToOpen {F R W D : Type 0} (files : FileGhosts F D) (old new : Ou
   pub nothing_written : new.writer ≡ old.writer
 
 -- what a task over the disk at a path comes to
-abbrev pub OnFile : {F R W D A : Type 0} → FileGhosts F D → DiskGhosts D → Outside F R W → Outside F R W
-    → List ℕ → (D → Type 0) → (D → D → Result A CommandFault → Type 0) → Result (Unit {0}) CommandFault → Type 0
+abbrev pub OnFile : {F R W D A : Type 0} → FileGhosts F D → DiskGhosts D → Outside F R W
+    → Outside F R W
+    → List ℕ → (D → Type 0) → (D → D → Result A CommandFault → Type 0)
+    → Result (Unit {0}) CommandFault → Type 0
 OnFile {A = A} files disk old new path Found Does (Ok x) =
-    (a : A) × OverFile files disk old.files new.files path Found (λ before after. Does before after (Ok a))
+    (a : A) × OverFile files disk old.files new.files path Found (λ before after. Does before after
+    (Ok a))
 OnFile files disk old new path Found Does (Err f) = FailsToOpen files old new path f
     ⊎ OverFile files disk old.files new.files path Found (λ before after. Does before after (Err f))
 
 -- what a task comes to: it is done, or this fault ended it. Over memory no file is opened
-abbrev pub Performs : {F R W D : Type 0} → FileGhosts F D → DiskGhosts D → (R → Option (List ℕ)) → (W → Option (List ℕ))
-    → Outside F R W → Outside F R W → Task → List ℕ → List ℕ → ℕ → Result (Unit {0}) CommandFault → Type 0
+abbrev pub Performs : {F R W D : Type 0} → FileGhosts F D → DiskGhosts D → (R → Option (List ℕ))
+    → (W → Option (List ℕ))
+    → Outside F R W → Outside F R W → Task → List ℕ → List ℕ → ℕ → Result (Unit {0}) CommandFault
+    → Type 0
 Performs files disk remaining contents old new Apply path key now outcome = (new.files ≡ old.files)
     × AppliesInMemory remaining contents old.reader new.reader old.writer new.writer outcome
 Performs files disk remaining contents old new InitFile path key now outcome =
-    OnFile files disk old new path (IsThereOrNew files disk old.files path) (MakesDisk disk old new) outcome
+    OnFile files disk old new path (IsThereOrNew files disk old.files path)
+    (MakesDisk disk old new) outcome
 Performs files disk remaining contents old new ShowFile path key now outcome =
-    OnFile files disk old new path (IsThere files old.files path) (ShowsDisk disk contents old new) outcome
+    OnFile files disk old new path (IsThere files old.files path)
+    (ShowsDisk disk contents old new) outcome
 Performs files disk remaining contents old new ApplyFile path key now outcome =
-    OnFile files disk old new path (IsThere files old.files path) (AppliesToDisk disk remaining contents old new) outcome
+    OnFile files disk old new path (IsThere files old.files path)
+    (AppliesToDisk disk remaining contents old new) outcome
 Performs files disk remaining contents old new ImportFile path key now outcome =
-    OnFile files disk old new path (IsThere files old.files path) (ImportsToDisk disk remaining contents old new) outcome
+    OnFile files disk old new path (IsThere files old.files path)
+    (ImportsToDisk disk remaining contents old new) outcome
 Performs files disk remaining contents old new EvalFile path key now outcome =
-    OnFile files disk old new path (IsThere files old.files path) (EvaluatesOnDisk disk remaining contents old new key now) outcome
+    OnFile files disk old new path (IsThere files old.files path)
+    (EvaluatesOnDisk disk remaining contents old new key now) outcome

@@ -48,11 +48,13 @@ NoneFailed r0 r w0 w = r.failures + w.failures ≤ r0.failures + w0.failures
 
 -- this line, unless the stream failed
 abbrev pub Tells : {E : Type 0} → (E → Option (List ℕ)) → Stream E → Stream E → List ℕ → Type 0
-Tells contents old new line = new.failures ≡ old.failures → AppendsLine (contents old.inner) (contents new.inner) line
+Tells contents old new line = new.failures ≡ old.failures
+    → AppendsLine (contents old.inner) (contents new.inner) line
 
 abbrev pub usage : List ℕ
 usage = codes "usage: flagplane init FILE | apply [FILE] | show FILE | eval FILE KEY | import FILE | serve FILE OFREP EDIT STREAM | watch ADDR"
 
 -- a fault that may have ended the task, by its own text
-abbrev pub TellsFault : {E : Type 0} → (E → Option (List ℕ)) → Stream E → Stream E → (CommandFault → Type 0) → Type 0
+abbrev pub TellsFault : {E : Type 0} → (E → Option (List ℕ)) → Stream E → Stream E → (CommandFault
+    → Type 0) → Type 0
 TellsFault contents old new MayEnd = (f : CommandFault) × MayEnd f × Tells contents old new (codes "flagplane: " ++ text_of f)

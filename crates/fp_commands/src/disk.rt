@@ -101,7 +101,8 @@ pub fn apply_disk<D: Disk, R: Read, W: Write>(
         ⊎ IsLeftOnDisk (D.bytes disk) c (R.remaining r.old.inner) AskedByLines) }
 
     // At a fault nothing was written, or no more than what flags hold that each crash then leaves, unless the writer failed.
-    ensures told { D.honest disk → IfErr result.1 (λ _. w.new.failures ≡ w.old.failures → (w.new ≡ w.old)
+    ensures told { D.honest disk → IfErr result.1 (λ _. w.new.failures ≡ w.old.failures
+        → (w.new ≡ w.old)
         ⊎ EachCrash D.Disk result.0 (λ c. IsToldOnDisk (D.bytes disk) c
         (R.remaining r.old.inner) AskedByLines (W.contents w.old.inner) (W.contents w.new.inner))) }
     ensures fault { IfErr result.1 (IsApplyingFault (D.honest disk) (D.bytes disk)) }
@@ -156,7 +157,8 @@ pub fn import_disk<D: Disk, R: Read, W: Write>(
         ⊎ IsLeftOnDisk (D.bytes disk) c (R.remaining r.old.inner) AskedByDocument) }
 
     // At a fault nothing was written, or no more than what flags hold that each crash then leaves, unless the writer failed.
-    ensures told { D.honest disk → IfErr result.1 (λ _. w.new.failures ≡ w.old.failures → (w.new ≡ w.old)
+    ensures told { D.honest disk → IfErr result.1 (λ _. w.new.failures ≡ w.old.failures
+        → (w.new ≡ w.old)
         ⊎ EachCrash D.Disk result.0 (λ c. IsToldOnDisk (D.bytes disk) c
         (R.remaining r.old.inner) AskedByDocument (W.contents w.old.inner) (W.contents w.new.inner))) }
     ensures fault { IfErr result.1 (IsImportingFault (D.honest disk) (D.bytes disk) (R.remaining r.old.inner)) }

@@ -51,7 +51,8 @@ pub fn close<D: Disk>(slots: &mut Slots<D>) -> Result<(), DiskFault>
     ensures taken { TakesStep D.Disk slots.old slots.new }
     ensures stands { LeavesOld D.Disk slots.old slots.new }
     ensures kept { GoesOnKept D.Disk slots.old slots.new }
-    ensures step { OnOk result (slots.new.step ≡ SyncClose) × OnErr result (slots.new.step ≡ Close) }
+    ensures step { OnOk result (slots.new.step ≡ SyncClose)
+        × OnErr result (slots.new.step ≡ Close) }
     ensures same { SameSlots slots.old slots.new }
     ensures phase { OnOk result (slots.new.journal.phase ≡ slots.old.journal.phase)
         × OnErr result (slots.new.journal.phase ≡ Failed) }

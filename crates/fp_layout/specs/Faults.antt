@@ -18,12 +18,14 @@ use Rattle.fp_layout.specs.declared.fault.OpenFault.TheVariants.{Unformatted, Un
 pub data BreaksHeader (c : List ℕ) (size k : ℕ) : Type 0 where
   bad_size : (IsSlotSize size → ⊥) → k ≡ 10 → BreaksHeader c size k
   not_zero : IsSlotSize size → IsFirstOther c 18 64 k → BreaksHeader c size k
-  too_short : IsSlotSize size → AreZeros c 18 64 → length c < 65 + size → k ≡ length c → BreaksHeader c size k
+  too_short : IsSlotSize size → AreZeros c 18 64 → length c < 65 + size → k ≡ length c
+      → BreaksHeader c size k
 
 abbrev pub RefusesHeader : List ℕ → OpenFault → Type 0
 RefusesHeader c Unformatted = IsFormatted c → ⊥
 RefusesHeader c (UnknownVersion v) = IsFormatted c × (slice_index c 9 ≡ v) × (v ≢ 1)
-RefusesHeader c (Damaged at) = IsFormatted c × (slice_index c 9 ≡ 1) × ((size : ℕ) × (size < 2 ^ 64) × Holds c 10 (to_be_bytes w64 size) × BreaksHeader c size at)
+RefusesHeader c (Damaged at) = IsFormatted c × (slice_index c 9 ≡ 1) × ((size : ℕ) × (size < 2 ^ 64)
+    × Holds c 10 (to_be_bytes w64 size) × BreaksHeader c size at)
 RefusesHeader c Device = ⊥
 RefusesHeader c Memory = ⊥
 

@@ -12,7 +12,8 @@ abbrev pub header_text : ℕ → List ℕ
 header_text size = magic ++ 1 ∷ (to_be_bytes w64 size ++ replicate 46 0)
 
 abbrev pub slot_text : ℕ → ℕ → List ℕ → List ℕ
-slot_text generation base image = to_be_bytes w64 generation ++ 1 ∷ (to_be_bytes w64 base ++ (to_be_bytes w32 (length image) ++ image))
+slot_text generation base image = to_be_bytes w64 generation ++ 1 ∷ (to_be_bytes w64 base ++
+    (to_be_bytes w32 (length image) ++ image))
 
 -- an image of no flags
 abbrev pub empty_image : List ℕ

@@ -31,15 +31,18 @@ pub data BreaksFront {R : Type 0} (rejects : R → ℕ → ℕ → List ℕ → 
     (before : R) (k : ℕ) : Type 0 where
   in_header : RefusesHeader c (Damaged k) → BreaksFront rejects c before k
   in_slots : (size : ℕ) → IsHeader c size
-      → RulesNeither (first_slot size).start (second_slot size).start c k → BreaksFront rejects c before k
+      → RulesNeither (first_slot size).start (second_slot size).start c k
+      → BreaksFront rejects c before k
   in_head : (size : ℕ) (slot other : Slot) → IsHeader c size → IsActive c size slot other
       → BreaksHead c slot.start size k → BreaksFront rejects c before k
   in_image : (size generation base : ℕ) (slot other : Slot) (image : List ℕ) (offset : ℕ)
-      → IsHeader c size → IsActive c size slot other → IsHead c slot.start size generation base image
+      → IsHeader c size → IsActive c size slot other
+      → IsHead c slot.start size generation base image
       → rejects before base (size / 2) image offset → k ≡ slot.start + IMAGE_PLACE + offset
       → BreaksFront rejects c before k
 
-abbrev pub RefusesFront : {R : Type 0} → (R → ℕ → ℕ → List ℕ → ℕ → Type 0) → List ℕ → R → OpenFault → Type 0
+abbrev pub RefusesFront : {R : Type 0} → (R → ℕ → ℕ → List ℕ → ℕ → Type 0) → List ℕ → R → OpenFault
+    → Type 0
 RefusesFront rejects c before Unformatted = RefusesHeader c Unformatted
 RefusesFront rejects c before (UnknownVersion v) = RefusesHeader c (UnknownVersion v)
 RefusesFront rejects c before (Damaged at) = BreaksFront rejects c before at
@@ -65,9 +68,12 @@ pub data BreaksDisk {R : Type 0} (begins : R → ℕ → ℕ → List ℕ → R 
       → StopsAt takes refuses slot.most at slot.stop c middle k
       → BreaksDisk begins rejects takes refuses c before k
 
-abbrev pub RefusesDisk : {R : Type 0} → (R → ℕ → ℕ → List ℕ → R → Type 0) → (R → ℕ → ℕ → List ℕ → ℕ → Type 0) → (R → List ℕ → R → Type 0) → (R → List ℕ → ℕ → Type 0) → List ℕ → R → OpenFault → Type 0
+abbrev pub RefusesDisk : {R : Type 0} → (R → ℕ → ℕ → List ℕ → R → Type 0) → (R → ℕ → ℕ → List ℕ → ℕ
+    → Type 0) → (R → List ℕ → R → Type 0) → (R → List ℕ → ℕ → Type 0) → List ℕ → R → OpenFault
+    → Type 0
 RefusesDisk begins rejects takes refuses c before Unformatted = RefusesHeader c Unformatted
-RefusesDisk begins rejects takes refuses c before (UnknownVersion v) = RefusesHeader c (UnknownVersion v)
+RefusesDisk begins rejects takes refuses c before (UnknownVersion v) = RefusesHeader c
+    (UnknownVersion v)
 RefusesDisk begins rejects takes refuses c before (Damaged at) = BreaksDisk begins rejects takes refuses c before at
 RefusesDisk begins rejects takes refuses c before Device = Unit {0}
 RefusesDisk begins rejects takes refuses c before Memory = Unit {0}

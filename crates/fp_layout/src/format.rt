@@ -52,8 +52,10 @@ fn closed(alloc: Global, size: SlotSize) -> Result<Vec<u8>, AllocError>
 
 // Writes, and makes sure of it.
 fn write_synced<D: Disk>(disk: &mut D, at: u64, from: &[u8]) -> Result<(), DiskFault>
-    ensures written { D.honest disk.old → OnOk result (Written (D.bytes disk.old) at from.now (D.bytes disk.new)) }
-    ensures all_synced { D.honest disk.old → OnOk result (D.unsynced disk.new ≡ all_synced (D.bytes disk.new)) }
+    ensures written { D.honest disk.old → OnOk result (Written (D.bytes disk.old) at from.now
+        (D.bytes disk.new)) }
+    ensures all_synced { D.honest disk.old → OnOk result (D.unsynced disk.new
+        ≡ all_synced (D.bytes disk.new)) }
     ensures any_moment { AtAnyMoment D.Disk disk.old disk.new (IsOutcome (with_write (D.unsynced disk.old) at (length from.now))) }
     ensures honest { SameHonesty D.Disk disk.old disk.new }
     ensures called { Makes (Write ∷ Sync ∷ []) (D.calls disk.old) (D.calls disk.new) result }
@@ -66,9 +68,12 @@ fn write_synced<D: Disk>(disk: &mut D, at: u64, from: &[u8]) -> Result<(), DiskF
 // Writes the layout onto an empty disk: the header's gate, which comes last, opens over what is synced.
 fn format<D: Disk>(disk: &mut D, size: SlotSize, closed: &[u8]) -> Result<(), DiskFault>
     requires { closed.now ≡ closed_bytes size }
-    ensures made { D.honest disk.old → D.bytes disk.old ≡ [] → OnOk result (IsNewDisk size (D.bytes disk.new)) }
-    ensures all_synced { D.honest disk.old → OnOk result (D.unsynced disk.new ≡ all_synced (D.bytes disk.new)) }
-    ensures any_moment { D.honest disk.old → D.unsynced disk.old ≡ all_synced [] → LeavesOnly D.moment D.crash_states_since disk.old disk.new (IsNewOrNone size) }
+    ensures made { D.honest disk.old → D.bytes disk.old ≡ []
+        → OnOk result (IsNewDisk size (D.bytes disk.new)) }
+    ensures all_synced { D.honest disk.old → OnOk result (D.unsynced disk.new
+        ≡ all_synced (D.bytes disk.new)) }
+    ensures any_moment { D.honest disk.old → D.unsynced disk.old ≡ all_synced []
+        → LeavesOnly D.moment D.crash_states_since disk.old disk.new (IsNewOrNone size) }
     ensures honest { SameHonesty D.Disk disk.old disk.new }
     ensures called { Makes format_calls (D.calls disk.old) (D.calls disk.new) result }
     ensures cause { Answers (D.faults disk.old) (D.faults disk.new) result }
@@ -91,16 +96,26 @@ pub fn create<D: Disk>(
     ensures beside { IfOk result (λ s. (s.other ≡ second_slot size) × (s.generation ≡ 1)
         × (s.step ≡ Begin)) }
     ensures made { D.honest disk → IfOk result (λ s. IsNewDisk size (D.bytes s.journal.disk)) }
-    ensures all_synced { D.honest disk → IfOk result (λ s. D.unsynced s.journal.disk ≡ all_synced (D.bytes s.journal.disk)) }
-    ensures stands { D.honest disk → IfOk result (λ s. IsHeader (D.bytes s.journal.disk) size × IsActive (D.bytes s.journal.disk) size (first_slot size) (second_slot size) × IsHead (D.bytes s.journal.disk) 64 size 1 0 empty_image) }
-    ensures not_empty { D.honest disk → IfErr result (λ e. e.0 ≡ NotEmpty → (D.bytes disk ≢ []) × (D.bytes e.1 ≡ D.bytes disk) × (D.unsynced e.1 ≡ D.unsynced disk)) }
+    ensures all_synced { D.honest disk → IfOk result (λ s. D.unsynced s.journal.disk
+        ≡ all_synced (D.bytes s.journal.disk)) }
+    ensures stands { D.honest disk → IfOk result (λ s. IsHeader (D.bytes s.journal.disk) size
+        × IsActive (D.bytes s.journal.disk) size (first_slot size) (second_slot size)
+        × IsHead (D.bytes s.journal.disk) 64 size 1 0 empty_image) }
+    ensures not_empty { D.honest disk → IfErr result (λ e. e.0 ≡ NotEmpty
+        → (D.bytes disk ≢ []) × (D.bytes e.1 ≡ D.bytes disk) × (D.unsynced e.1 ≡ D.unsynced disk)) }
     ensures empty { D.honest disk → IsOk result → D.bytes disk ≡ [] }
-    ensures any_moment { D.honest disk → D.unsynced disk ≡ all_synced [] → MatchResult result (λ s. LeavesOnly D.moment D.crash_states_since disk s.journal.disk (IsNewOrNone size)) (λ e. LeavesOnly D.moment D.crash_states_since disk e.1 (IsNewOrNone size)) }
+    ensures any_moment { D.honest disk → D.unsynced disk ≡ all_synced []
+        → MatchResult result (λ s. LeavesOnly D.moment D.crash_states_since disk s.journal.disk
+        (IsNewOrNone size)) (λ e. LeavesOnly D.moment D.crash_states_since disk e.1
+        (IsNewOrNone size)) }
     ensures honest { MatchResult result (λ s. SameHonesty D.Disk disk s.journal.disk) (λ e. SameHonesty D.Disk disk e.1) }
-    ensures called { MatchResult result (λ s. D.calls s.journal.disk ≡ D.calls disk ++ Length ∷ format_calls) (λ e. MakesSome (Length ∷ format_calls) (D.calls disk) (D.calls e.1)) }
+    ensures called { MatchResult result (λ s. D.calls s.journal.disk
+        ≡ D.calls disk ++ Length ∷ format_calls) (λ e. MakesSome (Length ∷ format_calls)
+        (D.calls disk) (D.calls e.1)) }
     ensures untouched { IfErr result (λ e. (e.0 ≡ Device)
         ⊎ (D.calls e.1 ≡ D.calls disk ++ Length ∷ [])) }
-    ensures memory { D.honest disk → IfErr result (λ e. e.0 ≡ Memory → (D.bytes e.1 ≡ D.bytes disk) × (D.unsynced e.1 ≡ D.unsynced disk)) }
+    ensures memory { D.honest disk → IfErr result (λ e. e.0 ≡ Memory
+        → (D.bytes e.1 ≡ D.bytes disk) × (D.unsynced e.1 ≡ D.unsynced disk)) }
     ensures cause { IfErr result (λ e. e.0 ≡ Device → D.faults disk < D.faults e.1) }
 {
     match disk.len() {

@@ -106,11 +106,18 @@ pub fn open<D: Disk, R: SlotReader>(
     ensures slots { D.honest disk → IfOk result (λ s.
         HasSlots (D.bytes disk) s.journal.slot s.other s.generation) }
     ensures fault { D.honest disk → IfErr result (λ e. RefusesDisk R.begins R.rejects R.takes R.refuses (D.bytes disk) reader.old e.0) }
-    ensures same { D.honest disk → MatchResult result (λ s. D.bytes s.journal.disk ≡ D.bytes disk) (λ e. D.bytes e.1 ≡ D.bytes disk) }
-    ensures all_synced { D.honest disk → IfOk result (λ s. D.unsynced s.journal.disk ≡ all_synced (D.bytes disk)) }
-    ensures any_moment { D.honest disk → MatchResult result (λ s. LeavesOnly D.moment D.crash_states_since disk s.journal.disk (IsOutcome (D.unsynced disk))) (λ e. LeavesOnly D.moment D.crash_states_since disk e.1 (IsOutcome (D.unsynced disk))) }
+    ensures same { D.honest disk → MatchResult result (λ s. D.bytes s.journal.disk
+        ≡ D.bytes disk) (λ e. D.bytes e.1 ≡ D.bytes disk) }
+    ensures all_synced { D.honest disk → IfOk result (λ s. D.unsynced s.journal.disk
+        ≡ all_synced (D.bytes disk)) }
+    ensures any_moment { D.honest disk → MatchResult result
+        (λ s. LeavesOnly D.moment D.crash_states_since disk s.journal.disk (IsOutcome
+        (D.unsynced disk))) (λ e. LeavesOnly D.moment D.crash_states_since disk e.1 (IsOutcome
+        (D.unsynced disk))) }
     ensures honest { MatchResult result (λ s. SameHonesty D.Disk disk s.journal.disk) (λ e. SameHonesty D.Disk disk e.1) }
-    ensures called { MatchResult result (λ s. D.calls s.journal.disk ≡ D.calls disk ++ Sync ∷ Length ∷ Read ∷ []) (λ e. MakesSome (Sync ∷ Length ∷ Read ∷ []) (D.calls disk) (D.calls e.1)) }
+    ensures called { MatchResult result (λ s. D.calls s.journal.disk
+        ≡ D.calls disk ++ Sync ∷ Length ∷ Read ∷ []) (λ e. MakesSome (Sync ∷ Length ∷ Read ∷ [])
+        (D.calls disk) (D.calls e.1)) }
     ensures no_failure { IfOk result (λ s. D.faults s.journal.disk ≡ D.faults disk) }
     ensures cause { IfErr result (λ e. e.0 ≡ Device → D.faults disk < D.faults e.1) }
 {

@@ -26,14 +26,17 @@ AsksFor (Ok edit) x = x ≡ Ok (proposal_of edit)
 AsksFor (Err fault) x = Tells fault (λ f. x ≡ Err f)
 
 -- an edit was answered, and waits to be kept where it was accepted
-pub record Takes {E : Type 0} (store : Ghosts E) (a : E) (x : Ask) (reply : Reply) (b : E) : Type 0 where
+pub record Takes {E : Type 0} (store : Ghosts E) (a : E) (x : Ask) (reply : Reply)
+    (b : E) : Type 0 where
   pub answered : Answers (store.state a) x reply (store.state b)
-  pub ahead : (flags : State) → store.may_stand b flags → store.may_stand a flags ⊎ (flags ≡ store.state b)
+  pub ahead : (flags : State) → store.may_stand b flags
+      → store.may_stand a flags ⊎ (flags ≡ store.state b)
   pub leaves : store.leaves a b (store.may_stand a)
   pub goes_on : store.continues_to a b
 
 -- what was asked was answered: what is kept, with texts of which `sent` was sent, and behind it a batch whose replies wait
-pub record At {E : Type 0} (store : Ghosts E) (first now : E) (asked : List Ask) (sent text : List ℕ) (waiting : List Reply) (is_told_all : Bool) : Type 0 where
+pub record At {E : Type 0} (store : Ghosts E) (first now : E) (asked : List Ask)
+    (sent text : List ℕ) (waiting : List Reply) (is_told_all : Bool) : Type 0 where
   pub done : List Ask
   pub batch : List Ask
   pub kept : State
@@ -48,21 +51,27 @@ pub record At {E : Type 0} (store : Ghosts E) (first now : E) (asked : List Ask)
   pub leaves : store.leaves first now (IsAfterPrefix (store.state first) asked)
 
 abbrev pub IsAt : {E : Type 0} → Ghosts E → E → E → List Ask → List ℕ → Replies → Type 0
-IsAt store first now asked sent r = At store first now asked sent r.text.items (map said r.waiting.items) r.is_told
+IsAt store first now asked sent r = At store first now asked sent r.text.items
+    (map said r.waiting.items) r.is_told
 
 -- where it broke off
-pub record StopsAt {E : Type 0} (store : Ghosts E) (first now : E) (asked : List Ask) (fault : ApplyFault) : Type 0 where
+pub record StopsAt {E : Type 0} (store : Ghosts E) (first now : E) (asked : List Ask)
+    (fault : ApplyFault) : Type 0 where
   pub left : IsAfterPrefix (store.state first) asked (store.state now)
-  pub course : StoreRun {A = Unit {0}} store (IsAfterPrefix (store.state first) asked) first now (Err fault)
+  pub course : StoreRun {A = Unit {0}} store (IsAfterPrefix (store.state first) asked) first now
+      (Err fault)
   pub leaves : store.leaves first now (IsAfterPrefix (store.state first) asked)
 
 -- it broke off: whatever flags may stand hold all that the texts tell
-pub record IsBroken {E : Type 0} (store : Ghosts E) (first now : E) (asked : List Ask) (sent : List ℕ) (r : Replies) (fault : ApplyFault) : Type 0 where
-  pub told : (flags : State) → store.may_stand now flags → IsTold (store.state first) asked (sent ++ r.text.items) flags
+pub record IsBroken {E : Type 0} (store : Ghosts E) (first now : E) (asked : List Ask)
+    (sent : List ℕ) (r : Replies) (fault : ApplyFault) : Type 0 where
+  pub told : (flags : State) → store.may_stand now flags
+      → IsTold (store.state first) asked (sent ++ r.text.items) flags
   pub stops : StopsAt store first now asked fault
 
 -- all of it was answered and is kept, and the flags are shown
-pub record IsEnded {E : Type 0} (store : Ghosts E) (first now : E) (asked : List Ask) (sent : List ℕ) (r : Replies) : Type 0 where
+pub record IsEnded {E : Type 0} (store : Ghosts E) (first now : E) (asked : List Ask)
+    (sent : List ℕ) (r : Replies) : Type 0 where
   pub replies : List Reply
   pub run : IsRun (store.state first) asked replies (store.state now)
   pub kept : (flags : State) → store.may_stand now flags → flags ≡ store.state now
@@ -72,19 +81,24 @@ pub record IsEnded {E : Type 0} (store : Ghosts E) (first now : E) (asked : List
   pub leaves : store.leaves first now (IsAfterPrefix (store.state first) asked)
 
 -- the first of the replies that wait were told behind a text
-pub record IsToldUpTo (is_kept : Bool) (text : List ℕ) (told : Bool) (r : Replies) (n : ℕ) : Type 0 where
-  pub texts : r.text.items ≡ text ++ texts_of (map (told_if is_kept) (map said (take n r.waiting.items)))
-  pub tells : r.is_told ≡ (told && list_all is_told (map (told_if is_kept) (map said (take n r.waiting.items))))
+pub record IsToldUpTo (is_kept : Bool) (text : List ℕ) (told : Bool) (r : Replies)
+    (n : ℕ) : Type 0 where
+  pub texts : r.text.items ≡ text ++ texts_of (map (told_if is_kept) (map said
+      (take n r.waiting.items)))
+  pub tells : r.is_told ≡ (told && list_all is_told (map (told_if is_kept) (map said
+      (take n r.waiting.items))))
 
 -- ---- with a writer that held `before` and holds `now_held`, and failed so often
 
-pub record IsAtWith {E : Type 0} (store : Ghosts E) (first now : E) (asked : List Ask) (before now_held : Option (List ℕ)) (r : Replies) : Type 0 where
+pub record IsAtWith {E : Type 0} (store : Ghosts E) (first now : E) (asked : List Ask)
+    (before now_held : Option (List ℕ)) (r : Replies) : Type 0 where
   pub sent : List ℕ
   pub appended : Appends before now_held sent
   pub at : IsAt store first now asked sent r
 
 -- of the texts `sent` and what waited behind it more was sent, or nothing
-pub record IsSentFurther (before now_held : Option (List ℕ)) (sent : List ℕ) (old new : Replies) : Type 0 where
+pub record IsSentFurther (before now_held : Option (List ℕ)) (sent : List ℕ)
+    (old new : Replies) : Type 0 where
   pub all : List ℕ
   pub appended : Appends before now_held all
   pub same : all ++ new.text.items ≡ sent ++ old.text.items
@@ -92,19 +106,23 @@ pub record IsSentFurther (before now_held : Option (List ℕ)) (sent : List ℕ)
   pub told : new.is_told ≡ old.is_told
 
 -- it broke off, and unless the writer failed it holds nothing that flags which may stand don't
-pub record IsBrokenWith {E : Type 0} (store : Ghosts E) (first now : E) (asked : List Ask) (before now_held : Option (List ℕ)) (f0 f : ℕ) (fault : ApplyFault) : Type 0 where
-  pub told : f ≡ f0 → (flags : State) → store.may_stand now flags → IsToldBy (store.state first) asked before now_held flags
+pub record IsBrokenWith {E : Type 0} (store : Ghosts E) (first now : E) (asked : List Ask)
+    (before now_held : Option (List ℕ)) (f0 f : ℕ) (fault : ApplyFault) : Type 0 where
+  pub told : f ≡ f0 → (flags : State) → store.may_stand now flags
+      → IsToldBy (store.state first) asked before now_held flags
   pub stops : StopsAt store first now asked fault
 
 -- all was answered, kept, shown and sent
-pub record IsDone {E : Type 0} (store : Ghosts E) (first now : E) (asked : List Ask) (before now_held : Option (List ℕ)) (told : Bool) : Type 0 where
+pub record IsDone {E : Type 0} (store : Ghosts E) (first now : E) (asked : List Ask)
+    (before now_held : Option (List ℕ)) (told : Bool) : Type 0 where
   pub written : IsRunWritten (store.state first) asked told before now_held (store.state now)
   pub kept : (flags : State) → store.may_stand now flags → flags ≡ store.state now
   pub led : store.continues_to first now
   pub leaves : store.leaves first now (IsAfterPrefix (store.state first) asked)
 
 -- how a run ends
-abbrev pub Ends : {E : Type 0} → Ghosts E → E → E → List Ask → Option (List ℕ) → Option (List ℕ) → ℕ → ℕ → Result Bool ApplyFault → Type 0
+abbrev pub Ends : {E : Type 0} → Ghosts E → E → E → List Ask → Option (List ℕ) → Option (List ℕ) → ℕ
+    → ℕ → Result Bool ApplyFault → Type 0
 Ends store first now asked before now_held f0 f (Ok told) = IsDone store first now asked before now_held told
 Ends store first now asked before now_held f0 f (Err fault) = IsBrokenWith store first now asked before now_held f0 f fault
 
@@ -115,7 +133,8 @@ abbrev pub cut : List ℕ → List ℕ
 cut line = take (LONGEST_LINE + 1) line
 
 -- each line that ended in `seen` was answered and is kept, and the last one hasn't ended
-pub record IsReading {E : Type 0} (store : Ghosts E) (first now : E) (seen sent : List ℕ) (r : Replies) (l : IncomingLine) : Type 0 where
+pub record IsReading {E : Type 0} (store : Ghosts E) (first now : E) (seen sent : List ℕ)
+    (r : Replies) (l : IncomingLine) : Type 0 where
   pub done : List (List ℕ)
   pub line : List ℕ
   pub split : lines seen ≡ done ++ line ∷ []
@@ -124,7 +143,8 @@ pub record IsReading {E : Type 0} (store : Ghosts E) (first now : E) (seen sent 
   pub none : r.waiting.items ≡ []
 
 -- it broke off at a line that ended in `seen`
-pub record IsBrokenWithin {E : Type 0} (store : Ghosts E) (first now : E) (seen sent : List ℕ) (r : Replies) (fault : ApplyFault) : Type 0 where
+pub record IsBrokenWithin {E : Type 0} (store : Ghosts E) (first now : E) (seen sent : List ℕ)
+    (r : Replies) (fault : ApplyFault) : Type 0 where
   pub front : List ℕ
   pub back : List ℕ
   pub done : List (List ℕ)
@@ -134,7 +154,8 @@ pub record IsBrokenWithin {E : Type 0} (store : Ghosts E) (first now : E) (seen 
   pub broken : IsBroken store first now (asked_by_lines done) sent r fault
 
 -- how a run over what a reader gives ends: over some first things that the input asks, and where it is done over all
-pub record EndsOver {E : Type 0} (store : Ghosts E) (first now : E) (reads : Option (List ℕ)) (before now_held : Option (List ℕ)) (f0 f : ℕ) (outcome : Result Bool ApplyFault) : Type 0 where
+pub record EndsOver {E : Type 0} (store : Ghosts E) (first now : E) (reads : Option (List ℕ))
+    (before now_held : Option (List ℕ)) (f0 f : ℕ) (outcome : Result Bool ApplyFault) : Type 0 where
   pub asked : List Ask
   pub later : List Ask
   pub parts : IfSome reads (λ input. asked ++ later ≡ asked_by_input input)

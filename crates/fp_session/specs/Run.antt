@@ -59,7 +59,8 @@ IsRun s (x ∷ xs) [] t = ⊥
 IsRun s (x ∷ xs) (r ∷ rs) t = (u : State) × Answers s x r u × IsRun u xs rs t
 
 -- a writer that held `old` holds a reply to each behind it, and then the flags
-pub record IsRunWritten (start : State) (xs : List Ask) (told : Bool) (old new : Option (List ℕ)) (now : State) : Type 0 where
+pub record IsRunWritten (start : State) (xs : List Ask) (told : Bool) (old new : Option (List ℕ))
+    (now : State) : Type 0 where
   pub replies : List Reply
   pub run : IsRun start xs replies now
   pub written : Appends old new (texts_of replies ++ show_line now)
@@ -94,4 +95,5 @@ pub record IsTold (start : State) (xs : List Ask) (text : List ℕ) (flags : Sta
 
 -- what a writer that held `old` holds behind it is such a text
 abbrev pub IsToldBy : State → List Ask → Option (List ℕ) → Option (List ℕ) → State → Type 0
-IsToldBy start xs old new flags = (text : List ℕ) × Appends old new text × IsTold start xs text flags
+IsToldBy start xs old new flags = (text : List ℕ) × Appends old new text
+    × IsTold start xs text flags

@@ -31,7 +31,8 @@ flags_of s = head s.desk
 -- ---- a desk and its store
 -- what is settled, or some first of the edits that wait with it
 abbrev pub IsAhead : DeskState → State → Type 0
-IsAhead d flags = (n : ℕ) × (length d.settled ≤ n) × (n ≤ length (log d)) × (flags ≡ after_all d.store.start (take n (log d)))
+IsAhead d flags = (n : ℕ) × (length d.settled ≤ n) × (n ≤ length (log d))
+    × (flags ≡ after_all d.store.start (take n (log d)))
 
 -- the bytes stand for such flags
 abbrev pub StandsAhead : DeskState → List ℕ → Type 0
@@ -47,17 +48,20 @@ pub record IsInStep {D : Type 0} (disk : Ghosts D) (s : StoreState D) (d : DeskS
   pub keeps : EachCrash disk s.journal.disk (λ c. StandsFor c (kept s))
 
 -- the batch was sealed, and no call of the device failed
-pub record IsSealed {D : Type 0} (faults : D → ℕ) (batch : List Change) (s t : StoreState D) : Type 0 where
+pub record IsSealed {D : Type 0} (faults : D → ℕ) (batch : List Change)
+    (s t : StoreState D) : Type 0 where
   pub sealed : t.sealed ≡ s.sealed ++ batch
   pub rest : IsAtRest t
   pub no_failure : faults t.journal.disk ≡ faults s.journal.disk
 
 -- the bytes stand for what is kept, or for that and the batch
 abbrev pub KeepsOrGains : {D : Type 0} → StoreState D → List Change → List ℕ → Type 0
-KeepsOrGains s batch c = StandsFor c (kept s) ⊎ StandsFor c (after_all s.store.start (s.sealed ++ batch))
+KeepsOrGains s batch c = StandsFor c (kept s) ⊎ StandsFor c (after_all s.store.start
+    (s.sealed ++ batch))
 
 -- the first part of what waits was sealed and settled, and no call of the device failed
-pub record Commits {D : Type 0} (disk : Ghosts D) (s t : StoreState D) (d e : DeskState) : Type 0 where
+pub record Commits {D : Type 0} (disk : Ghosts D) (s t : StoreState D)
+    (d e : DeskState) : Type 0 where
   pub batch : List Change
   pub rest : List Change
   pub parts : d.waiting ≡ batch ++ rest
@@ -73,7 +77,8 @@ pub record LacksRoomFor {D : Type 0} (disk : Ghosts D) (d : DeskState) (now : D)
   pub from : IsAhead d flags
   pub to : IsAhead d (after_all flags batch)
   pub some : 0 < length batch
-  pub full : EachCrash disk now (λ c. IsFullFor c flags (batch_len (record { first = 0; changes = batch })))
+  pub full : EachCrash disk now (λ c. IsFullFor c flags (batch_len
+      (record { first = 0; changes = batch })))
 
 -- ---- the calls of batches
 
@@ -96,7 +101,8 @@ abbrev pub HasPlace : {D : Type 0} → SessionState D → Change → Type 0
 HasPlace s c = (s.stopped ≡ false) × FitsBehind (most_of s.desk.store.start.limit) s.desk.waiting c
 
 -- whatever a crash leaves at any moment from one to the other stands for flags of this kind
-abbrev pub LeavesFlags : {D : Type 0} → Ghosts D → SessionState D → SessionState D → (State → Type 0) → Type 0
+abbrev pub LeavesFlags : {D : Type 0} → Ghosts D → SessionState D → SessionState D → (State
+    → Type 0) → Type 0
 LeavesFlags disk a b P = SameHonesty disk (disk_of a) (disk_of b)
     × AtAnyMoment disk (disk_of a) (disk_of b) (λ c. (flags : State) × P flags × StandsFor c flags)
 
@@ -108,12 +114,16 @@ pub record Keeps {D : Type 0} (disk : Ghosts D) (a b : SessionState D) : Type 0 
   pub called : (n : ℕ) × (disk.calls (disk_of b) ≡ disk.calls (disk_of a) ++ calls_of n)
 
 -- where the store failed, there was no room for what waited, or the device failed
-abbrev pub CanFail : {D : Type 0} → Ghosts D → CommitFault → SessionState D → SessionState D → Type 0
-CanFail disk StoreFailed a b = LacksRoomFor disk a.desk (disk_of b) ⊎ (disk.faults (disk_of a) < disk.faults (disk_of b))
+abbrev pub CanFail : {D : Type 0} → Ghosts D → CommitFault → SessionState D → SessionState D
+    → Type 0
+CanFail disk StoreFailed a b = LacksRoomFor disk a.desk (disk_of b)
+    ⊎ (disk.faults (disk_of a) < disk.faults (disk_of b))
 CanFail disk Memory a b = Unit {0}
 
 -- a session stops at what waits: its calls were those of whole batches, and some first of one more
-pub record Fails {D : Type 0} (disk : Ghosts D) (f : CommitFault) (a b : SessionState D) : Type 0 where
+pub record Fails {D : Type 0} (disk : Ghosts D) (f : CommitFault)
+    (a b : SessionState D) : Type 0 where
   pub honest : SameHonesty disk (disk_of a) (disk_of b)
   pub cause : IsReady disk a → CanFail disk f a b
-  pub called : (n : ℕ) × MakesSome batch_calls (disk.calls (disk_of a) ++ calls_of n) (disk.calls (disk_of b))
+  pub called : (n : ℕ) × MakesSome batch_calls (disk.calls (disk_of a) ++ calls_of n) (disk.calls
+      (disk_of b))

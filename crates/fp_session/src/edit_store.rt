@@ -36,7 +36,8 @@ pub trait EditStore {
 
     ghost leads_on: { (a b c : Self) → continues_to a b → continues_to b c → continues_to a c };
 
-    ghost leaves_on: { (a b c : Self) (P : State → Type 0) → leaves a b P → leaves b c P → leaves a c P };
+    ghost leaves_on: { (a b c : Self) (P : State → Type 0) → leaves a b P → leaves b c P
+        → leaves a c P };
 
     ghost leaves_as: { (a b : Self) (P Q : State → Type 0)
         → ((s : State) → P s → Q s) → leaves a b P → leaves a b Q };

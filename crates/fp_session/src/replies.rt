@@ -185,9 +185,11 @@ impl Replies {
     // Puts the texts of the replies that wait behind the others.
     fn release(&mut self, alloc: Global, is_kept: bool) -> Result<(), AllocError>
         ensures text { (rest : List ℕ) × (self.new.text.items ++ rest
-            ≡ self.old.text.items ++ texts_of (map (told_if is_kept) (map said self.old.waiting.items))) }
+            ≡ self.old.text.items ++ texts_of (map (told_if is_kept)
+            (map said self.old.waiting.items))) }
         ensures all { OnOk result (self.new.text.items
-            ≡ self.old.text.items ++ texts_of (map (told_if is_kept) (map said self.old.waiting.items))) }
+            ≡ self.old.text.items ++ texts_of (map (told_if is_kept)
+            (map said self.old.waiting.items))) }
         ensures told { OnOk result (self.new.is_told ≡ (self.old.is_told
             && list_all is_told (map (told_if is_kept) (map said self.old.waiting.items)))) }
         ensures none { OnOk result (self.new.waiting.items ≡ []) }
@@ -205,7 +207,8 @@ impl Replies {
     fn tell(&mut self, alloc: Global, at: usize, is_kept: bool) -> Result<(), AllocError>
         requires within { at < length self.old.waiting.items }
         ensures told { OnOk result ((text : List ℕ) (all : Bool)
-            → IsToldUpTo is_kept text all self.old at → IsToldUpTo is_kept text all self.new (at + 1)) }
+            → IsToldUpTo is_kept text all self.old at
+            → IsToldUpTo is_kept text all self.new (at + 1)) }
         ensures unchanged { OnErr result (self.new.text.items ≡ self.old.text.items) }
         ensures waiting { self.new.waiting ≡ self.old.waiting }
     {
