@@ -1,5 +1,5 @@
 -- What a run over a session leaves of it and of its disk.
-use Rattle.std.proofs.Common.{◌≡◌, ◌⊎◌, ◌<◌, ◌≤◌, ◌++◌, ◌∷◌, [], ℕ, List, Bool, Option, IfSome, Ok, Err, Result, refl, sym, ap, subst, inl, inr, ◌∙◌, arith}
+use Rattle.std.proofs.Common.{◌≡◌, ◌⊎◌, ◌<◌, ◌≤◌, ◌++◌, ◌∷◌, [], ℕ, List, Option, Ok, Err, Result, sym, ap, subst, inl, inr, ◌∙◌, arith}
 use Rattle.std.proofs.lemmas.Option.{IfSome_then}
 use Rattle.fp_disk.specs.Crashes.{AtAnyMoment, EachCrash, SameHonesty}
 use Rattle.fp_disk.specs.Moments.{leaves_map, leaves_then}
@@ -18,7 +18,6 @@ use Rattle.fp_session.specs.Run.{IsAfterPrefix, IsToldBy}
 use Rattle.fp_session.specs.Session.{calls_of, disk_of, Fails, flags_of, HasPlace, IsAhead, IsReady, Keeps, LacksRoomFor, LeavesFlags, SessionState, StandsAhead}
 use Rattle.fp_session.specs.SessionLaws.{flags_as, flags_on, keeps_itself, keeps_on}
 use Rattle.fp_session.specs.StoreRun.{FailsFrom, StoreRun}
-use Rattle.fp_session.specs.declared.commit.CommitFault.{CommitFault}
 use Rattle.fp_session.specs.declared.commit.CommitFault.TheVariants as commit
 use Rattle.fp_session.specs.declared.edit_store.EditStore.{Ghosts as StoreGhosts}
 use Rattle.fp_session.specs.declared.fault.ApplyFault.{ApplyFault}

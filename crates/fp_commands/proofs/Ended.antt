@@ -1,14 +1,10 @@
 -- How a task ends.
-use Rattle.std.proofs.Common.{◌≡◌, ◌≤◌, ◌+◌, ℕ, Bool, Result, Ok, Err, IfErr, OnOk, subst, arith}
-use Rattle.fp_session.specs.Streams as plane
-use Rattle.fp_session.specs.declared.fault.ApplyFault.{ApplyFault}
-use Rattle.fp_session.specs.declared.fault.ApplyFault.TheVariants as run
+use Rattle.std.proofs.Common.{◌≡◌, ◌≤◌, ◌+◌, ℕ, Result, Ok, Err, IfErr, OnOk, subst, arith}
 use Rattle.fp_streams.specs.Failures.{CountsFailures}
 use Rattle.fp_streams.specs.declared.counted.StreamFault.{StreamFault}
 use Rattle.fp_streams.specs.declared.counted.StreamFault.TheVariants as stream
 use Rattle.fp_commands.specs.declared.fault.CommandFault.{CommandFault}
-use Rattle.fp_commands.specs.Disks.{Blames, IsStreamFault}
-use Rattle.fp_commands.specs.Faults.{of_run}
+use Rattle.fp_commands.specs.Disks.{Blames}
 
 -- a file that was opened had not failed
 pub file-no_failure : {A : Type 0} (r : Result A CommandFault) (a : A) (d e s t : ℕ) → r ≡ Ok a → d ≡ 0 → Blames (d + s) (e + t) r → t ≤ s

@@ -1,7 +1,5 @@
 -- What the program tells, and what it shows.
-use Rattle.std.proofs.Common.{◌≡◌, List, [], ◌∷◌, ◌++◌, sym, ◌∙◌, append_assoc, ℕ, Bool, Option, Some, None, Result, Ok, Err, IfSome, IfOk, OnOk, refl, subst}
-use Rattle.std.proofs.lemmas.Option.{IfSome_then}
-use Rattle.fp_edit.specs.Flags.{State}
+use Rattle.std.proofs.Common.{List, ℕ, Option, Some, None, Result, Ok, Err, IfSome, OnOk}
 use Rattle.fp_layout.specs.declared.fault.OpenFault.{OpenFault}
 use Rattle.fp_layout.specs.declared.fault.OpenFault.TheVariants.{Unformatted, UnknownVersion, Damaged, Device, Memory}
 use Rattle.fp_session.specs.declared.fault.ApplyFault.{ApplyFault}

@@ -1,18 +1,17 @@
 -- How runs end, with what a writer then holds.
 use Rattle.std.proofs.Common.{◌≡◌, ◌<◌, ◌≤◌, ℕ, List, [], ◌∷◌, ◌++◌, map, take, Bool, true, Option, Some, None, IfSome, IfErr, IfOk, OnOk, MatchResult, Result, Ok, Err, refl, sym, ap, subst, ◌∙◌, append_assoc, append-nil, arith}
 use Rattle.std.specs.Io.KnownBytes.{Appends, Consumes, IsAtEnd}
-use Rattle.fp_base.proofs.Known.{Appends-nil, Appends-more, Consumes-some}
+use Rattle.fp_base.proofs.Known.{Appends-more, Consumes-some}
 use Rattle.fp_edit.specs.Flags.{State}
 use Rattle.fp_session.specs.Asks.{Ask, asked_by_input, asked_by_lines}
 use Rattle.fp_session.specs.Lines.{lines}
-use Rattle.fp_session.specs.Progress.{At, Ends, EndsOver, IsAt, IsAtWith, IsBroken, IsBrokenWith, IsBrokenWithin, IsDone, IsEnded, IsReading, IsSentFurther, StopsAt}
+use Rattle.fp_session.specs.Progress.{Ends, EndsOver, IsAt, IsAtWith, IsBroken, IsBrokenWith, IsEnded, IsSentFurther, StopsAt}
 use Rattle.fp_session.specs.Reply.{Reply, said}
 use Rattle.fp_session.specs.Run.{after, IsAfterPrefix, IsRun, IsRunWritten, IsTold, IsToldBy, script}
 use Rattle.fp_session.specs.StoreRun.{StoreRun}
 use Rattle.fp_session.specs.declared.edit_store.EditStore.{Ghosts}
 use Rattle.fp_session.specs.declared.fault.ApplyFault.{ApplyFault}
 use Rattle.fp_session.specs.declared.fault.ApplyFault.TheVariants.{Device, StoreFailed, Memory, CommitMemory}
-use Rattle.fp_session.specs.declared.line.IncomingLine.{IncomingLine}
 use Rattle.fp_session.specs.declared.replies.Replies.{Replies}
 use Rattle.fp_session.proofs.LineLemmas.{asked-within}
 use Rattle.fp_session.proofs.ProgressLemmas.{at-broken, stops-more}

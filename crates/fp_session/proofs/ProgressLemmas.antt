@@ -1,14 +1,13 @@
 -- How what was answered grows, and where it breaks off.
-use Rattle.std.proofs.Common.{◌≡◌, ℕ, List, [], ◌∷◌, ◌++◌, map, Bool, true, false, ◌&&◌, ◌⊎◌, ⊎_elim, inl, inr, Result, Ok, Err, refl, sym, ap, subst, ◌∙◌, append_assoc, append-nil}
+use Rattle.std.proofs.Common.{◌≡◌, ℕ, List, [], ◌∷◌, ◌++◌, map, Bool, true, false, ◌&&◌, ◌⊎◌, ⊎_elim, inl, Err, refl, sym, ap, subst, ◌∙◌, append_assoc, append-nil}
 use Rattle.std.proofs.lemmas.List.Folds.{list_all-append}
 use Rattle.std.specs.List.{list_all}
-use Rattle.fp_edit.specs.Edits.{Change}
 use Rattle.fp_edit.specs.Flags.{State}
 use Rattle.fp_session.specs.Asks.{Ask}
 use Rattle.fp_session.specs.Fault.{of_commit}
 use Rattle.fp_session.specs.Progress.{At, IsAt, IsBroken, IsEnded, StopsAt, Takes}
 use Rattle.fp_session.specs.Reply.{Reply, is_told, said, texts_of, told_if}
-use Rattle.fp_session.specs.Run.{Answers, IsRun, IsAfterPrefix, IsTold, show_line}
+use Rattle.fp_session.specs.Run.{Answers, IsRun, IsAfterPrefix, show_line}
 use Rattle.fp_session.specs.StoreRun.{StoreRun}
 use Rattle.fp_session.specs.declared.commit.CommitFault.{CommitFault}
 use Rattle.fp_session.specs.declared.commit.CommitFault.TheVariants as commit

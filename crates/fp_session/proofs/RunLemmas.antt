@@ -1,5 +1,5 @@
 -- Runs over what is asked: joined, cut off, and where no reply tells of wanting memory.
-use Rattle.std.proofs.Common.{◌≡◌, ℕ, ◌+◌, List, [], ◌∷◌, ◌++◌, map, Option, Some, None, IsSomeAnd, Result, Ok, Err, Bool, true, false, ◌&&◌, ◌⊎◌, inl, inr, true≢false, refl, sym, ap, subst, ◌∙◌, append_assoc, append-nil, ◌<◌, drop, get_or, length, take}
+use Rattle.std.proofs.Common.{◌≡◌, ℕ, ◌+◌, List, [], ◌∷◌, ◌++◌, map, Option, Some, None, IsSomeAnd, Ok, Err, Bool, true, false, ◌&&◌, true≢false, refl, sym, ap, subst, ◌∙◌, append_assoc, append-nil, ◌<◌, drop, get_or, length, take}
 use Rattle.std.proofs.lemmas.List.{map-append, take-append-drop, take_more}
 use Rattle.std.proofs.lemmas.List.Folds.{list_all-append}
 use Rattle.std.specs.List.{list_all}

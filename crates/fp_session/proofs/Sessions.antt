@@ -1,5 +1,5 @@
 -- An edit on its way through a session.
-use Rattle.std.proofs.Common.{◌≡◌, ◌≢◌, ◌⊎◌, ◌<◌, ◌≤◌, ◌+◌, ℕ, true, false, None, List, [], ◌∷◌, ◌++◌, length, take, refl, sym, ap, subst, ◌∙◌, inl, inr, ⊎_elim, arith, append_assoc, append-nil, length-append}
+use Rattle.std.proofs.Common.{◌≡◌, ◌⊎◌, ◌≤◌, ◌+◌, ℕ, true, false, None, List, [], ◌∷◌, ◌++◌, length, take, refl, sym, ap, subst, ◌∙◌, inl, inr, arith, append_assoc, append-nil, length-append}
 use Rattle.std.specs.Prelude.{nat_le, Bool, ◌&&◌, Option, Some, if◌then◌else◌}
 use Rattle.std.proofs.lemmas.List.{take-append-le, take_all}
 use borrow.Author.Tests.{leb-true, leb-false}
@@ -14,7 +14,6 @@ use Rattle.fp_edit.specs.Edits.{Change, changed_key, Proposal}
 use Rattle.fp_edit.specs.Flags.{State}
 use Rattle.fp_edit.specs.Log.{after_all}
 use Rattle.fp_edit.proofs.Runs.{revision-after_all}
-use Rattle.fp_recovery.specs.Stands.{StandsFor}
 use Rattle.fp_group_commit.specs.Store.{IsFresh, Leaves, StoreState}
 use Rattle.fp_journal.specs.declared.journal.Phase.TheVariants.{Failed, Idle}
 use Rattle.fp_group_commit.specs.Tokens.{Identity}

@@ -1,4 +1,4 @@
-use Rattle.std.proofs.Common.{◌≡◌, ℕ, List, Bool, Option, true, Result, Ok, Err, IfOk, IfErr, IfSome, OnOk, refl, inl, inr, sym, ap, subst, ◌∙◌}
+use Rattle.std.proofs.Common.{◌≡◌, ℕ, List, Bool, Option, true, Result, IfOk, IfErr, IfSome, OnOk, refl, inl, inr, sym, subst, ◌∙◌}
 use Rattle.std.proofs.lemmas.Option.{IfSome_then}
 use Rattle.std.specs.Io.KnownBytes.{Appends}
 use Rattle.fp_edit.specs.Flags.{State}
@@ -6,9 +6,8 @@ use Rattle.fp_recovery.specs.Stands.{StandsFor}
 use Rattle.fp_session.specs.Asks.{asked_by_input}
 use Rattle.fp_session.specs.Run.{after, IsAfterPrefix, IsRunWritten, IsToldBy, script}
 use Rattle.fp_session.specs.Session.{flags_of, IsAhead}
-use Rattle.fp_session.specs.Streams as plane
 use Rattle.fp_session.specs.declared.fault.ApplyFault.{ApplyFault}
-use Rattle.fp_commands.specs.Disks.{Asked, AskedByLines, Blames, IsApplyingFault}
+use Rattle.fp_commands.specs.Disks.{Asked, AskedByLines, IsApplyingFault}
 use Rattle.fp_commands.specs.declared.fault.CommandFault.{CommandFault}
 use Rattle.fp_commands.proofs.Courses.{course-failed, ran-any_moment, ran-cause, ran-honest, ran-left, ran-sure, ran-told, session_store}
 use Rattle.fp_commands.proofs.Told.{applying-open, applying-run, some_both, some_if}

@@ -1,5 +1,4 @@
 use Rattle.std.proofs.Common.{sym, subst}
-use Rattle.fp_edit.specs.Flags.{State}
 use Rattle.fp_group_commit.specs.Tokens.{Identity}
 use Rattle.fp_commands.specs.declared.fault.CommandFault.{CommandFault}
 use Rattle.fp_commands.specs.Disks.{IsShowingFault, IsStreamFault}

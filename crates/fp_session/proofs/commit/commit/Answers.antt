@@ -1,4 +1,4 @@
-use Rattle.std.proofs.Common.{inl, refl}
+use Rattle.std.proofs.Common.{inl}
 use Rattle.fp_desk.specs.Desk.{IsNewDraw}
 use Rattle.fp_session.proofs.Commits.{lacks_part, no_room, receipt_drawn, sealed_ahead, still_ahead}
 use Rattle.fp_session.proofs.commit.commit.Goals as goal

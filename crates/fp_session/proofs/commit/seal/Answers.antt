@@ -1,7 +1,6 @@
-use Rattle.std.proofs.Common.{◌≡◌, List, ◌∙◌, refl, inl, inr}
+use Rattle.std.proofs.Common.{◌≡◌, ◌∙◌, refl, inl, inr}
 use Rattle.fp_disk.specs.Crashes.{AtAnyMoment, SameHonesty}
-use Rattle.fp_edit.specs.Edits.{Change}
-use Rattle.fp_group_commit.specs.Store.{Leaves, StoreState}
+use Rattle.fp_group_commit.specs.Store.{Leaves}
 use Rattle.fp_session.specs.Session.{KeepsOrGains}
 use Rattle.fp_session.proofs.Commits.{call_more, honest_on, idle_keeps, leaves_either, weaker}
 use Rattle.fp_session.proofs.commit.seal.Goals as goal

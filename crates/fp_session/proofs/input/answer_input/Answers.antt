@@ -1,8 +1,8 @@
-use Rattle.std.proofs.Common.{◌≡◌, ◌<◌, ◌++◌, ℕ, Bool, Err, Result, [], refl, sym, subst, ◌∙◌, append-nil, ap, take, arith}
+use Rattle.std.proofs.Common.{◌<◌, ◌++◌, Err, [], refl, sym, subst, ◌∙◌, append-nil, ap, take, arith}
 use Rattle.std.proofs.lemmas.Result.{err_from_is_err_and}
 use Rattle.fp_base.proofs.Known.{Appends-nil, Appends-more}
 use Rattle.fp_session.specs.Asks.{asked_by_input, asked_by_lines}
-use Rattle.fp_session.specs.Progress.{EndsOver, IsBrokenWith}
+use Rattle.fp_session.specs.Progress.{EndsOver}
 use Rattle.fp_session.specs.Streams.{of_stream}
 use Rattle.fp_session.specs.declared.fault.ApplyFault.{ApplyFault}
 use Rattle.fp_session.specs.declared.fault.ApplyFault.TheVariants.{Device}

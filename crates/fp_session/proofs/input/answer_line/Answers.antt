@@ -1,7 +1,7 @@
 use Rattle.std.proofs.Common.{◌∷◌, [], ◌++◌, List, sym, subst}
 use Rattle.std.proofs.lemmas.Result.{err_from_is_err_and}
 use Rattle.fp_edit.specs.Line.{line_of}
-use Rattle.fp_session.specs.Asks.{Ask, asked_by_lines}
+use Rattle.fp_session.specs.Asks.{Ask}
 use Rattle.fp_session.specs.Progress.{IsAt, IsBroken}
 use Rattle.fp_session.proofs.LineLemmas.{asked-line}
 use Rattle.fp_session.proofs.input.answer_line.Goals as goal

@@ -1,4 +1,4 @@
-use Rattle.std.proofs.Common.{◌≡◌, refl, ap}
+use Rattle.std.proofs.Common.{refl, ap}
 use Rattle.fp_desk.specs.Desk.{DeskState}
 use Rattle.fp_session.proofs.Commits.{now_ahead}
 use Rattle.fp_session.proofs.Sessions.{new_in_step, settled_only}

@@ -2,10 +2,8 @@ use Rattle.std.proofs.Common.{◌≡◌, false, refl, sym, subst, ◌∙◌}
 use Rattle.fp_disk.specs.Crashes.{EachCrash}
 use Rattle.fp_desk.specs.Desk.{DeskState}
 use Rattle.fp_edit.specs.Edits.{proposal_of}
-use Rattle.fp_edit.specs.Flags.{State}
-use Rattle.fp_session.specs.Session.{IsInStep, Keeps, LeavesFlags, SessionState, StandsAhead}
-use Rattle.fp_session.specs.SessionLaws.{flags_as}
-use Rattle.fp_session.proofs.Sessions.{keeps_desk, mid_ahead, mid_in_step, mid_keeps, mid_revision, refused_known, still_leaves}
+use Rattle.fp_session.specs.Session.{IsInStep, SessionState, StandsAhead}
+use Rattle.fp_session.proofs.Sessions.{keeps_desk, mid_ahead, mid_in_step, mid_keeps, mid_revision, still_leaves}
 use Rattle.fp_session.proofs.disk_session.DiskSessionEditStore.submit.Goals as goal
 
 pub invariant_of-self : goal.invariant_of-self

@@ -1,4 +1,4 @@
-use Rattle.std.proofs.Common.{◌≡◌, ◌∷◌, [], ◌++◌, List, Result, Err, map, refl, sym, subst}
+use Rattle.std.proofs.Common.{◌∷◌, [], ◌++◌, List, Result, map, refl, sym, subst}
 use Rattle.std.proofs.lemmas.List.{map-append}
 use Rattle.std.proofs.lemmas.Result.{err_from_is_err_and}
 use Rattle.fp_edit.specs.declared.edit.Edit.{Edit}

@@ -1,9 +1,8 @@
-use Rattle.std.proofs.Common.{◌≡◌, ◌++◌, ℕ, List, [], map, refl, ap, subst, ◌∙◌}
+use Rattle.std.proofs.Common.{◌++◌, ℕ, List, [], map, refl, ap, subst, ◌∙◌}
 use Rattle.std.proofs.lemmas.Result.{err_from_is_err_and}
 use Rattle.fp_session.specs.Progress.{At}
 use Rattle.fp_session.specs.Reply.{said}
 use Rattle.fp_session.specs.Run.{show_line}
-use Rattle.fp_session.specs.declared.replies.Replies.{Replies}
 use Rattle.fp_session.specs.declared.reply.Reply as code
 use Rattle.fp_session.proofs.ProgressLemmas.{at-broken, at-ended}
 use Rattle.fp_session.proofs.replies.Replies.end.Goals as goal
