@@ -39,7 +39,9 @@ module _ {D : Type 0} (old mid : SlotsState D) (same : SameCompaction old mid) (
       let d : mid.other.start + length (mid.text ++ OPEN ∷ framed old.journal.staged) < mid.other.stop = subst (λ (t : List ℕ). mid.other.start + length (t ++ OPEN ∷ framed old.journal.staged) < mid.other.stop) (sym same.5) b in
       subst (λ (t : List ℕ). mid.other.start + length (mid.text ++ OPEN ∷ framed t) < mid.other.stop) (sym body) d
 
+  pub text_on : (new : SlotsState D) → new.text ≡ mid.text ++ OPEN ∷ framed (body_of mid.coming) → new.text ≡ old.text ++ OPEN ∷ framed old.journal.staged
+  text_on new grown = grown ∙ ap (λ (x : List ℕ). x ++ OPEN ∷ framed (body_of mid.coming)) same.5 ∙ ap (λ (x : List ℕ). old.text ++ OPEN ∷ framed x) body
+
   pub plans_next : (new : SlotsState D) → new.text ≡ mid.text ++ OPEN ∷ framed (body_of mid.coming) → (size : ℕ) (s t : State) → IsPlannedFor old size s → LeadsTo old size s t → IsPlannedFor new size t
   plans_next new grown size s t planned leads =
-      let text : new.text ≡ old.text ++ OPEN ∷ framed old.journal.staged = grown ∙ ap (λ (x : List ℕ). x ++ OPEN ∷ framed (body_of mid.coming)) same.5 ∙ ap (λ (x : List ℕ). old.text ++ OPEN ∷ framed x) body in
-      subst (λ (x : List ℕ). Spells size x t) (sym text) (spells_on size old.text old.journal.staged s t planned leads.0 leads.1)
+      subst (λ (x : List ℕ). Spells size x t) (sym (text_on new grown)) (spells_on size old.text old.journal.staged s t planned leads.0 leads.1)

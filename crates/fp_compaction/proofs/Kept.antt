@@ -7,7 +7,7 @@ use Rattle.fp_edit.specs.Flags.{State}
 use Rattle.fp_journal.specs.Holds.{Holds, IsSynced}
 use Rattle.fp_journal.specs.Chain.{Ends, spell}
 use Rattle.fp_journal.specs.Moments.{KeepsFirm}
-use Rattle.fp_journal.specs.State.{HasAmong, Outside, has_begun}
+use Rattle.fp_journal.specs.State.{HasAmong, HasChain, Outside, has_begun}
 use Rattle.fp_journal.specs.declared.slot.Slot.{Slot}
 use Rattle.fp_journal.proofs.Gates.{text-more}
 use Rattle.fp_layout.specs.Layout.{IsHeader, IsActive}
@@ -15,10 +15,12 @@ use Rattle.fp_layout.specs.Size.{IsSlotSize, Side, first, second, other_side, sl
 use Rattle.fp_recovery.specs.Durable.{IsKept}
 use Rattle.fp_slots.specs.Rules.{Rules, Tells}
 use Rattle.fp_slots.specs.State.{SlotsState, Keeps, KeepsEither, KeepsOrNext, KeepsSealed, OutsideBoth, SameCompaction, SameSlots, sealed_text}
-use Rattle.fp_recovery.specs.Stands.{Spells, StandsFor, TakesBatch}
+use Rattle.fp_edit.specs.Edits.{Change}
+use Rattle.fp_journal.specs.Reading.{Reads}
+use Rattle.fp_recovery.specs.Stands.{Leads, Spells, StandsFor, TakesBatch}
 use Rattle.fp_recovery.proofs.Kept.{side_long}
 use Rattle.fp_recovery.proofs.Texts.{spells_on}
-use Rattle.fp_compaction.specs.Sets.{IsKeptOn, IsKeptIn, IsPlannedFor, IsTaken, LeavesSet}
+use Rattle.fp_compaction.specs.Sets.{IsKeptOn, IsKeptIn, IsPlaced, IsPlannedFor, IsTaken, LeavesSet}
 use Rattle.fp_compaction.specs.Batches.{LeadsTo}
 
 module _ {D : Type 0} (u : PendingState) (slots : SlotsState D) (size : ℕ) (side : Side) (s : State) (k : IsKeptOn u slots size side s) where
@@ -39,14 +41,14 @@ module _ {D : Type 0} (u : PendingState) (slots : SlotsState D) (size : ℕ) (si
   longer : (t : State) (body : List ℕ) → TakesBatch s body t → length body ≤ size / 8 - 6 → Spells size (slots.journal.front ++ spell (slots.journal.sealed ++ body ∷ [])) t
   longer t body takes short = subst (λ (x : List ℕ). Spells size x t) (sym (text-more slots.journal.front slots.journal.sealed body)) (spells_on size (sealed_text slots.journal) body s t k.sealed takes short)
 
-  pub keeps_stands : IsTaken slots.journal size s → (c : List ℕ) → Holds c 0 k.header → Keeps slots c → LeavesSet slots.journal s c
-  keeps_stands taken c h p = among (has_begun slots.journal.phase slots.journal.begun) p.1 taken
+  pub keeps_stands : (t : State) → IsTaken slots.journal size s t → (c : List ℕ) → Holds c 0 k.header → Keeps slots c → LeavesSet slots.journal s t c
+  keeps_stands t taken c h p = among (has_begun slots.journal.phase slots.journal.begun) p.1 taken
     where
-      among : (b : Bool) → HasAmong b slots.journal.slot slots.journal.front slots.journal.sealed slots.journal.staged c → (b ≡ true → (t : State) × TakesBatch s slots.journal.staged t × (length slots.journal.staged ≤ size / 8 - 6))
-          → StandsFor c s ⊎ ((b ≡ true) × ((t : State) × TakesBatch s slots.journal.staged t × StandsFor c t))
+      among : (b : Bool) → HasAmong b slots.journal.slot slots.journal.front slots.journal.sealed slots.journal.staged c → (b ≡ true → TakesBatch s slots.journal.staged t × (length slots.journal.staged ≤ size / 8 - 6))
+          → StandsFor c s ⊎ ((b ≡ true) × StandsFor c t)
       among false e taken = inl (mine_stands s (sealed_text slots.journal) c h k.sealed p.0 e)
       among true (inl e) taken = inl (mine_stands s (sealed_text slots.journal) c h k.sealed p.0 e)
-      among true (inr e) taken = let t = taken refl in inr (refl, (t.0, t.1, mine_stands t.0 (slots.journal.front ++ spell (slots.journal.sealed ++ slots.journal.staged ∷ [])) c h (longer t.0 slots.journal.staged t.1 t.2) p.0 e))
+      among true (inr e) taken = let leads = taken refl in inr (refl, mine_stands t (slots.journal.front ++ spell (slots.journal.sealed ++ slots.journal.staged ∷ [])) c h (longer t slots.journal.staged leads.0 leads.1) p.0 e)
 
   pub either_stands : IsPlannedFor slots size s → (c : List ℕ) → Holds c 0 k.header → KeepsEither slots c → StandsFor c s
   either_stands planned c h p = ⊎_elim
@@ -60,6 +62,10 @@ module _ {D : Type 0} (u : PendingState) (slots : SlotsState D) (size : ℕ) (si
   next_stands t leads c h p = ⊎_elim
       (λ e. inl (mine_stands s (sealed_text slots.journal) c h k.sealed p.0 e))
       (λ e. inr (mine_stands t (slots.journal.front ++ spell (slots.journal.sealed ++ slots.journal.staged ∷ [])) c h (longer t slots.journal.staged leads.0 leads.1) p.0 e)) p.1
+
+  -- and with the batch behind its open gate
+  pub opened_stands : (t : State) → LeadsTo slots size s t → (c : List ℕ) → Holds c 0 k.header → Rules slots.journal.slot.start slots.other.start c → HasChain slots.journal.slot slots.journal.front (slots.journal.sealed ++ slots.journal.staged ∷ []) c → StandsFor c t
+  opened_stands t leads c h rules chain = mine_stands t (slots.journal.front ++ spell (slots.journal.sealed ++ slots.journal.staged ∷ [])) c h (longer t slots.journal.staged leads.0 leads.1) rules chain
 
   -- the header lies in front of both slots
   in_front : (x : Side) (slot : Slot) → slot ≡ slot_of size x → Outside slot 0 (length k.header)
@@ -133,22 +139,48 @@ side_same n second first some is = let b = ap (λ (z : Slot). z.start) is in abs
 side_same n second second some is = refl
 
 -- what a journal in one slot keeps, both do
-pub kept_in : {D : Type 0} (u : PendingState) (slots : SlotsState D) (s : State) (c : List ℕ) (size : ℕ) → IsSlotSize size → IsActive c size slots.journal.slot slots.other → IsKept u s slots.journal → (n : ℕ) × IsKeptIn u slots n s
+pub kept_in : {D : Type 0} (u : PendingState) (slots : SlotsState D) (s : State) (c : List ℕ) (size : ℕ) → IsSlotSize size → IsActive c size slots.journal.slot slots.other → IsKept u s slots.journal → IsKeptIn u slots size s
 kept_in u slots s c size allowed a k =
     let both : slot_of k.size k.side ≡ slot_of size a.side = sym k.slot_is ∙ a.slot_is in let n : k.size ≡ size = size_same k.size size k.side a.side both in
     let least = allowed.least in
     let x : k.side ≡ a.side = side_same size k.side a.side (omega (arith, least)) (subst (λ (z : ℕ). slot_of z k.side ≡ slot_of size a.side) n both) in (
-      size,
-      (
-        a.side,
-        record {
-          header = k.header;
-          is_header = λ o h l. subst (λ (z : ℕ). IsHeader o z) n (k.is_header o h (subst (λ (z : ℕ). 65 + z ≤ length o) (sym n) l));
-          header_long = k.header_long;
-          firm = k.header_firm;
-          mine = a.slot_is;
-          its = a.other_is;
-          sealed = subst (λ (z : ℕ). Spells z (sealed_text slots.journal) s) n k.spells;
-        },
-      ),
+      a.side,
+      record {
+        header = k.header;
+        is_header = λ o h l. subst (λ (z : ℕ). IsHeader o z) n (k.is_header o h (subst (λ (z : ℕ). 65 + z ≤ length o) (sym n) l));
+        header_long = k.header_long;
+        firm = k.header_firm;
+        mine = a.slot_is;
+        its = a.other_is;
+        sealed = subst (λ (z : ℕ). Spells z (sealed_text slots.journal) s) n k.spells;
+      },
     )
+
+-- and under the size by which the slot was found elsewhere
+pub kept_in_of : {D : Type 0} (u : PendingState) (slots : SlotsState D) (s : State) (c : List ℕ) (size : ℕ) → IsSlotSize size → IsActive c size slots.journal.slot slots.other → IsKept u s slots.journal → (n : ℕ) → IsSlotSize n → (side : Side) → slots.journal.slot ≡ slot_of n side
+    → IsKeptIn u slots n s
+kept_in_of u slots s c size allowed a k n ok side is = subst (λ (z : ℕ). IsKeptIn u slots z s) (size_same size n a.side side (sym a.slot_is ∙ is)) (kept_in u slots s c size allowed a k)
+
+-- ---- the limit of a set
+limit_led : (s t : State) (cs : List Change) → Leads s cs t → t.limit ≡ s.limit
+limit_led s t [] led = ap (λ (x : State). x.limit) led
+limit_led s t (c ∷ cs) led = limit_led led.0 t cs led.2 ∙ ap (λ (x : State). x.limit) led.1.1
+
+limit_read : (s t : State) (bodies : List (List ℕ)) → Reads TakesBatch s bodies t → t.limit ≡ s.limit
+limit_read s t [] r = ap (λ (x : State). x.limit) (sym r)
+limit_read s t (b ∷ bs) r = limit_read r.0 t bs r.2 ∙ limit_led s r.0 r.1.group.changes r.1.leads
+
+-- is half of its slot
+pub limit_half : (size : ℕ) (text : List ℕ) (s : State) → Spells size text s → s.limit ≡ size / 2
+limit_half size text s p = limit_read p.first s p.batches p.leads ∙ p.image_is.limit_is
+
+-- what was read of bytes is of slots of the size that their header says
+pub placed : {D : Type 0} (u : PendingState) (slots : SlotsState D) (c : List ℕ) (s : State) (size : ℕ) → IsSlotSize size → (a : IsActive c size slots.journal.slot slots.other) → (k : IsKept u s slots.journal) → IsPlaced size slots s.limit
+placed u slots c s size allowed a k =
+    let n : k.size ≡ size = size_same k.size size k.side a.side (sym k.slot_is ∙ a.slot_is) in record {
+      allowed = allowed;
+      side = a.side;
+      mine = a.slot_is;
+      its = a.other_is;
+      half = subst (λ (z : ℕ). s.limit ≡ z / 2) n (limit_half k.size (slots.journal.front ++ spell slots.journal.sealed) s k.spells);
+    }

@@ -1,18 +1,22 @@
 -- Steps by the step that is next.
-use Rattle.std.proofs.Common.{◌≡◌, ℕ, List, ◌++◌, sym, ◌∙◌, ap, subst}
+use Rattle.std.proofs.Common.{◌≡◌, ℕ, List, [], ◌∷◌, ◌++◌, inl, sym, ◌∙◌, ap, subst}
 use Rattle.std.proofs.lemmas.List.{append-nil}
 use Rattle.fp_disk.specs.Moments.{leaves_still}
 use Rattle.fp_disk.specs.Outcomes.{IsOutcome, LeavesOnly}
 use Rattle.fp_disk.specs.declared.disk.Disk.{Ghosts}
-use Rattle.fp_journal.specs.Holds.{IsSynced}
-use Rattle.fp_journal.specs.State.{JournalState}
+use Rattle.fp_journal.specs.Holds.{Holds, IsSynced}
+use Rattle.fp_journal.specs.State.{HasChain, JournalState}
+use Rattle.fp_journal.specs.declared.journal.Phase.TheVariants.{GateOpened}
 use Rattle.fp_journal.proofs.Holds.{firm_outcome}
-use Rattle.fp_recovery.specs.Stands.{Spells}
-use Rattle.fp_slots.specs.State.{Keeps, Leaves, sealed_text}
-use Rattle.fp_slots.specs.declared.slots.Step.TheVariants.{Begin}
-use Rattle.fp_compaction.specs.Sets.{LeavesSet}
-use Rattle.fp_compaction.specs.Steps.{TakesStep}
-use Rattle.fp_compaction.proofs.Kept.{keeps_stands}
+use Rattle.fp_edit.specs.Flags.{State}
+use Rattle.fp_recovery.specs.Stands.{Spells, StandsFor}
+use Rattle.fp_slots.specs.Rules.{Rules}
+use Rattle.fp_slots.specs.State.{IsEarly, Keeps, Leaves, sealed_text}
+use Rattle.fp_slots.specs.declared.slots.Step.TheVariants.{Begin, Close, SyncClose, Part, Tail, SyncBody, Open, SyncOpen}
+use Rattle.fp_compaction.specs.Sets.{IsKeptIn, IsPlannedFor, IsTaken, LeavesSet}
+use Rattle.fp_compaction.specs.Batches.{LeadsTo}
+use Rattle.fp_compaction.specs.Steps.{LeavesNow, ReadsNext, TakesStep}
+use Rattle.fp_compaction.proofs.Kept.{either_stands, keeps_stands, opened_stands}
 use Rattle.fp_disk.specs.declared.history.CallKind.{CallKind}
 use Rattle.fp_slots.specs.State.{SlotsState}
 use Rattle.fp_slots.specs.declared.slots.Step.{Step}
@@ -30,9 +34,9 @@ pub still_step : {D : Type 0} (disk : Ghosts D) (old new : SlotsState D) → ((d
     → old.step ≡ Begin → new.journal ≡ old.journal → new.other ≡ old.other → (disk.honest old.journal.disk → (c : List ℕ) → IsOutcome (disk.unsynced old.journal.disk) c → Keeps old c) → TakesStep disk old new
 still_step {D} disk old new only_now is journal other now =
     let same : new.journal.disk ≡ old.journal.disk = ap (λ (j : JournalState D). j.disk) journal in record {
-      stands = λ h size s k taken late. subst (λ (d : D). LeavesOnly disk.moment disk.crash_states_since old.journal.disk d (LeavesSet old.journal s)) (sym same)
-          (leaves_still disk.moment disk.crash_states_since old.journal.disk (LeavesSet old.journal s) (λ c left. let o = only_now old.journal.disk c h left in
-          keeps_stands (disk.unsynced old.journal.disk) old size k.0 s k.1 taken c (firm_outcome (disk.unsynced old.journal.disk) 0 k.1.header c k.1.firm o) (now h c o)));
+      stands = λ h size s t k taken late. subst (λ (d : D). LeavesOnly disk.moment disk.crash_states_since old.journal.disk d (LeavesSet old.journal s t)) (sym same)
+          (leaves_still disk.moment disk.crash_states_since old.journal.disk (LeavesSet old.journal s t) (λ c left. let o = only_now old.journal.disk c h left in
+          keeps_stands (disk.unsynced old.journal.disk) old size k.0 s k.1 t taken c (firm_outcome (disk.unsynced old.journal.disk) 0 k.1.header c k.1.firm o) (now h c o)));
       kept = λ h size s k late. (
         k.0,
         record {
@@ -52,3 +56,43 @@ still_step {D} disk old new only_now is journal other now =
 -- where none runs, the slot that rules keeps what its journal claims
 pub begins_now : {D : Type 0} (slots : SlotsState D) (p : Step) → p ≡ Begin → (c : List ℕ) → Leaves p slots c → Keeps slots c
 begins_now slots p is c left = subst (λ (q : Step). Leaves q slots c) is left
+
+-- ---- what a crash leaves now, and what a read gives, by the step that is next
+module _ {D : Type 0} (disk : Ghosts D) (slots : SlotsState D) where
+  left_at : (p : Step) (size : ℕ) (s t : State) → (k : IsKeptIn (disk.unsynced slots.journal.disk) slots size s) → IsTaken slots.journal size s t → (IsLate p → IsPlannedFor slots size s) → (c : List ℕ) → IsOutcome (disk.unsynced slots.journal.disk) c
+      → Leaves p slots c → LeavesSet slots.journal s t c
+  left_at p size s t k taken late c out = at p late
+    where
+      head : Holds c 0 k.1.header
+      head = firm_outcome (disk.unsynced slots.journal.disk) 0 k.1.header c k.1.firm out
+      keeps : Keeps slots c → LeavesSet slots.journal s t c
+      keeps left = keeps_stands (disk.unsynced slots.journal.disk) slots size k.0 s k.1 t taken c head left
+      at : (q : Step) → (IsLate q → IsPlannedFor slots size s) → Leaves q slots c → LeavesSet slots.journal s t c
+      at Begin late left = keeps left
+      at Close late left = keeps left
+      at SyncClose late left = keeps left
+      at Part late left = keeps left
+      at Tail late left = keeps left
+      at SyncBody late left = keeps left
+      at Open late left = inl (either_stands (disk.unsynced slots.journal.disk) slots size k.0 s k.1 (late tt) c head left)
+      at SyncOpen late left = inl (either_stands (disk.unsynced slots.journal.disk) slots size k.0 s k.1 (late tt) c head left)
+
+  pub leaves_now : (p : Step) → p ≡ slots.step → (disk.honest slots.journal.disk → (c : List ℕ) → IsOutcome (disk.unsynced slots.journal.disk) c → Leaves p slots c) → LeavesNow disk slots
+  leaves_now p is now = λ h size s t k taken late c out. left_at p size s t k taken (λ l. late (is_late slots.step p (sym is) l)) c out (now h c out)
+
+  rules_at : (p : Step) → IsEarly p → (c : List ℕ) → Leaves p slots c → Rules slots.journal.slot.start slots.other.start c
+  rules_at Begin early c left = left.0
+  rules_at Close early c left = left.0
+  rules_at SyncClose early c left = left.0
+  rules_at Part early c left = left.0
+  rules_at Tail early c left = left.0
+  rules_at SyncBody early c left = absurd early
+  rules_at Open early c left = absurd early
+  rules_at SyncOpen early c left = absurd early
+
+  pub reads_next : ((d : D) → disk.honest d → IsOutcome (disk.unsynced d) (disk.bytes d)) → (p : Step) → p ≡ slots.step → (disk.honest slots.journal.disk → (c : List ℕ) → IsOutcome (disk.unsynced slots.journal.disk) c → Leaves p slots c)
+      → (disk.honest slots.journal.disk → slots.journal.phase ≡ GateOpened → HasChain slots.journal.slot slots.journal.front (slots.journal.sealed ++ slots.journal.staged ∷ []) (disk.bytes slots.journal.disk)) → IsEarly slots.step → ReadsNext disk slots
+  reads_next present p is now reads early = λ h opened size s t k leads.
+      let c : List ℕ = disk.bytes slots.journal.disk in let out = present slots.journal.disk h in
+      opened_stands (disk.unsynced slots.journal.disk) slots size k.0 s k.1 t leads c (firm_outcome (disk.unsynced slots.journal.disk) 0 k.1.header c k.1.firm out)
+          (rules_at p (subst (λ (q : Step). IsEarly q) (sym is) early) c (now h c out)) (reads h opened)

@@ -6,7 +6,7 @@ use Rattle.fp_edit.specs.Flags.{State}
 use Rattle.fp_journal.specs.Holds.{Holds, IsSynced}
 use Rattle.fp_journal.specs.State.{JournalState, has_begun}
 use Rattle.fp_layout.specs.Layout.{IsHeader}
-use Rattle.fp_layout.specs.Size.{Side, other_side, slot_of}
+use Rattle.fp_layout.specs.Size.{IsSlotSize, Side, other_side, slot_of}
 use Rattle.fp_recovery.specs.Stands.{Spells, StandsFor, TakesBatch}
 use Rattle.fp_slots.specs.State.{SlotsState, sealed_text}
 
@@ -30,29 +30,36 @@ IsKeptIn u slots size s = (side : Side) × IsKeptOn u slots size side s
 abbrev pub IsPlannedFor : {D : Type 0} → SlotsState D → ℕ → State → Type 0
 IsPlannedFor slots size s = Spells size slots.text s
 
+-- the slots are the two of a disk whose slots have this size, and half of one is what a set's image may take
+pub record IsPlaced {D : Type 0} (size : ℕ) (slots : SlotsState D) (limit : ℕ) : Type 0 where
+  pub allowed : IsSlotSize size
+  pub side : Side
+  pub mine : slots.journal.slot ≡ slot_of size side
+  pub its : slots.other ≡ slot_of size (other_side side)
+  pub half : limit ≡ size / 2
+
 -- ---- a batch on its way
 -- did a call begin to open its gate
 abbrev pub HasBegun : {D : Type 0} → JournalState D → Type 0
 HasBegun j = has_begun j.phase j.begun ≡ true
 
--- then it is one that the set takes
-abbrev pub IsTaken : {D : Type 0} → JournalState D → ℕ → State → Type 0
-IsTaken j size s =
-    HasBegun j → (t : State) × TakesBatch s j.staged t × (length j.staged ≤ size / 8 - 6)
+-- then it leads from this set to that one
+abbrev pub IsTaken : {D : Type 0} → JournalState D → ℕ → State → State → Type 0
+IsTaken j size s t =
+    HasBegun j → TakesBatch s j.staged t × (length j.staged ≤ size / 8 - 6)
 
 -- what a crash leaves: the set, and once a call began to open the gate of the batch on its way perhaps
 -- what that makes of it
-abbrev pub LeavesSet : {D : Type 0} → JournalState D → State → List ℕ → Type 0
-LeavesSet j s c =
-    StandsFor c s ⊎ (HasBegun j × ((t : State) × TakesBatch s j.staged t × StandsFor c t))
+abbrev pub LeavesSet : {D : Type 0} → JournalState D → State → State → List ℕ → Type 0
+LeavesSet j s t c = StandsFor c s ⊎ (HasBegun j × StandsFor c t)
 
 -- ---- what a call leaves
 -- at each moment of a call beside which a batch may be on its way
 abbrev pub LeavesOld : {D : Type 0} → Ghosts D → SlotsState D → SlotsState D → Type 0
-LeavesOld disk old new = disk.honest old.journal.disk → (size : ℕ) (s : State)
-    → IsKeptIn (disk.unsynced old.journal.disk) old size s → IsTaken old.journal size s
+LeavesOld disk old new = disk.honest old.journal.disk → (size : ℕ) (s t : State)
+    → IsKeptIn (disk.unsynced old.journal.disk) old size s → IsTaken old.journal size s t
     → LeavesOnly disk.moment disk.crash_states_since old.journal.disk new.journal.disk
-    (LeavesSet old.journal s)
+    (LeavesSet old.journal s t)
 
 -- at each moment of one at which either slot may rule: both stand for one set
 abbrev pub LeavesEither : {D : Type 0} → Ghosts D → SlotsState D → SlotsState D → Type 0

@@ -1,16 +1,20 @@
 -- A compaction step by step: which follows which, what each calls, leaves and keeps.
-use Rattle.std.specs.Prelude.{◌≡◌, ◌<◌, ◌≤◌, ◌+◌, ◌^◌, ℕ, Bool, List, [], ◌∷◌, ◌++◌, if◌then◌else◌, nat_lt}
+use Rattle.std.specs.Prelude.{◌≡◌, ◌<◌, ◌≤◌, ◌+◌, ◌-◌, ◌^◌, ℕ, Bool, false, List, [], ◌∷◌, ◌++◌, if◌then◌else◌, length, nat_lt}
 use Rattle.fp_disk.specs.Crashes.{SameHonesty}
-use Rattle.fp_disk.specs.Outcomes.{LeavesOnly}
+use Rattle.fp_disk.specs.Outcomes.{IsOutcome, LeavesOnly}
 use Rattle.fp_disk.specs.declared.disk.Disk.{Ghosts}
 use Rattle.fp_disk.specs.declared.history.CallKind.{CallKind}
 use Rattle.fp_disk.specs.declared.history.CallKind.TheVariants.{Sync, Write}
 use Rattle.fp_edit.specs.Flags.{State}
-use Rattle.fp_journal.specs.State.{IsOnWay}
-use Rattle.fp_slots.specs.State.{SlotsState}
+use Rattle.fp_journal.specs.Chain.{with_gate}
+use Rattle.fp_journal.specs.State.{IsOnWay, room}
+use Rattle.fp_journal.specs.declared.journal.Phase.TheVariants.{Idle, GateOpened, Failed}
+use Rattle.fp_recovery.specs.Stands.{StandsFor}
+use Rattle.fp_slots.specs.State.{SlotsState, SameSlots}
 use Rattle.fp_slots.specs.declared.places.TheConstants.{IMAGE_PLACE, PART}
 use Rattle.fp_slots.specs.declared.slots.Step.{Step}
 use Rattle.fp_slots.specs.declared.slots.Step.TheVariants.{Begin, Close, SyncClose, Part, Tail, SyncBody, Open, SyncOpen}
+use Rattle.fp_compaction.specs.Batches.{LeadsTo}
 use Rattle.fp_compaction.specs.Sets.{IsKeptIn, IsPlannedFor, IsTaken, LeavesSet}
 
 -- the step behind this one, while so many bytes of head and image are left
@@ -60,11 +64,11 @@ pub record HasPlace {D : Type 0} (slots : SlotsState D) (s : State) : Type 0 whe
 -- What a step leaves at each moment: the kept set, or what a batch makes of it whose gate was begun.
 -- It asks that the other slot is to hold the kept set from where it may rule
 abbrev pub LeavesStep : {D : Type 0} → Ghosts D → SlotsState D → SlotsState D → Type 0
-LeavesStep disk old new = disk.honest old.journal.disk → (size : ℕ) (s : State)
-    → IsKeptIn (disk.unsynced old.journal.disk) old size s → IsTaken old.journal size s
+LeavesStep disk old new = disk.honest old.journal.disk → (size : ℕ) (s t : State)
+    → IsKeptIn (disk.unsynced old.journal.disk) old size s → IsTaken old.journal size s t
     → (IsLate old.step → IsPlannedFor old size s)
     → LeavesOnly disk.moment disk.crash_states_since old.journal.disk new.journal.disk
-    (LeavesSet old.journal s)
+    (LeavesSet old.journal s t)
 
 -- and what was kept is kept, in the one slot or the other
 abbrev pub KeepsStep : {D : Type 0} → Ghosts D → SlotsState D → SlotsState D → Type 0
@@ -80,3 +84,46 @@ pub record TakesStep {D : Type 0} (disk : Ghosts D) (old new : SlotsState D) : T
   pub honest : SameHonesty disk old.journal.disk new.journal.disk
   pub called : disk.calls new.journal.disk
       ≡ disk.calls old.journal.disk ++ calls_of old.step old.may_open
+
+-- ---- what becomes of the slots
+-- nothing but the step and what is left of the image
+pub record Stays {D : Type 0} (old new : SlotsState D) : Type 0 where
+  pub slots : SameSlots old new
+  pub phase : new.journal.phase ≡ old.journal.phase
+
+-- the other slot is to hold head and image, and a batch on its way is kept ready to go behind them
+pub record Begins {D : Type 0} (image limit : ℕ) (old new : SlotsState D) : Type 0 where
+  pub journal : new.journal ≡ old.journal
+  pub other : new.other ≡ old.other
+  pub head : new.head ≡ IMAGE_PLACE + image
+  pub short : image ≤ limit
+  pub text : length new.text ≡ new.head
+  pub ready : IsOnWay old.journal.phase → new.coming ≡ with_gate old.journal.staged
+
+-- the slots are turned, and all room behind the text that the other one was to hold is there
+pub record Turns {D : Type 0} (old new : SlotsState D) : Type 0 where
+  pub mine : new.journal.slot ≡ old.other
+  pub its : new.other ≡ old.journal.slot
+  pub still : old.journal.phase ≡ Idle
+  pub phase : new.journal.phase ≡ Idle
+  pub begun : new.journal.begun ≡ false
+  pub room : room new.journal ≡ old.other.stop - (old.other.start + length old.text)
+
+-- the device failed: nothing else is other than before
+pub record BreaksOff {D : Type 0} (faults : D → ℕ) (old new : SlotsState D) : Type 0 where
+  pub slots : SameSlots old new
+  pub failed : new.journal.phase ≡ Failed
+  pub cause : faults old.journal.disk < faults new.journal.disk
+
+-- ---- what a crash leaves now, and what a read gives
+abbrev pub LeavesNow : {D : Type 0} → Ghosts D → SlotsState D → Type 0
+LeavesNow disk slots = disk.honest slots.journal.disk → (size : ℕ) (s t : State)
+    → IsKeptIn (disk.unsynced slots.journal.disk) slots size s → IsTaken slots.journal size s t
+    → (IsLate slots.step → IsPlannedFor slots size s)
+    → (c : List ℕ) → IsOutcome (disk.unsynced slots.journal.disk) c → LeavesSet slots.journal s t c
+
+-- once the gate of the batch on its way is open, what that makes of the set
+abbrev pub ReadsNext : {D : Type 0} → Ghosts D → SlotsState D → Type 0
+ReadsNext disk slots = disk.honest slots.journal.disk → slots.journal.phase ≡ GateOpened
+    → (size : ℕ) (s t : State) → IsKeptIn (disk.unsynced slots.journal.disk) slots size s
+    → LeadsTo slots size s t → StandsFor (disk.bytes slots.journal.disk) t

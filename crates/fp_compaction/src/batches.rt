@@ -3,18 +3,19 @@
 ghost use Rattle.fp_disk.specs.Crashes.{SameHonesty};
 ghost use Rattle.fp_disk.specs.Outcomes.{Answers};
 ghost use Rattle.fp_disk.specs.declared.history.CallKind.TheVariants.{Sync, Write};
-ghost use Rattle.std.specs.Prelude.{◌≡◌, ◌≢◌, ◌≤◌, ◌+◌, ◌↔◌, [], ◌∷◌, ◌++◌, IsTrue, length, IfOk, OnOk, OnErr};
+ghost use Rattle.std.specs.Prelude.{◌≡◌, ◌≢◌, [], ◌∷◌, ◌++◌, true, false, length, IfOk, OnOk, OnErr};
 ghost use Rattle.fp_journal.specs.Chain.{body_of, framed as framed_text, with_gate};
 ghost use Rattle.fp_gate.specs.declared.gate.TheConstants.{OPEN};
-ghost use Rattle.fp_journal.specs.State.{IsOnWay};
+ghost use Rattle.fp_journal.specs.State.{has_begun};
 ghost use Rattle.fp_journal.specs.declared.journal.Phase.TheVariants.{Idle, Staged, BodySynced, GateOpened, Failed};
 ghost use Rattle.fp_slots.specs.State.{HasBegun, IsEarly, IsGrowing, SameCompaction, SamePlan};
 ghost use Rattle.fp_compaction.specs.Sets.{GoesOnKept};
+ghost use Rattle.fp_compaction.specs.Steps.{LeavesNow, ReadsNext};
 ghost use Rattle.fp_compaction.specs.Batches.{FitsBeside, HasRoomFor, IsReadyFor, KeepsNext, LeavesNext, LeavesSealed, PlansNext};
 
 use crate::room::is_growing;
 use fp_disk::{Disk, DiskFault};
-use fp_journal::{Framed, Sealed};
+use fp_journal::{Framed, Phase, Sealed};
 use fp_slots::Slots;
 use std::alloc::AllocError;
 
@@ -23,25 +24,12 @@ pub fn make_ready<D: Disk>(slots: &mut Slots<D>, framed: &Framed) -> Result<(), 
     requires live { slots.old.journal.phase ≢ Failed }
     ensures same { SamePlan slots.old slots.new }
     ensures ready { OnOk result (IsReadyFor slots.new framed.now) }
+    ensures err { OnErr result (slots.new ≡ slots.old) }
 {
     if !is_growing(slots.step()) {
         return Ok(());
     }
     slots.plan_body(framed)?;
-    Ok(())
-}
-
-/// Keeps the body on its way ready so, where a compaction has begun beside it.
-pub fn make_ready_on_way<D: Disk>(slots: &mut Slots<D>) -> Result<(), AllocError>
-    requires on_way { IsOnWay slots.old.journal.phase }
-    requires live { slots.old.journal.phase ≢ Failed }
-    ensures same { SamePlan slots.old slots.new }
-    ensures ready { OnOk result (IsReadyFor slots.new slots.old.journal.staged) }
-{
-    if !is_growing(slots.step()) {
-        return Ok(());
-    }
-    slots.plan_body_on_way()?;
     Ok(())
 }
 
@@ -56,6 +44,7 @@ pub fn stage<D: Disk>(slots: &mut Slots<D>, framed: Framed) -> Result<(), DiskFa
         × (slots.new.journal.staged ≡ framed) }
     ensures phase { OnOk result (slots.new.journal.phase ≡ Staged)
         × OnErr result (slots.new.journal.phase ≡ Failed) }
+    ensures begun { slots.new.journal.begun ≡ false }
     ensures honest { SameHonesty D.Disk slots.old.journal.disk slots.new.journal.disk }
     ensures called { D.calls slots.new.journal.disk
         ≡ D.calls slots.old.journal.disk ++ Write ∷ [] }
@@ -75,6 +64,7 @@ pub fn sync_body<D: Disk>(slots: &mut Slots<D>) -> Result<(), DiskFault>
         × (slots.new.journal.staged ≡ slots.old.journal.staged) }
     ensures phase { OnOk result (slots.new.journal.phase ≡ BodySynced)
         × OnErr result (slots.new.journal.phase ≡ Failed) }
+    ensures begun { slots.new.journal.begun ≡ false }
     ensures honest { SameHonesty D.Disk slots.old.journal.disk slots.new.journal.disk }
     ensures called { D.calls slots.new.journal.disk
         ≡ D.calls slots.old.journal.disk ++ Sync ∷ [] }
@@ -94,6 +84,7 @@ pub fn open_gate<D: Disk>(slots: &mut Slots<D>) -> Result<(), DiskFault>
         × (slots.new.journal.staged ≡ slots.old.journal.staged) }
     ensures phase { OnOk result (slots.new.journal.phase ≡ GateOpened)
         × OnErr result (slots.new.journal.phase ≡ Failed) }
+    ensures begun { slots.new.journal.begun ≡ true }
     ensures honest { SameHonesty D.Disk slots.old.journal.disk slots.new.journal.disk }
     ensures called { D.calls slots.new.journal.disk
         ≡ D.calls slots.old.journal.disk ++ Write ∷ [] }
@@ -109,6 +100,7 @@ fn grow<D: Disk>(slots: &mut Slots<D>)
     requires fits { FitsBeside slots.old (body_of slots.old.coming) }
     ensures grown { IsGrowing slots.old.step →
         slots.new.text ≡ slots.old.text ++ OPEN ∷ framed_text (body_of slots.old.coming) }
+    ensures still { (IsGrowing slots.old.step → ⊥) → slots.new.text ≡ slots.old.text }
     ensures journal { (slots.new.journal ≡ slots.old.journal)
         × (slots.new.other ≡ slots.old.other) × (slots.new.generation ≡ slots.old.generation)
         × (slots.new.may_open ≡ slots.old.may_open) × (slots.new.step ≡ slots.old.step)
@@ -130,10 +122,15 @@ pub fn sync_gate<D: Disk>(slots: &mut Slots<D>) -> Result<Sealed, DiskFault>
         ≡ slots.old.journal.sealed ++ slots.old.journal.staged ∷ [])) }
     ensures next { OnOk result (KeepsNext D.Disk slots.old slots.new) }
     ensures planned { OnOk result (PlansNext slots.old slots.new) }
+    ensures grown { OnOk result (IsGrowing slots.old.step → slots.new.text
+        ≡ slots.old.text ++ OPEN ∷ framed_text slots.old.journal.staged) }
+    ensures still { OnOk result ((IsGrowing slots.old.step → ⊥)
+        → slots.new.text ≡ slots.old.text) }
     ensures token { IfOk result (λ t. (t.name ≡ slots.new.journal.name)
         × (t.bodies ≡ slots.new.journal.sealed)) }
+    ensures shut { OnOk result (slots.new.journal.begun ≡ false) }
     ensures broken { OnErr result ((slots.new.journal.phase ≡ Failed)
-        × GoesOnKept D.Disk slots.old slots.new × SameCompaction slots.old slots.new) }
+        × (slots.new.journal.begun ≡ true) × GoesOnKept D.Disk slots.old slots.new × SameCompaction slots.old slots.new) }
     ensures beside { (slots.new.other ≡ slots.old.other)
         × (slots.new.generation ≡ slots.old.generation) × (slots.new.step ≡ slots.old.step)
         × (slots.new.head ≡ slots.old.head) × (slots.new.left ≡ slots.old.left) }
@@ -145,4 +142,16 @@ pub fn sync_gate<D: Disk>(slots: &mut Slots<D>) -> Result<Sealed, DiskFault>
     let sealed = slots.sync_gate()?;
     grow(slots);
     Ok(sealed)
+}
+
+/// How far the batch on its way is, which says what a crash would leave now, and what a read gives.
+pub fn phase<D: Disk>(slots: &Slots<D>) -> Phase
+    ensures phase { result ≡ slots.now.journal.phase }
+    ensures begun { has_begun slots.now.journal.phase slots.now.journal.begun
+        ≡ slots.now.journal.begun }
+    ensures outcomes { LeavesNow D.Disk slots.now }
+    ensures reads { IsEarly slots.now.step → ReadsNext D.Disk slots.now }
+{
+    let _ = slots.step();
+    slots.journal().phase()
 }

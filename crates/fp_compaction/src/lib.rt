@@ -8,7 +8,7 @@ mod opening;
 mod room;
 mod steps;
 
-pub use batches::{make_ready, make_ready_on_way, open_gate, stage, sync_body, sync_gate};
+pub use batches::{make_ready, open_gate, phase, stage, sync_body, sync_gate};
 pub use image::image_of;
 pub use machine::{StepFault, may_step, take_step};
 pub use opening::open;

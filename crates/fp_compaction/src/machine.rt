@@ -1,10 +1,11 @@
 //! A compaction's next step, whichever it is.
 
-ghost use Rattle.std.specs.Prelude.{◌≡◌, ◌≢◌, ◌<◌, ◌/◌, ◌↔◌, ℕ, IsTrue, IfErr, OnOk, OnErr};
+ghost use Rattle.std.specs.Prelude.{◌≡◌, ◌≢◌, ◌/◌, ◌↔◌, ℕ, IsTrue, IfErr, OnOk, OnErr};
 ghost use Rattle.fp_journal.specs.declared.journal.Phase.TheVariants.{Failed};
-ghost use Rattle.fp_slots.specs.declared.slots.Step.TheVariants.{Begin};
+ghost use Rattle.fp_edit.specs.Flags.{size as size_of};
+ghost use Rattle.fp_slots.specs.declared.slots.Step.TheVariants.{Begin, SyncOpen};
 ghost use Rattle.fp_compaction.specs.Sets.{IsPlannedFor};
-ghost use Rattle.fp_compaction.specs.Steps.{HasPlace, MayStep, TakesStep, next_step};
+ghost use Rattle.fp_compaction.specs.Steps.{Begins, BreaksOff, HasPlace, MayStep, Stays, TakesStep, Turns, next_step};
 ghost use Rattle.fp_compaction.specs.declared.machine.StepFault.TheVariants.{Device, Memory};
 
 use crate::steps::{begin, chunk, close, copy_tail, finish, open_other, seal, sync_close};
@@ -64,9 +65,16 @@ pub fn take_step<D: Disk>(
         × OnErr result (slots.new.step ≡ slots.old.step) }
     ensures planned { OnOk result (slots.old.step ≡ Begin → (size : ℕ)
         → set.now.limit ≡ size / 2 → IsPlannedFor slots.new size set.now) }
-    ensures device { IfErr result (λ e. e ≡ Device →
-        D.faults slots.old.journal.disk < D.faults slots.new.journal.disk) }
-    ensures memory { IfErr result (λ e. e ≡ Memory → slots.old.step ≡ Begin) }
+    ensures begun { OnOk result (slots.old.step ≡ Begin →
+        Begins (size_of set.now.flags) set.now.limit slots.old slots.new) }
+    ensures stays { OnOk result (slots.old.step ≢ Begin → slots.old.step ≢ SyncOpen →
+        Stays slots.old slots.new) }
+    ensures turned { OnOk result (slots.old.step ≡ SyncOpen → Turns slots.old slots.new) }
+    ensures no_failure { OnOk result
+        (D.faults slots.new.journal.disk ≡ D.faults slots.old.journal.disk) }
+    ensures device { IfErr result (λ e. e ≡ Device → BreaksOff D.faults slots.old slots.new) }
+    ensures memory { IfErr result (λ e. e ≡ Memory →
+        (slots.old.step ≡ Begin) × (slots.new ≡ slots.old)) }
 {
     match slots.step() {
         Step::Begin => {

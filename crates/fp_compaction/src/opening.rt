@@ -10,7 +10,7 @@ ghost use Rattle.fp_layout.specs.declared.fault.OpenFault.TheVariants.{Device};
 ghost use Rattle.fp_recovery.specs.Refusals.{RefusesBytes};
 ghost use Rattle.fp_recovery.specs.Stands.{StandsFor};
 ghost use Rattle.fp_slots.specs.declared.slots.Step.TheVariants.{Begin};
-ghost use Rattle.fp_compaction.specs.Sets.{IsKeptIn};
+ghost use Rattle.fp_compaction.specs.Sets.{IsKeptIn, IsPlaced};
 
 use fp_disk::Disk;
 use fp_edit::FlagSet;
@@ -23,8 +23,8 @@ use std::alloc::Global;
 /// nothing.
 pub fn open<D: Disk>(alloc: Global, disk: D) -> Result<(Slots<D>, FlagSet), (OpenFault, D)>
     ensures stands { D.honest disk → IfOk result (λ r. StandsFor (D.bytes disk) r.1) }
-    ensures kept { D.honest disk → IfOk result (λ r. (size : ℕ)
-        × IsKeptIn (D.unsynced r.0.journal.disk) r.0 size r.1) }
+    ensures kept { IfOk result (λ r. (size : ℕ) × IsPlaced size r.0 r.1.limit
+        × (D.honest disk → IsKeptIn (D.unsynced r.0.journal.disk) r.0 size r.1)) }
     ensures rest { IfOk result (λ r. (r.0.step ≡ Begin) × (r.0.journal.phase ≡ Idle)) }
     ensures fault { D.honest disk → IfErr result (λ e. RefusesBytes (D.bytes disk) e.0) }
     ensures all_synced { D.honest disk →

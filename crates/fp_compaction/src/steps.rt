@@ -11,7 +11,7 @@ ghost use Rattle.fp_slots.specs.State.{SameSlots};
 ghost use Rattle.fp_slots.specs.declared.places.TheConstants.{IMAGE_PLACE, PART};
 ghost use Rattle.fp_slots.specs.declared.slots.Step.TheVariants.{Begin, Close, SyncClose, Part, Tail, SyncBody, Open, SyncOpen};
 ghost use Rattle.fp_edit.specs.Flags.{size as size_of};
-ghost use Rattle.fp_compaction.specs.Steps.{TakesStep};
+ghost use Rattle.fp_compaction.specs.Steps.{Begins, TakesStep, Turns};
 ghost use Rattle.fp_compaction.specs.Sets.{GoesOnKept, IsKeptIn, IsPlannedFor, LeavesEither, LeavesOld};
 
 use crate::image::image_of;
@@ -20,7 +20,8 @@ use fp_edit::FlagSet;
 use fp_slots::Slots;
 use std::alloc::{AllocError, Global};
 
-/// Begins a compaction of this set. It makes no call of the disk; where memory runs out all stays as it was.
+/// Begins a compaction of this set. A batch on its way is kept ready to go behind the image. It makes no call of the disk; where memory
+/// runs out all stays as it was.
 pub fn begin<D: Disk>(alloc: Global, slots: &mut Slots<D>, set: &FlagSet) -> Result<(), AllocError>
     requires step { slots.old.step ≡ Begin }
     requires live { slots.old.journal.phase ≢ Failed }
@@ -31,8 +32,9 @@ pub fn begin<D: Disk>(alloc: Global, slots: &mut Slots<D>, set: &FlagSet) -> Res
     ensures step { OnOk result (slots.new.step ≡ Close) × OnErr result (slots.new.step ≡ Begin) }
     ensures planned { OnOk result ((size : ℕ) → set.now.limit ≡ size / 2
         → IsPlannedFor slots.new size set.now) }
-    ensures head { OnOk result ((slots.new.head ≡ IMAGE_PLACE + size_of set.now.flags)
-        × (slots.new.left + 1 ≡ slots.new.head) × (slots.new.coming ≡ [])) }
+    ensures begun { OnOk result (Begins (size_of set.now.flags) set.now.limit slots.old slots.new) }
+    ensures left { OnOk result (slots.new.left + 1 ≡ slots.new.head) }
+    ensures err { OnErr result (slots.new ≡ slots.old) }
     ensures same { (slots.new.journal ≡ slots.old.journal) × (slots.new.other ≡ slots.old.other)
         × (slots.new.generation ≡ slots.old.generation)
         × (slots.new.may_open ≡ slots.old.may_open) }
@@ -180,11 +182,14 @@ pub fn finish<D: Disk>(slots: &mut Slots<D>) -> Result<(), DiskFault>
         × (slots.new.journal.phase ≡ Failed)) }
     ensures step { OnOk result (slots.new.step ≡ Begin) }
     ensures generation { OnOk result (slots.new.generation ≡ slots.old.generation + 1) }
+    ensures turns { OnOk result (Turns slots.old slots.new) }
     ensures honest { SameHonesty D.Disk slots.old.journal.disk slots.new.journal.disk }
     ensures called { D.calls slots.new.journal.disk
         ≡ D.calls slots.old.journal.disk ++ Sync ∷ [] }
     ensures cause { Answers (D.faults slots.old.journal.disk) (D.faults slots.new.journal.disk) result }
 {
+    // That no batch is on its way is known only where it is asked.
+    let _ = slots.step();
     slots.switch()?;
     Ok(())
 }

@@ -65,6 +65,10 @@ module _ {D : Type 0} (honest : D → Type 0) (bytes : D → List ℕ) (unsynced
   state_is : (p : Phase) → k.phase ≡ p → honest k.disk → State p k.begun k.staged k.disk
   state_is p is h = subst (λ (q : Phase). State q k.begun k.staged k.disk) is (kept.state h)
 
+  -- what a read gives once the gate is open
+  pub reads_opened : honest k.disk → k.phase ≡ GateOpened → HasChain k.slot k.front (k.sealed ++ k.staged ∷ []) (bytes k.disk)
+  reads_opened h opened = (state_is GateOpened opened h).0
+
   flight_is : (p : Phase) → k.phase ≡ p → InFlight p k.slot.most (k.slot.stop - end) k.staged in_flight
   flight_is p is = subst (λ (q : Phase). InFlight q k.slot.most (k.slot.stop - end) k.staged in_flight) is kept.flight
 

@@ -169,6 +169,10 @@ impl<D: Disk> Journal<D> {
         ensures phase { result ≡ self.now.phase }
         ensures begun { has_begun self.now.phase self.now.begun ≡ self.now.begun }
         ensures outcomes { EachCrash D.Disk self.now.disk (CrashStates self.now) }
+        // Once the gate is open, the body is read behind those that are sealed.
+        ensures reads { D.honest self.now.disk → self.now.phase ≡ GateOpened →
+            HasChain self.now.slot self.now.front (self.now.sealed ++ self.now.staged ∷ [])
+            (D.bytes self.now.disk) }
     {
         self.held.phase()
     }

@@ -105,6 +105,10 @@ pub fn open<D: Disk, R: SlotReader>(
         reader.old reader.new s.journal.slot s.journal.front) }
     ensures slots { D.honest disk → IfOk result (λ s.
         HasSlots (D.bytes disk) s.journal.slot s.other s.generation) }
+    // It was read of some bytes, where the disk doesn't keep its word too.
+    ensures read { IfOk result (λ s. (c : List ℕ)
+        × FoundDisk R.begins R.takes c reader.old reader.new s.journal.slot s.journal.front
+        × HasSlots c s.journal.slot s.other s.generation) }
     ensures fault { D.honest disk → IfErr result (λ e. RefusesDisk R.begins R.rejects R.takes R.refuses (D.bytes disk) reader.old e.0) }
     ensures same { D.honest disk → MatchResult result (λ s. D.bytes s.journal.disk
         ≡ D.bytes disk) (λ e. D.bytes e.1 ≡ D.bytes disk) }

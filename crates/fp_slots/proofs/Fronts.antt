@@ -1,7 +1,7 @@
 -- The first of a list's bytes, and what is put behind them.
 use Rattle.std.proofs.Common.{append_assoc, ◌≡◌, ℕ, ◌+◌, ◌-◌, ◌≤◌, ◌<◌, List, [], ◌∷◌, ◌++◌, length, take, drop, set, sym, ◌∙◌, ap, arith, length-append}
 use Rattle.std.specs.Prelude.{slice_range}
-use Rattle.std.proofs.Math.Seq.{take-append_seam, take-length, drop-append_seam, drop-length, set-append_seam}
+use Rattle.std.proofs.Math.Seq.{take-append_seam, drop-append_seam, set-append_seam}
 use Rattle.std.proofs.lemmas.List.{append-nil, drop-take, take-append-drop, take-append-le, length-take, length-take-le, length-drop}
 use Rattle.fp_gate.specs.declared.gate.TheConstants.{OPEN}
 use Rattle.fp_journal.specs.Chain.{framed, with_gate}
@@ -64,14 +64,16 @@ module _ (planned text body : List ℕ) (n : ℕ) (there : n < length planned) (
   pub longer_long : length Longer ≡ n + length (with_gate body)
   longer_long = let e = ends in let c = length-append text (OPEN ∷ framed body) in let d = length-append (framed body) (0 ∷ []) in omega (arith, e, c, d)
 
--- the text in front of a closed gate at the end
-pub shut_front : (xs text : List ℕ) (n : ℕ) → xs ≡ text ++ 0 ∷ [] → n ≡ length text → slice_range xs 0 n ≡ text
-shut_front xs text n is len = front_is xs n ∙ ap (λ (k : ℕ). take k xs) len ∙ ap (take (length text)) is ∙ take-append_seam text (0 ∷ [])
+-- the text in front of a closed gate, behind which these stand
+module _ (xs text behind : List ℕ) (n : ℕ) (is : xs ≡ (text ++ 0 ∷ []) ++ behind) (len : n ≡ length text) where
+  pub shut_front : slice_range xs 0 n ≡ text
+  shut_front = front_is xs n ∙ ap (λ (k : ℕ). take k xs) len ∙ ap (take (length text)) (is ∙ append_assoc text (0 ∷ []) behind) ∙ take-append_seam text (0 ∷ behind)
 
-pub shut_all : (xs text : List ℕ) (n : ℕ) → xs ≡ text ++ 0 ∷ [] → n ≡ length text → slice_range xs 0 (n + 1) ≡ text ++ 0 ∷ []
-shut_all xs text n is len = let size : length (text ++ 0 ∷ []) ≡ n + 1 = length-append text (0 ∷ []) ∙ ap (λ (k : ℕ). k + 1) (sym len) in
-    ap (λ (t : List ℕ). slice_range t 0 (n + 1)) is ∙ front_is (text ++ 0 ∷ []) (n + 1) ∙ ap (λ (k : ℕ). take k (text ++ 0 ∷ [])) (sym size) ∙ take-length (text ++ 0 ∷ [])
+  shut_long : length (text ++ 0 ∷ []) ≡ n + 1
+  shut_long = length-append text (0 ∷ []) ∙ ap (λ (k : ℕ). k + 1) (sym len)
 
-pub shut_back : (xs text : List ℕ) (n : ℕ) → xs ≡ text ++ 0 ∷ [] → n ≡ length text → drop (n + 1) xs ≡ []
-shut_back xs text n is len = let size : length (text ++ 0 ∷ []) ≡ n + 1 = length-append text (0 ∷ []) ∙ ap (λ (k : ℕ). k + 1) (sym len) in
-    ap (λ (t : List ℕ). drop (n + 1) t) is ∙ ap (λ (k : ℕ). drop k (text ++ 0 ∷ [])) (sym size) ∙ drop-length (text ++ 0 ∷ [])
+  pub shut_all : slice_range xs 0 (n + 1) ≡ text ++ 0 ∷ []
+  shut_all = front_is xs (n + 1) ∙ ap (λ (k : ℕ). take k xs) (sym shut_long) ∙ ap (take (length (text ++ 0 ∷ []))) is ∙ take-append_seam (text ++ 0 ∷ []) behind
+
+  pub shut_back : drop (n + 1) xs ≡ behind
+  shut_back = ap (λ (k : ℕ). drop k xs) (sym shut_long) ∙ ap (drop (length (text ++ 0 ∷ []))) is ∙ drop-append_seam (text ++ 0 ∷ []) behind

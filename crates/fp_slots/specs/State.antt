@@ -95,7 +95,7 @@ OutsideBoth s at n = Outside s.journal.slot at n × Outside s.other at n
 
 -- the slots and what they hold are the same
 abbrev pub SameSlots : {D : Type 0} → SlotsState D → SlotsState D → Type 0
-SameSlots old new = SameSlot old.journal new.journal × (new.journal.sealed ≡ old.journal.sealed) × (new.journal.staged ≡ old.journal.staged) × (new.other ≡ old.other) × (new.generation ≡ old.generation) × (new.may_open ≡ old.may_open) × (new.text ≡ old.text) × (new.head ≡ old.head) × (new.coming ≡ old.coming)
+SameSlots old new = SameSlot old.journal new.journal × (new.journal.sealed ≡ old.journal.sealed) × (new.journal.staged ≡ old.journal.staged) × (new.other ≡ old.other) × (new.generation ≡ old.generation) × (new.may_open ≡ old.may_open) × (new.text ≡ old.text) × (new.head ≡ old.head) × (new.coming ≡ old.coming) × (new.journal.begun ≡ old.journal.begun)
 
 -- the slots, and what a compaction is at, are the same
 abbrev pub SameCompaction : {D : Type 0} → SlotsState D → SlotsState D → Type 0

@@ -3,7 +3,7 @@
 ghost use Rattle.fp_disk.specs.Crashes.{AtAnyMoment, SameHonesty};
 ghost use Rattle.fp_disk.specs.Outcomes.{Answers};
 ghost use Rattle.fp_disk.specs.declared.history.CallKind.TheVariants.{Sync, Write};
-ghost use Rattle.std.specs.Prelude.{◌≡◌, ◌≤◌, ◌+◌, [], ◌∷◌, ◌++◌, length, IfOk, OnOk, OnErr};
+ghost use Rattle.std.specs.Prelude.{◌≡◌, ◌≤◌, ◌+◌, [], ◌∷◌, ◌++◌, true, false, length, IfOk, OnOk, OnErr};
 ghost use Rattle.fp_journal.specs.Moments.{KeepsSynced};
 ghost use Rattle.fp_journal.specs.State.{room};
 ghost use Rattle.fp_journal.specs.declared.journal.Phase.TheVariants.{Idle, Staged, BodySynced, GateOpened, Failed};
@@ -23,6 +23,7 @@ impl<D: Disk> Slots<D> {
         ensures same { SameCompaction self.old self.new }
         ensures bodies { (self.new.journal.sealed ≡ self.old.journal.sealed) × (self.new.journal.staged ≡ framed) }
         ensures phase { OnOk result (self.new.journal.phase ≡ Staged) × OnErr result (self.new.journal.phase ≡ Failed) }
+        ensures begun { self.new.journal.begun ≡ false }
         ensures any_moment { AtAnyMoment D.Disk self.old.journal.disk self.new.journal.disk (KeepsSealed self.old) }
         ensures apart { KeepsSynced D.Disk self.old.journal.disk self.new.journal.disk (OutsideBoth self.old) }
         ensures honest { SameHonesty D.Disk self.old.journal.disk self.new.journal.disk }
@@ -40,6 +41,7 @@ impl<D: Disk> Slots<D> {
         ensures same { SameCompaction self.old self.new }
         ensures bodies { (self.new.journal.sealed ≡ self.old.journal.sealed) × (self.new.journal.staged ≡ self.old.journal.staged) }
         ensures phase { OnOk result (self.new.journal.phase ≡ BodySynced) × OnErr result (self.new.journal.phase ≡ Failed) }
+        ensures begun { self.new.journal.begun ≡ false }
         ensures any_moment { AtAnyMoment D.Disk self.old.journal.disk self.new.journal.disk (KeepsSealed self.old) }
         ensures apart { KeepsSynced D.Disk self.old.journal.disk self.new.journal.disk (OutsideBoth self.old) }
         ensures honest { SameHonesty D.Disk self.old.journal.disk self.new.journal.disk }
@@ -58,6 +60,7 @@ impl<D: Disk> Slots<D> {
         ensures same { SameCompaction self.old self.new }
         ensures bodies { (self.new.journal.sealed ≡ self.old.journal.sealed) × (self.new.journal.staged ≡ self.old.journal.staged) }
         ensures phase { OnOk result (self.new.journal.phase ≡ GateOpened) × OnErr result (self.new.journal.phase ≡ Failed) }
+        ensures begun { self.new.journal.begun ≡ true }
         ensures any_moment { AtAnyMoment D.Disk self.old.journal.disk self.new.journal.disk (KeepsOrNext self.old self.old.journal.staged) }
         ensures apart { KeepsSynced D.Disk self.old.journal.disk self.new.journal.disk (OutsideBoth self.old) }
         ensures honest { SameHonesty D.Disk self.old.journal.disk self.new.journal.disk }
@@ -75,6 +78,7 @@ impl<D: Disk> Slots<D> {
         ensures same { SameCompaction self.old self.new }
         ensures ok { OnOk result ((self.new.journal.sealed ≡ self.old.journal.sealed ++ self.old.journal.staged ∷ []) × (self.new.journal.phase ≡ Idle)) }
         ensures token { IfOk result (λ t. (t.name ≡ self.new.journal.name) × (t.bodies ≡ self.new.journal.sealed)) }
+        ensures begun { OnOk result (self.new.journal.begun ≡ false) × OnErr result (self.new.journal.begun ≡ true) }
         ensures err { OnErr result ((self.new.journal.sealed ≡ self.old.journal.sealed) × (self.new.journal.staged ≡ self.old.journal.staged) × (self.new.journal.phase ≡ Failed)) }
         ensures any_moment { AtAnyMoment D.Disk self.old.journal.disk self.new.journal.disk (KeepsOrNext self.old self.old.journal.staged) }
         ensures apart { KeepsSynced D.Disk self.old.journal.disk self.new.journal.disk (OutsideBoth self.old) }

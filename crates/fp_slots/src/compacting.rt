@@ -3,7 +3,7 @@
 ghost use Rattle.fp_disk.specs.Crashes.{AtAnyMoment, SameHonesty};
 ghost use Rattle.fp_disk.specs.Outcomes.{Answers};
 ghost use Rattle.fp_disk.specs.declared.history.CallKind.TheVariants.{Sync, Write};
-ghost use Rattle.std.specs.Prelude.{◌≡◌, ◌≢◌, ◌<◌, ◌≤◌, ◌+◌, ◌-◌, [], ◌∷◌, ◌++◌, if◌then◌else◌, true, OnOk, OnErr};
+ghost use Rattle.std.specs.Prelude.{◌≡◌, ◌≢◌, ◌<◌, ◌≤◌, ◌+◌, ◌-◌, [], ◌∷◌, ◌++◌, if◌then◌else◌, true, false, OnOk, OnErr};
 ghost use Rattle.fp_journal.specs.Moments.{KeepsSynced};
 ghost use Rattle.fp_journal.specs.declared.journal.Phase.TheVariants.{Idle, Failed};
 ghost use Rattle.fp_slots.specs.State.{Keeps, KeepsEither, OutsideBoth, SameSlots};
@@ -157,6 +157,7 @@ impl<D: Disk> Slots<D> {
         requires step { self.old.step ≡ SyncOpen }
         requires live { self.old.journal.phase ≢ Failed }
         ensures switched { OnOk result ((self.new.journal.slot ≡ self.old.other) × (self.new.journal.front ≡ self.old.text) × (self.new.journal.sealed ≡ []) × (self.new.journal.phase ≡ Idle)) }
+        ensures begun { OnOk result (self.new.journal.begun ≡ false) }
         ensures turned { OnOk result ((self.new.other ≡ self.old.journal.slot) × (self.new.generation ≡ self.old.generation + 1) × (self.new.may_open ≡ true) × (self.new.step ≡ Begin)) }
         ensures broken { OnErr result (SameSlots self.old self.new × (self.new.step ≡ SyncOpen) × (self.new.journal.phase ≡ Failed)) }
         ensures any_moment { AtAnyMoment D.Disk self.old.journal.disk self.new.journal.disk (KeepsEither self.old) }

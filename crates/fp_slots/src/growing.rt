@@ -1,9 +1,8 @@
 //! The text that the other slot is to hold grows by the batches that are sealed beside a compaction.
 
-ghost use Rattle.std.specs.Prelude.{◌≡◌, ◌≢◌, ◌<◌, ◌+◌, [], ◌∷◌, ◌++◌, length, OnOk};
+ghost use Rattle.std.specs.Prelude.{◌≡◌, ◌≢◌, ◌<◌, ◌+◌, [], ◌∷◌, ◌++◌, length, OnOk, OnErr};
 ghost use Rattle.fp_gate.specs.declared.gate.TheConstants.{OPEN};
 ghost use Rattle.fp_journal.specs.Chain.{body_of, framed as framed_text, with_gate};
-ghost use Rattle.fp_journal.specs.State.{IsOnWay};
 ghost use Rattle.fp_journal.specs.declared.journal.Phase.TheVariants.{Failed};
 ghost use Rattle.fp_slots.specs.State.{IsGrowing, SamePlan};
 
@@ -20,24 +19,9 @@ impl<D: Disk> Slots<D> {
         requires live { self.old.journal.phase ≢ Failed }
         ensures same { SamePlan self.old self.new }
         ensures ready { OnOk result (self.new.coming ≡ with_gate framed.now) }
+        ensures err { OnErr result (self.new ≡ self.old) }
     {
         put_behind(&mut self.planned, self.ended + 1, framed.as_slice())?;
-        Ok(())
-    }
-
-    /// Keeps the body on its way ready so.
-    pub fn plan_body_on_way(&mut self) -> Result<(), AllocError>
-        requires growing { IsGrowing self.old.step }
-        requires on_way { IsOnWay self.old.journal.phase }
-        requires live { self.old.journal.phase ≢ Failed }
-        ensures same { SamePlan self.old self.new }
-        ensures ready { OnOk result (self.new.coming ≡ with_gate self.old.journal.staged) }
-    {
-        put_behind(
-            &mut self.planned,
-            self.ended + 1,
-            self.journal.bytes_on_way(),
-        )?;
         Ok(())
     }
 

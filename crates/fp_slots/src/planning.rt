@@ -2,21 +2,37 @@
 
 ghost use Rattle.std.specs.Prelude.{◌≡◌, ◌<◌, ◌≤◌, ◌+◌, ◌-◌, ◌^◌, [], ◌∷◌, ◌++◌, length, slice_range, slice_set, IfOk, OnOk, OnErr};
 ghost use Rattle.fp_gate.specs.declared.gate.TheConstants.{OPEN};
+ghost use Rattle.fp_journal.specs.Chain.{with_gate};
+ghost use Rattle.fp_journal.specs.State.{IsOnWay};
 ghost use Rattle.fp_slots.specs.Head.{head_text};
 
 use crate::places::{IMAGE_PLACE, VERSION};
+use fp_disk::Disk;
 use fp_gate::OPEN;
+use fp_journal::{Journal, Phase};
 use std::alloc::{AllocError, Global};
 
-// The head of a slot, and the closed gate of its first batch.
+// The bytes of the body on its way, where there is one.
+pub(crate) fn on_way<D: Disk>(journal: &Journal<D>) -> &[u8]
+    ensures { IsOnWay journal.now.phase → result.now ≡ with_gate journal.now.staged }
+{
+    match journal.phase() {
+        Phase::Idle | Phase::Failed => &[],
+        Phase::Staged | Phase::BodySynced | Phase::GateOpened => journal.bytes_on_way(),
+    }
+}
+
+// The head of a slot, the closed gate of its first batch, and these bytes behind it.
 pub(crate) fn shut_head(
     alloc: Global,
     generation: u64,
     base: u64,
     image: &[u8],
+    behind: &[u8],
 ) -> Result<Vec<u8>, AllocError>
     requires { length image.now < 2 ^ 32 }
-    ensures { IfOk result (λ v. v.items ≡ head_text generation base image.now ++ 0 ∷ []) }
+    ensures { IfOk result (λ v. v.items
+        ≡ (head_text generation base image.now ++ 0 ∷ []) ++ behind.now) }
 {
     let mut bytes = Vec::with_capacity(alloc, IMAGE_PLACE)?;
     bytes.push(OPEN)?;
@@ -26,6 +42,7 @@ pub(crate) fn shut_head(
     bytes.extend_from_slice(&(image.len() as u32).to_be_bytes())?;
     bytes.extend_from_slice(image)?;
     bytes.push(0)?;
+    bytes.extend_from_slice(behind)?;
     Ok(bytes)
 }
 
@@ -42,10 +59,13 @@ pub(crate) fn piece(planned: &Vec<u8>, from: usize, to: usize) -> &[u8]
 pub(crate) fn put_behind(planned: &mut Vec<u8>, len: usize, bytes: &[u8]) -> Result<(), AllocError>
     requires { len ≤ length planned.old.items }
     ensures ok { OnOk result (planned.new.items ≡ slice_range planned.old.items 0 len ++ bytes.now) }
-    ensures err { OnErr result (planned.new.items ≡ slice_range planned.old.items 0 len) }
+    ensures err { OnErr result (planned.new.items ≡ planned.old.items) }
 {
+    planned.reserve(bytes.len())?;
     planned.truncate(len);
-    planned.extend_from_slice(bytes)?;
+    let Ok(()) = planned.extend_from_slice(bytes) else {
+        unreachable!()
+    };
     Ok(())
 }
 

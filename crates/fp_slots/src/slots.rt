@@ -1,16 +1,18 @@
 //! Two slots, and what a compaction does next.
 
 ghost use Rattle.fp_disk.specs.Crashes.{EachCrash};
-ghost use Rattle.std.specs.Prelude.{◌≡◌, ◌≢◌, ◌⊎◌, ◌<◌, ◌≤◌, ◌+◌, ◌-◌, ◌^◌, [], length, OnOk, OnErr};
+ghost use Rattle.std.specs.Prelude.{◌≡◌, ◌≢◌, ◌⊎◌, ◌<◌, ◌≤◌, ◌+◌, ◌-◌, ◌^◌, length, OnOk, OnErr};
+ghost use Rattle.fp_journal.specs.Chain.{with_gate};
+ghost use Rattle.fp_journal.specs.State.{IsOnWay};
 ghost use Rattle.fp_journal.specs.declared.journal.Phase.TheVariants.{Failed};
 ghost use Rattle.fp_slots.specs.Head.{head_text};
-ghost use Rattle.fp_slots.specs.State.{IsBeaten, IsFrontOf, Leaves};
+ghost use Rattle.fp_slots.specs.State.{IsBeaten, IsFrontOf, IsStill, Leaves};
 ghost use Rattle.fp_slots.specs.declared.places.TheConstants.{IMAGE_PLACE, VERSION_PLACE};
 ghost use Rattle.fp_slots.specs.declared.slots.Step.TheVariants.{Begin, Close};
 
 use crate::held::Held;
 use crate::places::IMAGE_PLACE;
-use crate::planning::shut_head;
+use crate::planning::{on_way, shut_head};
 use fp_disk::Disk;
 use fp_journal::{Journal, Slot};
 use std::alloc::{AllocError, Global};
@@ -134,6 +136,7 @@ impl<D: Disk> Slots<D> {
     pub fn step(&self) -> Step
         ensures step { result ≡ self.now.step }
         ensures outcomes { EachCrash D.Disk self.now.journal.disk (Leaves result self.now) }
+        ensures still { IsStill self.now.step self.now.journal.phase }
     {
         let _phase = self.journal.phase();
         self.held.step()
@@ -165,8 +168,8 @@ impl<D: Disk> Slots<D> {
         )
     }
 
-    /// Begins a compaction that is to leave this image of that revision in the other slot, under the next generation. It makes no call
-    /// of the disk; where memory runs out all stays as it was.
+    /// Begins a compaction that is to leave this image of that revision in the other slot, under the next generation. A body on its way
+    /// is kept ready to go behind it. It makes no call of the disk; where memory runs out all stays as it was.
     pub fn begin(&mut self, alloc: Global, base: u64, image: &[u8]) -> Result<(), AllocError>
         requires step { self.old.step ≡ Begin }
         requires live { self.old.journal.phase ≢ Failed }
@@ -174,11 +177,13 @@ impl<D: Disk> Slots<D> {
         requires short { length image.now < 2 ^ 32 }
         requires fits { self.old.other.start + IMAGE_PLACE + length image.now < self.old.other.stop }
         ensures same { (self.new.journal ≡ self.old.journal) × (self.new.other ≡ self.old.other) × (self.new.generation ≡ self.old.generation) × (self.new.may_open ≡ self.old.may_open) }
-        ensures text { OnOk result ((self.new.text ≡ head_text (self.old.generation + 1) base image.now) × (self.new.head ≡ IMAGE_PLACE + length image.now) × (self.new.left + 1 ≡ self.new.head) × (self.new.coming ≡ [])) }
+        ensures text { OnOk result ((self.new.text ≡ head_text (self.old.generation + 1) base image.now) × (self.new.head ≡ IMAGE_PLACE + length image.now) × (self.new.left + 1 ≡ self.new.head)) }
+        ensures ready { OnOk result (IsOnWay self.old.journal.phase → self.new.coming ≡ with_gate self.old.journal.staged) }
+        ensures err { OnErr result (self.new ≡ self.old) }
         ensures step { OnOk result (self.new.step ≡ Close) × OnErr result (self.new.step ≡ Begin) }
     {
         let next = self.generation + 1;
-        let planned = shut_head(alloc, next, base, image)?;
+        let planned = shut_head(alloc, next, base, image, on_way(&self.journal))?;
         self.ended = IMAGE_PLACE + image.len();
         self.head = self.ended;
         self.done = 1;

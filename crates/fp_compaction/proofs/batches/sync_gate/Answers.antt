@@ -16,7 +16,7 @@ returns-in_err-sealed-clause-stands g c =
 pub returns-in_err-sealed-clause-broken : goal.returns-in_err-sealed-clause-broken
 returns-in_err-sealed-clause-broken g c =
     let D = g.D.Disk in let old = c.args.slots.now in let w = c.sync_gate.ensures in let mid = c.sync_gate.new.self in let err = c.in_err-sealed.ensures.err in
-    grown.on_err c.from_residual.result _ (err.2, λ h size s k. (k.0, kept.kept_beside (D.unsynced old.journal.disk) old size k.0 s k.1 D.moment D.crash_states_since D.unsynced old.journal.disk mid.journal.disk refl (w.apart h) mid w.same err.0), w.same)
+    grown.on_err c.from_residual.result _ (err.2, c.in_err-sealed.ensures.begun.1, λ h size s k. (k.0, kept.kept_beside (D.unsynced old.journal.disk) old size k.0 s k.1 D.moment D.crash_states_since D.unsynced old.journal.disk mid.journal.disk refl (w.apart h) mid w.same err.0), w.same)
 
 pub grow-requires-clause-ready : goal.grow-requires-clause-ready
 grow-requires-clause-ready g c =
@@ -51,3 +51,8 @@ pub returns-clause-planned : goal.returns-clause-planned
 returns-clause-planned g c =
     let old = c.args.slots.now in let w = c.sync_gate.ensures in let mid = c.sync_gate.new.self in let new = c.grow.new.slots in
     λ growing. grown.plans_next old mid w.same c.requires.ready growing new (c.grow.ensures.grown (grown.grows_still old.step mid.step w.same.4 growing))
+
+pub returns-clause-grown : goal.returns-clause-grown
+returns-clause-grown g c =
+    let old = c.args.slots.now in let w = c.sync_gate.ensures in let mid = c.sync_gate.new.self in let new = c.grow.new.slots in
+    λ growing. grown.text_on old mid w.same c.requires.ready growing new (c.grow.ensures.grown (grown.grows_still old.step mid.step w.same.4 growing))

@@ -20,7 +20,7 @@ returns-clause-kept g c =
 pub returns-clause-taken : goal.returns-clause-taken
 returns-clause-taken g c =
     let D = g.D.Disk in let old = c.args.slots.now in let w = c.open_other.ensures in let new = c.open_other.new.self in record {
-      stands = λ h size s k taken late. kept.leaves_stands (D.unsynced old.journal.disk) old size k.0 s k.1 D.moment D.crash_states_since D.unsynced old.journal.disk new.journal.disk refl (w.apart h) (KeepsEither old) (LeavesSet old.journal s) (λ o head e. inl (kept.either_stands (D.unsynced old.journal.disk) old size k.0 s k.1 (late (steps.is_late old.step Open c.requires.step tt)) o head e)) (w.any_moment h);
+      stands = λ h size s t k taken late. kept.leaves_stands (D.unsynced old.journal.disk) old size k.0 s k.1 D.moment D.crash_states_since D.unsynced old.journal.disk new.journal.disk refl (w.apart h) (KeepsEither old) (LeavesSet old.journal s t) (λ o head e. inl (kept.either_stands (D.unsynced old.journal.disk) old size k.0 s k.1 (late (steps.is_late old.step Open c.requires.step tt)) o head e)) (w.any_moment h);
       kept = λ h size s k late. (k.0, kept.kept_on (D.unsynced old.journal.disk) old size k.0 s k.1 D.moment D.crash_states_since D.unsynced old.journal.disk new.journal.disk refl (w.apart h) new w.same);
       honest = w.honest;
       called = steps.called_at D.calls old new c.requires.step w.called;

@@ -70,6 +70,17 @@ new-requires-clause-beaten g c = λ h.
     let opened = subst (λ (bs : List ℕ). IsTrue f.active.is_open ↔ (slice_index bs other.start ≡ OPEN)) c.deref.ensures.value c.in-Ok-read_front.ensures.open in
     other_beaten b has.size slot other has.header.allowed has.active f.generation has.generation_is (D.unsynced j.disk) sure f.active.is_open opened
 
+pub returns-in-Ok-resume-clause-read : goal.returns-in-Ok-resume-clause-read
+returns-in-Ok-resume-clause-read g c =
+    let S = g.R.SlotReader in let R = g.R.Reader in let f = c.in-Ok-read_front.front in let j = c.in-Ok-resume.journal in let b = c.in-Ok.bytes.items in let middle = c.read_front.new.reader in
+    let begun : FoundFront S.begins b c.args.reader.now middle f.active.slot f.at = subst (λ (bs : List ℕ). FoundFront S.begins bs c.args.reader.now middle f.active.slot f.at) c.deref.ensures.value c.in-Ok-read_front.ensures.found in
+    let found : FoundDisk S.begins R.takes b c.args.reader.now c.resume.new.reader f.active.slot j.front = record { at = f.at; middle = middle; begun = begun; chain = c.in-Ok-resume.ensures.found; front_is = c.in-Ok-resume.ensures.front } in
+    let here : FoundDisk S.begins R.takes b c.args.reader.now c.resume.new.reader j.slot j.front = subst (λ (x : Slot). FoundDisk S.begins R.takes b c.args.reader.now c.resume.new.reader x j.front) (sym c.in-Ok-resume.ensures.begins.1) found in
+    let has : HasSlots b f.active.slot f.active.other f.generation = subst (λ (bs : List ℕ). HasSlots bs f.active.slot f.active.other f.generation) c.deref.ensures.value c.in-Ok-read_front.ensures.active in
+    let has_here : HasSlots b j.slot f.active.other f.generation = subst (λ (x : Slot). HasSlots b x f.active.other f.generation) (sym c.in-Ok-resume.ensures.begins.1) has in
+    let same = c.new.ensures.same in
+    rw (same.0, same.1, same.2) (b, here, has_here)
+
 pub returns-in-Ok-resume-clause-found : goal.returns-in-Ok-resume-clause-found
 returns-in-Ok-resume-clause-found g c = λ h.
     let S = g.R.SlotReader in let R = g.R.Reader in let f = c.in-Ok-read_front.front in let j = c.in-Ok-resume.journal in let b = c.in-Ok.bytes.items in let middle = c.read_front.new.reader in

@@ -8,3 +8,8 @@ returns-clause-outcomes g c =
 
 pub returns-clause-begun : goal.returns-clause-begun
 returns-clause-begun g c = rw (← c.self.view_is) (steps.begun_is c.self.inside.held)
+
+pub returns-clause-reads : goal.returns-clause-reads
+returns-clause-reads g c =
+    let D = g.D.Disk in let m = g.met.D.Disk in
+    rw (← c.self.view_is) (λ h opened. steps.reads_opened D.honest D.bytes D.unsynced D.moment D.crash_states_since m.present m.only_now c.self.invariant.0 h opened)

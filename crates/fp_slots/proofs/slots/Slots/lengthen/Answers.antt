@@ -1,3 +1,4 @@
+use Rattle.std.proofs.lemmas.List.{append-nil}
 use Rattle.std.proofs.Common.{refl, ◌≡◌, ◌≢◌, ◌<◌, ◌+◌, List, ℕ, [], ◌∷◌, ◌++◌, length, drop, ap, sym, ◌∙◌, subst, arith, length-append}
 use Rattle.std.specs.Prelude.{slice_range}
 use Rattle.fp_gate.specs.declared.gate.TheConstants.{OPEN}
@@ -26,7 +27,7 @@ invariant_of-self g c =
     let made : new ≡ longer ++ 0 ∷ [] = c.open_between-self-inside.ensures.opened ∙ opened_is old text body s.ended there shut refl ready in
     let size = planned_long old text body s.ended there shut refl ready in let grew = longer_long old text body s.ended there shut refl ready in let last = c.open_between-self-inside.ensures.last in
     let n_is : n ≡ length longer = omega (arith, size, last) in
-    let front = shut_front new longer n made n_is in let all = shut_all new longer n made n_is in
+    let front = shut_front new longer [] n (made ∙ sym (append-nil (longer ++ 0 ∷ []))) n_is in let all = shut_all new longer [] n (made ∙ sym (append-nil (longer ++ 0 ∷ []))) n_is in
     let alive = subst (λ (k : SlotsState g.row.D.Denot). k.journal.phase ≢ Failed) (sym c.self.view_is) c.requires.live in
     let fits = subst (λ (k : SlotsState g.row.D.Denot). k.other.start + length (k.text ++ OPEN ∷ framed (body_of k.coming)) < k.other.stop) (sym c.self.view_is) c.requires.fits in
     let long : length new ≡ length longer + 1 = ap length made ∙ length-append longer (0 ∷ []) in let image = z.image in (
@@ -46,5 +47,5 @@ returns-clause-grown g c =
     let made : new ≡ longer ++ 0 ∷ [] = c.open_between-self-inside.ensures.opened ∙ opened_is old text body s.ended there shut refl ready in
     let size = planned_long old text body s.ended there shut refl ready in let grew = longer_long old text body s.ended there shut refl ready in let last = c.open_between-self-inside.ensures.last in
     let n_is : n ≡ length longer = omega (arith, size, last) in
-    let front = shut_front new longer n made n_is in let all = shut_all new longer n made n_is in
-    rw (← c.self.view_is) (front, shut_back new longer n made n_is)
+    let front = shut_front new longer [] n (made ∙ sym (append-nil (longer ++ 0 ∷ []))) n_is in let all = shut_all new longer [] n (made ∙ sym (append-nil (longer ++ 0 ∷ []))) n_is in
+    rw (← c.self.view_is) (front, shut_back new longer [] n (made ∙ sym (append-nil (longer ++ 0 ∷ []))) n_is)

@@ -15,32 +15,6 @@ put_behind-requires g c =
     let all : s.ended + 1 ≤ length s.planned.items = omega (arith, there) in let le : s.ended ≤ s.ended + 1 = omega arith in
     all
 
-pub invariant_of-self : goal.invariant_of-self
-invariant_of-self g c =
-    let D = g.D.Disk in let s = c.self.inside in let z = c.self.invariant.2 in
-    let alive = subst (λ (k : SlotsState g.row.D.Denot). k.journal.phase ≢ Failed) (sym c.self.view_is) c.requires.live in
-    let growing = subst (λ (k : SlotsState g.row.D.Denot). IsGrowing k.step) (sym c.self.view_is) c.requires.growing in
-    let shut = growing_law.planned_is D.honest D.bytes D.unsynced c.self.invariant.0 growing in let there = there_is s.planned.items s.ended z.there shut in
-    let all : s.ended + 1 ≤ length s.planned.items = omega (arith, there) in let le : s.ended ≤ s.ended + 1 = omega arith in
-    let new = c.put_behind.new.planned.items in let is : new ≡ slice_range s.planned.items 0 (s.ended + 1) = search rules in
-    let text : slice_range new 0 s.ended ≡ slice_range s.planned.items 0 s.ended = ap (λ (t : List ℕ). slice_range t 0 s.ended) is ∙ front_of_front s.planned.items s.ended (s.ended + 1) le all in
-    let front : slice_range new 0 (s.ended + 1) ≡ slice_range s.planned.items 0 (s.ended + 1) = ap (λ (t : List ℕ). slice_range t 0 (s.ended + 1)) is ∙ front_of_front s.planned.items (s.ended + 1) (s.ended + 1) (omega arith) all in
-    let long : length new ≡ s.ended + 1 = ap length is ∙ front_long s.planned.items (s.ended + 1) all in
-    (growing_law.readied D.honest D.bytes D.unsynced c.self.invariant.0 alive (drop (s.ended + 1) new) (slice_range new 0 s.ended) (slice_range new 0 (s.ended + 1)) text front, c.self.invariant.1, record { there = omega (arith, long); image = z.image; part = z.part })
-
-pub returns-in_err-put_behind-clause-same : goal.returns-in_err-put_behind-clause-same
-returns-in_err-put_behind-clause-same g c =
-    let D = g.D.Disk in let s = c.self.inside in let z = c.self.invariant.2 in
-    let alive = subst (λ (k : SlotsState g.row.D.Denot). k.journal.phase ≢ Failed) (sym c.self.view_is) c.requires.live in
-    let growing = subst (λ (k : SlotsState g.row.D.Denot). IsGrowing k.step) (sym c.self.view_is) c.requires.growing in
-    let shut = growing_law.planned_is D.honest D.bytes D.unsynced c.self.invariant.0 growing in let there = there_is s.planned.items s.ended z.there shut in
-    let all : s.ended + 1 ≤ length s.planned.items = omega (arith, there) in let le : s.ended ≤ s.ended + 1 = omega arith in
-    let new = c.put_behind.new.planned.items in let is : new ≡ slice_range s.planned.items 0 (s.ended + 1) = search rules in
-    let text : slice_range new 0 s.ended ≡ slice_range s.planned.items 0 s.ended = ap (λ (t : List ℕ). slice_range t 0 s.ended) is ∙ front_of_front s.planned.items s.ended (s.ended + 1) le all in
-    let front : slice_range new 0 (s.ended + 1) ≡ slice_range s.planned.items 0 (s.ended + 1) = ap (λ (t : List ℕ). slice_range t 0 (s.ended + 1)) is ∙ front_of_front s.planned.items (s.ended + 1) (s.ended + 1) (omega arith) all in
-    let long : length new ≡ s.ended + 1 = ap length is ∙ front_long s.planned.items (s.ended + 1) all in
-    rw (← c.self.view_is) (refl, refl, refl, refl, refl, text, refl, refl)
-
 pub invariant_of-self-2 : goal.invariant_of-self-2
 invariant_of-self-2 g c =
     let D = g.D.Disk in let s = c.self.inside in let z = c.self.invariant.2 in
