@@ -112,6 +112,7 @@ pub record Turns {D : Type 0} (old new : SlotsState D) : Type 0 where
 -- the device failed: nothing else is other than before
 pub record BreaksOff {D : Type 0} (faults : D → ℕ) (old new : SlotsState D) : Type 0 where
   pub slots : SameSlots old new
+  pub left : new.left ≡ old.left
   pub failed : new.journal.phase ≡ Failed
   pub cause : faults old.journal.disk < faults new.journal.disk
 

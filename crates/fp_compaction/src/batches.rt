@@ -6,7 +6,7 @@ ghost use Rattle.fp_disk.specs.declared.history.CallKind.TheVariants.{Sync, Writ
 ghost use Rattle.std.specs.Prelude.{◌≡◌, ◌≢◌, [], ◌∷◌, ◌++◌, true, false, length, IfOk, OnOk, OnErr};
 ghost use Rattle.fp_journal.specs.Chain.{body_of, framed as framed_text, with_gate};
 ghost use Rattle.fp_gate.specs.declared.gate.TheConstants.{OPEN};
-ghost use Rattle.fp_journal.specs.State.{has_begun};
+ghost use Rattle.fp_journal.specs.State.{SameSlot, has_begun};
 ghost use Rattle.fp_journal.specs.declared.journal.Phase.TheVariants.{Idle, Staged, BodySynced, GateOpened, Failed};
 ghost use Rattle.fp_slots.specs.State.{HasBegun, IsEarly, IsGrowing, SameCompaction, SamePlan};
 ghost use Rattle.fp_compaction.specs.Sets.{GoesOnKept};
@@ -129,6 +129,9 @@ pub fn sync_gate<D: Disk>(slots: &mut Slots<D>) -> Result<Sealed, DiskFault>
     ensures token { IfOk result (λ t. (t.name ≡ slots.new.journal.name)
         × (t.bodies ≡ slots.new.journal.sealed)) }
     ensures shut { OnOk result (slots.new.journal.begun ≡ false) }
+    ensures same_slot { SameSlot slots.old.journal slots.new.journal }
+    ensures bodies { OnErr result ((slots.new.journal.sealed ≡ slots.old.journal.sealed)
+        × (slots.new.journal.staged ≡ slots.old.journal.staged)) }
     ensures broken { OnErr result ((slots.new.journal.phase ≡ Failed)
         × (slots.new.journal.begun ≡ true) × GoesOnKept D.Disk slots.old slots.new × SameCompaction slots.old slots.new) }
     ensures beside { (slots.new.other ≡ slots.old.other)

@@ -1,6 +1,6 @@
 //! Room for a batch beside a compaction.
 
-ghost use Rattle.std.specs.Prelude.{◌≤◌, ◌+◌, ◌/◌, ◌↔◌, IsTrue};
+ghost use Rattle.std.specs.Prelude.{◌<◌, ◌≤◌, ◌+◌, ◌/◌, ◌^◌, ◌↔◌, IsTrue};
 ghost use Rattle.fp_slots.specs.State.{HasBegun, IsEarly, IsGrowing};
 ghost use Rattle.fp_compaction.specs.Batches.{HasRoomFor};
 
@@ -44,22 +44,23 @@ fn has_begun(step: Step) -> bool
 }
 
 // Whether so many bytes more, and a gate and a length for them and a last gate, leave the tail within a quarter of its slot.
-fn fits_tail(size: u64, tail: u64, len: u32) -> bool
+fn fits_tail(size: u64, tail: u64, len: u64) -> bool
+    requires { len < 2 ^ 32 }
     ensures { IsTrue result ↔ (tail + len + 6 ≤ size / 4) }
 {
-    let (quarter, more) = (size / 4, u64::from(len) + 6);
+    let (quarter, more) = (size / 4, len + 6);
     more <= quarter && tail <= quarter - more
 }
 
 /// Whether there is room for a batch whose body has so many bytes.
-pub fn has_room<D: Disk>(slots: &Slots<D>, len: u32) -> bool
+pub fn has_room<D: Disk>(slots: &Slots<D>, len: u64) -> bool
     ensures { IsTrue result ↔ HasRoomFor slots.now len }
 {
     let journal = slots.journal();
     let step = slots.step();
     let (size, tail) = slots.beside();
-    len <= journal.slot().most
-        && u64::from(len) + 6 <= journal.room()
+    len <= u64::from(journal.slot().most)
+        && len + 6 <= journal.room()
         && is_early(step)
         && (!has_begun(step) || fits_tail(size, tail, len))
 }

@@ -1,7 +1,12 @@
 -- What a call of a store changes, and why it wasn't done.
-use Rattle.std.specs.Prelude.{◌≡◌, ◌≢◌, ◌<◌, ◌+◌, ℕ}
-use Rattle.fp_edit.specs.Flags.{State}
+use Rattle.std.specs.Prelude.{◌≡◌, ◌≢◌, ◌<◌, ◌+◌, ◌-◌, ℕ, length}
+use Rattle.fp_edit.specs.Flags.{State, size}
+use Rattle.fp_compaction.specs.Batches.{tail_of}
 use Rattle.fp_journal.specs.State.{room}
+use Rattle.fp_compaction.specs.Steps.{next_step}
+use Rattle.fp_slots.specs.declared.places.TheConstants.{IMAGE_PLACE}
+use Rattle.fp_slots.specs.State.{IsGrowing}
+use Rattle.fp_slots.specs.declared.slots.Step.TheVariants.{Begin, SyncOpen}
 use Rattle.fp_journal.specs.declared.journal.Phase.{Phase}
 use Rattle.fp_journal.specs.declared.journal.Phase.TheVariants.{Failed}
 use Rattle.fp_record.specs.Group.{Group}
@@ -13,46 +18,60 @@ use Rattle.fp_group_commit.specs.declared.fault.StoreFault.TheVariants as fault
 abbrev pub SameStore : {D : Type 0} → StoreState D → StoreState D → Type 0
 SameStore old new = (new.store ≡ old.store) × (new.sealed ≡ old.sealed) × (new.staged ≡ old.staged)
 
--- a batch may take as many bytes as before, and as many are left for batches
-abbrev pub SameRoom : {D : Type 0} → StoreState D → StoreState D → Type 0
-SameRoom old new =
-    (new.journal.slot.most ≡ old.journal.slot.most) × (room new.journal ≡ room old.journal)
+-- a compaction's next step, how much of the image is left, and the slots' sizes are the same
+abbrev pub SameCourse : {D : Type 0} → StoreState D → StoreState D → Type 0
+SameCourse old new = (new.slots.step ≡ old.slots.step) × (new.slots.left ≡ old.slots.left)
+    × (new.slots.other ≡ old.slots.other) × (new.slots.generation ≡ old.slots.generation)
 
--- of the bytes left the batch took those of its body, the number of its length and a gate
+-- and the tail is as long
+abbrev pub SamePlace : {D : Type 0} → StoreState D → StoreState D → Type 0
+SamePlace old new = SameCourse old new × (tail_of new.slots ≡ tail_of old.slots)
+
+-- a batch may take as many bytes as before, as many are left for batches, and a compaction is where it was
+abbrev pub SameRoom : {D : Type 0} → StoreState D → StoreState D → Type 0
+SameRoom old new = (new.slots.journal.slot.most ≡ old.slots.journal.slot.most)
+    × (room new.slots.journal ≡ room old.slots.journal) × SamePlace old new
+
+-- of the bytes left the batch took those of its body, the number of its length and a gate, and as many
+-- joined the tail of a compaction that can take it
 abbrev pub TakesRoom : {D : Type 0} → StoreState D → StoreState D → Type 0
-TakesRoom old new = (new.journal.slot.most ≡ old.journal.slot.most)
-    × (room new.journal + batch_len (record { first = 0; changes = old.staged }) + 5 ≡ room old.journal)
+TakesRoom old new = (new.slots.journal.slot.most ≡ old.slots.journal.slot.most)
+    × (room new.slots.journal + batch_len (record { first = 0; changes = old.staged }) + 5
+    ≡ room old.slots.journal)
+    × SameCourse old new
+    × (IsGrowing old.slots.step → tail_of new.slots
+    ≡ tail_of old.slots + batch_len (record { first = 0; changes = old.staged }) + 5)
+    × ((IsGrowing old.slots.step → ⊥) → tail_of new.slots ≡ tail_of old.slots)
 
 -- the store goes on to this phase, and the device failed neither before nor in the call
 pub record MovesTo {D : Type 0} (faults : D → ℕ) (phase : Phase) (old new : StoreState D) : Type 0 where
   pub step : new.step ≡ phase
-  pub well_before : old.journal.phase ≢ Failed
-  pub well_now : new.journal.phase ≢ Failed
-  pub no_failure : faults new.journal.disk ≡ faults old.journal.disk
+  pub well_before : old.slots.journal.phase ≢ Failed
+  pub well_now : new.slots.journal.phase ≢ Failed
+  pub no_failure : faults new.slots.journal.disk ≡ faults old.slots.journal.disk
 
 -- the device failed in the call; the store has failed now, with its phase and its room as before
 pub record Breaks {D : Type 0} (faults : D → ℕ) (old new : StoreState D) : Type 0 where
-  pub well_before : old.journal.phase ≢ Failed
-  pub failed : new.journal.phase ≡ Failed
-  pub cause : faults old.journal.disk < faults new.journal.disk
+  pub well_before : old.slots.journal.phase ≢ Failed
+  pub failed : new.slots.journal.phase ≡ Failed
+  pub cause : faults old.slots.journal.disk < faults new.slots.journal.disk
   pub step : new.step ≡ old.step
-  pub most : new.journal.slot.most ≡ old.journal.slot.most
-  pub room : room new.journal ≡ room old.journal
+  pub room : SameRoom old new
 
 -- why a call that takes no memory wasn't done: the device failed in it, or had failed before
 abbrev pub FailsBy : {D : Type 0} → (D → ℕ) → StoreState D → StoreState D → StoreFault → Type 0
 FailsBy faults old new fault.Device = Breaks faults old new
-FailsBy faults old new fault.Failed = (old.journal.phase ≡ Failed) × (new ≡ old)
+FailsBy faults old new fault.Failed = (old.slots.journal.phase ≡ Failed) × (new ≡ old)
 FailsBy faults old new fault.Memory = ⊥
 FailsBy faults old new fault.Stranger = ⊥
 
 -- why a batch wasn't staged
 abbrev pub RefusesBy : {D : Type 0} → (D → ℕ) → StoreState D → StoreState D → Group → StoreFault → Type 0
 RefusesBy faults old new group fault.Device = Breaks faults old new × GoesOn (kept old) group
-RefusesBy faults old new group fault.Failed = (old.journal.phase ≡ Failed) × (new ≡ old)
-RefusesBy faults old new group fault.Memory = (old.journal.phase ≢ Failed) × (new ≡ old)
+RefusesBy faults old new group fault.Failed = (old.slots.journal.phase ≡ Failed) × (new ≡ old)
+RefusesBy faults old new group fault.Memory = (old.slots.journal.phase ≢ Failed) × (new ≡ old)
 RefusesBy faults old new group fault.Stranger =
-    (old.journal.phase ≢ Failed) × (new ≡ old) × (GoesOn (kept old) group → ⊥)
+    (old.slots.journal.phase ≢ Failed) × (new ≡ old) × (GoesOn (kept old) group → ⊥)
 
 -- what stands against a group before anything is written
 abbrev pub IsStrange : State → Group → StoreFault → Type 0
@@ -60,3 +79,25 @@ IsStrange s group fault.Device = ⊥
 IsStrange s group fault.Failed = ⊥
 IsStrange s group fault.Memory = Unit {0}
 IsStrange s group fault.Stranger = GoesOn s group → ⊥
+
+-- ---- a step of a compaction
+-- it was taken, and the device failed neither before nor in the call. At the last one all room behind
+-- what the other slot was to hold is there; at each other the room stays
+pub record Compacts {D : Type 0} (faults : D → ℕ) (old new : StoreState D) : Type 0 where
+  pub next : new.slots.step ≡ next_step old.slots.step old.slots.left
+  pub well_before : old.slots.journal.phase ≢ Failed
+  pub well_now : new.slots.journal.phase ≢ Failed
+  pub no_failure : faults new.slots.journal.disk ≡ faults old.slots.journal.disk
+  pub most : new.slots.journal.slot.most ≡ old.slots.journal.slot.most
+  pub begun : old.slots.step ≡ Begin → (new.slots.head ≡ IMAGE_PLACE + size (kept old).flags)
+      × (length new.slots.text ≡ new.slots.head)
+  pub room_stays : old.slots.step ≢ SyncOpen → room new.slots.journal ≡ room old.slots.journal
+  pub room_gained : old.slots.step ≡ SyncOpen → room new.slots.journal
+      ≡ old.slots.other.stop - (old.slots.other.start + length old.slots.text)
+
+-- why a step wasn't taken
+abbrev pub StopsBy : {D : Type 0} → (D → ℕ) → StoreState D → StoreState D → StoreFault → Type 0
+StopsBy faults old new fault.Device = Breaks faults old new
+StopsBy faults old new fault.Failed = (old.slots.journal.phase ≡ Failed) × (new ≡ old)
+StopsBy faults old new fault.Memory = (old.slots.journal.phase ≢ Failed) × (new ≡ old)
+StopsBy faults old new fault.Stranger = ⊥

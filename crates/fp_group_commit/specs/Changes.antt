@@ -5,20 +5,20 @@ use Rattle.std.specs.List.{sum_by}
 use Rattle.fp_edit.specs.Edits.{Change, put, delete}
 use Rattle.fp_edit.specs.Flags.{State}
 use Rattle.fp_edit.specs.Following.{Follows}
-use Rattle.fp_journal.specs.State.{JournalState, room}
+use Rattle.fp_compaction.specs.Batches.{HasRoomFor}
 use Rattle.fp_record.specs.Group.{Group}
+use Rattle.fp_slots.specs.State.{SlotsState}
 use Rattle.fp_record.specs.Encoding.{encoding_of_change}
 
 -- the length of a batch's body
 abbrev pub batch_len : Group → ℕ
 batch_len group = 10 + sum_by (λ c. length (encoding_of_change c)) group.changes
 
--- 1 to 64 changes, a body as short as its slot takes, and room for it, the number of its length and its two gates
-pub record HasRoom {D : Type 0} (journal : JournalState D) (group : Group) : Type 0 where
+-- 1 to 64 changes, and room for the batch's body beside a compaction, where one runs
+pub record HasRoom {D : Type 0} (slots : SlotsState D) (group : Group) : Type 0 where
   pub some : 0 < length group.changes
   pub few : length group.changes ≤ 64
-  pub short : batch_len group ≤ journal.slot.most
-  pub room : batch_len group + 6 ≤ room journal
+  pub room : HasRoomFor slots (batch_len group)
 
 -- the group's first revision is the next one, and its changes are accepted one after another
 abbrev pub GoesOn : State → Group → Type 0

@@ -1,22 +1,25 @@
 -- A store: what it keeps, what is on its way, and what a crash may leave of it.
-use Rattle.std.specs.Prelude.{◌≡◌, ◌≢◌, ◌⊎◌, ◌/◌, Bool, true, false, List, [], ◌++◌, ℕ}
+use Rattle.std.specs.Prelude.{◌≡◌, ◌≢◌, ◌⊎◌, ◌<◌, ◌+◌, ◌/◌, ◌^◌, Bool, true, false, List, [], ◌++◌, ℕ}
 use Rattle.std.specs.FinMap as map
 use Rattle.fp_edit.specs.Edits.{Change}
 use Rattle.fp_edit.specs.Flags.{State}
 use Rattle.fp_edit.specs.Log.{after_all}
-use Rattle.fp_journal.specs.State.{JournalState}
+use Rattle.fp_journal.specs.State.{has_begun as begins_at}
 use Rattle.fp_journal.specs.declared.journal.Phase.{Phase}
 use Rattle.fp_journal.specs.declared.journal.Phase.TheVariants.{Idle, Staged, BodySynced, GateOpened, Failed}
 use Rattle.fp_recovery.specs.Stands.{StandsFor}
+use Rattle.fp_slots.specs.State.{SlotsState}
+use Rattle.fp_slots.specs.declared.slots.Step.TheVariants.{Begin, Tail}
 use Rattle.fp_group_commit.specs.Tokens.{Identity}
 
--- The edits sealed so far, and the batch on its way, where `step` isn't Idle
+-- The edits sealed so far, and the batch on its way, where `step` isn't Idle; the slots that keep them,
+-- and a compaction, where one runs
 pub record StoreState (D : Type 0) : Type 0 where
   pub store : Identity
   pub sealed : List Change
   pub staged : List Change
   pub step : Phase
-  pub journal : JournalState D
+  pub slots : SlotsState D
 
 -- the set that is sealed, and the one that the batch on its way makes of it
 abbrev pub kept : {D : Type 0} → StoreState D → State
@@ -33,15 +36,8 @@ is_failed GateOpened = false
 is_failed Failed = true
 
 -- whether opening the gate of the batch on its way has begun: it was done, or failed
-abbrev pub begun_at : Phase → Phase → Bool
-begun_at Idle p = false
-begun_at Staged p = false
-begun_at BodySynced p = is_failed p
-begun_at GateOpened p = true
-begun_at Failed p = false
-
 abbrev pub has_begun : {D : Type 0} → StoreState D → Bool
-has_begun s = begun_at s.step s.journal.phase
+has_begun s = begins_at s.slots.journal.phase s.slots.journal.begun
 
 -- what a crash may leave: the sealed edits, and once its gate may be open perhaps the whole batch on its way
 abbrev pub Leaves : {D : Type 0} → StoreState D → List ℕ → Type 0
@@ -64,11 +60,18 @@ pub record IsFresh {D : Type 0} (s : StoreState D) (set : State) : Type 0 where
   pub start : s.store.start ≡ set
   pub sealed : s.sealed ≡ []
   pub step : s.step ≡ Idle
-  pub phase : s.journal.phase ≡ Idle
+  pub phase : s.slots.journal.phase ≡ Idle
+  pub none_runs : s.slots.step ≡ Begin
 
 -- nothing is on its way, and no call of the device has failed
 abbrev pub IsAtRest : {D : Type 0} → StoreState D → Type 0
-IsAtRest s = (s.step ≡ Idle) × (s.journal.phase ≢ Failed)
+IsAtRest s = (s.step ≡ Idle) × (s.slots.journal.phase ≢ Failed)
+
+-- a step of a compaction may be taken: where none runs there is a generation more, and no batch is on
+-- its way where the tail is next
+pub record MayCompact {D : Type 0} (s : StoreState D) : Type 0 where
+  pub next : s.slots.step ≡ Begin → s.slots.generation + 1 < 2 ^ 64
+  pub still : s.slots.step ≡ Tail → s.step ≡ Idle
 
 -- no flags, in slots of this size
 abbrev pub new_set : ℕ → State

@@ -14,6 +14,7 @@ use crate::fault::StoreFault;
 use crate::part::Part;
 use crate::receipt::Receipt;
 use crate::store::Store;
+use fp_compaction::{make_ready, open_gate, phase, stage, sync_body, sync_gate};
 use fp_disk::Disk;
 use fp_journal::Phase;
 use std::mem;
@@ -22,7 +23,7 @@ impl<D: Disk> Store<D> {
     /// Writes the batch behind the closed gate. All memory of the batch is taken here.
     pub fn stage(&mut self, draw: Draw) -> Result<(), (StoreFault, Draw)>
         requires idle { self.old.step ≡ Idle }
-        requires room { HasRoom self.old.journal draw }
+        requires room { HasRoom self.old.slots draw }
         ensures same { (self.new.store ≡ self.old.store) × (self.new.sealed ≡ self.old.sealed) }
         ensures ok { OnOk result (MovesTo D.faults Staged self.old self.new) }
         ensures staged { OnOk result (self.new.staged ≡ draw.changes) }
@@ -31,17 +32,17 @@ impl<D: Disk> Store<D> {
         ensures fault { IfErr result (λ e. RefusesBy D.faults self.old self.new draw e.0) }
         ensures given_back { IfErr result (λ e. e.1 ≡ draw) }
         ensures same_room { SameRoom self.old self.new }
-        ensures called { Makes (Write ∷ []) (D.calls self.old.journal.disk)
-            (D.calls self.new.journal.disk) result }
-        ensures any_moment { AtAnyMoment D.Disk self.old.journal.disk self.new.journal.disk
+        ensures called { Makes (Write ∷ []) (D.calls self.old.slots.journal.disk)
+            (D.calls self.new.slots.journal.disk) result }
+        ensures any_moment { AtAnyMoment D.Disk self.old.slots.journal.disk self.new.slots.journal.disk
             (Leaves self.old) }
-        ensures exit { EachCrash D.Disk self.new.journal.disk (Leaves self.new) }
-        ensures honest { SameHonesty D.Disk self.old.journal.disk self.new.journal.disk }
+        ensures exit { EachCrash D.Disk self.new.slots.journal.disk (Leaves self.new) }
+        ensures honest { SameHonesty D.Disk self.old.slots.journal.disk self.new.slots.journal.disk }
     {
-        if let Phase::Failed = self.journal.phase() {
+        if let Phase::Failed = phase(&self.slots) {
             return Err((StoreFault::Failed, draw));
         }
-        let most = self.journal.slot().most;
+        let most = self.slots.journal().slot().most;
         let (framed, copies) = match ready(
             self.alloc,
             most,
@@ -52,7 +53,10 @@ impl<D: Disk> Store<D> {
             Ok(ready) => ready,
             Err(fault) => return Err((fault, draw)),
         };
-        let Ok(()) = self.journal.stage(framed) else {
+        let Ok(()) = make_ready(&mut self.slots, &framed) else {
+            return Err((StoreFault::Memory, draw));
+        };
+        let Ok(()) = stage(&mut self.slots, framed) else {
             return Err((StoreFault::Device, draw));
         };
         self.batch = draw;
@@ -69,20 +73,19 @@ impl<D: Disk> Store<D> {
         ensures phase { OnErr result (self.new.step ≡ self.old.step) }
         ensures fault { IfErr result (FailsBy D.faults self.old self.new) }
         ensures same_room { SameRoom self.old self.new }
-        ensures called { Makes (Sync ∷ []) (D.calls self.old.journal.disk)
-            (D.calls self.new.journal.disk) result }
-        ensures any_moment { AtAnyMoment D.Disk self.old.journal.disk self.new.journal.disk
+        ensures called { Makes (Sync ∷ []) (D.calls self.old.slots.journal.disk)
+            (D.calls self.new.slots.journal.disk) result }
+        ensures any_moment { AtAnyMoment D.Disk self.old.slots.journal.disk self.new.slots.journal.disk
             (Leaves self.old) }
-        ensures exit { EachCrash D.Disk self.new.journal.disk (Leaves self.new) }
-        ensures honest { SameHonesty D.Disk self.old.journal.disk self.new.journal.disk }
+        ensures exit { EachCrash D.Disk self.new.slots.journal.disk (Leaves self.new) }
+        ensures honest { SameHonesty D.Disk self.old.slots.journal.disk self.new.slots.journal.disk }
     {
-        if let Phase::Failed = self.journal.phase() {
+        if let Phase::Failed = phase(&self.slots) {
             return Err(StoreFault::Failed);
         }
-        let Ok(synced) = self.journal.sync() else {
+        let Ok(()) = sync_body(&mut self.slots) else {
             return Err(StoreFault::Device);
         };
-        self.journal.body_synced(synced);
         self.step = Phase::BodySynced;
         Ok(())
     }
@@ -95,18 +98,18 @@ impl<D: Disk> Store<D> {
         ensures phase { OnErr result (self.new.step ≡ self.old.step) }
         ensures fault { IfErr result (FailsBy D.faults self.old self.new) }
         ensures same_room { SameRoom self.old self.new }
-        ensures called { Makes (Write ∷ []) (D.calls self.old.journal.disk)
-            (D.calls self.new.journal.disk) result }
+        ensures called { Makes (Write ∷ []) (D.calls self.old.slots.journal.disk)
+            (D.calls self.new.slots.journal.disk) result }
         // This call begins to open the gate, so what it leaves is said of the store after it.
-        ensures any_moment { AtAnyMoment D.Disk self.old.journal.disk self.new.journal.disk
+        ensures any_moment { AtAnyMoment D.Disk self.old.slots.journal.disk self.new.slots.journal.disk
             (Leaves self.new) }
-        ensures exit { EachCrash D.Disk self.new.journal.disk (Leaves self.new) }
-        ensures honest { SameHonesty D.Disk self.old.journal.disk self.new.journal.disk }
+        ensures exit { EachCrash D.Disk self.new.slots.journal.disk (Leaves self.new) }
+        ensures honest { SameHonesty D.Disk self.old.slots.journal.disk self.new.slots.journal.disk }
     {
-        if let Phase::Failed = self.journal.phase() {
+        if let Phase::Failed = phase(&self.slots) {
             return Err(StoreFault::Failed);
         }
-        let Ok(()) = self.journal.open_gate() else {
+        let Ok(()) = open_gate(&mut self.slots) else {
             return Err(StoreFault::Device);
         };
         self.step = Phase::GateOpened;
@@ -126,20 +129,21 @@ impl<D: Disk> Store<D> {
         ensures phase { OnErr result (self.new.step ≡ self.old.step) }
         ensures fault { IfErr result (FailsBy D.faults self.old self.new) }
         ensures takes_room { OnOk result (TakesRoom self.old self.new) }
-        ensures called { Makes (Sync ∷ []) (D.calls self.old.journal.disk)
-            (D.calls self.new.journal.disk) result }
-        ensures any_moment { AtAnyMoment D.Disk self.old.journal.disk self.new.journal.disk
+        ensures called { Makes (Sync ∷ []) (D.calls self.old.slots.journal.disk)
+            (D.calls self.new.slots.journal.disk) result }
+        ensures any_moment { AtAnyMoment D.Disk self.old.slots.journal.disk self.new.slots.journal.disk
             (Leaves self.old) }
-        ensures exit { EachCrash D.Disk self.new.journal.disk (Leaves self.new) }
-        ensures honest { SameHonesty D.Disk self.old.journal.disk self.new.journal.disk }
+        ensures exit { EachCrash D.Disk self.new.slots.journal.disk (Leaves self.new) }
+        ensures honest { SameHonesty D.Disk self.old.slots.journal.disk self.new.slots.journal.disk }
     {
-        if let Phase::Failed = self.journal.phase() {
+        if let Phase::Failed = phase(&self.slots) {
             return Err(StoreFault::Failed);
         }
-        let Ok(synced) = self.journal.sync() else {
+        let Ok(_sealed) = sync_gate(&mut self.slots) else {
             return Err(StoreFault::Device);
         };
-        let _ = self.journal.gate_synced(synced);
+        // What a crash leaves now is known only where it is asked.
+        let _ = phase(&self.slots);
         self.step = Phase::Idle;
         mem::swap(&mut self.ahead, &mut self.copies);
         let front = self.sealed.lengthen::<Draw, InDraw>(&self.batch);

@@ -15,8 +15,9 @@ use crate::part::Applied;
 use fp_disk::Disk;
 use fp_edit::{Edit, FlagSet, copies_of};
 use fp_fronts::Lists;
-use fp_journal::{Framed, Journal};
+use fp_journal::Framed;
 use fp_record::{Batch, MOST_EDITS, encoded_len};
+use fp_slots::Slots;
 use std::alloc::{AllocError, Global};
 use std::collections::VecDeque;
 use std::marker::Model;
@@ -86,15 +87,14 @@ pub fn spelled_sum(edits: &[Edit]) -> u64
     sum
 }
 
-// Whether the journal takes the draw as its next batch.
-pub(crate) fn has_room<D: Disk>(journal: &Journal<D>, draw: &Draw) -> bool
-    ensures { IsTrue result ↔ HasRoom journal.now draw.now }
+// Whether the slots take the draw as the next batch.
+pub(crate) fn has_room<D: Disk>(slots: &Slots<D>, draw: &Draw) -> bool
+    ensures { IsTrue result ↔ HasRoom slots.now draw.now }
 {
     if draw.edits.len() == 0 || draw.edits.len() > MOST_EDITS {
         return false;
     }
-    let len = spelled_sum(&draw.edits);
-    len <= u64::from(journal.slot().most) && len + 6 <= journal.room()
+    fp_compaction::has_room(slots, spelled_sum(&draw.edits))
 }
 
 // The batch as it is written, and its edits once more.

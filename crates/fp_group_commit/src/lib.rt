@@ -2,6 +2,7 @@
 #![tactic(auto)]
 
 mod batch;
+mod compacting;
 mod draw;
 mod fault;
 mod making;

@@ -21,7 +21,6 @@ use crate::store::Store;
 use fp_disk::Disk;
 use fp_edit::FlagSet;
 use fp_layout::{CreateFault as LayoutFault, OpenFault, SlotSize};
-use fp_recovery::Replayer;
 use std::alloc::Global;
 
 // Why a disk isn't made where the size of its slots is none.
@@ -54,9 +53,9 @@ impl<D: Disk> Store<D> {
         ensures fresh { IfOk result (λ r. IsFresh r.0 (new_set size)) }
         ensures opening { IfOk result (λ r. r.1 ≡ r.0.store) }
         ensures made { D.honest disk →
-            IfOk result (λ r. IsNewDisk size (D.bytes r.0.journal.disk)) }
+            IfOk result (λ r. IsNewDisk size (D.bytes r.0.slots.journal.disk)) }
         ensures sure { D.honest disk →
-            IfOk result (λ r. IsDurable (D.unsynced r.0.journal.disk) (new_set size)) }
+            IfOk result (λ r. IsDurable (D.unsynced r.0.slots.journal.disk) (new_set size)) }
 
         ensures not_empty { D.honest disk → IfErr result (λ e. e.0 ≡ NotEmpty →
             (D.bytes disk ≢ []) × (D.bytes e.1 ≡ D.bytes disk)
@@ -70,14 +69,14 @@ impl<D: Disk> Store<D> {
 
         // A crash at any moment leaves what opening calls no disk, or one that stands for no flags.
         ensures any_moment { D.honest disk → D.unsynced disk ≡ all_synced [] → MatchResult result
-            (λ r. LeavesOnly D.moment D.crash_states_since disk r.0.journal.disk (IsNewSetOrNone size))
+            (λ r. LeavesOnly D.moment D.crash_states_since disk r.0.slots.journal.disk (IsNewSetOrNone size))
             (λ e. LeavesOnly D.moment D.crash_states_since disk e.1 (IsNewSetOrNone size)) }
         ensures called { MatchResult result
-            (λ r. D.calls r.0.journal.disk ≡ D.calls disk ++ Length ∷ format_calls)
+            (λ r. D.calls r.0.slots.journal.disk ≡ D.calls disk ++ Length ∷ format_calls)
             (λ e. MakesSome (Length ∷ format_calls) (D.calls disk) (D.calls e.1)) }
         ensures untouched { IfErr result (λ e. (e.0 ≡ Device)
             ⊎ (D.calls e.1 ≡ D.calls disk ++ Length ∷ [])) }
-        ensures honest { MatchResult result (λ r. SameHonesty D.Disk disk r.0.journal.disk)
+        ensures honest { MatchResult result (λ r. SameHonesty D.Disk disk r.0.slots.journal.disk)
             (λ e. SameHonesty D.Disk disk e.1) }
     {
         let Some(size) = SlotSize::new(size) else {
@@ -91,8 +90,7 @@ impl<D: Disk> Store<D> {
         };
         let limit = size.bytes() / 2;
         let set = FlagSet::new(alloc, limit);
-        let journal = slots.into_journal();
-        Ok(Store::adopt(alloc, set, FlagSet::new(alloc, limit), journal))
+        Ok(Store::adopt(alloc, set, FlagSet::new(alloc, limit), slots))
     }
 
     /// Goes on from what a disk stands for. It syncs before it reads, and writes nothing.
@@ -106,31 +104,31 @@ impl<D: Disk> Store<D> {
 
         // Bytes that no sync made sure of are none to open: each outcome stands for the set now.
         ensures sure { D.honest disk →
-            IfOk result (λ r. IsDurable (D.unsynced r.0.journal.disk) r.0.store.start) }
+            IfOk result (λ r. IsDurable (D.unsynced r.0.slots.journal.disk) r.0.store.start) }
 
         ensures fault { D.honest disk → IfErr result (λ e. RefusesBytes (D.bytes disk) e.0) }
         ensures refused { D.honest disk → IfErr result (λ e. IsUnlessWanting (D.bytes disk) e.0) }
-        ensures no_failure { IfOk result (λ r. D.faults r.0.journal.disk ≡ D.faults disk) }
+        ensures no_failure { IfOk result (λ r. D.faults r.0.slots.journal.disk ≡ D.faults disk) }
         ensures cause { IfErr result (λ e. e.0 ≡ opening.Device → D.faults disk < D.faults e.1) }
         ensures called { MatchResult result
-            (λ r. D.calls r.0.journal.disk ≡ D.calls disk ++ Sync ∷ Length ∷ Read ∷ [])
+            (λ r. D.calls r.0.slots.journal.disk ≡ D.calls disk ++ Sync ∷ Length ∷ Read ∷ [])
             (λ e. MakesSome (Sync ∷ Length ∷ Read ∷ []) (D.calls disk) (D.calls e.1)) }
         ensures same { D.honest disk → MatchResult result
-            (λ r. D.bytes r.0.journal.disk ≡ D.bytes disk) (λ e. D.bytes e.1 ≡ D.bytes disk) }
+            (λ r. D.bytes r.0.slots.journal.disk ≡ D.bytes disk) (λ e. D.bytes e.1 ≡ D.bytes disk) }
         ensures any_moment { D.honest disk → MatchResult result
-            (λ r. LeavesOnly D.moment D.crash_states_since disk r.0.journal.disk
+            (λ r. LeavesOnly D.moment D.crash_states_since disk r.0.slots.journal.disk
             (IsOutcome (D.unsynced disk)))
             (λ e. LeavesOnly D.moment D.crash_states_since disk e.1 (IsOutcome (D.unsynced disk))) }
-        ensures honest { MatchResult result (λ r. SameHonesty D.Disk disk r.0.journal.disk)
+        ensures honest { MatchResult result (λ r. SameHonesty D.Disk disk r.0.slots.journal.disk)
             (λ e. SameHonesty D.Disk disk e.1) }
     {
-        let mut restoring = Replayer::new(alloc);
-        let slots = fp_layout::open(alloc, disk, &mut restoring)?;
-        let journal = slots.into_journal();
-        let set = restoring.into_set();
-        let Ok(own) = set.try_copy() else {
-            return Err((OpenFault::Memory, journal.into_disk()));
+        let (slots, set) = match fp_compaction::open(alloc, disk) {
+            Ok(opened) => opened,
+            Err(refused) => return Err(refused),
         };
-        Ok(Store::adopt(alloc, set, own, journal))
+        let Ok(own) = set.try_copy() else {
+            return Err((OpenFault::Memory, slots.into_disk()));
+        };
+        Ok(Store::adopt(alloc, set, own, slots))
     }
 }

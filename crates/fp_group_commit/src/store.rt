@@ -5,28 +5,30 @@ ghost use Rattle.std.specs.Prelude.{◌≡◌, ◌≢◌, ◌+◌, ◌↔◌, Li
 ghost use mathlib.Core.List.{IsPrefix};
 ghost use Rattle.fp_journal.specs.declared.journal.Phase.TheVariants.{Idle, Failed};
 ghost use Rattle.fp_journal.specs.State.{room};
-ghost use Rattle.fp_recovery.specs.Durable.{IsKept};
+ghost use Rattle.fp_compaction.specs.Sets.{IsKeptIn, IsPlaced};
 ghost use Rattle.fp_recovery.specs.Stands.{StandsFor};
-ghost use Rattle.fp_recovery.specs.Room.{HasNoRoom, IsFullFor};
-ghost use Rattle.fp_group_commit.specs.Changes.{HasRoom, batch_len};
-ghost use Rattle.fp_group_commit.specs.Store.{IsAtRest, IsFresh, Leaves, kept, reached};
+ghost use Rattle.fp_slots.specs.declared.slots.Step.TheVariants.{Begin};
+ghost use Rattle.fp_group_commit.specs.Changes.{HasRoom};
+ghost use Rattle.fp_group_commit.specs.Store.{IsFresh, Leaves, MayCompact, reached};
 
 use crate::draw::{Draw, has_room};
 use crate::opening::Opening;
 use crate::part::{Applied, Origin, Part};
 use crate::receipt::Receipt;
 use crate::settled::Told;
+use fp_compaction::phase;
 use fp_disk::Disk;
 use fp_edit::{Edit, FlagSet};
 use fp_fronts::Growing;
-use fp_journal::{Journal, Phase};
+use fp_journal::Phase;
+use fp_slots::{Slots, Step};
 use std::alloc::Global;
 use std::collections::VecDeque;
 use std::marker::Model;
 
 /// A disk that keeps edits, batch after batch. It isn't `Drop`, so that the disk comes back by `into_disk`.
 pub struct Store<D: Disk> {
-    pub(crate) journal: Journal<D>,
+    pub(crate) slots: Slots<D>,
     // The sealed set but for the edits of `ahead`, which are those of the last batch.
     pub(crate) set: FlagSet,
     pub(crate) ahead: VecDeque<Edit>,
@@ -56,42 +58,43 @@ impl<D: Disk> Model for Store<D> {
       sealed = s.sealed.log;
       staged = s.batch.changes;
       step = s.step;
-      journal = s.journal;
+      slots = s.slots;
     } };
 
-    ghost invariant = { λ s. IsSound D.honest D.bytes D.unsynced (record {
+    ghost invariant = { λ s. IsSound D.honest D.unsynced (record {
       store = record { name = s.sealed.name; start = s.origin };
       sealed = s.sealed.log;
       staged = s.batch.changes;
       step = s.step;
-      journal = s.journal;
+      slots = s.slots;
     })
         s.set s.batch.first (changes_of s.ahead.items) (changes_of s.copies.items) };
 }
 
 impl<D: Disk> Store<D> {
-    // Goes on from what a journal's disk stands for. The two sets are the same: one is the store's, one the opening's.
+    // Goes on from what two slots keep. The two sets are the same: one is the store's, one the opening's.
     pub(crate) fn adopt(
         alloc: Global,
         set: FlagSet,
         own: FlagSet,
-        journal: Journal<D>,
+        slots: Slots<D>,
     ) -> (Store<D>, Opening)
         requires same { own ≡ set }
-        requires ready { journal.phase ≡ Idle }
-        requires kept { D.honest journal.disk → IsKept (D.unsynced journal.disk) set journal }
+        requires rest { (slots.journal.phase ≡ Idle) × (slots.step ≡ Begin) }
+        requires kept { (size : ℕ) × IsPlaced size slots set.limit
+            × (D.honest slots.journal.disk → IsKeptIn (D.unsynced slots.journal.disk) slots size set) }
         ensures fresh { IsFresh result.0 set }
-        ensures journal { result.0.journal ≡ journal }
+        ensures slots { result.0.slots ≡ slots }
         ensures opening { result.1 ≡ result.0.store }
-        ensures outcomes { EachCrash D.Disk journal.disk (Leaves result.0) }
+        ensures outcomes { EachCrash D.Disk slots.journal.disk (Leaves result.0) }
     {
-        // What the journal's outcomes are is known only where it is asked.
-        let _ = journal.phase();
+        // What the slots' outcomes are is known only where it is asked.
+        let _ = phase(&slots);
         let (sealed, front) = Growing::<Applied>::new();
         let origin = Origin::of(&set);
         let part = Part::new(origin.again(), front);
         let store = Store {
-            journal,
+            slots,
             set: own,
             ahead: VecDeque::new(alloc),
             copies: VecDeque::new(alloc),
@@ -107,38 +110,55 @@ impl<D: Disk> Store<D> {
     /// How far the batch on its way is, so which call comes next. A call that the device refuses leaves it.
     pub fn phase(&self) -> Phase
         ensures phase { result ≡ self.now.step }
-        ensures outcomes { EachCrash D.Disk self.now.journal.disk (Leaves self.now) }
+        ensures outcomes { EachCrash D.Disk self.now.slots.journal.disk (Leaves self.now) }
     {
-        let _ = &self.journal;
+        let _ = phase(&self.slots);
         self.step
+    }
+
+    /// What a compaction does next, `Begin` where none runs.
+    pub fn step(&self) -> Step
+        ensures { result ≡ self.now.slots.step }
+    {
+        let _ = &self.set;
+        self.slots.step()
     }
 
     /// Whether a call of the device has failed.
     pub fn failed(&self) -> bool
-        ensures { IsTrue result ↔ (self.now.journal.phase ≡ Failed) }
+        ensures { IsTrue result ↔ (self.now.slots.journal.phase ≡ Failed) }
     {
-        matches!(self.journal.phase(), Phase::Failed)
+        let _ = &self.set;
+        matches!(self.slots.journal().phase(), Phase::Failed)
     }
 
-    /// Whether the draw is within the limits of a batch, and fits.
+    /// Whether the draw is within the limits of a batch, and fits beside a compaction, where one runs.
     pub fn has_room(&self, draw: &Draw) -> bool
-        ensures room { IsTrue result ↔ HasRoom self.now.journal draw.now }
-
-        // Where the journal has none, nor has whatever a crash leaves.
-        ensures full { IsAtRest self.now → HasNoRoom self.now.journal (batch_len draw.now)
-            → EachCrash D.Disk self.now.journal.disk
-            (λ c. IsFullFor c (kept self.now) (batch_len draw.now)) }
+        ensures room { IsTrue result ↔ HasRoom self.now.slots draw.now }
     {
-        // What the journal's outcomes are is known only where it is asked.
-        let _ = self.journal.phase();
-        has_room(&self.journal, draw)
+        let _ = &self.set;
+        has_room(&self.slots, draw)
+    }
+
+    /// Whether a step of a compaction may be taken: where none runs there is a generation more, and no batch is on its way where the
+    /// tail is next.
+    pub fn may_compact(&self) -> bool
+        ensures { IsTrue result ↔ MayCompact self.now }
+    {
+        let _ = &self.set;
+        match self.slots.step() {
+            Step::Begin => self.slots.generation() < u64::MAX,
+            Step::Tail => matches!(self.step, Phase::Idle),
+            _ => true,
+        }
     }
 
     /// How many bytes are left for batches.
     pub fn room(&self) -> u64
-        ensures { result ≡ room self.now.journal }
+        ensures { result ≡ room self.now.slots.journal }
     {
-        self.journal.room()
+        let _ = &self.set;
+        self.slots.journal().room()
     }
 
     /// The last revision that is sealed.
@@ -150,13 +170,15 @@ impl<D: Disk> Store<D> {
 
     /// Gives the disk back.
     pub fn into_disk(self) -> D
-        ensures disk { result ≡ self.journal.disk }
+        ensures disk { result ≡ self.slots.journal.disk }
         ensures outcomes { EachCrash D.Disk result (Leaves self) }
-        ensures reads { D.honest result → self.journal.phase ≢ Failed →
+        ensures reads { D.honest result → self.slots.journal.phase ≢ Failed →
             StandsFor (D.bytes result) (reached self) }
     {
+        // What the slots' outcomes are is known only where it is asked.
+        let _ = phase(&self.slots);
         let Store {
-            journal,
+            slots,
             set: _,
             ahead: _,
             copies: _,
@@ -166,7 +188,7 @@ impl<D: Disk> Store<D> {
             origin: _,
             alloc: _,
         } = self;
-        journal.into_disk()
+        slots.into_disk()
     }
 
     /// Shows that what a receipt tells of begins what the store keeps.

@@ -1,119 +1,184 @@
-use Rattle.std.proofs.Common.{length, rules, ◌≡◌, ◌≤◌, ℕ, List, refl, sym, ap, subst, ◌∙◌, inl, inr, arith}
-use Rattle.fp_disk.specs.Outcomes.{LeavesOnly}
+use Rattle.std.proofs.Common.{length, rules, ◌≡◌, ◌≢◌, ℕ, [], ◌∷◌, ◌++◌, false, refl, sym, ap, subst, ◌∙◌, inl, inr, arith}
 use Rattle.fp_disk.specs.Moments.{leaves_map}
-use Rattle.fp_journal.specs.declared.journal.Phase.TheVariants.{Idle, Staged, Failed}
-use Rattle.fp_journal.specs.declared.slot.Slot.{Slot}
+use Rattle.fp_edit.specs.Edits.{Change}
 use Rattle.fp_edit.specs.Following.{changes_of}
-use Rattle.fp_record.proofs.Lengths.{length-encoding_of_batch}
-use Rattle.fp_group_commit.specs.Changes.{HasRoom, batch_len}
-use Rattle.fp_recovery.specs.Stands.{StandsFor}
-use Rattle.fp_group_commit.specs.Store.{StoreState}
 use Rattle.fp_edit.proofs.Followed.{none_left}
-use Rattle.fp_group_commit.proofs.Moves as moves
+use Rattle.fp_journal.specs.Chain.{with_gate}
+use Rattle.fp_disk.specs.declared.history.CallKind.TheVariants.{Write}
+use Rattle.fp_edit.specs.Flags.{State}
+use Rattle.fp_journal.specs.State.{JournalState, room}
+use Rattle.fp_slots.specs.declared.slots.Step.{Step}
+use Rattle.fp_journal.specs.declared.journal.Phase.TheVariants.{Idle, Staged, Failed}
+use Rattle.fp_record.proofs.Lengths.{length-encoding_of_batch}
+use Rattle.fp_slots.specs.State.{IsGrowing, SameCompaction, SlotsState}
+use Rattle.fp_compaction.specs.Batches.{HasRoomFor, tail_of}
+use Rattle.fp_group_commit.specs.Changes.{GoesOn, HasRoom}
+use Rattle.fp_group_commit.specs.Store.{StoreState}
 use Rattle.fp_group_commit.proofs.Steps as steps
 use Rattle.fp_group_commit.proofs.store.Store.stage.Goals as goal
 
 pub returns-in-Failed-clause-any_moment : goal.returns-in-Failed-clause-any_moment
-returns-in-Failed-clause-any_moment g c = let D = g.D.Disk in let m = g.met.D.Disk in rw (← c.self.view_is) (λ h. steps.still D.honest D.bytes D.moment D.crash_states_since D.unsynced c.self.invariant m.only_now h)
+returns-in-Failed-clause-any_moment g c = rw (← c.self.view_is) (λ h. steps.still g.D.Disk c.self.invariant g.met.D.Disk.only_now c.phase.ensures.outcomes h)
 
 pub returns-in-Failed-clause-exit : goal.returns-in-Failed-clause-exit
-returns-in-Failed-clause-exit g c = rw (← c.self.view_is) c.self.invariant.now
+returns-in-Failed-clause-exit g c = rw (← c.self.view_is) (steps.now g.D.Disk c.self.invariant c.phase.ensures.outcomes)
 
 pub returns-in-Err : goal.returns-in-Err
 returns-in-Err g c =
-    let D = g.D.Disk in let m = g.met.D.Disk in let j = c.self.inside.journal in
-    let at : c.self.inside.step ≡ Idle = ap (λ (k : StoreState g.row.D.Denot). k.step) c.self.view_is ∙ c.requires.idle in
+    let D = g.D.Disk in let m = g.met.D.Disk in let i = c.self.invariant in
     rw (← c.self.view_is) (record {
       same = (refl, refl);
       ok = tt;
       staged = tt;
       goes_on = tt;
       phase = refl;
-      fault = steps.refuses D.honest D.bytes D.moment D.crash_states_since D.unsynced c.self.invariant D.faults (λ e. c.in_default.not-Failed (c.phase.ensures.phase ∙ e)) c.args.draw c.in-Err.fault c.in-Err.ensures.fault;
+      fault = steps.refuses D.honest D.unsynced i D.faults (λ e. c.in_default.not-Failed (c.phase.ensures.phase ∙ e)) c.args.draw c.in-Err.fault c.in-Err.ensures.fault;
       given_back = refl;
-      same_room = (refl, refl);
+      same_room = (refl, refl, ((refl, refl, refl, refl), refl));
       called = inl refl;
-      any_moment = λ h. steps.still D.honest D.bytes D.moment D.crash_states_since D.unsynced c.self.invariant m.only_now h;
-      exit = c.self.invariant.now;
+      any_moment = λ h. steps.still D i m.only_now c.phase.ensures.outcomes h;
+      exit = steps.now D i c.phase.ensures.outcomes;
       honest = (λ h. h, λ h. h);
+    })
+
+pub returns-in_default-make_ready : goal.returns-in_default-make_ready
+returns-in_default-make_ready g c =
+    let D = g.D.Disk in let m = g.met.D.Disk in let s = c.self.inside in let t = s.slots in let i = c.self.invariant in
+    let at : s.step ≡ Idle = ap (λ (k : StoreState g.row.D.Denot). k.step) c.self.view_is ∙ c.requires.idle in
+    let well : t.journal.phase ≢ Failed = λ e. c.in_default.not-Failed (c.phase.ensures.phase ∙ e) in
+    let is : t.journal.phase ≡ Idle = steps.goes t.journal.phase s.step well i.going ∙ at in
+    let none = steps.idle_or s.step _ _ at (λ f. f.on_way) i.flight in
+    let mid = c.make_ready.new.slots in let plan = c.make_ready.ensures.same in
+    let begun : mid.journal.begun ≡ false = ap (λ (j : JournalState g.row.D.Denot). j.begun) plan.0 ∙ none.1 in
+    let going : mid.journal.phase ≡ Idle = ap (λ (j : JournalState g.row.D.Denot). j.phase) plan.0 ∙ is in
+    let same = c.in_default-make_ready.ensures.err in
+    rw (← c.self.view_is) (record {
+      same = (refl, refl);
+      ok = tt;
+      staged = tt;
+      goes_on = tt;
+      phase = refl;
+      fault = (well, ap (λ (x : SlotsState g.row.D.Denot). record { store = record { name = s.sealed.name; start = s.origin }; sealed = s.sealed.log; staged = s.batch.changes; step = s.step; slots = x }) same);
+      given_back = refl;
+      same_room = (ap (λ (x : SlotsState g.row.D.Denot). x.journal.slot.most) same, ap (λ (x : SlotsState g.row.D.Denot). room x.journal) same, ((plan.4, plan.7, plan.1, plan.2), ap (λ (x : SlotsState g.row.D.Denot). tail_of x) same));
+      called = inl (ap (λ (x : SlotsState g.row.D.Denot). D.calls x.journal.disk) same);
+      any_moment = rw same (λ h. steps.still D i m.only_now c.phase.ensures.outcomes h);
+      exit = rw same (steps.now D i c.phase.ensures.outcomes);
+      honest = rw same (λ h. h, λ h. h);
     })
 
 pub stage-requires : goal.stage-requires
 stage-requires g c =
-    let D = g.D.Disk in let m = g.met.D.Disk in let j = c.self.inside.journal in
-    let at : c.self.inside.step ≡ Idle = ap (λ (k : StoreState g.row.D.Denot). k.step) c.self.view_is ∙ c.requires.idle in
-    let is : j.phase ≡ Idle = steps.goes j.phase c.self.inside.step (λ e. c.in_default.not-Failed (c.phase.ensures.phase ∙ e)) c.self.invariant.going ∙ at in
-    let room : HasRoom j c.args.draw = subst (λ (k : StoreState g.row.D.Denot). HasRoom k.journal c.args.draw) (sym c.self.view_is) c.requires.room in
+    let D = g.D.Disk in let m = g.met.D.Disk in let s = c.self.inside in let t = s.slots in let i = c.self.invariant in
+    let at : s.step ≡ Idle = ap (λ (k : StoreState g.row.D.Denot). k.step) c.self.view_is ∙ c.requires.idle in
+    let well : t.journal.phase ≢ Failed = λ e. c.in_default.not-Failed (c.phase.ensures.phase ∙ e) in
+    let is : t.journal.phase ≡ Idle = steps.goes t.journal.phase s.step well i.going ∙ at in
+    let none = steps.idle_or s.step _ _ at (λ f. f.on_way) i.flight in
+    let mid = c.make_ready.new.slots in let plan = c.make_ready.ensures.same in
+    let begun : mid.journal.begun ≡ false = ap (λ (j : JournalState g.row.D.Denot). j.begun) plan.0 ∙ none.1 in
+    let going : mid.journal.phase ≡ Idle = ap (λ (j : JournalState g.row.D.Denot). j.phase) plan.0 ∙ is in
+    let i2 = steps.sound_at_rest D.honest D.unsynced i Idle mid (steps.beside_plan t mid plan) (ap (λ (j : JournalState g.row.D.Denot). j.sealed) plan.0) (steps.kept_plan_now t mid plan D.honest D.unsynced i.kept_is) refl begun c.ready.new.set (changes_of c.ready.new.ahead.items) c.ready.ensures.same c.ready.ensures.follows (inl going) in
+    let room : HasRoom t c.args.draw = subst (λ (k : StoreState g.row.D.Denot). HasRoom k.slots c.args.draw) (sym c.self.view_is) c.requires.room in
     let len = ap length c.in-Ok.ensures.spelled ∙ length-encoding_of_batch c.args.draw in
-    let short = room.short in let wide = room.room in
-    record { idle = is; short = omega (arith, len, short); room = omega (arith, len, wide) }
+    record { idle = going; room = subst (λ (n : ℕ). HasRoomFor mid n) (sym len) (steps.room_plan t mid plan room.room) }
 
 pub invariant_of-self-in_default-stage : goal.invariant_of-self-in_default-stage
 invariant_of-self-in_default-stage g c =
-    let D = g.D.Disk in let m = g.met.D.Disk in let j = c.self.inside.journal in
-    let at : c.self.inside.step ≡ Idle = ap (λ (k : StoreState g.row.D.Denot). k.step) c.self.view_is ∙ c.requires.idle in
-    let j1 = c.stage.new.self in let w = c.stage.ensures in
-    let leaves : (h : D.honest j.disk) → LeavesOnly D.moment D.crash_states_since j.disk j1.disk (λ o. StandsFor o _) = λ h. steps.shut D.honest D.bytes D.moment D.crash_states_since D.unsynced c.self.invariant j1.disk h (w.kept.apart h) (w.kept.any_moment h) in
-    steps.sound_at_rest D.honest D.bytes D.moment D.crash_states_since D.unsynced c.self.invariant m.present at j1 c.ready.new.set (changes_of c.ready.new.ahead.items) c.ready.ensures.same c.ready.ensures.follows (inr c.in_default-stage.ensures.phase.1)
-    (λ h1. let h = w.kept.honest.1 h1 in steps.bytes_same D.honest D.bytes D.moment D.crash_states_since D.unsynced c.self.invariant j1 j1.disk h (w.kept.apart h) w.kept.same.1 w.kept.same.2 w.bodies.0)
-    (λ h1 o out. let h = w.kept.honest.1 h1 in inl (moves.exit_has D.honest D.moment D.crash_states_since D.unsynced m.counts_now j.disk j1.disk _ (leaves h) h1 o out))
+    let D = g.D.Disk in let m = g.met.D.Disk in let s = c.self.inside in let t = s.slots in let i = c.self.invariant in
+    let at : s.step ≡ Idle = ap (λ (k : StoreState g.row.D.Denot). k.step) c.self.view_is ∙ c.requires.idle in
+    let well : t.journal.phase ≢ Failed = λ e. c.in_default.not-Failed (c.phase.ensures.phase ∙ e) in
+    let is : t.journal.phase ≡ Idle = steps.goes t.journal.phase s.step well i.going ∙ at in
+    let none = steps.idle_or s.step _ _ at (λ f. f.on_way) i.flight in
+    let mid = c.make_ready.new.slots in let plan = c.make_ready.ensures.same in
+    let begun : mid.journal.begun ≡ false = ap (λ (j : JournalState g.row.D.Denot). j.begun) plan.0 ∙ none.1 in
+    let going : mid.journal.phase ≡ Idle = ap (λ (j : JournalState g.row.D.Denot). j.phase) plan.0 ∙ is in
+    let i2 = steps.sound_at_rest D.honest D.unsynced i Idle mid (steps.beside_plan t mid plan) (ap (λ (j : JournalState g.row.D.Denot). j.sealed) plan.0) (steps.kept_plan_now t mid plan D.honest D.unsynced i.kept_is) refl begun c.ready.new.set (changes_of c.ready.new.ahead.items) c.ready.ensures.same c.ready.ensures.follows (inl going) in
+    let room : HasRoom t c.args.draw = subst (λ (k : StoreState g.row.D.Denot). HasRoom k.slots c.args.draw) (sym c.self.view_is) c.requires.room in
+    let len = ap length c.in-Ok.ensures.spelled ∙ length-encoding_of_batch c.args.draw in
+    let t1 = c.stage.new.slots in let w = c.stage.ensures in
+    let leaves = steps.sealed_leaves D i2 t1 w.stands in
+    let on : steps.SameBeside t t1 = steps.beside_then t mid t1 plan w.same in let bodies = w.bodies.0 ∙ ap (λ (j : JournalState g.row.D.Denot). j.sealed) plan.0 in
+    rw (at) (steps.sound_at_rest D.honest D.unsynced i2 Idle t1 (steps.beside_of mid t1 w.same) w.bodies.0 (steps.kept_on D i2 t1 w.kept w.honest.1) refl w.begun c.ready.new.set (changes_of c.ready.new.ahead.items) refl c.ready.ensures.follows (inr c.in_default-stage.ensures.phase.1))
 
 pub returns-in_default-stage : goal.returns-in_default-stage
 returns-in_default-stage g c =
-    let D = g.D.Disk in let m = g.met.D.Disk in let j = c.self.inside.journal in
-    let at : c.self.inside.step ≡ Idle = ap (λ (k : StoreState g.row.D.Denot). k.step) c.self.view_is ∙ c.requires.idle in
-    let j1 = c.stage.new.self in let w = c.stage.ensures in
-    let leaves : (h : D.honest j.disk) → LeavesOnly D.moment D.crash_states_since j.disk j1.disk (λ o. StandsFor o _) = λ h. steps.shut D.honest D.bytes D.moment D.crash_states_since D.unsynced c.self.invariant j1.disk h (w.kept.apart h) (w.kept.any_moment h) in
+    let D = g.D.Disk in let m = g.met.D.Disk in let s = c.self.inside in let t = s.slots in let i = c.self.invariant in
+    let at : s.step ≡ Idle = ap (λ (k : StoreState g.row.D.Denot). k.step) c.self.view_is ∙ c.requires.idle in
+    let well : t.journal.phase ≢ Failed = λ e. c.in_default.not-Failed (c.phase.ensures.phase ∙ e) in
+    let is : t.journal.phase ≡ Idle = steps.goes t.journal.phase s.step well i.going ∙ at in
+    let none = steps.idle_or s.step _ _ at (λ f. f.on_way) i.flight in
+    let mid = c.make_ready.new.slots in let plan = c.make_ready.ensures.same in
+    let begun : mid.journal.begun ≡ false = ap (λ (j : JournalState g.row.D.Denot). j.begun) plan.0 ∙ none.1 in
+    let going : mid.journal.phase ≡ Idle = ap (λ (j : JournalState g.row.D.Denot). j.phase) plan.0 ∙ is in
+    let i2 = steps.sound_at_rest D.honest D.unsynced i Idle mid (steps.beside_plan t mid plan) (ap (λ (j : JournalState g.row.D.Denot). j.sealed) plan.0) (steps.kept_plan_now t mid plan D.honest D.unsynced i.kept_is) refl begun c.ready.new.set (changes_of c.ready.new.ahead.items) c.ready.ensures.same c.ready.ensures.follows (inl going) in
+    let room : HasRoom t c.args.draw = subst (λ (k : StoreState g.row.D.Denot). HasRoom k.slots c.args.draw) (sym c.self.view_is) c.requires.room in
+    let len = ap length c.in-Ok.ensures.spelled ∙ length-encoding_of_batch c.args.draw in
+    let t1 = c.stage.new.slots in let w = c.stage.ensures in
+    let leaves = steps.sealed_leaves D i2 t1 w.stands in
+    let on : steps.SameBeside t t1 = steps.beside_then t mid t1 plan w.same in let bodies = w.bodies.0 ∙ ap (λ (j : JournalState g.row.D.Denot). j.sealed) plan.0 in
     rw (← c.self.view_is) (record {
       same = (refl, refl);
       ok = tt;
       staged = tt;
       goes_on = tt;
       phase = refl;
-      fault = (steps.breaks D.faults (λ e. c.in_default.not-Failed (c.phase.ensures.phase ∙ e)) c.in_default-stage.ensures.phase.1 (search rules) refl w.kept.same.1 w.kept.same.2 w.bodies.0, steps.goes_kept D.honest D.bytes D.moment D.crash_states_since D.unsynced c.self.invariant c.args.draw c.in-Ok.ensures.goes_on);
+      fault = (steps.moved_breaks D.honest D.unsynced i s.step t1 on bodies D.faults well c.in_default-stage.ensures.phase.1 (search rules) refl, steps.goes_kept D.honest D.unsynced i c.args.draw c.in-Ok.ensures.goes_on);
       given_back = refl;
-      same_room = steps.same_room j j1 w.kept.same.1 w.kept.same.2 w.bodies.0;
-      called = inr w.called;
-      any_moment = λ h. leaves_map D.moment D.crash_states_since j.disk j1.disk _ _ (λ o stands. inl stands) (leaves h);
-      exit = (λ h1 o out. let h = w.kept.honest.1 h1 in inl (moves.exit_has D.honest D.moment D.crash_states_since D.unsynced m.counts_now j.disk j1.disk _ (leaves h) h1 o out));
-      honest = w.kept.honest;
+      same_room = steps.moved_room D.honest D.unsynced i s.step t1 on bodies;
+      called = inr (w.called ∙ ap (λ (j : JournalState g.row.D.Denot). D.calls j.disk ++ Write ∷ []) plan.0);
+      any_moment = steps.from_plan D t mid t1 plan (λ h. leaves_map D.moment D.crash_states_since mid.journal.disk t1.journal.disk _ _ (λ o stands. inl stands) (leaves h));
+      exit = steps.exit_has D m.counts_now mid.journal.disk t1.journal.disk _ _ (λ o stands. inl stands) w.honest.1 leaves;
+      honest = steps.honest_plan D t mid t1 plan w.honest;
     })
 
 pub invariant_of-self-2 : goal.invariant_of-self-2
 invariant_of-self-2 g c =
-    let D = g.D.Disk in let m = g.met.D.Disk in let j = c.self.inside.journal in
-    let at : c.self.inside.step ≡ Idle = ap (λ (k : StoreState g.row.D.Denot). k.step) c.self.view_is ∙ c.requires.idle in
-    let is : j.phase ≡ Idle = steps.goes j.phase c.self.inside.step (λ e. c.in_default.not-Failed (c.phase.ensures.phase ∙ e)) c.self.invariant.going ∙ at in
-    let room : HasRoom j c.args.draw = subst (λ (k : StoreState g.row.D.Denot). HasRoom k.journal c.args.draw) (sym c.self.view_is) c.requires.room in
+    let D = g.D.Disk in let m = g.met.D.Disk in let s = c.self.inside in let t = s.slots in let i = c.self.invariant in
+    let at : s.step ≡ Idle = ap (λ (k : StoreState g.row.D.Denot). k.step) c.self.view_is ∙ c.requires.idle in
+    let well : t.journal.phase ≢ Failed = λ e. c.in_default.not-Failed (c.phase.ensures.phase ∙ e) in
+    let is : t.journal.phase ≡ Idle = steps.goes t.journal.phase s.step well i.going ∙ at in
+    let none = steps.idle_or s.step _ _ at (λ f. f.on_way) i.flight in
+    let mid = c.make_ready.new.slots in let plan = c.make_ready.ensures.same in
+    let begun : mid.journal.begun ≡ false = ap (λ (j : JournalState g.row.D.Denot). j.begun) plan.0 ∙ none.1 in
+    let going : mid.journal.phase ≡ Idle = ap (λ (j : JournalState g.row.D.Denot). j.phase) plan.0 ∙ is in
+    let i2 = steps.sound_at_rest D.honest D.unsynced i Idle mid (steps.beside_plan t mid plan) (ap (λ (j : JournalState g.row.D.Denot). j.sealed) plan.0) (steps.kept_plan_now t mid plan D.honest D.unsynced i.kept_is) refl begun c.ready.new.set (changes_of c.ready.new.ahead.items) c.ready.ensures.same c.ready.ensures.follows (inl going) in
+    let room : HasRoom t c.args.draw = subst (λ (k : StoreState g.row.D.Denot). HasRoom k.slots c.args.draw) (sym c.self.view_is) c.requires.room in
     let len = ap length c.in-Ok.ensures.spelled ∙ length-encoding_of_batch c.args.draw in
-    let j1 = c.stage.new.self in let w = c.stage.ensures in
-    let leaves : (h : D.honest j.disk) → LeavesOnly D.moment D.crash_states_since j.disk j1.disk (λ o. StandsFor o _) = λ h. steps.shut D.honest D.bytes D.moment D.crash_states_since D.unsynced c.self.invariant j1.disk h (w.kept.apart h) (w.kept.any_moment h) in
-    let short = room.short in
-    let body : length j1.staged ≡ batch_len c.args.draw = ap length w.bodies.1 ∙ len in
-    let left = steps.room_same j j1 w.kept.same.1 w.kept.same.2 w.bodies.0 in let needs = room.room in
-    let fits : length j1.staged ≤ j1.slot.most = subst (λ (b : List ℕ). length b ≤ j1.slot.most) (sym w.bodies.1) (subst (λ (p : Slot). length c.in-Ok.ready.0 ≤ p.most) (sym w.kept.same.1) (omega (arith, len, short))) in
-    steps.sound_staged D.honest D.bytes D.moment D.crash_states_since D.unsynced c.self.invariant m.present c.args.draw j1 c.ready.new.set (changes_of c.ready.new.ahead.items) (changes_of c.in-Ok.ready.1.items) c.ready.ensures.same c.ready.ensures.follows (none_left c.ready.new.ahead.items c.in-Ok.ensures.done) c.in-Ok.ensures.copied
-    c.in-Ok.ensures.goes_on c.in-Ok.ensures.lawful (w.bodies.1 ∙ c.in-Ok.ensures.spelled) fits body (omega (arith, body, left, needs)) c.in-Ok-stage.ensures.phase.0
-    (λ h1. let h = w.kept.honest.1 h1 in steps.bytes_same D.honest D.bytes D.moment D.crash_states_since D.unsynced c.self.invariant j1 j1.disk h (w.kept.apart h) w.kept.same.1 w.kept.same.2 w.bodies.0)
-    (λ h1 o out. let h = w.kept.honest.1 h1 in inl (moves.exit_has D.honest D.moment D.crash_states_since D.unsynced m.counts_now j.disk j1.disk _ (leaves h) h1 o out))
+    let t1 = c.stage.new.slots in let w = c.stage.ensures in
+    let leaves = steps.sealed_leaves D i2 t1 w.stands in
+    let on : steps.SameBeside t t1 = steps.beside_then t mid t1 plan w.same in let bodies = w.bodies.0 ∙ ap (λ (j : JournalState g.row.D.Denot). j.sealed) plan.0 in
+    let body = ap length w.bodies.1 ∙ len in
+    steps.sound_staged D.honest D.unsynced i2 Staged t1 (steps.beside_of mid t1 w.same) w.bodies.0 (steps.kept_on D i2 t1 w.kept w.honest.1) c.args.draw c.ready.new.set (changes_of c.ready.new.ahead.items) (changes_of c.in-Ok.ready.1.items) refl c.ready.ensures.follows (none_left c.ready.new.ahead.items c.in-Ok.ensures.done) c.in-Ok.ensures.copied
+    (subst (λ (x : State). GoesOn x c.args.draw) (sym c.ready.ensures.same) c.in-Ok.ensures.goes_on) c.in-Ok.ensures.lawful (w.bodies.1 ∙ c.in-Ok.ensures.spelled) body (steps.room_plan t mid plan room.room)
+    (λ growing. w.same.8 ∙ c.in-Ok-make_ready.ensures.ready (subst (λ (x : Step). IsGrowing x) w.same.4 growing) ∙ sym (ap with_gate w.bodies.1)) c.in-Ok-stage.ensures.phase.0
 
 pub returns : goal.returns
 returns g c =
-    let D = g.D.Disk in let m = g.met.D.Disk in let j = c.self.inside.journal in
-    let at : c.self.inside.step ≡ Idle = ap (λ (k : StoreState g.row.D.Denot). k.step) c.self.view_is ∙ c.requires.idle in
-    let j1 = c.stage.new.self in let w = c.stage.ensures in
-    let leaves : (h : D.honest j.disk) → LeavesOnly D.moment D.crash_states_since j.disk j1.disk (λ o. StandsFor o _) = λ h. steps.shut D.honest D.bytes D.moment D.crash_states_since D.unsynced c.self.invariant j1.disk h (w.kept.apart h) (w.kept.any_moment h) in
+    let D = g.D.Disk in let m = g.met.D.Disk in let s = c.self.inside in let t = s.slots in let i = c.self.invariant in
+    let at : s.step ≡ Idle = ap (λ (k : StoreState g.row.D.Denot). k.step) c.self.view_is ∙ c.requires.idle in
+    let well : t.journal.phase ≢ Failed = λ e. c.in_default.not-Failed (c.phase.ensures.phase ∙ e) in
+    let is : t.journal.phase ≡ Idle = steps.goes t.journal.phase s.step well i.going ∙ at in
+    let none = steps.idle_or s.step _ _ at (λ f. f.on_way) i.flight in
+    let mid = c.make_ready.new.slots in let plan = c.make_ready.ensures.same in
+    let begun : mid.journal.begun ≡ false = ap (λ (j : JournalState g.row.D.Denot). j.begun) plan.0 ∙ none.1 in
+    let going : mid.journal.phase ≡ Idle = ap (λ (j : JournalState g.row.D.Denot). j.phase) plan.0 ∙ is in
+    let i2 = steps.sound_at_rest D.honest D.unsynced i Idle mid (steps.beside_plan t mid plan) (ap (λ (j : JournalState g.row.D.Denot). j.sealed) plan.0) (steps.kept_plan_now t mid plan D.honest D.unsynced i.kept_is) refl begun c.ready.new.set (changes_of c.ready.new.ahead.items) c.ready.ensures.same c.ready.ensures.follows (inl going) in
+    let room : HasRoom t c.args.draw = subst (λ (k : StoreState g.row.D.Denot). HasRoom k.slots c.args.draw) (sym c.self.view_is) c.requires.room in
+    let len = ap length c.in-Ok.ensures.spelled ∙ length-encoding_of_batch c.args.draw in
+    let t1 = c.stage.new.slots in let w = c.stage.ensures in
+    let leaves = steps.sealed_leaves D i2 t1 w.stands in
+    let on : steps.SameBeside t t1 = steps.beside_then t mid t1 plan w.same in let bodies = w.bodies.0 ∙ ap (λ (j : JournalState g.row.D.Denot). j.sealed) plan.0 in
     rw (← c.self.view_is) (record {
       same = (refl, refl);
-      ok = record { step = refl; well_before = (λ e. c.in_default.not-Failed (c.phase.ensures.phase ∙ e)); well_now = (λ e. let both : Staged ≡ Failed = sym c.in-Ok-stage.ensures.phase.0 ∙ e in absurd cc); no_failure = search rules };
+      ok = record { step = refl; well_before = well; well_now = (λ e. let both : Staged ≡ Failed = sym c.in-Ok-stage.ensures.phase.0 ∙ e in absurd (cc both)); no_failure = search rules };
       staged = refl;
-      goes_on = steps.goes_kept D.honest D.bytes D.moment D.crash_states_since D.unsynced c.self.invariant c.args.draw c.in-Ok.ensures.goes_on;
+      goes_on = steps.goes_kept D.honest D.unsynced i c.args.draw c.in-Ok.ensures.goes_on;
       phase = tt;
       fault = tt;
       given_back = tt;
-      same_room = steps.same_room j j1 w.kept.same.1 w.kept.same.2 w.bodies.0;
-      called = w.called;
-      any_moment = λ h. leaves_map D.moment D.crash_states_since j.disk j1.disk _ _ (λ o stands. inl stands) (leaves h);
-      exit = (λ h1 o out. let h = w.kept.honest.1 h1 in inl (moves.exit_has D.honest D.moment D.crash_states_since D.unsynced m.counts_now j.disk j1.disk _ (leaves h) h1 o out));
-      honest = w.kept.honest;
+      same_room = steps.moved_room D.honest D.unsynced i Staged t1 on bodies;
+      called = w.called ∙ ap (λ (j : JournalState g.row.D.Denot). D.calls j.disk ++ Write ∷ []) plan.0;
+      any_moment = steps.from_plan D t mid t1 plan (λ h. leaves_map D.moment D.crash_states_since mid.journal.disk t1.journal.disk _ _ (λ o stands. inl stands) (leaves h));
+      exit = steps.exit_has D m.counts_now mid.journal.disk t1.journal.disk _ _ (λ o stands. inl stands) w.honest.1 leaves;
+      honest = steps.honest_plan D t mid t1 plan w.honest;
     })

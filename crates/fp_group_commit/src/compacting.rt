@@ -1,0 +1,74 @@
+//! A step of a compaction, beside the batches.
+
+ghost use Rattle.fp_disk.specs.Crashes.{AtAnyMoment, EachCrash, SameHonesty};
+ghost use Rattle.fp_disk.specs.History.{Makes};
+ghost use Rattle.fp_edit.specs.Following.{Follows, changes_of};
+ghost use Rattle.fp_edit.specs.Log.{after_all};
+ghost use Rattle.fp_journal.specs.declared.journal.Phase.TheVariants.{Idle};
+ghost use Rattle.std.specs.Prelude.{◌≡◌, length, IfOk, IfErr, OnOk};
+ghost use Rattle.fp_compaction.specs.Steps.{calls_of};
+ghost use Rattle.fp_group_commit.specs.Calls.{Compacts, SameStore, StopsBy};
+ghost use Rattle.fp_group_commit.specs.Store.{Leaves, MayCompact};
+
+use crate::fault::StoreFault;
+use crate::store::Store;
+use fp_compaction::{StepFault, phase, take_step};
+use fp_disk::Disk;
+use fp_edit::{Edit, FlagSet};
+use fp_journal::Phase;
+use fp_slots::Step;
+use std::alloc::AllocError;
+use std::collections::VecDeque;
+
+// Takes into the set what is ahead of it. Where a batch is on its way nothing is.
+fn catch_up(
+    step: Phase,
+    set: &mut FlagSet,
+    ahead: &mut VecDeque<Edit>,
+) -> Result<(), AllocError>
+    requires follows { Follows set.old (changes_of ahead.old.items) }
+    ensures same { after_all set.new (changes_of ahead.new.items)
+        ≡ after_all set.old (changes_of ahead.old.items) }
+    ensures follows { Follows set.new (changes_of ahead.new.items) }
+    ensures done { OnOk result (step ≡ Idle → length ahead.new.items ≡ 0) }
+    ensures still { (step ≡ Idle → ⊥) → changes_of ahead.new.items ≡ changes_of ahead.old.items }
+{
+    match step {
+        Phase::Idle => set.catch_up(ahead),
+        Phase::Staged | Phase::BodySynced | Phase::GateOpened | Phase::Failed => Ok(()),
+    }
+}
+
+impl<D: Disk> Store<D> {
+    /// Takes the next step of a compaction, with one call of the disk at most, and answers the one behind it. It takes memory as one
+    /// begins, and for what the last batch adds to the set.
+    pub fn compact_step(&mut self) -> Result<Step, StoreFault>
+        requires { MayCompact self.old }
+        ensures same { SameStore self.old self.new }
+        ensures phase { self.new.step ≡ self.old.step }
+        ensures ok { OnOk result (Compacts D.faults self.old self.new) }
+        ensures next { IfOk result (λ next. next ≡ self.new.slots.step) }
+        ensures fault { IfErr result (StopsBy D.faults self.old self.new) }
+        ensures called { Makes (calls_of self.old.slots.step self.old.slots.may_open)
+            (D.calls self.old.slots.journal.disk) (D.calls self.new.slots.journal.disk) result }
+        ensures any_moment { AtAnyMoment D.Disk self.old.slots.journal.disk
+            self.new.slots.journal.disk (Leaves self.old) }
+        ensures exit { EachCrash D.Disk self.new.slots.journal.disk (Leaves self.new) }
+        ensures honest { SameHonesty D.Disk self.old.slots.journal.disk
+            self.new.slots.journal.disk }
+    {
+        if let Phase::Failed = phase(&self.slots) {
+            return Err(StoreFault::Failed);
+        }
+        let Ok(()) = catch_up(self.step, &mut self.set, &mut self.ahead) else {
+            return Err(StoreFault::Memory);
+        };
+        let Err(fault) = take_step(self.alloc, &mut self.slots, &self.set) else {
+            return Ok(self.slots.step());
+        };
+        if let StepFault::Memory = fault {
+            return Err(StoreFault::Memory);
+        }
+        Err(StoreFault::Device)
+    }
+}
