@@ -1,8 +1,9 @@
-use Rattle.std.proofs.Common.{◌≡◌, ◌≢◌, ◌⊎◌, ℕ, List, Bool, Option, true, map, Result, Ok, IfOk, IfErr, IfSome, OnOk, refl, inl, inr, rules, sym, ap, subst, ◌∙◌}
+use Rattle.std.proofs.Common.{◌≡◌, ◌≢◌, ◌⊎◌, ◌∷◌, [], ◌++◌, append_assoc, ℕ, List, Bool, Option, true, map, Result, Ok, IfOk, IfErr, IfSome, OnOk, refl, inl, inr, sym, ap, subst, ◌∙◌}
 use Rattle.std.proofs.lemmas.Option.{IfSome_then}
 use Rattle.std.specs.Io.KnownBytes.{Appends}
 use Rattle.fp_disk.specs.Moments.{leaves_map}
 use Rattle.fp_disk.specs.Outcomes.{IsOutcome, LeavesOnly}
+use Rattle.fp_disk.specs.declared.history.CallKind.TheVariants.{Length, Read, Sync}
 use Rattle.fp_edit.specs.Flags.{State}
 use Rattle.fp_imports.specs.Document.{Flag}
 use Rattle.fp_recovery.specs.Stands.{StandsFor}
@@ -70,7 +71,17 @@ returns-in-Err-read_document-clause-cause g c = λ is.
 
 pub returns-in-Err-read_document-clause-told : goal.returns-in-Err-read_document-clause-told
 returns-in-Err-read_document-clause-told g c = λ h same.
-    inl (λ is. subst (λ (f : CommandFault). IsDocumentFault (g.R.Read.remaining c.args.r.now.inner) f) is c.in-Err-read_document.ensures.fault, refl, search rules)
+    let D = g.D.Disk in let here = c.into_disk.ensures.disk in let e = c.in-Ok.ensures in
+    inl (
+      λ is. subst (λ (f : CommandFault). IsDocumentFault (g.R.Read.remaining c.args.r.now.inner) f) is c.in-Err-read_document.ensures.fault,
+      refl,
+      record {
+        same = λ honest. ap D.bytes here ∙ e.same honest;
+        any_moment = λ honest. subst (λ (x : g.row.D.Denot). LeavesOnly D.moment D.crash_states_since c.args.disk x (IsOutcome (D.unsynced c.args.disk))) (sym here) (e.any_moment honest);
+        called = inr (inr (inr (ap D.calls here ∙ e.called
+            ∙ sym (append_assoc (D.calls c.args.disk ++ Sync ∷ []) (Length ∷ []) (Read ∷ []) ∙ append_assoc (D.calls c.args.disk) (Sync ∷ []) (Length ∷ Read ∷ [])))));
+      },
+    )
 
 -- ---- it was
 
