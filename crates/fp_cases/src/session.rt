@@ -121,7 +121,8 @@ impl Session {
             "method" | "if-none-match" | "ask" | "ask-too-long" => {
                 self.run_request(word, first, operand, out)
             }
-            "hello" | "subscriber" | "frame" | "feed" | "pieces" | "halves" | "waiting" => {
+            "hello" | "subscriber" | "frame" | "feed" | "pieces" | "halves" | "watch"
+            | "waiting" => {
                 self.subscribe(word, first, operand, out)
             }
             _ => self.run_word(word, first, out),

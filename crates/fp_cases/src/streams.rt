@@ -2,7 +2,8 @@
 
 use crate::expand::put_bytes;
 use fp_stream::{
-    Decoder, Frame, FrameFault, Hello, HelloFault, MOST_BODY, read_hello, write_frame, write_hello,
+    Decoder, Frame, FrameFault, Hello, HelloFault, MOST_BODY, WatchFault, read_hello, watch_loop,
+    write_frame, write_hello,
 };
 use fp_streams::FailureCounted;
 use std::alloc::{AllocError, Global};
@@ -39,6 +40,7 @@ impl Subscriber {
             "feed" => fed(alloc, &mut self.decoder, operand, out),
             "pieces" => self.in_pieces(alloc, number, operand, out),
             "halves" => self.in_halves(alloc, operand, out),
+            "watch" => watched(alloc, self.hello, operand, out),
             _ => waiting(alloc, number, operand, out),
         }
     }
@@ -201,6 +203,30 @@ fn put_length(frame: &Frame, out: &mut String) -> Result<(), AllocError> {
         frame.revision,
         frame.body.len()
     )
+}
+
+// What a subscriber is shown of the bytes, a long text by its length, and how that ended.
+fn watched(
+    alloc: Global,
+    hello: Hello,
+    bytes: &[u8],
+    out: &mut String,
+) -> Result<(), AllocError> {
+    let mut reader = FailureCounted::new(bytes);
+    let mut writer = FailureCounted::new(Vec::new(alloc));
+    let ended = watch_loop(alloc, &mut reader, &mut writer, hello);
+    let shown = writer.into_inner();
+    if shown.len() > 200 {
+        write!(out, "{} bytes", shown.len())?;
+    } else {
+        put_bytes(out, &shown)?;
+    }
+    out.push('\n')?;
+    match ended {
+        Ok(()) => out.push_str("the end"),
+        Err(WatchFault::BadFrame(fault)) => put_fault(fault, out),
+        Err(WatchFault::Device | WatchFault::Memory) => Err(AllocError),
+    }
 }
 
 // Whether so many decoders wait for more at once, each of which has taken the piece.

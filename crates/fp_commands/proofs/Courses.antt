@@ -24,6 +24,7 @@ use Rattle.fp_session.specs.declared.fault.ApplyFault.{ApplyFault}
 use Rattle.fp_session.specs.declared.fault.ApplyFault.TheVariants.{Device, StoreFailed, Memory, CommitMemory}
 use Rattle.fp_commands.specs.Disks.{Asked, CallsBatches, IsLeftOnDisk, IsToldOnDisk, LacksRoom}
 use Rattle.fp_commands.specs.Faults.{of_run}
+use Rattle.fp_commands.specs.declared.fault.CommandFault.{CommandFault}
 use Rattle.fp_commands.specs.declared.fault.CommandFault.TheVariants as command
 
 -- ---- whatever keeps the flags
@@ -87,10 +88,10 @@ module _ {D : Type 0} (disk : Ghosts D) (d0 d1 : D) (s k : SessionState D) (stan
       (leads h (disk.bytes (disk_of k)) (l.each (disk.bytes (disk_of k)) (counts_now (disk_of k) (disk.moment (disk_of s)) (disk.bytes (disk_of k)) there l.later (present (disk_of k) there))))
 
   -- what was told of it
-  pub ran-told : (old new : Option (List ℕ)) → disk.honest d0 → EachCrash disk d1 (StandsAhead k.desk) → ((u : State) → IsAhead k.desk u → Asked left Reads (λ asks. IsToldBy (flags_of s) asks old new u))
-      → EachCrash disk d1 (λ c. IsToldOnDisk (disk.bytes d0) c left Reads old new)
-  ran-told old new h0 keeps tells = λ h c o.
-      let t = keeps h c o in λ start there. (t.0, t.2, subst (λ x. Asked left Reads (λ asks. IsToldBy x asks old new t.0)) (sym (only h0 start there)) (tells t.0 t.1))
+  pub ran-told : (most : ℕ) (fault : CommandFault) (ended : ApplyFault) (old new : Option (List ℕ)) (taken : State) → fault ≡ of_run ended → disk.honest d0 → EachCrash disk d1 (StandsAhead k.desk)
+      → ((u : State) → IsAhead k.desk u → Asked left Reads (λ asks. IsToldBy (flags_of s) asks most ended old new taken u)) → EachCrash disk d1 (λ c. IsToldOnDisk (disk.bytes d0) c left Reads most fault old new)
+  ran-told most fault ended old new taken is h0 keeps tells = λ h c o.
+      let t = keeps h c o in λ start there. (t.0, taken, ended, t.2, is, subst (λ x. Asked left Reads (λ asks. IsToldBy x asks most ended old new taken t.0)) (sym (only h0 start there)) (tells t.0 t.1))
 
   -- why it failed
   pub ran-cause : (x : SessionState D) → Keeps disk s x → ((u : State) → IsAhead x.desk u → P u) → Fails disk commit.StoreFailed x k → IsReady disk s → disk.faults (disk_of s) ≡ disk.faults d0

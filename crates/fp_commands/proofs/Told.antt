@@ -1,5 +1,5 @@
 -- What the program tells, and what it shows.
-use Rattle.std.proofs.Common.{List, ℕ, Option, Some, None, Result, Ok, Err, IfSome, OnOk}
+use Rattle.std.proofs.Common.{◌≢◌, List, ℕ, Option, Some, None, Result, Ok, Err, IfSome, OnOk}
 use Rattle.fp_layout.specs.declared.fault.OpenFault.{OpenFault}
 use Rattle.fp_layout.specs.declared.fault.OpenFault.TheVariants.{Unformatted, UnknownVersion, Damaged, Device, Memory}
 use Rattle.fp_session.specs.declared.fault.ApplyFault.{ApplyFault}
@@ -47,6 +47,14 @@ applying-run is_honest c run.Device = tt
 applying-run is_honest c run.StoreFailed = tt
 applying-run is_honest c run.Memory = tt
 applying-run is_honest c run.CommitMemory = tt
+
+-- no store fails where none was opened
+pub open_not_failed : (f : OpenFault) → of_open f ≢ command.StoreFailed
+open_not_failed Unformatted is = cc
+open_not_failed (UnknownVersion v) is = cc
+open_not_failed (Damaged at) is = cc
+open_not_failed Device is = cc
+open_not_failed Memory is = cc
 
 -- ---- what is shown
 

@@ -1,5 +1,5 @@
 -- What a command over a disk comes to.
-use Rattle.std.specs.Prelude.{◌≡◌, ◌⊎◌, ◌<◌, ℕ, List, [], ◌∷◌, ◌++◌, length, Bool, true, Option, IfSome, Result, Ok, Err}
+use Rattle.std.specs.Prelude.{◌≡◌, ◌≢◌, ◌⊎◌, ◌<◌, ℕ, List, [], ◌∷◌, ◌++◌, length, Bool, true, Option, IfSome, Result, Ok, Err}
 use Rattle.std.specs.Io.KnownBytes.{Appends}
 use Rattle.fp_disk.specs.Crashes.{AtAnyMoment}
 use Rattle.fp_disk.specs.History.{MakesSome}
@@ -15,6 +15,7 @@ use Rattle.fp_edit.specs.Log.{after_all}
 use Rattle.fp_session.specs.Asks.{Ask, asked_by_flags, asked_by_input}
 use Rattle.fp_session.specs.Run.{after, IsAfterPrefix, IsRunWritten, IsToldBy, script, show_line}
 use Rattle.fp_session.specs.Session.{calls_of}
+use Rattle.fp_session.specs.declared.fault.ApplyFault.{ApplyFault}
 use Rattle.fp_disk.specs.declared.history.CallKind.{CallKind}
 use Rattle.fp_recovery.specs.Durable.{IsDurable}
 use Rattle.fp_recovery.specs.Refusals.{RefusesBytes, StandsForNone}
@@ -22,6 +23,7 @@ use Rattle.fp_recovery.specs.Room.{IsFull}
 use Rattle.fp_group_commit.specs.Changes.{batch_len}
 use Rattle.fp_recovery.specs.Stands.{StandsFor}
 use Rattle.fp_commands.specs.Documents.{import_of, IsDocumentFault}
+use Rattle.fp_commands.specs.Faults.{of_run}
 use Rattle.fp_commands.specs.declared.fault.CommandFault.{CommandFault}
 use Rattle.fp_commands.specs.declared.fault.CommandFault.TheVariants.{NotEmpty, Unformatted, UnknownVersion, Damaged, Device, StoreFailed, Memory, NotDocument, UnknownEvaluator, EvaluatorsTooDeep, BadKey, Flag}
 
@@ -134,12 +136,19 @@ IsLeftOnDisk before now left Reads = (start : State) → StandsFor before start
     → (flags : State) × StandsFor now flags
     × ((flags ≡ start) ⊎ Asked left Reads (λ asks. IsAfterPrefix start asks flags))
 
--- and for flags that hold all that was told
-abbrev pub IsToldOnDisk : List ℕ → List ℕ → Option (List ℕ) → (List ℕ → List Ask → Type 0)
-    → (old new : Option (List ℕ)) → Type 0
-IsToldOnDisk before now left Reads old new = (start : State) → StandsFor before start
-    → (flags : State) × StandsFor now flags
-    × Asked left Reads (λ asks. IsToldBy start asks old new flags)
+-- And for flags that hold all that was told, where a run ended by this fault: so much at most, of which no revision was told,
+-- isn't known to be kept
+abbrev pub IsToldOnDisk : List ℕ → List ℕ → Option (List ℕ) → (List ℕ → List Ask → Type 0) → ℕ
+    → CommandFault → (old new : Option (List ℕ)) → Type 0
+IsToldOnDisk before now left Reads most fault old new = (start : State) → StandsFor before start
+    → (flags : State) × (taken : State) × (ended : ApplyFault) × StandsFor now flags
+    × (fault ≡ of_run ended)
+    × Asked left Reads (λ asks. IsToldBy start asks most ended old new taken flags)
+
+-- nothing was told, and the disk was only read: no run had begun, and so none was ended by a store that failed
+abbrev pub IsUnbegun : {D S : Type 0} → Ghosts D → CommandFault → D → D → S → S → Type 0
+IsUnbegun disk fault before after old new = (fault ≢ StoreFailed) × (new ≡ old)
+    × IsOnlyRead disk before after
 
 -- Flags that some first of what is asked led to, and edits behind them that more of it asks for, for which whatever a
 -- crash leaves of the disk has no room

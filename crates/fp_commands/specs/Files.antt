@@ -12,8 +12,9 @@ use Rattle.fp_recovery.specs.Durable.{IsNewSetOrNone, IsDurable}
 use Rattle.fp_edit.specs.Flags.{State}
 use Rattle.fp_session.specs.Asks.{Ask, asked_by_input}
 use Rattle.fp_session.specs.Run.{IsRunWritten}
+use Rattle.fp_session.specs.declared.replies.TheConstants.{MOST_WAITING}
 use Rattle.fp_streams.specs.Failures.{Stream}
-use Rattle.fp_commands.specs.Disks.{AskedByDocument, AskedByLines, Blames, CallsBatches, IfFileRefused, IfRefused, IsApplyingFault, IsImportingFault, IsLeftOnDisk, IsMakingFault, IsOnlyRead, IsRunOnDisk, IsShowingFault, IsShown, IsStreamFault, IsToldOnDisk, LacksRoom}
+use Rattle.fp_commands.specs.Disks.{AskedByDocument, AskedByLines, Blames, CallsBatches, IfFileRefused, IfRefused, IsApplyingFault, IsImportingFault, IsLeftOnDisk, IsMakingFault, IsOnlyRead, IsRunOnDisk, IsShowingFault, IsShown, IsStreamFault, IsToldOnDisk, IsUnbegun, LacksRoom}
 use Rattle.fp_commands.specs.Eval.{IsEvaluated}
 use Rattle.fp_commands.specs.Task.{no_flags}
 use Rattle.fp_commands.specs.declared.fault.CommandFault.{CommandFault}
@@ -79,11 +80,12 @@ pub record ShowsDisk {F R W D : Type 0} (disk : DiskGhosts D) (contents : W → 
   pub no_failure : OnOk outcome (disk.faults after ≡ disk.faults before)
   pub honest : SameHonesty disk before after
 
--- what is asked of it, read from the reader in this way, was answered, and led what the disk stood for to what it stands for
+-- what is asked of it, read from the reader in this way, was answered, and led what the disk stood for to what it stands for;
+-- so much of it may be on its way at once
 pub record RunsOnDisk {F R W D : Type 0} (disk : DiskGhosts D) (remaining : R
     → Option (List ℕ)) (contents : W → Option (List ℕ))
-    (Reads : List ℕ → List Ask → Type 0) (MayEnd : Type 0 → List ℕ → Option (List ℕ) → CommandFault
-    → Type 0)
+    (Reads : List ℕ → List Ask → Type 0) (most : ℕ) (MayEnd : Type 0 → List ℕ → Option (List ℕ)
+    → CommandFault → Type 0)
     (old new : Outside F R W) (before after : D) (outcome : Result Bool CommandFault) : Type 0 where
   pub run : IfOk outcome (λ told. IsRunOnDisk (disk.honest before) (disk.bytes before)
       (disk.unsynced after)
@@ -95,9 +97,9 @@ pub record RunsOnDisk {F R W D : Type 0} (disk : DiskGhosts D) (remaining : R
   pub any_moment : AtAnyMoment disk before after (λ c. IsOutcome (disk.unsynced before) c
       ⊎ IsLeftOnDisk (disk.bytes before) c (remaining old.reader.inner) Reads)
   pub told : disk.honest before → IfErr outcome (λ f. new.writer.failures ≡ old.writer.failures
-      → (new.writer ≡ old.writer)
+      → IsUnbegun disk f before after old.writer new.writer
       ⊎ EachCrash disk after (λ c. IsToldOnDisk (disk.bytes before) c
-      (remaining old.reader.inner) Reads
+      (remaining old.reader.inner) Reads most f
       (contents old.writer.inner) (contents new.writer.inner)))
   pub fault : IfErr outcome (MayEnd (disk.honest before) (disk.bytes before)
       (remaining old.reader.inner))
@@ -117,14 +119,15 @@ abbrev pub AppliesToDisk : {F R W D : Type 0} → DiskGhosts D → (R → Option
     → Option (List ℕ))
     → Outside F R W → Outside F R W → D → D → Result Bool CommandFault → Type 0
 AppliesToDisk disk remaining contents old new before after outcome =
-    RunsOnDisk disk remaining contents AskedByLines
+    RunsOnDisk disk remaining contents AskedByLines 1
     (λ is_honest c left. IsApplyingFault is_honest c) old new before after outcome
 
 abbrev pub ImportsToDisk : {F R W D : Type 0} → DiskGhosts D → (R → Option (List ℕ)) → (W
     → Option (List ℕ))
     → Outside F R W → Outside F R W → D → D → Result Bool CommandFault → Type 0
 ImportsToDisk disk remaining contents old new before after outcome =
-    RunsOnDisk disk remaining contents AskedByDocument IsImportingFault old new before after outcome
+    RunsOnDisk disk remaining contents AskedByDocument MOST_WAITING IsImportingFault old new before
+    after outcome
 
 -- the reply for a flag of what the disk stands for was written, and nothing on the disk
 pub record EvaluatesOnDisk {F R W D : Type 0} (disk : DiskGhosts D) (remaining : R

@@ -8,8 +8,9 @@ ghost use Rattle.fp_disk.specs.Outcomes.{IsOutcome, LeavesOnly, all_synced};
 ghost use Rattle.fp_disk.specs.declared.history.CallKind.TheVariants.{Length, Read, Sync};
 ghost use Rattle.fp_layout.specs.NewDisk.{IsNewDisk, format_calls};
 ghost use Rattle.fp_session.specs.Run.{show_line};
+ghost use Rattle.fp_session.specs.declared.replies.TheConstants.{MOST_WAITING};
 ghost use Rattle.fp_recovery.specs.Durable.{IsNewSetOrNone, IsDurable};
-ghost use Rattle.fp_commands.specs.Disks.{AskedByDocument, AskedByLines, Blames, CallsBatches, IfFileRefused, IfRefused, IsApplyingFault, IsImportingFault, IsLeftOnDisk, IsMakingFault, IsOnlyRead, IsRunOnDisk, IsShowingFault, IsShown, IsStreamFault, IsToldOnDisk, LacksRoom};
+ghost use Rattle.fp_commands.specs.Disks.{AskedByDocument, AskedByLines, Blames, CallsBatches, IfFileRefused, IfRefused, IsApplyingFault, IsImportingFault, IsLeftOnDisk, IsMakingFault, IsOnlyRead, IsRunOnDisk, IsShowingFault, IsShown, IsStreamFault, IsToldOnDisk, IsUnbegun, LacksRoom};
 ghost use Rattle.fp_commands.specs.Task.{no_flags};
 ghost use Rattle.fp_commands.specs.declared.fault.CommandFault.TheVariants.{Device, Memory, NotEmpty, StoreFailed};
 
@@ -100,11 +101,12 @@ pub fn apply_disk<D: Disk, R: Read, W: Write>(
     ensures any_moment { AtAnyMoment D.Disk disk result.0 (λ c. IsOutcome (D.unsynced disk) c
         ⊎ IsLeftOnDisk (D.bytes disk) c (R.remaining r.old.inner) AskedByLines) }
 
-    // At a fault nothing was written, or no more than what flags hold that each crash then leaves, unless the writer failed.
-    ensures told { D.honest disk → IfErr result.1 (λ _. w.new.failures ≡ w.old.failures
-        → (w.new ≡ w.old)
+    // At a fault no run had begun, or all its replies were written, unless the writer failed: to what flags hold that each
+    // crash then leaves, and to what isn't known to be kept.
+    ensures told { D.honest disk → IfErr result.1 (λ f. w.new.failures ≡ w.old.failures
+        → IsUnbegun D.Disk f disk result.0 w.old w.new
         ⊎ EachCrash D.Disk result.0 (λ c. IsToldOnDisk (D.bytes disk) c
-        (R.remaining r.old.inner) AskedByLines (W.contents w.old.inner) (W.contents w.new.inner))) }
+        (R.remaining r.old.inner) AskedByLines 1 f (W.contents w.old.inner) (W.contents w.new.inner))) }
     ensures fault { IfErr result.1 (IsApplyingFault (D.honest disk) (D.bytes disk)) }
     ensures nothing_written { IfErr result.1 (IfRefused (w.new ≡ w.old)) }
 
@@ -156,11 +158,12 @@ pub fn import_disk<D: Disk, R: Read, W: Write>(
     ensures any_moment { AtAnyMoment D.Disk disk result.0 (λ c. IsOutcome (D.unsynced disk) c
         ⊎ IsLeftOnDisk (D.bytes disk) c (R.remaining r.old.inner) AskedByDocument) }
 
-    // At a fault nothing was written, or no more than what flags hold that each crash then leaves, unless the writer failed.
-    ensures told { D.honest disk → IfErr result.1 (λ _. w.new.failures ≡ w.old.failures
-        → (w.new ≡ w.old)
+    // At a fault no run had begun, or all its replies were written, unless the writer failed: to what flags hold that each
+    // crash then leaves, and to what isn't known to be kept.
+    ensures told { D.honest disk → IfErr result.1 (λ f. w.new.failures ≡ w.old.failures
+        → IsUnbegun D.Disk f disk result.0 w.old w.new
         ⊎ EachCrash D.Disk result.0 (λ c. IsToldOnDisk (D.bytes disk) c
-        (R.remaining r.old.inner) AskedByDocument (W.contents w.old.inner) (W.contents w.new.inner))) }
+        (R.remaining r.old.inner) AskedByDocument MOST_WAITING f (W.contents w.old.inner) (W.contents w.new.inner))) }
     ensures fault { IfErr result.1 (IsImportingFault (D.honest disk) (D.bytes disk) (R.remaining r.old.inner)) }
     ensures nothing_written { IfErr result.1 (IfRefused (w.new ≡ w.old)) }
 

@@ -1,5 +1,6 @@
 -- How what was answered grows, and where it breaks off.
-use Rattle.std.proofs.Common.{◌≡◌, ℕ, List, [], ◌∷◌, ◌++◌, map, Bool, true, false, ◌&&◌, ◌⊎◌, ⊎_elim, inl, Err, refl, sym, ap, subst, ◌∙◌, append_assoc, append-nil}
+use Rattle.std.proofs.Common.{◌≡◌, ◌≤◌, ℕ, List, [], ◌∷◌, ◌++◌, map, Bool, true, false, ◌&&◌, ◌⊎◌, ⊎_elim, inl, Err, refl, sym, ap, subst, ◌∙◌, append_assoc, append-nil, length, arith}
+use Rattle.std.proofs.lemmas.List.{length-map}
 use Rattle.std.proofs.lemmas.List.Folds.{list_all-append}
 use Rattle.std.specs.List.{list_all}
 use Rattle.fp_edit.specs.Flags.{State}
@@ -7,7 +8,7 @@ use Rattle.fp_session.specs.Asks.{Ask}
 use Rattle.fp_session.specs.Fault.{of_commit}
 use Rattle.fp_session.specs.Progress.{At, IsAt, IsBroken, IsEnded, StopsAt, Takes}
 use Rattle.fp_session.specs.Reply.{Reply, is_told, said, texts_of, told_if}
-use Rattle.fp_session.specs.Run.{Answers, IsRun, IsAfterPrefix, show_line}
+use Rattle.fp_session.specs.Run.{Answers, IsRun, IsAfterPrefix, IsTold, last_replies, most_open, show_line}
 use Rattle.fp_session.specs.StoreRun.{StoreRun}
 use Rattle.fp_session.specs.declared.commit.CommitFault.{CommitFault}
 use Rattle.fp_session.specs.declared.commit.CommitFault.TheVariants as commit
@@ -16,7 +17,7 @@ use Rattle.fp_session.specs.declared.fault.ApplyFault.{ApplyFault}
 use Rattle.fp_session.specs.declared.fault.ApplyFault.TheVariants.{Device, StoreFailed, Memory, CommitMemory}
 use Rattle.fp_session.specs.declared.replies.Replies.{Replies}
 use Rattle.fp_session.specs.declared.reply.Reply as code
-use Rattle.fp_session.proofs.RunLemmas.{run-append, run-single, run-none, texts_of-append, prefix-start, prefix-whole, prefix-more, prefix-behind, told-more, told_if-kept}
+use Rattle.fp_session.proofs.RunLemmas.{run-append, run-lengths, run-single, run-none, texts_of-append, prefix-start, prefix-whole, prefix-more, prefix-behind, told-more, told_if-kept}
 
 module _ {E : Type 0} (store : Ghosts E) where
   -- nothing was asked yet
@@ -123,51 +124,28 @@ module _ {E : Type 0} (store : Ghosts E) where
         leaves = next_leaves;
       }
 
-      -- but memory was wanting to tell all of it
-      pub sealed-broken : (q : Replies) (rest : List ℕ) → q.text.items ++ rest ≡ text ++ texts_of (map (told_if true) waiting) → IsBroken store first next asked sent q Memory
-      sealed-broken q rest texts = record {
-        told = λ u a. record {
-          done = asked;
-          batch = [];
-          later = [];
-          kept = store.state next;
-          ahead = store.state next;
-          replies = i.replies ++ waiting;
-          waiting = [];
-          untold = rest;
-          split = sym (append-nil asked);
-          run = whole_next;
-          on = refl;
-          holds = subst (λ s. IsAfterPrefix (store.state next) [] s) (sym (kept u a)) (prefix-start (store.state next) []);
-          written = append_assoc sent q.text.items rest ∙ ap (λ (l : List ℕ). sent ++ l) texts ∙ all_texts ∙ ap texts_of (sym (append-nil (i.replies ++ waiting)));
-        };
-        stops = record {
-          left = prefix-whole start (store.state next) asked (i.replies ++ waiting) whole_next;
-          course = store.leads_on first now next i.led goes;
-          leaves = next_leaves;
-        };
-      }
+    few_open : (most : ℕ) → length waiting ≤ most → length i.batch ≤ most
+    few_open most le = let same = run-lengths i.kept (store.state now) i.batch waiting i.on in omega (arith, le, same)
 
     -- ---- what waited isn't kept
-    pub seal-broken : (next : E) (q : Replies) (rest : List ℕ) (f : CommitFault) → store.state next ≡ store.state now → ((u : State) → store.may_stand next u → store.may_stand now u)
-        → store.leaves now next (store.may_stand now) → store.fails_on f now next → q.text.items ++ rest ≡ text ++ texts_of (map (told_if false) waiting) → IsBroken store first next asked sent q (of_commit f)
-    seal-broken next q rest f same ahead moment fails texts = record {
+    pub seal-broken : (next : E) (q : Replies) (most : ℕ) (f : CommitFault) → store.state next ≡ store.state now → ((u : State) → store.may_stand next u → store.may_stand now u)
+        → store.leaves now next (store.may_stand now) → store.fails_on f now next → q.text.items ≡ text ++ texts_of (map (told_if false) waiting) → length waiting ≤ most → IsBroken store most first next asked sent q (of_commit f)
+    seal-broken next q most f same ahead moment fails texts le = record {
       told = λ u a. record {
         done = i.done;
         batch = i.batch;
         later = [];
         kept = i.kept;
-        ahead = store.state now;
         replies = i.replies;
         waiting = waiting;
-        untold = rest;
         split = i.split ∙ ap (λ (l : List Ask). i.done ++ l) (sym (append-nil i.batch));
         run = i.run;
-        on = i.on;
+        on = subst (λ s. IsRun i.kept i.batch waiting s) (sym same) i.on;
+        few = opened f;
         holds = i.ahead u (ahead u a);
         written =
-            append_assoc sent q.text.items rest ∙ ap (λ (l : List ℕ). sent ++ l) texts ∙ sym (append_assoc sent text (texts_of (map (told_if false) waiting)))
-            ∙ ap (λ (l : List ℕ). l ++ texts_of (map (told_if false) waiting)) i.written ∙ sym (texts_of-append i.replies (map (told_if false) waiting));
+            ap (λ (l : List ℕ). sent ++ l) texts ∙ sym (append_assoc sent text (texts_of (map (told_if false) waiting)))
+            ∙ ap (λ (l : List ℕ). l ++ texts_of (map (told_if false) waiting)) i.written ∙ sym (texts_of-append i.replies (map (told_if false) waiting)) ∙ ap (λ (rs : List Reply). texts_of (i.replies ++ rs)) (lasts f);
       };
       stops = record {
         left = subst (λ s. IsAfterPrefix start asked s) (sym same) at-left;
@@ -180,27 +158,55 @@ module _ {E : Type 0} (store : Ghosts E) where
         failed commit.StoreFailed h = record { before = now; led = i.led; asked = at-ahead; failed = h }
         failed commit.Memory h = record { before = now; led = i.led; asked = at-ahead; failed = h }
 
+        opened : (f : CommitFault) → length i.batch ≤ most_open (of_commit f) most
+        opened commit.StoreFailed = few_open most le
+        opened commit.Memory = few_open most le
+
+        lasts : (f : CommitFault) → map (told_if false) waiting ≡ last_replies (of_commit f) waiting
+        lasts commit.StoreFailed = refl
+        lasts commit.Memory = refl
+
     -- ---- memory is wanting here
-    pub at-broken : (q : Replies) → q.text.items ≡ text → IsBroken store first now asked sent q Memory
-    at-broken q same = record {
+    pub at-broken : (q : Replies) (most : ℕ) → q.text.items ≡ text → length waiting ≤ most → IsBroken store most first now asked sent q Memory
+    at-broken q most same le = record {
       told = λ u a. record {
         done = i.done;
         batch = i.batch;
         later = [];
         kept = i.kept;
-        ahead = store.state now;
         replies = i.replies;
         waiting = waiting;
-        untold = texts_of (map (told_if false) waiting);
         split = i.split ∙ ap (λ (l : List Ask). i.done ++ l) (sym (append-nil i.batch));
         run = i.run;
         on = i.on;
+        few = few_open most le;
         holds = i.ahead u a;
-        written = ap (λ (l : List ℕ). (sent ++ l) ++ texts_of (map (told_if false) waiting)) same
-            ∙ ap (λ (l : List ℕ). l ++ texts_of (map (told_if false) waiting)) i.written ∙ sym (texts_of-append i.replies (map (told_if false) waiting));
+        written = ap (λ (l : List ℕ). sent ++ l) same ∙ i.written ∙ ap texts_of (sym (append-nil i.replies));
       };
       stops = record { left = at-left; course = i.led; leaves = i.leaves };
     }
+
+    -- ---- a stream failed here, where nothing waits and all was sent
+    pub at-failed : waiting ≡ [] → text ≡ [] → (most : ℕ) (u : State) → store.may_stand now u → IsTold start asked most Device sent (store.state now) u
+    at-failed none empty most u a = record {
+      done = i.done;
+      batch = i.batch;
+      later = [];
+      kept = i.kept;
+      replies = i.replies;
+      waiting = waiting;
+      split = i.split ∙ ap (λ (l : List Ask). i.done ++ l) (sym (append-nil i.batch));
+      run = i.run;
+      on = i.on;
+      few = let same = run-lengths i.kept (store.state now) i.batch waiting i.on in let zero = ap length none in omega (arith, same, zero);
+      holds = i.ahead u a;
+      written = sym (append-nil sent) ∙ ap (λ (l : List ℕ). sent ++ l) (sym empty) ∙ i.written ∙ ap texts_of (sym (append-nil i.replies));
+    }
+
+  pub is_at-broken : (first now : E) (asked : List Ask) (sent : List ℕ) (r q : Replies) (most : ℕ) → IsAt store first now asked sent r → q.text.items ≡ r.text.items → length r.waiting.items ≤ most → IsBroken store most first now asked sent q Memory
+  is_at-broken first now asked sent r q most i same le =
+      let all = length-map r.waiting.items said in
+      at-broken first now asked sent r.text.items (map said r.waiting.items) r.is_told i q most same (omega (arith, le, all))
 
   -- ---- the texts were sent
   pub at-sent : (first now : E) (asked : List Ask) (sent : List ℕ) (r q : Replies) → IsAt store first now asked sent r → q.text.items ≡ [] → q.waiting ≡ r.waiting → q.is_told ≡ r.is_told → IsAt store first now asked (sent ++ r.text.items) q
@@ -262,8 +268,13 @@ module _ {E : Type 0} (store : Ghosts E) where
       wider StoreFailed c = record { before = c.before; led = c.led; asked = λ u a. prefix-more (store.state first) u asked more (c.asked u a); failed = c.failed }
       wider CommitMemory c = record { before = c.before; led = c.led; asked = λ u a. prefix-more (store.state first) u asked more (c.asked u a); failed = c.failed }
 
-  pub broken-more : (first now : E) (asked more : List Ask) (sent : List ℕ) (q : Replies) (f : ApplyFault) → IsBroken store first now asked sent q f → IsBroken store first now (asked ++ more) sent q f
-  broken-more first now asked more sent q f b = record {
-    told = λ u a. told-more (store.state first) u asked more (sent ++ q.text.items) (b.told u a);
+  pub broken-more : (first now : E) (asked more : List Ask) (most wider : ℕ) (sent : List ℕ) (q : Replies) (f : ApplyFault) → most ≤ wider → IsBroken store most first now asked sent q f → IsBroken store wider first now (asked ++ more) sent q f
+  broken-more first now asked more most wider sent q f le b = record {
+    told = λ u a. told-more (store.state first) (store.state now) u asked more most wider f (sent ++ q.text.items) le (b.told u a);
     stops = stops-more first now asked more f b.stops;
   }
+
+  -- where more may be open
+  pub broken-wider : (first now : E) (asked : List Ask) (most wider : ℕ) (sent : List ℕ) (q : Replies) (f : ApplyFault) → most ≤ wider → IsBroken store most first now asked sent q f → IsBroken store wider first now asked sent q f
+  broken-wider first now asked most wider sent q f le b =
+      subst (λ (xs : List Ask). IsBroken store wider first now xs sent q f) (append-nil asked) (broken-more first now asked [] most wider sent q f le b)

@@ -1,17 +1,16 @@
 -- Lines that come in, and where it breaks off among them.
-use Rattle.std.proofs.Common.{◌≡◌, ℕ, List, [], ◌∷◌, ◌++◌, map, true, refl, sym, ap, subst, ◌∙◌, append_assoc, append-nil}
+use Rattle.std.proofs.Common.{◌≡◌, ℕ, List, [], ◌∷◌, ◌++◌, length, true, refl, sym, ap, subst, ◌∙◌, append_assoc, append-nil, arith}
 use Rattle.fp_edit.specs.Flags.{State}
 use Rattle.fp_session.specs.Asks.{Ask, asked_by_input, asked_by_lines}
 use Rattle.fp_session.specs.Lines.{lines}
 use Rattle.fp_session.specs.Progress.{IsAt, IsBroken, IsBrokenWithin, IsReading, cut}
-use Rattle.fp_session.specs.Reply.{said}
 use Rattle.fp_session.specs.declared.edit_store.EditStore.{Ghosts}
 use Rattle.fp_session.specs.declared.fault.ApplyFault.{ApplyFault}
 use Rattle.fp_session.specs.declared.fault.ApplyFault.TheVariants.{Memory}
 use Rattle.fp_session.specs.declared.line.IncomingLine.{IncomingLine}
 use Rattle.fp_session.specs.declared.replies.Replies.{Replies}
 use Rattle.fp_session.proofs.LineLemmas.{asked-append, lines-append}
-use Rattle.fp_session.proofs.ProgressLemmas.{at-broken, at-sent, is_at-start}
+use Rattle.fp_session.proofs.ProgressLemmas.{at-sent, is_at-broken, is_at-start}
 
 -- what the lines of an input ask, the last one apart
 pub asked-last : (seen : List ℕ) (done : List (List ℕ)) (line : List ℕ) → lines seen ≡ done ++ line ∷ [] → asked_by_lines done ++ asked_by_lines (line ∷ []) ≡ asked_by_input seen
@@ -48,7 +47,7 @@ module _ {E : Type 0} (store : Ghosts E) (first : E) (sent : List ℕ) where
 
   -- it broke off at it
   pub broken-line : (now next : E) (seen rest all : List ℕ) (r q : Replies) (l : IncomingLine) (f : ApplyFault) (i : IsReading store first now seen sent r l) → seen ++ 10 ∷ rest ≡ all
-      → IsBroken store first next (asked_by_lines i.done ++ asked_by_lines (i.line ∷ [])) sent q f → IsBrokenWithin store first next all sent q f
+      → IsBroken store 1 first next (asked_by_lines i.done ++ asked_by_lines (i.line ∷ [])) sent q f → IsBrokenWithin store first next all sent q f
   broken-line now next seen rest all r q l f i parts broken = record {
     front = seen ++ 10 ∷ [];
     back = rest;
@@ -56,7 +55,7 @@ module _ {E : Type 0} (store : Ghosts E) (first : E) (sent : List ℕ) where
     line = [];
     parts = append_assoc seen (10 ∷ []) rest ∙ parts;
     split = newline seen i.line i.done i.split;
-    broken = subst (λ (xs : List Ask). IsBroken store first next xs sent q f) (sym (asked-append i.done (i.line ∷ []))) broken;
+    broken = subst (λ (xs : List Ask). IsBroken store 1 first next xs sent q f) (sym (asked-append i.done (i.line ∷ []))) broken;
   }
 
   -- or before it
@@ -68,7 +67,7 @@ module _ {E : Type 0} (store : Ghosts E) (first : E) (sent : List ℕ) where
     line = i.line;
     parts = parts;
     split = i.split;
-    broken = at-broken store first now (asked_by_lines i.done) sent r.text.items (map said r.waiting.items) r.is_told i.at r refl;
+    broken = is_at-broken store first now (asked_by_lines i.done) sent r r 1 i.at refl (let none = ap length i.none in omega (arith, none));
   }
 
   -- the texts were sent

@@ -1,6 +1,6 @@
 -- Runs over what is asked: joined, cut off, and where no reply tells of wanting memory.
-use Rattle.std.proofs.Common.{◌≡◌, ℕ, ◌+◌, List, [], ◌∷◌, ◌++◌, map, Option, Some, None, IsSomeAnd, Ok, Err, Bool, true, false, ◌&&◌, true≢false, refl, sym, ap, subst, ◌∙◌, append_assoc, append-nil, ◌<◌, drop, get_or, length, take}
-use Rattle.std.proofs.lemmas.List.{map-append, take-append-drop, take_more}
+use Rattle.std.proofs.Common.{◌≡◌, ◌≤◌, ℕ, suc, ◌+◌, List, [], ◌∷◌, ◌++◌, map, Option, Some, None, IsSomeAnd, Ok, Err, Bool, true, false, ◌&&◌, true≢false, refl, sym, ap, subst, ◌∙◌, append_assoc, append-nil, ◌<◌, get_or, length, take, arith}
+use Rattle.std.proofs.lemmas.List.{map-append, take_all, take_more}
 use Rattle.std.proofs.lemmas.List.Folds.{list_all-append}
 use Rattle.std.specs.List.{list_all}
 use Rattle.std.specs.Io.KnownBytes.{Appends}
@@ -18,10 +18,13 @@ use Rattle.fp_edit.specs.declared.line.LineFault.TheVariants.{TooLong, NotJson, 
 use Rattle.fp_session.specs.Asks.{Ask}
 use Rattle.fp_session.specs.Reply.{Reply, revision, conflict, set_too_large, revisions_used, no_edit, out_of_memory, store_failed, is_told, texts_of, text_of, told_if, said, refusal_of, fault_of, bad_flag_or_memory}
 use Rattle.fp_session.specs.Progress.{IsToldUpTo}
-use Rattle.fp_session.specs.declared.replies.Replies.{Replies}
+use Rattle.fp_session.specs.declared.fault.ApplyFault.{ApplyFault}
+use Rattle.fp_session.specs.declared.fault.ApplyFault.TheVariants.{Device, StoreFailed, CommitMemory}
+use Rattle.fp_session.specs.declared.fault.ApplyFault.TheVariants as run
+use Rattle.fp_session.specs.declared.replies.Telling.{Telling}
 use Rattle.fp_session.specs.declared.reply.Reply as code
 use Rattle.fp_session.specs.declared.reply.Reply.TheVariants.{Refused, NoEdit}
-use Rattle.fp_session.specs.Run.{decided, verdict, after, replies_to, script, show_line, Answers, IsRun, IsRunWritten, IsAfterPrefix, IsTold, IsToldBy}
+use Rattle.fp_session.specs.Run.{decided, verdict, after, replies_to, script, show_line, Answers, IsRun, IsRunWritten, IsAfterPrefix, IsTold, IsToldBy, most_open}
 
 -- one run after another
 pub run-append : (s t u : State) (xs ys : List Ask) (rs qs : List Reply) → IsRun s xs rs t → IsRun t ys qs u → IsRun s (xs ++ ys) (rs ++ qs) u
@@ -70,42 +73,37 @@ prefix-behind s t u xs ys rs run p = record {
 
 -- ---- what was told
 
-pub told-more : (s u : State) (xs ys : List Ask) (text : List ℕ) → IsTold s xs text u → IsTold s (xs ++ ys) text u
-told-more s u xs ys text t = record {
+pub run-lengths : (s t : State) (xs : List Ask) (rs : List Reply) → IsRun s xs rs t → length xs ≡ length rs
+run-lengths s t [] [] h = refl
+run-lengths s t [] (r ∷ rs) h = absurd h
+run-lengths s t (x ∷ xs) [] h = absurd h
+run-lengths s t (x ∷ xs) (r ∷ rs) h = ap suc (run-lengths h.0 t xs rs h.2)
+
+-- where more may be open
+pub open-more : (fault : ApplyFault) (n most more : ℕ) → most ≤ more → n ≤ most_open fault most → n ≤ most_open fault more
+open-more Device n most more le few = few
+open-more StoreFailed n most more le few = omega (arith, le, few)
+open-more run.Memory n most more le few = omega (arith, le, few)
+open-more CommitMemory n most more le few = omega (arith, le, few)
+
+pub told-more : (s taken u : State) (xs ys : List Ask) (most more : ℕ) (fault : ApplyFault) (text : List ℕ) → most ≤ more → IsTold s xs most fault text taken u → IsTold s (xs ++ ys) more fault text taken u
+told-more s taken u xs ys most more fault text le t = record {
   done = t.done;
   batch = t.batch;
   later = t.later ++ ys;
   kept = t.kept;
-  ahead = t.ahead;
   replies = t.replies;
   waiting = t.waiting;
-  untold = t.untold;
   split = ap (λ (l : List Ask). l ++ ys) t.split ∙ append_assoc t.done (t.batch ++ t.later) ys ∙ ap (λ (l : List Ask). t.done ++ l) (append_assoc t.batch t.later ys);
   run = t.run;
   on = t.on;
+  few = open-more fault (length t.batch) most more le t.few;
   holds = t.holds;
   written = t.written;
 }
 
-pub told-first : (s u : State) (xs : List Ask) (text rest all : List ℕ) → text ++ rest ≡ all → IsTold s xs all u → IsTold s xs text u
-told-first s u xs text rest all parts t = record {
-  done = t.done;
-  batch = t.batch;
-  later = t.later;
-  kept = t.kept;
-  ahead = t.ahead;
-  replies = t.replies;
-  waiting = t.waiting;
-  untold = rest ++ t.untold;
-  split = t.split;
-  run = t.run;
-  on = t.on;
-  holds = t.holds;
-  written = sym (append_assoc text rest t.untold) ∙ ap (λ (l : List ℕ). l ++ t.untold) parts ∙ t.written;
-}
-
-pub told_by-more : (s u : State) (xs ys : List Ask) (old new : Option (List ℕ)) → IsToldBy s xs old new u → IsToldBy s (xs ++ ys) old new u
-told_by-more s u xs ys old new t = (t.0, t.1, told-more s u xs ys t.0 t.2)
+pub told_by-more : (s taken u : State) (xs ys : List Ask) (most : ℕ) (fault : ApplyFault) (old new : Option (List ℕ)) → IsToldBy s xs most fault old new taken u → IsToldBy s (xs ++ ys) most fault old new taken u
+told_by-more s taken u xs ys most fault old new t = (t.0, t.1, told-more s taken u xs ys most most fault t.0 (omega arith) t.2)
 
 -- ---- one edit
 
@@ -190,26 +188,20 @@ pub told_if-kept : (rs : List Reply) → map (told_if true) rs ≡ rs
 told_if-kept [] = refl
 told_if-kept (r ∷ rs) = ap (λ (l : List Reply). r ∷ l) (told_if-kept rs)
 
--- one more of those that wait was told
-pub told_up_to-more : (is_kept : Bool) (text : List ℕ) (all : Bool) (r q : Replies) (n : ℕ) (reply : code.Reply) (told : Reply) → n < length r.waiting.items → reply ≡ get_or r.waiting.items n reply → told ≡ told_if is_kept (said reply)
-    → q.waiting.items ≡ r.waiting.items → q.text.items ≡ r.text.items ++ texts_of (told ∷ []) → q.is_told ≡ (r.is_told && is_told told) → IsToldUpTo is_kept text all r n → IsToldUpTo is_kept text all q (n + 1)
-told_up_to-more is_kept text all r q n reply told lt here is waiting texts tells h =
+-- one more of those that wait is told
+pub told_up_to-more : (is_kept : Bool) (waiting : List code.Reply) (t u : Telling) (n : ℕ) (reply : code.Reply) (told : Reply) → n < length waiting → reply ≡ get_or waiting n reply → told ≡ told_if is_kept (said reply)
+    → u.text.items ≡ t.text.items ++ texts_of (told ∷ []) → u.is_told ≡ (t.is_told && is_told told) → IsToldUpTo is_kept waiting t n → IsToldUpTo is_kept waiting u (n + 1)
+told_up_to-more is_kept waiting t u n reply told lt here is texts tells h =
     let first = λ (xs : List code.Reply). map (told_if is_kept) (map said xs) in
-    let taken : take (n + 1) q.waiting.items ≡ take n r.waiting.items ++ reply ∷ [] = ap (λ (l : List code.Reply). take (n + 1) l) waiting ∙ take_more r.waiting.items n reply lt ∙ ap (λ (x : code.Reply). take n r.waiting.items ++ x ∷ []) (sym here) in
-    let all_of : first (take (n + 1) q.waiting.items) ≡ first (take n r.waiting.items) ++ told ∷ [] =
-    ap first taken ∙ ap (λ (l : List Reply). map (told_if is_kept) l) (map-append said (take n r.waiting.items) (reply ∷ [])) ∙ map-append (told_if is_kept) (map said (take n r.waiting.items)) (said reply ∷ [])
-    ∙ ap (λ (x : Reply). first (take n r.waiting.items) ++ x ∷ []) (sym is) in
+    let taken : take (n + 1) waiting ≡ take n waiting ++ reply ∷ [] = take_more waiting n reply lt ∙ ap (λ (x : code.Reply). take n waiting ++ x ∷ []) (sym here) in
+    let all_of : first (take (n + 1) waiting) ≡ first (take n waiting) ++ told ∷ [] =
+    ap first taken ∙ ap (λ (l : List Reply). map (told_if is_kept) l) (map-append said (take n waiting) (reply ∷ [])) ∙ map-append (told_if is_kept) (map said (take n waiting)) (said reply ∷ [])
+    ∙ ap (λ (x : Reply). first (take n waiting) ++ x ∷ []) (sym is) in
     record {
-      texts = texts ∙ ap (λ (l : List ℕ). l ++ texts_of (told ∷ [])) h.texts ∙ append_assoc text (texts_of (first (take n r.waiting.items))) (texts_of (told ∷ []))
-          ∙ ap (λ (l : List ℕ). text ++ l) (sym (texts_of-append (first (take n r.waiting.items)) (told ∷ []))) ∙ ap (λ (l : List Reply). text ++ texts_of l) (sym all_of);
-      tells = tells ∙ ap (λ b. b && is_told told) h.tells ∙ bool_assoc all (list_all is_told (first (take n r.waiting.items))) (is_told told)
-          ∙ ap (λ b. all && b) (sym (one_more (first (take n r.waiting.items)))) ∙ ap (λ (l : List Reply). all && list_all is_told l) (sym all_of);
+      texts = texts ∙ ap (λ (l : List ℕ). l ++ texts_of (told ∷ [])) h.texts ∙ sym (texts_of-append (first (take n waiting)) (told ∷ [])) ∙ ap texts_of (sym all_of);
+      tells = tells ∙ ap (λ b. b && is_told told) h.tells ∙ sym (one_more (first (take n waiting))) ∙ ap (λ (l : List Reply). list_all is_told l) (sym all_of);
     }
   where
-    bool_assoc : (a b c : Bool) → (a && b) && c ≡ a && (b && c)
-    bool_assoc true b c = refl
-    bool_assoc false b c = refl
-
     last : (b : Bool) → b && true ≡ b
     last true = refl
     last false = refl
@@ -217,16 +209,9 @@ told_up_to-more is_kept text all r q n reply told lt here is waiting texts tells
     one_more : (rs : List Reply) → list_all is_told (rs ++ told ∷ []) ≡ list_all is_told rs && is_told told
     one_more rs = list_all-append is_told rs (told ∷ []) ∙ ap (λ b. list_all is_told rs && b) (last (is_told told))
 
--- and what is left of them
-pub told_up_to-rest : (is_kept : Bool) (text : List ℕ) (all : Bool) (r q : Replies) (n : ℕ) (waiting : List code.Reply) → IsToldUpTo is_kept text all r n → r.waiting.items ≡ waiting → q.text.items ≡ r.text.items
-    → (rest : List ℕ) × (q.text.items ++ rest ≡ text ++ texts_of (map (told_if is_kept) (map said waiting)))
-told_up_to-rest is_kept text all r q n waiting h is same =
-    let first = λ (xs : List code.Reply). map (told_if is_kept) (map said xs) in
-    let rest = texts_of (first (drop n r.waiting.items)) in
-    let whole : first waiting ≡ first (take n r.waiting.items) ++ first (drop n r.waiting.items) =
-    ap first (sym is) ∙ ap first (sym (take-append-drop n r.waiting.items)) ∙ ap (λ (l : List Reply). map (told_if is_kept) l) (map-append said (take n r.waiting.items) (drop n r.waiting.items))
-    ∙ map-append (told_if is_kept) (map said (take n r.waiting.items)) (map said (drop n r.waiting.items)) in (
-      rest,
-      ap (λ (l : List ℕ). l ++ rest) (same ∙ h.texts) ∙ append_assoc text (texts_of (first (take n r.waiting.items))) rest
-          ∙ ap (λ (l : List ℕ). text ++ l) (sym (texts_of-append (first (take n r.waiting.items)) (first (drop n r.waiting.items)))) ∙ ap (λ (l : List Reply). text ++ texts_of l) (sym whole),
-    )
+-- all of them are
+pub told_up_to-all : (is_kept : Bool) (waiting : List code.Reply) (t : Telling) → IsToldUpTo is_kept waiting t (length waiting)
+    → (t.text.items ≡ texts_of (map (told_if is_kept) (map said waiting))) × (t.is_told ≡ list_all is_told (map (told_if is_kept) (map said waiting)))
+told_up_to-all is_kept waiting t h =
+    let all : take (length waiting) waiting ≡ waiting = take_all (length waiting) waiting (omega arith) in
+    (h.texts ∙ ap (λ (l : List code.Reply). texts_of (map (told_if is_kept) (map said l))) all, h.tells ∙ ap (λ (l : List code.Reply). list_all is_told (map (told_if is_kept) (map said l))) all)

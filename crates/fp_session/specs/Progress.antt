@@ -1,5 +1,5 @@
 -- How far what is asked was answered.
-use Rattle.std.specs.Prelude.{◌≡◌, ◌⊎◌, ℕ, ◌+◌, List, [], ◌∷◌, ◌++◌, map, take, Bool, ◌&&◌, Option, Ok, Err, Result, IfSome, OnOk}
+use Rattle.std.specs.Prelude.{◌≡◌, ◌⊎◌, ℕ, ◌+◌, List, [], ◌∷◌, ◌++◌, map, take, Bool, Option, Ok, Err, Result, IfSome, OnOk}
 use Rattle.std.specs.List.{list_all}
 use Rattle.std.specs.Io.KnownBytes.{Appends}
 use Rattle.fp_edit.specs.Edits.{proposal_of}
@@ -17,6 +17,8 @@ use Rattle.fp_session.specs.declared.edit_store.EditStore.{Ghosts}
 use Rattle.fp_session.specs.declared.fault.ApplyFault.{ApplyFault}
 use Rattle.fp_session.specs.declared.line.IncomingLine.{IncomingLine}
 use Rattle.fp_session.specs.declared.replies.Replies.{Replies}
+use Rattle.fp_session.specs.declared.replies.Telling.{Telling}
+use Rattle.fp_session.specs.declared.reply.Reply as code
 
 -- ---- whatever is asked
 
@@ -62,11 +64,11 @@ pub record StopsAt {E : Type 0} (store : Ghosts E) (first now : E) (asked : List
       (Err fault)
   pub leaves : store.leaves first now (IsAfterPrefix (store.state first) asked)
 
--- it broke off: whatever flags may stand hold all that the texts tell
-pub record IsBroken {E : Type 0} (store : Ghosts E) (first now : E) (asked : List Ask)
+-- it broke off: of all that was asked the texts tell, but for so many at most that aren't known to be kept
+pub record IsBroken {E : Type 0} (store : Ghosts E) (most : ℕ) (first now : E) (asked : List Ask)
     (sent : List ℕ) (r : Replies) (fault : ApplyFault) : Type 0 where
   pub told : (flags : State) → store.may_stand now flags
-      → IsTold (store.state first) asked (sent ++ r.text.items) flags
+      → IsTold (store.state first) asked most fault (sent ++ r.text.items) (store.state now) flags
   pub stops : StopsAt store first now asked fault
 
 -- all of it was answered and is kept, and the flags are shown
@@ -80,13 +82,10 @@ pub record IsEnded {E : Type 0} (store : Ghosts E) (first now : E) (asked : List
   pub led : store.continues_to first now
   pub leaves : store.leaves first now (IsAfterPrefix (store.state first) asked)
 
--- the first of the replies that wait were told behind a text
-pub record IsToldUpTo (is_kept : Bool) (text : List ℕ) (told : Bool) (r : Replies)
-    (n : ℕ) : Type 0 where
-  pub texts : r.text.items ≡ text ++ texts_of (map (told_if is_kept) (map said
-      (take n r.waiting.items)))
-  pub tells : r.is_told ≡ (told && list_all is_told (map (told_if is_kept) (map said
-      (take n r.waiting.items))))
+-- the first of the replies that wait are told by a text
+pub record IsToldUpTo (is_kept : Bool) (waiting : List code.Reply) (t : Telling) (n : ℕ) : Type 0 where
+  pub texts : t.text.items ≡ texts_of (map (told_if is_kept) (map said (take n waiting)))
+  pub tells : t.is_told ≡ list_all is_told (map (told_if is_kept) (map said (take n waiting)))
 
 -- ---- with a writer that held `before` and holds `now_held`, and failed so often
 
@@ -105,11 +104,12 @@ pub record IsSentFurther (before now_held : Option (List ℕ)) (sent : List ℕ)
   pub waiting : new.waiting ≡ old.waiting
   pub told : new.is_told ≡ old.is_told
 
--- it broke off, and unless the writer failed it holds nothing that flags which may stand don't
-pub record IsBrokenWith {E : Type 0} (store : Ghosts E) (first now : E) (asked : List Ask)
-    (before now_held : Option (List ℕ)) (f0 f : ℕ) (fault : ApplyFault) : Type 0 where
+-- it broke off, and unless the writer failed it holds all that the texts tell
+pub record IsBrokenWith {E : Type 0} (store : Ghosts E) (most : ℕ) (first now : E)
+    (asked : List Ask) (before now_held : Option (List ℕ)) (f0 f : ℕ) (fault : ApplyFault)
+    : Type 0 where
   pub told : f ≡ f0 → (flags : State) → store.may_stand now flags
-      → IsToldBy (store.state first) asked before now_held flags
+      → IsToldBy (store.state first) asked most fault before now_held (store.state now) flags
   pub stops : StopsAt store first now asked fault
 
 -- all was answered, kept, shown and sent
@@ -121,10 +121,12 @@ pub record IsDone {E : Type 0} (store : Ghosts E) (first now : E) (asked : List 
   pub leaves : store.leaves first now (IsAfterPrefix (store.state first) asked)
 
 -- how a run ends
-abbrev pub Ends : {E : Type 0} → Ghosts E → E → E → List Ask → Option (List ℕ) → Option (List ℕ) → ℕ
-    → ℕ → Result Bool ApplyFault → Type 0
-Ends store first now asked before now_held f0 f (Ok told) = IsDone store first now asked before now_held told
-Ends store first now asked before now_held f0 f (Err fault) = IsBrokenWith store first now asked before now_held f0 f fault
+abbrev pub Ends : {E : Type 0} → Ghosts E → ℕ → E → E → List Ask → Option (List ℕ)
+    → Option (List ℕ) → ℕ → ℕ → Result Bool ApplyFault → Type 0
+Ends store most first now asked before now_held f0 f (Ok told) =
+    IsDone store first now asked before now_held told
+Ends store most first now asked before now_held f0 f (Err fault) =
+    IsBrokenWith store most first now asked before now_held f0 f fault
 
 -- ---- lines
 
@@ -142,7 +144,7 @@ pub record IsReading {E : Type 0} (store : Ghosts E) (first now : E) (seen sent 
   pub at : IsAt store first now (asked_by_lines done) sent r
   pub none : r.waiting.items ≡ []
 
--- it broke off at a line that ended in `seen`
+-- it broke off at a line that ended in `seen`, and so one line at most isn't known to be kept
 pub record IsBrokenWithin {E : Type 0} (store : Ghosts E) (first now : E) (seen sent : List ℕ)
     (r : Replies) (fault : ApplyFault) : Type 0 where
   pub front : List ℕ
@@ -151,7 +153,7 @@ pub record IsBrokenWithin {E : Type 0} (store : Ghosts E) (first now : E) (seen 
   pub line : List ℕ
   pub parts : front ++ back ≡ seen
   pub split : lines front ≡ done ++ line ∷ []
-  pub broken : IsBroken store first now (asked_by_lines done) sent r fault
+  pub broken : IsBroken store 1 first now (asked_by_lines done) sent r fault
 
 -- how a run over what a reader gives ends: over some first things that the input asks, and where it is done over all
 pub record EndsOver {E : Type 0} (store : Ghosts E) (first now : E) (reads : Option (List ℕ))
@@ -160,4 +162,4 @@ pub record EndsOver {E : Type 0} (store : Ghosts E) (first now : E) (reads : Opt
   pub later : List Ask
   pub parts : IfSome reads (λ input. asked ++ later ≡ asked_by_input input)
   pub whole : OnOk outcome (later ≡ [])
-  pub ends : Ends store first now asked before now_held f0 f outcome
+  pub ends : Ends store 1 first now asked before now_held f0 f outcome

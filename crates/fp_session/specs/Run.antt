@@ -1,5 +1,5 @@
 -- Runs over what is asked: the reply to each, where it leads the flags, and what is written.
-use Rattle.std.specs.Prelude.{◌≡◌, ℕ, ◌+◌, List, [], ◌∷◌, ◌++◌, decimal, map, Bool, false, Option, None, Some, Ok, Err}
+use Rattle.std.specs.Prelude.{◌≡◌, ◌≤◌, ℕ, ◌+◌, List, [], ◌∷◌, ◌++◌, decimal, length, map, Bool, false, Option, None, Some, Ok, Err}
 use Rattle.std.specs.List.{list_all}
 use Rattle.std.specs.Io.KnownBytes.{Appends}
 use Rattle.fp_edit.specs.Admits.{refusal, next}
@@ -9,6 +9,8 @@ use Rattle.fp_edit.specs.Flags.{State}
 use Rattle.fp_edit.specs.declared.edit.EditFault.{EditFault}
 use Rattle.fp_session.specs.Asks.{Ask}
 use Rattle.fp_session.specs.Reply.{Reply, revision, conflict, set_too_large, revisions_used, no_edit, out_of_memory, store_failed, refusal_of, told_if, texts_of, is_told}
+use Rattle.fp_session.specs.declared.fault.ApplyFault.{ApplyFault}
+use Rattle.fp_session.specs.declared.fault.ApplyFault.TheVariants.{Device, StoreFailed, Memory, CommitMemory}
 
 abbrev pub decided : State → Proposal → Option EditFault → Reply × State
 decided s p None = (revision (s.revision + 1), next s p.change)
@@ -76,24 +78,40 @@ pub record IsAfterPrefix (start : State) (xs : List Ask) (now : State) : Type 0 
 
 -- ---- where it breaks off
 
--- The text is a beginning of the replies to some first of them, whose edits these flags hold, and to a batch behind them,
--- of whose edits they hold some first and no revision is told
-pub record IsTold (start : State) (xs : List Ask) (text : List ℕ) (flags : State) : Type 0 where
+-- what is told of a batch that isn't known to be kept, by the fault that ended the run: where it couldn't be kept each reply,
+-- but no revision, and where memory was wanting to tell of it nothing
+abbrev pub last_replies : ApplyFault → List Reply → List Reply
+last_replies StoreFailed waiting = map (told_if false) waiting
+last_replies CommitMemory waiting = map (told_if false) waiting
+last_replies Memory waiting = []
+last_replies Device waiting = []
+
+-- how much such a batch may ask: nothing where a stream failed
+abbrev pub most_open : ApplyFault → ℕ → ℕ
+most_open Device most = 0
+most_open StoreFailed most = most
+most_open Memory most = most
+most_open CommitMemory most = most
+
+-- The text is the replies to some first of them, which these flags hold, and what is told of a batch behind them, of whose
+-- edits they hold some first. All that was taken is among them: it leads to the flags at the end
+pub record IsTold (start : State) (xs : List Ask) (most : ℕ) (fault : ApplyFault) (text : List ℕ)
+    (taken flags : State) : Type 0 where
   pub done : List Ask
   pub batch : List Ask
   pub later : List Ask
   pub kept : State
-  pub ahead : State
   pub replies : List Reply
   pub waiting : List Reply
-  pub untold : List ℕ
   pub split : xs ≡ done ++ (batch ++ later)
   pub run : IsRun start done replies kept
-  pub on : IsRun kept batch waiting ahead
+  pub on : IsRun kept batch waiting taken
+  pub few : length batch ≤ most_open fault most
   pub holds : IsAfterPrefix kept batch flags
-  pub written : text ++ untold ≡ texts_of (replies ++ map (told_if false) waiting)
+  pub written : text ≡ texts_of (replies ++ last_replies fault waiting)
 
 -- what a writer that held `old` holds behind it is such a text
-abbrev pub IsToldBy : State → List Ask → Option (List ℕ) → Option (List ℕ) → State → Type 0
-IsToldBy start xs old new flags = (text : List ℕ) × Appends old new text
-    × IsTold start xs text flags
+abbrev pub IsToldBy : State → List Ask → ℕ → ApplyFault → Option (List ℕ) → Option (List ℕ) → State
+    → State → Type 0
+IsToldBy start xs most fault old new taken flags = (text : List ℕ) × Appends old new text
+    × IsTold start xs most fault text taken flags

@@ -50,11 +50,12 @@ pub fn import_flags<W: Write, E: EditStore>(
     ensures kept { OnOk result.1 ((flags : State) → E.may_stand result.0 flags
         → flags ≡ E.state result.0) }
 
-    // At a fault what was written tells nothing that any flags which may stand don't hold, unless the writer failed.
-    ensures told { IfErr result.1 (λ _. w.new.failures ≡ w.old.failures
+    // At a fault all replies were written, unless the writer failed: those to what any flags that may stand hold, and those to
+    // the batch behind that isn't known to be kept, which tell no revision, or none where memory was wanting.
+    ensures told { IfErr result.1 (λ fault. w.new.failures ≡ w.old.failures
         → (s : State) → E.may_stand result.0 s
-        → IsToldBy (E.state edits) (asked_by_flags (map seen flags.items))
-        (W.contents w.old.inner) (W.contents w.new.inner) s) }
+        → IsToldBy (E.state edits) (asked_by_flags (map seen flags.items)) MOST_WAITING fault
+        (W.contents w.old.inner) (W.contents w.new.inner) (E.state result.0) s) }
 
     // Whatever comes back, the flags are as some first puts leave them, and so is whatever a crash leaves at any moment.
     ensures left { IsAfterPrefix (E.state edits) (asked_by_flags (map seen flags.items)) (E.state result.0) }
@@ -81,8 +82,9 @@ fn put_flags<W: Write, E: EditStore>(
     flags: Vec<(FlagKey, Definition)>,
 ) -> Result<bool, ApplyFault>
     requires fresh { (s : State) → E.may_stand edits.old s → s ≡ E.state edits.old }
-    ensures ends { Ends E.EditStore edits.old edits.new (asked_by_flags (map seen flags.items))
-        (W.contents w.old.inner) (W.contents w.new.inner) w.old.failures w.new.failures result }
+    ensures ends { Ends E.EditStore MOST_WAITING edits.old edits.new
+        (asked_by_flags (map seen flags.items)) (W.contents w.old.inner) (W.contents w.new.inner)
+        w.old.failures w.new.failures result }
     ensures device { Blames w.old.failures w.new.failures result }
 {
     // What a crash leaves is known only where it is asked.
@@ -106,11 +108,12 @@ fn put_flag<W: Write, E: EditStore>(
     put: Edit,
 ) -> Result<(), ApplyFault>
     ensures put { (first : E) (asked : List Ask) (before : Option (List ℕ))
+        → length replies.old.waiting.items ≤ MOST_WAITING
         → IsAtWith E.EditStore first edits.old asked before (W.contents w.old.inner) replies.old
         → MatchResult result
         (λ _. IsAtWith E.EditStore first edits.new (asked ++ Ok (proposal_of put) ∷ [])
         before (W.contents w.new.inner) replies.new)
-        (IsBrokenWith E.EditStore first edits.new (asked ++ Ok (proposal_of put) ∷ [])
+        (IsBrokenWith E.EditStore MOST_WAITING first edits.new (asked ++ Ok (proposal_of put) ∷ [])
         before (W.contents w.new.inner) w.old.failures w.new.failures) }
     ensures bounded { OnOk result ((length replies.new.text.items ≤ 65536)
         × (length replies.new.waiting.items ≤ MOST_WAITING)) }

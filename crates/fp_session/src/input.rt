@@ -48,11 +48,12 @@ pub fn apply_lines<R: Read, W: Write, E: EditStore>(
     ensures kept { OnOk result.1 ((flags : State) → E.may_stand result.0 flags
         → flags ≡ E.state result.0) }
 
-    // At a fault what was written tells nothing that any flags which may stand don't hold, unless the writer failed.
-    ensures told { IfErr result.1 (λ _. w.new.failures ≡ w.old.failures
+    // At a fault all replies were written, unless the writer failed: those to what any flags that may stand hold, and the one
+    // to an edit behind that isn't known to be kept, which tells no revision, or none where memory was wanting.
+    ensures told { IfErr result.1 (λ fault. w.new.failures ≡ w.old.failures
         → (flags : State) → E.may_stand result.0 flags → IfSome (R.remaining r.old.inner) (λ input.
-        IsToldBy (E.state edits) (asked_by_input input)
-        (W.contents w.old.inner) (W.contents w.new.inner) flags)) }
+        IsToldBy (E.state edits) (asked_by_input input) 1 fault
+        (W.contents w.old.inner) (W.contents w.new.inner) (E.state result.0) flags)) }
 
     // Whatever comes back, the flags are as some first lines of the input leave them, and so is whatever a crash leaves at
     // any moment.
@@ -139,7 +140,8 @@ fn answer_line<E: EditStore>(
         → line.old.bytes.items ≡ cut bytes → replies.old.waiting.items ≡ []
         → IsAt E.EditStore first edits.old asked sent replies.old → MatchResult result
         (λ _. IsAt E.EditStore first edits.new (asked ++ asked_by_lines (bytes ∷ [])) sent replies.new)
-        (IsBroken E.EditStore first edits.new (asked ++ asked_by_lines (bytes ∷ [])) sent replies.new) }
+        (IsBroken E.EditStore 1 first edits.new (asked ++ asked_by_lines (bytes ∷ [])) sent
+        replies.new) }
     ensures none { replies.old.waiting.items ≡ [] → OnOk result (replies.new.waiting.items ≡ []) }
     ensures ended { line.new.bytes.items ≡ [] }
     ensures fault { IfErr result IsFromWithin }
@@ -161,7 +163,7 @@ fn answer_end<E: EditStore>(
     ensures ended { (first : E) (seen sent : List ℕ)
         → IsReading E.EditStore first edits.old seen sent replies.old line.old → MatchResult result
         (λ _. IsEnded E.EditStore first edits.new (asked_by_input seen) sent replies.new)
-        (IsBroken E.EditStore first edits.new (asked_by_input seen) sent replies.new) }
+        (IsBroken E.EditStore 1 first edits.new (asked_by_input seen) sent replies.new) }
     ensures fault { IfErr result IsFromWithin }
 {
     answer_line(alloc, edits, replies, line)?;

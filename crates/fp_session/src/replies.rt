@@ -1,7 +1,6 @@
 //! Replies: those that wait until their batch is kept, and the texts of the others.
 
-ghost use Rattle.std.specs.Prelude.{◌≡◌, ◌⊎◌, ◌++◌, ◌&&◌, ◌^◌, [], ◌∷◌, ℕ, List, Bool, Ok, Err, IfErr, IfOk, OnErr, OnOk, ◌+◌, MatchResult, ◌<◌, ◌≤◌, if◌then◌else◌, is_ok, nat_lt, length, map, true};
-ghost use Rattle.std.specs.List.{list_all};
+ghost use Rattle.std.specs.Prelude.{◌≡◌, ◌++◌, ◌&&◌, [], ◌∷◌, ℕ, List, Ok, Err, IfErr, IfOk, OnOk, ◌+◌, MatchResult, ◌<◌, ◌≤◌, nat_lt, length, true, vec_capacity, vec_len};
 ghost use Rattle.std.specs.Io.KnownBytes.{Appends};
 ghost use Rattle.fp_edit.specs.Edits.{Change, proposal_of};
 ghost use Rattle.fp_edit.specs.Flags.{State};
@@ -61,7 +60,10 @@ impl Replies {
         ensures asked { (first : E) (asked : List Ask) (sent : List ℕ) (x : Ask) → AsksFor edit x
             → IsAt E.EditStore first edits.old asked sent self.old → MatchResult result
             (λ _. IsAt E.EditStore first edits.new (asked ++ x ∷ []) sent self.new)
-            (IsBroken E.EditStore first edits.new (asked ++ x ∷ []) sent self.new) }
+            (IsBroken E.EditStore (length self.old.waiting.items) first edits.new
+            (asked ++ x ∷ []) sent self.new) }
+        ensures one { OnOk result (length self.new.waiting.items
+            ≤ length self.old.waiting.items + 1) }
         ensures bounded { IfOk edit (λ _. OnOk result
             (length self.new.waiting.items ≤ MOST_WAITING)) }
         ensures fault { IfErr result IsFromWithin }
@@ -75,7 +77,7 @@ impl Replies {
         }
     }
 
-    // Puts an edit to the flags.
+    // Puts an edit to the flags, once its reply has room.
     fn ask_edit<E: EditStore>(
         &mut self,
         alloc: Global,
@@ -85,13 +87,19 @@ impl Replies {
         ensures asked { (first : E) (asked : List Ask) (sent : List ℕ)
             → IsAt E.EditStore first edits.old asked sent self.old → MatchResult result
             (λ _. IsAt E.EditStore first edits.new (asked ++ Ok (proposal_of edit) ∷ []) sent self.new)
-            (IsBroken E.EditStore first edits.new (asked ++ Ok (proposal_of edit) ∷ []) sent self.new) }
+            (IsBroken E.EditStore (length self.old.waiting.items) first edits.new
+            (asked ++ Ok (proposal_of edit) ∷ []) sent self.new) }
+        ensures one { OnOk result (length self.new.waiting.items
+            ≤ length self.old.waiting.items + 1) }
         ensures bounded { OnOk result (length self.new.waiting.items ≤ MOST_WAITING) }
         ensures fault { IfErr result IsFromWithin }
     {
         self.make_place(alloc, edits, &edit)?;
+        self.waiting.reserve(1)?;
         let reply = submit(edits, edit);
-        self.waiting.push(reply)?;
+        let Ok(()) = self.waiting.push(reply) else {
+            unreachable!();
+        };
         Ok(())
     }
 
@@ -104,10 +112,13 @@ impl Replies {
     ) -> Result<(), ApplyFault>
         ensures place { OnOk result (E.has_place edits.new (change_of edit.now)) }
         ensures room { OnOk result (length self.new.waiting.items < MOST_WAITING) }
+        ensures no_more { OnOk result (length self.new.waiting.items
+            ≤ length self.old.waiting.items) }
         ensures asked { (first : E) (asked : List Ask) (sent : List ℕ)
             → IsAt E.EditStore first edits.old asked sent self.old → MatchResult result
             (λ _. IsAt E.EditStore first edits.new asked sent self.new)
-            (IsBroken E.EditStore first edits.new asked sent self.new) }
+            (IsBroken E.EditStore (length self.old.waiting.items) first edits.new asked sent
+            self.new) }
         ensures fault { IfErr result IsFromWithin }
     {
         if self.waiting.len() < MOST_WAITING && edits.joins(edit) {
@@ -118,22 +129,28 @@ impl Replies {
     }
 
     /// Has what waits kept, and then tells of it. Where that fails, its replies tell no revision.
+    ///
+    /// What is told in either case is made before, so that no memory is wanting then.
     pub fn seal<E: EditStore>(&mut self, alloc: Global, edits: &mut E) -> Result<(), ApplyFault>
         ensures asked { (first : E) (asked : List Ask) (sent : List ℕ)
             → IsAt E.EditStore first edits.old asked sent self.old → MatchResult result
             (λ _. IsAt E.EditStore first edits.new asked sent self.new)
-            (IsBroken E.EditStore first edits.new asked sent self.new) }
+            (IsBroken E.EditStore (length self.old.waiting.items) first edits.new asked sent
+            self.new) }
         ensures none { OnOk result (self.new.waiting.items ≡ []) }
         ensures place { OnOk result ((c : Change) → E.has_place edits.new c) }
         ensures fault { IfErr result IsFromWithin }
     {
+        let kept = self.telling(alloc, true)?;
+        let failed = self.telling(alloc, false)?;
+        self.text.reserve(kept.text.len().max(failed.text.len()))?;
         match edits.commit() {
             Ok(()) => {
-                self.release(alloc, true)?;
+                self.tell(kept);
                 Ok(())
             }
             Err(fault) => {
-                let _ = self.release(alloc, false);
+                self.tell(failed);
                 Err(fault.into())
             }
         }
@@ -144,7 +161,8 @@ impl Replies {
         ensures ended { (first : E) (asked : List Ask) (sent : List ℕ)
             → IsAt E.EditStore first edits.old asked sent self.old → MatchResult result
             (λ _. IsEnded E.EditStore first edits.new asked sent self.new)
-            (IsBroken E.EditStore first edits.new asked sent self.new) }
+            (IsBroken E.EditStore (length self.old.waiting.items) first edits.new asked sent
+            self.new) }
         ensures fault { IfErr result IsFromWithin }
     {
         self.seal(alloc, edits)?;
@@ -182,49 +200,68 @@ impl Replies {
         Ok(())
     }
 
-    // Puts the texts of the replies that wait behind the others.
-    fn release(&mut self, alloc: Global, is_kept: bool) -> Result<(), AllocError>
-        ensures text { (rest : List ℕ) × (self.new.text.items ++ rest
-            ≡ self.old.text.items ++ texts_of (map (told_if is_kept)
-            (map said self.old.waiting.items))) }
-        ensures all { OnOk result (self.new.text.items
-            ≡ self.old.text.items ++ texts_of (map (told_if is_kept)
-            (map said self.old.waiting.items))) }
-        ensures told { OnOk result (self.new.is_told ≡ (self.old.is_told
-            && list_all is_told (map (told_if is_kept) (map said self.old.waiting.items)))) }
-        ensures none { OnOk result (self.new.waiting.items ≡ []) }
+    // What the replies that wait tell, by whether what they tell of is kept.
+    fn telling(&self, alloc: Global, is_kept: bool) -> Result<Telling, AllocError>
+        ensures told { IfOk result (λ t. IsToldUpTo is_kept self.now.waiting.items t
+            (length self.now.waiting.items)) }
     {
+        let mut telling = Telling::new(alloc);
         let mut i = 0;
         while i < self.waiting.len() {
-            self.tell(alloc, i, is_kept)?;
+            let failed = Reply::StoreFailed;
+            telling.add(alloc, as_told(&self.waiting[i], is_kept, &failed))?;
             i += 1;
         }
+        Ok(telling)
+    }
+
+    // Tells what waits, in the room that there is for it.
+    fn tell(&mut self, telling: Telling)
+        requires room { vec_len self.old.text + length telling.text.items
+            ≤ vec_capacity self.old.text }
+        ensures text { self.new.text.items ≡ self.old.text.items ++ telling.text.items }
+        ensures told { self.new.is_told ≡ (self.old.is_told && telling.is_told) }
+        ensures none { self.new.waiting.items ≡ [] }
+    {
+        let Ok(()) = self.text.extend_from_slice(&telling.text) else {
+            unreachable!();
+        };
+        self.is_told = self.is_told && telling.is_told;
         self.waiting.clear();
-        Ok(())
+    }
+}
+
+// Replies that are told: their texts, and whether each tells what became of what it answers.
+#[derive(Drop)]
+struct Telling {
+    text: Vec<u8>,
+    is_told: bool,
+}
+
+impl Telling {
+    // No reply yet.
+    fn new(alloc: Global) -> Telling
+        ensures text { result.text.items ≡ [] }
+        ensures told { result.is_told ≡ true }
+    {
+        Telling {
+            text: Vec::new(alloc),
+            is_told: true,
+        }
     }
 
-    // Puts the text of the reply at this place behind the others.
-    fn tell(&mut self, alloc: Global, at: usize, is_kept: bool) -> Result<(), AllocError>
-        requires within { at < length self.old.waiting.items }
-        ensures told { OnOk result ((text : List ℕ) (all : Bool)
-            → IsToldUpTo is_kept text all self.old at
-            → IsToldUpTo is_kept text all self.new (at + 1)) }
-        ensures unchanged { OnErr result (self.new.text.items ≡ self.old.text.items) }
-        ensures waiting { self.new.waiting ≡ self.old.waiting }
+    // Puts a reply on a line of its own behind the others.
+    fn add(&mut self, alloc: Global, reply: &Reply) -> Result<(), AllocError>
+        ensures text { OnOk result
+            (self.new.text.items ≡ self.old.text.items ++ texts_of (said reply.now ∷ [])) }
+        ensures told { OnOk result
+            (self.new.is_told ≡ (self.old.is_told && is_told (said reply.now))) }
     {
-        let failed = Reply::StoreFailed;
-        let reply = as_told(&self.waiting[at], is_kept, &failed);
-        let is_told = !reply.is_out_of_memory();
-        put(alloc, &mut self.text, reply)?;
-        self.note(is_told);
+        let line = reply.text(alloc)?;
+        self.text.extend_from_slice(&line)?;
+        self.text.push(b'\n')?;
+        self.is_told = self.is_told && !reply.is_out_of_memory();
         Ok(())
-    }
-
-    // Notes whether a reply tells what became of what it answers.
-    fn note(&mut self, is_told: bool)
-        ensures { self.new ≡ record self.old { is_told = self.old.is_told && is_told } }
-    {
-        self.is_told = self.is_told && is_told;
     }
 }
 
@@ -249,17 +286,6 @@ fn submit<E: EditStore>(edits: &mut E, edit: Edit) -> Reply
         Ok(revision) => Reply::Revision(revision),
         Err(fault) => Reply::Refused(fault),
     }
-}
-
-// Puts the text of a reply on a line of its own behind others, or nothing.
-fn put(alloc: Global, text: &mut Vec<u8>, reply: &Reply) -> Result<(), AllocError>
-    ensures { text.new.items ≡ (if is_ok result
-        then text.old.items ++ texts_of (said reply.now ∷ []) else text.old.items) }
-{
-    let mut line = reply.text(alloc)?;
-    line.push(b'\n')?;
-    text.extend_from_slice(&line)?;
-    Ok(())
 }
 
 /// Sends the replies behind which a fault ended a run.

@@ -1,5 +1,5 @@
 -- What a decoder has given so far.
-use Rattle.std.proofs.Common.{◌≡◌, ℕ, List, [], ◌∷◌, ◌++◌, Option, Some, None, Result, Ok, Err, refl, sym, ap, subst, ◌∙◌, append_assoc, ◌⊎◌, inl, inr}
+use Rattle.std.proofs.Common.{◌≡◌, ℕ, List, [], ◌++◌, Option, Some, None, Result, Ok, Err, refl, sym, ap, subst, ◌∙◌, append_assoc, ◌⊎◌, inl, inr}
 use Rattle.std.specs.Prelude.{IfNone, IsSome}
 use Rattle.std.specs.Global.{Vec}
 use Rattle.std.proofs.lemmas.List.{append-nil}
@@ -7,10 +7,9 @@ use Rattle.fp_stream.specs.declared.hello.Hello.{Hello}
 use Rattle.fp_stream.specs.declared.frame.Frame.{Frame}
 use Rattle.fp_stream.specs.declared.fault.FrameFault.{FrameFault}
 use Rattle.fp_stream.specs.declared.fault.FrameFault.TheVariants.{BadMagic, TooLong, NotRising, Memory, Failed}
-use Rattle.fp_stream.specs.Heads.{HasFault}
 use Rattle.fp_stream.specs.Frames.{Snapshot, stream_of, has_after, snapshots_of}
-use Rattle.fp_stream.specs.Reading.{Reads, Stops}
-use Rattle.fp_stream.specs.Decoding.{Reader, Leaves, Refuses, Answers, Feeds, HasRead, taken, given}
+use Rattle.fp_stream.specs.Reading.{Reads}
+use Rattle.fp_stream.specs.Decoding.{Reader, Refuses, Feeds, HasRead, taken, given}
 use Rattle.fp_stream.proofs.Streams.{Reads-more, has_after-append}
 
 at_none : (o : Option FrameFault) (P : Type 0) → o ≡ None → IfNone o P → P
@@ -76,9 +75,9 @@ after_fault has bytes frames piece before after f h e failed =
 
 -- ---- a piece that was read
 -- the same place, in the bytes of this piece and in all so far
-on : (has : Hello) (bytes : List ℕ) (frames : List Snapshot) (piece : List ℕ) (before : Reader) (more : List Snapshot) (end : List ℕ) (fault : Option FrameFault)
+pub reads_on : (has : Hello) (bytes : List ℕ) (frames : List Snapshot) (piece : List ℕ) (before : Reader) (more : List Snapshot) (end : List ℕ) (fault : Option FrameFault)
     → HasRead has bytes frames before → before.owed ≡ None → Reads before.has (before.held ++ piece) more end fault → Reads has (bytes ++ piece) (frames ++ more) end fault
-on has bytes frames piece before more end fault h e r =
+reads_on has bytes frames piece before more end fault h e r =
     let held = at_none before.owed (before.held ≡ h.rest) e h.held in
     let last = at_none before.owed (before.has ≡ has_after has frames) e h.last in
     Reads-more has (bytes ++ piece) frames (h.rest ++ piece) more end fault h.reads.news
@@ -90,7 +89,7 @@ refused : (has : Hello) (bytes : List ℕ) (frames : List Snapshot) (piece : Lis
 refused has bytes frames piece before after f h e r = record {
   rest = r.rest;
   fault = Some f;
-  reads = on has bytes frames piece before [] r.rest (Some f) h e r.reads;
+  reads = reads_on has bytes frames piece before [] r.rest (Some f) h e r.reads;
   told = inr (refl, r.failed);
   held = not_none after.owed Failed (after.held ≡ r.rest) r.failed;
   last = not_none after.owed Failed (after.has ≡ has_after has (frames ++ [])) r.failed;
@@ -105,7 +104,7 @@ after_piece has bytes frames piece before after (Ok v) h e p =
     record {
       rest = l.rest;
       fault = after.owed;
-      reads = on has bytes frames piece before more l.rest after.owed h e l.reads;
+      reads = reads_on has bytes frames piece before more l.rest after.owed h e l.reads;
       told = inl refl;
       held = l.held;
       last = if_none after.owed (after.has ≡ has_after has (frames ++ more)) (l.last ∙ ap (λ (x : Hello). has_after x more) last ∙ sym (has_after-append has frames more));

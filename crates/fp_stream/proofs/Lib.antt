@@ -3,3 +3,4 @@ pub mod Streams
 pub mod Same
 pub mod Hellos
 pub mod Feeding
+pub mod Watched

@@ -1,16 +1,16 @@
 -- Bytes are read in one way.
-use Rattle.std.proofs.Common.{◌≡◌, ℕ, ◌+◌, ◌<◌, ◌≤◌, ◌^◌, List, [], ◌∷◌, ◌++◌, length, take, drop, Option, Some, None, refl, sym, ap, ap₂, subst, ◌∙◌, append_assoc, arith, inl, inr, length-append}
-use Rattle.std.specs.Int.{w32, w64, from_be_bytes, to_be_bytes}
+use Rattle.std.proofs.Common.{◌≡◌, ℕ, ◌<◌, ◌^◌, List, [], ◌∷◌, ◌++◌, length, take, drop, Option, Some, None, refl, sym, ap, ap₂, subst, ◌∙◌, append_assoc, arith, inl, inr, length-append}
+use Rattle.std.specs.Int.{w32, w64, from_be_bytes}
 use Rattle.std.proofs.lemmas.List.{append-nil, take_at, drop_at}
 use Rattle.std.proofs.lemmas.Nat.{from_be_bytes-to_be_bytes_4, from_be_bytes-to_be_bytes_8}
 use Rattle.fp_stream.specs.declared.hello.Hello.{Hello}
 use Rattle.fp_stream.specs.declared.hello.Hello.TheVariants.{Has}
 use Rattle.fp_stream.specs.declared.fault.FrameFault.{FrameFault}
 use Rattle.fp_stream.specs.declared.fault.FrameFault.TheVariants.{BadMagic, TooLong, NotRising, Memory, Failed}
-use Rattle.fp_stream.specs.declared.head.TheConstants.{HEAD, MOST_BODY}
+use Rattle.fp_stream.specs.declared.head.TheConstants.{HEAD}
 use Rattle.fp_stream.specs.Heads.{head, IsHead, IsNewer, HasFault}
 use Rattle.fp_stream.specs.Frames.{Snapshot, frame, stream_of, AreNews, has_after}
-use Rattle.fp_stream.specs.Reading.{LacksBody, FaultStands, Stops, Reads}
+use Rattle.fp_stream.specs.Reading.{FaultStands, Stops, Reads}
 
 -- ---- one head
 pub record SameHead (r s r2 s2 : ℕ) (x y : List ℕ) : Type 0 where

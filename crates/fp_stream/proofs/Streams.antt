@@ -1,5 +1,5 @@
 -- What bytes give, put together.
-use Rattle.std.proofs.Common.{◌≡◌, ℕ, ◌<◌, ◌≤◌, List, [], ◌∷◌, ◌++◌, length, drop, get_or, map, Option, Some, None, refl, sym, ap, subst, ◌∙◌, append_assoc, arith, inl, inr}
+use Rattle.std.proofs.Common.{◌≡◌, ℕ, ◌<◌, List, [], ◌∷◌, ◌++◌, length, drop, get_or, Option, Some, None, refl, sym, ap, subst, ◌∙◌, append_assoc, arith, inl, inr}
 use Rattle.std.specs.Prelude.{slice_set}
 use Rattle.std.proofs.lemmas.List.{append-nil, drop_at, map-append, length-append}
 use Rattle.fp_stream.specs.declared.hello.Hello.{Hello}
@@ -9,7 +9,7 @@ use Rattle.fp_stream.specs.declared.fault.FrameFault.{FrameFault}
 use Rattle.fp_stream.specs.declared.head.TheConstants.{HEAD}
 use Rattle.fp_stream.specs.Heads.{head, IsHead, HasFault}
 use Rattle.fp_stream.specs.Frames.{Snapshot, frame, stream_of, AreNews, has_after, snapshot_of, snapshots_of}
-use Rattle.fp_stream.specs.Reading.{LacksBody, FaultStands, Stops, Reads}
+use Rattle.fp_stream.specs.Reading.{Stops, Reads}
 use Rattle.fp_stream.specs.Decoding.{Reader, Leaves}
 use Rattle.fp_stream.specs.declared.head.Head.{Head}
 use Rattle.fp_stream.specs.Steps.{held_of, wanted_by, IsKnown, IsWhole, Adds, Passes}

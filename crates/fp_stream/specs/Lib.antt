@@ -5,3 +5,4 @@ pub mod Decoding
 pub mod Steps
 pub mod Founds
 pub mod Hellos
+pub mod Watching

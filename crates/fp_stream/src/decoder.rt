@@ -73,6 +73,13 @@ impl Decoder {
         self.read_on(alloc, piece)
     }
 
+    /// The fault that the next call answers.
+    pub fn owed(&self) -> Option<FrameFault>
+        ensures { result ≡ self.now.owed }
+    {
+        self.owed
+    }
+
     // Answers a piece, where no fault is owed.
     fn read_on(&mut self, alloc: Global, piece: &[u8]) -> Result<Vec<Frame>, FrameFault>
         requires { self.old.owed ≡ None }

@@ -8,6 +8,7 @@ mod head;
 mod hello;
 mod laws;
 mod reading;
+mod watch;
 
 pub use decoder::Decoder;
 pub use fault::FrameFault;
@@ -15,3 +16,4 @@ pub use frame::{Frame, write_frame};
 pub use head::MOST_BODY;
 pub use hello::{Hello, HelloFault, read_hello, write_hello};
 pub use laws::{no_other_frames, one_reading, what_is_written_is_read};
+pub use watch::{WatchFault, watch_loop};

@@ -1,4 +1,4 @@
-use Rattle.std.proofs.Common.{◌≡◌, ℕ, List, Bool, Option, true, Result, IfOk, IfErr, IfSome, OnOk, refl, inl, inr, sym, subst, ◌∙◌}
+use Rattle.std.proofs.Common.{◌≡◌, ◌≢◌, ℕ, List, Bool, Option, true, Result, IfOk, IfErr, IfSome, OnOk, refl, inl, inr, sym, subst, ◌∙◌}
 use Rattle.std.proofs.lemmas.Option.{IfSome_then}
 use Rattle.std.specs.Io.KnownBytes.{Appends}
 use Rattle.fp_edit.specs.Flags.{State}
@@ -9,8 +9,9 @@ use Rattle.fp_session.specs.Session.{flags_of, IsAhead}
 use Rattle.fp_session.specs.declared.fault.ApplyFault.{ApplyFault}
 use Rattle.fp_commands.specs.Disks.{Asked, AskedByLines, IsApplyingFault}
 use Rattle.fp_commands.specs.declared.fault.CommandFault.{CommandFault}
+use Rattle.fp_commands.specs.declared.fault.CommandFault.TheVariants.{StoreFailed}
 use Rattle.fp_commands.proofs.Courses.{course-failed, ran-any_moment, ran-cause, ran-honest, ran-left, ran-sure, ran-told, session_store}
-use Rattle.fp_commands.proofs.Told.{applying-open, applying-run, some_both, some_if}
+use Rattle.fp_commands.proofs.Told.{applying-open, applying-run, open_not_failed, some_both, some_if}
 use Rattle.fp_commands.proofs.disk.apply_disk.Goals as goal
 
 -- some first lines lead there
@@ -30,6 +31,14 @@ pub returns-in-Err-clause-fault : goal.returns-in-Err-clause-fault
 returns-in-Err-clause-fault g c =
     let honest = g.D.Disk.honest c.args.disk in let bytes = g.D.Disk.bytes c.args.disk in
     subst (λ (f : CommandFault). IsApplyingFault honest bytes f) (sym c.into.ensures) (applying-open honest bytes c.in-Err.fault c.in-Err.ensures.fault c.in-Err.ensures.refused)
+
+pub returns-in-Err-clause-told : goal.returns-in-Err-clause-told
+returns-in-Err-clause-told g c = λ h same.
+    let e = c.in-Err.ensures in inl (
+      subst (λ (f : CommandFault). f ≢ StoreFailed) (sym c.into.ensures) (open_not_failed c.in-Err.fault),
+      refl,
+      record { same = e.same; any_moment = e.any_moment; called = e.called },
+    )
 
 -- ---- it was
 
@@ -89,10 +98,11 @@ pub returns-in-Err-outcome-clause-told : goal.returns-in-Err-outcome-clause-told
 returns-in-Err-outcome-clause-told g c = λ h same.
     let e = c.in-Ok.ensures in let s = c.in-Ok.session in let l = c.apply_lines-kept.ensures in let k = c.apply_lines-kept.result.0 in let left = g.R.Read.remaining c.args.r.now.inner in
     let old = g.W.Write.contents c.args.w.now.inner in let new = g.W.Write.contents c.apply_lines-kept.new.w.inner in
-    let tells : (u : State) → IsAhead k.desk u → IfSome left (λ input. IsToldBy (flags_of s) (asked_by_input input) old new u) =
-    subst (λ (o : Result Bool ApplyFault). IfErr o (λ _. c.apply_lines-kept.new.w.failures ≡ c.args.w.now.failures → (u : State) → IsAhead k.desk u → IfSome left (λ input. IsToldBy (flags_of s) (asked_by_input input) old new u))) c.in-Err-outcome.is l.told same in
+    let ended = c.in-Err-outcome.fault in let w = c.apply_lines-kept.new.w.failures ≡ c.args.w.now.failures in
+    let Tells : ApplyFault → State → Type 0 = λ f u. IfSome left (λ input. IsToldBy (flags_of s) (asked_by_input input) 1 f old new (flags_of k) u) in
+    let tells : (u : State) → IsAhead k.desk u → Tells ended u = subst (λ (o : Result Bool ApplyFault). IfErr o (λ f. w → (u : State) → IsAhead k.desk u → Tells f u)) c.in-Err-outcome.is l.told same in
     inr (ran-told g.D.Disk c.args.disk c.into_disk-disk.result s k e.stands e.only e.any_moment e.honest c.into_disk-disk.ensures.disk (LedBy left (flags_of s)) l.any_moment left AskedByLines (joins left (flags_of s))
-    old new h c.into_disk-disk.ensures.keeps (λ u a. IfSome_then left (tells u a) (λ input t. (asked_by_input input, refl, t))))
+    1 c.into-in-Err-outcome.result ended old new (flags_of k) c.into-in-Err-outcome.ensures h c.into_disk-disk.ensures.keeps (λ u a. IfSome_then left (tells u a) (λ input t. (asked_by_input input, refl, t))))
 
 pub returns-in-Err-outcome-clause-fault : goal.returns-in-Err-outcome-clause-fault
 returns-in-Err-outcome-clause-fault g c =

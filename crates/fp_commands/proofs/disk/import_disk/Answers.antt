@@ -1,8 +1,9 @@
-use Rattle.std.proofs.Common.{◌≡◌, ◌⊎◌, ℕ, List, Bool, Option, true, map, Result, Ok, IfOk, IfErr, IfSome, OnOk, refl, inl, inr, sym, ap, subst, ◌∙◌}
+use Rattle.std.proofs.Common.{◌≡◌, ◌≢◌, ◌⊎◌, ◌∷◌, [], ◌++◌, append_assoc, ℕ, List, Bool, Option, true, map, Result, Ok, IfOk, IfErr, IfSome, OnOk, refl, inl, inr, sym, ap, subst, ◌∙◌}
 use Rattle.std.proofs.lemmas.Option.{IfSome_then}
 use Rattle.std.specs.Io.KnownBytes.{Appends}
 use Rattle.fp_disk.specs.Moments.{leaves_map}
 use Rattle.fp_disk.specs.Outcomes.{IsOutcome, LeavesOnly}
+use Rattle.fp_disk.specs.declared.history.CallKind.TheVariants.{Length, Read, Sync}
 use Rattle.fp_edit.specs.Flags.{State}
 use Rattle.fp_imports.specs.Document.{Flag}
 use Rattle.fp_recovery.specs.Stands.{StandsFor}
@@ -10,11 +11,14 @@ use Rattle.fp_session.specs.Asks.{asked_by_flags, seen}
 use Rattle.fp_session.specs.Run.{after, IsAfterPrefix, IsRunWritten, IsToldBy, script}
 use Rattle.fp_session.specs.Session.{disk_of, flags_of, IsAhead}
 use Rattle.fp_session.specs.declared.fault.ApplyFault.{ApplyFault}
+use Rattle.fp_session.specs.declared.replies.TheConstants.{MOST_WAITING}
 use Rattle.fp_commands.specs.Disks.{Asked, AskedByDocument, IsImportingFault, IsLeftOnDisk}
 use Rattle.fp_commands.specs.Documents.{import_of, IsDocumentFault}
 use Rattle.fp_commands.specs.declared.fault.CommandFault.{CommandFault}
+use Rattle.fp_commands.specs.declared.fault.CommandFault.TheVariants.{StoreFailed}
 use Rattle.fp_commands.proofs.Courses.{course-failed, ran-any_moment, ran-cause, ran-honest, ran-left, ran-sure, ran-told, session_store}
 use Rattle.fp_commands.proofs.Imported.{importing-document, importing-open, importing-run}
+use Rattle.fp_commands.proofs.Told.{open_not_failed}
 use Rattle.fp_commands.proofs.disk.import_disk.Goals as goal
 
 -- some first puts lead there
@@ -33,6 +37,14 @@ pub returns-in-Err-clause-fault : goal.returns-in-Err-clause-fault
 returns-in-Err-clause-fault g c =
     let honest = g.D.Disk.honest c.args.disk in let bytes = g.D.Disk.bytes c.args.disk in let left = g.R.Read.remaining c.args.r.now.inner in
     subst (λ (f : CommandFault). IsImportingFault honest bytes left f) (sym c.into.ensures) (importing-open honest bytes left c.in-Err.fault c.in-Err.ensures.fault c.in-Err.ensures.refused)
+
+pub returns-in-Err-clause-told : goal.returns-in-Err-clause-told
+returns-in-Err-clause-told g c = λ h same.
+    let e = c.in-Err.ensures in inl (
+      subst (λ (f : CommandFault). f ≢ StoreFailed) (sym c.into.ensures) (open_not_failed c.in-Err.fault),
+      refl,
+      record { same = e.same; any_moment = e.any_moment; called = e.called },
+    )
 
 -- ---- no document was read
 
@@ -56,6 +68,20 @@ returns-in-Err-read_document-clause-fault g c =
 pub returns-in-Err-read_document-clause-cause : goal.returns-in-Err-read_document-clause-cause
 returns-in-Err-read_document-clause-cause g c = λ is.
     absurd (subst (λ (f : CommandFault). IsDocumentFault (g.R.Read.remaining c.args.r.now.inner) f) is c.in-Err-read_document.ensures.fault)
+
+pub returns-in-Err-read_document-clause-told : goal.returns-in-Err-read_document-clause-told
+returns-in-Err-read_document-clause-told g c = λ h same.
+    let D = g.D.Disk in let here = c.into_disk.ensures.disk in let e = c.in-Ok.ensures in
+    inl (
+      λ is. subst (λ (f : CommandFault). IsDocumentFault (g.R.Read.remaining c.args.r.now.inner) f) is c.in-Err-read_document.ensures.fault,
+      refl,
+      record {
+        same = λ honest. ap D.bytes here ∙ e.same honest;
+        any_moment = λ honest. subst (λ (x : g.row.D.Denot). LeavesOnly D.moment D.crash_states_since c.args.disk x (IsOutcome (D.unsynced c.args.disk))) (sym here) (e.any_moment honest);
+        called = inr (inr (inr (ap D.calls here ∙ e.called
+            ∙ sym (append_assoc (D.calls c.args.disk ++ Sync ∷ []) (Length ∷ []) (Read ∷ []) ∙ append_assoc (D.calls c.args.disk) (Sync ∷ []) (Length ∷ Read ∷ [])))));
+      },
+    )
 
 -- ---- it was
 
@@ -121,11 +147,12 @@ pub returns-in-Err-outcome-clause-told : goal.returns-in-Err-outcome-clause-told
 returns-in-Err-outcome-clause-told g c = λ h same.
     let e = c.in-Ok.ensures in let s = c.in-Ok.session in let l = c.import_flags-kept.ensures in let k = c.import_flags-kept.result.0 in let left = g.R.Read.remaining c.args.r.now.inner in
     let old = g.W.Write.contents c.args.w.now.inner in let new = g.W.Write.contents c.import_flags-kept.new.w.inner in
-    let asks = asked_by_flags (map seen c.in-Ok-read_document.flags.items) in
-    let tells : (u : State) → IsAhead k.desk u → IsToldBy (flags_of s) asks old new u =
-    subst (λ (o : Result Bool ApplyFault). IfErr o (λ _. c.import_flags-kept.new.w.failures ≡ c.args.w.now.failures → (u : State) → IsAhead k.desk u → IsToldBy (flags_of s) asks old new u)) c.in-Err-outcome.is l.told same in
-    inr (ran-told g.D.Disk c.args.disk c.into_disk-disk.result s k e.stands e.only e.any_moment e.honest c.into_disk-disk.ensures.disk (LedBy (map seen c.in-Ok-read_document.flags.items) (flags_of s)) l.any_moment left AskedByDocument (joins left (map seen c.in-Ok-read_document.flags.items) c.in-Ok-read_document.ensures.flags (flags_of s))
-    old new h c.into_disk-disk.ensures.keeps (λ u a. IfSome_then left c.in-Ok-read_document.ensures.flags (λ input known. (asks, (map seen c.in-Ok-read_document.flags.items, known, refl), tells u a))))
+    let puts = map seen c.in-Ok-read_document.flags.items in let known = c.in-Ok-read_document.ensures.flags in
+    let ended = c.in-Err-outcome.fault in let w = c.import_flags-kept.new.w.failures ≡ c.args.w.now.failures in
+    let Tells : ApplyFault → State → Type 0 = λ f u. IsToldBy (flags_of s) (asked_by_flags puts) MOST_WAITING f old new (flags_of k) u in
+    let tells : (u : State) → IsAhead k.desk u → Tells ended u = subst (λ (o : Result Bool ApplyFault). IfErr o (λ f. w → (u : State) → IsAhead k.desk u → Tells f u)) c.in-Err-outcome.is l.told same in
+    inr (ran-told g.D.Disk c.args.disk c.into_disk-disk.result s k e.stands e.only e.any_moment e.honest c.into_disk-disk.ensures.disk (LedBy puts (flags_of s)) l.any_moment left AskedByDocument (joins left puts known (flags_of s))
+    MOST_WAITING c.into-in-Err-outcome.result ended old new (flags_of k) c.into-in-Err-outcome.ensures h c.into_disk-disk.ensures.keeps (λ u a. IfSome_then left known (λ input is. (asked_by_flags puts, (puts, is, refl), tells u a))))
 
 pub returns-in-Err-outcome-clause-fault : goal.returns-in-Err-outcome-clause-fault
 returns-in-Err-outcome-clause-fault g c =

@@ -5,6 +5,7 @@ use Rattle.std.specs.Vec.Iter.{into_iter_items}
 use Rattle.fp_base.proofs.Known.{Appends-nil}
 use Rattle.fp_session.specs.Asks.{Ask, asked_by_flags, put_of, seen}
 use Rattle.fp_session.specs.Progress.{Ends, IsBrokenWith}
+use Rattle.fp_session.specs.declared.replies.TheConstants.{MOST_WAITING}
 use Rattle.fp_session.proofs.Endings.{broken_with-more, concluded}
 use Rattle.fp_session.proofs.ProgressLemmas.{is_at-start}
 use Rattle.fp_session.proofs.import.put_flags.Goals as goal
@@ -20,6 +21,7 @@ loop-key-init g c =
         appended = Appends-nil (g.W.Write.contents c.args.w.now.inner);
         at = is_at-start g.E.EditStore c.args.edits.now c.new-replies.result c.new-replies.ensures.text c.new-replies.ensures.none c.new-replies.ensures.told c.requires.fresh c.flags.ensures.still;
       };
+      few = let none = ap length c.new-replies.ensures.none in omega (arith, none);
       counted = omega arith;
       sent_well = refl;
     }
@@ -31,7 +33,8 @@ loop-key-preserved g c =
     let steps = c.in-Some.ensures.steps in let short = ap length steps.0 in let was = inv.counted in let gone = steps.1 in record {
       done = inv.done ++ one ∷ [];
       parts = append_assoc inv.done (one ∷ []) rest ∙ ap (λ items. inv.done ++ asked_by_flags (map seen items)) (sym steps.0) ∙ inv.parts;
-      at = c.in_ok-put_flag.ensures.put c.args.edits.now inv.done (g.W.Write.contents c.args.w.now.inner) inv.at;
+      at = c.in_ok-put_flag.ensures.put c.args.edits.now inv.done (g.W.Write.contents c.args.w.now.inner) inv.few inv.at;
+      few = c.in_ok-put_flag.ensures.bounded.1;
       counted = omega arith;
       sent_well = c.in_ok-put_flag.ensures.device ∙ inv.sent_well;
     }
@@ -45,9 +48,9 @@ returns-in_err-put_flag-clause-ends g c =
     let f0 = c.args.w.now.failures in let f = c.put_flag.new.w.failures in let e = c.in_err-put_flag.field-0.0 in
     let all : (inv.done ++ one ∷ []) ++ rest ≡ asked_by_flags (map seen c.args.flags.items) =
     append_assoc inv.done (one ∷ []) rest ∙ ap (λ items. inv.done ++ asked_by_flags (map seen items)) (sym c.in-Some.ensures.steps.0) ∙ inv.parts in
-    let broken : IsBrokenWith g.E.EditStore first now (inv.done ++ one ∷ []) before w f0 f e =
-    subst (λ (n : ℕ). IsBrokenWith g.E.EditStore first now (inv.done ++ one ∷ []) before w n f e) inv.sent_well (c.in_err-put_flag.ensures.put first inv.done before inv.at) in
-    rw (p.1, p.2) (subst (λ (xs : List Ask). IsBrokenWith g.E.EditStore first now xs before w f0 f e) all (broken_with-more g.E.EditStore first now (inv.done ++ one ∷ []) rest before w f0 f e broken))
+    let broken : IsBrokenWith g.E.EditStore MOST_WAITING first now (inv.done ++ one ∷ []) before w f0 f e =
+    subst (λ (n : ℕ). IsBrokenWith g.E.EditStore MOST_WAITING first now (inv.done ++ one ∷ []) before w n f e) inv.sent_well (c.in_err-put_flag.ensures.put first inv.done before inv.few inv.at) in
+    rw (p.1, p.2) (subst (λ (xs : List Ask). IsBrokenWith g.E.EditStore MOST_WAITING first now xs before w f0 f e) all (broken_with-more g.E.EditStore first now (inv.done ++ one ∷ []) rest MOST_WAITING before w f0 f e broken))
 
 pub returns-clause-ends : goal.returns-clause-ends
 returns-clause-ends g c =
@@ -56,6 +59,6 @@ returns-clause-ends g c =
     let f0 = c.args.w.now.failures in let f = c.conclude.new.w.failures in
     let none : into_iter_items c.loop-key.key-iterator ≡ [] = nil_from_length _ (inv.counted ∙ c.in-None.ensures.steps.0) in
     let whole : inv.done ≡ asked_by_flags (map seen c.args.flags.items) = sym (append-nil inv.done) ∙ ap (λ items. inv.done ++ asked_by_flags (map seen items)) (sym none) ∙ inv.parts in
-    subst (λ (xs : List Ask). Ends g.E.EditStore first now xs before w f0 f c.conclude.result) whole
-    (concluded g.E.EditStore first now inv.done inv.at.sent before held w f0 c.loop-key.w.failures f c.end-ended.new.self c.end-ended.result c.conclude.result
+    subst (λ (xs : List Ask). Ends g.E.EditStore MOST_WAITING first now xs before w f0 f c.conclude.result) whole
+    (concluded g.E.EditStore first now inv.done inv.at.sent (length c.loop-key.replies.waiting.items) MOST_WAITING before held w f0 c.loop-key.w.failures f c.end-ended.new.self c.end-ended.result c.conclude.result inv.few
     (c.end-ended.ensures.ended first inv.done inv.at.sent inv.at.at) inv.at.appended inv.sent_well c.conclude.ensures.sent c.conclude.ensures.fault c.conclude.ensures.outcome)

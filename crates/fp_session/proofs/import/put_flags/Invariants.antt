@@ -1,7 +1,8 @@
-use Rattle.std.proofs.Common.{◌≡◌, ◌++◌, List, map, length}
+use Rattle.std.proofs.Common.{◌≡◌, ◌≤◌, ◌++◌, List, map, length}
 use Rattle.std.specs.Vec.Iter.{into_iter_items, into_iter_len}
 use Rattle.fp_session.specs.Asks.{Ask, asked_by_flags, seen}
 use Rattle.fp_session.specs.Progress.{IsAtWith}
+use Rattle.fp_session.specs.declared.replies.TheConstants.{MOST_WAITING}
 use Rattle.fp_session.proofs.import.put_flags.Given as goal
 
 -- all flags are those that were put, and those that are left
@@ -10,6 +11,7 @@ invariant-loop-key g l = record {
   done : List Ask;
   parts : done ++ asked_by_flags (map seen (into_iter_items l.key-iterator)) ≡ asked_by_flags (map seen l.fn.flags.items);
   at : IsAtWith g.E.EditStore l.initial.edits l.edits done (g.W.Write.contents l.initial.w.inner) (g.W.Write.contents l.w.inner) l.replies;
+  few : length l.replies.waiting.items ≤ MOST_WAITING;
   counted : length (into_iter_items l.key-iterator) ≡ into_iter_len l.key-iterator;
   sent_well : l.w.failures ≡ l.initial.w.failures;
 }

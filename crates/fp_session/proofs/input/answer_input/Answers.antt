@@ -7,7 +7,7 @@ use Rattle.fp_session.specs.Streams.{of_stream}
 use Rattle.fp_session.specs.declared.fault.ApplyFault.{ApplyFault}
 use Rattle.fp_session.specs.declared.fault.ApplyFault.TheVariants.{Device}
 use Rattle.fp_streams.specs.Failures.{CountsFailures}
-use Rattle.fp_session.proofs.Endings.{broken-sent, concluded, ends-over, ends-whole, IsPartRead, part-more, part-whole, sent-device}
+use Rattle.fp_session.proofs.Endings.{broken-sent, concluded, ends-over, ends-whole, IsPartRead, part-more, part-whole, read-device, sent-device}
 use Rattle.fp_session.proofs.Readings.{reading-sent, reading-start}
 use Rattle.fp_session.proofs.input.answer_input.Goals as goal
 
@@ -16,6 +16,7 @@ loop-replies-init g c = record {
   seen = [];
   sent = [];
   reading = reading-start g.E.EditStore c.args.edits.now c.new-replies.result c.new-line.result c.new-replies.ensures.text c.new-replies.ensures.none c.new-replies.ensures.told c.new-line.ensures c.requires.fresh c.flags.ensures.still;
+  unsent = c.new-replies.ensures.text;
   appended = Appends-nil (g.W.Write.contents c.args.w.now.inner);
   part = λ input is. (input, is, refl);
   read_well = refl;
@@ -31,6 +32,7 @@ loop-replies-preserved g c =
       seen = inv.seen ++ piece;
       sent = inv.sent ++ r.text.items;
       reading = reading-sent g.E.EditStore first inv.sent c.answer_bytes.new.edits (inv.seen ++ piece) r c.send.new.self c.answer_bytes.new.line bytes sent.none c.send.ensures.waiting c.send.ensures.told;
+      unsent = sent.none;
       appended = Appends-more (g.W.Write.contents c.args.w.now.inner) (g.W.Write.contents c.loop-replies.w.inner) (g.W.Write.contents c.send.new.w.inner) inv.sent r.text.items inv.appended sent.sent;
       part = part-more (g.R.Read.remaining c.args.r.now.inner) (g.R.Read.remaining c.loop-replies.r.inner) (g.R.Read.remaining c.read.new.self.inner) inv.seen piece read.bytes.0 inv.part;
       read_well = read.counted ∙ inv.read_well;
@@ -48,7 +50,7 @@ returns-in_err-count-clause-ends g c =
     let part : IsPartRead reads left (inv.seen ++ []) = subst (IsPartRead reads left) (sym (append-nil inv.seen)) inv.part in
     rw (p.1) (subst (λ (e : ApplyFault). EndsOver g.E.EditStore first now reads before held f0 f (Err e)) (sym (p.2 ∙ ap of_stream c.in_err-count.ensures.fault))
     (ends-over g.E.EditStore first now reads left before inv.seen [] i.done i.line held f0 f Device i.split part
-    (sent-device g.E.EditStore first now (asked_by_lines i.done) inv.sent before held f0 f c.loop-replies.replies i.at (λ same. inv.appended))))
+    (read-device g.E.EditStore first now (asked_by_lines i.done) inv.sent 1 before held f0 f c.loop-replies.replies i.at i.none inv.unsent inv.appended)))
 
 -- the end of the input
 pub returns-then-count-eq0-clause-ends : goal.returns-then-count-eq0-clause-ends
@@ -59,7 +61,7 @@ returns-then-count-eq0-clause-ends g c =
     let f0 = c.args.w.now.failures in let f = c.conclude.new.w.failures in let read = c.in_ok-count.ensures.bytes in
     ends-whole g.E.EditStore first now reads left before inv.seen w f0 f c.conclude.result
     (part-whole reads left (g.R.Read.remaining c.read.new.self.inner) inv.seen c.read.new.buf c.in_ok-count.count read.0 c.if-count-eq0.true (read.1 c.if-count-eq0.true (omega arith)) inv.part)
-    (concluded g.E.EditStore first now (asked_by_input inv.seen) inv.sent before held w f0 c.loop-replies.w.failures f c.answer_end-ended.new.replies c.answer_end-ended.result c.conclude.result
+    (concluded g.E.EditStore first now (asked_by_input inv.seen) inv.sent 1 1 before held w f0 c.loop-replies.w.failures f c.answer_end-ended.new.replies c.answer_end-ended.result c.conclude.result (omega arith)
     (c.answer_end-ended.ensures.ended first inv.seen inv.sent inv.reading) inv.appended inv.sent_well c.conclude.ensures.sent c.conclude.ensures.fault c.conclude.ensures.outcome)
 
 -- it broke off among the lines
@@ -73,7 +75,7 @@ returns-in-Err-clause-ends g c =
     let part : IsPartRead reads now_left (b.front ++ b.back) = subst (IsPartRead reads now_left) (sym b.parts) (part-more reads left now_left inv.seen piece c.in_ok-count.ensures.bytes.0 inv.part) in
     subst (λ (e : ApplyFault). EndsOver g.E.EditStore first now reads before w f0 f (Err e)) (sym c.give_up.ensures.same)
     (ends-over g.E.EditStore first now reads now_left before b.front b.back b.done b.line w f0 f c.in-Err.fault b.split part
-    (broken-sent g.E.EditStore first now (asked_by_lines b.done) inv.sent before held w f0 f c.answer_bytes.new.replies c.in-Err.fault b.broken inv.appended
+    (broken-sent g.E.EditStore first now (asked_by_lines b.done) inv.sent 1 1 before held w f0 f c.answer_bytes.new.replies c.in-Err.fault (omega arith) b.broken inv.appended
     (λ same. c.give_up.ensures.sent (same ∙ sym inv.sent_well))))
 
 -- the writer failed
@@ -91,4 +93,4 @@ returns-in_err-send-in-Ok-clause-ends g c =
     let was = inv.sent_well in
     rw (p.1) (subst (λ (e : ApplyFault). EndsOver g.E.EditStore first now reads before w f0 f (Err e)) (sym (p.2 ∙ ap of_stream kind))
     (ends-over g.E.EditStore first now reads now_left before (inv.seen ++ piece) [] i.done i.line w f0 f Device i.split part
-    (sent-device g.E.EditStore first now (asked_by_lines i.done) inv.sent before w f0 f c.answer_bytes.new.replies i.at (λ same. absurd (omega (arith, rose, same, was))))))
+    (sent-device g.E.EditStore first now (asked_by_lines i.done) inv.sent 1 before w f0 f c.answer_bytes.new.replies i.at (omega (arith, rose, was)))))

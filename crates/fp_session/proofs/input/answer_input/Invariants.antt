@@ -1,4 +1,4 @@
-use Rattle.std.proofs.Common.{◌≡◌, ℕ, List}
+use Rattle.std.proofs.Common.{◌≡◌, ℕ, List, []}
 use Rattle.std.specs.Io.KnownBytes.{Appends}
 use Rattle.fp_session.specs.Progress.{IsReading}
 use Rattle.fp_session.proofs.Endings.{IsPartRead}
@@ -10,6 +10,7 @@ invariant-loop-replies g l = record {
   seen : List ℕ;
   sent : List ℕ;
   reading : IsReading g.E.EditStore l.initial.edits l.edits seen sent l.replies l.line;
+  unsent : l.replies.text.items ≡ [];
   appended : Appends (g.W.Write.contents l.initial.w.inner) (g.W.Write.contents l.w.inner) sent;
   part : IsPartRead (g.R.Read.remaining l.initial.r.inner) (g.R.Read.remaining l.r.inner) seen;
   read_well : l.r.failures ≡ l.initial.r.failures;

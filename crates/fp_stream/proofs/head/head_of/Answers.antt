@@ -1,6 +1,5 @@
 use Rattle.std.proofs.Common.{◌≡◌, take, codes, arith, rules}
 use Rattle.fp_stream.proofs.HeadBytes.{head_read}
-use Rattle.fp_stream.specs.Heads.{head}
 use Rattle.fp_stream.proofs.head.head_of.Goals as goal
 
 pub returns-then-size-gt-MOST_BODY-clause-fault : goal.returns-then-size-gt-MOST_BODY-clause-fault

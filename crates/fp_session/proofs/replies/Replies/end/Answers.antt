@@ -1,22 +1,28 @@
-use Rattle.std.proofs.Common.{◌++◌, ℕ, List, [], map, refl, ap, subst, ◌∙◌}
+use Rattle.std.proofs.Common.{◌≡◌, ◌≤◌, ◌++◌, ℕ, List, [], length, map, refl, ap, subst, ◌∙◌, arith}
 use Rattle.std.proofs.lemmas.Result.{err_from_is_err_and}
 use Rattle.fp_session.specs.Progress.{At}
 use Rattle.fp_session.specs.Reply.{said}
 use Rattle.fp_session.specs.Run.{show_line}
 use Rattle.fp_session.specs.declared.reply.Reply as code
-use Rattle.fp_session.proofs.ProgressLemmas.{at-broken, at-ended}
+use Rattle.fp_session.proofs.ProgressLemmas.{at-ended, is_at-broken}
 use Rattle.fp_session.proofs.replies.Replies.end.Goals as goal
+
+-- nothing waits
+few : (ws : List code.Reply) (most : ℕ) → ws ≡ [] → length ws ≤ most
+few ws most none = let zero = ap length none in omega (arith, zero)
 
 pub returns-in_err-line-clause-ended : goal.returns-in_err-line-clause-ended
 returns-in_err-line-clause-ended g c = λ first asked sent i.
     let p = err_from_is_err_and c.from_residual-in_err-line.result c.from_residual-in_err-line.ensures.1 in let q = c.seal.new.self in
-    rw (p.1, p.2) (at-broken g.E.EditStore first c.seal.new.edits asked sent q.text.items (map said q.waiting.items) q.is_told (c.in_ok-seal.ensures.asked first asked sent i) q refl)
+    let most = length c.args.self.now.waiting.items in
+    rw (p.1, p.2) (is_at-broken g.E.EditStore first c.seal.new.edits asked sent q q most (c.in_ok-seal.ensures.asked first asked sent i) refl (few q.waiting.items most c.in_ok-seal.ensures.none))
 
 pub returns-in_err-extend_from_slice-clause-ended : goal.returns-in_err-extend_from_slice-clause-ended
 returns-in_err-extend_from_slice-clause-ended g c = λ first asked sent i.
     let p = err_from_is_err_and c.from_residual-in_err-extend_from_slice.result c.from_residual-in_err-extend_from_slice.ensures.1 in let q = c.seal.new.self in
-    rw (p.1, p.2) (at-broken g.E.EditStore first c.seal.new.edits asked sent q.text.items (map said q.waiting.items) q.is_told (c.in_ok-seal.ensures.asked first asked sent i)
-    (record { text = c.extend_from_slice.new.self; waiting = q.waiting; is_told = q.is_told }) c.in_err-extend_from_slice.ensures.items)
+    let most = length c.args.self.now.waiting.items in
+    rw (p.1, p.2) (is_at-broken g.E.EditStore first c.seal.new.edits asked sent q (record { text = c.extend_from_slice.new.self; waiting = q.waiting; is_told = q.is_told }) most
+    (c.in_ok-seal.ensures.asked first asked sent i) c.in_err-extend_from_slice.ensures.items (few q.waiting.items most c.in_ok-seal.ensures.none))
 
 pub returns-clause-ended : goal.returns-clause-ended
 returns-clause-ended g c = λ first asked sent i.

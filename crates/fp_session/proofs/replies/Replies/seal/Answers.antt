@@ -1,29 +1,44 @@
-use Rattle.std.proofs.Common.{List, map, sym, subst}
+use Rattle.std.proofs.Common.{◌++◌, ℕ, List, Bool, true, false, ◌&&◌, length, map, refl, sym, ap, subst, ◌∙◌, arith}
+use Rattle.std.proofs.lemmas.List.{length-map}
 use Rattle.std.proofs.lemmas.Result.{err_from_is_err_and}
 use Rattle.fp_session.specs.Progress.{At, IsBroken}
 use Rattle.fp_session.specs.Reply.{said}
 use Rattle.fp_session.specs.declared.fault.ApplyFault.{ApplyFault}
 use Rattle.fp_session.specs.declared.reply.Reply as code
-use Rattle.fp_session.proofs.ProgressLemmas.{at-sealed, seal-broken, sealed-broken}
+use Rattle.fp_session.proofs.ProgressLemmas.{at-sealed, is_at-broken, seal-broken}
+use Rattle.fp_session.proofs.RunLemmas.{told_up_to-all}
 use Rattle.fp_session.proofs.replies.Replies.seal.Goals as goal
 
-pub returns-in_ok-release-in-Ok-clause-asked : goal.returns-in_ok-release-in-Ok-clause-asked
-returns-in_ok-release-in-Ok-clause-asked g c = λ first asked sent i.
-    let old = c.args.self.now in let q = c.release.new.self in let w = c.in-Ok.ensures in let next = c.commit.new.self in
-    subst (λ (ws : List code.Reply). At g.E.EditStore first next asked sent q.text.items (map said ws) q.is_told) (sym c.in_ok-release-in-Ok.ensures.none)
-    (at-sealed g.E.EditStore first c.args.edits.now asked sent old.text.items (map said old.waiting.items) old.is_told i next w.same w.kept w.any_moment w.fate
-    q.text.items q.is_told c.in_ok-release-in-Ok.ensures.all c.in_ok-release-in-Ok.ensures.told)
+pub returns-in_err-kept-clause-asked : goal.returns-in_err-kept-clause-asked
+returns-in_err-kept-clause-asked g c = λ first asked sent i.
+    let p = err_from_is_err_and c.from_residual.result c.from_residual.ensures.1 in let q = c.args.self.now in
+    rw (p.1, p.2) (is_at-broken g.E.EditStore first c.args.edits.now asked sent q q (length q.waiting.items) i refl (omega arith))
 
-pub returns-in_err-release-in-Ok-clause-asked : goal.returns-in_err-release-in-Ok-clause-asked
-returns-in_err-release-in-Ok-clause-asked g c = λ first asked sent i.
-    let p = err_from_is_err_and c.from_residual.result c.from_residual.ensures.1 in
-    let old = c.args.self.now in let w = c.in-Ok.ensures in let next = c.commit.new.self in let told = c.release.ensures.text in
-    rw (p.1, p.2) (sealed-broken g.E.EditStore first c.args.edits.now asked sent old.text.items (map said old.waiting.items) old.is_told i next w.same w.kept w.any_moment w.fate
-    c.release.new.self told.0 told.1)
+pub returns-in_err-failed-clause-asked : goal.returns-in_err-failed-clause-asked
+returns-in_err-failed-clause-asked g c = λ first asked sent i.
+    let p = err_from_is_err_and c.from_residual-in_err-failed.result c.from_residual-in_err-failed.ensures.1 in let q = c.args.self.now in
+    rw (p.1, p.2) (is_at-broken g.E.EditStore first c.args.edits.now asked sent q q (length q.waiting.items) i refl (omega arith))
+
+pub returns-in_err-reserve-clause-asked : goal.returns-in_err-reserve-clause-asked
+returns-in_err-reserve-clause-asked g c = λ first asked sent i.
+    let p = err_from_is_err_and c.from_residual-in_err-reserve.result c.from_residual-in_err-reserve.ensures.1 in let q = c.args.self.now in
+    rw (p.1, p.2) (is_at-broken g.E.EditStore first c.args.edits.now asked sent q (record { text = c.reserve.new.self; waiting = q.waiting; is_told = q.is_told }) (length q.waiting.items) i
+    c.reserve.ensures.items (omega arith))
+
+pub returns-in-Ok-clause-asked : goal.returns-in-Ok-clause-asked
+returns-in-Ok-clause-asked g c = λ first asked sent i.
+    let old = c.args.self.now in let q = c.tell.new.self in let w = c.in-Ok.ensures in let next = c.commit.new.self in let t = c.tell.ensures in
+    let all = told_up_to-all true old.waiting.items c.in_ok-kept.kept c.in_ok-kept.ensures.told in
+    subst (λ (ws : List code.Reply). At g.E.EditStore first next asked sent q.text.items (map said ws) q.is_told) (sym t.none)
+    (at-sealed g.E.EditStore first c.args.edits.now asked sent old.text.items (map said old.waiting.items) old.is_told i next w.same w.kept w.any_moment w.fate
+    q.text.items q.is_told (t.text ∙ ap (λ (l : List ℕ). l ++ c.in_ok-kept.kept.text.items) c.reserve.ensures.items ∙ ap (λ (l : List ℕ). old.text.items ++ l) all.0)
+    (t.told ∙ ap (λ (b : Bool). old.is_told && b) all.1))
 
 pub returns-in-Err-clause-asked : goal.returns-in-Err-clause-asked
 returns-in-Err-clause-asked g c = λ first asked sent i.
-    let old = c.args.self.now in let w = c.in-Err.ensures in let next = c.commit.new.self in let told = c.release-in-Err.ensures.text in
-    subst (λ (f : ApplyFault). IsBroken g.E.EditStore first next asked sent c.release-in-Err.new.self f) (sym c.into.ensures)
-    (seal-broken g.E.EditStore first c.args.edits.now asked sent old.text.items (map said old.waiting.items) old.is_told i next c.release-in-Err.new.self told.0 c.in-Err.fault
-    w.same w.ahead w.any_moment w.fate told.1)
+    let old = c.args.self.now in let w = c.in-Err.ensures in let next = c.commit.new.self in let t = c.tell-in-Err.ensures in
+    let all = told_up_to-all false old.waiting.items c.in_ok-failed.failed c.in_ok-failed.ensures.told in let few = length-map old.waiting.items said in
+    subst (λ (f : ApplyFault). IsBroken g.E.EditStore (length old.waiting.items) first next asked sent c.tell-in-Err.new.self f) (sym c.into.ensures)
+    (seal-broken g.E.EditStore first c.args.edits.now asked sent old.text.items (map said old.waiting.items) old.is_told i next c.tell-in-Err.new.self (length old.waiting.items) c.in-Err.fault
+    w.same w.ahead w.any_moment w.fate (t.text ∙ ap (λ (l : List ℕ). l ++ c.in_ok-failed.failed.text.items) c.reserve.ensures.items ∙ ap (λ (l : List ℕ). old.text.items ++ l) all.0)
+    (omega (arith, few)))
