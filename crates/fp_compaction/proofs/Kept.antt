@@ -17,6 +17,7 @@ use Rattle.fp_slots.specs.Rules.{Rules, Tells}
 use Rattle.fp_slots.specs.State.{SlotsState, Keeps, KeepsEither, KeepsOrNext, KeepsSealed, OutsideBoth, SameCompaction, SameSlots, sealed_text}
 use Rattle.fp_edit.specs.Edits.{Change}
 use Rattle.fp_journal.specs.Reading.{Reads}
+use Rattle.fp_recovery.specs.Room.{HasNoRoom, IsFullFor}
 use Rattle.fp_recovery.specs.Stands.{Leads, Spells, StandsFor, TakesBatch}
 use Rattle.fp_recovery.proofs.Kept.{side_long}
 use Rattle.fp_recovery.proofs.Texts.{spells_on}
@@ -54,6 +55,16 @@ module _ {D : Type 0} (u : PendingState) (slots : SlotsState D) (size : ℕ) (si
   either_stands planned c h p = ⊎_elim
       (λ t. mine_stands s (sealed_text slots.journal) c h k.sealed t.rules t.ends)
       (λ t. flipped side slots.text c h planned (moved slots.other slots.journal.slot (slot_of size (other_side side)) (slot_of size side) slots.text c k.its k.mine t)) p
+
+  -- a slot that has no room has none in what a crash leaves
+  pub sealed_full : (n : ℕ) → HasNoRoom slots.journal n → (c : List ℕ) → Holds c 0 k.header → Rules slots.journal.slot.start slots.other.start c → HasChain slots.journal.slot slots.journal.front slots.journal.sealed c → IsFullFor c s n
+  sealed_full n none c h rules ends =
+      let tells = moved slots.journal.slot slots.other (slot_of size side) (slot_of size (other_side side)) (sealed_text slots.journal) c k.mine k.its (record { rules = rules; ends = ends }) in record {
+        stands = record { size = size; side = side; text = sealed_text slots.journal; header = k.is_header c h (side_long size side (sealed_text slots.journal) c tells); tells = tells; spells = k.sealed };
+        full = ⊎_elim
+            (λ long. let most = ap (λ (z : Slot). z.most) k.mine in inl (omega (arith, long, most)))
+            (λ narrow. let start = ap (λ (z : Slot). z.start) k.mine in let stop = ap (λ (z : Slot). z.stop) k.mine in inr (omega (arith, narrow, start, stop))) none;
+      }
 
   pub sealed_stands : (c : List ℕ) → Holds c 0 k.header → KeepsSealed slots c → StandsFor c s
   sealed_stands c h p = mine_stands s (sealed_text slots.journal) c h k.sealed p.0 p.1

@@ -1,11 +1,11 @@
 -- Steps by the step that is next.
-use Rattle.std.proofs.Common.{◌≡◌, ℕ, List, [], ◌∷◌, ◌++◌, inl, sym, ◌∙◌, ap, subst}
+use Rattle.std.proofs.Common.{◌≡◌, ℕ, Bool, true, false, List, [], ◌∷◌, ◌++◌, inl, sym, ◌∙◌, ap, subst}
 use Rattle.std.proofs.lemmas.List.{append-nil}
 use Rattle.fp_disk.specs.Moments.{leaves_still}
 use Rattle.fp_disk.specs.Outcomes.{IsOutcome, LeavesOnly}
 use Rattle.fp_disk.specs.declared.disk.Disk.{Ghosts}
 use Rattle.fp_journal.specs.Holds.{Holds, IsSynced}
-use Rattle.fp_journal.specs.State.{HasChain, JournalState}
+use Rattle.fp_journal.specs.State.{HasAmong, HasChain, JournalState, has_begun}
 use Rattle.fp_journal.specs.declared.journal.Phase.TheVariants.{GateOpened}
 use Rattle.fp_journal.proofs.Holds.{firm_outcome}
 use Rattle.fp_edit.specs.Flags.{State}
@@ -15,8 +15,8 @@ use Rattle.fp_slots.specs.State.{IsEarly, Keeps, Leaves, sealed_text}
 use Rattle.fp_slots.specs.declared.slots.Step.TheVariants.{Begin, Close, SyncClose, Part, Tail, SyncBody, Open, SyncOpen}
 use Rattle.fp_compaction.specs.Sets.{IsKeptIn, IsPlannedFor, IsTaken, LeavesSet}
 use Rattle.fp_compaction.specs.Batches.{LeadsTo}
-use Rattle.fp_compaction.specs.Steps.{LeavesNow, ReadsNext, TakesStep}
-use Rattle.fp_compaction.proofs.Kept.{either_stands, keeps_stands, opened_stands}
+use Rattle.fp_compaction.specs.Steps.{IsFullNow, LeavesNow, ReadsNext, TakesStep}
+use Rattle.fp_compaction.proofs.Kept.{either_stands, keeps_stands, opened_stands, sealed_full}
 use Rattle.fp_disk.specs.declared.history.CallKind.{CallKind}
 use Rattle.fp_slots.specs.State.{SlotsState}
 use Rattle.fp_slots.specs.declared.slots.Step.{Step}
@@ -96,3 +96,14 @@ module _ {D : Type 0} (disk : Ghosts D) (slots : SlotsState D) where
       let c : List ℕ = disk.bytes slots.journal.disk in let out = present slots.journal.disk h in
       opened_stands (disk.unsynced slots.journal.disk) slots size k.0 s k.1 t leads c (firm_outcome (disk.unsynced slots.journal.disk) 0 k.1.header c k.1.firm out)
           (rules_at p (subst (λ (q : Step). IsEarly q) (sym is) early) c (now h c out)) (reads h opened)
+
+  -- where none runs
+  chain_at : (b : Bool) → b ≡ false → (c : List ℕ) → HasAmong b slots.journal.slot slots.journal.front slots.journal.sealed slots.journal.staged c → HasChain slots.journal.slot slots.journal.front slots.journal.sealed c
+  chain_at false is c chain = chain
+  chain_at true is c chain = absurd (cc is)
+
+  pub full_now : (p : Step) → p ≡ slots.step → (disk.honest slots.journal.disk → (c : List ℕ) → IsOutcome (disk.unsynced slots.journal.disk) c → Leaves p slots c) → IsFullNow disk slots
+  full_now p is now = λ h begins begun size s k n none c out.
+      let keeps = begins_now slots p (is ∙ begins) c (now h c out) in
+      sealed_full (disk.unsynced slots.journal.disk) slots size k.0 s k.1 n none c (firm_outcome (disk.unsynced slots.journal.disk) 0 k.1.header c k.1.firm out) keeps.0
+          (chain_at (has_begun slots.journal.phase slots.journal.begun) begun c keeps.1)

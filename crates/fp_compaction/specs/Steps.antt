@@ -7,8 +7,9 @@ use Rattle.fp_disk.specs.declared.history.CallKind.{CallKind}
 use Rattle.fp_disk.specs.declared.history.CallKind.TheVariants.{Sync, Write}
 use Rattle.fp_edit.specs.Flags.{State}
 use Rattle.fp_journal.specs.Chain.{with_gate}
-use Rattle.fp_journal.specs.State.{IsOnWay, room}
+use Rattle.fp_journal.specs.State.{IsOnWay, has_begun, room}
 use Rattle.fp_journal.specs.declared.journal.Phase.TheVariants.{Idle, GateOpened, Failed}
+use Rattle.fp_recovery.specs.Room.{HasNoRoom, IsFull}
 use Rattle.fp_recovery.specs.Stands.{StandsFor}
 use Rattle.fp_slots.specs.State.{SlotsState, SameSlots}
 use Rattle.fp_slots.specs.declared.places.TheConstants.{IMAGE_PLACE, PART}
@@ -128,3 +129,11 @@ abbrev pub ReadsNext : {D : Type 0} → Ghosts D → SlotsState D → Type 0
 ReadsNext disk slots = disk.honest slots.journal.disk → slots.journal.phase ≡ GateOpened
     → (size : ℕ) (s t : State) → IsKeptIn (disk.unsynced slots.journal.disk) slots size s
     → LeadsTo slots size s t → StandsFor (disk.bytes slots.journal.disk) t
+
+-- where none runs, no gate was begun, and the slot that rules has no room for a body of n bytes, nor has
+-- whatever a crash leaves
+abbrev pub IsFullNow : {D : Type 0} → Ghosts D → SlotsState D → Type 0
+IsFullNow disk slots = disk.honest slots.journal.disk → slots.step ≡ Begin
+    → has_begun slots.journal.phase slots.journal.begun ≡ false → (size : ℕ) (s : State)
+    → IsKeptIn (disk.unsynced slots.journal.disk) slots size s → (n : ℕ) → HasNoRoom slots.journal n
+    → IsFull (disk.unsynced slots.journal.disk) s n

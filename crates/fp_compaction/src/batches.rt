@@ -10,7 +10,7 @@ ghost use Rattle.fp_journal.specs.State.{SameSlot, has_begun};
 ghost use Rattle.fp_journal.specs.declared.journal.Phase.TheVariants.{Idle, Staged, BodySynced, GateOpened, Failed};
 ghost use Rattle.fp_slots.specs.State.{HasBegun, IsEarly, IsGrowing, SameCompaction, SamePlan};
 ghost use Rattle.fp_compaction.specs.Sets.{GoesOnKept};
-ghost use Rattle.fp_compaction.specs.Steps.{LeavesNow, ReadsNext};
+ghost use Rattle.fp_compaction.specs.Steps.{IsFullNow, LeavesNow, ReadsNext};
 ghost use Rattle.fp_compaction.specs.Batches.{FitsBeside, HasRoomFor, IsReadyFor, KeepsNext, LeavesNext, LeavesSealed, PlansNext};
 
 use crate::room::is_growing;
@@ -154,6 +154,7 @@ pub fn phase<D: Disk>(slots: &Slots<D>) -> Phase
         ≡ slots.now.journal.begun }
     ensures outcomes { LeavesNow D.Disk slots.now }
     ensures reads { IsEarly slots.now.step → ReadsNext D.Disk slots.now }
+    ensures full { IsFullNow D.Disk slots.now }
 {
     let _ = slots.step();
     slots.journal().phase()

@@ -33,7 +33,7 @@ use Rattle.fp_slots.specs.declared.places.TheConstants.{IMAGE_PLACE}
 use Rattle.fp_slots.specs.declared.slots.Step.{Step}
 use Rattle.fp_slots.specs.declared.slots.Step.TheVariants.{Begin, Close, SyncClose, Part, Tail, SyncBody, Open, SyncOpen}
 use Rattle.fp_compaction.specs.Batches.{FitsBeside, HasRoomFor, IsReadyFor, LeadsTo, LeavesNext, LeavesSealed, tail_of}
-use Rattle.fp_compaction.specs.Sets.{GoesOnKept, IsKeptIn, IsPlaced, IsPlannedFor, IsTaken}
+use Rattle.fp_compaction.specs.Sets.{GoesOnKept, IsKeptIn, IsPlaced, IsPlannedFor, IsTaken, LeavesSet}
 use Rattle.fp_compaction.specs.Steps.{Begins, BreaksOff, HasPlace, IsLate, LeavesNow, MayStep, ReadsNext, Stays, TakesStep, Turns, calls_of, next_step}
 use Rattle.fp_group_commit.proofs.Fronts.{leads_all}
 use Rattle.fp_group_commit.specs.declared.fault.StoreFault.{StoreFault}
@@ -41,7 +41,7 @@ use Rattle.fp_group_commit.specs.declared.fault.StoreFault.TheVariants as fault
 use Rattle.fp_group_commit.specs.Changes.{GoesOn, batch_len}
 use Rattle.fp_group_commit.specs.Calls.{Breaks, Compacts, IsStrange, RefusesBy, SameRoom}
 use Rattle.fp_group_commit.specs.Tokens.{Identity, ReceiptState, IsReceipt}
-use Rattle.fp_group_commit.specs.Store.{MayCompact, reached, reached_at, StoreState, Leaves, kept, coming}
+use Rattle.fp_group_commit.specs.Store.{IsAtRest, MayCompact, reached, reached_at, StoreState, Leaves, kept, coming}
 use Rattle.fp_group_commit.specs.Sound.{IsFlight, IsPlan, IsSound}
 
 -- ---- phases
@@ -166,17 +166,26 @@ module _ {D : Type 0} (disk : Ghosts D) {s : StoreState D} {set : State} {first 
   pub leads : IsFlight s first ahead copies → LeadsTo s.slots i.size (kept s) (coming s)
   leads f = let most = most_of i.size i.placed.side s.slots.journal.slot i.placed.mine in let short = f.short in (f.takes, omega (arith, most, short))
 
+  off_idle : journal.has_begun s.slots.journal.phase s.slots.journal.begun ≡ true → s.step ≢ Idle
+  off_idle begun idle = ⊎_elim
+      (λ none. never_begun s.slots.journal.phase s.step s.slots.journal.begun none.0 i.going none.1 begun)
+      (λ f. subst (λ (p : Phase). IsOnWay p) idle f.on_way) i.flight
+
+  pub leaves_of : (c : List ℕ) → LeavesSet s.slots.journal (kept s) (coming s) c → Leaves s c
+  leaves_of c (inl stands) = inl stands
+  leaves_of c (inr both) = inr (off_idle both.0, both.0, both.1)
+
   pub now : LeavesNow disk s.slots → disk.honest s.slots.journal.disk → (c : List ℕ) → IsOutcome (disk.unsynced s.slots.journal.disk) c → Leaves s c
-  now leaves h c out = leaves h i.size (kept s) (coming s) (i.kept_is h) taken late c out
+  now leaves h c out = leaves_of c (leaves h i.size (kept s) (coming s) (i.kept_is h) taken late c out)
 
   shut_reads : (p : Phase) (c : List ℕ) → (p ≡ GateOpened → ⊥) → (p ≡ s.slots.journal.phase) → s.slots.journal.phase ≢ Failed → Leaves s c → StandsFor c (kept s)
   shut_reads p c never is well (inl stands) = stands
   shut_reads p c never is well (inr both) = absurd (no p is never)
     where
       no : (q : Phase) → q ≡ s.slots.journal.phase → (q ≡ GateOpened → ⊥) → ⊥
-      no Idle e n = let x : false ≡ true = ap (λ (y : Phase). journal.has_begun y s.slots.journal.begun) e ∙ both.0 in absurd (cc x)
-      no Staged e n = let x : false ≡ true = ap (λ (y : Phase). journal.has_begun y s.slots.journal.begun) e ∙ both.0 in absurd (cc x)
-      no BodySynced e n = let x : false ≡ true = ap (λ (y : Phase). journal.has_begun y s.slots.journal.begun) e ∙ both.0 in absurd (cc x)
+      no Idle e n = let x : false ≡ true = ap (λ (y : Phase). journal.has_begun y s.slots.journal.begun) e ∙ both.1 in absurd (cc x)
+      no Staged e n = let x : false ≡ true = ap (λ (y : Phase). journal.has_begun y s.slots.journal.begun) e ∙ both.1 in absurd (cc x)
+      no BodySynced e n = let x : false ≡ true = ap (λ (y : Phase). journal.has_begun y s.slots.journal.begun) e ∙ both.1 in absurd (cc x)
       no GateOpened e n = absurd (n refl)
       no Failed e n = absurd (well (sym e))
 
@@ -193,6 +202,9 @@ module _ {D : Type 0} (disk : Ghosts D) {s : StoreState D} {set : State} {first 
       by_step s.step (sym is) well c
       (λ opened. let f = not_idle s.step GateOpened _ _ opened (λ e. absurd (cc e)) i.flight in next f.early h (is ∙ opened) i.size (kept s) (coming s) (i.kept_is h) (leads f))
       (now leaves h c (present s.slots.journal.disk h))
+
+  pub rests : IsAtRest s → journal.has_begun s.slots.journal.phase s.slots.journal.begun ≡ false
+  rests rest = ap (λ (p : Phase). journal.has_begun p s.slots.journal.begun) (goes s.slots.journal.phase s.step rest.1 i.going ∙ rest.0)
 
   -- nothing is done
   pub still : ((d : D) (c : List ℕ) → disk.honest d → disk.crash_states_since d (disk.moment d) c → IsOutcome (disk.unsynced d) c) → LeavesNow disk s.slots → disk.honest s.slots.journal.disk
@@ -441,9 +453,9 @@ module _ {D : Type 0} (disk : Ghosts D) {s : StoreState D} {set : State} {first 
   kept_on k back h = k (back h) i.size (kept s) (i.kept_is (back h))
 
 -- of two sets that are left the second only where a gate began to open
-pub open_leaves : {D : Type 0} (s : StoreState D) → journal.has_begun s.slots.journal.phase s.slots.journal.begun ≡ true → (c : List ℕ) → StandsFor c (kept s) ⊎ StandsFor c (coming s) → Leaves s c
-open_leaves s begun c (inl stands) = inl stands
-open_leaves s begun c (inr stands) = inr (begun, stands)
+pub open_leaves : {D : Type 0} (s : StoreState D) → s.step ≢ Idle → journal.has_begun s.slots.journal.phase s.slots.journal.begun ≡ true → (c : List ℕ) → StandsFor c (kept s) ⊎ StandsFor c (coming s) → Leaves s c
+open_leaves s off begun c (inl stands) = inl stands
+open_leaves s off begun c (inr stands) = inr (off, begun, stands)
 
 module _ {D : Type 0} (honest : D → Type 0) (unsynced : D → PendingState) {s : StoreState D} {set : State} {first : ℕ} {ahead copies : List Change} (i : IsSound honest unsynced s set first ahead copies) (p : Phase) (t : SlotsState D) (same : SameBeside s.slots t) (bodies : t.journal.sealed ≡ s.slots.journal.sealed) where
   pub moved_room : SameRoom s (Moved honest unsynced i p t)
@@ -528,7 +540,8 @@ module _ {D : Type 0} (disk : Ghosts D) {s : StoreState D} {set : State} {first 
     kept_step h = let back = taken_step.honest.1 h in taken_step.kept back i.size (kept s) (i.kept_is back) (late disk i)
 
     pub step_leaves : disk.honest s.slots.journal.disk → LeavesOnly disk.moment disk.crash_states_since s.slots.journal.disk t.journal.disk (Leaves s)
-    step_leaves h = taken_step.stands h i.size (kept s) (coming s) (i.kept_is h) (taken disk i) (late disk i)
+    step_leaves h = leaves_map disk.moment disk.crash_states_since s.slots.journal.disk t.journal.disk (LeavesSet s.slots.journal (kept s) (coming s)) (Leaves s) (leaves_of disk i)
+        (taken_step.stands h i.size (kept s) (coming s) (i.kept_is h) (taken disk i) (late disk i))
 
     module _ (same : SameSlots s.slots t) (going : (t.journal.phase ≡ s.step) ⊎ (t.journal.phase ≡ Failed)) (begun : HasBegun t.step → HasBegun s.slots.step) (early : IsFlight s first ahead copies → IsEarly t.step) where
       same_flight : IsFlight s first ahead copies → IsFlight Now first ahead copies
@@ -694,7 +707,7 @@ module _ {D : Type 0} (disk : Ghosts D) {s : StoreState D} {set : State} {first 
 
     pub leaves_then : (c : List ℕ) → Leaves s c → Leaves Then c
     leaves_then c (inl stands) = inl stands
-    leaves_then c (inr both) = inr (begun_now both.0, both.1)
+    leaves_then c (inr both) = inr (both.0, begun_now both.1, both.2)
 
     pub compacts : (faults : D → ℕ) → faults t.journal.disk ≡ faults s.slots.journal.disk → Compacts faults s Then
     compacts faults no_failure = record {
@@ -715,7 +728,7 @@ module _ {D : Type 0} (disk : Ghosts D) {s : StoreState D} {set : State} {first 
 
     pub leaves_broken : journal.has_begun s.slots.journal.phase s.slots.journal.begun ≡ s.slots.journal.begun → (c : List ℕ) → Leaves s c → Leaves (Moved disk.honest disk.unsynced i s.step t) c
     leaves_broken told c (inl stands) = inl stands
-    leaves_broken told c (inr both) = inr (begun_stays s.slots.journal.phase t.journal.phase s.slots.journal.begun t.journal.begun told off.slots.9 (inr off.failed) both.0, both.1)
+    leaves_broken told c (inr both) = inr (both.0, begun_stays s.slots.journal.phase t.journal.phase s.slots.journal.begun t.journal.begun told off.slots.9 (inr off.failed) both.1, both.2)
 
     pub breaks_step : (left : t.left ≡ s.slots.left) → s.slots.journal.phase ≢ Failed → Breaks disk.faults s (Moved disk.honest disk.unsynced i s.step t)
     breaks_step left well = breaks disk.faults s (Moved disk.honest disk.unsynced i s.step t) well off.failed off.cause refl

@@ -39,9 +39,11 @@ is_failed Failed = true
 abbrev pub has_begun : {D : Type 0} → StoreState D → Bool
 has_begun s = begins_at s.slots.journal.phase s.slots.journal.begun
 
--- what a crash may leave: the sealed edits, and once its gate may be open perhaps the whole batch on its way
+-- what a crash may leave: the sealed edits, and once its gate may be open perhaps the whole batch on its
+-- way, where there is one
 abbrev pub Leaves : {D : Type 0} → StoreState D → List ℕ → Type 0
-Leaves s c = StandsFor c (kept s) ⊎ ((has_begun s ≡ true) × StandsFor c (coming s))
+Leaves s c = StandsFor c (kept s)
+    ⊎ ((s.step ≢ Idle) × (has_begun s ≡ true) × StandsFor c (coming s))
 
 -- what a read gives, where no call of the device failed: once the gate is open, the batch on its way too
 abbrev pub reached_at : Phase → State → State → State

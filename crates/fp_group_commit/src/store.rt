@@ -8,8 +8,9 @@ ghost use Rattle.fp_journal.specs.State.{room};
 ghost use Rattle.fp_compaction.specs.Sets.{IsKeptIn, IsPlaced};
 ghost use Rattle.fp_recovery.specs.Stands.{StandsFor};
 ghost use Rattle.fp_slots.specs.declared.slots.Step.TheVariants.{Begin};
-ghost use Rattle.fp_group_commit.specs.Changes.{HasRoom};
-ghost use Rattle.fp_group_commit.specs.Store.{IsFresh, Leaves, MayCompact, reached};
+ghost use Rattle.fp_recovery.specs.Room.{HasNoRoom, IsFullFor};
+ghost use Rattle.fp_group_commit.specs.Changes.{HasRoom, batch_len};
+ghost use Rattle.fp_group_commit.specs.Store.{IsAtRest, IsFresh, Leaves, MayCompact, kept, reached};
 
 use crate::draw::{Draw, has_room};
 use crate::opening::Opening;
@@ -135,8 +136,15 @@ impl<D: Disk> Store<D> {
     /// Whether the draw is within the limits of a batch, and fits beside a compaction, where one runs.
     pub fn has_room(&self, draw: &Draw) -> bool
         ensures room { IsTrue result ↔ HasRoom self.now.slots draw.now }
+
+        // Where no compaction runs and the slot that rules has none, nor has whatever a crash leaves.
+        ensures full { IsAtRest self.now → self.now.slots.step ≡ Begin
+            → HasNoRoom self.now.slots.journal (batch_len draw.now)
+            → EachCrash D.Disk self.now.slots.journal.disk
+            (λ c. IsFullFor c (kept self.now) (batch_len draw.now)) }
     {
-        let _ = &self.set;
+        // What the slots' outcomes are is known only where it is asked.
+        let _ = phase(&self.slots);
         has_room(&self.slots, draw)
     }
 

@@ -8,10 +8,12 @@ use Rattle.fp_disk.specs.declared.disk.Disk.{Ghosts}
 use Rattle.fp_edit.specs.Edits.{Change}
 use Rattle.fp_edit.specs.Flags.{State}
 use Rattle.fp_edit.specs.Log.{after_all}
-use Rattle.fp_journal.specs.declared.journal.Phase.{Phase}
 use Rattle.fp_journal.specs.declared.journal.Phase.TheVariants.{Idle}
 use Rattle.fp_recovery.specs.Stands.{StandsFor}
-use Rattle.fp_group_commit.specs.Store.{StoreState, Leaves, begun_at, has_begun, kept}
+use Rattle.fp_group_commit.specs.Store.{StoreState, Leaves, kept}
+use Rattle.fp_slots.specs.State.{HasBegun, IsEarly, SlotsState}
+use Rattle.fp_slots.specs.declared.slots.Step.{Step}
+use Rattle.fp_slots.specs.declared.slots.Step.TheVariants.{Begin}
 use Rattle.fp_group_commit.specs.Tokens.{Identity}
 use Rattle.fp_desk.specs.Desk.{DeskState, log}
 use Rattle.fp_session.specs.Session.{IsAhead, IsInStep, KeepsOrGains, LacksRoomFor, StandsAhead}
@@ -19,7 +21,7 @@ use Rattle.std.specs.Prelude.{◌↔◌, Bool, IsTrue, nat_le}
 use borrow.Author.Tests.{leb-true, leb-false}
 use Rattle.fp_edit.proofs.Followed.{after-append}
 use Rattle.fp_edit.proofs.Runs.{revision-after_all}
-use Rattle.fp_journal.specs.State.{JournalState, room}
+use Rattle.fp_journal.specs.State.{room}
 use Rattle.fp_record.specs.Group.{Group}
 use Rattle.fp_recovery.specs.Room.{HasNoRoom, IsFullFor}
 use Rattle.fp_group_commit.specs.Changes.{HasRoom, batch_len}
@@ -38,22 +40,18 @@ module _ {D : Type 0} (disk : Ghosts D) where
   pub honest_on : (a b c : D) → SameHonesty disk a b → SameHonesty disk b c → SameHonesty disk a c
   honest_on a b c h k = (λ x. k.0 (h.0 x), λ x. h.1 (k.1 x))
 
--- where nothing is on its way, no gate was begun
-pub idle_not : {D : Type 0} (s : StoreState D) → s.step ≡ Idle → has_begun s ≡ true → ⊥
-idle_not s idle begun = let both : false ≡ true = ap (λ (p : Phase). begun_at p s.journal.phase) (sym idle) ∙ begun in absurd cc
-
 pub idle_keeps : {D : Type 0} (s : StoreState D) → s.step ≡ Idle → (c : List ℕ) → Leaves s c → StandsFor c (kept s)
 idle_keeps s idle c (inl stands) = stands
-idle_keeps s idle c (inr both) = absurd (idle_not s idle both.0)
+idle_keeps s idle c (inr both) = absurd (both.0 idle)
 
 -- a store on the way to this batch leaves what was kept, or that and the batch
 pub leaves_either : {D : Type 0} (old s : StoreState D) (batch : List Change) → s.store ≡ old.store → s.sealed ≡ old.sealed → (s.step ≡ Idle) ⊎ (s.staged ≡ batch) → (c : List ℕ) → Leaves s c → KeepsOrGains old batch c
 leaves_either old s batch store sealed going c (inl stands) =
     inl (subst (λ (u : State). StandsFor c u) (ap (λ (x : Identity). after_all x.start s.sealed) store ∙ ap (λ (l : List Change). after_all old.store.start l) sealed) stands)
-leaves_either old s batch store sealed (inl idle) c (inr both) = absurd (idle_not s idle both.0)
+leaves_either old s batch store sealed (inl idle) c (inr both) = absurd (both.0 idle)
 leaves_either old s batch store sealed (inr staged) c (inr both) =
     inr (subst (λ (u : State). StandsFor c u)
-    (ap (λ (x : Identity). after_all x.start (s.sealed ++ s.staged)) store ∙ ap (λ (l : List Change). after_all old.store.start (l ++ s.staged)) sealed ∙ ap (λ (l : List Change). after_all old.store.start (old.sealed ++ l)) staged) both.1)
+    (ap (λ (x : Identity). after_all x.start (s.sealed ++ s.staged)) store ∙ ap (λ (l : List Change). after_all old.store.start (l ++ s.staged)) sealed ∙ ap (λ (l : List Change). after_all old.store.start (old.sealed ++ l)) staged) both.2)
 
 -- one call more
 pub call_more : {D : Type 0} (disk : Ghosts D) (old s : StoreState D) (batch : List Change) (first a b : D) → s.store ≡ old.store → s.sealed ≡ old.sealed → (s.step ≡ Idle) ⊎ (s.staged ≡ batch)
@@ -107,16 +105,16 @@ module _ {D : Type 0} (s : StoreState D) (d : DeskState) (same : d.store ≡ s.s
 
 module _ {D : Type 0} (disk : Ghosts D) (s : StoreState D) (d : DeskState) (i : IsInStep disk s d) where
   -- nothing is done
-  pub still_ahead : ((x : D) (c : List ℕ) → disk.honest x → disk.crash_states_since x (disk.moment x) c → IsOutcome (disk.unsynced x) c) → AtAnyMoment disk s.journal.disk s.journal.disk (StandsAhead d)
-  still_ahead only_now = λ h. leaves_still disk.moment disk.crash_states_since s.journal.disk (StandsAhead d)
-      (λ c left. stands_ahead s d i.same i.settled i.none_drawn [] d.waiting refl c (inl (i.keeps h c (only_now s.journal.disk c h left))))
+  pub still_ahead : ((x : D) (c : List ℕ) → disk.honest x → disk.crash_states_since x (disk.moment x) c → IsOutcome (disk.unsynced x) c) → AtAnyMoment disk s.slots.journal.disk s.slots.journal.disk (StandsAhead d)
+  still_ahead only_now = λ h. leaves_still disk.moment disk.crash_states_since s.slots.journal.disk (StandsAhead d)
+      (λ c left. stands_ahead s d i.same i.settled i.none_drawn [] d.waiting refl c (inl (i.keeps h c (only_now s.slots.journal.disk c h left))))
 
   -- a batch that is sealed
-  pub sealed_ahead : (new : D) (batch rest : List Change) → d.waiting ≡ batch ++ rest → AtAnyMoment disk s.journal.disk new (KeepsOrGains s batch) → AtAnyMoment disk s.journal.disk new (StandsAhead d)
-  sealed_ahead new batch rest parts l = weaker disk s.journal.disk new (KeepsOrGains s batch) (StandsAhead d) (stands_ahead s d i.same i.settled i.none_drawn batch rest parts) l
+  pub sealed_ahead : (new : D) (batch rest : List Change) → d.waiting ≡ batch ++ rest → AtAnyMoment disk s.slots.journal.disk new (KeepsOrGains s batch) → AtAnyMoment disk s.slots.journal.disk new (StandsAhead d)
+  sealed_ahead new batch rest parts l = weaker disk s.slots.journal.disk new (KeepsOrGains s batch) (StandsAhead d) (stands_ahead s d i.same i.settled i.none_drawn batch rest parts) l
 
   -- a first part of what waits that has no room
-  pub lacks_part : (batch rest : List Change) → d.waiting ≡ batch ++ rest → 0 < length batch → EachCrash disk s.journal.disk (λ c. IsFullFor c (kept s) (batch_len (record { first = 0; changes = batch }))) → LacksRoomFor disk d s.journal.disk
+  pub lacks_part : (batch rest : List Change) → d.waiting ≡ batch ++ rest → 0 < length batch → EachCrash disk s.slots.journal.disk (λ c. IsFullFor c (kept s) (batch_len (record { first = 0; changes = batch }))) → LacksRoomFor disk d s.slots.journal.disk
   lacks_part batch rest parts some full =
       let same_kept : kept s ≡ after_all d.store.start d.settled = ap (λ (x : Identity). after_all x.start s.sealed) (sym i.same) ∙ ap (λ (l : List Change). after_all d.store.start l) i.settled in
       let whole = log_parts s d i.same i.settled i.none_drawn batch rest parts in
@@ -131,7 +129,7 @@ module _ {D : Type 0} (disk : Ghosts D) (s : StoreState D) (d : DeskState) (i : 
       }
 
   -- what is kept is ahead of nothing
-  pub now_ahead : EachCrash disk s.journal.disk (StandsAhead d)
+  pub now_ahead : EachCrash disk s.slots.journal.disk (StandsAhead d)
   now_ahead = λ h c o. stands_ahead s d i.same i.settled i.none_drawn [] d.waiting refl c (inl (i.keeps h c o))
 
   -- the receipt for it is for what is drawn
@@ -153,13 +151,13 @@ present_ahead disk old new d e counts_now same store all more moment = λ h c o.
     let l = moment (same.1 h) in stands_on d e store all more c (l.each c (counts_now new (disk.moment old) c h l.later o))
 
 -- ---- room
-pub no_room : {D : Type 0} (journal : JournalState D) (group : Group) (b : Bool) → (IsTrue b ↔ HasRoom journal group) → b ≡ false → 0 < length group.changes → length group.changes ≤ 64 → HasNoRoom journal (batch_len group)
-no_room journal group b says not some few =
-    elim (nat_le (batch_len group) journal.slot.most) as (λ t. nat_le (batch_len group) journal.slot.most ≡ t → HasNoRoom journal (batch_len group)) [
+pub no_room : {D : Type 0} (slots : SlotsState D) (group : Group) (b : Bool) → (IsTrue b ↔ HasRoom slots group) → b ≡ false → slots.step ≡ Begin → 0 < length group.changes → length group.changes ≤ 64 → HasNoRoom slots.journal (batch_len group)
+no_room slots group b says not begins some few =
+    elim (nat_le (batch_len group) slots.journal.slot.most) as (λ t. nat_le (batch_len group) slots.journal.slot.most ≡ t → HasNoRoom slots.journal (batch_len group)) [
       | false ↦ λ e. inl (leb-false _ _ e)
-      | true ↦ λ e. elim (nat_le (batch_len group + 6) (room journal)) as (λ t. nat_le (batch_len group + 6) (room journal) ≡ t → HasNoRoom journal (batch_len group)) [
+      | true ↦ λ e. elim (nat_le (batch_len group + 6) (room slots.journal)) as (λ t. nat_le (batch_len group + 6) (room slots.journal) ≡ t → HasNoRoom slots.journal (batch_len group)) [
         | false ↦ λ f. let narrow = leb-false _ _ f in inr (omega (arith, narrow))
-        | true ↦ λ f. let both : false ≡ true = sym not ∙ says.1 (record { some = some; few = few; short = leb-true _ _ e; room = leb-true _ _ f }) in absurd cc
+        | true ↦ λ f. let both : false ≡ true = sym not ∙ says.1 (record { some = some; few = few; room = record { short = leb-true _ _ e; fits = leb-true _ _ f; early = subst (λ (x : Step). IsEarly x) (sym begins) tt; tail = λ runs. absurd (subst (λ (x : Step). HasBegun x) begins runs) } }) in absurd cc
       ] refl
     ] refl
 

@@ -42,6 +42,7 @@ module _ (d mid : DeskState) (edit : Proposal) (acc : IsAccepted d mid edit) whe
   mid_in_step disk s i = record {
     same = mid_store ∙ i.same;
     rest = i.rest;
+    none_runs = i.none_runs;
     settled = i.settled ∙ sym (ap (λ (x : DeskState). x.settled) acc.new_is);
     none_drawn = ap (λ (x : DeskState). x.drawn) acc.new_is ∙ i.none_drawn;
     accepts = ap (λ (x : DeskState). x.stopped) acc.new_is ∙ i.accepts;
@@ -122,11 +123,12 @@ refused_known s p fault.Memory h =
     absurd (never_memory (can_change p.change current && is_met p.expect current) (has_room s p.change) (has_revision s) current h)
 
 -- ---- at first
-pub new_in_step : {D : Type 0} (disk : Ghosts D) (s : StoreState D) (opening : Identity) (d : DeskState) → opening ≡ s.store → IsFresh s s.store.start → EachCrash disk s.journal.disk (Leaves s)
+pub new_in_step : {D : Type 0} (disk : Ghosts D) (s : StoreState D) (opening : Identity) (d : DeskState) → opening ≡ s.store → IsFresh s s.store.start → EachCrash disk s.slots.journal.disk (Leaves s)
     → d ≡ record { store = opening; settled = []; drawn = []; waiting = []; stopped = false } → IsInStep disk s d
 new_in_step disk s opening d same fresh leaves made = record {
   same = ap (λ (x : DeskState). x.store) made ∙ same;
   rest = (fresh.step, λ failed. let both : Idle ≡ Failed = sym fresh.phase ∙ failed in absurd cc);
+  none_runs = fresh.none_runs;
   settled = fresh.sealed ∙ sym (ap (λ (x : DeskState). x.settled) made);
   none_drawn = ap (λ (x : DeskState). x.drawn) made;
   accepts = ap (λ (x : DeskState). x.stopped) made;

@@ -9,6 +9,7 @@ use Rattle.fp_edit.specs.Edits.{Change}
 use Rattle.fp_edit.specs.Flags.{State}
 use Rattle.fp_edit.specs.Log.{after_all}
 use Rattle.fp_recovery.specs.Room.{IsFullFor}
+use Rattle.fp_slots.specs.declared.slots.Step.TheVariants.{Begin}
 use Rattle.fp_recovery.specs.Stands.{StandsFor}
 use Rattle.fp_group_commit.specs.Changes.{batch_len}
 use Rattle.fp_group_commit.specs.Store.{IsAtRest, StoreState, kept}
@@ -22,7 +23,7 @@ pub record SessionState (D : Type 0) : Type 0 where
   pub stopped : Bool
 
 abbrev pub disk_of : {D : Type 0} → SessionState D → D
-disk_of s = s.store.journal.disk
+disk_of s = s.store.slots.journal.disk
 
 -- the flags with all edits that were taken
 abbrev pub flags_of : {D : Type 0} → SessionState D → State
@@ -38,21 +39,24 @@ IsAhead d flags = (n : ℕ) × (length d.settled ≤ n) × (n ≤ length (log d)
 abbrev pub StandsAhead : DeskState → List ℕ → Type 0
 StandsAhead d c = (flags : State) × IsAhead d flags × StandsFor c flags
 
--- the store keeps what the desk tells, no batch is out, and a crash leaves what is kept
+-- the store keeps what the desk tells, no batch is out and no compaction runs, and a crash leaves what
+-- is kept
 pub record IsInStep {D : Type 0} (disk : Ghosts D) (s : StoreState D) (d : DeskState) : Type 0 where
   pub same : d.store ≡ s.store
   pub rest : IsAtRest s
+  pub none_runs : s.slots.step ≡ Begin
   pub settled : s.sealed ≡ d.settled
   pub none_drawn : d.drawn ≡ []
   pub accepts : d.stopped ≡ false
-  pub keeps : EachCrash disk s.journal.disk (λ c. StandsFor c (kept s))
+  pub keeps : EachCrash disk s.slots.journal.disk (λ c. StandsFor c (kept s))
 
 -- the batch was sealed, and no call of the device failed
 pub record IsSealed {D : Type 0} (faults : D → ℕ) (batch : List Change)
     (s t : StoreState D) : Type 0 where
   pub sealed : t.sealed ≡ s.sealed ++ batch
   pub rest : IsAtRest t
-  pub no_failure : faults t.journal.disk ≡ faults s.journal.disk
+  pub none_runs : t.slots.step ≡ s.slots.step
+  pub no_failure : faults t.slots.journal.disk ≡ faults s.slots.journal.disk
 
 -- the bytes stand for what is kept, or for that and the batch
 abbrev pub KeepsOrGains : {D : Type 0} → StoreState D → List Change → List ℕ → Type 0
@@ -68,7 +72,7 @@ pub record Commits {D : Type 0} (disk : Ghosts D) (s t : StoreState D)
   pub some : 0 < length batch
   pub desk : e ≡ record d { settled = d.settled ++ batch; waiting = rest }
   pub in_step : IsInStep disk t e
-  pub no_failure : disk.faults t.journal.disk ≡ disk.faults s.journal.disk
+  pub no_failure : disk.faults t.slots.journal.disk ≡ disk.faults s.slots.journal.disk
 
 -- flags on the way, and edits that wait behind them, for which whatever a crash leaves of the disk has no room
 pub record LacksRoomFor {D : Type 0} (disk : Ghosts D) (d : DeskState) (now : D) : Type 0 where

@@ -29,18 +29,19 @@ pub enum CommitFault {
 // Writes the batch.
 fn stage<D: Disk>(store: &mut Store<D>, draw: Draw) -> Result<(), CommitFault>
     requires rest { IsAtRest store.old }
-    requires room { HasRoom store.old.journal draw }
+    requires room { HasRoom store.old.slots draw }
     requires goes_on { GoesOn (kept store.old) draw }
-    ensures same { (store.new.store ≡ store.old.store) × (store.new.sealed ≡ store.old.sealed) }
+    ensures same { (store.new.store ≡ store.old.store) × (store.new.sealed ≡ store.old.sealed)
+        × (store.new.slots.step ≡ store.old.slots.step) }
     ensures staged { OnOk result (MovesTo D.faults Staged store.old store.new
         × (store.new.staged ≡ draw.changes)) }
     ensures cause { IfErr result (λ f. f ≡ StoreFailed
-        → D.faults store.old.journal.disk < D.faults store.new.journal.disk) }
-    ensures any_moment { AtAnyMoment D.Disk store.old.journal.disk store.new.journal.disk
+        → D.faults store.old.slots.journal.disk < D.faults store.new.slots.journal.disk) }
+    ensures any_moment { AtAnyMoment D.Disk store.old.slots.journal.disk store.new.slots.journal.disk
         (Leaves store.old) }
-    ensures called { Makes (Write ∷ []) (D.calls store.old.journal.disk)
-        (D.calls store.new.journal.disk) result }
-    ensures honest { SameHonesty D.Disk store.old.journal.disk store.new.journal.disk }
+    ensures called { Makes (Write ∷ []) (D.calls store.old.slots.journal.disk)
+        (D.calls store.new.slots.journal.disk) result }
+    ensures honest { SameHonesty D.Disk store.old.slots.journal.disk store.new.slots.journal.disk }
 {
     match store.stage(draw) {
         Ok(()) => Ok(()),
@@ -54,7 +55,7 @@ fn stage<D: Disk>(store: &mut Store<D>, draw: Draw) -> Result<(), CommitFault>
 // Seals the batch, by a call of the disk each.
 fn seal<D: Disk>(store: &mut Store<D>, draw: Draw) -> Result<Receipt, CommitFault>
     requires rest { IsAtRest store.old }
-    requires room { HasRoom store.old.journal draw }
+    requires room { HasRoom store.old.slots draw }
     requires goes_on { GoesOn (kept store.old) draw }
     ensures same { store.new.store ≡ store.old.store }
     ensures sealed { OnOk result (IsSealed D.faults draw.changes store.old store.new) }
@@ -62,14 +63,14 @@ fn seal<D: Disk>(store: &mut Store<D>, draw: Draw) -> Result<Receipt, CommitFaul
         × (r.batch.changes ≡ draw.changes)
         × (r.batch.first ≡ (kept store.old).revision + 1)) }
     ensures cause { IfErr result (λ f. f ≡ StoreFailed
-        → D.faults store.old.journal.disk < D.faults store.new.journal.disk) }
-    ensures any_moment { AtAnyMoment D.Disk store.old.journal.disk store.new.journal.disk
+        → D.faults store.old.slots.journal.disk < D.faults store.new.slots.journal.disk) }
+    ensures any_moment { AtAnyMoment D.Disk store.old.slots.journal.disk store.new.slots.journal.disk
         (KeepsOrGains store.old draw.changes) }
-    ensures called { Makes batch_calls (D.calls store.old.journal.disk)
-        (D.calls store.new.journal.disk) result }
-    ensures keeps { OnOk result (EachCrash D.Disk store.new.journal.disk
+    ensures called { Makes batch_calls (D.calls store.old.slots.journal.disk)
+        (D.calls store.new.slots.journal.disk) result }
+    ensures keeps { OnOk result (EachCrash D.Disk store.new.slots.journal.disk
         (λ c. StandsFor c (kept store.new))) }
-    ensures honest { SameHonesty D.Disk store.old.journal.disk store.new.journal.disk }
+    ensures honest { SameHonesty D.Disk store.old.slots.journal.disk store.new.slots.journal.disk }
 {
     if let Err(fault) = stage(store, draw) {
         return Err(fault);
@@ -115,14 +116,14 @@ fn commit<D: Disk>(store: &mut Store<D>, desk: &mut Desk) -> Result<(), CommitFa
     ensures committed { OnOk result (Commits D.Disk store.old store.new desk.old desk.new) }
     ensures log { (desk.new.store ≡ desk.old.store) × (log desk.new ≡ log desk.old) }
     ensures cause { IfErr result (λ f. f ≡ StoreFailed
-        → LacksRoomFor D.Disk desk.old store.new.journal.disk
-        ⊎ (D.faults store.old.journal.disk < D.faults store.new.journal.disk)) }
-    ensures any_moment { AtAnyMoment D.Disk store.old.journal.disk store.new.journal.disk
+        → LacksRoomFor D.Disk desk.old store.new.slots.journal.disk
+        ⊎ (D.faults store.old.slots.journal.disk < D.faults store.new.slots.journal.disk)) }
+    ensures any_moment { AtAnyMoment D.Disk store.old.slots.journal.disk store.new.slots.journal.disk
         (StandsAhead desk.old) }
     ensures settled { OnErr result (desk.new.settled ≡ desk.old.settled) }
-    ensures called { Makes batch_calls (D.calls store.old.journal.disk)
-        (D.calls store.new.journal.disk) result }
-    ensures honest { SameHonesty D.Disk store.old.journal.disk store.new.journal.disk }
+    ensures called { Makes batch_calls (D.calls store.old.slots.journal.disk)
+        (D.calls store.new.slots.journal.disk) result }
+    ensures honest { SameHonesty D.Disk store.old.slots.journal.disk store.new.slots.journal.disk }
 {
     let Ok(drawn) = desk.draw() else {
         return Err(CommitFault::Memory);
@@ -141,20 +142,20 @@ fn commit<D: Disk>(store: &mut Store<D>, desk: &mut Desk) -> Result<(), CommitFa
 pub fn commit_all<D: Disk>(store: &mut Store<D>, desk: &mut Desk) -> Result<(), CommitFault>
     requires in_step { IsInStep D.Disk store.old desk.old }
     ensures committed { OnOk result (IsInStep D.Disk store.new desk.new × (desk.new.waiting ≡ [])
-        × (D.faults store.new.journal.disk ≡ D.faults store.old.journal.disk)) }
+        × (D.faults store.new.slots.journal.disk ≡ D.faults store.old.slots.journal.disk)) }
     ensures log { (desk.new.store ≡ desk.old.store) × (log desk.new ≡ log desk.old) }
     ensures settled { length desk.old.settled ≤ length desk.new.settled }
     ensures cause { IfErr result (λ f. f ≡ StoreFailed
-        → LacksRoomFor D.Disk desk.old store.new.journal.disk
-        ⊎ (D.faults store.old.journal.disk < D.faults store.new.journal.disk)) }
-    ensures any_moment { AtAnyMoment D.Disk store.old.journal.disk store.new.journal.disk
+        → LacksRoomFor D.Disk desk.old store.new.slots.journal.disk
+        ⊎ (D.faults store.old.slots.journal.disk < D.faults store.new.slots.journal.disk)) }
+    ensures any_moment { AtAnyMoment D.Disk store.old.slots.journal.disk store.new.slots.journal.disk
         (StandsAhead desk.old) }
-    ensures now { EachCrash D.Disk store.new.journal.disk (StandsAhead desk.new) }
+    ensures now { EachCrash D.Disk store.new.slots.journal.disk (StandsAhead desk.new) }
     ensures called { (n : ℕ) × MatchResult result
-        (λ _. D.calls store.new.journal.disk ≡ D.calls store.old.journal.disk ++ calls_of n)
-        (λ _. MakesSome batch_calls (D.calls store.old.journal.disk ++ calls_of n)
-        (D.calls store.new.journal.disk)) }
-    ensures honest { SameHonesty D.Disk store.old.journal.disk store.new.journal.disk }
+        (λ _. D.calls store.new.slots.journal.disk ≡ D.calls store.old.slots.journal.disk ++ calls_of n)
+        (λ _. MakesSome batch_calls (D.calls store.old.slots.journal.disk ++ calls_of n)
+        (D.calls store.new.slots.journal.disk)) }
+    ensures honest { SameHonesty D.Disk store.old.slots.journal.disk store.new.slots.journal.disk }
 {
     // What a crash leaves is known only where it is asked.
     let _ = store.phase();

@@ -48,7 +48,7 @@ impl<D: Disk> Model for DiskSession<D> {
 
     ghost view = { λ s. record { store = s.store; desk = s.desk; stopped = s.is_stopped } };
 
-    ghost invariant = { λ s. EachCrash D.Disk s.store.journal.disk (StandsAhead s.desk)
+    ghost invariant = { λ s. EachCrash D.Disk s.store.slots.journal.disk (StandsAhead s.desk)
         × (s.is_stopped ≡ false → IsInStep D.Disk s.store s.desk) };
 }
 

@@ -45,8 +45,8 @@ module _ {D : Type 0} (disk : Ghosts D) where
       let first = r.1 in let p = first.log in let rest = course_log r.0 new events answers r.2 in let q = rest.0 in
       ((p.0 ++ q.0, sym (append_assoc (log old.desk) p.0 q.0) ∙ ap (λ (l : List Change). l ++ q.0) p.1 ∙ q.1), rest.1 ∙ first.desk)
 
-  pub course_honest : (old new : WorldState D) (events : List Event) (answers : List Answer) → Course disk old events answers new → SameHonesty disk old.store.journal.disk new.store.journal.disk
-  course_honest old new [] [] r = subst (λ (w : WorldState D). SameHonesty disk old.store.journal.disk w.store.journal.disk) (sym r) ((λ h. h), (λ h. h))
+  pub course_honest : (old new : WorldState D) (events : List Event) (answers : List Answer) → Course disk old events answers new → SameHonesty disk old.store.slots.journal.disk new.store.slots.journal.disk
+  course_honest old new [] [] r = subst (λ (w : WorldState D). SameHonesty disk old.store.slots.journal.disk w.store.slots.journal.disk) (sym r) ((λ h. h), (λ h. h))
   course_honest old new [] (b ∷ answers) r = absurd r
   course_honest old new (f ∷ events) [] r = absurd r
   course_honest old new (f ∷ events) (b ∷ answers) r =
@@ -54,21 +54,21 @@ module _ {D : Type 0} (disk : Ghosts D) where
       ((λ h. rest.0 (here.0 h)), (λ h. here.1 (rest.1 h)))
 
   -- a crash at any moment keeps what was told at the start, and after it what was told by then
-  pub course_leaves : ((d : D) (c : List ℕ) → disk.honest d → disk.crash_states_since d (disk.moment d) c → IsOutcome (disk.unsynced d) c) → (old new : WorldState D) (events : List Event) (answers : List Answer) → EachCrash disk old.store.journal.disk (KeptFrom old.desk old.told) → Course disk old events answers new
-      → AtAnyMoment disk old.store.journal.disk new.store.journal.disk (KeptFrom new.desk old.told)
-  course_leaves only_now old new [] [] now r = subst (λ (w : WorldState D). AtAnyMoment disk old.store.journal.disk w.store.journal.disk (KeptFrom w.desk old.told)) (sym r)
-      (λ h. leaves_still disk.moment disk.crash_states_since old.store.journal.disk (KeptFrom old.desk old.told) (λ c left. now h c (only_now old.store.journal.disk c h left)))
+  pub course_leaves : ((d : D) (c : List ℕ) → disk.honest d → disk.crash_states_since d (disk.moment d) c → IsOutcome (disk.unsynced d) c) → (old new : WorldState D) (events : List Event) (answers : List Answer) → EachCrash disk old.store.slots.journal.disk (KeptFrom old.desk old.told) → Course disk old events answers new
+      → AtAnyMoment disk old.store.slots.journal.disk new.store.slots.journal.disk (KeptFrom new.desk old.told)
+  course_leaves only_now old new [] [] now r = subst (λ (w : WorldState D). AtAnyMoment disk old.store.slots.journal.disk w.store.slots.journal.disk (KeptFrom w.desk old.told)) (sym r)
+      (λ h. leaves_still disk.moment disk.crash_states_since old.store.slots.journal.disk (KeptFrom old.desk old.told) (λ c left. now h c (only_now old.store.slots.journal.disk c h left)))
   course_leaves only_now old new [] (b ∷ answers) now r = absurd r
   course_leaves only_now old new (f ∷ events) [] now r = absurd r
   course_leaves only_now old new (f ∷ events) (b ∷ answers) now r = λ h.
       let mid = r.0 in let first = r.1 in let on = first.honest in let more = first.told in let grows = course_log mid new events answers r.2 in let p = grows.0 in
-      let a = old.store.journal.disk in let b = mid.store.journal.disk in let e = new.store.journal.disk in
+      let a = old.store.slots.journal.disk in let b = mid.store.slots.journal.disk in let e = new.store.slots.journal.disk in
       leaves_then disk.moment disk.crash_states_since a b e (KeptFrom new.desk old.told)
       (leaves_map disk.moment disk.crash_states_since a b (KeptFrom mid.desk old.told) (KeptFrom new.desk old.told) (λ c k. kept_more mid.desk new.desk p.0 old.told c grows.1 (sym p.1) k) (first.any_moment h))
       (leaves_map disk.moment disk.crash_states_since b e (KeptFrom new.desk mid.told) (KeptFrom new.desk old.told) (λ c k. kept_low new.desk mid.told old.told c more k) (course_leaves only_now mid new events answers first.exit r.2 (on.0 h)))
 
-  pub course_exit : (old new : WorldState D) (events : List Event) (answers : List Answer) → EachCrash disk old.store.journal.disk (KeptFrom old.desk old.told) → Course disk old events answers new → EachCrash disk new.store.journal.disk (KeptFrom new.desk new.told)
-  course_exit old new [] [] now r = subst (λ (w : WorldState D). EachCrash disk w.store.journal.disk (KeptFrom w.desk w.told)) (sym r) now
+  pub course_exit : (old new : WorldState D) (events : List Event) (answers : List Answer) → EachCrash disk old.store.slots.journal.disk (KeptFrom old.desk old.told) → Course disk old events answers new → EachCrash disk new.store.slots.journal.disk (KeptFrom new.desk new.told)
+  course_exit old new [] [] now r = subst (λ (w : WorldState D). EachCrash disk w.store.slots.journal.disk (KeptFrom w.desk w.told)) (sym r) now
   course_exit old new [] (b ∷ answers) now r = absurd r
   course_exit old new (f ∷ events) [] now r = absurd r
   course_exit old new (f ∷ events) (b ∷ answers) now r = let first = r.1 in course_exit r.0 new events answers first.exit r.2

@@ -54,9 +54,9 @@ abbrev pub At : {D : Type 0} → Held → StoreState D → DeskState → ℕ →
 At h s d told = record {
   desk = d;
   progress = progress_of h s.step;
-  failed = is_failed s.journal.phase;
-  most = s.journal.slot.most;
-  room = room s.journal;
+  failed = is_failed s.slots.journal.phase;
+  most = s.slots.journal.slot.most;
+  room = room s.slots.journal;
   told = told;
 }
 
@@ -114,12 +114,12 @@ when_opened s d h o e = by_phase s d h o GateOpened gate_opened refl refl only_o
 module _ {D : Type 0} (faults : D → ℕ) (May : Machine → Type 0) (to : Progress) where
   pub done : (h h2 : Held) (s n : StoreState D) (d : DeskState) (told : ℕ) (phase : Phase) → MovesTo faults phase s n → SameRoom s n → May (At h s d told) → progress_of h2 n.step ≡ to → Advances May to (At h s d told) answer.Done (At h2 n d told)
   done h h2 s n d told phase moves same may is =
-      let well = is_well s.journal.phase moves.well_before in
-      (well, may, machine_is (At h2 n d told) (record (At h s d told) { progress = to }) refl is (is_well n.journal.phase moves.well_now ∙ sym well) same.0 same.1 refl)
+      let well = is_well s.slots.journal.phase moves.well_before in
+      (well, may, machine_is (At h2 n d told) (record (At h s d told) { progress = to }) refl is (is_well n.slots.journal.phase moves.well_now ∙ sym well) same.0 same.1 refl)
 
   pub broke : (h h2 : Held) (s n : StoreState D) (d : DeskState) (told : ℕ) → Breaks faults s n → May (At h s d told) → progress_of h2 n.step ≡ progress_of h s.step → Advances May to (At h s d told) (answer.Fault fault.Device) (At h2 n d told)
   broke h h2 s n d told b may is =
-      (is_well s.journal.phase b.well_before, may, machine_is (At h2 n d told) (record (At h s d told) { failed = true }) refl is (ap is_failed b.failed) b.most b.room refl)
+      (is_well s.slots.journal.phase b.well_before, may, machine_is (At h2 n d told) (record (At h s d told) { failed = true }) refl is (ap is_failed b.failed) b.most b.room refl)
 
   pub fails : (e : StoreFault) (h : Held) (s n : StoreState D) (d : DeskState) (told : ℕ) → FailsBy faults s n e → n.step ≡ s.step → May (At h s d told) → Advances May to (At h s d told) (answer.Fault e) (At h n d told)
   fails fault.Device h s n d told b step may = broke h h s n d told b may (ap (λ (p : Phase). progress_of h p) step)
@@ -128,39 +128,39 @@ module _ {D : Type 0} (faults : D → ℕ) (May : Machine → Type 0) (to : Prog
   fails fault.Stranger h s n d told b step may = absurd b
 
 module _ {D : Type 0} (faults : D → ℕ) (calls : D → List CallKind) (kind : CallKind) where
-  pub calls_of_fail : (e : StoreFault) (s n : StoreState D) → FailsBy faults s n e → MakesSome (kind ∷ []) (calls s.journal.disk) (calls n.journal.disk) → MakesOne kind (answer.Fault e) (calls s.journal.disk) (calls n.journal.disk)
+  pub calls_of_fail : (e : StoreFault) (s n : StoreState D) → FailsBy faults s n e → MakesSome (kind ∷ []) (calls s.slots.journal.disk) (calls n.slots.journal.disk) → MakesOne kind (answer.Fault e) (calls s.slots.journal.disk) (calls n.slots.journal.disk)
   calls_of_fail fault.Device s n b made = made
-  calls_of_fail fault.Failed s n b made = ap (λ (x : StoreState D). calls x.journal.disk) b.1
+  calls_of_fail fault.Failed s n b made = ap (λ (x : StoreState D). calls x.slots.journal.disk) b.1
   calls_of_fail fault.Memory s n b made = absurd b
   calls_of_fail fault.Stranger s n b made = absurd b
 
-  pub calls_of_refusal : (e : StoreFault) (s n : StoreState D) (group : Group) → RefusesBy faults s n group e → MakesSome (kind ∷ []) (calls s.journal.disk) (calls n.journal.disk) → MakesOne kind (answer.Fault e) (calls s.journal.disk) (calls n.journal.disk)
+  pub calls_of_refusal : (e : StoreFault) (s n : StoreState D) (group : Group) → RefusesBy faults s n group e → MakesSome (kind ∷ []) (calls s.slots.journal.disk) (calls n.slots.journal.disk) → MakesOne kind (answer.Fault e) (calls s.slots.journal.disk) (calls n.slots.journal.disk)
   calls_of_refusal fault.Device s n group b made = made
-  calls_of_refusal fault.Failed s n group b made = ap (λ (x : StoreState D). calls x.journal.disk) b.1
-  calls_of_refusal fault.Memory s n group b made = ap (λ (x : StoreState D). calls x.journal.disk) b.1
-  calls_of_refusal fault.Stranger s n group b made = ap (λ (x : StoreState D). calls x.journal.disk) b.1
+  calls_of_refusal fault.Failed s n group b made = ap (λ (x : StoreState D). calls x.slots.journal.disk) b.1
+  calls_of_refusal fault.Memory s n group b made = ap (λ (x : StoreState D). calls x.slots.journal.disk) b.1
+  calls_of_refusal fault.Stranger s n group b made = ap (λ (x : StoreState D). calls x.slots.journal.disk) b.1
 
 module _ {D : Type 0} (faults : D → ℕ) where
-  pub rise_of_fail : (e : StoreFault) (s n : StoreState D) → FailsBy faults s n e → RisesFor (answer.Fault e) (faults s.journal.disk) (faults n.journal.disk)
+  pub rise_of_fail : (e : StoreFault) (s n : StoreState D) → FailsBy faults s n e → RisesFor (answer.Fault e) (faults s.slots.journal.disk) (faults n.slots.journal.disk)
   rise_of_fail fault.Device s n b = b.cause
-  rise_of_fail fault.Failed s n b = ap (λ (x : StoreState D). faults x.journal.disk) b.1
+  rise_of_fail fault.Failed s n b = ap (λ (x : StoreState D). faults x.slots.journal.disk) b.1
   rise_of_fail fault.Memory s n b = absurd b
   rise_of_fail fault.Stranger s n b = absurd b
 
-  pub rise_of_refusal : (e : StoreFault) (s n : StoreState D) (group : Group) → RefusesBy faults s n group e → RisesFor (answer.Fault e) (faults s.journal.disk) (faults n.journal.disk)
+  pub rise_of_refusal : (e : StoreFault) (s n : StoreState D) (group : Group) → RefusesBy faults s n group e → RisesFor (answer.Fault e) (faults s.slots.journal.disk) (faults n.slots.journal.disk)
   rise_of_refusal fault.Device s n group b = let broke = b.0 in broke.cause
-  rise_of_refusal fault.Failed s n group b = ap (λ (x : StoreState D). faults x.journal.disk) b.1
-  rise_of_refusal fault.Memory s n group b = ap (λ (x : StoreState D). faults x.journal.disk) b.1
-  rise_of_refusal fault.Stranger s n group b = ap (λ (x : StoreState D). faults x.journal.disk) b.1
+  rise_of_refusal fault.Failed s n group b = ap (λ (x : StoreState D). faults x.slots.journal.disk) b.1
+  rise_of_refusal fault.Memory s n group b = ap (λ (x : StoreState D). faults x.slots.journal.disk) b.1
+  rise_of_refusal fault.Stranger s n group b = ap (λ (x : StoreState D). faults x.slots.journal.disk) b.1
 
 -- ---- the drawn edits are written
-pub can_stage : {D : Type 0} (group : Group) (s : StoreState D) (d : DeskState) (told : ℕ) → group.changes ≡ d.drawn → HasRoom s.journal group → CanStage (At (held.Drawn group) s d told)
+pub can_stage : {D : Type 0} (group : Group) (s : StoreState D) (d : DeskState) (told : ℕ) → group.changes ≡ d.drawn → HasRoom s.slots group → CanStage (At (held.Drawn group) s d told)
 can_stage group s d told is r =
     let len = ap length is in let bytes = ap (λ (l : List Change). batch_len (record { first = 0; changes = l })) is in
     let few = r.few in let short = r.short in let left = r.room in
     record { drawn = refl; few = omega (arith, len, few); short = omega (arith, bytes, short); room = omega (arith, bytes, left) }
 
-pub cannot_stage : {D : Type 0} (group : Group) (s : StoreState D) (d : DeskState) (told : ℕ) → group.changes ≡ d.drawn → d.drawn ≢ [] → (HasRoom s.journal group → ⊥) → CanStage (At (held.Drawn group) s d told) → ⊥
+pub cannot_stage : {D : Type 0} (group : Group) (s : StoreState D) (d : DeskState) (told : ℕ) → group.changes ≡ d.drawn → d.drawn ≢ [] → (HasRoom s.slots group → ⊥) → CanStage (At (held.Drawn group) s d told) → ⊥
 cannot_stage group s d told is some never can =
     let len = ap length is in let bytes = ap (λ (l : List Change). batch_len (record { first = 0; changes = l })) is in
     let any = some_in d.drawn some in let few = can.few in let short = can.short in let left = can.room in
@@ -182,14 +182,14 @@ none_held (held.Sealed receipt) s d told other can = let e = can.drawn in absurd
 pub refused_stage : {D : Type 0} (faults : D → ℕ) (e : StoreFault) (g g2 : Group) (s n : StoreState D) (d : DeskState) (told : ℕ) → RefusesBy faults s n g e → e ≢ fault.Stranger → CanStage (At (held.Drawn g) s d told) → Stages (At (held.Drawn g) s d told) (answer.Fault e) (At (held.Drawn g2) n d told)
 refused_stage faults fault.Device g g2 s n d told b never can = broke faults CanStage batch_staged (held.Drawn g) (held.Drawn g2) s n d told b.0 can refl
 refused_stage faults fault.Failed g g2 s n d told b never can = (ap is_failed b.0, ap (λ (x : StoreState _). At (held.Drawn g2) x d told) b.1)
-refused_stage faults fault.Memory g g2 s n d told b never can = (is_well s.journal.phase b.0, can, ap (λ (x : StoreState _). At (held.Drawn g2) x d told) b.1)
+refused_stage faults fault.Memory g g2 s n d told b never can = (is_well s.slots.journal.phase b.0, can, ap (λ (x : StoreState _). At (held.Drawn g2) x d told) b.1)
 refused_stage faults fault.Stranger g g2 s n d told b never can = absurd (never refl)
 
 -- ---- and sealed
 pub seals : {D : Type 0} (faults : D → ℕ) (h : Held) (r : ReceiptState) (s n : StoreState D) (d : DeskState) (told revision : ℕ) → d.store ≡ s.store → MovesTo faults Idle s n → TakesRoom s n → n.store ≡ s.store → s.sealed ≡ d.settled → s.staged ≡ d.drawn → n.sealed ≡ s.sealed ++ s.staged
     → progress_of h s.step ≡ gate_opened → revision ≡ n.store.start.revision + length n.sealed → Seals (At h s d told) (answer.Sealed revision) (At (held.Sealed r) n d told)
 seals faults h r s n d told revision same moves takes store settled drawn all point is =
-    let well = is_well s.journal.phase moves.well_before in
+    let well = is_well s.slots.journal.phase moves.well_before in
     let start = ap (λ (x : Identity). x.start.revision) store in let start' = ap (λ (x : Identity). x.start.revision) same in
     let len = ap length all in let both = length-append s.sealed s.staged in let a = ap length settled in let b = ap length drawn in
     let bytes = ap (λ (l : List Change). batch_len (record { first = 0; changes = l })) drawn in let left = takes.1 in (
@@ -197,7 +197,7 @@ seals faults h r s n d told revision same moves takes store settled drawn all po
       point,
       omega (arith, is, start, start', len, both, a, b),
       omega (arith, bytes, left),
-      machine_is (At (held.Sealed r) n d told) (record (At h s d told) { progress = batch_sealed; room = room n.journal }) refl refl (is_well n.journal.phase moves.well_now ∙ sym well) takes.0 refl refl,
+      machine_is (At (held.Sealed r) n d told) (record (At h s d told) { progress = batch_sealed; room = room n.slots.journal }) refl refl (is_well n.slots.journal.phase moves.well_now ∙ sym well) takes.0 refl refl,
     )
 
 pub seal_fails : {D : Type 0} (faults : D → ℕ) (e : StoreFault) (h : Held) (s n : StoreState D) (d : DeskState) (told : ℕ) → FailsBy faults s n e → n.step ≡ s.step → progress_of h s.step ≡ gate_opened → Seals (At h s d told) (answer.Fault e) (At h n d told)

@@ -26,7 +26,7 @@ front_kept d xs rest low c is le stands =
     (r + length xs, le, omega (arith, len, more), subst (λ (l : List Change). StandsFor c (after_all d.store.start l)) (sym cut) stands)
 
 idle_not : {D : Type 0} (s : StoreState D) → s.step ≡ Idle → has_begun s ≡ true → ⊥
-idle_not s idle begun = let both : false ≡ true = ap (λ (p : Phase). begun_at p s.journal.phase) (sym idle) ∙ begun in absurd cc
+idle_not s idle begun = let both : false ≡ true = ap (λ (p : Phase). begun_at p s.slots.journal.phase) (sym idle) ∙ begun in absurd cc
 
 -- what is sealed begins the log, and so does it with the batch in flight
 abbrev Begins : List Change → DeskState → Type 0
@@ -58,15 +58,15 @@ module _ {D : Type 0} (s : StoreState D) (d : DeskState) where
 
 module _ {D : Type 0} (honest : D → Type 0) (moment : D → ℕ) (crash_states_since : D → ℕ → List ℕ → Type 0) (unsynced : D → PendingState) {h : Held} {ts : List TicketState} {start : ℕ} {s : StoreState D} {d : DeskState} {told : ℕ} (w : IsWorld honest unsynced h ts start s d told) where
   -- what a crash leaves now
-  pub kept_now : honest s.journal.disk → (c : List ℕ) → IsOutcome (unsynced s.journal.disk) c → KeptFrom d told c
+  pub kept_now : honest s.slots.journal.disk → (c : List ℕ) → IsOutcome (unsynced s.slots.journal.disk) c → KeptFrom d told c
   kept_now honest_now c out = leaves_kept s d w.same h w.out told w.low c (w.now honest_now c out)
 
-  pub still : ((d : D) (c : List ℕ) → honest d → crash_states_since d (moment d) c → IsOutcome (unsynced d) c) → honest s.journal.disk → LeavesOnly moment crash_states_since s.journal.disk s.journal.disk (KeptFrom d told)
-  still only_now honest_now = leaves_still moment crash_states_since s.journal.disk (KeptFrom d told) (λ c left. kept_now honest_now c (only_now s.journal.disk c honest_now left))
+  pub still : ((d : D) (c : List ℕ) → honest d → crash_states_since d (moment d) c → IsOutcome (unsynced d) c) → honest s.slots.journal.disk → LeavesOnly moment crash_states_since s.slots.journal.disk s.slots.journal.disk (KeptFrom d told)
+  still only_now honest_now = leaves_still moment crash_states_since s.slots.journal.disk (KeptFrom d told) (λ c left. kept_now honest_now c (only_now s.slots.journal.disk c honest_now left))
 
   -- at each moment of a call of the store
-  pub kept_leaves : (new : D) → LeavesOnly moment crash_states_since s.journal.disk new (Leaves s) → LeavesOnly moment crash_states_since s.journal.disk new (KeptFrom d told)
-  kept_leaves new l = leaves_map moment crash_states_since s.journal.disk new (Leaves s) (KeptFrom d told) (λ c p. leaves_kept s d w.same h w.out told w.low c p) l
+  pub kept_leaves : (new : D) → LeavesOnly moment crash_states_since s.slots.journal.disk new (Leaves s) → LeavesOnly moment crash_states_since s.slots.journal.disk new (KeptFrom d told)
+  kept_leaves new l = leaves_map moment crash_states_since s.slots.journal.disk new (Leaves s) (KeptFrom d told) (λ c p. leaves_kept s d w.same h w.out told w.low c p) l
 
 pub kept_same_log : (d n : DeskState) (low : ℕ) (c : List ℕ) → n.store ≡ d.store → log n ≡ log d → KeptFrom d low c → KeptFrom n low c
 kept_same_log d n low c store same k =
@@ -99,16 +99,16 @@ log_more d c = ap (λ (l : List Change). d.settled ++ l) (sym (append_assoc d.dr
 
 module _ {D : Type 0} (moment : D → ℕ) (crash_states_since : D → ℕ → List ℕ → Type 0) where
   -- at each moment of the call that begins to open the gate
-  pub opened_leaves : (h : Held) (n : StoreState D) (d : DeskState) (told : ℕ) (old : D) → d.store ≡ n.store → IsOut h n d → told ≤ settled_revision d → LeavesOnly moment crash_states_since old n.journal.disk (Leaves n) → LeavesOnly moment crash_states_since old n.journal.disk (KeptFrom d told)
-  opened_leaves h n d told old same out low l = leaves_map moment crash_states_since old n.journal.disk (Leaves n) (KeptFrom d told) (λ c p. leaves_kept n d same h out told low c p) l
+  pub opened_leaves : (h : Held) (n : StoreState D) (d : DeskState) (told : ℕ) (old : D) → d.store ≡ n.store → IsOut h n d → told ≤ settled_revision d → LeavesOnly moment crash_states_since old n.slots.journal.disk (Leaves n) → LeavesOnly moment crash_states_since old n.slots.journal.disk (KeptFrom d told)
+  opened_leaves h n d told old same out low l = leaves_map moment crash_states_since old n.slots.journal.disk (Leaves n) (KeptFrom d told) (λ c p. leaves_kept n d same h out told low c p) l
 
 module _ {D : Type 0} (honest : D → Type 0) (moment : D → ℕ) (crash_states_since : D → ℕ → List ℕ → Type 0) (unsynced : D → PendingState) (only_now : (d : D) (c : List ℕ) → honest d → crash_states_since d (moment d) c → IsOutcome (unsynced d) c) where
   -- an event that makes no call of the disk
-  pub rested : (old new : WorldState D) → new.store ≡ old.store → old.told ≤ new.told → (honest new.store.journal.disk → (c : List ℕ) → IsOutcome (unsynced new.store.journal.disk) c → KeptFrom new.desk new.told c)
-      → honest old.store.journal.disk → LeavesOnly moment crash_states_since old.store.journal.disk new.store.journal.disk (KeptFrom new.desk old.told)
+  pub rested : (old new : WorldState D) → new.store ≡ old.store → old.told ≤ new.told → (honest new.store.slots.journal.disk → (c : List ℕ) → IsOutcome (unsynced new.store.slots.journal.disk) c → KeptFrom new.desk new.told c)
+      → honest old.store.slots.journal.disk → LeavesOnly moment crash_states_since old.store.slots.journal.disk new.store.slots.journal.disk (KeptFrom new.desk old.told)
   rested old new same told exit h =
-      let disk : new.store.journal.disk ≡ old.store.journal.disk = ap (λ (s : StoreState D). s.journal.disk) same in
-      subst (λ (d : D). LeavesOnly moment crash_states_since old.store.journal.disk d (KeptFrom new.desk old.told)) (sym disk)
-      (leaves_still moment crash_states_since old.store.journal.disk (KeptFrom new.desk old.told) (λ c left.
-      let k = exit (subst (λ (d : D). honest d) (sym disk) h) c (subst (λ (d : D). IsOutcome (unsynced d) c) (sym disk) (only_now old.store.journal.disk c h left)) in
+      let disk : new.store.slots.journal.disk ≡ old.store.slots.journal.disk = ap (λ (s : StoreState D). s.slots.journal.disk) same in
+      subst (λ (d : D). LeavesOnly moment crash_states_since old.store.slots.journal.disk d (KeptFrom new.desk old.told)) (sym disk)
+      (leaves_still moment crash_states_since old.store.slots.journal.disk (KeptFrom new.desk old.told) (λ c left.
+      let k = exit (subst (λ (d : D). honest d) (sym disk) h) c (subst (λ (d : D). IsOutcome (unsynced d) c) (sym disk) (only_now old.store.slots.journal.disk c h left)) in
       let low = k.1 in (k.0, omega (arith, told, low), k.2, k.3)))

@@ -86,7 +86,7 @@ module _ {D : Type 0} (honest : D → Type 0) (unsynced : D → PendingState) {h
       }
 
   -- the store has gone on
-  pub went : (h2 : Held) (n : StoreState D) → n.store ≡ s.store → IsOut h2 n d → (honest n.journal.disk → (c : List ℕ) → IsOutcome (unsynced n.journal.disk) c → Leaves n c) → IsWorld honest unsynced h2 ts start n d told
+  pub went : (h2 : Held) (n : StoreState D) → n.store ≡ s.store → IsOut h2 n d → (honest n.slots.journal.disk → (c : List ℕ) → IsOutcome (unsynced n.slots.journal.disk) c → Leaves n c) → IsWorld honest unsynced h2 ts start n d told
   went h2 n store out now = record {
     same = w.same ∙ sym store;
     out = out;

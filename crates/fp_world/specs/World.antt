@@ -36,9 +36,9 @@ abbrev pub machine : {D : Type 0} → WorldState D → Machine
 machine w = record {
   desk = w.desk;
   progress = w.progress;
-  failed = is_failed w.store.journal.phase;
-  most = w.store.journal.slot.most;
-  room = room w.store.journal;
+  failed = is_failed w.store.slots.journal.phase;
+  most = w.store.slots.journal.slot.most;
+  room = room w.store.slots.journal;
   told = w.told;
 }
 
@@ -125,13 +125,13 @@ pub record StepsTo {D : Type 0} (disk : Ghosts D) (old : WorldState D) (e : Even
   pub store : new.store.store ≡ old.store.store
   pub desk : new.desk.store ≡ old.desk.store
   pub told : old.told ≤ new.told
-  pub any_moment : AtAnyMoment disk old.store.journal.disk new.store.journal.disk
+  pub any_moment : AtAnyMoment disk old.store.slots.journal.disk new.store.slots.journal.disk
       (KeptFrom new.desk old.told)
-  pub exit : EachCrash disk new.store.journal.disk (KeptFrom new.desk new.told)
-  pub honest : SameHonesty disk old.store.journal.disk new.store.journal.disk
-  pub called : MakesItsCall e a (disk.calls old.store.journal.disk)
-      (disk.calls new.store.journal.disk)
-  pub cause : RisesFor a (disk.faults old.store.journal.disk) (disk.faults new.store.journal.disk)
+  pub exit : EachCrash disk new.store.slots.journal.disk (KeptFrom new.desk new.told)
+  pub honest : SameHonesty disk old.store.slots.journal.disk new.store.slots.journal.disk
+  pub called : MakesItsCall e a (disk.calls old.store.slots.journal.disk)
+      (disk.calls new.store.slots.journal.disk)
+  pub cause : RisesFor a (disk.faults old.store.slots.journal.disk) (disk.faults new.store.slots.journal.disk)
 
 -- each event was answered in its turn
 abbrev pub Course : {D : Type 0} → Ghosts D → WorldState D → List Event → List Answer → WorldState D
@@ -154,7 +154,7 @@ pub record IsWorld {D : Type 0} (honest : D → Type 0) (unsynced : D → Pendin
   pub same : d.store ≡ s.store
   pub out : IsOut held s d
   pub low : told ≤ settled_revision d
-  pub now : honest s.journal.disk → (c : List ℕ) → IsOutcome (unsynced s.journal.disk) c →
+  pub now : honest s.slots.journal.disk → (c : List ℕ) → IsOutcome (unsynced s.slots.journal.disk) c →
       Leaves s c
   pub open_desk : d.stopped ≡ false
   pub start_is : start ≡ d.store.start.revision

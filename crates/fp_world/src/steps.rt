@@ -28,7 +28,7 @@ impl<D: Disk> World<D> {
         ensures log { IsPrefix (log self.old.desk) (log self.new.desk) }
         ensures same { (self.new.store ≡ self.old.store) × (self.new.told ≡ self.old.told)
             × (self.new.desk.store ≡ self.old.desk.store) }
-        ensures exit { EachCrash D.Disk self.new.store.journal.disk
+        ensures exit { EachCrash D.Disk self.new.store.slots.journal.disk
             (KeptFrom self.new.desk self.new.told) }
     {
         let _ = &self.told;
@@ -54,16 +54,16 @@ impl<D: Disk> World<D> {
         ensures tells { TellsUpTo self.new.told result }
         ensures same { (self.new.desk ≡ self.old.desk) × (self.new.told ≡ self.old.told)
             × (self.new.store.store ≡ self.old.store.store) }
-        ensures any_moment { AtAnyMoment D.Disk self.old.store.journal.disk
-            self.new.store.journal.disk (KeptFrom self.new.desk self.old.told) }
-        ensures exit { EachCrash D.Disk self.new.store.journal.disk
+        ensures any_moment { AtAnyMoment D.Disk self.old.store.slots.journal.disk
+            self.new.store.slots.journal.disk (KeptFrom self.new.desk self.old.told) }
+        ensures exit { EachCrash D.Disk self.new.store.slots.journal.disk
             (KeptFrom self.new.desk self.new.told) }
-        ensures honest { SameHonesty D.Disk self.old.store.journal.disk
-            self.new.store.journal.disk }
-        ensures called { MakesOne Write result (D.calls self.old.store.journal.disk)
-            (D.calls self.new.store.journal.disk) }
-        ensures cause { RisesFor result (D.faults self.old.store.journal.disk)
-            (D.faults self.new.store.journal.disk) }
+        ensures honest { SameHonesty D.Disk self.old.store.slots.journal.disk
+            self.new.store.slots.journal.disk }
+        ensures called { MakesOne Write result (D.calls self.old.store.slots.journal.disk)
+            (D.calls self.new.store.slots.journal.disk) }
+        ensures cause { RisesFor result (D.faults self.old.store.slots.journal.disk)
+            (D.faults self.new.store.slots.journal.disk) }
     {
         let _ = &self.told;
         if self.store.failed() {
@@ -97,7 +97,7 @@ impl<D: Disk> World<D> {
         ensures log { log self.new.desk ≡ log self.old.desk }
         ensures same { (self.new.store ≡ self.old.store) × (self.new.told ≡ self.old.told)
             × (self.new.desk.store ≡ self.old.desk.store) }
-        ensures exit { EachCrash D.Disk self.new.store.journal.disk
+        ensures exit { EachCrash D.Disk self.new.store.slots.journal.disk
             (KeptFrom self.new.desk self.new.told) }
     {
         let _ = &self.told;
@@ -119,16 +119,16 @@ impl<D: Disk> World<D> {
         ensures tells { TellsUpTo self.new.told result }
         ensures same { (self.new.desk ≡ self.old.desk) × (self.new.told ≡ self.old.told)
             × (self.new.store.store ≡ self.old.store.store) }
-        ensures any_moment { AtAnyMoment D.Disk self.old.store.journal.disk
-            self.new.store.journal.disk (KeptFrom self.new.desk self.old.told) }
-        ensures exit { EachCrash D.Disk self.new.store.journal.disk
+        ensures any_moment { AtAnyMoment D.Disk self.old.store.slots.journal.disk
+            self.new.store.slots.journal.disk (KeptFrom self.new.desk self.old.told) }
+        ensures exit { EachCrash D.Disk self.new.store.slots.journal.disk
             (KeptFrom self.new.desk self.new.told) }
-        ensures honest { SameHonesty D.Disk self.old.store.journal.disk
-            self.new.store.journal.disk }
-        ensures called { MakesOne Sync result (D.calls self.old.store.journal.disk)
-            (D.calls self.new.store.journal.disk) }
-        ensures cause { RisesFor result (D.faults self.old.store.journal.disk)
-            (D.faults self.new.store.journal.disk) }
+        ensures honest { SameHonesty D.Disk self.old.store.slots.journal.disk
+            self.new.store.slots.journal.disk }
+        ensures called { MakesOne Sync result (D.calls self.old.store.slots.journal.disk)
+            (D.calls self.new.store.slots.journal.disk) }
+        ensures cause { RisesFor result (D.faults self.old.store.slots.journal.disk)
+            (D.faults self.new.store.slots.journal.disk) }
     {
         let _ = &self.told;
         if self.store.failed() {
@@ -150,16 +150,16 @@ impl<D: Disk> World<D> {
         ensures tells { TellsUpTo self.new.told result }
         ensures same { (self.new.desk ≡ self.old.desk) × (self.new.told ≡ self.old.told)
             × (self.new.store.store ≡ self.old.store.store) }
-        ensures any_moment { AtAnyMoment D.Disk self.old.store.journal.disk
-            self.new.store.journal.disk (KeptFrom self.new.desk self.old.told) }
-        ensures exit { EachCrash D.Disk self.new.store.journal.disk
+        ensures any_moment { AtAnyMoment D.Disk self.old.store.slots.journal.disk
+            self.new.store.slots.journal.disk (KeptFrom self.new.desk self.old.told) }
+        ensures exit { EachCrash D.Disk self.new.store.slots.journal.disk
             (KeptFrom self.new.desk self.new.told) }
-        ensures honest { SameHonesty D.Disk self.old.store.journal.disk
-            self.new.store.journal.disk }
-        ensures called { MakesOne Write result (D.calls self.old.store.journal.disk)
-            (D.calls self.new.store.journal.disk) }
-        ensures cause { RisesFor result (D.faults self.old.store.journal.disk)
-            (D.faults self.new.store.journal.disk) }
+        ensures honest { SameHonesty D.Disk self.old.store.slots.journal.disk
+            self.new.store.slots.journal.disk }
+        ensures called { MakesOne Write result (D.calls self.old.store.slots.journal.disk)
+            (D.calls self.new.store.slots.journal.disk) }
+        ensures cause { RisesFor result (D.faults self.old.store.slots.journal.disk)
+            (D.faults self.new.store.slots.journal.disk) }
     {
         let _ = &self.told;
         if self.store.failed() {
@@ -180,16 +180,16 @@ impl<D: Disk> World<D> {
         ensures tells { TellsUpTo self.new.told result }
         ensures same { (self.new.desk ≡ self.old.desk) × (self.new.told ≡ self.old.told)
             × (self.new.store.store ≡ self.old.store.store) }
-        ensures any_moment { AtAnyMoment D.Disk self.old.store.journal.disk
-            self.new.store.journal.disk (KeptFrom self.new.desk self.old.told) }
-        ensures exit { EachCrash D.Disk self.new.store.journal.disk
+        ensures any_moment { AtAnyMoment D.Disk self.old.store.slots.journal.disk
+            self.new.store.slots.journal.disk (KeptFrom self.new.desk self.old.told) }
+        ensures exit { EachCrash D.Disk self.new.store.slots.journal.disk
             (KeptFrom self.new.desk self.new.told) }
-        ensures honest { SameHonesty D.Disk self.old.store.journal.disk
-            self.new.store.journal.disk }
-        ensures called { MakesOne Sync result (D.calls self.old.store.journal.disk)
-            (D.calls self.new.store.journal.disk) }
-        ensures cause { RisesFor result (D.faults self.old.store.journal.disk)
-            (D.faults self.new.store.journal.disk) }
+        ensures honest { SameHonesty D.Disk self.old.store.slots.journal.disk
+            self.new.store.slots.journal.disk }
+        ensures called { MakesOne Sync result (D.calls self.old.store.slots.journal.disk)
+            (D.calls self.new.store.slots.journal.disk) }
+        ensures cause { RisesFor result (D.faults self.old.store.slots.journal.disk)
+            (D.faults self.new.store.slots.journal.disk) }
     {
         let _ = &self.told;
         if self.store.failed() {
@@ -214,7 +214,7 @@ impl<D: Disk> World<D> {
         ensures log { log self.new.desk ≡ log self.old.desk }
         ensures same { (self.new.store ≡ self.old.store) × (self.new.told ≡ self.old.told)
             × (self.new.desk.store ≡ self.old.desk.store) }
-        ensures exit { EachCrash D.Disk self.new.store.journal.disk
+        ensures exit { EachCrash D.Disk self.new.store.slots.journal.disk
             (KeptFrom self.new.desk self.new.told) }
     {
         let _ = &self.told;
@@ -243,7 +243,7 @@ impl<D: Disk> World<D> {
         ensures tells { TellsUpTo self.new.told result }
         ensures same { (self.new.desk ≡ self.old.desk) × (self.new.store ≡ self.old.store) }
         ensures told { self.old.told ≤ self.new.told }
-        ensures exit { EachCrash D.Disk self.new.store.journal.disk
+        ensures exit { EachCrash D.Disk self.new.store.slots.journal.disk
             (KeptFrom self.new.desk self.new.told) }
     {
         let _ = &self.told;

@@ -107,16 +107,16 @@ impl<D: Disk> World<D> {
         ensures same { (self.new.store.store ≡ self.old.store.store)
             × (self.new.desk.store ≡ self.old.desk.store) }
         ensures told { self.old.told ≤ self.new.told }
-        ensures any_moment { AtAnyMoment D.Disk self.old.store.journal.disk
-            self.new.store.journal.disk (KeptFrom self.new.desk self.old.told) }
-        ensures exit { EachCrash D.Disk self.new.store.journal.disk
+        ensures any_moment { AtAnyMoment D.Disk self.old.store.slots.journal.disk
+            self.new.store.slots.journal.disk (KeptFrom self.new.desk self.old.told) }
+        ensures exit { EachCrash D.Disk self.new.store.slots.journal.disk
             (KeptFrom self.new.desk self.new.told) }
-        ensures honest { SameHonesty D.Disk self.old.store.journal.disk
-            self.new.store.journal.disk }
-        ensures called { MakesItsCall event.now result (D.calls self.old.store.journal.disk)
-            (D.calls self.new.store.journal.disk) }
-        ensures cause { RisesFor result (D.faults self.old.store.journal.disk)
-            (D.faults self.new.store.journal.disk) }
+        ensures honest { SameHonesty D.Disk self.old.store.slots.journal.disk
+            self.new.store.slots.journal.disk }
+        ensures called { MakesItsCall event.now result (D.calls self.old.store.slots.journal.disk)
+            (D.calls self.new.store.slots.journal.disk) }
+        ensures cause { RisesFor result (D.faults self.old.store.slots.journal.disk)
+            (D.faults self.new.store.slots.journal.disk) }
     {
         match event {
             Event::Submit(edit) => self.submit(edit),
@@ -150,12 +150,12 @@ impl<D: Disk> World<D> {
             Course D.Disk self.old events.now answers.items self.new) }
         ensures run { IfOk result (λ answers.
             Run (machine self.old) events.now answers.items (machine self.new)) }
-        ensures any_moment { AtAnyMoment D.Disk self.old.store.journal.disk
-            self.new.store.journal.disk (KeptFrom self.new.desk self.old.told) }
-        ensures exit { EachCrash D.Disk self.new.store.journal.disk
+        ensures any_moment { AtAnyMoment D.Disk self.old.store.slots.journal.disk
+            self.new.store.slots.journal.disk (KeptFrom self.new.desk self.old.told) }
+        ensures exit { EachCrash D.Disk self.new.store.slots.journal.disk
             (KeptFrom self.new.desk self.new.told) }
-        ensures honest { SameHonesty D.Disk self.old.store.journal.disk
-            self.new.store.journal.disk }
+        ensures honest { SameHonesty D.Disk self.old.store.slots.journal.disk
+            self.new.store.slots.journal.disk }
         ensures err { OnErr result (self.new ≡ self.old) }
     {
         let _ = &self.told;
@@ -165,9 +165,9 @@ impl<D: Disk> World<D> {
 
     /// Gives the disk back.
     pub fn into_disk(self) -> D
-        ensures disk { result ≡ self.store.journal.disk }
+        ensures disk { result ≡ self.store.slots.journal.disk }
         ensures outcomes { EachCrash D.Disk result (KeptFrom self.desk self.told) }
-        ensures reads { D.honest result → self.store.journal.phase ≢ Failed →
+        ensures reads { D.honest result → self.store.slots.journal.phase ≢ Failed →
             StandsFor (D.bytes result) (reached self.store) }
         ensures stands { D.honest result → (machine self).failed ≡ false →
             StandsFor (D.bytes result) (opened_set (machine self)) }
@@ -190,9 +190,9 @@ impl<D: Disk> World<D> {
         ensures opening { IfOk result (λ r. r.1 ≡ r.0.store) }
 
         // Where no call failed: what is sealed, and with it what is in flight once its gate was opened.
-        ensures set { D.honest self.store.journal.disk → (machine self).failed ≡ false →
+        ensures set { D.honest self.store.slots.journal.disk → (machine self).failed ≡ false →
             IfOk result (λ r. r.0.store.start ≡ opened_set (machine self)) }
-        ensures refused { D.honest self.store.journal.disk → (machine self).failed ≡ false →
+        ensures refused { D.honest self.store.slots.journal.disk → (machine self).failed ≡ false →
             IfErr result (λ e. (e.0 ≡ Device) ⊎ (e.0 ≡ Memory)) }
     {
         Store::open(alloc, self.into_disk())

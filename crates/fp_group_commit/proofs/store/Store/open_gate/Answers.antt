@@ -39,6 +39,7 @@ returns-in_default-open_gate g c =
     let f = steps.not_idle s.step BodySynced _ _ at (λ (e : BodySynced ≡ Idle). absurd (cc e)) i.flight in
     let t1 = c.open_gate.new.slots in let w = c.open_gate.ensures in
     let leaves = steps.next_leaves D i t1 f w.stands in
+    let off : s.step ≢ Idle = λ e. (let other : BodySynced ≡ Idle = sym at ∙ e in absurd (cc other)) in
     let begun = steps.begun_opened t1.journal.phase t1.journal.begun (inr (c.in_default-open_gate.ensures.phase.1, w.begun)) in
     rw (← c.self.view_is) (record {
       same = (refl, refl, refl);
@@ -47,8 +48,8 @@ returns-in_default-open_gate g c =
       fault = steps.moved_breaks D.honest D.unsynced i s.step t1 (steps.beside_of t t1 w.same) w.bodies.0 D.faults well c.in_default-open_gate.ensures.phase.1 (search rules) refl;
       same_room = steps.moved_room D.honest D.unsynced i s.step t1 (steps.beside_of t t1 w.same) w.bodies.0;
       called = inr w.called;
-      any_moment = λ h. leaves_map D.moment D.crash_states_since t.journal.disk t1.journal.disk _ _ (steps.open_leaves (steps.Moved D.honest D.unsynced i s.step t1) begun) (leaves h);
-      exit = steps.exit_has D m.counts_now t.journal.disk t1.journal.disk _ _ (steps.open_leaves (steps.Moved D.honest D.unsynced i s.step t1) begun) w.honest.1 leaves;
+      any_moment = λ h. leaves_map D.moment D.crash_states_since t.journal.disk t1.journal.disk _ _ (steps.open_leaves (steps.Moved D.honest D.unsynced i s.step t1) off begun) (leaves h);
+      exit = steps.exit_has D m.counts_now t.journal.disk t1.journal.disk _ _ (steps.open_leaves (steps.Moved D.honest D.unsynced i s.step t1) off begun) w.honest.1 leaves;
       honest = w.honest;
     })
 
@@ -71,6 +72,7 @@ returns g c =
     let f = steps.not_idle s.step BodySynced _ _ at (λ (e : BodySynced ≡ Idle). absurd (cc e)) i.flight in
     let t1 = c.open_gate.new.slots in let w = c.open_gate.ensures in
     let leaves = steps.next_leaves D i t1 f w.stands in
+    let off : GateOpened ≡ Idle → ⊥ = λ e. absurd (cc e) in
     let begun = steps.begun_opened t1.journal.phase t1.journal.begun (inl c.in-Ok.ensures.phase.0) in
     rw (← c.self.view_is) (record {
       same = (refl, refl, refl);
@@ -79,7 +81,7 @@ returns g c =
       fault = tt;
       same_room = steps.moved_room D.honest D.unsynced i GateOpened t1 (steps.beside_of t t1 w.same) w.bodies.0;
       called = w.called;
-      any_moment = λ h. leaves_map D.moment D.crash_states_since t.journal.disk t1.journal.disk _ _ (steps.open_leaves (steps.Moved D.honest D.unsynced i GateOpened t1) begun) (leaves h);
-      exit = steps.exit_has D m.counts_now t.journal.disk t1.journal.disk _ _ (steps.open_leaves (steps.Moved D.honest D.unsynced i GateOpened t1) begun) w.honest.1 leaves;
+      any_moment = λ h. leaves_map D.moment D.crash_states_since t.journal.disk t1.journal.disk _ _ (steps.open_leaves (steps.Moved D.honest D.unsynced i GateOpened t1) off begun) (leaves h);
+      exit = steps.exit_has D m.counts_now t.journal.disk t1.journal.disk _ _ (steps.open_leaves (steps.Moved D.honest D.unsynced i GateOpened t1) off begun) w.honest.1 leaves;
       honest = w.honest;
     })

@@ -42,6 +42,7 @@ returns-in_default-sync_gate g c =
     let f = steps.not_idle s.step GateOpened _ _ at (λ (e : GateOpened ≡ Idle). absurd (cc e)) i.flight in
     let t1 = c.sync_gate.new.slots in let w = c.sync_gate.ensures in let e = c.in_default-sync_gate.ensures in
     let leaves = steps.next_leaves D i t1 f w.stands in
+    let off : s.step ≢ Idle = λ e. (let other : GateOpened ≡ Idle = sym at ∙ e in absurd (cc other)) in
     let begun = steps.begun_opened t.journal.phase t.journal.begun (inl is) in
     let begun_now = steps.begun_opened t1.journal.phase t1.journal.begun (inr (e.broken.0, e.broken.1)) in
     rw (← c.self.view_is) (record {
@@ -55,8 +56,8 @@ returns-in_default-sync_gate g c =
       fault = steps.moved_breaks D.honest D.unsynced i s.step t1 (steps.beside_of s.slots t1 e.broken.3) e.bodies.0 D.faults well e.broken.0 (search rules) refl;
       takes_room = tt;
       called = inr w.called;
-      any_moment = λ h. leaves_map D.moment D.crash_states_since t.journal.disk t1.journal.disk _ _ (steps.open_leaves (steps.Moved D.honest D.unsynced i s.step t) begun) (leaves h);
-      exit = steps.exit_has D m.counts_now t.journal.disk t1.journal.disk _ _ (steps.open_leaves (steps.Moved D.honest D.unsynced i s.step t1) begun_now) w.honest.1 leaves;
+      any_moment = λ h. leaves_map D.moment D.crash_states_since t.journal.disk t1.journal.disk _ _ (steps.open_leaves (steps.Moved D.honest D.unsynced i s.step t) off begun) (leaves h);
+      exit = steps.exit_has D m.counts_now t.journal.disk t1.journal.disk _ _ (steps.open_leaves (steps.Moved D.honest D.unsynced i s.step t1) off begun_now) w.honest.1 leaves;
       honest = w.honest;
     })
 
@@ -93,6 +94,7 @@ returns g c =
     let t1 = c.sync_gate.new.slots in let w = c.sync_gate.ensures in let o = c.in-Ok.ensures in let l = c.lengthen-front.ensures in let b = w.beside in
     let store : ◌≡◌ {A = Identity} (record { name = c.lengthen-front.new.self.name; start = s.origin }) (record { name = s.sealed.name; start = s.origin }) = ap (λ (n : ℕ). record { name = n; start = s.origin }) l.0 in
     let leaves = steps.next_leaves D i t1 f w.stands in
+    let off : s.step ≢ Idle = λ e. (let other : GateOpened ≡ Idle = sym at ∙ e in absurd (cc other)) in
     let begun = steps.begun_opened t.journal.phase t.journal.begun (inl is) in
     let start : c.again.result ≡ s.origin = c.again.ensures in
     let sound = steps.sound_sealed D.honest D.unsynced i f
@@ -109,7 +111,7 @@ returns g c =
       fault = tt;
       takes_room = (ap (λ x. x.most) w.same_slot.1, steps.takes_room D.honest D.unsynced i f t1.journal w.same_slot.1 w.same_slot.2 o.sealed.1, (b.2, b.4, b.0, b.1), steps.tail_grows D.honest D.unsynced i f t1 b.3 o.grown, λ still. steps.tail_stays t t1 b.3 (o.still still));
       called = w.called;
-      any_moment = λ h. leaves_map D.moment D.crash_states_since t.journal.disk t1.journal.disk _ _ (steps.open_leaves (steps.Moved D.honest D.unsynced i s.step t) begun) (leaves h);
+      any_moment = λ h. leaves_map D.moment D.crash_states_since t.journal.disk t1.journal.disk _ _ (steps.open_leaves (steps.Moved D.honest D.unsynced i s.step t) off begun) (leaves h);
       exit = steps.now D sound c.phase-self-inside.ensures.outcomes;
       honest = w.honest;
     })

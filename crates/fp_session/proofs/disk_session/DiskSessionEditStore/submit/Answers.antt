@@ -30,7 +30,7 @@ returns-in-Ok-clause-goes_on g c =
 
 pub invariant_of-self-in-Err-Edit-default : goal.invariant_of-self-in-Err-Edit-default
 invariant_of-self-in-Err-Edit-default g c =
-    subst (λ (d : DeskState). EachCrash g.D.Disk c.self.inside.store.journal.disk (StandsAhead d) × (c.self.inside.is_stopped ≡ false → IsInStep g.D.Disk c.self.inside.store d)) (sym c.in-Err-Edit-default.ensures.unchanged) c.self.invariant
+    subst (λ (d : DeskState). EachCrash g.D.Disk c.self.inside.store.slots.journal.disk (StandsAhead d) × (c.self.inside.is_stopped ≡ false → IsInStep g.D.Disk c.self.inside.store d)) (sym c.in-Err-Edit-default.ensures.unchanged) c.self.invariant
 
 pub returns-in-Err-Edit-default-clause-any_moment : goal.returns-in-Err-Edit-default-clause-any_moment
 returns-in-Err-Edit-default-clause-any_moment g c =
@@ -39,7 +39,7 @@ returns-in-Err-Edit-default-clause-any_moment g c =
 
 pub invariant_of-self-in-Err-Memory-default : goal.invariant_of-self-in-Err-Memory-default
 invariant_of-self-in-Err-Memory-default g c =
-    subst (λ (d : DeskState). EachCrash g.D.Disk c.self.inside.store.journal.disk (StandsAhead d) × (c.self.inside.is_stopped ≡ false → IsInStep g.D.Disk c.self.inside.store d)) (sym c.in-Err-Memory-default.ensures.unchanged) c.self.invariant
+    subst (λ (d : DeskState). EachCrash g.D.Disk c.self.inside.store.slots.journal.disk (StandsAhead d) × (c.self.inside.is_stopped ≡ false → IsInStep g.D.Disk c.self.inside.store d)) (sym c.in-Err-Memory-default.ensures.unchanged) c.self.invariant
 
 pub returns-in-Err-Memory-default-clause-any_moment : goal.returns-in-Err-Memory-default-clause-any_moment
 returns-in-Err-Memory-default-clause-any_moment g c =

@@ -16,4 +16,4 @@ returns-clause-reads g c = rw (← c.self.view_is) c.into_disk.ensures.reads
 pub returns-clause-stands : goal.returns-clause-stands
 returns-clause-stands g c =
     let D = g.D.Disk in let i = c.self.invariant in let s = c.self.inside.store in
-    rw (← c.self.view_is) (λ h well. subst (λ (t : State). StandsFor (D.bytes c.into_disk.result) t) (goes.reads_as s c.self.inside.desk c.self.inside.held c.self.inside.told i.same i.out) (c.into_disk.ensures.reads h (goes.well_is s.journal.phase well)))
+    rw (← c.self.view_is) (λ h well. subst (λ (t : State). StandsFor (D.bytes c.into_disk.result) t) (goes.reads_as s c.self.inside.desk c.self.inside.held c.self.inside.told i.same i.out) (c.into_disk.ensures.reads h (goes.well_is s.slots.journal.phase well)))

@@ -11,7 +11,7 @@ use Rattle.fp_world.proofs.Sound as sound
 use Rattle.fp_world.proofs.world.World.open_gate.Goals as goal
 
 pub returns-then-failed-clause-steps : goal.returns-then-failed-clause-steps
-returns-then-failed-clause-steps g c = rw (← c.self.view_is) (goes.ill_by c.failed.result c.self.inside.store.journal.phase c.failed.ensures c.if-failed.true, refl)
+returns-then-failed-clause-steps g c = rw (← c.self.view_is) (goes.ill_by c.failed.result c.self.inside.store.slots.journal.phase c.failed.ensures c.if-failed.true, refl)
 
 pub returns-then-failed-clause-any_moment : goal.returns-then-failed-clause-any_moment
 returns-then-failed-clause-any_moment g c = let D = g.D.Disk in let m = g.met.D.Disk in rw (← c.self.view_is) (λ h. keeps.still D.honest D.moment D.crash_states_since D.unsynced c.self.invariant m.only_now h)
@@ -23,7 +23,7 @@ pub returns-in_default : goal.returns-in_default
 returns-in_default g c =
     let D = g.D.Disk in let m = g.met.D.Disk in let s = c.self.inside.store in
     rw (← c.self.view_is) (record {
-      steps = (goes.well_by c.failed.result s.journal.phase c.failed.ensures c.if-failed.false, (λ at. c.in_default.not-BodySynced (c.phase.ensures.phase ∙ goes.when_synced s c.self.inside.desk c.self.inside.held c.self.invariant.out at)), refl);
+      steps = (goes.well_by c.failed.result s.slots.journal.phase c.failed.ensures c.if-failed.false, (λ at. c.in_default.not-BodySynced (c.phase.ensures.phase ∙ goes.when_synced s c.self.inside.desk c.self.inside.held c.self.invariant.out at)), refl);
       tells = tt;
       same = (refl, refl, refl);
       any_moment = λ h. keeps.still D.honest D.moment D.crash_states_since D.unsynced c.self.invariant m.only_now h;
@@ -65,8 +65,8 @@ returns-in_default-open_gate g c =
       steps = goes.done D.faults (IsAt body_synced) gate_opened h h s n d told GateOpened c.in_default-open_gate.ensures.ok w.same_room point (goes.in_air s d h i.out busy n.step ∙ ap in_flight_at on);
       tells = tt;
       same = (refl, refl, w.same.0);
-      any_moment = λ h0. keeps.opened_leaves D.moment D.crash_states_since h n d told s.journal.disk (i.same ∙ sym w.same.0) out i.low (w.any_moment h0);
-      exit = λ h1. let h0 = w.honest.1 h1 in moves.exit_has D.honest D.moment D.crash_states_since D.unsynced m.counts_now s.journal.disk n.journal.disk _ (keeps.opened_leaves D.moment D.crash_states_since h n d told s.journal.disk (i.same ∙ sym w.same.0) out i.low (w.any_moment h0)) h1;
+      any_moment = λ h0. keeps.opened_leaves D.moment D.crash_states_since h n d told s.slots.journal.disk (i.same ∙ sym w.same.0) out i.low (w.any_moment h0);
+      exit = λ h1. let h0 = w.honest.1 h1 in moves.exit_has D.honest D.moment D.crash_states_since D.unsynced m.counts_now s.slots.journal.disk n.slots.journal.disk _ (keeps.opened_leaves D.moment D.crash_states_since h n d told s.slots.journal.disk (i.same ∙ sym w.same.0) out i.low (w.any_moment h0)) h1;
       honest = w.honest;
       called = c.in_default-open_gate.ensures.called;
       cause = (let moved = c.in_default-open_gate.ensures.ok in moved.no_failure);
@@ -84,8 +84,8 @@ returns g c =
       steps = subst (λ (x : WorldState g.row.D.Denot). Advances (IsAt body_synced) gate_opened (machine x) (answer.Fault c.in-Err.fault) (goes.At h n d told)) c.self.view_is (goes.fails D.faults (IsAt body_synced) gate_opened c.in-Err.fault h s n d told c.in-Err.ensures.fault c.in-Err.ensures.phase point);
       tells = tt;
       same = (refl, refl, w.same.0);
-      any_moment = λ h0. keeps.opened_leaves D.moment D.crash_states_since h n d told s.journal.disk (i.same ∙ sym w.same.0) out i.low (w.any_moment h0);
-      exit = λ h1. let h0 = w.honest.1 h1 in moves.exit_has D.honest D.moment D.crash_states_since D.unsynced m.counts_now s.journal.disk n.journal.disk _ (keeps.opened_leaves D.moment D.crash_states_since h n d told s.journal.disk (i.same ∙ sym w.same.0) out i.low (w.any_moment h0)) h1;
+      any_moment = λ h0. keeps.opened_leaves D.moment D.crash_states_since h n d told s.slots.journal.disk (i.same ∙ sym w.same.0) out i.low (w.any_moment h0);
+      exit = λ h1. let h0 = w.honest.1 h1 in moves.exit_has D.honest D.moment D.crash_states_since D.unsynced m.counts_now s.slots.journal.disk n.slots.journal.disk _ (keeps.opened_leaves D.moment D.crash_states_since h n d told s.slots.journal.disk (i.same ∙ sym w.same.0) out i.low (w.any_moment h0)) h1;
       honest = w.honest;
       called = goes.calls_of_fail D.faults D.calls Write c.in-Err.fault s n c.in-Err.ensures.fault c.in-Err.ensures.called;
       cause = goes.rise_of_fail D.faults c.in-Err.fault s n c.in-Err.ensures.fault;

@@ -19,7 +19,7 @@ use Rattle.fp_world.proofs.Sound as sound
 use Rattle.fp_world.proofs.world.World.stage.Goals as goal
 
 pub returns-then-failed-clause-steps : goal.returns-then-failed-clause-steps
-returns-then-failed-clause-steps g c = rw (← c.self.view_is) (goes.ill_by c.failed.result c.self.inside.store.journal.phase c.failed.ensures c.if-failed.true, refl)
+returns-then-failed-clause-steps g c = rw (← c.self.view_is) (goes.ill_by c.failed.result c.self.inside.store.slots.journal.phase c.failed.ensures c.if-failed.true, refl)
 
 pub returns-then-failed-clause-any_moment : goal.returns-then-failed-clause-any_moment
 returns-then-failed-clause-any_moment g c = let D = g.D.Disk in let m = g.met.D.Disk in rw (← c.self.view_is) (λ h. keeps.still D.honest D.moment D.crash_states_since D.unsynced c.self.invariant m.only_now h)
@@ -33,7 +33,7 @@ returns-in_default g c =
     let same : c.replace-in_default.new.dest ≡ h = c.replace-in_default.ensures.after ∙ c.replace.ensures.value in
     let none : (group : Group) → h ≡ held.Drawn group → ⊥ = (λ group is. c.in_default.not-Drawn group (c.replace.ensures.value ∙ is)) in
     rw (← c.self.view_is) (record {
-      steps = (goes.well_by c.failed.result s.journal.phase c.failed.ensures c.if-failed.false, goes.none_held h s d told none, ap (λ (x : Held). goes.At x s d told) same);
+      steps = (goes.well_by c.failed.result s.slots.journal.phase c.failed.ensures c.if-failed.false, goes.none_held h s d told none, ap (λ (x : Held). goes.At x s d told) same);
       tells = tt;
       same = (refl, refl, refl);
       any_moment = λ h0. keeps.still D.honest D.moment D.crash_states_since D.unsynced i m.only_now h0;
@@ -49,8 +49,8 @@ returns-then-not-has_room-clause-steps g c =
     let draw = c.in-Drawn.draw in
     let is : h ≡ held.Drawn draw = sym c.replace.ensures.value ∙ c.in-Drawn.is in
     let o = subst (λ (x : Held). IsOut x s d) is i.out in
-    let well = goes.well_by c.failed.result s.journal.phase c.failed.ensures c.if-failed.false in
-    let none : HasRoom s.journal draw → ⊥ = (λ room. let yes = c.has_room.ensures.room.1 room in absurd (search rules)) in
+    let well = goes.well_by c.failed.result s.slots.journal.phase c.failed.ensures c.if-failed.false in
+    let none : HasRoom s.slots draw → ⊥ = (λ room. let yes = c.has_room.ensures.room.1 room in absurd (search rules)) in
     rw (← c.self.view_is, c.replace-then-not-has_room.ensures.after) (subst (λ (x : Held). Stages (goes.At x s d told) answer.NotNow (goes.At (held.Drawn draw) s d told)) (sym is) (well, goes.cannot_stage draw s d told o.2 o.3 none, refl))
 
 pub returns-then-not-has_room-clause-any_moment : goal.returns-then-not-has_room-clause-any_moment
@@ -65,7 +65,7 @@ invariant_of-self-in_default-stage g c =
     let draw = c.in-Drawn.draw in
     let is : h ≡ held.Drawn draw = sym c.replace.ensures.value ∙ c.in-Drawn.is in
     let o = subst (λ (x : Held). IsOut x s d) is i.out in
-    let well = goes.well_by c.failed.result s.journal.phase c.failed.ensures c.if-failed.false in
+    let well = goes.well_by c.failed.result s.slots.journal.phase c.failed.ensures c.if-failed.false in
     let w = c.stage.ensures in let n = c.stage.new.self in
     let on : n.step ≡ Staged = search rules in let staged : n.staged ≡ draw.changes = search rules in
     rw c.replace.ensures.after (sound.went D.honest D.unsynced i held.InFlight n w.same.0 (ap is_in_flight on, w.same.1 ∙ o.1, staged ∙ o.2, o.3) w.exit)
@@ -76,7 +76,7 @@ invariant_of-self-2 g c =
     let draw = c.in-Drawn.draw in
     let is : h ≡ held.Drawn draw = sym c.replace.ensures.value ∙ c.in-Drawn.is in
     let o = subst (λ (x : Held). IsOut x s d) is i.out in
-    let well = goes.well_by c.failed.result s.journal.phase c.failed.ensures c.if-failed.false in
+    let well = goes.well_by c.failed.result s.slots.journal.phase c.failed.ensures c.if-failed.false in
     let w = c.stage.ensures in let n = c.stage.new.self in
     let on : n.step ≡ s.step = search rules in let same : c.in-Err.draw ≡ draw = search rules in
     let back : IsOut (held.Drawn c.in-Err.draw) n d = (on ∙ o.0, w.same.1 ∙ o.1, ap (λ (x : Group). x.changes) same ∙ o.2, o.3, subst (λ (x : Group). GoesOn (settled_set d) x) (sym same) o.4) in
@@ -88,17 +88,17 @@ returns-in_default-stage g c =
     let draw = c.in-Drawn.draw in
     let is : h ≡ held.Drawn draw = sym c.replace.ensures.value ∙ c.in-Drawn.is in
     let o = subst (λ (x : Held). IsOut x s d) is i.out in
-    let well = goes.well_by c.failed.result s.journal.phase c.failed.ensures c.if-failed.false in
+    let well = goes.well_by c.failed.result s.slots.journal.phase c.failed.ensures c.if-failed.false in
     let w = c.stage.ensures in let n = c.stage.new.self in
-    let leaves : D.honest s.journal.disk → LeavesOnly D.moment D.crash_states_since s.journal.disk n.journal.disk (KeptFrom d told) = (λ h0. keeps.kept_leaves D.honest D.moment D.crash_states_since D.unsynced i n.journal.disk (w.any_moment h0)) in
+    let leaves : D.honest s.slots.journal.disk → LeavesOnly D.moment D.crash_states_since s.slots.journal.disk n.slots.journal.disk (KeptFrom d told) = (λ h0. keeps.kept_leaves D.honest D.moment D.crash_states_since D.unsynced i n.slots.journal.disk (w.any_moment h0)) in
     let ok = c.in_default-stage.ensures.ok in
-    let room : HasRoom s.journal draw = c.has_room.ensures.room.0 (search rules) in
+    let room : HasRoom s.slots draw = c.has_room.ensures.room.0 (search rules) in
     rw (← c.self.view_is, c.replace.ensures.after) (record {
       steps = subst (λ (x : Held). Stages (goes.At x s d told) answer.Done (goes.At held.InFlight n d told)) (sym is) (goes.done D.faults CanStage batch_staged (held.Drawn draw) held.InFlight s n d told Staged ok w.same_room (goes.can_stage draw s d told o.2 room) (ap in_flight_at ok.step));
       tells = tt;
       same = (refl, refl, w.same.0);
       any_moment = leaves;
-      exit = λ h1. let h0 = w.honest.1 h1 in moves.exit_has D.honest D.moment D.crash_states_since D.unsynced m.counts_now s.journal.disk n.journal.disk _ (leaves h0) h1;
+      exit = λ h1. let h0 = w.honest.1 h1 in moves.exit_has D.honest D.moment D.crash_states_since D.unsynced m.counts_now s.slots.journal.disk n.slots.journal.disk _ (leaves h0) h1;
       honest = w.honest;
       called = c.in_default-stage.ensures.called;
       cause = ok.no_failure;
@@ -110,11 +110,11 @@ returns g c =
     let draw = c.in-Drawn.draw in
     let is : h ≡ held.Drawn draw = sym c.replace.ensures.value ∙ c.in-Drawn.is in
     let o = subst (λ (x : Held). IsOut x s d) is i.out in
-    let well = goes.well_by c.failed.result s.journal.phase c.failed.ensures c.if-failed.false in
+    let well = goes.well_by c.failed.result s.slots.journal.phase c.failed.ensures c.if-failed.false in
     let w = c.stage.ensures in let n = c.stage.new.self in
-    let leaves : D.honest s.journal.disk → LeavesOnly D.moment D.crash_states_since s.journal.disk n.journal.disk (KeptFrom d told) = (λ h0. keeps.kept_leaves D.honest D.moment D.crash_states_since D.unsynced i n.journal.disk (w.any_moment h0)) in
+    let leaves : D.honest s.slots.journal.disk → LeavesOnly D.moment D.crash_states_since s.slots.journal.disk n.slots.journal.disk (KeptFrom d told) = (λ h0. keeps.kept_leaves D.honest D.moment D.crash_states_since D.unsynced i n.slots.journal.disk (w.any_moment h0)) in
     let e = c.in-Err.ensures in let f = c.in-Err.fault in
-    let room : HasRoom s.journal draw = c.has_room.ensures.room.0 (search rules) in
+    let room : HasRoom s.slots draw = c.has_room.ensures.room.0 (search rules) in
     rw (← c.self.view_is) (record {
       steps = subst (λ (x : WorldState g.row.D.Denot). Stages (machine x) (answer.Fault f) (goes.At c.replace-2.new.dest n d told)) c.self.view_is
           (subst (λ (x : Held). Stages (goes.At h s d told) (answer.Fault f) (goes.At x n d told)) (sym c.replace-2.ensures.after)
@@ -122,7 +122,7 @@ returns g c =
       tells = tt;
       same = (refl, refl, w.same.0);
       any_moment = leaves;
-      exit = λ h1. let h0 = w.honest.1 h1 in moves.exit_has D.honest D.moment D.crash_states_since D.unsynced m.counts_now s.journal.disk n.journal.disk _ (leaves h0) h1;
+      exit = λ h1. let h0 = w.honest.1 h1 in moves.exit_has D.honest D.moment D.crash_states_since D.unsynced m.counts_now s.slots.journal.disk n.slots.journal.disk _ (leaves h0) h1;
       honest = w.honest;
       called = goes.calls_of_refusal D.faults D.calls Write f s n draw e.fault e.called;
       cause = goes.rise_of_refusal D.faults f s n draw e.fault;

@@ -16,7 +16,7 @@ use Rattle.fp_world.proofs.Sound as sound
 use Rattle.fp_world.proofs.world.World.sync_gate.Goals as goal
 
 pub returns-then-failed-clause-steps : goal.returns-then-failed-clause-steps
-returns-then-failed-clause-steps g c = rw (← c.self.view_is) (goes.ill_by c.failed.result c.self.inside.store.journal.phase c.failed.ensures c.if-failed.true, refl)
+returns-then-failed-clause-steps g c = rw (← c.self.view_is) (goes.ill_by c.failed.result c.self.inside.store.slots.journal.phase c.failed.ensures c.if-failed.true, refl)
 
 pub returns-then-failed-clause-any_moment : goal.returns-then-failed-clause-any_moment
 returns-then-failed-clause-any_moment g c = let D = g.D.Disk in let m = g.met.D.Disk in rw (← c.self.view_is) (λ h. keeps.still D.honest D.moment D.crash_states_since D.unsynced c.self.invariant m.only_now h)
@@ -28,7 +28,7 @@ pub returns-in_default : goal.returns-in_default
 returns-in_default g c =
     let D = g.D.Disk in let m = g.met.D.Disk in let s = c.self.inside.store in let d = c.self.inside.desk in let h = c.self.inside.held in let told = c.self.inside.told in let i = c.self.invariant in
     rw (← c.self.view_is) (record {
-      steps = (goes.well_by c.failed.result s.journal.phase c.failed.ensures c.if-failed.false, (λ at. c.in_default.not-GateOpened (c.phase.ensures.phase ∙ goes.when_opened s d h i.out at)), refl);
+      steps = (goes.well_by c.failed.result s.slots.journal.phase c.failed.ensures c.if-failed.false, (λ at. c.in_default.not-GateOpened (c.phase.ensures.phase ∙ goes.when_opened s d h i.out at)), refl);
       tells = tt;
       same = (refl, refl, refl);
       any_moment = λ h0. keeps.still D.honest D.moment D.crash_states_since D.unsynced i m.only_now h0;
@@ -45,7 +45,7 @@ invariant_of-self g c =
     let at : s.step ≡ GateOpened = search rules in
     let busy = goes.unless s.step GateOpened at (λ (e : GateOpened ≡ Idle). absurd cc) in
     let point : progress_of h s.step ≡ gate_opened = goes.in_air s d h i.out busy s.step ∙ ap in_flight_at at in
-    let leaves : D.honest s.journal.disk → LeavesOnly D.moment D.crash_states_since s.journal.disk n.journal.disk (KeptFrom d told) = (λ h0. keeps.kept_leaves D.honest D.moment D.crash_states_since D.unsynced i n.journal.disk (w.any_moment h0)) in
+    let leaves : D.honest s.slots.journal.disk → LeavesOnly D.moment D.crash_states_since s.slots.journal.disk n.slots.journal.disk (KeptFrom d told) = (λ h0. keeps.kept_leaves D.honest D.moment D.crash_states_since D.unsynced i n.slots.journal.disk (w.any_moment h0)) in
     let w = c.in-Ok.ensures in
     let f = keeps.in_flight s d h i.out at in
     let start = ap (λ (x : Identity). x.start.revision) i.same in let len = ap length f.0 in let place = w.batch.1 in let all = revision-after_all s.store.start s.sealed in
@@ -58,7 +58,7 @@ invariant_of-self-in-Err g c =
     let at : s.step ≡ GateOpened = search rules in
     let busy = goes.unless s.step GateOpened at (λ (e : GateOpened ≡ Idle). absurd cc) in
     let point : progress_of h s.step ≡ gate_opened = goes.in_air s d h i.out busy s.step ∙ ap in_flight_at at in
-    let leaves : D.honest s.journal.disk → LeavesOnly D.moment D.crash_states_since s.journal.disk n.journal.disk (KeptFrom d told) = (λ h0. keeps.kept_leaves D.honest D.moment D.crash_states_since D.unsynced i n.journal.disk (w.any_moment h0)) in
+    let leaves : D.honest s.slots.journal.disk → LeavesOnly D.moment D.crash_states_since s.slots.journal.disk n.slots.journal.disk (KeptFrom d told) = (λ h0. keeps.kept_leaves D.honest D.moment D.crash_states_since D.unsynced i n.slots.journal.disk (w.any_moment h0)) in
     let e = c.in-Err.ensures in
     let on : n.step ≡ GateOpened = e.phase ∙ at in
     sound.went D.honest D.unsynced i h n e.err.0 (sound.out_moved s n d h i.out busy e.err.1 e.err.2 (ap is_in_flight on)) e.exit
@@ -70,14 +70,14 @@ returns-in-Ok g c =
     let at : s.step ≡ GateOpened = search rules in
     let busy = goes.unless s.step GateOpened at (λ (e : GateOpened ≡ Idle). absurd cc) in
     let point : progress_of h s.step ≡ gate_opened = goes.in_air s d h i.out busy s.step ∙ ap in_flight_at at in
-    let leaves : D.honest s.journal.disk → LeavesOnly D.moment D.crash_states_since s.journal.disk n.journal.disk (KeptFrom d told) = (λ h0. keeps.kept_leaves D.honest D.moment D.crash_states_since D.unsynced i n.journal.disk (w.any_moment h0)) in
+    let leaves : D.honest s.slots.journal.disk → LeavesOnly D.moment D.crash_states_since s.slots.journal.disk n.slots.journal.disk (KeptFrom d told) = (λ h0. keeps.kept_leaves D.honest D.moment D.crash_states_since D.unsynced i n.slots.journal.disk (w.any_moment h0)) in
     let k = c.in-Ok.ensures in let f = keeps.in_flight s d h i.out at in let ok = k.ok in
     rw (← c.self.view_is, c.replace.ensures.after) (record {
       steps = goes.seals D.faults h c.in-Ok.receipt s n d told c.revision.result i.same ok k.takes_room k.store f.0 f.1 k.sealed point c.revision.ensures;
       tells = tt;
       same = (refl, refl, k.store);
       any_moment = leaves;
-      exit = λ h1. let h0 = w.honest.1 h1 in moves.exit_has D.honest D.moment D.crash_states_since D.unsynced m.counts_now s.journal.disk n.journal.disk _ (leaves h0) h1;
+      exit = λ h1. let h0 = w.honest.1 h1 in moves.exit_has D.honest D.moment D.crash_states_since D.unsynced m.counts_now s.slots.journal.disk n.slots.journal.disk _ (leaves h0) h1;
       honest = w.honest;
       called = k.called;
       cause = ok.no_failure;
@@ -90,14 +90,14 @@ returns-in-Err g c =
     let at : s.step ≡ GateOpened = search rules in
     let busy = goes.unless s.step GateOpened at (λ (e : GateOpened ≡ Idle). absurd cc) in
     let point : progress_of h s.step ≡ gate_opened = goes.in_air s d h i.out busy s.step ∙ ap in_flight_at at in
-    let leaves : D.honest s.journal.disk → LeavesOnly D.moment D.crash_states_since s.journal.disk n.journal.disk (KeptFrom d told) = (λ h0. keeps.kept_leaves D.honest D.moment D.crash_states_since D.unsynced i n.journal.disk (w.any_moment h0)) in
+    let leaves : D.honest s.slots.journal.disk → LeavesOnly D.moment D.crash_states_since s.slots.journal.disk n.slots.journal.disk (KeptFrom d told) = (λ h0. keeps.kept_leaves D.honest D.moment D.crash_states_since D.unsynced i n.slots.journal.disk (w.any_moment h0)) in
     let e = c.in-Err.ensures in let f = c.in-Err.fault in
     rw (← c.self.view_is) (record {
       steps = subst (λ (x : WorldState g.row.D.Denot). Seals (machine x) (answer.Fault f) (goes.At h n d told)) c.self.view_is (goes.seal_fails D.faults f h s n d told e.fault e.phase point);
       tells = tt;
       same = (refl, refl, e.err.0);
       any_moment = leaves;
-      exit = λ h1. let h0 = w.honest.1 h1 in moves.exit_has D.honest D.moment D.crash_states_since D.unsynced m.counts_now s.journal.disk n.journal.disk _ (leaves h0) h1;
+      exit = λ h1. let h0 = w.honest.1 h1 in moves.exit_has D.honest D.moment D.crash_states_since D.unsynced m.counts_now s.slots.journal.disk n.slots.journal.disk _ (leaves h0) h1;
       honest = w.honest;
       called = goes.calls_of_fail D.faults D.calls Sync f s n e.fault e.called;
       cause = goes.rise_of_fail D.faults f s n e.fault;
