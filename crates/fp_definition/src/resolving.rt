@@ -118,13 +118,11 @@ impl Definition {
         if is_disabled_in(value) {
             return Err(EvalFault::Disabled);
         }
-        match rule {
-            None => default_of(value, Reason::Static),
-            Some(rule) => {
-                data.set_flag(alloc, key.as_str())?;
-                by_rule(alloc, value, rule, data)
-            }
-        }
+        let Some(rule) = rule else {
+            return default_of(value, Reason::Static);
+        };
+        data.set_flag(alloc, key.as_str())?;
+        by_rule(alloc, value, rule, data)
     }
 
     /// Exactly one outcome, whatever the key, the context and the moment, which `resolve` answers
