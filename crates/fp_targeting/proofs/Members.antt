@@ -1,12 +1,12 @@
 -- A member that is put where it stands already.
-use Rattle.std.proofs.Common.{◌≡◌, ℕ, Bool, true, false, cond, List, [], ◌∷◌, String, Global, Option, Some, None, Ordering, Less, Equal, Greater, string_bytes, nat_cmp, refl, sym, ap, subst, ◌∙◌}
+use Rattle.std.proofs.Common.{◌≡◌, ℕ, Bool, true, false, cond, List, [], ◌∷◌, String, Global, Some, Ordering, Less, Equal, Greater, string_bytes, nat_cmp, refl, sym, ap, ◌∙◌}
 use mathlib.Core.Bool.{true≢false}
 use Rattle.std.specs.BTreeMap.{is_at}
 use Rattle.std.specs.Cmp.Lexicographic.{slice_cmp}
 use Rattle.std.specs.Map.{lookup, set_value}
 use Rattle.std.specs.Ordering.{is_eq, match_ordering}
 use Rattle.std.proofs.lemmas.Cmp.{nat_list_cmp_total, tied_itself}
-use Rattle.fp_operators.specs.Data.{Data, null, object, Members, no_members, member, put}
+use Rattle.fp_operators.specs.Data.{Data, null, Members, no_members, member, put}
 use Rattle.fp_operators.specs.View.{view, members_view}
 use Rattle.fp_operators.specs.declared.datum.Datum.{Datum}
 
@@ -52,9 +52,9 @@ module _ (n : List ℕ) where
       ap (λ (b : Bool). cond b (Some e.1) (lookup at es)) here,
       ap first_data h,
       λ v. ap (λ (b : Bool). members_view (cond b ((e.0, v) ∷ es) (e ∷ set_value at es v))) here
-        ∙ ap (λ (m : List ℕ). member m (view v) (members_view es)) (ap first_name h)
-        ∙ ap (member k (view v)) (ap others h)
-        ∙ sym (puts (view v)),
+          ∙ ap (λ (m : List ℕ). member m (view v) (members_view es)) (ap first_name h)
+          ∙ ap (member k (view v)) (ap others h)
+          ∙ sym (puts (view v)),
     )
 
     by_order : (l : List ℕ) (y : Data) (ms : Members) → (members_view es ≡ put n d ms → IsPut es d ms) → (o : Ordering) → slice_cmp nat_cmp n l ≡ o
@@ -67,16 +67,15 @@ module _ (n : List ℕ) where
         (λ x. ap (λ (o : Ordering). match_ordering o (member n x (member l y ms)) (member l x ms) (member l y (put n x ms))) p)
     by_order l y ms later Greater p h =
         let behind = later (ap others h) in
-        let missed = at_name e.0 l Greater (ap first_name h) p in
-        (
+        let missed = at_name e.0 l Greater (ap first_name h) p in (
           behind.0,
           ap (λ (b : Bool). cond b (Some e.1) (lookup at es)) missed ∙ behind.1,
           behind.2,
           λ v. ap (λ (b : Bool). members_view (cond b ((e.0, v) ∷ es) (e ∷ set_value at es v))) missed
-            ∙ ap (λ (m : List ℕ). member m (view e.1) (members_view (set_value at es v))) (ap first_name h)
-            ∙ ap (λ (x : Data). member l x (members_view (set_value at es v))) (ap first_data h)
-            ∙ ap (member l y) (behind.3 v)
-            ∙ sym (ap (λ (o : Ordering). match_ordering o (member n (view v) (member l y ms)) (member l (view v) ms) (member l y (put n (view v) ms))) p),
+              ∙ ap (λ (m : List ℕ). member m (view e.1) (members_view (set_value at es v))) (ap first_name h)
+              ∙ ap (λ (x : Data). member l x (members_view (set_value at es v))) (ap first_data h)
+              ∙ ap (member l y) (behind.3 v)
+              ∙ sym (ap (λ (o : Ordering). match_ordering o (member n (view v) (member l y ms)) (member l (view v) ms) (member l y (put n (view v) ms))) p),
         )
 
   pub is_put : (es : List Entry) (d : Data) (ms : Members) → members_view es ≡ put n d ms → IsPut es d ms

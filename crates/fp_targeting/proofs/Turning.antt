@@ -1,5 +1,5 @@
 -- Data that turn to another flag.
-use Rattle.std.proofs.Common.{◌≡◌, ℕ, List, Bool, true, false, Some, None, codes, pos, refl, sym, ap, ◌∙◌}
+use Rattle.std.proofs.Common.{◌≡◌, ℕ, List, Bool, true, false, Some, None, codes, pos, refl, ap, ◌∙◌}
 use mathlib.Core.Bool.{true≢false}
 use Rattle.serde_json.specs.Data as json
 use Rattle.serde_json.specs.Find.{as_i64}
