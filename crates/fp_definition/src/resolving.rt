@@ -13,6 +13,7 @@ ghost use Rattle.fp_operators.specs.Data as values;
 ghost use Rattle.fp_operators.specs.View.{view as datum_view};
 ghost use Rattle.fp_targeting.specs.Meaning.{meaning};
 ghost use Rattle.fp_targeting.specs.Means.{Means};
+ghost use Rattle.fp_targeting.specs.RuleData.{IsOfContext};
 
 use crate::definition::Definition;
 use crate::key::FlagKey;
@@ -92,6 +93,36 @@ impl Definition {
                 by_rule(alloc, value, rule, &data)
             }
         }
+    }
+
+    /// The same over the data of a context at a moment, made once for all flags. Where there is a
+    /// rule the data turn to the flag of this key.
+    #[tactic(auto, unfolding(crate::specs::Outcome::outcome_of))]
+    pub fn resolve_in(
+        &self,
+        alloc: Global,
+        key: &FlagKey,
+        data: &mut Data,
+    ) -> Result<Resolved<'_>, EvalFault>
+        ensures resolves { (context : JsonData) (now : ℕ) → IsOfContext context now «data».old
+            → Answers said_by Tells result
+            (Resolves (data_of self.now) (key_bytes key.now) context now) }
+        ensures computed { (context : JsonData) (now : ℕ) → IsOfContext context now «data».old
+            → Gives said_by Tells result
+            (outcome_of (data_of self.now) (key_bytes key.now) context now) }
+        ensures context { (context : JsonData) (now : ℕ) → IsOfContext context now «data».old
+            → IsOfContext context now «data».new }
+        ensures printable { IfOk result (λ r. is_whole (view r.value.now) ≡ true) }
+    {
+        let (value, rule) = self.value_and_rule();
+        if is_disabled_in(value) {
+            return Err(EvalFault::Disabled);
+        }
+        let Some(rule) = rule else {
+            return default_of(value, Reason::Static);
+        };
+        data.set_flag(alloc, key.as_str())?;
+        by_rule(alloc, value, rule, data)
     }
 
     /// Exactly one outcome, whatever the key, the context and the moment, which `resolve` answers

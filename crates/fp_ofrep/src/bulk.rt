@@ -1,15 +1,16 @@
 //! The evaluation of all flags.
 
-ghost use Rattle.std.specs.Prelude.{◌≡◌, ◌++◌, ◌<◌, ◌^◌, true, IfOk, IsSome, OnOk};
+ghost use Rattle.std.specs.Prelude.{◌≡◌, ◌++◌, ℕ, ◌<◌, ◌^◌, true, IfOk, IsSome, OnOk};
 ghost use Rattle.std.specs.FinMap as map;
 ghost use Rattle.json.specs.Tree.{items_tokens};
-ghost use Rattle.serde_json.specs.Data.{Items};
+ghost use Rattle.serde_json.specs.Data.{Data as JsonData, Items};
 ghost use Rattle.serde_json.specs.Find.{as_object};
 ghost use Rattle.serde_json.specs.View.{view};
 ghost use Rattle.serde_json.specs.Written.{compact_text, items_outline};
 ghost use Rattle.fp_base.specs.Whole.{is_whole};
 ghost use Rattle.fp_definition.specs.Key.{key_bytes};
 ghost use Rattle.fp_definition.specs.Resolving.{data_of};
+ghost use Rattle.fp_targeting.specs.RuleData.{IsOfContext};
 ghost use Rattle.fp_ofrep.specs.Bulk.{bulk_data, bulk_reply, flag_items, listed};
 ghost use Rattle.std.specs.Option.{option_copied};
 ghost use Rattle.fp_ofrep.specs.Seen.{seen};
@@ -23,6 +24,7 @@ use crate::tag::{entity_tag, is_known};
 use crate::write::{write_failure, write_success};
 use fp_definition::{Definition, EvalFault, FlagKey};
 use fp_edit::FlagSet;
+use fp_targeting::Data;
 use http::StatusCode;
 use json::Writer;
 use serde_json::Value;
@@ -102,27 +104,26 @@ fn bulk_text(alloc: Global, set: &FlagSet, context: &Value, now: u64) -> Result<
     out.begin_object()?;
     out.key("flags")?;
     out.begin_array()?;
-    write_flags(alloc, &mut out, set, context, now)?;
+    let mut data = Data::new(alloc, context, "", now)?;
+    write_flags(alloc, &mut out, set, &mut data)?;
     out.end_object()?;
     Ok(out.into_inner())
 }
 
+// Writes the flags of the list. The data are made once for all of them.
 fn write_flags(
     alloc: Global,
     out: &mut Writer,
     set: &FlagSet,
-    context: &Value,
-    now: u64,
+    data: &mut Data,
 ) -> Result<(), AllocError>
-    requires object { IsSome (as_object (view context.now)) }
-    requires whole { is_whole (view context.now) ≡ true }
-    requires moment { now < 2 ^ 63 }
-    ensures tokens { OnOk result (out.new.tokens ≡ out.old.tokens ++ items_tokens
-        (items_outline (flag_items (map.entries set.now.flags) (view context.now) now))) }
+    ensures tokens { OnOk result ((context : JsonData) (now : ℕ)
+        → IsOfContext context now «data».old → out.new.tokens ≡ out.old.tokens ++ items_tokens
+        (items_outline (flag_items (map.entries set.now.flags) context now))) }
     ensures before { OnOk result (out.new.before ≡ out.old.before) }
 {
     for (key, flag) in set.iter() {
-        write_flag(alloc, out, key, &flag.definition, context, now)?;
+        write_flag(alloc, out, key, &flag.definition, data)?;
     }
     out.end_array()?;
     Ok(())
@@ -134,19 +135,18 @@ fn write_flag(
     out: &mut Writer,
     key: &FlagKey,
     definition: &Definition,
-    context: &Value,
-    now: u64,
+    data: &mut Data,
 ) -> Result<(), AllocError>
-    requires object { IsSome (as_object (view context.now)) }
-    requires whole { is_whole (view context.now) ≡ true }
-    requires moment { now < 2 ^ 63 }
-    ensures tokens { OnOk result ((rest : Items) → out.new.tokens ++ items_tokens
-        (items_outline rest) ≡ out.old.tokens ++ items_tokens (items_outline
-        (listed (key_bytes key.now) (evaluation_of (key_bytes key.now) (data_of definition.now)
-        (view context.now) now) rest))) }
+    ensures tokens { OnOk result ((context : JsonData) (now : ℕ) (rest : Items)
+        → IsOfContext context now «data».old
+        → out.new.tokens ++ items_tokens (items_outline rest) ≡ out.old.tokens ++ items_tokens
+        (items_outline (listed (key_bytes key.now)
+        (evaluation_of (key_bytes key.now) (data_of definition.now) context now) rest))) }
     ensures before { OnOk result (out.new.before ≡ out.old.before) }
+    ensures context { OnOk result ((context : JsonData) (now : ℕ)
+        → IsOfContext context now «data».old → IsOfContext context now «data».new) }
 {
-    match definition.resolve(alloc, key, context, now) {
+    match definition.resolve_in(alloc, key, data) {
         Ok(said) => {
             write_success(out, key.as_str(), definition.metadata(), &said)?;
             Ok(())

@@ -3,7 +3,6 @@ use Rattle.std.specs.FinMap as map
 use Rattle.std.specs.Prelude.{if◌then◌else◌, None, Result}
 use Rattle.serde_json.specs.Data.{Data}
 use Rattle.fp_ofrep.specs.Bulk.{bulk_in}
-use Rattle.fp_ofrep.specs.Context.{context_of}
 use Rattle.fp_ofrep.specs.Single.{after_body, evaluation_at, flag_at, response_of}
 use Rattle.fp_ofrep.specs.declared.failure.Failure.{Failure}
 use Rattle.fp_ofrep.proofs.LawLemmas.{items-entries}

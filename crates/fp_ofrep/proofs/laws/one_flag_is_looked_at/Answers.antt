@@ -1,4 +1,4 @@
-use Rattle.std.proofs.Common.{List, ℕ, sym, ap, ◌∙◌}
+use Rattle.std.proofs.Common.{sym, ap, ◌∙◌}
 use Rattle.std.specs.Prelude.{bytes_eq, codes, if◌then◌else◌, Option}
 use Rattle.fp_ofrep.specs.Reply.{routed}
 use Rattle.fp_ofrep.specs.Response.{Response, not_allowed}
