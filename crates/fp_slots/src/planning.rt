@@ -41,7 +41,8 @@ pub(crate) fn piece(planned: &Vec<u8>, from: usize, to: usize) -> &[u8]
 // Puts these bytes behind the first so many, in place of all that was there.
 pub(crate) fn put_behind(planned: &mut Vec<u8>, len: usize, bytes: &[u8]) -> Result<(), AllocError>
     requires { len ≤ length planned.old.items }
-    ensures ok { OnOk result (planned.new.items ≡ slice_range planned.old.items 0 len ++ bytes.now) }
+    ensures ok { OnOk result (planned.new.items ≡ slice_range planned.old.items 0 len
+        ++ bytes.now) }
     ensures err { OnErr result (planned.new.items ≡ slice_range planned.old.items 0 len) }
 {
     planned.truncate(len);
