@@ -8,4 +8,4 @@ use Rattle.fp_slots.specs.declared.places.TheConstants.{VERSION}
 abbrev pub head_text : ℕ → ℕ → List ℕ → List ℕ
 head_text generation base image =
     OPEN ∷ (to_be_bytes w64 generation
-        ++ VERSION ∷ (to_be_bytes w64 base ++ (to_be_bytes w32 (length image) ++ image)))
+    ++ VERSION ∷ (to_be_bytes w64 base ++ (to_be_bytes w32 (length image) ++ image)))

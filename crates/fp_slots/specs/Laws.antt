@@ -23,4 +23,4 @@ PlanGoesOn = (slot : Slot) (generation done : ℕ) (text body b : List ℕ) →
     IsCopied slot.start (text ++ 0 ∷ []) done b
     → slot.start + length (text ++ OPEN ∷ framed body) < slot.stop
     → IsPlan slot generation (text ++ OPEN ∷ framed body) ((text ++ OPEN ∷ framed body) ++ 0 ∷ [])
-        × IsCopied slot.start ((text ++ OPEN ∷ framed body) ++ 0 ∷ []) done b
+    × IsCopied slot.start ((text ++ OPEN ∷ framed body) ++ 0 ∷ []) done b
