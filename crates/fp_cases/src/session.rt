@@ -15,6 +15,61 @@ use serde_json::Value;
 use std::alloc::{AllocError, Global};
 use std::collections::BTreeMap;
 
+// The words that a name or a number stands behind.
+const HAVE_FIRST: [&str; 16] = [
+    "let",
+    "fits",
+    "nests",
+    "budget",
+    "member",
+    "op",
+    "versions",
+    "spell",
+    "restore",
+    "set",
+    "now",
+    "ask",
+    "ask-too-long",
+    "frame",
+    "pieces",
+    "waiting",
+];
+
+// The words whose operand is JSON.
+const TAKE_JSON: [&str; 13] = [
+    "json", "fits", "nests", "budget", "member", "op", "versions", "compile", "rule", "flag",
+    "resolve", "import", "data",
+];
+
+// The words of `tell_bytes`.
+const OF_BYTES: [&str; 7] = [
+    "text",
+    "line",
+    "batch",
+    "image",
+    "beginnings",
+    "changed",
+    "spell",
+];
+
+// The words of `run_on_set`.
+const ON_SET: [&str; 5] = ["edit", "judge", "restore", "key", "set"];
+
+// The words of `run_request`.
+const ON_REQUESTS: [&str; 4] = ["method", "if-none-match", "ask", "ask-too-long"];
+
+// The words of `subscribe`.
+const ON_SUBSCRIBER: [&str; 8] = [
+    "hello",
+    "subscriber",
+    "frame",
+    "feed",
+    "pieces",
+    "halves",
+    "watch",
+    "waiting",
+];
+
 /// What the commands of a file share.
 #[derive(Drop)]
 pub struct Session {
@@ -111,21 +166,16 @@ impl Session {
         operand: &[u8],
         out: &mut String,
     ) -> Result<(), AllocError> {
-        match word {
-            "text" | "line" | "batch" | "image" | "beginnings" | "changed" | "spell" => {
-                tell_bytes(self.alloc, word, number_in(first), operand, out)
-            }
-            "edit" | "judge" | "restore" | "key" | "set" => {
-                self.run_on_set(word, number_in(first), operand, out)
-            }
-            "method" | "if-none-match" | "ask" | "ask-too-long" => {
-                self.run_request(word, first, operand, out)
-            }
-            "hello" | "subscriber" | "frame" | "feed" | "pieces" | "halves" | "watch"
-            | "waiting" => {
-                self.subscribe(word, first, operand, out)
-            }
-            _ => self.run_word(word, first, out),
+        if OF_BYTES.contains(&word) {
+            tell_bytes(self.alloc, word, number_in(first), operand, out)
+        } else if ON_SET.contains(&word) {
+            self.run_on_set(word, number_in(first), operand, out)
+        } else if ON_REQUESTS.contains(&word) {
+            self.run_request(word, first, operand, out)
+        } else if ON_SUBSCRIBER.contains(&word) {
+            self.subscribe(word, first, operand, out)
+        } else {
+            self.run_word(word, first, out)
         }
     }
 
@@ -264,7 +314,7 @@ impl Answers for Session {
     /// A command is its word, for some words a name or a number, and the operand, which is all that is left of the line.
     fn answer(&mut self, command: &str, out: &mut String) -> Result<(), AllocError> {
         let (word, rest) = split(command);
-        let (first, rest) = if has_first(word) {
+        let (first, rest) = if HAVE_FIRST.contains(&word) {
             split(rest)
         } else {
             ("", rest)
@@ -285,7 +335,7 @@ impl Session {
         operand: &[u8],
         out: &mut String,
     ) -> Result<(), AllocError> {
-        if !takes_json(word) {
+        if !TAKE_JSON.contains(&word) {
             return self.run_bytes(word, first, operand, out);
         }
         match read_json(self.alloc, operand)? {
@@ -303,47 +353,6 @@ fn put_copy(alloc: Global, value: &Value, out: &mut String) -> Result<(), AllocE
 
 fn split(line: &str) -> (&str, &str) {
     line.split_once(' ').unwrap_or((line, ""))
-}
-
-fn has_first(word: &str) -> bool {
-    matches!(
-        word,
-        "let"
-            | "fits"
-            | "nests"
-            | "budget"
-            | "member"
-            | "op"
-            | "versions"
-            | "spell"
-            | "restore"
-            | "set"
-            | "now"
-            | "ask"
-            | "ask-too-long"
-            | "frame"
-            | "pieces"
-            | "waiting"
-    )
-}
-
-fn takes_json(word: &str) -> bool {
-    matches!(
-        word,
-        "json"
-            | "fits"
-            | "nests"
-            | "budget"
-            | "member"
-            | "op"
-            | "versions"
-            | "compile"
-            | "rule"
-            | "flag"
-            | "resolve"
-            | "import"
-            | "data"
-    )
 }
 
 fn number_in(text: &str) -> u64 {

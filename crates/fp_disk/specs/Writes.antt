@@ -5,20 +5,24 @@ use Rattle.std.proofs.lemmas.List.{get_or-append_right, get_or_append_left, get_
 use Rattle.std.proofs.Common.{ap, ◌∙◌, arith}
 use Rattle.fp_disk.specs.Outcomes.{overwritten}
 
-pub length-overwritten : (old more : List ℕ) (at : ℕ) → length (overwritten old at more) ≡ max (length old) (at + length more)
+pub length-overwritten : (old more : List ℕ) (at : ℕ) →
+    length (overwritten old at more) ≡ max (length old) (at + length more)
 length-overwritten old more at = grind (arith, common_steps)
 
-pub overwritten_before : (old more : List ℕ) (at k : ℕ) → k < at → k < length old → slice_index (overwritten old at more) k ≡ slice_index old k
+pub overwritten_before : (old more : List ℕ) (at k : ℕ) → k < at → k < length old →
+    slice_index (overwritten old at more) k ≡ slice_index old k
 overwritten_before old more at k lt in_old = grind (arith, common_steps)
 
-pub overwritten_behind : (old more : List ℕ) (at k : ℕ) → at + length more ≤ k → slice_index (overwritten old at more) k ≡ slice_index old k
+pub overwritten_behind : (old more : List ℕ) (at k : ℕ) → at + length more ≤ k →
+    slice_index (overwritten old at more) k ≡ slice_index old k
 overwritten_behind old more at k le =
     let front = take at (old ++ replicate (at - length old) 0) ++ more in
     let len : length front ≡ at + length more = grind (arith, common_steps) in
     let there : (at + length more) + (k - (at + length more)) ≡ k = omega arith in
     get_or-append_right front (drop (at + length more) old) (at + length more) k 0 len le ∙ (get_or-drop (at + length more) old (k - (at + length more)) 0 ∙ ap (λ (j : ℕ). slice_index old j) there)
 
-pub overwritten_inside : (old more : List ℕ) (at k : ℕ) → k < length more → slice_index (overwritten old at more) (at + k) ≡ slice_index more k
+pub overwritten_inside : (old more : List ℕ) (at k : ℕ) → k < length more →
+    slice_index (overwritten old at more) (at + k) ≡ slice_index more k
 overwritten_inside old more at k lt =
     let front = take at (old ++ replicate (at - length old) 0) in
     let len : length front ≡ at = grind (arith, common_steps) in

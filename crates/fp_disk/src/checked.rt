@@ -24,7 +24,8 @@ impl<D: Disk> Model for Checked<D> {
     ghost view = { λ c. record { disk = c.disk; name = c.name.name } };
 }
 
-/// A sync that succeeded, by the name of its disk and the moment after it. Only `Checked::sync` makes one.
+/// A sync that succeeded, by the name of its disk and the moment after it. Only `Checked::sync`
+/// makes one.
 #[derive(Drop)]
 pub struct Synced<D: Disk> {
     disk: Snapshot<Growing<u8>>,

@@ -21,10 +21,11 @@ pub enum Fill {
 pub struct Choice<'a> {
     /// How many bytes: of the numbers that a crash may leave, the nearest to this.
     pub length: u64,
-    /// What becomes of the bytes of each write since the last sync, in the order of the writes. A write that failed counts.
+    /// What becomes of the bytes of each write since the last sync, in the order of the writes. A
+    /// write that failed counts.
     pub writes: &'a [Fill],
-    /// What becomes of the writes behind those, and of the bytes that no write reached, past the end of what was synced,
-    /// which were 0.
+    /// What becomes of the writes behind those, and of the bytes that no write reached, past the
+    /// end of what was synced, which were 0.
     pub rest: Fill,
 }
 

@@ -13,7 +13,8 @@ pub enum DiskFault {
     Device,
 }
 
-/// A list of bytes whose writes count only after a sync. A call that fails may have done a part of its work.
+/// A list of bytes whose writes count only after a sync. A call that fails may have done a part of
+/// its work.
 pub trait Disk {
     /// That it keeps what is said here. Nothing shows it of a real file.
     ghost honest: { Self → Type 0 };

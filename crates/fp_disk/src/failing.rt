@@ -5,8 +5,8 @@ ghost use Rattle.fp_disk.specs.Memory.{passes, after_call, call_progress, write_
 
 use crate::call::Progress;
 
-/// Which calls of a disk in memory fail though nothing is wrong with them. Calls are counted from 0, from now on, and each
-/// call of the trait counts, `len` and `read_at` too.
+/// Which calls of a disk in memory fail though nothing is wrong with them. Calls are counted from
+/// 0, from now on, and each call of the trait counts, `len` and `read_at` too.
 #[derive(Clone, Copy, Debug, PartialEq, Eq)]
 pub enum Failing {
     /// None.

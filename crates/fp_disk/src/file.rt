@@ -11,8 +11,9 @@ use std::io::{Read, Seek, SeekFrom, Write};
 use std::marker::Model;
 use std::rt::Files;
 
-/// A disk over a file of a runtime. It notes its calls and counts its failures; what a real file keeps over a crash, nothing here shows, so that
-/// it is never honest. It never makes a file shorter.
+/// A disk over a file of a runtime. It notes its calls and counts its failures; what a real file
+/// keeps over a crash, nothing here shows, so that it is never honest. It never makes a file
+/// shorter.
 #[derive(Drop)]
 pub struct FileDisk<F: Drop> {
     file: F,
@@ -39,7 +40,8 @@ impl<F: Drop> FileDisk<F> {
     }
 }
 
-/// The disk, of no failure yet, over the file at this path, made where there is none. What is in it stays.
+/// The disk, of no failure yet, over the file at this path, made where there is none. What is in it
+/// stays.
 pub fn create_file<R: Files>(rt: &R, path: &str) -> Result<FileDisk<R::File>, DiskFault>
     ensures { IfOk result (λ d. d ≡ record { made = []; faults = 0 }) }
 {

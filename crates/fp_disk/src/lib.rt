@@ -1,5 +1,5 @@
-//! Disks whose writes count only after a sync: what a crash may leave of one, a disk in memory that fails and crashes as
-//! it is told, a disk over a file, and tokens of the syncs that succeeded.
+//! Disks whose writes count only after a sync: what a crash may leave of one, a disk in memory that
+//! fails and crashes as it is told, a disk over a file, and tokens of the syncs that succeeded.
 #![tactic(auto)]
 
 mod call;

@@ -15,9 +15,9 @@ use std::alloc::{AllocError, Global};
 use std::marker::Model;
 use std::snapshot::Snapshot;
 
-/// A disk in memory. It records each call, so that what a crash leaves can be chosen later, and fails
-/// as it is told to. A call for which there is no memory, or a write that would end past 2^64, fails
-/// too, and leaves no record.
+/// A disk in memory. It records each call, so that what a crash leaves can be chosen later, and
+/// fails as it is told to. A call for which there is no memory, or a write that would end past
+/// 2^64, fails too, and leaves no record.
 #[derive(Drop)]
 pub struct MemoryDisk {
     pub(crate) alloc: Global,

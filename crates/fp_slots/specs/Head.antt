@@ -7,4 +7,5 @@ use Rattle.fp_slots.specs.declared.places.TheConstants.{VERSION}
 -- an open gate, the generation, the version, the revision of the image, its length, the image
 abbrev pub head_text : ℕ → ℕ → List ℕ → List ℕ
 head_text generation base image =
-    OPEN ∷ (to_be_bytes w64 generation ++ VERSION ∷ (to_be_bytes w64 base ++ (to_be_bytes w32 (length image) ++ image)))
+    OPEN ∷ (to_be_bytes w64 generation
+    ++ VERSION ∷ (to_be_bytes w64 base ++ (to_be_bytes w32 (length image) ++ image)))

@@ -12,10 +12,15 @@ RulesAlone = (c : List ℕ) (slot other : ℕ) → Rules slot other c → Rules 
 
 -- where a reader is told that neither rules, neither does
 abbrev pub RefusesRightly : Type 0
-RefusesRightly = (c : List ℕ) (first second k : ℕ) → RulesNeither first second c k → (Rules first second c → ⊥) × (Rules second first c → ⊥)
+RefusesRightly = (c : List ℕ) (first second k : ℕ) → RulesNeither first second c k →
+    (Rules first second c → ⊥) × (Rules second first c → ⊥)
 
--- a batch that is sealed beside a compaction goes behind the text that is planned, and no byte that was copied changes
+-- a batch that is sealed beside a compaction goes behind the text that is planned, and no byte that
+-- was copied changes
 abbrev pub PlanGoesOn : Type 0
-PlanGoesOn = (slot : Slot) (generation done : ℕ) (text body b : List ℕ) → IsPlan slot generation text (text ++ 0 ∷ []) → done ≤ length text → IsCopied slot.start (text ++ 0 ∷ []) done b
+PlanGoesOn = (slot : Slot) (generation done : ℕ) (text body b : List ℕ) →
+    IsPlan slot generation text (text ++ 0 ∷ []) → done ≤ length text →
+    IsCopied slot.start (text ++ 0 ∷ []) done b
     → slot.start + length (text ++ OPEN ∷ framed body) < slot.stop
-    → IsPlan slot generation (text ++ OPEN ∷ framed body) ((text ++ OPEN ∷ framed body) ++ 0 ∷ []) × IsCopied slot.start ((text ++ OPEN ∷ framed body) ++ 0 ∷ []) done b
+    → IsPlan slot generation (text ++ OPEN ∷ framed body) ((text ++ OPEN ∷ framed body) ++ 0 ∷ [])
+    × IsCopied slot.start ((text ++ OPEN ∷ framed body) ++ 0 ∷ []) done b

@@ -14,11 +14,13 @@ pub record HasGeneration (slot n : ℕ) (c : List ℕ) : Type 0 where
   pub small : n < 2 ^ 64
   pub text : Holds c (slot + GENERATION_PLACE) (to_be_bytes w64 n)
 
--- Of the slots that begin at these two places the first rules: both gates are there, its own is open, and the other's is closed or both have a generation and its own is the greater
+-- Of the slots that begin at these two places the first rules: both gates are there, its own is
+-- open, and the other's is closed or both have a generation and its own is the greater
 pub record Rules (slot other : ℕ) (c : List ℕ) : Type 0 where
   pub there : other < length c
   pub opened : slice_index c slot ≡ OPEN
-  pub over : (slice_index c other ≢ OPEN) ⊎ ((mine its : ℕ) × HasGeneration slot mine c × HasGeneration other its c × (its < mine))
+  pub over : (slice_index c other ≢ OPEN)
+      ⊎ ((mine its : ℕ) × HasGeneration slot mine c × HasGeneration other its c × (its < mine))
 
 -- the first of two slots rules, and holds this text in front of a closed gate
 pub record Tells (slot other : Slot) (text c : List ℕ) : Type 0 where
@@ -33,9 +35,13 @@ pub record IsRuling (first second slot other : Slot) (c : List ℕ) : Type 0 whe
 
 -- neither rules, and k is the place that tells it
 pub data RulesNeither (first second : ℕ) (c : List ℕ) (k : ℕ) : Type 0 where
-  none_open : slice_index c first ≢ OPEN → slice_index c second ≢ OPEN → k ≡ first → RulesNeither first second c k
-  cut : slice_index c first ≡ OPEN → slice_index c second ≡ OPEN → length c < second + VERSION_PLACE → k ≡ length c → RulesNeither first second c k
-  equal : slice_index c first ≡ OPEN → slice_index c second ≡ OPEN → (n : ℕ) → HasGeneration first n c → HasGeneration second n c → k ≡ second + GENERATION_PLACE → RulesNeither first second c k
+  none_open : slice_index c first ≢ OPEN → slice_index c second ≢ OPEN → k ≡ first →
+      RulesNeither first second c k
+  cut : slice_index c first ≡ OPEN → slice_index c second ≡ OPEN →
+      length c < second + VERSION_PLACE → k ≡ length c → RulesNeither first second c k
+  equal : slice_index c first ≡ OPEN → slice_index c second ≡ OPEN → (n : ℕ) →
+      HasGeneration first n c → HasGeneration second n c → k ≡ second + GENERATION_PLACE →
+      RulesNeither first second c k
 
 -- the fault names that place
 abbrev pub RefusesSlots : ℕ → ℕ → List ℕ → SlotFault → Type 0

@@ -52,28 +52,43 @@ pub fn pick(bytes: &[u8], first: Slot, second: Slot) -> Result<Active, SlotFault
     requires whole { first.start + VERSION_PLACE ≤ length bytes.now }
     requires there { second.start < length bytes.now }
     ensures found { IfOk result (λ r. IsRuling first second r.slot r.other bytes.now) }
-    ensures other { IfOk result (λ r. IsTrue r.is_open ↔ (slice_index bytes.now r.other.start ≡ OPEN)) }
+    ensures other { IfOk result (λ r. IsTrue r.is_open ↔
+        (slice_index bytes.now r.other.start ≡ OPEN)) }
     ensures fault { IfErr result (RefusesSlots first.start second.start bytes.now) }
 {
-    let (a, b) = (first.start as usize, second.start as usize);
-    let is_open = bytes[a] == OPEN;
-    if bytes[b] != OPEN {
-        if !is_open {
-            return Err(SlotFault::Damaged { at: first.start });
+    let is_open = bytes[first.start as usize] == OPEN;
+    if bytes[second.start as usize] == OPEN {
+        if is_open {
+            return pick_by_generation(bytes, first, second);
         }
-        return Ok(Active {
-            slot: first,
-            other: second,
-            is_open: false,
-        });
-    }
-    if !is_open {
         return Ok(Active {
             slot: second,
             other: first,
             is_open: false,
         });
     }
+    if !is_open {
+        return Err(SlotFault::Damaged { at: first.start });
+    }
+    Ok(Active {
+        slot: first,
+        other: second,
+        is_open: false,
+    })
+}
+
+// Which of two slots rules whose gates are both open.
+fn pick_by_generation(bytes: &[u8], first: Slot, second: Slot) -> Result<Active, SlotFault>
+    requires whole { first.start + VERSION_PLACE ≤ length bytes.now }
+    requires there { second.start < length bytes.now }
+    requires first_open { slice_index bytes.now first.start ≡ OPEN }
+    requires second_open { slice_index bytes.now second.start ≡ OPEN }
+    ensures found { IfOk result (λ r. IsRuling first second r.slot r.other bytes.now) }
+    ensures other { IfOk result (λ r. IsTrue r.is_open ↔
+        (slice_index bytes.now r.other.start ≡ OPEN)) }
+    ensures fault { IfErr result (RefusesSlots first.start second.start bytes.now) }
+{
+    let (a, b) = (first.start as usize, second.start as usize);
     if bytes.len() - b < VERSION_PLACE {
         return Err(SlotFault::Damaged {
             at: bytes.len() as u64,

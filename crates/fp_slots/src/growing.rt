@@ -1,4 +1,5 @@
-//! The text that the other slot is to hold grows by the batches that are sealed beside a compaction.
+//! The text that the other slot is to hold grows by the batches that are sealed beside a
+//! compaction.
 
 ghost use Rattle.std.specs.Prelude.{◌≡◌, ◌≢◌, ◌<◌, ◌+◌, [], ◌∷◌, ◌++◌, length, OnOk, OnErr};
 ghost use Rattle.fp_gate.specs.declared.gate.TheConstants.{OPEN};
@@ -13,7 +14,8 @@ use fp_journal::Framed;
 use std::alloc::AllocError;
 
 impl<D: Disk> Slots<D> {
-    /// Keeps a body ready to go behind the planned text. It makes no call of the disk, and takes all memory that `lengthen` needs.
+    /// Keeps a body ready to go behind the planned text. It makes no call of the disk, and takes
+    /// all memory that `lengthen` needs.
     pub fn plan_body(&mut self, framed: &Framed) -> Result<(), AllocError>
         requires growing { IsGrowing self.old.step }
         requires live { self.old.journal.phase ≢ Failed }
@@ -30,9 +32,16 @@ impl<D: Disk> Slots<D> {
         requires growing { IsGrowing self.old.step }
         requires live { self.old.journal.phase ≢ Failed }
         requires ready { self.old.coming ≡ with_gate (body_of self.old.coming) }
-        requires fits { self.old.other.start + length (self.old.text ++ OPEN ∷ framed_text (body_of self.old.coming)) < self.old.other.stop }
-        ensures grown { (self.new.text ≡ self.old.text ++ OPEN ∷ framed_text (body_of self.old.coming)) × (self.new.coming ≡ []) }
-        ensures same { (self.new.journal ≡ self.old.journal) × (self.new.other ≡ self.old.other) × (self.new.generation ≡ self.old.generation) × (self.new.may_open ≡ self.old.may_open) × (self.new.step ≡ self.old.step) × (self.new.head ≡ self.old.head) × (self.new.left ≡ self.old.left) }
+        requires fits { self.old.other.start
+            + length (self.old.text ++ OPEN ∷ framed_text (body_of self.old.coming))
+            < self.old.other.stop }
+        ensures grown { (self.new.text
+            ≡ self.old.text ++ OPEN ∷ framed_text (body_of self.old.coming))
+            × (self.new.coming ≡ []) }
+        ensures same { (self.new.journal ≡ self.old.journal) × (self.new.other ≡ self.old.other)
+            × (self.new.generation ≡ self.old.generation) × (self.new.may_open ≡ self.old.may_open)
+            × (self.new.step ≡ self.old.step) × (self.new.head ≡ self.old.head)
+            × (self.new.left ≡ self.old.left) }
     {
         self.ended = open_between(&mut self.planned, self.ended);
     }

@@ -2,7 +2,7 @@ use Rattle.std.proofs.Common.{rules, ◌≡◌, subst, sym, refl, ℕ}
 use Rattle.std.specs.Prelude.{slice_index}
 use Rattle.fp_gate.specs.declared.gate.TheConstants.{OPEN}
 use Rattle.fp_slots.specs.Rules.{HasGeneration, equal}
-use Rattle.fp_slots.proofs.choosing.pick.Goals as goal
+use Rattle.fp_slots.proofs.choosing.pick_by_generation.Goals as goal
 
 pub returns-then-mine-its-clause-fault : goal.returns-then-mine-its-clause-fault
 returns-then-mine-its-clause-fault c =
