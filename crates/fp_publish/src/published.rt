@@ -6,6 +6,7 @@ ghost use Rattle.fp_desk.specs.Desk.{settled_front};
 ghost use Rattle.fp_publish.specs.Rule.{IsConsistent};
 
 use crate::page::Page;
+use crate::shown::Shown;
 use fp_desk::Desk;
 use fp_edit::FlagSet;
 use std::alloc::AllocError;
@@ -104,5 +105,12 @@ impl<'a> View<'a> {
         ensures { result ≡ front_revision self.now }
     {
         self.page.revision()
+    }
+
+    // What is shown of it.
+    pub(crate) fn shown(&self) -> Shown
+        ensures { result ≡ self.now }
+    {
+        self.page.shown()
     }
 }

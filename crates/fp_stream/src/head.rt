@@ -2,7 +2,7 @@
 
 ghost use Rattle.std.specs.Prelude.{◌≡◌, ◌<◌, ◌≤◌, ◌+◌, ◌++◌, length, take, codes, slice_range, IfOk, IfErr, IsTrue, ◌↔◌};
 ghost use Rattle.std.specs.Int.{w32, w64, from_be_bytes};
-ghost use Rattle.fp_stream.specs.Heads.{head, IsHead, IsNewer, HasFault};
+ghost use Rattle.fp_stream.specs.Heads.{head, IsHead, HasFault};
 
 use crate::fault::FrameFault;
 use crate::hello::Hello;
@@ -35,7 +35,7 @@ pub(crate) fn head_of(has: Hello, bytes: &[u8]) -> Result<Head, FrameFault>
     if size > MOST_BODY {
         return Err(FrameFault::TooLong);
     }
-    if !is_newer(has, revision) {
+    if !has.is_behind(revision) {
         return Err(FrameFault::NotRising);
     }
     Ok(Head { revision, size })
@@ -61,16 +61,6 @@ fn size_in(bytes: &[u8]) -> u32
     ensures { result ≡ from_be_bytes w32 (slice_range bytes.now 12 16) }
 {
     u32::from_be_bytes([bytes[12], bytes[13], bytes[14], bytes[15]])
-}
-
-// Whether a revision is news to a subscriber that has this.
-fn is_newer(has: Hello, revision: u64) -> bool
-    ensures { IsTrue result ↔ IsNewer has revision }
-{
-    match has {
-        Hello::Nothing => true,
-        Hello::Has(before) => before < revision,
-    }
 }
 
 // The bytes of a head.

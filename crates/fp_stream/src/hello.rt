@@ -1,11 +1,12 @@
 //! What a subscriber has, and how it says so.
 
-ghost use Rattle.std.specs.Prelude.{◌≡◌, ◌≤◌, ◌<◌, ◌++◌, ◌∷◌, ℕ, List, length, take, Some, IfOk, IfErr, IfSome, OnOk};
+ghost use Rattle.std.specs.Prelude.{◌≡◌, ◌≤◌, ◌↔◌, IsTrue, ◌<◌, ◌++◌, ◌∷◌, ℕ, List, length, take, Some, IfOk, IfErr, IfSome, OnOk};
 ghost use Rattle.std.specs.Int.{w64, to_be_bytes};
 ghost use Rattle.std.specs.Io.KnownBytes.{Appends, Consumes, IsAtEnd};
 ghost use Rattle.fp_streams.specs.Failures.{CountsFailures};
 ghost use Rattle.fp_streams.specs.declared.counted.StreamFault.TheVariants.{Device};
 ghost use Rattle.fp_stream.specs.declared.hello.Hello.{Hello};
+ghost use Rattle.fp_stream.specs.Heads.{IsNewer};
 ghost use Rattle.fp_stream.specs.Hellos.{hello_bytes, CountsHello, IsHello, Hears, IsSaid, IsSpelled};
 
 use fp_streams::{FailureCounted, StreamFault};
@@ -19,6 +20,18 @@ pub enum Hello {
     Nothing,
     /// The snapshot of this revision.
     Has(u64),
+}
+
+impl Hello {
+    /// Whether a revision is news to who says this.
+    pub fn is_behind(self, revision: u64) -> bool
+        ensures { IsTrue result ↔ IsNewer self revision }
+    {
+        match self {
+            Hello::Nothing => true,
+            Hello::Has(before) => before < revision,
+        }
+    }
 }
 
 /// Why a hello wasn't read.

@@ -14,8 +14,8 @@ returns-then-size-gt-MOST_BODY-clause-fault c =
       long = omega arith;
     }
 
-pub returns-then-not-is_newer-clause-fault : goal.returns-then-not-is_newer-clause-fault
-returns-then-not-is_newer-clause-fault c =
+pub returns-then-not-is_behind-clause-fault : goal.returns-then-not-is_behind-clause-fault
+returns-then-not-is_behind-clause-fault c =
     let magic : take 4 c.args.bytes.now ≡ codes "SNP1" = search rules in
     record {
       revision = c.revision_in-revision.result;
@@ -23,7 +23,7 @@ returns-then-not-is_newer-clause-fault c =
       fits = omega arith;
       short = omega arith;
       is = head_read c.args.bytes.now c.revision_in-revision.result c.size_in-size.result c.requires (λ i. omega (arith, c.type_inv.bytes i)) magic c.revision_in-revision.ensures c.size_in-size.ensures;
-      old = λ newer. let yes = c.is_newer.ensures.1 newer in let no = c.if-not-is_newer.true in absurd cc;
+      old = λ newer. let yes = c.is_behind.ensures.1 newer in let no = c.if-not-is_behind.true in absurd cc;
     }
 
 pub returns-clause-is : goal.returns-clause-is

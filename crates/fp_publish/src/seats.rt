@@ -1,0 +1,175 @@
+//! Seats: what subscribers have, and the document that they are handed.
+
+ghost use Rattle.std.specs.Prelude.{◌≡◌, ◌<◌, ◌≤◌, ◌+◌, ◌-◌, None, IfOk, IfSome, OnErr, MatchOption, MatchResult};
+ghost use Rattle.fp_edit.specs.Document.{document};
+ghost use Rattle.fp_group_commit.specs.Tokens.{front_revision, front_set};
+ghost use Rattle.fp_publish.specs.Seats.{IsOfStore, IsNews, had_by};
+ghost use Rattle.fp_stream.specs.declared.hello.Hello.TheVariants.{Has};
+ghost use Rattle.fp_publish.specs.declared.seats.TheConstants.{MOST_SEATS};
+
+use crate::published::View;
+use crate::shown::Shown;
+use fp_stream::Hello;
+use std::alloc::{AllocError, Global};
+use std::marker::Model;
+use std::sync::Arc;
+
+/// The most subscribers at once.
+pub const MOST_SEATS: usize = 32;
+
+/// A snapshot for a subscriber: the document of what was shown. It was made once, for all who are handed it.
+#[derive(Drop)]
+pub struct Handed {
+    shown: Shown,
+    text: Arc<Vec<u8>, Global>,
+}
+
+impl Model for Handed {
+    ghost use Rattle.std.specs.Arc.{arc_value};
+    ghost use Rattle.std.specs.Coded.{codes};
+    ghost use Rattle.std.specs.Prelude.{◌≡◌};
+    ghost use Rattle.fp_edit.specs.Document.{document};
+    ghost use Rattle.fp_edit.specs.Flags.{coded_state};
+    ghost use Rattle.fp_group_commit.specs.Changes.{coded_change};
+    ghost use Rattle.fp_group_commit.specs.Tokens.{FrontState, front_set};
+
+    ghost Value = { FrontState };
+
+    ghost coded = { Prim.hlevel (codes, coded_state, coded_change) };
+
+    ghost view = { λ h. h.shown };
+
+    ghost invariant = { λ h. (arc_value h.text).items ≡ document (front_set h.shown).flags };
+}
+
+impl Handed {
+    // Makes the document of what is lent.
+    fn of(alloc: Global, view: &View<'_>) -> Result<Handed, AllocError>
+        ensures { IfOk result (λ h. h ≡ view.now) }
+    {
+        let text = Arc::new(alloc, view.set().document()?)?;
+        Ok(Handed {
+            shown: view.shown(),
+            text,
+        })
+    }
+
+    /// The document.
+    pub fn document(&self) -> &[u8]
+        ensures { result.now ≡ document (front_set self.now).flags }
+    {
+        let _ = &self.shown;
+        self.text.as_slice()
+    }
+
+    /// The revision of its set.
+    pub fn revision(&self) -> u64
+        ensures { result ≡ front_revision self.now }
+    {
+        let _ = &self.text;
+        self.shown.revision()
+    }
+
+    // The same once more. It shares the document.
+    fn try_copy(&self) -> Result<Handed, AllocError>
+        ensures { IfOk result (λ h. h ≡ self.now) }
+    {
+        Ok(Handed {
+            shown: self.shown.again(),
+            text: Arc::try_clone(&self.text)?,
+        })
+    }
+}
+
+/// A subscriber's place, and what the subscriber has.
+#[derive(Drop)]
+pub struct Seat {
+    has: Hello,
+}
+
+/// All seats are taken.
+#[derive(Debug, Drop, Clone, Copy, PartialEq, Eq)]
+pub struct SeatsUsed;
+
+/// The seats of a board's subscribers, and what was handed last.
+#[derive(Drop)]
+pub struct Seats {
+    taken: usize,
+    last: Option<Handed>,
+}
+
+impl Seats {
+    /// No seat is taken.
+    pub fn new() -> Seats
+        ensures taken { result.taken ≡ 0 }
+        ensures last { result.last ≡ None }
+    {
+        Seats {
+            taken: 0,
+            last: None,
+        }
+    }
+
+    /// A seat for a subscriber that has this.
+    pub fn seat(&mut self, hello: Hello) -> Result<Seat, SeatsUsed>
+        ensures taken { MatchResult result
+            (λ s. (self.old.taken < MOST_SEATS) × (self.new.taken ≡ self.old.taken + 1) × (had_by s ≡ hello))
+            (λ _. (MOST_SEATS ≤ self.old.taken) × (self.new.taken ≡ self.old.taken)) }
+        ensures last { self.new.last ≡ self.old.last }
+    {
+        if self.taken >= MOST_SEATS {
+            return Err(SeatsUsed);
+        }
+        self.taken += 1;
+        Ok(Seat { has: hello })
+    }
+
+    /// Takes a seat back. Where none was taken it changes nothing.
+    pub fn unseat(&mut self, _seat: Seat)
+        ensures { self.new ≡ record self.old { taken = self.old.taken - 1 } }
+    {
+        self.taken = self.taken.saturating_sub(1);
+    }
+
+    /// Hands what is published to a subscriber that hasn't got it: `None` exactly where it has that revision or a greater
+    /// one. Its document is made when the first seat asks for it, and shared by the others.
+    pub fn hand(
+        &mut self,
+        alloc: Global,
+        view: &View<'_>,
+        seat: &mut Seat,
+    ) -> Result<Option<Handed>, AllocError>
+        requires store { IsOfStore self.old.last view.now }
+        ensures handed { IfOk result (λ o. MatchOption o
+            (¬ IsNews (had_by seat.old) view.now × (had_by seat.new ≡ had_by seat.old))
+            (λ h. IsNews (had_by seat.old) view.now × (h ≡ view.now)
+            × (had_by seat.new ≡ Has (front_revision view.now)))) }
+        ensures unchanged { OnErr result (seat.new ≡ seat.old) }
+        ensures store { IsOfStore self.new.last view.now }
+        ensures taken { self.new.taken ≡ self.old.taken }
+    {
+        if !seat.has.is_behind(view.revision()) {
+            return Ok(None);
+        }
+        let handed = self.made(alloc, view)?;
+        seat.has = Hello::Has(view.revision());
+        Ok(Some(handed))
+    }
+
+    // What is lent, with the document that was made of it, or is made now.
+    fn made(&mut self, alloc: Global, view: &View<'_>) -> Result<Handed, AllocError>
+        requires store { IsOfStore self.old.last view.now }
+        ensures handed { IfOk result (λ h. h ≡ view.now) }
+        ensures store { IsOfStore self.new.last view.now }
+        ensures taken { self.new.taken ≡ self.old.taken }
+    {
+        if let Some(last) = &self.last {
+            if last.shown.is_same(&view.shown()) {
+                return last.try_copy();
+            }
+        }
+        let handed = Handed::of(alloc, view)?;
+        self.last = Some(handed.try_copy()?);
+        Ok(handed)
+    }
+}
