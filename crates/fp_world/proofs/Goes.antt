@@ -10,6 +10,9 @@ use Rattle.fp_journal.specs.declared.journal.Phase.TheVariants.{Idle, Staged, Bo
 use Rattle.fp_record.specs.Group.{Group}
 use Rattle.fp_group_commit.specs.Calls.{Breaks, FailsBy, MovesTo, RefusesBy, SameRoom, TakesRoom}
 use Rattle.fp_group_commit.specs.Changes.{HasRoom, batch_len}
+use Rattle.fp_slots.specs.State.{HasBegun, IsEarly}
+use Rattle.fp_slots.specs.declared.slots.Step.{Step}
+use Rattle.fp_slots.specs.declared.slots.Step.TheVariants.{Begin}
 use Rattle.std.specs.Prelude.{if◌then◌else◌, IsTrue, ◌↔◌}
 use Rattle.fp_edit.specs.Log.{after_all}
 use Rattle.fp_group_commit.specs.Store.{StoreState, coming, is_failed, kept, reached, reached_at}
@@ -119,7 +122,7 @@ module _ {D : Type 0} (faults : D → ℕ) (May : Machine → Type 0) (to : Prog
 
   pub broke : (h h2 : Held) (s n : StoreState D) (d : DeskState) (told : ℕ) → Breaks faults s n → May (At h s d told) → progress_of h2 n.step ≡ progress_of h s.step → Advances May to (At h s d told) (answer.Fault fault.Device) (At h2 n d told)
   broke h h2 s n d told b may is =
-      (is_well s.slots.journal.phase b.well_before, may, machine_is (At h2 n d told) (record (At h s d told) { failed = true }) refl is (ap is_failed b.failed) b.most b.room refl)
+      (is_well s.slots.journal.phase b.well_before, may, machine_is (At h2 n d told) (record (At h s d told) { failed = true }) refl is (ap is_failed b.failed) b.room.0 b.room.1 refl)
 
   pub fails : (e : StoreFault) (h : Held) (s n : StoreState D) (d : DeskState) (told : ℕ) → FailsBy faults s n e → n.step ≡ s.step → May (At h s d told) → Advances May to (At h s d told) (answer.Fault e) (At h n d told)
   fails fault.Device h s n d told b step may = broke h h s n d told b may (ap (λ (p : Phase). progress_of h p) step)
@@ -157,14 +160,14 @@ module _ {D : Type 0} (faults : D → ℕ) where
 pub can_stage : {D : Type 0} (group : Group) (s : StoreState D) (d : DeskState) (told : ℕ) → group.changes ≡ d.drawn → HasRoom s.slots group → CanStage (At (held.Drawn group) s d told)
 can_stage group s d told is r =
     let len = ap length is in let bytes = ap (λ (l : List Change). batch_len (record { first = 0; changes = l })) is in
-    let few = r.few in let short = r.short in let left = r.room in
+    let few = r.few in let short = r.room.short in let left = r.room.fits in
     record { drawn = refl; few = omega (arith, len, few); short = omega (arith, bytes, short); room = omega (arith, bytes, left) }
 
-pub cannot_stage : {D : Type 0} (group : Group) (s : StoreState D) (d : DeskState) (told : ℕ) → group.changes ≡ d.drawn → d.drawn ≢ [] → (HasRoom s.slots group → ⊥) → CanStage (At (held.Drawn group) s d told) → ⊥
-cannot_stage group s d told is some never can =
+pub cannot_stage : {D : Type 0} (group : Group) (s : StoreState D) (d : DeskState) (told : ℕ) → s.slots.step ≡ Begin → group.changes ≡ d.drawn → d.drawn ≢ [] → (HasRoom s.slots group → ⊥) → CanStage (At (held.Drawn group) s d told) → ⊥
+cannot_stage group s d told begins is some never can =
     let len = ap length is in let bytes = ap (λ (l : List Change). batch_len (record { first = 0; changes = l })) is in
     let any = some_in d.drawn some in let few = can.few in let short = can.short in let left = can.room in
-    never (record { some = omega (arith, len, any); few = omega (arith, len, few); short = omega (arith, bytes, short); room = omega (arith, bytes, left) })
+    never (record { some = omega (arith, len, any); few = omega (arith, len, few); room = record { short = omega (arith, bytes, short); fits = omega (arith, bytes, left); early = subst (λ (x : Step). IsEarly x) (sym begins) tt; tail = λ runs. absurd (subst (λ (x : Step). HasBegun x) begins runs) } })
 
 not_in_flight : (p : Phase) → in_flight_at p ≡ batch_drawn → ⊥
 not_in_flight Idle e = absurd cc
@@ -280,3 +283,10 @@ wanting c t (opening.UnknownVersion v) stands none = absurd (none t stands)
 wanting c t (opening.Damaged at) stands none = absurd (none t stands)
 wanting c t opening.Device stands none = inl refl
 wanting c t opening.Memory stands none = inr refl
+
+-- a call that wasn't done leaves a compaction where it is
+pub fails_course : {D : Type 0} (faults : D → ℕ) (e : StoreFault) (s n : StoreState D) → FailsBy faults s n e → n.slots.step ≡ s.slots.step
+fails_course faults fault.Device s n b = b.room.2.0.0
+fails_course faults fault.Failed s n b = ap (λ (x : StoreState _). x.slots.step) b.1
+fails_course faults fault.Memory s n b = absurd b
+fails_course faults fault.Stranger s n b = absurd b

@@ -9,7 +9,7 @@ use Rattle.fp_edit.specs.Log.{after_all}
 use Rattle.fp_journal.specs.declared.journal.Phase.{Phase}
 use Rattle.fp_journal.specs.declared.journal.Phase.TheVariants.{Idle, GateOpened}
 use Rattle.fp_recovery.specs.Stands.{StandsFor}
-use Rattle.fp_group_commit.specs.Store.{StoreState, Leaves, has_begun, begun_at}
+use Rattle.fp_group_commit.specs.Store.{StoreState, Leaves}
 use Rattle.fp_group_commit.specs.Tokens.{Identity}
 use Rattle.fp_desk.specs.Desk.{DeskState, TicketState, log, settled_revision}
 use Rattle.fp_world.specs.World.{IsOut, IsWorld, KeptFrom, WorldState}
@@ -25,8 +25,6 @@ front_kept d xs rest low c is le stands =
     let len = ap length is in let more = length-append xs rest in
     (r + length xs, le, omega (arith, len, more), subst (λ (l : List Change). StandsFor c (after_all d.store.start l)) (sym cut) stands)
 
-idle_not : {D : Type 0} (s : StoreState D) → s.step ≡ Idle → has_begun s ≡ true → ⊥
-idle_not s idle begun = let both : false ≡ true = ap (λ (p : Phase). begun_at p s.slots.journal.phase) (sym idle) ∙ begun in absurd cc
 
 -- what is sealed begins the log, and so does it with the batch in flight
 abbrev Begins : List Change → DeskState → Type 0
@@ -39,13 +37,13 @@ module _ {D : Type 0} (s : StoreState D) (d : DeskState) where
   sealed_begins held.InFlight o = (d.drawn ++ d.waiting, ap (λ (l : List Change). l ++ (d.drawn ++ d.waiting)) (sym o.1), (let len = ap length o.1 in omega (arith, len)))
   sealed_begins (held.Sealed receipt) o = (d.waiting, sym (append_assoc d.settled d.drawn d.waiting) ∙ ap (λ (l : List Change). l ++ d.waiting) (sym o.1), (let len = ap length o.1 in let all = length-append d.settled d.drawn in omega (arith, len, all)))
 
-  pub coming_begins : (h : Held) → IsOut h s d → has_begun s ≡ true → Begins (s.sealed ++ s.staged) d
-  coming_begins held.Nothing o begun = absurd (idle_not s o.0 begun)
-  coming_begins (held.Drawn group) o begun = absurd (idle_not s o.0 begun)
-  coming_begins held.InFlight o begun =
+  pub coming_begins : (h : Held) → IsOut h s d → s.step ≢ Idle → Begins (s.sealed ++ s.staged) d
+  coming_begins held.Nothing o off = absurd (off o.0)
+  coming_begins (held.Drawn group) o off = absurd (off o.0)
+  coming_begins held.InFlight o off =
       let is : s.sealed ++ s.staged ≡ d.settled ++ d.drawn = ap (λ (l : List Change). l ++ s.staged) o.1 ∙ ap (λ (l : List Change). d.settled ++ l) o.2 in
       (d.waiting, sym (append_assoc d.settled d.drawn d.waiting) ∙ ap (λ (l : List Change). l ++ d.waiting) (sym is), (let len = ap length is in let all = length-append d.settled d.drawn in omega (arith, len, all)))
-  coming_begins (held.Sealed receipt) o begun = absurd (idle_not s o.0 begun)
+  coming_begins (held.Sealed receipt) o off = absurd (off o.0)
 
   -- what a crash leaves of the store keeps all that is settled
   pub leaves_kept : d.store ≡ s.store → (h : Held) → IsOut h s d → (low : ℕ) → low ≤ settled_revision d → (c : List ℕ) → Leaves s c → KeptFrom d low c
@@ -54,7 +52,7 @@ module _ {D : Type 0} (s : StoreState D) (d : DeskState) where
       front_kept d s.sealed b.0 low c b.1 (omega (arith, le, more)) (subst (λ (x : Identity). StandsFor c (after_all x.start s.sealed)) (sym same) stands)
   leaves_kept same h o low le c (inr both) =
       let b = coming_begins h o both.0 in let more = b.2 in
-      front_kept d (s.sealed ++ s.staged) b.0 low c b.1 (omega (arith, le, more)) (subst (λ (x : Identity). StandsFor c (after_all x.start (s.sealed ++ s.staged))) (sym same) both.1)
+      front_kept d (s.sealed ++ s.staged) b.0 low c b.1 (omega (arith, le, more)) (subst (λ (x : Identity). StandsFor c (after_all x.start (s.sealed ++ s.staged))) (sym same) both.2)
 
 module _ {D : Type 0} (honest : D → Type 0) (moment : D → ℕ) (crash_states_since : D → ℕ → List ℕ → Type 0) (unsynced : D → PendingState) {h : Held} {ts : List TicketState} {start : ℕ} {s : StoreState D} {d : DeskState} {told : ℕ} (w : IsWorld honest unsynced h ts start s d told) where
   -- what a crash leaves now

@@ -59,6 +59,7 @@ module _ {D : Type 0} (honest : D → Type 0) (unsynced : D → PendingState) {h
         out = subst (λ (x : DeskState). IsOut h s x) (sym is) (out_waiting s d h (d.waiting ++ c ∷ []) w.out);
         low = omega (arith, settled, low);
         now = w.now;
+        none_runs = w.none_runs;
         open_desk = ap (λ (x : DeskState). x.stopped) is ∙ w.open_desk;
         start_is = omega (arith, begun, same);
         numbered = subst (λ (l : List TicketState). NumberedFrom (start + 1) l) (sym more) (numbered_more (start + 1) ts t w.numbered (omega (arith, revision, len, one, count, begun, same)));
@@ -79,6 +80,7 @@ module _ {D : Type 0} (honest : D → Type 0) (unsynced : D → PendingState) {h
         out = (o.0, o.1 ∙ sym (ap (λ (x : DeskState). x.settled) is), sym (ap (λ (x : DeskState). x.drawn) is), some, subst (λ (t : State). GoesOn t group) (sym (ap settled_set is)) draws.goes_on);
         low = omega (arith, settled, low);
         now = w.now;
+        none_runs = w.none_runs;
         open_desk = ap (λ (x : DeskState). x.stopped) is ∙ w.open_desk;
         start_is = omega (arith, begun, same);
         numbered = w.numbered;
@@ -86,12 +88,13 @@ module _ {D : Type 0} (honest : D → Type 0) (unsynced : D → PendingState) {h
       }
 
   -- the store has gone on
-  pub went : (h2 : Held) (n : StoreState D) → n.store ≡ s.store → IsOut h2 n d → (honest n.slots.journal.disk → (c : List ℕ) → IsOutcome (unsynced n.slots.journal.disk) c → Leaves n c) → IsWorld honest unsynced h2 ts start n d told
-  went h2 n store out now = record {
+  pub went : (h2 : Held) (n : StoreState D) → n.store ≡ s.store → n.slots.step ≡ s.slots.step → IsOut h2 n d → (honest n.slots.journal.disk → (c : List ℕ) → IsOutcome (unsynced n.slots.journal.disk) c → Leaves n c) → IsWorld honest unsynced h2 ts start n d told
+  went h2 n store course out now = record {
     same = w.same ∙ sym store;
     out = out;
     low = w.low;
     now = now;
+    none_runs = course ∙ w.none_runs;
     open_desk = w.open_desk;
     start_is = w.start_is;
     numbered = w.numbered;
@@ -109,6 +112,7 @@ module _ {D : Type 0} (honest : D → Type 0) (unsynced : D → PendingState) {h
         out = (idle, sealed ∙ sym (ap (λ (x : DeskState). x.settled) is), ap (λ (x : DeskState). x.drawn) is);
         low = omega (arith, settled, low, both);
         now = w.now;
+        none_runs = w.none_runs;
         open_desk = ap (λ (x : DeskState). x.stopped) is ∙ w.open_desk;
         start_is = omega (arith, begun, same);
         numbered = w.numbered;
@@ -117,4 +121,4 @@ module _ {D : Type 0} (honest : D → Type 0) (unsynced : D → PendingState) {h
 
   -- more was told
   pub tells : (more : ℕ) → more ≤ settled_revision d → IsWorld honest unsynced h ts start s d more
-  tells more low = record { same = w.same; out = w.out; low = low; now = w.now; open_desk = w.open_desk; start_is = w.start_is; numbered = w.numbered; counted = w.counted }
+  tells more low = record { same = w.same; out = w.out; low = low; now = w.now; none_runs = w.none_runs; open_desk = w.open_desk; start_is = w.start_is; numbered = w.numbered; counted = w.counted }

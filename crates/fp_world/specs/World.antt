@@ -12,6 +12,7 @@ use Rattle.fp_journal.specs.State.{room}
 use Rattle.fp_journal.specs.declared.journal.Phase.{Phase}
 use Rattle.fp_journal.specs.declared.journal.Phase.TheVariants.{Idle, Staged, BodySynced, GateOpened, Failed}
 use Rattle.fp_recovery.specs.Stands.{StandsFor}
+use Rattle.fp_slots.specs.declared.slots.Step.TheVariants.{Begin}
 use Rattle.fp_group_commit.specs.Changes.{GoesOn}
 use Rattle.fp_group_commit.specs.Store.{Leaves, StoreState, is_failed}
 use Rattle.fp_group_commit.specs.declared.fault.StoreFault.TheVariants as fault
@@ -156,6 +157,7 @@ pub record IsWorld {D : Type 0} (honest : D → Type 0) (unsynced : D → Pendin
   pub low : told ≤ settled_revision d
   pub now : honest s.slots.journal.disk → (c : List ℕ) → IsOutcome (unsynced s.slots.journal.disk) c →
       Leaves s c
+  pub none_runs : s.slots.step ≡ Begin
   pub open_desk : d.stopped ≡ false
   pub start_is : start ≡ d.store.start.revision
   pub numbered : NumberedFrom (start + 1) tickets
