@@ -1,8 +1,9 @@
 //! Replies over what is published.
 
-ghost use Rattle.std.specs.Prelude.{◌≡◌, ◌<◌, ◌^◌, IfOk};
+ghost use Rattle.std.specs.Prelude.{◌≡◌, ◌<◌, ◌^◌, IfOk, Some, None};
 ghost use Rattle.std.specs.Option.{option_copied};
 ghost use Rattle.fp_group_commit.specs.Tokens.{FrontState, front_set};
+ghost use Rattle.fp_publish.specs.Fronts.{Begins};
 ghost use Rattle.fp_ofrep.specs.Reply.{reply};
 ghost use Rattle.fp_ofrep.specs.Seen.{body_seen, seen};
 
@@ -24,7 +25,7 @@ fn reply_over(
     now: u64,
 ) -> Result<Reply, NoReply>
     requires { now < 2 ^ 63 }
-    ensures { IfOk result (λ r. (front : FrontState) × (seen r
+    ensures { IfOk result (λ r. (front : FrontState) × (view ≡ Some front) × (seen r
         ≡ reply (front_set front) method.now target.now (option_copied if_none_match.entry)
         (body_seen body.entry) now)) }
 {
@@ -51,7 +52,14 @@ impl Evaluator for Reader {
         if_none_match: Option<&[u8]>,
         body: Body<'_>,
         now: u64,
-    ) -> Result<Reply, NoReply> {
+    ) -> Result<Reply, NoReply>
+        // Over no less than it took or learnt before, and then it holds nothing back.
+        ensures goes_on { Begins self.old.known self.new.known }
+        ensures over { IfOk result (λ r. seen r
+            ≡ reply (front_set self.new.known) method.now target.now
+            (option_copied if_none_match.entry) (body_seen body.entry) now) }
+        ensures rested { self.new.lent ≡ None }
+    {
         if self.enter().is_err() {
             return Err(NoReply);
         }

@@ -12,7 +12,7 @@ use Rattle.fp_world.specs.World.{IsOut, KeptFrom, WorldState, in_flight_at, is_i
 use Rattle.fp_world.specs.declared.event.Answer.TheVariants as answer
 use Rattle.fp_world.specs.declared.world.Held.{Held}
 use Rattle.fp_world.specs.declared.world.Held.TheVariants as held
-use Rattle.fp_group_commit.proofs.Moves as moves
+use Rattle.fp_group_commit.proofs.Steps as moves
 use Rattle.fp_world.proofs.Goes as goes
 use Rattle.fp_world.proofs.Keeps as keeps
 use Rattle.fp_world.proofs.Sound as sound
@@ -98,7 +98,7 @@ returns-in_default-stage g c =
       tells = tt;
       same = (refl, refl, w.same.0);
       any_moment = leaves;
-      exit = λ h1. let h0 = w.honest.1 h1 in moves.exit_has D.honest D.moment D.crash_states_since D.unsynced m.counts_now s.slots.journal.disk n.slots.journal.disk _ (leaves h0) h1;
+      exit = moves.exit_has D m.counts_now s.slots.journal.disk n.slots.journal.disk _ _ (λ o p. p) w.honest.1 (λ h0. leaves h0);
       honest = w.honest;
       called = c.in_default-stage.ensures.called;
       cause = ok.no_failure;
@@ -122,7 +122,7 @@ returns g c =
       tells = tt;
       same = (refl, refl, w.same.0);
       any_moment = leaves;
-      exit = λ h1. let h0 = w.honest.1 h1 in moves.exit_has D.honest D.moment D.crash_states_since D.unsynced m.counts_now s.slots.journal.disk n.slots.journal.disk _ (leaves h0) h1;
+      exit = moves.exit_has D m.counts_now s.slots.journal.disk n.slots.journal.disk _ _ (λ o p. p) w.honest.1 (λ h0. leaves h0);
       honest = w.honest;
       called = goes.calls_of_refusal D.faults D.calls Write f s n draw e.fault e.called;
       cause = goes.rise_of_refusal D.faults f s n draw e.fault;

@@ -4,7 +4,7 @@ use Rattle.fp_journal.specs.declared.journal.Phase.TheVariants.{Idle, Staged, Bo
 use Rattle.fp_world.specs.Machine.{Advances, IsAt, batch_staged, body_synced}
 use Rattle.fp_world.specs.World.{WorldState, in_flight_at, is_in_flight, machine, progress_of}
 use Rattle.fp_world.specs.declared.event.Answer.TheVariants as answer
-use Rattle.fp_group_commit.proofs.Moves as moves
+use Rattle.fp_group_commit.proofs.Steps as moves
 use Rattle.fp_world.proofs.Goes as goes
 use Rattle.fp_world.proofs.Keeps as keeps
 use Rattle.fp_world.proofs.Sound as sound
@@ -66,7 +66,7 @@ returns-in_default-sync_body g c =
       tells = tt;
       same = (refl, refl, w.same.0);
       any_moment = λ h0. keeps.kept_leaves D.honest D.moment D.crash_states_since D.unsynced i n.slots.journal.disk (w.any_moment h0);
-      exit = λ h1. let h0 = w.honest.1 h1 in moves.exit_has D.honest D.moment D.crash_states_since D.unsynced m.counts_now s.slots.journal.disk n.slots.journal.disk _ (keeps.kept_leaves D.honest D.moment D.crash_states_since D.unsynced i n.slots.journal.disk (w.any_moment h0)) h1;
+      exit = moves.exit_has D m.counts_now s.slots.journal.disk n.slots.journal.disk _ _ (λ o p. p) w.honest.1 (λ h0. keeps.kept_leaves D.honest D.moment D.crash_states_since D.unsynced i n.slots.journal.disk (w.any_moment h0));
       honest = w.honest;
       called = c.in_default-sync_body.ensures.called;
       cause = (let moved = c.in_default-sync_body.ensures.ok in moved.no_failure);
@@ -85,7 +85,7 @@ returns g c =
       tells = tt;
       same = (refl, refl, w.same.0);
       any_moment = λ h0. keeps.kept_leaves D.honest D.moment D.crash_states_since D.unsynced i n.slots.journal.disk (w.any_moment h0);
-      exit = λ h1. let h0 = w.honest.1 h1 in moves.exit_has D.honest D.moment D.crash_states_since D.unsynced m.counts_now s.slots.journal.disk n.slots.journal.disk _ (keeps.kept_leaves D.honest D.moment D.crash_states_since D.unsynced i n.slots.journal.disk (w.any_moment h0)) h1;
+      exit = moves.exit_has D m.counts_now s.slots.journal.disk n.slots.journal.disk _ _ (λ o p. p) w.honest.1 (λ h0. keeps.kept_leaves D.honest D.moment D.crash_states_since D.unsynced i n.slots.journal.disk (w.any_moment h0));
       honest = w.honest;
       called = goes.calls_of_fail D.faults D.calls Sync c.in-Err.fault s n c.in-Err.ensures.fault c.in-Err.ensures.called;
       cause = goes.rise_of_fail D.faults c.in-Err.fault s n c.in-Err.ensures.fault;

@@ -9,7 +9,7 @@ use Rattle.fp_disk.specs.Outcomes.{LeavesOnly}
 use Rattle.fp_world.specs.World.{KeptFrom, WorldState, in_flight_at, is_in_flight, machine, progress_of}
 use Rattle.fp_world.specs.declared.event.Answer.TheVariants as answer
 use Rattle.fp_world.specs.declared.world.Held.TheVariants as held
-use Rattle.fp_group_commit.proofs.Moves as moves
+use Rattle.fp_group_commit.proofs.Steps as moves
 use Rattle.fp_world.proofs.Goes as goes
 use Rattle.fp_world.proofs.Keeps as keeps
 use Rattle.fp_world.proofs.Sound as sound
@@ -77,7 +77,7 @@ returns-in-Ok g c =
       tells = tt;
       same = (refl, refl, k.store);
       any_moment = leaves;
-      exit = λ h1. let h0 = w.honest.1 h1 in moves.exit_has D.honest D.moment D.crash_states_since D.unsynced m.counts_now s.slots.journal.disk n.slots.journal.disk _ (leaves h0) h1;
+      exit = moves.exit_has D m.counts_now s.slots.journal.disk n.slots.journal.disk _ _ (λ o p. p) w.honest.1 (λ h0. leaves h0);
       honest = w.honest;
       called = k.called;
       cause = ok.no_failure;
@@ -97,7 +97,7 @@ returns-in-Err g c =
       tells = tt;
       same = (refl, refl, e.err.0);
       any_moment = leaves;
-      exit = λ h1. let h0 = w.honest.1 h1 in moves.exit_has D.honest D.moment D.crash_states_since D.unsynced m.counts_now s.slots.journal.disk n.slots.journal.disk _ (leaves h0) h1;
+      exit = moves.exit_has D m.counts_now s.slots.journal.disk n.slots.journal.disk _ _ (λ o p. p) w.honest.1 (λ h0. leaves h0);
       honest = w.honest;
       called = goes.calls_of_fail D.faults D.calls Sync f s n e.fault e.called;
       cause = goes.rise_of_fail D.faults f s n e.fault;
