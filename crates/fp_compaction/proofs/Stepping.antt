@@ -65,8 +65,10 @@ module _ {D : Type 0} (disk : Ghosts D) (slots : SlotsState D) where
     where
       head : Holds c 0 k.1.header
       head = firm_outcome (disk.unsynced slots.journal.disk) 0 k.1.header c k.1.firm out
+
       keeps : Keeps slots c → LeavesSet slots.journal s t c
       keeps left = keeps_stands (disk.unsynced slots.journal.disk) slots size k.0 s k.1 t taken c head left
+
       at : (q : Step) → (IsLate q → IsPlannedFor slots size s) → Leaves q slots c → LeavesSet slots.journal s t c
       at Begin late left = keeps left
       at Close late left = keeps left
@@ -95,7 +97,7 @@ module _ {D : Type 0} (disk : Ghosts D) (slots : SlotsState D) where
   reads_next present p is now reads early = λ h opened size s t k leads.
       let c : List ℕ = disk.bytes slots.journal.disk in let out = present slots.journal.disk h in
       opened_stands (disk.unsynced slots.journal.disk) slots size k.0 s k.1 t leads c (firm_outcome (disk.unsynced slots.journal.disk) 0 k.1.header c k.1.firm out)
-          (rules_at p (subst (λ (q : Step). IsEarly q) (sym is) early) c (now h c out)) (reads h opened)
+      (rules_at p (subst (λ (q : Step). IsEarly q) (sym is) early) c (now h c out)) (reads h opened)
 
   -- where none runs
   chain_at : (b : Bool) → b ≡ false → (c : List ℕ) → HasAmong b slots.journal.slot slots.journal.front slots.journal.sealed slots.journal.staged c → HasChain slots.journal.slot slots.journal.front slots.journal.sealed c
@@ -106,4 +108,4 @@ module _ {D : Type 0} (disk : Ghosts D) (slots : SlotsState D) where
   full_now p is now = λ h begins begun size s k n none c out.
       let keeps = begins_now slots p (is ∙ begins) c (now h c out) in
       sealed_full (disk.unsynced slots.journal.disk) slots size k.0 s k.1 n none c (firm_outcome (disk.unsynced slots.journal.disk) 0 k.1.header c k.1.firm out) keeps.0
-          (chain_at (has_begun slots.journal.phase slots.journal.begun) begun c keeps.1)
+      (chain_at (has_begun slots.journal.phase slots.journal.begun) begun c keeps.1)

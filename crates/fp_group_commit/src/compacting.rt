@@ -21,11 +21,7 @@ use std::alloc::AllocError;
 use std::collections::VecDeque;
 
 // Takes into the set what is ahead of it. Where a batch is on its way nothing is.
-fn catch_up(
-    step: Phase,
-    set: &mut FlagSet,
-    ahead: &mut VecDeque<Edit>,
-) -> Result<(), AllocError>
+fn catch_up(step: Phase, set: &mut FlagSet, ahead: &mut VecDeque<Edit>) -> Result<(), AllocError>
     requires follows { Follows set.old (changes_of ahead.old.items) }
     ensures same { after_all set.new (changes_of ahead.new.items)
         ≡ after_all set.old (changes_of ahead.old.items) }

@@ -25,7 +25,6 @@ front_kept d xs rest low c is le stands =
     let len = ap length is in let more = length-append xs rest in
     (r + length xs, le, omega (arith, len, more), subst (λ (l : List Change). StandsFor c (after_all d.store.start l)) (sym cut) stands)
 
-
 -- what is sealed begins the log, and so does it with the batch in flight
 abbrev Begins : List Change → DeskState → Type 0
 Begins xs d = (rest : List Change) × (log d ≡ xs ++ rest) × (length d.settled ≤ length xs)
