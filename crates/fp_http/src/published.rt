@@ -25,7 +25,10 @@ fn reply_over(
     now: u64,
 ) -> Result<Reply, NoReply>
     requires { now < 2 ^ 63 }
-    ensures { IfOk result (λ r. (front : FrontState) × (view ≡ Some front) × (seen r
+    ensures said { IfOk result (λ r. (front : FrontState) × (seen r
+        ≡ reply (front_set front) method.now target.now (option_copied if_none_match.entry)
+        (body_seen body.entry) now)) }
+    ensures over { IfOk result (λ r. (front : FrontState) × (view.entry ≡ Some front) × (seen r
         ≡ reply (front_set front) method.now target.now (option_copied if_none_match.entry)
         (body_seen body.entry) now)) }
 {
@@ -53,6 +56,10 @@ impl Evaluator for Reader {
         body: Body<'_>,
         now: u64,
     ) -> Result<Reply, NoReply>
+        requires { now < 2 ^ 63 }
+        ensures replies { IfOk result (λ r. (front : FrontState) × (seen r
+            ≡ reply (front_set front) method.now target.now (option_copied if_none_match.entry)
+            (body_seen body.entry) now)) }
         // Over no less than it took or learnt before, and then it holds nothing back.
         ensures goes_on { Begins self.old.known self.new.known }
         ensures over { IfOk result (λ r. seen r
