@@ -206,12 +206,7 @@ fn put_length(frame: &Frame, out: &mut String) -> Result<(), AllocError> {
 }
 
 // What a subscriber is shown of the bytes, a long text by its length, and how that ended.
-fn watched(
-    alloc: Global,
-    hello: Hello,
-    bytes: &[u8],
-    out: &mut String,
-) -> Result<(), AllocError> {
+fn watched(alloc: Global, hello: Hello, bytes: &[u8], out: &mut String) -> Result<(), AllocError> {
     let mut reader = FailureCounted::new(bytes);
     let mut writer = FailureCounted::new(Vec::new(alloc));
     let ended = watch_loop(alloc, &mut reader, &mut writer, hello);
