@@ -143,6 +143,10 @@ impl<D: Disk> Store<D> {
             → HasNoRoom self.now.slots.journal (batch_len draw.now)
             → EachCrash D.Disk self.now.slots.journal.disk
             (λ c. IsFullFor c (kept self.now) (batch_len draw.now)) }
+
+        // A quarter of a slot is half of what a set may take.
+        ensures quarter { (self.now.slots.other.stop - self.now.slots.other.start) / 4
+            ≡ self.now.store.start.limit / 2 }
     {
         // What the slots' outcomes are is known only where it is asked.
         let _ = phase(&self.slots);

@@ -1,21 +1,24 @@
 -- A world as the plain commits_of, from call to call.
-use Rattle.std.proofs.Common.{◌≡◌, ◌≢◌, ◌⊎◌, ◌<◌, ◌≤◌, ◌+◌, ℕ, Bool, true, false, List, [], ◌∷◌, ◌++◌, length, refl, sym, ap, subst, ◌∙◌, inl, inr, arith, length-append}
+use Rattle.std.proofs.Common.{◌≡◌, ◌≢◌, ◌⊎◌, ◌<◌, ◌≤◌, ◌+◌, ◌-◌, ◌/◌, ℕ, Bool, true, false, List, [], ◌∷◌, ◌++◌, length, refl, sym, ap, subst, ◌∙◌, inl, inr, arith, length-append}
 use Rattle.fp_disk.specs.History.{MakesSome}
 use Rattle.fp_disk.specs.declared.history.CallKind.{CallKind}
+use Rattle.fp_disk.specs.declared.history.CallKind.TheVariants.{Sync, Write}
+use Rattle.std.proofs.lemmas.List.{append-nil}
+use Rattle.fp_compaction.specs.Steps.{calls_of}
 use Rattle.fp_edit.specs.Edits.{Change, Proposal}
-use Rattle.fp_edit.specs.Flags.{State}
+use Rattle.fp_edit.specs.Flags.{State, size}
 use Rattle.fp_journal.specs.State.{room}
 use Rattle.fp_journal.specs.declared.journal.Phase.{Phase}
 use Rattle.fp_journal.specs.declared.journal.Phase.TheVariants.{Idle, Staged, BodySynced, GateOpened, Failed}
 use Rattle.fp_record.specs.Group.{Group}
-use Rattle.fp_group_commit.specs.Calls.{Breaks, FailsBy, MovesTo, RefusesBy, SameRoom, TakesRoom}
+use Rattle.fp_group_commit.specs.Calls.{Breaks, Compacts, FailsBy, MovesTo, RefusesBy, SamePlace, SameRoom, StopsBy, TakesRoom}
 use Rattle.fp_group_commit.specs.Changes.{HasRoom, batch_len}
-use Rattle.fp_slots.specs.State.{HasBegun, IsEarly}
 use Rattle.fp_slots.specs.declared.slots.Step.{Step}
-use Rattle.fp_slots.specs.declared.slots.Step.TheVariants.{Begin}
+use Rattle.fp_slots.specs.declared.slots.Step.TheVariants.{Begin, Close, SyncClose, Part, Tail, SyncBody, Open, SyncOpen}
+use Rattle.fp_compaction.specs.Batches.{tail_of}
 use Rattle.std.specs.Prelude.{if◌then◌else◌, IsTrue, ◌↔◌}
 use Rattle.fp_edit.specs.Log.{after_all}
-use Rattle.fp_group_commit.specs.Store.{StoreState, coming, is_failed, kept, reached, reached_at}
+use Rattle.fp_group_commit.specs.Store.{MayCompact, StoreState, coming, is_failed, kept, reached, reached_at}
 use Rattle.fp_group_commit.specs.Tokens.{Identity, ReceiptState}
 use Rattle.fp_group_commit.specs.declared.fault.StoreFault.{StoreFault}
 use Rattle.fp_group_commit.specs.declared.fault.StoreFault.TheVariants as fault
@@ -28,22 +31,24 @@ use Rattle.fp_layout.specs.declared.fault.OpenFault.TheVariants as opening
 use Rattle.fp_recovery.specs.Refusals.{IsUnlessWanting}
 use Rattle.fp_recovery.specs.Stands.{StandsFor}
 use Rattle.fp_world.specs.declared.event.Answer.{Answer}
+use Rattle.fp_world.specs.declared.event.Event.TheVariants as event
 use Rattle.fp_world.specs.declared.event.Answer.TheVariants as answer
 use Rattle.fp_world.specs.declared.committer.Held.{Held}
 use Rattle.fp_world.specs.declared.committer.Held.TheVariants as held
-use Rattle.fp_world.specs.Commits.{Advances, CanStage, IsAt, Commits, Progress, Seals, Stages, Submits, is_read, opened_set, told_after}
+use Rattle.fp_world.specs.Commits.{Advances, CanStage, Commits, Compaction, IsAt, MayStep, Progress, Seals, Stages, StepsOn, Submits, is_flying, is_read, is_sealed, opened_set, sealed_edits, told_after}
 use Rattle.fp_world.specs.Commits.{nothing_drawn, batch_drawn, batch_staged, body_synced, gate_opened, batch_sealed}
-use Rattle.fp_world.specs.Committer.{IsOut, MakesOne, RisesFor, in_flight_at, is_in_flight, progress_of}
+use Rattle.fp_world.specs.Committer.{IsOut, MakesItsCall, MakesNoMore, MakesOne, RisesFor, compaction_of, in_flight_at, is_in_flight, progress_of}
 
 -- machines are the same by their parts
-pub machine_is : (a b : Commits) → a.desk ≡ b.desk → a.progress ≡ b.progress → a.failed ≡ b.failed → a.most ≡ b.most → a.room ≡ b.room → a.told ≡ b.told → a ≡ b
-machine_is a b desk progress failed most left told =
+pub machine_is : (a b : Commits) → a.desk ≡ b.desk → a.progress ≡ b.progress → a.failed ≡ b.failed → a.most ≡ b.most → a.room ≡ b.room → a.told ≡ b.told → a.compaction ≡ b.compaction → a ≡ b
+machine_is a b desk progress failed most left told compaction =
     ap (λ (x : DeskState). record a { desk = x }) desk
-    ∙ ap (λ (x : Progress). record b { progress = x; failed = a.failed; most = a.most; room = a.room; told = a.told }) progress
-    ∙ ap (λ (x : Bool). record b { failed = x; most = a.most; room = a.room; told = a.told }) failed
-    ∙ ap (λ (x : ℕ). record b { most = x; room = a.room; told = a.told }) most
-    ∙ ap (λ (x : ℕ). record b { room = x; told = a.told }) left
-    ∙ ap (λ (x : ℕ). record b { told = x }) told
+    ∙ ap (λ (x : Progress). record b { progress = x; failed = a.failed; most = a.most; room = a.room; told = a.told; compaction = a.compaction }) progress
+    ∙ ap (λ (x : Bool). record b { failed = x; most = a.most; room = a.room; told = a.told; compaction = a.compaction }) failed
+    ∙ ap (λ (x : ℕ). record b { most = x; room = a.room; told = a.told; compaction = a.compaction }) most
+    ∙ ap (λ (x : ℕ). record b { room = x; told = a.told; compaction = a.compaction }) left
+    ∙ ap (λ (x : ℕ). record b { told = x; compaction = a.compaction }) told
+    ∙ ap (λ (x : Compaction). record b { compaction = x }) compaction
 
 pub is_well : (p : Phase) → p ≢ Failed → is_failed p ≡ false
 is_well Idle never = refl
@@ -61,7 +66,16 @@ At h s d told = record {
   most = s.slots.journal.slot.most;
   room = room s.slots.journal;
   told = told;
+  compaction = compaction_of s;
 }
+
+-- a compaction is where it was
+pub compaction_is : {D : Type 0} (s n : StoreState D) → SamePlace s n → compaction_of n ≡ compaction_of s
+compaction_is s n same =
+    ap (λ (x : Step). record { next = x; left = n.slots.left; tail = tail_of n.slots; generation = n.slots.generation }) same.0.0
+    ∙ ap (λ (x : ℕ). record { next = s.slots.step; left = x; tail = tail_of n.slots; generation = n.slots.generation }) same.0.1
+    ∙ ap (λ (x : ℕ). record { next = s.slots.step; left = s.slots.left; tail = x; generation = n.slots.generation }) same.1
+    ∙ ap (λ (x : ℕ). record { next = s.slots.step; left = s.slots.left; tail = tail_of s.slots; generation = x }) same.0.3
 
 -- ---- where the drawn edits are
 pub some_in : (xs : List Change) → xs ≢ [] → 0 < length xs
@@ -118,11 +132,11 @@ module _ {D : Type 0} (faults : D → ℕ) (May : Commits → Type 0) (to : Prog
   pub done : (h h2 : Held) (s n : StoreState D) (d : DeskState) (told : ℕ) (phase : Phase) → MovesTo faults phase s n → SameRoom s n → May (At h s d told) → progress_of h2 n.step ≡ to → Advances May to (At h s d told) answer.Done (At h2 n d told)
   done h h2 s n d told phase moves same may is =
       let well = is_well s.slots.journal.phase moves.well_before in
-      (well, may, machine_is (At h2 n d told) (record (At h s d told) { progress = to }) refl is (is_well n.slots.journal.phase moves.well_now ∙ sym well) same.0 same.1 refl)
+      (well, may, machine_is (At h2 n d told) (record (At h s d told) { progress = to }) refl is (is_well n.slots.journal.phase moves.well_now ∙ sym well) same.0 same.1 refl (compaction_is s n same.2))
 
   pub broke : (h h2 : Held) (s n : StoreState D) (d : DeskState) (told : ℕ) → Breaks faults s n → May (At h s d told) → progress_of h2 n.step ≡ progress_of h s.step → Advances May to (At h s d told) (answer.Fault fault.Device) (At h2 n d told)
   broke h h2 s n d told b may is =
-      (is_well s.slots.journal.phase b.well_before, may, machine_is (At h2 n d told) (record (At h s d told) { failed = true }) refl is (ap is_failed b.failed) b.room.0 b.room.1 refl)
+      (is_well s.slots.journal.phase b.well_before, may, machine_is (At h2 n d told) (record (At h s d told) { failed = true }) refl is (ap is_failed b.failed) b.room.0 b.room.1 refl (compaction_is s n b.room.2))
 
   pub fails : (e : StoreFault) (h : Held) (s n : StoreState D) (d : DeskState) (told : ℕ) → FailsBy faults s n e → n.step ≡ s.step → May (At h s d told) → Advances May to (At h s d told) (answer.Fault e) (At h n d told)
   fails fault.Device h s n d told b step may = broke h h s n d told b may (ap (λ (p : Phase). progress_of h p) step)
@@ -157,17 +171,23 @@ module _ {D : Type 0} (faults : D → ℕ) where
   rise_of_refusal fault.Stranger s n group b = ap (λ (x : StoreState D). faults x.slots.journal.disk) b.1
 
 -- ---- the drawn edits are written
-pub can_stage : {D : Type 0} (group : Group) (s : StoreState D) (d : DeskState) (told : ℕ) → group.changes ≡ d.drawn → HasRoom s.slots group → CanStage (At (held.Drawn group) s d told)
-can_stage group s d told is r =
+abbrev pub Quarter : {D : Type 0} → StoreState D → DeskState → Type 0
+Quarter s d = (s.slots.other.stop - s.slots.other.start) / 4 ≡ d.store.start.limit / 2
+
+pub quarter_of : {D : Type 0} (s : StoreState D) (d : DeskState) → d.store ≡ s.store → (s.slots.other.stop - s.slots.other.start) / 4 ≡ s.store.start.limit / 2 → Quarter s d
+quarter_of s d same q = q ∙ ap (λ (x : Identity). x.start.limit / 2) (sym same)
+
+pub can_stage : {D : Type 0} (group : Group) (s : StoreState D) (d : DeskState) (told : ℕ) → Quarter s d → group.changes ≡ d.drawn → HasRoom s.slots group → CanStage (At (held.Drawn group) s d told)
+can_stage group s d told quarter is r =
     let len = ap length is in let bytes = ap (λ (l : List Change). batch_len (record { first = 0; changes = l })) is in
     let few = r.few in let short = r.room.short in let left = r.room.fits in
-    record { drawn = refl; few = omega (arith, len, few); short = omega (arith, bytes, short); room = omega (arith, bytes, left) }
+    record { drawn = refl; few = omega (arith, len, few); short = omega (arith, bytes, short); room = omega (arith, bytes, left); early = r.room.early; tail = λ runs. let tail = r.room.tail runs in omega (arith, bytes, tail, quarter) }
 
-pub cannot_stage : {D : Type 0} (group : Group) (s : StoreState D) (d : DeskState) (told : ℕ) → s.slots.step ≡ Begin → group.changes ≡ d.drawn → d.drawn ≢ [] → (HasRoom s.slots group → ⊥) → CanStage (At (held.Drawn group) s d told) → ⊥
-cannot_stage group s d told begins is some never can =
+pub cannot_stage : {D : Type 0} (group : Group) (s : StoreState D) (d : DeskState) (told : ℕ) → Quarter s d → group.changes ≡ d.drawn → d.drawn ≢ [] → (HasRoom s.slots group → ⊥) → CanStage (At (held.Drawn group) s d told) → ⊥
+cannot_stage group s d told quarter is some never can =
     let len = ap length is in let bytes = ap (λ (l : List Change). batch_len (record { first = 0; changes = l })) is in
     let any = some_in d.drawn some in let few = can.few in let short = can.short in let left = can.room in
-    never (record { some = omega (arith, len, any); few = omega (arith, len, few); room = record { short = omega (arith, bytes, short); fits = omega (arith, bytes, left); early = subst (λ (x : Step). IsEarly x) (sym begins) tt; tail = λ runs. absurd (subst (λ (x : Step). HasBegun x) begins runs) } })
+    never (record { some = omega (arith, len, any); few = omega (arith, len, few); room = record { short = omega (arith, bytes, short); fits = omega (arith, bytes, left); early = can.early; tail = λ runs. let tail = can.tail runs in omega (arith, bytes, tail, quarter) } })
 
 not_in_flight : (p : Phase) → in_flight_at p ≡ batch_drawn → ⊥
 not_in_flight Idle e = absurd cc
@@ -200,7 +220,11 @@ seals faults h r s n d told revision same moves takes store settled drawn all po
       point,
       omega (arith, is, start, start', len, both, a, b),
       omega (arith, bytes, left),
-      machine_is (At (held.Sealed r) n d told) (record (At h s d told) { progress = batch_sealed; room = room n.slots.journal }) refl refl (is_well n.slots.journal.phase moves.well_now ∙ sym well) takes.0 refl refl,
+      ((λ grows. let tail = takes.3 grows in omega (arith, bytes, tail)), takes.4),
+      machine_is (At (held.Sealed r) n d told) (record (At h s d told) { progress = batch_sealed; room = room n.slots.journal; compaction = record (compaction_of s) { tail = tail_of n.slots } }) refl refl (is_well n.slots.journal.phase moves.well_now ∙ sym well) takes.0 refl refl
+      (ap (λ (x : Step). record { next = x; left = n.slots.left; tail = tail_of n.slots; generation = n.slots.generation }) takes.2.0
+      ∙ ap (λ (x : ℕ). record { next = s.slots.step; left = x; tail = tail_of n.slots; generation = n.slots.generation }) takes.2.1
+      ∙ ap (λ (x : ℕ). record { next = s.slots.step; left = s.slots.left; tail = tail_of n.slots; generation = x }) takes.2.3),
     )
 
 pub seal_fails : {D : Type 0} (faults : D → ℕ) (e : StoreFault) (h : Held) (s n : StoreState D) (d : DeskState) (told : ℕ) → FailsBy faults s n e → n.step ≡ s.step → progress_of h s.step ≡ gate_opened → Seals (At h s d told) (answer.Fault e) (At h n d told)
@@ -284,13 +308,6 @@ wanting c t (opening.Damaged at) stands none = absurd (none t stands)
 wanting c t opening.Device stands none = inl refl
 wanting c t opening.Memory stands none = inr refl
 
--- a call that wasn't done leaves a compaction where it is
-pub fails_course : {D : Type 0} (faults : D → ℕ) (e : StoreFault) (s n : StoreState D) → FailsBy faults s n e → n.slots.step ≡ s.slots.step
-fails_course faults fault.Device s n b = b.room.2.0.0
-fails_course faults fault.Failed s n b = ap (λ (x : StoreState _). x.slots.step) b.1
-fails_course faults fault.Memory s n b = absurd b
-fails_course faults fault.Stranger s n b = absurd b
-
 -- what is told never falls
 pub told_rises : (told : ℕ) (a : Answer) → told ≤ told_after told a
 told_rises told answer.NotNow = omega arith
@@ -304,7 +321,121 @@ told_rises told (answer.Sealed n) = omega arith
 told_rises told (answer.Settled n) = omega arith
 told_rises told (answer.Acked n) = omega arith
 told_rises told answer.Waiting = omega arith
+told_rises told (answer.Phase n) = omega arith
 told_rises told (answer.Published n) = omega arith
 told_rises told (answer.Handed h) = omega arith
 told_rises told answer.Nothing = omega arith
 told_rises told (answer.Reply n r) = omega arith
+
+-- ---- a compaction
+flying : (p : Phase) → is_in_flight p ≡ true → is_flying (in_flight_at p) ≡ true
+flying Idle air = absurd cc
+flying Staged air = refl
+flying BodySynced air = refl
+flying GateOpened air = refl
+flying Failed air = absurd cc
+
+idle_air : (p : Phase) → is_in_flight p ≡ true → p ≢ Idle
+idle_air p air e = let both : true ≡ false = sym air ∙ ap is_in_flight e in absurd cc
+
+-- no batch is in flight exactly where the store has none
+pub still_now : {D : Type 0} (s : StoreState D) (d : DeskState) (h : Held) → IsOut h s d → s.step ≡ Idle → is_flying (progress_of h s.step) ≡ false
+still_now s d held.Nothing o idle = refl
+still_now s d (held.Drawn group) o idle = refl
+still_now s d held.InFlight o idle = absurd (idle_air s.step o.0 idle)
+still_now s d (held.Sealed receipt) o idle = refl
+
+pub still_then : {D : Type 0} (s : StoreState D) (d : DeskState) (h : Held) → IsOut h s d → is_flying (progress_of h s.step) ≡ false → s.step ≡ Idle
+still_then s d held.Nothing o still = o.0
+still_then s d (held.Drawn group) o still = o.0
+still_then s d held.InFlight o still = let both : true ≡ false = sym (flying s.step o.0) ∙ still in absurd cc
+still_then s d (held.Sealed receipt) o still = o.0
+
+pub may_step : {D : Type 0} (h : Held) (s : StoreState D) (d : DeskState) (told : ℕ) → IsOut h s d → MayCompact s → MayStep (At h s d told)
+may_step h s d told o may = (may.next, λ at. still_now s d h o (may.still at))
+
+pub may_compact : {D : Type 0} (h : Held) (s : StoreState D) (d : DeskState) (told : ℕ) → IsOut h s d → MayStep (At h s d told) → MayCompact s
+may_compact h s d told o may = record { next = may.0; still = λ at. still_then s d h o (may.1 at) }
+
+air_not_sealed_yet : (p : Phase) → is_sealed (in_flight_at p) ≡ false
+air_not_sealed_yet Idle = refl
+air_not_sealed_yet Staged = refl
+air_not_sealed_yet BodySynced = refl
+air_not_sealed_yet GateOpened = refl
+air_not_sealed_yet Failed = refl
+
+-- what the store keeps is what the machine says is sealed
+pub kept_is : {D : Type 0} (h : Held) (s : StoreState D) (d : DeskState) (told : ℕ) → d.store ≡ s.store → IsOut h s d → kept s ≡ after_all d.store.start (sealed_edits (At h s d told))
+kept_is held.Nothing s d told same o = sealed_is s d d.settled same o.1
+kept_is (held.Drawn group) s d told same o = sealed_is s d d.settled same o.1
+kept_is held.InFlight s d told same o = sealed_is s d d.settled same o.1 ∙ ap (λ (b : Bool). after_all d.store.start (if b then d.settled ++ d.drawn else d.settled)) (sym (air_not_sealed_yet s.step))
+kept_is (held.Sealed receipt) s d told same o = sealed_is s d (d.settled ++ d.drawn) same o.1
+
+pub compacts : {D : Type 0} (faults : D → ℕ) (h : Held) (s n : StoreState D) (d : DeskState) (told : ℕ) (next : Step) → d.store ≡ s.store → IsOut h s d → MayCompact s → Compacts faults s n → n.step ≡ s.step → next ≡ n.slots.step → StepsOn (At h s d told) (answer.Phase next) (At h n d told)
+compacts faults h s n d told next same o may c step is =
+    let well = is_well s.slots.journal.phase c.well_before in (
+      well,
+      may_step h s d told o may,
+      record {
+        next = c.next;
+        begun = λ at. (let plans = c.begun at in let left = plans.left in let head = plans.head in let image = ap (λ (t : State). size t.flags) (kept_is h s d told same o) in (omega (arith, left, head, image), plans.tail));
+        left = c.left;
+        tail = c.tail_stays;
+        stays = λ on. ((c.slots_stay on).1, c.room_stays on);
+        turns = λ at. (c.slots_turn at).1;
+        rest = machine_is (At h n d told) (record (At h s d told) { room = room n.slots.journal; compaction = compaction_of n }) refl (ap (λ (p : Phase). progress_of h p) step) (is_well n.slots.journal.phase c.well_now ∙ sym well) c.most refl refl refl;
+      },
+      is,
+    )
+
+pub stops : {D : Type 0} (faults : D → ℕ) (e : StoreFault) (h : Held) (s n : StoreState D) (d : DeskState) (told : ℕ) → IsOut h s d → MayCompact s → StopsBy faults s n e → StepsOn (At h s d told) (answer.Fault e) (At h n d told)
+stops faults fault.Device h s n d told o may b =
+    (is_well s.slots.journal.phase b.well_before, may_step h s d told o may, machine_is (At h n d told) (record (At h s d told) { failed = true }) refl (ap (λ (p : Phase). progress_of h p) b.step) (ap is_failed b.failed) b.room.0 b.room.1 refl (compaction_is s n b.room.2))
+stops faults fault.Failed h s n d told o may b = (ap is_failed b.0, ap (λ (x : StoreState _). At h x d told) b.1)
+stops faults fault.Memory h s n d told o may b = (is_well s.slots.journal.phase b.0, may_step h s d told o may, ap (λ (x : StoreState _). At h x d told) b.1)
+stops faults fault.Stranger h s n d told o may b = absurd b
+
+-- its calls
+none_or_one : (next : Step) (may_open : Bool) (old new : List CallKind) → new ≡ old ++ calls_of next may_open → MakesNoMore old new
+none_or_one Begin b old new is = inl (is ∙ append-nil old)
+none_or_one Close true old new is = inr (Write, is)
+none_or_one Close false old new is = inl (is ∙ append-nil old)
+none_or_one SyncClose b old new is = inr (Sync, is)
+none_or_one Part b old new is = inr (Write, is)
+none_or_one Tail b old new is = inr (Write, is)
+none_or_one SyncBody b old new is = inr (Sync, is)
+none_or_one Open b old new is = inr (Write, is)
+none_or_one SyncOpen b old new is = inr (Sync, is)
+
+some_or_one : (next : Step) (may_open : Bool) (old new : List CallKind) → MakesSome (calls_of next may_open) old new → MakesNoMore old new
+some_or_one Begin b old new s = inl s
+some_or_one Close false old new s = inl s
+some_or_one Close true old new (inl s) = inl s
+some_or_one Close true old new (inr s) = inr (Write, s)
+some_or_one SyncClose b old new (inl s) = inl s
+some_or_one SyncClose b old new (inr s) = inr (Sync, s)
+some_or_one Part b old new (inl s) = inl s
+some_or_one Part b old new (inr s) = inr (Write, s)
+some_or_one Tail b old new (inl s) = inl s
+some_or_one Tail b old new (inr s) = inr (Write, s)
+some_or_one SyncBody b old new (inl s) = inl s
+some_or_one SyncBody b old new (inr s) = inr (Sync, s)
+some_or_one Open b old new (inl s) = inl s
+some_or_one Open b old new (inr s) = inr (Write, s)
+some_or_one SyncOpen b old new (inl s) = inl s
+some_or_one SyncOpen b old new (inr s) = inr (Sync, s)
+
+pub calls_of_step : (next : Step) (may_open : Bool) (p : Step) (old new : List CallKind) → new ≡ old ++ calls_of next may_open → MakesItsCall event.Compact (answer.Phase p) old new
+calls_of_step next may_open p old new is = none_or_one next may_open old new is
+
+pub calls_of_stop : {D : Type 0} (faults : D → ℕ) (calls : D → List CallKind) (e : StoreFault) (s n : StoreState D) → StopsBy faults s n e → MakesSome (calls_of s.slots.step s.slots.may_open) (calls s.slots.journal.disk) (calls n.slots.journal.disk) → MakesItsCall event.Compact (answer.Fault e) (calls s.slots.journal.disk) (calls n.slots.journal.disk)
+calls_of_stop faults calls fault.Device s n b made = some_or_one s.slots.step s.slots.may_open (calls s.slots.journal.disk) (calls n.slots.journal.disk) made
+calls_of_stop faults calls fault.Failed s n b made = ap (λ (x : StoreState _). calls x.slots.journal.disk) b.1
+calls_of_stop faults calls fault.Memory s n b made = ap (λ (x : StoreState _). calls x.slots.journal.disk) b.1
+calls_of_stop faults calls fault.Stranger s n b made = absurd b
+
+pub rise_of_stop : {D : Type 0} (faults : D → ℕ) (e : StoreFault) (s n : StoreState D) → StopsBy faults s n e → RisesFor (answer.Fault e) (faults s.slots.journal.disk) (faults n.slots.journal.disk)
+rise_of_stop faults fault.Device s n b = b.cause
+rise_of_stop faults fault.Failed s n b = ap (λ (x : StoreState _). faults x.slots.journal.disk) b.1
+rise_of_stop faults fault.Memory s n b = ap (λ (x : StoreState _). faults x.slots.journal.disk) b.1
+rise_of_stop faults fault.Stranger s n b = absurd b

@@ -44,6 +44,13 @@ out_moved s n d (held.Drawn group) o busy sealed staged air = absurd (busy o.0)
 out_moved s n d held.InFlight o busy sealed staged air = (air, sealed ∙ o.1, staged ∙ o.2, o.3)
 out_moved s n d (held.Sealed receipt) o busy sealed staged air = absurd (busy o.0)
 
+-- a call that leaves the batch and what is sealed
+pub out_still : {D : Type 0} (s n : StoreState D) (d : DeskState) (h : Held) → IsOut h s d → n.step ≡ s.step → n.store ≡ s.store → n.sealed ≡ s.sealed → n.staged ≡ s.staged → IsOut h n d
+out_still s n d held.Nothing o step store sealed staged = (step ∙ o.0, sealed ∙ o.1, o.2)
+out_still s n d (held.Drawn group) o step store sealed staged = (step ∙ o.0, sealed ∙ o.1, o.2, o.3, o.4)
+out_still s n d held.InFlight o step store sealed staged = (ap is_in_flight step ∙ o.0, sealed ∙ o.1, staged ∙ o.2, o.3)
+out_still s n d (held.Sealed receipt) o step store sealed staged = (step ∙ o.0, sealed ∙ o.1, o.2 ∙ sym store, o.3, o.4, o.5)
+
 module _ {D : Type 0} (honest : D → Type 0) (unsynced : D → PendingState) {h : Held} {ts : List TicketState} {start : ℕ} {s : StoreState D} {d : DeskState} {told : ℕ} (w : IsCommitter honest unsynced h ts start s d told) where
   -- the desk has an edit more, with its ticket
   pub submitted : (n : DeskState) (c : Change) (t : TicketState) → n ≡ record d { waiting = d.waiting ++ c ∷ [] } → t.revision ≡ n.store.start.revision + length (log n) → (ts2 : List TicketState) → ts2 ≡ ts ++ t ∷ [] → IsCommitter honest unsynced h ts2 start s n told
@@ -57,7 +64,6 @@ module _ {D : Type 0} (honest : D → Type 0) (unsynced : D → PendingState) {h
         out = subst (λ (x : DeskState). IsOut h s x) (sym is) (out_waiting s d h (d.waiting ++ c ∷ []) w.out);
         low = omega (arith, settled, low);
         now = w.now;
-        none_runs = w.none_runs;
         open_desk = ap (λ (x : DeskState). x.stopped) is ∙ w.open_desk;
         start_is = omega (arith, begun, same);
         numbered = subst (λ (l : List TicketState). NumberedFrom (start + 1) l) (sym more) (numbered_more (start + 1) ts t w.numbered (omega (arith, revision, len, one, count, begun, same)));
@@ -78,7 +84,6 @@ module _ {D : Type 0} (honest : D → Type 0) (unsynced : D → PendingState) {h
         out = (o.0, o.1 ∙ sym (ap (λ (x : DeskState). x.settled) is), sym (ap (λ (x : DeskState). x.drawn) is), some, subst (λ (t : State). GoesOn t group) (sym (ap settled_set is)) draws.goes_on);
         low = omega (arith, settled, low);
         now = w.now;
-        none_runs = w.none_runs;
         open_desk = ap (λ (x : DeskState). x.stopped) is ∙ w.open_desk;
         start_is = omega (arith, begun, same);
         numbered = w.numbered;
@@ -86,13 +91,12 @@ module _ {D : Type 0} (honest : D → Type 0) (unsynced : D → PendingState) {h
       }
 
   -- the store has gone on
-  pub went : (h2 : Held) (n : StoreState D) → n.store ≡ s.store → n.slots.step ≡ s.slots.step → IsOut h2 n d → (honest n.slots.journal.disk → (c : List ℕ) → IsOutcome (unsynced n.slots.journal.disk) c → Leaves n c) → IsCommitter honest unsynced h2 ts start n d told
-  went h2 n store course out now = record {
+  pub went : (h2 : Held) (n : StoreState D) → n.store ≡ s.store → IsOut h2 n d → (honest n.slots.journal.disk → (c : List ℕ) → IsOutcome (unsynced n.slots.journal.disk) c → Leaves n c) → IsCommitter honest unsynced h2 ts start n d told
+  went h2 n store out now = record {
     same = w.same ∙ sym store;
     out = out;
     low = w.low;
     now = now;
-    none_runs = course ∙ w.none_runs;
     open_desk = w.open_desk;
     start_is = w.start_is;
     numbered = w.numbered;
@@ -110,7 +114,6 @@ module _ {D : Type 0} (honest : D → Type 0) (unsynced : D → PendingState) {h
         out = (idle, sealed ∙ sym (ap (λ (x : DeskState). x.settled) is), ap (λ (x : DeskState). x.drawn) is);
         low = omega (arith, settled, low, both);
         now = w.now;
-        none_runs = w.none_runs;
         open_desk = ap (λ (x : DeskState). x.stopped) is ∙ w.open_desk;
         start_is = omega (arith, begun, same);
         numbered = w.numbered;
@@ -119,4 +122,4 @@ module _ {D : Type 0} (honest : D → Type 0) (unsynced : D → PendingState) {h
 
   -- more was told
   pub tells : (more : ℕ) → more ≤ settled_revision d → IsCommitter honest unsynced h ts start s d more
-  tells more low = record { same = w.same; out = w.out; low = low; now = w.now; none_runs = w.none_runs; open_desk = w.open_desk; start_is = w.start_is; numbered = w.numbered; counted = w.counted }
+  tells more low = record { same = w.same; out = w.out; low = low; now = w.now; open_desk = w.open_desk; start_is = w.start_is; numbered = w.numbered; counted = w.counted }

@@ -1,12 +1,17 @@
 -- The plain machine of the edits, from where they are handed in to where they are settled and told:
 -- a desk, and how far its drawn edits are. It has no disk.
-use Rattle.std.specs.Prelude.{◌≡◌, ◌≢◌, ◌⊎◌, ◌<◌, ◌≤◌, ◌+◌, ℕ, max, Bool, true, false, List, [], ◌∷◌, ◌++◌, length, if◌then◌else◌}
+use Rattle.std.specs.Prelude.{◌≡◌, ◌≢◌, ◌⊎◌, ◌<◌, ◌≤◌, ◌+◌, ◌/◌, ◌^◌, ℕ, max, Bool, true, false, List, [], ◌∷◌, ◌++◌, length, if◌then◌else◌}
 use Rattle.fp_edit.specs.Edits.{Change, Proposal, proposal_of}
-use Rattle.fp_edit.specs.Flags.{State}
+use Rattle.fp_edit.specs.Flags.{State, size}
 use Rattle.fp_edit.specs.Following.{change_of}
 use Rattle.fp_edit.specs.Log.{after_all}
+use Rattle.fp_compaction.specs.Steps.{next_left, next_step}
 use Rattle.fp_record.specs.Group.{Group}
 use Rattle.fp_record.specs.declared.batch.TheConstants.{MOST_EDITS}
+use Rattle.fp_slots.specs.State.{HasBegun, IsEarly, IsGrowing}
+use Rattle.fp_slots.specs.declared.places.TheConstants.{IMAGE_PLACE}
+use Rattle.fp_slots.specs.declared.slots.Step.{Step}
+use Rattle.fp_slots.specs.declared.slots.Step.TheVariants.{Begin, Tail, SyncOpen}
 use Rattle.fp_group_commit.specs.Changes.{batch_len}
 use Rattle.fp_group_commit.specs.Tokens.{front_revision}
 use Rattle.fp_group_commit.specs.declared.fault.StoreFault.TheVariants as fault
@@ -26,8 +31,16 @@ pub data Progress : Type 0 where
   gate_opened : Progress
   batch_sealed : Progress
 
+-- A compaction: its next step (`Begin` where none runs), how many bytes of head and image no part wrote
+-- yet, how many the batches behind them have, and the generation of the slot that rules
+pub record Compaction : Type 0 where
+  pub next : Step
+  pub left : ℕ
+  pub tail : ℕ
+  pub generation : ℕ
+
 -- The desk, how far its drawn edits are, whether the device failed, the most bytes of a batch's
--- body and those left for batches, and the greatest revision that was told
+-- body and those left for batches, the greatest revision that was told, and how far a compaction is
 pub record Commits : Type 0 where
   pub desk : DeskState
   pub progress : Progress
@@ -35,6 +48,7 @@ pub record Commits : Type 0 where
   pub most : ℕ
   pub room : ℕ
   pub told : ℕ
+  pub compaction : Compaction
 
 -- the revision that the last accepted edit makes
 abbrev pub last_revision : DeskState → ℕ
@@ -44,12 +58,17 @@ last_revision d = d.store.start.revision + length (log d)
 abbrev pub drawn_batch : DeskState → Group
 drawn_batch d = record { first = settled_revision d + 1; changes = d.drawn }
 
--- the drawn edits wait to be written, make a batch, and there is room for it with its two gates
+-- The drawn edits wait to be written, make a batch, and there is room for it with its two gates. While a
+-- compaction runs its tail isn't written yet, and with this batch and a last gate it takes a quarter of a
+-- slot at most: half of one is what a set may take
 pub record CanStage (m : Commits) : Type 0 where
   pub drawn : m.progress ≡ batch_drawn
   pub few : length m.desk.drawn ≤ MOST_EDITS
   pub short : batch_len (drawn_batch m.desk) ≤ m.most
   pub room : batch_len (drawn_batch m.desk) + 6 ≤ m.room
+  pub early : IsEarly m.compaction.next
+  pub tail : HasBegun m.compaction.next
+      → m.compaction.tail + batch_len (drawn_batch m.desk) + 6 ≤ m.desk.store.start.limit / 2
 
 -- what was drawn is settled
 abbrev pub all_settled : DeskState → DeskState
@@ -97,12 +116,24 @@ abbrev pub Stages : Commits → Answer → Commits → Type 0
 Stages old (answer.Fault fault.Memory) new = (old.failed ≡ false) × CanStage old × (new ≡ old)
 Stages old a new = Advances CanStage batch_staged old a new
 
+-- its batch joins the tail of a compaction that can take it
+abbrev pub Joins : Commits → Commits → Type 0
+Joins old new =
+    (IsGrowing old.compaction.next → new.compaction.tail
+    ≡ old.compaction.tail + batch_len (drawn_batch old.desk) + 5)
+    × ((IsGrowing old.compaction.next → ⊥) → new.compaction.tail ≡ old.compaction.tail)
+
 -- all that is drawn is sealed. Its batch takes its bytes, a gate and its length
 abbrev pub Seals : Commits → Answer → Commits → Type 0
 Seals old (answer.Sealed revision) new = (old.failed ≡ false) × (old.progress ≡ gate_opened)
     × (revision ≡ settled_revision old.desk + length old.desk.drawn)
     × (new.room + batch_len (drawn_batch old.desk) + 5 ≡ old.room)
-    × (new ≡ record old { progress = batch_sealed; room = new.room })
+    × Joins old new
+    × (new ≡ record old {
+      progress = batch_sealed;
+      room = new.room;
+      compaction = record old.compaction { tail = new.compaction.tail };
+    })
 Seals old answer.Done new = ⊥
 Seals old a new = Advances (IsAt gate_opened) batch_sealed old a new
 
@@ -126,6 +157,64 @@ Tells revision old answer.NotNow new =
     ((revision ≤ old.desk.store.start.revision) ⊎ (last_revision old.desk < revision)) × (new ≡ old)
 Tells revision old _ new = ⊥
 
+-- ---- a compaction
+-- the drawn edits are sealed
+abbrev pub is_sealed : Progress → Bool
+is_sealed nothing_drawn = false
+is_sealed batch_drawn = false
+is_sealed batch_staged = false
+is_sealed body_synced = false
+is_sealed gate_opened = false
+is_sealed batch_sealed = true
+
+-- the drawn edits are in flight
+abbrev pub is_flying : Progress → Bool
+is_flying nothing_drawn = false
+is_flying batch_drawn = false
+is_flying batch_staged = true
+is_flying body_synced = true
+is_flying gate_opened = true
+is_flying batch_sealed = false
+
+-- the edits that are sealed
+abbrev pub sealed_edits : Commits → List Change
+sealed_edits m = if is_sealed m.progress then m.desk.settled ++ m.desk.drawn else m.desk.settled
+
+-- where none runs there is a generation more, and where the tail is next no batch is in flight
+abbrev pub MayStep : Commits → Type 0
+MayStep m = (m.compaction.next ≡ Begin → m.compaction.generation + 1 < 2 ^ 64)
+    × (m.compaction.next ≡ Tail → is_flying m.progress ≡ false)
+
+-- One step of it. As it begins, an image of the sealed set is to be written, behind a head and all but its
+-- gate. A Part writes one part of it. At the last step the next generation rules, and as much room is there
+-- as the new slot has behind what it holds; at each other the room stays
+pub record Compacts (old new : Commits) : Type 0 where
+  pub next : new.compaction.next ≡ next_step old.compaction.next old.compaction.left
+  pub begun : old.compaction.next ≡ Begin → (new.compaction.left + 1
+      ≡ IMAGE_PLACE + size (after_all old.desk.store.start (sealed_edits old)).flags)
+      × (new.compaction.tail ≡ 0)
+  pub left : old.compaction.next ≢ Begin
+      → new.compaction.left ≡ next_left old.compaction.next old.compaction.left
+  pub tail : old.compaction.next ≢ Begin → old.compaction.next ≢ SyncOpen
+      → new.compaction.tail ≡ old.compaction.tail
+  pub stays : old.compaction.next ≢ SyncOpen
+      → (new.compaction.generation ≡ old.compaction.generation) × (new.room ≡ old.room)
+  pub turns : old.compaction.next ≡ SyncOpen
+      → new.compaction.generation ≡ old.compaction.generation + 1
+  pub rest : new ≡ record old { room = new.room; compaction = new.compaction }
+
+-- its next step is taken, where it may be
+abbrev pub StepsOn : Commits → Answer → Commits → Type 0
+StepsOn old (answer.Phase next) new = (old.failed ≡ false) × MayStep old × Compacts old new
+    × (next ≡ new.compaction.next)
+StepsOn old (answer.Fault fault.Device) new =
+    (old.failed ≡ false) × MayStep old × (new ≡ record old { failed = true })
+StepsOn old (answer.Fault fault.Failed) new = (old.failed ≡ true) × (new ≡ old)
+StepsOn old (answer.Fault fault.Memory) new = (old.failed ≡ false) × MayStep old × (new ≡ old)
+StepsOn old answer.NotNow new = (old.failed ≡ false) × (MayStep old → ⊥) × (new ≡ old)
+StepsOn old _ new = ⊥
+
+-- ---- events
 -- What is published isn't its affair
 abbrev pub CommitStep : Commits → Event → Answer → Commits → Type 0
 CommitStep old (event.Submit edit) a new = Submits (proposal_of edit) old a new
@@ -136,6 +225,7 @@ CommitStep old event.OpenGate a new = Advances (IsAt body_synced) gate_opened ol
 CommitStep old event.SyncGate a new = Seals old a new
 CommitStep old event.Settle a new = Settles old a new
 CommitStep old (event.Ack revision) a new = Tells revision old a new
+CommitStep old event.Compact a new = StepsOn old a new
 CommitStep old event.Publish a new = (a ≡ answer.NotNow) × (new ≡ old)
 CommitStep old (event.Hand seat) a new = (a ≡ answer.NotNow) × (new ≡ old)
 CommitStep old (event.Evaluate reader request now) a new = (a ≡ answer.NotNow) × (new ≡ old)

@@ -1,5 +1,5 @@
 -- A store, a desk, and what is between them.
-use Rattle.std.specs.Prelude.{◌≡◌, ◌≢◌, ◌≤◌, ◌<◌, ◌+◌, ℕ, Bool, true, false, List, [], ◌∷◌, ◌++◌, length}
+use Rattle.std.specs.Prelude.{◌≡◌, ◌≢◌, ◌⊎◌, ◌≤◌, ◌<◌, ◌+◌, ℕ, Bool, true, false, List, [], ◌∷◌, ◌++◌, length}
 use Rattle.fp_disk.specs.History.{MakesSome}
 use Rattle.fp_disk.specs.Outcomes.{PendingState, IsOutcome}
 use Rattle.fp_disk.specs.declared.history.CallKind.{CallKind}
@@ -9,7 +9,7 @@ use Rattle.fp_journal.specs.State.{room}
 use Rattle.fp_journal.specs.declared.journal.Phase.{Phase}
 use Rattle.fp_journal.specs.declared.journal.Phase.TheVariants.{Idle, Staged, BodySynced, GateOpened, Failed}
 use Rattle.fp_recovery.specs.Stands.{StandsFor}
-use Rattle.fp_slots.specs.declared.slots.Step.TheVariants.{Begin}
+use Rattle.fp_compaction.specs.Batches.{tail_of}
 use Rattle.fp_group_commit.specs.Changes.{GoesOn}
 use Rattle.fp_group_commit.specs.Store.{Leaves, StoreState, is_failed}
 use Rattle.fp_group_commit.specs.declared.fault.StoreFault.TheVariants as fault
@@ -20,7 +20,7 @@ use Rattle.fp_world.specs.declared.event.Event.{Event}
 use Rattle.fp_world.specs.declared.event.Event.TheVariants as event
 use Rattle.fp_world.specs.declared.committer.Held.{Held}
 use Rattle.fp_world.specs.declared.committer.Held.TheVariants as held
-use Rattle.fp_world.specs.Commits.{Commits, Progress}
+use Rattle.fp_world.specs.Commits.{Commits, Compaction, Progress}
 use Rattle.fp_world.specs.Commits.{nothing_drawn, batch_drawn, batch_staged, body_synced, gate_opened, batch_sealed}
 
 pub record CommitterState (D : Type 0) : Type 0 where
@@ -28,6 +28,15 @@ pub record CommitterState (D : Type 0) : Type 0 where
   pub desk : DeskState
   pub progress : Progress
   pub told : ℕ
+
+-- how far a compaction is
+abbrev pub compaction_of : {D : Type 0} → StoreState D → Compaction
+compaction_of s = record {
+  next = s.slots.step;
+  left = s.slots.left;
+  tail = tail_of s.slots;
+  generation = s.slots.generation;
+}
 
 -- the same without its disk
 abbrev pub commits_of : {D : Type 0} → CommitterState D → Commits
@@ -38,6 +47,7 @@ commits_of w = record {
   most = w.store.slots.journal.slot.most;
   room = room w.store.slots.journal;
   told = w.told;
+  compaction = compaction_of w.store;
 }
 
 -- ---- how far the drawn edits are, by where they are held and the phase of the batch in flight
@@ -87,12 +97,19 @@ MakesOne kind (answer.Sealed revision) old new = new ≡ old ++ kind ∷ []
 MakesOne kind (answer.Fault fault.Device) old new = MakesSome (kind ∷ []) old new
 MakesOne kind _ old new = new ≡ old
 
+-- one call at most
+abbrev pub MakesNoMore : (old new : List CallKind) → Type 0
+MakesNoMore old new = (new ≡ old) ⊎ ((kind : CallKind) × (new ≡ old ++ kind ∷ []))
+
 -- which events make a call
 abbrev pub MakesItsCall : Event → Answer → (old new : List CallKind) → Type 0
 MakesItsCall event.Stage a old new = MakesOne Write a old new
 MakesItsCall event.SyncBody a old new = MakesOne Sync a old new
 MakesItsCall event.OpenGate a old new = MakesOne Write a old new
 MakesItsCall event.SyncGate a old new = MakesOne Sync a old new
+MakesItsCall event.Compact (answer.Phase next) old new = MakesNoMore old new
+MakesItsCall event.Compact (answer.Fault fault.Device) old new = MakesNoMore old new
+MakesItsCall event.Compact a old new = new ≡ old
 MakesItsCall _ a old new = new ≡ old
 
 -- the disk's count of failures rose exactly where that is answered
@@ -114,7 +131,6 @@ pub record IsCommitter {D : Type 0} (honest : D → Type 0) (unsynced : D → Pe
   pub low : told ≤ settled_revision d
   pub now : honest s.slots.journal.disk → (c : List ℕ) → IsOutcome (unsynced s.slots.journal.disk) c →
       Leaves s c
-  pub none_runs : s.slots.step ≡ Begin
   pub open_desk : d.stopped ≡ false
   pub start_is : start ≡ d.store.start.revision
   pub numbered : NumberedFrom (start + 1) tickets

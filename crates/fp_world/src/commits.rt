@@ -6,10 +6,10 @@ ghost use mathlib.Core.List.{IsPrefix};
 ghost use Rattle.fp_disk.specs.declared.history.CallKind.TheVariants.{Sync, Write};
 ghost use Rattle.fp_edit.specs.Edits.{proposal_of};
 ghost use Rattle.fp_desk.specs.Desk.{log};
-ghost use Rattle.fp_world.specs.Commits.{Advances, DrawsNext, IsAt, Seals, Settles, Stages, Submits, Tells, accepted_by, told_after};
+ghost use Rattle.fp_world.specs.Commits.{Advances, DrawsNext, IsAt, Seals, Settles, Stages, StepsOn, Submits, Tells, accepted_by, told_after};
 ghost use Rattle.fp_world.specs.Commits.{batch_staged, body_synced, gate_opened};
-ghost use Rattle.fp_world.specs.declared.event.Event.TheVariants.{Submit};
-ghost use Rattle.fp_world.specs.Committer.{KeptFrom, MakesOne, RisesFor, commits_of};
+ghost use Rattle.fp_world.specs.declared.event.Event.TheVariants.{Compact, Submit};
+ghost use Rattle.fp_world.specs.Committer.{KeptFrom, MakesItsCall, MakesOne, RisesFor, commits_of};
 
 use crate::committer::{Committer, Held, end};
 use crate::event::Answer;
@@ -208,6 +208,36 @@ impl<D: Disk> Committer<D> {
             }
             Err(fault) => Answer::Fault(fault),
         }
+    }
+
+    // Takes the next step of a compaction.
+    pub(crate) fn compact(&mut self) -> Answer
+        ensures steps { StepsOn (commits_of self.old) result (commits_of self.new) }
+        ensures told { self.new.told ≡ told_after self.old.told result }
+        ensures same { (self.new.desk ≡ self.old.desk) × (self.new.told ≡ self.old.told)
+            × (self.new.store.store ≡ self.old.store.store) }
+        ensures any_moment { AtAnyMoment D.Disk self.old.store.slots.journal.disk
+            self.new.store.slots.journal.disk (KeptFrom self.new.desk self.old.told) }
+        ensures exit { EachCrash D.Disk self.new.store.slots.journal.disk
+            (KeptFrom self.new.desk self.new.told) }
+        ensures honest { SameHonesty D.Disk self.old.store.slots.journal.disk
+            self.new.store.slots.journal.disk }
+        ensures called { MakesItsCall Compact result (D.calls self.old.store.slots.journal.disk)
+            (D.calls self.new.store.slots.journal.disk) }
+        ensures cause { RisesFor result (D.faults self.old.store.slots.journal.disk)
+            (D.faults self.new.store.slots.journal.disk) }
+    {
+        let _ = &self.told;
+        if self.store.failed() {
+            return Answer::Fault(StoreFault::Failed);
+        }
+        if !self.store.may_compact() {
+            return Answer::NotNow;
+        }
+        if let Err(fault) = self.store.compact_step() {
+            return Answer::Fault(fault);
+        }
+        Answer::Phase(self.store.step())
     }
 
     // Settles what is sealed.

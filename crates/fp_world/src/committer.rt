@@ -127,6 +127,7 @@ impl<D: Disk> Committer<D> {
             Event::SyncGate => self.sync_gate(),
             Event::Settle => self.settle(),
             Event::Ack(revision) => self.ack(*revision),
+            Event::Compact => self.compact(),
             Event::Publish => self.pass(),
             Event::Hand(_) => self.pass(),
             Event::Evaluate(_, _, _) => self.pass(),

@@ -6,6 +6,7 @@ use fp_edit::Edit;
 use fp_group_commit::StoreFault;
 use fp_ofrep::Reply;
 use fp_publish::Handed;
+use fp_slots::Step;
 
 /// One call of the desk or of the board, or one call of the disk by the store.
 #[derive(Drop)]
@@ -26,6 +27,8 @@ pub enum Event {
     Settle,
     /// The editor of the ticket for this revision asks whether it is settled.
     Ack(u64),
+    /// The next step of a compaction is taken.
+    Compact,
     /// What is settled is published.
     Publish,
     /// The subscriber of this seat asks for what is published.
@@ -59,6 +62,8 @@ pub enum Answer {
     Acked(u64),
     /// It isn't settled yet.
     Waiting,
+    /// The step was taken, and this is the next one.
+    Phase(Step),
     /// All up to this revision is published.
     Published(u64),
     /// The subscriber is handed this.

@@ -10,7 +10,6 @@ invariant_of-result g c =
     let none = ap (λ (d : DeskState). length (log d)) made in let nil : c.new-tickets.result.items ≡ [] = search rules in let few = ap (λ (l : List TicketState). length l) nil in
     record {
       same = ap (λ (d : DeskState). d.store) made ∙ c.requires.opening;
-      none_runs = fresh.none_runs;
       out = (fresh.step, fresh.sealed ∙ sym (ap (λ (d : DeskState). d.settled) made), ap (λ (d : DeskState). d.drawn) made);
       low = omega (arith, start, same, len);
       now = c.phase.ensures.outcomes;

@@ -49,7 +49,7 @@ returns-then-not-has_room-clause-steps g c =
     let o = subst (λ (x : Held). IsOut x s d) is i.out in
     let well = goes.well_by c.failed.result s.slots.journal.phase c.failed.ensures c.if-failed.false in
     let none : HasRoom s.slots draw → ⊥ = (λ room. let yes = c.has_room.ensures.room.1 room in absurd (search rules)) in
-    rw (← c.self.view_is, c.replace-then-not-has_room.ensures.after) (subst (λ (x : Held). Stages (goes.At x s d told) answer.NotNow (goes.At (held.Drawn draw) s d told)) (sym is) (well, goes.cannot_stage draw s d told i.none_runs o.2 o.3 none, refl))
+    rw (← c.self.view_is, c.replace-then-not-has_room.ensures.after) (subst (λ (x : Held). Stages (goes.At x s d told) answer.NotNow (goes.At (held.Drawn draw) s d told)) (sym is) (well, goes.cannot_stage draw s d told (goes.quarter_of s d i.same c.has_room.ensures.quarter) o.2 o.3 none, refl))
 
 pub returns-then-not-has_room-clause-any_moment : goal.returns-then-not-has_room-clause-any_moment
 returns-then-not-has_room-clause-any_moment g c = let D = g.D.Disk in let m = g.met.D.Disk in rw (← c.self.view_is) (λ h. keeps.still D.honest D.moment D.crash_states_since D.unsynced c.self.invariant m.only_now h)
@@ -66,7 +66,7 @@ invariant_of-self-in_default-stage g c =
     let well = goes.well_by c.failed.result s.slots.journal.phase c.failed.ensures c.if-failed.false in
     let w = c.stage.ensures in let n = c.stage.new.self in
     let on : n.step ≡ Staged = search rules in let staged : n.staged ≡ draw.changes = search rules in
-    rw c.replace.ensures.after (sound.went D.honest D.unsynced i held.InFlight n w.same.0 w.same_room.2.0.0 (ap is_in_flight on, w.same.1 ∙ o.1, staged ∙ o.2, o.3) w.exit)
+    rw c.replace.ensures.after (sound.went D.honest D.unsynced i held.InFlight n w.same.0 (ap is_in_flight on, w.same.1 ∙ o.1, staged ∙ o.2, o.3) w.exit)
 
 pub invariant_of-self-2 : goal.invariant_of-self-2
 invariant_of-self-2 g c =
@@ -78,7 +78,7 @@ invariant_of-self-2 g c =
     let w = c.stage.ensures in let n = c.stage.new.self in
     let on : n.step ≡ s.step = search rules in let same : c.in-Err.draw ≡ draw = search rules in
     let back : IsOut (held.Drawn c.in-Err.draw) n d = (on ∙ o.0, w.same.1 ∙ o.1, ap (λ (x : Group). x.changes) same ∙ o.2, o.3, subst (λ (x : Group). GoesOn (settled_set d) x) (sym same) o.4) in
-    rw c.replace-2.ensures.after (sound.went D.honest D.unsynced i (held.Drawn c.in-Err.draw) n w.same.0 w.same_room.2.0.0 back w.exit)
+    rw c.replace-2.ensures.after (sound.went D.honest D.unsynced i (held.Drawn c.in-Err.draw) n w.same.0 back w.exit)
 
 pub returns-in_default-stage : goal.returns-in_default-stage
 returns-in_default-stage g c =
@@ -92,7 +92,7 @@ returns-in_default-stage g c =
     let ok = c.in_default-stage.ensures.ok in
     let room : HasRoom s.slots draw = c.has_room.ensures.room.0 (search rules) in
     rw (← c.self.view_is, c.replace.ensures.after) (record {
-      steps = subst (λ (x : Held). Stages (goes.At x s d told) answer.Done (goes.At held.InFlight n d told)) (sym is) (goes.done D.faults CanStage batch_staged (held.Drawn draw) held.InFlight s n d told Staged ok w.same_room (goes.can_stage draw s d told o.2 room) (ap in_flight_at ok.step));
+      steps = subst (λ (x : Held). Stages (goes.At x s d told) answer.Done (goes.At held.InFlight n d told)) (sym is) (goes.done D.faults CanStage batch_staged (held.Drawn draw) held.InFlight s n d told Staged ok w.same_room (goes.can_stage draw s d told (goes.quarter_of s d i.same c.has_room.ensures.quarter) o.2 room) (ap in_flight_at ok.step));
       told = refl;
       same = (refl, refl, w.same.0);
       any_moment = leaves;
@@ -116,7 +116,7 @@ returns g c =
     rw (← c.self.view_is) (record {
       steps = subst (λ (x : CommitterState g.row.D.Denot). Stages (commits_of x) (answer.Fault f) (goes.At c.replace-2.new.dest n d told)) c.self.view_is
           (subst (λ (x : Held). Stages (goes.At h s d told) (answer.Fault f) (goes.At x n d told)) (sym c.replace-2.ensures.after)
-          (subst (λ (x : Held). Stages (goes.At x s d told) (answer.Fault f) (goes.At (held.Drawn c.in-Err.draw) n d told)) (sym is) (goes.refused_stage D.faults f draw c.in-Err.draw s n d told e.fault c.in_default-fault.not-Stranger (goes.can_stage draw s d told o.2 room))));
+          (subst (λ (x : Held). Stages (goes.At x s d told) (answer.Fault f) (goes.At (held.Drawn c.in-Err.draw) n d told)) (sym is) (goes.refused_stage D.faults f draw c.in-Err.draw s n d told e.fault c.in_default-fault.not-Stranger (goes.can_stage draw s d told (goes.quarter_of s d i.same c.has_room.ensures.quarter) o.2 room))));
       told = refl;
       same = (refl, refl, w.same.0);
       any_moment = leaves;

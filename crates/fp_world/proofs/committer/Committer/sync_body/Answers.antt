@@ -41,7 +41,7 @@ invariant_of-self g c =
     let point : progress_of h s.step ≡ batch_staged = goes.in_air s d h i.out busy s.step ∙ ap in_flight_at at in
     let on : n.step ≡ BodySynced = search rules in
     let out = sound.out_moved s n d h i.out busy w.same.1 w.same.2 (ap is_in_flight on) in
-    sound.went D.honest D.unsynced i h n w.same.0 w.same_room.2.0.0 out w.exit
+    sound.went D.honest D.unsynced i h n w.same.0 out w.exit
 
 pub invariant_of-self-2 : goal.invariant_of-self-2
 invariant_of-self-2 g c =
@@ -51,7 +51,7 @@ invariant_of-self-2 g c =
     let point : progress_of h s.step ≡ batch_staged = goes.in_air s d h i.out busy s.step ∙ ap in_flight_at at in
     let on : n.step ≡ Staged = search rules in
     let out = sound.out_moved s n d h i.out busy w.same.1 w.same.2 (ap is_in_flight on) in
-    sound.went D.honest D.unsynced i h n w.same.0 w.same_room.2.0.0 out w.exit
+    sound.went D.honest D.unsynced i h n w.same.0 out w.exit
 
 pub returns-in_default-sync_body : goal.returns-in_default-sync_body
 returns-in_default-sync_body g c =

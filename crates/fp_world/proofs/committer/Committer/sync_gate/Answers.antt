@@ -49,7 +49,7 @@ invariant_of-self g c =
     let w = c.in-Ok.ensures in
     let f = keeps.in_flight s d h i.out at in
     let start = ap (λ (x : Identity). x.start.revision) i.same in let len = ap length f.0 in let place = w.batch.1 in let all = revision-after_all s.store.start s.sealed in
-    rw c.replace.ensures.after (sound.went D.honest D.unsynced i (held.Sealed c.in-Ok.receipt) n w.store w.takes_room.2.0 (w.ok.step, w.sealed ∙ ap (λ (l : List Change). l ++ s.staged) f.0 ∙ ap (λ (l : List Change). d.settled ++ l) f.1, w.receipt.0, w.batch.0 ∙ f.1, omega (arith, place, start, len, all), f.2) w.exit)
+    rw c.replace.ensures.after (sound.went D.honest D.unsynced i (held.Sealed c.in-Ok.receipt) n w.store (w.ok.step, w.sealed ∙ ap (λ (l : List Change). l ++ s.staged) f.0 ∙ ap (λ (l : List Change). d.settled ++ l) f.1, w.receipt.0, w.batch.0 ∙ f.1, omega (arith, place, start, len, all), f.2) w.exit)
 
 pub invariant_of-self-in-Err : goal.invariant_of-self-in-Err
 invariant_of-self-in-Err g c =
@@ -61,7 +61,7 @@ invariant_of-self-in-Err g c =
     let leaves : D.honest s.slots.journal.disk → LeavesOnly D.moment D.crash_states_since s.slots.journal.disk n.slots.journal.disk (KeptFrom d told) = (λ h0. keeps.kept_leaves D.honest D.moment D.crash_states_since D.unsynced i n.slots.journal.disk (w.any_moment h0)) in
     let e = c.in-Err.ensures in
     let on : n.step ≡ GateOpened = e.phase ∙ at in
-    sound.went D.honest D.unsynced i h n e.err.0 (goes.fails_course D.faults c.in-Err.fault s n e.fault) (sound.out_moved s n d h i.out busy e.err.1 e.err.2 (ap is_in_flight on)) e.exit
+    sound.went D.honest D.unsynced i h n e.err.0 (sound.out_moved s n d h i.out busy e.err.1 e.err.2 (ap is_in_flight on)) e.exit
 
 pub returns-in-Ok : goal.returns-in-Ok
 returns-in-Ok g c =
