@@ -1,6 +1,5 @@
 -- Answers as they are said.
 use Rattle.std.proofs.Common.{◌≡◌, ℕ, List, Option, None, Some, true, refl, inl, inr}
-use Rattle.std.specs.Io.KnownBytes.{Appends}
 use Rattle.fp_definition.specs.Faults.{tells}
 use Rattle.fp_definition.specs.Valid as flag
 use Rattle.fp_edit.specs.declared.edit.EditFault.{EditFault}

@@ -1,5 +1,5 @@
 -- The lines of an editor, and what they are answered.
-use Rattle.std.proofs.Common.{◌≡◌, ◌≤◌, ℕ, List, [], ◌∷◌, ◌++◌, All, Bool, false, true, Option, None, Some, Ok, Err, Result, IfSome, IsSomeAnd, refl, sym, ap, subst, ◌∙◌, append_assoc, append-nil, inl, inr, slice_index_or, arith}
+use Rattle.std.proofs.Common.{◌≡◌, ◌≤◌, ℕ, List, [], ◌∷◌, ◌++◌, All, Option, None, Some, Ok, Err, IfSome, IsSomeAnd, refl, sym, ap, subst, ◌∙◌, append_assoc, append-nil, inl, inr, slice_index_or, arith}
 use Rattle.std.proofs.lemmas.List.Elements.{All-push}
 use Rattle.std.specs.Io.KnownBytes.{Appends}
 use Rattle.fp_base.proofs.Known.{Appends-nil, Appends-more, IfSome-each}
@@ -9,7 +9,7 @@ use Rattle.fp_session.specs.Lines.{lines}
 use Rattle.fp_session.specs.Progress.{cut}
 use Rattle.fp_session.proofs.Endings.{IsPartRead}
 use Rattle.fp_session.proofs.LineLemmas.{asked-append, lines-append}
-use Rattle.fp_plane.specs.Answers.{Answer, reply, AreAnswersTo, IsAnswerTo, IsShownAs, IsWithin, revision_in, text_of, texts_of, says_no_edit}
+use Rattle.fp_plane.specs.Answers.{Answer, AreAnswersTo, IsAnswerTo, IsShownAs, IsWithin, revision_in, text_of, texts_of, says_no_edit}
 use Rattle.fp_plane.specs.Editing.{IsNoLess, IsReading, IsServed}
 
 -- ---- answers, one behind the other

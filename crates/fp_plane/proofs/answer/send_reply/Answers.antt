@@ -1,4 +1,4 @@
-use Rattle.std.proofs.Common.{◌≡◌, OnOk, sym, subst}
+use Rattle.std.proofs.Common.{OnOk, sym, subst}
 use Rattle.std.proofs.lemmas.Result.{on_ok_weaker}
 use Rattle.fp_session.specs.Reply as flags
 use Rattle.fp_session.specs.Reply.{said}

@@ -16,21 +16,20 @@ rest_is rest at =
     take_all (length rest - (at + 1)) (drop (at + 1) rest) within
 
 pub loop-at-preserved : goal.loop-at-preserved
-loop-at-preserved g c =
-    (
-      c.in_ok-answer_line.ensures.counted ∙ c.loop-at.invariant.0,
-      λ seen before h.
-          let inv = c.loop-at.invariant.1 seen before h in let rest = c.loop-at.rest.now in let at = c.in-Some.at in
-          let found = newline_found rest at (sym c.newline_in.ensures.first ∙ c.in-Some.is) in
-          let front = inv.0 ++ take at rest in let store = g.K.Naming.store in
-          let held = g.O.Write.contents c.loop-at.w.inner in let then = g.O.Write.contents c.answer_line.new.w.inner in
-          let i = reading-more store c.loop-at.told inv.0 (take at rest) c.loop-at.line.bytes.items c.extend.new.self.bytes.items before held inv.2 found.one (c.in-Ok.ensures.grown inv.2.line inv.2.kept_is) in (
-            front ++ 10 ∷ [],
-            ap (λ l. (front ++ 10 ∷ []) ++ l) (rest_is rest at) ∙ append_assoc front (10 ∷ []) (drop (at + 1) rest) ∙ regroup inv.0 rest (seen ++ c.args.bytes.now) at found inv.1,
-            reading-newline store c.loop-at.told c.answer_line.new.told front c.extend.new.self.bytes.items c.answer_line.new.line.bytes.items before held then i
-                (c.in_ok-answer_line.ensures.answered (asked_by_lines i.done) i.line before i.kept_is i.served) c.answer_line.ensures.ended,
-          ),
-    )
+loop-at-preserved g c = (
+  c.in_ok-answer_line.ensures.counted ∙ c.loop-at.invariant.0,
+  λ seen before h.
+      let inv = c.loop-at.invariant.1 seen before h in let rest = c.loop-at.rest.now in let at = c.in-Some.at in
+      let found = newline_found rest at (sym c.newline_in.ensures.first ∙ c.in-Some.is) in
+      let front = inv.0 ++ take at rest in let store = g.K.Naming.store in
+      let held = g.O.Write.contents c.loop-at.w.inner in let then = g.O.Write.contents c.answer_line.new.w.inner in
+      let i = reading-more store c.loop-at.told inv.0 (take at rest) c.loop-at.line.bytes.items c.extend.new.self.bytes.items before held inv.2 found.one (c.in-Ok.ensures.grown inv.2.line inv.2.kept_is) in (
+        front ++ 10 ∷ [],
+        ap (λ l. (front ++ 10 ∷ []) ++ l) (rest_is rest at) ∙ append_assoc front (10 ∷ []) (drop (at + 1) rest) ∙ regroup inv.0 rest (seen ++ c.args.bytes.now) at found inv.1,
+        reading-newline store c.loop-at.told c.answer_line.new.told front c.extend.new.self.bytes.items c.answer_line.new.line.bytes.items before held then i
+            (c.in_ok-answer_line.ensures.answered (asked_by_lines i.done) i.line before i.kept_is i.served) c.answer_line.ensures.ended,
+      ),
+)
 
 pub returns-clause-answered : goal.returns-clause-answered
 returns-clause-answered g c = λ seen before h.

@@ -1,4 +1,4 @@
-use Rattle.std.proofs.Common.{◌∷◌, [], ◌++◌, List, sym, subst}
+use Rattle.std.proofs.Common.{◌++◌, List, sym, subst}
 use Rattle.fp_edit.specs.Line.{line_of}
 use Rattle.fp_session.specs.Asks.{Ask}
 use Rattle.fp_session.proofs.LineLemmas.{asked-line}

@@ -1,4 +1,4 @@
-use Rattle.std.proofs.Common.{◌<◌, ◌++◌, [], take, refl, ◌∙◌, arith}
+use Rattle.std.proofs.Common.{◌++◌, [], take, refl, ◌∙◌, arith}
 use Rattle.fp_session.specs.Asks.{asked_by_lines}
 use Rattle.fp_session.proofs.Endings.{part-more, part-whole}
 use Rattle.fp_plane.proofs.EditingLemmas.{reading-none, served-whole}
@@ -6,22 +6,28 @@ use Rattle.fp_plane.proofs.editor.editor_loop.Goals as goal
 
 -- nothing was read yet
 pub loop-told-init : goal.loop-told-init
-loop-told-init g c =
-    (refl, refl, record {
-      seen = [];
-      part = λ input is. (input, is, refl);
-      reading = reading-none g.K.Naming.store c.new-line.result.bytes.items (g.O.Write.contents c.args.w.now.inner) c.new-line.ensures;
-    })
+loop-told-init g c = (
+  refl,
+  refl,
+  record {
+    seen = [];
+    part = λ input is. (input, is, refl);
+    reading = reading-none g.K.Naming.store c.new-line.result.bytes.items (g.O.Write.contents c.args.w.now.inner) c.new-line.ensures;
+  },
+)
 
 -- what was read more was answered
 pub loop-told-preserved : goal.loop-told-preserved
 loop-told-preserved g c =
-    let inv = c.loop-told.invariant in let u = inv.2 in let piece = take c.in_ok-count.count c.read.new.buf in
-    (c.in_ok-count.ensures.counted ∙ inv.0, c.in_ok-answer_bytes.ensures.counted ∙ inv.1, record {
-      seen = u.seen ++ piece;
-      part = part-more (g.I.Read.remaining c.args.r.now.inner) (g.I.Read.remaining c.loop-told.r.inner) (g.I.Read.remaining c.read.new.self.inner) u.seen piece c.in_ok-count.ensures.bytes.0 u.part;
-      reading = c.in_ok-answer_bytes.ensures.answered u.seen (g.O.Write.contents c.args.w.now.inner) u.reading;
-    })
+    let inv = c.loop-told.invariant in let u = inv.2 in let piece = take c.in_ok-count.count c.read.new.buf in (
+      c.in_ok-count.ensures.counted ∙ inv.0,
+      c.in_ok-answer_bytes.ensures.counted ∙ inv.1,
+      record {
+        seen = u.seen ++ piece;
+        part = part-more (g.I.Read.remaining c.args.r.now.inner) (g.I.Read.remaining c.loop-told.r.inner) (g.I.Read.remaining c.read.new.self.inner) u.seen piece c.in_ok-count.ensures.bytes.0 u.part;
+        reading = c.in_ok-answer_bytes.ensures.answered u.seen (g.O.Write.contents c.args.w.now.inner) u.reading;
+      },
+    )
 
 -- the end of the input
 pub returns-then-count-eq0-clause-served : goal.returns-then-count-eq0-clause-served

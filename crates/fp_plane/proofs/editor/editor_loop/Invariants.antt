@@ -1,4 +1,4 @@
-use Rattle.std.proofs.Common.{◌≡◌, ℕ}
+use Rattle.std.proofs.Common.{◌≡◌}
 use Rattle.fp_plane.proofs.EditingLemmas.{IsUnderWay}
 use Rattle.fp_plane.proofs.editor.editor_loop.Given as goal
 
