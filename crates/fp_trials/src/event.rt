@@ -8,7 +8,7 @@ use fp_desk::SubmitFault;
 use fp_disk::MemoryDisk;
 use fp_edit::EditFault;
 use fp_group_commit::StoreFault;
-use fp_world::{Answer as Reply, Event, World};
+use fp_world::{Answer as Reply, Committer, Event};
 use std::alloc::Global;
 use std::mem;
 
@@ -45,7 +45,7 @@ pub fn on_edits(trial: &mut Trial, word: &str, rest: &str) -> Result<Answer, Tri
     }
 }
 
-fn stepped(world: &mut World<MemoryDisk>, event: &Event) -> Reply {
+fn stepped(world: &mut Committer<MemoryDisk>, event: &Event) -> Reply {
     world.step(event)
 }
 
@@ -55,22 +55,22 @@ fn happens(trial: &mut Trial, event: &Event) -> Result<Reply, TrialFault> {
         return Err(TrialFault::NotUnderstood);
     };
     let mut reply = stepped(&mut open.world, event);
-    if wants_memory(reply) {
+    if wants_memory(&reply) {
         reply = stepped(&mut open.world, event);
     }
-    if wants_memory(reply) {
+    if wants_memory(&reply) {
         return Err(TrialFault::Memory);
     }
-    if let Reply::Acked(revision) = reply {
-        trial.tell(revision);
+    if let Reply::Acked(revision) = &reply {
+        trial.tell(*revision);
     }
     Ok(reply)
 }
 
-fn wants_memory(reply: Reply) -> bool {
+fn wants_memory(reply: &Reply) -> bool {
     match reply {
         Reply::Memory => true,
-        Reply::Refused(fault) => is_want(fault),
+        Reply::Refused(fault) => is_want(*fault),
         Reply::Fault(fault) => matches!(fault, StoreFault::Memory),
         _ => false,
     }
@@ -96,6 +96,8 @@ fn answer_of(trial: &Trial, reply: Reply) -> Result<Answer, TrialFault> {
         Reply::Settled(revision) => Ok(Answer::Named("settled", revision)),
         Reply::Acked(revision) => Ok(Answer::Named("acked", revision)),
         Reply::Waiting => Ok(Answer::Word("waiting")),
+        // A world without a board publishes nothing.
+        _ => Err(TrialFault::NotUnderstood),
     }
 }
 

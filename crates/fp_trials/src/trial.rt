@@ -4,7 +4,7 @@ use fp_commands::CommandFault;
 use fp_disk::{DiskFault, FailedWrite, Failing, MemoryDisk};
 use fp_edit::{Edit, EditFault};
 use fp_journal::synced_bytes;
-use fp_world::World;
+use fp_world::Committer;
 use std::alloc::{AllocError, AllocFailed, Global};
 use std::{fmt, mem};
 
@@ -84,7 +84,7 @@ impl fmt::Display for Answer {
 
 /// A world that may be let go.
 pub struct OpenWorld {
-    pub world: World<MemoryDisk>,
+    pub world: Committer<MemoryDisk>,
 }
 
 impl OpenWorld {

@@ -10,7 +10,7 @@ use fp_commands::CommandFault;
 use fp_disk::MemoryDisk;
 use fp_edit::FlagSet;
 use fp_group_commit::{CreateFault, Opening, Store};
-use fp_world::World;
+use fp_world::Committer;
 use std::alloc::{AllocError, Global};
 use std::fmt::Write;
 
@@ -107,7 +107,7 @@ fn enter(trial: &mut Trial, store: Store<MemoryDisk>, opening: Opening) -> Resul
     requires opening { opening ≡ store.store }
     requires fresh { IsFresh store store.store.start }
 {
-    match World::new(trial.alloc, store, opening) {
+    match Committer::new(trial.alloc, store, opening) {
         Ok(world) => {
             trial.held = Held::Open(OpenWorld { world });
             Ok(())
