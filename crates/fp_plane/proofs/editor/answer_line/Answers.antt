@@ -1,0 +1,20 @@
+use Rattle.std.proofs.Common.{◌++◌, List, sym, subst}
+use Rattle.fp_edit.specs.Line.{line_of}
+use Rattle.fp_session.specs.Asks.{Ask}
+use Rattle.fp_session.proofs.LineLemmas.{asked-line}
+use Rattle.fp_plane.specs.Answers.{IsAnswerTo, IsWithin, seen}
+use Rattle.fp_plane.specs.Editing.{IsServed}
+use Rattle.fp_plane.proofs.EditingLemmas.{served-more, shown-answers, shown-within, within-more}
+use Rattle.fp_plane.proofs.editor.answer_line.Goals as goal
+
+-- one answer more, and what was told before it is kept
+pub returns-clause-answered : goal.returns-clause-answered
+returns-clause-answered g c = λ asked bytes before kept served.
+    let asks = c.in-Some.ensures.asks bytes kept in let x = line_of bytes in let a = seen c.answer_to-answer.result.0 in
+    let said = c.in_ok-send_answer.ensures.sent in let keeps = c.keep_greater.ensures in
+    let old = c.args.told.now in let now = c.keep_greater.new.told in let store = g.K.Naming.store in
+    let held = g.O.Write.contents c.args.w.now.inner in let then = g.O.Write.contents c.send_answer.new.w.inner in
+    let answers : IsAnswerTo x said.shown = shown-answers x a said.shown (c.answer_to-answer.ensures.answer x asks.1) said.like in
+    let within : IsWithin now said.shown = shown-within now a said.shown (within-more c.answer_to-answer.result.1 now a keeps.more c.answer_to-answer.ensures.within) said.like in
+    subst (λ (xs : List Ask). IsServed store now (asked ++ xs) before then) (sym (asked-line bytes asks.0))
+    (served-more store old now asked before held then x said.shown served keeps.kept answers within (keeps.ours store served.ours c.answer_to-answer.ensures.ours) said.line)

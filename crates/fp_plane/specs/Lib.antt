@@ -1,0 +1,4 @@
+pub mod Hall
+pub mod Answers
+pub mod Editing
+pub mod Sending

@@ -1,0 +1,131 @@
+//! The flusher: it draws and settles under the plane's lock, and calls the disk without it.
+
+ghost use Rattle.std.specs.Prelude.{◌≡◌, OnOk};
+ghost use Rattle.fp_journal.specs.declared.journal.Phase.TheVariants.{Idle};
+
+use crate::naming::Naming;
+use crate::owned::OwnStore;
+use crate::plane::Plane;
+use crate::sealing::{Broken, compact_on, pause, seal};
+use fp_desk::SettleFault;
+use fp_disk::Disk;
+use fp_group_commit::{Draw, Receipt, Store};
+use std::sync::Wait;
+use std::time::Clock;
+
+/// Seals what is handed in, batch after batch, settles and shows it, and tells all who wait, until the plane is to stop and
+/// nothing waits, or the store failed. Then it leaves the store in the plane.
+pub fn flusher<K, D, R>(plane: &Plane<K, D, R>, store: OwnStore<D>)
+where
+    K: Naming,
+    D: Disk + Drop,
+    R: Wait + Clock + Drop,
+    requires ours { store.store ≡ K.store }
+    requires idle { store.step ≡ Idle }
+{
+    let mut store = store.into_store();
+    for _ in plane.shared.rt.forever() {
+        let Some(draw) = plane.drawn() else {
+            break;
+        };
+        if flush(plane, &mut store, draw).is_err() {
+            plane.fail();
+            break;
+        }
+    }
+    plane.leave(OwnStore::new(store));
+}
+
+// Seals, settles and shows what is drawn, and then takes a step of a compaction where one is due.
+fn flush<K, D, R>(plane: &Plane<K, D, R>, store: &mut Store<D>, draw: Draw) -> Result<(), Broken>
+where
+    K: Naming,
+    D: Disk + Drop,
+    R: Wait + Clock + Drop,
+    requires ours { store.old.store ≡ K.store }
+    requires idle { store.old.step ≡ Idle }
+    ensures same { store.new.store ≡ store.old.store }
+    ensures idle { OnOk result (store.new.step ≡ Idle) }
+{
+    let receipt = seal(&plane.shared.rt, store, draw)?;
+    plane.settle(receipt)?;
+    compact_on(store)
+}
+
+impl<K: Naming, D: Disk + Drop, R: Wait + Clock + Drop> Plane<K, D, R> {
+    // Waits until edits wait, and draws them. `None` where the plane is to stop and none does.
+    fn drawn(&self) -> Option<Draw> {
+        let shared = &self.shared;
+        let mut hall = shared.hall.lock(&shared.rt);
+        for _ in shared.rt.forever() {
+            match hall.draw() {
+                Ok(Some(draw)) => return Some(draw),
+                Ok(None) if hall.is_stopped() => return None,
+                Ok(None) => hall = shared.work.wait(&shared.rt, hall),
+                Err(_) => {
+                    drop(hall);
+                    pause(&shared.rt);
+                    hall = shared.hall.lock(&shared.rt);
+                }
+            }
+        }
+        unreachable!()
+    }
+
+    // Settles a batch, shows it and tells all who wait.
+    fn settle(&self, receipt: Receipt) -> Result<(), Broken>
+        requires { receipt.store ≡ K.store }
+    {
+        let shared = &self.shared;
+        let mut receipt = receipt;
+        for _ in shared.rt.forever() {
+            let mut hall = shared.hall.lock(&shared.rt);
+            match hall.settle(receipt) {
+                Ok(()) => {
+                    let shown = hall.publish();
+                    shared.news.notify_all();
+                    drop(hall);
+                    if shown.is_err() {
+                        self.publish();
+                    }
+                    return Ok(());
+                }
+                Err((SettleFault::Memory, given_back)) => receipt = given_back,
+                Err((SettleFault::Stranger, given_back)) => {
+                    given_back.forgo();
+                    return Err(Broken);
+                }
+            }
+            drop(hall);
+            pause(&shared.rt);
+        }
+        unreachable!()
+    }
+
+    // Shows what is settled, as soon as there is memory for it.
+    fn publish(&self) {
+        let shared = &self.shared;
+        for _ in shared.rt.forever() {
+            pause(&shared.rt);
+            let mut hall = shared.hall.lock(&shared.rt);
+            if hall.publish().is_ok() {
+                shared.news.notify_all();
+                return;
+            }
+        }
+    }
+
+    // The store failed.
+    fn fail(&self) {
+        self.shared.hall.lock(&self.shared.rt).fail();
+        self.shared.news.notify_all();
+    }
+
+    // Leaves the store.
+    fn leave(&self, store: OwnStore<D>)
+        requires { store.store ≡ K.store }
+    {
+        self.shared.hall.lock(&self.shared.rt).leave(store);
+        self.shared.news.notify_all();
+    }
+}

@@ -1,0 +1,328 @@
+//! What a plane's lock keeps.
+
+ghost use Rattle.std.specs.Prelude.{◌≡◌, ◌≢◌, ◌⊎◌, ◌<◌, ◌≤◌, ◌+◌, ◌++◌, [], ◌∷◌, true, None, Some, length, IfOk, IfErr, IfSome, OnOk, OnErr, IsTrue, ◌↔◌, MatchOption, MatchResult, All, vec_len, ◌||◌, ◌&&◌, ◌-◌};
+ghost use Rattle.fp_edit.specs.Edits.{proposal_of};
+ghost use Rattle.fp_edit.specs.Following.{change_of};
+ghost use Rattle.fp_desk.specs.Desk.{IsAccepted, IsDrawn, Draws, Refuses, SettlesNot, log, settled_front, settled_revision};
+ghost use Rattle.fp_group_commit.specs.Tokens.{front_revision};
+ghost use Rattle.fp_publish.specs.Fronts.{Begins};
+ghost use Rattle.fp_publish.specs.Seats.{IsNews, had_by};
+ghost use Rattle.fp_publish.specs.declared.board.TheConstants.{MOST_EVALUATORS};
+ghost use Rattle.fp_publish.specs.declared.seats.TheConstants.{MOST_SEATS};
+ghost use Rattle.fp_stream.specs.declared.hello.Hello.TheVariants.{Has};
+ghost use Rattle.std.specs.Vec.{vec_capacity};
+ghost use Rattle.fp_plane.specs.Hall.{IsAtRest, IsNew};
+
+use crate::naming::Naming;
+use crate::owned::{OwnBoard, OwnStore};
+use fp_desk::{Desk, SettleFault, SubmitFault, Ticket};
+use fp_disk::Disk;
+use fp_edit::Edit;
+use fp_group_commit::{Draw, Opening, Receipt, Told};
+use fp_publish::{Evaluator, Handed, MOST_EVALUATORS, Seat, Seats, SeatsUsed, Shown};
+use fp_stream::Hello;
+use std::alloc::{AllocError, Global};
+use std::marker::{Model, PhantomData};
+use std::sync::Wait;
+
+/// Somebody has each evaluator.
+#[derive(Debug, Drop, Clone, Copy, PartialEq, Eq)]
+pub struct EvaluatorsUsed;
+
+/// The desk and the board of one store, and what is lent of them.
+#[derive(Drop)]
+pub struct Hall<K: Naming, D: Disk + Drop, R: Wait + Drop> {
+    desk: Desk,
+    board: OwnBoard<R>,
+    idle: Vec<Evaluator>,
+    seats: Seats,
+    left: Option<OwnStore<D>>,
+    has_failed: bool,
+    is_closing: bool,
+    has_ended: bool,
+    alloc: Global,
+    of: PhantomData<K>,
+}
+
+impl<K: Naming, D: Disk + Drop, R: Wait + Drop> Model for Hall<K, D, R> {
+    ghost use Rattle.std.specs.Coded.{codes};
+    ghost use Rattle.std.specs.Prelude.{◌≤◌};
+    ghost use Rattle.std.specs.Vec.{vec_capacity};
+    ghost use Rattle.fp_edit.specs.Flags.{coded_state};
+    ghost use Rattle.fp_group_commit.specs.Changes.{coded_change};
+    ghost use Rattle.fp_publish.specs.declared.board.TheConstants.{MOST_EVALUATORS};
+    ghost use Rattle.fp_plane.specs.Hall.{HallState, IsKept};
+
+    ghost Value = { HallState D };
+
+    ghost coded = { Prim.hlevel (codes, coded_state, coded_change) };
+
+    ghost view = { λ h. record {
+      desk = h.desk;
+      shown = h.board;
+      idle = h.idle.items;
+      taken = h.seats.taken;
+      handed = h.seats.last;
+      failed = h.has_failed;
+      closing = h.is_closing;
+      ended = h.has_ended;
+      left = h.left;
+    } };
+
+    ghost invariant = { λ h. IsKept K.store (record {
+      desk = h.desk;
+      shown = h.board;
+      idle = h.idle.items;
+      taken = h.seats.taken;
+      handed = h.seats.last;
+      failed = h.has_failed;
+      closing = h.is_closing;
+      ended = h.has_ended;
+      left = h.left;
+    }) × (MOST_EVALUATORS ≤ vec_capacity h.idle) };
+}
+
+// As many evaluators of the board as it has room for.
+fn evaluators<R: Wait + Drop>(
+    alloc: Global,
+    board: &mut OwnBoard<R>,
+) -> Result<Vec<Evaluator>, AllocError>
+    ensures same { board.new ≡ board.old }
+    ensures rest { IfOk result (λ es. All (IsAtRest board.old.store) es.items) }
+    ensures all { IfOk result (λ es. vec_len es ≡ MOST_EVALUATORS) }
+    ensures room { IfOk result (λ es. MOST_EVALUATORS ≤ vec_capacity es) }
+{
+    let mut evaluators = Vec::with_capacity(alloc, MOST_EVALUATORS)?;
+    for _ in 0..MOST_EVALUATORS {
+        evaluators.push_reserved(board.evaluator()?);
+    }
+    Ok(evaluators)
+}
+
+impl<K: Naming, D: Disk + Drop, R: Wait + Drop> Hall<K, D, R> {
+    /// Over the opening of the store that it is of. Nothing was accepted yet.
+    pub fn new(
+        rt: R,
+        alloc: Global,
+        opening: Opening,
+    ) -> Result<Hall<K, D, R>, (AllocError, Opening)>
+        requires { opening ≡ K.store }
+        ensures new { IfOk result (IsNew K.store) }
+        ensures all { IfOk result (λ h. length h.idle ≡ MOST_EVALUATORS) }
+        ensures given_back { IfErr result (λ e. e.1 ≡ opening) }
+    {
+        let desk = match Desk::new(alloc, opening) {
+            Ok(desk) => desk,
+            Err(refused) => return Err(refused),
+        };
+        let Ok(mut board) = OwnBoard::new(rt, alloc, &desk) else {
+            return Err((AllocError, desk.into_opening()));
+        };
+        let Ok(idle) = evaluators(alloc, &mut board) else {
+            return Err((AllocError, desk.into_opening()));
+        };
+        Ok(Hall {
+            desk,
+            board,
+            idle,
+            seats: Seats::new(),
+            left: None,
+            has_failed: false,
+            is_closing: false,
+            has_ended: false,
+            alloc,
+            of: PhantomData,
+        })
+    }
+
+    // ---- editors
+
+    /// Puts an edit behind those that wait. The ticket names the store and the edit.
+    pub fn submit(&mut self, edit: Edit) -> Result<Ticket, (SubmitFault, Edit)>
+        ensures accepted { OnOk result (IsAccepted self.old.desk self.new.desk (proposal_of edit)) }
+        ensures ticket { IfOk result (λ t. (t.store ≡ K.store) × (t.edit ≡ change_of edit)) }
+        ensures revision { IfOk result (λ t.
+            t.revision ≡ K.store.start.revision + length (log self.new.desk)) }
+        ensures refused { IfErr result (λ e. Refuses self.old.desk (proposal_of edit) e.0) }
+        ensures given_back { IfErr result (λ e. e.1 ≡ edit) }
+        ensures unchanged { OnErr result (self.new ≡ self.old) }
+        ensures rest { self.new ≡ record self.old { desk = self.new.desk } }
+    {
+        self.desk.submit(edit)
+    }
+
+    /// What is told of a ticket: `Some` exactly where its edit is settled, and all that is settled is shown.
+    pub fn answer(&self, ticket: &Ticket) -> Option<(Told, Shown)>
+        ensures told { IfSome result (λ p.
+            (p.0.store ≡ K.store) × (ticket.now.revision ≤ front_revision p.0)) }
+        ensures shown { IfSome result (λ p. Begins p.0 p.1) }
+        ensures fronts { MatchOption result
+            ((settled_revision self.now.desk < ticket.now.revision)
+            ⊎ (front_revision self.now.shown < settled_revision self.now.desk))
+            (λ p. (p.0 ≡ settled_front self.now.desk) × (p.1 ≡ self.now.shown)) }
+    {
+        let told = self.desk.ack(ticket)?;
+        let shown = self.board.shown(&told)?;
+        Some((told, shown))
+    }
+
+    /// Whether no edit is settled any more: the store failed, or the flusher has ended.
+    pub fn is_over(&self) -> bool
+        ensures { result ≡ (self.now.failed || self.now.ended) }
+    {
+        self.has_failed || self.has_ended
+    }
+
+    // ---- the flusher
+
+    /// Draws what makes the longest batch, where nothing is out.
+    pub fn draw(&mut self) -> Result<Option<Draw>, AllocError>
+        ensures drawn { IfOk result (Draws self.old.desk self.new.desk) }
+        ensures unchanged { OnErr result (self.new ≡ self.old) }
+        ensures rest { self.new ≡ record self.old { desk = self.new.desk } }
+    {
+        self.desk.draw()
+    }
+
+    /// Whether the flusher is to end where nothing waits.
+    pub fn is_stopped(&self) -> bool
+        ensures { result ≡ (self.now.closing || self.now.failed) }
+    {
+        self.is_closing || self.has_failed
+    }
+
+    /// Spends a receipt for what is drawn.
+    pub fn settle(&mut self, receipt: Receipt) -> Result<(), (SettleFault, Receipt)>
+        requires { receipt.store ≡ K.store }
+        ensures drawn { OnOk result (IsDrawn self.old.desk receipt) }
+        ensures settled { OnOk result (self.new.desk ≡ record self.old.desk {
+          settled = self.old.desk.settled ++ self.old.desk.drawn;
+          drawn = [];
+        }) }
+        ensures refused { IfErr result (λ e. SettlesNot self.old.desk receipt e.0) }
+        ensures given_back { IfErr result (λ e. e.1 ≡ receipt) }
+        ensures unchanged { OnErr result (self.new ≡ self.old) }
+        ensures rest { self.new ≡ record self.old { desk = self.new.desk } }
+    {
+        self.desk.settle(receipt)
+    }
+
+    /// Shows what is settled.
+    pub fn publish(&mut self) -> Result<(), AllocError>
+        ensures published { OnOk result (self.new
+            ≡ record self.old { shown = settled_front self.old.desk }) }
+        ensures unchanged { OnErr result (self.new ≡ self.old) }
+    {
+        self.board.publish(&self.desk)
+    }
+
+    /// The store failed: no edit is taken any more, and none is settled.
+    pub fn fail(&mut self)
+        ensures { self.new ≡ record self.old {
+          desk = record self.old.desk { stopped = true };
+          failed = true;
+        } }
+    {
+        self.desk.stop();
+        self.has_failed = true;
+    }
+
+    /// No edit is taken any more. What waits goes on.
+    pub fn close(&mut self)
+        ensures { self.new ≡ record self.old {
+          desk = record self.old.desk { stopped = true };
+          closing = true;
+        } }
+    {
+        self.desk.stop();
+        self.is_closing = true;
+    }
+
+    /// The flusher has ended, and leaves its store.
+    pub fn leave(&mut self, store: OwnStore<D>)
+        requires { store.store ≡ K.store }
+        ensures { self.new ≡ record self.old { ended = true; left = Some store } }
+    {
+        self.left = Some(store);
+        self.has_ended = true;
+    }
+
+    /// Takes the store that the flusher left.
+    pub fn take_store(&mut self) -> Option<OwnStore<D>>
+        ensures ours { IfSome result (λ s. s.store ≡ K.store) }
+        ensures taken { result ≡ self.old.left }
+        ensures rest { self.new ≡ record self.old { left = None } }
+    {
+        self.left.take()
+    }
+
+    // ---- evaluators
+
+    /// An evaluator that nobody has.
+    pub fn evaluator(&mut self) -> Result<Evaluator, EvaluatorsUsed>
+        ensures ours { IfOk result (λ e. (e.known.store ≡ K.store) × (e.lent ≡ None)) }
+        ensures lent { IfOk result (λ e. self.old.idle ≡ self.new.idle ++ e ∷ []) }
+        ensures used { OnErr result ((self.old.idle ≡ []) × (self.new ≡ self.old)) }
+        ensures rest { self.new ≡ record self.old { idle = self.new.idle } }
+    {
+        match self.idle.pop() {
+            Some(evaluator) => Ok(evaluator),
+            None => Err(EvaluatorsUsed),
+        }
+    }
+
+    /// Takes an evaluator back. It is let go of where none is out.
+    pub fn give_back(&mut self, evaluator: Evaluator)
+        requires { evaluator.known.store ≡ K.store }
+        ensures back { length self.old.idle < MOST_EVALUATORS → self.new.idle
+            ≡ self.old.idle ++ (record { known = evaluator.known; lent = None }) ∷ [] }
+        ensures none_out { MOST_EVALUATORS ≤ length self.old.idle → self.new ≡ self.old }
+        ensures rest { self.new ≡ record self.old { idle = self.new.idle } }
+    {
+        let mut evaluator = evaluator;
+        evaluator.rest();
+        if self.idle.len() < MOST_EVALUATORS {
+            self.idle.push_reserved(evaluator);
+        }
+    }
+
+    // ---- subscribers
+
+    /// A seat for a subscriber that has this.
+    pub fn seat(&mut self, hello: Hello) -> Result<Seat, SeatsUsed>
+        ensures taken { MatchResult result
+            (λ s. (self.old.taken < MOST_SEATS) × (self.new.taken ≡ self.old.taken + 1) × (had_by s ≡ hello))
+            (λ _. (MOST_SEATS ≤ self.old.taken) × (self.new.taken ≡ self.old.taken)) }
+        ensures rest { self.new ≡ record self.old { taken = self.new.taken } }
+    {
+        self.seats.seat(hello)
+    }
+
+    /// Takes a seat back.
+    pub fn unseat(&mut self, seat: Seat)
+        ensures { self.new ≡ record self.old { taken = self.old.taken - 1 } }
+    {
+        self.seats.unseat(seat);
+    }
+
+    /// Hands what is shown to a subscriber that hasn't got it.
+    pub fn hand(&mut self, seat: &mut Seat) -> Result<Option<Handed>, AllocError>
+        ensures handed { IfOk result (λ o. MatchOption o
+            (¬ IsNews (had_by seat.old) self.old.shown × (had_by seat.new ≡ had_by seat.old))
+            (λ h. IsNews (had_by seat.old) self.old.shown × (h ≡ self.old.shown)
+            × (had_by seat.new ≡ Has (front_revision self.old.shown)))) }
+        ensures ours { IfOk result (λ o. IfSome o (λ h. h.store ≡ K.store)) }
+        ensures unchanged { OnErr result (seat.new ≡ seat.old) }
+        ensures rest { self.new ≡ record self.old { handed = self.new.handed } }
+    {
+        let view = self.board.view();
+        self.seats.hand(self.alloc, &view, seat)
+    }
+
+    /// Whether nothing more is shown, and subscribers are to go.
+    pub fn is_closed(&self) -> bool
+        ensures { result ≡ (self.now.closing && self.now.ended) }
+    {
+        self.is_closing && self.has_ended
+    }
+}

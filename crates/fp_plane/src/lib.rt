@@ -1,0 +1,21 @@
+//! Editors, evaluators, subscribers and a flusher in threads, over one desk and one board.
+#![tactic(auto)]
+
+mod answer;
+mod editor;
+mod flushing;
+mod hall;
+mod line;
+mod naming;
+mod owned;
+mod plane;
+mod sealing;
+mod subscriber;
+
+pub use editor::editor_loop;
+pub use flushing::flusher;
+pub use hall::{EvaluatorsUsed, Hall};
+pub use naming::Naming;
+pub use owned::OwnStore;
+pub use plane::Plane;
+pub use subscriber::{SubscriberFault, subscriber_loop};

@@ -1,0 +1,91 @@
+//! The line that is coming in, as `apply` reads one too.
+
+ghost use Rattle.std.specs.Prelude.{◌≡◌, ◌+◌, ◌++◌, ◌^◌, ◌<◌, ◌==◌, [], List, ℕ, OnOk, IfSome, MatchOption, length, position, true, false};
+ghost use Rattle.std.specs.List.{list_all};
+ghost use Rattle.fp_edit.specs.Line.{line_of};
+ghost use Rattle.fp_session.specs.Lines as lines;
+ghost use Rattle.fp_session.specs.Progress.{AsksFor, cut};
+
+use fp_edit::{Edit, LONGEST_LINE, LineFault, parse_line};
+use std::alloc::{AllocError, Global};
+
+/// The line that is coming in, at most one byte more of it than is looked at.
+#[derive(Drop)]
+pub struct IncomingLine {
+    bytes: Vec<u8>,
+}
+
+impl IncomingLine {
+    /// Nothing has come in yet.
+    pub fn new(alloc: Global) -> IncomingLine
+        ensures { result.bytes.items ≡ [] }
+    {
+        IncomingLine {
+            bytes: Vec::new(alloc),
+        }
+    }
+
+    /// Adds to the line.
+    pub fn extend(&mut self, piece: &[u8]) -> Result<(), AllocError>
+        ensures grown { OnOk result ((line : List ℕ) → self.old.bytes.items ≡ cut line
+            → self.new.bytes.items ≡ cut (line ++ piece.now)) }
+    {
+        let room = (LONGEST_LINE + 1).saturating_sub(self.bytes.len());
+        let part = &piece[..piece.len().min(room)];
+        self.bytes.extend_from_slice(part)?;
+        Ok(())
+    }
+
+    /// Ends the line, and gives what it asks; a blank one asks nothing.
+    pub fn end(&mut self, alloc: Global) -> Option<Result<Edit, LineFault>>
+        ensures asks { (line : List ℕ) → self.old.bytes.items ≡ cut line
+            → MatchOption result (lines.is_blank line ≡ true)
+            (λ edit. (lines.is_blank line ≡ false) × AsksFor edit (line_of line)) }
+        ensures ended { self.new.bytes.items ≡ [] }
+    {
+        let edit = asked_by(alloc, &self.bytes);
+        self.bytes.clear();
+        edit
+    }
+}
+
+// What a line asks.
+fn asked_by(alloc: Global, line: &[u8]) -> Option<Result<Edit, LineFault>>
+    ensures { MatchOption result (lines.is_blank line.now ≡ true)
+        (λ edit. (lines.is_blank line.now ≡ false) × AsksFor edit (line_of line.now)) }
+{
+    if is_blank(line) {
+        return None;
+    }
+    match parse_line(alloc, line) {
+        Ok(edit) => Some(Ok(edit)),
+        Err(fault) => Some(Err(fault)),
+    }
+}
+
+/// The place of the first newline.
+pub fn newline_in(bytes: &[u8]) -> Option<usize>
+    ensures first { result ≡ position (λ b. b == 10) bytes.now }
+    ensures within { IfSome result (λ at. at < length bytes.now) }
+    ensures counted { IfSome result (λ at. at + 1 < 2 ^ 64) }
+{
+    bytes.iter().position(|b| *b == b'\n')
+}
+
+fn is_space(byte: u8) -> bool
+    ensures { result ≡ lines.is_space byte }
+{
+    byte == b' ' || (byte == b'\t' || byte == b'\r')
+}
+
+fn all_spaces(line: &[u8]) -> bool
+    ensures { result ≡ list_all lines.is_space line.now }
+{
+    line.iter().all(|b| is_space(*b))
+}
+
+fn is_blank(line: &[u8]) -> bool
+    ensures { result ≡ lines.is_blank line.now }
+{
+    line.len() <= LONGEST_LINE && all_spaces(line)
+}

@@ -1,0 +1,148 @@
+//! The plane: what threads share.
+
+ghost use Rattle.std.specs.Prelude.{◌≡◌, ◌≤◌, None, IfOk, IfErr, IfSome};
+ghost use Rattle.fp_edit.specs.Following.{change_of};
+ghost use Rattle.fp_group_commit.specs.Tokens.{front_revision};
+ghost use Rattle.fp_publish.specs.Fronts.{Begins};
+ghost use Rattle.fp_publish.specs.Seats.{had_by};
+
+use crate::hall::{EvaluatorsUsed, Hall};
+use crate::naming::Naming;
+use fp_desk::{SubmitFault, Ticket};
+use fp_disk::Disk;
+use fp_edit::Edit;
+use fp_group_commit::{Opening, Store, Told};
+use fp_publish::{Evaluator, Seat, SeatsUsed, Shown};
+use fp_stream::Hello;
+use std::alloc::{AllocError, Global};
+use std::sync::{Arc, Condvar, Mutex, Wait};
+
+// What the handles of a plane share.
+#[derive(Drop)]
+pub(crate) struct Shared<K: Naming, D: Disk + Drop, R: Wait + Drop> {
+    pub(crate) rt: R,
+    pub(crate) hall: Mutex<Hall<K, D, R>>,
+    // For the flusher: an edit waits, or the plane is to stop.
+    pub(crate) work: Condvar,
+    // For all others: something was settled and shown, or the plane is over.
+    pub(crate) news: Condvar,
+}
+
+/// A handle of a plane: one desk and one board under a lock, which editors, evaluators, subscribers and a flusher share.
+/// A plane is over the store that `K` names.
+#[derive(Drop)]
+pub struct Plane<K: Naming, D: Disk + Drop, R: Wait + Drop> {
+    pub(crate) shared: Arc<Shared<K, D, R>, Global>,
+}
+
+impl<K: Naming, D: Disk + Drop, R: Wait + Copy + Drop> Plane<K, D, R> {
+    /// Over the opening of the store that the plane is of. Where memory is wanting the opening is lost, and the store's disk
+    /// is to be opened again.
+    pub fn new(rt: R, alloc: Global, opening: Opening) -> Result<Plane<K, D, R>, AllocError>
+        requires { opening ≡ K.store }
+    {
+        let Ok(hall) = Hall::new(rt, alloc, opening) else {
+            return Err(AllocError);
+        };
+        let shared = Shared {
+            rt,
+            hall: Mutex::new(hall),
+            work: Condvar::new(),
+            news: Condvar::new(),
+        };
+        Ok(Plane {
+            shared: Arc::new(alloc, shared)?,
+        })
+    }
+}
+
+impl<K: Naming, D: Disk + Drop, R: Wait + Drop> Plane<K, D, R> {
+    /// One handle more.
+    pub fn try_copy(&self) -> Result<Plane<K, D, R>, AllocError> {
+        Ok(Plane {
+            shared: Arc::try_clone(&self.shared)?,
+        })
+    }
+
+    // ---- editors
+
+    /// Hands an edit in. The ticket names the plane's store and the edit.
+    pub fn submit(&self, edit: Edit) -> Result<Ticket, (SubmitFault, Edit)>
+        ensures ticket { IfOk result (λ t. (t.store ≡ K.store) × (t.edit ≡ change_of edit)) }
+        ensures given_back { IfErr result (λ e. e.1 ≡ edit) }
+    {
+        let shared = &self.shared;
+        let submitted = shared.hall.lock(&shared.rt).submit(edit);
+        shared.work.notify_one();
+        submitted
+    }
+
+    /// Waits until the ticket's edit is settled and shown. `None` where the store failed, or the flusher ended, before.
+    pub fn wait(&self, ticket: Ticket) -> Option<(Told, Shown)>
+        ensures told { IfSome result (λ p.
+            (p.0.store ≡ K.store) × (ticket.revision ≤ front_revision p.0)) }
+        ensures shown { IfSome result (λ p. Begins p.0 p.1) }
+    {
+        let shared = &self.shared;
+        let mut hall = shared.hall.lock(&shared.rt);
+        for _ in shared.rt.forever() {
+            if let Some(told) = hall.answer(&ticket) {
+                return Some(told);
+            }
+            if hall.is_over() {
+                return None;
+            }
+            hall = shared.news.wait(&shared.rt, hall);
+        }
+        unreachable!()
+    }
+
+    // ---- evaluators
+
+    /// An evaluator of the plane's board, refused where all are out.
+    pub fn evaluator(&self) -> Result<Evaluator, EvaluatorsUsed>
+        ensures { IfOk result (λ e. (e.known.store ≡ K.store) × (e.lent ≡ None)) }
+    {
+        self.shared.hall.lock(&self.shared.rt).evaluator()
+    }
+
+    /// Takes an evaluator back.
+    pub fn give_back(&self, evaluator: Evaluator)
+        requires { evaluator.known.store ≡ K.store }
+    {
+        self.shared.hall.lock(&self.shared.rt).give_back(evaluator)
+    }
+
+    // ---- subscribers
+
+    /// A seat for a subscriber that has this.
+    pub fn seat(&self, hello: Hello) -> Result<Seat, SeatsUsed>
+        ensures { IfOk result (λ s. had_by s ≡ hello) }
+    {
+        self.shared.hall.lock(&self.shared.rt).seat(hello)
+    }
+
+    /// Takes a seat back.
+    pub fn unseat(&self, seat: Seat) {
+        self.shared.hall.lock(&self.shared.rt).unseat(seat)
+    }
+
+    // ---- the end
+
+    /// No edit is taken any more. Waits until what was taken is settled and the flusher has ended, and gives its store back.
+    pub fn stop(self) -> Store<D>
+        ensures { result.store ≡ K.store }
+    {
+        let shared = &self.shared;
+        let mut hall = shared.hall.lock(&shared.rt);
+        hall.close();
+        shared.work.notify_all();
+        for _ in shared.rt.forever() {
+            if let Some(store) = hall.take_store() {
+                return store.into_store();
+            }
+            hall = shared.news.wait(&shared.rt, hall);
+        }
+        unreachable!()
+    }
+}
