@@ -1,12 +1,11 @@
 -- What a run over a session leaves of it and of its disk.
-use Rattle.std.proofs.Common.{◌≡◌, ◌⊎◌, ◌<◌, ◌≤◌, ◌++◌, ◌∷◌, [], ℕ, List, Option, Ok, Err, Result, sym, ap, subst, inl, inr, ◌∙◌, arith}
+use Rattle.std.proofs.Common.{◌≡◌, ◌⊎◌, ◌<◌, ◌≤◌, ◌++◌, ◌∷◌, [], ℕ, Bool, List, Option, Ok, Err, Result, sym, ap, subst, inl, inr, ◌∙◌, arith}
 use Rattle.std.proofs.lemmas.Option.{IfSome_then}
 use Rattle.fp_disk.specs.Crashes.{AtAnyMoment, EachCrash, SameHonesty}
 use Rattle.fp_disk.specs.Moments.{leaves_map, leaves_then}
 use Rattle.fp_disk.specs.Outcomes.{IsOutcome, LeavesOnly}
 use Rattle.fp_disk.specs.declared.disk.Disk.{Ghosts}
 use Rattle.fp_disk.specs.declared.history.CallKind.{CallKind}
-use Rattle.fp_disk.specs.declared.history.CallKind.TheVariants.{Length, Read, Sync}
 use Rattle.fp_edit.specs.Flags.{State}
 use Rattle.fp_edit.specs.Log.{after_all}
 use Rattle.fp_recovery.specs.Durable.{IsDurable}
@@ -15,14 +14,17 @@ use Rattle.fp_recovery.specs.Stands.{StandsFor}
 use Rattle.fp_group_commit.specs.Changes.{batch_len}
 use Rattle.fp_session.specs.Asks.{Ask}
 use Rattle.fp_session.specs.Run.{IsAfterPrefix, IsToldBy}
-use Rattle.fp_session.specs.Session.{calls_of, disk_of, Fails, flags_of, HasPlace, IsAhead, IsReady, Keeps, LacksRoomFor, LeavesFlags, SessionState, StandsAhead}
-use Rattle.fp_session.specs.SessionLaws.{flags_as, flags_on, keeps_itself, keeps_on}
+use Rattle.fp_disk.specs.History.{MakesSome}
+use Rattle.fp_slots.specs.declared.slots.Step.{Step}
+use Rattle.fp_slots.specs.declared.slots.Step.TheVariants.{Begin}
+use Rattle.fp_session.specs.Session.{BreaksOff, Leads, calls_of, disk_of, work_calls, Fails, flags_of, HasPlace, IsAhead, IsReady, Keeps, LacksRoomFor, LeavesFlags, SessionState, StandsAhead}
+use Rattle.fp_session.specs.SessionLaws.{breaks_on, flags_as, flags_on, keeps_itself, keeps_on, works_break}
 use Rattle.fp_session.specs.StoreRun.{FailsFrom, StoreRun}
 use Rattle.fp_session.specs.declared.commit.CommitFault.TheVariants as commit
 use Rattle.fp_session.specs.declared.edit_store.EditStore.{Ghosts as StoreGhosts}
 use Rattle.fp_session.specs.declared.fault.ApplyFault.{ApplyFault}
 use Rattle.fp_session.specs.declared.fault.ApplyFault.TheVariants.{Device, StoreFailed, Memory, CommitMemory}
-use Rattle.fp_commands.specs.Disks.{Asked, CallsBatches, IsLeftOnDisk, IsToldOnDisk, LacksRoom}
+use Rattle.fp_commands.specs.Disks.{Asked, CallsSomeWorks, CallsWorks, IsLeftOnDisk, IsToldOnDisk, LacksRoom, opened}
 use Rattle.fp_commands.specs.Faults.{of_run}
 use Rattle.fp_commands.specs.declared.fault.CommandFault.{CommandFault}
 use Rattle.fp_commands.specs.declared.fault.CommandFault.TheVariants as command
@@ -50,6 +52,7 @@ session_store disk = record {
   state = λ s. flags_of s;
   may_stand = λ s flags. IsAhead s.desk flags;
   has_place = λ s change. HasPlace s change;
+  rests = λ s. s.store.slots.step ≡ Begin;
   continues_to = λ a b. Keeps disk a b;
   fails_on = λ f a b. Fails disk f a b;
   leaves = λ a b P. LeavesFlags disk a b P;
@@ -60,7 +63,7 @@ session_store disk = record {
 }
 
 module _ {D : Type 0} (disk : Ghosts D) (d0 d1 : D) (s k : SessionState D) (stands : disk.honest d0 → StandsFor (disk.bytes d0) (flags_of s))
-    (only : disk.honest d0 → (other : State) → StandsFor (disk.bytes d0) other → other ≡ flags_of s) (opened : AtAnyMoment disk d0 (disk_of s) (IsOutcome (disk.unsynced d0)))
+    (only : disk.honest d0 → (other : State) → StandsFor (disk.bytes d0) other → other ≡ flags_of s) (read : AtAnyMoment disk d0 (disk_of s) (IsOutcome (disk.unsynced d0)))
     (honest : SameHonesty disk d0 (disk_of s)) (here : d1 ≡ disk_of k) (P : State → Type 0) (moved : LeavesFlags disk s k P) (left : Option (List ℕ)) (Reads : List ℕ → List Ask → Type 0)
     (joins : (u v : State) → P u → P v → Asked left Reads (λ asks. IsAfterPrefix (flags_of s) asks u × IsAfterPrefix (flags_of s) asks v)) where
   leads : disk.honest d0 → (c : List ℕ) → ((u : State) × P u × StandsFor c u) → IsLeftOnDisk (disk.bytes d0) c left Reads
@@ -76,7 +79,7 @@ module _ {D : Type 0} (disk : Ghosts D) (d0 d1 : D) (s k : SessionState D) (stan
   ran-any_moment = λ h.
       let m = disk.moment in let since = disk.crash_states_since in let Q : List ℕ → Type 0 = λ c. IsOutcome (disk.unsynced d0) c ⊎ IsLeftOnDisk (disk.bytes d0) c left Reads in
       subst (λ x. LeavesOnly m since d0 x Q) (sym here)
-      (leaves_then m since d0 (disk_of s) (disk_of k) Q (leaves_map m since d0 (disk_of s) (IsOutcome (disk.unsynced d0)) Q (λ c o. inl o) (opened h))
+      (leaves_then m since d0 (disk_of s) (disk_of k) Q (leaves_map m since d0 (disk_of s) (IsOutcome (disk.unsynced d0)) Q (λ c o. inl o) (read h))
       (leaves_map m since (disk_of s) (disk_of k) (λ c. (u : State) × P u × StandsFor c u) Q (λ c t. inr (leads h c t)) (moved.1 (honest.0 h))))
 
   -- at its end
@@ -111,8 +114,30 @@ module _ {D : Type 0} (disk : Ghosts D) (d0 d1 : D) (s k : SessionState D) (stan
       by_cause (inr more) = let same = led.no_failure in let at = ap disk.faults here in inr (omega (arith, more, same, at, well))
 
   -- ---- where it went on
-  pub ran-called : Keeps disk s k → disk.calls (disk_of s) ≡ disk.calls d0 ++ Sync ∷ Length ∷ Read ∷ [] → CallsBatches (disk.calls d0) (disk.calls d1)
-  ran-called went called = (went.called.0, ap disk.calls here ∙ went.called.1 ∙ ap (λ (l : List CallKind). l ++ calls_of went.called.0) called)
+  pub ran-called : Keeps disk s k → s.store.slots.step ≡ Begin → k.store.slots.step ≡ Begin → disk.calls (disk_of s) ≡ opened (disk.calls d0) → CallsWorks (disk.calls d0) (disk.calls d1)
+  ran-called went first last called = record {
+    works = went.called.works;
+    lead = subst (λ (p : Step). Leads p went.called.works Begin) first (subst (λ (p : Step). Leads s.store.slots.step went.called.works p) last went.called.lead);
+    calls = ap disk.calls here ∙ went.called.calls ∙ ap (λ (l : List CallKind). l ++ calls_of went.called.works) called;
+  }
+
+  -- and where it broke off
+  broke : BreaksOff disk s.store k.store → s.store.slots.step ≡ Begin → disk.calls (disk_of s) ≡ opened (disk.calls d0) → CallsSomeWorks (disk.calls d0) (disk.calls d1)
+  broke off first called = record {
+    works = off.works;
+    next = off.next;
+    last = off.last;
+    lead = subst (λ (p : Step). Leads p off.works off.next) first off.lead;
+    may = off.may;
+    calls = subst (λ (l : List CallKind). MakesSome (work_calls off.last) (opened (disk.calls d0) ++ calls_of off.works) l) (sym (ap disk.calls here))
+        (subst (λ (l : List CallKind). MakesSome (work_calls off.last) (l ++ calls_of off.works) (disk.calls (disk_of k))) called off.calls);
+  }
+
+  pub ran-broke : (f : ApplyFault) → StoreRun {A = Bool} (session_store disk) P s k (Err f) → s.store.slots.step ≡ Begin → disk.calls (disk_of s) ≡ opened (disk.calls d0) → CallsSomeWorks (disk.calls d0) (disk.calls d1)
+  ran-broke Device went first called = broke (works_break disk s.store k.store went.called) first called
+  ran-broke Memory went first called = broke (works_break disk s.store k.store went.called) first called
+  ran-broke StoreFailed failed first called = broke (breaks_on disk s.store failed.before.store k.store failed.led.called failed.failed.called) first called
+  ran-broke CommitMemory failed first called = broke (breaks_on disk s.store failed.before.store k.store failed.led.called failed.failed.called) first called
 
   pub ran-sure : EachCrash disk d1 (StandsAhead k.desk) → ((u : State) → IsAhead k.desk u → u ≡ flags_of k) → disk.honest d0 → IsDurable (disk.unsynced d1) (flags_of k)
   ran-sure keeps settled h = λ c o. let t = keeps (ran-honest.0 h) c o in subst (λ u. StandsFor c u) (settled t.0 t.1) t.2

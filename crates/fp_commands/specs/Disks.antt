@@ -14,7 +14,9 @@ use Rattle.fp_edit.specs.Edits.{Change}
 use Rattle.fp_edit.specs.Log.{after_all}
 use Rattle.fp_session.specs.Asks.{Ask, asked_by_flags, asked_by_input}
 use Rattle.fp_session.specs.Run.{after, IsAfterPrefix, IsRunWritten, IsToldBy, script, show_line}
-use Rattle.fp_session.specs.Session.{calls_of}
+use Rattle.fp_session.specs.Session.{Leads, MayCome, Work, calls_of, work_calls}
+use Rattle.fp_slots.specs.declared.slots.Step.{Step}
+use Rattle.fp_slots.specs.declared.slots.Step.TheVariants.{Begin}
 use Rattle.fp_session.specs.declared.fault.ApplyFault.{ApplyFault}
 use Rattle.fp_disk.specs.declared.history.CallKind.{CallKind}
 use Rattle.fp_recovery.specs.Durable.{IsDurable}
@@ -151,7 +153,7 @@ IsUnbegun disk fault before after old new = (fault ≢ StoreFailed) × (new ≡ 
     × IsOnlyRead disk before after
 
 -- Flags that some first of what is asked led to, and edits behind them that more of it asks for, for which whatever a
--- crash leaves of the disk has no room
+-- crash leaves of the disk has no room, and no generation to make it
 pub record LacksRoom (is_honest : Type 0) (bytes : List ℕ) (now : PendingState) (left : Option
     (List ℕ))
     (Reads : List ℕ → List Ask → Type 0) : Type 0 where
@@ -164,9 +166,29 @@ pub record LacksRoom (is_honest : Type 0) (bytes : List ℕ) (now : PendingState
       × IsAfterPrefix start asks (after_all flags batch))
   pub full : is_honest → IsFull now flags (batch_len (record { first = 0; changes = batch }))
 
--- the disk was opened, and its calls then were those of whole batches
-abbrev pub CallsBatches : (old new : List CallKind) → Type 0
-CallsBatches old new = (n : ℕ) × (new ≡ (old ++ Sync ∷ Length ∷ Read ∷ []) ++ calls_of n)
+-- the calls of a disk that was opened
+abbrev pub opened : List CallKind → List CallKind
+opened old = old ++ Sync ∷ Length ∷ Read ∷ []
+
+-- it was opened, and its calls then were those of batches and of whole compactions beside them
+pub record CallsWorks (old new : List CallKind) : Type 0 where
+  pub works : List Work
+  pub lead : Leads Begin works Begin
+  pub calls : new ≡ opened old ++ calls_of works
+
+-- it was opened, and its calls then were those of batches, of steps of compactions, and some first ones of one more
+pub record CallsSomeWorks (old new : List CallKind) : Type 0 where
+  pub works : List Work
+  pub next : Step
+  pub last : Work
+  pub lead : Leads Begin works next
+  pub may : MayCome next last
+  pub calls : MakesSome (work_calls last) (opened old ++ calls_of works) new
+
+-- the calls of a run, where a fault ended it perhaps in the course of opening the disk
+abbrev pub CallsOfRun : {A : Type 0} → (old new : List CallKind) → Result A CommandFault → Type 0
+CallsOfRun old new (Ok x) = CallsWorks old new
+CallsOfRun old new (Err f) = MakesSome (Sync ∷ Length ∷ Read ∷ []) old new ⊎ CallsSomeWorks old new
 
 -- ---- what failed
 

@@ -14,7 +14,7 @@ use Rattle.fp_session.specs.Asks.{Ask, asked_by_input}
 use Rattle.fp_session.specs.Run.{IsRunWritten}
 use Rattle.fp_session.specs.declared.replies.TheConstants.{MOST_WAITING}
 use Rattle.fp_streams.specs.Failures.{Stream}
-use Rattle.fp_commands.specs.Disks.{AskedByDocument, AskedByLines, Blames, CallsBatches, IfFileRefused, IfRefused, IsApplyingFault, IsImportingFault, IsLeftOnDisk, IsMakingFault, IsOnlyRead, IsRunOnDisk, IsShowingFault, IsShown, IsStreamFault, IsToldOnDisk, IsUnbegun, LacksRoom}
+use Rattle.fp_commands.specs.Disks.{AskedByDocument, AskedByLines, Blames, CallsOfRun, IfFileRefused, IfRefused, IsApplyingFault, IsImportingFault, IsLeftOnDisk, IsMakingFault, IsOnlyRead, IsRunOnDisk, IsShowingFault, IsShown, IsStreamFault, IsToldOnDisk, IsUnbegun, LacksRoom}
 use Rattle.fp_commands.specs.Eval.{IsEvaluated}
 use Rattle.fp_commands.specs.Task.{no_flags}
 use Rattle.fp_commands.specs.declared.fault.CommandFault.{CommandFault}
@@ -91,7 +91,7 @@ pub record RunsOnDisk {F R W D : Type 0} (disk : DiskGhosts D) (remaining : R
       (disk.unsynced after)
       (remaining old.reader.inner) Reads told (contents old.writer.inner)
       (contents new.writer.inner))
-  pub called : OnOk outcome (CallsBatches (disk.calls before) (disk.calls after))
+  pub called : CallsOfRun (disk.calls before) (disk.calls after) outcome
   pub left : disk.honest before →
       IsLeftOnDisk (disk.bytes before) (disk.bytes after) (remaining old.reader.inner) Reads
   pub any_moment : AtAnyMoment disk before after (λ c. IsOutcome (disk.unsynced before) c

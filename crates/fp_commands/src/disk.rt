@@ -10,7 +10,7 @@ ghost use Rattle.fp_layout.specs.NewDisk.{IsNewDisk, format_calls};
 ghost use Rattle.fp_session.specs.Run.{show_line};
 ghost use Rattle.fp_session.specs.declared.replies.TheConstants.{MOST_WAITING};
 ghost use Rattle.fp_recovery.specs.Durable.{IsNewSetOrNone, IsDurable};
-ghost use Rattle.fp_commands.specs.Disks.{AskedByDocument, AskedByLines, Blames, CallsBatches, IfFileRefused, IfRefused, IsApplyingFault, IsImportingFault, IsLeftOnDisk, IsMakingFault, IsOnlyRead, IsRunOnDisk, IsShowingFault, IsShown, IsStreamFault, IsToldOnDisk, IsUnbegun, LacksRoom};
+ghost use Rattle.fp_commands.specs.Disks.{AskedByDocument, AskedByLines, Blames, CallsOfRun, IfFileRefused, IfRefused, IsApplyingFault, IsImportingFault, IsLeftOnDisk, IsMakingFault, IsOnlyRead, IsRunOnDisk, IsShowingFault, IsShown, IsStreamFault, IsToldOnDisk, IsUnbegun, LacksRoom};
 ghost use Rattle.fp_commands.specs.Task.{no_flags};
 ghost use Rattle.fp_commands.specs.declared.fault.CommandFault.TheVariants.{Device, Memory, NotEmpty, StoreFailed};
 
@@ -82,7 +82,8 @@ pub fn show_disk<D: Disk, W: Write>(
 }
 
 /// Answers each line of the reader in order over what a disk stands for, and shows the flags behind the last reply. Each
-/// edit is sealed on the disk before it is answered. `Ok(false)` says that a reply told of wanting memory.
+/// edit is sealed on the disk before it is answered. Where a slot runs short a compaction goes on beside the edits, and is
+/// ended before the flags are shown. `Ok(false)` says that a reply told of wanting memory.
 pub fn apply_disk<D: Disk, R: Read, W: Write>(
     alloc: Global,
     r: &mut FailureCounted<R>,
@@ -92,7 +93,7 @@ pub fn apply_disk<D: Disk, R: Read, W: Write>(
     ensures run { IfOk result.1 (λ told. IsRunOnDisk (D.honest disk) (D.bytes disk)
         (D.unsynced result.0) (R.remaining r.old.inner) AskedByLines told
         (W.contents w.old.inner) (W.contents w.new.inner)) }
-    ensures called { OnOk result.1 (CallsBatches (D.calls disk) (D.calls result.0)) }
+    ensures called { CallsOfRun (D.calls disk) (D.calls result.0) result.1 }
 
     // Whatever comes back, the disk stands for what some first lines leave, and so does whatever a crash leaves at any
     // moment, but for what one might have left before.
@@ -110,7 +111,7 @@ pub fn apply_disk<D: Disk, R: Read, W: Write>(
     ensures fault { IfErr result.1 (IsApplyingFault (D.honest disk) (D.bytes disk)) }
     ensures nothing_written { IfErr result.1 (IfRefused (w.new ≡ w.old)) }
 
-    // The store fails where the disk does, or has no room for edits that are asked for.
+    // The store fails where the disk does, or has no room for edits that are asked for and no generation to make it.
     ensures cause { IfErr result.1 (λ f. f ≡ StoreFailed
         → LacksRoom (D.honest disk) (D.bytes disk) (D.unsynced result.0)
         (R.remaining r.old.inner) AskedByLines ⊎ (D.faults disk < D.faults result.0)) }
@@ -149,7 +150,7 @@ pub fn import_disk<D: Disk, R: Read, W: Write>(
     ensures run { IfOk result.1 (λ told. IsRunOnDisk (D.honest disk) (D.bytes disk)
         (D.unsynced result.0) (R.remaining r.old.inner) AskedByDocument told
         (W.contents w.old.inner) (W.contents w.new.inner)) }
-    ensures called { OnOk result.1 (CallsBatches (D.calls disk) (D.calls result.0)) }
+    ensures called { CallsOfRun (D.calls disk) (D.calls result.0) result.1 }
 
     // Whatever comes back, the disk stands for what some first puts leave, and so does whatever a crash leaves at any
     // moment, but for what one might have left before.
@@ -167,7 +168,7 @@ pub fn import_disk<D: Disk, R: Read, W: Write>(
     ensures fault { IfErr result.1 (IsImportingFault (D.honest disk) (D.bytes disk) (R.remaining r.old.inner)) }
     ensures nothing_written { IfErr result.1 (IfRefused (w.new ≡ w.old)) }
 
-    // The store fails where the disk does, or has no room for edits that are asked for.
+    // The store fails where the disk does, or has no room for edits that are asked for and no generation to make it.
     ensures cause { IfErr result.1 (λ f. f ≡ StoreFailed
         → LacksRoom (D.honest disk) (D.bytes disk) (D.unsynced result.0)
         (R.remaining r.old.inner) AskedByDocument ⊎ (D.faults disk < D.faults result.0)) }

@@ -1,6 +1,10 @@
 -- What slots keep, as sets of flags.
-use Rattle.std.proofs.Common.{◌≡◌, ◌⊎◌, inl, inr, ⊎_elim, Bool, true, false, ℕ, ◌+◌, ◌-◌, ◌/◌, ◌≤◌, List, [], ◌∷◌, ◌++◌, length, refl, sym, ◌∙◌, ap, subst, arith}
-use Rattle.std.proofs.lemmas.List.{append-nil}
+use Rattle.std.proofs.Common.{◌≡◌, ◌⊎◌, inl, inr, ⊎_elim, Bool, true, false, ℕ, ◌+◌, ◌-◌, ◌/◌, ◌^◌, ◌<◌, ◌≤◌, List, [], ◌∷◌, ◌++◌, length, take, drop, refl, sym, ◌∙◌, ap, subst, arith, append_assoc}
+use Rattle.std.specs.Int.{w32, w64, from_be_bytes, to_be_bytes}
+use Rattle.std.proofs.lemmas.List.{append-nil, take_at}
+use Rattle.std.proofs.lemmas.Nat.{from_be_bytes-to_be_bytes_8}
+use Rattle.fp_gate.specs.declared.gate.TheConstants.{OPEN}
+use Rattle.fp_slots.specs.declared.places.TheConstants.{VERSION}
 use Rattle.fp_disk.specs.Outcomes.{LeavesOnly, PendingState}
 use Rattle.fp_disk.specs.Moments.{leaves_both, leaves_map}
 use Rattle.fp_edit.specs.Flags.{State}
@@ -14,7 +18,7 @@ use Rattle.fp_layout.specs.Layout.{IsHeader, IsActive}
 use Rattle.fp_layout.specs.Size.{IsSlotSize, Side, first, second, other_side, slot_of}
 use Rattle.fp_recovery.specs.Durable.{IsKept}
 use Rattle.fp_slots.specs.Rules.{Rules, Tells}
-use Rattle.fp_slots.specs.State.{SlotsState, Keeps, KeepsEither, KeepsOrNext, KeepsSealed, OutsideBoth, SameCompaction, SameSlots, sealed_text}
+use Rattle.fp_slots.specs.State.{SlotsState, Keeps, KeepsEither, KeepsOrNext, IsFrontOf, KeepsSealed, OutsideBoth, SameCompaction, SameSlots, sealed_text}
 use Rattle.fp_edit.specs.Edits.{Change}
 use Rattle.fp_journal.specs.Reading.{Reads}
 use Rattle.fp_recovery.specs.Room.{HasNoRoom, IsFullFor}
@@ -23,6 +27,16 @@ use Rattle.fp_recovery.proofs.Kept.{side_long}
 use Rattle.fp_recovery.proofs.Texts.{spells_on}
 use Rattle.fp_compaction.specs.Sets.{IsKeptOn, IsKeptIn, IsPlaced, IsPlannedFor, IsTaken, LeavesSet}
 use Rattle.fp_compaction.specs.Batches.{LeadsTo}
+
+-- a text behind the front of a slot of a generation spells it as of that generation
+spelled_generation : (size n : ℕ) (front rest : List ℕ) (s : State) → n < 2 ^ 64 → IsFrontOf n front → (p : Spells size (front ++ rest) s) → p.generation ≡ n
+spelled_generation size n front rest s small f p =
+    let behind : List ℕ = VERSION ∷ (to_be_bytes w64 p.base ++ (to_be_bytes w32 (length p.image) ++ p.image)) in
+    let mine : front ++ rest ≡ OPEN ∷ (to_be_bytes w64 n ++ (f.rest ++ rest)) = ap (λ (l : List ℕ). l ++ rest) f.front_is ∙ ap (λ (l : List ℕ). OPEN ∷ l) (append_assoc (to_be_bytes w64 n) f.rest rest) in
+    let its : front ++ rest ≡ OPEN ∷ (to_be_bytes w64 p.generation ++ (behind ++ spell p.batches)) = p.text_is ∙ ap (λ (l : List ℕ). OPEN ∷ l) (append_assoc (to_be_bytes w64 p.generation) behind (spell p.batches)) in
+    let cut : (m : ℕ) (more : List ℕ) → take 8 (drop 1 (OPEN ∷ (to_be_bytes w64 m ++ more))) ≡ to_be_bytes w64 m = λ m more. take_at (to_be_bytes w64 m) more 8 refl in
+    let same : to_be_bytes w64 p.generation ≡ to_be_bytes w64 n = sym (cut p.generation (behind ++ spell p.batches)) ∙ ap (λ (l : List ℕ). take 8 (drop 1 l)) (sym its ∙ mine) ∙ cut n (f.rest ++ rest) in
+    sym (from_be_bytes-to_be_bytes_8 p.generation p.numbered) ∙ ap (λ (l : List ℕ). from_be_bytes w64 l) same ∙ from_be_bytes-to_be_bytes_8 n small
 
 module _ {D : Type 0} (u : PendingState) (slots : SlotsState D) (size : ℕ) (side : Side) (s : State) (k : IsKeptOn u slots size side s) where
   side_stands : (t : State) (x : Side) (text c : List ℕ) → Holds c 0 k.header → Spells size text t → Tells (slot_of size x) (slot_of size (other_side x)) text c → StandsFor c t
@@ -56,14 +70,16 @@ module _ {D : Type 0} (u : PendingState) (slots : SlotsState D) (size : ℕ) (si
       (λ t. mine_stands s (sealed_text slots.journal) c h k.sealed t.rules t.ends)
       (λ t. flipped side slots.text c h planned (moved slots.other slots.journal.slot (slot_of size (other_side side)) (slot_of size side) slots.text c k.its k.mine t)) p
 
-  -- a slot that has no room has none in what a crash leaves
-  pub sealed_full : (n : ℕ) → HasNoRoom slots.journal n → (c : List ℕ) → Holds c 0 k.header → Rules slots.journal.slot.start slots.other.start c → HasChain slots.journal.slot slots.journal.front slots.journal.sealed c → IsFullFor c s n
-  sealed_full n none c h rules ends =
+  -- a slot that has no room has none in what a crash leaves, and is of the generation that it is of
+  pub sealed_full : IsFrontOf slots.generation slots.journal.front → slots.generation < 2 ^ 64 → 2 ^ 64 ≤ slots.generation + 1 → (n : ℕ) → HasNoRoom slots.journal n → (c : List ℕ) → Holds c 0 k.header → Rules slots.journal.slot.start slots.other.start c → HasChain slots.journal.slot slots.journal.front slots.journal.sealed c → IsFullFor c s n
+  sealed_full front small last n none c h rules ends =
+      let same : k.sealed.generation ≡ slots.generation = spelled_generation size slots.generation slots.journal.front (spell slots.journal.sealed) s small front k.sealed in
       let tells = moved slots.journal.slot slots.other (slot_of size side) (slot_of size (other_side side)) (sealed_text slots.journal) c k.mine k.its (record { rules = rules; ends = ends }) in record {
         stands = record { size = size; side = side; text = sealed_text slots.journal; header = k.is_header c h (side_long size side (sealed_text slots.journal) c tells); tells = tells; spells = k.sealed };
         full = ⊎_elim
             (λ long. let most = ap (λ (z : Slot). z.most) k.mine in inl (omega (arith, long, most)))
             (λ narrow. let start = ap (λ (z : Slot). z.start) k.mine in let stop = ap (λ (z : Slot). z.stop) k.mine in inr (omega (arith, narrow, start, stop))) none;
+        last = omega (arith, last, same);
       }
 
   pub sealed_stands : (c : List ℕ) → Holds c 0 k.header → KeepsSealed slots c → StandsFor c s

@@ -1,5 +1,5 @@
 -- Steps by the step that is next.
-use Rattle.std.proofs.Common.{◌≡◌, ℕ, Bool, true, false, List, [], ◌∷◌, ◌++◌, inl, sym, ◌∙◌, ap, subst}
+use Rattle.std.proofs.Common.{◌≡◌, ◌<◌, ◌≤◌, ◌+◌, ◌^◌, ℕ, Bool, true, false, List, [], ◌∷◌, ◌++◌, inl, sym, ◌∙◌, ap, subst}
 use Rattle.std.proofs.lemmas.List.{append-nil}
 use Rattle.fp_disk.specs.Moments.{leaves_still}
 use Rattle.fp_disk.specs.Outcomes.{IsOutcome, LeavesOnly}
@@ -11,7 +11,7 @@ use Rattle.fp_journal.proofs.Holds.{firm_outcome}
 use Rattle.fp_edit.specs.Flags.{State}
 use Rattle.fp_recovery.specs.Stands.{Spells, StandsFor}
 use Rattle.fp_slots.specs.Rules.{Rules}
-use Rattle.fp_slots.specs.State.{IsEarly, Keeps, Leaves, sealed_text}
+use Rattle.fp_slots.specs.State.{IsEarly, IsFrontOf, Keeps, Leaves, sealed_text}
 use Rattle.fp_slots.specs.declared.slots.Step.TheVariants.{Begin, Close, SyncClose, Part, Tail, SyncBody, Open, SyncOpen}
 use Rattle.fp_compaction.specs.Sets.{IsKeptIn, IsPlannedFor, IsTaken, LeavesSet}
 use Rattle.fp_compaction.specs.Batches.{LeadsTo}
@@ -104,8 +104,9 @@ module _ {D : Type 0} (disk : Ghosts D) (slots : SlotsState D) where
   chain_at false is c chain = chain
   chain_at true is c chain = absurd (cc is)
 
-  pub full_now : (p : Step) → p ≡ slots.step → (disk.honest slots.journal.disk → (c : List ℕ) → IsOutcome (disk.unsynced slots.journal.disk) c → Leaves p slots c) → IsFullNow disk slots
-  full_now p is now = λ h begins begun size s k n none c out.
+  pub full_now : (p : Step) → p ≡ slots.step → (disk.honest slots.journal.disk → (c : List ℕ) → IsOutcome (disk.unsynced slots.journal.disk) c → Leaves p slots c)
+      → IsFrontOf slots.generation slots.journal.front → slots.generation < 2 ^ 64 → IsFullNow disk slots
+  full_now p is now front small = λ h begins last begun size s k n none c out.
       let keeps = begins_now slots p (is ∙ begins) c (now h c out) in
-      sealed_full (disk.unsynced slots.journal.disk) slots size k.0 s k.1 n none c (firm_outcome (disk.unsynced slots.journal.disk) 0 k.1.header c k.1.firm out) keeps.0
+      sealed_full (disk.unsynced slots.journal.disk) slots size k.0 s k.1 front small last n none c (firm_outcome (disk.unsynced slots.journal.disk) 0 k.1.header c k.1.firm out) keeps.0
       (chain_at (has_begun slots.journal.phase slots.journal.begun) begun c keeps.1)

@@ -29,6 +29,17 @@ next_step SyncBody left = Open
 next_step Open left = SyncOpen
 next_step SyncOpen left = Begin
 
+-- how many bytes of head and image are left behind a step, where one runs: a Part writes one part of them
+abbrev pub next_left : Step → ℕ → ℕ
+next_left Begin left = left
+next_left Close left = left
+next_left SyncClose left = left
+next_left Part left = left - PART
+next_left Tail left = left
+next_left SyncBody left = left
+next_left Open left = left
+next_left SyncOpen left = left
+
 -- the calls of the disk that it makes; a gate that is closed already isn't closed again
 abbrev pub calls_of : Step → Bool → List CallKind
 calls_of Begin may_open = []
@@ -96,7 +107,9 @@ pub record Stays {D : Type 0} (old new : SlotsState D) : Type 0 where
 pub record Begins {D : Type 0} (image limit : ℕ) (old new : SlotsState D) : Type 0 where
   pub journal : new.journal ≡ old.journal
   pub other : new.other ≡ old.other
+  pub generation : new.generation ≡ old.generation
   pub head : new.head ≡ IMAGE_PLACE + image
+  pub left : new.left + 1 ≡ new.head
   pub short : image ≤ limit
   pub text : length new.text ≡ new.head
   pub ready : IsOnWay old.journal.phase → new.coming ≡ with_gate old.journal.staged
@@ -105,6 +118,7 @@ pub record Begins {D : Type 0} (image limit : ℕ) (old new : SlotsState D) : Ty
 pub record Turns {D : Type 0} (old new : SlotsState D) : Type 0 where
   pub mine : new.journal.slot ≡ old.other
   pub its : new.other ≡ old.journal.slot
+  pub generation : new.generation ≡ old.generation + 1
   pub still : old.journal.phase ≡ Idle
   pub phase : new.journal.phase ≡ Idle
   pub begun : new.journal.begun ≡ false
@@ -130,10 +144,11 @@ ReadsNext disk slots = disk.honest slots.journal.disk → slots.journal.phase �
     → (size : ℕ) (s t : State) → IsKeptIn (disk.unsynced slots.journal.disk) slots size s
     → LeadsTo slots size s t → StandsFor (disk.bytes slots.journal.disk) t
 
--- where none runs, no gate was begun, and the slot that rules has no room for a body of n bytes, nor has
--- whatever a crash leaves
+-- where none runs and none can begin, no gate was begun, and the slot that rules has no room for a body
+-- of n bytes: neither has whatever a crash leaves, nor a generation more
 abbrev pub IsFullNow : {D : Type 0} → Ghosts D → SlotsState D → Type 0
 IsFullNow disk slots = disk.honest slots.journal.disk → slots.step ≡ Begin
+    → 2 ^ 64 ≤ slots.generation + 1
     → has_begun slots.journal.phase slots.journal.begun ≡ false → (size : ℕ) (s : State)
     → IsKeptIn (disk.unsynced slots.journal.disk) slots size s → (n : ℕ) → HasNoRoom slots.journal n
     → IsFull (disk.unsynced slots.journal.disk) s n

@@ -5,7 +5,7 @@ ghost use Rattle.fp_journal.specs.declared.journal.Phase.TheVariants.{Failed};
 ghost use Rattle.fp_edit.specs.Flags.{size as size_of};
 ghost use Rattle.fp_slots.specs.declared.slots.Step.TheVariants.{Begin, SyncOpen};
 ghost use Rattle.fp_compaction.specs.Sets.{IsPlannedFor};
-ghost use Rattle.fp_compaction.specs.Steps.{Begins, BreaksOff, HasPlace, MayStep, Stays, TakesStep, Turns, next_step};
+ghost use Rattle.fp_compaction.specs.Steps.{Begins, BreaksOff, HasPlace, MayStep, Stays, TakesStep, Turns, next_left, next_step};
 ghost use Rattle.fp_compaction.specs.declared.machine.StepFault.TheVariants.{Device, Memory};
 
 use crate::steps::{begin, chunk, close, copy_tail, finish, open_other, seal, sync_close};
@@ -63,6 +63,8 @@ pub fn take_step<D: Disk>(
     ensures taken { TakesStep D.Disk slots.old slots.new }
     ensures order { OnOk result (slots.new.step ≡ next_step slots.old.step slots.old.left)
         × OnErr result (slots.new.step ≡ slots.old.step) }
+    ensures left { OnOk result (slots.old.step ≢ Begin →
+        slots.new.left ≡ next_left slots.old.step slots.old.left) }
     ensures planned { OnOk result (slots.old.step ≡ Begin → (size : ℕ)
         → set.now.limit ≡ size / 2 → IsPlannedFor slots.new size set.now) }
     ensures begun { OnOk result (slots.old.step ≡ Begin →

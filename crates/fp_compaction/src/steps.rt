@@ -56,7 +56,7 @@ pub fn close<D: Disk>(slots: &mut Slots<D>) -> Result<(), DiskFault>
     ensures step { OnOk result (slots.new.step ≡ SyncClose)
         × OnErr result (slots.new.step ≡ Close) }
     ensures same { SameSlots slots.old slots.new }
-    ensures left { OnErr result (slots.new.left ≡ slots.old.left) }
+    ensures left { slots.new.left ≡ slots.old.left }
     ensures phase { OnOk result (slots.new.journal.phase ≡ slots.old.journal.phase)
         × OnErr result (slots.new.journal.phase ≡ Failed) }
     ensures honest { SameHonesty D.Disk slots.old.journal.disk slots.new.journal.disk }
@@ -76,7 +76,7 @@ pub fn sync_close<D: Disk>(slots: &mut Slots<D>) -> Result<(), DiskFault>
     ensures kept { GoesOnKept D.Disk slots.old slots.new }
     ensures step { OnOk result (slots.new.step ≡ Part) × OnErr result (slots.new.step ≡ SyncClose) }
     ensures same { SameSlots slots.old slots.new }
-    ensures left { OnErr result (slots.new.left ≡ slots.old.left) }
+    ensures left { slots.new.left ≡ slots.old.left }
     ensures phase { OnOk result (slots.new.journal.phase ≡ slots.old.journal.phase)
         × OnErr result (slots.new.journal.phase ≡ Failed) }
     ensures honest { SameHonesty D.Disk slots.old.journal.disk slots.new.journal.disk }
@@ -118,7 +118,7 @@ pub fn copy_tail<D: Disk>(slots: &mut Slots<D>) -> Result<(), DiskFault>
     ensures kept { GoesOnKept D.Disk slots.old slots.new }
     ensures step { OnOk result (slots.new.step ≡ SyncBody) × OnErr result (slots.new.step ≡ Tail) }
     ensures same { SameSlots slots.old slots.new }
-    ensures left { OnErr result (slots.new.left ≡ slots.old.left) }
+    ensures left { slots.new.left ≡ slots.old.left }
     ensures phase { OnOk result (slots.new.journal.phase ≡ slots.old.journal.phase)
         × OnErr result (slots.new.journal.phase ≡ Failed) }
     ensures honest { SameHonesty D.Disk slots.old.journal.disk slots.new.journal.disk }
@@ -138,7 +138,7 @@ pub fn seal<D: Disk>(slots: &mut Slots<D>) -> Result<(), DiskFault>
     ensures kept { GoesOnKept D.Disk slots.old slots.new }
     ensures step { OnOk result (slots.new.step ≡ Open) × OnErr result (slots.new.step ≡ SyncBody) }
     ensures same { SameSlots slots.old slots.new }
-    ensures left { OnErr result (slots.new.left ≡ slots.old.left) }
+    ensures left { slots.new.left ≡ slots.old.left }
     ensures phase { OnOk result (slots.new.journal.phase ≡ slots.old.journal.phase)
         × OnErr result (slots.new.journal.phase ≡ Failed) }
     ensures honest { SameHonesty D.Disk slots.old.journal.disk slots.new.journal.disk }
@@ -158,7 +158,7 @@ pub fn open_other<D: Disk>(slots: &mut Slots<D>) -> Result<(), DiskFault>
     ensures kept { GoesOnKept D.Disk slots.old slots.new }
     ensures step { OnOk result (slots.new.step ≡ SyncOpen) × OnErr result (slots.new.step ≡ Open) }
     ensures same { SameSlots slots.old slots.new }
-    ensures left { OnErr result (slots.new.left ≡ slots.old.left) }
+    ensures left { slots.new.left ≡ slots.old.left }
     ensures phase { OnOk result (slots.new.journal.phase ≡ slots.old.journal.phase)
         × OnErr result (slots.new.journal.phase ≡ Failed) }
     ensures honest { SameHonesty D.Disk slots.old.journal.disk slots.new.journal.disk }
@@ -186,7 +186,7 @@ pub fn finish<D: Disk>(slots: &mut Slots<D>) -> Result<(), DiskFault>
         ≡ slots.old.other.stop - (slots.old.other.start + length slots.old.text)) }
     ensures broken { OnErr result (SameSlots slots.old slots.new × (slots.new.step ≡ SyncOpen)
         × (slots.new.journal.phase ≡ Failed)) }
-    ensures left { OnErr result (slots.new.left ≡ slots.old.left) }
+    ensures left { slots.new.left ≡ slots.old.left }
     ensures step { OnOk result (slots.new.step ≡ Begin) }
     ensures generation { OnOk result (slots.new.generation ≡ slots.old.generation + 1) }
     ensures turns { OnOk result (Turns slots.old slots.new) }

@@ -86,6 +86,8 @@ impl EditStore for Failing {
 
     ghost leaves = { λ a b P. Unit {0} };
 
+    ghost rests = { λ s. Unit {0} };
+
     ghost leads_to_itself = { λ s. tt };
 
     ghost leads_on = { λ a b c h k. tt };
@@ -111,6 +113,14 @@ impl EditStore for Failing {
         self.edits_left -= self.waiting;
         self.kept = self.kept.saturating_add(self.waiting as u64);
         self.waiting = 0;
+        Ok(())
+    }
+
+    fn go_on(&mut self) -> Result<(), CommitFault> {
+        Ok(())
+    }
+
+    fn rest(&mut self) -> Result<(), CommitFault> {
         Ok(())
     }
 

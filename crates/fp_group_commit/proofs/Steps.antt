@@ -34,12 +34,12 @@ use Rattle.fp_slots.specs.declared.slots.Step.{Step}
 use Rattle.fp_slots.specs.declared.slots.Step.TheVariants.{Begin, Close, SyncClose, Part, Tail, SyncBody, Open, SyncOpen}
 use Rattle.fp_compaction.specs.Batches.{FitsBeside, HasRoomFor, IsReadyFor, LeadsTo, LeavesNext, LeavesSealed, tail_of}
 use Rattle.fp_compaction.specs.Sets.{GoesOnKept, IsKeptIn, IsPlaced, IsPlannedFor, IsTaken, LeavesSet}
-use Rattle.fp_compaction.specs.Steps.{Begins, BreaksOff, HasPlace, IsLate, LeavesNow, MayStep, ReadsNext, Stays, TakesStep, Turns, calls_of, next_step}
+use Rattle.fp_compaction.specs.Steps.{Begins, BreaksOff, HasPlace, IsLate, LeavesNow, MayStep, ReadsNext, Stays, TakesStep, Turns, calls_of, next_left, next_step}
 use Rattle.fp_group_commit.proofs.Fronts.{leads_all}
 use Rattle.fp_group_commit.specs.declared.fault.StoreFault.{StoreFault}
 use Rattle.fp_group_commit.specs.declared.fault.StoreFault.TheVariants as fault
 use Rattle.fp_group_commit.specs.Changes.{GoesOn, batch_len}
-use Rattle.fp_group_commit.specs.Calls.{Breaks, Compacts, IsStrange, RefusesBy, SameRoom}
+use Rattle.fp_group_commit.specs.Calls.{Breaks, Compacts, IsStrange, PlansImage, RefusesBy, SameRoom}
 use Rattle.fp_group_commit.specs.Tokens.{Identity, ReceiptState, IsReceipt}
 use Rattle.fp_group_commit.specs.Store.{IsAtRest, MayCompact, reached, reached_at, StoreState, Leaves, kept, coming}
 use Rattle.fp_group_commit.specs.Sound.{IsFlight, IsPlan, IsSound}
@@ -709,14 +709,40 @@ module _ {D : Type 0} (disk : Ghosts D) {s : StoreState D} {set : State} {first 
     leaves_then c (inl stands) = inl stands
     leaves_then c (inr both) = inr (both.0, begun_now both.1, both.2)
 
-    pub compacts : (faults : D → ℕ) → faults t.journal.disk ≡ faults s.slots.journal.disk → Compacts faults s Then
-    compacts faults no_failure = record {
+    slots_now : s.slots.step ≢ SyncOpen → (t.other ≡ s.slots.other) × (t.generation ≡ s.slots.generation)
+    slots_now on = by_place s.slots.step _
+        (λ at. ((begun at).other, (begun at).generation))
+        (λ off on. let same = (stays off on).slots in (same.3, same.4))
+        (λ at. absurd (on at))
+
+    tail_now : s.slots.step ≢ Begin → s.slots.step ≢ SyncOpen → tail_of t ≡ tail_of s.slots
+    tail_now off on = let same = (stays off on).slots in let text = ap length same.6 in let head = same.7 in omega (arith, text, head)
+
+    plans_now : s.slots.step ≡ Begin → PlansImage s Then
+    plans_now at =
+        let b = begun at in let text = b.text in let short = b.short in
+        let limit : set.limit ≡ s.store.start.limit = ap (λ (x : State). x.limit) is ∙ limit-after_all s.store.start s.sealed in
+        let sizes : flags.size set.flags ≡ flags.size (kept s).flags = ap (λ (x : State). flags.size x.flags) is in
+        record {
+          head = b.head ∙ ap (λ (n : ℕ). IMAGE_PLACE + n) sizes;
+          small = omega (arith, short, limit, sizes);
+          left = b.left;
+          tail = omega (arith, text);
+        }
+
+    pub compacts : (faults : D → ℕ) → faults t.journal.disk ≡ faults s.slots.journal.disk → (s.slots.step ≢ Begin → t.left ≡ next_left s.slots.step s.slots.left) → t.generation < 2 ^ 64 → Compacts faults s Then
+    compacts faults no_failure left numbered = record {
       next = order;
+      left = left;
       well_before = well;
       well_now = λ e. well (sym phase_now ∙ e);
       no_failure = no_failure;
       most = most_now;
-      begun = λ at. (let b = begun at in (b.head ∙ ap (λ (x : State). IMAGE_PLACE + flags.size x.flags) is, b.text));
+      begun = plans_now;
+      tail_stays = tail_now;
+      numbered = numbered;
+      slots_stay = slots_now;
+      slots_turn = λ at. ((turned at).its, (turned at).generation);
       room_stays = room_now;
       room_gained = λ at. (turned at).room;
     }

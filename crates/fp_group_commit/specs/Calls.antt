@@ -1,9 +1,9 @@
 -- What a call of a store changes, and why it wasn't done.
-use Rattle.std.specs.Prelude.{◌≡◌, ◌≢◌, ◌<◌, ◌+◌, ◌-◌, ℕ, length}
+use Rattle.std.specs.Prelude.{◌≡◌, ◌≢◌, ◌<◌, ◌≤◌, ◌+◌, ◌-◌, ◌^◌, ℕ, length}
 use Rattle.fp_edit.specs.Flags.{State, size}
 use Rattle.fp_compaction.specs.Batches.{tail_of}
 use Rattle.fp_journal.specs.State.{room}
-use Rattle.fp_compaction.specs.Steps.{next_step}
+use Rattle.fp_compaction.specs.Steps.{next_left, next_step}
 use Rattle.fp_slots.specs.declared.places.TheConstants.{IMAGE_PLACE}
 use Rattle.fp_slots.specs.State.{IsGrowing}
 use Rattle.fp_slots.specs.declared.slots.Step.TheVariants.{Begin, SyncOpen}
@@ -81,16 +81,31 @@ IsStrange s group fault.Memory = Unit {0}
 IsStrange s group fault.Stranger = GoesOn s group → ⊥
 
 -- ---- a step of a compaction
--- it was taken, and the device failed neither before nor in the call. At the last one all room behind
--- what the other slot was to hold is there; at each other the room stays
+-- head and image of the sealed set are to be written, all but the gate, and no tail behind them yet
+pub record PlansImage {D : Type 0} (old new : StoreState D) : Type 0 where
+  pub head : new.slots.head ≡ IMAGE_PLACE + size (kept old).flags
+  pub small : size (kept old).flags ≤ old.store.start.limit
+  pub left : new.slots.left + 1 ≡ new.slots.head
+  pub tail : tail_of new.slots ≡ 0
+
+-- It was taken, and the device failed neither before nor in the call. What is left of head and
+-- image and the tail are as long as before, but for a Part. At the last one the slots are turned: it is the next generation, and all room behind what the
+-- other slot was to hold is there. At each other the slots and the room stay
 pub record Compacts {D : Type 0} (faults : D → ℕ) (old new : StoreState D) : Type 0 where
   pub next : new.slots.step ≡ next_step old.slots.step old.slots.left
+  pub left : old.slots.step ≢ Begin → new.slots.left ≡ next_left old.slots.step old.slots.left
   pub well_before : old.slots.journal.phase ≢ Failed
   pub well_now : new.slots.journal.phase ≢ Failed
   pub no_failure : faults new.slots.journal.disk ≡ faults old.slots.journal.disk
   pub most : new.slots.journal.slot.most ≡ old.slots.journal.slot.most
-  pub begun : old.slots.step ≡ Begin → (new.slots.head ≡ IMAGE_PLACE + size (kept old).flags)
-      × (length new.slots.text ≡ new.slots.head)
+  pub begun : old.slots.step ≡ Begin → PlansImage old new
+  pub tail_stays : old.slots.step ≢ Begin → old.slots.step ≢ SyncOpen
+      → tail_of new.slots ≡ tail_of old.slots
+  pub numbered : new.slots.generation < 2 ^ 64
+  pub slots_stay : old.slots.step ≢ SyncOpen → (new.slots.other ≡ old.slots.other)
+      × (new.slots.generation ≡ old.slots.generation)
+  pub slots_turn : old.slots.step ≡ SyncOpen → (new.slots.other ≡ old.slots.journal.slot)
+      × (new.slots.generation ≡ old.slots.generation + 1)
   pub room_stays : old.slots.step ≢ SyncOpen → room new.slots.journal ≡ room old.slots.journal
   pub room_gained : old.slots.step ≡ SyncOpen → room new.slots.journal
       ≡ old.slots.other.stop - (old.slots.other.start + length old.slots.text)

@@ -1,7 +1,7 @@
 //! A store of edits on a disk.
 
 ghost use Rattle.fp_disk.specs.Crashes.{EachCrash};
-ghost use Rattle.std.specs.Prelude.{◌≡◌, ◌≢◌, ◌+◌, ◌↔◌, List, ℕ, length, IsTrue};
+ghost use Rattle.std.specs.Prelude.{◌≡◌, ◌≢◌, ◌<◌, ◌≤◌, ◌+◌, ◌-◌, ◌/◌, ◌^◌, ◌↔◌, List, ℕ, length, IsTrue};
 ghost use mathlib.Core.List.{IsPrefix};
 ghost use Rattle.fp_journal.specs.declared.journal.Phase.TheVariants.{Idle, Failed};
 ghost use Rattle.fp_journal.specs.State.{room};
@@ -137,8 +137,9 @@ impl<D: Disk> Store<D> {
     pub fn has_room(&self, draw: &Draw) -> bool
         ensures room { IsTrue result ↔ HasRoom self.now.slots draw.now }
 
-        // Where no compaction runs and the slot that rules has none, nor has whatever a crash leaves.
+        // Where no compaction runs or can begin and the slot that rules has none, nor has whatever a crash leaves.
         ensures full { IsAtRest self.now → self.now.slots.step ≡ Begin
+            → 2 ^ 64 ≤ self.now.slots.generation + 1
             → HasNoRoom self.now.slots.journal (batch_len draw.now)
             → EachCrash D.Disk self.now.slots.journal.disk
             (λ c. IsFullFor c (kept self.now) (batch_len draw.now)) }
@@ -167,6 +168,16 @@ impl<D: Disk> Store<D> {
     {
         let _ = &self.set;
         self.slots.journal().room()
+    }
+
+    /// Whether less than a quarter of a slot is left for batches.
+    pub fn is_short(&self) -> bool
+        ensures { IsTrue result ↔ (room self.now.slots.journal
+            < (self.now.slots.other.stop - self.now.slots.other.start) / 4) }
+    {
+        let _ = &self.set;
+        let (size, _) = self.slots.beside();
+        self.slots.journal().room() < size / 4
     }
 
     /// The last revision that is sealed.

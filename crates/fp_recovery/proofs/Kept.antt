@@ -30,7 +30,6 @@ use Rattle.fp_record.specs.Encoding.{encoding_of_image}
 use Rattle.fp_recovery.specs.Stands.{IsImageOf, TakesBatch, Spells, StandsFor}
 use Rattle.fp_recovery.specs.Refusals.{BeginsWith}
 use Rattle.fp_recovery.specs.Durable.{IsKept, IsNewSetOrNone, IsDurable}
-use Rattle.fp_recovery.specs.Room.{HasNoRoom, IsFullFor}
 use Rattle.fp_recovery.proofs.Restored.{image_of, entries-empty}
 use Rattle.fp_recovery.proofs.Agreed.{agrees_range, header_agreed}
 use Rattle.fp_recovery.proofs.Texts.{IsReadFrom, most_of, read_ends, read_spells, read_stands, spells_on, text_long, text_read}
@@ -58,17 +57,6 @@ module _ {D : Type 0} (u : PendingState) (set : State) (journal : JournalState D
 
   pub kept_stands : (c : List ℕ) → IsOutcome u c → HasChain journal.slot journal.front journal.sealed c → StandsFor c set
   kept_stands c o h = held_stands c (firm_outcome u 0 k.header c k.header_firm o) (firm_outcome u k.guard_at k.guard c k.guard_firm o) h
-
-  -- and where the journal has no room for a batch, nor have the bytes
-  pub kept_full : (n : ℕ) → HasNoRoom journal n → (c : List ℕ) → IsOutcome u c → HasChain journal.slot journal.front journal.sealed c → IsFullFor c set n
-  unfolding kept_stands held_stands
-  kept_full n none c o h = record { stands = kept_stands c o h; full = behind none }
-    where
-      behind : HasNoRoom journal n → ((slot_of k.size k.side).most < n) ⊎ ((slot_of k.size k.side).stop < (slot_of k.size k.side).start + length (journal.front ++ spell journal.sealed) + (6 + n))
-      behind (inl long) = inl (subst (λ (s : Slot). s.most < n) k.slot_is long)
-      behind (inr narrow) = let w = h.within in
-          let here : journal.slot.stop < journal.slot.start + length (journal.front ++ spell journal.sealed) + (6 + n) = omega (arith, narrow, w) in
-          inr (subst (λ (s : Slot). s.stop < s.start + length (journal.front ++ spell journal.sealed) + (6 + n)) k.slot_is here)
 
   -- the header and the guard lie outside the slot
   pub header_apart : Outside journal.slot 0 (length k.header)

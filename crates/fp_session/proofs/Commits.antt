@@ -1,5 +1,5 @@
 -- What a crash may leave while a batch is sealed.
-use Rattle.std.proofs.Common.{◌≡◌, ◌≢◌, ◌⊎◌, ◌<◌, ◌≤◌, ◌+◌, ℕ, true, false, List, [], ◌∷◌, ◌++◌, length, take, refl, sym, ap, subst, ◌∙◌, inl, inr, arith, append_assoc, length-append}
+use Rattle.std.proofs.Common.{◌≡◌, ◌≢◌, ◌⊎◌, ◌<◌, ◌≤◌, ◌+◌, ℕ, true, false, List, [], ◌∷◌, ◌++◌, length, take, refl, sym, ap, subst, ◌∙◌, inl, inr, arith, append_assoc, append-nil, length-append}
 use Rattle.std.proofs.lemmas.List.{take_at}
 use Rattle.fp_disk.specs.Crashes.{AtAnyMoment, EachCrash, SameHonesty}
 use Rattle.fp_disk.specs.Moments.{leaves_map, leaves_still, leaves_then}
@@ -16,7 +16,12 @@ use Rattle.fp_slots.specs.declared.slots.Step.{Step}
 use Rattle.fp_slots.specs.declared.slots.Step.TheVariants.{Begin}
 use Rattle.fp_group_commit.specs.Tokens.{Identity}
 use Rattle.fp_desk.specs.Desk.{DeskState, log}
-use Rattle.fp_session.specs.Session.{IsAhead, IsInStep, KeepsOrGains, LacksRoomFor, StandsAhead}
+use Rattle.fp_disk.specs.History.{MakesSome}
+use Rattle.fp_disk.specs.declared.history.CallKind.{CallKind}
+use Rattle.std.specs.Prelude.{Result, Ok, Err, IfErr, OnErr, OnOk}
+use Rattle.fp_session.specs.Session.{BreaksOff, Commits, IsAhead, IsInStep, IsSealed, KeepsAll, KeepsOrGains, LacksRoomFor, Proceeds, StandsAhead, Works, batch_calls}
+use Rattle.fp_session.specs.Session.{whole_batch}
+use Rattle.fp_session.specs.SessionLaws.{works_on}
 use Rattle.std.specs.Prelude.{◌↔◌, Bool, IsTrue, nat_le}
 use borrow.Author.Tests.{leb-true, leb-false}
 use Rattle.fp_edit.proofs.Followed.{after-append}
@@ -143,6 +148,93 @@ module _ {D : Type 0} (disk : Ghosts D) (s : StoreState D) (d : DeskState) (i : 
       let len = ap length settled in let sealed = ap length i.settled in
       let all = revision-after_all s.store.start s.sealed in
       (λ none. let empty = ap length (sym drawn ∙ none) in omega (arith, some, empty), omega (arith, first, all, store, same, len, sealed), changes ∙ sym drawn)
+
+-- at the store as a compaction left it
+pub in_step_on : {D : Type 0} (disk : Ghosts D) (s m : StoreState D) (d : DeskState) → IsInStep disk s d → Proceeds disk s m → IsInStep disk m d
+in_step_on disk s m d i p = record {
+  same = i.same ∙ sym p.keeps.store;
+  rest = (p.keeps.step ∙ i.rest.0, p.well);
+  settled = p.keeps.sealed ∙ i.settled;
+  none_drawn = i.none_drawn;
+  accepts = i.accepts;
+  keeps = p.keeps.now;
+}
+
+-- while steps are taken the desk's edits are ahead
+pub kept_ahead : {D : Type 0} (disk : Ghosts D) (s m : StoreState D) (d : DeskState) → IsInStep disk s d → KeepsAll disk s m → AtAnyMoment disk s.slots.journal.disk m.slots.journal.disk (StandsAhead d)
+kept_ahead disk s m d i k = weaker disk s.slots.journal.disk m.slots.journal.disk (λ c. StandsFor c (kept s)) (StandsAhead d) (λ c stands. stands_ahead s d i.same i.settled i.none_drawn [] d.waiting refl c (inl stands)) k.any_moment
+
+-- ---- a batch that was drawn, and sealed behind steps of a compaction
+module _ {D : Type 0} (disk : Ghosts D) (s m t : StoreState D) (d mid : DeskState) (i : IsInStep disk s d) (p : Proceeds disk s m) (group : Group) (draw : IsNewDraw d mid group) where
+  -- at each moment of it
+  pub drawn_ahead : AtAnyMoment disk m.slots.journal.disk t.slots.journal.disk (KeepsOrGains m group.changes) → AtAnyMoment disk s.slots.journal.disk t.slots.journal.disk (StandsAhead d)
+  drawn_ahead moment = next_moment disk s.slots.journal.disk m.slots.journal.disk t.slots.journal.disk (StandsAhead d) p.keeps.honest (kept_ahead disk s m d i p.keeps)
+      (sealed_ahead disk m d (in_step_on disk s m d i p) t.slots.journal.disk group.changes mid.waiting draw.longest.parts moment)
+
+  -- it is on its way still
+  pub same_log_drawn : (e : DeskState) → e ≡ mid → (e.store ≡ d.store) × (log e ≡ log d)
+  same_log_drawn e is =
+      (ap (λ (x : DeskState). x.store) (is ∙ draw.new_is),
+      ap log (is ∙ draw.new_is) ∙ ap (λ (l : List Change). d.settled ++ l) (sym draw.longest.parts) ∙ ap (λ (l : List Change). d.settled ++ (l ++ d.waiting)) (sym draw.none_out))
+
+  settled_is : (e : DeskState) → e ≡ record mid { settled = mid.settled ++ mid.drawn; drawn = [] } → e ≡ record d { settled = d.settled ++ group.changes; waiting = mid.waiting }
+  settled_is e is = is ∙ ap (λ (x : DeskState). record x { settled = x.settled ++ x.drawn; drawn = [] }) draw.new_is
+      ∙ ap (λ (l : List Change). record { store = d.store; settled = d.settled ++ group.changes; drawn = l; waiting = mid.waiting; stopped = d.stopped }) (sym draw.none_out)
+
+  -- or settled
+  pub same_log : (e : DeskState) → e ≡ record mid { settled = mid.settled ++ mid.drawn; drawn = [] } → (e.store ≡ d.store) × (log e ≡ log d)
+  same_log e is =
+      let now = settled_is e is in
+      (ap (λ (x : DeskState). x.store) now,
+      ap log now ∙ append_assoc d.settled group.changes (d.drawn ++ mid.waiting) ∙ ap (λ (l : List Change). d.settled ++ (group.changes ++ (l ++ mid.waiting))) draw.none_out
+      ∙ ap (λ (l : List Change). d.settled ++ l) (sym draw.longest.parts) ∙ ap (λ (l : List Change). d.settled ++ (l ++ d.waiting)) (sym draw.none_out))
+
+  module _ (sealed : IsSealed disk.faults group.changes m t) (store : t.store ≡ m.store) (calls : disk.calls t.slots.journal.disk ≡ disk.calls m.slots.journal.disk ++ batch_calls) where
+    pub works_sealed : Works disk s t
+    works_sealed = works_on disk s m t p.works (record { works = whole_batch ∷ []; lead = (sealed.early, sealed.course); calls = calls })
+
+    pub committed : EachCrash disk t.slots.journal.disk (λ c. StandsFor c (kept t)) → (e : DeskState) → e ≡ record mid { settled = mid.settled ++ mid.drawn; drawn = [] } → Commits disk s t d e
+    committed keeps e is =
+        let now = settled_is e is in record {
+          batch = group.changes;
+          rest = mid.waiting;
+          parts = draw.longest.parts;
+          some = draw.longest.some;
+          desk = now;
+          in_step = record {
+            same = ap (λ (x : DeskState). x.store) now ∙ i.same ∙ sym p.keeps.store ∙ sym store;
+            rest = sealed.rest;
+            settled = sealed.sealed ∙ ap (λ (l : List Change). l ++ group.changes) (p.keeps.sealed ∙ i.settled) ∙ sym (ap (λ (x : DeskState). x.settled) now);
+            none_drawn = ap (λ (x : DeskState). x.drawn) now ∙ i.none_drawn;
+            accepts = ap (λ (x : DeskState). x.stopped) now ∙ i.accepts;
+            keeps = keeps;
+          };
+          works = works_sealed;
+          no_failure = sealed.no_failure ∙ p.no_failure;
+        }
+
+-- where a batch that was drawn broke off
+pub broken_batch : {D : Type 0} (disk : Ghosts D) (m t : StoreState D) → IsEarly m.slots.step → MakesSome batch_calls (disk.calls m.slots.journal.disk) (disk.calls t.slots.journal.disk) → BreaksOff disk m t
+broken_batch disk m t early calls = record {
+  works = [];
+  next = m.slots.step;
+  last = whole_batch;
+  lead = refl;
+  may = early;
+  calls = subst (λ (l : List CallKind). MakesSome batch_calls l (disk.calls t.slots.journal.disk)) (sym (append-nil (disk.calls m.slots.journal.disk))) calls;
+}
+
+pub ok_more : {A E : Type 0} (r : Result A E) (P Q : Type 0) → (P → Q) → OnOk r P → OnOk r Q
+ok_more (Ok x) P Q f p = f p
+ok_more (Err e) P Q f p = tt
+
+pub ok_or_err : {A E : Type 0} (r : Result A E) (P Q R : Type 0) → OnOk r P → OnErr r Q → (P → R) → (Q → R) → R
+ok_or_err (Ok x) P Q R p q f h = f p
+ok_or_err (Err e) P Q R p q f h = h q
+
+pub err_any : {A E : Type 0} (r : Result A E) (P : Type 0) → P → IfErr r (λ _. P)
+err_any (Ok x) P p = tt
+err_any (Err e) P p = p
 
 -- what is ahead of a desk at each moment of a call is so at its end
 pub present_ahead : {D : Type 0} (disk : Ghosts D) (old new : D) (d e : DeskState) → ((x : D) (t : ℕ) (c : List ℕ) → disk.honest x → t ≤ disk.moment x → IsOutcome (disk.unsynced x) c → disk.crash_states_since x t c)

@@ -120,6 +120,7 @@ module _ {E : Type 0} (store : Ghosts E) (first now : E) where
       told_is = done.0 ∙ e.told;
     };
     kept = e.kept;
+    rests = e.rests;
     led = e.led;
     leaves = e.leaves;
   }
@@ -186,6 +187,11 @@ module _ {E : Type 0} (store : Ghosts E) (first now : E) where
     pub ends-leaves : (outcome : Result Bool ApplyFault) → Ends store most first now asked before now_held f0 f outcome → store.leaves first now (IsAfterPrefix (store.state first) asked)
     ends-leaves (Ok told) e = e.leaves
     ends-leaves (Err fault) e = e.stops.leaves
+
+    -- nothing goes on at its end
+    pub ends-rests : (outcome : Result Bool ApplyFault) → Ends store most first now asked before now_held f0 f outcome → OnOk outcome (store.rests now)
+    ends-rests (Ok told) e = e.rests
+    ends-rests (Err fault) e = tt
 
     -- whatever else what may stand is
     pub ends-course : (P : State → Type 0) → ((u : State) → IsAfterPrefix (store.state first) asked u → P u) → (outcome : Result Bool ApplyFault) → Ends store most first now asked before now_held f0 f outcome → StoreRun store P first now outcome

@@ -1,4 +1,5 @@
 pub mod Commits
+pub mod Compactions
 pub mod Sessions
 pub mod LineLemmas
 pub mod RunLemmas

@@ -166,6 +166,24 @@ module _ {E : Type 0} (store : Ghosts E) where
         lasts commit.StoreFailed = refl
         lasts commit.Memory = refl
 
+    -- ---- what is done beside it went on
+    pub at-gone : (next : E) → store.state next ≡ store.state now → ((u : State) → store.may_stand next u → store.may_stand now u) → store.leaves now next (store.may_stand now) → store.continues_to now next
+        → At store first next asked sent text waiting told
+    at-gone next same ahead moment goes = record {
+      done = i.done;
+      batch = i.batch;
+      kept = i.kept;
+      replies = i.replies;
+      split = i.split;
+      run = i.run;
+      on = subst (λ s. IsRun i.kept i.batch waiting s) (sym same) i.on;
+      ahead = λ u a. i.ahead u (ahead u a);
+      written = i.written;
+      told = i.told;
+      led = store.leads_on first now next i.led goes;
+      leaves = store.leaves_on first now next (IsAfterPrefix start asked) i.leaves (store.leaves_as now next (store.may_stand now) (IsAfterPrefix start asked) at-ahead moment);
+    }
+
     -- ---- memory is wanting here
     pub at-broken : (q : Replies) (most : ℕ) → q.text.items ≡ text → length waiting ≤ most → IsBroken store most first now asked sent q Memory
     at-broken q most same le = record {
@@ -208,6 +226,18 @@ module _ {E : Type 0} (store : Ghosts E) where
       let all = length-map r.waiting.items said in
       at-broken first now asked sent r.text.items (map said r.waiting.items) r.is_told i q most same (omega (arith, le, all))
 
+  -- ---- what is done beside the edits, where none waits
+  module _ (first now next : E) (asked : List Ask) (sent : List ℕ) (r : Replies) (i : IsAt store first now asked sent r) (same : store.state next ≡ store.state now) (ahead : (u : State) → store.may_stand next u → store.may_stand now u)
+      (moment : store.leaves now next (store.may_stand now)) where
+    pub is_at-gone : store.continues_to now next → IsAt store first next asked sent r
+    is_at-gone goes = at-gone first now asked sent r.text.items (map said r.waiting.items) r.is_told i next same ahead moment goes
+
+    pub is_at-halted : (most : ℕ) (f : CommitFault) → r.waiting.items ≡ [] → store.fails_on f now next → IsBroken store most first next asked sent r (of_commit f)
+    is_at-halted most f none fails =
+        let zero = ap length none in let all = length-map r.waiting.items said in
+        seal-broken first now asked sent r.text.items (map said r.waiting.items) r.is_told i next r most f same ahead moment fails
+        (sym (append-nil r.text.items) ∙ ap (λ (ws : List code.Reply). r.text.items ++ texts_of (map (told_if false) (map said ws))) (sym none)) (omega (arith, zero, all))
+
   -- ---- the texts were sent
   pub at-sent : (first now : E) (asked : List Ask) (sent : List ℕ) (r q : Replies) → IsAt store first now asked sent r → q.text.items ≡ [] → q.waiting ≡ r.waiting → q.is_told ≡ r.is_told → IsAt store first now asked (sent ++ r.text.items) q
   at-sent first now asked sent r q i none waiting told = record {
@@ -227,8 +257,8 @@ module _ {E : Type 0} (store : Ghosts E) where
 
   -- ---- the end, where nothing waits
   pub at-ended : (first now : E) (asked : List Ask) (sent text : List ℕ) (told : Bool) (q : Replies) → At store first now asked sent text [] told
-      → q.text.items ≡ text ++ show_line (store.state now) → q.is_told ≡ told → IsEnded store first now asked sent q
-  at-ended first now asked sent text told q i shown same =
+      → q.text.items ≡ text ++ show_line (store.state now) → q.is_told ≡ told → store.rests now → IsEnded store first now asked sent q
+  at-ended first now asked sent text told q i shown same rests =
       let none = run-none i.kept (store.state now) i.batch i.on in
       let all : asked ≡ i.done = i.split ∙ ap (λ (l : List Ask). i.done ++ l) none ∙ append-nil i.done in
       let here : store.state now ≡ i.kept = subst (λ xs. IsRun i.kept xs [] (store.state now)) none i.on in
@@ -238,6 +268,7 @@ module _ {E : Type 0} (store : Ghosts E) where
         kept = λ u a. only i.kept u (subst (λ xs. IsAfterPrefix i.kept xs u) none (i.ahead u a)) ∙ sym here;
         written = ap (λ (l : List ℕ). sent ++ l) shown ∙ sym (append_assoc sent text (show_line (store.state now))) ∙ ap (λ (l : List ℕ). l ++ show_line (store.state now)) i.written;
         told = same ∙ i.told;
+        rests = rests;
         led = i.led;
         leaves = i.leaves;
       }

@@ -19,8 +19,15 @@ use Rattle.fp_journal.specs.declared.journal.Phase.TheVariants.{Failed, Idle}
 use Rattle.fp_group_commit.specs.Tokens.{Identity}
 use Rattle.fp_desk.specs.Desk.{DeskState, FitsBehind, head, IsAccepted, log, queued}
 use Rattle.fp_desk.specs.declared.desk.TheConstants.{MOST_QUEUED}
-use Rattle.fp_session.specs.Session.{disk_of, IsAhead, IsInStep, Keeps, LeavesFlags, SessionState, StandsAhead}
-use Rattle.fp_session.proofs.Commits.{idle_keeps}
+use Rattle.fp_session.specs.Session.{CanFail, disk_of, IsAhead, IsInStep, Keeps, LeavesFlags, SessionState, StandsAhead}
+use Rattle.fp_session.specs.Session.{Fails, Halts, IsReady, KeepsAll, Proceeds}
+use Rattle.fp_session.specs.SessionLaws.{no_works, works_break}
+use Rattle.fp_session.specs.declared.commit.CommitFault.{CommitFault}
+use Rattle.fp_session.specs.declared.commit.CommitFault.TheVariants as commit
+use Rattle.fp_group_commit.specs.Store.{kept}
+use Rattle.fp_recovery.specs.Stands.{StandsFor}
+use Rattle.fp_session.proofs.Commits.{idle_keeps, in_step_on, kept_ahead, stands_ahead}
+use Rattle.fp_session.proofs.Compactions.{kept_as}
 
 -- two desks that accepted the same edits have the same head
 pub head_same : (d e : DeskState) → e.store ≡ d.store → log e ≡ log d → head e ≡ head d
@@ -42,7 +49,6 @@ module _ (d mid : DeskState) (edit : Proposal) (acc : IsAccepted d mid edit) whe
   mid_in_step disk s i = record {
     same = mid_store ∙ i.same;
     rest = i.rest;
-    none_runs = i.none_runs;
     settled = i.settled ∙ sym (ap (λ (x : DeskState). x.settled) acc.new_is);
     none_drawn = ap (λ (x : DeskState). x.drawn) acc.new_is ∙ i.none_drawn;
     accepts = ap (λ (x : DeskState). x.stopped) acc.new_is ∙ i.accepts;
@@ -103,8 +109,43 @@ keeps_desk disk a mid on = record {
   honest = (λ h. h, λ h. h);
   no_failure = refl;
   ready = λ r. (r.0, on r.1);
-  called = (0, sym (append-nil (disk.calls (disk_of a))));
+  called = no_works disk a.store;
 }
+
+-- ---- beside the edits
+module _ {D : Type 0} (disk : Ghosts D) (a : SessionState D) where
+  -- a session that stopped fails and does nothing
+  pub stopped_fails : a.stopped ≡ true → Fails disk commit.StoreFailed a a
+  stopped_fails is = record {
+    honest = (λ h. h, λ h. h);
+    cause = λ ready. (let both : true ≡ false = sym is ∙ ready.0 in absurd cc);
+    called = works_break disk a.store a.store (no_works disk a.store);
+  }
+
+  module _ (m : StoreState D) (going : IsInStep disk a.store a.desk) where
+    -- the desk's edits are ahead of what is kept
+    pub beside_ahead : KeepsAll disk a.store m → EachCrash disk m.slots.journal.disk (StandsAhead a.desk)
+    beside_ahead k = λ h c o. stands_ahead a.store a.desk going.same going.settled going.none_drawn [] a.desk.waiting refl c
+        (inl (subst (λ (s : State). StandsFor c s) (kept_as disk a.store m k.store k.sealed) (k.now h c o)))
+
+    pub beside_leaves : (b : SessionState D) → b.store ≡ m → KeepsAll disk a.store m → LeavesFlags disk a b (IsAhead a.desk)
+    beside_leaves b is k = subst (λ (x : StoreState D). SameHonesty disk (disk_of a) x.slots.journal.disk × AtAnyMoment disk (disk_of a) x.slots.journal.disk (StandsAhead a.desk)) (sym is)
+        (k.honest, kept_ahead disk a.store m a.desk going k)
+
+    pub beside_goes : Proceeds disk a.store m → Keeps disk a (record { store = m; desk = a.desk; stopped = a.stopped })
+    beside_goes p = record {
+      honest = p.keeps.honest;
+      no_failure = p.no_failure;
+      ready = λ r. (r.0, in_step_on disk a.store m a.desk going p);
+      called = p.works;
+    }
+
+    pub beside_fails : (f : CommitFault) (stopped : Bool) → Halts disk a.store m f → Fails disk f a (record { store = m; desk = a.desk; stopped = stopped })
+    beside_fails f stopped k = record { honest = k.keeps.honest; cause = λ ready. why f k; called = k.works }
+      where
+        why : (f : CommitFault) → Halts disk a.store m f → CanFail disk f a (record { store = m; desk = a.desk; stopped = stopped })
+        why commit.StoreFailed k = inr (k.cause refl)
+        why commit.Memory k = tt
 
 -- ---- refusals
 never_memory : (a b c : Bool) (k : Option ℕ) → (if a then (if b then (if c then None else Some fault.RevisionsUsed) else Some fault.SetTooLarge) else Some (fault.Conflict k)) ≡ Some fault.Memory → ⊥
@@ -128,7 +169,6 @@ pub new_in_step : {D : Type 0} (disk : Ghosts D) (s : StoreState D) (opening : I
 new_in_step disk s opening d same fresh leaves made = record {
   same = ap (λ (x : DeskState). x.store) made ∙ same;
   rest = (fresh.step, λ failed. let both : Idle ≡ Failed = sym fresh.phase ∙ failed in absurd cc);
-  none_runs = fresh.none_runs;
   settled = fresh.sealed ∙ sym (ap (λ (x : DeskState). x.settled) made);
   none_drawn = ap (λ (x : DeskState). x.drawn) made;
   accepts = ap (λ (x : DeskState). x.stopped) made;

@@ -71,7 +71,7 @@ pub record IsBroken {E : Type 0} (store : Ghosts E) (most : ℕ) (first now : E)
       → IsTold (store.state first) asked most fault (sent ++ r.text.items) (store.state now) flags
   pub stops : StopsAt store first now asked fault
 
--- all of it was answered and is kept, and the flags are shown
+-- all of it was answered and is kept, nothing goes on beside it, and the flags are shown
 pub record IsEnded {E : Type 0} (store : Ghosts E) (first now : E) (asked : List Ask)
     (sent : List ℕ) (r : Replies) : Type 0 where
   pub replies : List Reply
@@ -79,6 +79,7 @@ pub record IsEnded {E : Type 0} (store : Ghosts E) (first now : E) (asked : List
   pub kept : (flags : State) → store.may_stand now flags → flags ≡ store.state now
   pub written : sent ++ r.text.items ≡ texts_of replies ++ show_line (store.state now)
   pub told : r.is_told ≡ list_all is_told replies
+  pub rests : store.rests now
   pub led : store.continues_to first now
   pub leaves : store.leaves first now (IsAfterPrefix (store.state first) asked)
 
@@ -112,11 +113,12 @@ pub record IsBrokenWith {E : Type 0} (store : Ghosts E) (most : ℕ) (first now 
       → IsToldBy (store.state first) asked most fault before now_held (store.state now) flags
   pub stops : StopsAt store first now asked fault
 
--- all was answered, kept, shown and sent
+-- all was answered, kept, shown and sent, and nothing goes on beside it
 pub record IsDone {E : Type 0} (store : Ghosts E) (first now : E) (asked : List Ask)
     (before now_held : Option (List ℕ)) (told : Bool) : Type 0 where
   pub written : IsRunWritten (store.state first) asked told before now_held (store.state now)
   pub kept : (flags : State) → store.may_stand now flags → flags ≡ store.state now
+  pub rests : store.rests now
   pub led : store.continues_to first now
   pub leaves : store.leaves first now (IsAfterPrefix (store.state first) asked)
 

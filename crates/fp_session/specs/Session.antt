@@ -1,5 +1,5 @@
--- A session of edits over a store and a desk, and what a crash may leave of it.
-use Rattle.std.specs.Prelude.{◌≡◌, ◌⊎◌, ◌<◌, ◌≤◌, ℕ, zero, suc, Bool, false, List, [], ◌∷◌, ◌++◌, length, take}
+-- A session of edits over a store and a desk: what a crash may leave of it, and what it calls.
+use Rattle.std.specs.Prelude.{◌≡◌, ◌≢◌, ◌⊎◌, ◌<◌, ◌≤◌, ℕ, Bool, false, List, [], ◌∷◌, ◌++◌, length, take}
 use Rattle.fp_disk.specs.Crashes.{AtAnyMoment, EachCrash, SameHonesty}
 use Rattle.fp_disk.specs.History.{MakesSome}
 use Rattle.fp_disk.specs.declared.disk.Disk.{Ghosts}
@@ -8,8 +8,11 @@ use Rattle.fp_disk.specs.declared.history.CallKind.TheVariants.{Sync, Write}
 use Rattle.fp_edit.specs.Edits.{Change}
 use Rattle.fp_edit.specs.Flags.{State}
 use Rattle.fp_edit.specs.Log.{after_all}
+use Rattle.fp_journal.specs.declared.journal.Phase.TheVariants.{Failed}
 use Rattle.fp_recovery.specs.Room.{IsFullFor}
-use Rattle.fp_slots.specs.declared.slots.Step.TheVariants.{Begin}
+use Rattle.fp_slots.specs.State.{IsEarly}
+use Rattle.fp_slots.specs.declared.slots.Step.{Step}
+use Rattle.fp_compaction.specs.Steps as compaction
 use Rattle.fp_recovery.specs.Stands.{StandsFor}
 use Rattle.fp_group_commit.specs.Changes.{batch_len}
 use Rattle.fp_group_commit.specs.Store.{IsAtRest, StoreState, kept}
@@ -39,12 +42,10 @@ IsAhead d flags = (n : ℕ) × (length d.settled ≤ n) × (n ≤ length (log d)
 abbrev pub StandsAhead : DeskState → List ℕ → Type 0
 StandsAhead d c = (flags : State) × IsAhead d flags × StandsFor c flags
 
--- the store keeps what the desk tells, no batch is out and no compaction runs, and a crash leaves what
--- is kept
+-- the store keeps what the desk tells, no batch is out, and a crash leaves what is kept
 pub record IsInStep {D : Type 0} (disk : Ghosts D) (s : StoreState D) (d : DeskState) : Type 0 where
   pub same : d.store ≡ s.store
   pub rest : IsAtRest s
-  pub none_runs : s.slots.step ≡ Begin
   pub settled : s.sealed ≡ d.settled
   pub none_drawn : d.drawn ≡ []
   pub accepts : d.stopped ≡ false
@@ -55,13 +56,61 @@ pub record IsSealed {D : Type 0} (faults : D → ℕ) (batch : List Change)
     (s t : StoreState D) : Type 0 where
   pub sealed : t.sealed ≡ s.sealed ++ batch
   pub rest : IsAtRest t
-  pub none_runs : t.slots.step ≡ s.slots.step
+  pub early : IsEarly s.slots.step
+  pub course : t.slots.step ≡ s.slots.step
   pub no_failure : faults t.slots.journal.disk ≡ faults s.slots.journal.disk
 
 -- the bytes stand for what is kept, or for that and the batch
 abbrev pub KeepsOrGains : {D : Type 0} → StoreState D → List Change → List ℕ → Type 0
 KeepsOrGains s batch c = StandsFor c (kept s) ⊎ StandsFor c (after_all s.store.start
     (s.sealed ++ batch))
+
+-- ---- the calls of a run
+
+-- what makes calls of the disk: a batch, or a step of a compaction, before which the other slot's gate may be open or isn't
+pub data Work : Type 0 where
+  whole_batch : Work
+  compaction_step : Step → Bool → Work
+
+abbrev pub batch_calls : List CallKind
+batch_calls = Write ∷ Sync ∷ Write ∷ Sync ∷ []
+
+abbrev pub work_calls : Work → List CallKind
+work_calls whole_batch = batch_calls
+work_calls (compaction_step p may_open) = compaction.calls_of p may_open
+
+-- one after another
+abbrev pub calls_of : List Work → List CallKind
+calls_of [] = []
+calls_of (w ∷ works) = work_calls w ++ calls_of works
+
+-- a batch may be sealed before the tail of a compaction is written, and of its steps the next one is taken
+abbrev pub MayCome : Step → Work → Type 0
+MayCome next whole_batch = IsEarly next
+MayCome next (compaction_step p may_open) = p ≡ next
+
+-- from where this step is next to where that one is, each may come in its turn
+abbrev pub Leads : Step → List Work → Step → Type 0
+Leads next [] last = last ≡ next
+Leads next (whole_batch ∷ works) last = MayCome next whole_batch × Leads next works last
+Leads next (compaction_step p may_open ∷ works) last = MayCome next (compaction_step p may_open)
+    × (left : ℕ) × Leads (compaction.next_step next left) works last
+
+-- the calls from one to the other were those of such works
+pub record Works {D : Type 0} (disk : Ghosts D) (a b : StoreState D) : Type 0 where
+  pub works : List Work
+  pub lead : Leads a.slots.step works b.slots.step
+  pub calls : disk.calls b.slots.journal.disk ≡ disk.calls a.slots.journal.disk ++ calls_of works
+
+-- and then some first ones of a work that may come behind them
+pub record BreaksOff {D : Type 0} (disk : Ghosts D) (a b : StoreState D) : Type 0 where
+  pub works : List Work
+  pub next : Step
+  pub last : Work
+  pub lead : Leads a.slots.step works next
+  pub may : MayCome next last
+  pub calls : MakesSome (work_calls last) (disk.calls a.slots.journal.disk ++ calls_of works)
+      (disk.calls b.slots.journal.disk)
 
 -- the first part of what waits was sealed and settled, and no call of the device failed
 pub record Commits {D : Type 0} (disk : Ghosts D) (s t : StoreState D)
@@ -72,9 +121,11 @@ pub record Commits {D : Type 0} (disk : Ghosts D) (s t : StoreState D)
   pub some : 0 < length batch
   pub desk : e ≡ record d { settled = d.settled ++ batch; waiting = rest }
   pub in_step : IsInStep disk t e
+  pub works : Works disk s t
   pub no_failure : disk.faults t.slots.journal.disk ≡ disk.faults s.slots.journal.disk
 
--- flags on the way, and edits that wait behind them, for which whatever a crash leaves of the disk has no room
+-- flags on the way, and edits that wait behind them, for which whatever a crash leaves of the disk has no room, and no
+-- generation to make it
 pub record LacksRoomFor {D : Type 0} (disk : Ghosts D) (d : DeskState) (now : D) : Type 0 where
   pub flags : State
   pub batch : List Change
@@ -84,16 +135,29 @@ pub record LacksRoomFor {D : Type 0} (disk : Ghosts D) (d : DeskState) (now : D)
   pub full : EachCrash disk now (λ c. IsFullFor c flags (batch_len
       (record { first = 0; changes = batch })))
 
--- ---- the calls of batches
+-- ---- compactions
+-- the store keeps the same edits, no batch is on its way, and whatever a crash leaves at any moment is those
+pub record KeepsAll {D : Type 0} (disk : Ghosts D) (a b : StoreState D) : Type 0 where
+  pub store : b.store ≡ a.store
+  pub sealed : b.sealed ≡ a.sealed
+  pub step : b.step ≡ a.step
+  pub any_moment : AtAnyMoment disk a.slots.journal.disk b.slots.journal.disk
+      (λ c. StandsFor c (kept a))
+  pub now : EachCrash disk b.slots.journal.disk (λ c. StandsFor c (kept b))
+  pub honest : SameHonesty disk a.slots.journal.disk b.slots.journal.disk
 
--- those of a batch
-abbrev pub batch_calls : List CallKind
-batch_calls = Write ∷ Sync ∷ Write ∷ Sync ∷ []
+-- and the device hasn't failed
+pub record Proceeds {D : Type 0} (disk : Ghosts D) (a b : StoreState D) : Type 0 where
+  pub keeps : KeepsAll disk a b
+  pub well : b.slots.journal.phase ≢ Failed
+  pub no_failure : disk.faults b.slots.journal.disk ≡ disk.faults a.slots.journal.disk
+  pub works : Works disk a b
 
--- those of so many
-abbrev pub calls_of : ℕ → List CallKind
-calls_of zero = []
-calls_of (suc n) = batch_calls ++ calls_of n
+-- a step wasn't taken, and the device failed, or memory was wanting
+pub record Halts {D : Type 0} (disk : Ghosts D) (a b : StoreState D) (f : CommitFault) : Type 0 where
+  pub keeps : KeepsAll disk a b
+  pub works : BreaksOff disk a b
+  pub cause : f ≡ StoreFailed → disk.faults a.slots.journal.disk < disk.faults b.slots.journal.disk
 
 -- ---- sessions
 -- it takes edits
@@ -110,12 +174,12 @@ abbrev pub LeavesFlags : {D : Type 0} → Ghosts D → SessionState D → Sessio
 LeavesFlags disk a b P = SameHonesty disk (disk_of a) (disk_of b)
     × AtAnyMoment disk (disk_of a) (disk_of b) (λ c. (flags : State) × P flags × StandsFor c flags)
 
--- a session goes on: its disk keeps its word as before and hasn't failed, and its calls were those of whole batches
+-- a session goes on: its disk keeps its word as before and hasn't failed, and its calls were those of whole works
 pub record Keeps {D : Type 0} (disk : Ghosts D) (a b : SessionState D) : Type 0 where
   pub honest : SameHonesty disk (disk_of a) (disk_of b)
   pub no_failure : disk.faults (disk_of b) ≡ disk.faults (disk_of a)
   pub ready : IsReady disk a → IsReady disk b
-  pub called : (n : ℕ) × (disk.calls (disk_of b) ≡ disk.calls (disk_of a) ++ calls_of n)
+  pub called : Works disk a.store b.store
 
 -- where the store failed, there was no room for what waited, or the device failed
 abbrev pub CanFail : {D : Type 0} → Ghosts D → CommitFault → SessionState D → SessionState D
@@ -124,10 +188,9 @@ CanFail disk StoreFailed a b = LacksRoomFor disk a.desk (disk_of b)
     ⊎ (disk.faults (disk_of a) < disk.faults (disk_of b))
 CanFail disk Memory a b = Unit {0}
 
--- a session stops at what waits: its calls were those of whole batches, and some first of one more
+-- a session stops at what waits: its calls were those of whole works, and some first of one more
 pub record Fails {D : Type 0} (disk : Ghosts D) (f : CommitFault)
     (a b : SessionState D) : Type 0 where
   pub honest : SameHonesty disk (disk_of a) (disk_of b)
   pub cause : IsReady disk a → CanFail disk f a b
-  pub called : (n : ℕ) × MakesSome batch_calls (disk.calls (disk_of a) ++ calls_of n) (disk.calls
-      (disk_of b))
+  pub called : BreaksOff disk a.store b.store

@@ -1,27 +1,78 @@
 -- Going on is of any length.
-use Rattle.std.proofs.Common.{◌≡◌, ◌+◌, ℕ, zero, suc, List, ◌++◌, refl, sym, ap, ◌∙◌, append_assoc, append-nil, arith}
+use Rattle.std.proofs.Common.{◌≡◌, List, [], ◌∷◌, ◌++◌, false, inl, refl, sym, ap, subst, ◌∙◌, append_assoc, append-nil}
+use Rattle.fp_compaction.specs.Steps as compaction
+use Rattle.fp_disk.specs.History.{MakesSome}
+use Rattle.fp_group_commit.specs.Store.{StoreState}
+use Rattle.fp_slots.specs.declared.slots.Step.{Step}
 use Rattle.fp_disk.specs.Moments.{leaves_map, leaves_then}
 use Rattle.fp_disk.specs.declared.disk.Disk.{Ghosts}
 use Rattle.fp_disk.specs.declared.history.CallKind.{CallKind}
 use Rattle.fp_edit.specs.Flags.{State}
 use Rattle.fp_recovery.specs.Stands.{StandsFor}
-use Rattle.fp_session.specs.Session.{batch_calls, calls_of, disk_of, Keeps, LeavesFlags, SessionState}
+use Rattle.fp_session.specs.Session.{BreaksOff, Keeps, Leads, LeavesFlags, SessionState, Work, Works, calls_of, disk_of, work_calls}
+use Rattle.fp_session.specs.Session.{compaction_step, whole_batch}
 
--- the calls of some batches and then of others
-pub calls_more : (m n : ℕ) → calls_of m ++ calls_of n ≡ calls_of (m + n)
-calls_more zero n = let none : n ≡ 0 + n = omega arith in ap calls_of none
-calls_more (suc m) n =
-    let next : suc (m + n) ≡ suc m + n = omega arith in
-    append_assoc batch_calls (calls_of m) (calls_of n) ∙ ap (λ
-    (l : List CallKind). batch_calls ++ l) (calls_more m n) ∙ ap calls_of next
+-- the calls of some works and then of others
+pub calls_more : (xs ys : List Work) → calls_of (xs ++ ys) ≡ calls_of xs ++ calls_of ys
+calls_more [] ys = refl
+calls_more (w ∷ xs) ys =
+    ap (λ (l : List CallKind). work_calls w ++ l) (calls_more xs ys)
+    ∙ sym (append_assoc (work_calls w) (calls_of xs) (calls_of ys))
+
+-- works lead on from where others led
+pub leads_more : (p q r : Step) (xs ys : List Work) → Leads p xs q → Leads q ys r → Leads p (xs ++ ys) r
+leads_more p q r [] ys h k = subst (λ (x : Step). Leads x ys r) h k
+leads_more p q r (whole_batch ∷ xs) ys h k = (h.0, leads_more p q r xs ys h.1 k)
+leads_more p q r (compaction_step x may_open ∷ xs) ys h k =
+    (h.0, h.1, leads_more (compaction.next_step p h.1) q r xs ys h.2 k)
 
 module _ {D : Type 0} (disk : Ghosts D) where
+  pub no_works : (a : StoreState D) → Works disk a a
+  no_works a = record { works = []; lead = refl; calls = sym (append-nil (disk.calls a.slots.journal.disk)) }
+
+  pub works_on : (a b c : StoreState D) → Works disk a b → Works disk b c → Works disk a c
+  works_on a b c h k = record {
+    works = h.works ++ k.works;
+    lead = leads_more a.slots.step b.slots.step c.slots.step h.works k.works h.lead k.lead;
+    calls = k.calls ∙ ap (λ (l : List CallKind). l ++ calls_of k.works) h.calls
+        ∙ append_assoc (disk.calls a.slots.journal.disk) (calls_of h.works) (calls_of k.works)
+        ∙ ap (λ (l : List CallKind). disk.calls a.slots.journal.disk ++ l) (sym (calls_more h.works k.works));
+  }
+
+  pub breaks_on : (a b c : StoreState D) → Works disk a b → BreaksOff disk b c → BreaksOff disk a c
+  breaks_on a b c h k =
+      let first : List CallKind = disk.calls a.slots.journal.disk in record {
+        works = h.works ++ k.works;
+        next = k.next;
+        last = k.last;
+        lead = leads_more a.slots.step b.slots.step k.next h.works k.works h.lead k.lead;
+        may = k.may;
+        calls = subst (λ (l : List CallKind). MakesSome (work_calls k.last) l (disk.calls c.slots.journal.disk))
+            (ap (λ (l : List CallKind). l ++ calls_of k.works) h.calls ∙ append_assoc first (calls_of h.works) (calls_of k.works)
+            ∙ ap (λ (l : List CallKind). first ++ l) (sym (calls_more h.works k.works))) k.calls;
+      }
+
+  -- works that nothing came behind
+  pub works_break : (a b : StoreState D) → Works disk a b → BreaksOff disk a b
+  works_break a b h = record {
+    works = h.works;
+    next = b.slots.step;
+    last = compaction_step b.slots.step false;
+    lead = h.lead;
+    may = refl;
+    calls = none (work_calls (compaction_step b.slots.step false)) (disk.calls a.slots.journal.disk ++ calls_of h.works) (disk.calls b.slots.journal.disk) h.calls;
+  }
+    where
+      none : (kinds old new : List CallKind) → new ≡ old → MakesSome kinds old new
+      none [] old new is = is
+      none (k ∷ kinds) old new is = inl is
+
   pub keeps_itself : (s : SessionState D) → Keeps disk s s
   keeps_itself s = record {
     honest = (λ h. h, λ h. h);
     no_failure = refl;
     ready = λ r. r;
-    called = (0, sym (append-nil (disk.calls (disk_of s))));
+    called = no_works s.store;
   }
 
   pub keeps_on : (a b c : SessionState D) → Keeps disk a b → Keeps disk b c → Keeps disk a c
@@ -29,13 +80,7 @@ module _ {D : Type 0} (disk : Ghosts D) where
     honest = (λ x. k.honest.0 (h.honest.0 x), λ x. h.honest.1 (k.honest.1 x));
     no_failure = k.no_failure ∙ h.no_failure;
     ready = λ r. k.ready (h.ready r);
-    called = (
-      h.called.0 + k.called.0,
-      k.called.1 ∙ ap (λ (l : List CallKind). l ++ calls_of k.called.0) h.called.1 ∙ append_assoc
-          (disk.calls (disk_of a)) (calls_of h.called.0) (calls_of k.called.0)
-          ∙ ap (λ (l : List CallKind). disk.calls (disk_of a) ++ l)
-          (calls_more h.called.0 k.called.0),
-    );
+    called = works_on a.store b.store c.store h.called k.called;
   }
 
   pub flags_on : (a b c : SessionState D) (P : State → Type 0) → LeavesFlags disk a b P

@@ -10,17 +10,19 @@ ghost use Rattle.fp_group_commit.specs.Calls.{MovesTo};
 ghost use Rattle.fp_group_commit.specs.Changes.{GoesOn, HasRoom};
 ghost use Rattle.fp_group_commit.specs.Store.{IsAtRest, Leaves, kept};
 ghost use Rattle.fp_desk.specs.Desk.{IsDrawn, log};
-ghost use Rattle.fp_session.specs.Session.{Commits, IsInStep, IsSealed, KeepsOrGains, LacksRoomFor, StandsAhead, batch_calls, calls_of};
+ghost use Rattle.fp_slots.specs.State.{IsEarly};
+ghost use Rattle.fp_session.specs.Session.{BreaksOff, Commits, IsInStep, IsSealed, KeepsOrGains, LacksRoomFor, StandsAhead, Works, batch_calls};
 ghost use Rattle.fp_session.specs.declared.commit.CommitFault.TheVariants.{Memory, StoreFailed};
 
+use crate::compacting::make_room;
 use fp_desk::{Desk, SettleFault};
 use fp_disk::Disk;
 use fp_group_commit::{Draw, Receipt, Store, StoreFault};
 
-/// Why a batch wasn't sealed and settled.
+/// Why edits weren't kept.
 #[derive(Debug, Drop, Clone, Copy, PartialEq, Eq)]
 pub enum CommitFault {
-    /// The device failed, or there is no room for the batch.
+    /// The device failed, or there is no room for a batch and no generation to make it.
     StoreFailed,
     /// Memory was wanting.
     Memory,
@@ -32,7 +34,7 @@ fn stage<D: Disk>(store: &mut Store<D>, draw: Draw) -> Result<(), CommitFault>
     requires room { HasRoom store.old.slots draw }
     requires goes_on { GoesOn (kept store.old) draw }
     ensures same { (store.new.store ≡ store.old.store) × (store.new.sealed ≡ store.old.sealed)
-        × (store.new.slots.step ≡ store.old.slots.step) }
+        × (store.new.slots.step ≡ store.old.slots.step) × IsEarly store.old.slots.step }
     ensures staged { OnOk result (MovesTo D.faults Staged store.old store.new
         × (store.new.staged ≡ draw.changes)) }
     ensures cause { IfErr result (λ f. f ≡ StoreFailed
@@ -121,17 +123,14 @@ fn commit<D: Disk>(store: &mut Store<D>, desk: &mut Desk) -> Result<(), CommitFa
     ensures any_moment { AtAnyMoment D.Disk store.old.slots.journal.disk store.new.slots.journal.disk
         (StandsAhead desk.old) }
     ensures settled { OnErr result (desk.new.settled ≡ desk.old.settled) }
-    ensures called { Makes batch_calls (D.calls store.old.slots.journal.disk)
-        (D.calls store.new.slots.journal.disk) result }
+    ensures called { IfErr result (λ _. BreaksOff D.Disk store.old store.new) }
     ensures honest { SameHonesty D.Disk store.old.slots.journal.disk store.new.slots.journal.disk }
 {
     let Ok(drawn) = desk.draw() else {
         return Err(CommitFault::Memory);
     };
     let Some(draw) = drawn else { unreachable!() };
-    if !store.has_room(&draw) {
-        return Err(CommitFault::StoreFailed);
-    }
+    make_room(store, &draw)?;
     match seal(store, draw) {
         Ok(receipt) => settle(desk, receipt),
         Err(fault) => Err(fault),
@@ -151,10 +150,8 @@ pub fn commit_all<D: Disk>(store: &mut Store<D>, desk: &mut Desk) -> Result<(), 
     ensures any_moment { AtAnyMoment D.Disk store.old.slots.journal.disk store.new.slots.journal.disk
         (StandsAhead desk.old) }
     ensures now { EachCrash D.Disk store.new.slots.journal.disk (StandsAhead desk.new) }
-    ensures called { (n : ℕ) × MatchResult result
-        (λ _. D.calls store.new.slots.journal.disk ≡ D.calls store.old.slots.journal.disk ++ calls_of n)
-        (λ _. MakesSome batch_calls (D.calls store.old.slots.journal.disk ++ calls_of n)
-        (D.calls store.new.slots.journal.disk)) }
+    ensures called { MatchResult result (λ _. Works D.Disk store.old store.new)
+        (λ _. BreaksOff D.Disk store.old store.new) }
     ensures honest { SameHonesty D.Disk store.old.slots.journal.disk store.new.slots.journal.disk }
 {
     // What a crash leaves is known only where it is asked.

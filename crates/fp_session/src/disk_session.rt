@@ -9,11 +9,13 @@ ghost use Rattle.fp_edit.specs.Flags.{State};
 ghost use Rattle.fp_layout.specs.declared.fault.OpenFault.TheVariants as opening;
 ghost use Rattle.fp_recovery.specs.Refusals.{IsUnlessWanting, RefusesBytes};
 ghost use Rattle.fp_recovery.specs.Stands.{StandsFor};
+ghost use Rattle.fp_slots.specs.declared.slots.Step.TheVariants.{Begin};
 ghost use Rattle.fp_group_commit.specs.Store.{IsFresh};
 ghost use Rattle.fp_session.specs.Session.{Fails, HasPlace, IsAhead, IsReady, Keeps, LeavesFlags, StandsAhead, disk_of, flags_of};
 ghost use Rattle.fp_session.specs.SessionLaws.{flags_as, flags_on, keeps_itself, keeps_on};
 
 use crate::commit::commit_all;
+use crate::compacting::{finish, go_on};
 use crate::{CommitFault, EditStore};
 use fp_desk::{Desk, SubmitFault};
 use fp_disk::Disk;
@@ -24,7 +26,8 @@ use std::alloc::Global;
 use std::marker::Model;
 
 /// A set of flags, and the disk that keeps it: edits wait at a desk, and `commit` seals and
-/// settles them in batches.
+/// settles them in batches. Where a slot runs short a compaction goes on beside them, a step
+/// at the beginning and behind each batch, and further ones where a batch has no room.
 ///
 /// It isn't `Drop`, so that the disk comes back by `into_disk`.
 pub struct DiskSession<D: Disk> {
@@ -32,6 +35,8 @@ pub struct DiskSession<D: Disk> {
     desk: Desk,
     // Edits weren't kept. No other is taken then.
     is_stopped: bool,
+    // Nothing was done yet, or a batch was sealed since a step was taken.
+    is_due: bool,
 }
 
 impl<D: Disk> Model for DiskSession<D> {
@@ -58,6 +63,7 @@ impl<D: Disk> DiskSession<D> {
         requires opening { opening ≡ store.store }
         requires fresh { IsFresh store store.store.start }
         ensures made { IfOk result (λ s. (s.store ≡ store) × IsReady D.Disk s) }
+        ensures rests { IfOk result (λ s. s.store.slots.step ≡ Begin) }
         ensures kept { IfOk result (λ s. (flags : State) → IsAhead s.desk flags
             → flags ≡ flags_of s) }
         ensures flags { IfOk result (λ s. flags_of s ≡ store.store.start) }
@@ -70,6 +76,7 @@ impl<D: Disk> DiskSession<D> {
                 store,
                 desk,
                 is_stopped: false,
+                is_due: true,
             }),
             Err(_) => Err(store),
         }
@@ -81,6 +88,7 @@ impl<D: Disk> DiskSession<D> {
         ensures only { D.honest disk → IfOk result (λ s. (other : State) →
             StandsFor (D.bytes disk) other → other ≡ flags_of s) }
         ensures ready { IfOk result (λ s. IsReady D.Disk s) }
+        ensures rests { IfOk result (λ s. s.store.slots.step ≡ Begin) }
         ensures kept { IfOk result (λ s. (flags : State) → IsAhead s.desk flags
             → flags ≡ flags_of s) }
         ensures fault { D.honest disk → IfErr result (λ e. RefusesBytes (D.bytes disk) e.0) }
@@ -125,6 +133,7 @@ impl<D: Disk> DiskSession<D> {
             store,
             desk: _,
             is_stopped: _,
+            is_due: _,
         } = self;
         store.into_disk()
     }
@@ -142,6 +151,8 @@ impl<D: Disk> EditStore for DiskSession<D> {
     ghost fails_on = { λ f a b. Fails D.Disk f a b };
 
     ghost leaves = { λ a b P. LeavesFlags D.Disk a b P };
+
+    ghost rests = { λ s. s.store.slots.step ≡ Begin };
 
     ghost leads_to_itself = { λ s. keeps_itself D.Disk s };
 
@@ -169,8 +180,33 @@ impl<D: Disk> EditStore for DiskSession<D> {
         if self.is_stopped {
             return Err(CommitFault::StoreFailed);
         }
+        self.is_due = self.is_due || self.desk.is_waiting();
         self.is_stopped = true;
         commit_all(&mut self.store, &mut self.desk)?;
+        self.is_stopped = false;
+        Ok(())
+    }
+
+    fn go_on(&mut self) -> Result<(), CommitFault> {
+        if self.is_stopped {
+            return Err(CommitFault::StoreFailed);
+        }
+        if !self.is_due {
+            return Ok(());
+        }
+        self.is_due = false;
+        self.is_stopped = true;
+        go_on(&mut self.store)?;
+        self.is_stopped = false;
+        Ok(())
+    }
+
+    fn rest(&mut self) -> Result<(), CommitFault> {
+        if self.is_stopped {
+            return Err(CommitFault::StoreFailed);
+        }
+        self.is_stopped = true;
+        finish(&mut self.store)?;
         self.is_stopped = false;
         Ok(())
     }

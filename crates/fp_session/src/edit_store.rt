@@ -32,6 +32,9 @@ pub trait EditStore {
     // Whatever a crash leaves at any moment from one to the other is flags of this kind.
     ghost leaves: { Self → Self → (State → Type 0) → Type 0 };
 
+    // Nothing is done beside the edits.
+    ghost rests: { Self → Type 0 };
+
     ghost leads_to_itself: { (s : Self) → continues_to s s };
 
     ghost leads_on: { (a b c : Self) → continues_to a b → continues_to b c → continues_to a c };
@@ -69,6 +72,24 @@ pub trait EditStore {
         ensures fate { MatchResult result (λ _. continues_to self.old self.new)
             (λ f. fails_on f self.old self.new) };
 
+    /// Goes on with what is done beside the edits, by one step where one is due.
+    fn go_on(&mut self) -> Result<(), CommitFault>
+        ensures same { state self.new ≡ state self.old }
+        ensures place { OnOk result ((c : Change) → has_place self.old c → has_place self.new c) }
+        ensures ahead { (s : State) → may_stand self.new s → may_stand self.old s }
+        ensures any_moment { leaves self.old self.new (may_stand self.old) }
+        ensures fate { MatchResult result (λ _. continues_to self.old self.new)
+            (λ f. fails_on f self.old self.new) };
+
+    /// Ends what is done beside the edits.
+    fn rest(&mut self) -> Result<(), CommitFault>
+        ensures same { state self.new ≡ state self.old }
+        ensures rests { OnOk result (rests self.new) }
+        ensures ahead { (s : State) → may_stand self.new s → may_stand self.old s }
+        ensures any_moment { leaves self.old self.new (may_stand self.old) }
+        ensures fate { MatchResult result (λ _. continues_to self.old self.new)
+            (λ f. fails_on f self.old self.new) };
+
     /// The flags as they are.
     fn flags(&self) -> &FlagSet
         ensures value { result.now ≡ state self.now }
@@ -87,6 +108,8 @@ impl EditStore for FlagSet {
     ghost fails_on = { λ f a b. ⊥ };
 
     ghost leaves = { λ a b P. Unit {0} };
+
+    ghost rests = { λ s. Unit {0} };
 
     ghost leads_to_itself = { λ s. tt };
 
@@ -108,6 +131,14 @@ impl EditStore for FlagSet {
     }
 
     fn commit(&mut self) -> Result<(), CommitFault> {
+        Ok(())
+    }
+
+    fn go_on(&mut self) -> Result<(), CommitFault> {
+        Ok(())
+    }
+
+    fn rest(&mut self) -> Result<(), CommitFault> {
         Ok(())
     }
 

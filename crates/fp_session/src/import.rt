@@ -12,7 +12,7 @@ ghost use Rattle.fp_session.specs.Streams.{Blames};
 ghost use Rattle.fp_session.specs.declared.replies.TheConstants.{MOST_WAITING};
 ghost use Rattle.fp_session.specs.declared.fault.ApplyFault.TheVariants.{Device};
 
-use crate::replies::{Replies, conclude, give_up};
+use crate::replies::{Replies, conclude, give_up, go_on};
 use crate::{ApplyFault, EditStore};
 use fp_definition::{Definition, FlagKey};
 use fp_edit::{Edit, Expect};
@@ -62,6 +62,9 @@ pub fn import_flags<W: Write, E: EditStore>(
     ensures any_moment { E.leaves edits result.0
         (IsAfterPrefix (E.state edits) (asked_by_flags (map seen flags.items))) }
 
+    // At the end nothing goes on beside the edits.
+    ensures rests { OnOk result.1 (E.rests result.0) }
+
     // What keeps the flags goes on, but where it failed to keep what waited.
     ensures course { StoreRun E.EditStore
         (IsAfterPrefix (E.state edits) (asked_by_flags (map seen flags.items)))
@@ -90,6 +93,7 @@ fn put_flags<W: Write, E: EditStore>(
     // What a crash leaves is known only where it is asked.
     let _ = edits.flags();
     let mut replies = Replies::new(alloc);
+    go_on(edits)?;
     for (key, flag) in flags {
         let expect = Expect::Any;
         let put = Edit::Put { key, flag, expect };

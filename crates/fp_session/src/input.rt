@@ -10,7 +10,7 @@ ghost use Rattle.fp_session.specs.StoreRun.{StoreRun};
 ghost use Rattle.fp_session.specs.Streams.{Blames, IsFromWithin};
 
 use crate::line::{IncomingLine, newline_in};
-use crate::replies::{Replies, conclude, give_up};
+use crate::replies::{Replies, conclude, give_up, go_on};
 use crate::{ApplyFault, EditStore};
 use fp_streams::FailureCounted;
 use std::alloc::Global;
@@ -62,6 +62,9 @@ pub fn apply_lines<R: Read, W: Write, E: EditStore>(
     ensures any_moment { E.leaves edits result.0 (λ flags. IfSome (R.remaining r.old.inner) (λ input.
         IsAfterPrefix (E.state edits) (asked_by_input input) flags)) }
 
+    // At the end nothing goes on beside the edits.
+    ensures rests { OnOk result.1 (E.rests result.0) }
+
     // What keeps the flags goes on, but where it failed to keep what waited.
     ensures course { StoreRun E.EditStore (λ flags. IfSome (R.remaining r.old.inner) (λ input.
         IsAfterPrefix (E.state edits) (asked_by_input input) flags)) edits result.0 result.1 }
@@ -91,6 +94,7 @@ fn answer_input<R: Read, W: Write, E: EditStore>(
     let _ = edits.flags();
     let mut line = IncomingLine::new(alloc);
     let mut replies = Replies::new(alloc);
+    go_on(edits)?;
     let mut chunk = [0; CHUNK];
     loop {
         let count = r.read(&mut chunk)?;

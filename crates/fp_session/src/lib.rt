@@ -2,6 +2,7 @@
 #![tactic(auto)]
 
 mod commit;
+mod compacting;
 mod disk_session;
 mod edit_store;
 mod fault;

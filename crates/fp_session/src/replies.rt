@@ -128,7 +128,8 @@ impl Replies {
         Ok(())
     }
 
-    /// Has what waits kept, and then tells of it. Where that fails, its replies tell no revision.
+    /// Has what waits kept, and then tells of it. Where that fails, its replies tell no revision. What is done beside the edits
+    /// goes on then by a step.
     ///
     /// What is told in either case is made before, so that no memory is wanting then.
     pub fn seal<E: EditStore>(&mut self, alloc: Global, edits: &mut E) -> Result<(), ApplyFault>
@@ -145,18 +146,17 @@ impl Replies {
         let failed = self.telling(alloc, false)?;
         self.text.reserve(kept.text.len().max(failed.text.len()))?;
         match edits.commit() {
-            Ok(()) => {
-                self.tell(kept);
-                Ok(())
-            }
+            Ok(()) => self.tell(kept),
             Err(fault) => {
                 self.tell(failed);
-                Err(fault.into())
+                return Err(fault.into());
             }
         }
+        go_on(edits)?;
+        Ok(())
     }
 
-    /// Has what waits kept, and shows the flags behind all replies.
+    /// Has what waits kept, ends what is done beside it, and shows the flags behind all replies.
     pub fn end<E: EditStore>(&mut self, alloc: Global, edits: &mut E) -> Result<(), ApplyFault>
         ensures ended { (first : E) (asked : List Ask) (sent : List ℕ)
             → IsAt E.EditStore first edits.old asked sent self.old → MatchResult result
@@ -166,6 +166,7 @@ impl Replies {
         ensures fault { IfErr result IsFromWithin }
     {
         self.seal(alloc, edits)?;
+        rest(edits)?;
         let line = shown(alloc, edits.flags())?;
         self.text.extend_from_slice(&line)?;
         Ok(())
@@ -286,6 +287,32 @@ fn submit<E: EditStore>(edits: &mut E, edit: Edit) -> Reply
         Ok(revision) => Reply::Revision(revision),
         Err(fault) => Reply::Refused(fault),
     }
+}
+
+/// Goes on with what is done beside the edits, where none waits.
+pub fn go_on<E: EditStore>(edits: &mut E) -> Result<(), ApplyFault>
+    ensures at { (first : E) (asked : List Ask) (sent : List ℕ) (r : Replies) (most : ℕ)
+        → r.waiting.items ≡ [] → IsAt E.EditStore first edits.old asked sent r
+        → MatchResult result (λ _. IsAt E.EditStore first edits.new asked sent r)
+        (IsBroken E.EditStore most first edits.new asked sent r) }
+    ensures place { OnOk result ((c : Change) → E.has_place edits.old c → E.has_place edits.new c) }
+    ensures fault { IfErr result IsFromWithin }
+{
+    edits.go_on()?;
+    Ok(())
+}
+
+// Ends what is done beside the edits, where none waits.
+fn rest<E: EditStore>(edits: &mut E) -> Result<(), ApplyFault>
+    ensures at { (first : E) (asked : List Ask) (sent : List ℕ) (r : Replies) (most : ℕ)
+        → r.waiting.items ≡ [] → IsAt E.EditStore first edits.old asked sent r
+        → MatchResult result (λ _. IsAt E.EditStore first edits.new asked sent r)
+        (IsBroken E.EditStore most first edits.new asked sent r) }
+    ensures rests { OnOk result (E.rests edits.new) }
+    ensures fault { IfErr result IsFromWithin }
+{
+    edits.rest()?;
+    Ok(())
 }
 
 /// Sends the replies behind which a fault ended a run.

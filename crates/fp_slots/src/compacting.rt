@@ -24,7 +24,7 @@ impl<D: Disk> Slots<D> {
         requires live { self.old.journal.phase ≢ Failed }
         ensures step { OnOk result (self.new.step ≡ SyncClose) × OnErr result (self.new.step ≡ Close) }
         ensures same { SameSlots self.old self.new }
-        ensures left { OnErr result (self.new.left ≡ self.old.left) }
+        ensures left { self.new.left ≡ self.old.left }
         ensures phase { OnOk result (self.new.journal.phase ≡ self.old.journal.phase) × OnErr result (self.new.journal.phase ≡ Failed) }
         ensures any_moment { AtAnyMoment D.Disk self.old.journal.disk self.new.journal.disk (Keeps self.old) }
         ensures apart { KeepsSynced D.Disk self.old.journal.disk self.new.journal.disk (OutsideBoth self.old) }
@@ -48,7 +48,7 @@ impl<D: Disk> Slots<D> {
         requires live { self.old.journal.phase ≢ Failed }
         ensures step { OnOk result (self.new.step ≡ Part) × OnErr result (self.new.step ≡ SyncClose) }
         ensures same { SameSlots self.old self.new }
-        ensures left { OnErr result (self.new.left ≡ self.old.left) }
+        ensures left { self.new.left ≡ self.old.left }
         ensures phase { OnOk result (self.new.journal.phase ≡ self.old.journal.phase) × OnErr result (self.new.journal.phase ≡ Failed) }
         ensures any_moment { AtAnyMoment D.Disk self.old.journal.disk self.new.journal.disk (Keeps self.old) }
         ensures apart { KeepsSynced D.Disk self.old.journal.disk self.new.journal.disk (OutsideBoth self.old) }
@@ -96,7 +96,7 @@ impl<D: Disk> Slots<D> {
         requires live { self.old.journal.phase ≡ Idle }
         ensures step { OnOk result (self.new.step ≡ SyncBody) × OnErr result (self.new.step ≡ Tail) }
         ensures same { SameSlots self.old self.new }
-        ensures left { OnErr result (self.new.left ≡ self.old.left) }
+        ensures left { self.new.left ≡ self.old.left }
         ensures phase { OnOk result (self.new.journal.phase ≡ self.old.journal.phase) × OnErr result (self.new.journal.phase ≡ Failed) }
         ensures any_moment { AtAnyMoment D.Disk self.old.journal.disk self.new.journal.disk (Keeps self.old) }
         ensures apart { KeepsSynced D.Disk self.old.journal.disk self.new.journal.disk (OutsideBoth self.old) }
@@ -119,7 +119,7 @@ impl<D: Disk> Slots<D> {
         requires live { self.old.journal.phase ≢ Failed }
         ensures step { OnOk result (self.new.step ≡ Open) × OnErr result (self.new.step ≡ SyncBody) }
         ensures same { SameSlots self.old self.new }
-        ensures left { OnErr result (self.new.left ≡ self.old.left) }
+        ensures left { self.new.left ≡ self.old.left }
         ensures phase { OnOk result (self.new.journal.phase ≡ self.old.journal.phase) × OnErr result (self.new.journal.phase ≡ Failed) }
         ensures any_moment { AtAnyMoment D.Disk self.old.journal.disk self.new.journal.disk (Keeps self.old) }
         ensures apart { KeepsSynced D.Disk self.old.journal.disk self.new.journal.disk (OutsideBoth self.old) }
@@ -138,7 +138,7 @@ impl<D: Disk> Slots<D> {
         requires live { self.old.journal.phase ≢ Failed }
         ensures step { OnOk result (self.new.step ≡ SyncOpen) × OnErr result (self.new.step ≡ Open) }
         ensures same { SameSlots self.old self.new }
-        ensures left { OnErr result (self.new.left ≡ self.old.left) }
+        ensures left { self.new.left ≡ self.old.left }
         ensures phase { OnOk result (self.new.journal.phase ≡ self.old.journal.phase) × OnErr result (self.new.journal.phase ≡ Failed) }
         ensures any_moment { AtAnyMoment D.Disk self.old.journal.disk self.new.journal.disk (KeepsEither self.old) }
         ensures apart { KeepsSynced D.Disk self.old.journal.disk self.new.journal.disk (OutsideBoth self.old) }
@@ -166,7 +166,7 @@ impl<D: Disk> Slots<D> {
         ensures begun { OnOk result (self.new.journal.begun ≡ false) }
         ensures turned { OnOk result ((self.new.other ≡ self.old.journal.slot) × (self.new.generation ≡ self.old.generation + 1) × (self.new.may_open ≡ true) × (self.new.step ≡ Begin)) }
         ensures broken { OnErr result (SameSlots self.old self.new × (self.new.step ≡ SyncOpen) × (self.new.journal.phase ≡ Failed)) }
-        ensures left { OnErr result (self.new.left ≡ self.old.left) }
+        ensures left { self.new.left ≡ self.old.left }
         ensures any_moment { AtAnyMoment D.Disk self.old.journal.disk self.new.journal.disk (KeepsEither self.old) }
         ensures apart { KeepsSynced D.Disk self.old.journal.disk self.new.journal.disk (OutsideBoth self.old) }
         ensures honest { SameHonesty D.Disk self.old.journal.disk self.new.journal.disk }

@@ -114,29 +114,13 @@ impl<D: Disk> Slots<D> {
         journal.into_disk()
     }
 
-    /// The journal in the slot that rules, alone: nothing says any more that the other slot is left as it is.
-    pub fn into_journal(self) -> Journal<D>
-        ensures { result ≡ self.journal }
-    {
-        let Slots {
-            journal,
-            other: _,
-            generation: _,
-            held: _,
-            may_open: _,
-            planned: _,
-            ended: _,
-            head: _,
-            done: _,
-        } = self;
-        journal
-    }
-
     /// What a compaction does next, which says what a crash would leave now.
     pub fn step(&self) -> Step
         ensures step { result ≡ self.now.step }
         ensures outcomes { EachCrash D.Disk self.now.journal.disk (Leaves result self.now) }
         ensures still { IsStill self.now.step self.now.journal.phase }
+        ensures front { IsFrontOf self.now.generation self.now.journal.front }
+        ensures numbered { self.now.generation < 2 ^ 64 }
     {
         let _phase = self.journal.phase();
         self.held.step()

@@ -7,7 +7,7 @@ use fp_desk::SubmitFault;
 use fp_disk::MemoryDisk;
 use fp_edit::{Edit, EditFault};
 use fp_group_commit::StoreFault;
-use fp_world::{Answer as Reply, Event, World};
+use fp_world::{Answer as Reply, Committer, Event};
 
 /// `draw`, `stage`, `sync-body`, `open-gate`, `sync-gate`, `settle`, `ack REVISION`.
 pub fn on_events(trial: &mut Trial, word: &str, args: &mut Args<'_>) -> Answer {
@@ -71,16 +71,18 @@ fn became_of(reply: &Reply) -> Became {
         Reply::Settled(revision) => Became::Told(Answer::Named("settled", *revision)),
         Reply::Acked(revision) => Became::Acked(*revision),
         Reply::Waiting => Became::Waiting,
+        // A world without a board publishes nothing.
+        _ => Became::Told(Answer::NotUnderstood),
     }
 }
 
-fn stepped(world: &mut World<MemoryDisk>, event: &Event) -> Became {
+fn stepped(world: &mut Committer<MemoryDisk>, event: &Event) -> Became {
     let reply = world.step(event);
     became_of(&reply)
 }
 
 // What the event is answered. One for which memory was wanting is asked once more.
-fn asked(world: &mut World<MemoryDisk>, event: &Event) -> Became {
+fn asked(world: &mut Committer<MemoryDisk>, event: &Event) -> Became {
     match stepped(world, event) {
         Became::Told(Answer::NoMemory) => stepped(world, event),
         became => became,

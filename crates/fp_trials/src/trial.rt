@@ -6,7 +6,7 @@ use fp_disk::{FailedWrite, Failing, MemoryDisk};
 use fp_edit::{Edit, EditFault};
 use fp_journal::synced_bytes;
 use fp_layout::OpenFault;
-use fp_world::World;
+use fp_world::Committer;
 use std::alloc::Global;
 use std::collections::VecDeque;
 use std::mem;
@@ -120,7 +120,7 @@ pub fn tell_fault(fault: &CommandFault, out: &mut Text) {
 
 /// A world that may be let go.
 pub struct OpenWorld {
-    pub world: World<MemoryDisk>,
+    pub world: Committer<MemoryDisk>,
 }
 
 impl OpenWorld {

@@ -8,7 +8,7 @@ use crate::trial::{Answer, Fault, Held, OpenWorld, Trial};
 use fp_disk::MemoryDisk;
 use fp_edit::FlagSet;
 use fp_group_commit::{CreateFault, Opening, Store};
-use fp_world::World;
+use fp_world::Committer;
 use std::alloc::Global;
 
 /// A store as it was made or opened, and its opening.
@@ -102,7 +102,7 @@ fn enter(trial: &mut Trial, store: Store<MemoryDisk>, opening: Opening, answer: 
     requires opening { opening ≡ store.store }
     requires fresh { IsFresh store store.store.start }
 {
-    match World::new(trial.alloc, store, opening) {
+    match Committer::new(trial.alloc, store, opening) {
         Ok(world) => {
             trial.held = Held::Open(OpenWorld { world });
             answer

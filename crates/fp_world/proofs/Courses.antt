@@ -1,17 +1,19 @@
 -- A list of events, one after another.
-use Rattle.std.proofs.Common.{◌≡◌, ◌≤◌, ◌+◌, ℕ, List, [], ◌∷◌, ◌++◌, length, refl, sym, ap, subst, ◌∙◌, arith, append_assoc}
+use Rattle.std.proofs.Common.{◌≡◌, ◌≤◌, ℕ, List, [], ◌∷◌, ◌++◌, refl, sym, ap, subst, ◌∙◌, arith, append_assoc}
 use Rattle.std.proofs.lemmas.List.{append-nil}
-use mathlib.Core.List.{IsPrefix}
 use Rattle.fp_disk.specs.Crashes.{AtAnyMoment, EachCrash, SameHonesty}
-use Rattle.fp_disk.specs.Outcomes.{IsOutcome, LeavesOnly}
+use Rattle.fp_disk.specs.Outcomes.{IsOutcome}
 use Rattle.fp_disk.specs.Moments.{leaves_map, leaves_still, leaves_then}
 use Rattle.fp_disk.specs.declared.disk.Disk.{Ghosts}
 use Rattle.fp_edit.specs.Edits.{Change}
 use Rattle.fp_desk.specs.Desk.{DeskState, log}
-use Rattle.fp_world.specs.Machine.{Machine, Run, Step}
-use Rattle.fp_world.specs.World.{Course, KeptFrom, StepsTo, WorldState, machine}
+use Rattle.fp_world.specs.Commits.{accepted_by}
+use Rattle.fp_world.specs.Committer.{KeptFrom}
+use Rattle.fp_world.specs.Machine.{Run, accepted, told_by}
+use Rattle.fp_world.specs.World.{Course, StepsTo, WorldState, desk_of, disk_of, machine, told_of}
 use Rattle.fp_world.specs.declared.event.Answer.{Answer}
 use Rattle.fp_world.specs.declared.event.Event.{Event}
+use Rattle.fp_world.proofs.Goes.{told_rises}
 use Rattle.fp_world.proofs.Keeps.{kept_more}
 
 kept_low : (d : DeskState) (high low : ℕ) (c : List ℕ) → low ≤ high → KeptFrom d high c → KeptFrom d low c
@@ -31,22 +33,22 @@ module _ {D : Type 0} (disk : Ghosts D) where
   course_runs old new (f ∷ events) [] r = absurd r
   course_runs old new (f ∷ events) (b ∷ answers) r = let first = r.1 in (machine r.0, first.steps, course_runs r.0 new events answers r.2)
 
-  pub course_told : (old new : WorldState D) (events : List Event) (answers : List Answer) → Course disk old events answers new → old.told ≤ new.told
-  course_told old new [] [] r = let same = ap (λ (w : WorldState D). w.told) r in omega (arith, same)
+  pub course_told : (old new : WorldState D) (events : List Event) (answers : List Answer) → Course disk old events answers new → told_of new ≡ told_by (told_of old) answers
+  course_told old new [] [] r = ap (λ (w : WorldState D). told_of w) r
   course_told old new [] (b ∷ answers) r = absurd r
   course_told old new (f ∷ events) [] r = absurd r
-  course_told old new (f ∷ events) (b ∷ answers) r = let first = r.1 in let more = first.told in let rest = course_told r.0 new events answers r.2 in omega (arith, more, rest)
+  course_told old new (f ∷ events) (b ∷ answers) r = let first = r.1 in course_told r.0 new events answers r.2 ∙ ap (λ (n : ℕ). told_by n answers) first.told
 
-  pub course_log : (old new : WorldState D) (events : List Event) (answers : List Answer) → Course disk old events answers new → IsPrefix (log old.desk) (log new.desk) × (new.desk.store ≡ old.desk.store)
-  course_log old new [] [] r = (([], append-nil (log old.desk) ∙ sym (ap (λ (w : WorldState D). log w.desk) r)), ap (λ (w : WorldState D). w.desk.store) r)
+  pub course_log : (old new : WorldState D) (events : List Event) (answers : List Answer) → Course disk old events answers new → (log (desk_of new) ≡ log (desk_of old) ++ accepted events answers) × ((desk_of new).store ≡ (desk_of old).store)
+  course_log old new [] [] r = (ap (λ (w : WorldState D). log (desk_of w)) r ∙ sym (append-nil (log (desk_of old))), ap (λ (w : WorldState D). (desk_of w).store) r)
   course_log old new [] (b ∷ answers) r = absurd r
   course_log old new (f ∷ events) [] r = absurd r
   course_log old new (f ∷ events) (b ∷ answers) r =
-      let first = r.1 in let p = first.log in let rest = course_log r.0 new events answers r.2 in let q = rest.0 in
-      ((p.0 ++ q.0, sym (append_assoc (log old.desk) p.0 q.0) ∙ ap (λ (l : List Change). l ++ q.0) p.1 ∙ q.1), rest.1 ∙ first.desk)
+      let first = r.1 in let rest = course_log r.0 new events answers r.2 in
+      (rest.0 ∙ ap (λ (l : List Change). l ++ accepted events answers) first.log ∙ append_assoc (log (desk_of old)) (accepted_by f b) (accepted events answers), rest.1 ∙ first.desk)
 
-  pub course_honest : (old new : WorldState D) (events : List Event) (answers : List Answer) → Course disk old events answers new → SameHonesty disk old.store.slots.journal.disk new.store.slots.journal.disk
-  course_honest old new [] [] r = subst (λ (w : WorldState D). SameHonesty disk old.store.slots.journal.disk w.store.slots.journal.disk) (sym r) ((λ h. h), (λ h. h))
+  pub course_honest : (old new : WorldState D) (events : List Event) (answers : List Answer) → Course disk old events answers new → SameHonesty disk (disk_of old) (disk_of new)
+  course_honest old new [] [] r = subst (λ (w : WorldState D). SameHonesty disk (disk_of old) (disk_of w)) (sym r) ((λ h. h), (λ h. h))
   course_honest old new [] (b ∷ answers) r = absurd r
   course_honest old new (f ∷ events) [] r = absurd r
   course_honest old new (f ∷ events) (b ∷ answers) r =
@@ -54,21 +56,20 @@ module _ {D : Type 0} (disk : Ghosts D) where
       ((λ h. rest.0 (here.0 h)), (λ h. here.1 (rest.1 h)))
 
   -- a crash at any moment keeps what was told at the start, and after it what was told by then
-  pub course_leaves : ((d : D) (c : List ℕ) → disk.honest d → disk.crash_states_since d (disk.moment d) c → IsOutcome (disk.unsynced d) c) → (old new : WorldState D) (events : List Event) (answers : List Answer) → EachCrash disk old.store.slots.journal.disk (KeptFrom old.desk old.told) → Course disk old events answers new
-      → AtAnyMoment disk old.store.slots.journal.disk new.store.slots.journal.disk (KeptFrom new.desk old.told)
-  course_leaves only_now old new [] [] now r = subst (λ (w : WorldState D). AtAnyMoment disk old.store.slots.journal.disk w.store.slots.journal.disk (KeptFrom w.desk old.told)) (sym r)
-      (λ h. leaves_still disk.moment disk.crash_states_since old.store.slots.journal.disk (KeptFrom old.desk old.told) (λ c left. now h c (only_now old.store.slots.journal.disk c h left)))
+  pub course_leaves : ((d : D) (c : List ℕ) → disk.honest d → disk.crash_states_since d (disk.moment d) c → IsOutcome (disk.unsynced d) c) → (old new : WorldState D) (events : List Event) (answers : List Answer) → EachCrash disk (disk_of old) (KeptFrom (desk_of old) (told_of old)) → Course disk old events answers new
+      → AtAnyMoment disk (disk_of old) (disk_of new) (KeptFrom (desk_of new) (told_of old))
+  course_leaves only_now old new [] [] now r = subst (λ (w : WorldState D). AtAnyMoment disk (disk_of old) (disk_of w) (KeptFrom (desk_of w) (told_of old))) (sym r)
+      (λ h. leaves_still disk.moment disk.crash_states_since (disk_of old) (KeptFrom (desk_of old) (told_of old)) (λ c left. now h c (only_now (disk_of old) c h left)))
   course_leaves only_now old new [] (b ∷ answers) now r = absurd r
   course_leaves only_now old new (f ∷ events) [] now r = absurd r
   course_leaves only_now old new (f ∷ events) (b ∷ answers) now r = λ h.
-      let mid = r.0 in let first = r.1 in let on = first.honest in let more = first.told in let grows = course_log mid new events answers r.2 in let p = grows.0 in
-      let a = old.store.slots.journal.disk in let b = mid.store.slots.journal.disk in let e = new.store.slots.journal.disk in
-      leaves_then disk.moment disk.crash_states_since a b e (KeptFrom new.desk old.told)
-      (leaves_map disk.moment disk.crash_states_since a b (KeptFrom mid.desk old.told) (KeptFrom new.desk old.told) (λ c k. kept_more mid.desk new.desk p.0 old.told c grows.1 (sym p.1) k) (first.any_moment h))
-      (leaves_map disk.moment disk.crash_states_since b e (KeptFrom new.desk mid.told) (KeptFrom new.desk old.told) (λ c k. kept_low new.desk mid.told old.told c more k) (course_leaves only_now mid new events answers first.exit r.2 (on.0 h)))
+      let mid = r.0 in let first = r.1 in let on = first.honest in let told = first.told in let rises = told_rises (told_of old) b in let grows = course_log mid new events answers r.2 in
+      leaves_then disk.moment disk.crash_states_since (disk_of old) (disk_of mid) (disk_of new) (KeptFrom (desk_of new) (told_of old))
+      (leaves_map disk.moment disk.crash_states_since (disk_of old) (disk_of mid) (KeptFrom (desk_of mid) (told_of old)) (KeptFrom (desk_of new) (told_of old)) (λ c k. kept_more (desk_of mid) (desk_of new) (accepted events answers) (told_of old) c grows.1 grows.0 k) (first.any_moment h))
+      (leaves_map disk.moment disk.crash_states_since (disk_of mid) (disk_of new) (KeptFrom (desk_of new) (told_of mid)) (KeptFrom (desk_of new) (told_of old)) (λ c k. kept_low (desk_of new) (told_of mid) (told_of old) c (omega (arith, told, rises)) k) (course_leaves only_now mid new events answers first.exit r.2 (on.0 h)))
 
-  pub course_exit : (old new : WorldState D) (events : List Event) (answers : List Answer) → EachCrash disk old.store.slots.journal.disk (KeptFrom old.desk old.told) → Course disk old events answers new → EachCrash disk new.store.slots.journal.disk (KeptFrom new.desk new.told)
-  course_exit old new [] [] now r = subst (λ (w : WorldState D). EachCrash disk w.store.slots.journal.disk (KeptFrom w.desk w.told)) (sym r) now
+  pub course_exit : (old new : WorldState D) (events : List Event) (answers : List Answer) → EachCrash disk (disk_of old) (KeptFrom (desk_of old) (told_of old)) → Course disk old events answers new → EachCrash disk (disk_of new) (KeptFrom (desk_of new) (told_of new))
+  course_exit old new [] [] now r = subst (λ (w : WorldState D). EachCrash disk (disk_of w) (KeptFrom (desk_of w) (told_of w))) (sym r) now
   course_exit old new [] (b ∷ answers) now r = absurd r
   course_exit old new (f ∷ events) [] now r = absurd r
   course_exit old new (f ∷ events) (b ∷ answers) now r = let first = r.1 in course_exit r.0 new events answers first.exit r.2

@@ -1,6 +1,6 @@
--- A world as the plain machine, from call to call.
-use Rattle.std.proofs.Common.{◌≡◌, ◌≢◌, ◌⊎◌, ◌<◌, ◌≤◌, ◌+◌, ℕ, max, Bool, true, false, List, [], ◌∷◌, ◌++◌, length, refl, sym, ap, subst, ◌∙◌, inl, inr, arith, length-append}
-use Rattle.fp_disk.specs.History.{Makes, MakesSome}
+-- A world as the plain commits_of, from call to call.
+use Rattle.std.proofs.Common.{◌≡◌, ◌≢◌, ◌⊎◌, ◌<◌, ◌≤◌, ◌+◌, ℕ, Bool, true, false, List, [], ◌∷◌, ◌++◌, length, refl, sym, ap, subst, ◌∙◌, inl, inr, arith, length-append}
+use Rattle.fp_disk.specs.History.{MakesSome}
 use Rattle.fp_disk.specs.declared.history.CallKind.{CallKind}
 use Rattle.fp_edit.specs.Edits.{Change, Proposal}
 use Rattle.fp_edit.specs.Flags.{State}
@@ -19,7 +19,7 @@ use Rattle.fp_group_commit.specs.Store.{StoreState, coming, is_failed, kept, rea
 use Rattle.fp_group_commit.specs.Tokens.{Identity, ReceiptState}
 use Rattle.fp_group_commit.specs.declared.fault.StoreFault.{StoreFault}
 use Rattle.fp_group_commit.specs.declared.fault.StoreFault.TheVariants as fault
-use Rattle.fp_desk.specs.Desk.{DeskState, Refuses, log, settled_revision}
+use Rattle.fp_desk.specs.Desk.{DeskState, Refuses}
 use Rattle.fp_desk.specs.declared.fault.SubmitFault.{SubmitFault}
 use Rattle.fp_desk.specs.declared.fault.SubmitFault.TheVariants as submit
 use Rattle.std.specs.Prelude.{Result, Ok, Err, IfOk, IfErr}
@@ -29,14 +29,14 @@ use Rattle.fp_recovery.specs.Refusals.{IsUnlessWanting}
 use Rattle.fp_recovery.specs.Stands.{StandsFor}
 use Rattle.fp_world.specs.declared.event.Answer.{Answer}
 use Rattle.fp_world.specs.declared.event.Answer.TheVariants as answer
-use Rattle.fp_world.specs.declared.world.Held.{Held}
-use Rattle.fp_world.specs.declared.world.Held.TheVariants as held
-use Rattle.fp_world.specs.Machine.{Advances, CanStage, IsAt, Machine, Progress, Seals, Settles, Stages, Submits, Tells, all_settled, is_read, last_revision, opened_set}
-use Rattle.fp_world.specs.Machine.{nothing_drawn, batch_drawn, batch_staged, body_synced, gate_opened, batch_sealed}
-use Rattle.fp_world.specs.World.{IsOut, MakesOne, RisesFor, in_flight_at, is_in_flight, progress_of}
+use Rattle.fp_world.specs.declared.committer.Held.{Held}
+use Rattle.fp_world.specs.declared.committer.Held.TheVariants as held
+use Rattle.fp_world.specs.Commits.{Advances, CanStage, IsAt, Commits, Progress, Seals, Stages, Submits, is_read, opened_set, told_after}
+use Rattle.fp_world.specs.Commits.{nothing_drawn, batch_drawn, batch_staged, body_synced, gate_opened, batch_sealed}
+use Rattle.fp_world.specs.Committer.{IsOut, MakesOne, RisesFor, in_flight_at, is_in_flight, progress_of}
 
 -- machines are the same by their parts
-pub machine_is : (a b : Machine) → a.desk ≡ b.desk → a.progress ≡ b.progress → a.failed ≡ b.failed → a.most ≡ b.most → a.room ≡ b.room → a.told ≡ b.told → a ≡ b
+pub machine_is : (a b : Commits) → a.desk ≡ b.desk → a.progress ≡ b.progress → a.failed ≡ b.failed → a.most ≡ b.most → a.room ≡ b.room → a.told ≡ b.told → a ≡ b
 machine_is a b desk progress failed most left told =
     ap (λ (x : DeskState). record a { desk = x }) desk
     ∙ ap (λ (x : Progress). record b { progress = x; failed = a.failed; most = a.most; room = a.room; told = a.told }) progress
@@ -53,7 +53,7 @@ is_well GateOpened never = refl
 is_well Failed never = absurd (never refl)
 
 -- the world without its disk
-abbrev pub At : {D : Type 0} → Held → StoreState D → DeskState → ℕ → Machine
+abbrev pub At : {D : Type 0} → Held → StoreState D → DeskState → ℕ → Commits
 At h s d told = record {
   desk = d;
   progress = progress_of h s.step;
@@ -114,7 +114,7 @@ pub when_opened : {D : Type 0} (s : StoreState D) (d : DeskState) (h : Held) →
 when_opened s d h o e = by_phase s d h o GateOpened gate_opened refl refl only_opened (λ x. absurd cc) (λ x. absurd cc) (λ x. absurd cc) e
 
 -- ---- calls of the store
-module _ {D : Type 0} (faults : D → ℕ) (May : Machine → Type 0) (to : Progress) where
+module _ {D : Type 0} (faults : D → ℕ) (May : Commits → Type 0) (to : Progress) where
   pub done : (h h2 : Held) (s n : StoreState D) (d : DeskState) (told : ℕ) (phase : Phase) → MovesTo faults phase s n → SameRoom s n → May (At h s d told) → progress_of h2 n.step ≡ to → Advances May to (At h s d told) answer.Done (At h2 n d told)
   done h h2 s n d told phase moves same may is =
       let well = is_well s.slots.journal.phase moves.well_before in
@@ -224,7 +224,7 @@ not_sealed held.InFlight s other e = air_not_sealed s.step e
 not_sealed (held.Sealed receipt) s other e = other receipt refl
 
 -- ---- an edit isn't taken
-pub refuses : (f : SubmitFault) (p : Proposal) (m : Machine) → m.desk.stopped ≡ false → Refuses m.desk p f → Submits p m (answer.Refused f) m
+pub refuses : (f : SubmitFault) (p : Proposal) (m : Commits) → m.desk.stopped ≡ false → Refuses m.desk p f → Submits p m (answer.Refused f) m
 refuses submit.Stopped p m going why = let both : false ≡ true = sym going ∙ why in absurd cc
 refuses (submit.Edit f) p m going why = (refl, why)
 refuses submit.QueueFull p m going why = (refl, why)
@@ -262,10 +262,10 @@ pub unless : (p q : Phase) → p ≡ q → (q ≡ Idle → ⊥) → p ≢ Idle
 unless p q is never e = never (sym is ∙ e)
 
 -- the answers that change nothing
-pub not_now : (May : Machine → Type 0) (to : Progress) (m : Machine) → m.failed ≡ false → (May m → ⊥) → Advances May to m answer.NotNow m
+pub not_now : (May : Commits → Type 0) (to : Progress) (m : Commits) → m.failed ≡ false → (May m → ⊥) → Advances May to m answer.NotNow m
 not_now May to m well never = (well, never, refl)
 
-pub failed_before : (May : Machine → Type 0) (to : Progress) (m : Machine) → m.failed ≡ true → Advances May to m (answer.Fault fault.Failed) m
+pub failed_before : (May : Commits → Type 0) (to : Progress) (m : Commits) → m.failed ≡ true → Advances May to m (answer.Fault fault.Failed) m
 failed_before May to m ill = (ill, refl)
 
 -- ---- the disk is opened again
@@ -290,3 +290,21 @@ fails_course faults fault.Device s n b = b.room.2.0.0
 fails_course faults fault.Failed s n b = ap (λ (x : StoreState _). x.slots.step) b.1
 fails_course faults fault.Memory s n b = absurd b
 fails_course faults fault.Stranger s n b = absurd b
+
+-- what is told never falls
+pub told_rises : (told : ℕ) (a : Answer) → told ≤ told_after told a
+told_rises told answer.NotNow = omega arith
+told_rises told answer.Memory = omega arith
+told_rises told (answer.Refused f) = omega arith
+told_rises told (answer.Fault f) = omega arith
+told_rises told (answer.Ticket n) = omega arith
+told_rises told (answer.Drawn n) = omega arith
+told_rises told answer.Done = omega arith
+told_rises told (answer.Sealed n) = omega arith
+told_rises told (answer.Settled n) = omega arith
+told_rises told (answer.Acked n) = omega arith
+told_rises told answer.Waiting = omega arith
+told_rises told (answer.Published n) = omega arith
+told_rises told (answer.Handed h) = omega arith
+told_rises told answer.Nothing = omega arith
+told_rises told (answer.Reply n r) = omega arith

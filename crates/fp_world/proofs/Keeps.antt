@@ -1,20 +1,19 @@
 -- What a disk keeps of the desk's log.
-use Rattle.std.proofs.Common.{◌≡◌, ◌≢◌, ◌≤◌, ◌+◌, ◌-◌, ℕ, true, false, List, [], ◌∷◌, ◌++◌, length, zero, suc, take, refl, sym, ap, subst, ◌∙◌, inl, inr, arith, append_assoc, length-append}
+use Rattle.std.proofs.Common.{◌≡◌, ◌≢◌, ◌≤◌, ◌+◌, ◌-◌, ℕ, List, [], ◌∷◌, ◌++◌, length, zero, suc, take, refl, sym, ap, subst, ◌∙◌, inl, inr, arith, append_assoc, length-append}
 use Rattle.std.proofs.lemmas.List.{take_at}
 use Rattle.fp_disk.specs.Outcomes.{PendingState, IsOutcome, LeavesOnly}
 use Rattle.fp_disk.specs.Moments.{leaves_map, leaves_still}
 use Rattle.fp_edit.specs.Edits.{Change}
 use Rattle.fp_edit.specs.Flags.{State}
 use Rattle.fp_edit.specs.Log.{after_all}
-use Rattle.fp_journal.specs.declared.journal.Phase.{Phase}
 use Rattle.fp_journal.specs.declared.journal.Phase.TheVariants.{Idle, GateOpened}
 use Rattle.fp_recovery.specs.Stands.{StandsFor}
 use Rattle.fp_group_commit.specs.Store.{StoreState, Leaves}
 use Rattle.fp_group_commit.specs.Tokens.{Identity}
 use Rattle.fp_desk.specs.Desk.{DeskState, TicketState, log, settled_revision}
-use Rattle.fp_world.specs.World.{IsOut, IsWorld, KeptFrom, WorldState}
-use Rattle.fp_world.specs.declared.world.Held.{Held}
-use Rattle.fp_world.specs.declared.world.Held.TheVariants as held
+use Rattle.fp_world.specs.Committer.{IsOut, IsCommitter, KeptFrom, CommitterState}
+use Rattle.fp_world.specs.declared.committer.Held.{Held}
+use Rattle.fp_world.specs.declared.committer.Held.TheVariants as held
 
 -- a front of the log is kept
 pub front_kept : (d : DeskState) (xs rest : List Change) (low : ℕ) (c : List ℕ) → log d ≡ xs ++ rest → low ≤ d.store.start.revision + length xs → StandsFor c (after_all d.store.start xs) → KeptFrom d low c
@@ -53,7 +52,7 @@ module _ {D : Type 0} (s : StoreState D) (d : DeskState) where
       let b = coming_begins h o both.0 in let more = b.2 in
       front_kept d (s.sealed ++ s.staged) b.0 low c b.1 (omega (arith, le, more)) (subst (λ (x : Identity). StandsFor c (after_all x.start (s.sealed ++ s.staged))) (sym same) both.2)
 
-module _ {D : Type 0} (honest : D → Type 0) (moment : D → ℕ) (crash_states_since : D → ℕ → List ℕ → Type 0) (unsynced : D → PendingState) {h : Held} {ts : List TicketState} {start : ℕ} {s : StoreState D} {d : DeskState} {told : ℕ} (w : IsWorld honest unsynced h ts start s d told) where
+module _ {D : Type 0} (honest : D → Type 0) (moment : D → ℕ) (crash_states_since : D → ℕ → List ℕ → Type 0) (unsynced : D → PendingState) {h : Held} {ts : List TicketState} {start : ℕ} {s : StoreState D} {d : DeskState} {told : ℕ} (w : IsCommitter honest unsynced h ts start s d told) where
   -- what a crash leaves now
   pub kept_now : honest s.slots.journal.disk → (c : List ℕ) → IsOutcome (unsynced s.slots.journal.disk) c → KeptFrom d told c
   kept_now honest_now c out = leaves_kept s d w.same h w.out told w.low c (w.now honest_now c out)
@@ -101,7 +100,7 @@ module _ {D : Type 0} (moment : D → ℕ) (crash_states_since : D → ℕ → L
 
 module _ {D : Type 0} (honest : D → Type 0) (moment : D → ℕ) (crash_states_since : D → ℕ → List ℕ → Type 0) (unsynced : D → PendingState) (only_now : (d : D) (c : List ℕ) → honest d → crash_states_since d (moment d) c → IsOutcome (unsynced d) c) where
   -- an event that makes no call of the disk
-  pub rested : (old new : WorldState D) → new.store ≡ old.store → old.told ≤ new.told → (honest new.store.slots.journal.disk → (c : List ℕ) → IsOutcome (unsynced new.store.slots.journal.disk) c → KeptFrom new.desk new.told c)
+  pub rested : (old new : CommitterState D) → new.store ≡ old.store → old.told ≤ new.told → (honest new.store.slots.journal.disk → (c : List ℕ) → IsOutcome (unsynced new.store.slots.journal.disk) c → KeptFrom new.desk new.told c)
       → honest old.store.slots.journal.disk → LeavesOnly moment crash_states_since old.store.slots.journal.disk new.store.slots.journal.disk (KeptFrom new.desk old.told)
   rested old new same told exit h =
       let disk : new.store.slots.journal.disk ≡ old.store.slots.journal.disk = ap (λ (s : StoreState D). s.slots.journal.disk) same in

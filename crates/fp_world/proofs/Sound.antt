@@ -1,19 +1,17 @@
 -- What holds of a world, from event to event.
-use Rattle.std.proofs.Common.{◌≡◌, ◌≢◌, ◌<◌, ◌≤◌, ◌+◌, ◌-◌, ℕ, zero, suc, true, List, [], ◌∷◌, ◌++◌, length, get_or, refl, sym, ap, subst, ◌∙◌, arith, append_assoc, length-append}
+use Rattle.std.proofs.Common.{◌≡◌, ◌≢◌, ◌<◌, ◌≤◌, ◌+◌, ℕ, zero, suc, true, List, [], ◌∷◌, ◌++◌, length, get_or, sym, ap, subst, ◌∙◌, arith, append_assoc, length-append}
 use Rattle.fp_disk.specs.Outcomes.{PendingState, IsOutcome}
 use Rattle.fp_edit.specs.Edits.{Change}
 use Rattle.fp_edit.specs.Flags.{State}
-use Rattle.fp_journal.specs.declared.journal.Phase.{Phase}
-use Rattle.fp_journal.specs.declared.journal.Phase.TheVariants.{Idle, Staged, BodySynced, GateOpened}
+use Rattle.fp_journal.specs.declared.journal.Phase.TheVariants.{Idle}
 use Rattle.fp_record.specs.Group.{Group}
 use Rattle.fp_group_commit.specs.Changes.{GoesOn}
 use Rattle.fp_group_commit.specs.Store.{Leaves, StoreState}
-use Rattle.fp_group_commit.specs.Tokens.{Identity, ReceiptState}
 use Rattle.fp_desk.specs.Desk.{DeskState, IsNewDraw, TicketState, log, settled_revision, settled_set}
-use Rattle.fp_world.specs.Machine.{all_settled}
-use Rattle.fp_world.specs.World.{IsOut, IsWorld, NumberedFrom, is_in_flight}
-use Rattle.fp_world.specs.declared.world.Held.{Held}
-use Rattle.fp_world.specs.declared.world.Held.TheVariants as held
+use Rattle.fp_world.specs.Commits.{all_settled}
+use Rattle.fp_world.specs.Committer.{IsOut, IsCommitter, NumberedFrom, is_in_flight}
+use Rattle.fp_world.specs.declared.committer.Held.{Held}
+use Rattle.fp_world.specs.declared.committer.Held.TheVariants as held
 use Rattle.fp_world.proofs.Keeps.{log_more}
 
 -- ---- tickets
@@ -46,9 +44,9 @@ out_moved s n d (held.Drawn group) o busy sealed staged air = absurd (busy o.0)
 out_moved s n d held.InFlight o busy sealed staged air = (air, sealed ∙ o.1, staged ∙ o.2, o.3)
 out_moved s n d (held.Sealed receipt) o busy sealed staged air = absurd (busy o.0)
 
-module _ {D : Type 0} (honest : D → Type 0) (unsynced : D → PendingState) {h : Held} {ts : List TicketState} {start : ℕ} {s : StoreState D} {d : DeskState} {told : ℕ} (w : IsWorld honest unsynced h ts start s d told) where
+module _ {D : Type 0} (honest : D → Type 0) (unsynced : D → PendingState) {h : Held} {ts : List TicketState} {start : ℕ} {s : StoreState D} {d : DeskState} {told : ℕ} (w : IsCommitter honest unsynced h ts start s d told) where
   -- the desk has an edit more, with its ticket
-  pub submitted : (n : DeskState) (c : Change) (t : TicketState) → n ≡ record d { waiting = d.waiting ++ c ∷ [] } → t.revision ≡ n.store.start.revision + length (log n) → (ts2 : List TicketState) → ts2 ≡ ts ++ t ∷ [] → IsWorld honest unsynced h ts2 start s n told
+  pub submitted : (n : DeskState) (c : Change) (t : TicketState) → n ≡ record d { waiting = d.waiting ++ c ∷ [] } → t.revision ≡ n.store.start.revision + length (log n) → (ts2 : List TicketState) → ts2 ≡ ts ++ t ∷ [] → IsCommitter honest unsynced h ts2 start s n told
   submitted n c t is revision ts2 more =
       let grown : log n ≡ log d ++ c ∷ [] = ap log is ∙ log_more d c in
       let len = ap length grown in let one = length-append (log d) (c ∷ []) in let count = w.counted in let begun = w.start_is in
@@ -67,7 +65,7 @@ module _ {D : Type 0} (honest : D → Type 0) (unsynced : D → PendingState) {h
       }
 
   -- the desk has drawn
-  pub drawn : (n : DeskState) (group : Group) → IsNewDraw d n group → IsWorld honest unsynced (held.Drawn group) ts start s n told
+  pub drawn : (n : DeskState) (group : Group) → IsNewDraw d n group → IsCommitter honest unsynced (held.Drawn group) ts start s n told
   drawn n group draws =
       let is = draws.new_is in let none = draws.none_out in
       let o = none_drawn s d h w.out none in
@@ -88,7 +86,7 @@ module _ {D : Type 0} (honest : D → Type 0) (unsynced : D → PendingState) {h
       }
 
   -- the store has gone on
-  pub went : (h2 : Held) (n : StoreState D) → n.store ≡ s.store → n.slots.step ≡ s.slots.step → IsOut h2 n d → (honest n.slots.journal.disk → (c : List ℕ) → IsOutcome (unsynced n.slots.journal.disk) c → Leaves n c) → IsWorld honest unsynced h2 ts start n d told
+  pub went : (h2 : Held) (n : StoreState D) → n.store ≡ s.store → n.slots.step ≡ s.slots.step → IsOut h2 n d → (honest n.slots.journal.disk → (c : List ℕ) → IsOutcome (unsynced n.slots.journal.disk) c → Leaves n c) → IsCommitter honest unsynced h2 ts start n d told
   went h2 n store course out now = record {
     same = w.same ∙ sym store;
     out = out;
@@ -102,7 +100,7 @@ module _ {D : Type 0} (honest : D → Type 0) (unsynced : D → PendingState) {h
   }
 
   -- what was drawn is settled
-  pub settles : (n : DeskState) → n ≡ all_settled d → s.step ≡ Idle → s.sealed ≡ d.settled ++ d.drawn → IsWorld honest unsynced held.Nothing ts start s n told
+  pub settles : (n : DeskState) → n ≡ all_settled d → s.step ≡ Idle → s.sealed ≡ d.settled ++ d.drawn → IsCommitter honest unsynced held.Nothing ts start s n told
   settles n is idle sealed =
       let same_log : log n ≡ log d = ap log is ∙ append_assoc d.settled d.drawn d.waiting in
       let len = ap length same_log in let count = w.counted in let begun = w.start_is in
@@ -120,5 +118,5 @@ module _ {D : Type 0} (honest : D → Type 0) (unsynced : D → PendingState) {h
       }
 
   -- more was told
-  pub tells : (more : ℕ) → more ≤ settled_revision d → IsWorld honest unsynced h ts start s d more
+  pub tells : (more : ℕ) → more ≤ settled_revision d → IsCommitter honest unsynced h ts start s d more
   tells more low = record { same = w.same; out = w.out; low = low; now = w.now; none_runs = w.none_runs; open_desk = w.open_desk; start_is = w.start_is; numbered = w.numbered; counted = w.counted }

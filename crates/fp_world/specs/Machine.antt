@@ -1,138 +1,93 @@
--- The plain machine that a world is a run of: a desk, and how far its drawn edits are.
--- It has no disk.
-use Rattle.std.specs.Prelude.{◌≡◌, ◌≢◌, ◌⊎◌, ◌<◌, ◌≤◌, ◌+◌, ℕ, max, Bool, true, false, List, [], ◌∷◌, ◌++◌, length, if◌then◌else◌}
-use Rattle.fp_edit.specs.Edits.{Change, Proposal, proposal_of}
+-- The plain machine that a world is a run of. It has no disk, no threads, and no copies of a set.
+use Rattle.std.specs.Prelude.{◌≡◌, ◌≢◌, ◌<◌, ◌≤◌, ◌-◌, ℕ, max, List, [], ◌∷◌, ◌++◌, length, take, slice_get, slice_set, Some, option_map, string_bytes}
+use Rattle.fp_edit.specs.Edits.{Change}
 use Rattle.fp_edit.specs.Flags.{State}
-use Rattle.fp_edit.specs.Log.{after_all}
-use Rattle.fp_record.specs.Group.{Group}
-use Rattle.fp_record.specs.declared.batch.TheConstants.{MOST_EDITS}
-use Rattle.fp_group_commit.specs.Changes.{batch_len}
-use Rattle.fp_group_commit.specs.declared.fault.StoreFault.TheVariants as fault
-use Rattle.fp_desk.specs.Desk.{DeskState, IsAccepted, IsNewDraw, Refuses, log, settled_revision}
-use Rattle.fp_desk.specs.declared.fault.SubmitFault.TheVariants as submit
+use Rattle.fp_group_commit.specs.Tokens.{FrontState, front_set}
+use Rattle.fp_desk.specs.Desk.{log, settled_revision}
+use Rattle.fp_stream.specs.Heads.{IsNewer}
+use Rattle.fp_stream.specs.declared.hello.Hello.{Hello}
+use Rattle.fp_stream.specs.declared.hello.Hello.TheVariants.{Has}
+use Rattle.fp_ofrep.specs.Reply.{reply}
+use Rattle.fp_ofrep.specs.Response.{Response}
+use Rattle.fp_ofrep.specs.Seen.{seen}
+use Rattle.fp_world.specs.Commits.{Commits, CommitStep, accepted_by, told_after}
 use Rattle.fp_world.specs.declared.event.Answer.{Answer}
 use Rattle.fp_world.specs.declared.event.Answer.TheVariants as answer
 use Rattle.fp_world.specs.declared.event.Event.{Event}
 use Rattle.fp_world.specs.declared.event.Event.TheVariants as event
+use Rattle.fp_world.specs.declared.request.Request.{Request}
 
--- how far the drawn edits are on their way
-pub data Progress : Type 0 where
-  nothing_drawn : Progress
-  batch_drawn : Progress
-  batch_staged : Progress
-  body_synced : Progress
-  gate_opened : Progress
-  batch_sealed : Progress
-
--- The desk, how far its drawn edits are, whether the device failed, the most bytes of a batch's
--- body and those left for batches, and the greatest revision that was told
+-- The edits on their way, the revision that is published, what the subscriber of each seat has, and
+-- how many evaluators there are
 pub record Machine : Type 0 where
-  pub desk : DeskState
-  pub progress : Progress
-  pub failed : Bool
-  pub most : ℕ
-  pub room : ℕ
-  pub told : ℕ
+  pub commits : Commits
+  pub published : ℕ
+  pub seats : List Hello
+  pub readers : ℕ
 
--- the revision that the last accepted edit makes
-abbrev pub last_revision : DeskState → ℕ
-last_revision d = d.store.start.revision + length (log d)
+-- the first accepted edits, up to the revision that is published; its set is the one after them
+abbrev pub published_front : Machine → FrontState
+published_front m = record {
+  store = m.commits.desk.store;
+  edits = take (m.published - m.commits.desk.store.start.revision) (log m.commits.desk);
+}
 
--- the batch that the drawn edits make
-abbrev pub drawn_batch : DeskState → Group
-drawn_batch d = record { first = settled_revision d + 1; changes = d.drawn }
-
--- the drawn edits wait to be written, make a batch, and there is room for it with its two gates
-pub record CanStage (m : Machine) : Type 0 where
-  pub drawn : m.progress ≡ batch_drawn
-  pub few : length m.desk.drawn ≤ MOST_EDITS
-  pub short : batch_len (drawn_batch m.desk) ≤ m.most
-  pub room : batch_len (drawn_batch m.desk) + 6 ≤ m.room
-
--- what was drawn is settled
-abbrev pub all_settled : DeskState → DeskState
-all_settled d = record d { settled = d.settled ++ d.drawn; drawn = [] }
+-- what was told, with the published revision
+abbrev pub and_published : Machine → Commits
+and_published m = record m.commits { told = max m.commits.told m.published }
 
 -- ---- from old, the machine may give this answer to an event and go on to new
--- the edit stands at the end of the log, or the first reason against it is told
-abbrev pub Submits : Proposal → Machine → Answer → Machine → Type 0
-Submits edit old (answer.Ticket revision) new =
-    IsAccepted old.desk new.desk edit × (revision ≡ last_revision new.desk)
-    × (new ≡ record old { desk = new.desk })
-Submits edit old (answer.Refused submit.Memory) new = new ≡ old
-Submits edit old (answer.Refused submit.Stopped) new = ⊥
-Submits edit old (answer.Refused submit.QueueFull) new = (new ≡ old)
-    × Refuses old.desk edit submit.QueueFull
-Submits edit old (answer.Refused (submit.Edit f)) new = (new ≡ old)
-    × Refuses old.desk edit (submit.Edit f)
-Submits edit old _ new = ⊥
+-- all that is settled is published, where it isn't
+abbrev pub Publishes : Machine → Answer → Machine → Type 0
+Publishes old (answer.Published revision) new =
+    (old.published ≢ settled_revision old.commits.desk)
+    × (revision ≡ settled_revision old.commits.desk) × (new ≡ record old { published = revision })
+Publishes old answer.Memory new =
+    (old.published ≢ settled_revision old.commits.desk) × (new ≡ old)
+Publishes old answer.NotNow new =
+    (old.published ≡ settled_revision old.commits.desk) × (new ≡ old)
+Publishes old _ new = ⊥
 
--- the longest first part of what waits is drawn, where nothing is and something waits
-abbrev pub DrawsNext : Machine → Answer → Machine → Type 0
-DrawsNext old (answer.Drawn count) new = (group : Group) × IsNewDraw old.desk new.desk group
-    × (count ≡ length group.changes)
-    × (new ≡ record old { desk = new.desk; progress = batch_drawn })
-DrawsNext old answer.Memory new = (new ≡ old) × (old.desk.drawn ≡ []) × (old.desk.waiting ≢ [])
-DrawsNext old answer.NotNow new = (new ≡ old) × ((old.desk.drawn ≢ []) ⊎ (old.desk.waiting ≡ []))
-DrawsNext old _ new = ⊥
+-- the published revision is news to the subscriber of this seat, or it isn't
+abbrev pub IsNewsAt : ℕ → Machine → Type 0
+IsNewsAt seat m = (has : Hello) × (slice_get m.seats seat ≡ Some has) × IsNewer has m.published
 
--- A call of the disk that takes the drawn edits from one point of their way to the next, where it
--- may be made. A device that fails leaves them where they are; once it has failed nothing is done
-abbrev pub Advances : (Machine → Type 0) → Progress → Machine → Answer → Machine → Type 0
-Advances May to old answer.Done new =
-    (old.failed ≡ false) × May old × (new ≡ record old { progress = to })
-Advances May to old (answer.Fault fault.Device) new =
-    (old.failed ≡ false) × May old × (new ≡ record old { failed = true })
-Advances May to old (answer.Fault fault.Failed) new = (old.failed ≡ true) × (new ≡ old)
-Advances May to old answer.NotNow new = (old.failed ≡ false) × (May old → ⊥) × (new ≡ old)
-Advances May to old _ new = ⊥
+abbrev pub IsNoNewsAt : ℕ → Machine → Type 0
+IsNoNewsAt seat m = (has : Hello) × (slice_get m.seats seat ≡ Some has) × ¬ IsNewer has m.published
 
-abbrev pub IsAt : Progress → Machine → Type 0
-IsAt point m = m.progress ≡ point
+-- the subscriber of a seat is handed what is published, where that is news
+abbrev pub HandsOver : ℕ → Machine → Answer → Machine → Type 0
+HandsOver seat old (answer.Handed handed) new = IsNewsAt seat old × (handed ≡ published_front old)
+    × (new ≡ record old {
+      commits = and_published old;
+      seats = slice_set old.seats seat (Has old.published);
+    })
+HandsOver seat old answer.Nothing new = IsNoNewsAt seat old × (new ≡ old)
+HandsOver seat old answer.Memory new = (seat < length old.seats) × (new ≡ old)
+HandsOver seat old answer.NotNow new = (length old.seats ≤ seat) × (new ≡ old)
+HandsOver seat old _ new = ⊥
 
--- the drawn edits are written. Only this call takes memory
-abbrev pub Stages : Machine → Answer → Machine → Type 0
-Stages old (answer.Fault fault.Memory) new = (old.failed ≡ false) × CanStage old × (new ≡ old)
-Stages old a new = Advances CanStage batch_staged old a new
+-- the reply to a request over a set, at a moment
+abbrev pub reply_to : State → Request → ℕ → Response
+reply_to set r now = reply set r.method (string_bytes r.target)
+    (option_map (λ v. v.items) r.if_none_match) (option_map (λ v. v.items) r.body) now
 
--- all that is drawn is sealed. Its batch takes its bytes, a gate and its length
-abbrev pub Seals : Machine → Answer → Machine → Type 0
-Seals old (answer.Sealed revision) new = (old.failed ≡ false) × (old.progress ≡ gate_opened)
-    × (revision ≡ settled_revision old.desk + length old.desk.drawn)
-    × (new.room + batch_len (drawn_batch old.desk) + 5 ≡ old.room)
-    × (new ≡ record old { progress = batch_sealed; room = new.room })
-Seals old answer.Done new = ⊥
-Seals old a new = Advances (IsAt gate_opened) batch_sealed old a new
+-- an evaluator replies over what is published
+abbrev pub Evaluates : ℕ → Request → ℕ → Machine → Answer → Machine → Type 0
+Evaluates reader request now old (answer.Reply revision said) new = (reader < old.readers)
+    × (revision ≡ old.published) × (seen said ≡ reply_to (front_set (published_front old)) request now)
+    × (new ≡ record old { commits = and_published old })
+Evaluates reader request now old answer.Memory new = (reader < old.readers) × (new ≡ old)
+Evaluates reader request now old answer.NotNow new = (old.readers ≤ reader) × (new ≡ old)
+Evaluates reader request now old _ new = ⊥
 
--- all that is sealed is settled
-abbrev pub Settles : Machine → Answer → Machine → Type 0
-Settles old (answer.Settled revision) new = (old.progress ≡ batch_sealed)
-    × (revision ≡ settled_revision old.desk + length old.desk.drawn)
-    × (new ≡ record old { desk = all_settled old.desk; progress = nothing_drawn })
-Settles old answer.Memory new = (old.progress ≡ batch_sealed) × (new ≡ old)
-Settles old answer.NotNow new = (old.progress ≢ batch_sealed) × (new ≡ old)
-Settles old _ new = ⊥
-
--- the editor of the edit that makes this revision hears whether it is settled
-abbrev pub Tells : ℕ → Machine → Answer → Machine → Type 0
-Tells revision old (answer.Acked told) new = (told ≡ revision)
-    × (old.desk.store.start.revision < revision) × (revision ≤ settled_revision old.desk)
-    × (new ≡ record old { told = max old.told revision })
-Tells revision old answer.Waiting new =
-    (settled_revision old.desk < revision) × (revision ≤ last_revision old.desk) × (new ≡ old)
-Tells revision old answer.NotNow new =
-    ((revision ≤ old.desk.store.start.revision) ⊎ (last_revision old.desk < revision)) × (new ≡ old)
-Tells revision old _ new = ⊥
-
+-- any other event is one of the edits' way
 abbrev pub Step : Machine → Event → Answer → Machine → Type 0
-Step old (event.Submit edit) a new = Submits (proposal_of edit) old a new
-Step old event.Draw a new = DrawsNext old a new
-Step old event.Stage a new = Stages old a new
-Step old event.SyncBody a new = Advances (IsAt batch_staged) body_synced old a new
-Step old event.OpenGate a new = Advances (IsAt body_synced) gate_opened old a new
-Step old event.SyncGate a new = Seals old a new
-Step old event.Settle a new = Settles old a new
-Step old (event.Ack revision) a new = Tells revision old a new
+Step old event.Publish a new = Publishes old a new
+Step old (event.Hand seat) a new = HandsOver seat old a new
+Step old (event.Evaluate reader request now) a new = Evaluates reader request now old a new
+Step old e a new =
+    CommitStep old.commits e a new.commits × (new ≡ record old { commits = new.commits })
 
 -- the machine may give these answers to these events, one step after another
 abbrev pub Run : Machine → List Event → List Answer → Machine → Type 0
@@ -142,18 +97,13 @@ Run old (e ∷ events) (a ∷ answers) new = (mid : Machine) × Step old e a mid
 Run old [] (a ∷ answers) new = ⊥
 Run old (e ∷ events) [] new = ⊥
 
--- ---- what opening the disk gives, where no call of it failed
--- the drawn edits are read once their gate was opened
-abbrev pub is_read : Progress → Bool
-is_read nothing_drawn = false
-is_read batch_drawn = false
-is_read batch_staged = false
-is_read body_synced = false
-is_read gate_opened = true
-is_read batch_sealed = true
+-- ---- what a list of answers alone says
+-- the accepted edits, in their order
+abbrev pub accepted : List Event → List Answer → List Change
+accepted (e ∷ events) (a ∷ answers) = accepted_by e a ++ accepted events answers
+accepted events answers = []
 
-abbrev pub read_edits : Machine → List Change
-read_edits m = if is_read m.progress then m.desk.settled ++ m.desk.drawn else m.desk.settled
-
-abbrev pub opened_set : Machine → State
-opened_set m = after_all m.desk.store.start (read_edits m)
+-- the greatest revision told, where this one was told before
+abbrev pub told_by : ℕ → List Answer → ℕ
+told_by told [] = told
+told_by told (a ∷ answers) = told_by (told_after told a) answers

@@ -1,138 +1,58 @@
--- A store and a desk over one list of events.
-use Rattle.std.specs.Prelude.{◌≡◌, ◌≢◌, ◌≤◌, ◌<◌, ◌+◌, ℕ, Bool, true, false, List, [], ◌∷◌, ◌++◌, length}
-use mathlib.Core.List.{IsPrefix}
+-- A store, its desk, and what is published of it, over one list of events.
+use Rattle.std.specs.Prelude.{◌≡◌, ◌≤◌, ℕ, List, [], ◌∷◌, ◌++◌}
 use Rattle.fp_disk.specs.Crashes.{AtAnyMoment, EachCrash, SameHonesty}
-use Rattle.fp_disk.specs.History.{MakesSome}
-use Rattle.fp_disk.specs.Outcomes.{PendingState, IsOutcome}
 use Rattle.fp_disk.specs.declared.disk.Disk.{Ghosts}
-use Rattle.fp_disk.specs.declared.history.CallKind.{CallKind}
-use Rattle.fp_disk.specs.declared.history.CallKind.TheVariants.{Sync, Write}
+use Rattle.fp_edit.specs.Flags.{State}
 use Rattle.fp_edit.specs.Log.{after}
-use Rattle.fp_journal.specs.State.{room}
-use Rattle.fp_journal.specs.declared.journal.Phase.{Phase}
-use Rattle.fp_journal.specs.declared.journal.Phase.TheVariants.{Idle, Staged, BodySynced, GateOpened, Failed}
-use Rattle.fp_recovery.specs.Stands.{StandsFor}
-use Rattle.fp_slots.specs.declared.slots.Step.TheVariants.{Begin}
-use Rattle.fp_group_commit.specs.Changes.{GoesOn}
-use Rattle.fp_group_commit.specs.Store.{Leaves, StoreState, is_failed}
-use Rattle.fp_group_commit.specs.declared.fault.StoreFault.TheVariants as fault
-use Rattle.fp_desk.specs.Desk.{DeskState, TicketState, log, settled_revision, settled_set}
+use Rattle.fp_group_commit.specs.Store.{StoreState}
+use Rattle.fp_group_commit.specs.Tokens.{front_revision}
+use Rattle.fp_desk.specs.Desk.{DeskState, log}
+use Rattle.fp_stream.specs.declared.hello.Hello.{Hello}
+use Rattle.fp_world.specs.Commits.{accepted_by, last_revision, told_after}
+use Rattle.fp_world.specs.Committer.{CommitterState, IsNewCommitter, KeptFrom, MakesItsCall, RisesFor, commits_of}
+use Rattle.fp_world.specs.Machine.{Machine, Step}
+use Rattle.fp_world.specs.Views.{ViewsState}
 use Rattle.fp_world.specs.declared.event.Answer.{Answer}
-use Rattle.fp_world.specs.declared.event.Answer.TheVariants as answer
 use Rattle.fp_world.specs.declared.event.Event.{Event}
 use Rattle.fp_world.specs.declared.event.Event.TheVariants as event
-use Rattle.fp_world.specs.declared.world.Held.{Held}
-use Rattle.fp_world.specs.declared.world.Held.TheVariants as held
-use Rattle.fp_world.specs.Machine.{Machine, Progress, Step}
-use Rattle.fp_world.specs.Machine.{nothing_drawn, batch_drawn, batch_staged, body_synced, gate_opened, batch_sealed}
 
 pub record WorldState (D : Type 0) : Type 0 where
-  pub store : StoreState D
-  pub desk : DeskState
-  pub progress : Progress
-  pub told : ℕ
+  pub committer : CommitterState D
+  pub views : ViewsState
 
 -- the world without its disk
 abbrev pub machine : {D : Type 0} → WorldState D → Machine
 machine w = record {
-  desk = w.desk;
-  progress = w.progress;
-  failed = is_failed w.store.slots.journal.phase;
-  most = w.store.slots.journal.slot.most;
-  room = room w.store.slots.journal;
-  told = w.told;
+  commits = commits_of w.committer;
+  published = front_revision w.views.board;
+  seats = w.views.seats;
+  readers = w.views.readers;
 }
 
--- ---- how far the drawn edits are, by where they are held and the phase of the batch in flight
-abbrev pub in_flight_at : Phase → Progress
-in_flight_at Idle = batch_staged
-in_flight_at Staged = batch_staged
-in_flight_at BodySynced = body_synced
-in_flight_at GateOpened = gate_opened
-in_flight_at Failed = batch_staged
+abbrev pub disk_of : {D : Type 0} → WorldState D → D
+disk_of w = w.committer.store.slots.journal.disk
 
--- the phases of a batch in flight
-abbrev pub is_in_flight : Phase → Bool
-is_in_flight Idle = false
-is_in_flight Staged = true
-is_in_flight BodySynced = true
-is_in_flight GateOpened = true
-is_in_flight Failed = false
+abbrev pub desk_of : {D : Type 0} → WorldState D → DeskState
+desk_of w = w.committer.desk
 
-abbrev pub progress_of : Held → Phase → Progress
-progress_of held.Nothing phase = nothing_drawn
-progress_of (held.Drawn group) phase = batch_drawn
-progress_of held.InFlight phase = in_flight_at phase
-progress_of (held.Sealed receipt) phase = batch_sealed
-
--- bytes stand for the set after some first n edits of the desk's log, n at least `low`
-abbrev pub KeptFrom : DeskState → ℕ → List ℕ → Type 0
-KeptFrom d low c = (n : ℕ) × (low ≤ n) × (n ≤ d.store.start.revision + length (log d))
-    × StandsFor c (after d.store.start (log d) n)
-
--- where the edits are that the desk has drawn
-abbrev pub IsOut : {D : Type 0} → Held → StoreState D → DeskState → Type 0
-IsOut held.Nothing s d = (s.step ≡ Idle) × (s.sealed ≡ d.settled) × (d.drawn ≡ [])
-IsOut (held.Drawn group) s d = (s.step ≡ Idle) × (s.sealed ≡ d.settled) × (group.changes ≡ d.drawn)
-    × (d.drawn ≢ []) × GoesOn (settled_set d) group
-IsOut held.InFlight s d = (is_in_flight s.step ≡ true) × (s.sealed ≡ d.settled)
-    × (s.staged ≡ d.drawn) × (d.drawn ≢ [])
-IsOut (held.Sealed receipt) s d = (s.step ≡ Idle) × (s.sealed ≡ d.settled ++ d.drawn)
-    × (receipt.store ≡ s.store) × (receipt.batch.changes ≡ d.drawn)
-    × (receipt.batch.first ≡ settled_revision d + 1) × (d.drawn ≢ [])
-
--- an answer tells of no revision above this one
-abbrev pub TellsUpTo : ℕ → Answer → Type 0
-TellsUpTo told (answer.Acked revision) = revision ≤ told
-TellsUpTo told answer.NotNow = Unit {0}
-TellsUpTo told answer.Memory = Unit {0}
-TellsUpTo told (answer.Refused fault) = Unit {0}
-TellsUpTo told (answer.Fault fault) = Unit {0}
-TellsUpTo told (answer.Ticket revision) = Unit {0}
-TellsUpTo told (answer.Drawn n) = Unit {0}
-TellsUpTo told answer.Done = Unit {0}
-TellsUpTo told (answer.Sealed revision) = Unit {0}
-TellsUpTo told (answer.Settled revision) = Unit {0}
-TellsUpTo told answer.Waiting = Unit {0}
-
--- ---- calls of the disk
--- one call of this kind is made where the event is done, and none elsewhere; where the device
--- failed it is the one that failed
-abbrev pub MakesOne : CallKind → Answer → (old new : List CallKind) → Type 0
-MakesOne kind answer.Done old new = new ≡ old ++ kind ∷ []
-MakesOne kind (answer.Sealed revision) old new = new ≡ old ++ kind ∷ []
-MakesOne kind (answer.Fault fault.Device) old new = MakesSome (kind ∷ []) old new
-MakesOne kind _ old new = new ≡ old
-
--- which events make a call
-abbrev pub MakesItsCall : Event → Answer → (old new : List CallKind) → Type 0
-MakesItsCall event.Stage a old new = MakesOne Write a old new
-MakesItsCall event.SyncBody a old new = MakesOne Sync a old new
-MakesItsCall event.OpenGate a old new = MakesOne Write a old new
-MakesItsCall event.SyncGate a old new = MakesOne Sync a old new
-MakesItsCall _ a old new = new ≡ old
-
--- the disk's count of failures rose exactly where that is answered
-abbrev pub RisesFor : Answer → (before now : ℕ) → Type 0
-RisesFor (answer.Fault fault.Device) before now = before < now
-RisesFor _ before now = now ≡ before
+abbrev pub told_of : {D : Type 0} → WorldState D → ℕ
+told_of w = w.committer.told
 
 -- ---- events, one after another
 -- what an event changes, and what a crash leaves of the disk at each moment of it and after it
 pub record StepsTo {D : Type 0} (disk : Ghosts D) (old : WorldState D) (e : Event) (a : Answer)
     (new : WorldState D) : Type 0 where
   pub steps : Step (machine old) e a (machine new)
-  pub log : IsPrefix (log old.desk) (log new.desk)
-  pub store : new.store.store ≡ old.store.store
-  pub desk : new.desk.store ≡ old.desk.store
-  pub told : old.told ≤ new.told
-  pub any_moment : AtAnyMoment disk old.store.slots.journal.disk new.store.slots.journal.disk
-      (KeptFrom new.desk old.told)
-  pub exit : EachCrash disk new.store.slots.journal.disk (KeptFrom new.desk new.told)
-  pub honest : SameHonesty disk old.store.slots.journal.disk new.store.slots.journal.disk
-  pub called : MakesItsCall e a (disk.calls old.store.slots.journal.disk)
-      (disk.calls new.store.slots.journal.disk)
-  pub cause : RisesFor a (disk.faults old.store.slots.journal.disk) (disk.faults new.store.slots.journal.disk)
+  pub log : log (desk_of new) ≡ log (desk_of old) ++ accepted_by e a
+  pub told : told_of new ≡ told_after (told_of old) a
+  pub store : new.committer.store.store ≡ old.committer.store.store
+  pub desk : (desk_of new).store ≡ (desk_of old).store
+  pub any_moment : AtAnyMoment disk (disk_of old) (disk_of new)
+      (KeptFrom (desk_of new) (told_of old))
+  pub exit : EachCrash disk (disk_of new) (KeptFrom (desk_of new) (told_of new))
+  pub honest : SameHonesty disk (disk_of old) (disk_of new)
+  pub called : MakesItsCall e a (disk.calls (disk_of old)) (disk.calls (disk_of new))
+  pub cause : RisesFor a (disk.faults (disk_of old)) (disk.faults (disk_of new))
 
 -- each event was answered in its turn
 abbrev pub Course : {D : Type 0} → Ghosts D → WorldState D → List Event → List Answer → WorldState D
@@ -143,30 +63,22 @@ Course {D} disk old (e ∷ events) (a ∷ answers) new =
 Course {D} disk old [] (a ∷ answers) new = ⊥
 Course {D} disk old (e ∷ events) [] new = ⊥
 
--- ---- the invariant
--- the tickets are for these revisions and the next ones
-abbrev pub NumberedFrom : ℕ → List TicketState → Type 0
-NumberedFrom n [] = Unit {0}
-NumberedFrom n (t ∷ tickets) = (t.revision ≡ n) × NumberedFrom (n + 1) tickets
+-- events of the edits' way, which the committer does
+abbrev pub IsOfEdits : Event → Type 0
+IsOfEdits event.Publish = ⊥
+IsOfEdits (event.Hand seat) = ⊥
+IsOfEdits (event.Evaluate reader request now) = ⊥
+IsOfEdits e = Unit {0}
 
-pub record IsWorld {D : Type 0} (honest : D → Type 0) (unsynced : D → PendingState) (held : Held)
-    (tickets : List TicketState) (start : ℕ) (s : StoreState D) (d : DeskState)
-    (told : ℕ) : Type 0 where
-  pub same : d.store ≡ s.store
-  pub out : IsOut held s d
-  pub low : told ≤ settled_revision d
-  pub now : honest s.slots.journal.disk → (c : List ℕ) → IsOutcome (unsynced s.slots.journal.disk) c →
-      Leaves s c
-  pub none_runs : s.slots.step ≡ Begin
-  pub open_desk : d.stopped ≡ false
-  pub start_is : start ≡ d.store.start.revision
-  pub numbered : NumberedFrom (start + 1) tickets
-  pub counted : length tickets ≡ length (log d)
+-- the set is the one after some first n edits of the desk's log, n at least `low`
+abbrev pub IsKept : DeskState → ℕ → State → Type 0
+IsKept d low set = (n : ℕ) × (low ≤ n) × (n ≤ last_revision d)
+    × (set ≡ after d.store.start (log d) n)
 
--- nothing is asked of it yet
-pub record IsNewWorld {D : Type 0} (s : StoreState D) (w : WorldState D) : Type 0 where
-  pub store : w.store ≡ s
-  pub identity : w.desk.store ≡ s.store
-  pub log : log w.desk ≡ []
-  pub progress : w.progress ≡ nothing_drawn
-  pub told : w.told ≡ s.store.start.revision
+-- nothing is asked of it yet: the set that the store began with is published
+pub record IsNewWorld {D : Type 0} (s : StoreState D) (hellos : List Hello) (evaluators : ℕ)
+    (w : WorldState D) : Type 0 where
+  pub committer : IsNewCommitter s w.committer
+  pub board : w.views.board ≡ record { store = s.store; edits = [] }
+  pub seats : w.views.seats ≡ hellos
+  pub readers : w.views.readers ≡ evaluators

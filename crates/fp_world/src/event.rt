@@ -1,10 +1,13 @@
 //! What a world is asked, and what it answers.
 
+use crate::request::{Moment, Request};
 use fp_desk::SubmitFault;
 use fp_edit::Edit;
 use fp_group_commit::StoreFault;
+use fp_ofrep::Reply;
+use fp_publish::Handed;
 
-/// One call of the desk, or one call of the disk by the store.
+/// One call of the desk or of the board, or one call of the disk by the store.
 #[derive(Drop)]
 pub enum Event {
     /// An editor hands in an edit.
@@ -23,10 +26,16 @@ pub enum Event {
     Settle,
     /// The editor of the ticket for this revision asks whether it is settled.
     Ack(u64),
+    /// What is settled is published.
+    Publish,
+    /// The subscriber of this seat asks for what is published.
+    Hand(usize),
+    /// This evaluator is asked, at this moment.
+    Evaluate(usize, Request, Moment),
 }
 
 /// What became of an event.
-#[derive(Clone, Copy, Debug, PartialEq, Eq)]
+#[derive(Drop)]
 pub enum Answer {
     /// It isn't its turn, and nothing changed.
     NotNow,
@@ -50,4 +59,12 @@ pub enum Answer {
     Acked(u64),
     /// It isn't settled yet.
     Waiting,
+    /// All up to this revision is published.
+    Published(u64),
+    /// The subscriber is handed this.
+    Handed(Handed),
+    /// The subscriber has it already.
+    Nothing,
+    /// The reply over what is published, which is at this revision.
+    Reply(u64, Reply),
 }

@@ -1,9 +1,14 @@
-//! A store, a desk, and what is between them, over lists of events.
+//! A store, a desk, what is published of them, and who takes it, over lists of events.
 #![tactic(auto)]
 
+mod commits;
+mod committer;
 mod event;
-mod steps;
+mod request;
+mod views;
 mod world;
 
+pub use committer::Committer;
 pub use event::{Answer, Event};
-pub use world::World;
+pub use request::{Moment, Request};
+pub use world::{World, recover};

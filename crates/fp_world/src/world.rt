@@ -1,200 +1,258 @@
-//! A store and a desk over one list of events.
+//! A store, its desk, and what is published of it, over one list of events.
 
 ghost use Rattle.fp_disk.specs.Crashes.{AtAnyMoment, EachCrash, SameHonesty};
-ghost use Rattle.std.specs.Prelude.{◌≡◌, ◌≢◌, ◌⊎◌, ◌<◌, ◌≤◌, ◌+◌, List, ℕ, [], false, length, IfOk, IfErr, OnErr};
-ghost use mathlib.Core.List.{IsPrefix};
-ghost use Rattle.fp_desk.specs.Desk.{log};
-ghost use Rattle.fp_journal.specs.declared.journal.Phase.TheVariants.{Failed};
-ghost use Rattle.fp_recovery.specs.Stands.{StandsFor};
-ghost use Rattle.fp_world.specs.Machine.{Run, Step, opened_set};
+ghost use Rattle.std.specs.Prelude.{◌≡◌, ◌⊎◌, ◌≤◌, ◌++◌, ℕ, false, length, IfOk, IfErr, OnErr};
+ghost use Rattle.fp_desk.specs.Desk.{DeskState, log};
+ghost use Rattle.fp_edit.specs.Log.{after};
 ghost use Rattle.fp_layout.specs.declared.fault.OpenFault.TheVariants.{Device, Memory};
-ghost use Rattle.fp_world.specs.World.{Course, IsNewWorld, KeptFrom, MakesItsCall, RisesFor, TellsUpTo, machine};
-ghost use Rattle.fp_group_commit.specs.Store.{IsFresh, reached};
+ghost use Rattle.fp_group_commit.specs.Store.{IsFresh};
+ghost use Rattle.fp_recovery.specs.Stands.{StandsFor};
+ghost use Rattle.fp_publish.specs.declared.board.TheConstants.{MOST_EVALUATORS};
+ghost use Rattle.fp_publish.specs.declared.seats.TheConstants.{MOST_SEATS};
+ghost use Rattle.fp_world.specs.declared.event.Event.TheVariants as asked;
+ghost use Rattle.fp_world.specs.Commits.{accepted_by, opened_set, told_after};
+ghost use Rattle.fp_world.specs.Committer.{KeptFrom, MakesItsCall, RisesFor};
+ghost use Rattle.fp_world.specs.Machine.{Run, Step, accepted, told_by};
+ghost use Rattle.fp_world.specs.World.{Course, IsKept, IsNewWorld, IsOfEdits, StepsTo, desk_of, disk_of, machine, told_of};
 
+use crate::committer::Committer;
 use crate::event::{Answer, Event};
-use fp_desk::{Desk, Ticket};
+use crate::request::{Moment, Request};
+use crate::views::Views;
 use fp_disk::Disk;
-use fp_group_commit::{Draw, Opening, Receipt, Store};
+use fp_group_commit::{Opening, Store};
 use fp_layout::OpenFault;
+use fp_stream::Hello;
 use std::alloc::{AllocError, Global};
 use std::marker::Model;
+use std::sync::Wait;
 
-/// Where the edits are that the desk has drawn.
-pub(crate) enum Held {
-    Nothing,
-    Drawn(Draw),
-    InFlight,
-    Sealed(Receipt),
-}
-
-// Ends what is held no longer.
-pub(crate) fn end(held: Held) {
-    match held {
-        Held::Sealed(receipt) => receipt.forgo(),
-        Held::Nothing => {}
-        Held::Drawn(_) => {}
-        Held::InFlight => {}
-    }
-}
-
-/// A store, a desk, and what is between them.
+/// A store and its desk, with what is published of them.
 pub struct World<D: Disk> {
-    pub(crate) store: Store<D>,
-    pub(crate) desk: Desk,
-    pub(crate) held: Held,
-    // One for each accepted edit, in their order.
-    pub(crate) tickets: Vec<Ticket>,
-    // The revision that the store began at.
-    pub(crate) start: u64,
-    pub(crate) told: u64,
+    committer: Committer<D>,
+    views: Views,
 }
 
 impl<D: Disk> Model for World<D> {
     ghost use Rattle.std.specs.Coded.{codes};
     ghost use Rattle.fp_edit.specs.Flags.{coded_state};
     ghost use Rattle.fp_group_commit.specs.Changes.{coded_change};
-    ghost use Rattle.fp_world.specs.World.{IsWorld, WorldState, progress_of};
+    ghost use Rattle.fp_desk.specs.Desk.{settled_front};
+    ghost use Rattle.fp_publish.specs.Fronts.{Begins};
+    ghost use Rattle.fp_world.specs.World.{WorldState};
 
     ghost Value = { WorldState D };
 
     ghost coded = { Prim.hlevel (codes, coded_state, coded_change) };
 
-    ghost view = { λ w. record {
-      store = w.store;
-      desk = w.desk;
-      progress = progress_of w.held w.store.step;
-      told = w.told;
-    } };
+    ghost view = { λ w. record { committer = w.committer; views = w.views } };
 
-    ghost invariant = { λ w. IsWorld D.honest D.unsynced w.held w.tickets.items w.start w.store
-        w.desk
-        w.told };
+    ghost invariant = { λ w. Begins w.views.board (settled_front w.committer.desk) };
 }
 
 impl<D: Disk> World<D> {
-    /// A store as it was made or opened, and a desk over its opening.
-    pub fn new(
+    /// A store as it was made or opened, with its opening; a seat for each subscriber, who has what is said here; and so many
+    /// evaluators.
+    pub fn new<R: Wait>(
+        rt: &R,
         alloc: Global,
         store: Store<D>,
         opening: Opening,
+        seats: &[Hello],
+        readers: usize,
     ) -> Result<World<D>, (AllocError, Store<D>, Opening)>
         requires opening { opening ≡ store.store }
         requires fresh { IsFresh store store.store.start }
-        ensures made { IfOk result (λ w. IsNewWorld store w) }
+        requires seats { length seats.now ≤ MOST_SEATS }
+        requires readers { readers ≤ MOST_EVALUATORS }
+        ensures made { IfOk result (λ w. IsNewWorld store seats.now readers w) }
         ensures given_back { IfErr result (λ e. (e.1 ≡ store) × (e.2 ≡ opening)) }
     {
-        let start = opening.revision();
-        let _ = store.phase();
-        let tickets = Vec::new(alloc);
-        match Desk::new(alloc, opening) {
-            Ok(desk) => Ok(World {
-                store,
-                desk,
-                held: Held::Nothing,
-                tickets,
-                start,
-                told: start,
-            }),
-            Err((fault, opening)) => Err((fault, store, opening)),
+        let committer = Committer::new(alloc, store, opening)?;
+        match Views::new(rt, alloc, committer.desk(), seats, readers) {
+            Ok(views) => Ok(World { committer, views }),
+            Err(fault) => {
+                let (store, opening) = committer.into_parts();
+                Err((fault, store, opening))
+            }
         }
     }
 
-    /// Does what the event asks. A crash at any moment of it keeps all that was told before it, and a crash after it all that was told by then.
-    pub fn step(&mut self, event: &Event) -> Answer
-        ensures tells { TellsUpTo self.new.told result }
-        ensures steps { Step (machine self.old) event.now result (machine self.new) }
-        ensures log { IsPrefix (log self.old.desk) (log self.new.desk) }
-        ensures same { (self.new.store.store ≡ self.old.store.store)
-            × (self.new.desk.store ≡ self.old.desk.store) }
-        ensures told { self.old.told ≤ self.new.told }
-        ensures any_moment { AtAnyMoment D.Disk self.old.store.slots.journal.disk
-            self.new.store.slots.journal.disk (KeptFrom self.new.desk self.old.told) }
-        ensures exit { EachCrash D.Disk self.new.store.slots.journal.disk
-            (KeptFrom self.new.desk self.new.told) }
-        ensures honest { SameHonesty D.Disk self.old.store.slots.journal.disk
-            self.new.store.slots.journal.disk }
-        ensures called { MakesItsCall event.now result (D.calls self.old.store.slots.journal.disk)
-            (D.calls self.new.store.slots.journal.disk) }
-        ensures cause { RisesFor result (D.faults self.old.store.slots.journal.disk)
-            (D.faults self.new.store.slots.journal.disk) }
+    // Does what the event asks of the edits.
+    fn commit(&mut self, event: &Event) -> Answer
+        requires { IsOfEdits event.now }
+        ensures { StepsTo D.Disk self.old event.now result self.new }
+    {
+        self.committer.step(event)
+    }
+
+    // Publishes what is settled, where it isn't published.
+    fn publish<R: Wait>(&mut self, rt: &R) -> Answer
+        ensures { StepsTo D.Disk self.old asked.Publish result self.new }
+    {
+        self.committer.rest();
+        let Ok(published) = self.views.publish(rt, self.committer.desk()) else {
+            return Answer::Memory;
+        };
+        let Some(shown) = published else {
+            return Answer::NotNow;
+        };
+        Answer::Published(shown.revision())
+    }
+
+    // Hands what is published to the subscriber of a seat, who is then told it.
+    fn hand(&mut self, seat: usize) -> Answer
+        ensures { StepsTo D.Disk self.old (asked.Hand seat) result self.new }
+    {
+        self.committer.rest();
+        if seat >= self.views.seats() {
+            return Answer::NotNow;
+        }
+        match self.views.hand(seat) {
+            Ok(Some(handed)) => {
+                self.committer.tell(handed.revision());
+                Answer::Handed(handed)
+            }
+            Ok(None) => Answer::Nothing,
+            Err(_) => Answer::Memory,
+        }
+    }
+
+    // Replies over what is published, which is then told.
+    fn evaluate(&mut self, reader: usize, request: &Request, now: &Moment) -> Answer
+        ensures { StepsTo D.Disk self.old (asked.Evaluate reader request.now now.now) result self.new }
+    {
+        self.committer.rest();
+        if reader >= self.views.readers() {
+            return Answer::NotNow;
+        }
+        let Ok(reply) = self.views.evaluate(reader, request, now) else {
+            return Answer::Memory;
+        };
+        let revision = self.views.revision();
+        self.committer.tell(revision);
+        Answer::Reply(revision, reply)
+    }
+
+    // Does what the event asks.
+    fn turn<R: Wait>(&mut self, rt: &R, event: &Event) -> Answer
+        ensures { StepsTo D.Disk self.old event.now result self.new }
     {
         match event {
-            Event::Submit(edit) => self.submit(edit),
-            Event::Draw => self.draw(),
-            Event::Stage => self.stage(),
-            Event::SyncBody => self.sync_body(),
-            Event::OpenGate => self.open_gate(),
-            Event::SyncGate => self.sync_gate(),
-            Event::Settle => self.settle(),
-            Event::Ack(revision) => self.ack(*revision),
+            Event::Publish => self.publish(rt),
+            Event::Hand(seat) => self.hand(*seat),
+            Event::Evaluate(reader, request, now) => self.evaluate(*reader, request, now),
+            _ => self.commit(event),
         }
+    }
+
+    /// Does what the event asks. A crash at any moment of it keeps all that was told before it, and a crash after it all that
+    /// was told by then. Only a publication may wait.
+    pub fn step<R: Wait>(&mut self, rt: &R, event: &Event) -> Answer
+        ensures steps { Step (machine self.old) event.now result (machine self.new) }
+        ensures log { log (desk_of self.new)
+            ≡ log (desk_of self.old) ++ accepted_by event.now result }
+        ensures told { told_of self.new ≡ told_after (told_of self.old) result }
+        ensures same { (self.new.committer.store.store ≡ self.old.committer.store.store)
+            × ((desk_of self.new).store ≡ (desk_of self.old).store) }
+        ensures any_moment { AtAnyMoment D.Disk (disk_of self.old) (disk_of self.new)
+            (KeptFrom (desk_of self.new) (told_of self.old)) }
+        ensures exit { EachCrash D.Disk (disk_of self.new)
+            (KeptFrom (desk_of self.new) (told_of self.new)) }
+        ensures honest { SameHonesty D.Disk (disk_of self.old) (disk_of self.new) }
+        ensures called { MakesItsCall event.now result (D.calls (disk_of self.old))
+            (D.calls (disk_of self.new)) }
+        ensures cause { RisesFor result (D.faults (disk_of self.old)) (D.faults (disk_of self.new)) }
+    {
+        self.turn(rt, event)
     }
 
     // The events in their order, each a step. The answers' room is taken first.
-    fn follow(&mut self, alloc: Global, events: &[Event]) -> Result<Vec<Answer>, AllocError>
+    fn follow<R: Wait>(
+        &mut self,
+        rt: &R,
+        alloc: Global,
+        events: &[Event],
+    ) -> Result<Vec<Answer>, AllocError>
         ensures course { IfOk result (λ answers.
             Course D.Disk self.old events.now answers.items self.new) }
         ensures err { OnErr result (self.new ≡ self.old) }
     {
-        let _ = &self.told;
+        let _ = &self.views;
         let mut answers = Vec::with_capacity(alloc, events.len())?;
         for event in events {
-            answers.push_reserved(self.step(event));
+            answers.push_reserved(self.turn(rt, event));
         }
         Ok(answers)
     }
 
     /// Does what the events ask, one after another. At `Err` none of them was asked.
-    pub fn run(&mut self, alloc: Global, events: &[Event]) -> Result<Vec<Answer>, AllocError>
+    pub fn run<R: Wait>(
+        &mut self,
+        rt: &R,
+        alloc: Global,
+        events: &[Event],
+    ) -> Result<Vec<Answer>, AllocError>
         ensures course { IfOk result (λ answers.
             Course D.Disk self.old events.now answers.items self.new) }
         ensures run { IfOk result (λ answers.
             Run (machine self.old) events.now answers.items (machine self.new)) }
-        ensures any_moment { AtAnyMoment D.Disk self.old.store.slots.journal.disk
-            self.new.store.slots.journal.disk (KeptFrom self.new.desk self.old.told) }
-        ensures exit { EachCrash D.Disk self.new.store.slots.journal.disk
-            (KeptFrom self.new.desk self.new.told) }
-        ensures honest { SameHonesty D.Disk self.old.store.slots.journal.disk
-            self.new.store.slots.journal.disk }
+        ensures log { IfOk result (λ answers. log (desk_of self.new)
+            ≡ log (desk_of self.old) ++ accepted events.now answers.items) }
+        ensures told { IfOk result (λ answers.
+            told_of self.new ≡ told_by (told_of self.old) answers.items) }
+        ensures any_moment { AtAnyMoment D.Disk (disk_of self.old) (disk_of self.new)
+            (KeptFrom (desk_of self.new) (told_of self.old)) }
+        ensures exit { EachCrash D.Disk (disk_of self.new)
+            (KeptFrom (desk_of self.new) (told_of self.new)) }
+        ensures honest { SameHonesty D.Disk (disk_of self.old) (disk_of self.new) }
         ensures err { OnErr result (self.new ≡ self.old) }
     {
-        let _ = &self.told;
-        let answers = self.follow(alloc, events)?;
+        self.committer.rest();
+        let answers = self.follow(rt, alloc, events)?;
         Ok(answers)
     }
 
-    /// Gives the disk back.
-    pub fn into_disk(self) -> D
-        ensures disk { result ≡ self.store.slots.journal.disk }
-        ensures outcomes { EachCrash D.Disk result (KeptFrom self.desk self.told) }
-        ensures reads { D.honest result → self.store.slots.journal.phase ≢ Failed →
-            StandsFor (D.bytes result) (reached self.store) }
-        ensures stands { D.honest result → (machine self).failed ≡ false →
-            StandsFor (D.bytes result) (opened_set (machine self)) }
+    /// Gives the disk back. It may wait for an evaluator elsewhere.
+    pub fn into_disk<R: Wait>(self, rt: &R) -> D
+        ensures disk { result ≡ disk_of self }
+        ensures outcomes { EachCrash D.Disk result (KeptFrom (desk_of self) (told_of self)) }
+        ensures stands { D.honest result → (machine self).commits.failed ≡ false →
+            StandsFor (D.bytes result) (opened_set (machine self).commits) }
     {
-        let World {
-            store,
-            desk: _,
-            held,
-            tickets: _,
-            start: _,
-            told: _,
-        } = self;
-        end(held);
-        store.into_disk()
+        let World { committer, views } = self;
+        views.end(rt);
+        committer.into_disk()
     }
 
     /// Opens the disk again, and gives the set that it then stands for.
-    pub fn reopen(self, alloc: Global) -> Result<(Store<D>, Opening), (OpenFault, D)>
+    pub fn reopen<R: Wait>(
+        self,
+        rt: &R,
+        alloc: Global,
+    ) -> Result<(Store<D>, Opening), (OpenFault, D)>
         ensures fresh { IfOk result (λ r. IsFresh r.0 r.0.store.start) }
         ensures opening { IfOk result (λ r. r.1 ≡ r.0.store) }
 
         // Where no call failed: what is sealed, and with it what is in flight once its gate was opened.
-        ensures set { D.honest self.store.slots.journal.disk → (machine self).failed ≡ false →
-            IfOk result (λ r. r.0.store.start ≡ opened_set (machine self)) }
-        ensures refused { D.honest self.store.slots.journal.disk → (machine self).failed ≡ false →
+        ensures set { D.honest (disk_of self) → (machine self).commits.failed ≡ false →
+            IfOk result (λ r. r.0.store.start ≡ opened_set (machine self).commits) }
+        ensures refused { D.honest (disk_of self) → (machine self).commits.failed ≡ false →
             IfErr result (λ e. (e.0 ≡ Device) ⊎ (e.0 ≡ Memory)) }
     {
-        Store::open(alloc, self.into_disk())
+        Store::open(alloc, self.into_disk(rt))
     }
+}
+
+/// Opens a disk that holds what a crash left of a world. Where that keeps the log from some revision on, as `World` promises of
+/// each crash, the set is the one after some first accepted edits, as many as that revision or more.
+pub fn recover<D: Disk>(alloc: Global, disk: D) -> Result<(Store<D>, Opening), (OpenFault, D)>
+    ensures fresh { IfOk result (λ r. IsFresh r.0 r.0.store.start) }
+    ensures opening { IfOk result (λ r. r.1 ≡ r.0.store) }
+    ensures kept { D.honest disk → (desk : DeskState) (told : ℕ) → KeptFrom desk told (D.bytes disk) →
+        IfOk result (λ r. IsKept desk told r.0.store.start) }
+    ensures refused { D.honest disk → (desk : DeskState) (told : ℕ) →
+        KeptFrom desk told (D.bytes disk) → IfErr result (λ e. (e.0 ≡ Device) ⊎ (e.0 ≡ Memory)) }
+{
+    Store::open(alloc, disk)
 }

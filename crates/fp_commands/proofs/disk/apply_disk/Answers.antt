@@ -10,7 +10,9 @@ use Rattle.fp_session.specs.declared.fault.ApplyFault.{ApplyFault}
 use Rattle.fp_commands.specs.Disks.{Asked, AskedByLines, IsApplyingFault}
 use Rattle.fp_commands.specs.declared.fault.CommandFault.{CommandFault}
 use Rattle.fp_commands.specs.declared.fault.CommandFault.TheVariants.{StoreFailed}
-use Rattle.fp_commands.proofs.Courses.{course-failed, ran-any_moment, ran-cause, ran-honest, ran-left, ran-sure, ran-told, session_store}
+use Rattle.fp_commands.proofs.Courses.{course-failed, course-goes, ran-any_moment, ran-broke, ran-called, ran-cause, ran-honest, ran-left, ran-sure, ran-told, session_store}
+use Rattle.fp_session.specs.StoreRun.{StoreRun}
+use Rattle.fp_slots.specs.declared.slots.Step.TheVariants.{Begin}
 use Rattle.fp_commands.proofs.Told.{applying-open, applying-run, open_not_failed, some_both, some_if}
 use Rattle.fp_commands.proofs.disk.apply_disk.Goals as goal
 
@@ -115,3 +117,16 @@ returns-in-Err-outcome-clause-cause g c = λ is.
     let failed = course-failed (session_store g.D.Disk) (LedBy left (flags_of s)) s k c.apply_lines-kept.result.1 c.in-Err-outcome.fault c.in-Err-outcome.is (sym c.into-in-Err-outcome.ensures ∙ is) l.course in
     ran-cause g.D.Disk c.args.disk c.into_disk-disk.result s k e.stands e.only e.any_moment e.honest c.into_disk-disk.ensures.disk (LedBy left (flags_of s)) l.any_moment left AskedByLines (joins left (flags_of s))
     failed.before failed.led failed.asked failed.failed e.ready e.no_failure
+
+pub returns-in-Ok-outcome-clause-called : goal.returns-in-Ok-outcome-clause-called
+returns-in-Ok-outcome-clause-called g c =
+    let D = g.D.Disk in let e = c.in-Ok.ensures in let s = c.in-Ok.session in let l = c.apply_lines-kept.ensures in let k = c.apply_lines-kept.result.0 in let left = g.R.Read.remaining c.args.r.now.inner in
+    let went = course-goes (session_store D) (LedBy left (flags_of s)) s k c.apply_lines-kept.result.1 c.in-Ok-outcome.told c.in-Ok-outcome.is l.course in
+    ran-called D c.args.disk c.into_disk-disk.result s k e.stands e.only e.any_moment e.honest c.into_disk-disk.ensures.disk (LedBy left (flags_of s)) l.any_moment left AskedByLines (joins left (flags_of s))
+    went e.rests (subst (λ (o : Result Bool ApplyFault). OnOk o (k.store.slots.step ≡ Begin)) c.in-Ok-outcome.is l.rests) e.called
+
+pub returns-in-Err-outcome-clause-called : goal.returns-in-Err-outcome-clause-called
+returns-in-Err-outcome-clause-called g c =
+    let D = g.D.Disk in let e = c.in-Ok.ensures in let s = c.in-Ok.session in let l = c.apply_lines-kept.ensures in let k = c.apply_lines-kept.result.0 in let left = g.R.Read.remaining c.args.r.now.inner in
+    inr (ran-broke D c.args.disk c.into_disk-disk.result s k e.stands e.only e.any_moment e.honest c.into_disk-disk.ensures.disk (LedBy left (flags_of s)) l.any_moment left AskedByLines (joins left (flags_of s))
+    c.in-Err-outcome.fault (subst (λ (o : Result Bool ApplyFault). StoreRun (session_store D) (LedBy left (flags_of s)) s k o) c.in-Err-outcome.is l.course) e.rests e.called)

@@ -16,7 +16,9 @@ use Rattle.fp_commands.specs.Disks.{Asked, AskedByDocument, IsImportingFault, Is
 use Rattle.fp_commands.specs.Documents.{import_of, IsDocumentFault}
 use Rattle.fp_commands.specs.declared.fault.CommandFault.{CommandFault}
 use Rattle.fp_commands.specs.declared.fault.CommandFault.TheVariants.{StoreFailed}
-use Rattle.fp_commands.proofs.Courses.{course-failed, ran-any_moment, ran-cause, ran-honest, ran-left, ran-sure, ran-told, session_store}
+use Rattle.fp_commands.proofs.Courses.{course-failed, course-goes, ran-any_moment, ran-broke, ran-called, ran-cause, ran-honest, ran-left, ran-sure, ran-told, session_store}
+use Rattle.fp_session.specs.StoreRun.{StoreRun}
+use Rattle.fp_slots.specs.declared.slots.Step.TheVariants.{Begin}
 use Rattle.fp_commands.proofs.Imported.{importing-document, importing-open, importing-run}
 use Rattle.fp_commands.proofs.Told.{open_not_failed}
 use Rattle.fp_commands.proofs.disk.import_disk.Goals as goal
@@ -82,6 +84,12 @@ returns-in-Err-read_document-clause-told g c = λ h same.
             ∙ sym (append_assoc (D.calls c.args.disk ++ Sync ∷ []) (Length ∷ []) (Read ∷ []) ∙ append_assoc (D.calls c.args.disk) (Sync ∷ []) (Length ∷ Read ∷ [])))));
       },
     )
+
+pub returns-in-Err-read_document-clause-called : goal.returns-in-Err-read_document-clause-called
+returns-in-Err-read_document-clause-called g c =
+    let D = g.D.Disk in
+    inl (inr (inr (inr (ap D.calls c.into_disk.ensures.disk ∙ c.in-Ok.ensures.called
+    ∙ sym (append_assoc (D.calls c.args.disk ++ Sync ∷ []) (Length ∷ []) (Read ∷ []) ∙ append_assoc (D.calls c.args.disk) (Sync ∷ []) (Length ∷ Read ∷ []))))))
 
 -- ---- it was
 
@@ -165,3 +173,16 @@ returns-in-Err-outcome-clause-cause g c = λ is.
     let failed = course-failed (session_store g.D.Disk) (LedBy (map seen c.in-Ok-read_document.flags.items) (flags_of s)) s k c.import_flags-kept.result.1 c.in-Err-outcome.fault c.in-Err-outcome.is (sym c.into-in-Err-outcome.ensures ∙ is) l.course in
     ran-cause g.D.Disk c.args.disk c.into_disk-disk.result s k e.stands e.only e.any_moment e.honest c.into_disk-disk.ensures.disk (LedBy (map seen c.in-Ok-read_document.flags.items) (flags_of s)) l.any_moment left AskedByDocument (joins left (map seen c.in-Ok-read_document.flags.items) c.in-Ok-read_document.ensures.flags (flags_of s))
     failed.before failed.led failed.asked failed.failed e.ready e.no_failure
+
+pub returns-in-Ok-outcome-clause-called : goal.returns-in-Ok-outcome-clause-called
+returns-in-Ok-outcome-clause-called g c =
+    let D = g.D.Disk in let e = c.in-Ok.ensures in let s = c.in-Ok.session in let l = c.import_flags-kept.ensures in let k = c.import_flags-kept.result.0 in let left = g.R.Read.remaining c.args.r.now.inner in let puts = map seen c.in-Ok-read_document.flags.items in
+    let went = course-goes (session_store D) (LedBy puts (flags_of s)) s k c.import_flags-kept.result.1 c.in-Ok-outcome.told c.in-Ok-outcome.is l.course in
+    ran-called D c.args.disk c.into_disk-disk.result s k e.stands e.only e.any_moment e.honest c.into_disk-disk.ensures.disk (LedBy puts (flags_of s)) l.any_moment left AskedByDocument (joins left puts c.in-Ok-read_document.ensures.flags (flags_of s))
+    went e.rests (subst (λ (o : Result Bool ApplyFault). OnOk o (k.store.slots.step ≡ Begin)) c.in-Ok-outcome.is l.rests) e.called
+
+pub returns-in-Err-outcome-clause-called : goal.returns-in-Err-outcome-clause-called
+returns-in-Err-outcome-clause-called g c =
+    let D = g.D.Disk in let e = c.in-Ok.ensures in let s = c.in-Ok.session in let l = c.import_flags-kept.ensures in let k = c.import_flags-kept.result.0 in let left = g.R.Read.remaining c.args.r.now.inner in let puts = map seen c.in-Ok-read_document.flags.items in
+    inr (ran-broke D c.args.disk c.into_disk-disk.result s k e.stands e.only e.any_moment e.honest c.into_disk-disk.ensures.disk (LedBy puts (flags_of s)) l.any_moment left AskedByDocument (joins left puts c.in-Ok-read_document.ensures.flags (flags_of s))
+    c.in-Err-outcome.fault (subst (λ (o : Result Bool ApplyFault). StoreRun (session_store D) (LedBy puts (flags_of s)) s k o) c.in-Err-outcome.is l.course) e.rests e.called)

@@ -17,4 +17,4 @@ returns-clause-reads g c =
 pub returns-clause-full : goal.returns-clause-full
 returns-clause-full g c =
     let q = c.step.ensures in
-    steps.full_now g.D.Disk c.args.slots.now c.step.result q.step (λ h o left. q.outcomes h o left)
+    steps.full_now g.D.Disk c.args.slots.now c.step.result q.step (λ h o left. q.outcomes h o left) q.front q.numbered

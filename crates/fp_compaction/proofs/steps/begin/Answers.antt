@@ -29,6 +29,8 @@ returns-clause-begun g c =
     let long = head_long (c.args.slots.now.generation + 1) c.revision.result c.deref.result.now in let text = ap length t.0 in let head = t.1 in record {
       journal = same.0;
       other = same.1;
+      generation = same.2;
+      left = c.in_ok-begin.ensures.text.2;
       head = head ∙ ap (λ (n : ℕ). IMAGE_PLACE + n) len;
       short = c.in_ok-image.ensures.within;
       text = omega (arith, text, long, head);

@@ -2,8 +2,8 @@ use Rattle.std.proofs.Common.{◌+◌, ◌++◌, List, length, refl, sym, ap, �
 use Rattle.std.proofs.lemmas.Result.{err_from_is_err_and}
 use Rattle.fp_disk.specs.declared.history.CallKind.{CallKind}
 use Rattle.fp_desk.specs.Desk.{DeskState}
-use Rattle.fp_session.specs.Session.{StandsAhead, calls_of}
-use Rattle.fp_session.specs.SessionLaws.{calls_more}
+use Rattle.fp_session.specs.Session.{BreaksOff, StandsAhead}
+use Rattle.fp_session.specs.SessionLaws.{breaks_on, no_works, works_on}
 use Rattle.fp_session.proofs.Commits.{honest_on, lacks_on, next_moment, nothing_left, now_ahead, present_ahead, stands_on, still_ahead, weaker}
 use Rattle.fp_session.proofs.commit.commit_all.Goals as goal
 
@@ -14,7 +14,7 @@ loop-store-init g c = record {
   settled = omega arith;
   no_failure = refl;
   any_moment = still_ahead g.D.Disk c.args.store.now c.args.desk.now c.requires.in_step g.met.D.Disk.only_now;
-  called = (0, sym (append-nil (g.D.Disk.calls c.args.store.now.slots.journal.disk)));
+  works = no_works g.D.Disk c.args.store.now;
   honest = (λ h. h, λ h. h);
 }
 
@@ -31,11 +31,7 @@ loop-store-preserved g c =
       no_failure = did.no_failure ∙ inv.no_failure;
       any_moment = next_moment D first mid last (StandsAhead d0) inv.honest inv.any_moment
           (weaker D mid last (StandsAhead d1) (StandsAhead d0) (stands_on d0 d1 inv.log.0 inv.log.1 inv.settled) w.any_moment);
-      called = (
-        inv.called.0 + 1,
-        c.in_ok-commit.ensures.called ∙ ap (λ (l : List CallKind). l ++ calls_of 1) inv.called.1 ∙ append_assoc (D.calls first) (calls_of inv.called.0) (calls_of 1)
-            ∙ ap (λ (l : List CallKind). D.calls first ++ l) (calls_more inv.called.0 1),
-      );
+      works = works_on D c.args.store.now c.loop-store.store c.commit.new.store inv.works did.works;
       honest = honest_on D first mid last inv.honest w.honest;
     }
 
@@ -65,3 +61,8 @@ returns-clause-committed g c =
 
 pub returns-clause-now : goal.returns-clause-now
 returns-clause-now g c = now_ahead g.D.Disk c.loop-store.store c.loop-store.desk c.loop-store.invariant.in_step
+
+pub returns-in_err-commit-clause-called : goal.returns-in_err-commit-clause-called
+returns-in_err-commit-clause-called g c =
+    let p = err_from_is_err_and c.from_residual.result c.from_residual.ensures.1 in
+    rw (p.1) (breaks_on g.D.Disk c.args.store.now c.loop-store.store c.commit.new.store c.loop-store.invariant.works c.in_err-commit.ensures.called)

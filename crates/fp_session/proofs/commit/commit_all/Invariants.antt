@@ -1,7 +1,7 @@
-use Rattle.std.proofs.Common.{◌≡◌, ◌≤◌, ◌++◌, ℕ, length}
+use Rattle.std.proofs.Common.{◌≡◌, ◌≤◌, ℕ, length}
 use Rattle.fp_disk.specs.Crashes.{AtAnyMoment, SameHonesty}
 use Rattle.fp_desk.specs.Desk.{log}
-use Rattle.fp_session.specs.Session.{IsInStep, StandsAhead, calls_of}
+use Rattle.fp_session.specs.Session.{IsInStep, StandsAhead, Works}
 use Rattle.fp_session.proofs.commit.commit_all.Given as goal
 
 -- some first batches of what waited were sealed and settled
@@ -12,7 +12,7 @@ invariant-loop-store g l = record {
   settled : length l.initial.desk.settled ≤ length l.desk.settled;
   no_failure : g.D.Disk.faults l.store.slots.journal.disk ≡ g.D.Disk.faults l.initial.store.slots.journal.disk;
   any_moment : AtAnyMoment g.D.Disk l.initial.store.slots.journal.disk l.store.slots.journal.disk (StandsAhead l.initial.desk);
-  called : (n : ℕ) × (g.D.Disk.calls l.store.slots.journal.disk ≡ g.D.Disk.calls l.initial.store.slots.journal.disk ++ calls_of n);
+  works : Works g.D.Disk l.initial.store l.store;
   honest : SameHonesty g.D.Disk l.initial.store.slots.journal.disk l.store.slots.journal.disk;
 }
 

@@ -6,7 +6,8 @@ use Rattle.fp_base.proofs.Known.{Appends-nil}
 use Rattle.fp_session.specs.Asks.{Ask, asked_by_flags, put_of, seen}
 use Rattle.fp_session.specs.Progress.{Ends, IsBrokenWith}
 use Rattle.fp_session.specs.declared.replies.TheConstants.{MOST_WAITING}
-use Rattle.fp_session.proofs.Endings.{broken_with-more, concluded}
+use Rattle.std.specs.Io.KnownBytes.{Appends}
+use Rattle.fp_session.proofs.Endings.{broken-sent, broken_with-more, concluded}
 use Rattle.fp_session.proofs.ProgressLemmas.{is_at-start}
 use Rattle.fp_session.proofs.import.put_flags.Goals as goal
 
@@ -19,7 +20,7 @@ loop-key-init g c =
       at = record {
         sent = [];
         appended = Appends-nil (g.W.Write.contents c.args.w.now.inner);
-        at = is_at-start g.E.EditStore c.args.edits.now c.new-replies.result c.new-replies.ensures.text c.new-replies.ensures.none c.new-replies.ensures.told c.requires.fresh c.flags.ensures.still;
+        at = c.in_ok-go_on.ensures.at c.args.edits.now [] [] c.new-replies.result 0 c.new-replies.ensures.none (is_at-start g.E.EditStore c.args.edits.now c.new-replies.result c.new-replies.ensures.text c.new-replies.ensures.none c.new-replies.ensures.told c.requires.fresh c.flags.ensures.still);
       };
       few = let none = ap length c.new-replies.ensures.none in omega (arith, none);
       counted = omega arith;
@@ -39,9 +40,19 @@ loop-key-preserved g c =
       sent_well = c.in_ok-put_flag.ensures.device ∙ inv.sent_well;
     }
 
+pub returns-in_err-go_on-clause-ends : goal.returns-in_err-go_on-clause-ends
+returns-in_err-go_on-clause-ends g c =
+    let p = err_from_is_err_and c.from_residual.result c.from_residual.ensures.1 in
+    let first = c.args.edits.now in let now = c.go_on.new.edits in let q = c.new-replies.result in
+    let before = g.W.Write.contents c.args.w.now.inner in let f0 = c.args.w.now.failures in let e = c.in_err-go_on.field-0.0 in
+    let broken = c.in_err-go_on.ensures.at first [] [] q MOST_WAITING c.new-replies.ensures.none (is_at-start g.E.EditStore c.args.edits.now c.new-replies.result c.new-replies.ensures.text c.new-replies.ensures.none c.new-replies.ensures.told c.requires.fresh c.flags.ensures.still) in
+    rw (p.1, p.2) (broken_with-more g.E.EditStore first now [] (asked_by_flags (map seen c.args.flags.items)) MOST_WAITING before before f0 f0 e
+    (broken-sent g.E.EditStore first now [] [] MOST_WAITING MOST_WAITING before before before f0 f0 q e (omega arith) broken (Appends-nil before)
+    (λ same. subst (λ (l : List ℕ). Appends before before l) (sym c.new-replies.ensures.text) (Appends-nil before))))
+
 pub returns-in_err-put_flag-clause-ends : goal.returns-in_err-put_flag-clause-ends
 returns-in_err-put_flag-clause-ends g c =
-    let p = err_from_is_err_and c.from_residual.result c.from_residual.ensures.1 in
+    let p = err_from_is_err_and c.from_residual-in_err-put_flag.result c.from_residual-in_err-put_flag.ensures.1 in
     let inv = c.loop-key.invariant in let one = Ok (put_of (seen (c.in-Some.key, c.in-Some.flag))) in
     let rest = asked_by_flags (map seen (into_iter_items c.next.new.self)) in
     let first = c.args.edits.now in let now = c.put_flag.new.edits in let before = g.W.Write.contents c.args.w.now.inner in let w = g.W.Write.contents c.put_flag.new.w.inner in

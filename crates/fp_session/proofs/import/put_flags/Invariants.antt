@@ -10,7 +10,7 @@ abbrev pub invariant-loop-key : goal.invariant-loop-key
 invariant-loop-key g l = record {
   done : List Ask;
   parts : done ++ asked_by_flags (map seen (into_iter_items l.key-iterator)) ≡ asked_by_flags (map seen l.fn.flags.items);
-  at : IsAtWith g.E.EditStore l.initial.edits l.edits done (g.W.Write.contents l.initial.w.inner) (g.W.Write.contents l.w.inner) l.replies;
+  at : IsAtWith g.E.EditStore l.fn.edits l.edits done (g.W.Write.contents l.initial.w.inner) (g.W.Write.contents l.w.inner) l.replies;
   few : length l.replies.waiting.items ≤ MOST_WAITING;
   counted : length (into_iter_items l.key-iterator) ≡ into_iter_len l.key-iterator;
   sent_well : l.w.failures ≡ l.initial.w.failures;

@@ -1,4 +1,6 @@
 use Rattle.std.proofs.Common.{◌<◌, ◌++◌, Err, [], refl, sym, subst, ◌∙◌, append-nil, ap, take, arith}
+use Rattle.std.proofs.Common.{ℕ, List}
+use Rattle.std.specs.Io.KnownBytes.{Appends}
 use Rattle.std.proofs.lemmas.Result.{err_from_is_err_and}
 use Rattle.fp_base.proofs.Known.{Appends-nil, Appends-more}
 use Rattle.fp_session.specs.Asks.{asked_by_input, asked_by_lines}
@@ -15,7 +17,14 @@ pub loop-replies-init : goal.loop-replies-init
 loop-replies-init g c = record {
   seen = [];
   sent = [];
-  reading = reading-start g.E.EditStore c.args.edits.now c.new-replies.result c.new-line.result c.new-replies.ensures.text c.new-replies.ensures.none c.new-replies.ensures.told c.new-line.ensures c.requires.fresh c.flags.ensures.still;
+  reading = (let r = reading-start g.E.EditStore c.args.edits.now c.new-replies.result c.new-line.result c.new-replies.ensures.text c.new-replies.ensures.none c.new-replies.ensures.told c.new-line.ensures c.requires.fresh c.flags.ensures.still in record {
+    done = r.done;
+    line = r.line;
+    split = r.split;
+    held = r.held;
+    at = c.in_ok-go_on.ensures.at c.args.edits.now (asked_by_lines r.done) [] c.new-replies.result 0 c.new-replies.ensures.none r.at;
+    none = r.none;
+  });
   unsent = c.new-replies.ensures.text;
   appended = Appends-nil (g.W.Write.contents c.args.w.now.inner);
   part = λ input is. (input, is, refl);
@@ -39,10 +48,22 @@ loop-replies-preserved g c =
       sent_well = sent.counted ∙ inv.sent_well;
     }
 
+-- what is done beside the edits failed before any was read
+pub returns-in_err-go_on-clause-ends : goal.returns-in_err-go_on-clause-ends
+returns-in_err-go_on-clause-ends g c =
+    let p = err_from_is_err_and c.from_residual.result c.from_residual.ensures.1 in
+    let first = c.args.edits.now in let now = c.go_on.new.edits in let q = c.new-replies.result in
+    let before = g.W.Write.contents c.args.w.now.inner in let reads = g.R.Read.remaining c.args.r.now.inner in let f0 = c.args.w.now.failures in
+    let r = reading-start g.E.EditStore c.args.edits.now c.new-replies.result c.new-line.result c.new-replies.ensures.text c.new-replies.ensures.none c.new-replies.ensures.told c.new-line.ensures c.requires.fresh c.flags.ensures.still in let e = c.in_err-go_on.field-0.0 in
+    let broken = c.in_err-go_on.ensures.at first (asked_by_lines r.done) [] q 1 c.new-replies.ensures.none r.at in
+    rw (p.1, p.2) (ends-over g.E.EditStore first now reads reads before [] [] r.done r.line before f0 f0 e r.split (λ input is. (input, is, refl))
+    (broken-sent g.E.EditStore first now (asked_by_lines r.done) [] 1 1 before before before f0 f0 q e (omega arith) broken (Appends-nil before)
+    (λ same. subst (λ (l : List ℕ). Appends before before l) (sym c.new-replies.ensures.text) (Appends-nil before))))
+
 -- the reader failed, and all replies are sent
 pub returns-in_err-count-clause-ends : goal.returns-in_err-count-clause-ends
 returns-in_err-count-clause-ends g c =
-    let p = err_from_is_err_and c.from_residual.result c.from_residual.ensures.1 in
+    let p = err_from_is_err_and c.from_residual-in_err-count.result c.from_residual-in_err-count.ensures.1 in
     let inv = c.loop-replies.invariant in let first = c.args.edits.now in let now = c.loop-replies.edits in let i = inv.reading in
     let before = g.W.Write.contents c.args.w.now.inner in let held = g.W.Write.contents c.loop-replies.w.inner in
     let reads = g.R.Read.remaining c.args.r.now.inner in let left = g.R.Read.remaining c.loop-replies.r.inner in

@@ -9,7 +9,7 @@ abbrev pub invariant-loop-replies : goal.invariant-loop-replies
 invariant-loop-replies g l = record {
   seen : List ℕ;
   sent : List ℕ;
-  reading : IsReading g.E.EditStore l.initial.edits l.edits seen sent l.replies l.line;
+  reading : IsReading g.E.EditStore l.fn.edits l.edits seen sent l.replies l.line;
   unsent : l.replies.text.items ≡ [];
   appended : Appends (g.W.Write.contents l.initial.w.inner) (g.W.Write.contents l.w.inner) sent;
   part : IsPartRead (g.R.Read.remaining l.initial.r.inner) (g.R.Read.remaining l.r.inner) seen;

@@ -3,7 +3,7 @@ use Rattle.std.specs.Io.KnownBytes.{Appends}
 use Rattle.fp_edit.specs.Flags.{State}
 use Rattle.fp_session.specs.Asks.{asked_by_input}
 use Rattle.fp_session.specs.Run.{after, IsAfterPrefix, IsToldBy, script}
-use Rattle.fp_session.proofs.Endings.{ends-course, ends-flags, ends-leaves, ends-script, ends-told, err-some, ok-some, over-all, over-prefix}
+use Rattle.fp_session.proofs.Endings.{ends-course, ends-flags, ends-leaves, ends-rests, ends-script, ends-told, err-some, ok-some, over-all, over-prefix}
 use Rattle.fp_session.proofs.input.apply_lines.Goals as goal
 
 pub returns-clause-script : goal.returns-clause-script
@@ -45,3 +45,10 @@ returns-clause-course g c =
     let f0 = c.args.w.now.failures in let f = a.new.w.failures in let e = a.ensures.ends in
     ends-course st first now 1 e.asked old new f0 f (λ (u : State). IfSome reads (λ input. IsAfterPrefix (st.state first) (asked_by_input input) u))
     (over-prefix st first now reads old new f0 f a.result e) a.result e.ends
+
+pub returns-clause-rests : goal.returns-clause-rests
+returns-clause-rests g c =
+    let a = c.answer_input-outcome in let st = g.E.EditStore in let first = c.args.edits in let now = a.new.edits in
+    let old = g.W.Write.contents c.args.w.now.inner in let new = g.W.Write.contents a.new.w.inner in
+    let f0 = c.args.w.now.failures in let f = a.new.w.failures in let e = a.ensures.ends in
+    ends-rests st first now 1 e.asked old new f0 f a.result e.ends

@@ -73,7 +73,7 @@ returns-in_default-take_step g c =
     rw (← c.self.view_is) (record {
       same = (refl, refl, refl);
       phase = refl;
-      ok = steps.compacts D i1 t1 w.taken is may well o.order.0 o.begun o.planned o.stays o.turned D.faults o.no_failure;
+      ok = steps.compacts D i1 t1 w.taken is may well o.order.0 o.begun o.planned o.stays o.turned D.faults o.no_failure o.left c.step.ensures.numbered;
       next = c.step.ensures.step;
       fault = tt;
       called = w.taken.called;

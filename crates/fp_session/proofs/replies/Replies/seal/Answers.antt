@@ -25,14 +25,28 @@ returns-in_err-reserve-clause-asked g c = λ first asked sent i.
     rw (p.1, p.2) (is_at-broken g.E.EditStore first c.args.edits.now asked sent q (record { text = c.reserve.new.self; waiting = q.waiting; is_told = q.is_told }) (length q.waiting.items) i
     c.reserve.ensures.items (omega arith))
 
-pub returns-in-Ok-clause-asked : goal.returns-in-Ok-clause-asked
-returns-in-Ok-clause-asked g c = λ first asked sent i.
+pub returns-in_err-go_on-clause-asked : goal.returns-in_err-go_on-clause-asked
+returns-in_err-go_on-clause-asked g c = λ first asked sent i.
+    let p = err_from_is_err_and c.from_residual-in_err-go_on.result c.from_residual-in_err-go_on.ensures.1 in
     let old = c.args.self.now in let q = c.tell.new.self in let w = c.in-Ok.ensures in let next = c.commit.new.self in let t = c.tell.ensures in
     let all = told_up_to-all true old.waiting.items c.in_ok-kept.kept c.in_ok-kept.ensures.told in
+    let at : At g.E.EditStore first next asked sent q.text.items (map said q.waiting.items) q.is_told =
     subst (λ (ws : List code.Reply). At g.E.EditStore first next asked sent q.text.items (map said ws) q.is_told) (sym t.none)
     (at-sealed g.E.EditStore first c.args.edits.now asked sent old.text.items (map said old.waiting.items) old.is_told i next w.same w.kept w.any_moment w.fate
     q.text.items q.is_told (t.text ∙ ap (λ (l : List ℕ). l ++ c.in_ok-kept.kept.text.items) c.reserve.ensures.items ∙ ap (λ (l : List ℕ). old.text.items ++ l) all.0)
-    (t.told ∙ ap (λ (b : Bool). old.is_told && b) all.1))
+    (t.told ∙ ap (λ (b : Bool). old.is_told && b) all.1)) in
+    rw (p.1, p.2) (c.in_err-go_on.ensures.at first asked sent q (length old.waiting.items) t.none at)
+
+pub returns-clause-asked : goal.returns-clause-asked
+returns-clause-asked g c = λ first asked sent i.
+    let old = c.args.self.now in let q = c.tell.new.self in let w = c.in-Ok.ensures in let next = c.commit.new.self in let t = c.tell.ensures in
+    let all = told_up_to-all true old.waiting.items c.in_ok-kept.kept c.in_ok-kept.ensures.told in
+    let at : At g.E.EditStore first next asked sent q.text.items (map said q.waiting.items) q.is_told =
+    subst (λ (ws : List code.Reply). At g.E.EditStore first next asked sent q.text.items (map said ws) q.is_told) (sym t.none)
+    (at-sealed g.E.EditStore first c.args.edits.now asked sent old.text.items (map said old.waiting.items) old.is_told i next w.same w.kept w.any_moment w.fate
+    q.text.items q.is_told (t.text ∙ ap (λ (l : List ℕ). l ++ c.in_ok-kept.kept.text.items) c.reserve.ensures.items ∙ ap (λ (l : List ℕ). old.text.items ++ l) all.0)
+    (t.told ∙ ap (λ (b : Bool). old.is_told && b) all.1)) in
+    c.in_ok-go_on.ensures.at first asked sent q 0 t.none at
 
 pub returns-in-Err-clause-asked : goal.returns-in-Err-clause-asked
 returns-in-Err-clause-asked g c = λ first asked sent i.

@@ -1,0 +1,194 @@
+-- A store over the steps of compactions, and how few of them are left.
+use Rattle.std.proofs.Common.{◌≡◌, ◌≢◌, ◌<◌, ◌≤◌, ◌+◌, ◌-◌, ◌*◌, ◌^◌, ℕ, suc, true, false, [], ◌∷◌, ◌++◌, refl, sym, ap, subst, ◌∙◌, arith, append-nil}
+use Rattle.std.specs.Prelude.{if◌then◌else◌, nat_lt}
+use Rattle.std.proofs.Math.Nat.{suc-mul}
+use borrow.Author.Tests.{leb-true, leb-false}
+use Rattle.fp_disk.specs.Crashes.{AtAnyMoment, EachCrash, SameHonesty}
+use Rattle.fp_disk.specs.History.{MakesSome}
+use Rattle.fp_disk.specs.Moments.{leaves_still}
+use Rattle.fp_disk.specs.Outcomes.{IsOutcome}
+use Rattle.fp_disk.specs.declared.disk.Disk.{Ghosts}
+use Rattle.fp_edit.specs.Edits.{Change}
+use Rattle.fp_edit.specs.Flags.{State}
+use Rattle.fp_edit.specs.Log.{after_all}
+use Rattle.fp_journal.specs.declared.journal.Phase.TheVariants.{Idle, Failed}
+use Rattle.fp_recovery.specs.Stands.{StandsFor}
+use Rattle.fp_slots.specs.declared.places.TheConstants.{IMAGE_PLACE, PART}
+use Rattle.fp_slots.specs.declared.slots.Step.{Step}
+use Rattle.fp_slots.specs.declared.slots.Step.TheVariants.{Begin, Close, SyncClose, Part, Tail, SyncBody, Open, SyncOpen}
+use Rattle.fp_compaction.specs.Steps.{calls_of, next_left, next_step}
+use Rattle.fp_group_commit.specs.Calls.{Compacts}
+use Rattle.fp_group_commit.specs.Store.{IsAtRest, Leaves, MayCompact, StoreState, kept}
+use Rattle.fp_group_commit.specs.Tokens.{Identity}
+use Rattle.fp_session.specs.Session.{BreaksOff, Halts, KeepsAll, Proceeds, Works}
+use Rattle.fp_session.specs.Session.{compaction_step}
+use Rattle.fp_session.specs.SessionLaws.{breaks_on, no_works, works_on}
+use Rattle.fp_session.specs.declared.commit.CommitFault.{CommitFault}
+use Rattle.fp_session.proofs.Commits.{honest_on, idle_keeps, next_moment, weaker}
+
+-- ---- steps
+module _ {D : Type 0} (disk : Ghosts D) where
+  pub kept_as : (a b : StoreState D) → b.store ≡ a.store → b.sealed ≡ a.sealed → kept b ≡ kept a
+  kept_as a b store sealed = ap (λ (x : Identity). after_all x.start b.sealed) store ∙ ap (λ l. after_all a.store.start l) sealed
+
+  -- a call that leaves what a store at rest leaves
+  pub keeps_all : (a b : StoreState D) → b.store ≡ a.store → b.sealed ≡ a.sealed → b.step ≡ a.step → a.step ≡ Idle
+      → AtAnyMoment disk a.slots.journal.disk b.slots.journal.disk (Leaves a) → EachCrash disk b.slots.journal.disk (Leaves b) → SameHonesty disk a.slots.journal.disk b.slots.journal.disk → KeepsAll disk a b
+  keeps_all a b store sealed step idle moment exit same = record {
+    store = store;
+    sealed = sealed;
+    step = step;
+    any_moment = weaker disk a.slots.journal.disk b.slots.journal.disk (Leaves a) (λ c. StandsFor c (kept a)) (idle_keeps a idle) moment;
+    now = λ h c o. idle_keeps b (step ∙ idle) c (exit h c o);
+    honest = same;
+  }
+
+  pub keeps_none : ((x : D) (c : _) → disk.honest x → disk.crash_states_since x (disk.moment x) c → IsOutcome (disk.unsynced x) c)
+      → (a : StoreState D) → EachCrash disk a.slots.journal.disk (λ c. StandsFor c (kept a)) → KeepsAll disk a a
+  keeps_none only_now a keeps = record {
+    store = refl;
+    sealed = refl;
+    step = refl;
+    any_moment = λ h. leaves_still disk.moment disk.crash_states_since a.slots.journal.disk (λ c. StandsFor c (kept a)) (λ c left. keeps h c (only_now a.slots.journal.disk c h left));
+    now = keeps;
+    honest = (λ h. h, λ h. h);
+  }
+
+  keeps_then : (a b c : StoreState D) → KeepsAll disk a b → KeepsAll disk b c → KeepsAll disk a c
+  keeps_then a b c h k =
+      let same : kept b ≡ kept a = kept_as a b h.store h.sealed in record {
+        store = k.store ∙ h.store;
+        sealed = k.sealed ∙ h.sealed;
+        step = k.step ∙ h.step;
+        any_moment = next_moment disk a.slots.journal.disk b.slots.journal.disk c.slots.journal.disk (λ o. StandsFor o (kept a)) h.honest h.any_moment
+            (weaker disk b.slots.journal.disk c.slots.journal.disk (λ o. StandsFor o (kept b)) (λ o. StandsFor o (kept a)) (λ o stands. subst (λ (s : State). StandsFor o s) same stands) k.any_moment);
+        now = k.now;
+        honest = honest_on disk a.slots.journal.disk b.slots.journal.disk c.slots.journal.disk h.honest k.honest;
+      }
+
+  pub proceeds_none : ((x : D) (c : _) → disk.honest x → disk.crash_states_since x (disk.moment x) c → IsOutcome (disk.unsynced x) c)
+      → (a : StoreState D) → a.slots.journal.phase ≢ Failed → EachCrash disk a.slots.journal.disk (λ c. StandsFor c (kept a)) → Proceeds disk a a
+  proceeds_none only_now a well keeps = record { keeps = keeps_none only_now a keeps; well = well; no_failure = refl; works = no_works disk a }
+
+  pub proceeds_then : (a b c : StoreState D) → Proceeds disk a b → Proceeds disk b c → Proceeds disk a c
+  proceeds_then a b c h k = record {
+    keeps = keeps_then a b c h.keeps k.keeps;
+    well = k.well;
+    no_failure = k.no_failure ∙ h.no_failure;
+    works = works_on disk a b c h.works k.works;
+  }
+
+  pub halts_then : (a b c : StoreState D) (f : CommitFault) → Proceeds disk a b → Halts disk b c f → Halts disk a c f
+  halts_then a b c f h k = record {
+    keeps = keeps_then a b c h.keeps k.keeps;
+    works = breaks_on disk a b c h.works k.works;
+    cause = λ is. (let more = k.cause is in let same = h.no_failure in omega (arith, more, same));
+  }
+
+  -- one step
+  pub works_step : (a b : StoreState D) → b.slots.step ≡ next_step a.slots.step a.slots.left
+      → disk.calls b.slots.journal.disk ≡ disk.calls a.slots.journal.disk ++ calls_of a.slots.step a.slots.may_open → Works disk a b
+  works_step a b next calls = record {
+    works = compaction_step a.slots.step a.slots.may_open ∷ [];
+    lead = (refl, a.slots.left, next);
+    calls = calls ∙ ap (λ l. disk.calls a.slots.journal.disk ++ l) (sym (append-nil (calls_of a.slots.step a.slots.may_open)));
+  }
+
+  -- and one that broke off
+  pub breaks_step : (a b : StoreState D) → MakesSome (calls_of a.slots.step a.slots.may_open) (disk.calls a.slots.journal.disk) (disk.calls b.slots.journal.disk) → BreaksOff disk a b
+  breaks_step a b calls = record {
+    works = [];
+    next = a.slots.step;
+    last = compaction_step a.slots.step a.slots.may_open;
+    lead = refl;
+    may = refl;
+    calls = subst (λ l. MakesSome (calls_of a.slots.step a.slots.may_open) l (disk.calls b.slots.journal.disk)) (sym (append-nil (disk.calls a.slots.journal.disk))) calls;
+  }
+
+-- ---- how many are left
+-- before none runs again, at most: a new one writes so many bytes of head and image
+abbrev pub steps_left : Step → ℕ → ℕ → ℕ
+steps_left Begin left most = most + 8
+steps_left Close left most = left + 7
+steps_left SyncClose left most = left + 6
+steps_left Part left most = left + 5
+steps_left Tail left most = 4
+steps_left SyncBody left most = 3
+steps_left Open left most = 2
+steps_left SyncOpen left most = 1
+
+-- and before the last generation is used up
+abbrev pub work_left : {D : Type 0} → StoreState D → ℕ
+work_left s = (2 ^ 64 - s.slots.generation) * (IMAGE_PLACE + s.store.start.limit + 9)
+    + steps_left s.slots.step s.slots.left (IMAGE_PLACE + s.store.start.limit)
+
+below : (n m x y : ℕ) → m ≡ n → x < y → m + x < n + y
+below n m x y same lt = omega (arith, same, lt)
+
+-- a generation more is worth all steps of a compaction
+worth : (r most : ℕ) → r * (most + 9) + (most + 8) < suc r * (most + 9) + 1
+worth r most = let more : suc r * (most + 9) ≡ r * (most + 9) + (most + 9) = suc-mul r (most + 9) in subst (λ (x : ℕ). r * (most + 9) + (most + 8) < x + 1) (sym more) (apart (r * (most + 9)) most)
+  where
+    apart : (n m : ℕ) → n + (m + 8) < n + (m + 9) + 1
+    apart n m = omega arith
+
+falls_at : (p : Step) (left next g h most : ℕ) → (p ≢ Begin → next ≡ next_left p left) → (p ≡ Begin → next + 1 ≤ most) → (p ≢ SyncOpen → h ≡ g) → (p ≡ SyncOpen → h ≡ g + 1) → h < 2 ^ 64
+    → (2 ^ 64 - h) * (most + 9) + steps_left (next_step p left) next most < (2 ^ 64 - g) * (most + 9) + steps_left p left most
+falls_at Begin left next g h most stays begun same turned small =
+    let few = begun refl in below _ _ _ _ (ap (λ (x : ℕ). (2 ^ 64 - x) * (most + 9)) (same (λ e. absurd (cc e)))) (omega (arith, few))
+falls_at Close left next g h most stays begun same turned small =
+    let is = stays (λ e. absurd (cc e)) in below _ _ _ _ (ap (λ (x : ℕ). (2 ^ 64 - x) * (most + 9)) (same (λ e. absurd (cc e)))) (omega (arith, is))
+falls_at SyncClose left next g h most stays begun same turned small =
+    let is = stays (λ e. absurd (cc e)) in below _ _ _ _ (ap (λ (x : ℕ). (2 ^ 64 - x) * (most + 9)) (same (λ e. absurd (cc e)))) (omega (arith, is))
+falls_at Part left next g h most stays begun same turned small =
+    let is = stays (λ e. absurd (cc e)) in below _ _ _ _ (ap (λ (x : ℕ). (2 ^ 64 - x) * (most + 9)) (same (λ e. absurd (cc e)))) (part is)
+  where
+    part : next ≡ left - PART → steps_left (next_step Part left) next most < left + 5
+    part is = elim (nat_lt PART left) as (λ t. nat_lt PART left ≡ t → steps_left (if t then Part else Tail) next most < left + 5) [
+      | true ↦ λ e. let more = leb-true _ _ e in omega (arith, more, is)
+      | false ↦ λ e. omega arith
+    ] refl
+falls_at Tail left next g h most stays begun same turned small =
+    below _ _ _ _ (ap (λ (x : ℕ). (2 ^ 64 - x) * (most + 9)) (same (λ e. absurd (cc e)))) (omega arith)
+falls_at SyncBody left next g h most stays begun same turned small =
+    below _ _ _ _ (ap (λ (x : ℕ). (2 ^ 64 - x) * (most + 9)) (same (λ e. absurd (cc e)))) (omega arith)
+falls_at Open left next g h most stays begun same turned small =
+    below _ _ _ _ (ap (λ (x : ℕ). (2 ^ 64 - x) * (most + 9)) (same (λ e. absurd (cc e)))) (omega arith)
+falls_at SyncOpen left next g h most stays begun same turned small =
+    let is = turned refl in
+    let left_over : 2 ^ 64 - g ≡ suc (2 ^ 64 - h) = omega (arith, is, small) in
+    subst (λ (x : ℕ). (2 ^ 64 - h) * (most + 9) + (most + 8) < x * (most + 9) + 1) (sym left_over) (worth (2 ^ 64 - h) most)
+
+pub falls : {D : Type 0} (faults : D → ℕ) (a b : StoreState D) → b.store ≡ a.store → Compacts faults a b → work_left b < work_left a
+falls faults a b store c =
+    let most : ℕ = IMAGE_PLACE + a.store.start.limit in
+    let limit = ap (λ (x : Identity). IMAGE_PLACE + x.start.limit) store in
+    let fell = falls_at a.slots.step a.slots.left b.slots.left a.slots.generation b.slots.generation most c.left
+        (λ at. let p = c.begun at in let head = p.head in let small = p.small in let left = p.left in omega (arith, head, small, left))
+        (λ on. (c.slots_stay on).1) (λ at. (c.slots_turn at).1) c.numbered in
+    subst (λ (q : Step). (2 ^ 64 - b.slots.generation) * (IMAGE_PLACE + b.store.start.limit + 9) + steps_left q b.slots.left (IMAGE_PLACE + b.store.start.limit) < work_left a) (sym c.next)
+    (subst (λ (m : ℕ). (2 ^ 64 - b.slots.generation) * (m + 9) + steps_left (next_step a.slots.step a.slots.left) b.slots.left m < work_left a) (sym limit) fell)
+
+-- ---- where a step may not be taken
+-- none runs, and no generation is left
+pub used_up : {D : Type 0} (s : StoreState D) → s.step ≡ Idle → (MayCompact s → ⊥) → (s.slots.step ≡ Begin) × (2 ^ 64 ≤ s.slots.generation + 1)
+used_up s idle never = at s.slots.step refl
+  where
+    runs : (p : Step) → p ≡ s.slots.step → (p ≡ Begin → ⊥) → ⊥
+    runs p is not = never (record { next = λ b. absurd (not (is ∙ b)); still = λ t. idle })
+
+    large : s.slots.step ≡ Begin → 2 ^ 64 ≤ s.slots.generation + 1
+    large b = elim (nat_lt (s.slots.generation + 1) (2 ^ 64)) as (λ t. nat_lt (s.slots.generation + 1) (2 ^ 64) ≡ t → 2 ^ 64 ≤ s.slots.generation + 1) [
+      | true ↦ λ e. absurd (never (record { next = λ _. leb-true _ _ e; still = λ t. idle }))
+      | false ↦ λ e. (let no = leb-false _ _ e in omega (arith, no))
+    ] refl
+
+    at : (p : Step) → p ≡ s.slots.step → (s.slots.step ≡ Begin) × (2 ^ 64 ≤ s.slots.generation + 1)
+    at Begin is = (sym is, large (sym is))
+    at Close is = absurd (runs Close is (λ e. absurd (cc e)))
+    at SyncClose is = absurd (runs SyncClose is (λ e. absurd (cc e)))
+    at Part is = absurd (runs Part is (λ e. absurd (cc e)))
+    at Tail is = absurd (runs Tail is (λ e. absurd (cc e)))
+    at SyncBody is = absurd (runs SyncBody is (λ e. absurd (cc e)))
+    at Open is = absurd (runs Open is (λ e. absurd (cc e)))
+    at SyncOpen is = absurd (runs SyncOpen is (λ e. absurd (cc e)))

@@ -1,0 +1,11 @@
+use Rattle.std.proofs.Common.{ℕ}
+use Rattle.fp_session.specs.Session.{Proceeds}
+use Rattle.fp_session.proofs.Compactions.{work_left}
+use Rattle.fp_session.proofs.compacting.finish.Given as goal
+
+-- some steps were taken
+abbrev pub invariant-loop-store : goal.invariant-loop-store
+invariant-loop-store g l = Proceeds g.D.Disk l.initial.store l.store
+
+abbrev pub decreases-loop-store : goal.decreases-loop-store
+decreases-loop-store g l = work_left l.store

@@ -1,0 +1,92 @@
+//! Compactions: room for a batch, a step beside the batches, and the end of one.
+
+ghost use Rattle.std.specs.Prelude.{◌≡◌, ◌⊎◌, ◌<◌, ◌≤◌, length, IfErr, IfOk, OnErr, OnOk};
+ghost use Rattle.fp_disk.specs.Crashes.{AtAnyMoment, EachCrash, SameHonesty};
+ghost use Rattle.fp_disk.specs.History.{Makes};
+ghost use Rattle.fp_compaction.specs.Steps.{calls_of};
+ghost use Rattle.fp_recovery.specs.Room.{IsFullFor};
+ghost use Rattle.fp_recovery.specs.Stands.{StandsFor};
+ghost use Rattle.fp_slots.specs.declared.slots.Step.TheVariants.{Begin};
+ghost use Rattle.fp_group_commit.specs.Calls.{Compacts};
+ghost use Rattle.fp_group_commit.specs.Changes.{HasRoom, batch_len};
+ghost use Rattle.fp_group_commit.specs.Store.{IsAtRest, MayCompact, kept};
+ghost use Rattle.fp_session.specs.Session.{Halts, KeepsAll, Proceeds};
+ghost use Rattle.fp_session.specs.declared.commit.CommitFault.TheVariants.{StoreFailed};
+
+use crate::CommitFault;
+use fp_disk::Disk;
+use fp_group_commit::{Draw, Store, StoreFault};
+use fp_slots::Step;
+
+// Takes the next step.
+fn take_step<D: Disk>(store: &mut Store<D>) -> Result<(), CommitFault>
+    requires may { MayCompact store.old }
+    requires rest { IsAtRest store.old }
+    ensures ok { OnOk result (Compacts D.faults store.old store.new) }
+    ensures proceeds { OnOk result (Proceeds D.Disk store.old store.new) }
+    ensures halts { IfErr result (Halts D.Disk store.old store.new) }
+{
+    match store.compact_step() {
+        Ok(_next) => Ok(()),
+        Err(StoreFault::Device) => Err(CommitFault::StoreFailed),
+        Err(StoreFault::Memory) => Err(CommitFault::Memory),
+        Err(StoreFault::Failed) => unreachable!(),
+        Err(StoreFault::Stranger) => unreachable!(),
+    }
+}
+
+/// Takes steps until there is room for the draw. Where no generation is left for them it gives up.
+pub fn make_room<D: Disk>(store: &mut Store<D>, draw: &Draw) -> Result<(), CommitFault>
+    requires rest { IsAtRest store.old }
+    requires keeps { EachCrash D.Disk store.old.slots.journal.disk
+        (λ c. StandsFor c (kept store.old)) }
+    requires some { 0 < length draw.now.changes }
+    requires few { length draw.now.changes ≤ 64 }
+    ensures room { OnOk result (HasRoom store.new.slots draw.now) }
+    ensures proceeds { OnOk result (Proceeds D.Disk store.old store.new) }
+    ensures halts { IfErr result (λ f. Halts D.Disk store.old store.new f
+        ⊎ ((f ≡ StoreFailed) × Proceeds D.Disk store.old store.new
+        × EachCrash D.Disk store.new.slots.journal.disk
+        (λ c. IsFullFor c (kept store.new) (batch_len draw.now)))) }
+{
+    while !store.has_room(draw) {
+        if !store.may_compact() {
+            return Err(CommitFault::StoreFailed);
+        }
+        take_step(store)?;
+    }
+    Ok(())
+}
+
+/// Takes a step where a compaction runs, or begins one where less than a quarter of a slot is left.
+pub fn go_on<D: Disk>(store: &mut Store<D>) -> Result<(), CommitFault>
+    requires rest { IsAtRest store.old }
+    requires keeps { EachCrash D.Disk store.old.slots.journal.disk
+        (λ c. StandsFor c (kept store.old)) }
+    ensures proceeds { OnOk result (Proceeds D.Disk store.old store.new) }
+    ensures halts { IfErr result (Halts D.Disk store.old store.new) }
+{
+    let is_due = match store.step() {
+        Step::Begin => store.is_short(),
+        _ => true,
+    };
+    if is_due && store.may_compact() {
+        take_step(store)?;
+    }
+    Ok(())
+}
+
+/// Takes the steps of a compaction that runs, to its end.
+pub fn finish<D: Disk>(store: &mut Store<D>) -> Result<(), CommitFault>
+    requires rest { IsAtRest store.old }
+    requires keeps { EachCrash D.Disk store.old.slots.journal.disk
+        (λ c. StandsFor c (kept store.old)) }
+    ensures none_runs { OnOk result (store.new.slots.step ≡ Begin) }
+    ensures proceeds { OnOk result (Proceeds D.Disk store.old store.new) }
+    ensures halts { IfErr result (Halts D.Disk store.old store.new) }
+{
+    while !matches!(store.step(), Step::Begin) {
+        take_step(store)?;
+    }
+    Ok(())
+}

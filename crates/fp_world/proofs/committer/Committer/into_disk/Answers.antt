@@ -1,0 +1,19 @@
+use Rattle.std.proofs.Common.{subst}
+use Rattle.fp_edit.specs.Flags.{State}
+use Rattle.fp_recovery.specs.Stands.{StandsFor}
+use Rattle.fp_world.proofs.Goes as goes
+use Rattle.fp_world.proofs.Keeps as keeps
+use Rattle.fp_world.proofs.committer.Committer.into_disk.Goals as goal
+
+pub returns-clause-outcomes : goal.returns-clause-outcomes
+returns-clause-outcomes g c =
+    let i = c.self.invariant in
+    rw (← c.self.view_is) (λ h o out. keeps.leaves_kept c.self.inside.store c.self.inside.desk i.same c.self.inside.held i.out c.self.inside.told i.low o (c.into_disk.ensures.outcomes h o out))
+
+pub returns-clause-reads : goal.returns-clause-reads
+returns-clause-reads g c = rw (← c.self.view_is) c.into_disk.ensures.reads
+
+pub returns-clause-stands : goal.returns-clause-stands
+returns-clause-stands g c =
+    let D = g.D.Disk in let i = c.self.invariant in let s = c.self.inside.store in
+    rw (← c.self.view_is) (λ h well. subst (λ (t : State). StandsFor (D.bytes c.into_disk.result) t) (goes.reads_as s c.self.inside.desk c.self.inside.held c.self.inside.told i.same i.out) (c.into_disk.ensures.reads h (goes.well_is s.slots.journal.phase well)))

@@ -1,0 +1,64 @@
+use Rattle.std.proofs.Common.{List, ◌++◌, ◌∷◌, [], refl, sym, ap, subst, ◌∙◌}
+use Rattle.std.proofs.lemmas.List.{append-nil}
+use Rattle.fp_edit.specs.Edits.{Proposal, proposal_of}
+use Rattle.fp_desk.specs.Desk.{DeskState, IsAccepted, Refuses, TicketState, log}
+use Rattle.fp_world.specs.Commits.{Submits}
+use Rattle.fp_world.specs.Committer.{CommitterState, commits_of}
+use Rattle.fp_world.specs.declared.event.Answer.TheVariants as answer
+use Rattle.fp_world.proofs.Goes as goes
+use Rattle.fp_world.proofs.Keeps as keeps
+use Rattle.fp_world.proofs.Sound as sound
+use Rattle.fp_world.proofs.committer.Committer.submit.Goals as goal
+
+pub returns-in_default-clause-steps : goal.returns-in_default-clause-steps
+returns-in_default-clause-steps g c = rw (← c.self.view_is) refl
+
+pub returns-in_default-clause-exit : goal.returns-in_default-clause-exit
+returns-in_default-clause-exit g c = let D = g.D.Disk in let s = c.self.inside.store in let d = c.self.inside.desk in let h = c.self.inside.held in let told = c.self.inside.told in let i = c.self.invariant in rw (← c.self.view_is) (λ h0 o out. keeps.kept_now D.honest D.moment D.crash_states_since D.unsynced i h0 o out)
+
+pub returns-then-is_err-clause-steps : goal.returns-then-is_err-clause-steps
+returns-then-is_err-clause-steps g c = rw (← c.self.view_is) refl
+
+pub returns-then-is_err-clause-exit : goal.returns-then-is_err-clause-exit
+returns-then-is_err-clause-exit g c = let D = g.D.Disk in let s = c.self.inside.store in let d = c.self.inside.desk in let h = c.self.inside.held in let told = c.self.inside.told in let i = c.self.invariant in λ h0 o out. keeps.kept_now D.honest D.moment D.crash_states_since D.unsynced i h0 o out
+
+pub returns-in-Ok-submit-clause-steps : goal.returns-in-Ok-submit-clause-steps
+returns-in-Ok-submit-clause-steps g c =
+    let D = g.D.Disk in let s = c.self.inside.store in let d = c.self.inside.desk in let h = c.self.inside.held in let told = c.self.inside.told in let i = c.self.invariant in let n = c.submit.new.self in let e = c.in-Ok-submit.ensures in
+    rw (← c.self.view_is) (subst (λ (p : Proposal). IsAccepted d n p) c.in-Ok.ensures e.accepted, c.revision-revision.ensures ∙ e.revision, refl)
+
+pub returns-in_default-clause-log : goal.returns-in_default-clause-log
+returns-in_default-clause-log g c = sym (append-nil _)
+
+pub returns-then-is_err-clause-log : goal.returns-then-is_err-clause-log
+returns-then-is_err-clause-log g c = rw (← c.self.view_is) (sym (append-nil _))
+
+pub returns-clause-log : goal.returns-clause-log
+returns-clause-log g c = rw (← c.self.view_is) (ap log c.in-Err.ensures.unchanged ∙ sym (append-nil _))
+
+pub returns-in-Ok-submit-clause-log : goal.returns-in-Ok-submit-clause-log
+returns-in-Ok-submit-clause-log g c =
+    let d = c.self.inside.desk in let p = proposal_of c.in-Ok.edit in
+    rw (← c.self.view_is) (ap log c.in-Ok-submit.ensures.accepted.new_is ∙ keeps.log_more d p.change ∙ ap (λ (q : Proposal). log d ++ q.change ∷ []) c.in-Ok.ensures)
+
+pub returns-in-Ok-submit-clause-exit : goal.returns-in-Ok-submit-clause-exit
+returns-in-Ok-submit-clause-exit g c = λ h0 o out.
+    let D = g.D.Disk in let s = c.self.inside.store in let d = c.self.inside.desk in let h = c.self.inside.held in let told = c.self.inside.told in let i = c.self.invariant in let x = (proposal_of c.in-Ok.edit).change in let new = c.in-Ok-submit.ensures.accepted.new_is in
+    keeps.kept_more d c.submit.new.self (x ∷ []) told o (ap (λ (n : DeskState). n.store) new) (ap log new ∙ keeps.log_more d x) (keeps.kept_now D.honest D.moment D.crash_states_since D.unsynced i h0 o out)
+
+pub returns-clause-steps : goal.returns-clause-steps
+returns-clause-steps g c =
+    let s = c.self.inside.store in let d = c.self.inside.desk in let h = c.self.inside.held in let told = c.self.inside.told in let i = c.self.invariant in let e = c.in-Err.ensures in
+    let p = proposal_of c.args.edit.now in let f = c.in-Err.fault in
+    subst (λ (w : CommitterState g.row.D.Denot). Submits p (commits_of w) (answer.Refused f) (goes.At h s c.submit.new.self told)) c.self.view_is
+    (subst (λ (x : DeskState). Submits p (goes.At h s d told) (answer.Refused f) (goes.At h s x told)) (sym e.unchanged)
+    (goes.refuses f p (goes.At h s d told) i.open_desk (subst (λ (q : Proposal). Refuses d q f) c.in-Ok.ensures e.refused)))
+
+pub returns-clause-exit : goal.returns-clause-exit
+returns-clause-exit g c = let D = g.D.Disk in let s = c.self.inside.store in let d = c.self.inside.desk in let h = c.self.inside.held in let told = c.self.inside.told in let i = c.self.invariant in λ h0 o out. rw c.in-Err.ensures.unchanged (keeps.kept_now D.honest D.moment D.crash_states_since D.unsynced i h0 o out)
+
+pub invariant_of-self-in-Ok-submit : goal.invariant_of-self-in-Ok-submit
+invariant_of-self-in-Ok-submit g c =
+    let D = g.D.Disk in let e = c.in-Ok-submit.ensures in let t = c.in-Ok-submit.ticket in let accepted = e.accepted in
+    sound.submitted D.honest D.unsynced c.self.invariant c.submit.new.self (proposal_of c.in-Ok.edit).change t accepted.new_is e.revision c.push_reserved.new.self.items
+    (c.push_reserved.ensures.items ∙ ap (λ (l : List TicketState). l ++ t ∷ []) c.try_reserve.ensures.items)

@@ -1,0 +1,13 @@
+use Rattle.std.proofs.Common.{sym}
+use Rattle.fp_edit.specs.Log.{after}
+use Rattle.fp_desk.specs.Desk.{log}
+use Rattle.fp_world.proofs.Goes as goes
+use Rattle.fp_world.proofs.world.recover.Goals as goal
+
+pub returns-clause-kept : goal.returns-clause-kept
+returns-clause-kept g c = λ h desk told k.
+    goes.ok_map c.open.result _ _ (c.open.ensures.only h) (λ r only. (k.0, k.1, k.2, sym (only (after desk.store.start (log desk) k.0) k.3)))
+
+pub returns-clause-refused : goal.returns-clause-refused
+returns-clause-refused g c = λ h desk told k.
+    goes.err_map c.open.result _ _ (c.open.ensures.refused h) (λ e none. goes.wanting (g.D.Disk.bytes c.args.disk) (after desk.store.start (log desk) k.0) e.0 k.3 none)

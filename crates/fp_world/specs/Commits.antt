@@ -1,0 +1,170 @@
+-- The plain machine of the edits, from where they are handed in to where they are settled and told:
+-- a desk, and how far its drawn edits are. It has no disk.
+use Rattle.std.specs.Prelude.{◌≡◌, ◌≢◌, ◌⊎◌, ◌<◌, ◌≤◌, ◌+◌, ℕ, max, Bool, true, false, List, [], ◌∷◌, ◌++◌, length, if◌then◌else◌}
+use Rattle.fp_edit.specs.Edits.{Change, Proposal, proposal_of}
+use Rattle.fp_edit.specs.Flags.{State}
+use Rattle.fp_edit.specs.Following.{change_of}
+use Rattle.fp_edit.specs.Log.{after_all}
+use Rattle.fp_record.specs.Group.{Group}
+use Rattle.fp_record.specs.declared.batch.TheConstants.{MOST_EDITS}
+use Rattle.fp_group_commit.specs.Changes.{batch_len}
+use Rattle.fp_group_commit.specs.Tokens.{front_revision}
+use Rattle.fp_group_commit.specs.declared.fault.StoreFault.TheVariants as fault
+use Rattle.fp_desk.specs.Desk.{DeskState, IsAccepted, IsNewDraw, Refuses, log, settled_revision}
+use Rattle.fp_desk.specs.declared.fault.SubmitFault.TheVariants as submit
+use Rattle.fp_world.specs.declared.event.Answer.{Answer}
+use Rattle.fp_world.specs.declared.event.Answer.TheVariants as answer
+use Rattle.fp_world.specs.declared.event.Event.{Event}
+use Rattle.fp_world.specs.declared.event.Event.TheVariants as event
+
+-- how far the drawn edits are on their way
+pub data Progress : Type 0 where
+  nothing_drawn : Progress
+  batch_drawn : Progress
+  batch_staged : Progress
+  body_synced : Progress
+  gate_opened : Progress
+  batch_sealed : Progress
+
+-- The desk, how far its drawn edits are, whether the device failed, the most bytes of a batch's
+-- body and those left for batches, and the greatest revision that was told
+pub record Commits : Type 0 where
+  pub desk : DeskState
+  pub progress : Progress
+  pub failed : Bool
+  pub most : ℕ
+  pub room : ℕ
+  pub told : ℕ
+
+-- the revision that the last accepted edit makes
+abbrev pub last_revision : DeskState → ℕ
+last_revision d = d.store.start.revision + length (log d)
+
+-- the batch that the drawn edits make
+abbrev pub drawn_batch : DeskState → Group
+drawn_batch d = record { first = settled_revision d + 1; changes = d.drawn }
+
+-- the drawn edits wait to be written, make a batch, and there is room for it with its two gates
+pub record CanStage (m : Commits) : Type 0 where
+  pub drawn : m.progress ≡ batch_drawn
+  pub few : length m.desk.drawn ≤ MOST_EDITS
+  pub short : batch_len (drawn_batch m.desk) ≤ m.most
+  pub room : batch_len (drawn_batch m.desk) + 6 ≤ m.room
+
+-- what was drawn is settled
+abbrev pub all_settled : DeskState → DeskState
+all_settled d = record d { settled = d.settled ++ d.drawn; drawn = [] }
+
+-- ---- from old, the machine may give this answer to an event and go on to new
+-- the edit stands at the end of the log, or the first reason against it is told
+abbrev pub Submits : Proposal → Commits → Answer → Commits → Type 0
+Submits edit old (answer.Ticket revision) new =
+    IsAccepted old.desk new.desk edit × (revision ≡ last_revision new.desk)
+    × (new ≡ record old { desk = new.desk })
+Submits edit old (answer.Refused submit.Memory) new = new ≡ old
+Submits edit old (answer.Refused submit.Stopped) new = ⊥
+Submits edit old (answer.Refused submit.QueueFull) new = (new ≡ old)
+    × Refuses old.desk edit submit.QueueFull
+Submits edit old (answer.Refused (submit.Edit f)) new = (new ≡ old)
+    × Refuses old.desk edit (submit.Edit f)
+Submits edit old _ new = ⊥
+
+-- the longest first part of what waits is drawn, where nothing is and something waits
+abbrev pub DrawsNext : Commits → Answer → Commits → Type 0
+DrawsNext old (answer.Drawn count) new = (group : Group) × IsNewDraw old.desk new.desk group
+    × (count ≡ length group.changes)
+    × (new ≡ record old { desk = new.desk; progress = batch_drawn })
+DrawsNext old answer.Memory new = (new ≡ old) × (old.desk.drawn ≡ []) × (old.desk.waiting ≢ [])
+DrawsNext old answer.NotNow new = (new ≡ old) × ((old.desk.drawn ≢ []) ⊎ (old.desk.waiting ≡ []))
+DrawsNext old _ new = ⊥
+
+-- A call of the disk that takes the drawn edits from one point of their way to the next, where it
+-- may be made. A device that fails leaves them where they are; once it has failed nothing is done
+abbrev pub Advances : (Commits → Type 0) → Progress → Commits → Answer → Commits → Type 0
+Advances May to old answer.Done new =
+    (old.failed ≡ false) × May old × (new ≡ record old { progress = to })
+Advances May to old (answer.Fault fault.Device) new =
+    (old.failed ≡ false) × May old × (new ≡ record old { failed = true })
+Advances May to old (answer.Fault fault.Failed) new = (old.failed ≡ true) × (new ≡ old)
+Advances May to old answer.NotNow new = (old.failed ≡ false) × (May old → ⊥) × (new ≡ old)
+Advances May to old _ new = ⊥
+
+abbrev pub IsAt : Progress → Commits → Type 0
+IsAt point m = m.progress ≡ point
+
+-- the drawn edits are written. Only this call takes memory
+abbrev pub Stages : Commits → Answer → Commits → Type 0
+Stages old (answer.Fault fault.Memory) new = (old.failed ≡ false) × CanStage old × (new ≡ old)
+Stages old a new = Advances CanStage batch_staged old a new
+
+-- all that is drawn is sealed. Its batch takes its bytes, a gate and its length
+abbrev pub Seals : Commits → Answer → Commits → Type 0
+Seals old (answer.Sealed revision) new = (old.failed ≡ false) × (old.progress ≡ gate_opened)
+    × (revision ≡ settled_revision old.desk + length old.desk.drawn)
+    × (new.room + batch_len (drawn_batch old.desk) + 5 ≡ old.room)
+    × (new ≡ record old { progress = batch_sealed; room = new.room })
+Seals old answer.Done new = ⊥
+Seals old a new = Advances (IsAt gate_opened) batch_sealed old a new
+
+-- all that is sealed is settled
+abbrev pub Settles : Commits → Answer → Commits → Type 0
+Settles old (answer.Settled revision) new = (old.progress ≡ batch_sealed)
+    × (revision ≡ settled_revision old.desk + length old.desk.drawn)
+    × (new ≡ record old { desk = all_settled old.desk; progress = nothing_drawn })
+Settles old answer.Memory new = (old.progress ≡ batch_sealed) × (new ≡ old)
+Settles old answer.NotNow new = (old.progress ≢ batch_sealed) × (new ≡ old)
+Settles old _ new = ⊥
+
+-- the editor of the edit that makes this revision hears whether it is settled
+abbrev pub Tells : ℕ → Commits → Answer → Commits → Type 0
+Tells revision old (answer.Acked told) new = (told ≡ revision)
+    × (old.desk.store.start.revision < revision) × (revision ≤ settled_revision old.desk)
+    × (new ≡ record old { told = max old.told revision })
+Tells revision old answer.Waiting new =
+    (settled_revision old.desk < revision) × (revision ≤ last_revision old.desk) × (new ≡ old)
+Tells revision old answer.NotNow new =
+    ((revision ≤ old.desk.store.start.revision) ⊎ (last_revision old.desk < revision)) × (new ≡ old)
+Tells revision old _ new = ⊥
+
+-- What is published isn't its affair
+abbrev pub CommitStep : Commits → Event → Answer → Commits → Type 0
+CommitStep old (event.Submit edit) a new = Submits (proposal_of edit) old a new
+CommitStep old event.Draw a new = DrawsNext old a new
+CommitStep old event.Stage a new = Stages old a new
+CommitStep old event.SyncBody a new = Advances (IsAt batch_staged) body_synced old a new
+CommitStep old event.OpenGate a new = Advances (IsAt body_synced) gate_opened old a new
+CommitStep old event.SyncGate a new = Seals old a new
+CommitStep old event.Settle a new = Settles old a new
+CommitStep old (event.Ack revision) a new = Tells revision old a new
+CommitStep old event.Publish a new = (a ≡ answer.NotNow) × (new ≡ old)
+CommitStep old (event.Hand seat) a new = (a ≡ answer.NotNow) × (new ≡ old)
+CommitStep old (event.Evaluate reader request now) a new = (a ≡ answer.NotNow) × (new ≡ old)
+
+-- ---- what the answers alone say
+-- the accepted edits: those that were answered by a ticket
+abbrev pub accepted_by : Event → Answer → List Change
+accepted_by (event.Submit edit) (answer.Ticket revision) = change_of edit ∷ []
+accepted_by e a = []
+
+-- the greatest revision that was acknowledged, handed or answered
+abbrev pub told_after : ℕ → Answer → ℕ
+told_after told (answer.Acked revision) = max told revision
+told_after told (answer.Handed handed) = max told (front_revision handed)
+told_after told (answer.Reply revision reply) = max told revision
+told_after told a = told
+
+-- ---- what opening the disk gives, where no call of it failed
+-- the drawn edits are read once their gate was opened
+abbrev pub is_read : Progress → Bool
+is_read nothing_drawn = false
+is_read batch_drawn = false
+is_read batch_staged = false
+is_read body_synced = false
+is_read gate_opened = true
+is_read batch_sealed = true
+
+abbrev pub read_edits : Commits → List Change
+read_edits m = if is_read m.progress then m.desk.settled ++ m.desk.drawn else m.desk.settled
+
+abbrev pub opened_set : Commits → State
+opened_set m = after_all m.desk.store.start (read_edits m)
