@@ -8,8 +8,11 @@ use crate::{commands, damage, disk, eval, event, journal, parts, world};
 const ON_BYTES: [&str; 9] = [
     "hold", "write", "read", "text", "len", "sync", "cut", "keep", "back",
 ];
+
 const ON_FAULTS: [&str; 5] = ["fuse", "fail", "calm", "crash", "calls"];
+
 const ON_WORLD: [&str; 7] = ["create", "open", "close", "show", "marks", "size", "room"];
+
 const ON_EVENTS: [&str; 7] = [
     "draw",
     "stage",
@@ -19,11 +22,17 @@ const ON_EVENTS: [&str; 7] = [
     "settle",
     "ack",
 ];
+
 const ON_EDITS: [&str; 5] = ["submit", "submits", "edit", "with", "batch"];
+
 const ON_PARTS: [&str; 3] = ["stop", "stray", "receipt"];
+
 const ON_INPUT: [&str; 3] = ["input", "last", "raw"];
+
 const ON_COMMANDS: [&str; 4] = ["init", "apply", "import", "shown"];
+
 const ON_SLOTS: [&str; 2] = ["chain", "slot"];
+
 const ON_DAMAGE: [&str; 2] = ["flips", "seeds"];
 
 fn understood(trial: &mut Trial, word: &str, args: &mut Args<'_>) -> Answer {

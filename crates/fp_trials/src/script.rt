@@ -119,6 +119,7 @@ fn run_block(trial: &mut Trial, block: &mut Block, out: &mut Text) {
 
 // The words of commands that can't stand in a block.
 const OVER_FILES: [&str; 4] = ["$", "load", "save", "rounds"];
+
 const OF_BOARD: [&str; 13] = [
     "board",
     "end-board",
