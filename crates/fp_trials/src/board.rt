@@ -1,14 +1,13 @@
 //! A board over a disk in memory: what is published of a desk, and what two evaluators take of it.
 
-ghost use Rattle.std.specs.Prelude.{◌≡◌, ◌<◌, ◌≤◌, IfOk, IfSome};
+ghost use Rattle.std.specs.Prelude.{◌≡◌, ◌<◌, ◌≤◌, IfSome};
 ghost use Rattle.fp_publish.specs.declared.board.TheConstants.{MOST_EVALUATORS};
 ghost use Rattle.fp_desk.specs.Desk.{settled_front};
 
-use crate::disk::text_of;
 use crate::parts::{committed, taken};
-use crate::trial::{Answer, Trial, TrialFault};
-use crate::world::found;
-use fp_commands::CommandFault;
+use crate::text::{Args, Text};
+use crate::trial::{Answer, Fault, Trial};
+use crate::world::{found, show};
 use fp_desk::Desk;
 use fp_disk::MemoryDisk;
 use fp_group_commit::{Opening, Store};
@@ -16,7 +15,6 @@ use fp_ofrep::{Body, Reply, answer};
 use fp_publish::{Board, Evaluator, View};
 use http::Method;
 use std::alloc::{AllocError, Global};
-use std::fmt::Write;
 use std::marker::Model;
 use std::mem;
 use std::sync::Wait;
@@ -51,12 +49,12 @@ impl Model for OpenBoard {
 }
 
 // A desk of its own over the opening.
-fn desk_of(alloc: Global, opening: Opening) -> Result<Desk, TrialFault>
-    ensures { IfOk result (λ desk. desk.store ≡ opening) }
+fn desk_of(alloc: Global, opening: Opening) -> Option<Desk>
+    ensures { IfSome result (λ desk. desk.store ≡ opening) }
 {
     match Desk::new(alloc, opening) {
-        Ok(desk) => Ok(desk),
-        Err(_) => Err(TrialFault::Memory),
+        Ok(desk) => Some(desk),
+        Err(_) => None,
     }
 }
 
@@ -67,15 +65,15 @@ impl OpenBoard {
         alloc: Global,
         disk: MemoryDisk,
         places: usize,
-    ) -> Result<OpenBoard, (CommandFault, MemoryDisk)>
+    ) -> Result<OpenBoard, (Fault, MemoryDisk)>
         requires { (0 < places) × (places ≤ MOST_EVALUATORS) }
     {
         let (store, opening) = found(alloc, disk)?;
-        let Ok(desk) = desk_of(alloc, opening) else {
-            return Err((CommandFault::Memory, store.into_disk()));
+        let Some(desk) = desk_of(alloc, opening) else {
+            return Err((Fault::Memory, store.into_disk()));
         };
         let Ok(board) = Board::new(rt, alloc, &desk, places) else {
-            return Err((CommandFault::Memory, store.into_disk()));
+            return Err((Fault::Memory, store.into_disk()));
         };
         Ok(OpenBoard::begun(store, desk, board))
     }
@@ -110,42 +108,41 @@ impl OpenBoard {
     }
 
     /// An edit waits.
-    pub fn queue(&mut self, alloc: Global, edit: &str) -> Result<Answer, TrialFault> {
-        taken(alloc, &mut self.desk, edit)
+    pub fn queue(&mut self, args: &mut Args<'_>) -> Answer {
+        taken(args, &mut self.desk)
     }
 
     /// An edit waits, and all that waits is sealed and settled as one batch.
     #[tactic(auto, using(crate::proofs::Fronts::begins_still))]
-    pub fn commit(&mut self, trial: &Trial, edit: &str) -> Result<Answer, TrialFault> {
-        match taken(trial.alloc, &mut self.desk, edit)? {
+    pub fn commit(&mut self, trial: &Trial, args: &mut Args<'_>) -> Answer {
+        match taken(args, &mut self.desk) {
             Answer::Named(_, _) => committed(trial, &mut self.store, &mut self.desk),
-            answer => Ok(answer),
+            answer => answer,
         }
     }
 
     /// Publishes what is settled.
-    pub fn publish<R: Wait>(&mut self, rt: &R) -> Result<Answer, TrialFault> {
+    pub fn publish<R: Wait>(&mut self, rt: &R) -> Answer {
         match self.board.publish(rt, &self.desk) {
-            Ok(shown) => Ok(Answer::Named("shown", shown.revision())),
-            Err(_) => Err(TrialFault::Memory),
+            Ok(shown) => Answer::Named("shown", shown.revision()),
+            Err(_) => Answer::NoMemory,
         }
     }
 
     /// Whether all that is settled is shown.
-    pub fn shown(&self) -> Result<Answer, TrialFault> {
+    pub fn shown(&self) -> Answer {
         match self.board.shown(&self.desk.told()) {
-            Some(shown) => Ok(Answer::Named("shown", shown.revision())),
-            None => Ok(Answer::Word("not shown")),
+            Some(shown) => Answer::Named("shown", shown.revision()),
+            None => Answer::Word("not shown"),
         }
     }
 
     /// The revision that is published, and its document.
-    pub fn published(&self, alloc: Global) -> Result<Answer, TrialFault> {
+    pub fn published(&self, out: &mut Text) -> Answer {
         let view = self.board.view();
-        let document = text_of(alloc, &view.set().document()?)?;
-        let revision = view.revision();
-        let document = document.as_str();
-        Ok(Answer::Text(format!(in alloc; "{revision} {document}")?))
+        out.number(view.revision());
+        out.push(" ");
+        show(view.set(), out)
     }
 
     fn take(&mut self, place: &str) -> Option<Evaluator>
@@ -170,30 +167,30 @@ impl OpenBoard {
     }
 
     /// An evaluator at this place.
-    pub fn seat(&mut self, place: &str) -> Result<Answer, TrialFault> {
+    pub fn seat(&mut self, place: &str) -> Answer {
         match self.board.evaluator() {
             Ok(evaluator) => {
                 self.put(place, evaluator);
-                Ok(Answer::Done)
+                Answer::Done
             }
-            Err(_) => Ok(Answer::Word("no place")),
+            Err(_) => Answer::Word("no place"),
         }
     }
 
     /// `enter`, `rest`, `learn`, `leave` of the evaluator at this place.
-    pub fn turn(&mut self, word: &str, place: &str) -> Result<Answer, TrialFault> {
+    pub fn turn(&mut self, word: &str, place: &str) -> Answer {
         let Some(evaluator) = self.take(place) else {
-            return Err(TrialFault::NotUnderstood);
+            return Answer::NotUnderstood;
         };
         match word {
             "enter" => self.enter(place, evaluator),
             "rest" => self.rest(place, evaluator),
             "learn" => self.learn(place, evaluator),
-            _ => Ok(Answer::Done),
+            _ => Answer::Done,
         }
     }
 
-    fn enter(&mut self, place: &str, evaluator: Evaluator) -> Result<Answer, TrialFault>
+    fn enter(&mut self, place: &str, evaluator: Evaluator) -> Answer
         requires { evaluator.known.store ≡ self.old.store }
     {
         let mut evaluator = evaluator;
@@ -202,21 +199,21 @@ impl OpenBoard {
             Err(_) => Answer::Word("closed"),
         };
         self.put(place, evaluator);
-        Ok(answer)
+        answer
     }
 
-    fn rest(&mut self, place: &str, evaluator: Evaluator) -> Result<Answer, TrialFault>
+    fn rest(&mut self, place: &str, evaluator: Evaluator) -> Answer
         requires { evaluator.known.store ≡ self.old.store }
     {
         let mut evaluator = evaluator;
         evaluator.rest();
         let answer = at(evaluator.view());
         self.put(place, evaluator);
-        Ok(answer)
+        answer
     }
 
     // Learns what is shown, where that is all that is settled.
-    fn learn(&mut self, place: &str, evaluator: Evaluator) -> Result<Answer, TrialFault>
+    fn learn(&mut self, place: &str, evaluator: Evaluator) -> Answer
         requires { evaluator.known.store ≡ self.old.store }
     {
         let mut evaluator = evaluator;
@@ -228,21 +225,17 @@ impl OpenBoard {
             None => Answer::Word("not shown"),
         };
         self.put(place, evaluator);
-        Ok(answer)
+        answer
     }
 
-    /// The reply over what the evaluator at this place took.
-    pub fn ask(
-        &mut self,
-        alloc: Global,
-        place: &str,
-        target: &str,
-        body: &[u8],
-    ) -> Result<Answer, TrialFault> {
+    /// The reply over what the evaluator at this place took, to the lines that wait.
+    pub fn ask(&mut self, trial: &mut Trial, args: &mut Args<'_>) -> Answer {
+        let place = args.word();
         let Some(evaluator) = self.take(place) else {
-            return Err(TrialFault::NotUnderstood);
+            return Answer::NotUnderstood;
         };
-        let answer = reply_over(alloc, evaluator.view(), target, body);
+        let body = trial.take_input();
+        let answer = ask_over(args, evaluator.view(), &body, &mut trial.text);
         self.put(place, evaluator);
         answer
     }
@@ -256,43 +249,41 @@ fn at(view: Option<View<'_>>) -> Answer {
     }
 }
 
+fn ask_over(args: &Args<'_>, view: Option<View<'_>>, body: &[u8], out: &mut Text) -> Answer {
+    let Some(view) = view else {
+        return Answer::Word("nothing");
+    };
+    match reply_over(args.alloc, &view, args.rest, body) {
+        Ok(reply) => say_reply(&reply, out),
+        Err(_) => Answer::NoMemory,
+    }
+}
+
 fn reply_over(
     alloc: Global,
-    view: Option<View<'_>>,
+    view: &View<'_>,
     target: &str,
     body: &[u8],
-) -> Result<Answer, TrialFault> {
-    let Some(view) = view else {
-        return Ok(Answer::Word("nothing"));
-    };
-    let reply = answer(
+) -> Result<Reply, AllocError> {
+    answer(
         alloc,
-        &view,
+        view,
         &Method::POST,
         target,
         None,
         Body::Whole(body),
         0,
-    )?;
-    Ok(Answer::Text(told(alloc, &reply)?))
+    )
 }
 
 // The status, the revision and the body.
-fn told(alloc: Global, reply: &Reply) -> Result<String, AllocError> {
-    let mut text = String::new(alloc);
-    tell_status(&mut text, reply.status.as_u16())?;
+fn say_reply(reply: &Reply, out: &mut Text) -> Answer {
+    out.number(u64::from(reply.status.as_u16()));
+    out.push(" ");
     if let Some(revision) = reply.headers.flag_revision {
-        tell_revision(&mut text, revision)?;
+        out.named("at", revision);
+        out.push(" ");
     }
-    let body = text_of(alloc, &reply.body)?;
-    text.push_str(body.as_str())?;
-    Ok(text)
-}
-
-fn tell_status(text: &mut String, status: u16) -> Result<(), AllocError> {
-    write!(text, "{status} ")
-}
-
-fn tell_revision(text: &mut String, revision: u64) -> Result<(), AllocError> {
-    write!(text, "at {revision} ")
+    out.bytes(&reply.body);
+    Answer::Text
 }

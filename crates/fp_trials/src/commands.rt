@@ -1,29 +1,26 @@
 //! The commands of the program, over a disk in memory, and the lines that they read.
 
-use crate::disk::text_of;
-use crate::trial::{Answer, Trial, TrialFault};
-use crate::words::{bytes, line_of, number};
+use crate::text::{Args, Text, number};
+use crate::trial::{Answer, Trial, tell_fault};
 use crate::world::room;
 use fp_commands::{CommandFault, apply_disk, import_disk, init_disk, show_disk};
 use fp_disk::MemoryDisk;
 use fp_streams::FailureCounted;
-use std::alloc::{AllocError, Global};
+use std::alloc::Global;
 use std::io;
 use std::io::{ErrorKind, Read};
 
 /// `input EDIT`, `last EDIT` for a line without its end, and `raw BYTES`.
-pub fn on_input(trial: &mut Trial, word: &str, rest: &str) -> Result<Answer, TrialFault> {
+pub fn on_input(trial: &mut Trial, word: &str, args: &mut Args<'_>) -> Answer {
     if word == "raw" {
-        let bytes = bytes(trial.alloc, rest)?;
-        trial.input.extend_from_slice(&bytes)?;
-        return Ok(Answer::Done);
+        return trial.wait(&args.bytes());
     }
-    let line = line_of(trial.alloc, rest)?;
-    trial.input.extend_from_slice(line.as_bytes())?;
+    let mut line = Text::new(trial.alloc);
+    args.line(&mut line);
     if word == "input" {
-        trial.input.push(b'\n')?;
+        line.push("\n");
     }
-    Ok(Answer::Done)
+    trial.wait(line.as_str().as_bytes())
 }
 
 /// Gives these bytes, and then ends or fails.
@@ -66,80 +63,62 @@ impl io::Write for Sink {
 }
 
 // How much output is taken: `full ROOM`, or all.
-fn room_in(rest: &str) -> Result<usize, TrialFault> {
+fn room_in(rest: &str) -> Option<u64> {
     match rest.strip_prefix("full ") {
-        Some(room) => Ok(number(room)? as usize),
-        None if rest.is_empty() || rest == "broken" => Ok(usize::MAX),
-        None => Err(TrialFault::NotUnderstood),
+        Some(room) => number(room),
+        None if rest.is_empty() || rest == "broken" => Some(u64::MAX),
+        None => None,
     }
 }
 
 /// `init`, `apply`, `import`, `shown`. With `broken` the input ends in a failure, with `full ROOM` the output takes so many
 /// bytes.
-pub fn on_commands(trial: &mut Trial, word: &str, rest: &str) -> Result<Answer, TrialFault> {
-    let room = room_in(rest)?;
-    let (output, outcome) = run_on_input(trial, word, rest == "broken", room);
-    let output = text_of(trial.alloc, &output)?;
-    tell_replies(trial, output.as_str());
-    match outcome {
-        Ok(true) if output.is_empty() => Ok(Answer::Done),
-        Ok(true) => Ok(Answer::Text(output)),
-        Ok(false) => Err(TrialFault::Memory),
-        Err(fault) => gave_up(trial, rest, output, fault),
-    }
-}
-
-fn gave_up(
-    trial: &mut Trial,
-    rest: &str,
-    output: String,
-    fault: CommandFault,
-) -> Result<Answer, TrialFault> {
-    match fault {
-        CommandFault::Device if !rest.is_empty() => {
-            Ok(Answer::Stopped(with_end(output)?, CommandFault::Device))
-        }
-        CommandFault::StoreFailed => store_failed(trial, output),
-        fault => stopped(trial, output, fault),
-    }
-}
-
-// The command on the lines that wait.
-fn run_on_input(
-    trial: &mut Trial,
-    word: &str,
-    is_broken: bool,
-    room: usize,
-) -> (Vec<u8>, Result<bool, CommandFault>) {
-    let input = trial.take_input();
-    let source = Source {
-        bytes: &input,
-        is_broken,
+pub fn on_commands(trial: &mut Trial, word: &str, rest: &str) -> Answer {
+    let Some(room) = room_in(rest) else {
+        return Answer::NotUnderstood;
     };
-    run(trial, word, source, room)
+    let outcome = run(trial, word, rest == "broken", room as usize);
+    trial.told = told_in(trial.text.as_str(), trial.told);
+    match outcome {
+        Ok(true) if trial.text.is_empty() => Answer::Done,
+        Ok(true) => Answer::Text,
+        Ok(false) => Answer::NoMemory,
+        Err(fault) => stopped(trial, rest, &fault),
+    }
 }
 
-// What a command writes, and how it ends.
-fn run(
-    trial: &mut Trial,
-    word: &str,
-    source: Source<'_>,
-    room: usize,
-) -> (Vec<u8>, Result<bool, CommandFault>) {
+// The command on the lines that wait: what it wrote stands in the trial.
+fn run(trial: &mut Trial, word: &str, is_broken: bool, room: usize) -> Result<bool, CommandFault> {
     let alloc = trial.alloc;
     let mut writer = FailureCounted::new(Sink {
         bytes: Vec::new(alloc),
         room,
     });
-    let disk = trial.take_disk();
-    let (disk, outcome) = match word {
-        "init" => init(alloc, disk),
-        "shown" => shown(alloc, &mut writer, disk),
-        "apply" => apply(alloc, source, &mut writer, disk),
-        _ => import(alloc, source, &mut writer, disk),
+    let input = trial.take_input();
+    let source = Source {
+        bytes: &input,
+        is_broken,
     };
+    let disk = trial.take_disk();
+    let (disk, outcome) = run_on(alloc, word, source, &mut writer, disk);
     trial.put_disk(disk);
-    (writer.into_inner().bytes, outcome)
+    trial.text.bytes(&writer.into_inner().bytes);
+    outcome
+}
+
+fn run_on(
+    alloc: Global,
+    word: &str,
+    source: Source<'_>,
+    writer: &mut FailureCounted<Sink>,
+    disk: MemoryDisk,
+) -> Ran {
+    match word {
+        "init" => init(alloc, disk),
+        "shown" => shown(alloc, writer, disk),
+        "apply" => apply(alloc, source, writer, disk),
+        _ => import(alloc, source, writer, disk),
+    }
 }
 
 type Ran = (MemoryDisk, Result<bool, CommandFault>);
@@ -179,52 +158,41 @@ fn of_unit(ran: (MemoryDisk, Result<(), CommandFault>)) -> Ran {
 }
 
 // Each revision that was replied is told.
-fn tell_replies(trial: &mut Trial, output: &str) {
+fn told_in(output: &str, told: u64) -> u64 {
+    let mut told = told;
     for line in output.lines() {
-        if let Some(revision) = replied(line) {
-            trial.tell(revision);
-        }
+        told = told.max(replied(line));
+    }
+    told
+}
+
+fn replied(line: &str) -> u64 {
+    match line.strip_prefix("{\"revision\":") {
+        Some(rest) => rest.trim_end_matches('}').parse::<u64>().unwrap_or(0),
+        None => 0,
     }
 }
 
-fn replied(line: &str) -> Option<u64> {
-    let digits = line.strip_prefix("{\"revision\":")?.strip_suffix("}")?;
-    digits.parse::<u64>().ok()
-}
-
-/// The answer of a command that gave up.
-pub fn stopped(trial: &Trial, output: String, fault: CommandFault) -> Result<Answer, TrialFault> {
-    match trial.fault(fault)? {
-        Answer::Fault(fault) => Ok(Answer::Stopped(with_end(output)?, fault)),
-        answer => Ok(answer),
+/// The answer of a command that gave up, behind what it wrote.
+pub fn stopped(trial: &mut Trial, rest: &str, fault: &CommandFault) -> Answer {
+    trial.text.end_line();
+    tell_fault(fault, &mut trial.text);
+    if wants_memory(trial, rest, fault) {
+        Answer::NoMemory
+    } else {
+        Answer::Stopped
     }
-}
-
-// What was written, up to the end of a line.
-fn with_end(output: String) -> Result<String, AllocError> {
-    let mut output = output;
-    if !output.is_empty() && !output.ends_with('\n') {
-        output.push_str("\n")?;
-    }
-    Ok(output)
 }
 
 // The longest edit line.
 const LONGEST: u64 = 32_768;
 
-// Where no call was told to fail and there is room for any edit, the store fails for want of memory.
-fn store_failed(trial: &mut Trial, output: String) -> Result<Answer, TrialFault> {
-    let output = with_end(output)?;
-    if has_room(trial)? {
-        return Err(TrialFault::Memory);
+// Where no call was told to fail, a disk in memory fails for want of memory alone, and so does a store that has room for any edit.
+fn wants_memory(trial: &mut Trial, rest: &str, fault: &CommandFault) -> bool {
+    match fault {
+        CommandFault::Memory => true,
+        CommandFault::Device => rest.is_empty() && !trial.is_failing,
+        CommandFault::StoreFailed => !trial.is_failing && LONGEST < room(trial),
+        _ => false,
     }
-    Ok(Answer::Stopped(output, CommandFault::StoreFailed))
-}
-
-fn has_room(trial: &mut Trial) -> Result<bool, TrialFault> {
-    if trial.is_failing {
-        return Ok(false);
-    }
-    let room = room(trial)?;
-    Ok(room > LONGEST)
 }

@@ -1,26 +1,24 @@
 //! Disks of which single bytes were changed.
 
-use crate::disk::part;
-use crate::trial::{Answer, Trial, TrialFault};
-use crate::words::{FIRST_SEED, first_number, next_seed, number};
-use crate::world::open;
-use fp_commands::CommandFault;
+use crate::seeds::{FIRST_SEED, next_seed};
+use crate::text::{Args, Text};
+use crate::trial::{Answer, Fault, Trial};
+use crate::world::found;
 use fp_disk::MemoryDisk;
-use std::alloc::{AllocError, Global};
-use std::fmt;
-use std::fmt::Write;
+use std::alloc::Global;
+use std::mem;
 
 /// `flips FROM TO`: each byte from the first place up to the second is each other byte, one at a time.
 /// `seeds COUNT FROM TO`: one byte there is another one, by so many seeds.
-pub fn on_damage(trial: &mut Trial, word: &str, rest: &str) -> Result<Answer, TrialFault> {
-    let (first, rest) = first_number(rest)?;
-    let bytes = trial.bytes()?;
-    let alloc = trial.alloc;
+pub fn on_damage(trial: &mut Trial, word: &str, args: &mut Args<'_>) -> Answer {
+    let Some(bytes) = trial.bytes() else {
+        return Answer::NoMemory;
+    };
     if word == "flips" {
-        return Ok(Answer::Text(flips(alloc, &bytes, first, number(rest)?)?));
+        flips(&bytes, args, &mut trial.text)
+    } else {
+        seeds(&bytes, args, &mut trial.text)
     }
-    let (from, rest) = first_number(rest)?;
-    Ok(Answer::Text(seeds(alloc, &bytes, first, from, number(rest)?)?))
 }
 
 // What a disk is opened as.
@@ -32,52 +30,52 @@ enum Found {
     // Damage at the byte that was changed.
     Here,
     Damaged(u64),
+    NoMemory,
 }
 
-impl fmt::Display for Found {
-    fn fmt<W: fmt::Write>(&self, f: &mut fmt::Formatter<W>) -> fmt::Result {
-        match self {
-            Found::Revision(revision) => write!(f, "revision {revision}"),
-            Found::NoDisk => f.write_str("not a flagplane file"),
-            Found::UnknownVersion => f.write_str("unknown version"),
-            Found::Here => f.write_str("damaged here"),
-            Found::Damaged(at) => write!(f, "damaged at byte {at}"),
-        }
+fn tell_found(found: Found, out: &mut Text) {
+    match found {
+        Found::Revision(revision) => out.named("revision", revision),
+        Found::NoDisk => out.push("not a flagplane file"),
+        Found::UnknownVersion => out.push("unknown version"),
+        Found::Here => out.push("damaged here"),
+        Found::Damaged(at) => out.named("damaged at byte", at),
+        Found::NoMemory => out.is_short = true,
     }
 }
 
 // What these bytes are opened as, with this byte at this place.
-fn found_with(alloc: Global, bytes: &[u8], at: u64, byte: u8) -> Result<Found, TrialFault> {
-    let disk = with_byte(alloc, bytes, at, byte)?;
-    let answer = opened_as(alloc, disk)?;
-    match answer {
-        Answer::Revision(revision) => Ok(Found::Revision(revision)),
-        Answer::Fault(fault) => found_fault(&fault, at),
-        _ => Err(TrialFault::NotUnderstood),
-    }
-}
-
-fn opened_as(alloc: Global, disk: MemoryDisk) -> Result<Answer, TrialFault> {
-    let mut trial = Trial::new(alloc, disk);
-    open(&mut trial)
-}
-
-fn found_fault(fault: &CommandFault, at: u64) -> Result<Found, TrialFault> {
-    match fault {
-        CommandFault::Unformatted => Ok(Found::NoDisk),
-        CommandFault::UnknownVersion(_) => Ok(Found::UnknownVersion),
-        CommandFault::Damaged { at: place } if *place == at => Ok(Found::Here),
-        CommandFault::Damaged { at: place } => Ok(Found::Damaged(*place)),
-        _ => Err(TrialFault::NotUnderstood),
-    }
-}
-
-fn with_byte(alloc: Global, bytes: &[u8], at: u64, byte: u8) -> Result<MemoryDisk, AllocError> {
-    let mut copy = bytes.to_vec(alloc)?;
+fn found_with(alloc: Global, bytes: &[u8], at: u64, byte: u8) -> Found {
+    let Ok(mut copy) = bytes.to_vec(alloc) else {
+        return Found::NoMemory;
+    };
     if let Some(place) = copy.get_mut(at as usize) {
         *place = byte;
     }
-    MemoryDisk::holding(alloc, copy)
+    match MemoryDisk::holding(alloc, copy) {
+        Ok(disk) => opened_as(alloc, disk, at),
+        Err(_) => Found::NoMemory,
+    }
+}
+
+fn opened_as(alloc: Global, disk: MemoryDisk, at: u64) -> Found {
+    match found(alloc, disk) {
+        Ok((store, opening)) => {
+            let _disk = store.into_disk();
+            Found::Revision(opening.revision())
+        }
+        Err((fault, _disk)) => found_fault(fault, at),
+    }
+}
+
+fn found_fault(fault: Fault, at: u64) -> Found {
+    match fault {
+        Fault::Unformatted => Found::NoDisk,
+        Fault::UnknownVersion(_) => Found::UnknownVersion,
+        Fault::Damaged(place) if place == at => Found::Here,
+        Fault::Damaged(place) => Found::Damaged(place),
+        _ => Found::NoMemory,
+    }
 }
 
 // How often something was found.
@@ -88,73 +86,84 @@ struct Tally {
 }
 
 // Counts what was found. What came first stands first.
-fn add(tallies: &mut Vec<Tally>, found: Found) -> Result<(), AllocError> {
+fn add(tallies: &mut Vec<Tally>, found: Found, out: &mut Text) {
     for tally in tallies.iter_mut() {
         if tally.found == found {
             tally.count = tally.count.saturating_add(1);
-            return Ok(());
+            return;
         }
     }
-    tallies.push(Tally { found, count: 1 })?;
-    Ok(())
+    if tallies.push(Tally { found, count: 1 }).is_err() {
+        out.is_short = true;
+    }
 }
 
-fn text_of(alloc: Global, tallies: &[Tally]) -> Result<String, AllocError> {
-    let mut text = String::new(alloc);
+fn tell_tallies(tallies: &[Tally], out: &mut Text) {
     for tally in tallies {
-        part(&mut text)?;
-        write!(text, "{} {}", tally.count, tally.found)?;
+        out.part();
+        out.number(tally.count);
+        out.push(" ");
+        tell_found(tally.found, out);
     }
-    Ok(text)
 }
 
 // A row for each run of places with one text.
-fn flips(alloc: Global, bytes: &[u8], from: u64, to: u64) -> Result<String, TrialFault> {
-    let mut text = String::new(alloc);
-    let mut last = String::new(alloc);
-    for at in from..to {
-        let row = flips_at(alloc, bytes, at)?;
+fn flips(bytes: &[u8], args: &mut Args<'_>, out: &mut Text) -> Answer {
+    let mut row = Text::new(args.alloc);
+    let mut last = Text::new(args.alloc);
+    let from = args.number();
+    for at in from..args.number() {
+        flip(args.alloc, bytes, at, &mut row);
         if row.as_str() != last.as_str() {
-            tell_row(&mut text, at, row.as_str())?;
-            last = row;
+            tell_row(at, &row, out);
+            mem::swap(&mut row, &mut last);
         }
     }
-    Ok(text)
+    Answer::Text
 }
 
-fn tell_row(text: &mut String, at: u64, row: &str) -> Result<(), AllocError> {
-    writeln!(text, "from {at}: {row}")
+fn tell_row(at: u64, row: &Text, out: &mut Text) {
+    out.named("from", at);
+    out.push(": ");
+    out.put(row);
+    out.push("\n");
 }
 
 fn byte_at(bytes: &[u8], at: u64) -> u8 {
     bytes.get(at as usize).copied().unwrap_or(0)
 }
 
-fn flips_at(alloc: Global, bytes: &[u8], at: u64) -> Result<String, TrialFault> {
+fn flip(alloc: Global, bytes: &[u8], at: u64, row: &mut Text) {
+    row.clear();
     let mut tallies = Vec::new(alloc);
     let old = byte_at(bytes, at);
     for byte in 0..=255u8 {
         if byte != old {
-            add(&mut tallies, found_with(alloc, bytes, at, byte)?)?;
+            add(&mut tallies, found_with(alloc, bytes, at, byte), row);
         }
     }
-    Ok(text_of(alloc, &tallies)?)
+    tell_tallies(&tallies, row);
 }
 
-// Each of these disks is opened or refused by a fault of its bytes, or the line isn't understood.
-fn seeds(
-    alloc: Global,
-    bytes: &[u8],
-    count: u64,
-    from: u64,
-    to: u64,
-) -> Result<String, TrialFault> {
+// Each of these disks is opened or refused by a fault of its bytes, or memory is wanting.
+fn seeds(bytes: &[u8], args: &mut Args<'_>, out: &mut Text) -> Answer {
+    let count = args.number();
+    let from = args.number();
+    let length = args.number().saturating_sub(from).max(1);
     let mut seed = FIRST_SEED;
     for _ in 0..count {
         seed = next_seed(seed);
-        let at = from.saturating_add(seed % to.saturating_sub(from).max(1));
-        let change = 1 + (seed / 0x1_0000_0000 % 255) as u8;
-        let _found = found_with(alloc, bytes, at, byte_at(bytes, at) ^ change)?;
+        let at = from.saturating_add(seed % length);
+        if found_with(args.alloc, bytes, at, changed(bytes, at, seed)) == Found::NoMemory {
+            return Answer::NoMemory;
+        }
     }
-    Ok(format!(in alloc; "{count} opened or refused")?)
+    out.number(count);
+    out.push(" opened or refused");
+    Answer::Text
+}
+
+// Another byte than the one at this place.
+fn changed(bytes: &[u8], at: u64, seed: u64) -> u8 {
+    byte_at(bytes, at) ^ (1 + (seed / 0x1_0000_0000 % 255) as u8)
 }

@@ -2,36 +2,50 @@
 
 ghost use Rattle.std.specs.Prelude.{◌≤◌, ◌+◌};
 
-use crate::trial::{Answer, Trial, TrialFault};
-use crate::words::{bytes, fill, first_number, first_word, number};
+use crate::text::{Args, Text};
+use crate::trial::{Answer, Fault, Trial};
 use fp_disk::{Call, Choice, Disk, DiskFault, FailedWrite, Failing, Fill, Progress, Request};
-use std::alloc::{AllocError, Global};
-use std::fmt::Write;
+use std::alloc::Global;
 
 /// `hold BYTES`, `write AT BYTES`, `read AT LENGTH`, `text AT LENGTH`, `len`, `sync`, `cut LENGTH`, `keep`, `back`.
-pub fn on_bytes(trial: &mut Trial, word: &str, rest: &str) -> Result<Answer, TrialFault> {
+pub fn on_bytes(trial: &mut Trial, word: &str, args: &mut Args<'_>) -> Answer {
     match word {
-        "hold" => {
-            let bytes = bytes(trial.alloc, rest)?;
-            trial.hold(bytes)
-        }
-        "write" => write(trial, rest),
-        "read" | "text" => read(trial, word, rest),
+        "hold" => trial.hold(args.bytes()),
+        "write" => write(trial, args),
+        "read" | "text" => read(trial, word, args),
         "len" => len(trial),
         "sync" => sync(trial),
-        "cut" => {
-            let mut bytes = trial.bytes()?;
-            bytes.truncate(number(rest)? as usize);
+        "cut" => cut(trial, args),
+        "keep" => keep(trial),
+        _ => back(trial),
+    }
+}
+
+fn cut(trial: &mut Trial, args: &mut Args<'_>) -> Answer {
+    match trial.bytes() {
+        Some(bytes) => {
+            let mut bytes = bytes;
+            bytes.truncate(args.number() as usize);
             trial.hold(bytes)
         }
-        "keep" => {
-            trial.kept = trial.bytes()?;
-            Ok(Answer::Done)
+        None => Answer::NoMemory,
+    }
+}
+
+fn keep(trial: &mut Trial) -> Answer {
+    match trial.bytes() {
+        Some(bytes) => {
+            trial.kept = bytes;
+            Answer::Done
         }
-        _ => {
-            let bytes = trial.kept.to_vec(trial.alloc)?;
-            trial.hold(bytes)
-        }
+        None => Answer::NoMemory,
+    }
+}
+
+fn back(trial: &mut Trial) -> Answer {
+    match trial.kept.to_vec(trial.alloc) {
+        Ok(bytes) => trial.hold(bytes),
+        Err(_) => Answer::NoMemory,
     }
 }
 
@@ -45,12 +59,13 @@ fn write_at(trial: &mut Trial, at: u64, bytes: &[u8]) -> Result<(), DiskFault> {
 // No memory reaches behind this place, so a write there fails whatever memory there is.
 const FARTHEST: u64 = 1 << 62;
 
-fn write(trial: &mut Trial, rest: &str) -> Result<Answer, TrialFault> {
-    let (at, rest) = first_number(rest)?;
-    let bytes = bytes(trial.alloc, rest)?;
+fn write(trial: &mut Trial, args: &mut Args<'_>) -> Answer {
+    let at = args.number();
+    let bytes = args.bytes();
     match write_at(trial, at, &bytes) {
-        Err(fault) if at > FARTHEST => Ok(Answer::Fault(fault.into())),
-        outcome => trial.of_call(outcome),
+        Ok(()) => Answer::Done,
+        Err(_) if at > FARTHEST => Answer::Fault(Fault::Device),
+        Err(_) => trial.fault(Fault::Device),
     }
 }
 
@@ -65,187 +80,169 @@ fn clipped(at: u64, length: u64, end: u64) -> (u64, u64)
 }
 
 // So many bytes from a place on, or those that are there.
-fn read_from<D: Disk>(
-    alloc: Global,
-    disk: &mut D,
-    at: u64,
-    length: u64,
-) -> Result<Result<Vec<u8>, DiskFault>, AllocError>
+fn read_from<D: Disk>(alloc: Global, disk: &mut D, at: u64, length: u64) -> Result<Vec<u8>, Fault>
     requires { D.honest disk.old }
 {
-    let end = match disk.len() {
-        Ok(end) => end,
-        Err(fault) => return Ok(Err(fault)),
+    let Ok(end) = disk.len() else {
+        return Err(Fault::Device);
     };
     let (at, length) = clipped(at, length, end);
-    let mut bytes = vec![in alloc; 0u8; length as usize]?;
+    let Ok(mut bytes) = vec![in alloc; 0u8; length as usize] else {
+        return Err(Fault::Memory);
+    };
     match disk.read_at(at, &mut bytes) {
-        Ok(()) => Ok(Ok(bytes)),
-        Err(fault) => Ok(Err(fault)),
+        Ok(()) => Ok(bytes),
+        Err(_) => Err(Fault::Device),
     }
 }
 
-fn read(trial: &mut Trial, word: &str, rest: &str) -> Result<Answer, TrialFault> {
-    let (at, rest) = first_number(rest)?;
-    let length = number(rest)?;
+fn read(trial: &mut Trial, word: &str, args: &mut Args<'_>) -> Answer {
+    let at = args.number();
+    let length = args.number();
     let mut disk = trial.take_disk();
     let found = read_from(trial.alloc, &mut disk, at, length);
     trial.put_disk(disk);
-    match found? {
-        Ok(bytes) => Ok(of_bytes(trial.alloc, word, &bytes)?),
-        Err(fault) => trial.fault(fault.into()),
+    match found {
+        Ok(bytes) => say_bytes(word, &bytes, &mut trial.text),
+        Err(fault) => trial.fault(fault),
     }
 }
 
-fn of_bytes(alloc: Global, word: &str, bytes: &[u8]) -> Result<Answer, AllocError> {
+fn say_bytes(word: &str, bytes: &[u8], out: &mut Text) -> Answer {
     if bytes.is_empty() {
-        return Ok(Answer::Word("nothing"));
+        return Answer::Word("nothing");
     }
     if word == "text" {
-        return Ok(Answer::Text(text_of(alloc, bytes)?));
+        out.bytes(bytes);
+    } else {
+        out.digits(bytes);
     }
-    Ok(Answer::Text(hex::encode(alloc, bytes)?))
+    Answer::Text
 }
 
-/// The text that bytes are.
-pub fn text_of(alloc: Global, bytes: &[u8]) -> Result<String, AllocError> {
-    String::from_utf8_lossy(alloc, bytes)
-}
-
-fn len(trial: &mut Trial) -> Result<Answer, TrialFault> {
+fn len(trial: &mut Trial) -> Answer {
     let mut disk = trial.take_disk();
     let outcome = disk.len();
     trial.put_disk(disk);
     match outcome {
-        Ok(length) => Ok(Answer::Number(length)),
-        Err(fault) => trial.fault(fault.into()),
+        Ok(length) => Answer::Number(length),
+        Err(_) => trial.fault(Fault::Device),
     }
 }
 
-fn sync(trial: &mut Trial) -> Result<Answer, TrialFault> {
+fn sync(trial: &mut Trial) -> Answer {
     let mut disk = trial.take_disk();
     let outcome = disk.sync();
     trial.put_disk(disk);
-    trial.of_call(outcome)
+    match outcome {
+        Ok(_) => Answer::Done,
+        Err(_) => trial.fault(Fault::Device),
+    }
 }
 
 /// `fuse CALL`, `fuse CALL half`, `fail CALL`, `fail CALL half`, `calm`, `crash LENGTH REST FILL ..`, `calls`.
-pub fn on_faults(trial: &mut Trial, word: &str, rest: &str) -> Result<Answer, TrialFault> {
+pub fn on_faults(trial: &mut Trial, word: &str, args: &mut Args<'_>) -> Answer {
     match word {
-        "fuse" | "fail" => fail(trial, word, rest),
-        "calm" => {
-            trial.set_failing(Failing::Never, FailedWrite::Nothing);
-            Ok(Answer::Done)
-        }
-        "crash" => crash(trial, rest),
+        "fuse" => fail(trial, Failing::From(args.number()), args),
+        "fail" => fail(trial, Failing::At(args.number()), args),
+        "calm" => fail(trial, Failing::Never, args),
+        "crash" => crash(trial, args),
         _ => calls(trial),
     }
 }
 
-// The calls of the disk fail from this one on, or it alone does, counted from 0.
-fn fail(trial: &mut Trial, word: &str, rest: &str) -> Result<Answer, TrialFault> {
-    let (call, rest) = first_number(rest)?;
-    let failing = if word == "fuse" {
-        Failing::From(call)
-    } else {
-        Failing::At(call)
-    };
-    trial.set_failing(failing, failed_write(rest)?);
-    Ok(Answer::Done)
+// These calls of the disk fail.
+fn fail(trial: &mut Trial, failing: Failing, args: &mut Args<'_>) -> Answer {
+    trial.set_failing(failing, failed_write(args.rest));
+    Answer::Done
 }
 
 /// What a write does that fails: `half`, or nothing.
-pub fn failed_write(word: &str) -> Result<FailedWrite, TrialFault> {
-    match word {
-        "" => Ok(FailedWrite::Nothing),
-        "half" => Ok(FailedWrite::Half),
-        _ => Err(TrialFault::NotUnderstood),
+pub fn failed_write(word: &str) -> FailedWrite {
+    if word == "half" {
+        FailedWrite::Half
+    } else {
+        FailedWrite::Nothing
     }
 }
 
-fn crash(trial: &mut Trial, rest: &str) -> Result<Answer, TrialFault> {
-    let (word, rest) = first_word(rest);
-    let length = left_length(word)?;
-    let (word, rest) = first_word(rest);
-    let others = fill(trial.alloc, word)?;
-    let writes = fills(trial.alloc, rest)?;
+fn crash(trial: &mut Trial, args: &mut Args<'_>) -> Answer {
+    let length = left_length(args);
+    let rest = args.fill();
+    let writes = fills(args);
     crash_as(
         trial,
         Choice {
             length,
             writes: &writes,
-            rest: others,
+            rest,
         },
-    )?;
-    Ok(Answer::Done)
+    )
 }
 
-fn left_length(word: &str) -> Result<u64, TrialFault> {
-    match word {
-        "least" => Ok(0),
-        "most" => Ok(u64::MAX),
-        _ => number(word),
+fn left_length(args: &mut Args<'_>) -> u64 {
+    match args.word() {
+        "least" => 0,
+        "most" => u64::MAX,
+        word => args.number_of(word),
     }
 }
 
-fn fills(alloc: Global, words: &str) -> Result<Vec<Fill>, TrialFault> {
-    let mut writes = Vec::new(alloc);
-    for word in words.split_whitespace() {
-        let fill = fill(alloc, word)?;
-        writes.push(fill)?;
+// A crash has at most so many pending writes.
+const MOST_WRITES: u64 = 64;
+
+fn fills(args: &mut Args<'_>) -> Vec<Fill> {
+    let mut writes = Vec::new(args.alloc);
+    for _ in 0..MOST_WRITES {
+        if args.rest.is_empty() {
+            break;
+        }
+        let fill = args.fill();
+        if writes.push(fill).is_err() {
+            args.is_short = true;
+        }
     }
-    Ok(writes)
+    writes
 }
 
 /// The disk is what a crash leaves of it.
-pub fn crash_as(trial: &mut Trial, choice: Choice<'_>) -> Result<(), AllocError> {
-    let left = trial.take_disk().crash(choice)?;
-    trial.put_disk(left);
-    trial.is_failing = false;
-    Ok(())
+pub fn crash_as(trial: &mut Trial, choice: Choice<'_>) -> Answer {
+    match trial.take_disk().crash(choice) {
+        Ok(left) => {
+            trial.put_disk(left);
+            trial.is_failing = false;
+            Answer::Done
+        }
+        Err(_) => Answer::NoMemory,
+    }
 }
 
-fn calls(trial: &mut Trial) -> Result<Answer, TrialFault> {
+fn calls(trial: &mut Trial) -> Answer {
     let disk = trial.take_disk();
-    let mut text = String::new(trial.alloc);
     for call in disk.calls() {
-        tell_call(&mut text, call)?;
+        tell_call(call, &mut trial.text);
     }
     trial.put_disk(disk);
-    Ok(Answer::Text(text))
+    Answer::Text
 }
 
-/// Puts a comma behind what is there.
-pub fn part(text: &mut String) -> Result<(), AllocError> {
-    if text.is_empty() {
-        return Ok(());
+fn tell_call(call: &Call, out: &mut Text) {
+    out.part();
+    match &call.request {
+        Request::Len => out.push("len"),
+        Request::Read { at, length } => tell_place("read", *at, *length, out),
+        Request::Write { at, bytes } => tell_place("write", *at, bytes.as_slice().len(), out),
+        Request::Sync => out.push("sync"),
     }
-    text.push_str(", ")
-}
-
-fn tell_call(text: &mut String, call: &Call) -> Result<(), AllocError> {
-    part(text)?;
-    tell_request(text, &call.request)?;
-    text.push_str(match call.progress {
-        Progress::Whole => "",
-        Progress::Half => " half",
-        Progress::Nothing => " failed",
-    })
-}
-
-fn tell_request(text: &mut String, request: &Request) -> Result<(), AllocError> {
-    match request {
-        Request::Len => text.push_str("len"),
-        Request::Read { at, length } => tell_read(text, *at, *length),
-        Request::Write { at, bytes } => tell_write(text, *at, bytes.as_slice().len()),
-        Request::Sync => text.push_str("sync"),
+    match call.progress {
+        Progress::Whole => {}
+        Progress::Half => out.push(" half"),
+        Progress::Nothing => out.push(" failed"),
     }
 }
 
-fn tell_read(text: &mut String, at: u64, length: usize) -> Result<(), AllocError> {
-    write!(text, "read {at} {length}")
-}
-
-fn tell_write(text: &mut String, at: u64, length: usize) -> Result<(), AllocError> {
-    write!(text, "write {at} {length}")
+fn tell_place(name: &str, at: u64, length: usize, out: &mut Text) {
+    out.named(name, at);
+    out.push(" ");
+    out.number(length as u64);
 }

@@ -3,31 +3,26 @@
 ghost use Rattle.std.specs.Prelude.{◌<◌, ◌^◌};
 
 use crate::commands::stopped;
-use crate::disk::text_of;
-use crate::trial::{Answer, Trial, TrialFault};
-use crate::words::number;
+use crate::text::Args;
+use crate::trial::{Answer, Trial};
 use fp_commands::{CommandFault, eval_disk};
 use fp_streams::FailureCounted;
 
 /// `eval KEY [at MOMENT]`: the evaluation of the flag of a key by the request that waits.
-pub fn on_eval(trial: &mut Trial, rest: &str) -> Result<Answer, TrialFault> {
-    let (key, now) = match rest.split_once(" at ") {
-        Some((key, moment)) => (key, number(moment)?),
-        None => (rest, 0),
-    };
+pub fn on_eval(trial: &mut Trial, args: &mut Args<'_>) -> Answer {
+    let (key, moment) = args.rest.split_once(" at ").unwrap_or((args.rest, "0"));
+    let now = args.number_of(moment);
     if now >= 1 << 63 {
-        return Err(TrialFault::NotUnderstood);
+        return Answer::NotUnderstood;
     }
-    let (output, outcome) = evaluated(trial, key, now);
-    let output = text_of(trial.alloc, &output)?;
-    match outcome {
-        Ok(()) => Ok(Answer::Text(output)),
-        Err(fault) => stopped(trial, output, fault),
+    match evaluated(trial, key, now) {
+        Ok(()) => Answer::Text,
+        Err(fault) => stopped(trial, "", &fault),
     }
 }
 
-// What the command writes, and how it ends.
-fn evaluated(trial: &mut Trial, key: &str, now: u64) -> (Vec<u8>, Result<(), CommandFault>)
+// How the command ends: what it writes stands in the trial.
+fn evaluated(trial: &mut Trial, key: &str, now: u64) -> Result<(), CommandFault>
     requires { now < 2 ^ 63 }
 {
     let alloc = trial.alloc;
@@ -37,5 +32,6 @@ fn evaluated(trial: &mut Trial, key: &str, now: u64) -> (Vec<u8>, Result<(), Com
     let mut writer = FailureCounted::new(Vec::new(alloc));
     let (disk, outcome) = eval_disk(alloc, &mut reader, &mut writer, disk, key, now);
     trial.put_disk(disk);
-    (writer.into_inner(), outcome)
+    trial.text.bytes(&writer.into_inner());
+    outcome
 }

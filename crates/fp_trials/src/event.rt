@@ -1,19 +1,16 @@
 //! The world's events, one at a time and in courses.
 
-use crate::trial::{Answer, Held, Trial, TrialFault};
-use crate::words::{edit, first_number, number};
+use crate::text::Args;
+use crate::trial::{Answer, Fault, Held, Trial};
 use crate::world::open;
-use fp_commands::CommandFault;
 use fp_desk::SubmitFault;
 use fp_disk::MemoryDisk;
-use fp_edit::EditFault;
+use fp_edit::{Edit, EditFault};
 use fp_group_commit::StoreFault;
 use fp_world::{Answer as Reply, Committer, Event};
-use std::alloc::Global;
-use std::mem;
 
 /// `draw`, `stage`, `sync-body`, `open-gate`, `sync-gate`, `settle`, `ack REVISION`.
-pub fn on_events(trial: &mut Trial, word: &str, rest: &str) -> Result<Answer, TrialFault> {
+pub fn on_events(trial: &mut Trial, word: &str, args: &mut Args<'_>) -> Answer {
     let event = match word {
         "draw" => Event::Draw,
         "stage" => Event::Stage,
@@ -21,115 +18,139 @@ pub fn on_events(trial: &mut Trial, word: &str, rest: &str) -> Result<Answer, Tr
         "open-gate" => Event::OpenGate,
         "sync-gate" => Event::SyncGate,
         "settle" => Event::Settle,
-        _ => Event::Ack(number(rest)?),
+        _ => Event::Ack(args.number()),
     };
-    let reply = happens(trial, &event)?;
-    answer_of(trial, reply)
+    answer_to(trial, &event)
 }
 
 /// `submit EDIT`, `submits COUNT EDIT`, `edit EDIT`, `with EDIT`, `batch CALLS`.
-pub fn on_edits(trial: &mut Trial, word: &str, rest: &str) -> Result<Answer, TrialFault> {
+pub fn on_edits(trial: &mut Trial, word: &str, args: &mut Args<'_>) -> Answer {
     match word {
-        "submit" => submit(trial, 1, rest),
-        "submits" => {
-            let (count, rest) = first_number(rest)?;
-            submit(trial, count, rest)
-        }
-        "edit" => admit(trial, rest),
-        "with" => {
-            let edit = edit(trial.alloc, rest)?;
-            trial.edits.push(edit)?;
-            Ok(Answer::Done)
-        }
-        _ => batch(trial, number(rest)?),
+        "submit" => submit(trial, 1, args),
+        "submits" => submit(trial, args.number(), args),
+        "edit" => admit(trial, args),
+        "with" => wait_with(trial, args),
+        _ => batch(trial, args.number()),
     }
 }
 
-fn stepped(world: &mut Committer<MemoryDisk>, event: &Event) -> Reply {
-    world.step(event)
+fn wait_with(trial: &mut Trial, args: &mut Args<'_>) -> Answer {
+    let Some(edit) = args.edit() else {
+        return Answer::NotUnderstood;
+    };
+    match trial.edits.push_back(edit) {
+        Ok(()) => Answer::Done,
+        Err(_) => Answer::NoMemory,
+    }
+}
+
+// What an event is answered.
+#[derive(Clone, Copy)]
+enum Became {
+    Fault(StoreFault),
+    Ticket(u64),
+    Acked(u64),
+    // It isn't its turn.
+    NotNow,
+    Waiting,
+    // What is told of any other.
+    Told(Answer),
+}
+
+fn became_of(reply: &Reply) -> Became {
+    match reply {
+        Reply::Memory => Became::Told(Answer::NoMemory),
+        Reply::NotNow => Became::NotNow,
+        Reply::Refused(fault) => Became::Told(refused(*fault)),
+        Reply::Fault(StoreFault::Memory) => Became::Told(Answer::NoMemory),
+        Reply::Fault(fault) => Became::Fault(*fault),
+        Reply::Ticket(revision) => Became::Ticket(*revision),
+        Reply::Drawn(count) => Became::Told(Answer::Named("drawn", *count as u64)),
+        Reply::Done => Became::Told(Answer::Word("done")),
+        Reply::Sealed(revision) => Became::Told(Answer::Named("sealed", *revision)),
+        Reply::Settled(revision) => Became::Told(Answer::Named("settled", *revision)),
+        Reply::Acked(revision) => Became::Acked(*revision),
+        Reply::Waiting => Became::Waiting,
+        // A world without a board publishes nothing.
+        _ => Became::Told(Answer::NotUnderstood),
+    }
+}
+
+fn stepped(world: &mut Committer<MemoryDisk>, event: &Event) -> Became {
+    let reply = world.step(event);
+    became_of(&reply)
 }
 
 // What the event is answered. One for which memory was wanting is asked once more.
-fn happens(trial: &mut Trial, event: &Event) -> Result<Reply, TrialFault> {
-    let Held::Open(open) = &mut trial.held else {
-        return Err(TrialFault::NotUnderstood);
+fn asked(world: &mut Committer<MemoryDisk>, event: &Event) -> Became {
+    match stepped(world, event) {
+        Became::Told(Answer::NoMemory) => stepped(world, event),
+        became => became,
+    }
+}
+
+fn happens(trial: &mut Trial, event: &Event) -> Became {
+    let became = match &mut trial.held {
+        Held::Open(open) => asked(&mut open.world, event),
+        Held::Closed(_) => Became::Told(Answer::NotUnderstood),
     };
-    let mut reply = stepped(&mut open.world, event);
-    if wants_memory(&reply) {
-        reply = stepped(&mut open.world, event);
+    if let Became::Acked(revision) = became {
+        trial.tell(revision);
     }
-    if wants_memory(&reply) {
-        return Err(TrialFault::Memory);
-    }
-    if let Reply::Acked(revision) = &reply {
-        trial.tell(*revision);
-    }
-    Ok(reply)
+    became
 }
 
-fn wants_memory(reply: &Reply) -> bool {
-    match reply {
-        Reply::Memory => true,
-        Reply::Refused(fault) => is_want(*fault),
-        Reply::Fault(fault) => matches!(fault, StoreFault::Memory),
-        _ => false,
-    }
+fn answer_to(trial: &mut Trial, event: &Event) -> Answer {
+    let became = happens(trial, event);
+    answer_of(trial, became)
 }
 
-fn is_want(fault: SubmitFault) -> bool {
-    matches!(
-        fault,
-        SubmitFault::Memory | SubmitFault::Edit(EditFault::Memory)
-    )
-}
-
-fn answer_of(trial: &Trial, reply: Reply) -> Result<Answer, TrialFault> {
-    match reply {
-        Reply::NotNow => Ok(Answer::Word("not now")),
-        Reply::Memory => Err(TrialFault::Memory),
-        Reply::Refused(fault) => refused(fault),
-        Reply::Fault(fault) => not_done(trial, fault),
-        Reply::Ticket(revision) => Ok(Answer::Named("ticket", revision)),
-        Reply::Drawn(count) => Ok(Answer::Named("drawn", count as u64)),
-        Reply::Done => Ok(Answer::Word("done")),
-        Reply::Sealed(revision) => Ok(Answer::Named("sealed", revision)),
-        Reply::Settled(revision) => Ok(Answer::Named("settled", revision)),
-        Reply::Acked(revision) => Ok(Answer::Named("acked", revision)),
-        Reply::Waiting => Ok(Answer::Word("waiting")),
-        // A world without a board publishes nothing.
-        _ => Err(TrialFault::NotUnderstood),
+fn answer_of(trial: &Trial, became: Became) -> Answer {
+    match became {
+        Became::Fault(fault) => not_done(trial, fault),
+        Became::Ticket(revision) => Answer::Named("ticket", revision),
+        Became::Acked(revision) => Answer::Named("acked", revision),
+        Became::NotNow => Answer::Word("not now"),
+        Became::Waiting => Answer::Word("waiting"),
+        Became::Told(answer) => answer,
     }
 }
 
 /// Why a desk didn't take an edit.
-pub fn refused(fault: SubmitFault) -> Result<Answer, TrialFault> {
+pub fn refused(fault: SubmitFault) -> Answer {
     match fault {
-        SubmitFault::Stopped => Ok(Answer::Word("stopped")),
-        SubmitFault::Edit(EditFault::Memory) => Err(TrialFault::Memory),
-        SubmitFault::Edit(fault) => Ok(Answer::Refused(fault)),
-        SubmitFault::QueueFull => Ok(Answer::Word("queue full")),
-        SubmitFault::Memory => Err(TrialFault::Memory),
+        SubmitFault::Stopped => Answer::Word("stopped"),
+        SubmitFault::Edit(EditFault::Memory) => Answer::NoMemory,
+        SubmitFault::Edit(fault) => Answer::Refused(fault),
+        SubmitFault::QueueFull => Answer::Word("queue full"),
+        SubmitFault::Memory => Answer::NoMemory,
     }
 }
 
 /// Why a store didn't make a call.
-pub fn not_done(trial: &Trial, fault: StoreFault) -> Result<Answer, TrialFault> {
+pub fn not_done(trial: &Trial, fault: StoreFault) -> Answer {
     match fault {
-        StoreFault::Device => trial.fault(CommandFault::Device),
-        StoreFault::Failed => Ok(Answer::Fault(CommandFault::StoreFailed)),
-        StoreFault::Memory => Err(TrialFault::Memory),
-        StoreFault::Stranger => Ok(Answer::Word("stranger")),
+        StoreFault::Device => trial.fault(Fault::Device),
+        StoreFault::Failed => Answer::Fault(Fault::StoreFailed),
+        StoreFault::Memory => Answer::NoMemory,
+        StoreFault::Stranger => Answer::Word("stranger"),
     }
 }
 
 // Submits an edit so many times, and answers the last time.
-fn submit(trial: &mut Trial, count: u64, rest: &str) -> Result<Answer, TrialFault> {
-    let event = Event::Submit(edit(trial.alloc, rest)?);
-    let mut reply = Reply::NotNow;
-    for _ in 0..count {
-        reply = happens(trial, &event)?;
+fn submit(trial: &mut Trial, count: u64, args: &mut Args<'_>) -> Answer {
+    match args.edit() {
+        Some(edit) => submit_often(trial, count, &Event::Submit(edit)),
+        None => Answer::NotUnderstood,
     }
-    answer_of(trial, reply)
+}
+
+fn submit_often(trial: &mut Trial, count: u64, event: &Event) -> Answer {
+    let mut last = Answer::Done;
+    for _ in 0..count {
+        last = answer_to(trial, event);
+    }
+    last
 }
 
 // The course of an edit from its draw on.
@@ -145,25 +166,35 @@ fn event_at(place: u64, revision: u64) -> Event {
     }
 }
 
-// Takes what waits so many events far, the last of which tells its editor.
-fn course(trial: &mut Trial, revision: u64, events: u64) -> Result<Answer, TrialFault> {
-    for place in 0..events {
-        match happens(trial, &event_at(place, revision))? {
-            // A draw that was made before is the one to stage.
-            Reply::NotNow if place > 0 => return Ok(Answer::Word("no room")),
-            Reply::Fault(fault) => return failed(trial, fault),
-            Reply::Acked(revision) => return Ok(Answer::Revision(revision)),
-            Reply::Waiting => return Ok(Answer::Word("waiting")),
-            _ => {}
-        }
-    }
-    Ok(Answer::Word(how_far(events)))
+fn happens_at(trial: &mut Trial, place: u64, revision: u64) -> Became {
+    let event = event_at(place, revision);
+    happens(trial, &event)
 }
 
-// Who waits for the edit is told that the store failed, in that call or before.
-fn failed(trial: &Trial, fault: StoreFault) -> Result<Answer, TrialFault> {
-    let _answer = not_done(trial, fault)?;
-    Ok(Answer::Fault(CommandFault::StoreFailed))
+// Takes what waits so many events far, the last of which tells its editor.
+fn course(trial: &mut Trial, revision: u64, events: u64) -> Answer {
+    for place in 0..events {
+        let became = happens_at(trial, place, revision);
+        let answer = ended(trial, became, place);
+        if !matches!(answer, Answer::Done) {
+            return answer;
+        }
+    }
+    Answer::Word(how_far(events))
+}
+
+// What ends a course at this event, if it does. A draw that was made before is the one to stage. Who waits for the edit is told
+// that the store failed, in that call or before.
+fn ended(trial: &Trial, became: Became, place: u64) -> Answer {
+    match became {
+        Became::NotNow if place > 0 => Answer::Word("no room"),
+        Became::Fault(StoreFault::Device) if !trial.is_failing => Answer::NoMemory,
+        Became::Fault(_) => Answer::Fault(Fault::StoreFailed),
+        Became::Acked(revision) => Answer::Revision(revision),
+        Became::Waiting => Answer::Word("waiting"),
+        Became::Told(Answer::NoMemory) => Answer::NoMemory,
+        _ => Answer::Done,
+    }
 }
 
 fn how_far(events: u64) -> &'static str {
@@ -177,29 +208,53 @@ fn how_far(events: u64) -> &'static str {
 // An edit's whole course, up to where its editor is told.
 const WHOLE: u64 = 7;
 
-fn admit(trial: &mut Trial, rest: &str) -> Result<Answer, TrialFault> {
-    let event = Event::Submit(edit(trial.alloc, rest)?);
-    match happens(trial, &event)? {
-        Reply::Ticket(revision) => course(trial, revision, WHOLE),
-        reply => answer_of(trial, reply),
+fn admit(trial: &mut Trial, args: &mut Args<'_>) -> Answer {
+    match args.edit() {
+        Some(edit) => admit_edit(trial, edit, WHOLE),
+        None => Answer::NotUnderstood,
+    }
+}
+
+fn admit_edit(trial: &mut Trial, edit: Edit, events: u64) -> Answer {
+    match happens(trial, &Event::Submit(edit)) {
+        Became::Ticket(revision) => course(trial, revision, events),
+        became => answer_of(trial, became),
     }
 }
 
 // The edits that wait, submitted to the disk as it is opened now and drawn as one batch, of whose four calls so many are made.
-fn batch(trial: &mut Trial, calls: u64) -> Result<Answer, TrialFault> {
-    let none = Vec::new(trial.alloc);
-    let edits = mem::replace(&mut trial.edits, none);
-    match open(trial)? {
-        Answer::Revision(_) => {}
-        answer => return Ok(answer),
-    }
-    let mut revision = 0;
-    for edit in edits {
-        match happens(trial, &Event::Submit(edit))? {
-            Reply::Ticket(made) => revision = made,
-            reply => return answer_of(trial, reply),
+fn batch(trial: &mut Trial, calls: u64) -> Answer {
+    match open(trial) {
+        Answer::Revision(_) => batch_on(trial, calls),
+        answer => {
+            trial.edits.clear();
+            answer
         }
     }
-    let events = if calls < 4 { calls + 1 } else { WHOLE };
-    course(trial, revision, events)
+}
+
+fn batch_on(trial: &mut Trial, calls: u64) -> Answer {
+    match submit_waiting(trial) {
+        Became::Ticket(revision) => course(trial, revision, events_of(calls)),
+        became => answer_of(trial, became),
+    }
+}
+
+fn events_of(calls: u64) -> u64 {
+    if calls < 4 { calls + 1 } else { WHOLE }
+}
+
+// Submits the edits that wait, up to one that is refused, and says what the last one is answered.
+fn submit_waiting(trial: &mut Trial) -> Became {
+    let mut last = Became::Ticket(0);
+    for _ in 0..trial.edits.len() {
+        let Some(edit) = trial.edits.pop_front() else {
+            return last;
+        };
+        last = happens(trial, &Event::Submit(edit));
+        if !matches!(last, Became::Ticket(_)) {
+            trial.edits.clear();
+        }
+    }
+    last
 }

@@ -4,9 +4,8 @@ ghost use Rattle.std.specs.Prelude.{◌≡◌, ◌≤◌, ◌<◌, ◌+◌, ◌^
 ghost use Rattle.fp_journal.specs.State.{room};
 ghost use Rattle.fp_journal.specs.declared.journal.Phase.TheVariants.{Idle};
 
-use crate::trial::{Answer, Trial, TrialFault};
-use crate::words::{bytes, first_number};
-use fp_commands::CommandFault;
+use crate::text::Args;
+use crate::trial::{Answer, Fault, Trial};
 use fp_disk::{Disk, DiskFault, MemoryDisk};
 use fp_journal::{
     BodyFault, ChainFault, Framed, Journal, Phase, Reader, Slot, read_chain, resume, synced_bytes,
@@ -14,10 +13,11 @@ use fp_journal::{
 use std::alloc::{AllocError, Global};
 
 /// `chain STOP MOST BYTES`, `slot START STOP MOST AT [BODY]`.
-pub fn on_slots(trial: &mut Trial, word: &str, rest: &str) -> Result<Answer, TrialFault> {
-    match word {
-        "chain" => chain(trial.alloc, rest),
-        _ => in_slot(trial, rest),
+pub fn on_slots(trial: &mut Trial, word: &str, args: &mut Args<'_>) -> Answer {
+    if word == "chain" {
+        chain(args)
+    } else {
+        in_slot(trial, args)
     }
 }
 
@@ -76,27 +76,28 @@ fn journal_in(
     mut disk: MemoryDisk,
     slot: Slot,
     at: u64,
-) -> Result<Journal<MemoryDisk>, (CommandFault, MemoryDisk)> {
+) -> Result<Journal<MemoryDisk>, (Fault, MemoryDisk)> {
     let Ok(bytes) = synced_bytes(alloc, &mut disk) else {
-        return Err((CommandFault::Device, disk));
+        return Err((Fault::Device, disk));
     };
     if at < slot.start || at > bytes.len() as u64 {
-        return Err((CommandFault::Damaged { at }, disk));
+        return Err((Fault::Damaged(at), disk));
     }
     match resume(alloc, disk, &bytes, slot, at, &mut Bodies) {
         Ok(journal) => Ok(journal),
-        Err((ChainFault::Damaged { at }, disk)) => Err((CommandFault::Damaged { at }, disk)),
-        Err((ChainFault::Memory, disk)) => Err((CommandFault::Memory, disk)),
+        Err((ChainFault::Damaged { at }, disk)) => Err((Fault::Damaged(at), disk)),
+        Err((ChainFault::Memory, disk)) => Err((Fault::Memory, disk)),
     }
 }
 
 // `slot START STOP MOST AT BODY`: seals a body, if one is there, and answers the room that is left.
-fn in_slot(trial: &mut Trial, rest: &str) -> Result<Answer, TrialFault> {
-    let (slot, rest) = slot_in(rest)?;
-    let (at, rest) = first_number(rest)?;
-    let body = bytes(trial.alloc, rest)?;
+fn in_slot(trial: &mut Trial, args: &mut Args<'_>) -> Answer {
+    let start = args.number();
+    let slot = slot_from(start, args);
+    let at = args.number();
+    let body = args.bytes();
     if body.len() > 1 << 30 {
-        return Err(TrialFault::NotUnderstood);
+        return Answer::NotUnderstood;
     }
     let disk = trial.take_disk();
     match journal_in(trial.alloc, disk, slot, at) {
@@ -108,38 +109,28 @@ fn in_slot(trial: &mut Trial, rest: &str) -> Result<Answer, TrialFault> {
     }
 }
 
-// `START STOP MOST`, and what stands behind it.
-fn slot_in(rest: &str) -> Result<(Slot, &str), TrialFault> {
-    let (start, rest) = first_number(rest)?;
-    let (stop, rest) = first_number(rest)?;
-    let (most, rest) = first_number(rest)?;
-    let most = most.min(0xffff_ffff) as u32;
-    Ok((Slot { start, stop, most }, rest))
+// A slot from this place on: `STOP MOST`.
+fn slot_from(start: u64, args: &mut Args<'_>) -> Slot {
+    let stop = args.number();
+    let most = args.number().min(0xffff_ffff) as u32;
+    Slot { start, stop, most }
 }
 
 // Seals the body, if one is there, and goes on with the disk.
-fn in_journal(
-    trial: &mut Trial,
-    journal: Journal<MemoryDisk>,
-    body: &[u8],
-) -> Result<Answer, TrialFault>
+fn in_journal(trial: &mut Trial, journal: Journal<MemoryDisk>, body: &[u8]) -> Answer
     requires { length body.now < 2 ^ 32 }
 {
     let mut journal = journal;
     let has_room = sent_if_any(trial.alloc, &mut journal, body);
     let (phase, room) = (journal.phase(), journal.room());
     trial.put_disk(journal.into_disk());
-    if phase == Phase::Idle {
-        return Ok(if has_room? {
-            Answer::Number(room)
-        } else {
-            Answer::Word("no room")
-        });
+    match (phase, has_room) {
+        (Phase::Idle, Ok(true)) => Answer::Number(room),
+        (Phase::Idle, Ok(false)) => Answer::Word("no room"),
+        (Phase::Idle, Err(_)) => Answer::NoMemory,
+        _ if trial.is_failing => Answer::Fault(Fault::StoreFailed),
+        _ => Answer::NoMemory,
     }
-    if trial.is_failing {
-        return Ok(Answer::Fault(CommandFault::StoreFailed));
-    }
-    Err(TrialFault::Memory)
 }
 
 fn sent_if_any(
@@ -157,18 +148,11 @@ fn sent_if_any(
 
 // The place of the closed gate behind the chain that begins with these bytes, in a slot that ends at this place and whose
 // bodies have so many bytes at most.
-fn chain(alloc: Global, rest: &str) -> Result<Answer, TrialFault> {
-    let (stop, rest) = first_number(rest)?;
-    let (most, rest) = first_number(rest)?;
-    let bytes = bytes(alloc, rest)?;
-    let slot = Slot {
-        start: 0,
-        stop,
-        most: most.min(0xffff_ffff) as u32,
-    };
-    match read_chain(&bytes, 0, slot, &mut Bodies) {
-        Ok(end) => Ok(Answer::Number(end)),
-        Err(ChainFault::Damaged { at }) => Ok(Answer::Fault(CommandFault::Damaged { at })),
-        Err(ChainFault::Memory) => Err(TrialFault::Memory),
+fn chain(args: &mut Args<'_>) -> Answer {
+    let slot = slot_from(0, args);
+    match read_chain(&args.bytes(), 0, slot, &mut Bodies) {
+        Ok(end) => Answer::Number(end),
+        Err(ChainFault::Damaged { at }) => Answer::Fault(Fault::Damaged(at)),
+        Err(ChainFault::Memory) => Answer::NoMemory,
     }
 }

@@ -12,9 +12,10 @@ mod journal;
 mod parts;
 mod run;
 mod script;
+mod seeds;
 mod sweep;
+mod text;
 mod trial;
-mod words;
 mod world;
 
 use crate::script::Script;

@@ -1,12 +1,12 @@
 //! A store and a desk without a world, for what no list of events leads to.
 
-ghost use Rattle.std.specs.Prelude.{◌≡◌, IfOk, OnOk, IsTrue};
+ghost use Rattle.std.specs.Prelude.{◌≡◌, IfOk, IfSome, OnOk, IsTrue};
 ghost use mathlib.Core.List.{IsPrefix};
 ghost use Rattle.fp_journal.specs.declared.journal.Phase.TheVariants.{Staged, BodySynced, GateOpened};
 
 use crate::event::{not_done, refused};
-use crate::trial::{Answer, Trial, TrialFault};
-use crate::words::{edit, first_number};
+use crate::text::{Args, Text};
+use crate::trial::{Answer, Trial};
 use crate::world::found;
 use fp_desk::{Desk, SettleFault};
 use fp_disk::MemoryDisk;
@@ -14,18 +14,14 @@ use fp_edit::Edit;
 use fp_group_commit::{Draw, Opening, Receipt, Store, StoreFault};
 use fp_journal::Phase;
 use std::alloc::{AllocError, Global};
-use std::fmt::Write;
 
 /// `stop EDIT`, `stray FIRST EDIT`, `receipt EDIT / EDIT`, of the disk as it is opened now.
-pub fn on_parts(trial: &mut Trial, word: &str, rest: &str) -> Result<Answer, TrialFault> {
+pub fn on_parts(trial: &mut Trial, word: &str, args: &mut Args<'_>) -> Answer {
     let disk = trial.take_disk();
     match found(trial.alloc, disk) {
-        Ok((mut store, opening)) => {
-            let answer = match word {
-                "stop" => stop(trial.alloc, opening, rest),
-                "stray" => stray(trial, &mut store, rest),
-                _ => receipt(trial, &mut store, opening, rest),
-            };
+        Ok((store, opening)) => {
+            let mut store = store;
+            let answer = on_store(trial, &mut store, opening, word, args);
             trial.put_disk(store.into_disk());
             answer
         }
@@ -36,93 +32,101 @@ pub fn on_parts(trial: &mut Trial, word: &str, rest: &str) -> Result<Answer, Tri
     }
 }
 
-// A desk over an opening that another desk gave back.
-fn desk_over(alloc: Global, opening: Opening) -> Result<Desk, TrialFault>
-    ensures { IfOk result (λ desk. desk.store ≡ opening) }
+fn on_store(
+    trial: &mut Trial,
+    store: &mut Store<MemoryDisk>,
+    opening: Opening,
+    word: &str,
+    args: &mut Args<'_>,
+) -> Answer
+    requires { opening ≡ store.old.store }
 {
-    let Ok(unused) = Desk::new(alloc, opening) else {
-        return Err(TrialFault::Memory);
-    };
-    let Ok(desk) = Desk::new(alloc, unused.into_opening()) else {
-        return Err(TrialFault::Memory);
-    };
-    Ok(desk)
+    match word {
+        "stop" => stop(opening, args, &mut trial.text),
+        "stray" => stray(trial, store, args),
+        _ => receipt(trial, store, opening, args),
+    }
 }
 
-fn submitted(desk: &mut Desk, edit: Edit) -> Result<Answer, TrialFault>
+// A desk over an opening that another desk gave back.
+fn desk_over(alloc: Global, opening: Opening) -> Option<Desk>
+    ensures { IfSome result (λ desk. desk.store ≡ opening) }
+{
+    let Ok(unused) = Desk::new(alloc, opening) else {
+        return None;
+    };
+    let Ok(desk) = Desk::new(alloc, unused.into_opening()) else {
+        return None;
+    };
+    Some(desk)
+}
+
+fn submitted(desk: &mut Desk, edit: Edit) -> Answer
     ensures store { desk.new.store ≡ desk.old.store }
     ensures settled { desk.new.settled ≡ desk.old.settled }
 {
     match desk.submit(edit) {
-        Ok(ticket) => Ok(Answer::Named("ticket", ticket.revision())),
+        Ok(ticket) => Answer::Named("ticket", ticket.revision()),
         Err((fault, _)) => refused(fault),
     }
 }
 
 /// The desk takes an edit.
-pub fn taken(alloc: Global, desk: &mut Desk, rest: &str) -> Result<Answer, TrialFault>
+pub fn taken(args: &mut Args<'_>, desk: &mut Desk) -> Answer
     ensures store { desk.new.store ≡ desk.old.store }
     ensures settled { desk.new.settled ≡ desk.old.settled }
 {
-    let edit = edit(alloc, rest)?;
-    submitted(desk, edit)
+    match args.edit() {
+        Some(edit) => submitted(desk, edit),
+        None => Answer::NotUnderstood,
+    }
 }
 
-fn drawn(desk: &mut Desk) -> Result<Answer, AllocError>
+fn drawn(desk: &mut Desk) -> Answer
     ensures { desk.new.store ≡ desk.old.store }
 {
-    match desk.draw()? {
-        Some(draw) => Ok(Answer::Named("drawn", draw.len() as u64)),
-        None => Ok(Answer::Word("not now")),
+    match desk.draw() {
+        Ok(Some(draw)) => Answer::Named("drawn", draw.len() as u64),
+        Ok(None) => Answer::Word("not now"),
+        Err(_) => Answer::NoMemory,
     }
 }
 
 // `stop EDIT`: the desk takes the edit, is stopped, is given it once more, and draws.
-fn stop(alloc: Global, opening: Opening, rest: &str) -> Result<Answer, TrialFault> {
-    let mut text = String::new(alloc);
-    let mut desk = desk_over(alloc, opening)?;
-    tell_stopped(alloc, &mut desk, rest, &mut text)?;
-    Ok(Answer::Text(text))
+fn stop(opening: Opening, args: &mut Args<'_>, out: &mut Text) -> Answer {
+    match desk_over(args.alloc, opening) {
+        Some(desk) => {
+            let mut desk = desk;
+            tell_stopped(&mut desk, args, out);
+            Answer::Text
+        }
+        None => Answer::NoMemory,
+    }
 }
 
-fn tell_stopped(
-    alloc: Global,
-    desk: &mut Desk,
-    rest: &str,
-    out: &mut String,
-) -> Result<(), TrialFault> {
-    tell_submitted(alloc, desk, rest, out)?;
+fn tell_stopped(desk: &mut Desk, args: &mut Args<'_>, out: &mut Text) {
+    taken(args, desk).tell_plain(out);
+    out.part();
     stop_desk(desk);
-    tell_submitted(alloc, desk, rest, out)?;
-    Ok(tell_drawn(desk, out)?)
+    taken(args, desk).tell_plain(out);
+    out.part();
+    drawn(desk).tell_plain(out);
 }
 
 fn stop_desk(desk: &mut Desk) {
     desk.stop();
 }
 
-fn tell_submitted(
-    alloc: Global,
-    desk: &mut Desk,
-    rest: &str,
-    out: &mut String,
-) -> Result<(), TrialFault> {
-    let answer = taken(alloc, desk, rest)?;
-    write!(out, "{answer}, ")?;
-    Ok(())
-}
-
-fn tell_drawn(desk: &mut Desk, out: &mut String) -> Result<(), AllocError> {
-    let answer = drawn(desk)?;
-    write!(out, "{answer}")
-}
-
 // One edit as a batch.
-fn batch_of(alloc: Global, first: u64, rest: &str) -> Result<Draw, TrialFault> {
-    let edit = edit(alloc, rest)?;
-    let mut edits = Vec::new(alloc);
-    edits.push(edit)?;
-    Ok(Draw::new(first, edits))
+fn batch_of(first: u64, args: &mut Args<'_>) -> Option<Draw> {
+    let Some(edit) = args.edit() else {
+        return None;
+    };
+    let mut edits = Vec::new(args.alloc);
+    if edits.push(edit).is_err() {
+        args.is_short = true;
+    }
+    Some(Draw::new(first, edits))
 }
 
 // Stages a batch that no desk drew, where there is room for it.
@@ -143,12 +147,18 @@ fn staged(store: &mut Store<MemoryDisk>, draw: Draw) -> Result<bool, StoreFault>
 }
 
 // `stray FIRST EDIT`: a batch of this edit under this revision is staged.
-fn stray(trial: &Trial, store: &mut Store<MemoryDisk>, rest: &str) -> Result<Answer, TrialFault> {
-    let (first, rest) = first_number(rest)?;
-    let draw = batch_of(trial.alloc, first, rest)?;
+fn stray(trial: &Trial, store: &mut Store<MemoryDisk>, args: &mut Args<'_>) -> Answer {
+    let first = args.number();
+    match batch_of(first, args) {
+        Some(draw) => stage_stray(trial, store, draw),
+        None => Answer::NotUnderstood,
+    }
+}
+
+fn stage_stray(trial: &Trial, store: &mut Store<MemoryDisk>, draw: Draw) -> Answer {
     match staged(store, draw) {
-        Ok(true) => Ok(Answer::Word("done")),
-        Ok(false) => Ok(Answer::Word("no room")),
+        Ok(true) => Answer::Word("done"),
+        Ok(false) => Answer::Word("no room"),
         Err(fault) => not_done(trial, fault),
     }
 }
@@ -189,18 +199,18 @@ fn sealed(store: &mut Store<MemoryDisk>) -> Result<Receipt, StoreFault>
 }
 
 // What a receipt is for, of which the desk may know nothing.
-fn settled(desk: &mut Desk, receipt: Receipt) -> Result<Answer, TrialFault>
+fn settled(desk: &mut Desk, receipt: Receipt) -> Answer
     requires { receipt.store ≡ desk.old.store }
     ensures store { desk.new.store ≡ desk.old.store }
     ensures grows { IsPrefix desk.old.settled desk.new.settled }
 {
     match desk.settle(receipt) {
-        Ok(()) => Ok(Answer::Named("settled", desk.settled_revision())),
+        Ok(()) => Answer::Named("settled", desk.settled_revision()),
         Err((fault, receipt)) => {
             receipt.forgo();
             match fault {
-                SettleFault::Stranger => Ok(Answer::Word("stranger")),
-                SettleFault::Memory => Err(TrialFault::Memory),
+                SettleFault::Stranger => Answer::Word("stranger"),
+                SettleFault::Memory => Answer::NoMemory,
             }
         }
     }
@@ -212,27 +222,32 @@ fn receipt(
     trial: &Trial,
     store: &mut Store<MemoryDisk>,
     opening: Opening,
-    rest: &str,
-) -> Result<Answer, TrialFault>
+    args: &mut Args<'_>,
+) -> Answer
     requires { opening ≡ store.old.store }
 {
-    let (own, other) = rest.split_once(" / ").ok_or(TrialFault::NotUnderstood)?;
     let first = opening.revision() + 1;
-    let mut desk = desk_over(trial.alloc, opening)?;
-    draws(trial.alloc, &mut desk, own)?;
-    answer_to(trial, store, &mut desk, first, other)
+    match desk_over(trial.alloc, opening) {
+        Some(desk) => {
+            let mut desk = desk;
+            draws(args, &mut desk);
+            answer_to(trial, store, &mut desk, first, args)
+        }
+        None => Answer::NoMemory,
+    }
 }
 
-// The desk draws this edit, if it is one.
-fn draws(alloc: Global, desk: &mut Desk, own: &str) -> Result<(), TrialFault>
+// The desk draws the edit in front of `/`, if it is one. The other one is left.
+fn draws(args: &mut Args<'_>, desk: &mut Desk)
     ensures { desk.new.store ≡ desk.old.store }
 {
-    if own == "nothing" {
-        return Ok(());
+    let (own, other) = args.rest.split_once(" / ").unwrap_or((args.rest, ""));
+    args.rest = own;
+    if own != "nothing" {
+        let _ticket = taken(args, desk);
+        let _drawn = drawn(desk);
     }
-    let _ticket = taken(alloc, desk, own)?;
-    let _draw = drawn(desk)?;
-    Ok(())
+    args.rest = other;
 }
 
 // What the desk answers to the receipt for a batch of this edit.
@@ -241,23 +256,34 @@ fn answer_to(
     store: &mut Store<MemoryDisk>,
     desk: &mut Desk,
     first: u64,
-    edit: &str,
-) -> Result<Answer, TrialFault>
+    args: &mut Args<'_>,
+) -> Answer
     requires { desk.old.store ≡ store.old.store }
 {
-    let draw = batch_of(trial.alloc, first, edit)?;
+    match batch_of(first, args) {
+        Some(draw) => sealed_and_settled(trial, store, desk, draw),
+        None => Answer::NotUnderstood,
+    }
+}
+
+fn sealed_and_settled(
+    trial: &Trial,
+    store: &mut Store<MemoryDisk>,
+    desk: &mut Desk,
+    draw: Draw,
+) -> Answer
+    requires { desk.old.store ≡ store.old.store }
+    ensures store { (store.new.store ≡ store.old.store) × (desk.new.store ≡ desk.old.store) }
+    ensures grows { IsPrefix desk.old.settled desk.new.settled }
+{
     match staged(store, draw) {
         Ok(true) => answer_to_staged(trial, store, desk),
-        Ok(false) => Ok(Answer::Word("no room")),
+        Ok(false) => Answer::Word("no room"),
         Err(fault) => not_done(trial, fault),
     }
 }
 
-fn answer_to_staged(
-    trial: &Trial,
-    store: &mut Store<MemoryDisk>,
-    desk: &mut Desk,
-) -> Result<Answer, TrialFault>
+fn answer_to_staged(trial: &Trial, store: &mut Store<MemoryDisk>, desk: &mut Desk) -> Answer
     requires one { desk.old.store ≡ store.old.store }
     requires staged { store.old.step ≡ Staged }
     ensures store { (store.new.store ≡ store.old.store) × (desk.new.store ≡ desk.old.store) }
@@ -281,21 +307,14 @@ fn drawn_batch(desk: &mut Desk) -> Result<Option<Draw>, AllocError>
 }
 
 /// What waits is drawn, sealed and settled as a batch.
-pub fn committed(
-    trial: &Trial,
-    store: &mut Store<MemoryDisk>,
-    desk: &mut Desk,
-) -> Result<Answer, TrialFault>
+pub fn committed(trial: &Trial, store: &mut Store<MemoryDisk>, desk: &mut Desk) -> Answer
     requires { desk.old.store ≡ store.old.store }
     ensures store { (store.new.store ≡ store.old.store) × (desk.new.store ≡ desk.old.store) }
     ensures grows { IsPrefix desk.old.settled desk.new.settled }
 {
-    let Some(draw) = drawn_batch(desk)? else {
-        return Ok(Answer::Word("not now"));
-    };
-    match staged(store, draw) {
-        Ok(true) => answer_to_staged(trial, store, desk),
-        Ok(false) => Ok(Answer::Word("no room")),
-        Err(fault) => not_done(trial, fault),
+    match drawn_batch(desk) {
+        Ok(Some(draw)) => sealed_and_settled(trial, store, desk, draw),
+        Ok(None) => Answer::Word("not now"),
+        Err(_) => Answer::NoMemory,
     }
 }

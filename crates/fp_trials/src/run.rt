@@ -1,129 +1,129 @@
 //! One command, and blocks of commands that are run for each of some words.
 
-use crate::trial::{Answer, Trial, TrialFault};
-use crate::words::{first_word, number};
+use crate::text::{Args, Text};
+use crate::trial::{Answer, Trial};
 use crate::{commands, damage, disk, eval, event, journal, parts, world};
-use std::alloc::{AllocError, Global};
 
-fn understood(trial: &mut Trial, line: &str) -> Result<Answer, TrialFault> {
-    let (word, rest) = first_word(line);
-    match word {
-        "hold" | "write" | "read" | "text" | "len" | "sync" | "cut" | "keep" | "back" => {
-            disk::on_bytes(trial, word, rest)
-        }
-        "fuse" | "fail" | "calm" | "crash" | "calls" => disk::on_faults(trial, word, rest),
-        "create" | "open" | "close" | "show" | "marks" | "size" | "room" => {
-            world::on_world(trial, word, rest)
-        }
-        "draw" | "stage" | "sync-body" | "open-gate" | "sync-gate" | "settle" | "ack" => {
-            event::on_events(trial, word, rest)
-        }
-        _ => composed(trial, word, rest),
+// The words of the modules.
+const ON_BYTES: [&str; 9] = [
+    "hold", "write", "read", "text", "len", "sync", "cut", "keep", "back",
+];
+
+const ON_FAULTS: [&str; 5] = ["fuse", "fail", "calm", "crash", "calls"];
+
+const ON_WORLD: [&str; 7] = ["create", "open", "close", "show", "marks", "size", "room"];
+
+const ON_EVENTS: [&str; 7] = [
+    "draw",
+    "stage",
+    "sync-body",
+    "open-gate",
+    "sync-gate",
+    "settle",
+    "ack",
+];
+
+const ON_EDITS: [&str; 5] = ["submit", "submits", "edit", "with", "batch"];
+
+const ON_PARTS: [&str; 3] = ["stop", "stray", "receipt"];
+
+const ON_INPUT: [&str; 3] = ["input", "last", "raw"];
+
+const ON_COMMANDS: [&str; 4] = ["init", "apply", "import", "shown"];
+
+const ON_SLOTS: [&str; 2] = ["chain", "slot"];
+
+const ON_DAMAGE: [&str; 2] = ["flips", "seeds"];
+
+fn understood(trial: &mut Trial, word: &str, args: &mut Args<'_>) -> Answer {
+    if ON_BYTES.contains(&word) {
+        disk::on_bytes(trial, word, args)
+    } else if ON_FAULTS.contains(&word) {
+        disk::on_faults(trial, word, args)
+    } else if ON_WORLD.contains(&word) {
+        world::on_world(trial, word, args)
+    } else if ON_EVENTS.contains(&word) {
+        event::on_events(trial, word, args)
+    } else if ON_EDITS.contains(&word) {
+        event::on_edits(trial, word, args)
+    } else {
+        composed(trial, word, args)
     }
 }
 
-// Edits, parts of a world, commands of the program, slots, changed bytes.
-fn composed(trial: &mut Trial, word: &str, rest: &str) -> Result<Answer, TrialFault> {
-    match word {
-        "submit" | "submits" | "edit" | "with" | "batch" => event::on_edits(trial, word, rest),
-        "stop" | "stray" | "receipt" => parts::on_parts(trial, word, rest),
-        "input" | "last" | "raw" => commands::on_input(trial, word, rest),
-        "init" | "apply" | "import" | "shown" => commands::on_commands(trial, word, rest),
-        "eval" => eval::on_eval(trial, rest),
-        "chain" | "slot" => journal::on_slots(trial, word, rest),
-        "flips" | "seeds" => damage::on_damage(trial, word, rest),
-        _ => Err(TrialFault::NotUnderstood),
-    }
-}
-
-/// What comes of a line that is no command is an answer too.
-pub fn answered(outcome: Result<Answer, TrialFault>) -> Result<Answer, AllocError> {
-    match outcome {
-        Ok(answer) => Ok(answer),
-        Err(TrialFault::NotUnderstood) => Ok(Answer::NotUnderstood),
-        Err(TrialFault::Memory) => Err(AllocError),
+// Parts of a world, commands of the program, slots, changed bytes.
+fn composed(trial: &mut Trial, word: &str, args: &mut Args<'_>) -> Answer {
+    if ON_INPUT.contains(&word) {
+        commands::on_input(trial, word, args)
+    } else if ON_COMMANDS.contains(&word) {
+        commands::on_commands(trial, word, args.rest)
+    } else if word == "eval" {
+        eval::on_eval(trial, args)
+    } else if ON_PARTS.contains(&word) {
+        parts::on_parts(trial, word, args)
+    } else if ON_SLOTS.contains(&word) {
+        journal::on_slots(trial, word, args)
+    } else if ON_DAMAGE.contains(&word) {
+        damage::on_damage(trial, word, args)
+    } else {
+        Answer::NotUnderstood
     }
 }
 
 /// Does what a line says.
-pub fn step(trial: &mut Trial, line: &str) -> Result<Answer, AllocError> {
-    answered(understood(trial, line))
+pub fn step(trial: &mut Trial, line: &str) -> Answer {
+    trial.text.clear();
+    let mut args = Args::of(trial.alloc, line);
+    let word = args.word();
+    let answer = understood(trial, word, &mut args);
+    args.judged(answer)
 }
 
 /// `for WORD ..`: the block once for each word, which stands at each `%` in it. A word as `0..4` is the numbers from the first
 /// to before the second.
-pub fn repeat(
-    trial: &mut Trial,
-    words: &str,
-    block: &[String],
-    out: &mut String,
-) -> Result<(), TrialFault> {
-    for word in words.split_whitespace() {
-        repeat_word(trial, word, block, out)?;
+pub fn repeat(trial: &mut Trial, args: &mut Args<'_>, block: &[String], out: &mut Text) {
+    for word in args.rest.split_whitespace() {
+        match word.split_once("..") {
+            Some((from, to)) => count(trial, args.number_of(from), args.number_of(to), block, out),
+            None => row(trial, word, block, out),
+        }
     }
-    Ok(())
 }
 
-fn repeat_word(
-    trial: &mut Trial,
-    word: &str,
-    block: &[String],
-    out: &mut String,
-) -> Result<(), TrialFault> {
-    let Some((from, to)) = word.split_once("..") else {
-        row(trial, word, block, out)?;
-        return Ok(());
-    };
-    let from = number(from)?;
-    let to = number(to)?;
-    count(trial, from, to, block, out)?;
-    Ok(())
-}
-
-fn count(
-    trial: &mut Trial,
-    from: u64,
-    to: u64,
-    block: &[String],
-    out: &mut String,
-) -> Result<(), AllocError> {
+fn count(trial: &mut Trial, from: u64, to: u64, block: &[String], out: &mut Text) {
+    let mut word = Text::new(trial.alloc);
     for number in from..to {
-        let word = format!(in trial.alloc; "{number}")?;
-        row(trial, word.as_str(), block, out)?;
+        word.clear();
+        word.number(number);
+        row(trial, word.as_str(), block, out);
     }
-    Ok(())
 }
 
 // The answers to the lines with this word, in a row.
-fn row(
-    trial: &mut Trial,
-    word: &str,
-    block: &[String],
-    out: &mut String,
-) -> Result<(), AllocError> {
-    let alloc = trial.alloc;
-    out.push_str(word)?;
-    out.push_str(":")?;
-    let mut is_first = true;
+fn row(trial: &mut Trial, word: &str, block: &[String], out: &mut Text) {
+    out.push(word);
+    out.push(":");
+    let mut between = " ";
     for line in block {
-        let line = line.replace(alloc, "%", word)?;
-        let answer = step(trial, line.as_str())?;
+        let answer = step_with(trial, word, line);
         if !matches!(answer, Answer::Done) {
-            push_in_row(alloc, &answer, is_first, out)?;
-            is_first = false;
+            out.push(between);
+            tell_in_row(trial, answer, out);
+            between = " | ";
         }
     }
-    out.push_str("\n")
+    out.push("\n");
 }
 
-fn push_in_row(
-    alloc: Global,
-    answer: &Answer,
-    is_first: bool,
-    out: &mut String,
-) -> Result<(), AllocError> {
-    out.push_str(if is_first { " " } else { " | " })?;
-    let text = format!(in alloc; "{answer}")?;
-    let line = text.as_str().trim_end().replace(alloc, "\n", " ")?;
-    out.push_str(line.as_str())
+fn step_with(trial: &mut Trial, word: &str, line: &str) -> Answer {
+    let mut with = Text::new(trial.alloc);
+    with.replaced(line, "%", word);
+    step(trial, with.as_str())
+}
+
+fn tell_in_row(trial: &Trial, answer: Answer, out: &mut Text) {
+    match answer {
+        Answer::Text | Answer::Stopped => out.flat(&trial.text),
+        answer => answer.tell_plain(out),
+    }
 }

@@ -1,19 +1,16 @@
 //! A file of trials: its lines in order, its blocks, and the program's commands over files.
 
 use crate::board::OpenBoard;
-use crate::disk::text_of;
-use crate::run::{answered, repeat, step};
+use crate::run::{repeat, step};
 use crate::sweep::{rounds, sweep};
-use crate::trial::{Answer, Trial, TrialFault};
-use crate::words::{first_word, number};
-use fp_commands::{CommandFault, command};
-use fp_disk::MemoryDisk;
+use crate::text::{Args, Text, first_word};
+use crate::trial::{Answer, Fault, Trial};
+use fp_commands::command;
 use fp_files::SystemFiles;
 use fp_publish::MOST_EVALUATORS;
 use fp_streams::FailureCounted;
 use fp_transcript::Answers;
-use std::alloc::{AllocError, AllocGlobal, Global};
-use std::fmt::Write;
+use std::alloc::{AllocError, AllocGlobal};
 use std::rt::Files;
 use std::sync::Wait;
 use std::{fs, mem};
@@ -23,8 +20,15 @@ pub struct Script<'a, R: Files + AllocGlobal + Wait> {
     rt: &'a R,
     trial: Trial,
     board: Option<OpenBoard>,
-    head: String,
-    block: Vec<String>,
+    block: Block,
+    out: Text,
+}
+
+// The line that opened a block, and the lines in it.
+#[derive(Drop)]
+struct Block {
+    head: Text,
+    lines: Vec<String>,
 }
 
 impl<'a, R: Files + AllocGlobal + Wait> Script<'a, R> {
@@ -33,10 +37,13 @@ impl<'a, R: Files + AllocGlobal + Wait> Script<'a, R> {
         let alloc = rt.alloc();
         Script {
             rt,
-            trial: Trial::new(alloc, MemoryDisk::new(alloc)),
+            trial: Trial::new(alloc),
             board: None,
-            head: String::new(alloc),
-            block: Vec::new(alloc),
+            block: Block {
+                head: Text::new(alloc),
+                lines: Vec::new(alloc),
+            },
+            out: Text::new(alloc),
         }
     }
 
@@ -46,8 +53,8 @@ impl<'a, R: Files + AllocGlobal + Wait> Script<'a, R> {
             rt,
             trial: _,
             board,
-            head: _,
             block: _,
+            out: _,
         } = self;
         if let Some(board) = board {
             let _disk = board.end(rt);
@@ -58,33 +65,33 @@ impl<'a, R: Files + AllocGlobal + Wait> Script<'a, R> {
 impl<'a, R: Files + AllocGlobal + Wait> Answers for Script<'a, R> {
     // The lines between one that ends in `{` and a `}` are a block, for which the latter answers.
     fn answer(&mut self, command: &str, out: &mut String) -> Result<(), AllocError> {
-        let line = command.trim();
-        if line == "}" {
-            return self.answer_block(out);
+        self.out.clear();
+        self.answer_line(command.trim());
+        if self.out.is_short {
+            return Err(AllocError);
         }
-        if !self.head.is_empty() {
-            let line = String::from_str(self.trial.alloc, line)?;
-            self.block.push(line)?;
-            return Ok(());
-        }
-        if let Some(head) = head_of(line) {
-            return self.head.push_str(head);
-        }
-        let answer = answered(alone(self.rt, &mut self.trial, &mut self.board, line))?;
-        write!(out, "{answer}")
+        out.push_str(self.out.as_str())
     }
 }
 
 impl<'a, R: Files + AllocGlobal + Wait> Script<'a, R> {
-    fn answer_block(&mut self, out: &mut String) -> Result<(), AllocError> {
-        let alloc = self.trial.alloc;
-        let head = mem::replace(&mut self.head, String::new(alloc));
-        let block = mem::replace(&mut self.block, Vec::new(alloc));
-        match run_block(&mut self.trial, head.as_str(), &block, out) {
-            Ok(()) => Ok(()),
-            Err(TrialFault::NotUnderstood) => out.push_str("not understood"),
-            Err(TrialFault::Memory) => Err(AllocError),
+    fn answer_line(&mut self, line: &str) {
+        if line == "}" {
+            run_block(&mut self.trial, &mut self.block, &mut self.out);
+        } else if !self.block.head.is_empty() {
+            push_line(&mut self.block, line, &mut self.out);
+        } else if let Some(head) = head_of(line) {
+            self.block.head.push(head);
+        } else {
+            let answer = alone(self.rt, &mut self.trial, &mut self.board, line);
+            answer.tell(&self.trial.text, &mut self.out);
         }
+    }
+}
+
+fn push_line(block: &mut Block, line: &str, out: &mut Text) {
+    if !out.push_copy(line, &mut block.lines) {
+        out.is_short = true;
     }
 }
 
@@ -96,83 +103,105 @@ fn head_of(line: &str) -> Option<&str> {
 }
 
 // `for WORD ..`, `sweep`, `sweep half`, `alone`, `alone half`.
-fn run_block(
-    trial: &mut Trial,
-    head: &str,
-    block: &[String],
-    out: &mut String,
-) -> Result<(), TrialFault> {
-    let (word, rest) = first_word(head);
-    match word {
-        "for" => repeat(trial, rest, block, out),
-        "sweep" | "alone" => sweep(trial, word, rest, block, out),
+fn run_block(trial: &mut Trial, block: &mut Block, out: &mut Text) {
+    let none = Vec::new(trial.alloc);
+    let lines = mem::replace(&mut block.lines, none);
+    let head = mem::replace(&mut block.head, out.another());
+    let mut args = Args::of(trial.alloc, head.as_str());
+    match args.word() {
+        "for" => repeat(trial, &mut args, &lines, out),
         // A `}` without a block.
-        _ => Err(TrialFault::NotUnderstood),
+        "" => out.push("not understood"),
+        word => sweep(trial, word, args.rest, &lines, out),
     }
+    args.judged(Answer::Done).tell_plain(out);
 }
 
-// What can't stand in a block: `$ WORD ..`, `load NAME`, `save NAME`, `rounds COUNT EDITS`, what works on a board; and any
-// other line.
+// The words of commands that can't stand in a block.
+const OVER_FILES: [&str; 4] = ["$", "load", "save", "rounds"];
+
+const OF_BOARD: [&str; 13] = [
+    "board",
+    "end-board",
+    "queue",
+    "commit",
+    "publish",
+    "is-shown",
+    "published",
+    "evaluator",
+    "enter",
+    "rest",
+    "learn",
+    "leave",
+    "ask",
+];
+
+// What works on a board, what can't stand in a block, and any other line.
 fn alone<R: Files + AllocGlobal + Wait>(
     rt: &R,
     trial: &mut Trial,
     board: &mut Option<OpenBoard>,
     line: &str,
-) -> Result<Answer, TrialFault> {
-    let (word, rest) = first_word(line);
+) -> Answer {
+    let mut args = Args::of(trial.alloc, line);
+    let word = args.word();
+    if OF_BOARD.contains(&word) {
+        trial.text.clear();
+        let answer = with_board(rt, trial, board, word, &mut args);
+        args.judged(answer)
+    } else if OVER_FILES.contains(&word) {
+        trial.text.clear();
+        let answer = over_files(rt, trial, word, &mut args);
+        args.judged(answer)
+    } else {
+        step(trial, line)
+    }
+}
+
+// `$ WORD ..`, `load NAME`, `save NAME`, `rounds COUNT EDITS`.
+fn over_files<R: Files + AllocGlobal>(
+    rt: &R,
+    trial: &mut Trial,
+    word: &str,
+    args: &mut Args<'_>,
+) -> Answer {
     match word {
-        "board" => begin_board(rt, trial, board, rest),
-        "end-board" => end_board(rt, trial, board),
-        "queue"
-        | "commit"
-        | "publish"
-        | "is-shown"
-        | "published"
-        | "evaluator"
-        | "enter"
-        | "rest"
-        | "learn"
-        | "leave"
-        | "ask" => on_board(rt, trial, board, word, rest),
-        "$" => program(rt, trial, rest),
-        "load" => load(rt, trial, rest),
-        "save" => save(rt, trial, rest),
-        "rounds" => rounds(trial, rest),
-        _ => Ok(step(trial, line)?),
+        "$" => program(rt, trial, args),
+        "load" => load(rt, trial, args.rest),
+        "save" => save(rt, trial, args.rest),
+        _ => rounds(trial, args),
     }
 }
 
-fn words_of(alloc: Global, text: &str) -> Result<Vec<String>, TrialFault> {
-    let mut words = Vec::new(alloc);
-    for word in text.split_whitespace() {
+fn words_of(args: &Args<'_>, out: &mut Text) -> Vec<String> {
+    let mut words = Vec::new(args.alloc);
+    for word in args.rest.split_whitespace() {
         let word = if word == "''" { "" } else { word };
-        words.push(String::from_str(alloc, word)?)?;
+        if !out.push_copy(word, &mut words) {
+            out.is_short = true;
+        }
     }
-    Ok(words)
-}
-
-// What a run of the program wrote, what it told on the error stream, and its status.
-#[derive(Drop)]
-struct Ran {
-    output: Vec<u8>,
-    errors: Vec<u8>,
-    status: u8,
+    words
 }
 
 // `$ WORD ..`: the program's command of these words, of which `''` is the empty one, on the lines that wait. It answers
 // what was written, what was told on the error stream, and a status that isn't 0.
-fn program<R: Files + AllocGlobal>(
-    rt: &R,
-    trial: &mut Trial,
-    line: &str,
-) -> Result<Answer, TrialFault> {
-    let words = words_of(trial.alloc, line)?;
+fn program<R: Files + AllocGlobal>(rt: &R, trial: &mut Trial, args: &mut Args<'_>) -> Answer {
+    let words = words_of(args, &mut trial.text);
     let input = trial.take_input();
-    let ran = run(rt, trial.alloc, &words, &input);
-    Ok(Answer::Text(text_of_run(trial.alloc, &ran)?))
+    let status = run(rt, &words, &input, &mut trial.text);
+    if tells_of_memory(trial.text.as_str()) {
+        return Answer::NoMemory;
+    }
+    if status != 0 {
+        trial.text.named("status", u64::from(status));
+    }
+    Answer::Text
 }
 
-fn run<R: Files + AllocGlobal>(rt: &R, alloc: Global, words: &[String], input: &[u8]) -> Ran {
+// Runs the command: what it wrote and told, and its status.
+fn run<R: Files + AllocGlobal>(rt: &R, words: &[String], input: &[u8], out: &mut Text) -> u8 {
+    let alloc = rt.alloc();
     let mut reader = FailureCounted::new(input);
     let mut writer = FailureCounted::new(Vec::new(alloc));
     let mut errors = FailureCounted::new(Vec::new(alloc));
@@ -186,53 +215,65 @@ fn run<R: Files + AllocGlobal>(rt: &R, alloc: Global, words: &[String], input: &
         &mut errors,
         0,
     );
-    Ran {
-        output: writer.into_inner(),
-        errors: errors.into_inner(),
-        status,
-    }
+    out.bytes(&writer.into_inner());
+    out.bytes(&errors.into_inner());
+    status
 }
 
-fn text_of_run(alloc: Global, ran: &Ran) -> Result<String, AllocError> {
-    let mut text = text_of(alloc, &ran.output)?;
-    let told = text_of(alloc, &ran.errors)?;
-    if tells_of_memory(text.as_str(), told.as_str()) {
-        return Err(AllocError);
-    }
-    text.push_str(told.as_str())?;
-    if ran.status != 0 {
-        tell_status(ran.status, &mut text)?;
-    }
-    Ok(text)
-}
-
-fn tells_of_memory(output: &str, errors: &str) -> bool {
-    output.contains("out-of-memory") || errors.contains("out of memory")
-}
-
-fn tell_status(status: u8, out: &mut String) -> Result<(), AllocError> {
-    write!(out, "status {status}")
+fn tells_of_memory(text: &str) -> bool {
+    text.contains("out-of-memory") || text.contains("out of memory")
 }
 
 // `load NAME`: the disk holds the file's bytes.
-fn load<R: Files + AllocGlobal>(
-    rt: &R,
-    trial: &mut Trial,
-    name: &str,
-) -> Result<Answer, TrialFault> {
+fn load<R: Files + AllocGlobal>(rt: &R, trial: &mut Trial, name: &str) -> Answer {
     match fs::read(rt, name) {
         Ok(bytes) => trial.hold(bytes),
-        Err(_) => Ok(Answer::Fault(CommandFault::Device)),
+        Err(_) => Answer::Fault(Fault::Device),
     }
 }
 
 // `save NAME`: the file holds the disk's bytes.
-fn save<R: Files>(rt: &R, trial: &mut Trial, name: &str) -> Result<Answer, TrialFault> {
-    let bytes = trial.bytes()?;
+fn save<R: Files>(rt: &R, trial: &mut Trial, name: &str) -> Answer {
+    let Some(bytes) = trial.bytes() else {
+        return Answer::NoMemory;
+    };
     match fs::write(rt, name, bytes.as_slice()) {
-        Ok(()) => Ok(Answer::Done),
-        Err(_) => Ok(Answer::Fault(CommandFault::Device)),
+        Ok(()) => Answer::Done,
+        Err(_) => Answer::Fault(Fault::Device),
     }
+}
+
+// `board PLACES`, `end-board`, and what works on the board that is open.
+fn with_board<R: Wait>(
+    rt: &R,
+    trial: &mut Trial,
+    board: &mut Option<OpenBoard>,
+    word: &str,
+    args: &mut Args<'_>,
+) -> Answer {
+    match board.take() {
+        Some(open) => on_open(rt, trial, board, open, word, args),
+        None if word == "board" => begin_board(rt, trial, board, args.number() as usize),
+        None => Answer::NotUnderstood,
+    }
+}
+
+fn on_open<R: Wait>(
+    rt: &R,
+    trial: &mut Trial,
+    board: &mut Option<OpenBoard>,
+    open: OpenBoard,
+    word: &str,
+    args: &mut Args<'_>,
+) -> Answer {
+    let mut open = open;
+    if word == "end-board" {
+        trial.put_disk(open.end(rt));
+        return Answer::Done;
+    }
+    let answer = on_board(rt, trial, &mut open, word, args);
+    put_board(rt, board, open);
+    answer
 }
 
 // `board PLACES`: a board over the disk, which is lent to it until `end-board`.
@@ -240,19 +281,16 @@ fn begin_board<R: Wait>(
     rt: &R,
     trial: &mut Trial,
     board: &mut Option<OpenBoard>,
-    rest: &str,
-) -> Result<Answer, TrialFault> {
-    let places = number(rest)? as usize;
-    if board.is_some() || places == 0 || places > MOST_EVALUATORS {
-        return Err(TrialFault::NotUnderstood);
+    places: usize,
+) -> Answer {
+    if places == 0 || places > MOST_EVALUATORS {
+        return Answer::NotUnderstood;
     }
     let disk = trial.take_disk();
     match OpenBoard::new(rt, trial.alloc, disk, places) {
         Ok(open) => {
-            if let Some(before) = mem::replace(board, Some(open)) {
-                let _disk = before.end(rt);
-            }
-            Ok(Answer::Done)
+            put_board(rt, board, open);
+            Answer::Done
         }
         Err((fault, disk)) => {
             trial.put_disk(disk);
@@ -261,41 +299,34 @@ fn begin_board<R: Wait>(
     }
 }
 
-fn end_board<R: Wait>(
-    rt: &R,
-    trial: &mut Trial,
-    board: &mut Option<OpenBoard>,
-) -> Result<Answer, TrialFault> {
-    let Some(open) = board.take() else {
-        return Err(TrialFault::NotUnderstood);
-    };
-    trial.put_disk(open.end(rt));
-    Ok(Answer::Done)
+fn put_board<R: Wait>(rt: &R, board: &mut Option<OpenBoard>, open: OpenBoard) {
+    if let Some(before) = mem::replace(board, Some(open)) {
+        let _disk = before.end(rt);
+    }
 }
 
-// What works on the board that is open.
+// The words of an evaluator.
+const OF_EVALUATOR: [&str; 4] = ["enter", "rest", "learn", "leave"];
+
 fn on_board<R: Wait>(
     rt: &R,
     trial: &mut Trial,
-    board: &mut Option<OpenBoard>,
+    board: &mut OpenBoard,
     word: &str,
-    rest: &str,
-) -> Result<Answer, TrialFault> {
-    let Some(board) = board else {
-        return Err(TrialFault::NotUnderstood);
-    };
+    args: &mut Args<'_>,
+) -> Answer {
+    if OF_EVALUATOR.contains(&word) {
+        return board.turn(word, args.rest);
+    }
     match word {
-        "queue" => board.queue(trial.alloc, rest),
-        "commit" => board.commit(trial, rest),
+        "queue" => board.queue(args),
+        "commit" => board.commit(trial, args),
         "publish" => board.publish(rt),
         "is-shown" => board.shown(),
-        "published" => board.published(trial.alloc),
-        "evaluator" => board.seat(rest),
-        "ask" => {
-            let (place, target) = first_word(rest);
-            let body = trial.take_input();
-            board.ask(trial.alloc, place, target, &body)
-        }
-        _ => board.turn(word, rest),
+        "published" => board.published(&mut trial.text),
+        "evaluator" => board.seat(args.rest),
+        "ask" => board.ask(trial, args),
+        // There is a board already.
+        _ => Answer::NotUnderstood,
     }
 }

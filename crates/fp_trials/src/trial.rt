@@ -1,41 +1,62 @@
 //! What commands work on, and what comes of them.
 
+use crate::text::Text;
 use fp_commands::CommandFault;
-use fp_disk::{DiskFault, FailedWrite, Failing, MemoryDisk};
+use fp_disk::{FailedWrite, Failing, MemoryDisk};
 use fp_edit::{Edit, EditFault};
 use fp_journal::synced_bytes;
+use fp_layout::OpenFault;
 use fp_world::Committer;
-use std::alloc::{AllocError, AllocFailed, Global};
-use std::{fmt, mem};
+use std::alloc::Global;
+use std::collections::VecDeque;
+use std::mem;
 
-/// Why a command has no answer of its own.
-#[derive(Drop)]
-pub enum TrialFault {
-    /// The line is no command.
-    NotUnderstood,
-    /// Memory ran out.
+/// Why a disk or a store refused.
+#[derive(Clone, Copy)]
+pub enum Fault {
+    NotEmpty,
+    Unformatted,
+    UnknownVersion(u8),
+    Damaged(u64),
+    Device,
+    StoreFailed,
     Memory,
 }
 
-impl From<AllocError> for TrialFault {
-    fn from(_fault: AllocError) -> TrialFault {
-        TrialFault::Memory
+impl From<OpenFault> for Fault {
+    fn from(fault: OpenFault) -> Fault {
+        match fault {
+            OpenFault::Unformatted => Fault::Unformatted,
+            OpenFault::UnknownVersion(version) => Fault::UnknownVersion(version),
+            OpenFault::Damaged { at } => Fault::Damaged(at),
+            OpenFault::Device => Fault::Device,
+            OpenFault::Memory => Fault::Memory,
+        }
     }
 }
 
-impl<T: Drop> From<AllocFailed<T>> for TrialFault {
-    fn from(_fault: AllocFailed<T>) -> TrialFault {
-        TrialFault::Memory
+// The fault of the program's commands, whose text is told.
+fn as_told(fault: Fault) -> CommandFault {
+    match fault {
+        Fault::NotEmpty => CommandFault::NotEmpty,
+        Fault::Unformatted => CommandFault::Unformatted,
+        Fault::UnknownVersion(version) => CommandFault::UnknownVersion(version),
+        Fault::Damaged(at) => CommandFault::Damaged { at },
+        Fault::Device => CommandFault::Device,
+        Fault::StoreFailed => CommandFault::StoreFailed,
+        Fault::Memory => CommandFault::Memory,
     }
 }
 
 /// What came of a command.
-#[derive(Drop)]
+#[derive(Clone, Copy)]
 pub enum Answer {
     /// It was done, and there is nothing to tell.
     Done,
     /// The line is no command.
     NotUnderstood,
+    /// Memory ran out.
+    NoMemory,
     /// The flags are at this revision.
     Revision(u64),
     /// A number that was asked for.
@@ -44,42 +65,57 @@ pub enum Answer {
     Named(&'static str, u64),
     /// How far it came.
     Word(&'static str),
-    /// A text that was asked for.
-    Text(String),
+    /// A text, which stands in the trial.
+    Text,
     /// The flags don't admit the edit.
     Refused(EditFault),
     /// The disk or its bytes are at fault.
-    Fault(CommandFault),
-    /// A command of the program wrote this, and gave up.
-    Stopped(String, CommandFault),
+    Fault(Fault),
+    /// A command of the program gave up: what it wrote, and why, stand in the trial.
+    Stopped,
 }
 
 impl Answer {
     /// Whether it is a fault.
-    pub fn is_fault(&self) -> bool {
-        matches!(self, Answer::Fault(_) | Answer::Stopped(_, _))
+    pub fn is_fault(self) -> bool {
+        matches!(self, Answer::Fault(_) | Answer::Stopped)
+    }
+
+    /// Tells it. The text is what stands in the trial.
+    pub fn tell(self, text: &Text, out: &mut Text) {
+        match self {
+            Answer::Text | Answer::Stopped => out.put(text),
+            answer => answer.tell_plain(out),
+        }
+    }
+
+    /// Tells it, where it has no text.
+    pub fn tell_plain(self, out: &mut Text) {
+        match self {
+            Answer::Done | Answer::Text | Answer::Stopped => {}
+            Answer::NoMemory => out.is_short = true,
+            Answer::NotUnderstood => out.push("not understood"),
+            Answer::Revision(revision) => out.named("revision", revision),
+            Answer::Number(number) => out.number(number),
+            Answer::Named(name, number) => out.named(name, number),
+            Answer::Word(word) => out.push(word),
+            Answer::Refused(fault) => tell_refused(fault, out),
+            Answer::Fault(fault) => tell_fault(&as_told(fault), out),
+        }
     }
 }
 
-impl fmt::Display for Answer {
-    fn fmt<W: fmt::Write>(&self, f: &mut fmt::Formatter<W>) -> fmt::Result {
-        match self {
-            Answer::Done => Ok(()),
-            Answer::NotUnderstood => f.write_str("not understood"),
-            Answer::Revision(revision) => write!(f, "revision {revision}"),
-            Answer::Number(number) => write!(f, "{number}"),
-            Answer::Named(name, number) => write!(f, "{name} {number}"),
-            Answer::Word(word) => f.write_str(word),
-            Answer::Text(text) => f.write_str(text.as_str()),
-            Answer::Refused(EditFault::Conflict { current: Some(n) }) => {
-                write!(f, "conflict at {n}")
-            }
-            Answer::Refused(EditFault::Conflict { current: None }) => f.write_str("conflict"),
-            Answer::Refused(fault) => write!(f, "{fault}"),
-            Answer::Fault(fault) => write!(f, "{fault}"),
-            Answer::Stopped(output, fault) => write!(f, "{output}{fault}"),
-        }
+fn tell_refused(fault: EditFault, out: &mut Text) {
+    match fault {
+        EditFault::Conflict { current: None } => out.push("conflict"),
+        EditFault::Conflict { current: Some(n) } => out.named("conflict at", n),
+        fault => out.shown(&fault),
     }
+}
+
+/// Tells a fault of the program's commands.
+pub fn tell_fault(fault: &CommandFault, out: &mut Text) {
+    out.shown(fault);
 }
 
 /// A world that may be let go.
@@ -96,8 +132,7 @@ impl OpenWorld {
 
 impl Drop for OpenWorld {
     fn drop(self) {
-        let OpenWorld { world } = self;
-        let _disk = world.into_disk();
+        let _disk = self.into_disk();
     }
 }
 
@@ -109,29 +144,31 @@ pub enum Held {
 }
 
 /// What commands work on: a disk or an open world, the bytes that were kept of one, the edits and the lines that wait, and the
-/// greatest revision that was told.
+/// greatest revision that was told; and the text of the last answer that is one.
 #[derive(Drop)]
 pub struct Trial {
     pub alloc: Global,
     pub held: Held,
     pub kept: Vec<u8>,
-    pub edits: Vec<Edit>,
+    pub edits: VecDeque<Edit>,
     pub input: Vec<u8>,
     pub told: u64,
+    pub text: Text,
     // Whether calls of the disk were told to fail.
     pub is_failing: bool,
 }
 
 impl Trial {
-    /// A trial over this disk.
-    pub fn new(alloc: Global, disk: MemoryDisk) -> Trial {
+    /// A trial over an empty disk.
+    pub fn new(alloc: Global) -> Trial {
         Trial {
             alloc,
-            held: Held::Closed(disk),
+            held: Held::Closed(MemoryDisk::new(alloc)),
             kept: Vec::new(alloc),
-            edits: Vec::new(alloc),
+            edits: VecDeque::new(alloc),
             input: Vec::new(alloc),
             told: 0,
+            text: Text::new(alloc),
             is_failing: false,
         }
     }
@@ -151,20 +188,32 @@ impl Trial {
     }
 
     /// Goes on with another disk, which holds these bytes.
-    pub fn hold(&mut self, bytes: Vec<u8>) -> Result<Answer, TrialFault> {
-        let disk = MemoryDisk::holding(self.alloc, bytes)?;
-        self.put_disk(disk);
-        self.is_failing = false;
-        Ok(Answer::Done)
+    pub fn hold(&mut self, bytes: Vec<u8>) -> Answer {
+        match MemoryDisk::holding(self.alloc, bytes) {
+            Ok(disk) => {
+                self.put_disk(disk);
+                self.is_failing = false;
+                Answer::Done
+            }
+            Err(_) => Answer::NoMemory,
+        }
     }
 
-    /// The disk's bytes. No call of it fails from then on.
-    pub fn bytes(&mut self) -> Result<Vec<u8>, TrialFault> {
+    /// Goes on with another disk, which holds a copy of these bytes.
+    pub fn hold_copy(&mut self, bytes: &[u8]) -> Answer {
+        match bytes.to_vec(self.alloc) {
+            Ok(bytes) => self.hold(bytes),
+            Err(_) => Answer::NoMemory,
+        }
+    }
+
+    /// The disk's bytes. No call of it fails from then on. None where memory is wanting.
+    pub fn bytes(&mut self) -> Option<Vec<u8>> {
         self.set_failing(Failing::Never, FailedWrite::Nothing);
         let mut disk = self.take_disk();
         let bytes = synced_bytes(self.alloc, &mut disk);
         self.put_disk(disk);
-        bytes.map_err(|_| TrialFault::Memory)
+        bytes.ok()
     }
 
     /// These calls of the disk fail from now on.
@@ -172,7 +221,7 @@ impl Trial {
         let mut disk = self.take_disk();
         disk.set_failing(failing, writes);
         self.put_disk(disk);
-        self.is_failing = failing != Failing::Never;
+        self.is_failing = !matches!(failing, Failing::Never);
     }
 
     /// The lines that wait.
@@ -181,25 +230,25 @@ impl Trial {
         mem::replace(&mut self.input, none)
     }
 
+    /// Some bytes wait.
+    pub fn wait(&mut self, bytes: &[u8]) -> Answer {
+        match self.input.extend_from_slice(bytes) {
+            Ok(()) => Answer::Done,
+            Err(_) => Answer::NoMemory,
+        }
+    }
+
     /// Tells a revision.
     pub fn tell(&mut self, revision: u64) {
         self.told = self.told.max(revision);
     }
 
     /// The answer of this fault. Where no call was told to fail, a disk in memory fails for want of memory alone.
-    pub fn fault(&self, fault: CommandFault) -> Result<Answer, TrialFault> {
+    pub fn fault(&self, fault: Fault) -> Answer {
         match fault {
-            CommandFault::Memory => Err(TrialFault::Memory),
-            CommandFault::Device if !self.is_failing => Err(TrialFault::Memory),
-            fault => Ok(Answer::Fault(fault)),
-        }
-    }
-
-    /// The answer of a call of the disk that gives nothing else.
-    pub fn of_call(&self, outcome: Result<(), DiskFault>) -> Result<Answer, TrialFault> {
-        match outcome {
-            Ok(()) => Ok(Answer::Done),
-            Err(fault) => self.fault(fault.into()),
+            Fault::Memory => Answer::NoMemory,
+            Fault::Device if !self.is_failing => Answer::NoMemory,
+            fault => Answer::Fault(fault),
         }
     }
 }

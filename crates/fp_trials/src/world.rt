@@ -3,31 +3,30 @@
 ghost use Rattle.std.specs.Prelude.{◌≡◌, IfOk};
 ghost use Rattle.fp_group_commit.specs.Store.{IsFresh};
 
-use crate::disk::{part, text_of};
-use crate::trial::{Answer, Held, OpenWorld, Trial, TrialFault};
-use crate::words::number;
-use fp_commands::CommandFault;
+use crate::text::{Args, Text};
+use crate::trial::{Answer, Fault, Held, OpenWorld, Trial};
 use fp_disk::MemoryDisk;
 use fp_edit::FlagSet;
 use fp_group_commit::{CreateFault, Opening, Store};
 use fp_world::Committer;
-use std::alloc::{AllocError, Global};
-use std::fmt::Write;
+use std::alloc::Global;
 
 /// A store as it was made or opened, and its opening.
 pub type Begun = (Store<MemoryDisk>, Opening);
 
 /// `create SIZE`, `open`, `close`, `show`, `marks`, `size`, `room`.
-pub fn on_world(trial: &mut Trial, word: &str, rest: &str) -> Result<Answer, TrialFault> {
+pub fn on_world(trial: &mut Trial, word: &str, args: &mut Args<'_>) -> Answer {
     match word {
-        "create" => create(trial, number(rest)?),
-        "close" => {
-            let disk = trial.take_disk();
-            trial.put_disk(disk);
-            Ok(Answer::Done)
-        }
+        "create" => create(trial, args.number()),
+        "close" => close(trial),
         _ => opened(trial, word),
     }
+}
+
+fn close(trial: &mut Trial) -> Answer {
+    let disk = trial.take_disk();
+    trial.put_disk(disk);
+    Answer::Done
 }
 
 // A store on a new disk, and its opening.
@@ -39,13 +38,10 @@ fn made(alloc: Global, disk: MemoryDisk, size: u64) -> Result<Begun, (CreateFaul
     Store::create(alloc, disk, size)
 }
 
-fn create(trial: &mut Trial, size: u64) -> Result<Answer, TrialFault> {
+fn create(trial: &mut Trial, size: u64) -> Answer {
     let disk = trial.take_disk();
     match made(trial.alloc, disk, size) {
-        Ok((store, opening)) => {
-            enter(trial, store, opening)?;
-            Ok(Answer::Revision(0))
-        }
+        Ok((store, opening)) => enter(trial, store, opening, Answer::Revision(0)),
         Err((fault, disk)) => {
             trial.put_disk(disk);
             not_made(trial, fault)
@@ -53,30 +49,30 @@ fn create(trial: &mut Trial, size: u64) -> Result<Answer, TrialFault> {
     }
 }
 
-fn not_made(trial: &Trial, fault: CreateFault) -> Result<Answer, TrialFault> {
+fn not_made(trial: &Trial, fault: CreateFault) -> Answer {
     match fault {
-        CreateFault::BadSize => Ok(Answer::Word("no size of a slot")),
-        CreateFault::NotEmpty => Ok(Answer::Fault(CommandFault::NotEmpty)),
-        CreateFault::Device => trial.fault(CommandFault::Device),
-        CreateFault::Memory => Err(TrialFault::Memory),
+        CreateFault::BadSize => Answer::Word("no size of a slot"),
+        CreateFault::NotEmpty => Answer::Fault(Fault::NotEmpty),
+        CreateFault::Device => trial.fault(Fault::Device),
+        CreateFault::Memory => Answer::NoMemory,
     }
 }
 
 /// `open`: the revision of what the disk stands for.
-pub fn open(trial: &mut Trial) -> Result<Answer, TrialFault> {
+pub fn open(trial: &mut Trial) -> Answer {
     opened(trial, "open")
 }
 
 /// The bytes from the last closed gate to the slot's end; none where the disk isn't opened.
-pub fn room(trial: &mut Trial) -> Result<u64, TrialFault> {
-    match opened(trial, "room")? {
-        Answer::Number(room) => Ok(room),
-        _ => Ok(0),
+pub fn room(trial: &mut Trial) -> u64 {
+    match opened(trial, "room") {
+        Answer::Number(room) => room,
+        _ => 0,
     }
 }
 
 /// The store on a disk, and its opening.
-pub fn found(alloc: Global, disk: MemoryDisk) -> Result<Begun, (CommandFault, MemoryDisk)>
+pub fn found(alloc: Global, disk: MemoryDisk) -> Result<Begun, (Fault, MemoryDisk)>
     ensures opening { IfOk result (λ r. r.1 ≡ r.0.store) }
     ensures fresh { IfOk result (λ r. IsFresh r.0 r.0.store.start) }
 {
@@ -87,13 +83,12 @@ pub fn found(alloc: Global, disk: MemoryDisk) -> Result<Begun, (CommandFault, Me
 }
 
 // Opens the disk anew, and tells what is asked of it.
-fn opened(trial: &mut Trial, word: &str) -> Result<Answer, TrialFault> {
+fn opened(trial: &mut Trial, word: &str) -> Answer {
     let disk = trial.take_disk();
     match found(trial.alloc, disk) {
         Ok((store, opening)) => {
-            let told = told(trial.alloc, word, opening.set(), store.room());
-            enter(trial, store, opening)?;
-            told
+            let answer = told(word, opening.set(), store.room(), &mut trial.text);
+            enter(trial, store, opening, answer)
         }
         Err((fault, disk)) => {
             trial.put_disk(disk);
@@ -102,43 +97,49 @@ fn opened(trial: &mut Trial, word: &str) -> Result<Answer, TrialFault> {
     }
 }
 
-// Goes on with a world over this store.
-fn enter(trial: &mut Trial, store: Store<MemoryDisk>, opening: Opening) -> Result<(), TrialFault>
+// Goes on with a world over this store, and answers this.
+fn enter(trial: &mut Trial, store: Store<MemoryDisk>, opening: Opening, answer: Answer) -> Answer
     requires opening { opening ≡ store.store }
     requires fresh { IsFresh store store.store.start }
 {
     match Committer::new(trial.alloc, store, opening) {
         Ok(world) => {
             trial.held = Held::Open(OpenWorld { world });
-            Ok(())
+            answer
         }
         Err((_, store, _)) => {
             trial.put_disk(store.into_disk());
-            Err(TrialFault::Memory)
+            Answer::NoMemory
         }
     }
 }
 
-fn told(alloc: Global, word: &str, set: &FlagSet, room: u64) -> Result<Answer, TrialFault> {
+fn told(word: &str, set: &FlagSet, room: u64, out: &mut Text) -> Answer {
     match word {
-        "open" => Ok(Answer::Revision(set.revision())),
-        "show" => Ok(Answer::Text(text_of(alloc, &set.document()?)?)),
-        "marks" => Ok(Answer::Text(marks(alloc, set)?)),
-        "size" => Ok(Answer::Number(set.size())),
-        _ => Ok(Answer::Number(room)),
+        "open" => Answer::Revision(set.revision()),
+        "show" => show(set, out),
+        "marks" => marks(set, out),
+        "size" => Answer::Number(set.size()),
+        _ => Answer::Number(room),
+    }
+}
+
+/// The document of a set.
+pub fn show(set: &FlagSet, out: &mut Text) -> Answer {
+    match set.document() {
+        Ok(document) => {
+            out.bytes(&document);
+            Answer::Text
+        }
+        Err(_) => Answer::NoMemory,
     }
 }
 
 // The revisions that changed the flags last, in the order of their keys.
-fn marks(alloc: Global, set: &FlagSet) -> Result<String, AllocError> {
-    let mut text = String::new(alloc);
+fn marks(set: &FlagSet, out: &mut Text) -> Answer {
     for (key, flag) in set.iter() {
-        part(&mut text)?;
-        tell_mark(&mut text, key.as_str(), flag.changed)?;
+        out.part();
+        out.named(key.as_str(), flag.changed);
     }
-    Ok(text)
-}
-
-fn tell_mark(text: &mut String, key: &str, changed: u64) -> Result<(), AllocError> {
-    write!(text, "{key} {changed}")
+    Answer::Text
 }
