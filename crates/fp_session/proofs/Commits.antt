@@ -173,9 +173,10 @@ module _ {D : Type 0} (disk : Ghosts D) (s m t : StoreState D) (d mid : DeskStat
 
   -- it is on its way still
   pub same_log_drawn : (e : DeskState) → e ≡ mid → (e.store ≡ d.store) × (log e ≡ log d)
-  same_log_drawn e is =
-      (ap (λ (x : DeskState). x.store) (is ∙ draw.new_is),
-      ap log (is ∙ draw.new_is) ∙ ap (λ (l : List Change). d.settled ++ l) (sym draw.longest.parts) ∙ ap (λ (l : List Change). d.settled ++ (l ++ d.waiting)) (sym draw.none_out))
+  same_log_drawn e is = (
+    ap (λ (x : DeskState). x.store) (is ∙ draw.new_is),
+    ap log (is ∙ draw.new_is) ∙ ap (λ (l : List Change). d.settled ++ l) (sym draw.longest.parts) ∙ ap (λ (l : List Change). d.settled ++ (l ++ d.waiting)) (sym draw.none_out),
+  )
 
   settled_is : (e : DeskState) → e ≡ record mid { settled = mid.settled ++ mid.drawn; drawn = [] } → e ≡ record d { settled = d.settled ++ group.changes; waiting = mid.waiting }
   settled_is e is = is ∙ ap (λ (x : DeskState). record x { settled = x.settled ++ x.drawn; drawn = [] }) draw.new_is
@@ -184,10 +185,11 @@ module _ {D : Type 0} (disk : Ghosts D) (s m t : StoreState D) (d mid : DeskStat
   -- or settled
   pub same_log : (e : DeskState) → e ≡ record mid { settled = mid.settled ++ mid.drawn; drawn = [] } → (e.store ≡ d.store) × (log e ≡ log d)
   same_log e is =
-      let now = settled_is e is in
-      (ap (λ (x : DeskState). x.store) now,
-      ap log now ∙ append_assoc d.settled group.changes (d.drawn ++ mid.waiting) ∙ ap (λ (l : List Change). d.settled ++ (group.changes ++ (l ++ mid.waiting))) draw.none_out
-      ∙ ap (λ (l : List Change). d.settled ++ l) (sym draw.longest.parts) ∙ ap (λ (l : List Change). d.settled ++ (l ++ d.waiting)) (sym draw.none_out))
+      let now = settled_is e is in (
+        ap (λ (x : DeskState). x.store) now,
+        ap log now ∙ append_assoc d.settled group.changes (d.drawn ++ mid.waiting) ∙ ap (λ (l : List Change). d.settled ++ (group.changes ++ (l ++ mid.waiting))) draw.none_out
+            ∙ ap (λ (l : List Change). d.settled ++ l) (sym draw.longest.parts) ∙ ap (λ (l : List Change). d.settled ++ (l ++ d.waiting)) (sym draw.none_out),
+      )
 
   module _ (sealed : IsSealed disk.faults group.changes m t) (store : t.store ≡ m.store) (calls : disk.calls t.slots.journal.disk ≡ disk.calls m.slots.journal.disk ++ batch_calls) where
     pub works_sealed : Works disk s t

@@ -164,8 +164,8 @@ falls faults a b store c =
     let most : ℕ = IMAGE_PLACE + a.store.start.limit in
     let limit = ap (λ (x : Identity). IMAGE_PLACE + x.start.limit) store in
     let fell = falls_at a.slots.step a.slots.left b.slots.left a.slots.generation b.slots.generation most c.left
-        (λ at. let p = c.begun at in let head = p.head in let small = p.small in let left = p.left in omega (arith, head, small, left))
-        (λ on. (c.slots_stay on).1) (λ at. (c.slots_turn at).1) c.numbered in
+    (λ at. let p = c.begun at in let head = p.head in let small = p.small in let left = p.left in omega (arith, head, small, left))
+    (λ on. (c.slots_stay on).1) (λ at. (c.slots_turn at).1) c.numbered in
     subst (λ (q : Step). (2 ^ 64 - b.slots.generation) * (IMAGE_PLACE + b.store.start.limit + 9) + steps_left q b.slots.left (IMAGE_PLACE + b.store.start.limit) < work_left a) (sym c.next)
     (subst (λ (m : ℕ). (2 ^ 64 - b.slots.generation) * (m + 9) + steps_left (next_step a.slots.step a.slots.left) b.slots.left m < work_left a) (sym limit) fell)
 
