@@ -222,9 +222,9 @@ seals faults h r s n d told revision same moves takes store settled drawn all po
       omega (arith, bytes, left),
       ((λ grows. let tail = takes.3 grows in omega (arith, bytes, tail)), takes.4),
       machine_is (At (held.Sealed r) n d told) (record (At h s d told) { progress = batch_sealed; room = room n.slots.journal; compaction = record (compaction_of s) { tail = tail_of n.slots } }) refl refl (is_well n.slots.journal.phase moves.well_now ∙ sym well) takes.0 refl refl
-      (ap (λ (x : Step). record { next = x; left = n.slots.left; tail = tail_of n.slots; generation = n.slots.generation }) takes.2.0
-      ∙ ap (λ (x : ℕ). record { next = s.slots.step; left = x; tail = tail_of n.slots; generation = n.slots.generation }) takes.2.1
-      ∙ ap (λ (x : ℕ). record { next = s.slots.step; left = s.slots.left; tail = tail_of n.slots; generation = x }) takes.2.3),
+          (ap (λ (x : Step). record { next = x; left = n.slots.left; tail = tail_of n.slots; generation = n.slots.generation }) takes.2.0
+          ∙ ap (λ (x : ℕ). record { next = s.slots.step; left = x; tail = tail_of n.slots; generation = n.slots.generation }) takes.2.1
+          ∙ ap (λ (x : ℕ). record { next = s.slots.step; left = s.slots.left; tail = tail_of n.slots; generation = x }) takes.2.3),
     )
 
 pub seal_fails : {D : Type 0} (faults : D → ℕ) (e : StoreFault) (h : Held) (s n : StoreState D) (d : DeskState) (told : ℕ) → FailsBy faults s n e → n.step ≡ s.step → progress_of h s.step ≡ gate_opened → Seals (At h s d told) (answer.Fault e) (At h n d told)
