@@ -109,7 +109,9 @@ module _ {D : Type 0} (disk : Ghosts D) (d0 d1 : D) (s k : SessionState D) (stan
         stood = stands;
         some = lacks.some;
         asked = joins lacks.flags (after_all lacks.flags lacks.batch) (asked lacks.flags lacks.from) (asked (after_all lacks.flags lacks.batch) lacks.to);
-        full = λ h. subst (λ y. IsFull (disk.unsynced y) lacks.flags (batch_len (record { first = 0; changes = lacks.batch }))) (sym here) (lacks.full (moved.0.0 (honest.0 h)));
+        generation = lacks.generation;
+        last = lacks.last;
+        full = λ h. subst (λ y. IsFull (disk.unsynced y) lacks.flags (batch_len (record { first = 0; changes = lacks.batch })) lacks.generation) (sym here) (lacks.full (moved.0.0 (honest.0 h)));
       })
       by_cause (inr more) = let same = led.no_failure in let at = ap disk.faults here in inr (omega (arith, more, same, at, well))
 

@@ -1,5 +1,5 @@
 -- What a command over a disk comes to.
-use Rattle.std.specs.Prelude.{◌≡◌, ◌≢◌, ◌⊎◌, ◌<◌, ℕ, List, [], ◌∷◌, ◌++◌, length, Bool, true, Option, IfSome, Result, Ok, Err}
+use Rattle.std.specs.Prelude.{◌≡◌, ◌≢◌, ◌⊎◌, ◌<◌, ◌≤◌, ◌+◌, ◌^◌, ℕ, List, [], ◌∷◌, ◌++◌, length, Bool, true, Option, IfSome, Result, Ok, Err}
 use Rattle.std.specs.Io.KnownBytes.{Appends}
 use Rattle.fp_disk.specs.Crashes.{AtAnyMoment}
 use Rattle.fp_disk.specs.History.{MakesSome}
@@ -153,7 +153,7 @@ IsUnbegun disk fault before after old new = (fault ≢ StoreFailed) × (new ≡ 
     × IsOnlyRead disk before after
 
 -- Flags that some first of what is asked led to, and edits behind them that more of it asks for, for which whatever a
--- crash leaves of the disk has no room, and no generation to make it
+-- crash leaves of the disk has no room, in a generation that none follows
 pub record LacksRoom (is_honest : Type 0) (bytes : List ℕ) (now : PendingState) (left : Option
     (List ℕ))
     (Reads : List ℕ → List Ask → Type 0) : Type 0 where
@@ -164,7 +164,10 @@ pub record LacksRoom (is_honest : Type 0) (bytes : List ℕ) (now : PendingState
   pub some : 0 < length batch
   pub asked : Asked left Reads (λ asks. IsAfterPrefix start asks flags
       × IsAfterPrefix start asks (after_all flags batch))
-  pub full : is_honest → IsFull now flags (batch_len (record { first = 0; changes = batch }))
+  pub generation : ℕ
+  pub last : 2 ^ 64 ≤ generation + 1
+  pub full : is_honest
+      → IsFull now flags (batch_len (record { first = 0; changes = batch })) generation
 
 -- the calls of a disk that was opened
 abbrev pub opened : List CallKind → List CallKind

@@ -71,15 +71,15 @@ module _ {D : Type 0} (u : PendingState) (slots : SlotsState D) (size : ℕ) (si
       (λ t. flipped side slots.text c h planned (moved slots.other slots.journal.slot (slot_of size (other_side side)) (slot_of size side) slots.text c k.its k.mine t)) p
 
   -- a slot that has no room has none in what a crash leaves, and is of the generation that it is of
-  pub sealed_full : IsFrontOf slots.generation slots.journal.front → slots.generation < 2 ^ 64 → 2 ^ 64 ≤ slots.generation + 1 → (n : ℕ) → HasNoRoom slots.journal n → (c : List ℕ) → Holds c 0 k.header → Rules slots.journal.slot.start slots.other.start c → HasChain slots.journal.slot slots.journal.front slots.journal.sealed c → IsFullFor c s n
-  sealed_full front small last n none c h rules ends =
+  pub sealed_full : IsFrontOf slots.generation slots.journal.front → slots.generation < 2 ^ 64 → (n : ℕ) → HasNoRoom slots.journal n → (c : List ℕ) → Holds c 0 k.header → Rules slots.journal.slot.start slots.other.start c → HasChain slots.journal.slot slots.journal.front slots.journal.sealed c → IsFullFor c s n slots.generation
+  sealed_full front small n none c h rules ends =
       let same : k.sealed.generation ≡ slots.generation = spelled_generation size slots.generation slots.journal.front (spell slots.journal.sealed) s small front k.sealed in
       let tells = moved slots.journal.slot slots.other (slot_of size side) (slot_of size (other_side side)) (sealed_text slots.journal) c k.mine k.its (record { rules = rules; ends = ends }) in record {
         stands = record { size = size; side = side; text = sealed_text slots.journal; header = k.is_header c h (side_long size side (sealed_text slots.journal) c tells); tells = tells; spells = k.sealed };
         full = ⊎_elim
             (λ long. let most = ap (λ (z : Slot). z.most) k.mine in inl (omega (arith, long, most)))
             (λ narrow. let start = ap (λ (z : Slot). z.start) k.mine in let stop = ap (λ (z : Slot). z.stop) k.mine in inr (omega (arith, narrow, start, stop))) none;
-        last = omega (arith, last, same);
+        generation_is = same;
       }
 
   pub sealed_stands : (c : List ℕ) → Holds c 0 k.header → KeepsSealed slots c → StandsFor c s

@@ -106,7 +106,7 @@ module _ {D : Type 0} (disk : Ghosts D) (slots : SlotsState D) where
 
   pub full_now : (p : Step) → p ≡ slots.step → (disk.honest slots.journal.disk → (c : List ℕ) → IsOutcome (disk.unsynced slots.journal.disk) c → Leaves p slots c)
       → IsFrontOf slots.generation slots.journal.front → slots.generation < 2 ^ 64 → IsFullNow disk slots
-  full_now p is now front small = λ h begins last begun size s k n none c out.
+  full_now p is now front small = λ h begins begun size s k n none c out.
       let keeps = begins_now slots p (is ∙ begins) c (now h c out) in
-      sealed_full (disk.unsynced slots.journal.disk) slots size k.0 s k.1 front small last n none c (firm_outcome (disk.unsynced slots.journal.disk) 0 k.1.header c k.1.firm out) keeps.0
+      sealed_full (disk.unsynced slots.journal.disk) slots size k.0 s k.1 front small n none c (firm_outcome (disk.unsynced slots.journal.disk) 0 k.1.header c k.1.firm out) keeps.0
       (chain_at (has_begun slots.journal.phase slots.journal.begun) begun c keeps.1)

@@ -148,7 +148,6 @@ ReadsNext disk slots = disk.honest slots.journal.disk → slots.journal.phase �
 -- of n bytes: neither has whatever a crash leaves, nor a generation more
 abbrev pub IsFullNow : {D : Type 0} → Ghosts D → SlotsState D → Type 0
 IsFullNow disk slots = disk.honest slots.journal.disk → slots.step ≡ Begin
-    → 2 ^ 64 ≤ slots.generation + 1
     → has_begun slots.journal.phase slots.journal.begun ≡ false → (size : ℕ) (s : State)
     → IsKeptIn (disk.unsynced slots.journal.disk) slots size s → (n : ℕ) → HasNoRoom slots.journal n
-    → IsFull (disk.unsynced slots.journal.disk) s n
+    → IsFull (disk.unsynced slots.journal.disk) s n slots.generation

@@ -727,7 +727,7 @@ module _ {D : Type 0} (disk : Ghosts D) {s : StoreState D} {set : State} {first 
           head = b.head ∙ ap (λ (n : ℕ). IMAGE_PLACE + n) sizes;
           small = omega (arith, short, limit, sizes);
           left = b.left;
-          tail = omega (arith, text);
+          text = text;
         }
 
     pub compacts : (faults : D → ℕ) → faults t.journal.disk ≡ faults s.slots.journal.disk → (s.slots.step ≢ Begin → t.left ≡ next_left s.slots.step s.slots.left) → t.generation < 2 ^ 64 → Compacts faults s Then

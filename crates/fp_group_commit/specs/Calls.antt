@@ -86,7 +86,7 @@ pub record PlansImage {D : Type 0} (old new : StoreState D) : Type 0 where
   pub head : new.slots.head ≡ IMAGE_PLACE + size (kept old).flags
   pub small : size (kept old).flags ≤ old.store.start.limit
   pub left : new.slots.left + 1 ≡ new.slots.head
-  pub tail : tail_of new.slots ≡ 0
+  pub text : length new.slots.text ≡ new.slots.head
 
 -- It was taken, and the device failed neither before nor in the call. What is left of head and
 -- image and the tail are as long as before, but for a Part. At the last one the slots are turned: it is the next generation, and all room behind what the

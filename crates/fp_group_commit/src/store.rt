@@ -137,12 +137,11 @@ impl<D: Disk> Store<D> {
     pub fn has_room(&self, draw: &Draw) -> bool
         ensures room { IsTrue result ↔ HasRoom self.now.slots draw.now }
 
-        // Where no compaction runs or can begin and the slot that rules has none, nor has whatever a crash leaves.
+        // Where no compaction runs and the slot that rules has none, nor has whatever a crash leaves, in the same generation.
         ensures full { IsAtRest self.now → self.now.slots.step ≡ Begin
-            → 2 ^ 64 ≤ self.now.slots.generation + 1
             → HasNoRoom self.now.slots.journal (batch_len draw.now)
             → EachCrash D.Disk self.now.slots.journal.disk
-            (λ c. IsFullFor c (kept self.now) (batch_len draw.now)) }
+            (λ c. IsFullFor c (kept self.now) (batch_len draw.now) self.now.slots.generation) }
 
         // A quarter of a slot is half of what a set may take.
         ensures quarter { (self.now.slots.other.stop - self.now.slots.other.start) / 4

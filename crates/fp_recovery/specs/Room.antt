@@ -1,5 +1,5 @@
 -- Disks that have no room for one batch more, and none to make.
-use Rattle.std.specs.Prelude.{◌⊎◌, ◌<◌, ◌≤◌, ◌+◌, ◌^◌, ℕ, List, length}
+use Rattle.std.specs.Prelude.{◌≡◌, ◌⊎◌, ◌<◌, ◌+◌, ℕ, List, length}
 use Rattle.fp_disk.specs.Outcomes.{PendingState, IsOutcome}
 use Rattle.fp_edit.specs.Flags.{State}
 use Rattle.fp_journal.specs.State.{JournalState, room}
@@ -14,14 +14,14 @@ HasNoRoom journal n = (journal.slot.most < n) ⊎ (room journal < 6 + n)
 abbrev pub gate_of : {c : List ℕ} {s : State} → StandsFor c s → ℕ
 gate_of stands = (slot_of stands.size stands.side).start + length stands.text
 
--- the bytes stand for the set, a batch of n bytes is longer than their slot takes, or would reach past its end, and no
--- generation is left for the other slot
-pub record IsFullFor (c : List ℕ) (s : State) (n : ℕ) : Type 0 where
+-- the bytes stand for the set in that generation, and a batch of n bytes is longer than their slot takes, or would reach
+-- past its end
+pub record IsFullFor (c : List ℕ) (s : State) (n generation : ℕ) : Type 0 where
   pub stands : StandsFor c s
   pub full : ((slot_of stands.size stands.side).most < n)
       ⊎ ((slot_of stands.size stands.side).stop < gate_of stands + (6 + n))
-  pub last : 2 ^ 64 ≤ stands.spells.generation + 1
+  pub generation_is : stands.spells.generation ≡ generation
 
 -- so is whatever a crash leaves now
-abbrev pub IsFull : PendingState → State → ℕ → Type 0
-IsFull u s n = (c : List ℕ) → IsOutcome u c → IsFullFor c s n
+abbrev pub IsFull : PendingState → State → ℕ → ℕ → Type 0
+IsFull u s n generation = (c : List ℕ) → IsOutcome u c → IsFullFor c s n generation

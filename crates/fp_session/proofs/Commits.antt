@@ -1,5 +1,5 @@
 -- What a crash may leave while a batch is sealed.
-use Rattle.std.proofs.Common.{◌≡◌, ◌≢◌, ◌⊎◌, ◌<◌, ◌≤◌, ◌+◌, ℕ, true, false, List, [], ◌∷◌, ◌++◌, length, take, refl, sym, ap, subst, ◌∙◌, inl, inr, arith, append_assoc, append-nil, length-append}
+use Rattle.std.proofs.Common.{◌≡◌, ◌≢◌, ◌⊎◌, ◌<◌, ◌≤◌, ◌+◌, ◌^◌, ℕ, true, false, List, [], ◌∷◌, ◌++◌, length, take, refl, sym, ap, subst, ◌∙◌, inl, inr, arith, append_assoc, append-nil, length-append}
 use Rattle.std.proofs.lemmas.List.{take_at}
 use Rattle.fp_disk.specs.Crashes.{AtAnyMoment, EachCrash, SameHonesty}
 use Rattle.fp_disk.specs.Moments.{leaves_map, leaves_still, leaves_then}
@@ -90,6 +90,8 @@ lacks_on disk now d e store all more l = record {
   from = ahead_on d e store all more l.flags l.from;
   to = ahead_on d e store all more (after_all l.flags l.batch) l.to;
   some = l.some;
+  generation = l.generation;
+  last = l.last;
   full = l.full;
 }
 
@@ -119,8 +121,8 @@ module _ {D : Type 0} (disk : Ghosts D) (s : StoreState D) (d : DeskState) (i : 
   sealed_ahead new batch rest parts l = weaker disk s.slots.journal.disk new (KeepsOrGains s batch) (StandsAhead d) (stands_ahead s d i.same i.settled i.none_drawn batch rest parts) l
 
   -- a first part of what waits that has no room
-  pub lacks_part : (batch rest : List Change) → d.waiting ≡ batch ++ rest → 0 < length batch → EachCrash disk s.slots.journal.disk (λ c. IsFullFor c (kept s) (batch_len (record { first = 0; changes = batch }))) → LacksRoomFor disk d s.slots.journal.disk
-  lacks_part batch rest parts some full =
+  pub lacks_part : (batch rest : List Change) → d.waiting ≡ batch ++ rest → 0 < length batch → (generation : ℕ) → 2 ^ 64 ≤ generation + 1 → EachCrash disk s.slots.journal.disk (λ c. IsFullFor c (kept s) (batch_len (record { first = 0; changes = batch })) generation) → LacksRoomFor disk d s.slots.journal.disk
+  lacks_part batch rest parts some generation last full =
       let same_kept : kept s ≡ after_all d.store.start d.settled = ap (λ (x : Identity). after_all x.start s.sealed) (sym i.same) ∙ ap (λ (l : List Change). after_all d.store.start l) i.settled in
       let whole = log_parts s d i.same i.settled i.none_drawn batch rest parts in
       let more = length-append d.settled batch in
@@ -130,6 +132,8 @@ module _ {D : Type 0} (disk : Ghosts D) (s : StoreState D) (d : DeskState) (i : 
         from = subst (λ (u : State). IsAhead d u) (sym same_kept) (ahead_at d d.settled (batch ++ rest) (whole ∙ append_assoc d.settled batch rest) (omega arith));
         to = subst (λ (u : State). IsAhead d u) (after-append d.store.start d.settled batch ∙ ap (λ (u : State). after_all u batch) (sym same_kept)) (ahead_at d (d.settled ++ batch) rest whole (omega (arith, more)));
         some = some;
+        generation = generation;
+        last = last;
         full = full;
       }
 

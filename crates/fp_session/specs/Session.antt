@@ -1,5 +1,5 @@
 -- A session of edits over a store and a desk: what a crash may leave of it, and what it calls.
-use Rattle.std.specs.Prelude.{◌≡◌, ◌≢◌, ◌⊎◌, ◌<◌, ◌≤◌, ℕ, Bool, false, List, [], ◌∷◌, ◌++◌, length, take}
+use Rattle.std.specs.Prelude.{◌≡◌, ◌≢◌, ◌⊎◌, ◌<◌, ◌≤◌, ◌+◌, ◌^◌, ℕ, Bool, false, List, [], ◌∷◌, ◌++◌, length, take}
 use Rattle.fp_disk.specs.Crashes.{AtAnyMoment, EachCrash, SameHonesty}
 use Rattle.fp_disk.specs.History.{MakesSome}
 use Rattle.fp_disk.specs.declared.disk.Disk.{Ghosts}
@@ -124,16 +124,18 @@ pub record Commits {D : Type 0} (disk : Ghosts D) (s t : StoreState D)
   pub works : Works disk s t
   pub no_failure : disk.faults t.slots.journal.disk ≡ disk.faults s.slots.journal.disk
 
--- flags on the way, and edits that wait behind them, for which whatever a crash leaves of the disk has no room, and no
--- generation to make it
+-- flags on the way, and edits that wait behind them, for which whatever a crash leaves of the disk has no room, in a
+-- generation that none follows
 pub record LacksRoomFor {D : Type 0} (disk : Ghosts D) (d : DeskState) (now : D) : Type 0 where
   pub flags : State
   pub batch : List Change
   pub from : IsAhead d flags
   pub to : IsAhead d (after_all flags batch)
   pub some : 0 < length batch
+  pub generation : ℕ
+  pub last : 2 ^ 64 ≤ generation + 1
   pub full : EachCrash disk now (λ c. IsFullFor c flags (batch_len
-      (record { first = 0; changes = batch })))
+      (record { first = 0; changes = batch })) generation)
 
 -- ---- compactions
 -- the store keeps the same edits, no batch is on its way, and whatever a crash leaves at any moment is those

@@ -1,6 +1,6 @@
 //! Compactions: room for a batch, a step beside the batches, and the end of one.
 
-ghost use Rattle.std.specs.Prelude.{◌≡◌, ◌⊎◌, ◌<◌, ◌≤◌, length, IfErr, IfOk, OnErr, OnOk};
+ghost use Rattle.std.specs.Prelude.{◌≡◌, ◌⊎◌, ◌<◌, ◌≤◌, ◌+◌, ◌^◌, length, IfErr, IfOk, OnErr, OnOk};
 ghost use Rattle.fp_disk.specs.Crashes.{AtAnyMoment, EachCrash, SameHonesty};
 ghost use Rattle.fp_disk.specs.History.{Makes};
 ghost use Rattle.fp_compaction.specs.Steps.{calls_of};
@@ -46,8 +46,9 @@ pub fn make_room<D: Disk>(store: &mut Store<D>, draw: &Draw) -> Result<(), Commi
     ensures proceeds { OnOk result (Proceeds D.Disk store.old store.new) }
     ensures halts { IfErr result (λ f. Halts D.Disk store.old store.new f
         ⊎ ((f ≡ StoreFailed) × Proceeds D.Disk store.old store.new
+        × (2 ^ 64 ≤ store.new.slots.generation + 1)
         × EachCrash D.Disk store.new.slots.journal.disk
-        (λ c. IsFullFor c (kept store.new) (batch_len draw.now)))) }
+        (λ c. IsFullFor c (kept store.new) (batch_len draw.now) store.new.slots.generation))) }
 {
     while !store.has_room(draw) {
         if !store.may_compact() {

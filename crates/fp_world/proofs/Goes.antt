@@ -378,7 +378,7 @@ compacts faults h s n d told next same o may c step is =
       may_step h s d told o may,
       record {
         next = c.next;
-        begun = λ at. (let plans = c.begun at in let left = plans.left in let head = plans.head in let image = ap (λ (t : State). size t.flags) (kept_is h s d told same o) in (omega (arith, left, head, image), plans.tail));
+        begun = λ at. (let plans = c.begun at in let left = plans.left in let head = plans.head in let image = ap (λ (t : State). size t.flags) (kept_is h s d told same o) in let text = plans.text in (omega (arith, left, head, image), omega (arith, text)));
         left = c.left;
         tail = c.tail_stays;
         stays = λ on. ((c.slots_stay on).1, c.room_stays on);

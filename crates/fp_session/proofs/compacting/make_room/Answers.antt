@@ -11,7 +11,7 @@ returns-then-not-may_compact-clause-halts g c =
     let never : MayCompact s → ⊥ = λ may. (let both : false ≡ true = sym c.if-not-may_compact.true ∙ c.may_compact.ensures.1 may in absurd cc) in
     let up = used_up s idle never in
     let none = no_room s.slots c.args.draw.now c.has_room.result c.has_room.ensures.room c.loop-store-test.true up.0 c.requires.some c.requires.few in
-    inr (refl, inv, λ h o left. c.has_room.ensures.full (idle, inv.well) up.0 up.1 none h o left)
+    inr (refl, inv, up.1, λ h o left. c.has_room.ensures.full (idle, inv.well) up.0 none h o left)
 
 pub loop-store-preserved : goal.loop-store-preserved
 loop-store-preserved g c = proceeds_then g.D.Disk c.args.store.now c.loop-store.store c.take_step.new.store c.loop-store.invariant c.in_ok-take_step.ensures.proceeds
