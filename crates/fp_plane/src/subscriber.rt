@@ -19,8 +19,8 @@ use fp_publish::{Handed, Seat};
 use fp_stream::{HelloFault, MOST_BODY, read_hello, write_frame};
 use fp_streams::{FailureCounted, StreamFault};
 use std::io::{Read, Write};
-use std::sync::Wait;
-use std::time::Clock;
+use std::sync::{CondvarTimeouts, Wait};
+use std::time::{Clock, Duration};
 
 /// Why a subscriber was sent nothing more.
 #[derive(Debug, Drop, Clone, Copy, PartialEq, Eq)]
@@ -33,12 +33,14 @@ pub enum SubscriberFault {
     Device,
 }
 
-/// Reads a subscriber's hello, and sends it each document that is shown and that it hasn't got, until the plane is stopped or
-/// the writer fails. One that is slow gets the newest.
-pub fn subscriber_loop<K, D, R, I, O>(
+/// Reads a subscriber's hello, and sends it each document that is shown and that it hasn't got, until the plane is stopped,
+/// the writer fails, or it has left, which is asked each second in which nothing new is shown. One that is slow gets the
+/// newest.
+pub fn subscriber_loop<K, D, R, I, O, G>(
     plane: &Plane<K, D, R>,
     r: &mut FailureCounted<I>,
     w: &mut FailureCounted<O>,
+    has_left: G,
 ) -> Result<(), SubscriberFault>
 where
     K: Naming,
@@ -46,6 +48,8 @@ where
     R: Wait + Clock + Drop,
     I: Read,
     O: Write,
+    G: Fn() -> bool + Drop,
+    requires { G.IsAlwaysCallable has_left }
     ensures served { Serves K.store (I.remaining r.old.inner) (I.remaining r.new.inner)
         (O.contents w.old.inner) (O.contents w.new.inner) w.old.failures w.new.failures result }
     ensures untouched { IfErr result (λ f. (f ≢ fault.Device) → w.new ≡ w.old) }
@@ -57,7 +61,7 @@ where
     let Ok(mut seat) = plane.seat(hello) else {
         return Err(SubscriberFault::SeatsUsed);
     };
-    let served = serve_seat(plane, &mut seat, w);
+    let served = serve_seat(plane, &mut seat, w, &has_left);
     plane.unseat(seat);
     match served {
         Ok(()) => Ok(()),
@@ -66,16 +70,19 @@ where
 }
 
 // Sends each document that is handed to the seat.
-fn serve_seat<K, D, R, O>(
+fn serve_seat<K, D, R, O, G>(
     plane: &Plane<K, D, R>,
     seat: &mut Seat,
     w: &mut FailureCounted<O>,
+    has_left: &G,
 ) -> Result<(), StreamFault>
 where
     K: Naming,
     D: Disk + Drop,
     R: Wait + Clock + Drop,
     O: Write,
+    G: Fn() -> bool,
+    requires { G.IsAlwaysCallable has_left.now }
     ensures sent { OnOk result ((had : Hello) (before : Option (List ℕ))
         → IsSent K.store had (had_by seat.old) before (O.contents w.old.inner)
         → (has : Hello) × IsSent K.store had has before (O.contents w.new.inner)) }
@@ -83,7 +90,7 @@ where
     ensures counted { CountsFailures w.old.failures w.new.failures result }
 {
     for _ in plane.shared.rt.forever() {
-        let Some(handed) = plane.handed(seat) else {
+        let Some(handed) = plane.handed(seat, has_left) else {
             return Ok(());
         };
         if handed.document().len() > MOST_BODY {
@@ -95,8 +102,9 @@ where
 }
 
 impl<K: Naming, D: Disk + Drop, R: Wait + Clock + Drop> Plane<K, D, R> {
-    // Waits until something is shown that the seat's subscriber hasn't got. `None` where the plane was stopped.
-    fn handed(&self, seat: &mut Seat) -> Option<Handed>
+    // Waits until something is shown that the seat's subscriber hasn't got. `None` where the plane was stopped or it has left.
+    fn handed<G: Fn() -> bool>(&self, seat: &mut Seat, has_left: &G) -> Option<Handed>
+        requires { G.IsAlwaysCallable has_left.now }
         ensures ours { IfSome result (λ h. h.store ≡ K.store) }
         ensures news { MatchOption result (had_by seat.new ≡ had_by seat.old)
             (λ h. IsNews (had_by seat.old) h × (had_by seat.new ≡ Has (front_revision h))) }
@@ -107,7 +115,15 @@ impl<K: Naming, D: Disk + Drop, R: Wait + Clock + Drop> Plane<K, D, R> {
             match hall.hand(seat) {
                 Ok(Some(handed)) => return Some(handed),
                 Ok(None) if hall.is_closed() => return None,
-                Ok(None) => hall = shared.news.wait(&shared.rt, hall),
+                Ok(None) => {
+                    let quiet = Duration::from_secs(1);
+                    let (held, waited) = shared.news.wait_timeout(&shared.rt, hall, quiet);
+                    drop(held);
+                    if waited.timed_out() && has_left() {
+                        return None;
+                    }
+                    hall = shared.hall.lock(&shared.rt);
+                }
                 Err(_) => {
                     drop(hall);
                     pause(&shared.rt);

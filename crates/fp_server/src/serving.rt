@@ -1,0 +1,279 @@
+//! A store over sockets, from its opening to its end.
+
+ghost use Rattle.std.specs.Prelude.{◌≡◌, ◌<◌, ◌^◌, IfSome};
+ghost use Rattle.fp_journal.specs.declared.journal.Phase.TheVariants.{Idle};
+
+use crate::host::Host;
+use crate::listening::{Listening, listen};
+use crate::roles::Role;
+use fp_commands::CommandFault;
+use fp_disk::Disk;
+use fp_files::DiskFiles;
+use fp_group_commit::{Opening, Store};
+use fp_plane::{Naming, OwnStore, Plane, flusher};
+use fp_publish::{MOST_EVALUATORS, MOST_SEATS};
+use fp_streams::FailureCounted;
+use std::io;
+use std::io::{Read, Write};
+use std::marker::Brand;
+use std::net::{Shutdown, SocketAddrV4, TcpListener};
+use std::thread;
+use std::time::{Clock, Duration, SystemTime, UNIX_EPOCH};
+
+/// How many editors there may be at once.
+pub const MOST_EDITORS: usize = 32;
+
+// The last moment that a reply knows.
+const LAST_MOMENT: u64 = 0x7fff_ffff_ffff_ffff;
+
+// How many seconds a connection has to take its last replies, and then to end.
+const GRACE: u64 = 2;
+
+/// The seconds since 1970, and 0 before it or without a clock.
+pub fn moment<R: Clock>(rt: &R) -> u64
+    ensures { result < 2 ^ 63 }
+{
+    let Ok(now) = SystemTime::now(rt) else {
+        return 0;
+    };
+    match now.duration_since(UNIX_EPOCH) {
+        Ok(since) => since.as_secs().min(LAST_MOMENT),
+        Err(_) => 0,
+    }
+}
+
+/// Where a service listens.
+#[derive(Debug, Drop, Clone, Copy, PartialEq, Eq)]
+pub struct Addresses {
+    /// For evaluations by OFREP.
+    pub ofrep: SocketAddrV4,
+    /// For edits.
+    pub edit: SocketAddrV4,
+    /// For snapshots.
+    pub stream: SocketAddrV4,
+}
+
+#[derive(Drop)]
+struct Listeners {
+    ofrep: TcpListener,
+    edit: TcpListener,
+    stream: TcpListener,
+}
+
+impl Listeners {
+    fn bind<R: Host>(rt: &R, addresses: &Addresses) -> io::Result<Listeners> {
+        Ok(Listeners {
+            ofrep: TcpListener::bind(rt, addresses.ofrep)?,
+            edit: TcpListener::bind(rt, addresses.edit)?,
+            stream: TcpListener::bind(rt, addresses.stream)?,
+        })
+    }
+}
+
+#[derive(Drop)]
+struct Services<R: Host> {
+    ofrep: Listening<R>,
+    edit: Listening<R>,
+    stream: Listening<R>,
+}
+
+impl<R: Host> Services<R> {
+    fn begin<K, D>(rt: &R, listeners: Listeners, plane: &Plane<K, D, R>) -> io::Result<Services<R>>
+    where
+        K: Naming + Send + Sync + 'static,
+        D: Disk + Drop + Send + 'static,
+    {
+        let Listeners {
+            ofrep,
+            edit,
+            stream,
+        } = listeners;
+        Ok(Services {
+            ofrep: listen(rt, ofrep, Role::Evaluations, MOST_EVALUATORS, plane)?,
+            edit: listen(rt, edit, Role::Edits, MOST_EDITORS, plane)?,
+            stream: listen(rt, stream, Role::Snapshots, MOST_SEATS, plane)?,
+        })
+    }
+
+    // Says where it listens, and waits for the input's end.
+    fn attend<I, O>(
+        &self,
+        r: &mut FailureCounted<I>,
+        w: &mut FailureCounted<O>,
+    ) -> Result<(), CommandFault>
+    where
+        I: Read,
+        O: Write,
+    {
+        w.say(&format_args!("ofrep {}", self.ofrep.bound()))?;
+        w.say(&format_args!("edit {}", self.edit.bound()))?;
+        w.say(&format_args!("stream {}", self.stream.bound()))?;
+        let mut bytes = [0; 512];
+        for _ in 0..u64::MAX {
+            if r.read(&mut bytes)? == 0 {
+                break;
+            }
+        }
+        Ok(())
+    }
+
+    // Ends all connections. What is under way may be taken before.
+    fn end(self) {
+        let grace = Duration::from_secs(GRACE);
+        let services = [&self.edit, &self.stream, &self.ofrep];
+        for how in [Shutdown::Read, Shutdown::Both] {
+            for service in services {
+                service.close(how);
+            }
+            for service in services {
+                service.wait(grace);
+            }
+        }
+    }
+}
+
+/// Serves the file at this path to editors, evaluators and subscribers, until the input ends. Then what was handed in is
+/// sealed, those who wait are answered, and `stopped at revision N` is written. A store that failed is a fault at that end.
+pub fn serve<R, F, I, O>(
+    rt: &R,
+    files: &mut F,
+    path: &str,
+    addresses: &Addresses,
+    r: &mut FailureCounted<I>,
+    w: &mut FailureCounted<O>,
+) -> Result<(), CommandFault>
+where
+    R: Host,
+    F: DiskFiles,
+    F::Disk: Drop + Send + 'static,
+    I: Read,
+    O: Write,
+{
+    let disk = files.open(path)?;
+    let (store, opening) = match Store::open(rt.alloc(), disk) {
+        Ok(opened) => opened,
+        Err((fault, disk)) => {
+            files.close(path, disk);
+            return Err(fault.into());
+        }
+    };
+    let Ok(listeners) = Listeners::bind(rt, addresses) else {
+        files.close(path, store.into_disk());
+        return Err(CommandFault::Device);
+    };
+    let (store, outcome) = serve_store(rt, store, opening, listeners, r, w);
+    let revision = store.as_ref().map(|store| store.revision());
+    if let Some(store) = store {
+        files.close(path, store.into_disk());
+    }
+    outcome?;
+    if let Some(revision) = revision {
+        w.say(&format_args!("stopped at revision {revision}"))?;
+    }
+    Ok(())
+}
+
+// Names the store, and serves it.
+fn serve_store<D, R, I, O>(
+    rt: &R,
+    store: Store<D>,
+    opening: Opening,
+    listeners: Listeners,
+    r: &mut FailureCounted<I>,
+    w: &mut FailureCounted<O>,
+) -> (Option<Store<D>>, Result<(), CommandFault>)
+where
+    D: Disk + Drop + Send + 'static,
+    R: Host,
+    I: Read,
+    O: Write,
+    requires ours { opening ≡ store.store }
+    requires idle { store.step ≡ Idle }
+    ensures same { IfSome result.0 (λ s. s.store ≡ store.store) }
+{
+    serve_named::<Brand, D, R, I, O>(rt, store, opening, listeners, r, w)
+}
+
+// Serves a store over the plane of its name. Where no thread can be had for it, the store is lost.
+fn serve_named<K, D, R, I, O>(
+    rt: &R,
+    store: Store<D>,
+    opening: Opening,
+    listeners: Listeners,
+    r: &mut FailureCounted<I>,
+    w: &mut FailureCounted<O>,
+) -> (Option<Store<D>>, Result<(), CommandFault>)
+where
+    K: Naming + Send + Sync + 'static,
+    D: Disk + Drop + Send + 'static,
+    R: Host,
+    I: Read,
+    O: Write,
+    requires ours { store.store ≡ K.store }
+    requires opening { opening ≡ K.store }
+    requires idle { store.step ≡ Idle }
+    ensures same { IfSome result.0 (λ s. s.store ≡ K.store) }
+{
+    let plane: Plane<K, D, R> = match Plane::new(*rt, rt.alloc(), opening) {
+        Ok(plane) => plane,
+        Err(fault) => return (Some(store), Err(fault.into())),
+    };
+    let (Ok(flushed), Ok(last)) = (plane.try_copy(), plane.try_copy()) else {
+        return (Some(store), Err(CommandFault::Memory));
+    };
+    if let Err(fault) = begin_flusher(rt, flushed, store) {
+        return (None, Err(fault));
+    }
+    serve_plane(rt, &plane, last, listeners, r, w)
+}
+
+// Begins the thread that seals.
+fn begin_flusher<K, D, R>(
+    rt: &R,
+    plane: Plane<K, D, R>,
+    store: Store<D>,
+) -> Result<(), CommandFault>
+where
+    K: Naming + Send + Sync + 'static,
+    D: Disk + Drop + Send + 'static,
+    R: Host,
+    requires ours { store.store ≡ K.store }
+    requires idle { store.step ≡ Idle }
+{
+    let own = OwnStore::new(store);
+    match thread::spawn(rt, move || flusher(&plane, own)) {
+        Ok(_thread) => Ok(()),
+        Err(_) => Err(CommandFault::Memory),
+    }
+}
+
+// Serves a plane, whose flusher runs, until the input ends. `last` is a handle to stop it by.
+fn serve_plane<K, D, R, I, O>(
+    rt: &R,
+    plane: &Plane<K, D, R>,
+    last: Plane<K, D, R>,
+    listeners: Listeners,
+    r: &mut FailureCounted<I>,
+    w: &mut FailureCounted<O>,
+) -> (Option<Store<D>>, Result<(), CommandFault>)
+where
+    K: Naming + Send + Sync + 'static,
+    D: Disk + Drop + Send + 'static,
+    R: Host,
+    I: Read,
+    O: Write,
+    ensures same { IfSome result.0 (λ s. s.store ≡ K.store) }
+{
+    let Ok(services) = Services::begin(rt, listeners, plane) else {
+        return (Some(last.stop()), Err(CommandFault::Device));
+    };
+    let attended = services.attend(r, w);
+    services.edit.close(Shutdown::Read);
+    let store = last.stop();
+    services.end();
+    let failed = plane.has_failed();
+    match attended {
+        Ok(()) if failed => (Some(store), Err(CommandFault::StoreFailed)),
+        ended => (Some(store), ended),
+    }
+}
