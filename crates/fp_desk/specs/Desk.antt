@@ -45,10 +45,11 @@ settled_revision d = d.store.start.revision + length d.settled
 abbrev pub queued : DeskState → ℕ
 queued d = length d.drawn + length d.waiting
 
+-- the edit that was handed in, with what its editor expected, and the revision that it makes
 pub record TicketState : Type 0 where
   pub store : Identity
   pub revision : ℕ
-  pub edit : Change
+  pub edit : Proposal
 
 -- the most bytes of a batch's body, in a disk whose image takes this many bytes at most
 abbrev pub most_of : ℕ → ℕ

@@ -31,7 +31,7 @@ pub struct Ticket {
 
 impl Model for Ticket {
     ghost use Rattle.std.specs.Coded.{codes};
-    ghost use Rattle.fp_edit.specs.Following.{change_of};
+    ghost use Rattle.fp_edit.specs.Edits.{proposal_of};
     ghost use Rattle.fp_edit.specs.Flags.{coded_state};
     ghost use Rattle.fp_group_commit.specs.Changes.{coded_change};
     ghost use Rattle.fp_desk.specs.Desk.{TicketState};
@@ -43,7 +43,7 @@ impl Model for Ticket {
     ghost view = { λ t. record {
       store = t.settled.store;
       revision = t.revision;
-      edit = change_of t.edit.value;
+      edit = proposal_of t.edit.value;
     } };
 }
 
@@ -131,7 +131,7 @@ impl Desk {
     /// Puts an edit behind those that wait, where the set that they lead to admits it.
     pub fn submit(&mut self, edit: Edit) -> Result<Ticket, (SubmitFault, Edit)>
         ensures accepted { OnOk result (IsAccepted self.old self.new (proposal_of edit)) }
-        ensures ticket { IfOk result (λ t. (t.store ≡ self.new.store) × (t.edit ≡ change_of edit)) }
+        ensures ticket { IfOk result (λ t. (t.store ≡ self.new.store) × (t.edit ≡ proposal_of edit)) }
         ensures revision { IfOk result (λ t.
             t.revision ≡ self.new.store.start.revision + length (log self.new)) }
         ensures refused { IfErr result (λ e. Refuses self.old (proposal_of edit) e.0) }

@@ -9,14 +9,13 @@ ghost use Rattle.fp_plane.specs.Answers.{IsAnswerTo, IsWithin, revision_in, says
 ghost use Rattle.fp_plane.specs.Editing.{IsNoLess, IsReading, IsServed};
 
 use crate::answer::{Answer, send_answer};
-use crate::line::{IncomingLine, newline_in};
 use crate::naming::Naming;
 use crate::plane::Plane;
 use fp_desk::SubmitFault;
 use fp_disk::Disk;
 use fp_edit::{Edit, EditFault, LineFault};
 use fp_group_commit::Told;
-use fp_session::Reply;
+use fp_session::{IncomingLine, Reply, newline_in};
 use fp_streams::{FailureCounted, StreamFault};
 use std::alloc::Global;
 use std::io::{Read, Write};
@@ -75,8 +74,8 @@ where
     R: Wait + Drop,
     O: Write,
     ensures answered { OnOk result ((seen : List ℕ) (before : Option (List ℕ))
-        → IsReading K.store told.old seen line.old.bytes.items before (O.contents w.old.inner)
-        → IsReading K.store told.new (seen ++ bytes.now) line.new.bytes.items before
+        → IsReading K.store told.old seen line.old before (O.contents w.old.inner)
+        → IsReading K.store told.new (seen ++ bytes.now) line.new before
         (O.contents w.new.inner)) }
     ensures counted { CountsFailures w.old.failures w.new.failures result }
 {
@@ -108,11 +107,11 @@ where
     R: Wait + Drop,
     O: Write,
     ensures answered { OnOk result ((asked : List Ask) (bytes : List ℕ) (before : Option (List ℕ))
-        → line.old.bytes.items ≡ cut bytes
+        → line.old ≡ cut bytes
         → IsServed K.store told.old asked before (O.contents w.old.inner)
         → IsServed K.store told.new (asked ++ asked_by_lines (bytes ∷ [])) before
         (O.contents w.new.inner)) }
-    ensures ended { line.new.bytes.items ≡ [] }
+    ensures ended { line.new ≡ [] }
     ensures counted { CountsFailures w.old.failures w.new.failures result }
 {
     let Some(asked) = line.end(alloc) else {

@@ -1,7 +1,12 @@
 //! The flusher: it draws and settles under the plane's lock, and calls the disk without it.
 
-ghost use Rattle.std.specs.Prelude.{◌≡◌, OnOk};
+ghost use Rattle.std.specs.Prelude.{◌≡◌, ◌<◌, ◌≤◌, ◌++◌, length, IfSome, OnOk};
+ghost use Rattle.fp_disk.specs.Crashes.{AtAnyMoment, EachCrash, SameHonesty};
 ghost use Rattle.fp_journal.specs.declared.journal.Phase.TheVariants.{Idle};
+ghost use Rattle.fp_record.specs.declared.batch.TheConstants.{MOST_EDITS};
+ghost use Rattle.fp_recovery.specs.Stands.{StandsFor};
+ghost use Rattle.fp_group_commit.specs.Store.{kept};
+ghost use Rattle.fp_session.specs.Session.{KeepsOrGains};
 
 use crate::naming::Naming;
 use crate::owned::OwnStore;
@@ -36,7 +41,8 @@ where
     plane.leave(OwnStore::new(store));
 }
 
-// Seals, settles and shows what is drawn, and then takes a step of a compaction where one is due.
+// Seals, settles and shows what is drawn, and then takes a step of a compaction where one is due. Whatever a crash leaves at
+// any moment stands for what was kept, or that with what is drawn.
 fn flush<K, D, R>(plane: &Plane<K, D, R>, store: &mut Store<D>, draw: Draw) -> Result<(), Broken>
 where
     K: Naming,
@@ -44,17 +50,29 @@ where
     R: Wait + Clock + Drop,
     requires ours { store.old.store ≡ K.store }
     requires idle { store.old.step ≡ Idle }
+    requires some { 0 < length draw.changes }
+    requires few { length draw.changes ≤ MOST_EDITS }
     ensures same { store.new.store ≡ store.old.store }
+    ensures sealed { OnOk result (store.new.sealed ≡ store.old.sealed ++ draw.changes) }
     ensures idle { OnOk result (store.new.step ≡ Idle) }
+    ensures any_moment { AtAnyMoment D.Disk store.old.slots.journal.disk store.new.slots.journal.disk
+        (KeepsOrGains store.old draw.changes) }
+    ensures keeps { OnOk result (EachCrash D.Disk store.new.slots.journal.disk
+        (λ c. StandsFor c (kept store.new))) }
+    ensures honest { SameHonesty D.Disk store.old.slots.journal.disk store.new.slots.journal.disk }
 {
     let receipt = seal(&plane.shared.rt, store, draw)?;
     plane.settle(receipt)?;
-    compact_on(store)
+    compact_on(store)?;
+    Ok(())
 }
 
 impl<K: Naming, D: Disk + Drop, R: Wait + Clock + Drop> Plane<K, D, R> {
     // Waits until edits wait, and draws them. `None` where the plane is to stop and none does.
-    fn drawn(&self) -> Option<Draw> {
+    fn drawn(&self) -> Option<Draw>
+        ensures some { IfSome result (λ d. 0 < length d.changes) }
+        ensures few { IfSome result (λ d. length d.changes ≤ MOST_EDITS) }
+    {
         let shared = &self.shared;
         let mut hall = shared.hall.lock(&shared.rt);
         for _ in shared.rt.forever() {

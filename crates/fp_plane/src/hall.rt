@@ -2,8 +2,8 @@
 
 ghost use Rattle.std.specs.Prelude.{◌≡◌, ◌≢◌, ◌⊎◌, ◌<◌, ◌≤◌, ◌+◌, ◌++◌, [], ◌∷◌, true, None, Some, length, IfOk, IfErr, IfSome, OnOk, OnErr, IsTrue, ◌↔◌, MatchOption, MatchResult, All, vec_len, ◌||◌, ◌&&◌, ◌-◌};
 ghost use Rattle.fp_edit.specs.Edits.{proposal_of};
-ghost use Rattle.fp_edit.specs.Following.{change_of};
 ghost use Rattle.fp_desk.specs.Desk.{IsAccepted, IsDrawn, Draws, Refuses, SettlesNot, log, settled_front, settled_revision};
+ghost use Rattle.fp_record.specs.declared.batch.TheConstants.{MOST_EDITS};
 ghost use Rattle.fp_group_commit.specs.Tokens.{front_revision};
 ghost use Rattle.fp_publish.specs.Fronts.{Begins};
 ghost use Rattle.fp_publish.specs.Seats.{IsNews, had_by};
@@ -140,7 +140,7 @@ impl<K: Naming, D: Disk + Drop, R: Wait + Drop> Hall<K, D, R> {
     /// Puts an edit behind those that wait. The ticket names the store and the edit.
     pub fn submit(&mut self, edit: Edit) -> Result<Ticket, (SubmitFault, Edit)>
         ensures accepted { OnOk result (IsAccepted self.old.desk self.new.desk (proposal_of edit)) }
-        ensures ticket { IfOk result (λ t. (t.store ≡ K.store) × (t.edit ≡ change_of edit)) }
+        ensures ticket { IfOk result (λ t. (t.store ≡ K.store) × (t.edit ≡ proposal_of edit)) }
         ensures revision { IfOk result (λ t.
             t.revision ≡ K.store.start.revision + length (log self.new.desk)) }
         ensures refused { IfErr result (λ e. Refuses self.old.desk (proposal_of edit) e.0) }
@@ -178,6 +178,8 @@ impl<K: Naming, D: Disk + Drop, R: Wait + Drop> Hall<K, D, R> {
     /// Draws what makes the longest batch, where nothing is out.
     pub fn draw(&mut self) -> Result<Option<Draw>, AllocError>
         ensures drawn { IfOk result (Draws self.old.desk self.new.desk) }
+        ensures some { IfOk result (λ o. IfSome o (λ d. 0 < length d.changes)) }
+        ensures few { IfOk result (λ o. IfSome o (λ d. length d.changes ≤ MOST_EDITS)) }
         ensures unchanged { OnErr result (self.new ≡ self.old) }
         ensures rest { self.new ≡ record self.old { desk = self.new.desk } }
     {

@@ -5,7 +5,6 @@ mod answer;
 mod editor;
 mod flushing;
 mod hall;
-mod line;
 mod naming;
 mod owned;
 mod plane;

@@ -1,7 +1,7 @@
 //! The plane: what threads share.
 
 ghost use Rattle.std.specs.Prelude.{◌≡◌, ◌≤◌, None, IfOk, IfErr, IfSome};
-ghost use Rattle.fp_edit.specs.Following.{change_of};
+ghost use Rattle.fp_edit.specs.Edits.{proposal_of};
 ghost use Rattle.fp_group_commit.specs.Tokens.{front_revision};
 ghost use Rattle.fp_publish.specs.Fronts.{Begins};
 ghost use Rattle.fp_publish.specs.Seats.{had_by};
@@ -68,7 +68,7 @@ impl<K: Naming, D: Disk + Drop, R: Wait + Drop> Plane<K, D, R> {
 
     /// Hands an edit in. The ticket names the plane's store and the edit.
     pub fn submit(&self, edit: Edit) -> Result<Ticket, (SubmitFault, Edit)>
-        ensures ticket { IfOk result (λ t. (t.store ≡ K.store) × (t.edit ≡ change_of edit)) }
+        ensures ticket { IfOk result (λ t. (t.store ≡ K.store) × (t.edit ≡ proposal_of edit)) }
         ensures given_back { IfErr result (λ e. e.1 ≡ edit) }
     {
         let shared = &self.shared;

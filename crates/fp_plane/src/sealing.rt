@@ -1,14 +1,18 @@
-//! Batches, sealed by a store, and the steps of a compaction between them.
+//! Batches, sealed by a store, and the steps of a compaction between them, as a session takes them too. Where memory is
+//! wanting it is tried again.
 
-ghost use Rattle.std.specs.Prelude.{◌≡◌, ◌+◌, ◌++◌, IfOk, OnOk};
-ghost use Rattle.fp_journal.specs.declared.journal.Phase.TheVariants.{Idle, Staged};
-ghost use Rattle.fp_group_commit.specs.Calls.{SameStore};
+ghost use Rattle.std.specs.Prelude.{◌≡◌, ◌≢◌, ◌<◌, ◌≤◌, ◌+◌, ◌++◌, length, IfOk, OnOk};
+ghost use Rattle.fp_disk.specs.Crashes.{AtAnyMoment, EachCrash, SameHonesty};
+ghost use Rattle.fp_journal.specs.declared.journal.Phase.TheVariants.{Failed, Idle, Staged};
+ghost use Rattle.fp_record.specs.declared.batch.TheConstants.{MOST_EDITS};
+ghost use Rattle.fp_recovery.specs.Stands.{StandsFor};
 ghost use Rattle.fp_group_commit.specs.Changes.{HasRoom};
-ghost use Rattle.fp_group_commit.specs.Store.{MayCompact, kept};
+ghost use Rattle.fp_group_commit.specs.Store.{IsAtRest, Leaves, kept};
+ghost use Rattle.fp_session.specs.Session.{KeepsAll, KeepsOrGains};
 
 use fp_disk::Disk;
 use fp_group_commit::{Draw, Receipt, Store, StoreFault};
-use fp_slots::Step;
+use fp_session::{CommitFault, go_on, seal_staged};
 use std::sync::Wait;
 use std::thread;
 use std::time::{Clock, Duration};
@@ -22,40 +26,29 @@ pub fn pause(clock: &impl Clock) {
     thread::sleep(clock, Duration::from_millis(1));
 }
 
-// Takes the next step of a compaction.
-fn compact<D: Disk, R: Wait + Clock>(rt: &R, store: &mut Store<D>) -> Result<(), Broken>
-    requires { MayCompact store.old }
-    ensures same { SameStore store.old store.new }
-    ensures phase { store.new.step ≡ store.old.step }
-{
-    for _ in rt.forever() {
-        match store.compact_step() {
-            Ok(_) => return Ok(()),
-            Err(StoreFault::Memory) => pause(rt),
-            Err(_) => return Err(Broken),
-        }
-    }
-    unreachable!()
-}
-
 // Takes steps of a compaction until there is room for the draw.
 fn make_room<D: Disk, R: Wait + Clock>(
     rt: &R,
     store: &mut Store<D>,
     draw: &Draw,
 ) -> Result<(), Broken>
-    ensures same { SameStore store.old store.new }
-    ensures phase { store.new.step ≡ store.old.step }
+    requires idle { store.old.step ≡ Idle }
+    requires keeps { EachCrash D.Disk store.old.slots.journal.disk
+        (λ c. StandsFor c (kept store.old)) }
+    requires some { 0 < length draw.now.changes }
+    requires few { length draw.now.changes ≤ MOST_EDITS }
+    ensures keeps { KeepsAll D.Disk store.old store.new }
     ensures room { OnOk result (HasRoom store.new.slots draw.now) }
 {
     for _ in rt.forever() {
-        if store.has_room(draw) {
-            return Ok(());
-        }
-        if !store.may_compact() {
+        if store.failed() {
             return Err(Broken);
         }
-        compact(rt, store)?;
+        match fp_session::make_room(store, draw) {
+            Ok(()) => return Ok(()),
+            Err(CommitFault::Memory) => pause(rt),
+            Err(CommitFault::StoreFailed) => return Err(Broken),
+        }
     }
     unreachable!()
 }
@@ -65,7 +58,11 @@ fn stage<D: Disk, R: Wait + Clock>(rt: &R, store: &mut Store<D>, draw: Draw) -> 
     requires idle { store.old.step ≡ Idle }
     requires room { HasRoom store.old.slots draw }
     ensures same { (store.new.store ≡ store.old.store) × (store.new.sealed ≡ store.old.sealed) }
-    ensures staged { OnOk result ((store.new.step ≡ Staged) × (store.new.staged ≡ draw.changes)) }
+    ensures staged { OnOk result ((store.new.step ≡ Staged) × (store.new.staged ≡ draw.changes)
+        × (store.new.slots.journal.phase ≢ Failed)) }
+    ensures any_moment { AtAnyMoment D.Disk store.old.slots.journal.disk store.new.slots.journal.disk
+        (Leaves store.old) }
+    ensures honest { SameHonesty D.Disk store.old.slots.journal.disk store.new.slots.journal.disk }
 {
     let mut draw = draw;
     for _ in rt.forever() {
@@ -81,46 +78,48 @@ fn stage<D: Disk, R: Wait + Clock>(rt: &R, store: &mut Store<D>, draw: Draw) -> 
     unreachable!()
 }
 
-/// Seals the draw by the four calls of a batch, once there is room for it.
+/// Seals the draw by the four calls of a batch, once there is room for it. Whatever a crash leaves at any moment stands for
+/// what was kept, or that with the draw.
 pub fn seal<D: Disk, R: Wait + Clock>(
     rt: &R,
     store: &mut Store<D>,
     draw: Draw,
 ) -> Result<Receipt, Broken>
-    requires { store.old.step ≡ Idle }
+    requires idle { store.old.step ≡ Idle }
+    requires some { 0 < length draw.changes }
+    requires few { length draw.changes ≤ MOST_EDITS }
     ensures same { store.new.store ≡ store.old.store }
     ensures sealed { OnOk result (store.new.sealed ≡ store.old.sealed ++ draw.changes) }
-    ensures idle { OnOk result (store.new.step ≡ Idle) }
+    ensures rest { OnOk result (IsAtRest store.new) }
     ensures receipt { IfOk result (λ r. (r.store ≡ store.old.store) × (r.edits ≡ store.new.sealed)) }
     ensures batch { IfOk result (λ r. (r.batch.changes ≡ draw.changes)
         × (r.batch.first ≡ (kept store.old).revision + 1)) }
+    ensures any_moment { AtAnyMoment D.Disk store.old.slots.journal.disk store.new.slots.journal.disk
+        (KeepsOrGains store.old draw.changes) }
+    ensures keeps { OnOk result (EachCrash D.Disk store.new.slots.journal.disk
+        (λ c. StandsFor c (kept store.new))) }
+    ensures honest { SameHonesty D.Disk store.old.slots.journal.disk store.new.slots.journal.disk }
 {
+    // What a crash leaves is known only where it is asked.
+    let _ = store.phase();
     make_room(rt, store, &draw)?;
     stage(rt, store, draw)?;
-    let Ok(()) = store.sync_body() else {
-        return Err(Broken);
-    };
-    let Ok(()) = store.open_gate() else {
-        return Err(Broken);
-    };
-    let Ok(receipt) = store.sync_gate() else {
-        return Err(Broken);
-    };
-    Ok(receipt)
+    match seal_staged(store) {
+        Ok(receipt) => Ok(receipt),
+        Err(_) => Err(Broken),
+    }
 }
 
 /// Takes a step of a compaction, where one runs, or where less than a quarter of the slot is left for batches and one may
 /// begin. Where memory is wanting for it, none is taken.
 pub fn compact_on<D: Disk>(store: &mut Store<D>) -> Result<(), Broken>
-    ensures same { SameStore store.old store.new }
-    ensures phase { store.new.step ≡ store.old.step }
+    requires rest { IsAtRest store.old }
+    requires keeps { EachCrash D.Disk store.old.slots.journal.disk
+        (λ c. StandsFor c (kept store.old)) }
+    ensures keeps { KeepsAll D.Disk store.old store.new }
 {
-    let is_due = !matches!(store.step(), Step::Begin) || store.is_short();
-    if !is_due || !store.may_compact() {
-        return Ok(());
-    }
-    match store.compact_step() {
-        Ok(_) | Err(StoreFault::Memory) => Ok(()),
-        Err(_) => Err(Broken),
+    match go_on(store) {
+        Ok(()) | Err(CommitFault::Memory) => Ok(()),
+        Err(CommitFault::StoreFailed) => Err(Broken),
     }
 }

@@ -58,11 +58,30 @@ leaves_either old s batch store sealed (inr staged) c (inr both) =
     inr (subst (λ (u : State). StandsFor c u)
     (ap (λ (x : Identity). after_all x.start (s.sealed ++ s.staged)) store ∙ ap (λ (l : List Change). after_all old.store.start (l ++ s.staged)) sealed ∙ ap (λ (l : List Change). after_all old.store.start (old.sealed ++ l)) staged) both.2)
 
+-- a store that keeps the same on the way to the same batch
+pub gains_as : {D : Type 0} (a b : StoreState D) (x y : List Change) → b.store ≡ a.store → b.sealed ≡ a.sealed → y ≡ x → (c : List ℕ) → KeepsOrGains b y c → KeepsOrGains a x c
+gains_as a b x y store sealed same c (inl stands) =
+    inl (subst (λ (u : State). StandsFor c u) (ap (λ (i : Identity). after_all i.start b.sealed) store ∙ ap (λ (l : List Change). after_all a.store.start l) sealed) stands)
+gains_as a b x y store sealed same c (inr stands) =
+    inr (subst (λ (u : State). StandsFor c u)
+    (ap (λ (i : Identity). after_all i.start (b.sealed ++ y)) store ∙ ap (λ (l : List Change). after_all a.store.start (l ++ y)) sealed ∙ ap (λ (l : List Change). after_all a.store.start (a.sealed ++ l)) same) stands)
+
 -- one call more
 pub call_more : {D : Type 0} (disk : Ghosts D) (old s : StoreState D) (batch : List Change) (first a b : D) → s.store ≡ old.store → s.sealed ≡ old.sealed → (s.step ≡ Idle) ⊎ (s.staged ≡ batch)
     → SameHonesty disk first a → AtAnyMoment disk first a (KeepsOrGains old batch) → AtAnyMoment disk a b (Leaves s) → AtAnyMoment disk first b (KeepsOrGains old batch)
 call_more disk old s batch first a b store sealed going same before call =
     next_moment disk first a b (KeepsOrGains old batch) same before (weaker disk a b (Leaves s) (KeepsOrGains old batch) (leaves_either old s batch store sealed going) call)
+
+-- the batch is written
+pub staged_moment : {D : Type 0} (disk : Ghosts D) (a s : StoreState D) (batch : List Change) → a.step ≡ Idle → AtAnyMoment disk a.slots.journal.disk s.slots.journal.disk (Leaves a) → AtAnyMoment disk a.slots.journal.disk s.slots.journal.disk (KeepsOrGains a batch)
+staged_moment disk a s batch idle moment = weaker disk a.slots.journal.disk s.slots.journal.disk (Leaves a) (KeepsOrGains a batch) (leaves_either a a batch refl refl (inl idle)) moment
+
+-- and sealed, or broken off
+pub sealed_moment : {D : Type 0} (disk : Ghosts D) (a s t : StoreState D) (batch : List Change) → a.step ≡ Idle → (s.store ≡ a.store) × (s.sealed ≡ a.sealed) → s.staged ≡ batch → SameHonesty disk a.slots.journal.disk s.slots.journal.disk
+    → AtAnyMoment disk a.slots.journal.disk s.slots.journal.disk (Leaves a) → AtAnyMoment disk s.slots.journal.disk t.slots.journal.disk (KeepsOrGains s s.staged) → AtAnyMoment disk a.slots.journal.disk t.slots.journal.disk (KeepsOrGains a batch)
+sealed_moment disk a s t batch idle same staged honest first second =
+    next_moment disk a.slots.journal.disk s.slots.journal.disk t.slots.journal.disk (KeepsOrGains a batch) honest (staged_moment disk a s batch idle first)
+    (weaker disk s.slots.journal.disk t.slots.journal.disk (KeepsOrGains s s.staged) (KeepsOrGains a batch) (gains_as a s batch s.staged same.0 same.1 staged) second)
 
 -- ---- and of its desk
 ahead_at : (d : DeskState) (xs rest : List Change) → log d ≡ xs ++ rest → length d.settled ≤ length xs → IsAhead d (after_all d.store.start xs)

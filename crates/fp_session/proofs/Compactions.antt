@@ -54,7 +54,7 @@ module _ {D : Type 0} (disk : Ghosts D) where
     honest = (λ h. h, λ h. h);
   }
 
-  keeps_then : (a b c : StoreState D) → KeepsAll disk a b → KeepsAll disk b c → KeepsAll disk a c
+  pub keeps_then : (a b c : StoreState D) → KeepsAll disk a b → KeepsAll disk b c → KeepsAll disk a c
   keeps_then a b c h k =
       let same : kept b ≡ kept a = kept_as a b h.store h.sealed in record {
         store = k.store ∙ h.store;

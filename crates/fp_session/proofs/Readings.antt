@@ -7,7 +7,6 @@ use Rattle.fp_session.specs.Progress.{IsAt, IsBroken, IsBrokenWithin, IsReading,
 use Rattle.fp_session.specs.declared.edit_store.EditStore.{Ghosts}
 use Rattle.fp_session.specs.declared.fault.ApplyFault.{ApplyFault}
 use Rattle.fp_session.specs.declared.fault.ApplyFault.TheVariants.{Memory}
-use Rattle.fp_session.specs.declared.line.IncomingLine.{IncomingLine}
 use Rattle.fp_session.specs.declared.replies.Replies.{Replies}
 use Rattle.fp_session.proofs.LineLemmas.{asked-append, lines-append}
 use Rattle.fp_session.proofs.ProgressLemmas.{at-sent, is_at-broken, is_at-start}
@@ -23,7 +22,7 @@ newline seen line done split =
 
 module _ {E : Type 0} (store : Ghosts E) (first : E) (sent : List ℕ) where
   -- a piece without a newline lengthens the line
-  pub reading-more : (now : E) (seen piece : List ℕ) (r : Replies) (l k : IncomingLine) (i : IsReading store first now seen sent r l) → lines piece ≡ piece ∷ [] → k.bytes.items ≡ cut (i.line ++ piece) → IsReading store first now (seen ++ piece) sent r k
+  pub reading-more : (now : E) (seen piece : List ℕ) (r : Replies) (l k : List ℕ) (i : IsReading store first now seen sent r l) → lines piece ≡ piece ∷ [] → k ≡ cut (i.line ++ piece) → IsReading store first now (seen ++ piece) sent r k
   reading-more now seen piece r l k i one held = record {
     done = i.done;
     line = i.line ++ piece;
@@ -34,8 +33,8 @@ module _ {E : Type 0} (store : Ghosts E) (first : E) (sent : List ℕ) where
   }
 
   -- the line ended, and was answered
-  pub reading-newline : (now next : E) (seen : List ℕ) (r q : Replies) (l k : IncomingLine) (i : IsReading store first now seen sent r l) → IsAt store first next (asked_by_lines i.done ++ asked_by_lines (i.line ∷ [])) sent q → q.waiting.items ≡ []
-      → k.bytes.items ≡ [] → IsReading store first next (seen ++ 10 ∷ []) sent q k
+  pub reading-newline : (now next : E) (seen : List ℕ) (r q : Replies) (l k : List ℕ) (i : IsReading store first now seen sent r l) → IsAt store first next (asked_by_lines i.done ++ asked_by_lines (i.line ∷ [])) sent q → q.waiting.items ≡ []
+      → k ≡ [] → IsReading store first next (seen ++ 10 ∷ []) sent q k
   reading-newline now next seen r q l k i at none empty = record {
     done = i.done ++ i.line ∷ [];
     line = [];
@@ -46,7 +45,7 @@ module _ {E : Type 0} (store : Ghosts E) (first : E) (sent : List ℕ) where
   }
 
   -- it broke off at it
-  pub broken-line : (now next : E) (seen rest all : List ℕ) (r q : Replies) (l : IncomingLine) (f : ApplyFault) (i : IsReading store first now seen sent r l) → seen ++ 10 ∷ rest ≡ all
+  pub broken-line : (now next : E) (seen rest all : List ℕ) (r q : Replies) (l : List ℕ) (f : ApplyFault) (i : IsReading store first now seen sent r l) → seen ++ 10 ∷ rest ≡ all
       → IsBroken store 1 first next (asked_by_lines i.done ++ asked_by_lines (i.line ∷ [])) sent q f → IsBrokenWithin store first next all sent q f
   broken-line now next seen rest all r q l f i parts broken = record {
     front = seen ++ 10 ∷ [];
@@ -59,7 +58,7 @@ module _ {E : Type 0} (store : Ghosts E) (first : E) (sent : List ℕ) where
   }
 
   -- or before it
-  pub broken-before : (now : E) (seen rest all : List ℕ) (r : Replies) (l : IncomingLine) → IsReading store first now seen sent r l → seen ++ rest ≡ all → IsBrokenWithin store first now all sent r Memory
+  pub broken-before : (now : E) (seen rest all : List ℕ) (r : Replies) (l : List ℕ) → IsReading store first now seen sent r l → seen ++ rest ≡ all → IsBrokenWithin store first now all sent r Memory
   broken-before now seen rest all r l i parts = record {
     front = seen;
     back = rest;
@@ -71,7 +70,7 @@ module _ {E : Type 0} (store : Ghosts E) (first : E) (sent : List ℕ) where
   }
 
   -- the texts were sent
-  pub reading-sent : (now : E) (seen : List ℕ) (r q : Replies) (l : IncomingLine) → IsReading store first now seen sent r l → q.text.items ≡ [] → q.waiting ≡ r.waiting → q.is_told ≡ r.is_told → IsReading store first now seen (sent ++ r.text.items) q l
+  pub reading-sent : (now : E) (seen : List ℕ) (r q : Replies) (l : List ℕ) → IsReading store first now seen sent r l → q.text.items ≡ [] → q.waiting ≡ r.waiting → q.is_told ≡ r.is_told → IsReading store first now seen (sent ++ r.text.items) q l
   reading-sent now seen r q l i none waiting told = record {
     done = i.done;
     line = i.line;
@@ -82,7 +81,7 @@ module _ {E : Type 0} (store : Ghosts E) (first : E) (sent : List ℕ) where
   }
 
 -- nothing came in yet
-pub reading-start : {E : Type 0} (store : Ghosts E) (first : E) (r : Replies) (l : IncomingLine) → r.text.items ≡ [] → r.waiting.items ≡ [] → r.is_told ≡ true → l.bytes.items ≡ [] → ((u : State) → store.may_stand first u → u ≡ store.state first)
+pub reading-start : {E : Type 0} (store : Ghosts E) (first : E) (r : Replies) (l : List ℕ) → r.text.items ≡ [] → r.waiting.items ≡ [] → r.is_told ≡ true → l ≡ [] → ((u : State) → store.may_stand first u → u ≡ store.state first)
     → store.leaves first first (store.may_stand first) → IsReading store first first [] [] r l
 reading-start store first r l text none told empty fresh still = record {
   done = [];

@@ -15,7 +15,6 @@ use Rattle.fp_session.specs.Run.{Answers, IsRun, IsAfterPrefix, IsRunWritten, Is
 use Rattle.fp_session.specs.StoreRun.{StoreRun}
 use Rattle.fp_session.specs.declared.edit_store.EditStore.{Ghosts}
 use Rattle.fp_session.specs.declared.fault.ApplyFault.{ApplyFault}
-use Rattle.fp_session.specs.declared.line.IncomingLine.{IncomingLine}
 use Rattle.fp_session.specs.declared.replies.Replies.{Replies}
 use Rattle.fp_session.specs.declared.replies.Telling.{Telling}
 use Rattle.fp_session.specs.declared.reply.Reply as code
@@ -138,11 +137,11 @@ cut line = take (LONGEST_LINE + 1) line
 
 -- each line that ended in `seen` was answered and is kept, and the last one hasn't ended
 pub record IsReading {E : Type 0} (store : Ghosts E) (first now : E) (seen sent : List ℕ)
-    (r : Replies) (l : IncomingLine) : Type 0 where
+    (r : Replies) (l : List ℕ) : Type 0 where
   pub done : List (List ℕ)
   pub line : List ℕ
   pub split : lines seen ≡ done ++ line ∷ []
-  pub held : l.bytes.items ≡ cut line
+  pub held : l ≡ cut line
   pub at : IsAt store first now (asked_by_lines done) sent r
   pub none : r.waiting.items ≡ []
 

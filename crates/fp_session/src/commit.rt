@@ -3,8 +3,8 @@
 ghost use Rattle.std.specs.Prelude.{◌≡◌, ◌≢◌, ◌⊎◌, ◌<◌, ◌≤◌, ◌+◌, ◌++◌, List, ℕ, [], ◌∷◌, length, IfOk, IfErr, MatchResult, OnOk, OnErr};
 ghost use Rattle.fp_disk.specs.Crashes.{AtAnyMoment, EachCrash, SameHonesty};
 ghost use Rattle.fp_disk.specs.History.{Makes, MakesSome};
-ghost use Rattle.fp_disk.specs.declared.history.CallKind.TheVariants.{Write};
-ghost use Rattle.fp_journal.specs.declared.journal.Phase.TheVariants.{Staged};
+ghost use Rattle.fp_disk.specs.declared.history.CallKind.TheVariants.{Sync, Write};
+ghost use Rattle.fp_journal.specs.declared.journal.Phase.TheVariants.{Failed, Staged};
 ghost use Rattle.fp_recovery.specs.Stands.{StandsFor};
 ghost use Rattle.fp_group_commit.specs.Calls.{MovesTo};
 ghost use Rattle.fp_group_commit.specs.Changes.{GoesOn, HasRoom};
@@ -77,6 +77,33 @@ fn seal<D: Disk>(store: &mut Store<D>, draw: Draw) -> Result<Receipt, CommitFaul
     if let Err(fault) = stage(store, draw) {
         return Err(fault);
     }
+    match seal_staged(store) {
+        Ok(receipt) => Ok(receipt),
+        Err(fault) => Err(fault),
+    }
+}
+
+/// Seals the batch that was written, by a call of the disk each.
+pub fn seal_staged<D: Disk>(store: &mut Store<D>) -> Result<Receipt, CommitFault>
+    requires staged { store.old.step ≡ Staged }
+    requires well { store.old.slots.journal.phase ≢ Failed }
+    ensures same { store.new.store ≡ store.old.store }
+    ensures sealed { OnOk result ((store.new.sealed ≡ store.old.sealed ++ store.old.staged)
+        × IsAtRest store.new × (store.new.slots.step ≡ store.old.slots.step)
+        × (D.faults store.new.slots.journal.disk ≡ D.faults store.old.slots.journal.disk)) }
+    ensures receipt { IfOk result (λ r. (r.store ≡ store.new.store) × (r.edits ≡ store.new.sealed)
+        × (r.batch.changes ≡ store.old.staged)
+        × (r.batch.first ≡ (kept store.old).revision + 1)) }
+    ensures cause { IfErr result (λ f. (f ≡ StoreFailed)
+        × (D.faults store.old.slots.journal.disk < D.faults store.new.slots.journal.disk)) }
+    ensures any_moment { AtAnyMoment D.Disk store.old.slots.journal.disk store.new.slots.journal.disk
+        (KeepsOrGains store.old store.old.staged) }
+    ensures called { Makes (Sync ∷ Write ∷ Sync ∷ []) (D.calls store.old.slots.journal.disk)
+        (D.calls store.new.slots.journal.disk) result }
+    ensures keeps { OnOk result (EachCrash D.Disk store.new.slots.journal.disk
+        (λ c. StandsFor c (kept store.new))) }
+    ensures honest { SameHonesty D.Disk store.old.slots.journal.disk store.new.slots.journal.disk }
+{
     let Ok(()) = store.sync_body() else {
         return Err(CommitFault::StoreFailed);
     };

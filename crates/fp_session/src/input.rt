@@ -141,13 +141,13 @@ fn answer_line<E: EditStore>(
     line: &mut IncomingLine,
 ) -> Result<(), ApplyFault>
     ensures answered { (first : E) (asked : List Ask) (sent bytes : List ℕ)
-        → line.old.bytes.items ≡ cut bytes → replies.old.waiting.items ≡ []
+        → line.old ≡ cut bytes → replies.old.waiting.items ≡ []
         → IsAt E.EditStore first edits.old asked sent replies.old → MatchResult result
         (λ _. IsAt E.EditStore first edits.new (asked ++ asked_by_lines (bytes ∷ [])) sent replies.new)
         (IsBroken E.EditStore 1 first edits.new (asked ++ asked_by_lines (bytes ∷ [])) sent
         replies.new) }
     ensures none { replies.old.waiting.items ≡ [] → OnOk result (replies.new.waiting.items ≡ []) }
-    ensures ended { line.new.bytes.items ≡ [] }
+    ensures ended { line.new ≡ [] }
     ensures fault { IfErr result IsFromWithin }
 {
     if let Some(edit) = line.end(alloc) {

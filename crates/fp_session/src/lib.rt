@@ -14,12 +14,14 @@ mod replies;
 mod reply;
 mod show;
 
-pub use commit::CommitFault;
+pub use commit::{CommitFault, seal_staged};
+pub use compacting::{go_on, make_room};
 pub use disk_session::DiskSession;
 pub use edit_store::EditStore;
 pub use fault::ApplyFault;
 pub use import::import_flags;
 pub use input::apply_lines;
 pub use laws::closes_and_opens;
+pub use line::{IncomingLine, newline_in};
 pub use reply::Reply;
 pub use show::shown;

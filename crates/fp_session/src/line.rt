@@ -8,6 +8,7 @@ ghost use Rattle.fp_session.specs.Progress.{AsksFor, cut};
 
 use fp_edit::{Edit, LONGEST_LINE, LineFault, parse_line};
 use std::alloc::{AllocError, Global};
+use std::marker::Model;
 
 /// The line that is coming in, at most one byte more of it than is looked at.
 #[derive(Drop)]
@@ -15,10 +16,18 @@ pub struct IncomingLine {
     bytes: Vec<u8>,
 }
 
+impl Model for IncomingLine {
+    ghost use Rattle.std.specs.Prelude.{ℕ, List};
+
+    ghost Value = { List ℕ };
+
+    ghost view = { λ l. l.bytes.items };
+}
+
 impl IncomingLine {
     /// Nothing has come in yet.
     pub fn new(alloc: Global) -> IncomingLine
-        ensures { result.bytes.items ≡ [] }
+        ensures { result ≡ [] }
     {
         IncomingLine {
             bytes: Vec::new(alloc),
@@ -27,8 +36,8 @@ impl IncomingLine {
 
     /// Adds to the line.
     pub fn extend(&mut self, piece: &[u8]) -> Result<(), AllocError>
-        ensures grown { OnOk result ((line : List ℕ) → self.old.bytes.items ≡ cut line
-            → self.new.bytes.items ≡ cut (line ++ piece.now)) }
+        ensures grown { OnOk result ((line : List ℕ) → self.old ≡ cut line
+            → self.new ≡ cut (line ++ piece.now)) }
     {
         let room = (LONGEST_LINE + 1).saturating_sub(self.bytes.len());
         let part = &piece[..piece.len().min(room)];
@@ -38,10 +47,10 @@ impl IncomingLine {
 
     /// Ends the line, and gives what it asks; a blank one asks nothing.
     pub fn end(&mut self, alloc: Global) -> Option<Result<Edit, LineFault>>
-        ensures asks { (line : List ℕ) → self.old.bytes.items ≡ cut line
+        ensures asks { (line : List ℕ) → self.old ≡ cut line
             → MatchOption result (lines.is_blank line ≡ true)
             (λ edit. (lines.is_blank line ≡ false) × AsksFor edit (line_of line)) }
-        ensures ended { self.new.bytes.items ≡ [] }
+        ensures ended { self.new ≡ [] }
     {
         let edit = asked_by(alloc, &self.bytes);
         self.bytes.clear();

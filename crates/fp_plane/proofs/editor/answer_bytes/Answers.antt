@@ -23,10 +23,10 @@ loop-at-preserved g c = (
       let found = newline_found rest at (sym c.newline_in.ensures.first ∙ c.in-Some.is) in
       let front = inv.0 ++ take at rest in let store = g.K.Naming.store in
       let held = g.O.Write.contents c.loop-at.w.inner in let then = g.O.Write.contents c.answer_line.new.w.inner in
-      let i = reading-more store c.loop-at.told inv.0 (take at rest) c.loop-at.line.bytes.items c.extend.new.self.bytes.items before held inv.2 found.one (c.in-Ok.ensures.grown inv.2.line inv.2.kept_is) in (
+      let i = reading-more store c.loop-at.told inv.0 (take at rest) c.loop-at.line c.extend.new.self before held inv.2 found.one (c.in-Ok.ensures.grown inv.2.line inv.2.kept_is) in (
         front ++ 10 ∷ [],
         ap (λ l. (front ++ 10 ∷ []) ++ l) (rest_is rest at) ∙ append_assoc front (10 ∷ []) (drop (at + 1) rest) ∙ regroup inv.0 rest (seen ++ c.args.bytes.now) at found inv.1,
-        reading-newline store c.loop-at.told c.answer_line.new.told front c.extend.new.self.bytes.items c.answer_line.new.line.bytes.items before held then i
+        reading-newline store c.loop-at.told c.answer_line.new.told front c.extend.new.self c.answer_line.new.line before held then i
             (c.in_ok-answer_line.ensures.answered (asked_by_lines i.done) i.line before i.kept_is i.served) c.answer_line.ensures.ended,
       ),
 )
@@ -35,5 +35,5 @@ pub returns-clause-answered : goal.returns-clause-answered
 returns-clause-answered g c = λ seen before h.
     let inv = c.loop-at.invariant.1 seen before h in let rest = c.loop-at.rest.now in let held = g.O.Write.contents c.loop-at.w.inner in
     let one : lines rest ≡ rest ∷ [] = newline_none rest (sym c.newline_in.ensures.first ∙ c.in_default.is) in
-    subst (λ (bs : List ℕ). IsReading g.K.Naming.store c.loop-at.told bs c.extend-2.new.self.bytes.items before held) inv.1
-    (reading-more g.K.Naming.store c.loop-at.told inv.0 rest c.loop-at.line.bytes.items c.extend-2.new.self.bytes.items before held inv.2 one (c.in-Ok-extend.ensures.grown inv.2.line inv.2.kept_is))
+    subst (λ (bs : List ℕ). IsReading g.K.Naming.store c.loop-at.told bs c.extend-2.new.self before held) inv.1
+    (reading-more g.K.Naming.store c.loop-at.told inv.0 rest c.loop-at.line c.extend-2.new.self before held inv.2 one (c.in-Ok-extend.ensures.grown inv.2.line inv.2.kept_is))

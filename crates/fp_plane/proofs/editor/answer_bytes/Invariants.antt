@@ -6,8 +6,8 @@ use Rattle.fp_plane.proofs.editor.answer_bytes.Given as goal
 abbrev pub invariant-loop-at : goal.invariant-loop-at
 invariant-loop-at g l = (l.w.failures ≡ l.initial.w.failures)
     × ((seen : List ℕ) (before : Option (List ℕ))
-    → IsReading g.K.Naming.store l.initial.told seen l.initial.line.bytes.items before (g.O.Write.contents l.initial.w.inner)
-    → (more : List ℕ) × (more ++ l.rest ≡ seen ++ l.bytes) × IsReading g.K.Naming.store l.told more l.line.bytes.items before (g.O.Write.contents l.w.inner))
+    → IsReading g.K.Naming.store l.initial.told seen l.initial.line before (g.O.Write.contents l.initial.w.inner)
+    → (more : List ℕ) × (more ++ l.rest ≡ seen ++ l.bytes) × IsReading g.K.Naming.store l.told more l.line before (g.O.Write.contents l.w.inner))
 
 abbrev pub decreases-loop-at : goal.decreases-loop-at
 decreases-loop-at g l = length l.rest

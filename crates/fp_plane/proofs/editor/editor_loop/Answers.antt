@@ -12,7 +12,7 @@ loop-told-init g c = (
   record {
     seen = [];
     part = λ input is. (input, is, refl);
-    reading = reading-none g.K.Naming.store c.new-line.result.bytes.items (g.O.Write.contents c.args.w.now.inner) c.new-line.ensures;
+    reading = reading-none g.K.Naming.store c.new-line.result (g.O.Write.contents c.args.w.now.inner) c.new-line.ensures;
   },
 )
 
@@ -35,6 +35,6 @@ returns-then-count-eq0-clause-served g c =
     let u = c.loop-told.invariant.2 in let store = g.K.Naming.store in let read = c.in_ok-count.ensures.bytes in
     let before = g.O.Write.contents c.args.w.now.inner in let held = g.O.Write.contents c.loop-told.w.inner in let then = g.O.Write.contents c.answer_line.new.w.inner in
     let reads = g.I.Read.remaining c.args.r.now.inner in let left = g.I.Read.remaining c.loop-told.r.inner in
-    served-whole store c.loop-told.told c.answer_line.new.told reads left c.loop-told.line.bytes.items before held then u
+    served-whole store c.loop-told.told c.answer_line.new.told reads left c.loop-told.line before held then u
     (part-whole reads left (g.I.Read.remaining c.read.new.self.inner) u.seen c.read.new.buf c.in_ok-count.count read.0 c.if-count-eq0.true (read.1 c.if-count-eq0.true (omega arith)) u.part)
     (c.in_ok-answer_line.ensures.answered (asked_by_lines u.reading.done) u.reading.line before u.reading.kept_is u.reading.served)

@@ -1,7 +1,7 @@
 use Rattle.std.proofs.Common.{◌≡◌}
-use Rattle.fp_group_commit.specs.Calls.{SameStore}
+use Rattle.fp_session.specs.Session.{KeepsAll}
 use Rattle.fp_plane.proofs.sealing.make_room.Given as goal
 
--- steps of a compaction leave what is sealed, and what is on its way
+-- steps of a compaction leave what is kept
 abbrev pub invariant-loop : goal.invariant-loop
-invariant-loop g l = SameStore l.initial.store l.store × (l.store.step ≡ l.initial.store.step)
+invariant-loop g l = KeepsAll g.D.Disk l.initial.store l.store

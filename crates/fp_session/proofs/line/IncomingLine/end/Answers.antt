@@ -16,4 +16,4 @@ returns-clause-asks c = λ line kept.
     let same = cut-same line in
     subst (λ (b : Bool). Asked c.asked_by-edit.result b (line_of line)) same.0
     (subst (λ (x : Ask). Asked c.asked_by-edit.result (lines.is_blank (cut line)) x) same.1
-    (subst (λ (l : List ℕ). Asked c.asked_by-edit.result (lines.is_blank l) (line_of l)) (c.deref.ensures.value ∙ kept) c.asked_by-edit.ensures))
+    (subst (λ (l : List ℕ). Asked c.asked_by-edit.result (lines.is_blank l) (line_of l)) (c.deref.ensures.value ∙ c.self.view_is ∙ kept) c.asked_by-edit.ensures))
