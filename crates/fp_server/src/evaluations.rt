@@ -1,7 +1,9 @@
 //! A plane's evaluator on loan to one connection.
 
 ghost use Rattle.std.specs.Prelude.{◌≡◌, ◌<◌, ◌^◌, IfOk, None};
+ghost use Rattle.std.specs.Coded.{codes};
 ghost use Rattle.std.specs.Option.{option_copied};
+ghost use Rattle.fp_edit.specs.Flags.{coded_state};
 ghost use Rattle.fp_group_commit.specs.Tokens.{FrontState, front_set};
 ghost use Rattle.fp_ofrep.specs.Reply.{reply};
 ghost use Rattle.fp_ofrep.specs.Seen.{body_seen, seen};
@@ -40,7 +42,7 @@ impl From<EvaluatorsUsed> for LoanFault {
 pub struct LentEvaluator<K: Naming, D: Disk + Drop, R: Wait + Copy + Drop> {
     plane: Plane<K, D, R>,
     evaluator: Evaluator,
-    ghost ours: { evaluator.known.store ≡ K.store },
+    ghost ours: { evaluator.known.store ≡ K.store } by { Prim.hlevel (codes, coded_state) },
 }
 
 impl<K: Naming, D: Disk + Drop, R: Wait + Copy + Drop> LentEvaluator<K, D, R> {

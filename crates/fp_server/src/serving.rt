@@ -1,6 +1,7 @@
 //! A store over sockets, from its opening to its end.
 
-ghost use Rattle.std.specs.Prelude.{◌≡◌, ◌<◌, ◌^◌, IfSome};
+ghost use Rattle.std.specs.Prelude.{◌≡◌, ◌<◌, ◌^◌, ◌++◌, ◌∷◌, [], IfOk, IfErr, IfSome};
+ghost use Rattle.fp_files.specs.Openings.{KeepsOthers};
 ghost use Rattle.fp_journal.specs.declared.journal.Phase.TheVariants.{Idle};
 
 use crate::host::Host;
@@ -148,6 +149,8 @@ where
     F::Disk: Drop + Send + 'static,
     I: Read,
     O: Write,
+    ensures asked { F.asked files.new ≡ F.asked files.old ++ path.now ∷ [] }
+    ensures others { KeepsOthers F.at files.old files.new path.now }
 {
     let disk = files.open(path)?;
     let (store, opening) = match Store::open(rt.alloc(), disk) {
@@ -161,17 +164,24 @@ where
         files.close(path, store.into_disk());
         return Err(CommandFault::Device);
     };
-    let (store, outcome) = serve_store(rt, store, opening, listeners, r, w);
-    let revision = store.as_ref().map(|store| store.revision());
-    if let Some(store) = store {
-        files.close(path, store.into_disk());
+    match serve_store(rt, store, opening, listeners, r, w) {
+        Ok(store) => {
+            let revision = store.revision();
+            files.close(path, store.into_disk());
+            w.say(&format_args!("stopped at revision {revision}"))?;
+            Ok(())
+        }
+        Err((fault, store)) => {
+            if let Some(store) = store {
+                files.close(path, store.into_disk());
+            }
+            Err(fault)
+        }
     }
-    outcome?;
-    if let Some(revision) = revision {
-        w.say(&format_args!("stopped at revision {revision}"))?;
-    }
-    Ok(())
 }
+
+/// A store that isn't served any more, and why; none where it was lost with a thread that couldn't be had.
+type Given<D> = Result<Store<D>, (CommandFault, Option<Store<D>>)>;
 
 // Names the store, and serves it.
 fn serve_store<D, R, I, O>(
@@ -181,7 +191,7 @@ fn serve_store<D, R, I, O>(
     listeners: Listeners,
     r: &mut FailureCounted<I>,
     w: &mut FailureCounted<O>,
-) -> (Option<Store<D>>, Result<(), CommandFault>)
+) -> Given<D>
 where
     D: Disk + Drop + Send + 'static,
     R: Host,
@@ -189,12 +199,13 @@ where
     O: Write,
     requires ours { opening ≡ store.store }
     requires idle { store.step ≡ Idle }
-    ensures same { IfSome result.0 (λ s. s.store ≡ store.store) }
+    ensures same { IfOk result (λ s. s.store ≡ store.store) }
+    ensures given_back { IfErr result (λ e. IfSome e.1 (λ s. s.store ≡ store.store)) }
 {
     serve_named::<Brand, D, R, I, O>(rt, store, opening, listeners, r, w)
 }
 
-// Serves a store over the plane of its name. Where no thread can be had for it, the store is lost.
+// Serves a store over the plane of its name.
 fn serve_named<K, D, R, I, O>(
     rt: &R,
     store: Store<D>,
@@ -202,7 +213,7 @@ fn serve_named<K, D, R, I, O>(
     listeners: Listeners,
     r: &mut FailureCounted<I>,
     w: &mut FailureCounted<O>,
-) -> (Option<Store<D>>, Result<(), CommandFault>)
+) -> Given<D>
 where
     K: Naming + Send + Sync + 'static,
     D: Disk + Drop + Send + 'static,
@@ -212,27 +223,24 @@ where
     requires ours { store.store ≡ K.store }
     requires opening { opening ≡ K.store }
     requires idle { store.step ≡ Idle }
-    ensures same { IfSome result.0 (λ s. s.store ≡ K.store) }
+    ensures same { IfOk result (λ s. s.store ≡ K.store) }
+    ensures given_back { IfErr result (λ e. IfSome e.1 (λ s. s.store ≡ K.store)) }
 {
     let plane: Plane<K, D, R> = match Plane::new(*rt, rt.alloc(), opening) {
         Ok(plane) => plane,
-        Err(fault) => return (Some(store), Err(fault.into())),
+        Err(fault) => return Err((fault.into(), Some(store))),
     };
     let (Ok(flushed), Ok(last)) = (plane.try_copy(), plane.try_copy()) else {
-        return (Some(store), Err(CommandFault::Memory));
+        return Err((CommandFault::Memory, Some(store)));
     };
-    if let Err(fault) = begin_flusher(rt, flushed, store) {
-        return (None, Err(fault));
+    if begin_flusher(rt, flushed, store).is_err() {
+        return Err((CommandFault::Memory, None));
     }
     serve_plane(rt, &plane, last, listeners, r, w)
 }
 
 // Begins the thread that seals.
-fn begin_flusher<K, D, R>(
-    rt: &R,
-    plane: Plane<K, D, R>,
-    store: Store<D>,
-) -> Result<(), CommandFault>
+fn begin_flusher<K, D, R>(rt: &R, plane: Plane<K, D, R>, store: Store<D>) -> io::Result<()>
 where
     K: Naming + Send + Sync + 'static,
     D: Disk + Drop + Send + 'static,
@@ -241,10 +249,8 @@ where
     requires idle { store.step ≡ Idle }
 {
     let own = OwnStore::new(store);
-    match thread::spawn(rt, move || flusher(&plane, own)) {
-        Ok(_thread) => Ok(()),
-        Err(_) => Err(CommandFault::Memory),
-    }
+    let _thread = thread::spawn(rt, move || flusher(&plane, own))?;
+    Ok(())
 }
 
 // Serves a plane, whose flusher runs, until the input ends. `last` is a handle to stop it by.
@@ -255,25 +261,26 @@ fn serve_plane<K, D, R, I, O>(
     listeners: Listeners,
     r: &mut FailureCounted<I>,
     w: &mut FailureCounted<O>,
-) -> (Option<Store<D>>, Result<(), CommandFault>)
+) -> Given<D>
 where
     K: Naming + Send + Sync + 'static,
     D: Disk + Drop + Send + 'static,
     R: Host,
     I: Read,
     O: Write,
-    ensures same { IfSome result.0 (λ s. s.store ≡ K.store) }
+    ensures same { IfOk result (λ s. s.store ≡ K.store) }
+    ensures given_back { IfErr result (λ e. IfSome e.1 (λ s. s.store ≡ K.store)) }
 {
     let Ok(services) = Services::begin(rt, listeners, plane) else {
-        return (Some(last.stop()), Err(CommandFault::Device));
+        return Err((CommandFault::Device, Some(last.stop())));
     };
     let attended = services.attend(r, w);
     services.edit.close(Shutdown::Read);
     let store = last.stop();
     services.end();
-    let failed = plane.has_failed();
     match attended {
-        Ok(()) if failed => (Some(store), Err(CommandFault::StoreFailed)),
-        ended => (Some(store), ended),
+        Err(fault) => Err((fault, Some(store))),
+        Ok(()) if plane.has_failed() => Err((CommandFault::StoreFailed, Some(store))),
+        Ok(()) => Ok(store),
     }
 }
