@@ -12,6 +12,6 @@ mod slot;
 pub use chain::{BodyFault, ChainFault, Reader, read_chain};
 pub use framed::Framed;
 pub use journal::{Journal, Phase};
-pub use opening::{BytesFault, resume, synced_bytes};
+pub use opening::{BytesFault, read_bytes, resume, synced_bytes};
 pub use sealed::{Body, Sealed};
 pub use slot::Slot;

@@ -40,6 +40,24 @@ impl From<AllocError> for BytesFault {
     }
 }
 
+/// All bytes of a disk. Nothing is changed on it.
+pub fn read_bytes<D: Disk>(alloc: Global, disk: &mut D) -> Result<Vec<u8>, BytesFault>
+    ensures bytes { D.honest disk.old → IfOk result (λ v. v.items ≡ D.bytes disk.old) }
+    ensures same { D.honest disk.old → (D.bytes disk.new ≡ D.bytes disk.old)
+        × (D.unsynced disk.new ≡ D.unsynced disk.old) }
+    ensures any_moment { AtAnyMoment D.Disk disk.old disk.new (IsOutcome (D.unsynced disk.old)) }
+    ensures honest { SameHonesty D.Disk disk.old disk.new }
+    ensures called { Makes (Length ∷ Read ∷ []) (D.calls disk.old) (D.calls disk.new) result }
+    ensures no_failure { OnOk result (D.faults disk.new ≡ D.faults disk.old) }
+    ensures cause { IsErrOf result Device → D.faults disk.old < D.faults disk.new }
+{
+    let len = disk.len()?;
+    let mut bytes = Vec::new(alloc);
+    bytes.resize(len as usize, 0)?;
+    disk.read_at(0, &mut bytes)?;
+    Ok(bytes)
+}
+
 /// All bytes of a disk. They are synced before they are read, so that no crash takes back what was read.
 pub fn synced_bytes<D: Disk>(alloc: Global, disk: &mut D) -> Result<Vec<u8>, BytesFault>
     ensures bytes { D.honest disk.old → IfOk result (λ v. v.items ≡ D.bytes disk.old) }
@@ -54,10 +72,7 @@ pub fn synced_bytes<D: Disk>(alloc: Global, disk: &mut D) -> Result<Vec<u8>, Byt
     ensures cause { IsErrOf result Device → D.faults disk.old < D.faults disk.new }
 {
     disk.sync()?;
-    let len = disk.len()?;
-    let mut bytes = Vec::new(alloc);
-    bytes.resize(len as usize, 0)?;
-    disk.read_at(0, &mut bytes)?;
+    let bytes = read_bytes(alloc, disk)?;
     Ok(bytes)
 }
 

@@ -13,5 +13,5 @@ pub use fault::OpenFault;
 pub use format::{CreateFault, create};
 pub use head::{Head, read_head};
 pub use header::read_header;
-pub use opening::{SlotReader, open};
+pub use opening::{Place, SlotReader, open, read_disk};
 pub use size::SlotSize;

@@ -1,7 +1,7 @@
 //! A disk that is there, opened.
 
 ghost use Rattle.fp_disk.specs.Crashes.{SameHonesty};
-ghost use Rattle.std.specs.Prelude.{◌≡◌, ◌≤◌, ◌<◌, ◌+◌, ◌-◌, ◌/◌, [], ◌∷◌, ◌++◌, List, ℕ, ◌↔◌, IsTrue, slice_index, length, IfOk, IfErr, OnOk, MatchResult, IsErrOf};
+ghost use Rattle.std.specs.Prelude.{◌≡◌, ◌≢◌, ◌≤◌, ◌<◌, ◌+◌, ◌-◌, ◌/◌, [], ◌∷◌, ◌++◌, List, ℕ, ◌↔◌, IsTrue, slice_index, slice_range, length, IfOk, IfErr, OnOk, MatchResult, IsErrOf};
 ghost use Rattle.fp_disk.specs.History.{MakesSome};
 ghost use Rattle.fp_disk.specs.declared.history.CallKind.TheVariants.{Length, Read, Sync};
 ghost use Rattle.fp_disk.specs.Outcomes.{IsOutcome, LeavesOnly, all_synced};
@@ -22,7 +22,7 @@ use crate::head::{Head, read_head};
 use crate::header::read_header;
 use crate::size::SlotSize;
 use fp_disk::Disk;
-use fp_journal::{BodyFault, Reader, resume, synced_bytes};
+use fp_journal::{BodyFault, Reader, Slot, read_chain, resume, synced_bytes};
 use fp_slots::{Active, IMAGE_PLACE, Slots, pick};
 use std::alloc::Global;
 
@@ -91,6 +91,31 @@ fn read_front<R: SlotReader>(bytes: &[u8], reader: &mut R) -> Result<Front, Open
         Err(BodyFault::BadBody { at }) => Err(OpenFault::Damaged { at: place + at }),
         Err(BodyFault::Memory) => Err(OpenFault::Memory),
     }
+}
+
+/// Where a disk goes on: the slot that rules, and the closed gate behind what stands in it.
+#[derive(Clone, Copy, Debug)]
+pub struct Place {
+    /// The slot that rules.
+    pub slot: Slot,
+    /// The place of the gate.
+    pub gate: u64,
+}
+
+/// Gives a reader what stands in the slot that rules, of all the bytes of a disk.
+pub fn read_disk<R: SlotReader>(bytes: &[u8], reader: &mut R) -> Result<Place, OpenFault>
+    ensures found { IfOk result (λ p. FoundDisk R.begins R.takes bytes.now reader.old reader.new
+        p.slot (slice_range bytes.now p.slot.start p.gate)) }
+    ensures gate { IfOk result (λ p.
+        p.gate ≡ p.slot.start + length (slice_range bytes.now p.slot.start p.gate)) }
+    ensures fault { IfErr result
+        (RefusesDisk R.begins R.rejects R.takes R.refuses bytes.now reader.old) }
+    ensures no_device { IfErr result (λ e. e ≢ Device) }
+{
+    let front = read_front(bytes, reader)?;
+    let slot = front.active.slot;
+    let gate = read_chain(bytes, front.at, slot, reader)?;
+    Ok(Place { slot, gate })
 }
 
 /// Opens a disk: gives what stands in the slot that rules to the reader, and goes on behind it.

@@ -27,7 +27,7 @@ use Rattle.fp_slots.specs.declared.places.TheConstants.{VERSION}
 use Rattle.fp_slots.proofs.Ruling.{rules_shut, rules_older}
 use Rattle.fp_record.specs.WellFormed.{IsImage}
 use Rattle.fp_record.specs.Encoding.{encoding_of_image}
-use Rattle.fp_recovery.specs.Stands.{IsImageOf, TakesBatch, Spells, StandsFor}
+use Rattle.fp_recovery.specs.Stands.{IsImageOf, TakesBatch, Spells, StandsFor, gate_of}
 use Rattle.fp_recovery.specs.Refusals.{BeginsWith}
 use Rattle.fp_recovery.specs.Durable.{IsKept, IsNewSetOrNone, IsDurable}
 use Rattle.fp_recovery.proofs.Restored.{image_of, entries-empty}
@@ -211,6 +211,13 @@ module _ (c : List ℕ) (before set : State) (slot : Slot) (front : List ℕ) (f
       let all = text_long c f.begun.size slot f.begun.other set found_read in let place = f.begun.place in let end = f.chain.place in
       let len : length front ≡ length text = omega (arith, all, place, end) in
       f.front_is ∙ ap (λ (n : ℕ). slice_range c slot.start (slot.start + n)) len ∙ range_held c slot.start text there
+
+  -- and its slot, and the gate behind the text, are those of what it stands for
+  pub found_at : (slot ≡ slot_of found_stands.size found_stands.side) × (slot.start + length front ≡ gate_of found_stands)
+  unfolding found_stands read_stands found_read
+  found_at =
+      let is = f.begun.active.slot_is in
+      (is, ap (λ (s : Slot). s.start + length front) is ∙ ap (λ (t : List ℕ). (slot_of f.begun.size f.begun.active.side).start + length t) found_front)
 
   pub found_kept : {D : Type 0} (u : PendingState) (journal : JournalState D) → journal.slot ≡ slot → journal.front ≡ front → journal.sealed ≡ [] → u ≡ all_synced c → IsKept u set journal
   found_kept u journal slot_is front_is none sure = read_kept c f.begun.size slot f.begun.other set found_read u journal slot_is (front_is ∙ found_front) none sure

@@ -8,3 +8,4 @@ pub mod Texts
 pub mod One
 pub mod Refused
 pub mod OneFault
+pub mod Recovered

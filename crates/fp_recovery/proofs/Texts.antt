@@ -162,7 +162,7 @@ module _ (c : List ℕ) (size : ℕ) (slot other : Slot) (s : State) (r : IsRead
         leads = r.leads;
       }
 
-  pub read_stands : StandsFor c s
+  unfoldable pub read_stands : StandsFor c s
   read_stands =
       let tells : Tells slot other text_read c = record { rules = r.active.rules; ends = read_ends } in record {
         size = size;

@@ -5,3 +5,4 @@ pub mod Durable
 pub mod Room
 pub mod Laws
 pub mod Exact
+pub mod Recovered

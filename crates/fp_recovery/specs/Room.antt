@@ -4,15 +4,11 @@ use Rattle.fp_disk.specs.Outcomes.{PendingState, IsOutcome}
 use Rattle.fp_edit.specs.Flags.{State}
 use Rattle.fp_journal.specs.State.{JournalState, room}
 use Rattle.fp_layout.specs.Size.{slot_of}
-use Rattle.fp_recovery.specs.Stands.{StandsFor}
+use Rattle.fp_recovery.specs.Stands.{StandsFor, gate_of}
 
 -- the journal has no room for a batch of n bytes; its gate, the number of its length and the gate behind it take six bytes more
 abbrev pub HasNoRoom : {D : Type 0} → JournalState D → ℕ → Type 0
 HasNoRoom journal n = (journal.slot.most < n) ⊎ (room journal < 6 + n)
-
--- the place of the closed gate behind the text by which bytes stand for a set
-abbrev pub gate_of : {c : List ℕ} {s : State} → StandsFor c s → ℕ
-gate_of stands = (slot_of stands.size stands.side).start + length stands.text
 
 -- the bytes stand for the set in that generation, and a batch of n bytes is longer than their slot takes, or would reach
 -- past its end

@@ -76,3 +76,7 @@ pub record StandsFor (c : List ℕ) (s : State) : Type 0 where
   pub header : IsHeader c size
   pub tells : Tells (slot_of size side) (slot_of size (other_side side)) text c
   pub spells : Spells size text s
+
+-- the place of the closed gate behind the text by which bytes stand for a set
+abbrev pub gate_of : {c : List ℕ} {s : State} → StandsFor c s → ℕ
+gate_of stands = (slot_of stands.size stands.side).start + length stands.text

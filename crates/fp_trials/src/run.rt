@@ -11,7 +11,9 @@ const ON_BYTES: [&str; 9] = [
 
 const ON_FAULTS: [&str; 5] = ["fuse", "fail", "calm", "crash", "calls"];
 
-const ON_WORLD: [&str; 7] = ["create", "open", "close", "show", "marks", "size", "room"];
+const ON_WORLD: [&str; 8] = [
+    "create", "open", "close", "recover", "show", "marks", "size", "room",
+];
 
 const ON_EVENTS: [&str; 7] = [
     "draw",

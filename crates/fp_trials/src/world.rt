@@ -8,19 +8,48 @@ use crate::trial::{Answer, Fault, Held, OpenWorld, Trial};
 use fp_disk::MemoryDisk;
 use fp_edit::FlagSet;
 use fp_group_commit::{CreateFault, Opening, Store};
+use fp_layout::Place;
+use fp_recovery::recover;
 use fp_world::Committer;
 use std::alloc::Global;
 
 /// A store as it was made or opened, and its opening.
 pub type Begun = (Store<MemoryDisk>, Opening);
 
-/// `create SIZE`, `open`, `close`, `show`, `marks`, `size`, `room`.
+/// `create SIZE`, `open`, `close`, `recover`, `show`, `marks`, `size`, `room`.
 pub fn on_world(trial: &mut Trial, word: &str, args: &mut Args<'_>) -> Answer {
     match word {
         "create" => create(trial, args.number()),
         "close" => close(trial),
+        "recover" => recovered(trial),
         _ => opened(trial, word),
     }
+}
+
+// What the disk stands for, and where, by the call that changes nothing.
+fn recovered(trial: &mut Trial) -> Answer {
+    let mut disk = trial.take_disk();
+    let found = place_of(trial.alloc, &mut disk);
+    trial.put_disk(disk);
+    match found {
+        Ok((revision, place)) => say_place(revision, place, &mut trial.text),
+        Err(fault) => trial.fault(fault),
+    }
+}
+
+// The revision of the set that a disk stands for, and where the disk goes on.
+fn place_of(alloc: Global, disk: &mut MemoryDisk) -> Result<(u64, Place), Fault> {
+    match recover(alloc, disk) {
+        Ok((set, place)) => Ok((set.revision(), place)),
+        Err(fault) => Err(fault.into()),
+    }
+}
+
+fn say_place(revision: u64, place: Place, out: &mut Text) -> Answer {
+    out.named("revision", revision);
+    out.named(" in the slot at", place.slot.start);
+    out.named(", gate at", place.gate);
+    Answer::Text
 }
 
 fn close(trial: &mut Trial) -> Answer {
