@@ -13,13 +13,14 @@ const ON_FAULTS: [&str; 5] = ["fuse", "fail", "calm", "crash", "calls"];
 
 const ON_WORLD: [&str; 7] = ["create", "open", "close", "show", "marks", "size", "room"];
 
-const ON_EVENTS: [&str; 7] = [
+pub const ON_EVENTS: [&str; 8] = [
     "draw",
     "stage",
     "sync-body",
     "open-gate",
     "sync-gate",
     "settle",
+    "compact",
     "ack",
 ];
 
