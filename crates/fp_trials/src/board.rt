@@ -187,13 +187,13 @@ impl OpenBoard {
     /// So many seats are asked for: how many are given.
     pub fn sit(&mut self, count: u64) -> Answer {
         let _ = &self.board;
-        let mut given = 0u64;
+        let before = self.places.len();
         for _ in 0..count {
-            if sat(&mut self.seats, &mut self.places) {
-                given = given.saturating_add(1);
+            if sit_down(&mut self.seats, &mut self.places).is_err() {
+                return Answer::NoMemory;
             }
         }
-        Answer::Named("seated", given)
+        Answer::Named("seated", self.places.len().saturating_sub(before) as u64)
     }
 
     /// A seat is given back.
@@ -272,12 +272,12 @@ impl OpenBoard {
     }
 }
 
-// Whether a subscriber gets a seat.
-fn sat(seats: &mut Seats, places: &mut Vec<Seat>) -> bool {
-    match seats.seat(Hello::Nothing) {
-        Ok(seat) => places.push(seat).is_ok(),
-        Err(_) => false,
+// A subscriber gets a seat, where one is free.
+fn sit_down(seats: &mut Seats, places: &mut Vec<Seat>) -> Result<(), AllocError> {
+    if let Ok(seat) = seats.seat(Hello::Nothing) {
+        places.push(seat)?;
     }
+    Ok(())
 }
 
 // The revision of what is lent.
