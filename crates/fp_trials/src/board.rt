@@ -12,7 +12,8 @@ use fp_desk::Desk;
 use fp_disk::MemoryDisk;
 use fp_group_commit::{Opening, Store};
 use fp_ofrep::{Body, Reply, answer};
-use fp_publish::{Board, Evaluator, View};
+use fp_publish::{Board, Evaluator, Seat, Seats, View};
+use fp_stream::Hello;
 use http::Method;
 use std::alloc::{AllocError, Global};
 use std::marker::Model;
@@ -26,6 +27,8 @@ pub struct OpenBoard {
     board: Board,
     first: Option<Evaluator>,
     second: Option<Evaluator>,
+    seats: Seats,
+    places: Vec<Seat>,
 }
 
 impl Model for OpenBoard {
@@ -75,11 +78,11 @@ impl OpenBoard {
         let Ok(board) = Board::new(rt, alloc, &desk, places) else {
             return Err((Fault::Memory, store.into_disk()));
         };
-        Ok(OpenBoard::begun(store, desk, board))
+        Ok(OpenBoard::begun(alloc, store, desk, board))
     }
 
     // A board that shows all that its desk has settled, without evaluators.
-    fn begun(store: Store<MemoryDisk>, desk: Desk, board: Board) -> OpenBoard
+    fn begun(alloc: Global, store: Store<MemoryDisk>, desk: Desk, board: Board) -> OpenBoard
         requires store { desk.store ≡ store.store }
         requires shown { board ≡ settled_front desk }
     {
@@ -89,6 +92,8 @@ impl OpenBoard {
             board,
             first: None,
             second: None,
+            seats: Seats::new(),
+            places: Vec::new(alloc),
         }
     }
 
@@ -100,6 +105,8 @@ impl OpenBoard {
             board,
             first,
             second,
+            seats: _,
+            places: _,
         } = self;
         drop(first);
         drop(second);
@@ -177,6 +184,30 @@ impl OpenBoard {
         }
     }
 
+    /// So many seats are asked for: how many are given.
+    pub fn sit(&mut self, count: u64) -> Answer {
+        let _ = &self.board;
+        let before = self.places.len();
+        for _ in 0..count {
+            if sit_down(&mut self.seats, &mut self.places).is_err() {
+                return Answer::NoMemory;
+            }
+        }
+        Answer::Named("seated", self.places.len().saturating_sub(before) as u64)
+    }
+
+    /// A seat is given back.
+    pub fn stand(&mut self) -> Answer {
+        let _ = &self.board;
+        match self.places.pop() {
+            Some(seat) => {
+                self.seats.unseat(seat);
+                Answer::Done
+            }
+            None => Answer::Word("nobody sits"),
+        }
+    }
+
     /// `enter`, `rest`, `learn`, `leave` of the evaluator at this place.
     pub fn turn(&mut self, word: &str, place: &str) -> Answer {
         let Some(evaluator) = self.take(place) else {
@@ -241,6 +272,14 @@ impl OpenBoard {
     }
 }
 
+// A subscriber gets a seat, where one is free.
+fn sit_down(seats: &mut Seats, places: &mut Vec<Seat>) -> Result<(), AllocError> {
+    if let Ok(seat) = seats.seat(Hello::Nothing) {
+        places.push(seat)?;
+    }
+    Ok(())
+}
+
 // The revision of what is lent.
 fn at(view: Option<View<'_>>) -> Answer {
     match view {
@@ -276,8 +315,8 @@ fn reply_over(
     )
 }
 
-// The status, the revision and the body.
-fn say_reply(reply: &Reply, out: &mut Text) -> Answer {
+/// The status, the revision and the body.
+pub fn say_reply(reply: &Reply, out: &mut Text) -> Answer {
     out.number(u64::from(reply.status.as_u16()));
     out.push(" ");
     if let Some(revision) = reply.headers.flag_revision {

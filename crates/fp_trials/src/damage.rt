@@ -98,9 +98,11 @@ fn add(tallies: &mut Vec<Tally>, found: Found, out: &mut Text) {
     }
 }
 
-fn tell_tallies(tallies: &[Tally], out: &mut Text) {
+fn tell_tallies(tallies: &[Tally], between: &str, out: &mut Text) {
     for tally in tallies {
-        out.part();
+        if !out.is_empty() {
+            out.push(between);
+        }
         out.number(tally.count);
         out.push(" ");
         tell_found(tally.found, out);
@@ -142,11 +144,12 @@ fn flip(alloc: Global, bytes: &[u8], at: u64, row: &mut Text) {
             add(&mut tallies, found_with(alloc, bytes, at, byte), row);
         }
     }
-    tell_tallies(&tallies, row);
+    tell_tallies(&tallies, ", ", row);
 }
 
-// Each of these disks is opened or refused by a fault of its bytes, or memory is wanting.
+// How many of these disks are opened, or refused by which fault of their bytes: a line for each.
 fn seeds(bytes: &[u8], args: &mut Args<'_>, out: &mut Text) -> Answer {
+    let mut tallies = Vec::new(args.alloc);
     let count = args.number();
     let from = args.number();
     let length = args.number().saturating_sub(from).max(1);
@@ -154,12 +157,10 @@ fn seeds(bytes: &[u8], args: &mut Args<'_>, out: &mut Text) -> Answer {
     for _ in 0..count {
         seed = next_seed(seed);
         let at = from.saturating_add(seed % length);
-        if found_with(args.alloc, bytes, at, changed(bytes, at, seed)) == Found::NoMemory {
-            return Answer::NoMemory;
-        }
+        let found = found_with(args.alloc, bytes, at, changed(bytes, at, seed));
+        add(&mut tallies, found, out);
     }
-    out.number(count);
-    out.push(" opened or refused");
+    tell_tallies(&tallies, "\n", out);
     Answer::Text
 }
 

@@ -1,26 +1,34 @@
 //! The world's events, one at a time and in courses.
 
-use crate::text::Args;
+use crate::board::say_reply;
+use crate::text::{Args, Text};
 use crate::trial::{Answer, Fault, Held, Trial};
 use crate::world::open;
 use fp_desk::SubmitFault;
 use fp_disk::MemoryDisk;
 use fp_edit::{Edit, EditFault};
 use fp_group_commit::StoreFault;
+use fp_slots::Step;
 use fp_world::{Answer as Reply, Committer, Event};
 
-/// `draw`, `stage`, `sync-body`, `open-gate`, `sync-gate`, `settle`, `ack REVISION`.
+/// `draw`, `stage`, `sync-body`, `open-gate`, `sync-gate`, `settle`, `compact`, `ack REVISION`.
 pub fn on_events(trial: &mut Trial, word: &str, args: &mut Args<'_>) -> Answer {
-    let event = match word {
+    let event = event_of(word, args);
+    answer_to(trial, &event)
+}
+
+/// The event of such a word.
+pub fn event_of(word: &str, args: &mut Args<'_>) -> Event {
+    match word {
         "draw" => Event::Draw,
         "stage" => Event::Stage,
         "sync-body" => Event::SyncBody,
         "open-gate" => Event::OpenGate,
         "sync-gate" => Event::SyncGate,
         "settle" => Event::Settle,
+        "compact" => Event::Compact,
         _ => Event::Ack(args.number()),
-    };
-    answer_to(trial, &event)
+    }
 }
 
 /// `submit EDIT`, `submits COUNT EDIT`, `edit EDIT`, `with EDIT`, `batch CALLS`.
@@ -44,9 +52,9 @@ fn wait_with(trial: &mut Trial, args: &mut Args<'_>) -> Answer {
     }
 }
 
-// What an event is answered.
+/// What an event is answered.
 #[derive(Clone, Copy)]
-enum Became {
+pub enum Became {
     Fault(StoreFault),
     Ticket(u64),
     Acked(u64),
@@ -57,7 +65,8 @@ enum Became {
     Told(Answer),
 }
 
-fn became_of(reply: &Reply) -> Became {
+/// What this answer is. Its text, if it has one, is put behind this one.
+pub fn became_of(reply: &Reply, out: &mut Text) -> Became {
     match reply {
         Reply::Memory => Became::Told(Answer::NoMemory),
         Reply::NotNow => Became::NotNow,
@@ -71,27 +80,61 @@ fn became_of(reply: &Reply) -> Became {
         Reply::Settled(revision) => Became::Told(Answer::Named("settled", *revision)),
         Reply::Acked(revision) => Became::Acked(*revision),
         Reply::Waiting => Became::Waiting,
-        // A world without a board publishes nothing.
-        _ => Became::Told(Answer::NotUnderstood),
+        Reply::Phase(next) => Became::Told(Answer::Word(next_step(*next))),
+        reply => Became::Told(shown_of(reply, out)),
     }
 }
 
-fn stepped(world: &mut Committer<MemoryDisk>, event: &Event) -> Became {
+// The step of a compaction that is the next one.
+fn next_step(step: Step) -> &'static str {
+    match step {
+        Step::Begin => "next begin",
+        Step::Close => "next close",
+        Step::SyncClose => "next sync-close",
+        Step::Part => "next part",
+        Step::Tail => "next tail",
+        Step::SyncBody => "next sync-body",
+        Step::Open => "next open",
+        Step::SyncOpen => "next sync-open",
+    }
+}
+
+// What a subscriber or an evaluator is answered, and the publisher.
+fn shown_of(reply: &Reply, out: &mut Text) -> Answer {
+    match reply {
+        Reply::Published(revision) => Answer::Named("published", *revision),
+        Reply::Nothing => Answer::Word("nothing"),
+        Reply::Handed(handed) => {
+            out.named("handed", handed.revision());
+            out.push(" ");
+            out.bytes(handed.document());
+            Answer::Text
+        }
+        Reply::Reply(revision, reply) => {
+            out.named("reply", *revision);
+            out.push(": ");
+            say_reply(reply, out)
+        }
+        _ => Answer::NotUnderstood,
+    }
+}
+
+fn stepped(world: &mut Committer<MemoryDisk>, event: &Event, out: &mut Text) -> Became {
     let reply = world.step(event);
-    became_of(&reply)
+    became_of(&reply, out)
 }
 
 // What the event is answered. One for which memory was wanting is asked once more.
-fn asked(world: &mut Committer<MemoryDisk>, event: &Event) -> Became {
-    match stepped(world, event) {
-        Became::Told(Answer::NoMemory) => stepped(world, event),
+fn asked(world: &mut Committer<MemoryDisk>, event: &Event, out: &mut Text) -> Became {
+    match stepped(world, event, out) {
+        Became::Told(Answer::NoMemory) => stepped(world, event, out),
         became => became,
     }
 }
 
 fn happens(trial: &mut Trial, event: &Event) -> Became {
     let became = match &mut trial.held {
-        Held::Open(open) => asked(&mut open.world, event),
+        Held::Open(open) => asked(&mut open.world, event, &mut trial.text),
         Held::Closed(_) => Became::Told(Answer::NotUnderstood),
     };
     if let Became::Acked(revision) = became {
@@ -105,7 +148,8 @@ fn answer_to(trial: &mut Trial, event: &Event) -> Answer {
     answer_of(trial, became)
 }
 
-fn answer_of(trial: &Trial, became: Became) -> Answer {
+/// What is told of it.
+pub fn answer_of(trial: &Trial, became: Became) -> Answer {
     match became {
         Became::Fault(fault) => not_done(trial, fault),
         Became::Ticket(revision) => Answer::Named("ticket", revision),

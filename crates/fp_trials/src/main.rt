@@ -12,10 +12,13 @@ mod journal;
 mod parts;
 mod run;
 mod script;
+mod seeded;
 mod seeds;
 mod sweep;
 mod text;
+mod told;
 mod trial;
+mod whole;
 mod world;
 
 use crate::script::Script;

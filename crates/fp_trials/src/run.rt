@@ -15,13 +15,14 @@ const ON_WORLD: [&str; 8] = [
     "create", "open", "close", "recover", "show", "marks", "size", "room",
 ];
 
-const ON_EVENTS: [&str; 7] = [
+pub const ON_EVENTS: [&str; 8] = [
     "draw",
     "stage",
     "sync-body",
     "open-gate",
     "sync-gate",
     "settle",
+    "compact",
     "ack",
 ];
 

@@ -2,9 +2,11 @@
 
 use crate::board::OpenBoard;
 use crate::run::{repeat, step};
+use crate::seeded::on_seeds;
 use crate::sweep::{rounds, sweep};
 use crate::text::{Args, Text, first_word};
 use crate::trial::{Answer, Fault, Trial};
+use crate::whole::{Whole, is_of_world, on_whole};
 use fp_commands::command;
 use fp_files::SystemFiles;
 use fp_publish::MOST_EVALUATORS;
@@ -15,11 +17,12 @@ use std::rt::Files;
 use std::sync::Wait;
 use std::{fs, mem};
 
-/// What answers the lines of a file: what they work on, the board that is open, and the block that is open, if there are any.
+/// What answers the lines of a file: what they work on; the board, the world and the block that are open, if there are any.
 pub struct Script<'a, R: Files + AllocGlobal + Wait> {
     rt: &'a R,
     trial: Trial,
     board: Option<OpenBoard>,
+    world: Option<Whole>,
     block: Block,
     out: Text,
 }
@@ -39,6 +42,7 @@ impl<'a, R: Files + AllocGlobal + Wait> Script<'a, R> {
             rt,
             trial: Trial::new(alloc),
             board: None,
+            world: None,
             block: Block {
                 head: Text::new(alloc),
                 lines: Vec::new(alloc),
@@ -47,18 +51,26 @@ impl<'a, R: Files + AllocGlobal + Wait> Script<'a, R> {
         }
     }
 
-    /// Ends the board, if one is open.
+    /// Ends the board and the world that are open.
     pub fn end(self) {
         let Script {
             rt,
             trial: _,
             board,
+            world,
             block: _,
             out: _,
         } = self;
         if let Some(board) = board {
             let _disk = board.end(rt);
         }
+        end_world(rt, world);
+    }
+}
+
+fn end_world<R: Wait>(rt: &R, world: Option<Whole>) {
+    if let Some(world) = world {
+        let _disk = world.into_disk(rt);
     }
 }
 
@@ -83,7 +95,13 @@ impl<'a, R: Files + AllocGlobal + Wait> Script<'a, R> {
         } else if let Some(head) = head_of(line) {
             self.block.head.push(head);
         } else {
-            let answer = alone(self.rt, &mut self.trial, &mut self.board, line);
+            let answer = alone(
+                self.rt,
+                &mut self.trial,
+                &mut self.board,
+                &mut self.world,
+                line,
+            );
             answer.tell(&self.trial.text, &mut self.out);
         }
     }
@@ -120,7 +138,9 @@ fn run_block(trial: &mut Trial, block: &mut Block, out: &mut Text) {
 // The words of commands that can't stand in a block.
 const OVER_FILES: [&str; 4] = ["$", "load", "save", "rounds"];
 
-const OF_BOARD: [&str; 13] = [
+const OF_SEEDS: [&str; 2] = ["worlds", "stops"];
+
+const OF_BOARD: [&str; 15] = [
     "board",
     "end-board",
     "queue",
@@ -134,20 +154,31 @@ const OF_BOARD: [&str; 13] = [
     "learn",
     "leave",
     "ask",
+    "sit",
+    "stand",
 ];
 
-// What works on a board, what can't stand in a block, and any other line.
+// What works on a world or on a board, what can't stand in a block, and any other line.
 fn alone<R: Files + AllocGlobal + Wait>(
     rt: &R,
     trial: &mut Trial,
     board: &mut Option<OpenBoard>,
+    world: &mut Option<Whole>,
     line: &str,
 ) -> Answer {
     let mut args = Args::of(trial.alloc, line);
     let word = args.word();
-    if OF_BOARD.contains(&word) {
+    if is_of_world(word, world) {
+        trial.text.clear();
+        let answer = on_whole(rt, trial, world, word, &mut args);
+        args.judged(answer)
+    } else if OF_BOARD.contains(&word) {
         trial.text.clear();
         let answer = with_board(rt, trial, board, word, &mut args);
+        args.judged(answer)
+    } else if OF_SEEDS.contains(&word) {
+        trial.text.clear();
+        let answer = on_seeds(rt, trial, word, &mut args);
         args.judged(answer)
     } else if OVER_FILES.contains(&word) {
         trial.text.clear();
@@ -326,6 +357,8 @@ fn on_board<R: Wait>(
         "published" => board.published(&mut trial.text),
         "evaluator" => board.seat(args.rest),
         "ask" => board.ask(trial, args),
+        "sit" => board.sit(args.number()),
+        "stand" => board.stand(),
         // There is a board already.
         _ => Answer::NotUnderstood,
     }

@@ -8,8 +8,8 @@ use crate::text::{Args, Text};
 use crate::trial::{Answer, Fault, Trial};
 use fp_disk::{Choice, FailedWrite, Failing, Fill};
 
-// What becomes of pending bytes.
-const FILLS: [Fill; 8] = [
+/// What becomes of pending bytes.
+pub const FILLS: [Fill; 8] = [
     Fill::Old,
     Fill::New,
     Fill::Byte(0xa5),
