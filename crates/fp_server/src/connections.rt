@@ -2,9 +2,8 @@
 
 use std::alloc::{AllocError, Global};
 use std::net::{Shutdown, TcpStream};
-use std::sync::{Arc, Condvar, Mutex, Wait};
+use std::sync::{Arc, Condvar, CondvarTimeouts, Mutex, Wait};
 use std::time::{Clock, Duration};
-use std::sync::CondvarTimeouts;
 
 // The open streams, each in a place of its own.
 #[derive(Drop)]

@@ -8,8 +8,7 @@ use std::thread::Threads;
 use std::time::Clock;
 
 /// A runtime with threads, sockets, memory, a clock and random numbers, which each thread has a copy of.
-pub trait Host:
-    Wait
+pub trait Host: Wait
     + Threads
     + Clock
     + RandomSource
@@ -19,11 +18,10 @@ pub trait Host:
     + Send
     + Sync
     + Drop
-    + 'static
-{
-}
+    + 'static {}
 
-impl<R> Host for R where
+impl<R> Host for R
+where
     R: Wait
         + Threads
         + Clock
@@ -34,6 +32,5 @@ impl<R> Host for R where
         + Send
         + Sync
         + Drop
-        + 'static
-{
-}
+        + 'static,
+{}

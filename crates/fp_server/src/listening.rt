@@ -6,57 +6,48 @@ use crate::roles::{Role, converse};
 use fp_disk::Disk;
 use fp_plane::{Naming, Plane};
 use std::alloc::AllocError;
-use std::io;
 use std::net::{IpAddr, Ipv4Addr, Shutdown, SocketAddr, TcpListener, TcpStream};
-use std::thread;
 use std::time::Duration;
+use std::{io, thread};
 
 /// Where a listener was bound, and its connections.
-/// Where this is let go of, all is closed.
-pub struct Listening<R: Host> {
+#[derive(Drop)]
+pub struct Listening<R: Drop> {
     rt: R,
     bound: SocketAddr,
     connections: Connections<R>,
 }
 
-impl<R: Host> Drop for Listening<R> {
-    fn drop(self) {
-        let Self {
-            rt,
-            bound,
-            connections,
-        } = self;
-        close(&rt, bound, &connections, Shutdown::Both);
-    }
-}
-
-/// Accepts connections in a thread of its own, at most so many at once, and serves each in one more.
-pub fn listen<K, D, R>(
-    rt: &R,
-    listener: TcpListener,
-    role: Role,
-    most: usize,
-    plane: &Plane<K, D, R>,
-) -> io::Result<Listening<R>>
-where
-    K: Naming + Send + Sync + 'static,
-    D: Disk + Drop + Send + 'static,
-    R: Host,
-{
-    let bound = listener.local_addr()?;
-    let connections = Connections::new(*rt, rt.alloc(), most)?;
-    let theirs = connections.try_copy()?;
-    let plane = plane.try_copy()?;
-    let own = *rt;
-    let _started = thread::spawn(rt, move || accept(&own, &listener, role, &theirs, &plane))?;
-    Ok(Listening {
-        rt: *rt,
-        bound,
-        connections,
-    })
-}
-
 impl<R: Host> Listening<R> {
+    /// Of no connection yet, and at most so many at once.
+    pub fn of(rt: &R, listener: &TcpListener, most: usize) -> io::Result<Listening<R>> {
+        Ok(Listening {
+            rt: *rt,
+            bound: listener.local_addr()?,
+            connections: Connections::new(*rt, rt.alloc(), most)?,
+        })
+    }
+
+    /// Accepts connections in a thread of its own, and serves each in one more.
+    pub fn start<K, D>(
+        &self,
+        listener: TcpListener,
+        role: Role,
+        plane: &Plane<K, D, R>,
+    ) -> io::Result<()>
+    where
+        K: Naming + Send + Sync + 'static,
+        D: Disk + Drop + Send + 'static,
+    {
+        let connections = self.connections.try_copy()?;
+        let plane = plane.try_copy()?;
+        let own = self.rt;
+        let _started = thread::spawn(&self.rt, move || {
+            accept(&own, &listener, role, &connections, &plane);
+        })?;
+        Ok(())
+    }
+
     /// Where it was bound.
     pub fn bound(&self) -> SocketAddr {
         self.bound
@@ -64,19 +55,15 @@ impl<R: Host> Listening<R> {
 
     /// Lets no connection in any more, and ends reads or writes that wait on those that are open.
     pub fn close(&self, how: Shutdown) {
-        close(&self.rt, self.bound, &self.connections, how);
+        self.connections.close(how);
+        // The thread that accepts wakes by one more.
+        let _ = TcpStream::connect(&self.rt, reached(self.bound));
     }
 
     /// Waits until no connection is open, for no longer than this.
     pub fn wait(&self, most: Duration) {
         self.connections.wait(most);
     }
-}
-
-// Closes the connections, and wakes the thread that accepts them by one more.
-fn close<R: Host>(rt: &R, bound: SocketAddr, connections: &Connections<R>, how: Shutdown) {
-    connections.close(how);
-    let _ = TcpStream::connect(rt, reached(bound));
 }
 
 // Where what is bound to all of this machine's addresses is reached.
@@ -96,7 +83,8 @@ fn accept<K, D, R>(
     role: Role,
     connections: &Connections<R>,
     plane: &Plane<K, D, R>,
-) where
+)
+where
     K: Naming + Send + Sync + 'static,
     D: Disk + Drop + Send + 'static,
     R: Host,

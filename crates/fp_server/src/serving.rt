@@ -5,7 +5,7 @@ ghost use Rattle.fp_files.specs.Openings.{KeepsOthers};
 ghost use Rattle.fp_journal.specs.declared.journal.Phase.TheVariants.{Idle};
 
 use crate::host::Host;
-use crate::listening::{Listening, listen};
+use crate::listening::Listening;
 use crate::roles::Role;
 use fp_commands::CommandFault;
 use fp_disk::Disk;
@@ -14,12 +14,11 @@ use fp_group_commit::{Opening, Store};
 use fp_plane::{Naming, OwnStore, Plane, flusher};
 use fp_publish::{MOST_EVALUATORS, MOST_SEATS};
 use fp_streams::FailureCounted;
-use std::io;
 use std::io::{Read, Write};
 use std::marker::Brand;
 use std::net::{Shutdown, SocketAddrV4, TcpListener};
-use std::thread;
 use std::time::{Clock, Duration, SystemTime, UNIX_EPOCH};
+use std::{io, thread};
 
 /// How many editors there may be at once.
 pub const MOST_EDITORS: usize = 32;
@@ -79,7 +78,15 @@ struct Services<R: Host> {
 }
 
 impl<R: Host> Services<R> {
-    fn begin<K, D>(rt: &R, listeners: Listeners, plane: &Plane<K, D, R>) -> io::Result<Services<R>>
+    fn of(rt: &R, listeners: &Listeners) -> io::Result<Services<R>> {
+        Ok(Services {
+            ofrep: Listening::of(rt, &listeners.ofrep, MOST_EVALUATORS)?,
+            edit: Listening::of(rt, &listeners.edit, MOST_EDITORS)?,
+            stream: Listening::of(rt, &listeners.stream, MOST_SEATS)?,
+        })
+    }
+
+    fn start<K, D>(&self, listeners: Listeners, plane: &Plane<K, D, R>) -> io::Result<()>
     where
         K: Naming + Send + Sync + 'static,
         D: Disk + Drop + Send + 'static,
@@ -89,23 +96,28 @@ impl<R: Host> Services<R> {
             edit,
             stream,
         } = listeners;
-        Ok(Services {
-            ofrep: listen(rt, ofrep, Role::Evaluations, MOST_EVALUATORS, plane)?,
-            edit: listen(rt, edit, Role::Edits, MOST_EDITORS, plane)?,
-            stream: listen(rt, stream, Role::Snapshots, MOST_SEATS, plane)?,
-        })
+        self.ofrep.start(ofrep, Role::Evaluations, plane)?;
+        self.edit.start(edit, Role::Edits, plane)?;
+        self.stream.start(stream, Role::Snapshots, plane)
     }
 
-    // Says where it listens, and waits for the input's end.
-    fn attend<I, O>(
+    // Lets connections in, says where, and waits for the input's end.
+    fn attend<K, D, I, O>(
         &self,
+        listeners: Listeners,
+        plane: &Plane<K, D, R>,
         r: &mut FailureCounted<I>,
         w: &mut FailureCounted<O>,
     ) -> Result<(), CommandFault>
     where
+        K: Naming + Send + Sync + 'static,
+        D: Disk + Drop + Send + 'static,
         I: Read,
         O: Write,
     {
+        if self.start(listeners, plane).is_err() {
+            return Err(CommandFault::Device);
+        }
         w.say(&format_args!("ofrep {}", self.ofrep.bound()))?;
         w.say(&format_args!("edit {}", self.edit.bound()))?;
         w.say(&format_args!("stream {}", self.stream.bound()))?;
@@ -271,10 +283,10 @@ where
     ensures same { IfOk result (λ s. s.store ≡ K.store) }
     ensures given_back { IfErr result (λ e. IfSome e.1 (λ s. s.store ≡ K.store)) }
 {
-    let Ok(services) = Services::begin(rt, listeners, plane) else {
+    let Ok(services) = Services::of(rt, &listeners) else {
         return Err((CommandFault::Device, Some(last.stop())));
     };
-    let attended = services.attend(r, w);
+    let attended = services.attend(listeners, plane, r, w);
     services.edit.close(Shutdown::Read);
     let store = last.stop();
     services.end();

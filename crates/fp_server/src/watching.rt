@@ -20,5 +20,10 @@ where
         return Err(WatchFault::Device);
     };
     write_hello(&mut FailureCounted::new(&stream), Hello::Nothing)?;
-    watch_loop(rt.alloc(), &mut FailureCounted::new(&stream), w, Hello::Nothing)
+    watch_loop(
+        rt.alloc(),
+        &mut FailureCounted::new(&stream),
+        w,
+        Hello::Nothing,
+    )
 }
