@@ -20,6 +20,7 @@ pub fn on_input(trial: &mut Trial, word: &str, args: &mut Args<'_>) -> Answer {
     if word == "input" {
         line.push("\n");
     }
+    args.is_short = args.is_short || line.is_short;
     trial.wait(line.as_str().as_bytes())
 }
 
@@ -80,7 +81,7 @@ pub fn on_commands(trial: &mut Trial, word: &str, rest: &str) -> Answer {
     let outcome = run(trial, word, rest == "broken", room as usize);
     trial.told = told_in(trial.text.as_str(), trial.told);
     match outcome {
-        Ok(true) if trial.text.is_empty() => Answer::Done,
+        Ok(true) if trial.text.is_empty() && !trial.text.is_short => Answer::Done,
         Ok(true) => Answer::Text,
         Ok(false) => Answer::NoMemory,
         Err(fault) => stopped(trial, rest, &fault),

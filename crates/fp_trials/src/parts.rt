@@ -244,8 +244,11 @@ fn draws(args: &mut Args<'_>, desk: &mut Desk)
     let (own, other) = args.rest.split_once(" / ").unwrap_or((args.rest, ""));
     args.rest = own;
     if own != "nothing" {
-        let _ticket = taken(args, desk);
-        let _drawn = drawn(desk);
+        let ticket = taken(args, desk);
+        let batch = drawn(desk);
+        args.is_short = args.is_short
+            || matches!(ticket, Answer::NoMemory)
+            || matches!(batch, Answer::NoMemory);
     }
     args.rest = other;
 }

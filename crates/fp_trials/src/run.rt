@@ -121,6 +121,9 @@ fn row(trial: &mut Trial, word: &str, block: &[String], out: &mut Text) {
 fn step_with(trial: &mut Trial, word: &str, line: &str) -> Answer {
     let mut with = Text::new(trial.alloc);
     with.replaced(line, "%", word);
+    if with.is_short {
+        return Answer::NoMemory;
+    }
     step(trial, with.as_str())
 }
 
