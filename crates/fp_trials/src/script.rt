@@ -94,6 +94,7 @@ impl<'a, R: Files + AllocGlobal + Wait> Script<'a, R> {
             push_line(&mut self.block, line, &mut self.out);
         } else if let Some(head) = head_of(line) {
             self.block.head.push(head);
+            self.out.is_short = self.block.head.is_short;
         } else {
             let answer = alone(
                 self.rt,
