@@ -79,7 +79,7 @@ fn seal<D: Disk>(store: &mut Store<D>, draw: Draw) -> Result<Receipt, CommitFaul
     }
     match seal_staged(store) {
         Ok(receipt) => Ok(receipt),
-        Err(fault) => Err(fault),
+        Err(why) => Err(why),
     }
 }
 
