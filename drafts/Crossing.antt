@@ -1,3 +1,4 @@
+-- Definitions and sets of flags may cross threads.
 use denote.Exit.{no}
 use denote.Param.Send.{IsSend, IsSync, AllSend, AllSync, sendable, arg_send, param_send, view_send, view_sync, recorded_send, recorded_sync, struct_send, struct_sync}
 use denote.Struct.Declared.{shape}
