@@ -144,8 +144,8 @@ ReadsNext disk slots = disk.honest slots.journal.disk → slots.journal.phase �
     → (size : ℕ) (s t : State) → IsKeptIn (disk.unsynced slots.journal.disk) slots size s
     → LeadsTo slots size s t → StandsFor (disk.bytes slots.journal.disk) t
 
--- where none runs and none can begin, no gate was begun, and the slot that rules has no room for a body
--- of n bytes: neither has whatever a crash leaves, nor a generation more
+-- where none runs, no gate was begun, and the slot that rules has no room for a body of n bytes: neither has whatever
+-- a crash leaves, and that is of the same generation
 abbrev pub IsFullNow : {D : Type 0} → Ghosts D → SlotsState D → Type 0
 IsFullNow disk slots = disk.honest slots.journal.disk → slots.step ≡ Begin
     → has_begun slots.journal.phase slots.journal.begun ≡ false → (size : ℕ) (s : State)

@@ -1,4 +1,4 @@
--- Disks that have no room for one batch more, and none to make.
+-- Disks that have no room for one batch more.
 use Rattle.std.specs.Prelude.{◌≡◌, ◌⊎◌, ◌<◌, ◌+◌, ℕ, List, length}
 use Rattle.fp_disk.specs.Outcomes.{PendingState, IsOutcome}
 use Rattle.fp_edit.specs.Flags.{State}

@@ -186,8 +186,8 @@ MayStep m = (m.compaction.next ≡ Begin → m.compaction.generation + 1 < 2 ^ 6
     × (m.compaction.next ≡ Tail → is_flying m.progress ≡ false)
 
 -- One step of it. As it begins, an image of the sealed set is to be written, behind a head and all but its
--- gate. A Part writes one part of it. At the last step the next generation rules, and as much room is there
--- as the new slot has behind what it holds; at each other the room stays
+-- gate. A Part writes one part of it. At the last step the next generation rules, with a room of which nothing is said
+-- here; at each other the room stays
 pub record Compacts (old new : Commits) : Type 0 where
   pub next : new.compaction.next ≡ next_step old.compaction.next old.compaction.left
   pub begun : old.compaction.next ≡ Begin → (new.compaction.left + 1
