@@ -229,6 +229,13 @@ impl<K: Naming, D: Disk + Drop, R: Wait + Drop> Hall<K, D, R> {
         self.has_failed = true;
     }
 
+    /// Whether the store failed.
+    pub fn has_failed(&self) -> bool
+        ensures { result ≡ self.now.failed }
+    {
+        self.has_failed
+    }
+
     /// No edit is taken any more. What waits goes on.
     pub fn close(&mut self)
         ensures { self.new ≡ record self.old {

@@ -129,6 +129,11 @@ impl<K: Naming, D: Disk + Drop, R: Wait + Drop> Plane<K, D, R> {
 
     // ---- the end
 
+    /// Whether the store failed: no edit is taken any more, and none is settled.
+    pub fn has_failed(&self) -> bool {
+        self.shared.hall.lock(&self.shared.rt).has_failed()
+    }
+
     /// No edit is taken any more. Waits until what was taken is settled and the flusher has ended, and gives its store back.
     pub fn stop(self) -> Store<D>
         ensures { result.store ≡ K.store }

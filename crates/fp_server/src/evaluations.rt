@@ -1,0 +1,86 @@
+//! A plane's evaluator on loan to one connection.
+
+ghost use Rattle.std.specs.Prelude.{◌≡◌, ◌<◌, ◌^◌, IfOk, None};
+ghost use Rattle.std.specs.Coded.{codes};
+ghost use Rattle.std.specs.Option.{option_copied};
+ghost use Rattle.fp_edit.specs.Flags.{coded_state};
+ghost use Rattle.fp_group_commit.specs.Tokens.{FrontState, front_set};
+ghost use Rattle.fp_ofrep.specs.Reply.{reply};
+ghost use Rattle.fp_ofrep.specs.Seen.{body_seen, seen};
+
+use fp_disk::Disk;
+use fp_http::{Evaluator as Answers, NoReply};
+use fp_ofrep::{Body, Reply};
+use fp_plane::{EvaluatorsUsed, Naming, Plane};
+use fp_publish::Evaluator;
+use http::Method;
+use std::alloc::{AllocError, Global};
+use std::sync::Wait;
+
+/// Why a connection got no evaluator.
+#[derive(Debug, Drop, Clone, Copy, PartialEq, Eq)]
+pub enum LoanFault {
+    /// Somebody has each.
+    Used,
+    /// There was no memory.
+    Memory,
+}
+
+impl From<AllocError> for LoanFault {
+    fn from(_fault: AllocError) -> LoanFault {
+        LoanFault::Memory
+    }
+}
+
+impl From<EvaluatorsUsed> for LoanFault {
+    fn from(_fault: EvaluatorsUsed) -> LoanFault {
+        LoanFault::Used
+    }
+}
+
+/// An evaluator of a plane, which is given back where this is let go of.
+pub struct LentEvaluator<K: Naming, D: Disk + Drop, R: Wait + Copy + Drop> {
+    plane: Plane<K, D, R>,
+    evaluator: Evaluator,
+    ghost ours: { evaluator.known.store ≡ K.store } by { Prim.hlevel (codes, coded_state) },
+}
+
+impl<K: Naming, D: Disk + Drop, R: Wait + Copy + Drop> LentEvaluator<K, D, R> {
+    /// One that nobody has.
+    pub fn of(plane: &Plane<K, D, R>) -> Result<LentEvaluator<K, D, R>, LoanFault> {
+        let plane = plane.try_copy()?;
+        let evaluator = plane.evaluator()?;
+        Ok(LentEvaluator { plane, evaluator })
+    }
+}
+
+impl<K: Naming, D: Disk + Drop, R: Wait + Copy + Drop> Drop for LentEvaluator<K, D, R> {
+    fn drop(self) {
+        let Self { plane, evaluator } = self;
+        plane.give_back(evaluator);
+    }
+}
+
+impl<K: Naming, D: Disk + Drop, R: Wait + Copy + Drop> Answers for LentEvaluator<K, D, R> {
+    // The reply over the flags of one front of the plane's store.
+    ghost replies = { λ method target tags body now said. (front : FrontState)
+        × (front.store ≡ K.store) × (said ≡ reply (front_set front) method target tags body now) };
+
+    fn answer(
+        &mut self,
+        alloc: Global,
+        method: &Method,
+        target: &str,
+        if_none_match: Option<&[u8]>,
+        body: Body<'_>,
+        now: u64,
+    ) -> Result<Reply, NoReply>
+        requires { now < 2 ^ 63 }
+        ensures { IfOk result (λ r. (front : FrontState) × (front.store ≡ K.store) × (seen r
+            ≡ reply (front_set front) method.now target.now (option_copied if_none_match.entry)
+            (body_seen body.entry) now)) }
+    {
+        self.evaluator
+            .answer(alloc, method, target, if_none_match, body, now)
+    }
+}

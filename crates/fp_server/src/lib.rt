@@ -1,0 +1,16 @@
+//! The service: a store over sockets, for editors, evaluators and subscribers at once.
+#![tactic(auto)]
+
+mod connections;
+mod evaluations;
+mod host;
+mod listening;
+mod roles;
+mod serving;
+mod task;
+mod watching;
+
+pub use host::Host;
+pub use serving::{Addresses, moment, serve};
+pub use task::{Task, task_of};
+pub use watching::watch;

@@ -1,0 +1,131 @@
+//! One listener and its connections.
+
+use crate::connections::Connections;
+use crate::host::Host;
+use crate::roles::{Role, converse};
+use fp_disk::Disk;
+use fp_plane::{Naming, Plane};
+use std::alloc::AllocError;
+use std::net::{IpAddr, Ipv4Addr, Shutdown, SocketAddr, TcpListener, TcpStream};
+use std::time::Duration;
+use std::{io, thread};
+
+/// Where a listener was bound, and its connections.
+#[derive(Drop)]
+pub struct Listening<R: Drop> {
+    rt: R,
+    bound: SocketAddr,
+    connections: Connections<R>,
+}
+
+impl<R: Host> Listening<R> {
+    /// Of no connection yet, and at most so many at once.
+    pub fn of(rt: &R, listener: &TcpListener, most: usize) -> io::Result<Listening<R>> {
+        Ok(Listening {
+            rt: *rt,
+            bound: listener.local_addr()?,
+            connections: Connections::new(*rt, rt.alloc(), most)?,
+        })
+    }
+
+    /// Accepts connections in a thread of its own, and serves each in one more.
+    pub fn start<K, D>(
+        &self,
+        listener: TcpListener,
+        role: Role,
+        plane: &Plane<K, D, R>,
+    ) -> io::Result<()>
+    where
+        K: Naming + Send + Sync + 'static,
+        D: Disk + Drop + Send + 'static,
+    {
+        let connections = self.connections.try_copy()?;
+        let plane = plane.try_copy()?;
+        let own = self.rt;
+        let _started = thread::spawn(&self.rt, move || {
+            accept(&own, &listener, role, &connections, &plane);
+        })?;
+        Ok(())
+    }
+
+    /// Where it was bound.
+    pub fn bound(&self) -> SocketAddr {
+        self.bound
+    }
+
+    /// Lets no connection in any more, and ends reads or writes that wait on those that are open.
+    pub fn close(&self, how: Shutdown) {
+        self.connections.close(how);
+        // The thread that accepts wakes by one more.
+        let _ = TcpStream::connect(&self.rt, reached(self.bound));
+    }
+
+    /// Waits until no connection is open, for no longer than this.
+    pub fn wait(&self, most: Duration) {
+        self.connections.wait(most);
+    }
+}
+
+// Where what is bound to all of this machine's addresses is reached.
+fn reached(bound: SocketAddr) -> SocketAddr {
+    match bound.ip() {
+        IpAddr::V4(ip) if ip.is_unspecified() => {
+            SocketAddr::new(IpAddr::V4(Ipv4Addr::LOCALHOST), bound.port())
+        }
+        _ => bound,
+    }
+}
+
+// Lets connections in until they are closed.
+fn accept<K, D, R>(
+    rt: &R,
+    listener: &TcpListener,
+    role: Role,
+    connections: &Connections<R>,
+    plane: &Plane<K, D, R>,
+)
+where
+    K: Naming + Send + Sync + 'static,
+    D: Disk + Drop + Send + 'static,
+    R: Host,
+{
+    for _ in rt.forever() {
+        let accepted = listener.accept();
+        if connections.is_closed() {
+            return;
+        }
+        match accepted {
+            Ok((stream, _peer)) => {
+                let _ = begin(rt, stream, role, connections, plane);
+            }
+            // What is wanting may be there again soon.
+            Err(_) => thread::sleep(rt, Duration::from_millis(10)),
+        }
+    }
+}
+
+// Serves a connection in a thread of its own. Where there is no place for it, it is closed.
+fn begin<K, D, R>(
+    rt: &R,
+    stream: TcpStream,
+    role: Role,
+    connections: &Connections<R>,
+    plane: &Plane<K, D, R>,
+) -> Result<(), AllocError>
+where
+    K: Naming + Send + Sync + 'static,
+    D: Disk + Drop + Send + 'static,
+    R: Host,
+{
+    let Some(place) = connections.admit(&stream) else {
+        return Ok(());
+    };
+    let plane = plane.try_copy()?;
+    let own = *rt;
+    let started = thread::spawn(rt, move || {
+        converse(&own, role, &plane, stream);
+        drop(place);
+    });
+    if let Ok(_handle) = started {}
+    Ok(())
+}

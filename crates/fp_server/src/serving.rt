@@ -1,0 +1,298 @@
+//! A store over sockets, from its opening to its end.
+
+ghost use Rattle.std.specs.Prelude.{◌≡◌, ◌<◌, ◌^◌, ◌++◌, ◌∷◌, [], IfOk, IfErr, IfSome};
+ghost use Rattle.fp_files.specs.Openings.{KeepsOthers};
+ghost use Rattle.fp_journal.specs.declared.journal.Phase.TheVariants.{Idle};
+
+use crate::host::Host;
+use crate::listening::Listening;
+use crate::roles::Role;
+use fp_commands::CommandFault;
+use fp_disk::Disk;
+use fp_files::DiskFiles;
+use fp_group_commit::{Opening, Store};
+use fp_plane::{Naming, OwnStore, Plane, flusher};
+use fp_publish::{MOST_EVALUATORS, MOST_SEATS};
+use fp_streams::FailureCounted;
+use std::io::{Read, Write};
+use std::marker::Brand;
+use std::net::{Shutdown, SocketAddrV4, TcpListener};
+use std::time::{Clock, Duration, SystemTime, UNIX_EPOCH};
+use std::{io, thread};
+
+/// How many editors there may be at once.
+pub const MOST_EDITORS: usize = 32;
+
+// The last moment that a reply knows.
+const LAST_MOMENT: u64 = 0x7fff_ffff_ffff_ffff;
+
+// How many seconds a connection has to take its last replies, and then to end.
+const GRACE: u64 = 2;
+
+/// The seconds since 1970, and 0 before it or without a clock.
+pub fn moment<R: Clock>(rt: &R) -> u64
+    ensures { result < 2 ^ 63 }
+{
+    let Ok(now) = SystemTime::now(rt) else {
+        return 0;
+    };
+    match now.duration_since(UNIX_EPOCH) {
+        Ok(since) => since.as_secs().min(LAST_MOMENT),
+        Err(_) => 0,
+    }
+}
+
+/// Where a service listens.
+#[derive(Debug, Drop, Clone, Copy, PartialEq, Eq)]
+pub struct Addresses {
+    /// For evaluations by OFREP.
+    pub ofrep: SocketAddrV4,
+    /// For edits.
+    pub edit: SocketAddrV4,
+    /// For snapshots.
+    pub stream: SocketAddrV4,
+}
+
+#[derive(Drop)]
+struct Listeners {
+    ofrep: TcpListener,
+    edit: TcpListener,
+    stream: TcpListener,
+}
+
+impl Listeners {
+    fn bind<R: Host>(rt: &R, addresses: &Addresses) -> io::Result<Listeners> {
+        Ok(Listeners {
+            ofrep: TcpListener::bind(rt, addresses.ofrep)?,
+            edit: TcpListener::bind(rt, addresses.edit)?,
+            stream: TcpListener::bind(rt, addresses.stream)?,
+        })
+    }
+}
+
+#[derive(Drop)]
+struct Services<R: Host> {
+    ofrep: Listening<R>,
+    edit: Listening<R>,
+    stream: Listening<R>,
+}
+
+impl<R: Host> Services<R> {
+    fn of(rt: &R, listeners: &Listeners) -> io::Result<Services<R>> {
+        Ok(Services {
+            ofrep: Listening::of(rt, &listeners.ofrep, MOST_EVALUATORS)?,
+            edit: Listening::of(rt, &listeners.edit, MOST_EDITORS)?,
+            stream: Listening::of(rt, &listeners.stream, MOST_SEATS)?,
+        })
+    }
+
+    fn start<K, D>(&self, listeners: Listeners, plane: &Plane<K, D, R>) -> io::Result<()>
+    where
+        K: Naming + Send + Sync + 'static,
+        D: Disk + Drop + Send + 'static,
+    {
+        let Listeners {
+            ofrep,
+            edit,
+            stream,
+        } = listeners;
+        self.ofrep.start(ofrep, Role::Evaluations, plane)?;
+        self.edit.start(edit, Role::Edits, plane)?;
+        self.stream.start(stream, Role::Snapshots, plane)
+    }
+
+    // Lets connections in, says where, and waits for the input's end.
+    fn attend<K, D, I, O>(
+        &self,
+        listeners: Listeners,
+        plane: &Plane<K, D, R>,
+        r: &mut FailureCounted<I>,
+        w: &mut FailureCounted<O>,
+    ) -> Result<(), CommandFault>
+    where
+        K: Naming + Send + Sync + 'static,
+        D: Disk + Drop + Send + 'static,
+        I: Read,
+        O: Write,
+    {
+        if self.start(listeners, plane).is_err() {
+            return Err(CommandFault::Device);
+        }
+        w.say(&format_args!("ofrep {}", self.ofrep.bound()))?;
+        w.say(&format_args!("edit {}", self.edit.bound()))?;
+        w.say(&format_args!("stream {}", self.stream.bound()))?;
+        let mut bytes = [0; 512];
+        for _ in 0..u64::MAX {
+            if r.read(&mut bytes)? == 0 {
+                break;
+            }
+        }
+        Ok(())
+    }
+
+    // Ends all connections. What is under way may be taken before.
+    fn end(self) {
+        let grace = Duration::from_secs(GRACE);
+        let services = [&self.edit, &self.stream, &self.ofrep];
+        for how in [Shutdown::Read, Shutdown::Both] {
+            for service in services {
+                service.close(how);
+            }
+            for service in services {
+                service.wait(grace);
+            }
+        }
+    }
+}
+
+/// Serves the file at this path to editors, evaluators and subscribers, until the input ends. Then what was handed in is
+/// sealed, those who wait are answered, and `stopped at revision N` is written. A store that failed is a fault at that end.
+pub fn serve<R, F, I, O>(
+    rt: &R,
+    files: &mut F,
+    path: &str,
+    addresses: &Addresses,
+    r: &mut FailureCounted<I>,
+    w: &mut FailureCounted<O>,
+) -> Result<(), CommandFault>
+where
+    R: Host,
+    F: DiskFiles,
+    F::Disk: Drop + Send + 'static,
+    I: Read,
+    O: Write,
+    ensures asked { F.asked files.new ≡ F.asked files.old ++ path.now ∷ [] }
+    ensures others { KeepsOthers F.at files.old files.new path.now }
+{
+    let disk = files.open(path)?;
+    let (store, opening) = match Store::open(rt.alloc(), disk) {
+        Ok(opened) => opened,
+        Err((fault, disk)) => {
+            files.close(path, disk);
+            return Err(fault.into());
+        }
+    };
+    let Ok(listeners) = Listeners::bind(rt, addresses) else {
+        files.close(path, store.into_disk());
+        return Err(CommandFault::Device);
+    };
+    match serve_store(rt, store, opening, listeners, r, w) {
+        Ok(store) => {
+            let revision = store.revision();
+            files.close(path, store.into_disk());
+            w.say(&format_args!("stopped at revision {revision}"))?;
+            Ok(())
+        }
+        Err((fault, store)) => {
+            if let Some(store) = store {
+                files.close(path, store.into_disk());
+            }
+            Err(fault)
+        }
+    }
+}
+
+/// A store that isn't served any more, and why; none where it was lost with a thread that couldn't be had.
+type Given<D> = Result<Store<D>, (CommandFault, Option<Store<D>>)>;
+
+// Names the store, and serves it.
+fn serve_store<D, R, I, O>(
+    rt: &R,
+    store: Store<D>,
+    opening: Opening,
+    listeners: Listeners,
+    r: &mut FailureCounted<I>,
+    w: &mut FailureCounted<O>,
+) -> Given<D>
+where
+    D: Disk + Drop + Send + 'static,
+    R: Host,
+    I: Read,
+    O: Write,
+    requires ours { opening ≡ store.store }
+    requires idle { store.step ≡ Idle }
+    ensures same { IfOk result (λ s. s.store ≡ store.store) }
+    ensures given_back { IfErr result (λ e. IfSome e.1 (λ s. s.store ≡ store.store)) }
+{
+    serve_named::<Brand, D, R, I, O>(rt, store, opening, listeners, r, w)
+}
+
+// Serves a store over the plane of its name.
+fn serve_named<K, D, R, I, O>(
+    rt: &R,
+    store: Store<D>,
+    opening: Opening,
+    listeners: Listeners,
+    r: &mut FailureCounted<I>,
+    w: &mut FailureCounted<O>,
+) -> Given<D>
+where
+    K: Naming + Send + Sync + 'static,
+    D: Disk + Drop + Send + 'static,
+    R: Host,
+    I: Read,
+    O: Write,
+    requires ours { store.store ≡ K.store }
+    requires opening { opening ≡ K.store }
+    requires idle { store.step ≡ Idle }
+    ensures same { IfOk result (λ s. s.store ≡ K.store) }
+    ensures given_back { IfErr result (λ e. IfSome e.1 (λ s. s.store ≡ K.store)) }
+{
+    let plane: Plane<K, D, R> = match Plane::new(*rt, rt.alloc(), opening) {
+        Ok(plane) => plane,
+        Err(fault) => return Err((fault.into(), Some(store))),
+    };
+    let (Ok(flushed), Ok(last)) = (plane.try_copy(), plane.try_copy()) else {
+        return Err((CommandFault::Memory, Some(store)));
+    };
+    if begin_flusher(rt, flushed, store).is_err() {
+        return Err((CommandFault::Memory, None));
+    }
+    serve_plane(rt, &plane, last, listeners, r, w)
+}
+
+// Begins the thread that seals.
+fn begin_flusher<K, D, R>(rt: &R, plane: Plane<K, D, R>, store: Store<D>) -> io::Result<()>
+where
+    K: Naming + Send + Sync + 'static,
+    D: Disk + Drop + Send + 'static,
+    R: Host,
+    requires ours { store.store ≡ K.store }
+    requires idle { store.step ≡ Idle }
+{
+    let own = OwnStore::new(store);
+    let _thread = thread::spawn(rt, move || flusher(&plane, own))?;
+    Ok(())
+}
+
+// Serves a plane, whose flusher runs, until the input ends. `last` is a handle to stop it by.
+fn serve_plane<K, D, R, I, O>(
+    rt: &R,
+    plane: &Plane<K, D, R>,
+    last: Plane<K, D, R>,
+    listeners: Listeners,
+    r: &mut FailureCounted<I>,
+    w: &mut FailureCounted<O>,
+) -> Given<D>
+where
+    K: Naming + Send + Sync + 'static,
+    D: Disk + Drop + Send + 'static,
+    R: Host,
+    I: Read,
+    O: Write,
+    ensures same { IfOk result (λ s. s.store ≡ K.store) }
+    ensures given_back { IfErr result (λ e. IfSome e.1 (λ s. s.store ≡ K.store)) }
+{
+    let Ok(services) = Services::of(rt, &listeners) else {
+        return Err((CommandFault::Device, Some(last.stop())));
+    };
+    let attended = services.attend(listeners, plane, r, w);
+    services.edit.close(Shutdown::Read);
+    let store = last.stop();
+    services.end();
+    match attended {
+        Err(fault) => Err((fault, Some(store))),
+        Ok(()) if plane.has_failed() => Err((CommandFault::StoreFailed, Some(store))),
+        Ok(()) => Ok(store),
+    }
+}

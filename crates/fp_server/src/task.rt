@@ -1,0 +1,31 @@
+//! What the program's words ask of the service.
+
+use crate::serving::Addresses;
+use std::net::SocketAddrV4;
+
+/// What is asked of the service.
+#[derive(Debug, Drop)]
+pub enum Task<'w> {
+    /// To serve the file at this path.
+    Serve(&'w str, Addresses),
+    /// To show what is served there.
+    Watch(SocketAddrV4),
+}
+
+/// What the words ask of the service; `None` where they ask nothing of it, or an address is no four numbers and a port.
+pub fn task_of(words: &[String]) -> Option<Task<'_>> {
+    match words {
+        [word, path, ofrep, edit, stream] if word.as_str() == "serve" => {
+            let addresses = Addresses {
+                ofrep: ofrep.as_str().parse().ok()?,
+                edit: edit.as_str().parse().ok()?,
+                stream: stream.as_str().parse().ok()?,
+            };
+            Some(Task::Serve(path.as_str(), addresses))
+        }
+        [word, address] if word.as_str() == "watch" => {
+            Some(Task::Watch(address.as_str().parse().ok()?))
+        }
+        _ => None,
+    }
+}
