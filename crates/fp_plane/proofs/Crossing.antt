@@ -1,0 +1,85 @@
+-- Definitions, sets of flags, edits and desks may cross threads.
+use denote.Param.Send.{IsSend, IsSync, sendable, view_send, view_sync, recorded_send, recorded_sync, struct_send, struct_sync, enum_send}
+use denote.Struct.Declared.{shape}
+use denote.Enum.Declared as enums
+use Rattle.std.proofs.Crossing.{crosses, Arc-send, Arc-sync, Deque-send, Vec-send, Vec-sync}
+use Rattle.std.proofs.MapsCrossing as maps
+use Rattle.serde_json.proofs.value.Value.TheLaws.TheKnot as value_knot
+use Rattle.serde_json.specs.contracts.value.Value as value
+use Rattle.fp_operators.proofs.datum.Datum.TheLaws.TheKnot as datum_knot
+use Rattle.fp_operators.specs.contracts.datum.Datum as datum
+use Rattle.fp_targeting.proofs.operator.Operator.TheSendSync as operator
+use Rattle.fp_targeting.proofs.tree.Tree.TheLaws.TheKnot as tree_knot
+use Rattle.fp_targeting.specs.contracts.rule.Rule as rule
+use Rattle.fp_targeting.specs.contracts.rule.Rule.TheInside as rule_inside
+use Rattle.fp_targeting.specs.contracts.tree.Tree as tree
+use Rattle.fp_definition.proofs.key.FlagKey.TheSendSync as key
+use Rattle.fp_definition.specs.contracts.definition.Definition as definition
+use Rattle.fp_definition.specs.contracts.definition.Definition.TheInside as definition_inside
+use Rattle.fp_definition.specs.contracts.definition.Kept as kept
+use Rattle.fp_edit.specs.contracts.edit.Edit as edit
+use Rattle.fp_edit.specs.contracts.flags.Flag as flag
+use Rattle.fp_edit.specs.contracts.flag_set.FlagSet as flags
+use Rattle.fp_edit.specs.contracts.flag_set.FlagSet.TheInside as inside
+use Rattle.fp_group_commit.proofs.part.Part.TheSendSync as part
+use Rattle.fp_group_commit.specs.contracts.settled.Settled as settled
+use Rattle.fp_group_commit.specs.contracts.settled.Settled.TheInside as settled_inside
+use Rattle.fp_desk.specs.contracts.desk.Desk as desk
+use Rattle.fp_desk.specs.contracts.desk.Desk.TheInside as desk_inside
+
+value_sent : IsSend (value.the_field).row
+value_sent = search (sendable, crosses, maps.crosses, value_knot.both_send-Value) depth 30
+
+value_shared : IsSync (value.the_field).row
+value_shared = search (sendable, crosses, maps.crosses, value_knot.both_sync-Value) depth 30
+
+datum_sent : IsSend (datum.the_field).row
+datum_sent = search (sendable, crosses, maps.crosses, datum_knot.both_send-Datum) depth 30
+
+datum_shared : IsSync (datum.the_field).row
+datum_shared = search (sendable, crosses, maps.crosses, datum_knot.both_sync-Datum) depth 30
+
+tree_sent : IsSend (tree.the_field).row
+tree_sent = tree_knot.both_send-Tree datum_sent datum_shared (λ h s y. Vec-send h s) (λ h s y. Vec-sync h y) operator.the_field_send operator.the_field_sync
+
+tree_shared : IsSync (tree.the_field).row
+tree_shared = tree_knot.both_sync-Tree datum_sent datum_shared (λ h s y. Vec-send h s) (λ h s y. Vec-sync h y) operator.the_field_send operator.the_field_sync
+
+rule_sent : IsSend rule.the_row
+rule_sent = view_send _ _ _ _ _ (recorded_send _ _ _ (rule_inside.the_type).to_one (struct_send (shape rule_inside.the_type) (tree_sent, tt)))
+
+rule_shared : IsSync rule.the_row
+rule_shared = view_sync _ _ _ _ _ (recorded_sync _ _ _ (rule_inside.the_type).to_one (struct_sync (shape rule_inside.the_type) (tree_shared, tt)))
+
+kept_sent : IsSend kept.the_row
+kept_sent = recorded_send _ _ _ (kept.the_type).to_one (struct_send (shape kept.the_type) (search (sendable, crosses) depth 20, (value_sent, (search (sendable, rule_sent) depth 20, tt))))
+
+kept_shared : IsSync kept.the_row
+kept_shared = recorded_sync _ _ _ (kept.the_type).to_one (struct_sync (shape kept.the_type) (search (sendable, crosses) depth 20, (value_shared, (search (sendable, rule_shared) depth 20, tt))))
+
+pub definition_sent : IsSend definition.the_row
+definition_sent = view_send _ _ _ _ _ (recorded_send _ _ _ (definition_inside.the_type).to_one (struct_send (shape definition_inside.the_type) (Arc-send _ kept_sent kept_shared, tt)))
+
+pub definition_shared : IsSync definition.the_row
+definition_shared = view_sync _ _ _ _ _ (recorded_sync _ _ _ (definition_inside.the_type).to_one (struct_sync (shape definition_inside.the_type) (Arc-sync _ kept_sent kept_shared, tt)))
+
+flag_sent : IsSend flag.the_row
+flag_sent = search (sendable, definition_sent) depth 20
+
+flag_shared : IsSync flag.the_row
+flag_shared = search (sendable, definition_shared) depth 20
+
+pub flags_sent : IsSend flags.the_row
+flags_sent = view_send _ _ _ _ _ (recorded_send _ _ _ (inside.the_type).to_one (struct_send (shape inside.the_type) (search (sendable, maps.BTreeMap-send, key.the_send, flag_sent) depth 5, (search sendable, (search sendable, (search sendable, (search (sendable, crosses), tt)))))))
+
+pub flags_shared : IsSync flags.the_row
+flags_shared = view_sync _ _ _ _ _ (recorded_sync _ _ _ (inside.the_type).to_one (struct_sync (shape inside.the_type) (search (sendable, maps.BTreeMap-sync, key.the_sync, flag_shared) depth 5, (search sendable, (search sendable, (search sendable, (search (sendable, crosses), tt)))))))
+
+pub edit_sent : IsSend edit.the_row
+edit_sent = recorded_send _ _ _ (edit.the_type).to_one (enum_send (enums.shape edit.the_type) ((key.the_field_send, (definition_sent, (search sendable depth 10, tt))), ((key.the_field_send, (search sendable depth 10, tt)), tt)))
+
+pub settled_sent : IsSend settled.the_row
+settled_sent = view_send _ _ _ _ _ (recorded_send _ _ _ (settled_inside.the_type).to_one (struct_send (shape settled_inside.the_type) (search sendable, (part.the_send, (Vec-send _ edit_sent, tt)))))
+
+pub desk_sent : IsSend desk.the_row
+desk_sent = view_send _ _ _ _ _ (recorded_send _ _ _ (desk_inside.the_type).to_one (struct_send (shape desk_inside.the_type) (flags_sent, (flags_sent, (Deque-send _ edit_sent, (Deque-send _ edit_sent, (Deque-send _ edit_sent, (settled_sent, (search sendable, (search (sendable, crosses), tt))))))))))
