@@ -1,6 +1,7 @@
 -- A number of bytes that the canonical text of data has at least.
 use Rattle.std.specs.Prelude.{ℕ, ◌+◌, length}
-use Rattle.serde_json.specs.Data.{Data, null, boolean, number, string, array, object, Items, no_items, item, Members, no_members, member}
+use Rattle.serde_json.specs.Data.{Data, null, boolean, number, string, array, object, Items}
+use Rattle.serde_json.specs.Data.{no_items, item, Members, no_members, member}
 
 abbrev mutual
   -- the bytes of all texts and names in it, and one for each item and member

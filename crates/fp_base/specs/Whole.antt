@@ -1,6 +1,7 @@
 -- JSON data whose numbers are whole.
 use Rattle.std.specs.Prelude.{Bool, true, ◌&&◌, is_some}
-use Rattle.serde_json.specs.Data.{Data, null, boolean, number, string, array, object, Items, no_items, item, Members, no_members, member}
+use Rattle.serde_json.specs.Data.{Data, null, boolean, number, string, array, object, Items}
+use Rattle.serde_json.specs.Data.{no_items, item, Members, no_members, member}
 use Rattle.serde_json.specs.Find.{as_i64}
 
 abbrev mutual

@@ -1,8 +1,8 @@
 //! Short ways to write long operands, and bytes that are no text.
 //!
-//! What stands between two backquotes is put in place: `@NAME` the text of that name, `0x00ff` these bytes, and
-//! other texts themselves. `64 TEXT` puts TEXT 64 times, and `0010..0026 TEXT` once for each number; `#` in it is
-//! then the number, in as many digits as the first has.
+//! What stands between two backquotes is put in place: `@NAME` the text of that name, `0x00ff`
+//! these bytes, and other texts themselves. `64 TEXT` puts TEXT 64 times, and `0010..0026 TEXT`
+//! once for each number; `#` in it is then the number, in as many digits as the first has.
 
 use std::alloc::{AllocError, Global};
 use std::collections::BTreeMap;

@@ -1,4 +1,5 @@
-//! Answers cases of the pure crates, which are written as text: files that its words name, or standard input where there are none.
+//! Answers cases of the pure crates, which are written as text: files that its words name, or
+//! standard input where there are none.
 #![tactic(auto)]
 
 mod data;

@@ -132,7 +132,8 @@ pub fn beginnings(alloc: Global, bytes: &[u8], out: &mut String) -> Result<(), A
     Ok(())
 }
 
-/// What a batch's bytes are once one of them is another: at each, a line for values in a row that are the same.
+/// What a batch's bytes are once one of them is another: at each, a line for values in
+/// a row that are the same.
 pub fn changed(alloc: Global, bytes: &[u8], out: &mut String) -> Result<(), AllocError> {
     let mut body = Vec::from_slice(alloc, bytes)?;
     for at in 0..body.len() {

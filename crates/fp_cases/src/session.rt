@@ -311,7 +311,8 @@ fn tell_bytes(
 }
 
 impl Answers for Session {
-    /// A command is its word, for some words a name or a number, and the operand, which is all that is left of the line.
+    /// A command is its word, for some words a name or a number, and the operand, which is all
+    /// that is left of the line.
     fn answer(&mut self, command: &str, out: &mut String) -> Result<(), AllocError> {
         let (word, rest) = split(command);
         let (first, rest) = if HAVE_FIRST.contains(&word) {

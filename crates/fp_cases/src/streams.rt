@@ -158,7 +158,8 @@ fn put_fault(fault: FrameFault, out: &mut String) -> Result<(), AllocError> {
     }
 }
 
-// What all calls give, of a first piece, of others of this size and of one of no bytes: each frame, and then the fault.
+// What all calls give, of a first piece, of others of this size and of one of no bytes: each
+// frame, and then the fault.
 fn outcome(
     alloc: Global,
     hello: Hello,

@@ -3,7 +3,19 @@ use Rattle.std.specs.Prelude.{ℕ, List, codes, Option, Some, None, IfSome, stri
 use Rattle.fp_definition.specs.Valid as is
 use Rattle.fp_definition.specs.Valid.{Fault}
 use Rattle.fp_definition.specs.declared.faults.DefFault.{DefFault}
-use Rattle.fp_definition.specs.declared.faults.DefFault.TheVariants.{TooDeep, WholeNumbersOnly, TooLarge, NotObject, BadState, BadVariants, BadDefault, BadMetadata, UnsupportedOperator, BadRule, Memory}
+use Rattle.fp_definition.specs.declared.faults.DefFault.TheVariants.{
+  TooDeep,
+  WholeNumbersOnly,
+  TooLarge,
+  NotObject,
+  BadState,
+  BadVariants,
+  BadDefault,
+  BadMetadata,
+  UnsupportedOperator,
+  BadRule,
+  Memory,
+}
 
 -- what a fault says of the data; want of memory says nothing of them
 abbrev pub tells : DefFault → Option Fault

@@ -1,6 +1,7 @@
 -- Kinds of JSON data, and members that are of one kind.
 use Rattle.std.specs.Prelude.{Bool, true, false, ◌&&◌, ◌||◌}
-use Rattle.serde_json.specs.Data.{Data, boolean, number, string, object, Members, no_members, member}
+use Rattle.serde_json.specs.Data.{Data, boolean, number, string, object}
+use Rattle.serde_json.specs.Data.{Members, no_members, member}
 use Rattle.fp_definition.specs.declared.kind.Kind.{Kind}
 use Rattle.fp_definition.specs.declared.kind.Kind.TheVariants.{Boolean, Text, Number, Object}
 

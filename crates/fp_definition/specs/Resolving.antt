@@ -1,5 +1,6 @@
 -- What a definition resolves to.
-use Rattle.std.specs.Prelude.{◌≡◌, ℕ, List, codes, Bool, true, false, bytes_eq, Option, Some, None, unwrap_or, Result, Ok, Err}
+use Rattle.std.specs.Prelude.{◌≡◌, ℕ, List, codes, Bool, true, false, bytes_eq, Option, Some, None}
+use Rattle.std.specs.Prelude.{unwrap_or, Result, Ok, Err}
 use Rattle.serde_json.specs.Data.{Data, null, string}
 use Rattle.serde_json.specs.Find.{get}
 use Rattle.serde_json.specs.View.{view}
@@ -10,10 +11,12 @@ use Rattle.fp_targeting.specs.Means.{Means}
 use Rattle.fp_targeting.specs.RuleData.{rule_data}
 use Rattle.fp_definition.specs.Targeting.{rule_in}
 use Rattle.fp_definition.specs.declared.resolving.Reason.{Reason}
-use Rattle.fp_definition.specs.declared.resolving.Reason.TheVariants.{Static, Default, TargetingMatch}
+use Rattle.fp_definition.specs.declared.resolving.Reason.TheVariants.{Static, Default}
+use Rattle.fp_definition.specs.declared.resolving.Reason.TheVariants.{TargetingMatch}
 use Rattle.fp_definition.specs.declared.resolving.Resolved.{Resolved}
 use Rattle.fp_definition.specs.declared.resolving.EvalFault.{EvalFault}
-use Rattle.fp_definition.specs.declared.resolving.EvalFault.TheVariants.{Disabled, NoVariant, Memory}
+use Rattle.fp_definition.specs.declared.resolving.EvalFault.TheVariants.{Disabled, NoVariant}
+use Rattle.fp_definition.specs.declared.resolving.EvalFault.TheVariants.{Memory}
 
 -- the data that a canonical text spells
 abbrev pub data_of : List ℕ → Data

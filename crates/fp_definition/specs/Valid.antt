@@ -1,5 +1,7 @@
 -- Which JSON data are a flag's definition.
-use Rattle.std.specs.Prelude.{◌≡◌, ℕ, List, [], ◌∷◌, length, codes, Bool, true, false, ◌&&◌, ◌||◌, nat_le, if◌then◌else◌, Option, Some, None, is_some, is_none, bytes_eq, Result, Ok, Err}
+use Rattle.std.specs.Prelude.{◌≡◌, ℕ, List, [], ◌∷◌, length, codes, Bool, true, false, ◌&&◌, ◌||◌}
+use Rattle.std.specs.Prelude.{nat_le, if◌then◌else◌, Option, Some, None, is_some, is_none, bytes_eq}
+use Rattle.std.specs.Prelude.{Result, Ok, Err}
 use Rattle.serde_json.specs.Data.{Data, null, string, object, Members, depth}
 use Rattle.serde_json.specs.Find.{get, as_object}
 use Rattle.serde_json.specs.Events.{members_len}
@@ -11,7 +13,8 @@ use Rattle.fp_targeting.specs.Compile as rules
 use Rattle.fp_targeting.specs.Compile.{verdict}
 use Rattle.fp_targeting.specs.Rule.{Rule}
 use Rattle.fp_definition.specs.Kinds.{one_kind, all_scalars}
-use Rattle.fp_definition.specs.declared.definition.TheConstants.{DEEPEST_DEFINITION, LONGEST_DEFINITION}
+use Rattle.fp_definition.specs.declared.definition.TheConstants.{DEEPEST_DEFINITION}
+use Rattle.fp_definition.specs.declared.definition.TheConstants.{LONGEST_DEFINITION}
 use Rattle.fp_definition.specs.declared.members.TheConstants.{MOST_VARIANTS, MOST_METADATA}
 
 -- what is wrong with data that are no definition

@@ -1,6 +1,7 @@
 //! A flag's definition.
 
-ghost use Rattle.std.specs.Prelude.{◌≡◌, true, Some, None, IfOk, IfErr, IfSome, if◌then◌else◌, codes, option_map};
+ghost use Rattle.std.specs.Prelude.{◌≡◌, true, Some, None, IfOk, IfErr, IfSome, if◌then◌else◌};
+ghost use Rattle.std.specs.Prelude.{codes, option_map};
 ghost use Rattle.serde_json.specs.Find.{get};
 ghost use Rattle.serde_json.specs.View.{view};
 ghost use Rattle.serde_json.specs.Written.{compact_text};
@@ -10,7 +11,8 @@ ghost use Rattle.fp_base.specs.Whole.{is_whole};
 ghost use Rattle.fp_definition.specs.Faults.{Tells};
 ghost use Rattle.fp_definition.specs.Resolving.{data_of};
 ghost use Rattle.fp_definition.specs.Targeting.{rule_in};
-ghost use Rattle.fp_definition.specs.Valid.{first_fault, IsValid, is_definition_text, definition_in, is_text_of};
+ghost use Rattle.fp_definition.specs.Valid.{first_fault, IsValid, is_definition_text};
+ghost use Rattle.fp_definition.specs.Valid.{definition_in, is_text_of};
 
 use crate::faults::DefFault;
 use crate::members::tested_members;

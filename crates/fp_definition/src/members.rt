@@ -8,7 +8,9 @@ ghost use Rattle.fp_base.specs.Answer.{IsFirst};
 ghost use Rattle.fp_base.specs.Tests.{first_failed};
 ghost use Rattle.fp_definition.specs.Faults.{Tells};
 ghost use Rattle.fp_definition.specs.Targeting.{rule_in};
-ghost use Rattle.fp_definition.specs.Valid.{member_tests, is_state, are_variants, variant_members, is_between, names_variant, is_metadata, metadata_members};
+ghost use Rattle.fp_definition.specs.Valid.{member_tests, is_state, are_variants, variant_members};
+ghost use Rattle.fp_definition.specs.Valid.{is_between, names_variant, is_metadata};
+ghost use Rattle.fp_definition.specs.Valid.{metadata_members};
 
 use crate::faults::DefFault;
 use crate::kind::{are_of_one_kind, are_scalars};

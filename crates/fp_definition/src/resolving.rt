@@ -1,6 +1,7 @@
 //! What a definition resolves to.
 
-ghost use Rattle.std.specs.Prelude.{◌≡◌, ◌<◌, ◌^◌, ◌↔◌, ℕ, List, Result, true, IfOk, IfSome, IsSome, codes};
+ghost use Rattle.std.specs.Prelude.{◌≡◌, ◌<◌, ◌^◌, ◌↔◌, ℕ, List, Result, true, IfOk, IfSome};
+ghost use Rattle.std.specs.Prelude.{IsSome, codes};
 ghost use Rattle.serde_json.specs.Data.{Data as JsonData};
 ghost use Rattle.serde_json.specs.Find.{as_object, get, get_member};
 ghost use Rattle.serde_json.specs.View.{view, members_view};
@@ -8,7 +9,9 @@ ghost use Rattle.fp_base.specs.Answer.{Answers, Gives};
 ghost use Rattle.fp_base.specs.Whole.{is_whole, members_whole};
 ghost use Rattle.fp_definition.specs.Key.{key_bytes};
 ghost use Rattle.fp_definition.specs.Outcome.{outcome_of};
-ghost use Rattle.fp_definition.specs.Resolving.{Resolves, Said, Tells, TellsItself, said_by, by_default, by_result, data_of, is_disabled, named, said_or_none};
+ghost use Rattle.fp_definition.specs.Resolving.{Resolves, Said, Tells, TellsItself, said_by};
+ghost use Rattle.fp_definition.specs.Resolving.{by_default, by_result, data_of, is_disabled};
+ghost use Rattle.fp_definition.specs.Resolving.{named, said_or_none};
 ghost use Rattle.fp_operators.specs.Data as values;
 ghost use Rattle.fp_operators.specs.View.{view as datum_view};
 ghost use Rattle.fp_targeting.specs.Meaning.{meaning};

@@ -1,5 +1,6 @@
 -- A desk: what is settled, what is drawn and what waits.
-use Rattle.std.specs.Prelude.{◌≡◌, ◌≢◌, ◌⊎◌, ◌<◌, ◌≤◌, ◌+◌, ◌-◌, ◌/◌, ℕ, Bool, true, false, List, [], ◌∷◌, ◌++◌, length, Option, None, Some}
+use Rattle.std.specs.Prelude.{◌≡◌, ◌≢◌, ◌⊎◌, ◌<◌, ◌≤◌, ◌+◌, ◌-◌, ◌/◌, ℕ, Bool, true, false, List}
+use Rattle.std.specs.Prelude.{[], ◌∷◌, ◌++◌, length, Option, None, Some}
 use Rattle.fp_edit.specs.Admits.{Admits, accepted, refusal}
 use Rattle.fp_edit.specs.Edits.{Change, Proposal}
 use Rattle.fp_edit.specs.Flags.{State}
@@ -71,10 +72,12 @@ pub record IsLongestPart (most : ℕ) (group : Group) (waiting rest : List Chang
   pub longest : (rest ≡ []) ⊎ (length group.changes ≡ MOST_EDITS)
       ⊎ ((c : Change) (more : List Change) → rest ≡ c ∷ more → most < batch_len (and_more group c))
 
--- a change makes one batch with those that wait before it, of 1 to 64 edits within the most bytes; the first one always does
+-- a change makes one batch with those that wait before it, of 1 to 64 edits within the most bytes;
+-- the first one always does
 abbrev pub FitsBehind : ℕ → List Change → Change → Type 0
 FitsBehind most waiting c = (waiting ≡ [])
-    ⊎ ((length waiting < MOST_EDITS) × (batch_len (record { first = 0; changes = waiting ++ c ∷ [] }) ≤ most))
+    ⊎ ((length waiting < MOST_EDITS)
+    × (batch_len (record { first = 0; changes = waiting ++ c ∷ [] }) ≤ most))
 
 -- the group is drawn, under the revisions behind the settled one
 pub record IsNewDraw (old new : DeskState) (group : Group) : Type 0 where

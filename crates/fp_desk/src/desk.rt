@@ -1,12 +1,16 @@
 //! A desk.
 
-ghost use Rattle.std.specs.Prelude.{◌≡◌, ◌≢◌, ◌⊎◌, ◌<◌, ◌≤◌, ◌+◌, ◌++◌, ◌↔◌, [], ◌∷◌, List, ℕ, length, true, false, IfOk, IfErr, IfSome, IfNone, IsTrue, OnOk, OnErr};
+ghost use Rattle.std.specs.Prelude.{◌≡◌, ◌≢◌, ◌⊎◌, ◌<◌, ◌≤◌, ◌+◌, ◌++◌, ◌↔◌, [], ◌∷◌, List, ℕ};
+ghost use Rattle.std.specs.Prelude.{length, true, false, IfOk, IfErr, IfSome, IfNone};
+ghost use Rattle.std.specs.Prelude.{IsTrue, OnOk, OnErr};
 ghost use mathlib.Core.List.{IsPrefix};
 ghost use Rattle.fp_edit.specs.Edits.{Change, proposal_of};
 ghost use Rattle.fp_edit.specs.Flags.{State};
 ghost use Rattle.fp_edit.specs.Following.{change_of, changes_of};
 ghost use Rattle.fp_group_commit.specs.Tokens.{EndsWith};
-ghost use Rattle.fp_desk.specs.Desk.{head, log, queued, settled_front, settled_revision, settled_set, most_of, FitsBehind, IsAccepted, IsDrawn, Draws, Refuses, SettlesNot};
+ghost use Rattle.fp_desk.specs.Desk.{head, log, queued, settled_front, settled_revision};
+ghost use Rattle.fp_desk.specs.Desk.{settled_set, most_of, FitsBehind, IsAccepted, IsDrawn, Draws};
+ghost use Rattle.fp_desk.specs.Desk.{Refuses, SettlesNot};
 
 use crate::fault::{SettleFault, SubmitFault};
 use crate::queue::{copies_of_front, first_part, fits_behind, move_front, same_changes};
@@ -131,7 +135,8 @@ impl Desk {
     /// Puts an edit behind those that wait, where the set that they lead to admits it.
     pub fn submit(&mut self, edit: Edit) -> Result<Ticket, (SubmitFault, Edit)>
         ensures accepted { OnOk result (IsAccepted self.old self.new (proposal_of edit)) }
-        ensures ticket { IfOk result (λ t. (t.store ≡ self.new.store) × (t.edit ≡ proposal_of edit)) }
+        ensures ticket { IfOk result (λ t. (t.store ≡ self.new.store)
+            × (t.edit ≡ proposal_of edit)) }
         ensures revision { IfOk result (λ t.
             t.revision ≡ self.new.store.start.revision + length (log self.new)) }
         ensures refused { IfErr result (λ e. Refuses self.old (proposal_of edit) e.0) }

@@ -1,6 +1,7 @@
 //! Edits in a queue.
 
-ghost use Rattle.std.specs.Prelude.{◌≡◌, ◌<◌, ◌≤◌, ◌+◌, ◌++◌, ◌↔◌, length, take, drop, IfOk, IsTrue, OnOk, OnErr};
+ghost use Rattle.std.specs.Prelude.{◌≡◌, ◌<◌, ◌≤◌, ◌+◌, ◌++◌, ◌↔◌, length, take, drop, IfOk};
+ghost use Rattle.std.specs.Prelude.{IsTrue, OnOk, OnErr};
 ghost use Rattle.std.specs.VecDeque.{deque_len, deque_capacity};
 ghost use Rattle.fp_desk.specs.Desk.{FitsBehind, IsLongestPart};
 ghost use Rattle.fp_edit.specs.Edits.{proposal_of};

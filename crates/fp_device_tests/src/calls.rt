@@ -1,4 +1,5 @@
-//! The calls that a disk makes on its file, each of them: a sync that isn't made shows in no byte that is read back.
+//! The calls that a disk makes on its file, each of them: a sync that isn't made shows in
+//! no byte that is read back.
 
 use crate::flaky::{Calls, in_temp, noted, passing};
 use fp_disk::{Disk, DiskFault};
@@ -59,7 +60,8 @@ const FAILING: [(u32, &[u8], &str); 9] = [
     ),
 ];
 
-// Makes the steps on a new file of which so many calls pass: whether they are made, the file's bytes, and the calls.
+// Makes the steps on a new file of which so many calls pass: whether they are made, the
+// file's bytes, and the calls.
 fn failing(rt: &HostRuntime, path: &PathBuf, left: u32) -> Result<(bool, Vec<u8>, String), Fail> {
     let calls = passing(rt.alloc(), left);
     let mut disk = noted(rt, path, &calls)?;
@@ -101,13 +103,15 @@ fn a_disk_makes_no_further_call(rt: HostRuntime) -> Result<(), Fail> {
     Ok(())
 }
 
-// By the layout of a disk: the length; the closed gate of the header; the rest of the header and the first slot's head; the second
-// slot's gate; and then the gates open from the inner one to the outer one. Each step is sure before the next.
+// By the layout of a disk: the length; the closed gate of the header; the rest of the header and
+// the first slot's head; the second slot's gate; and then the gates open from the inner one to the
+// outer one. Each step is sure before the next.
 const MAKING: &str =
     "seek end\nseek 0\nbyte 00\nsync_data\nseek 1\nwrite 90\nseek 262208\nbyte 00\nsync_data\nseek 64\nbyte a5\nsync_data\nseek 0\nbyte a5\nsync_data\n";
 
-// What is there is made sure of before it is read, and nothing is written. A batch of 87 bytes, its length, its body of 82 and the
-// next gate, stands behind its gate, which opens over a sync, and is sure.
+// What is there is made sure of before it is read, and nothing is written. A batch of 87
+// bytes, its length, its body of 82 and the next gate, stands behind its gate, which opens
+// over a sync, and is sure.
 const OPENING_AND_EDITING: &str =
     "sync_data\nseek end\nseek 0\nread 262209\nseek 91\nwrite 87\nsync_data\nseek 90\nbyte a5\nsync_data\n";
 
@@ -143,7 +147,8 @@ fn make(rt: &HostRuntime, path: &PathBuf) -> Result<(), Fail> {
 const PUT: &[u8] =
     br#"{"flag":{"defaultVariant":"on","state":"ENABLED","variants":{"on":true}},"key":"a","op":"put"}"#;
 
-// Opens the disk there, so many calls of which pass, and puts `a`; answers whether it was opened, and whether it was put.
+// Opens the disk there, so many calls of which pass, and puts `a`; answers whether it was
+// opened, and whether it was put.
 fn put(rt: &HostRuntime, path: &PathBuf, calls: &RefCell<Calls>) -> Result<(bool, bool), Fail> {
     let alloc = rt.alloc();
     let edit = parse_line(alloc, PUT)?;

@@ -54,7 +54,8 @@ fn a_crash_leaves_the_bytes_where_the_gate_is_open(rt: HostRuntime) -> Result<()
     Ok(())
 }
 
-// A gate behind four bytes is closed, guards what is written in their place, is opened and sealed; its place.
+// A gate behind four bytes is closed, guards what is written in their place, is
+// opened and sealed; its place.
 fn sealed(disk: &mut Checked<FileDisk<File>>) -> Result<u64, DiskFault> {
     disk.write_at(0, b"head")?;
     Gate::place_closed(disk, 4)?;

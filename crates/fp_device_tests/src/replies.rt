@@ -1,4 +1,5 @@
-//! The loop from edit lines to replies, and the program, over readers, writers and stores that fail.
+//! The loop from edit lines to replies, and the program, over readers,
+//! writers and stores that fail.
 
 use crate::stores::{Failing, Full, flags, written_out};
 use fp_commands::command;
@@ -19,7 +20,8 @@ const INPUT: &str =
 const OUTPUT: &str =
     "{\"revision\":1}\n{\"current\":null,\"error\":\"conflict\"}\n{\"revision\":2}\n2 {\"flags\":{\"a\":ON,\"b\":ON}}\n";
 
-// Gives its bytes a few at a time; each read is interrupted once, and the one after some reads fails.
+// Gives its bytes a few at a time; each read is interrupted once, and the
+// one after some reads fails.
 #[derive(Drop)]
 struct Pieces<'a> {
     bytes: &'a [u8],

@@ -1,5 +1,7 @@
 -- Which of its outcomes a crash leaves, as it was chosen.
-use Rattle.std.specs.Prelude.{◌≡◌, ◌<◌, ◌+◌, ◌-◌, ◌*◌, ◌/◌, ◌%◌, ◌^◌, ◌&&◌, nat_le, nat_lt, ℕ, min, max, Bool, if◌then◌else◌, List, [], ◌∷◌, length, slice_index, slice_index_or, slice_get, unwrap_or}
+use Rattle.std.specs.Prelude.{◌≡◌, ◌<◌, ◌+◌, ◌-◌, ◌*◌, ◌/◌, ◌%◌, ◌^◌, ◌&&◌, nat_le, nat_lt, ℕ, min}
+use Rattle.std.specs.Prelude.{max, Bool, if◌then◌else◌, List, [], ◌∷◌, length, slice_index}
+use Rattle.std.specs.Prelude.{slice_index_or, slice_get, unwrap_or}
 use Rattle.fp_disk.specs.declared.choice.Fill.{Fill}
 use Rattle.fp_disk.specs.declared.choice.Fill.TheVariants.{Old, New, Byte, Seed}
 use Rattle.fp_disk.specs.Memory.{State, unsynced_of}

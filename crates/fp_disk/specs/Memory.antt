@@ -1,5 +1,7 @@
 -- A disk in memory, by what it held at first and the calls that it recorded since.
-use Rattle.std.specs.Prelude.{◌≡◌, ◌⊎◌, ◌≤◌, ◌+◌, ◌-◌, ◌/◌, ℕ, max, Bool, true, nat_lt, if◌then◌else◌, List, [], ◌∷◌, ◌++◌, length, take, drop, Result, IsTrue, OnOk, OnErr}
+use Rattle.std.specs.Prelude.{◌≡◌, ◌⊎◌, ◌≤◌, ◌+◌, ◌-◌, ◌/◌, ℕ, max, Bool, true, nat_lt}
+use Rattle.std.specs.Prelude.{if◌then◌else◌, List, [], ◌∷◌, ◌++◌, length, take, drop, Result}
+use Rattle.std.specs.Prelude.{IsTrue, OnOk, OnErr}
 use Rattle.std.specs.List.{AllByRecursion}
 use Rattle.fp_disk.specs.Outcomes.{PendingState, IsOutcome, AreBytes, overwritten}
 use Rattle.fp_disk.specs.declared.history.CallKind.{CallKind}

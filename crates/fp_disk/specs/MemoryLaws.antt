@@ -1,18 +1,22 @@
 -- What holds of every disk in memory.
-use Rattle.std.specs.Prelude.{◌≡◌, ◌↔◌, ◌≤◌, ◌+◌, ◌-◌, ◌/◌, ℕ, List, [], ◌∷◌, ◌++◌, length, take, drop, replicate, refl}
+use Rattle.std.specs.Prelude.{◌≡◌, ◌↔◌, ◌≤◌, ◌+◌, ◌-◌, ◌/◌, ℕ, List, [], ◌∷◌, ◌++◌, length, take}
+use Rattle.std.specs.Prelude.{drop, replicate, refl}
 use Rattle.std.specs.List.{AllByRecursion}
 use Rattle.std.proofs.lemmas.Grind.{common_steps}
 use Rattle.std.proofs.lemmas.Bool.{cases_lt}
 use Rattle.std.proofs.lemmas.List.Elements.{All-append, All-take, All-drop, All-replicate}
 use Rattle.std.proofs.Common.{inl, inr, length-append, sym, ap, ◌∙◌, subst, arith, zero, suc}
-use Rattle.fp_disk.specs.Outcomes.{PendingState, IsOutcome, IsByte, AreBytes, Elapses, ChangesWithin, all_synced, overwritten}
+use Rattle.fp_disk.specs.Outcomes.{PendingState, IsOutcome, IsByte, AreBytes, Elapses}
+use Rattle.fp_disk.specs.Outcomes.{ChangesWithin, all_synced, overwritten}
 use Rattle.fp_disk.specs.Writes.{length-overwritten, overwritten_before, overwritten_behind}
 use Rattle.fp_disk.specs.declared.call.Call.{Call}
 use Rattle.fp_disk.specs.declared.call.Progress.{Progress}
 use Rattle.fp_disk.specs.declared.call.Progress.TheVariants.{Whole, Half, Nothing}
 use Rattle.fp_disk.specs.declared.call.Request.{Request}
 use Rattle.fp_disk.specs.declared.call.Request.TheVariants.{Len, Read, Write, Sync}
-use Rattle.fp_disk.specs.Memory.{State, Memory, state, written, after, after_request, replay, at_first, unsynced_of, state_at, LeftSince, BringsBytes, HoldsBytes}
+use Rattle.fp_disk.specs.Memory.{State, Memory, state, written, after, after_request, replay}
+use Rattle.fp_disk.specs.Memory.{at_first, unsynced_of, state_at, LeftSince}
+use Rattle.fp_disk.specs.Memory.{BringsBytes, HoldsBytes}
 
 -- all of a list, and a front of a list with one more
 
@@ -31,12 +35,21 @@ take_front (suc k) (d ∷ cs) c le = ap (λ (l : List Call). d ∷ l) (take_fron
 
 pub counts : (first : List ℕ) (calls : List Call) (t : ℕ) (c : List ℕ) → t ≤ length calls →
     IsOutcome (unsynced_of (replay (at_first first) calls)) c → LeftSince first calls t c
-counts first calls t c le out = (length calls, le, omega arith, subst (λ (l : List Call). IsOutcome (unsynced_of (replay (at_first first) l)) c) (sym (take_whole calls (length calls) (omega arith))) out)
+counts first calls t c le out = (
+  length calls,
+  le,
+  omega arith,
+  subst (λ (l : List Call). IsOutcome (unsynced_of (replay (at_first first) l)) c)
+      (sym (take_whole calls (length calls) (omega arith))) out,
+)
 
 pub only : (first : List ℕ) (calls : List Call) (c : List ℕ) →
     LeftSince first calls (length calls) c →
     IsOutcome (unsynced_of (replay (at_first first) calls)) c
-only first calls c left = subst (λ (l : List Call). IsOutcome (unsynced_of (replay (at_first first) l)) c) (take_whole calls left.0 left.1) left.3
+only first calls c left = subst
+    (λ (l : List Call). IsOutcome (unsynced_of (replay (at_first first) l)) c)
+    (take_whole calls left.0 left.1)
+    left.3
 
 -- a part of a write changes no more than the whole
 
@@ -45,7 +58,8 @@ changes_less : (old new : List ℕ) (at m n : ℕ) → m ≤ n → ChangesWithin
 changes_less old new at m n le c = let a = c.no_longer in record {
   no_shorter = c.no_shorter;
   no_longer = omega (arith, a, le);
-  outside = λ k lt out. c.outside k lt (λ inside. out (inside.0, (let h = inside.1 in omega (arith, h, le))));
+  outside = λ k lt out. c.outside k lt
+      (λ inside. out (inside.0, (let h = inside.1 in omega (arith, h, le))));
 }
 
 overwritten_changes : (old more : List ℕ) (at : ℕ) →
@@ -65,9 +79,15 @@ overwritten_changes old more at = let len = length-overwritten old more at in re
 pub written_changes : (p : Progress) (old more : List ℕ) (at : ℕ) →
     ChangesWithin old at (length more) (written p old at more)
 written_changes Whole old more at = overwritten_changes old more at
-written_changes Half old more at = let half = overwritten_changes old (take (length more / 2) more) at in
-    changes_less old _ at (length (take (length more / 2) more)) (length more) (grind (arith, common_steps)) half
-written_changes Nothing old more at = record { no_shorter = omega arith; no_longer = omega arith; outside = λ k lt out. refl }
+written_changes Half old more at =
+    let half = overwritten_changes old (take (length more / 2) more) at in
+    changes_less old _ at (length (take (length more / 2) more)) (length more)
+    (grind (arith, common_steps)) half
+written_changes Nothing old more at = record {
+  no_shorter = omega arith;
+  no_longer = omega arith;
+  outside = λ k lt out. refl;
+}
 
 -- bytes put over bytes are bytes
 
@@ -75,13 +95,19 @@ overwritten_bytes : (old more : List ℕ) (at : ℕ) → AreBytes old → AreByt
     AreBytes (overwritten old at more)
 overwritten_bytes old more at o m =
     let filled : List ℕ = old ++ replicate (at - length old) 0 in
-    let before = All-take IsByte at filled (All-append IsByte old (replicate (at - length old) 0) o (All-replicate IsByte (at - length old) 0 (omega arith))) in
-    All-append IsByte (take at filled ++ more) (drop (at + length more) old) (All-append IsByte (take at filled) more before m) (All-drop IsByte (at + length more) old o)
+    let before = All-take IsByte at filled
+    (All-append IsByte old (replicate (at - length old) 0) o
+    (All-replicate IsByte (at - length old) 0 (omega arith))) in
+    All-append IsByte (take at filled ++ more) (drop (at + length more) old)
+    (All-append IsByte (take at filled) more before m)
+    (All-drop IsByte (at + length more) old o)
 
 written_bytes : (p : Progress) (old more : List ℕ) (at : ℕ) → AreBytes old → AreBytes more →
     AreBytes (written p old at more)
 written_bytes Whole old more at o m = overwritten_bytes old more at o m
-written_bytes Half old more at o m = overwritten_bytes old (take (length more / 2) more) at o (All-take IsByte (length more / 2) more m)
+written_bytes Half old more at o m =
+    overwritten_bytes old (take (length more / 2) more) at o
+    (All-take IsByte (length more / 2) more m)
 written_bytes Nothing old more at o m = o
 
 -- what a read gives is an outcome, at first and after each call
@@ -89,15 +115,25 @@ written_bytes Nothing old more at o m = o
 wrote_real : (p : Progress) (s : State) (at : ℕ) (more : List ℕ) → AreBytes more →
     IsOutcome (unsynced_of s) s.bytes →
     IsOutcome (unsynced_of (after_request (Write at more) p s)) (written p s.bytes at more)
-wrote_real p s at more m r = let c = written_changes p s.bytes more at in let a = r.no_shorter in let b = r.no_longer in let x = c.no_shorter in let y = c.no_longer in record {
-  bytes = written_bytes p s.bytes more at r.bytes m;
-  no_shorter = omega (arith, a, x);
-  no_longer = omega (arith, b, y);
-  kept = λ k lt out. c.outside k (omega (arith, a, lt)) (λ inside. out (inl inside)) ∙ r.kept k lt (λ covers. out (inr covers));
-}
+wrote_real p s at more m r =
+    let c = written_changes p s.bytes more at in
+    let a = r.no_shorter in let b = r.no_longer in
+    let x = c.no_shorter in let y = c.no_longer in
+    record {
+      bytes = written_bytes p s.bytes more at r.bytes m;
+      no_shorter = omega (arith, a, x);
+      no_longer = omega (arith, b, y);
+      kept = λ k lt out. c.outside k (omega (arith, a, lt)) (λ inside. out (inl inside))
+          ∙ r.kept k lt (λ covers. out (inr covers));
+    }
 
 settled_real : (bytes : List ℕ) → AreBytes bytes → IsOutcome (all_synced bytes) bytes
-settled_real bytes b = record { bytes = b; no_shorter = omega arith; no_longer = omega arith; kept = λ k lt out. refl }
+settled_real bytes b = record {
+  bytes = b;
+  no_shorter = omega arith;
+  no_longer = omega arith;
+  kept = λ k lt out. refl;
+}
 
 after_real : (request : Request) (p : Progress) (s : State) → BringsBytes request →
     IsOutcome (unsynced_of s) s.bytes →
@@ -113,7 +149,8 @@ replay_real : (s : State) (cs : List Call) →
     AllByRecursion (λ (c : Call). BringsBytes c.request) cs → IsOutcome (unsynced_of s) s.bytes →
     IsOutcome (unsynced_of (replay s cs)) (replay s cs).bytes
 replay_real s [] b r = r
-replay_real s (c ∷ cs) b r = replay_real (after s c) cs b.1 (after_real c.request c.progress s b.0 r)
+replay_real s (c ∷ cs) b r =
+    replay_real (after s c) cs b.1 (after_real c.request c.progress s b.0 r)
 
 pub has_present : (m : Memory) → HoldsBytes m.first m.calls →
     IsOutcome (unsynced_of (state m)) (state m).bytes
@@ -135,7 +172,10 @@ brought_less (d ∷ cs) c all = (all.0, brought_less cs c all.1)
 
 pub holds_more : (first : List ℕ) (calls : List Call) (c : Call) → BringsBytes c.request →
     HoldsBytes first calls ↔ HoldsBytes first (calls ++ c ∷ [])
-holds_more first calls c b = (λ h. record { at_first = h.at_first; brought = brought_more calls c b h.brought }, λ h. record { at_first = h.at_first; brought = brought_less calls c h.brought })
+holds_more first calls c b = (
+  λ h. record { at_first = h.at_first; brought = brought_more calls c b h.brought },
+  λ h. record { at_first = h.at_first; brought = brought_less calls c h.brought },
+)
 
 pub replay_more : (s : State) (cs : List Call) (c : Call) →
     replay s (cs ++ c ∷ []) ≡ after (replay s cs) c
@@ -145,14 +185,28 @@ replay_more s (d ∷ cs) c = replay_more (after s d) cs c
 pub elapses_call : (first : List ℕ) (calls : List Call) (c : Call) (u : PendingState) →
     ((o : List ℕ) → IsOutcome (unsynced_of (after (replay (at_first first) calls) c)) o →
     IsOutcome u o)
-    → Elapses (length calls) (length (calls ++ c ∷ [])) (LeftSince first calls) (LeftSince first (calls ++ c ∷ [])) (IsOutcome u)
+    → Elapses (length calls) (length (calls ++ c ∷ [])) (LeftSince first calls)
+    (LeftSince first (calls ++ c ∷ [])) (IsOutcome u)
 elapses_call first calls c u fits = record {
   later = omega (arith, len);
   nothing_else = λ t o le left. elim (cases_lt (length calls) left.0) [
-    | inl past ↦ inr (fits o (subst (λ (s : State). IsOutcome (unsynced_of s) o) (whole left.0 (omega (arith, past))) left.3))
-    | inr within ↦ inl (left.0, left.1, within, subst (λ (l : List Call). IsOutcome (unsynced_of (replay (at_first first) l)) o) (take_front left.0 calls c within) left.3)
+    | inl past ↦ inr (fits o (subst (λ (s : State). IsOutcome (unsynced_of s) o)
+        (whole left.0 (omega (arith, past))) left.3))
+    | inr within ↦ inl (
+      left.0,
+      left.1,
+      within,
+      subst (λ (l : List Call). IsOutcome (unsynced_of (replay (at_first first) l)) o)
+          (take_front left.0 calls c within) left.3,
+    )
   ];
-  keeps = λ t o le left. (left.0, left.1, (let h = left.2 in omega (arith, len, h)), subst (λ (l : List Call). IsOutcome (unsynced_of (replay (at_first first) l)) o) (sym (take_front left.0 calls c left.2)) left.3);
+  keeps = λ t o le left. (
+    left.0,
+    left.1,
+    (let h = left.2 in omega (arith, len, h)),
+    subst (λ (l : List Call). IsOutcome (unsynced_of (replay (at_first first) l)) o)
+        (sym (take_front left.0 calls c left.2)) left.3,
+  );
 }
   where
     len : length (calls ++ c ∷ []) ≡ length calls + 1
@@ -160,11 +214,21 @@ elapses_call first calls c u fits = record {
 
     whole : (k : ℕ) → length calls + 1 ≤ k →
         state_at first (calls ++ c ∷ []) k ≡ after (replay (at_first first) calls) c
-    whole k le = ap (λ (l : List Call). replay (at_first first) l) (take_whole (calls ++ c ∷ []) k (omega (arith, len, le))) ∙ replay_more (at_first first) calls c
+    whole k le = ap (λ (l : List Call). replay (at_first first) l)
+        (take_whole (calls ++ c ∷ []) k (omega (arith, len, le)))
+        ∙ replay_more (at_first first) calls c
 
 -- a sync leaves an outcome from before it
 pub synced_fits : (m : Memory) (o : List ℕ) → HoldsBytes m.first m.calls →
     IsOutcome (all_synced (state m).bytes) o → IsOutcome (unsynced_of (state m)) o
 synced_fits m o h out =
-    let p = has_present m h in let a = p.no_shorter in let b = p.no_longer in let x = out.no_shorter in let y = out.no_longer in
-    record { bytes = out.bytes; no_shorter = omega (arith, a, x); no_longer = omega (arith, b, y); kept = λ k lt apart. out.kept k (omega (arith, a, lt)) (λ none. none) ∙ p.kept k lt apart }
+    let p = has_present m h in
+    let a = p.no_shorter in let b = p.no_longer in
+    let x = out.no_shorter in let y = out.no_longer in
+    record {
+      bytes = out.bytes;
+      no_shorter = omega (arith, a, x);
+      no_longer = omega (arith, b, y);
+      kept = λ k lt apart. out.kept k (omega (arith, a, lt)) (λ none. none)
+          ∙ p.kept k lt apart;
+    }

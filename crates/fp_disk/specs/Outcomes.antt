@@ -1,5 +1,6 @@
 -- What a crash may leave.
-use Rattle.std.specs.Prelude.{◌≡◌, ◌⊎◌, ◌<◌, ◌≤◌, ◌+◌, ℕ, max, List, [], ◌∷◌, ◌++◌, length, slice_index, take, drop, replicate, ◌-◌, Result, IsOk, IsErr}
+use Rattle.std.specs.Prelude.{◌≡◌, ◌⊎◌, ◌<◌, ◌≤◌, ◌+◌, ℕ, max, List, [], ◌∷◌, ◌++◌, length}
+use Rattle.std.specs.Prelude.{slice_index, take, drop, replicate, ◌-◌, Result, IsOk, IsErr}
 use Rattle.std.specs.List.{All}
 use Rattle.fp_disk.specs.declared.disk.DiskFault.{DiskFault}
 

@@ -1,7 +1,9 @@
 //! A disk with a name, and tokens of its syncs.
 
-ghost use Rattle.std.specs.Prelude.{◌≡◌, ◌↔◌, ◌≤◌, ◌+◌, ◌⊎◌, [], ◌∷◌, ◌++◌, length, slice_range, IfOk, OnOk, IsErr};
-ghost use Rattle.fp_disk.specs.Outcomes.{Answers, ChangesWithin, Elapses, IsOutcome, Written, all_synced, with_write};
+ghost use Rattle.std.specs.Prelude.{◌≡◌, ◌↔◌, ◌≤◌, ◌+◌, ◌⊎◌, [], ◌∷◌, ◌++◌, length, slice_range};
+ghost use Rattle.std.specs.Prelude.{IfOk, OnOk, IsErr};
+ghost use Rattle.fp_disk.specs.Outcomes.{Answers, ChangesWithin, Elapses, IsOutcome, Written};
+ghost use Rattle.fp_disk.specs.Outcomes.{all_synced, with_write};
 
 use crate::disk::{Disk, DiskFault};
 use crate::history::CallKind;

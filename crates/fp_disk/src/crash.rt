@@ -1,6 +1,7 @@
 //! A crash of a disk in memory: the synced bytes, and each pending write as it was chosen.
 
-ghost use Rattle.std.specs.Prelude.{◌≡◌, ◌≤◌, ◌<◌, ◌-◌, ℕ, [], length, slice_index, slice_index_or, if◌then◌else◌, IfOk};
+ghost use Rattle.std.specs.Prelude.{◌≡◌, ◌≤◌, ◌<◌, ◌-◌, ℕ, [], length, slice_index, slice_index_or};
+ghost use Rattle.std.specs.Prelude.{if◌then◌else◌, IfOk};
 ghost use Rattle.fp_disk.specs.Outcomes.{IsOutcome};
 ghost use Rattle.fp_disk.specs.Memory.{HoldsBytes, state, fresh, unsynced_of, writes_after};
 ghost use Rattle.fp_disk.specs.Crash.{IsLeft, filled, fill_of, laid, reaches};

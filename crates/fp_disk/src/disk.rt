@@ -1,8 +1,10 @@
 //! What a disk promises.
 
-ghost use Rattle.std.specs.Prelude.{◌≡◌, ◌↔◌, ◌⊎◌, ◌≤◌, ◌<◌, ◌+◌, [], ◌∷◌, ◌++◌, List, ℕ, length, slice_range, IfOk, OnOk, IsOk, IsErr};
+ghost use Rattle.std.specs.Prelude.{◌≡◌, ◌↔◌, ◌⊎◌, ◌≤◌, ◌<◌, ◌+◌, [], ◌∷◌, ◌++◌, List, ℕ, length};
+ghost use Rattle.std.specs.Prelude.{slice_range, IfOk, OnOk, IsOk, IsErr};
 ghost use Rattle.fp_disk.specs.declared.history.CallKind.{CallKind};
-ghost use Rattle.fp_disk.specs.Outcomes.{PendingState, IsOutcome, Written, ChangesWithin, all_synced, with_write, Elapses, Answers};
+ghost use Rattle.fp_disk.specs.Outcomes.{PendingState, IsOutcome, Written, ChangesWithin};
+ghost use Rattle.fp_disk.specs.Outcomes.{all_synced, with_write, Elapses, Answers};
 
 use crate::history::CallKind;
 

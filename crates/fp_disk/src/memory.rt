@@ -1,8 +1,10 @@
 //! A disk in memory.
 
-ghost use Rattle.std.specs.Prelude.{◌≡◌, ◌↔◌, ◌≤◌, ◌<◌, ◌+◌, ◌^◌, ◌-◌, ℕ, List, [], ◌∷◌, ◌++◌, length, slice_range, IfOk, OnOk, OnErr};
+ghost use Rattle.std.specs.Prelude.{◌≡◌, ◌↔◌, ◌≤◌, ◌<◌, ◌+◌, ◌^◌, ◌-◌, ℕ, List, [], ◌∷◌, ◌++◌};
+ghost use Rattle.std.specs.Prelude.{length, slice_range, IfOk, OnOk, OnErr};
 ghost use Rattle.fp_disk.specs.Outcomes.{AreBytes, overwritten};
-ghost use Rattle.fp_disk.specs.Memory.{Memory, Answered, HoldsBytes, Keeps, state, unsynced_of, LeftSince, fresh, written, write_progress};
+ghost use Rattle.fp_disk.specs.Memory.{Memory, Answered, HoldsBytes, Keeps, state, unsynced_of};
+ghost use Rattle.fp_disk.specs.Memory.{LeftSince, fresh, written, write_progress};
 ghost use Rattle.fp_disk.specs.MemoryLaws.{counts, only, has_present};
 ghost use Rattle.fp_disk.specs.declared.call.Request.TheVariants.{Len, Read, Write, Sync};
 ghost use Rattle.fp_disk.specs.declared.call.Progress.TheVariants.{Nothing};

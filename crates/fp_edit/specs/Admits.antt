@@ -1,5 +1,6 @@
 -- Which edits a set admits, and what they come to.
-use Rattle.std.specs.Prelude.{◌≡◌, ℕ, ◌+◌, ◌==◌, Bool, true, false, ◌&&◌, nat_le, nat_lt, List, [], ◌∷◌, Option, Some, None, is_some, is_none, option_map}
+use Rattle.std.specs.Prelude.{◌≡◌, ℕ, ◌+◌, ◌==◌, Bool, true, false, ◌&&◌, nat_le, nat_lt, List, []}
+use Rattle.std.specs.Prelude.{◌∷◌, Option, Some, None, is_some, is_none, option_map}
 use Rattle.std.specs.FinMap as map
 use Rattle.fp_base.specs.Tests.{first_failed}
 use Rattle.fp_edit.specs.Edits.{Change, put, delete, changed_key, is_put, Proposal}
@@ -9,7 +10,8 @@ use Rattle.fp_edit.specs.declared.flag_set.TheConstants.{MOST_FLAGS}
 use Rattle.fp_edit.specs.declared.edit.Expect.{Expect}
 use Rattle.fp_edit.specs.declared.edit.Expect.TheVariants.{Any, Absent, At}
 use Rattle.fp_edit.specs.declared.edit.EditFault.{EditFault}
-use Rattle.fp_edit.specs.declared.edit.EditFault.TheVariants.{Conflict, SetTooLarge, RevisionsUsed, Memory}
+use Rattle.fp_edit.specs.declared.edit.EditFault.TheVariants.{Conflict, SetTooLarge, RevisionsUsed}
+use Rattle.fp_edit.specs.declared.edit.EditFault.TheVariants.{Memory}
 
 -- the revision that changed a key's flag last, where there is one
 abbrev pub changed_at : State → List ℕ → Option ℕ

@@ -1,5 +1,6 @@
 -- What a line says: an edit, or the first fault that the line has.
-use Rattle.std.specs.Prelude.{ℕ, List, length, codes, Bool, true, ◌&&◌, ◌||◌, nat_le, nat_lt, bytes_eq, if◌then◌else◌, Option, Some, None, Result, Ok, Err}
+use Rattle.std.specs.Prelude.{ℕ, List, length, codes, Bool, true, ◌&&◌, ◌||◌, nat_le, nat_lt}
+use Rattle.std.specs.Prelude.{bytes_eq, if◌then◌else◌, Option, Some, None, Result, Ok, Err}
 use Rattle.serde_json.specs.Data.{Data, null, number, string, object, Members, no_members, member}
 use Rattle.serde_json.specs.Find.{get, as_u64}
 use Rattle.serde_json.specs.Written.{compact_text}

@@ -4,7 +4,9 @@ use Rattle.fp_definition.specs.Faults.{tells}
 use Rattle.fp_edit.specs.Line as says
 use Rattle.fp_edit.specs.Line.{Fault}
 use Rattle.fp_edit.specs.declared.line.LineFault.{LineFault}
-use Rattle.fp_edit.specs.declared.line.LineFault.TheVariants.{TooLong, NotJson, NotObject, BadMember, BadOp, BadKey, BadIf, BadFlag, Memory}
+use Rattle.fp_edit.specs.declared.line.LineFault.TheVariants.{TooLong, NotJson, NotObject}
+use Rattle.fp_edit.specs.declared.line.LineFault.TheVariants.{BadMember, BadOp, BadKey, BadIf}
+use Rattle.fp_edit.specs.declared.line.LineFault.TheVariants.{BadFlag, Memory}
 
 -- want of memory tells nothing of the line, and is never told as a fault of its flag
 abbrev pub Tells : LineFault → (Fault → Type 0) → Type 0

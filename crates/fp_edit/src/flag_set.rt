@@ -1,10 +1,12 @@
 //! Sets of flags.
 
-ghost use Rattle.std.specs.Prelude.{◌≡◌, ◌≢◌, ◌+◌, ◌<◌, ◌≤◌, ◌^◌, ◌↔◌, nat_lt, ℕ, true, None, IsTrue, All, IfSome, IfOk, OnOk, OnErr, IfErr};
+ghost use Rattle.std.specs.Prelude.{◌≡◌, ◌≢◌, ◌+◌, ◌<◌, ◌≤◌, ◌^◌, ◌↔◌, nat_lt, ℕ, true, None};
+ghost use Rattle.std.specs.Prelude.{IsTrue, All, IfSome, IfOk, OnOk, OnErr, IfErr};
 ghost use Rattle.std.specs.Option.{option_copied};
 ghost use Rattle.std.specs.FinMap as map;
 ghost use Rattle.fp_definition.specs.Key.{key_bytes};
-ghost use Rattle.fp_edit.specs.Admits.{Admits, accepted, IsRefused, changed_at, has_revision, has_room, is_met, is_within, next, refusal};
+ghost use Rattle.fp_edit.specs.Admits.{Admits, accepted, IsRefused, changed_at, has_revision};
+ghost use Rattle.fp_edit.specs.Admits.{has_room, is_met, is_within, next, refusal};
 ghost use Rattle.fp_edit.specs.Document.{document};
 ghost use Rattle.fp_edit.specs.Entries.{entries_of};
 ghost use Rattle.fp_edit.specs.Edits.{put, delete, proposal_of};

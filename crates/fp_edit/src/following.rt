@@ -80,8 +80,8 @@ fn cost_after(set: &FlagSet, edits: &[Edit], key: &FlagKey) -> u128
 }
 
 impl FlagSet {
-    /// Whether the set accepts the edits one after another, whatever their editors expected. It takes no memory, and looks at the
-    /// set only at their keys.
+    /// Whether the set accepts the edits one after another, whatever their editors expected. It
+    /// takes no memory, and looks at the set only at their keys.
     pub fn accepts(&self, edits: &[Edit]) -> bool
         ensures { IsTrue result ↔ Follows self.now (changes_of edits.now) }
     {
@@ -103,7 +103,8 @@ impl FlagSet {
         true
     }
 
-    /// Takes into the set the edits that are ahead of it. Where memory is wanting it stops between two of them.
+    /// Takes into the set the edits that are ahead of it. Where memory is wanting it
+    /// stops between two of them.
     pub fn catch_up(&mut self, ahead: &mut VecDeque<Edit>) -> Result<(), AllocError>
         requires { Follows self.old (changes_of ahead.old.items) }
         ensures same { after_all self.new (changes_of ahead.new.items)

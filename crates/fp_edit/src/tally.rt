@@ -1,6 +1,7 @@
 //! The numbers of a set that its limits bind, and what an edit makes of them.
 
-ghost use Rattle.std.specs.Prelude.{◌≡◌, ◌+◌, ◌<◌, ◌≤◌, ◌^◌, ◌⊎◌, ◌↔◌, None, IfSome, IfNone, IsTrue, length};
+ghost use Rattle.std.specs.Prelude.{◌≡◌, ◌+◌, ◌<◌, ◌≤◌, ◌^◌, ◌⊎◌, ◌↔◌, None, IfSome, IfNone};
+ghost use Rattle.std.specs.Prelude.{IsTrue, length};
 ghost use Rattle.std.specs.FinMap as map;
 ghost use Rattle.fp_definition.specs.Key.{key_bytes};
 ghost use Rattle.fp_edit.specs.Admits.{next, refusal};
@@ -36,7 +37,8 @@ pub(crate) fn key_cost(edit: &Edit, key: &FlagKey, before: u128) -> u128
     }
 }
 
-// The numbers of flags and of bytes, once a flag of this cost stands where one took `found` bytes, if they are within the limits.
+// The numbers of flags and of bytes, once a flag of this cost stands where one took `found` bytes,
+// if they are within the limits.
 fn with_flag(limit: u64, count: usize, size: u64, found: u128, cost: u128) -> Option<(usize, u64)>
     requires found { found ≤ size }
     requires cost { cost < 2 ^ 66 }
@@ -57,7 +59,8 @@ fn with_flag(limit: u64, count: usize, size: u64, found: u128, cost: u128) -> Op
     Some((count as usize, size as u64))
 }
 
-// The numbers after an edit to a key whose flag takes `found` bytes, if the set of these numbers accepts it whatever its editor expected.
+// The numbers after an edit to a key whose flag takes `found` bytes, if the set of these numbers
+// accepts it whatever its editor expected.
 pub(crate) fn judged(
     limit: u64,
     revision: u64,

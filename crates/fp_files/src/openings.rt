@@ -12,8 +12,8 @@ impl<'a> Lists<&'a str, Bytes> for OfPath {
     ghost items = { λ path. path.now ∷ [] };
 }
 
-/// Which paths were to be opened so far, in order, and how often that failed. It is there in proofs alone and takes no
-/// bytes.
+/// Which paths were to be opened so far, in order, and how often that failed. It is there in proofs
+/// alone and takes no bytes.
 #[derive(Drop)]
 pub struct OpeningLog {
     paths: Growing<Bytes>,

@@ -9,7 +9,8 @@ use fp_disk::{DiskFault, FileDisk, create_file, open_file};
 use std::marker::Model;
 use std::rt::Files;
 
-/// The files of a runtime. Nothing shows what stands at a path, so that their disks are never honest.
+/// The files of a runtime. Nothing shows what stands at a path, so that
+/// their disks are never honest.
 #[derive(Drop)]
 pub struct SystemFiles<R: Drop> {
     rt: R,

@@ -9,14 +9,16 @@ ghost use Rattle.fp_fronts.specs.Growth.{whole, reached};
 
 use std::marker::{Model, PhantomData};
 
-/// Which elements a value of type `X` stands for, in order. The implementing type is a marker, and is never made.
+/// Which elements a value of type `X` stands for, in order. The implementing type is a
+/// marker, and is never made.
 pub trait Lists<X, E> {
     ghost items: { X → List E };
 }
 
 /// The sole right to lengthen the list `name`, which now is `log`.
 ///
-/// The list is there in proofs alone: a value has no bytes, and no call on it takes memory or an atomic step.
+/// The list is there in proofs alone: a value has no bytes, and no call on it takes
+/// memory or an atomic step.
 pub struct Growing<E> {
     marker: PhantomData<E>,
     pub ghost name: { ℕ },
@@ -59,7 +61,8 @@ impl<E> Growing<E> {
         )
     }
 
-    /// Puts the elements of `more` behind the list, and gives the whole list as a beginning of what it will be.
+    /// Puts the elements of `more` behind the list, and gives the whole list as a
+    /// beginning of what it will be.
     pub fn lengthen<X, M: Lists<X, E>>(&mut self, more: &X) -> Front<E>
         ensures { (self.new.name ≡ self.old.name)
             × (self.new.log ≡ self.old.log ++ M.items more.now) × (result.name ≡ self.old.name)

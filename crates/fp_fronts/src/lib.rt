@@ -1,4 +1,5 @@
-//! A list that only its owner lengthens, and its beginnings as tokens. Both are there in proofs alone and take no bytes.
+//! A list that only its owner lengthens, and its beginnings as tokens. Both are there in proofs
+//! alone and take no bytes.
 #![tactic(auto)]
 
 mod count;

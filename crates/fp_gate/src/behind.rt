@@ -1,11 +1,13 @@
 //! Bytes behind a gate, in four calls.
 
 ghost use Rattle.fp_disk.specs.Crashes.{AtAnyMoment};
-ghost use Rattle.std.specs.Prelude.{◌≡◌, ◌≢◌, ◌⊎◌, ◌≤◌, ◌<◌, ◌+◌, ◌^◌, ℕ, List, [], ◌∷◌, length, slice_index, IfOk, OnOk};
+ghost use Rattle.std.specs.Prelude.{◌≡◌, ◌≢◌, ◌⊎◌, ◌≤◌, ◌<◌, ◌+◌, ◌^◌, ℕ, List, [], ◌∷◌, length};
+ghost use Rattle.std.specs.Prelude.{slice_index, IfOk, OnOk};
 ghost use Rattle.fp_disk.specs.Outcomes.{Written as HasWritten, all_synced};
 ghost use Rattle.fp_disk.specs.declared.history.CallKind.TheVariants.{Sync, Write};
 ghost use Rattle.fp_gate.specs.Calls.{MakesCalls};
-ghost use Rattle.fp_gate.specs.Gates.{IsSyncOf, IsShut, IsOpen, StaysAsRead, Guards, IsClosedAt, HasBehind};
+ghost use Rattle.fp_gate.specs.Gates.{IsSyncOf, IsShut, IsOpen, StaysAsRead};
+ghost use Rattle.fp_gate.specs.Gates.{Guards, IsClosedAt, HasBehind};
 
 use crate::gate::{Closed, Gate, OPEN, Open};
 use fp_disk::{Checked, Disk, DiskFault, Synced};
@@ -56,8 +58,8 @@ fn open_and_seal<D: Disk>(
     Ok(gate.seal(disk, synced))
 }
 
-/// Writes bytes behind a gate and opens it: after a crash at any moment they are there where the gate is open. It makes
-/// four calls of the disk: the bytes, a sync, the gate's byte, a sync.
+/// Writes bytes behind a gate and opens it: after a crash at any moment they are there where the
+/// gate is open. It makes four calls of the disk: the bytes, a sync, the gate's byte, a sync.
 pub fn write_behind<D: Disk>(
     gate: Gate<Closed>,
     disk: &mut Checked<D>,

@@ -3,7 +3,8 @@
 ghost use Rattle.fp_disk.specs.Crashes.{AtAnyMoment};
 ghost use Rattle.std.specs.Prelude.{◌≡◌, ◌⊎◌, ◌≤◌, ◌<◌, ℕ, length, slice_index, IfOk, OnOk};
 ghost use Rattle.fp_gate.specs.Calls.{WritesByte};
-ghost use Rattle.fp_gate.specs.Gates.{Gated, IsSyncOf, IsShut, IsOpen, StaysAsRead, Guards, IsButFor};
+ghost use Rattle.fp_gate.specs.Gates.{Gated, IsSyncOf, IsShut, IsOpen};
+ghost use Rattle.fp_gate.specs.Gates.{StaysAsRead, Guards, IsButFor};
 
 use fp_disk::{Checked, Disk, DiskFault, Synced};
 use std::marker::{Model, PhantomData};
@@ -23,7 +24,8 @@ pub struct Written;
 /// Its byte is a5, whatever a crash leaves.
 pub struct Open;
 
-/// A gate: the place of its byte, and the places that it guards, which are none until `guarding` says which.
+/// A gate: the place of its byte, and the places that it guards, which are none
+/// until `guarding` says which.
 #[derive(Drop)]
 pub struct Gate<S> {
     at: u64,
@@ -97,8 +99,8 @@ impl Gate<Closed> {
 
         ensures gate { IfOk result (λ g. g ≡ self) }
 
-        // A crash at any moment since leaves what it might have left before, but for the gate's byte; and where that is open,
-        // what it guards is there.
+        // A crash at any moment since leaves what it might have left before, but for the gate's
+        // byte; and where that is open, what it guards is there.
         ensures each { AtAnyMoment D.Disk disk.old.disk disk.new.disk
             (IsButFor (D.unsynced disk.old.disk) self.at) }
         ensures guards { AtAnyMoment D.Disk disk.old.disk disk.new.disk

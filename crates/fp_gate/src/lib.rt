@@ -1,4 +1,5 @@
-//! One byte of a disk as a gate: what it guards counts only where it is a5, and opening it costs a sync.
+//! One byte of a disk as a gate: what it guards counts only where it is a5, and
+//! opening it costs a sync.
 #![tactic(auto)]
 
 mod behind;

@@ -1,5 +1,6 @@
 -- The response to what was asked, by the replies that may be given to it.
-use Rattle.std.specs.Prelude.{◌≡◌, ℕ, List, Option, Some, None, Result, Ok, Err, min, option_map, string_bytes, length, ◌==◌, if◌then◌else◌}
+use Rattle.std.specs.Prelude.{◌≡◌, ℕ, List, Option, Some, None, Result, Ok, Err, min, option_map}
+use Rattle.std.specs.Prelude.{string_bytes, length, ◌==◌, if◌then◌else◌}
 use Rattle.http.specs.declared.response.Parts.{Parts}
 use Rattle.http_body_util.specs.Collected.{collected_bytes}
 use Rattle.http_body_util.specs.declared.collected.Collected.{Collected}
@@ -21,7 +22,8 @@ MayReply replies asked body moment said =
     body (min moment LATEST) said
 
 -- what came is this body, or one that is too long
-abbrev pub WasCollected : {E : Type 0} → Result Collected (LimitedError E) → Option (List ℕ) → Type 0
+abbrev pub WasCollected : {E : Type 0} → Result Collected (LimitedError E) → Option (List ℕ)
+    → Type 0
 WasCollected (Ok whole) body = body ≡ Some (collected_bytes whole)
 WasCollected (Err limited.LengthLimit) body = body ≡ None
 WasCollected (Err (limited.Body cause)) body = ⊥

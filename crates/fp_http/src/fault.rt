@@ -3,7 +3,8 @@
 use std::error::Error;
 use std::fmt;
 
-/// The connection is closed without a reply: the body broke off, the view is closed, or memory is wanting.
+/// The connection is closed without a reply: the body broke off, the view is
+/// closed, or memory is wanting.
 #[derive(Debug, Drop, Clone, Copy)]
 pub struct NoReply;
 

@@ -1,6 +1,7 @@
 //! A reply as a response of HTTP.
 
-ghost use Rattle.std.specs.Prelude.{◌≡◌, ◌==◌, Some, None, IfOk, OnOk, codes, decimal, length, option_map, string_bytes, if◌then◌else◌};
+ghost use Rattle.std.specs.Prelude.{◌≡◌, ◌==◌, Some, None, IfOk, OnOk, codes, decimal, length};
+ghost use Rattle.std.specs.Prelude.{option_map, string_bytes, if◌then◌else◌};
 ghost use Rattle.http.specs.Response.{body_of, head_of};
 ghost use Rattle.http_header.specs.FieldValue.{plain_value};
 ghost use Rattle.http_header.specs.HeaderMap.{insert};

@@ -1,6 +1,7 @@
 //! The service that hyper asks: a request's reply once its body came.
 
-ghost use Rattle.std.specs.Prelude.{◌≡◌, ◌<◌, ◌^◌, ℕ, List, Option, IfOk, IfSome, IsSomeAnd, option_map, string_bytes};
+ghost use Rattle.std.specs.Prelude.{◌≡◌, ◌<◌, ◌^◌, ℕ, List, Option, IfOk, IfSome, IsSomeAnd};
+ghost use Rattle.std.specs.Prelude.{option_map, string_bytes};
 ghost use Rattle.std.specs.Option.{option_copied};
 ghost use Rattle.http.specs.Request.{head_of};
 ghost use Rattle.http.specs.Response as reply;

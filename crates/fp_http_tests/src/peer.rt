@@ -1,5 +1,5 @@
-//! A peer that says its piece, perhaps another once it was answered, and then ends. What it is sent is kept where the test
-//! sees it.
+//! A peer that says its piece, perhaps another once it was answered, and then ends. What it is sent
+//! is kept where the test sees it.
 
 ghost use Rattle.std.specs.Prelude.{⊤};
 

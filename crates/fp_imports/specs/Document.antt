@@ -1,12 +1,14 @@
 -- The flags that a flagd document defines.
-use Rattle.std.specs.Prelude.{ℕ, List, [], ◌∷◌, codes, Option, Some, None, option_and_then, Result, Ok, Err, if◌then◌else◌}
+use Rattle.std.specs.Prelude.{ℕ, List, [], ◌∷◌, codes, Option, Some, None, option_and_then, Result}
+use Rattle.std.specs.Prelude.{Ok, Err, if◌then◌else◌}
 use Rattle.serde_json.specs.Data.{Data, object, Members, no_members, member, put}
 use Rattle.serde_json.specs.Find.{get, get_member, as_object}
 use Rattle.serde_json.specs.Written.{compact_text}
 use Rattle.fp_definition.specs.Key.{is_key}
 use Rattle.fp_definition.specs.Valid as definition
 use Rattle.fp_definition.specs.Valid.{Fault, first_fault}
-use Rattle.fp_imports.specs.References.{Walked, Broken, unknown, too_deep, too_large, whole_expansion}
+use Rattle.fp_imports.specs.References.{Walked, Broken, unknown, too_deep}
+use Rattle.fp_imports.specs.References.{too_large, whole_expansion}
 
 -- why a document isn't taken
 pub data Refusal : Type 0 where

@@ -1,9 +1,12 @@
 -- A targeting after the references in it are replaced by what they name.
-use Rattle.std.specs.Prelude.{ℕ, zero, suc, List, [], ◌∷◌, codes, bytes_eq, Option, Some, None, Result, Ok, Err, if◌then◌else◌}
-use Rattle.serde_json.specs.Data.{Data, null, boolean, number, string, array, object, Items, no_items, item, Members, no_members, member}
+use Rattle.std.specs.Prelude.{ℕ, zero, suc, List, [], ◌∷◌, codes, bytes_eq, Option, Some, None}
+use Rattle.std.specs.Prelude.{Result, Ok, Err, if◌then◌else◌}
+use Rattle.serde_json.specs.Data.{Data, null, boolean, number, string, array, object, Items}
+use Rattle.serde_json.specs.Data.{no_items, item, Members, no_members, member}
 use Rattle.serde_json.specs.Find.{get_member}
 use Rattle.serde_json.specs.View.{items_of}
-use Rattle.fp_imports.specs.declared.references.TheConstants.{MOST_REPLACEMENTS, MOST_EXPANDED_VALUES}
+use Rattle.fp_imports.specs.declared.references.TheConstants.{MOST_REPLACEMENTS}
+use Rattle.fp_imports.specs.declared.references.TheConstants.{MOST_EXPANDED_VALUES}
 
 -- why references aren't replaced
 pub data Broken : Type 0 where

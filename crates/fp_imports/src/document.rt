@@ -7,7 +7,9 @@ ghost use Rattle.serde_json.specs.Find.{get, get_member, as_object};
 ghost use Rattle.serde_json.specs.View.{view, members_view};
 ghost use Rattle.fp_base.specs.Answer.{Gives};
 ghost use Rattle.fp_definition.specs.Key.{flag_cmp, key_bytes};
-ghost use Rattle.fp_imports.specs.Document.{document as document_of, evaluators_in, flags_in, flags_of as every_flag, flag_of as one_flag, flag_if_valid, flag_expansion, targeting_expansion};
+ghost use Rattle.fp_imports.specs.Document.{document as document_of, evaluators_in, flags_in};
+ghost use Rattle.fp_imports.specs.Document.{flags_of as every_flag, flag_of as one_flag};
+ghost use Rattle.fp_imports.specs.Document.{flag_if_valid, flag_expansion, targeting_expansion};
 ghost use Rattle.fp_imports.specs.Faults.{Tells, TellsBroken, seen_flag};
 
 use crate::faults::{ImportFault, ReferenceFault};

@@ -4,7 +4,9 @@ ghost use Rattle.std.specs.Prelude.{◌≡◌, map, option_map, Ok};
 ghost use Rattle.serde_json.specs.Find.{get_member};
 ghost use Rattle.serde_json.specs.View.{view, items_view, members_view};
 ghost use Rattle.fp_base.specs.Answer.{Gives};
-ghost use Rattle.fp_imports.specs.References.{reference as reference_of, count_one, expansion, items_expansion, members_expansion, replacement, whole_expansion};
+ghost use Rattle.fp_imports.specs.References.{reference as reference_of, count_one, expansion};
+ghost use Rattle.fp_imports.specs.References.{items_expansion, members_expansion, replacement};
+ghost use Rattle.fp_imports.specs.References.{whole_expansion};
 ghost use Rattle.fp_imports.specs.Faults.{TellsBroken, with_rest};
 
 use crate::faults::ReferenceFault;

@@ -3,7 +3,8 @@ use Rattle.std.specs.Prelude.{ℕ, List, codes, Option, Some, None}
 use Rattle.serde_json.specs.Data.{Data, string, object, Members, no_members, member}
 use Rattle.fp_definition.specs.Resolving.{Said}
 use Rattle.fp_definition.specs.declared.resolving.Reason.{Reason}
-use Rattle.fp_definition.specs.declared.resolving.Reason.TheVariants.{Static, Default, TargetingMatch}
+use Rattle.fp_definition.specs.declared.resolving.Reason.TheVariants.{Static, Default}
+use Rattle.fp_definition.specs.declared.resolving.Reason.TheVariants.{TargetingMatch}
 use Rattle.fp_ofrep.specs.Failures.{code_of, details_of}
 use Rattle.fp_ofrep.specs.declared.failure.Failure.{Failure}
 

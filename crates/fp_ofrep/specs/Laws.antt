@@ -1,5 +1,6 @@
 -- What follows from the definitions, for all sets and all requests.
-use Rattle.std.specs.Prelude.{◌≡◌, ℕ, List, codes, Bool, true, false, bytes_eq, Option, Some, None, Result, Ok, Err, if◌then◌else◌}
+use Rattle.std.specs.Prelude.{◌≡◌, ℕ, List, codes, Bool, true, false, bytes_eq, Option, Some, None}
+use Rattle.std.specs.Prelude.{Result, Ok, Err, if◌then◌else◌}
 use Rattle.std.specs.FinMap as map
 use Rattle.std.specs.Str.{is_utf8}
 use Rattle.percent_encoding.specs.Percent.{percent_decode}
@@ -22,14 +23,16 @@ use Rattle.fp_ofrep.specs.declared.failure.Failure.TheVariants.{NotFound}
 
 -- the reply for one flag is the same for all sets of this revision that have this flag
 abbrev pub LooksAtOneFlag : Type 0
-LooksAtOneFlag = (a b : State) (method target segment : List ℕ) (if_none_match body : Option (List ℕ)) (now : ℕ)
+LooksAtOneFlag = (a b : State) (method target segment : List ℕ)
+    (if_none_match body : Option (List ℕ)) (now : ℕ)
     → route_of target ≡ Some (single segment) → a.revision ≡ b.revision
     → map.get a.flags (percent_decode segment) ≡ map.get b.flags (percent_decode segment)
     → reply a method target if_none_match body now ≡ reply b method target if_none_match body now
 
 -- the reply for a key itself is that for each target whose segment decodes to it
 abbrev pub KeyOrSegment : Type 0
-KeyOrSegment = (set : State) (target segment : List ℕ) (if_none_match body : Option (List ℕ)) (now : ℕ)
+KeyOrSegment = (set : State) (target segment : List ℕ)
+    (if_none_match body : Option (List ℕ)) (now : ℕ)
     → route_of target ≡ Some (single segment) → is_utf8 (percent_decode segment) ≡ true
     → reply set (codes "POST") target if_none_match body now
     ≡ reply_for set (percent_decode segment) body now
@@ -44,20 +47,27 @@ is_text text other = false
 -- the items whose member `key` is this one
 abbrev pub items_of : List ℕ → Items → Items
 items_of k no_items = no_items
-items_of k (item d rest) = if is_text k (get (codes "key") d) then item d (items_of k rest) else items_of k rest
+items_of k (item d rest) =
+    if is_text k (get (codes "key") d) then item d (items_of k rest) else items_of k rest
 
--- what the evaluation of one flag adds to a list: nothing where there is no such flag, or it is disabled
+-- what the evaluation of one flag adds to a list: nothing where there is no
+-- such flag, or it is disabled
 abbrev pub part_of : List ℕ → Result Data Failure → Items
 part_of k (Err NotFound) = no_items
 part_of k evaluation = listed k evaluation no_items
 
--- in one set, in one context: the reply for one flag tells its evaluation, and what the list in the reply for all has of its key is that evaluation
+-- in one set, in one context: the reply for one flag tells its evaluation, and what the list in the
+-- reply for all has of its key is that evaluation
 abbrev pub ListHasEachFlag : Type 0
-ListHasEachFlag = (set : State) (k : List ℕ) (if_none_match : Option (List ℕ)) (body : List ℕ) (context : Data) (now : ℕ)
+ListHasEachFlag = (set : State) (k : List ℕ) (if_none_match : Option (List ℕ)) (body : List ℕ)
+    (context : Data) (now : ℕ)
     → context_of body ≡ Ok context → is_key k ≡ true
-    → (keyed set k body now ≡ response_of set.revision k (evaluation_at k (map.get set.flags k) context now))
-    × (bulk_reply set if_none_match body now ≡ tagged set.revision if_none_match (compact_text (bulk_data set.flags context now)))
-    × (items_of k (flag_items (map.entries set.flags) context now) ≡ part_of k (evaluation_at k (map.get set.flags k) context now))
+    → (keyed set k body now
+    ≡ response_of set.revision k (evaluation_at k (map.get set.flags k) context now))
+    × (bulk_reply set if_none_match body now
+    ≡ tagged set.revision if_none_match (compact_text (bulk_data set.flags context now)))
+    × (items_of k (flag_items (map.entries set.flags) context now)
+    ≡ part_of k (evaluation_at k (map.get set.flags k) context now))
 
 -- ---- tags
 
@@ -73,6 +83,7 @@ without_revision r = record {
 
 -- sets of the same flags have the same tag and the same body, whatever their revisions
 abbrev pub SameFlagsSameTag : Type 0
-SameFlagsSameTag = (a b : State) (method target : List ℕ) (if_none_match body : Option (List ℕ)) (now : ℕ)
+SameFlagsSameTag = (a b : State) (method target : List ℕ)
+    (if_none_match body : Option (List ℕ)) (now : ℕ)
     → a.flags ≡ b.flags → without_revision (reply a method target if_none_match body now)
     ≡ without_revision (reply b method target if_none_match body now)

@@ -1,6 +1,7 @@
 -- The reply to a request, as a function: the path, then the method, then the length of the body,
 -- then what the body asks of the flags.
-use Rattle.std.specs.Prelude.{ℕ, List, length, codes, nat_lt, if◌then◌else◌, bytes_eq, Option, Some, None}
+use Rattle.std.specs.Prelude.{ℕ, List, length, codes, nat_lt, if◌then◌else◌, bytes_eq}
+use Rattle.std.specs.Prelude.{Option, Some, None}
 use Rattle.fp_edit.specs.Flags.{State}
 use Rattle.fp_ofrep.specs.Bulk.{bulk_reply}
 use Rattle.fp_ofrep.specs.Response.{Response, empty, not_allowed}

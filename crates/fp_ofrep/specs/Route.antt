@@ -1,5 +1,6 @@
 -- What is asked for. A target asks by `/ofrep/v1/evaluate/flags`, or by a flag below it.
-use Rattle.std.specs.Prelude.{ℕ, List, [], ◌∷◌, codes, ◌==◌, Bool, false, ◌||◌, Option, Some, None, if◌then◌else◌}
+use Rattle.std.specs.Prelude.{ℕ, List, [], ◌∷◌, codes, ◌==◌, Bool, false, ◌||◌, Option}
+use Rattle.std.specs.Prelude.{Some, None, if◌then◌else◌}
 
 pub data Route : Type 0 where
   bulk : Route

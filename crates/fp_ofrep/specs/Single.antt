@@ -18,7 +18,8 @@ use Rattle.fp_ofrep.specs.Bodies.{success}
 use Rattle.fp_ofrep.specs.Context.{context_of}
 use Rattle.fp_ofrep.specs.Response.{Response, failed, succeeded}
 use Rattle.fp_ofrep.specs.declared.failure.Failure.{Failure}
-use Rattle.fp_ofrep.specs.declared.failure.Failure.TheVariants.{NotFound, FlagDisabled, NamesNoVariant}
+use Rattle.fp_ofrep.specs.declared.failure.Failure.TheVariants.{NotFound, FlagDisabled}
+use Rattle.fp_ofrep.specs.declared.failure.Failure.TheVariants.{NamesNoVariant}
 
 -- the body's object that tells an outcome, or why there is none
 abbrev pub told : List ℕ → Data → Result Said EvalFault → Result Data Failure

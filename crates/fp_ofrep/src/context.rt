@@ -4,7 +4,8 @@ ghost use Rattle.std.specs.Prelude.{◌≡◌, true, Some, IfOk, IsSome, codes};
 ghost use Rattle.serde_json.specs.Find.{as_object, get};
 ghost use Rattle.serde_json.specs.View.{view};
 ghost use Rattle.fp_base.specs.Whole.{is_whole};
-ghost use Rattle.fp_ofrep.specs.Context.{context_of, context_of_data, context_tests, no_context, text_or_none, unless};
+ghost use Rattle.fp_ofrep.specs.Context.{context_of, context_of_data, context_tests, no_context};
+ghost use Rattle.fp_ofrep.specs.Context.{text_or_none, unless};
 ghost use Rattle.fp_ofrep.specs.Seen.{result_map};
 ghost use Rattle.fp_base.specs.Tests.{first_failed};
 

@@ -3,7 +3,8 @@
 ghost use Rattle.std.specs.Prelude.{◌≡◌, ◌<◌, ◌^◌, IfOk, option_map};
 ghost use Rattle.std.specs.Option.{option_copied};
 ghost use Rattle.fp_group_commit.specs.Tokens.{front_set};
-ghost use Rattle.fp_ofrep.specs.Reply.{evaluated as evaluated_by, posted as posted_by, reply, reply_for, routed as routed_by};
+ghost use Rattle.fp_ofrep.specs.Reply.{evaluated as evaluated_by, posted as posted_by, reply};
+ghost use Rattle.fp_ofrep.specs.Reply.{reply_for, routed as routed_by};
 ghost use Rattle.fp_ofrep.specs.Response.{empty as empty_response, not_allowed};
 ghost use Rattle.fp_ofrep.specs.Seen.{body_seen, route_seen, seen};
 

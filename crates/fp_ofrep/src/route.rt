@@ -1,7 +1,8 @@
 //! What is asked for.
 
 ghost use Rattle.std.specs.Prelude.{◌≡◌, option_map};
-ghost use Rattle.fp_ofrep.specs.Route.{has_byte as has_byte_in, path_of as path_in, route_below as route_below_by, route_of as route_by};
+ghost use Rattle.fp_ofrep.specs.Route.{has_byte as has_byte_in, path_of as path_in};
+ghost use Rattle.fp_ofrep.specs.Route.{route_below as route_below_by, route_of as route_by};
 ghost use Rattle.fp_ofrep.specs.Seen.{route_seen};
 
 use crate::tag::behind;

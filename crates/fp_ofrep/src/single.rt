@@ -12,7 +12,8 @@ ghost use Rattle.serde_json.specs.View.{view};
 ghost use Rattle.fp_base.specs.Whole.{is_whole};
 ghost use Rattle.fp_ofrep.specs.Context.{context_of};
 ghost use Rattle.fp_ofrep.specs.Seen.{seen};
-ghost use Rattle.fp_ofrep.specs.Single.{after_body, broken, decoded, evaluation_at, evaluation_of, flag_at, keyed, response_of, single_reply};
+ghost use Rattle.fp_ofrep.specs.Single.{after_body, broken, decoded, evaluation_at, evaluation_of};
+ghost use Rattle.fp_ofrep.specs.Single.{flag_at, keyed, response_of, single_reply};
 ghost use Rattle.fp_definition.specs.Resolving.{data_of, said_by};
 
 use crate::context::read_context;

@@ -3,7 +3,9 @@
 ghost use Rattle.std.specs.Prelude.{◌≡◌, [], IfOk};
 ghost use Rattle.std.specs.Option.{option_copied};
 ghost use Rattle.fp_ofrep.specs.Route.{behind as behind_text};
-ghost use Rattle.fp_ofrep.specs.Tag.{tag_of, is_known as is_known_by, has_tag, is_tag as is_entity_tag, strong as strong_text, without_blanks as without_blanks_text};
+ghost use Rattle.fp_ofrep.specs.Tag.{tag_of, is_known as is_known_by, has_tag};
+ghost use Rattle.fp_ofrep.specs.Tag.{is_tag as is_entity_tag, strong as strong_text};
+ghost use Rattle.fp_ofrep.specs.Tag.{without_blanks as without_blanks_text};
 
 use sha2::{Digest, Sha256};
 use std::alloc::{AllocError, Global};

@@ -9,7 +9,8 @@ ghost use Rattle.serde_json.specs.View.{view, items_view, members_view};
 ghost use Rattle.serde_json.specs.Written.{compact_text, outline, items_outline, members_outline};
 ghost use Rattle.fp_base.specs.Whole.{is_whole, items_whole, members_whole};
 ghost use Rattle.fp_definition.specs.Resolving.{said_by};
-ghost use Rattle.fp_ofrep.specs.Bodies.{failure as failure_data, success, reason_text, said_members, with_key, with_metadata};
+ghost use Rattle.fp_ofrep.specs.Bodies.{failure as failure_data, success, reason_text};
+ghost use Rattle.fp_ofrep.specs.Bodies.{said_members, with_key, with_metadata};
 
 use crate::failure::Failure;
 use fp_definition::{Reason, Resolved};

@@ -2,7 +2,8 @@
 use Rattle.std.specs.Prelude.{ℤ, Option, Some, None}
 use Rattle.serde_json.specs.Data as json
 use Rattle.serde_json.specs.Find.{as_i64}
-use Rattle.fp_operators.specs.Data.{Data, null, boolean, whole, text, list, object, Items, no_items, item, Members, no_members, member}
+use Rattle.fp_operators.specs.Data.{Data, null, boolean, whole, text, list, object, Items, no_items}
+use Rattle.fp_operators.specs.Data.{item, Members, no_members, member}
 
 -- a number that isn't whole has no data of its own
 abbrev pub whole_or_null : Option ℤ → Data

@@ -1,5 +1,7 @@
 -- What holds of the operators at all data. A function of the module `laws` proves each.
-use Rattle.std.specs.Prelude.{◌≡◌, ◌≢◌, ◌↔◌, ⊤, ℕ, ◌<◌, ℤ, pos, ◌+ℤ◌, ◌*ℤ◌, ◌≤ℤ◌, List, [], ◌∷◌, ◌++◌, Bool, true, false, not, ◌&&◌, ◌||◌, Some, is_some, option_map, FitsSigned, unsigned_abs}
+use Rattle.std.specs.Prelude.{◌≡◌, ◌≢◌, ◌↔◌, ⊤, ℕ, ◌<◌, ℤ, pos, ◌+ℤ◌, ◌*ℤ◌, ◌≤ℤ◌, List, [], ◌∷◌}
+use Rattle.std.specs.Prelude.{◌++◌, Bool, true, false, not, ◌&&◌, ◌||◌, Some, is_some, option_map}
+use Rattle.std.specs.Prelude.{FitsSigned, unsigned_abs}
 use Rattle.std.specs.Int.{w64}
 use Rattle.std.specs.Fmt.{signed_decimal}
 use Rattle.std.specs.Ordering.{ordering_reverse, is_lt}

@@ -1,8 +1,10 @@
 -- Parts of texts and of lists, and texts joined.
-use Rattle.std.specs.Prelude.{ℕ, List, [], ◌∷◌, ◌++◌, Bool, true, false, ◌||◌, eqb, codes, Option, Some, None, option_map, option_and_then}
+use Rattle.std.specs.Prelude.{ℕ, List, [], ◌∷◌, ◌++◌, Bool, true, false, ◌||◌, eqb, codes, Option}
+use Rattle.std.specs.Prelude.{Some, None, option_map, option_and_then}
 use Rattle.std.specs.List.{starts_with, ends_with}
 use Rattle.std.specs.Fmt.{signed_decimal}
-use Rattle.fp_operators.specs.Data.{Data, null, boolean, whole, text, list, object, Items, no_items, item}
+use Rattle.fp_operators.specs.Data.{Data, null, boolean, whole, text, list, object}
+use Rattle.fp_operators.specs.Data.{Items, no_items, item}
 use Rattle.fp_operators.specs.Equality.{strict_equality}
 
 -- the needle begins at some place of the text

@@ -1,7 +1,8 @@
 -- Which data count as true.
 use Rattle.std.specs.Prelude.{pos, Bool, true, false, not, ◌==◌, length}
 use Rattle.std.specs.Ordering.{int_eq}
-use Rattle.fp_operators.specs.Data.{Data, null, boolean, whole, text, list, object, Items, no_items, item}
+use Rattle.fp_operators.specs.Data.{Data, null, boolean, whole, text, list, object}
+use Rattle.fp_operators.specs.Data.{Items, no_items, item}
 
 abbrev pub has_items : Items → Bool
 has_items no_items = false

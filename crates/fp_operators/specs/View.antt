@@ -1,7 +1,8 @@
 -- The data that a `Datum` stands for.
 use Rattle.std.specs.Prelude.{List, [], ◌∷◌, map, String, string_bytes}
 use Rattle.std.specs.declared.alloc.Global.{Global}
-use Rattle.fp_operators.specs.Data.{Data, null, boolean, whole, text, list, object, Items, no_items, item, Members, no_members, member}
+use Rattle.fp_operators.specs.Data.{Data, null, boolean, whole, text, list, object, Items, no_items}
+use Rattle.fp_operators.specs.Data.{item, Members, no_members, member}
 use Rattle.fp_operators.specs.declared.datum.Datum.{Datum, fold-Datum}
 use Rattle.fp_operators.specs.declared.datum.Datum.TheOpen.{Datum-F}
 

@@ -1,7 +1,8 @@
 //! The data that rules compute with.
 
 ghost use Rattle.std.specs.Prelude.{◌≡◌, IfOk};
-ghost use Rattle.serde_json.specs.View.{view as json_view, items_view as json_items, members_view as json_members};
+ghost use Rattle.serde_json.specs.View.{view as json_view, items_view as json_items};
+ghost use Rattle.serde_json.specs.View.{members_view as json_members};
 ghost use Rattle.fp_operators.specs.View.{view, items_view, members_view};
 ghost use Rattle.fp_operators.specs.FromJson.{data_of, items_from, members_from};
 

@@ -2,7 +2,8 @@
 
 ghost use Rattle.std.specs.Prelude.{◌≡◌, not};
 ghost use Rattle.fp_operators.specs.View.{view};
-ghost use Rattle.fp_operators.specs.Equality.{strict_equality, loose_equality, number_meant, stands_for};
+ghost use Rattle.fp_operators.specs.Equality.{strict_equality, loose_equality, number_meant};
+ghost use Rattle.fp_operators.specs.Equality.{stands_for};
 
 use crate::datum::Datum;
 use crate::numeral::whole_number;

@@ -1,7 +1,26 @@
 //! Facts about the operators that hold at all data. Each function does nothing when it runs: its
 //! contract is the fact, and the check of this crate proves it.
 
-ghost use Rattle.fp_operators.specs.Laws.{StrictIsSameness, StrictImpliesLoose, LooseIsSymmetric, OrderReverses, OrderIsTotal, NumbersAreOrdered, TextsAreOrdered, NumbersAscend, TextsAscend, AtMostIsBelowOrEqual, DecimalsReadBack, RemaindersAreExact, PartsStandInside, PrefixesStandFirst, SuffixesStandLast, VersionsFollowTheGrammar, BuildIsIgnored, PreReleasesComeFirst};
+ghost use Rattle.fp_operators.specs.Laws.{
+  StrictIsSameness,
+  StrictImpliesLoose,
+  LooseIsSymmetric,
+  OrderReverses,
+  OrderIsTotal,
+  NumbersAreOrdered,
+  TextsAreOrdered,
+  NumbersAscend,
+  TextsAscend,
+  AtMostIsBelowOrEqual,
+  DecimalsReadBack,
+  RemaindersAreExact,
+  PartsStandInside,
+  PrefixesStandFirst,
+  SuffixesStandLast,
+  VersionsFollowTheGrammar,
+  BuildIsIgnored,
+  PreReleasesComeFirst,
+};
 
 /// Strict and loose equality.
 pub fn equality_laws()

@@ -1,7 +1,8 @@
 //! Numbers that texts write.
 
 ghost use Rattle.std.specs.Prelude.{◌≡◌, ◌||◌};
-ghost use Rattle.fp_operators.specs.Numeral.{begins_with_plus, leads_with_zero, whole_number_of, place_of};
+ghost use Rattle.fp_operators.specs.Numeral.{begins_with_plus, leads_with_zero, whole_number_of};
+ghost use Rattle.fp_operators.specs.Numeral.{place_of};
 
 /// The whole number that a text writes: digits, perhaps behind a minus.
 pub fn whole_number(text: &str) -> Option<i64>

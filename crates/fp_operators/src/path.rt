@@ -2,7 +2,8 @@
 
 ghost use Rattle.std.specs.Prelude.{◌≡◌, IfOk, option_map, map};
 ghost use Rattle.fp_operators.specs.View.{view, items_view, members_view};
-ghost use Rattle.fp_operators.specs.Path.{item_at, member_at, step_to, parts, follow, at_text as at_text_of, named_by, variable_of};
+ghost use Rattle.fp_operators.specs.Path.{item_at, member_at, step_to, parts, follow};
+ghost use Rattle.fp_operators.specs.Path.{at_text as at_text_of, named_by, variable_of};
 
 use crate::datum::Datum;
 use crate::numeral::place;

@@ -1,9 +1,11 @@
 //! Texts within texts, items of lists, and texts joined.
 
-ghost use Rattle.std.specs.Prelude.{◌≡◌, ◌++◌, eqb, Some, None, false, if◌then◌else◌, IfOk, OnErr, option_map, string_bytes, map};
+ghost use Rattle.std.specs.Prelude.{◌≡◌, ◌++◌, eqb, Some, None, false, if◌then◌else◌, IfOk, OnErr};
+ghost use Rattle.std.specs.Prelude.{option_map, string_bytes, map};
 ghost use Rattle.std.specs.List.{starts_with as begins, ends_with as finishes};
 ghost use Rattle.fp_operators.specs.View.{view, items_view};
-ghost use Rattle.fp_operators.specs.Text.{occurs, is_among, is_part, has_prefix, has_suffix, scalar_text, joined, concatenation};
+ghost use Rattle.fp_operators.specs.Text.{occurs, is_among, is_part, has_prefix, has_suffix};
+ghost use Rattle.fp_operators.specs.Text.{scalar_text, joined, concatenation};
 
 use crate::datum::Datum;
 use crate::equality::strictly_equal;

@@ -6,7 +6,9 @@ ghost use Rattle.std.specs.List.{list_all};
 ghost use Rattle.semver.specs.Identifiers.{parts_of};
 ghost use Rattle.fp_operators.specs.View.{view};
 ghost use Rattle.fp_operators.specs.Numeral.{is_numeral};
-ghost use Rattle.fp_operators.specs.Version.{without_v as without_v_of, filling as filling_of, filled, version_of, holds as holds_of, comparison, text_comparison};
+ghost use Rattle.fp_operators.specs.Version.{without_v as without_v_of, filling as filling_of};
+ghost use Rattle.fp_operators.specs.Version.{filled, version_of, holds as holds_of};
+ghost use Rattle.fp_operators.specs.Version.{comparison, text_comparison};
 
 use crate::datum::Datum;
 use semver::Version;

@@ -1,5 +1,6 @@
 -- What an editor is answered.
-use Rattle.std.specs.Prelude.{◌≡◌, ◌⊎◌, ◌≤◌, ℕ, List, [], ◌∷◌, ◌++◌, codes, Bool, true, false, Option, Some, None, Ok, Err, IfSome, IsSomeAnd}
+use Rattle.std.specs.Prelude.{◌≡◌, ◌⊎◌, ◌≤◌, ℕ, List, [], ◌∷◌, ◌++◌, codes, Bool, true, false}
+use Rattle.std.specs.Prelude.{Option, Some, None, Ok, Err, IfSome, IsSomeAnd}
 use Rattle.fp_group_commit.specs.Tokens.{FrontState, front_revision}
 use Rattle.fp_streams.specs.Said.{AppendsLine}
 use Rattle.fp_session.specs.Asks.{Ask}
@@ -56,7 +57,8 @@ says_no_edit (reply r) = is_of_no_edit r
 says_no_edit queue_full = false
 says_no_edit stopped = false
 
--- a line that is no edit is told why, and an edit what became of it; of either memory may be wanting
+-- a line that is no edit is told why, and an edit what became of it; of
+-- either memory may be wanting
 abbrev pub IsAnswerTo : Ask → Answer → Type 0
 IsAnswerTo (Err fault) a = (a ≡ reply (flags.no_edit fault)) ⊎ (a ≡ reply flags.out_of_memory)
 IsAnswerTo (Ok edit) a = says_no_edit a ≡ false

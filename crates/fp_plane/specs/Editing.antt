@@ -7,8 +7,8 @@ use Rattle.fp_session.specs.Lines.{lines}
 use Rattle.fp_session.specs.Progress.{cut}
 use Rattle.fp_plane.specs.Answers.{Answer, AreAnswersTo, IsWithin, texts_of}
 
--- Behind what a writer held stand the answers to what was asked, a line each, and no revision among them is
--- greater than what was told, which is of this store
+-- Behind what a writer held stand the answers to what was asked, a line each, and no revision among
+-- them is greater than what was told, which is of this store
 pub record IsServed (store : Identity) (told : Option FrontState) (asked : List Ask)
     (before held : Option (List ℕ)) : Type 0 where
   pub answers : List Answer
@@ -17,8 +17,8 @@ pub record IsServed (store : Identity) (told : Option FrontState) (asked : List 
   pub within : All (IsWithin told) answers
   pub ours : IfSome told (λ f. f.store ≡ store)
 
--- of the bytes that came in each line that ended was answered, and the last one, which didn't, is kept, as far as it is
--- looked at
+-- of the bytes that came in each line that ended was answered, and the last one, which didn't, is
+-- kept, as far as it is looked at
 pub record IsReading (store : Identity) (told : Option FrontState) (seen kept : List ℕ)
     (before held : Option (List ℕ)) : Type 0 where
   pub done : List (List ℕ)

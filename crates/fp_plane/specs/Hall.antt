@@ -27,7 +27,8 @@ pub record HallState (D : Type 0) : Type 0 where
 abbrev pub IsAtRest : Identity → EvaluatorState → Type 0
 IsAtRest store e = (e.known.store ≡ store) × (e.lent ≡ None)
 
--- What holds whenever the lock is free: all in it is of one store, and what is shown begins what is settled
+-- What holds whenever the lock is free: all in it is of one store, and what is
+-- shown begins what is settled
 pub record IsKept {D : Type 0} (store : Identity) (h : HallState D) : Type 0 where
   pub ours : h.desk.store ≡ store
   pub shown : Begins h.shown (settled_front h.desk)
@@ -37,7 +38,8 @@ pub record IsKept {D : Type 0} (store : Identity) (h : HallState D) : Type 0 whe
 
 -- a hall in which nothing was done yet, with so many evaluators
 pub record IsNew {D : Type 0} (store : Identity) (h : HallState D) : Type 0 where
-  pub desk : h.desk ≡ record { store = store; settled = []; drawn = []; waiting = []; stopped = false }
+  pub desk : h.desk
+      ≡ record { store = store; settled = []; drawn = []; waiting = []; stopped = false }
   pub shown : h.shown ≡ record { store = store; edits = [] }
   pub taken : h.taken ≡ 0
   pub handed : h.handed ≡ None

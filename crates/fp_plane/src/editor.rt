@@ -1,6 +1,7 @@
 //! An editor's connection.
 
-ghost use Rattle.std.specs.Prelude.{◌≡◌, ◌+◌, ◌++◌, ◌∷◌, [], ◌<◌, ◌≤◌, ℕ, List, Option, None, false, IfOk, IfErr, IfSome, IsSomeAnd, OnOk, MatchBool};
+ghost use Rattle.std.specs.Prelude.{◌≡◌, ◌+◌, ◌++◌, ◌∷◌, [], ◌<◌, ◌≤◌, ℕ, List, Option, None};
+ghost use Rattle.std.specs.Prelude.{false, IfOk, IfErr, IfSome, IsSomeAnd, OnOk, MatchBool};
 ghost use Rattle.fp_group_commit.specs.Tokens.{Identity, front_revision};
 ghost use Rattle.fp_session.specs.Asks.{Ask, asked_by_input, asked_by_lines};
 ghost use Rattle.fp_session.specs.Progress.{AsksFor, cut};
@@ -23,10 +24,11 @@ use std::sync::Wait;
 
 const CHUNK: usize = 65_536;
 
-/// Answers each line of an editor, before the next one is looked at, and each edit once it is sealed, settled and shown.
+/// Answers each line of an editor, before the next one is looked at, and each edit once it is
+/// sealed, settled and shown.
 ///
-/// What it answers is the most that was told: no revision that it wrote is greater. Want of memory ends it where a line comes
-/// in; of an edit that was taken it always tells.
+/// What it answers is the most that was told: no revision that it wrote is greater. Want of memory
+/// ends it where a line comes in; of an edit that was taken it always tells.
 pub fn editor_loop<K, D, R, I, O>(
     plane: &Plane<K, D, R>,
     alloc: Global,

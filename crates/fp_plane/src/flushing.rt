@@ -18,8 +18,9 @@ use fp_group_commit::{Draw, Receipt, Store};
 use std::sync::Wait;
 use std::time::Clock;
 
-/// Seals what is handed in, batch after batch, settles and shows it, and tells all who wait, until the plane is to stop and
-/// nothing waits, or the store failed. Then it leaves the store in the plane.
+/// Seals what is handed in, batch after batch, settles and shows it, and tells all who
+/// wait, until the plane is to stop and nothing waits, or the store failed. Then it
+/// leaves the store in the plane.
 pub fn flusher<K, D, R>(plane: &Plane<K, D, R>, store: OwnStore<D>)
 where
     K: Naming,
@@ -41,8 +42,8 @@ where
     plane.leave(OwnStore::new(store));
 }
 
-// Seals, settles and shows what is drawn, and then takes a step of a compaction where one is due. Whatever a crash leaves at
-// any moment stands for what was kept, or that with what is drawn.
+// Seals, settles and shows what is drawn, and then takes a step of a compaction where one is due.
+// Whatever a crash leaves at any moment stands for what was kept, or that with what is drawn.
 fn flush<K, D, R>(plane: &Plane<K, D, R>, store: &mut Store<D>, draw: Draw) -> Result<(), Broken>
 where
     K: Naming,
@@ -55,8 +56,8 @@ where
     ensures same { store.new.store ≡ store.old.store }
     ensures sealed { OnOk result (store.new.sealed ≡ store.old.sealed ++ draw.changes) }
     ensures idle { OnOk result (store.new.step ≡ Idle) }
-    ensures any_moment { AtAnyMoment D.Disk store.old.slots.journal.disk store.new.slots.journal.disk
-        (KeepsOrGains store.old draw.changes) }
+    ensures any_moment { AtAnyMoment D.Disk store.old.slots.journal.disk
+        store.new.slots.journal.disk (KeepsOrGains store.old draw.changes) }
     ensures keeps { OnOk result (EachCrash D.Disk store.new.slots.journal.disk
         (λ c. StandsFor c (kept store.new))) }
     ensures honest { SameHonesty D.Disk store.old.slots.journal.disk store.new.slots.journal.disk }

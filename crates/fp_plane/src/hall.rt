@@ -1,8 +1,11 @@
 //! What a plane's lock keeps.
 
-ghost use Rattle.std.specs.Prelude.{◌≡◌, ◌≢◌, ◌⊎◌, ◌<◌, ◌≤◌, ◌+◌, ◌++◌, [], ◌∷◌, true, None, Some, length, IfOk, IfErr, IfSome, OnOk, OnErr, IsTrue, ◌↔◌, MatchOption, MatchResult, All, vec_len, ◌||◌, ◌&&◌, ◌-◌};
+ghost use Rattle.std.specs.Prelude.{◌≡◌, ◌≢◌, ◌⊎◌, ◌<◌, ◌≤◌, ◌+◌, ◌++◌, [], ◌∷◌, true, None, Some};
+ghost use Rattle.std.specs.Prelude.{length, IfOk, IfErr, IfSome, OnOk, OnErr, IsTrue, ◌↔◌};
+ghost use Rattle.std.specs.Prelude.{MatchOption, MatchResult, All, vec_len, ◌||◌, ◌&&◌, ◌-◌};
 ghost use Rattle.fp_edit.specs.Edits.{proposal_of};
-ghost use Rattle.fp_desk.specs.Desk.{IsAccepted, IsDrawn, Draws, Refuses, SettlesNot, log, settled_front, settled_revision};
+ghost use Rattle.fp_desk.specs.Desk.{IsAccepted, IsDrawn, Draws, Refuses, SettlesNot, log};
+ghost use Rattle.fp_desk.specs.Desk.{settled_front, settled_revision};
 ghost use Rattle.fp_record.specs.declared.batch.TheConstants.{MOST_EDITS};
 ghost use Rattle.fp_group_commit.specs.Tokens.{front_revision};
 ghost use Rattle.fp_publish.specs.Fronts.{Begins};
@@ -151,7 +154,8 @@ impl<K: Naming, D: Disk + Drop, R: Wait + Drop> Hall<K, D, R> {
         self.desk.submit(edit)
     }
 
-    /// What is told of a ticket: `Some` exactly where its edit is settled, and all that is settled is shown.
+    /// What is told of a ticket: `Some` exactly where its edit is settled, and all
+    /// that is settled is shown.
     pub fn answer(&self, ticket: &Ticket) -> Option<(Told, Shown)>
         ensures told { IfSome result (λ p.
             (p.0.store ≡ K.store) × (ticket.now.revision ≤ front_revision p.0)) }
@@ -300,7 +304,8 @@ impl<K: Naming, D: Disk + Drop, R: Wait + Drop> Hall<K, D, R> {
     /// A seat for a subscriber that has this.
     pub fn seat(&mut self, hello: Hello) -> Result<Seat, SeatsUsed>
         ensures taken { MatchResult result
-            (λ s. (self.old.taken < MOST_SEATS) × (self.new.taken ≡ self.old.taken + 1) × (had_by s ≡ hello))
+            (λ s. (self.old.taken < MOST_SEATS) × (self.new.taken ≡ self.old.taken + 1)
+            × (had_by s ≡ hello))
             (λ _. (MOST_SEATS ≤ self.old.taken) × (self.new.taken ≡ self.old.taken)) }
         ensures rest { self.new ≡ record self.old { taken = self.new.taken } }
     {

@@ -28,16 +28,16 @@ pub(crate) struct Shared<K: Naming, D: Disk + Drop, R: Wait + Drop> {
     pub(crate) news: Condvar,
 }
 
-/// A handle of a plane: one desk and one board under a lock, which editors, evaluators, subscribers and a flusher share.
-/// A plane is over the store that `K` names.
+/// A handle of a plane: one desk and one board under a lock, which editors, evaluators, subscribers
+/// and a flusher share. A plane is over the store that `K` names.
 #[derive(Drop)]
 pub struct Plane<K: Naming, D: Disk + Drop, R: Wait + Drop> {
     pub(crate) shared: Arc<Shared<K, D, R>, Global>,
 }
 
 impl<K: Naming, D: Disk + Drop, R: Wait + Copy + Drop> Plane<K, D, R> {
-    /// Over the opening of the store that the plane is of. Where memory is wanting the opening is lost, and the store's disk
-    /// is to be opened again.
+    /// Over the opening of the store that the plane is of. Where memory is wanting the opening is
+    /// lost, and the store's disk is to be opened again.
     pub fn new(rt: R, alloc: Global, opening: Opening) -> Result<Plane<K, D, R>, AllocError>
         requires { opening ≡ K.store }
     {
@@ -77,7 +77,8 @@ impl<K: Naming, D: Disk + Drop, R: Wait + Drop> Plane<K, D, R> {
         submitted
     }
 
-    /// Waits until the ticket's edit is settled and shown. `None` where the store failed, or the flusher ended, before.
+    /// Waits until the ticket's edit is settled and shown. `None` where the store failed, or
+    /// the flusher ended, before.
     pub fn wait(&self, ticket: Ticket) -> Option<(Told, Shown)>
         ensures told { IfSome result (λ p.
             (p.0.store ≡ K.store) × (ticket.revision ≤ front_revision p.0)) }
@@ -134,7 +135,8 @@ impl<K: Naming, D: Disk + Drop, R: Wait + Drop> Plane<K, D, R> {
         self.shared.hall.lock(&self.shared.rt).has_failed()
     }
 
-    /// No edit is taken any more. Waits until what was taken is settled and the flusher has ended, and gives its store back.
+    /// No edit is taken any more. Waits until what was taken is settled and the flusher has ended,
+    /// and gives its store back.
     pub fn stop(self) -> Store<D>
         ensures { result.store ≡ K.store }
     {

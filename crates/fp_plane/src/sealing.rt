@@ -1,5 +1,5 @@
-//! Batches, sealed by a store, and the steps of a compaction between them, as a session takes them too. Where memory is
-//! wanting it is tried again.
+//! Batches, sealed by a store, and the steps of a compaction between them, as a session takes them
+//! too. Where memory is wanting it is tried again.
 
 ghost use Rattle.std.specs.Prelude.{◌≡◌, ◌≢◌, ◌<◌, ◌≤◌, ◌+◌, ◌++◌, length, IfOk, OnOk};
 ghost use Rattle.fp_disk.specs.Crashes.{AtAnyMoment, EachCrash, SameHonesty};
@@ -60,8 +60,8 @@ fn stage<D: Disk, R: Wait + Clock>(rt: &R, store: &mut Store<D>, draw: Draw) -> 
     ensures same { (store.new.store ≡ store.old.store) × (store.new.sealed ≡ store.old.sealed) }
     ensures staged { OnOk result ((store.new.step ≡ Staged) × (store.new.staged ≡ draw.changes)
         × (store.new.slots.journal.phase ≢ Failed)) }
-    ensures any_moment { AtAnyMoment D.Disk store.old.slots.journal.disk store.new.slots.journal.disk
-        (Leaves store.old) }
+    ensures any_moment { AtAnyMoment D.Disk store.old.slots.journal.disk
+        store.new.slots.journal.disk (Leaves store.old) }
     ensures honest { SameHonesty D.Disk store.old.slots.journal.disk store.new.slots.journal.disk }
 {
     let mut draw = draw;
@@ -78,8 +78,8 @@ fn stage<D: Disk, R: Wait + Clock>(rt: &R, store: &mut Store<D>, draw: Draw) -> 
     unreachable!()
 }
 
-/// Seals the draw by the four calls of a batch, once there is room for it. Whatever a crash leaves at any moment stands for
-/// what was kept, or that with the draw.
+/// Seals the draw by the four calls of a batch, once there is room for it. Whatever a crash leaves
+/// at any moment stands for what was kept, or that with the draw.
 pub fn seal<D: Disk, R: Wait + Clock>(
     rt: &R,
     store: &mut Store<D>,
@@ -91,11 +91,12 @@ pub fn seal<D: Disk, R: Wait + Clock>(
     ensures same { store.new.store ≡ store.old.store }
     ensures sealed { OnOk result (store.new.sealed ≡ store.old.sealed ++ draw.changes) }
     ensures rest { OnOk result (IsAtRest store.new) }
-    ensures receipt { IfOk result (λ r. (r.store ≡ store.old.store) × (r.edits ≡ store.new.sealed)) }
+    ensures receipt { IfOk result (λ r. (r.store ≡ store.old.store)
+        × (r.edits ≡ store.new.sealed)) }
     ensures batch { IfOk result (λ r. (r.batch.changes ≡ draw.changes)
         × (r.batch.first ≡ (kept store.old).revision + 1)) }
-    ensures any_moment { AtAnyMoment D.Disk store.old.slots.journal.disk store.new.slots.journal.disk
-        (KeepsOrGains store.old draw.changes) }
+    ensures any_moment { AtAnyMoment D.Disk store.old.slots.journal.disk
+        store.new.slots.journal.disk (KeepsOrGains store.old draw.changes) }
     ensures keeps { OnOk result (EachCrash D.Disk store.new.slots.journal.disk
         (λ c. StandsFor c (kept store.new))) }
     ensures honest { SameHonesty D.Disk store.old.slots.journal.disk store.new.slots.journal.disk }
@@ -110,8 +111,8 @@ pub fn seal<D: Disk, R: Wait + Clock>(
     }
 }
 
-/// Takes a step of a compaction, where one runs, or where less than a quarter of the slot is left for batches and one may
-/// begin. Where memory is wanting for it, none is taken.
+/// Takes a step of a compaction, where one runs, or where less than a quarter of the slot is left
+/// for batches and one may begin. Where memory is wanting for it, none is taken.
 pub fn compact_on<D: Disk>(store: &mut Store<D>) -> Result<(), Broken>
     requires rest { IsAtRest store.old }
     requires keeps { EachCrash D.Disk store.old.slots.journal.disk

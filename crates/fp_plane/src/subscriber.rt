@@ -1,6 +1,7 @@
 //! A subscriber's connection.
 
-ghost use Rattle.std.specs.Prelude.{◌≡◌, ◌≢◌, ◌<◌, ℕ, List, Option, IfErr, IfSome, MatchOption, OnOk};
+ghost use Rattle.std.specs.Prelude.{◌≡◌, ◌≢◌, ◌<◌, ℕ, List, Option, IfErr};
+ghost use Rattle.std.specs.Prelude.{IfSome, MatchOption, OnOk};
 ghost use Rattle.fp_group_commit.specs.Tokens.{front_revision};
 ghost use Rattle.fp_publish.specs.Seats.{IsNews, had_by};
 ghost use Rattle.fp_stream.specs.Hellos.{Hears};
@@ -33,9 +34,9 @@ pub enum SubscriberFault {
     Device,
 }
 
-/// Reads a subscriber's hello, and sends it each document that is shown and that it hasn't got, until the plane is stopped,
-/// the writer fails, or it has left, which is asked each second in which nothing new is shown. One that is slow gets the
-/// newest.
+/// Reads a subscriber's hello, and sends it each document that is shown and that it hasn't got,
+/// until the plane is stopped, the writer fails, or it has left, which is asked each second in
+/// which nothing new is shown. One that is slow gets the newest.
 pub fn subscriber_loop<K, D, R, I, O, G>(
     plane: &Plane<K, D, R>,
     r: &mut FailureCounted<I>,
@@ -102,7 +103,8 @@ where
 }
 
 impl<K: Naming, D: Disk + Drop, R: Wait + Clock + Drop> Plane<K, D, R> {
-    // Waits until something is shown that the seat's subscriber hasn't got. `None` where the plane was stopped or it has left.
+    // Waits until something is shown that the seat's subscriber hasn't got. `None` where the plane
+    // was stopped or it has left.
     fn handed<G: Fn() -> bool>(&self, seat: &mut Seat, has_left: &G) -> Option<Handed>
         requires { G.IsAlwaysCallable has_left.now }
         ensures ours { IfSome result (λ h. h.store ≡ K.store) }

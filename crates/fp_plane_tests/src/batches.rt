@@ -21,8 +21,8 @@ const FIRST: &[u8] =
 const SECOND: &[u8] =
     br#"{"flag":{"defaultVariant":"on","state":"ENABLED","variants":{"on":true}},"key":"b","op":"put"}"#;
 
-// While a call of the first editor's batch is held the second one's edit is taken, an evaluation shows what was shown
-// before, and nobody is told of an edit. Then both are.
+// While a call of the first editor's batch is held the second one's edit is taken, an evaluation
+// shows what was shown before, and nobody is told of an edit. Then both are.
 fn run<K, R>(
     rt: &R,
     store: OwnStore<TestDisk<R>>,

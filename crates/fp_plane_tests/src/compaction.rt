@@ -94,8 +94,8 @@ fn are_all(told: &[Answer]) -> bool {
     true
 }
 
-// While the compaction's first write is held another editor's edit is taken, and an evaluation shows what was told. Then all
-// edits are told.
+// While the compaction's first write is held another editor's edit is taken, and an evaluation
+// shows what was told. Then all edits are told.
 fn run<K, R>(
     rt: &R,
     store: OwnStore<TestDisk<R>>,

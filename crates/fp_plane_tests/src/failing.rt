@@ -34,7 +34,8 @@ const STOPPED: &str = "{\"error\":\"stopped\"}\n";
 // Opening the disk makes three calls, and the first batch four.
 const CALLS: u64 = 7;
 
-// Editors that wait are told that the store failed, and later ones that no edit is taken. Evaluators and subscribers go on.
+// Editors that wait are told that the store failed, and later ones that no edit is taken.
+// Evaluators and subscribers go on.
 fn run<K, R>(
     rt: &R,
     store: OwnStore<TestDisk<R>>,

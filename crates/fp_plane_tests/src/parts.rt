@@ -1,4 +1,5 @@
-//! What the tests of planes have in common: stores over disks in memory, the threads of a plane, and what is evaluated.
+//! What the tests of planes have in common: stores over disks in memory, the threads of a
+//! plane, and what is evaluated.
 
 ghost use Rattle.std.specs.Prelude.{◌≡◌, IfOk};
 ghost use Rattle.fp_journal.specs.declared.journal.Phase.TheVariants.{Idle};
@@ -57,7 +58,8 @@ pub fn new_disk(alloc: Global) -> Result<MemoryDisk, Fail> {
     }
 }
 
-/// The store on the disk, which is opened behind the gate by a sync, a call for its length and a read.
+/// The store on the disk, which is opened behind the gate by a sync, a call
+/// for its length and a read.
 pub fn opened<R: Host>(
     rt: &R,
     disk: MemoryDisk,
@@ -102,8 +104,8 @@ pub fn handed_in<K: Naming, R: Host>(
     plane.submit(edit).ok()
 }
 
-/// What an editor was told: the revision of its edit, and the one that was evaluated behind what was shown. `None` where the
-/// store failed.
+/// What an editor was told: the revision of its edit, and the one that was evaluated behind what
+/// was shown. `None` where the store failed.
 pub type Answer = Option<(u64, u64)>;
 
 /// Waits for the ticket's edit, and evaluates no less than what was shown.

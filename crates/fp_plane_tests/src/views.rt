@@ -28,7 +28,8 @@ const EARLIER: usize = 499;
 // So often is evaluated within a turn.
 const EVALUATIONS: u32 = 4;
 
-// The revision that an evaluator that saw this one sees last, within a turn. `None` where a view fell.
+// The revision that an evaluator that saw this one sees last, within a turn.
+// `None` where a view fell.
 fn seen_from(evaluator: &mut Evaluator, seen: u64) -> Option<u64>
     ensures { evaluator.new.known.store ≡ evaluator.old.known.store }
 {
@@ -43,8 +44,8 @@ fn seen_from(evaluator: &mut Evaluator, seen: u64) -> Option<u64>
     Some(last)
 }
 
-// Evaluates until the last revision is seen, or none comes within the turns, and gives the one seen last. `None` where a
-// view fell.
+// Evaluates until the last revision is seen, or none comes within the turns, and gives the one seen
+// last. `None` where a view fell.
 fn watched<K: Naming, R: Host>(rt: &R, plane: &TestPlane<K, R>) -> Option<u64> {
     let mut evaluator = plane.evaluator().ok()?;
     let mut last = 0;
@@ -103,7 +104,8 @@ fn that_see_the_last<K: Naming, R: Host>(
     others.saturating_add(usize::from(sees))
 }
 
-// Makes all revisions, one behind the other, and gives how many evaluators see the last one, once none reads any more.
+// Makes all revisions, one behind the other, and gives how many evaluators see the last one,
+// once none reads any more.
 fn published<K: Naming, R: Host>(
     rt: &R,
     plane: &TestPlane<K, R>,
@@ -146,7 +148,8 @@ where
     }
 }
 
-// No view of an evaluator falls, each sees the last revision, and does so again once it learnt what was shown last.
+// No view of an evaluator falls, each sees the last revision, and does so again once it
+// learnt what was shown last.
 fn run<K, R>(rt: &R, store: OwnStore<TestDisk<R>>, opening: Opening) -> Result<(), Fail>
 where
     K: Naming + Send + Sync + 'static,

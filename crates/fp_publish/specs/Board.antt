@@ -5,9 +5,10 @@ use Rattle.fp_publish.specs.Rule.{applied, page_at}
 use Rattle.fp_publish.specs.declared.page.Page.{Page}
 use Rattle.fp_publish.specs.declared.page.Step.{Step}
 
--- readers take what stands for `shown`, which the board's own seat knows; where `leads`, the steps that are pending lead from
--- there to what stands for `next`
-pub record IsReady (published : Page) (knows : Option FrontState) (pending : List Step) (shown next : FrontState) (leads : Bool) : Type 0 where
+-- readers take what stands for `shown`, which the board's own seat knows; where `leads`, the steps
+-- that are pending lead from there to what stands for `next`
+pub record IsReady (published : Page) (knows : Option FrontState) (pending : List Step)
+    (shown next : FrontState) (leads : Bool) : Type 0 where
   pub now : published ≡ page_at shown
   pub known : knows ≡ Some shown
   pub store : next.store ≡ shown.store

@@ -23,5 +23,6 @@ KnowsStore known store = (f : FrontState) × (known ≡ Some f) × (f.store ≡ 
 -- the seat knows some front of this store; what it reads stands for what it knows
 abbrev pub IsSeated : Held → Identity → Type 0
 IsSeated (Out reader) store = KnowsStore (view reader.place) store
-IsSeated (In reading) store = (view reading.place ≡ Some reading.part.value.front) × IsConsistent reading.part.value × (reading.part.value.front.store ≡ store)
+IsSeated (In reading) store = (view reading.place ≡ Some reading.part.value.front)
+    × IsConsistent reading.part.value × (reading.part.value.front.store ≡ store)
 IsSeated Gone store = Unit {0}

@@ -1,4 +1,5 @@
--- Pages, the steps between them, and the rule over what is published and what each seat knows of it.
+-- Pages, the steps between them, and the rule over what is published and
+-- what each seat knows of it.
 use Rattle.std.specs.Prelude.{◌≡◌, ℕ, List, Option, None, Some}
 use mathlib.Core.Option.{some}
 use lib.ListN.{get_elem?}
@@ -37,8 +38,11 @@ IfKnownBegins (Some f) g = Begins f g
 -- the rule: what is published stands for a front, which goes on from all that any seat knows
 abbrev pub KeepsFronts : Page → List (Option FrontState) → Type 0
 KeepsFronts p seats = IsConsistent p
-    × ((seat : ℕ) (known : Option FrontState) → get_elem? seats seat ≡ some known → IfKnownBegins known p.front)
+    × ((seat : ℕ) (known : Option FrontState) → get_elem? seats seat ≡ some known
+    → IfKnownBegins known p.front)
 
--- a step of a seat from one published page to the next: what it knew begins the first, and then it knows the second
+-- a step of a seat from one published page to the next: what it knew begins the first, and
+-- then it knows the second
 abbrev pub Sees : Option FrontState → Page → Page → Option FrontState → Type 0
-Sees knew before after knows = IfKnownBegins knew before.front × IsConsistent after × (knows ≡ Some after.front)
+Sees knew before after knows = IfKnownBegins knew before.front × IsConsistent after
+    × (knows ≡ Some after.front)

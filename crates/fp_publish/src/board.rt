@@ -1,6 +1,7 @@
 //! The board: who publishes.
 
-ghost use Rattle.std.specs.Prelude.{◌≡◌, ◌<◌, ◌≤◌, true, None, drop, fold, IfOk, OnOk, OnErr, MatchOption};
+ghost use Rattle.std.specs.Prelude.{◌≡◌, ◌<◌, ◌≤◌, true, None, drop, fold, IfOk};
+ghost use Rattle.std.specs.Prelude.{OnOk, OnErr, MatchOption};
 ghost use Rattle.fp_edit.specs.Following.{changes_of};
 ghost use Rattle.fp_desk.specs.Desk.{settled_front};
 ghost use Rattle.fp_group_commit.specs.Tokens.{front_revision};
@@ -29,8 +30,8 @@ type Pages = Writer<Page, Step, Option<Part>, OnlyGrows>;
 
 /// What publishes. It is no `Drop`: `end` ends it.
 ///
-/// `next` is the front that readers would take once the steps that are pending are taken, where `leads` says that they lead
-/// to one.
+/// `next` is the front that readers would take once the steps that are pending are taken, where
+/// `leads` says that they lead to one.
 pub struct Board {
     writer: Option<Pages>,
     shown: Shown,
@@ -75,7 +76,8 @@ fn put_edits(writer: &mut Pages, edits: &[Edit]) -> Result<(), AllocError>
     ensures desk { writer.new.desk ≡ writer.old.desk }
     ensures appended { OnOk result ((p : Page)
         → fold applied p (drop writer.new.behind writer.new.log.items)
-        ≡ with_changes (fold applied p (drop writer.old.behind writer.old.log.items)) (changes_of edits.now)) }
+        ≡ with_changes (fold applied p (drop writer.old.behind writer.old.log.items))
+        (changes_of edits.now)) }
 {
     for edit in edits {
         put(writer, Step::Change(edit.try_copy()?))?;
@@ -83,7 +85,8 @@ fn put_edits(writer: &mut Pages, edits: &[Edit]) -> Result<(), AllocError>
     Ok(())
 }
 
-// Appends what leads to the settled set: nothing, or the batch that was settled last, or all of the set.
+// Appends what leads to the settled set: nothing, or the batch that was settled
+// last, or all of the set.
 fn put_settled(writer: &mut Pages, next: &Shown, leads: bool, desk: &Desk) -> Result<(), AllocError>
     requires store { next.now.store ≡ desk.now.store }
     requires leads { leads ≡ true → fold applied writer.old.desk.shown.value
@@ -155,8 +158,8 @@ impl Board {
         Ok(Evaluator::new(reader, known))
     }
 
-    /// Shows the desk's settled set. It may wait for evaluators that don't rest. At `Err` they take what they took, and the
-    /// next call goes on from there.
+    /// Shows the desk's settled set. It may wait for evaluators that don't rest. At `Err` they take
+    /// what they took, and the next call goes on from there.
     pub fn publish<R: Wait>(&mut self, rt: &R, desk: &Desk) -> Result<Shown, AllocError>
         requires { Begins self.old (settled_front desk.now) }
         ensures published { OnOk result (self.new ≡ settled_front desk.now) }

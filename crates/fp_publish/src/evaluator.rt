@@ -99,8 +99,8 @@ impl Evaluator {
         mem::replace(&mut self.held, Held::Out(reader)).end();
     }
 
-    /// Takes what is published now, in place of what was taken before. It waits for nobody. What is taken goes on from
-    /// all that this evaluator took and learnt before.
+    /// Takes what is published now, in place of what was taken before. It waits for nobody. What is
+    /// taken goes on from all that this evaluator took and learnt before.
     pub fn enter(&mut self) -> Result<(), Closed>
         ensures goes_on { Begins self.old.known self.new.known }
         ensures entered { OnOk result (self.new.lent ≡ Some self.new.known) }

@@ -1,6 +1,7 @@
 //! Seats: what subscribers have, and the document that they are handed.
 
-ghost use Rattle.std.specs.Prelude.{◌≡◌, ◌<◌, ◌≤◌, ◌+◌, ◌-◌, None, IfOk, IfSome, OnErr, MatchOption, MatchResult};
+ghost use Rattle.std.specs.Prelude.{◌≡◌, ◌<◌, ◌≤◌, ◌+◌, ◌-◌, None, IfOk, IfSome, OnErr};
+ghost use Rattle.std.specs.Prelude.{MatchOption, MatchResult};
 ghost use Rattle.fp_edit.specs.Document.{document};
 ghost use Rattle.fp_group_commit.specs.Tokens.{front_revision, front_set};
 ghost use Rattle.fp_publish.specs.Seats.{IsOfStore, IsNews, had_by};
@@ -17,7 +18,8 @@ use std::sync::Arc;
 /// The most subscribers at once.
 pub const MOST_SEATS: usize = 32;
 
-/// A snapshot for a subscriber: the document of what was shown. It was made once, for all who are handed it.
+/// A snapshot for a subscriber: the document of what was shown. It was made once,
+/// for all who are handed it.
 #[derive(Drop)]
 pub struct Handed {
     shown: Shown,
@@ -113,7 +115,8 @@ impl Seats {
     /// A seat for a subscriber that has this.
     pub fn seat(&mut self, hello: Hello) -> Result<Seat, SeatsUsed>
         ensures taken { MatchResult result
-            (λ s. (self.old.taken < MOST_SEATS) × (self.new.taken ≡ self.old.taken + 1) × (had_by s ≡ hello))
+            (λ s. (self.old.taken < MOST_SEATS) × (self.new.taken ≡ self.old.taken + 1)
+            × (had_by s ≡ hello))
             (λ _. (MOST_SEATS ≤ self.old.taken) × (self.new.taken ≡ self.old.taken)) }
         ensures last { self.new.last ≡ self.old.last }
     {
@@ -131,8 +134,9 @@ impl Seats {
         self.taken = self.taken.saturating_sub(1);
     }
 
-    /// Hands what is published to a subscriber that hasn't got it: `None` exactly where it has that revision or a greater
-    /// one. Its document is made when the first seat asks for it, and shared by the others.
+    /// Hands what is published to a subscriber that hasn't got it: `None` exactly where it has
+    /// that revision or a greater one. Its document is made when the first seat asks for it,
+    /// and shared by the others.
     pub fn hand(
         &mut self,
         alloc: Global,

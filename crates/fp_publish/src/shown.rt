@@ -73,7 +73,8 @@ impl Shown {
     pub(crate) fn is_behind(&self, other: &Shown) -> bool
         requires { self.now.store ≡ other.now.store }
         ensures { MatchBool result
-            (IsPrefix self.now.edits other.now.edits × (length self.now.edits < length other.now.edits))
+            (IsPrefix self.now.edits other.now.edits
+            × (length self.now.edits < length other.now.edits))
             (IsPrefix other.now.edits self.now.edits) }
     {
         self.front.meets(&other.front);

@@ -1,6 +1,7 @@
 //! Batches: edits under consecutive revisions.
 
-ghost use Rattle.std.specs.Prelude.{◌≡◌, ◌+◌, ◌<◌, ◌≤◌, ◌^◌, ◌++◌, ◌⊎◌, length, vec_len, IfOk, OnOk, Ok, Err};
+ghost use Rattle.std.specs.Prelude.{◌≡◌, ◌+◌, ◌<◌, ◌≤◌, ◌^◌, ◌++◌, ◌⊎◌, length, vec_len, IfOk};
+ghost use Rattle.std.specs.Prelude.{OnOk, Ok, Err};
 ghost use Rattle.std.specs.List.{AllByRecursion};
 ghost use Rattle.fp_base.specs.Answer.{Gives};
 ghost use Rattle.fp_edit.specs.Edits.{proposal_of};
@@ -10,7 +11,8 @@ ghost use Rattle.fp_record.specs.Edits.{change_of, changes_of};
 ghost use Rattle.fp_record.specs.Fields.{Tells};
 ghost use Rattle.fp_record.specs.declared.fault.RecordFault.TheVariants.{Memory};
 ghost use Rattle.fp_record.specs.WellFormed.{IsBatch, IsChange};
-ghost use Rattle.fp_record.specs.Reading.{change_at, put_at, delete_at, changes_at, count_at, batch_at, batch_in};
+ghost use Rattle.fp_record.specs.Reading.{change_at, put_at, delete_at, changes_at, count_at};
+ghost use Rattle.fp_record.specs.Reading.{batch_at, batch_in};
 ghost use Rattle.fp_record.specs.Encoding.{encoding_of_batch, encoding_of_change};
 
 use crate::fault::RecordFault;

@@ -1,6 +1,7 @@
 //! Images: all flags of a set.
 
-ghost use Rattle.std.specs.Prelude.{◌≡◌, ◌+◌, ◌<◌, ◌≤◌, ◌++◌, ◌⊎◌, List, ℕ, [], length, map, IfOk, OnOk, Ok, Err};
+ghost use Rattle.std.specs.Prelude.{◌≡◌, ◌+◌, ◌<◌, ◌≤◌, ◌++◌, ◌⊎◌, List, ℕ, [], length, map, IfOk};
+ghost use Rattle.std.specs.Prelude.{OnOk, Ok, Err};
 ghost use Rattle.std.specs.List.{AllByRecursion};
 ghost use Rattle.std.specs.List.Sorted.{IsStrictlySortedBy};
 ghost use Rattle.std.specs.Ordering.{is_lt};
@@ -13,7 +14,8 @@ ghost use Rattle.fp_edit.specs.declared.flags.Flag.{Flag};
 ghost use Rattle.fp_record.specs.declared.fault.RecordFault.TheVariants.{Memory};
 ghost use Rattle.fp_record.specs.Fields.{Tells, key_at};
 ghost use Rattle.fp_record.specs.WellFormed.{IsFlag, IsImage, IsOrdered};
-ghost use Rattle.fp_record.specs.Reading.{any_revision, changed_at, flag_at, flag_count, flags_at, image_at, image_in, key_above_at};
+ghost use Rattle.fp_record.specs.Reading.{any_revision, changed_at, flag_at, flag_count, flags_at};
+ghost use Rattle.fp_record.specs.Reading.{image_at, image_in, key_above_at};
 ghost use Rattle.fp_record.specs.Encoding.{encoding_of_image, encoding_of_flag};
 
 use crate::fault::RecordFault;

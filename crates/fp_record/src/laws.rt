@@ -1,6 +1,7 @@
 //! Laws of the spellings.
 
-ghost use Rattle.fp_record.specs.Laws.{BatchesStandAlone, ImagesStandAlone, BatchesTakeTheirChanges, ImagesTakeTheirSetsSize};
+ghost use Rattle.fp_record.specs.Laws.{BatchesStandAlone, ImagesStandAlone};
+ghost use Rattle.fp_record.specs.Laws.{BatchesTakeTheirChanges, ImagesTakeTheirSetsSize};
 
 /// No batch's spelling begins another's, and no two batches have one spelling.
 pub fn batches_stand_alone()

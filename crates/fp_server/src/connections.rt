@@ -25,7 +25,8 @@ impl Streams {
         })
     }
 
-    // Keeps a handle of the stream in a free place. `None` where there is none, or no stream is let in any more.
+    // Keeps a handle of the stream in a free place. `None` where there is none, or no
+    // stream is let in any more.
     fn admit(&mut self, stream: &TcpStream) -> Option<usize> {
         if self.is_closed {
             return None;
@@ -88,7 +89,8 @@ impl<R: Wait + Clock + Drop> Connections<R> {
         })
     }
 
-    /// A place for this stream, until the place is let go of. `None` where all are taken, or no stream is let in any more.
+    /// A place for this stream, until the place is let go of. `None` where all are taken, or no
+    /// stream is let in any more.
     pub fn admit(&self, stream: &TcpStream) -> Option<Place<R>> {
         let connections = self.try_copy().ok()?;
         let at = self.shared.streams.lock(&self.shared.rt).admit(stream)?;

@@ -7,7 +7,8 @@ use std::sync::Wait;
 use std::thread::Threads;
 use std::time::Clock;
 
-/// A runtime with threads, sockets, memory, a clock and random numbers, which each thread has a copy of.
+/// A runtime with threads, sockets, memory, a clock and random numbers, which
+/// each thread has a copy of.
 pub trait Host: Wait
     + Threads
     + Clock

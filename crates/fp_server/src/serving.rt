@@ -145,8 +145,9 @@ impl<R: Host> Services<R> {
     }
 }
 
-/// Serves the file at this path to editors, evaluators and subscribers, until the input ends. Then what was handed in is
-/// sealed, those who wait are answered, and `stopped at revision N` is written. A store that failed is a fault at that end.
+/// Serves the file at this path to editors, evaluators and subscribers, until the input ends. Then
+/// what was handed in is sealed, those who wait are answered, and `stopped at revision N` is
+/// written. A store that failed is a fault at that end.
 pub fn serve<R, F, I, O>(
     rt: &R,
     files: &mut F,
@@ -192,7 +193,8 @@ where
     }
 }
 
-/// A store that isn't served any more, and why; none where it was lost with a thread that couldn't be had.
+/// A store that isn't served any more, and why; none where it was lost with a
+/// thread that couldn't be had.
 type Given<D> = Result<Store<D>, (CommandFault, Option<Store<D>>)>;
 
 // Names the store, and serves it.

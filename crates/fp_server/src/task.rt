@@ -12,7 +12,8 @@ pub enum Task<'w> {
     Watch(SocketAddrV4),
 }
 
-/// What the words ask of the service; `None` where they ask nothing of it, or an address is no four numbers and a port.
+/// What the words ask of the service; `None` where they ask nothing of it, or an address is no
+/// four numbers and a port.
 pub fn task_of(words: &[String]) -> Option<Task<'_>> {
     match words {
         [word, path, ofrep, edit, stream] if word.as_str() == "serve" => {

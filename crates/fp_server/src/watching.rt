@@ -6,7 +6,8 @@ use fp_streams::FailureCounted;
 use std::io::Write;
 use std::net::{SocketAddrV4, TcpStream};
 
-/// Says hello with nothing to the service at this address, and shows each snapshot that it sends, until it ends the stream.
+/// Says hello with nothing to the service at this address, and shows each snapshot that it sends,
+/// until it ends the stream.
 pub fn watch<R, O>(
     rt: &R,
     address: SocketAddrV4,

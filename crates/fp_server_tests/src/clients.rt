@@ -53,7 +53,9 @@ impl Editor {
 
     /// Puts a flag that is on under a key that has none, and gives the reply.
     pub fn put<R: Host>(&mut self, rt: &R, key: &str) -> io::Result<String> {
-        let line = format!(in rt.alloc(); "{{\"flag\":{{\"defaultVariant\":\"on\",\"state\":\"ENABLED\",\"variants\":{{\"on\":true}}}},\"if\":\"absent\",\"key\":\"{key}\",\"op\":\"put\"}}\n")?;
+        let line = format!(in rt.alloc();
+            "{{\"flag\":{{\"defaultVariant\":\"on\",\"state\":\"ENABLED\",\"variants\":{{\"on\":true}}}},\"if\":\"absent\",\"key\":\"{key}\",\"op\":\"put\"}}\n"
+        )?;
         self.send(line.as_bytes())?;
         self.reply(rt)
     }
@@ -72,7 +74,9 @@ pub fn revision_in(reply: &str) -> Option<u64> {
 /// The whole response to an evaluation of a key, on a connection of its own.
 pub fn evaluated<R: Host>(rt: &R, at: SocketAddr, key: &str) -> io::Result<String> {
     let mut stream = connect(rt, at)?;
-    let request = format!(in rt.alloc(); "POST /ofrep/v1/evaluate/flags/{key} HTTP/1.1\r\nhost: a\r\nconnection: close\r\ncontent-length: 2\r\n\r\n{{}}")?;
+    let request = format!(in rt.alloc();
+        "POST /ofrep/v1/evaluate/flags/{key} HTTP/1.1\r\nhost: a\r\nconnection: close\r\ncontent-length: 2\r\n\r\n{{}}"
+    )?;
     stream.write_all(request.as_bytes())?;
     let mut response = String::new(rt.alloc());
     stream.read_to_string(&mut response)?;

@@ -21,7 +21,10 @@ fn fail<R: Host + Abort>(rt: &R) -> Result<(), Fail> {
     let service = start(rt, disk)?;
     let mut editor = Editor::new(rt, service.edit)?;
     assert_eq!(rt; revision_in(editor.put(rt, "a")?.as_str()), Some(1));
-    assert_eq!(rt; editor.put(rt, "b")?.as_str(), "{\"error\":\"store-failed\"}\n");
+    assert_eq!(rt;
+        editor.put(rt, "b")?.as_str(),
+        "{\"error\":\"store-failed\"}\n"
+    );
     assert_eq!(rt; editor.put(rt, "c")?.as_str(), "{\"error\":\"stopped\"}\n");
     let response = evaluated(rt, service.ofrep, "a")?;
     assert!(rt; response.as_str().starts_with("HTTP/1.1 200 "));

@@ -77,13 +77,16 @@ fn who_hangs_stops_nobody(rt: HostRuntime) -> Result<(), Fail> {
     hang(&rt)
 }
 
-// An edit without an end, a request whose body doesn't come, a hello that is cut, and one who reads no frame.
+// An edit without an end, a request whose body doesn't come, a hello that is cut,
+// and one who reads no frame.
 fn hang<R: Host + Abort>(rt: &R) -> Result<(), Fail> {
     let service = start(rt, new_disk(rt.alloc())?)?;
     let mut unfinished = connect(rt, service.edit)?;
     unfinished.write_all(b"{\"flag\":")?;
     let mut halved = connect(rt, service.ofrep)?;
-    halved.write_all(b"POST /ofrep/v1/evaluate/flags/a HTTP/1.1\r\nhost: a\r\ncontent-length: 9\r\n\r\n{")?;
+    halved.write_all(
+        b"POST /ofrep/v1/evaluate/flags/a HTTP/1.1\r\nhost: a\r\ncontent-length: 9\r\n\r\n{",
+    )?;
     let mut cut = connect(rt, service.stream)?;
     cut.write_all(&[0; 4])?;
     let mut deaf = connect(rt, service.stream)?;

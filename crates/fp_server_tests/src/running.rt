@@ -17,7 +17,8 @@ use std::thread::{JoinHandle, Threads};
 
 const SLOT: u64 = 262_144;
 
-/// A service in a thread of its own: where it is reached, and the other ends of its input and its output.
+/// A service in a thread of its own: where it is reached, and the other ends of
+/// its input and its output.
 #[derive(Drop)]
 pub struct Running<D: Drop> {
     pub ofrep: SocketAddr,
@@ -94,7 +95,11 @@ where
 }
 
 // The address in the next line, behind its name.
-fn address(rt: &impl AllocGlobal, output: &mut BufReader<UnixStream>, name: &str) -> Result<SocketAddr, Fail> {
+fn address(
+    rt: &impl AllocGlobal,
+    output: &mut BufReader<UnixStream>,
+    name: &str,
+) -> Result<SocketAddr, Fail> {
     let mut line = String::new(rt.alloc());
     output.read_line(&mut line)?;
     let text = line.trim_end().strip_prefix(name).ok_or("another name")?;

@@ -11,9 +11,11 @@ use std::thread;
 use std::thread::JoinHandle;
 
 const EDITORS: usize = 4;
+
 const EDITS: usize = 50;
 
-// Makes its edits one by one, and gives the revisions that it was told. `None` where a reply is another.
+// Makes its edits one by one, and gives the revisions that it was told. `None`
+// where a reply is another.
 fn edit<R: Host>(rt: &R, at: SocketAddr, name: usize) -> Option<Vec<u64>> {
     let mut editor = Editor::new(rt, at).ok()?;
     let mut told = Vec::new(rt.alloc());
@@ -37,10 +39,7 @@ fn start_editor<R: Host>(
     }
 }
 
-fn start_subscriber<R: Host>(
-    rt: &R,
-    at: SocketAddr,
-) -> Result<JoinHandle<Option<Vec<u8>>>, Fail> {
+fn start_subscriber<R: Host>(rt: &R, at: SocketAddr) -> Result<JoinHandle<Option<Vec<u8>>>, Fail> {
     let own = *rt;
     match thread::spawn(rt, move || watched(&own, at).ok()) {
         Ok(handle) => Ok(handle),

@@ -1,10 +1,12 @@
 -- A decoder, and what it answers.
-use Rattle.std.specs.Prelude.{◌≡◌, ◌≢◌, ℕ, List, [], ◌++◌, Option, Some, IfNone, IsSome, Result, Ok, Err, ◌⊎◌}
+use Rattle.std.specs.Prelude.{◌≡◌, ◌≢◌, ℕ, List, [], ◌++◌, Option, Some, IfNone, IsSome, Result, Ok}
+use Rattle.std.specs.Prelude.{Err, ◌⊎◌}
 use Rattle.std.specs.Global.{Vec}
 use Rattle.fp_stream.specs.declared.hello.Hello.{Hello}
 use Rattle.fp_stream.specs.declared.frame.Frame.{Frame}
 use Rattle.fp_stream.specs.declared.fault.FrameFault.{FrameFault}
-use Rattle.fp_stream.specs.declared.fault.FrameFault.TheVariants.{BadMagic, TooLong, NotRising, Memory, Failed}
+use Rattle.fp_stream.specs.declared.fault.FrameFault.TheVariants.{BadMagic, TooLong, NotRising}
+use Rattle.fp_stream.specs.declared.fault.FrameFault.TheVariants.{Memory, Failed}
 use Rattle.fp_stream.specs.Frames.{Snapshot, has_after, snapshots_of}
 use Rattle.fp_stream.specs.Reading.{Reads}
 

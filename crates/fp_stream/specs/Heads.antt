@@ -4,7 +4,8 @@ use Rattle.std.specs.Int.{w32, w64, to_be_bytes}
 use Rattle.fp_stream.specs.declared.hello.Hello.{Hello}
 use Rattle.fp_stream.specs.declared.hello.Hello.TheVariants.{Nothing, Has}
 use Rattle.fp_stream.specs.declared.fault.FrameFault.{FrameFault}
-use Rattle.fp_stream.specs.declared.fault.FrameFault.TheVariants.{BadMagic, TooLong, NotRising, Memory, Failed}
+use Rattle.fp_stream.specs.declared.fault.FrameFault.TheVariants.{BadMagic, TooLong, NotRising}
+use Rattle.fp_stream.specs.declared.fault.FrameFault.TheVariants.{Memory, Failed}
 use Rattle.fp_stream.specs.declared.head.TheConstants.{MOST_BODY}
 
 -- a revision, and how long the body behind the head is

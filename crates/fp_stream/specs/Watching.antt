@@ -1,5 +1,6 @@
 -- What a subscriber is shown of a stream.
-use Rattle.std.specs.Prelude.{◌≡◌, ◌<◌, ℕ, List, [], ◌∷◌, ◌++◌, decimal, Option, Some, None, OnOk, Result, Ok, Err}
+use Rattle.std.specs.Prelude.{◌≡◌, ◌<◌, ℕ, List, [], ◌∷◌, ◌++◌, decimal, Option, Some, None, OnOk}
+use Rattle.std.specs.Prelude.{Result, Ok, Err}
 use Rattle.std.specs.Io.KnownBytes.{Appends, Consumes, IsAtEnd}
 use Rattle.fp_streams.specs.declared.counted.StreamFault.{StreamFault}
 use Rattle.fp_streams.specs.declared.counted.StreamFault.TheVariants as stream
@@ -33,7 +34,8 @@ of_frame frame.NotRising = BadFrame frame.NotRising
 of_frame frame.Memory = Memory
 of_frame frame.Failed = BadFrame frame.Failed
 
--- by the failures of the reader and the writer before and after: `Device` comes exactly where one failed
+-- by the failures of the reader and the writer before and after: `Device` comes
+-- exactly where one failed
 abbrev pub BlamesStreams : ℕ → ℕ → Result (Unit {0}) WatchFault → Type 0
 BlamesStreams before after (Ok x) = after ≡ before
 BlamesStreams before after (Err Device) = before < after
@@ -56,8 +58,8 @@ IsLost (Err Device) bytes = bytes ≡ []
 IsLost (Err Memory) bytes = Unit {0}
 IsLost (Err (BadFrame f)) bytes = bytes ≡ []
 
--- A reader gave these bytes to who has this, and each frame in them was shown, in order. Reading stopped at a fault, or at
--- less than a whole frame; where it ended well the reader had no more
+-- A reader gave these bytes to who has this, and each frame in them was shown, in order. Reading
+-- stopped at a fault, or at less than a whole frame; where it ended well the reader had no more
 pub record Watches (has : Hello) (reads left before held : Option (List ℕ))
     (outcome : Result (Unit {0}) WatchFault) : Type 0 where
   pub bytes : List ℕ

@@ -1,6 +1,7 @@
 //! Frames from the pieces of a stream.
 
-ghost use Rattle.std.specs.Prelude.{◌≡◌, ◌<◌, ◌≤◌, ◌+◌, ◌++◌, ℕ, List, [], length, Option, Some, None, Err, IfSome, IfOk, OnErr};
+ghost use Rattle.std.specs.Prelude.{◌≡◌, ◌<◌, ◌≤◌, ◌+◌, ◌++◌, ℕ, List, [], length, Option, Some};
+ghost use Rattle.std.specs.Prelude.{None, Err, IfSome, IfOk, OnErr};
 ghost use Rattle.fp_stream.specs.declared.fault.FrameFault.TheVariants.{Failed};
 ghost use Rattle.fp_stream.specs.declared.hello.Hello.{Hello};
 ghost use Rattle.fp_stream.specs.declared.head.TheConstants.{HEAD};
@@ -56,8 +57,9 @@ impl Decoder {
         }
     }
 
-    /// Takes the next piece of the stream, and gives each frame that is whole now. A fault that stands behind such frames
-    /// is answered by the next call, and after a fault other than `Memory` each call answers `Failed`.
+    /// Takes the next piece of the stream, and gives each frame that is whole now. A fault that
+    /// stands behind such frames is answered by the next call, and after a fault other than
+    /// `Memory` each call answers `Failed`.
     pub fn feed(&mut self, alloc: Global, piece: &[u8]) -> Result<Vec<Frame>, FrameFault>
         ensures owed { IfSome self.old.owed (λ fault. (result ≡ Err fault)
             × (self.new ≡ record self.old { owed = Some Failed })) }
@@ -191,7 +193,8 @@ fn finish_head(
     Ok((frames, next))
 }
 
-// Ends a body that came in part, and reads on. What came of it goes into the frame as it is; an `Err` leaves it.
+// Ends a body that came in part, and reads on. What came of it goes into the frame as
+// it is; an `Err` leaves it.
 fn finish_body(
     alloc: Global,
     known: Head,

@@ -11,7 +11,8 @@ use crate::head::head_bytes;
 use fp_streams::{FailureCounted, StreamFault};
 use std::io::Write;
 
-/// A snapshot as a frame carries it. The body is not read: whoever wrote it says that it is a document.
+/// A snapshot as a frame carries it. The body is not read: whoever wrote it
+/// says that it is a document.
 #[derive(Debug, Drop, PartialEq, Eq)]
 pub struct Frame {
     /// The revision of the set of flags.

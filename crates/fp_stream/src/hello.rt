@@ -1,13 +1,15 @@
 //! What a subscriber has, and how it says so.
 
-ghost use Rattle.std.specs.Prelude.{◌≡◌, ◌≤◌, ◌↔◌, IsTrue, ◌<◌, ◌++◌, ◌∷◌, ℕ, List, length, take, Some, IfOk, IfErr, IfSome, OnOk};
+ghost use Rattle.std.specs.Prelude.{◌≡◌, ◌≤◌, ◌↔◌, IsTrue, ◌<◌, ◌++◌, ◌∷◌, ℕ, List, length, take};
+ghost use Rattle.std.specs.Prelude.{Some, IfOk, IfErr, IfSome, OnOk};
 ghost use Rattle.std.specs.Int.{w64, to_be_bytes};
 ghost use Rattle.std.specs.Io.KnownBytes.{Appends, Consumes, IsAtEnd};
 ghost use Rattle.fp_streams.specs.Failures.{CountsFailures};
 ghost use Rattle.fp_streams.specs.declared.counted.StreamFault.TheVariants.{Device};
 ghost use Rattle.fp_stream.specs.declared.hello.Hello.{Hello};
 ghost use Rattle.fp_stream.specs.Heads.{IsNewer};
-ghost use Rattle.fp_stream.specs.Hellos.{hello_bytes, CountsHello, IsHello, Hears, IsSaid, IsSpelled};
+ghost use Rattle.fp_stream.specs.Hellos.{hello_bytes, CountsHello, IsHello, Hears};
+ghost use Rattle.fp_stream.specs.Hellos.{IsSaid, IsSpelled};
 
 use fp_streams::{FailureCounted, StreamFault};
 use std::io::{Read, Write};
@@ -91,7 +93,8 @@ pub fn read_hello<R: Read>(r: &mut FailureCounted<R>) -> Result<Hello, HelloFaul
     }
 }
 
-// Reads as many bytes as there are, up to all of a hello's. One by one, so that none behind them is taken.
+// Reads as many bytes as there are, up to all of a hello's. One by one, so that
+// none behind them is taken.
 fn fill<R: Read>(r: &mut FailureCounted<R>, bytes: &mut [u8; HELLO]) -> Result<usize, StreamFault>
     ensures within { IfOk result (λ len. len ≤ 9) }
     ensures read { IfOk result (λ len.

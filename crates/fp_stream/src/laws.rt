@@ -14,7 +14,8 @@ pub fn one_reading()
         (f ≡ g) × (r ≡ t) × (x ≡ y) }
 {}
 
-/// The frames that are read are the longest list of them: any other that stands in front is their beginning.
+/// The frames that are read are the longest list of them: any other that stands in
+/// front is their beginning.
 pub fn no_other_frames()
     ensures { (has : Hello) (bytes : List ℕ) (frames others : List Snapshot) (rest more : List ℕ)
         (fault : Option FrameFault) → Reads has bytes frames rest fault →

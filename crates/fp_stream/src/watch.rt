@@ -59,15 +59,17 @@ impl From<FrameFault> for WatchFault {
     }
 }
 
-/// Shows each frame that the reader gives to a subscriber that has this, as soon as it is whole: its revision, a space, its
-/// document and a newline. It ends well where the reader does, inside a frame too.
+/// Shows each frame that the reader gives to a subscriber that has this, as soon as it is
+/// whole: its revision, a space, its document and a newline. It ends well where the reader
+/// does, inside a frame too.
 pub fn watch_loop<R: Read, W: Write>(
     alloc: Global,
     r: &mut FailureCounted<R>,
     w: &mut FailureCounted<W>,
     has: Hello,
 ) -> Result<(), WatchFault>
-    // However it ended, all frames in what came were shown, and nothing else, unless the writer failed.
+    // However it ended, all frames in what came were shown, and nothing else,
+    // unless the writer failed.
     ensures watched { w.new.failures ≡ w.old.failures
         → Watches has (R.remaining r.old.inner) (R.remaining r.new.inner)
         (W.contents w.old.inner) (W.contents w.new.inner) result }

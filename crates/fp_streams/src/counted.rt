@@ -23,8 +23,8 @@ pub enum StreamFault {
     Memory,
 }
 
-/// A reader or a writer whose failures are counted, in proofs alone: a contract can say by the count that a stream failed,
-/// which its own answers don't.
+/// A reader or a writer whose failures are counted, in proofs alone: a contract can say by the
+/// count that a stream failed, which its own answers don't.
 #[derive(Drop)]
 pub struct FailureCounted<S> {
     stream: S,
@@ -89,7 +89,8 @@ impl<S> FailureCounted<S> {
 }
 
 impl<R: Read> FailureCounted<R> {
-    /// Reads once, and again where it was interrupted. `Ok(0)` is the end, unless there is no room. An error consumes nothing.
+    /// Reads once, and again where it was interrupted. `Ok(0)` is the end, unless there is no room.
+    /// An error consumes nothing.
     pub fn read(&mut self, buf: &mut [u8]) -> Result<usize, StreamFault>
         ensures bound { ReadsAtMost result buf.new }
         ensures bytes { ReadConsumes (R.remaining self.old.inner) (R.remaining self.new.inner)
@@ -140,7 +141,8 @@ impl<W: Write> FailureCounted<W> {
         }
     }
 
-    /// Writes the text and a newline, and flushes them. It takes no memory. At an error some of it may have been written.
+    /// Writes the text and a newline, and flushes them. It takes no memory. At an error some of
+    /// it may have been written.
     pub fn say<T: Display>(&mut self, text: &T) -> Result<(), StreamFault>
         ensures text { OnOk result (IfSome (T.output text.now)
             (AppendsLine (W.contents self.old.inner) (W.contents self.new.inner))) }

@@ -2,7 +2,8 @@
 use Rattle.std.specs.Prelude.{ℕ, List, string_bytes}
 use Rattle.fp_targeting.specs.Compile.{Fault, too_deep, unsupported, bad}
 use Rattle.fp_targeting.specs.declared.rule.RuleFault.{RuleFault}
-use Rattle.fp_targeting.specs.declared.rule.RuleFault.TheVariants.{TooDeep, UnsupportedOperator, BadRule, Memory}
+use Rattle.fp_targeting.specs.declared.rule.RuleFault.TheVariants.{TooDeep, UnsupportedOperator}
+use Rattle.fp_targeting.specs.declared.rule.RuleFault.TheVariants.{BadRule, Memory}
 
 -- of the value; want of memory tells nothing
 abbrev pub Tells : RuleFault → (Fault → Type 0) → Type 0

@@ -1,6 +1,8 @@
 -- Data and rules as trees of numbers, by which proofs tell them apart.
-use Rattle.std.specs.Prelude.{◌≡◌, refl, ℕ, pos, negsuc, List, [], ◌∷◌, true, false, ◌==◌, if◌then◌else◌}
-use Rattle.fp_operators.specs.Data.{Data, null, boolean, whole, text, list, object, Items, no_items, item, Members, no_members, member}
+use Rattle.std.specs.Prelude.{◌≡◌, refl, ℕ, pos, negsuc, List, [], ◌∷◌, true}
+use Rattle.std.specs.Prelude.{false, ◌==◌, if◌then◌else◌}
+use Rattle.fp_operators.specs.Data.{Data, null, boolean, whole, text, list, object, Items, no_items}
+use Rattle.fp_operators.specs.Data.{item, Members, no_members, member}
 use Rattle.fp_targeting.specs.Rule as tree
 use Rattle.fp_targeting.specs.Rule.{Rule, literal, apply, Rules, no_rules, rule}
 use Rattle.fp_targeting.specs.contracts.operator.Operator as operator

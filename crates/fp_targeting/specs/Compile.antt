@@ -1,6 +1,8 @@
 -- What compiling a JSON value answers.
-use Rattle.std.specs.Prelude.{ℕ, List, [], ◌∷◌, length, ◌&&◌, Option, Some, None, option_map, option_and_then, is_some, nat_le, Result, Ok, Err, if◌then◌else◌}
-use Rattle.serde_json.specs.Data.{Data, null, boolean, number, string, array, object, Items, no_items, item, no_members, member, depth}
+use Rattle.std.specs.Prelude.{ℕ, List, [], ◌∷◌, length, ◌&&◌, Option, Some, None, option_map}
+use Rattle.std.specs.Prelude.{option_and_then, is_some, nat_le, Result, Ok, Err, if◌then◌else◌}
+use Rattle.serde_json.specs.Data.{Data, null, boolean, number, string, array, object, Items}
+use Rattle.serde_json.specs.Data.{no_items, item, no_members, member, depth}
 use Rattle.fp_base.specs.Count.{count}
 use Rattle.fp_base.specs.Whole.{is_whole}
 use Rattle.fp_operators.specs.FromJson.{data_of}

@@ -1,5 +1,6 @@
 -- The operators: their names, how many arguments each takes, and what each gives.
-use Rattle.std.specs.Prelude.{ℕ, ◌+◌, List, [], ◌∷◌, Bool, true, not, ◌&&◌, ◌||◌, ◌==◌, nat_le, Option, Some, None, bytes_eq, codes, if◌then◌else◌}
+use Rattle.std.specs.Prelude.{ℕ, ◌+◌, List, [], ◌∷◌, Bool, true, not, ◌&&◌, ◌||◌, ◌==◌, nat_le}
+use Rattle.std.specs.Prelude.{Option, Some, None, bytes_eq, codes, if◌then◌else◌}
 use Rattle.fp_operators.specs.Data.{Data, boolean}
 use Rattle.fp_operators.specs.Truth.{truth}
 use Rattle.fp_operators.specs.Equality.{strict_equality, loose_equality}
@@ -11,11 +12,23 @@ use Rattle.fp_operators.specs.Version.{comparison}
 use Rattle.fp_targeting.specs.Rule as tree
 use Rattle.fp_targeting.specs.Rule.{Rule, Rules, no_rules, rule}
 use Rattle.fp_targeting.specs.declared.operator.Operator.{Operator}
-use Rattle.fp_targeting.specs.declared.operator.Operator.TheVariants.{If, And, Or, Var, Cat, SemVer, Unary, Binary, Chain}
+use Rattle.fp_targeting.specs.declared.operator.Operator.TheVariants.{If, And, Or, Var, Cat, SemVer}
+use Rattle.fp_targeting.specs.declared.operator.Operator.TheVariants.{Unary, Binary, Chain}
 use Rattle.fp_targeting.specs.declared.operator.UnaryOperator.{UnaryOperator}
 use Rattle.fp_targeting.specs.declared.operator.UnaryOperator.TheVariants.{Not, Truth}
 use Rattle.fp_targeting.specs.declared.operator.BinaryOperator.{BinaryOperator}
-use Rattle.fp_targeting.specs.declared.operator.BinaryOperator.TheVariants.{StrictlyEqual, StrictlyUnequal, LooselyEqual, LooselyUnequal, Greater, GreaterOrEqual, In, Remainder, StartsWith, EndsWith}
+use Rattle.fp_targeting.specs.declared.operator.BinaryOperator.TheVariants.{
+  StrictlyEqual,
+  StrictlyUnequal,
+  LooselyEqual,
+  LooselyUnequal,
+  Greater,
+  GreaterOrEqual,
+  In,
+  Remainder,
+  StartsWith,
+  EndsWith,
+}
 use Rattle.fp_targeting.specs.declared.operator.ChainOperator.{ChainOperator}
 use Rattle.fp_targeting.specs.declared.operator.ChainOperator.TheVariants.{Less, LessOrEqual}
 

@@ -6,7 +6,9 @@ ghost use Rattle.fp_targeting.specs.View.{rule_view};
 ghost use Rattle.fp_targeting.specs.Operators.{operator_of};
 ghost use Rattle.fp_base.specs.Answer.{IsFirst};
 ghost use Rattle.fp_targeting.specs.Answer.{TellsUnknown};
-ghost use Rattle.fp_targeting.specs.Compile.{first_unknown, items_unknown, where_counts_fit, where_all_counts_fit, rule_of, arguments_of, rules_from};
+ghost use Rattle.fp_targeting.specs.Compile.{first_unknown, items_unknown, where_counts_fit};
+ghost use Rattle.fp_targeting.specs.Compile.{where_all_counts_fit, rule_of, arguments_of};
+ghost use Rattle.fp_targeting.specs.Compile.{rules_from};
 
 use crate::operator::Operator;
 use crate::rule::RuleFault;

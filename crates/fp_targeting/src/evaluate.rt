@@ -4,7 +4,8 @@ ghost use Rattle.std.specs.Prelude.{◌≡◌, IfOk, map};
 ghost use Rattle.fp_operators.specs.Data.{null};
 ghost use Rattle.fp_operators.specs.View.{view};
 ghost use Rattle.fp_targeting.specs.Operators.{unary, binary};
-ghost use Rattle.fp_targeting.specs.Meaning.{meaning, meanings, applied, chosen, first_false, first_true};
+ghost use Rattle.fp_targeting.specs.Meaning.{meaning, meanings, applied, chosen};
+ghost use Rattle.fp_targeting.specs.Meaning.{first_false, first_true};
 ghost use Rattle.fp_targeting.specs.View.{rule_view, rules_view};
 ghost use Rattle.fp_targeting.specs.Found.{found_view};
 

@@ -11,7 +11,8 @@ const LONGEST: usize = 400;
 
 /// What answers the commands of a file, one after another.
 pub trait Answers {
-    /// Appends the answer to a command, of no line or of several. What one command set holds for those behind it.
+    /// Appends the answer to a command, of no line or of several. What one command set
+    /// holds for those behind it.
     fn answer(&mut self, command: &str, out: &mut String) -> Result<(), AllocError>;
 }
 
@@ -36,7 +37,8 @@ pub fn cases(file: &str) -> usize
     file.lines().filter(|line| is_command(line)).count()
 }
 
-/// The file without its answers, and behind each command the answer that it is given now, each line of which begins with `= `.
+/// The file without its answers, and behind each command the answer that it is given now, each line
+/// of which begins with `= `.
 pub fn transcript<A: Answers>(
     alloc: Global,
     file: &str,

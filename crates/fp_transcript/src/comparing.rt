@@ -5,7 +5,8 @@ use std::alloc::AllocGlobal;
 use std::rt::Files;
 use std::{fs, io};
 
-/// Says how many commands a file has, or which line is the first that is answered otherwise than it is written.
+/// Says how many commands a file has, or which line is the first that is answered
+/// otherwise than it is written.
 pub fn report<R: Files + AllocGlobal + Print, A: Answers>(
     rt: &R,
     name: &str,

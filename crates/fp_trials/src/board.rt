@@ -62,7 +62,8 @@ fn desk_of(alloc: Global, opening: Opening) -> Option<Desk>
 }
 
 impl OpenBoard {
-    /// A board with places for so many evaluators over what the disk stands for; or the disk comes back.
+    /// A board with places for so many evaluators over what the disk stands
+    /// for; or the disk comes back.
     pub fn new<R: Wait>(
         rt: &R,
         alloc: Global,

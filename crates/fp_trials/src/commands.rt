@@ -72,8 +72,8 @@ fn room_in(rest: &str) -> Option<u64> {
     }
 }
 
-/// `init`, `apply`, `import`, `shown`. With `broken` the input ends in a failure, with `full ROOM` the output takes so many
-/// bytes.
+/// `init`, `apply`, `import`, `shown`. With `broken` the input ends in a failure, with `full ROOM`
+/// the output takes so many bytes.
 pub fn on_commands(trial: &mut Trial, word: &str, rest: &str) -> Answer {
     let Some(room) = room_in(rest) else {
         return Answer::NotUnderstood;
@@ -188,7 +188,8 @@ pub fn stopped(trial: &mut Trial, rest: &str, fault: &CommandFault) -> Answer {
 // The longest edit line.
 const LONGEST: u64 = 32_768;
 
-// Where no call was told to fail, a disk in memory fails for want of memory alone, and so does a store that has room for any edit.
+// Where no call was told to fail, a disk in memory fails for want of memory alone, and so does a
+// store that has room for any edit.
 fn wants_memory(trial: &mut Trial, rest: &str, fault: &CommandFault) -> bool {
     match fault {
         CommandFault::Memory => true,

@@ -8,7 +8,8 @@ use fp_disk::MemoryDisk;
 use std::alloc::Global;
 use std::mem;
 
-/// `flips FROM TO`: each byte from the first place up to the second is each other byte, one at a time.
+/// `flips FROM TO`: each byte from the first place up to the second is each
+/// other byte, one at a time.
 /// `seeds COUNT FROM TO`: one byte there is another one, by so many seeds.
 pub fn on_damage(trial: &mut Trial, word: &str, args: &mut Args<'_>) -> Answer {
     let Some(bytes) = trial.bytes() else {

@@ -7,7 +7,8 @@ use crate::trial::{Answer, Fault, Trial};
 use fp_disk::{Call, Choice, Disk, DiskFault, FailedWrite, Failing, Fill, Progress, Request};
 use std::alloc::Global;
 
-/// `hold BYTES`, `write AT BYTES`, `read AT LENGTH`, `text AT LENGTH`, `len`, `sync`, `cut LENGTH`, `keep`, `back`.
+/// `hold BYTES`, `write AT BYTES`, `read AT LENGTH`, `text AT LENGTH`, `len`, `sync`,
+/// `cut LENGTH`, `keep`, `back`.
 pub fn on_bytes(trial: &mut Trial, word: &str, args: &mut Args<'_>) -> Answer {
     match word {
         "hold" => trial.hold(args.bytes()),
@@ -140,7 +141,8 @@ fn sync(trial: &mut Trial) -> Answer {
     }
 }
 
-/// `fuse CALL`, `fuse CALL half`, `fail CALL`, `fail CALL half`, `calm`, `crash LENGTH REST FILL ..`, `calls`.
+/// `fuse CALL`, `fuse CALL half`, `fail CALL`, `fail CALL half`, `calm`,
+/// `crash LENGTH REST FILL ..`, `calls`.
 pub fn on_faults(trial: &mut Trial, word: &str, args: &mut Args<'_>) -> Answer {
     match word {
         "fuse" => fail(trial, Failing::From(args.number()), args),

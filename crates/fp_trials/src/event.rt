@@ -227,8 +227,8 @@ fn course(trial: &mut Trial, revision: u64, events: u64) -> Answer {
     Answer::Word(how_far(events))
 }
 
-// What ends a course at this event, if it does. A draw that was made before is the one to stage. Who waits for the edit is told
-// that the store failed, in that call or before.
+// What ends a course at this event, if it does. A draw that was made before is the one to stage.
+// Who waits for the edit is told that the store failed, in that call or before.
 fn ended(trial: &Trial, became: Became, place: u64) -> Answer {
     match became {
         Became::NotNow if place > 0 => Answer::Word("no room"),
@@ -266,7 +266,8 @@ fn admit_edit(trial: &mut Trial, edit: Edit, events: u64) -> Answer {
     }
 }
 
-// The edits that wait, submitted to the disk as it is opened now and drawn as one batch, of whose four calls so many are made.
+// The edits that wait, submitted to the disk as it is opened now and drawn as one batch, of whose
+// four calls so many are made.
 fn batch(trial: &mut Trial, calls: u64) -> Answer {
     match open(trial) {
         Answer::Revision(_) => batch_on(trial, calls),

@@ -146,8 +146,8 @@ fn sent_if_any(
     Ok(sent(journal, Framed::new(alloc, body)?))
 }
 
-// The place of the closed gate behind the chain that begins with these bytes, in a slot that ends at this place and whose
-// bodies have so many bytes at most.
+// The place of the closed gate behind the chain that begins with these bytes, in a slot that ends
+// at this place and whose bodies have so many bytes at most.
 fn chain(args: &mut Args<'_>) -> Answer {
     let slot = slot_from(0, args);
     match read_chain(&args.bytes(), 0, slot, &mut Bodies) {

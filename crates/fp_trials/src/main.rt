@@ -1,5 +1,6 @@
-//! Runs trials over disks, which are written as text, and says whether each file of them is answered as it is written. With no
-//! file named, standard input is written out again with the answers.
+//! Runs trials over disks, which are written as text, and says whether each file of
+//! them is answered as it is written. With no file named, standard input is written
+//! out again with the answers.
 #![tactic(auto)]
 
 mod board;

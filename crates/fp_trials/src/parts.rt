@@ -2,7 +2,8 @@
 
 ghost use Rattle.std.specs.Prelude.{◌≡◌, IfOk, IfSome, OnOk, IsTrue};
 ghost use mathlib.Core.List.{IsPrefix};
-ghost use Rattle.fp_journal.specs.declared.journal.Phase.TheVariants.{Staged, BodySynced, GateOpened};
+ghost use Rattle.fp_journal.specs.declared.journal.Phase.TheVariants.{Staged, BodySynced};
+ghost use Rattle.fp_journal.specs.declared.journal.Phase.TheVariants.{GateOpened};
 
 use crate::event::{not_done, refused};
 use crate::text::{Args, Text};
@@ -216,8 +217,8 @@ fn settled(desk: &mut Desk, receipt: Receipt) -> Answer
     }
 }
 
-// `receipt EDIT / EDIT`: the desk draws the first edit, if it is one, the store seals a batch of the second, and the desk is given the
-// receipt.
+// `receipt EDIT / EDIT`: the desk draws the first edit, if it is one, the store seals a batch of
+// the second, and the desk is given the receipt.
 fn receipt(
     trial: &Trial,
     store: &mut Store<MemoryDisk>,

@@ -82,8 +82,8 @@ pub fn step(trial: &mut Trial, line: &str) -> Answer {
     args.judged(answer)
 }
 
-/// `for WORD ..`: the block once for each word, which stands at each `%` in it. A word as `0..4` is the numbers from the first
-/// to before the second.
+/// `for WORD ..`: the block once for each word, which stands at each `%` in it. A word as `0..4` is
+/// the numbers from the first to before the second.
 pub fn repeat(trial: &mut Trial, args: &mut Args<'_>, block: &[String], out: &mut Text) {
     for word in args.rest.split_whitespace() {
         match word.split_once("..") {

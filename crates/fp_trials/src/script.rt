@@ -17,7 +17,8 @@ use std::rt::Files;
 use std::sync::Wait;
 use std::{fs, mem};
 
-/// What answers the lines of a file: what they work on; the board, the world and the block that are open, if there are any.
+/// What answers the lines of a file: what they work on; the board, the world and the block that
+/// are open, if there are any.
 pub struct Script<'a, R: Files + AllocGlobal + Wait> {
     rt: &'a R,
     trial: Trial,
@@ -216,8 +217,9 @@ fn words_of(args: &Args<'_>, out: &mut Text) -> Vec<String> {
     words
 }
 
-// `$ WORD ..`: the program's command of these words, of which `''` is the empty one, on the lines that wait. It answers
-// what was written, what was told on the error stream, and a status that isn't 0.
+// `$ WORD ..`: the program's command of these words, of which `''` is the empty one, on
+// the lines that wait. It answers what was written, what was told on the error stream,
+// and a status that isn't 0.
 fn program<R: Files + AllocGlobal>(rt: &R, trial: &mut Trial, args: &mut Args<'_>) -> Answer {
     let words = words_of(args, &mut trial.text);
     let input = trial.take_input();

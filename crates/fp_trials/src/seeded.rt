@@ -1,4 +1,5 @@
-//! Worlds whose events are drawn from a seed, over a disk that stops and crashes, compared with what they told.
+//! Worlds whose events are drawn from a seed, over a disk that stops and crashes,
+//! compared with what they told.
 
 use crate::disk::crash_as;
 use crate::seeds::{FIRST_SEED, next_seed};
@@ -172,7 +173,8 @@ fn ran<R: Wait>(
     world.run(rt, alloc, events)
 }
 
-// A world over the disk, which comes back behind these events, and their answers. Nothing is answered where the disk isn't opened.
+// A world over the disk, which comes back behind these events, and their answers. Nothing is
+// answered where the disk isn't opened.
 fn lived<R: Wait>(
     rt: &R,
     alloc: Global,
@@ -227,7 +229,8 @@ fn reopened(trial: &mut Trial, told: &mut Told, is_new: bool) -> Result<(), Allo
     Ok(())
 }
 
-/// `worlds LISTS EVENTS`, `stops EVENTS`: how often what was told before a crash wasn't kept, and how many kinds of answers there were.
+/// `worlds LISTS EVENTS`, `stops EVENTS`: how often what was told before a crash wasn't kept, and
+/// how many kinds of answers there were.
 pub fn on_seeds<R: Wait>(rt: &R, trial: &mut Trial, word: &str, args: &mut Args<'_>) -> Answer {
     let mut told = Told::new(trial.alloc);
     let done = if word == "worlds" {
@@ -242,8 +245,8 @@ pub fn on_seeds<R: Wait>(rt: &R, trial: &mut Trial, word: &str, args: &mut Args<
     }
 }
 
-// The disk is opened as a world, which runs so many events and is stopped at a call of the disk or not; the power is cut, and the disk opened
-// again, all by a seed, and again and again.
+// The disk is opened as a world, which runs so many events and is stopped at a call of the disk or
+// not; the power is cut, and the disk opened again, all by a seed, and again and again.
 fn worlds<R: Wait>(
     rt: &R,
     trial: &mut Trial,
@@ -277,7 +280,8 @@ fn crash(trial: &mut Trial, draws: &mut Draws) {
     );
 }
 
-// One list of events by the seed, on the same disk again and again, with a stop at each of its calls and each kind of crash there.
+// One list of events by the seed, on the same disk again and again, with a stop at each of its
+// calls and each kind of crash there.
 fn stops<R: Wait>(
     rt: &R,
     trial: &mut Trial,
@@ -296,7 +300,8 @@ fn stops<R: Wait>(
     Ok(())
 }
 
-// Whether the list is stopped at this call, behind which the disk is cut to the least and to the greatest length.
+// Whether the list is stopped at this call, behind which the disk is cut to the least
+// and to the greatest length.
 fn stop<R: Wait>(
     rt: &R,
     trial: &mut Trial,

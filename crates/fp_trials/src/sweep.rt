@@ -1,5 +1,5 @@
-//! A block run again and again with a stop at each call of the disk and each kind of crash there, and rounds of edits that
-//! end in crashes.
+//! A block run again and again with a stop at each call of the disk and each kind of crash there,
+//! and rounds of edits that end in crashes.
 
 use crate::disk::{crash_as, failed_write};
 use crate::run::step;
@@ -41,10 +41,12 @@ struct Shown {
     document: Text,
 }
 
-/// `sweep`, `sweep half`, `alone`, `alone half`. For each call of the block's disk, from 0 on until a run has no stop: the block
-/// is run on a disk of the same bytes of which that call fails, and all behind it or it alone; the power is cut with each
-/// choice of what is pending, and the disk is opened. A row has the call, the line that it belongs to, the greatest revision
-/// that was told before, and the revisions that were found, first those of the shortest disks and then those of the longest.
+/// `sweep`, `sweep half`, `alone`, `alone half`. For each call of the block's disk, from 0 on
+/// until a run has no stop: the block is run on a disk of the same bytes of which that call
+/// fails, and all behind it or it alone; the power is cut with each choice of what is pending,
+/// and the disk is opened. A row has the call, the line that it belongs to, the greatest revision
+/// that was told before, and the revisions that were found, first those of the shortest disks and
+/// then those of the longest.
 pub fn sweep(trial: &mut Trial, word: &str, rest: &str, block: &[String], out: &mut Text) {
     match trial.bytes() {
         Some(bytes) => sweep_over(trial, &bytes, word == "alone", rest, block, out),
@@ -231,8 +233,9 @@ fn edits(trial: &mut Trial, count: u64, seed: u64) -> u64 {
     next_seed(seed)
 }
 
-/// `rounds COUNT EDITS`: the disk is opened, takes so many edits or stops among them, and crashes as a seed says, again and
-/// again. Each time it has to open at the revision that was told last, or at the one after it; else it answers that.
+/// `rounds COUNT EDITS`: the disk is opened, takes so many edits or stops among them, and crashes
+/// as a seed says, again and again. Each time it has to open at the revision that was told last, or
+/// at the one after it; else it answers that.
 pub fn rounds(trial: &mut Trial, args: &mut Args<'_>) -> Answer {
     let count = args.number();
     let each = args.number();

@@ -236,7 +236,8 @@ impl<'a> Args<'a> {
         }
     }
 
-    /// All words, as bytes: words of hex digits, `'text` and `ON`, and a byte so many times, as in `00*46`.
+    /// All words, as bytes: words of hex digits, `'text` and `ON`, and a byte so
+    /// many times, as in `00*46`.
     pub fn bytes(&mut self) -> Vec<u8> {
         let mut bytes = Vec::new(self.alloc);
         for word in self.rest.split_whitespace() {
@@ -276,7 +277,8 @@ impl<'a> Args<'a> {
         }
     }
 
-    /// The next word, what becomes of bytes in a crash: `old`, `new`, a byte in hex digits, or a seed, as in `seed7`.
+    /// The next word, what becomes of bytes in a crash: `old`, `new`, a byte in hex digits,
+    /// or a seed, as in `seed7`.
     pub fn fill(&mut self) -> Fill {
         match self.word() {
             "old" => Fill::Old,
@@ -309,9 +311,9 @@ impl<'a> Args<'a> {
         }
     }
 
-    /// Appends the line of an edit: of `put KEY`, of `put KEY LENGTH` with a definition of so many bytes, of `delete KEY`, each with
-    /// `if absent` or `if REVISION` behind it or without; any other text is a line itself, in which `ON` stands for its
-    /// definition.
+    /// Appends the line of an edit: of `put KEY`, of `put KEY LENGTH` with a definition of so many
+    /// bytes, of `delete KEY`, each with `if absent` or `if REVISION` behind it or without; any
+    /// other text is a line itself, in which `ON` stands for its definition.
     pub fn line(&mut self, out: &mut Text) {
         let (edit, expected) = self.rest.split_once(" if ").unwrap_or((self.rest, "any"));
         let (word, rest) = first_word(edit);

@@ -24,7 +24,8 @@ struct Mark {
 // Keys are `k` and a digit.
 const KEYS: u64 = 10;
 
-/// The edits that were accepted, the greatest revision that was told, and what wasn't as it has to be.
+/// The edits that were accepted, the greatest revision that was told, and
+/// what wasn't as it has to be.
 #[derive(Drop)]
 pub struct Told {
     changes: Vec<Change>,

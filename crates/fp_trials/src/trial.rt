@@ -143,8 +143,9 @@ pub enum Held {
     Open(OpenWorld),
 }
 
-/// What commands work on: a disk or an open world, the bytes that were kept of one, the edits and the lines that wait, and the
-/// greatest revision that was told; and the text of the last answer that is one.
+/// What commands work on: a disk or an open world, the bytes that were kept of one, the
+/// edits and the lines that wait, and the greatest revision that was told; and the text of
+/// the last answer that is one.
 #[derive(Drop)]
 pub struct Trial {
     pub alloc: Global,
@@ -243,7 +244,8 @@ impl Trial {
         self.told = self.told.max(revision);
     }
 
-    /// The answer of this fault. Where no call was told to fail, a disk in memory fails for want of memory alone.
+    /// The answer of this fault. Where no call was told to fail, a disk in memory fails
+    /// for want of memory alone.
     pub fn fault(&self, fault: Fault) -> Answer {
         match fault {
             Fault::Memory => Answer::NoMemory,

@@ -1,4 +1,5 @@
-//! A whole world on the disk in memory: editors, a flusher, evaluators and subscribers, one event at a time.
+//! A whole world on the disk in memory: editors, a flusher, evaluators and
+//! subscribers, one event at a time.
 
 ghost use Rattle.std.specs.Prelude.{◌≤◌, length};
 ghost use Rattle.fp_publish.specs.declared.board.TheConstants.{MOST_EVALUATORS};
@@ -118,7 +119,8 @@ fn hello_of(word: &str, args: &mut Args<'_>) -> Hello {
     }
 }
 
-/// A world over what the disk stands for, with a seat for each subscriber and so many evaluators; or the disk comes back.
+/// A world over what the disk stands for, with a seat for each subscriber and so many
+/// evaluators; or the disk comes back.
 pub fn made<R: Wait>(
     rt: &R,
     alloc: Global,

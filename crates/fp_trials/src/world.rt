@@ -1,4 +1,5 @@
-//! A world on the disk in memory: how it is made and opened, and the flags that the disk stands for.
+//! A world on the disk in memory: how it is made and opened, and the flags
+//! that the disk stands for.
 
 ghost use Rattle.std.specs.Prelude.{◌≡◌, IfOk};
 ghost use Rattle.fp_group_commit.specs.Store.{IsFresh};

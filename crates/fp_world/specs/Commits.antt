@@ -1,6 +1,7 @@
 -- The plain machine of the edits, from where they are handed in to where they are settled and told:
 -- a desk, and how far its drawn edits are. It has no disk.
-use Rattle.std.specs.Prelude.{◌≡◌, ◌≢◌, ◌⊎◌, ◌<◌, ◌≤◌, ◌+◌, ◌/◌, ◌^◌, ℕ, max, Bool, true, false, List, [], ◌∷◌, ◌++◌, length, if◌then◌else◌}
+use Rattle.std.specs.Prelude.{◌≡◌, ◌≢◌, ◌⊎◌, ◌<◌, ◌≤◌, ◌+◌, ◌/◌, ◌^◌, ℕ, max, Bool, true, false}
+use Rattle.std.specs.Prelude.{List, [], ◌∷◌, ◌++◌, length, if◌then◌else◌}
 use Rattle.fp_edit.specs.Edits.{Change, Proposal, proposal_of}
 use Rattle.fp_edit.specs.Flags.{State, size}
 use Rattle.fp_edit.specs.Following.{change_of}
@@ -31,8 +32,8 @@ pub data Progress : Type 0 where
   gate_opened : Progress
   batch_sealed : Progress
 
--- A compaction: its next step (`Begin` where none runs), how many bytes of head and image no part wrote
--- yet, how many the batches behind them have, and the generation of the slot that rules
+-- A compaction: its next step (`Begin` where none runs), how many bytes of head and image no part
+-- wrote yet, how many the batches behind them have, and the generation of the slot that rules
 pub record Compaction : Type 0 where
   pub next : Step
   pub left : ℕ
@@ -58,9 +59,9 @@ last_revision d = d.store.start.revision + length (log d)
 abbrev pub drawn_batch : DeskState → Group
 drawn_batch d = record { first = settled_revision d + 1; changes = d.drawn }
 
--- The drawn edits wait to be written, make a batch, and there is room for it with its two gates. While a
--- compaction runs its tail isn't written yet, and with this batch and a last gate it takes a quarter of a
--- slot at most: half of one is what a set may take
+-- The drawn edits wait to be written, make a batch, and there is room for it with its two gates.
+-- While a compaction runs its tail isn't written yet, and with this batch and a last gate it takes
+-- a quarter of a slot at most: half of one is what a set may take
 pub record CanStage (m : Commits) : Type 0 where
   pub drawn : m.progress ≡ batch_drawn
   pub few : length m.desk.drawn ≤ MOST_EDITS
@@ -185,9 +186,9 @@ abbrev pub MayStep : Commits → Type 0
 MayStep m = (m.compaction.next ≡ Begin → m.compaction.generation + 1 < 2 ^ 64)
     × (m.compaction.next ≡ Tail → is_flying m.progress ≡ false)
 
--- One step of it. As it begins, an image of the sealed set is to be written, behind a head and all but its
--- gate. A Part writes one part of it. At the last step the next generation rules, with a room of which nothing is said
--- here; at each other the room stays
+-- One step of it. As it begins, an image of the sealed set is to be written, behind a head and all
+-- but its gate. A Part writes one part of it. At the last step the next generation rules, with a
+-- room of which nothing is said here; at each other the room stays
 pub record Compacts (old new : Commits) : Type 0 where
   pub next : new.compaction.next ≡ next_step old.compaction.next old.compaction.left
   pub begun : old.compaction.next ≡ Begin → (new.compaction.left + 1

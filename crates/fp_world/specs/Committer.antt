@@ -1,5 +1,6 @@
 -- A store, a desk, and what is between them.
-use Rattle.std.specs.Prelude.{◌≡◌, ◌≢◌, ◌⊎◌, ◌≤◌, ◌<◌, ◌+◌, ℕ, Bool, true, false, List, [], ◌∷◌, ◌++◌, length}
+use Rattle.std.specs.Prelude.{◌≡◌, ◌≢◌, ◌⊎◌, ◌≤◌, ◌<◌, ◌+◌, ℕ, Bool, true, false, List, [], ◌∷◌}
+use Rattle.std.specs.Prelude.{◌++◌, length}
 use Rattle.fp_disk.specs.History.{MakesSome}
 use Rattle.fp_disk.specs.Outcomes.{PendingState, IsOutcome}
 use Rattle.fp_disk.specs.declared.history.CallKind.{CallKind}
@@ -7,7 +8,8 @@ use Rattle.fp_disk.specs.declared.history.CallKind.TheVariants.{Sync, Write}
 use Rattle.fp_edit.specs.Log.{after}
 use Rattle.fp_journal.specs.State.{room}
 use Rattle.fp_journal.specs.declared.journal.Phase.{Phase}
-use Rattle.fp_journal.specs.declared.journal.Phase.TheVariants.{Idle, Staged, BodySynced, GateOpened, Failed}
+use Rattle.fp_journal.specs.declared.journal.Phase.TheVariants.{Idle, Staged, BodySynced}
+use Rattle.fp_journal.specs.declared.journal.Phase.TheVariants.{GateOpened, Failed}
 use Rattle.fp_recovery.specs.Stands.{StandsFor}
 use Rattle.fp_compaction.specs.Batches.{tail_of}
 use Rattle.fp_group_commit.specs.Changes.{GoesOn}
@@ -21,7 +23,8 @@ use Rattle.fp_world.specs.declared.event.Event.TheVariants as event
 use Rattle.fp_world.specs.declared.committer.Held.{Held}
 use Rattle.fp_world.specs.declared.committer.Held.TheVariants as held
 use Rattle.fp_world.specs.Commits.{Commits, Compaction, Progress}
-use Rattle.fp_world.specs.Commits.{nothing_drawn, batch_drawn, batch_staged, body_synced, gate_opened, batch_sealed}
+use Rattle.fp_world.specs.Commits.{nothing_drawn, batch_drawn, batch_staged, body_synced}
+use Rattle.fp_world.specs.Commits.{gate_opened, batch_sealed}
 
 pub record CommitterState (D : Type 0) : Type 0 where
   pub store : StoreState D
@@ -123,14 +126,14 @@ abbrev pub NumberedFrom : ℕ → List TicketState → Type 0
 NumberedFrom n [] = Unit {0}
 NumberedFrom n (t ∷ tickets) = (t.revision ≡ n) × NumberedFrom (n + 1) tickets
 
-pub record IsCommitter {D : Type 0} (honest : D → Type 0) (unsynced : D → PendingState) (held : Held)
-    (tickets : List TicketState) (start : ℕ) (s : StoreState D) (d : DeskState)
+pub record IsCommitter {D : Type 0} (honest : D → Type 0) (unsynced : D → PendingState)
+    (held : Held) (tickets : List TicketState) (start : ℕ) (s : StoreState D) (d : DeskState)
     (told : ℕ) : Type 0 where
   pub same : d.store ≡ s.store
   pub out : IsOut held s d
   pub low : told ≤ settled_revision d
-  pub now : honest s.slots.journal.disk → (c : List ℕ) → IsOutcome (unsynced s.slots.journal.disk) c →
-      Leaves s c
+  pub now : honest s.slots.journal.disk → (c : List ℕ) →
+      IsOutcome (unsynced s.slots.journal.disk) c → Leaves s c
   pub open_desk : d.stopped ≡ false
   pub start_is : start ≡ d.store.start.revision
   pub numbered : NumberedFrom (start + 1) tickets

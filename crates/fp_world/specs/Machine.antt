@@ -1,5 +1,6 @@
 -- The plain machine that a world is a run of. It has no disk, no threads, and no copies of a set.
-use Rattle.std.specs.Prelude.{◌≡◌, ◌≢◌, ◌<◌, ◌≤◌, ◌-◌, ℕ, max, List, [], ◌∷◌, ◌++◌, length, take, slice_get, slice_set, Some, option_map, string_bytes}
+use Rattle.std.specs.Prelude.{◌≡◌, ◌≢◌, ◌<◌, ◌≤◌, ◌-◌, ℕ, max, List, [], ◌∷◌, ◌++◌, length, take}
+use Rattle.std.specs.Prelude.{slice_get, slice_set, Some, option_map, string_bytes}
 use Rattle.fp_edit.specs.Edits.{Change}
 use Rattle.fp_edit.specs.Flags.{State}
 use Rattle.fp_group_commit.specs.Tokens.{FrontState, front_set}
@@ -75,7 +76,8 @@ reply_to set r now = reply set r.method (string_bytes r.target)
 -- an evaluator replies over what is published
 abbrev pub Evaluates : ℕ → Request → ℕ → Machine → Answer → Machine → Type 0
 Evaluates reader request now old (answer.Reply revision said) new = (reader < old.readers)
-    × (revision ≡ old.published) × (seen said ≡ reply_to (front_set (published_front old)) request now)
+    × (revision ≡ old.published)
+    × (seen said ≡ reply_to (front_set (published_front old)) request now)
     × (new ≡ record old { commits = and_published old })
 Evaluates reader request now old answer.Memory new = (reader < old.readers) × (new ≡ old)
 Evaluates reader request now old answer.NotNow new = (old.readers ≤ reader) × (new ≡ old)

@@ -9,7 +9,8 @@ use Rattle.fp_group_commit.specs.Tokens.{front_revision}
 use Rattle.fp_desk.specs.Desk.{DeskState, log}
 use Rattle.fp_stream.specs.declared.hello.Hello.{Hello}
 use Rattle.fp_world.specs.Commits.{accepted_by, last_revision, told_after}
-use Rattle.fp_world.specs.Committer.{CommitterState, IsNewCommitter, KeptFrom, MakesItsCall, RisesFor, commits_of}
+use Rattle.fp_world.specs.Committer.{CommitterState, IsNewCommitter, KeptFrom, MakesItsCall}
+use Rattle.fp_world.specs.Committer.{RisesFor, commits_of}
 use Rattle.fp_world.specs.Machine.{Machine, Step}
 use Rattle.fp_world.specs.Views.{ViewsState}
 use Rattle.fp_world.specs.declared.event.Answer.{Answer}

@@ -6,7 +6,8 @@ ghost use mathlib.Core.List.{IsPrefix};
 ghost use Rattle.fp_disk.specs.declared.history.CallKind.TheVariants.{Sync, Write};
 ghost use Rattle.fp_edit.specs.Edits.{proposal_of};
 ghost use Rattle.fp_desk.specs.Desk.{log};
-ghost use Rattle.fp_world.specs.Commits.{Advances, DrawsNext, IsAt, Seals, Settles, Stages, StepsOn, Submits, Tells, accepted_by, told_after};
+ghost use Rattle.fp_world.specs.Commits.{Advances, DrawsNext, IsAt, Seals, Settles, Stages};
+ghost use Rattle.fp_world.specs.Commits.{StepsOn, Submits, Tells, accepted_by, told_after};
 ghost use Rattle.fp_world.specs.Commits.{batch_staged, body_synced, gate_opened};
 ghost use Rattle.fp_world.specs.declared.event.Event.TheVariants.{Compact, Submit};
 ghost use Rattle.fp_world.specs.Committer.{KeptFrom, MakesItsCall, MakesOne, RisesFor, commits_of};
@@ -26,7 +27,8 @@ impl<D: Disk> Committer<D> {
         ensures steps { Submits (proposal_of edit.now) (commits_of self.old) result
             (commits_of self.new) }
         ensures told { self.new.told ≡ told_after self.old.told result }
-        ensures log { log self.new.desk ≡ log self.old.desk ++ accepted_by (Submit edit.now) result }
+        ensures log { log self.new.desk
+            ≡ log self.old.desk ++ accepted_by (Submit edit.now) result }
         ensures settled { self.new.desk.settled ≡ self.old.desk.settled }
         ensures same { (self.new.store ≡ self.old.store) × (self.new.told ≡ self.old.told)
             × (self.new.desk.store ≡ self.old.desk.store) }

@@ -1,4 +1,5 @@
-//! A store, a desk and what is between them: edits, from where they are handed in to where they are settled.
+//! A store, a desk and what is between them: edits, from where they are handed in
+//! to where they are settled.
 
 ghost use Rattle.fp_disk.specs.Crashes.{AtAnyMoment, EachCrash, SameHonesty};
 ghost use Rattle.std.specs.Prelude.{◌≡◌, ◌≢◌, ◌≤◌, ◌++◌, max, [], false, IfOk, IfErr};
@@ -7,7 +8,8 @@ ghost use Rattle.fp_desk.specs.Desk.{log, settled_revision};
 ghost use Rattle.fp_journal.specs.declared.journal.Phase.TheVariants.{Failed};
 ghost use Rattle.fp_recovery.specs.Stands.{StandsFor};
 ghost use Rattle.fp_world.specs.Commits.{CommitStep, accepted_by, opened_set, told_after};
-ghost use Rattle.fp_world.specs.Committer.{IsNewCommitter, KeptFrom, MakesItsCall, RisesFor, commits_of};
+ghost use Rattle.fp_world.specs.Committer.{IsNewCommitter, KeptFrom, MakesItsCall};
+ghost use Rattle.fp_world.specs.Committer.{RisesFor, commits_of};
 ghost use Rattle.fp_world.specs.declared.event.Answer.TheVariants.{NotNow};
 ghost use Rattle.fp_group_commit.specs.Store.{IsFresh, reached};
 
@@ -98,8 +100,9 @@ impl<D: Disk> Committer<D> {
         }
     }
 
-    /// Does what the event asks of the edits; one that asks for what is published is none of its. A crash at any moment of it
-    /// keeps all that was told before it, and a crash after it all that was told by then.
+    /// Does what the event asks of the edits; one that asks for what is published is none of
+    /// its. A crash at any moment of it keeps all that was told before it, and a crash after it
+    /// all that was told by then.
     pub fn step(&mut self, event: &Event) -> Answer
         ensures steps { CommitStep (commits_of self.old) event.now result (commits_of self.new) }
         ensures log { log self.new.desk ≡ log self.old.desk ++ accepted_by event.now result }

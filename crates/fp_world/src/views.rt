@@ -1,6 +1,7 @@
 //! What is published, and who takes it: the board, its evaluators, and the seats of subscribers.
 
-ghost use Rattle.std.specs.Prelude.{◌≡◌, ◌≢◌, ◌<◌, ◌≤◌, None, length, map, slice_set, IfOk, MatchOption, OnErr};
+ghost use Rattle.std.specs.Prelude.{◌≡◌, ◌≢◌, ◌<◌, ◌≤◌, None, length, map, slice_set, IfOk};
+ghost use Rattle.std.specs.Prelude.{MatchOption, OnErr};
 ghost use Rattle.std.specs.List.{All};
 ghost use Rattle.fp_group_commit.specs.Tokens.{front_revision, front_set};
 ghost use Rattle.fp_desk.specs.Desk.{settled_front, settled_revision};
@@ -22,7 +23,8 @@ use std::alloc::{AllocError, Global};
 use std::marker::Model;
 use std::sync::Wait;
 
-/// The board, with a token of what it shows; evaluators, which rest between events; and who sits in its seats.
+/// The board, with a token of what it shows; evaluators, which rest between events;
+/// and who sits in its seats.
 pub(crate) struct Views {
     alloc: Global,
     board: Board,
@@ -72,7 +74,8 @@ fn seated(alloc: Global, hellos: &[Hello]) -> Result<(Seats, Vec<Seat>), AllocEr
 // So many evaluators of a board.
 fn evaluators(alloc: Global, board: &mut Board, count: usize) -> Result<Vec<Evaluator>, AllocError>
     ensures same { board.new ≡ board.old }
-    ensures made { IfOk result (λ r. (length r.items ≡ count) × All (IsResting board.old.store) r.items) }
+    ensures made { IfOk result (λ r. (length r.items ≡ count)
+        × All (IsResting board.old.store) r.items) }
 {
     let mut readers = Vec::with_capacity(alloc, count)?;
     for _ in 0..count {
@@ -107,8 +110,8 @@ fn replied(
     )
 }
 
-// The reply of an evaluator over what is shown, which it learns first. Should it take anything else, or nothing, the board's
-// own view takes its place.
+// The reply of an evaluator over what is shown, which it learns first. Should it take anything
+// else, or nothing, the board's own view takes its place.
 fn evaluated(
     alloc: Global,
     evaluator: &mut Evaluator,
@@ -133,7 +136,8 @@ fn evaluated(
 }
 
 impl Views {
-    /// Shows what the desk has settled, to so many evaluators and to subscribers who have what they say.
+    /// Shows what the desk has settled, to so many evaluators and to
+    /// subscribers who have what they say.
     pub fn new<R: Wait>(
         rt: &R,
         alloc: Global,
@@ -166,7 +170,8 @@ impl Views {
         })
     }
 
-    /// Shows what the desk has settled, where that isn't shown. It may wait for an evaluator elsewhere.
+    /// Shows what the desk has settled, where that isn't shown. It may wait
+    /// for an evaluator elsewhere.
     pub fn publish<R: Wait>(&mut self, rt: &R, desk: &Desk) -> Result<Option<Shown>, AllocError>
         requires { Begins self.old.board (settled_front desk.now) }
         ensures shown { IfOk result (λ o. MatchOption o

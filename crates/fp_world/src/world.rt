@@ -13,7 +13,8 @@ ghost use Rattle.fp_world.specs.declared.event.Event.TheVariants as asked;
 ghost use Rattle.fp_world.specs.Commits.{accepted_by, opened_set, told_after};
 ghost use Rattle.fp_world.specs.Committer.{KeptFrom, MakesItsCall, RisesFor};
 ghost use Rattle.fp_world.specs.Machine.{Run, Step, accepted, told_by};
-ghost use Rattle.fp_world.specs.World.{Course, IsKept, IsNewWorld, IsOfEdits, StepsTo, desk_of, disk_of, machine, told_of};
+ghost use Rattle.fp_world.specs.World.{Course, IsKept, IsNewWorld, IsOfEdits, StepsTo, desk_of};
+ghost use Rattle.fp_world.specs.World.{disk_of, machine, told_of};
 
 use crate::committer::Committer;
 use crate::event::{Answer, Event};
@@ -51,8 +52,8 @@ impl<D: Disk> Model for World<D> {
 }
 
 impl<D: Disk> World<D> {
-    /// A store as it was made or opened, with its opening; a seat for each subscriber, who has what is said here; and so many
-    /// evaluators.
+    /// A store as it was made or opened, with its opening; a seat for each subscriber, who has what
+    /// is said here; and so many evaluators.
     pub fn new<R: Wait>(
         rt: &R,
         alloc: Global,
@@ -120,7 +121,8 @@ impl<D: Disk> World<D> {
 
     // Replies over what is published, which is then told.
     fn evaluate(&mut self, reader: usize, request: &Request, now: &Moment) -> Answer
-        ensures { StepsTo D.Disk self.old (asked.Evaluate reader request.now now.now) result self.new }
+        ensures { StepsTo D.Disk self.old (asked.Evaluate reader request.now now.now) result
+            self.new }
     {
         self.committer.rest();
         if reader >= self.views.readers() {
@@ -146,8 +148,8 @@ impl<D: Disk> World<D> {
         }
     }
 
-    /// Does what the event asks. A crash at any moment of it keeps all that was told before it, and a crash after it all that
-    /// was told by then. Only a publication may wait.
+    /// Does what the event asks. A crash at any moment of it keeps all that was told before it, and
+    /// a crash after it all that was told by then. Only a publication may wait.
     pub fn step<R: Wait>(&mut self, rt: &R, event: &Event) -> Answer
         ensures steps { Step (machine self.old) event.now result (machine self.new) }
         ensures log { log (desk_of self.new)
@@ -162,7 +164,8 @@ impl<D: Disk> World<D> {
         ensures honest { SameHonesty D.Disk (disk_of self.old) (disk_of self.new) }
         ensures called { MakesItsCall event.now result (D.calls (disk_of self.old))
             (D.calls (disk_of self.new)) }
-        ensures cause { RisesFor result (D.faults (disk_of self.old)) (D.faults (disk_of self.new)) }
+        ensures cause { RisesFor result (D.faults (disk_of self.old))
+            (D.faults (disk_of self.new)) }
     {
         self.turn(rt, event)
     }
@@ -234,7 +237,8 @@ impl<D: Disk> World<D> {
         ensures fresh { IfOk result (λ r. IsFresh r.0 r.0.store.start) }
         ensures opening { IfOk result (λ r. r.1 ≡ r.0.store) }
 
-        // Where no call failed: what is sealed, and with it what is in flight once its gate was opened.
+        // Where no call failed: what is sealed, and with it what is in flight
+        // once its gate was opened.
         ensures set { D.honest (disk_of self) → (machine self).commits.failed ≡ false →
             IfOk result (λ r. r.0.store.start ≡ opened_set (machine self).commits) }
         ensures refused { D.honest (disk_of self) → (machine self).commits.failed ≡ false →
@@ -244,13 +248,14 @@ impl<D: Disk> World<D> {
     }
 }
 
-/// Opens a disk that holds what a crash left of a world. Where that keeps the log from some revision on, as `World` promises of
-/// each crash, the set is the one after some first accepted edits, as many as that revision or more.
+/// Opens a disk that holds what a crash left of a world. Where that keeps the log from some
+/// revision on, as `World` promises of each crash, the set is the one after some first accepted
+/// edits, as many as that revision or more.
 pub fn recover<D: Disk>(alloc: Global, disk: D) -> Result<(Store<D>, Opening), (OpenFault, D)>
     ensures fresh { IfOk result (λ r. IsFresh r.0 r.0.store.start) }
     ensures opening { IfOk result (λ r. r.1 ≡ r.0.store) }
-    ensures kept { D.honest disk → (desk : DeskState) (told : ℕ) → KeptFrom desk told (D.bytes disk) →
-        IfOk result (λ r. IsKept desk told r.0.store.start) }
+    ensures kept { D.honest disk → (desk : DeskState) (told : ℕ) →
+        KeptFrom desk told (D.bytes disk) → IfOk result (λ r. IsKept desk told r.0.store.start) }
     ensures refused { D.honest disk → (desk : DeskState) (told : ℕ) →
         KeptFrom desk told (D.bytes disk) → IfErr result (λ e. (e.0 ≡ Device) ⊎ (e.0 ≡ Memory)) }
 {
