@@ -1,4 +1,9 @@
 mod AnswerLemmas
+pub mod Crossing
 mod EditingLemmas
+pub mod PlaneCrossing
+pub mod PublishCrossing
 mod SealingLemmas
 mod SendingLemmas
+pub mod Spawning
+pub mod StoreCrossing

@@ -6,4 +6,4 @@ use Rattle.fp_server.proofs.evaluations.LentEvaluatorAnswers.answer.Goals as goa
 pub returns : goal.returns
 returns g c =
     let w = c.answer.ensures in
-    IfOk-weaker c.answer.result _ _ (λ r said. (c.answer.new.self.known, sym w.goes_on.0 ∙ c.self.ours, said)) w.over
+    IfOk-weaker c.answer.result _ _ (λ r said. (c.answer.new.self.known, sym w.goes_on.0 ∙ c.args.self.now.ours, said)) w.over

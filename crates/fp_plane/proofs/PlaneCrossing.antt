@@ -1,0 +1,45 @@
+-- A plane may cross threads, and threads may share it.
+use denote.RattleType.{RattleType}
+use denote.Param.Send.{IsSend, IsSync, sendable, view_send, recorded_send, recorded_sync, struct_send, struct_sync}
+use denote.Struct.Declared.{shape}
+use Rattle.std.proofs.Crossing.{crosses, Arc-send, Vec-send}
+use Rattle.std.proofs.alloc.Global.TheSendSync as heap
+use Rattle.std.proofs.marker.PhantomData.TheSendSync as phantom
+use Rattle.std.proofs.option.Option.TheSendSync as option
+use Rattle.std.proofs.sync.Condvar.TheSendSync as condvar
+use Rattle.fp_disk.specs.declared.disk.Disk as disk
+use Rattle.fp_plane.proofs.Crossing.{desk_sent}
+use Rattle.fp_plane.proofs.PublishCrossing.{board_sent, evaluator_sent, seats_sent}
+use Rattle.fp_plane.proofs.StoreCrossing.{store_sent}
+use Rattle.fp_plane.specs.contracts.hall.Hall as hall
+use Rattle.fp_plane.specs.contracts.hall.Hall.TheInside as hall_inside
+use Rattle.fp_plane.specs.contracts.owned.OwnBoard as own_board
+use Rattle.fp_plane.specs.contracts.owned.OwnBoard.TheInside as own_board_inside
+use Rattle.fp_plane.specs.contracts.owned.OwnStore as own_store
+use Rattle.fp_plane.specs.contracts.owned.OwnStore.TheInside as own_store_inside
+use Rattle.fp_plane.specs.contracts.plane.Plane as plane
+use Rattle.fp_plane.specs.contracts.plane.Shared as shared
+use Rattle.fp_plane.specs.declared.naming.Naming as naming
+
+own_board_sent : (R : RattleType) → IsSend R → IsSend (own_board.the_row R)
+own_board_sent R sr = search (sendable, board_sent, sr) depth 20
+
+pub own_store_sent : (D : RattleType) (d : disk.Ghosts D.Denot) → IsSend D → IsSend (own_store.the_row D d)
+own_store_sent D d sd = search (sendable, store_sent D d sd) depth 20
+
+module _ (K D R : RattleType) (k : naming.Ghosts K.Denot) (d : disk.Ghosts D.Denot) (sd : IsSend D) (sr : IsSend R) where
+  hall_sent : IsSend (hall.the_row K D R k d)
+  hall_sent = let T = hall_inside.the_type K D R k d in
+      let own = own_store_sent D d sd in
+      view_send _ _ _ _ _ (recorded_send _ _ _ T.to_one (struct_send (shape T)
+        (desk_sent, (own_board_sent R sr, (Vec-send _ evaluator_sent, (seats_sent, (option.the_field_send _ own,
+          (search sendable, (search sendable, (search sendable, (heap.the_field_send, (phantom.the_field_send K, tt))))))))))))
+
+  shared_sent : IsSend (shared.the_row K D R k d)
+  shared_sent = search (sendable, crosses, hall_sent, condvar.the_field_send, sr) depth 20
+
+  shared_shared : IsSync R → IsSync (shared.the_row K D R k d)
+  shared_shared yr = search (sendable, crosses, hall_sent, condvar.the_field_sync, yr) depth 20
+
+  pub plane_sent : IsSync R → IsSend (plane.the_row K D R k d)
+  plane_sent yr = search (sendable, Arc-send _ shared_sent (shared_shared yr)) depth 20
