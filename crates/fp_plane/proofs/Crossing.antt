@@ -75,8 +75,11 @@ flags_sent = view_send _ _ _ _ _ (recorded_send _ _ _ (inside.the_type).to_one (
 pub flags_shared : IsSync flags.the_row
 flags_shared = view_sync _ _ _ _ _ (recorded_sync _ _ _ (inside.the_type).to_one (struct_sync (shape inside.the_type) (search (sendable, maps.BTreeMap-sync, key.the_sync, flag_shared) depth 5, (search sendable, (search sendable, (search sendable, (search (sendable, crosses), tt)))))))
 
+pub edit_field_sent : IsSend (edit.the_field).row
+edit_field_sent = enum_send (enums.shape edit.the_type) ((key.the_field_send, (definition_sent, (search sendable depth 10, tt))), ((key.the_field_send, (search sendable depth 10, tt)), tt))
+
 pub edit_sent : IsSend edit.the_row
-edit_sent = recorded_send _ _ _ (edit.the_type).to_one (enum_send (enums.shape edit.the_type) ((key.the_field_send, (definition_sent, (search sendable depth 10, tt))), ((key.the_field_send, (search sendable depth 10, tt)), tt)))
+edit_sent = recorded_send _ _ _ (edit.the_type).to_one edit_field_sent
 
 pub settled_sent : IsSend settled.the_row
 settled_sent = view_send _ _ _ _ _ (recorded_send _ _ _ (settled_inside.the_type).to_one (struct_send (shape settled_inside.the_type) (search sendable, (part.the_send, (Vec-send _ edit_sent, tt)))))

@@ -1,6 +1,6 @@
 -- A plane may cross threads, and threads may share it.
 use denote.RattleType.{RattleType}
-use denote.Param.Send.{IsSend, IsSync, sendable, view_send, recorded_send, recorded_sync, struct_send, struct_sync}
+use denote.Param.Send.{IsSend, IsSync, sendable, view_send, recorded_send, struct_send}
 use denote.Struct.Declared.{shape}
 use Rattle.std.proofs.Crossing.{crosses, Arc-send, Vec-send}
 use Rattle.std.proofs.alloc.Global.TheSendSync as heap
@@ -14,9 +14,7 @@ use Rattle.fp_plane.proofs.StoreCrossing.{store_sent}
 use Rattle.fp_plane.specs.contracts.hall.Hall as hall
 use Rattle.fp_plane.specs.contracts.hall.Hall.TheInside as hall_inside
 use Rattle.fp_plane.specs.contracts.owned.OwnBoard as own_board
-use Rattle.fp_plane.specs.contracts.owned.OwnBoard.TheInside as own_board_inside
 use Rattle.fp_plane.specs.contracts.owned.OwnStore as own_store
-use Rattle.fp_plane.specs.contracts.owned.OwnStore.TheInside as own_store_inside
 use Rattle.fp_plane.specs.contracts.plane.Plane as plane
 use Rattle.fp_plane.specs.contracts.plane.Shared as shared
 use Rattle.fp_plane.specs.declared.naming.Naming as naming

@@ -1,4 +1,4 @@
-use Rattle.std.proofs.Common.{◌∙◌, ⊎_elim}
+use Rattle.std.proofs.Common.{⊎_elim}
 use Rattle.fp_session.proofs.Compactions.{keeps_none, keeps_then}
 use Rattle.fp_plane.proofs.sealing.make_room.Goals as goal
 

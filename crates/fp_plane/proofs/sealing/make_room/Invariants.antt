@@ -1,4 +1,3 @@
-use Rattle.std.proofs.Common.{◌≡◌}
 use Rattle.fp_session.specs.Session.{KeepsAll}
 use Rattle.fp_plane.proofs.sealing.make_room.Given as goal
 
