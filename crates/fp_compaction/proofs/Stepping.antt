@@ -1,5 +1,5 @@
 -- Steps by the step that is next.
-use Rattle.std.proofs.Common.{◌≡◌, ◌<◌, ◌≤◌, ◌+◌, ◌^◌, ℕ, Bool, true, false, List, [], ◌∷◌, ◌++◌, inl, sym, ◌∙◌, ap, subst}
+use Rattle.std.proofs.Common.{◌≡◌, ◌<◌, ◌+◌, ◌^◌, ℕ, Bool, true, false, List, [], ◌∷◌, ◌++◌, inl, sym, ◌∙◌, ap, subst}
 use Rattle.std.proofs.lemmas.List.{append-nil}
 use Rattle.fp_disk.specs.Moments.{leaves_still}
 use Rattle.fp_disk.specs.Outcomes.{IsOutcome, LeavesOnly}
@@ -9,12 +9,11 @@ use Rattle.fp_journal.specs.State.{HasAmong, HasChain, JournalState, has_begun}
 use Rattle.fp_journal.specs.declared.journal.Phase.TheVariants.{GateOpened}
 use Rattle.fp_journal.proofs.Holds.{firm_outcome}
 use Rattle.fp_edit.specs.Flags.{State}
-use Rattle.fp_recovery.specs.Stands.{Spells, StandsFor}
+use Rattle.fp_recovery.specs.Stands.{Spells}
 use Rattle.fp_slots.specs.Rules.{Rules}
 use Rattle.fp_slots.specs.State.{IsEarly, IsFrontOf, Keeps, Leaves, sealed_text}
 use Rattle.fp_slots.specs.declared.slots.Step.TheVariants.{Begin, Close, SyncClose, Part, Tail, SyncBody, Open, SyncOpen}
 use Rattle.fp_compaction.specs.Sets.{IsKeptIn, IsPlannedFor, IsTaken, LeavesSet}
-use Rattle.fp_compaction.specs.Batches.{LeadsTo}
 use Rattle.fp_compaction.specs.Steps.{IsFullNow, LeavesNow, ReadsNext, TakesStep}
 use Rattle.fp_compaction.proofs.Kept.{either_stands, keeps_stands, opened_stands, sealed_full}
 use Rattle.fp_disk.specs.declared.history.CallKind.{CallKind}

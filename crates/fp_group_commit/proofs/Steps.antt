@@ -32,9 +32,9 @@ use Rattle.fp_slots.specs.State.{HasBegun, IsEarly, IsGrowing, SameCompaction, S
 use Rattle.fp_slots.specs.declared.places.TheConstants.{IMAGE_PLACE}
 use Rattle.fp_slots.specs.declared.slots.Step.{Step}
 use Rattle.fp_slots.specs.declared.slots.Step.TheVariants.{Begin, Close, SyncClose, Part, Tail, SyncBody, Open, SyncOpen}
-use Rattle.fp_compaction.specs.Batches.{FitsBeside, HasRoomFor, IsReadyFor, LeadsTo, LeavesNext, LeavesSealed, tail_of}
+use Rattle.fp_compaction.specs.Batches.{HasRoomFor, LeadsTo, LeavesNext, LeavesSealed, tail_of}
 use Rattle.fp_compaction.specs.Sets.{GoesOnKept, IsKeptIn, IsPlaced, IsPlannedFor, IsTaken, LeavesSet}
-use Rattle.fp_compaction.specs.Steps.{Begins, BreaksOff, HasPlace, IsLate, LeavesNow, MayStep, ReadsNext, Stays, TakesStep, Turns, calls_of, next_left, next_step}
+use Rattle.fp_compaction.specs.Steps.{Begins, BreaksOff, HasPlace, IsLate, LeavesNow, MayStep, ReadsNext, Stays, TakesStep, Turns, next_left, next_step}
 use Rattle.fp_group_commit.proofs.Fronts.{leads_all}
 use Rattle.fp_group_commit.specs.declared.fault.StoreFault.{StoreFault}
 use Rattle.fp_group_commit.specs.declared.fault.StoreFault.TheVariants as fault

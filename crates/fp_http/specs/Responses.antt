@@ -1,5 +1,5 @@
 -- The response of HTTP that a reply is sent as.
-use Rattle.std.specs.Prelude.{◌≡◌, ℕ, List, [], ◌∷◌, Bool, true, false, Option, Some, None, codes}
+use Rattle.std.specs.Prelude.{◌≡◌, ℕ, List, [], Bool, true, false, Option, Some, None, codes}
 use Rattle.std.specs.Prelude.{decimal, option_map}
 use Rattle.http.specs.declared.response.Parts.{Parts}
 use Rattle.http_header.specs.FieldValue.{FieldValue, plain_value}

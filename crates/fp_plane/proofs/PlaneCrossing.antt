@@ -1,6 +1,6 @@
 -- A plane may cross threads, and threads may share it.
 use denote.RattleType.{RattleType}
-use denote.Param.Send.{IsSend, IsSync, sendable, view_send, recorded_send, struct_send}
+use denote.Param.Send.{IsSend, IsSync, sendable, view_send, recorded_send, recorded_sync, struct_send, struct_sync}
 use denote.Struct.Declared.{shape}
 use Rattle.std.proofs.Crossing.{crosses, Arc-send, Vec-send}
 use Rattle.std.proofs.alloc.Global.TheSendSync as heap
@@ -14,16 +14,20 @@ use Rattle.fp_plane.proofs.StoreCrossing.{store_sent}
 use Rattle.fp_plane.specs.contracts.hall.Hall as hall
 use Rattle.fp_plane.specs.contracts.hall.Hall.TheInside as hall_inside
 use Rattle.fp_plane.specs.contracts.owned.OwnBoard as own_board
+use Rattle.fp_plane.specs.contracts.owned.OwnBoard.TheInside as own_board_inside
 use Rattle.fp_plane.specs.contracts.owned.OwnStore as own_store
+use Rattle.fp_plane.specs.contracts.owned.OwnStore.TheInside as own_store_inside
 use Rattle.fp_plane.specs.contracts.plane.Plane as plane
 use Rattle.fp_plane.specs.contracts.plane.Shared as shared
 use Rattle.fp_plane.specs.declared.naming.Naming as naming
 
 own_board_sent : (R : RattleType) → IsSend R → IsSend (own_board.the_row R)
-own_board_sent R sr = search (sendable, board_sent, sr) depth 20
+own_board_sent R sr = let T = own_board_inside.the_type R in
+    view_send _ _ _ _ _ (recorded_send _ _ _ T.to_one (struct_send (shape T) (board_sent, search (sendable, sr) depth 20)))
 
 pub own_store_sent : (D : RattleType) (d : disk.Ghosts D.Denot) → IsSend D → IsSend (own_store.the_row D d)
-own_store_sent D d sd = search (sendable, store_sent D d sd) depth 20
+own_store_sent D d sd = let T = own_store_inside.the_type D d in
+    view_send _ _ _ _ _ (recorded_send _ _ _ T.to_one (struct_send (shape T) (store_sent D d sd, tt)))
 
 module _ (K D R : RattleType) (k : naming.Ghosts K.Denot) (d : disk.Ghosts D.Denot) (sd : IsSend D) (sr : IsSend R) where
   hall_sent : IsSend (hall.the_row K D R k d)
@@ -34,10 +38,15 @@ module _ (K D R : RattleType) (k : naming.Ghosts K.Denot) (d : disk.Ghosts D.Den
           (search sendable, (search sendable, (search sendable, (heap.the_field_send, (phantom.the_field_send K, tt))))))))))))
 
   shared_sent : IsSend (shared.the_row K D R k d)
-  shared_sent = search (sendable, crosses, hall_sent, condvar.the_field_send, sr) depth 20
+  shared_sent = let T = shared.the_type K D R k d in
+      recorded_send _ _ _ T.to_one (struct_send (shape T)
+        (search (sendable, sr) depth 5, (search (sendable, crosses, hall_sent) depth 10, (condvar.the_field_send, (condvar.the_field_send, tt)))))
 
   shared_shared : IsSync R → IsSync (shared.the_row K D R k d)
-  shared_shared yr = search (sendable, crosses, hall_sent, condvar.the_field_sync, yr) depth 20
+  shared_shared yr = let T = shared.the_type K D R k d in
+      recorded_sync _ _ _ T.to_one (struct_sync (shape T)
+        (search (sendable, yr) depth 5, (search (sendable, crosses, hall_sent) depth 10, (condvar.the_field_sync, (condvar.the_field_sync, tt)))))
 
   pub plane_sent : IsSync R → IsSend (plane.the_row K D R k d)
-  plane_sent yr = search (sendable, Arc-send _ shared_sent (shared_shared yr)) depth 20
+  plane_sent yr = let T = plane.the_type K D R k d in
+      recorded_send _ _ _ T.to_one (struct_send (shape T) (Arc-send _ shared_sent (shared_shared yr), tt))

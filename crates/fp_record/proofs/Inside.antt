@@ -1,5 +1,5 @@
 -- Where reading ends, and where it finds a fault, lies within the bytes.
-use Rattle.std.proofs.Common.{◌≡◌, ℕ, zero, suc, ◌+◌, ◌<◌, ◌≤◌, Bool, true, false, cond, ◌&&◌, eqb, leb, ltb, List, [], ◌∷◌, length, Result, Ok, Err, refl, arith, inl, inr}
+use Rattle.std.proofs.Common.{◌≡◌, ℕ, zero, suc, ◌+◌, ◌≤◌, Bool, true, false, cond, ◌&&◌, eqb, leb, ltb, List, [], ◌∷◌, length, Result, Ok, Err, refl, arith, inl, inr}
 use Rattle.std.specs.Prelude.{slice_range}
 use Rattle.std.specs.Int.{Width, w8, w16, w32, w64, byte_len, from_be_bytes}
 use Rattle.std.specs.Ordering.{is_lt}
@@ -10,7 +10,7 @@ use Rattle.fp_base.specs.Steps.{◌>>=◌}
 use Rattle.fp_definition.specs.Valid.{is_definition_text}
 use Rattle.fp_definition.specs.declared.definition.TheConstants.{LONGEST_DEFINITION}
 use Rattle.fp_definition.specs.declared.key.TheConstants.{LONGEST_KEY}
-use Rattle.fp_edit.specs.Edits.{Change, put, delete}
+use Rattle.fp_edit.specs.Edits.{put, delete}
 use Rattle.fp_edit.specs.declared.flag_set.TheConstants.{MOST_FLAGS}
 use Rattle.fp_edit.specs.declared.flags.Flag.{Flag}
 use Rattle.fp_record.specs.Fields.{number_at, bytes_at, key_at, definition_at}

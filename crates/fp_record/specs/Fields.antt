@@ -1,6 +1,6 @@
 -- Fields from an offset on: the value and the offset behind it, or the offset of the first field
 -- that can't stand there.
-use Rattle.std.specs.Prelude.{ℕ, ◌+◌, List, length, nat_lt, nat_le, ◌&&◌, Result, Ok, Err, ◌≡◌}
+use Rattle.std.specs.Prelude.{ℕ, ◌+◌, List, length, nat_lt, nat_le, ◌&&◌, Result, Ok, Err}
 use Rattle.std.specs.Prelude.{if◌then◌else◌, slice_range}
 use Rattle.std.specs.Int.{Width, w16, w32, byte_len, from_be_bytes}
 use Rattle.std.specs.Str.{is_utf8}

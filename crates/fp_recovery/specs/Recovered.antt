@@ -1,5 +1,5 @@
 -- What the recovery of a disk answers, of its bytes and back.
-use Rattle.std.specs.Prelude.{◌≡◌, ◌⊎◌, ◌+◌, ℕ, List, length, Result, Ok, Err}
+use Rattle.std.specs.Prelude.{◌≡◌, ◌⊎◌, ℕ, List, Result, Ok, Err}
 use Rattle.fp_edit.specs.Flags.{State}
 use Rattle.fp_layout.specs.Size.{slot_of}
 use Rattle.fp_layout.specs.declared.fault.OpenFault.{OpenFault}

@@ -8,7 +8,6 @@ use Rattle.fp_disk.specs.History.{MakesSome}
 use Rattle.fp_disk.specs.Moments.{leaves_still}
 use Rattle.fp_disk.specs.Outcomes.{IsOutcome}
 use Rattle.fp_disk.specs.declared.disk.Disk.{Ghosts}
-use Rattle.fp_edit.specs.Edits.{Change}
 use Rattle.fp_edit.specs.Flags.{State}
 use Rattle.fp_edit.specs.Log.{after_all}
 use Rattle.fp_journal.specs.declared.journal.Phase.TheVariants.{Idle, Failed}
@@ -18,7 +17,7 @@ use Rattle.fp_slots.specs.declared.slots.Step.{Step}
 use Rattle.fp_slots.specs.declared.slots.Step.TheVariants.{Begin, Close, SyncClose, Part, Tail, SyncBody, Open, SyncOpen}
 use Rattle.fp_compaction.specs.Steps.{calls_of, next_left, next_step}
 use Rattle.fp_group_commit.specs.Calls.{Compacts}
-use Rattle.fp_group_commit.specs.Store.{IsAtRest, Leaves, MayCompact, StoreState, kept}
+use Rattle.fp_group_commit.specs.Store.{Leaves, MayCompact, StoreState, kept}
 use Rattle.fp_group_commit.specs.Tokens.{Identity}
 use Rattle.fp_session.specs.Session.{BreaksOff, Halts, KeepsAll, Proceeds, Works}
 use Rattle.fp_session.specs.Session.{compaction_step}

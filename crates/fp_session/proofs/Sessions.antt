@@ -1,5 +1,5 @@
 -- An edit on its way through a session.
-use Rattle.std.proofs.Common.{◌≡◌, ◌⊎◌, ◌≤◌, ◌+◌, ℕ, true, false, None, List, [], ◌∷◌, ◌++◌, length, take, refl, sym, ap, subst, ◌∙◌, inl, inr, arith, append_assoc, append-nil, length-append}
+use Rattle.std.proofs.Common.{◌≡◌, ◌⊎◌, ◌≤◌, ◌+◌, ℕ, true, false, None, List, [], ◌∷◌, ◌++◌, length, take, refl, sym, ap, subst, ◌∙◌, inl, inr, arith, append_assoc, length-append}
 use Rattle.std.specs.Prelude.{nat_le, Bool, ◌&&◌, Option, Some, if◌then◌else◌}
 use Rattle.std.proofs.lemmas.List.{take-append-le, take_all}
 use borrow.Author.Tests.{leb-true, leb-false}
@@ -20,11 +20,10 @@ use Rattle.fp_group_commit.specs.Tokens.{Identity}
 use Rattle.fp_desk.specs.Desk.{DeskState, FitsBehind, head, IsAccepted, log, queued}
 use Rattle.fp_desk.specs.declared.desk.TheConstants.{MOST_QUEUED}
 use Rattle.fp_session.specs.Session.{CanFail, disk_of, IsAhead, IsInStep, Keeps, LeavesFlags, SessionState, StandsAhead}
-use Rattle.fp_session.specs.Session.{Fails, Halts, IsReady, KeepsAll, Proceeds}
+use Rattle.fp_session.specs.Session.{Fails, Halts, KeepsAll, Proceeds}
 use Rattle.fp_session.specs.SessionLaws.{no_works, works_break}
 use Rattle.fp_session.specs.declared.commit.CommitFault.{CommitFault}
 use Rattle.fp_session.specs.declared.commit.CommitFault.TheVariants as commit
-use Rattle.fp_group_commit.specs.Store.{kept}
 use Rattle.fp_recovery.specs.Stands.{StandsFor}
 use Rattle.fp_session.proofs.Commits.{idle_keeps, in_step_on, kept_ahead, stands_ahead}
 use Rattle.fp_session.proofs.Compactions.{kept_as}

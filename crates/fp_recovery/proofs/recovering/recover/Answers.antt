@@ -1,4 +1,4 @@
-use Rattle.std.proofs.Common.{rules, ◌≡◌, refl, ◌∙◌, ◌+◌, ℕ, List, length, sym, ap, subst}
+use Rattle.std.proofs.Common.{rules, ◌≡◌, refl, ◌∙◌, ℕ, List, sym, subst}
 use Rattle.std.proofs.lemmas.Result.{err_from_is_err_and, IfErr-at_err}
 use Rattle.std.specs.Prelude.{◌≢◌, slice_range}
 use Rattle.fp_edit.specs.Flags.{State}
@@ -7,7 +7,7 @@ use Rattle.fp_layout.specs.declared.fault.OpenFault.{OpenFault}
 use Rattle.fp_layout.specs.declared.fault.OpenFault.TheVariants.{Device}
 use Rattle.fp_recovery.specs.Recovered.{StandsAt}
 use Rattle.fp_recovery.specs.Refusals.{BeginsWith, RefusesBytes}
-use Rattle.fp_recovery.specs.Stands.{StandsFor, TakesBatch}
+use Rattle.fp_recovery.specs.Stands.{TakesBatch}
 use Rattle.fp_recovery.proofs.Kept.{found_at, found_stands}
 use Rattle.fp_recovery.proofs.One.{stands_one}
 use Rattle.fp_recovery.proofs.OneFault.{stands_or_fault}

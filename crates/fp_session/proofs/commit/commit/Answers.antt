@@ -1,6 +1,6 @@
-use Rattle.std.proofs.Common.{◌≡◌, ◌++◌, [], inl, inr, ⊎_elim, ◌∙◌}
+use Rattle.std.proofs.Common.{◌≡◌, ◌++◌, [], inl, inr, ⊎_elim}
 use Rattle.std.proofs.lemmas.Result.{err_from_is_err_and}
-use Rattle.fp_desk.specs.Desk.{DeskState, IsNewDraw, log}
+use Rattle.fp_desk.specs.Desk.{IsNewDraw, log}
 use Rattle.fp_session.specs.Session.{BreaksOff, Commits}
 use Rattle.fp_session.specs.SessionLaws.{breaks_on, no_works, works_break}
 use Rattle.fp_session.proofs.Commits.{broken_batch, committed, drawn_ahead, err_any, in_step_on, kept_ahead, lacks_part, ok_more, ok_or_err, receipt_drawn, same_log, same_log_drawn, still_ahead, works_sealed}

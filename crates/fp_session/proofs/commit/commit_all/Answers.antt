@@ -1,8 +1,7 @@
-use Rattle.std.proofs.Common.{◌+◌, ◌++◌, List, length, refl, sym, ap, ◌∙◌, inl, inr, ⊎_elim, arith, append_assoc, append-nil, length-append}
+use Rattle.std.proofs.Common.{length, refl, sym, ap, ◌∙◌, inl, inr, ⊎_elim, arith, length-append}
 use Rattle.std.proofs.lemmas.Result.{err_from_is_err_and}
-use Rattle.fp_disk.specs.declared.history.CallKind.{CallKind}
 use Rattle.fp_desk.specs.Desk.{DeskState}
-use Rattle.fp_session.specs.Session.{BreaksOff, StandsAhead}
+use Rattle.fp_session.specs.Session.{StandsAhead}
 use Rattle.fp_session.specs.SessionLaws.{breaks_on, no_works, works_on}
 use Rattle.fp_session.proofs.Commits.{honest_on, lacks_on, next_moment, nothing_left, now_ahead, present_ahead, stands_on, still_ahead, weaker}
 use Rattle.fp_session.proofs.commit.commit_all.Goals as goal

@@ -1,4 +1,4 @@
-use Rattle.std.proofs.Common.{◌≡◌, ◌≤◌, ℕ, length}
+use Rattle.std.proofs.Common.{◌≡◌, ◌≤◌, length}
 use Rattle.fp_disk.specs.Crashes.{AtAnyMoment, SameHonesty}
 use Rattle.fp_desk.specs.Desk.{log}
 use Rattle.fp_session.specs.Session.{IsInStep, StandsAhead, Works}

@@ -1,4 +1,4 @@
-use Rattle.std.proofs.Common.{◌≡◌, ◌∙◌, refl, inr}
+use Rattle.std.proofs.Common.{◌∙◌, refl, inr}
 use Rattle.fp_disk.specs.Crashes.{AtAnyMoment, SameHonesty}
 use Rattle.fp_group_commit.specs.Store.{Leaves}
 use Rattle.fp_session.specs.Session.{KeepsOrGains}

@@ -1,4 +1,3 @@
-use Rattle.std.proofs.Common.{ℕ}
 use Rattle.fp_session.specs.Session.{Proceeds}
 use Rattle.fp_session.proofs.Compactions.{work_left}
 use Rattle.fp_session.proofs.compacting.finish.Given as goal

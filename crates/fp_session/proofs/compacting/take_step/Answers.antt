@@ -2,7 +2,6 @@ use Rattle.std.proofs.Common.{subst}
 use Rattle.fp_group_commit.specs.Calls.{StopsBy}
 use Rattle.fp_group_commit.specs.declared.fault.StoreFault.{StoreFault}
 use Rattle.fp_group_commit.specs.declared.fault.StoreFault.TheVariants as fault
-use Rattle.fp_session.specs.Session.{KeepsAll}
 use Rattle.fp_session.proofs.Compactions.{breaks_step, keeps_all, works_step}
 use Rattle.fp_session.proofs.compacting.take_step.Goals as goal
 

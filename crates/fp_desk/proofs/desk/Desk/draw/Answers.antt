@@ -1,7 +1,6 @@
 use Rattle.std.proofs.Common.{rules, ◌≡◌, ◌+◌, ◌++◌, ℕ, List, length, take, drop, refl, sym, ap, subst, ◌∙◌, arith}
 use Rattle.std.proofs.lemmas.List.{map-append}
 use Rattle.fp_edit.specs.Edits.{Change}
-use Rattle.fp_edit.specs.Flags.{State}
 use Rattle.fp_edit.specs.declared.edit.Edit.{Edit}
 use Rattle.fp_edit.specs.Following.{change_of, changes_of}
 use Rattle.fp_record.specs.Group.{Group}
@@ -9,8 +8,8 @@ use Rattle.fp_edit.specs.Log.{after_all}
 use Rattle.fp_edit.proofs.Runs.{revision-after_all}
 use Rattle.fp_edit.specs.Following.{Follows}
 use Rattle.fp_group_commit.specs.Changes.{GoesOn}
-use Rattle.fp_edit.proofs.Followed.{follows_front, limit-after_all}
-use Rattle.fp_desk.specs.Desk.{IsLongestPart, log, most_of}
+use Rattle.fp_edit.proofs.Followed.{follows_front}
+use Rattle.fp_desk.specs.Desk.{IsLongestPart, most_of}
 use Rattle.fp_desk.proofs.Sound.{drawn_on, revisions}
 use Rattle.fp_desk.proofs.Queues.{moved, nil_of, renumbered}
 use Rattle.fp_desk.proofs.desk.Desk.draw.Goals as goal

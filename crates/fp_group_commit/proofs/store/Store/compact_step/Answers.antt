@@ -1,9 +1,8 @@
-use Rattle.std.proofs.Common.{rules, ◌≡◌, ◌≢◌, [], refl, sym, ap, subst, ◌∙◌, inl, inr}
+use Rattle.std.proofs.Common.{◌≢◌, refl, sym, ap, subst, ◌∙◌}
 use Rattle.fp_edit.specs.Following.{changes_of}
 use Rattle.fp_edit.proofs.Followed.{none_left}
-use Rattle.fp_journal.specs.declared.journal.Phase.TheVariants.{Idle, Failed}
+use Rattle.fp_journal.specs.declared.journal.Phase.TheVariants.{Failed}
 use Rattle.fp_slots.specs.State.{SlotsState}
-use Rattle.fp_compaction.specs.Steps.{calls_of}
 use Rattle.fp_group_commit.specs.Store.{MayCompact, StoreState}
 use Rattle.fp_group_commit.proofs.Steps as steps
 use Rattle.fp_group_commit.proofs.store.Store.compact_step.Goals as goal

@@ -1,4 +1,4 @@
-use Rattle.std.proofs.Common.{◌≡◌, sym, ap, subst, ◌∙◌}
+use Rattle.std.proofs.Common.{sym, ap, subst, ◌∙◌}
 use Rattle.fp_edit.specs.Flags.{State}
 use Rattle.fp_slots.specs.State.{SlotsState}
 use Rattle.fp_recovery.specs.Durable.{IsDurable}

@@ -1,4 +1,4 @@
-use Rattle.std.proofs.Common.{rules, ◌≡◌, ◌≢◌, ◌⊎◌, refl, ap, sym, ◌∙◌, inl, inr}
+use Rattle.std.proofs.Common.{rules, ◌≡◌, ◌≢◌, refl, ap, sym, ◌∙◌, inl, inr}
 use Rattle.fp_disk.specs.Moments.{leaves_map}
 use Rattle.fp_journal.specs.declared.journal.Phase.TheVariants.{Idle, BodySynced, GateOpened, Failed}
 use Rattle.fp_group_commit.specs.Store.{StoreState}

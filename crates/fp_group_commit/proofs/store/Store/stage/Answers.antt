@@ -1,6 +1,5 @@
-use Rattle.std.proofs.Common.{length, rules, ◌≡◌, ◌≢◌, ℕ, [], ◌∷◌, ◌++◌, false, refl, sym, ap, subst, ◌∙◌, inl, inr, arith}
+use Rattle.std.proofs.Common.{length, rules, ◌≡◌, ◌≢◌, ℕ, [], ◌∷◌, ◌++◌, false, refl, sym, ap, subst, ◌∙◌, inl, inr}
 use Rattle.fp_disk.specs.Moments.{leaves_map}
-use Rattle.fp_edit.specs.Edits.{Change}
 use Rattle.fp_edit.specs.Following.{changes_of}
 use Rattle.fp_edit.proofs.Followed.{none_left}
 use Rattle.fp_journal.specs.Chain.{with_gate}
@@ -10,7 +9,7 @@ use Rattle.fp_journal.specs.State.{JournalState, room}
 use Rattle.fp_slots.specs.declared.slots.Step.{Step}
 use Rattle.fp_journal.specs.declared.journal.Phase.TheVariants.{Idle, Staged, Failed}
 use Rattle.fp_record.proofs.Lengths.{length-encoding_of_batch}
-use Rattle.fp_slots.specs.State.{IsGrowing, SameCompaction, SlotsState}
+use Rattle.fp_slots.specs.State.{IsGrowing, SlotsState}
 use Rattle.fp_compaction.specs.Batches.{HasRoomFor, tail_of}
 use Rattle.fp_group_commit.specs.Changes.{GoesOn, HasRoom}
 use Rattle.fp_group_commit.specs.Store.{StoreState}

@@ -1,8 +1,7 @@
 use Rattle.std.proofs.Common.{true, false, refl}
-use Rattle.std.proofs.lemmas.Result.{err_from_is_err_and}
 use Rattle.fp_session.specs.Session.{SessionState}
 use Rattle.fp_session.proofs.Commits.{in_step_on}
-use Rattle.fp_session.proofs.Sessions.{beside_ahead, beside_fails, beside_goes, beside_leaves, still_leaves, stopped_fails}
+use Rattle.fp_session.proofs.Sessions.{beside_ahead, beside_leaves, still_leaves, stopped_fails}
 use Rattle.fp_session.proofs.disk_session.DiskSessionEditStore.rest.Goals as goal
 
 pub returns-then-self-clause-any_moment : goal.returns-then-self-clause-any_moment

@@ -2,7 +2,7 @@ use Rattle.std.proofs.Common.{rules, refl, ◌≡◌, ◌≢◌, ◌+◌, ◌≤
 use Rattle.std.specs.Prelude.{slice_range}
 use Rattle.fp_journal.specs.declared.journal.Phase.TheVariants.{Failed}
 use Rattle.fp_slots.specs.State.{IsGrowing, SlotsState}
-use Rattle.fp_slots.proofs.Fronts.{front_long, there_is, front_of_front, front_of_put, back_of_put}
+use Rattle.fp_slots.proofs.Fronts.{front_long, there_is, front_of_put, back_of_put}
 use Rattle.fp_slots.proofs.Lengthening as growing_law
 use Rattle.fp_slots.proofs.slots.Slots.plan_body.Goals as goal
 

@@ -1,4 +1,4 @@
-use Rattle.std.proofs.Common.{rules, ◌≡◌, refl, sym, ap, subst, ◌∙◌}
+use Rattle.std.proofs.Common.{rules, refl, subst}
 use Rattle.fp_group_commit.specs.Store.{MayCompact}
 use Rattle.fp_world.specs.Commits.{MayStep, StepsOn}
 use Rattle.fp_world.specs.Committer.{CommitterState, commits_of}
