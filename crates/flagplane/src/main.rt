@@ -1,16 +1,18 @@
 //! The program: its words, standard input, output and errors, and its status.
 #![tactic(auto)]
 
+ghost use Rattle.std.specs.Prelude.{◌<◌, ◌^◌};
+
 use fp_commands::command;
 use fp_files::SystemFiles;
-use fp_server::{Host, Task, moment, serve, task_of, watch};
 use fp_streams::FailureCounted;
 use std::alloc::AllocGlobal;
 use std::env;
-use std::fmt::Display;
-use std::io::{Read, Write};
 use std::process::ExitCode;
-use std::rt::Files;
+use std::time::{SystemTime, UNIX_EPOCH};
+
+// Later moments are taken for this one.
+const LAST_MOMENT: u64 = 0x7fff_ffff_ffff_ffff;
 
 fn words(rt: &HostRuntime) -> Option<Vec<String>> {
     let mut words = Vec::new(rt.alloc());
@@ -20,53 +22,17 @@ fn words(rt: &HostRuntime) -> Option<Vec<String>> {
     Some(words)
 }
 
-// Tells what ended a task, and gives the program's status.
-fn status<E: Write + Drop, F: Display + Drop>(errors: E, outcome: Result<(), F>) -> u8 {
-    let Err(fault) = outcome else {
+// The seconds since 1970, and 0 before it or without a clock.
+fn moment(rt: &HostRuntime) -> u64
+    ensures { result < 2 ^ 63 }
+{
+    let Ok(now) = SystemTime::now(rt) else {
         return 0;
     };
-    let _ = FailureCounted::new(errors).say(&format_args!("flagplane: {fault}"));
-    1
-}
-
-// Does what is asked of the service.
-fn attend<R, I, O, E>(rt: &R, task: Task<'_>, input: I, output: O, errors: E) -> u8
-where
-    R: Host + Files,
-    R::File: Send + 'static,
-    I: Read + Drop,
-    O: Write + Drop,
-    E: Write + Drop,
-{
-    let mut input = FailureCounted::new(input);
-    let mut output = FailureCounted::new(output);
-    match task {
-        Task::Serve(path, addresses) => {
-            let mut files = SystemFiles::of(*rt);
-            status(
-                errors,
-                serve(rt, &mut files, path, &addresses, &mut input, &mut output),
-            )
-        }
-        Task::Watch(address) => status(errors, watch(rt, address, &mut output)),
+    match now.duration_since(UNIX_EPOCH) {
+        Ok(since) => since.as_secs().min(LAST_MOMENT),
+        Err(_) => 0,
     }
-}
-
-// Runs a command on a file or in memory.
-fn run(rt: &HostRuntime, words: &[String]) -> u8 {
-    let mut input = FailureCounted::new(rt.reader());
-    let mut output = FailureCounted::new(rt.stdout());
-    let mut errors = FailureCounted::new(rt.stderr());
-    let mut files = SystemFiles::of(*rt);
-    command(
-        rt.alloc(),
-        &mut files,
-        words,
-        &mut input,
-        &mut output,
-        &mut errors,
-        moment(rt),
-    )
 }
 
 fn main(rt: HostRuntime) -> ExitCode {
@@ -76,8 +42,17 @@ fn main(rt: HostRuntime) -> ExitCode {
         Some(words) => words.as_slice(),
         None => &[],
     };
-    ExitCode::from(match task_of(words) {
-        Some(task) => attend(&rt, task, rt.reader(), rt.stdout(), rt.stderr()),
-        None => run(&rt, words),
-    })
+    let mut input = FailureCounted::new(rt.reader());
+    let mut output = FailureCounted::new(rt.stdout());
+    let mut errors = FailureCounted::new(rt.stderr());
+    let mut files = SystemFiles::of(&rt);
+    ExitCode::from(command(
+        rt.alloc(),
+        &mut files,
+        words,
+        &mut input,
+        &mut output,
+        &mut errors,
+        moment(&rt),
+    ))
 }
