@@ -33,19 +33,32 @@ module _ (K D R : RattleType) (k : naming.Ghosts K.Denot) (d : disk.Ghosts D.Den
   hall_sent : IsSend (hall.the_row K D R k d)
   hall_sent = let T = hall_inside.the_type K D R k d in
       let own = own_store_sent D d sd in
-      view_send _ _ _ _ _ (recorded_send _ _ _ T.to_one (struct_send (shape T)
-        (desk_sent, (own_board_sent R sr, (Vec-send _ evaluator_sent, (seats_sent, (option.the_field_send _ own,
-          (search sendable, (search sendable, (search sendable, (heap.the_field_send, (phantom.the_field_send K, tt))))))))))))
+      view_send _ _ _ _ _ (recorded_send _ _ _ T.to_one (struct_send (shape T) (
+        desk_sent,
+        (
+          own_board_sent R sr,
+          (
+            Vec-send _ evaluator_sent,
+            (
+              seats_sent,
+              (
+                option.the_field_send _ own,
+                (search sendable, (search sendable, (search sendable, (heap.the_field_send, (phantom.the_field_send K, tt))))),
+              ),
+            ),
+          ),
+        ),
+      )))
 
   shared_sent : IsSend (shared.the_row K D R k d)
   shared_sent = let T = shared.the_type K D R k d in
       recorded_send _ _ _ T.to_one (struct_send (shape T)
-        (search (sendable, sr) depth 5, (search (sendable, crosses, hall_sent) depth 10, (condvar.the_field_send, (condvar.the_field_send, tt)))))
+      (search (sendable, sr) depth 5, (search (sendable, crosses, hall_sent) depth 10, (condvar.the_field_send, (condvar.the_field_send, tt)))))
 
   shared_shared : IsSync R → IsSync (shared.the_row K D R k d)
   shared_shared yr = let T = shared.the_type K D R k d in
       recorded_sync _ _ _ T.to_one (struct_sync (shape T)
-        (search (sendable, yr) depth 5, (search (sendable, crosses, hall_sent) depth 10, (condvar.the_field_sync, (condvar.the_field_sync, tt)))))
+      (search (sendable, yr) depth 5, (search (sendable, crosses, hall_sent) depth 10, (condvar.the_field_sync, (condvar.the_field_sync, tt)))))
 
   pub plane_sent : IsSync R → IsSend (plane.the_row K D R k d)
   plane_sent yr = let T = plane.the_type K D R k d in

@@ -18,7 +18,6 @@ pub nothing : Captured []
 nothing = record { sent = tt }
 
 infixr 5 ◌and◌
-
 pub ◌and◌ : {T : RattleType} {Ts : List RattleType} → IsSend T → Captured Ts → Captured (T ∷ Ts)
 first and others = record { sent = (first, others.sent) }
 

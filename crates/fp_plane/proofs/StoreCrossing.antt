@@ -20,14 +20,14 @@ module _ (D : RattleType) (g : Ghosts D.Denot) (sd : IsSend D) where
   journal_sent : IsSend (journal.the_row D g)
   journal_sent = let T = journal_inside.the_type D g in
       view_send _ _ _ _ _ (recorded_send _ _ _ T.to_one (struct_send (shape T)
-        (checked.the_send D g sd, search (sendable, crosses, growing.the_send, slot.the_field_send) depth 20)))
+      (checked.the_send D g sd, search (sendable, crosses, growing.the_send, slot.the_field_send) depth 20)))
 
   slots_sent : IsSend (slots.the_row D g)
   slots_sent = let T = slots_inside.the_type D g in
       view_send _ _ _ _ _ (recorded_send _ _ _ T.to_one (struct_send (shape T)
-        (journal_sent, search (sendable, crosses, slot.the_field_send) depth 20)))
+      (journal_sent, search (sendable, crosses, slot.the_field_send) depth 20)))
 
   pub store_sent : IsSend (store.the_row D g)
   store_sent = let T = store_inside.the_type D g in
       view_send _ _ _ _ _ (recorded_send _ _ _ T.to_one (struct_send (shape T)
-        (slots_sent, search (sendable, crosses, flags_sent, edit_sent, growing.the_send, origin.the_send) depth 20)))
+      (slots_sent, search (sendable, crosses, flags_sent, edit_sent, growing.the_send, origin.the_send) depth 20)))

@@ -11,5 +11,5 @@ spawn-started-requires-send-F g c κs within =
     let b = c.type_bounds in
     let R = copied 2 g.row.R in
     spawned 1 _ _ (b.send-R and role.the_send
-        and plane_sent (param 0 g.row.K) (param 1 g.row.D) R g.K.Naming g.D.Disk b.send-D b.send-R b.sync-R
-        and stream.the_send and place.the_send R b.send-R b.sync-R and nothing)
+    and plane_sent (param 0 g.row.K) (param 1 g.row.D) R g.K.Naming g.D.Disk b.send-D b.send-R b.sync-R
+    and stream.the_send and place.the_send R b.send-R b.sync-R and nothing)

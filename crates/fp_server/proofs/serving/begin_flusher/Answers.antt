@@ -7,4 +7,4 @@ pub spawn-requires-send-F : goal.spawn-requires-send-F
 spawn-requires-send-F g c κs within =
     let b = c.type_bounds in
     spawned 1 _ _ (plane_sent (param 0 g.row.K) (param 1 g.row.D) (copied 2 g.row.R) g.K.Naming g.D.Disk b.send-D b.send-R b.sync-R
-        and own_store_sent (param 1 g.row.D) g.D.Disk b.send-D and nothing)
+    and own_store_sent (param 1 g.row.D) g.D.Disk b.send-D and nothing)

@@ -11,6 +11,6 @@ spawn-requires-send-F g c κs within =
     let b = c.type_bounds in
     let R = copied 0 g.row.R in
     spawned 1 _ _ (b.send-R and listener.the_send and role.the_send
-        and connections.the_send R b.send-R b.sync-R
-        and plane_sent (param 1 g.row.K) (param 2 g.row.D) R g.K.Naming g.D.Disk b.send-D b.send-R b.sync-R
-        and nothing)
+    and connections.the_send R b.send-R b.sync-R
+    and plane_sent (param 1 g.row.K) (param 2 g.row.D) R g.K.Naming g.D.Disk b.send-D b.send-R b.sync-R
+    and nothing)
