@@ -24,7 +24,7 @@ use Rattle.fp_session.specs.declared.commit.CommitFault.TheVariants as commit
 use Rattle.fp_session.specs.declared.edit_store.EditStore.{Ghosts as StoreGhosts}
 use Rattle.fp_session.specs.declared.fault.ApplyFault.{ApplyFault}
 use Rattle.fp_session.specs.declared.fault.ApplyFault.TheVariants.{Device, StoreFailed, Memory, CommitMemory}
-use Rattle.fp_commands.specs.Disks.{Asked, CallsSomeWorks, CallsWorks, IsLeftOnDisk, IsToldOnDisk, LacksRoom, opened}
+use Rattle.fp_commands.specs.Disks.{Asked, CallsSomeWorks, CallsWorks, IsLeftOnDisk, IsToldOnDisk, LacksRoom, Opens}
 use Rattle.fp_commands.specs.Faults.{of_run}
 use Rattle.fp_commands.specs.declared.fault.CommandFault.{CommandFault}
 use Rattle.fp_commands.specs.declared.fault.CommandFault.TheVariants as command
@@ -116,26 +116,29 @@ module _ {D : Type 0} (disk : Ghosts D) (d0 d1 : D) (s k : SessionState D) (stan
       by_cause (inr more) = let same = led.no_failure in let at = ap disk.faults here in inr (omega (arith, more, same, at, well))
 
   -- ---- where it went on
-  pub ran-called : Keeps disk s k → s.store.slots.step ≡ Begin → k.store.slots.step ≡ Begin → disk.calls (disk_of s) ≡ opened (disk.calls d0) → CallsWorks (disk.calls d0) (disk.calls d1)
+  pub ran-called : Keeps disk s k → s.store.slots.step ≡ Begin → k.store.slots.step ≡ Begin → Opens (disk.calls d0) (disk.calls (disk_of s)) → CallsWorks (disk.calls d0) (disk.calls d1)
   ran-called went first last called = record {
+    begun = disk.calls (disk_of s);
+    opened = called;
     works = went.called.works;
     lead = subst (λ (p : Step). Leads p went.called.works Begin) first (subst (λ (p : Step). Leads s.store.slots.step went.called.works p) last went.called.lead);
-    calls = ap disk.calls here ∙ went.called.calls ∙ ap (λ (l : List CallKind). l ++ calls_of went.called.works) called;
+    calls = ap disk.calls here ∙ went.called.calls;
   }
 
   -- and where it broke off
-  broke : BreaksOff disk s.store k.store → s.store.slots.step ≡ Begin → disk.calls (disk_of s) ≡ opened (disk.calls d0) → CallsSomeWorks (disk.calls d0) (disk.calls d1)
+  broke : BreaksOff disk s.store k.store → s.store.slots.step ≡ Begin → Opens (disk.calls d0) (disk.calls (disk_of s)) → CallsSomeWorks (disk.calls d0) (disk.calls d1)
   broke off first called = record {
+    begun = disk.calls (disk_of s);
+    opened = called;
     works = off.works;
     next = off.next;
     last = off.last;
     lead = subst (λ (p : Step). Leads p off.works off.next) first off.lead;
     may = off.may;
-    calls = subst (λ (l : List CallKind). MakesSome (work_calls off.last) (opened (disk.calls d0) ++ calls_of off.works) l) (sym (ap disk.calls here))
-        (subst (λ (l : List CallKind). MakesSome (work_calls off.last) (l ++ calls_of off.works) (disk.calls (disk_of k))) called off.calls);
+    calls = subst (λ (l : List CallKind). MakesSome (work_calls off.last) (disk.calls (disk_of s) ++ calls_of off.works) l) (sym (ap disk.calls here)) off.calls;
   }
 
-  pub ran-broke : (f : ApplyFault) → StoreRun {A = Bool} (session_store disk) P s k (Err f) → s.store.slots.step ≡ Begin → disk.calls (disk_of s) ≡ opened (disk.calls d0) → CallsSomeWorks (disk.calls d0) (disk.calls d1)
+  pub ran-broke : (f : ApplyFault) → StoreRun {A = Bool} (session_store disk) P s k (Err f) → s.store.slots.step ≡ Begin → Opens (disk.calls d0) (disk.calls (disk_of s)) → CallsSomeWorks (disk.calls d0) (disk.calls d1)
   ran-broke Device went first called = broke (works_break disk s.store k.store went.called) first called
   ran-broke Memory went first called = broke (works_break disk s.store k.store went.called) first called
   ran-broke StoreFailed failed first called = broke (breaks_on disk s.store failed.before.store k.store failed.led.called failed.failed.called) first called

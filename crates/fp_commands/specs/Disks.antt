@@ -5,8 +5,9 @@ use Rattle.fp_disk.specs.Crashes.{AtAnyMoment}
 use Rattle.fp_disk.specs.History.{MakesSome}
 use Rattle.fp_disk.specs.Outcomes.{PendingState, IsOutcome}
 use Rattle.fp_disk.specs.declared.disk.Disk.{Ghosts}
-use Rattle.fp_disk.specs.declared.history.CallKind.TheVariants.{Length, Read, Sync}
+use Rattle.fp_disk.specs.declared.history.CallKind.TheVariants.{Length, Sync}
 use Rattle.fp_edit.specs.Flags.{State}
+use Rattle.fp_journal.specs.Pieces.{ThenReads, ThenSomeReads}
 use Rattle.fp_layout.specs.declared.fault.OpenFault.{OpenFault}
 use Rattle.fp_layout.specs.declared.fault.OpenFault.TheVariants as opening
 use Rattle.fp_imports.specs.Document as document
@@ -92,7 +93,7 @@ IfFileRefused p f = Unit {0}
 pub record IsOnlyRead {D : Type 0} (disk : Ghosts D) (before after : D) : Type 0 where
   pub same : disk.honest before → disk.bytes after ≡ disk.bytes before
   pub any_moment : AtAnyMoment disk before after (IsOutcome (disk.unsynced before))
-  pub called : MakesSome (Sync ∷ Length ∷ Read ∷ []) (disk.calls before) (disk.calls after)
+  pub called : ThenSomeReads (Sync ∷ Length ∷ []) (disk.calls before) (disk.calls after)
 
 -- ---- what is written, and what the disk then stands for
 
@@ -169,29 +170,33 @@ pub record LacksRoom (is_honest : Type 0) (bytes : List ℕ) (now : PendingState
   pub full : is_honest
       → IsFull now flags (batch_len (record { first = 0; changes = batch })) generation
 
--- the calls of a disk that was opened
-abbrev pub opened : List CallKind → List CallKind
-opened old = old ++ Sync ∷ Length ∷ Read ∷ []
+-- the calls of a disk that was opened: a sync, its length, and reads
+abbrev pub Opens : (old new : List CallKind) → Type 0
+Opens old new = ThenReads (Sync ∷ Length ∷ []) old new
 
 -- it was opened, and its calls then were those of batches and of whole compactions beside them
 pub record CallsWorks (old new : List CallKind) : Type 0 where
+  pub begun : List CallKind
+  pub opened : Opens old begun
   pub works : List Work
   pub lead : Leads Begin works Begin
-  pub calls : new ≡ opened old ++ calls_of works
+  pub calls : new ≡ begun ++ calls_of works
 
 -- it was opened, and its calls then were those of batches, of steps of compactions, and some first ones of one more
 pub record CallsSomeWorks (old new : List CallKind) : Type 0 where
+  pub begun : List CallKind
+  pub opened : Opens old begun
   pub works : List Work
   pub next : Step
   pub last : Work
   pub lead : Leads Begin works next
   pub may : MayCome next last
-  pub calls : MakesSome (work_calls last) (opened old ++ calls_of works) new
+  pub calls : MakesSome (work_calls last) (begun ++ calls_of works) new
 
 -- the calls of a run, where a fault ended it perhaps in the course of opening the disk
 abbrev pub CallsOfRun : {A : Type 0} → (old new : List CallKind) → Result A CommandFault → Type 0
 CallsOfRun old new (Ok x) = CallsWorks old new
-CallsOfRun old new (Err f) = MakesSome (Sync ∷ Length ∷ Read ∷ []) old new ⊎ CallsSomeWorks old new
+CallsOfRun old new (Err f) = ThenSomeReads (Sync ∷ Length ∷ []) old new ⊎ CallsSomeWorks old new
 
 -- ---- what failed
 

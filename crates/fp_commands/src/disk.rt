@@ -3,9 +3,10 @@
 ghost use Rattle.fp_disk.specs.Crashes.{AtAnyMoment, EachCrash, SameHonesty};
 ghost use Rattle.std.specs.Prelude.{◌≡◌, ◌≢◌, ◌⊎◌, ◌<◌, ◌+◌, ◌++◌, ◌^◌, [], ◌∷◌, IfOk, IfErr, OnOk};
 ghost use Rattle.std.specs.Io.KnownBytes.{Appends};
-ghost use Rattle.fp_disk.specs.History.{Makes, MakesSome};
+ghost use Rattle.fp_disk.specs.History.{Makes};
 ghost use Rattle.fp_disk.specs.Outcomes.{IsOutcome, LeavesOnly, all_synced};
-ghost use Rattle.fp_disk.specs.declared.history.CallKind.TheVariants.{Length, Read, Sync};
+ghost use Rattle.fp_disk.specs.declared.history.CallKind.TheVariants.{Length, Sync};
+ghost use Rattle.fp_journal.specs.Pieces.{ThenSomeReads};
 ghost use Rattle.fp_layout.specs.NewDisk.{IsNewDisk, format_calls};
 ghost use Rattle.fp_session.specs.Run.{show_line};
 ghost use Rattle.fp_session.specs.declared.replies.TheConstants.{MOST_WAITING};
@@ -63,7 +64,7 @@ pub fn show_disk<D: Disk, W: Write>(
     ensures shown { OnOk result.1
         (IsShown (D.honest disk) (D.bytes disk) (W.contents w.old.inner) (W.contents w.new.inner)) }
     ensures same { D.honest disk → D.bytes result.0 ≡ D.bytes disk }
-    ensures called { MakesSome (Sync ∷ Length ∷ Read ∷ []) (D.calls disk) (D.calls result.0) }
+    ensures called { ThenSomeReads (Sync ∷ Length ∷ []) (D.calls disk) (D.calls result.0) }
     ensures fault { IfErr result.1 (IsShowingFault (D.honest disk) (D.bytes disk)) }
     ensures nothing_written { IfErr result.1 (IfRefused (w.new ≡ w.old)) }
     ensures device { Blames (D.faults disk + w.old.failures) (D.faults result.0 + w.new.failures)

@@ -15,8 +15,10 @@ use Rattle.fp_journal.specs.State.{HasAmong, HasChain, Outside, has_begun}
 use Rattle.fp_journal.specs.declared.slot.Slot.{Slot}
 use Rattle.fp_journal.proofs.Gates.{text-more}
 use Rattle.fp_layout.specs.Layout.{IsHeader, IsActive}
+use Rattle.fp_layout.specs.Opening.{ReadsSlot}
 use Rattle.fp_layout.specs.Size.{IsSlotSize, Side, first, second, other_side, slot_of}
 use Rattle.fp_recovery.specs.Durable.{IsKept}
+use Rattle.fp_recovery.specs.Refusals.{BeginsWith}
 use Rattle.fp_slots.specs.Rules.{Rules, Tells}
 use Rattle.fp_slots.specs.State.{SlotsState, Keeps, KeepsEither, KeepsOrNext, IsFrontOf, KeepsSealed, OutsideBoth, SameCompaction, SameSlots, sealed_text}
 use Rattle.fp_edit.specs.Edits.{Change}
@@ -197,17 +199,6 @@ limit_read : (s t : State) (bodies : List (List ℕ)) → Reads TakesBatch s bod
 limit_read s t [] r = ap (λ (x : State). x.limit) (sym r)
 limit_read s t (b ∷ bs) r = limit_read r.0 t bs r.2 ∙ limit_led s r.0 r.1.group.changes r.1.leads
 
--- is half of its slot
-pub limit_half : (size : ℕ) (text : List ℕ) (s : State) → Spells size text s → s.limit ≡ size / 2
-limit_half size text s p = limit_read p.first s p.batches p.leads ∙ p.image_is.limit_is
-
--- what was read of bytes is of slots of the size that their header says
-pub placed : {D : Type 0} (u : PendingState) (slots : SlotsState D) (c : List ℕ) (s : State) (size : ℕ) → IsSlotSize size → (a : IsActive c size slots.journal.slot slots.other) → (k : IsKept u s slots.journal) → IsPlaced size slots s.limit
-placed u slots c s size allowed a k =
-    let n : k.size ≡ size = size_same k.size size k.side a.side (sym k.slot_is ∙ a.slot_is) in record {
-      allowed = allowed;
-      side = a.side;
-      mine = a.slot_is;
-      its = a.other_is;
-      half = subst (λ (z : ℕ). s.limit ≡ z / 2) n (limit_half k.size (slots.journal.front ++ spell slots.journal.sealed) s k.spells);
-    }
+-- what was read is of slots of the size that the header says
+pub placed : {D : Type 0} (slots : SlotsState D) (before s : State) (r : ReadsSlot BeginsWith TakesBatch before s slots.journal.slot slots.other slots.generation slots.journal.front) → IsPlaced r.begun.size slots s.limit
+placed slots before s r = record { allowed = r.begun.allowed; side = r.begun.side; mine = r.begun.slot_is; its = r.begun.other_is; half = limit_read r.middle s r.bodies r.reads ∙ r.begun.begun.limit_is }

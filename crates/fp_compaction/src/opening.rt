@@ -1,10 +1,10 @@
 //! A disk that is there, opened as two slots and the set that they keep.
 
 ghost use Rattle.fp_disk.specs.Crashes.{SameHonesty};
-ghost use Rattle.std.specs.Prelude.{◌≡◌, ◌<◌, [], ◌∷◌, ◌++◌, ℕ, IfOk, IfErr, MatchResult};
-ghost use Rattle.fp_disk.specs.History.{MakesSome};
-ghost use Rattle.fp_disk.specs.declared.history.CallKind.TheVariants.{Length, Read, Sync};
+ghost use Rattle.std.specs.Prelude.{◌≡◌, ◌<◌, [], ◌∷◌, ℕ, IfOk, IfErr, MatchResult};
+ghost use Rattle.fp_disk.specs.declared.history.CallKind.TheVariants.{Length, Sync};
 ghost use Rattle.fp_disk.specs.Outcomes.{IsOutcome, LeavesOnly, all_synced};
+ghost use Rattle.fp_journal.specs.Pieces.{ThenReads, ThenSomeReads};
 ghost use Rattle.fp_journal.specs.declared.journal.Phase.TheVariants.{Idle};
 ghost use Rattle.fp_layout.specs.declared.fault.OpenFault.TheVariants.{Device};
 ghost use Rattle.fp_recovery.specs.Refusals.{RefusesBytes};
@@ -36,8 +36,8 @@ pub fn open<D: Disk>(alloc: Global, disk: D) -> Result<(Slots<D>, FlagSet), (Ope
         (IsOutcome (D.unsynced disk)))
         (λ e. LeavesOnly D.moment D.crash_states_since disk e.1 (IsOutcome (D.unsynced disk))) }
     ensures called { MatchResult result
-        (λ r. D.calls r.0.journal.disk ≡ D.calls disk ++ Sync ∷ Length ∷ Read ∷ [])
-        (λ e. MakesSome (Sync ∷ Length ∷ Read ∷ []) (D.calls disk) (D.calls e.1)) }
+        (λ r. ThenReads (Sync ∷ Length ∷ []) (D.calls disk) (D.calls r.0.journal.disk))
+        (λ e. ThenSomeReads (Sync ∷ Length ∷ []) (D.calls disk) (D.calls e.1)) }
     ensures no_failure { IfOk result (λ r. D.faults r.0.journal.disk ≡ D.faults disk) }
     ensures cause { IfErr result (λ e. e.0 ≡ Device → D.faults disk < D.faults e.1) }
     ensures honest { MatchResult result (λ r. SameHonesty D.Disk disk r.0.journal.disk)

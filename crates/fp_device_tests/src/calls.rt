@@ -109,11 +109,12 @@ fn a_disk_makes_no_further_call(rt: HostRuntime) -> Result<(), Fail> {
 const MAKING: &str =
     "seek end\nseek 0\nbyte 00\nsync_data\nseek 1\nwrite 90\nseek 262208\nbyte 00\nsync_data\nseek 64\nbyte a5\nsync_data\nseek 0\nbyte a5\nsync_data\n";
 
-// What is there is made sure of before it is read, and nothing is written. A batch of 87
-// bytes, its length, its body of 82 and the next gate, stands behind its gate, which opens
-// over a sync, and is sure.
+// What is there is made sure of before it is read: the header, what the two slots begin with (of
+// the second one its gate is there), the image of no flags, and a piece of the chain. Nothing is
+// written. A batch of 87 bytes, its length, its body of 82 and the next gate, stands behind its
+// gate, which opens over a sync, and is sure.
 const OPENING_AND_EDITING: &str =
-    "sync_data\nseek end\nseek 0\nread 262209\nseek 91\nwrite 87\nsync_data\nseek 90\nbyte a5\nsync_data\n";
+    "sync_data\nseek end\nseek 0\nread 64\nseek 64\nread 22\nseek 262208\nread 1\nseek 86\nread 4\nseek 90\nread 65536\nseek 91\nwrite 87\nsync_data\nseek 90\nbyte a5\nsync_data\n";
 
 // The smallest slots.
 fn smallest() -> Result<SlotSize, Fail> {
@@ -183,9 +184,9 @@ fn an_edit_is_two_writes_and_two_syncs(rt: HostRuntime) -> Result<(), Fail> {
 #[test]
 fn a_call_that_fails_is_the_last(rt: HostRuntime) -> Result<(), Fail> {
     let path = in_temp(&rt, "fp_device_tests_last")?;
-    for left in 0..10 {
+    for left in 0..18 {
         let (put, text) = putting(&rt, &path, left)?;
-        assert_eq!(rt; put, (left >= 4, false), "{left}");
+        assert_eq!(rt; put, (left >= 12, false), "{left}");
         assert!(rt; OPENING_AND_EDITING.starts_with(text.as_str()), "{left}");
         assert_eq!(rt; text.lines().count(), left as usize + 1);
     }

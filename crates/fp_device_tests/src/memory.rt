@@ -1,17 +1,21 @@
-//! Want of memory where a disk is longer than any.
+//! A disk that is longer than any memory.
 
 ghost use Rattle.std.specs.Prelude.{[]};
 ghost use Rattle.fp_disk.specs.Outcomes.{all_synced};
 
 use fp_disk::{Disk, DiskFault, MemoryDisk};
 use fp_journal::{BodyFault, Reader};
-use fp_layout::{OpenFault, SlotReader, open};
+use fp_layout::{SlotReader, open};
+use std::alloc::{AllocError, Global};
 use std::test::Fail;
 
-// A disk that says it is longer than any memory, over one that makes its calls.
+// A disk that says it is longer than any memory, over one that makes its calls. It begins with
+// these bytes, and all others are 0. It knows how many the longest read asked for.
 #[derive(Drop)]
 struct Vast<D: Disk + Drop> {
     disk: D,
+    bytes: Vec<u8>,
+    longest: usize,
 }
 
 impl<D: Disk + Drop> Disk for Vast<D> {
@@ -40,7 +44,12 @@ impl<D: Disk + Drop> Disk for Vast<D> {
         Ok(u64::MAX)
     }
 
-    fn read_at(&mut self, _at: u64, _into: &mut [u8]) -> Result<(), DiskFault> {
+    fn read_at(&mut self, at: u64, into: &mut [u8]) -> Result<(), DiskFault> {
+        self.longest = self.longest.max(into.len());
+        let from = at.min(self.bytes.len() as u64) as usize;
+        let there = (self.bytes.len() - from).min(into.len());
+        into[..there].copy_from_slice(&self.bytes[from..from + there]);
+        into[there..].fill(0);
         self.disk.read_at(0, &mut [])
     }
 
@@ -79,15 +88,31 @@ impl SlotReader for Asked {
     }
 }
 
+// The header of a disk with the smallest slots, and the first slot with an image of no flags.
+fn new_disk(alloc: Global) -> Result<Vec<u8>, AllocError> {
+    let mut bytes = Vec::from_slice(alloc, b"\xa5FLAGPLN1\x01")?;
+    bytes.extend_from_slice(&(1u64 << 18).to_be_bytes())?;
+    bytes.extend_from_slice(&[0; 46])?;
+    bytes.push(0xa5)?;
+    bytes.extend_from_slice(&1u64.to_be_bytes())?;
+    bytes.push(1)?;
+    bytes.extend_from_slice(&0u64.to_be_bytes())?;
+    bytes.extend_from_slice(&4u32.to_be_bytes())?;
+    bytes.extend_from_slice(&0u32.to_be_bytes())?;
+    Ok(bytes)
+}
+
 #[test]
-fn a_growth_that_is_refused_is_want_of_memory(rt: HostRuntime) -> Result<(), Fail> {
+fn no_more_than_a_piece_is_read_at_once(rt: HostRuntime) -> Result<(), Fail> {
     let mut reader = Asked(false);
     let disk = Vast {
         disk: MemoryDisk::new(rt.alloc()),
+        bytes: new_disk(rt.alloc())?,
+        longest: 0,
     };
-    let Err((fault, _disk)) = open(rt.alloc(), disk, &mut reader) else {
-        return Err(Fail::new("opened"));
+    let Ok(slots) = open(rt.alloc(), disk, &mut reader) else {
+        return Err(Fail::new("not opened"));
     };
-    assert_eq!(rt; (fault, reader.0), (OpenFault::Memory, false));
+    assert_eq!(rt; (slots.into_disk().longest, reader.0), (65_536, true));
     Ok(())
 }

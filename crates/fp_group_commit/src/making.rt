@@ -4,8 +4,9 @@ ghost use Rattle.fp_disk.specs.Crashes.{AtAnyMoment, SameHonesty};
 ghost use Rattle.std.specs.Prelude.{◌≡◌, ◌≢◌, ◌⊎◌, ◌<◌, ◌++◌, [], ◌∷◌, List, ℕ, length, IfOk, IfErr, IsOk, MatchResult};
 ghost use Rattle.fp_disk.specs.History.{MakesSome};
 ghost use Rattle.fp_disk.specs.Outcomes.{IsOutcome, LeavesOnly, all_synced};
-ghost use Rattle.fp_disk.specs.declared.history.CallKind.TheVariants.{Length, Read, Sync};
+ghost use Rattle.fp_disk.specs.declared.history.CallKind.TheVariants.{Length, Sync};
 ghost use Rattle.fp_edit.specs.Flags.{State};
+ghost use Rattle.fp_journal.specs.Pieces.{ThenReads, ThenSomeReads};
 ghost use Rattle.fp_layout.specs.NewDisk.{IsNewDisk, format_calls};
 ghost use Rattle.fp_layout.specs.Size.{IsSlotSize};
 ghost use Rattle.fp_layout.specs.declared.fault.OpenFault.TheVariants as opening;
@@ -111,8 +112,8 @@ impl<D: Disk> Store<D> {
         ensures no_failure { IfOk result (λ r. D.faults r.0.slots.journal.disk ≡ D.faults disk) }
         ensures cause { IfErr result (λ e. e.0 ≡ opening.Device → D.faults disk < D.faults e.1) }
         ensures called { MatchResult result
-            (λ r. D.calls r.0.slots.journal.disk ≡ D.calls disk ++ Sync ∷ Length ∷ Read ∷ [])
-            (λ e. MakesSome (Sync ∷ Length ∷ Read ∷ []) (D.calls disk) (D.calls e.1)) }
+            (λ r. ThenReads (Sync ∷ Length ∷ []) (D.calls disk) (D.calls r.0.slots.journal.disk))
+            (λ e. ThenSomeReads (Sync ∷ Length ∷ []) (D.calls disk) (D.calls e.1)) }
         ensures same { D.honest disk → MatchResult result
             (λ r. D.bytes r.0.slots.journal.disk ≡ D.bytes disk) (λ e. D.bytes e.1 ≡ D.bytes disk) }
         ensures any_moment { D.honest disk → MatchResult result

@@ -48,6 +48,18 @@ held_range c at n le =
     let len : length (take (at + n - at) (drop at c)) ≡ n = omega (arith, length-take (at + n - at) (drop at c), d, le) in
     (record { long = omega (arith, len, le); same = λ k lt. sym (get_or-take (at + n - at) (drop at c) k 0 (omega (arith, len, lt)) ∙ get_or-drop at c k 0) }, len)
 
+-- text that stands in text that stands there
+pub holds_inner : (c : List ℕ) (at i : ℕ) (front text : List ℕ) → Holds c at front → Holds front i text → Holds c (at + i) text
+holds_inner c at i front text p q = let a = p.long in let b = q.long in record {
+  long = omega (arith, a, b);
+  same = λ k lt. let e : at + i + k ≡ at + (i + k) = omega arith in ap (λ (j : ℕ). slice_index c j) e ∙ p.same (i + k) (omega (arith, b, lt)) ∙ q.same k lt;
+}
+
+-- and a range of it
+pub holds_part : (c : List ℕ) (at i n : ℕ) (front part : List ℕ) → Holds c at front → i + n ≤ length front → part ≡ slice_range front i (i + n) → Holds c (at + i) part × (length part ≡ n)
+holds_part c at i n front part p le is = let r = held_range front i n le in
+    (holds_inner c at i front part p (subst (λ (t : List ℕ). Holds front i t) (sym is) r.0), ap length is ∙ r.1)
+
 -- ---- a write
 written_inside : (old more new : List ℕ) (at j : ℕ) → Written old at more new → j < length more → slice_index new (at + j) ≡ slice_index more j
 written_inside old more new at j is lt = rw is (grind (arith, common_steps))

@@ -5,3 +5,5 @@ pub mod Calls
 pub mod Stays
 pub mod Steps
 pub mod Links
+pub mod OnlyReading
+pub mod Firsts

@@ -1,14 +1,16 @@
 -- A chain is its first link and a chain, and what is read of it is it.
-use Rattle.std.proofs.Common.{◌≡◌, ◌⊎◌, inl, inr, ℕ, ◌+◌, ◌<◌, ◌≤◌, ◌^◌, List, [], ◌∷◌, ◌++◌, length, refl, sym, ◌∙◌, ap, subst, arith, length-append}
-use Rattle.std.specs.Prelude.{slice_index, slice_range}
+use Rattle.std.proofs.Common.{◌≡◌, ◌⊎◌, inl, inr, ℕ, ◌+◌, ◌-◌, ◌<◌, ◌≤◌, ◌^◌, List, [], ◌∷◌, ◌++◌, length, min, refl, sym, ◌∙◌, ap, subst, arith, length-append}
+use Rattle.std.specs.Prelude.{slice_index, slice_range, MatchOption, Option, Some, None}
 use Rattle.std.specs.Int.{w32, to_be_bytes}
 use Rattle.std.proofs.lemmas.List.{append_assoc, append-nil}
 use Rattle.std.proofs.lemmas.Nat.{from_be_bytes-to_be_bytes_4}
 use Rattle.fp_journal.specs.Holds.{Holds}
-use Rattle.fp_journal.specs.Chain.{framed, spell}
+use Rattle.fp_journal.specs.Chain.{Ends, framed, spell}
+use Rattle.fp_journal.specs.declared.chain.ChainFault.{ChainFault}
+use Rattle.fp_journal.specs.declared.chain.ChainFault.TheVariants.{Damaged, Device, Memory}
 use Rattle.fp_journal.specs.State.{AllShort}
-use Rattle.fp_journal.specs.Reading.{IsChain, IsClosed, IsNext, Breaks, Reads, FoundChain, StopsAt, length_at}
-use Rattle.fp_journal.proofs.Holds.{holds_append, holds_front, holds_back, holds_byte, byte_held, range_held}
+use Rattle.fp_journal.specs.Reading.{IsChain, IsClosed, IsNext, Breaks, BreaksBefore, no_length, too_long, no_body, BreaksLink, link_no_length, link_too_long, link_no_body, SpellsLink, Reads, FoundChain, ReadsChain, Refuses, StopsAt, TellsDamage, length_at}
+use Rattle.fp_journal.proofs.Holds.{holds_append, holds_front, holds_back, holds_byte, holds_part, holds_inner, byte_held, range_held}
 use Rattle.fp_journal.proofs.Gates.{spell-more}
 use Rattle.fp_journal.proofs.Steps.{All-push}
 use Rattle.fp_gate.specs.declared.gate.TheConstants.{OPEN}
@@ -53,6 +55,41 @@ body_read c at n b p is = rw is (range_held c (at + 5) b (body_held c at b p))
 pub same_body : (c : List ℕ) (at : ℕ) (a b : List ℕ) → Holds c at (OPEN ∷ framed a) → length a < 2 ^ 32 → Holds c at (OPEN ∷ framed b) → length b < 2 ^ 32 → a ≡ b
 same_body c at a b p short q short2 = sym (body_read c at (length_at c at) a p (length_read c at a p short)) ∙ body_read c at (length_at c at) b q (length_read c at b q short2)
 
+-- ---- its front, in a part that was read
+-- the part from a place on, of one that was read
+pub part_from : (c : List ℕ) (first at : ℕ) (items part : List ℕ) → Holds c first items → first ≤ at → at ≤ first + length items → part ≡ slice_range items (at - first) (length items) → Holds c at part × (length part ≡ first + length items - at)
+part_from c first at items part there le within is =
+    let end : at - first + (first + length items - at) ≡ length items = omega (arith, le, within) in
+    let h = holds_part c first (at - first) (first + length items - at) items part there (omega (arith, end)) (is ∙ ap (λ (n : ℕ). slice_range items (at - first) n) (sym end)) in
+    let place : first + (at - first) ≡ at = omega (arith, le) in
+    (subst (λ (k : ℕ). Holds c k part) place h.0, h.1)
+
+pub first_byte : (c : List ℕ) (at : ℕ) (part : List ℕ) → Holds c at part → 0 < length part → slice_index c at ≡ slice_index part 0
+first_byte c at part there lt = let e : at ≡ at + 0 = omega arith in ap (λ (j : ℕ). slice_index c j) e ∙ there.same 0 lt
+
+length_same : (c : List ℕ) (at : ℕ) (part : List ℕ) → Holds c at part → 5 ≤ length part → length_at c at ≡ length_at part 0
+length_same c at part there le =
+    let one = there.same 1 (omega (arith, le)) in let two = there.same 2 (omega (arith, le)) in let three = there.same 3 (omega (arith, le)) in let four = there.same 4 (omega (arith, le)) in
+    rw (one, two, three, four) refl
+
+-- a fault of the front is one of the disk
+pub link_breaks : (most limit : ℕ) (c : List ℕ) (at left k : ℕ) (part : List ℕ) → Holds c at part → 0 < left → min left 5 ≤ length part → at + left ≡ limit → BreaksLink most part left at k → BreaksBefore most limit c at k
+link_breaks most limit c at left k part there some le end (link_no_length opened short is) =
+    no_length (first_byte c at part there (omega (arith, some, le)) ∙ opened) (omega (arith, some, end)) (omega (arith, short, end)) is
+link_breaks most limit c at left k part there some le end (link_too_long opened whole long is) =
+    let same = length_same c at part there (omega (arith, whole, le)) in
+    too_long (first_byte c at part there (omega (arith, some, le)) ∙ opened) (omega (arith, whole, end)) (rw same long) is
+link_breaks most limit c at left k part there some le end (link_no_body opened whole few long is) =
+    let same = length_same c at part there (omega (arith, whole, le)) in
+    no_body (first_byte c at part there (omega (arith, some, le)) ∙ opened) (omega (arith, whole, end)) (rw same few) (rw same (omega (arith, end, long))) is
+
+-- and its body
+pub link_stands : (c : List ℕ) (at left most n : ℕ) (part body : List ℕ) → Holds c at part → SpellsLink part left most n → Holds c (at + 5) body → length body ≡ n → Holds c at (OPEN ∷ framed body)
+link_stands c at left most n part body there front behind is =
+    let e : at + 0 ≡ at = omega arith in
+    let link : Holds c at (OPEN ∷ to_be_bytes w32 n) = subst (λ (k : ℕ). Holds c k (OPEN ∷ to_be_bytes w32 n)) e (holds_inner c at 0 part (OPEN ∷ to_be_bytes w32 n) there front.text) in
+    holds_append c at (OPEN ∷ to_be_bytes w32 (length body)) body (subst (λ (m : ℕ). Holds c at (OPEN ∷ to_be_bytes w32 m)) (sym is) link) behind
+
 -- ---- reading on
 -- these were read, up to this gate, and each chain begins with them
 pub record HasRead (most from stop : ℕ) (c : List ℕ) (found : List (List ℕ)) (at : ℕ) : Type 0 where
@@ -62,10 +99,10 @@ pub record HasRead (most from stop : ℕ) (c : List ℕ) (found : List (List ℕ
   pub short : AllShort most found
   pub only : (bs : List (List ℕ)) → IsChain most from stop bs c → (rest : List (List ℕ)) × (bs ≡ found ++ rest) × IsChain most at stop rest c
 
-module _ (most from stop : ℕ) (c : List ℕ) (small : most < 2 ^ 32) where
-  pub read_none : from ≤ length c → HasRead most from stop c [] from
-  read_none le = record { holds = record { long = omega (arith, le); same = λ k lt. absurd (omega (arith, lt)) }; place = omega arith; within = inl refl; short = tt; only = λ bs h. (bs, refl, h) }
+pub read_none : (most from stop : ℕ) (c : List ℕ) → from ≤ length c → HasRead most from stop c [] from
+read_none most from stop c le = record { holds = record { long = omega (arith, le); same = λ k lt. absurd (omega (arith, lt)) }; place = omega arith; within = inl refl; short = tt; only = λ bs h. (bs, refl, h) }
 
+module _ (most from stop : ℕ) (c : List ℕ) (small : most < 2 ^ 32) where
   pub read_more : (found : List (List ℕ)) (at next : ℕ) (b : List ℕ) → HasRead most from stop c found at → IsNext most at stop b next c → HasRead most from stop c (found ++ b ∷ []) next
   read_more found at next b r n =
       let e = spell-more found b in let place = r.place in let np = n.place in let ns = n.short in let len = length-append (spell found) (OPEN ∷ framed b) in let size : length (spell (found ++ b ∷ [])) ≡ length (spell found ++ OPEN ∷ framed b) = ap length e in
@@ -100,9 +137,6 @@ pub record IsReading {R : Type 0} (takes : R → List ℕ → R → Type 0) (mos
   pub reads : Reads takes before bodies now
 
 module _ {R : Type 0} (takes : R → List ℕ → R → Type 0) (refuses : R → List ℕ → ℕ → Type 0) (most from stop : ℕ) (c : List ℕ) (small : most < 2 ^ 32) (before : R) where
-  pub reading_none : from ≤ length c → IsReading takes most from stop c before from before
-  reading_none le = record { bodies = []; read = read_none most from stop c small le; reads = refl }
-
   pub reading_more : (at next : ℕ) (now then : R) (b : List ℕ) → IsReading takes most from stop c before at now → IsNext most at stop b next c → takes now b then → IsReading takes most from stop c before next then
   reading_more at next now then b r n one = record {
     bodies = r.bodies ++ b ∷ [];
@@ -121,3 +155,73 @@ module _ {R : Type 0} (takes : R → List ℕ → R → Type 0) (refuses : R →
 
   pub reading_refused : (at next : ℕ) (now : R) (b : List ℕ) (offset : ℕ) → IsReading takes most from stop c before at now → IsNext most at stop b next c → refuses now b offset → StopsAt takes refuses most from stop c before (at + 5 + offset)
   reading_refused at next now b offset r n bad = stops at now (at + 5 + offset) r (inr (b, next, offset, n, bad, refl))
+
+-- ---- as it is read of a disk
+-- a reader has taken what was read, and its text is behind the one that was there
+pub record IsReadTo {R : Type 0} (honest : Type 0) (takes : R → List ℕ → R → Type 0) (most from stop : ℕ) (c : List ℕ) (before now : R) (old text : List ℕ) (at : ℕ) : Type 0 where
+  pub bodies : List (List ℕ)
+  pub reads : Reads takes before bodies now
+  pub short : AllShort most bodies
+  pub text_is : text ≡ old ++ spell bodies
+  pub place : at ≡ from + length (spell bodies)
+  pub read : honest → HasRead most from stop c bodies at
+
+pub to_none : {R : Type 0} (honest : Type 0) (takes : R → List ℕ → R → Type 0) (most from stop : ℕ) (c : List ℕ) (before : R) (old : List ℕ) → (honest → from ≤ length c) → IsReadTo honest takes most from stop c before before old old from
+to_none honest takes most from stop c before old le = record { bodies = []; reads = refl; short = tt; text_is = sym (append-nil old); place = omega arith; read = λ h. read_none most from stop c (le h) }
+
+module _ {R : Type 0} (honest : Type 0) (takes : R → List ℕ → R → Type 0) (most from stop : ℕ) (c : List ℕ) (small : most < 2 ^ 32) (before : R) (old : List ℕ) where
+  pub to_more : (at : ℕ) (now then : R) (text longer b : List ℕ) → IsReadTo honest takes most from stop c before now old text at → takes now b then → length b ≤ most → at + 5 + length b ≤ stop
+      → (honest → Holds c at (OPEN ∷ framed b)) → longer ≡ text ++ OPEN ∷ framed b → IsReadTo honest takes most from stop c before then old longer (at + 5 + length b)
+  to_more at now then text longer b r one short within holds grown =
+      let e = spell-more r.bodies b in let place = r.place in let len = length-append (spell r.bodies) (OPEN ∷ framed b) in let size : length (spell (r.bodies ++ b ∷ [])) ≡ length (spell r.bodies ++ OPEN ∷ framed b) = ap length e in
+      record {
+        bodies = r.bodies ++ b ∷ [];
+        reads = reads_more takes before now then r.bodies b r.reads one;
+        short = All-push (λ (x : List ℕ). length x ≤ most) r.bodies b r.short short;
+        text_is = grown ∙ ap (λ (t : List ℕ). t ++ OPEN ∷ framed b) r.text_is ∙ append_assoc old (spell r.bodies) (OPEN ∷ framed b) ∙ ap (λ (t : List ℕ). old ++ t) (sym e);
+        place = omega (arith, place, len, size);
+        read = λ h. read_more most from stop c small r.bodies at (at + 5 + length b) b (r.read h) (record { holds = holds h; short = short; place = refl; within = within });
+      }
+
+  pub to_all : (at : ℕ) (now : R) (text : List ℕ) → IsReadTo honest takes most from stop c before now old text at → at < stop → (honest → at < length c) → (honest → slice_index c at ≡ OPEN → ⊥)
+      → ReadsChain honest takes most from stop c before now old text at
+  to_all at now text r within long shut =
+      let all : honest → IsChain most from stop r.bodies c × ((bs : List (List ℕ)) → IsChain most from stop bs c → bs ≡ r.bodies) = λ h. read_all most from stop c small r.bodies at (r.read h) (record { within = within; long = long h; shut = shut h }) in
+      record { bodies = r.bodies; reads = r.reads; short = r.short; text = r.text_is; place = r.place; within = within; chain = λ h. (all h).0; only = λ h. (all h).1 }
+
+  reading_of : (at : ℕ) (now : R) (text : List ℕ) → honest → IsReadTo honest takes most from stop c before now old text at → IsReading takes most from stop c before at now
+  reading_of at now text h r = record { bodies = r.bodies; read = r.read h; reads = r.reads }
+
+  pub to_broken : (refuses : R → List ℕ → ℕ → Type 0) (at limit : ℕ) (now : R) (text : List ℕ) (f : ChainFault) → honest → IsReadTo honest takes most from stop c before now old text at → limit ≡ min stop (length c) → TellsDamage (BreaksBefore most limit c at) f
+      → Refuses takes refuses most from stop c before f
+  to_broken refuses at limit now text (Damaged k) h r is broken = reading_breaks takes refuses most from stop c small before at now k (reading_of at now text h r) (subst (λ (n : ℕ). BreaksBefore most n c at k) is broken)
+  to_broken refuses at limit now text Device h r is broken = tt
+  to_broken refuses at limit now text Memory h r is broken = tt
+
+  pub to_refused : (refuses : R → List ℕ → ℕ → Type 0) (at offset : ℕ) (now : R) (text b : List ℕ) → honest → IsReadTo honest takes most from stop c before now old text at → length b ≤ most → at + 5 + length b ≤ stop → Holds c at (OPEN ∷ framed b) → refuses now b offset → (k : ℕ) → k ≡ at + 5 + offset
+      → StopsAt takes refuses most from stop c before k
+  to_refused refuses at offset now text b h r short within holds bad k is =
+      subst (λ (n : ℕ). StopsAt takes refuses most from stop c before n) (sym is) (reading_refused takes refuses most from stop c small before at (at + 5 + length b) now b offset (reading_of at now text h r) (record { holds = holds; short = short; place = refl; within = within }) bad)
+
+-- what was read of an honest disk is its one chain
+pub found_of : {R : Type 0} (honest : Type 0) (takes : R → List ℕ → R → Type 0) (most at stop : ℕ) (c : List ℕ) (before after : R) (old new : List ℕ) (end : ℕ) → honest → ReadsChain honest takes most at stop c before after old new end → FoundChain takes most at stop c before after end
+found_of honest takes most at stop c before after old new end h r = record { bodies = r.bodies; chain = r.chain h; only = r.only h; place = r.place; reads = r.reads }
+
+-- and stands behind the text that stood before it
+pub text_found : {R : Type 0} (honest : Type 0) (takes : R → List ℕ → R → Type 0) (most at stop start : ℕ) (c : List ℕ) (before after : R) (old new : List ℕ) (end : ℕ) → honest → ReadsChain honest takes most at stop c before after old new end → Holds c start old → at ≡ start + length old → Ends start stop new c
+text_found honest takes most at stop start c before after old new end h r there place =
+    let e = (r.chain h).ends in let w = e.within in let len = length-append old (spell r.bodies) in let size : length new ≡ length (old ++ spell r.bodies) = ap length r.text in
+    record {
+      gate = e.gate;
+      shut = e.shut;
+      holds = subst (λ (t : List ℕ). Holds c start t) (ap (λ (t : List ℕ). t ++ e.gate ∷ []) (sym r.text)) (subst (λ (t : List ℕ). Holds c start t) (sym (append_assoc old (spell r.bodies) (e.gate ∷ [])))
+          (holds_append c start old (spell r.bodies ++ e.gate ∷ []) there (subst (λ (k : ℕ). Holds c k (spell r.bodies ++ e.gate ∷ [])) place e.holds)));
+      within = omega (arith, w, place, len, size);
+    }
+
+-- ---- an answer that is there, and one that isn't
+pub at_some : {A : Type 0} (N : Type 0) (P : A → Type 0) (o : Option A) (x : A) → o ≡ Some x → MatchOption o N P → P x
+at_some {A} N P o x is m = subst (λ (p : Option A). MatchOption p N P) is m
+
+pub at_none : {A : Type 0} (N : Type 0) (P : A → Type 0) (o : Option A) → o ≡ None → MatchOption o N P → N
+at_none {A} N P o is m = subst (λ (p : Option A). MatchOption p N P) is m

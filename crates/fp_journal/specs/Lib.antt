@@ -4,3 +4,6 @@ pub mod Moments
 pub mod State
 pub mod Reading
 pub mod Calls
+pub mod Pieces
+pub mod Windows
+pub mod Firsts

@@ -1,8 +1,10 @@
 -- A chain of bodies in bytes, as it is read.
-use Rattle.std.specs.Prelude.{◌≡◌, ◌≢◌, ◌⊎◌, ◌<◌, ◌≤◌, ◌+◌, ℕ, List, [], ◌∷◌, length, min, slice_index}
-use Rattle.std.specs.Int.{w32, from_be_bytes}
+use Rattle.std.specs.Prelude.{◌≡◌, ◌≢◌, ◌⊎◌, ◌<◌, ◌≤◌, ◌+◌, ℕ, List, [], ◌∷◌, ◌++◌, length, min, slice_index}
+use Rattle.std.specs.Int.{w32, from_be_bytes, to_be_bytes}
 use Rattle.fp_journal.specs.declared.chain.BodyFault.{BodyFault}
 use Rattle.fp_journal.specs.declared.chain.BodyFault.TheVariants as body_fault
+use Rattle.fp_journal.specs.declared.pieces.BytesFault.{BytesFault}
+use Rattle.fp_journal.specs.declared.pieces.BytesFault.TheVariants as bytes_fault
 use Rattle.fp_journal.specs.declared.chain.ChainFault.{ChainFault}
 use Rattle.fp_journal.specs.declared.chain.ChainFault.TheVariants as chain_fault
 use Rattle.fp_journal.specs.Holds.{Holds}
@@ -36,16 +38,36 @@ length_at c at = from_be_bytes w32
     (slice_index c (at + 1) ∷ slice_index c (at + 2) ∷ slice_index c (at + 3)
     ∷ slice_index c (at + 4) ∷ [])
 
--- There is neither, and k is the first byte to show it:
--- the bytes or the slot end before a field does, or the length is above the most
-pub data Breaks (most stop : ℕ) (c : List ℕ) (at k : ℕ) : Type 0 where
-  no_gate : min stop (length c) ≤ at → k ≡ at → Breaks most stop c at k
-  no_length : slice_index c at ≡ OPEN → at < min stop (length c) → min stop (length c) < at + 5 →
-      k ≡ at + 1 → Breaks most stop c at k
-  too_long : slice_index c at ≡ OPEN → at + 5 ≤ min stop (length c) → most < length_at c at →
-      k ≡ at + 1 → Breaks most stop c at k
-  no_body : slice_index c at ≡ OPEN → at + 5 ≤ min stop (length c) → length_at c at ≤ most →
-      min stop (length c) < at + 5 + length_at c at → k ≡ at + 5 → Breaks most stop c at k
+-- There is neither, and k is the first byte to show it: the bytes end at this limit before a field
+-- does, or the length is above the most
+pub data BreaksBefore (most limit : ℕ) (c : List ℕ) (at k : ℕ) : Type 0 where
+  no_gate : limit ≤ at → k ≡ at → BreaksBefore most limit c at k
+  no_length : slice_index c at ≡ OPEN → at < limit → limit < at + 5 → k ≡ at + 1 →
+      BreaksBefore most limit c at k
+  too_long : slice_index c at ≡ OPEN → at + 5 ≤ limit → most < length_at c at → k ≡ at + 1 →
+      BreaksBefore most limit c at k
+  no_body : slice_index c at ≡ OPEN → at + 5 ≤ limit → length_at c at ≤ most →
+      limit < at + 5 + length_at c at → k ≡ at + 5 → BreaksBefore most limit c at k
+
+-- that is where the bytes or the slot end
+abbrev pub Breaks : ℕ → ℕ → List ℕ → (at k : ℕ) → Type 0
+Breaks most stop c at k = BreaksBefore most (min stop (length c)) c at k
+
+-- ---- the front of a link, in the bytes from its gate on: so many lie between gate and limit
+-- the gate is open, and behind it stands the length of a body that may be and fits
+pub record SpellsLink (bytes : List ℕ) (left most n : ℕ) : Type 0 where
+  pub text : Holds bytes 0 (OPEN ∷ to_be_bytes w32 n)
+  pub short : n ≤ most
+  pub within : 5 + n ≤ left
+
+-- neither, and k is the first byte to show it
+pub data BreaksLink (most : ℕ) (bytes : List ℕ) (left at k : ℕ) : Type 0 where
+  link_no_length : slice_index bytes 0 ≡ OPEN → left < 5 → k ≡ at + 1 →
+      BreaksLink most bytes left at k
+  link_too_long : slice_index bytes 0 ≡ OPEN → 5 ≤ left → most < length_at bytes 0 → k ≡ at + 1 →
+      BreaksLink most bytes left at k
+  link_no_body : slice_index bytes 0 ≡ OPEN → 5 ≤ left → length_at bytes 0 ≤ most →
+      left < 5 + length_at bytes 0 → k ≡ at + 5 → BreaksLink most bytes left at k
 
 -- ---- a whole chain
 -- a reader takes the bodies in order, and is then that
@@ -63,6 +85,19 @@ pub record FoundChain {R : Type 0} (takes : R → List ℕ → R → Type 0) (mo
   pub only : (others : List (List ℕ)) → IsChain most at stop others c → others ≡ bodies
   pub place : end ≡ at + length (spell bodies)
   pub reads : Reads takes before bodies after
+
+-- The same as it was read of a disk, and the text of the bodies behind the one that was there. What
+-- stands on the disk is said of one that is honest
+pub record ReadsChain {R : Type 0} (honest : Type 0) (takes : R → List ℕ → R → Type 0)
+    (most at stop : ℕ) (c : List ℕ) (before after : R) (old new : List ℕ) (end : ℕ) : Type 0 where
+  pub bodies : List (List ℕ)
+  pub reads : Reads takes before bodies after
+  pub short : AllShort most bodies
+  pub text : new ≡ old ++ spell bodies
+  pub place : end ≡ at + length (spell bodies)
+  pub within : end < stop
+  pub chain : honest → IsChain most at stop bodies c
+  pub only : honest → (others : List (List ℕ)) → IsChain most at stop others c → others ≡ bodies
 
 -- Bodies stand there, none of them past the stop, and the reader takes them;
 -- behind them there is no link, or one whose body it refuses. k is the first byte to show it
@@ -88,10 +123,21 @@ IsWrong n P body_fault.Memory = Unit {0}
 
 abbrev pub IsOnlyDamage : (ℕ → Type 0) → ChainFault → Type 0
 IsOnlyDamage P (chain_fault.Damaged at) = P at
+IsOnlyDamage P chain_fault.Device = ⊥
 IsOnlyDamage P chain_fault.Memory = ⊥
+
+abbrev pub TellsDamage : (ℕ → Type 0) → ChainFault → Type 0
+TellsDamage P (chain_fault.Damaged at) = P at
+TellsDamage P chain_fault.Device = Unit {0}
+TellsDamage P chain_fault.Memory = Unit {0}
 
 abbrev pub Refuses : {R : Type 0} → (R → List ℕ → R → Type 0) → (R → List ℕ → ℕ → Type 0) → ℕ → ℕ →
     ℕ → List ℕ → R → ChainFault → Type 0
 Refuses takes refuses most at stop c before (chain_fault.Damaged k) =
     StopsAt takes refuses most at stop c before k
+Refuses takes refuses most at stop c before chain_fault.Device = Unit {0}
 Refuses takes refuses most at stop c before chain_fault.Memory = Unit {0}
+
+abbrev pub fault_of_bytes : BytesFault → ChainFault
+fault_of_bytes bytes_fault.Device = chain_fault.Device
+fault_of_bytes bytes_fault.Memory = chain_fault.Memory

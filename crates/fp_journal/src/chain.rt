@@ -1,11 +1,24 @@
 //! Reading the chain of a slot, body by body.
 
-ghost use Rattle.std.specs.Prelude.{◌≡◌, ◌<◌, ◌≤◌, ◌^◌, List, ℕ, length, IfOk, IfErr, OnOk, MatchOption};
-ghost use Rattle.fp_journal.specs.Reading.{Breaks, FoundChain, IsClosed, IsNext, IsOnlyDamage, IsWrong, Refuses};
-ghost use Rattle.fp_journal.specs.declared.chain.ChainFault.TheVariants.{Damaged, Memory};
+ghost use Rattle.std.specs.Prelude.{◌≡◌, ◌≢◌, ◌<◌, ◌≤◌, ◌+◌, ◌^◌, ◌∷◌, List, ℕ, min, length};
+ghost use Rattle.std.specs.Prelude.{slice_index, IfOk, IfErr, OnOk, IsErrOf, MatchOption};
+ghost use Rattle.fp_gate.specs.declared.gate.TheConstants.{OPEN};
+ghost use Rattle.fp_journal.specs.Chain.{framed};
+ghost use Rattle.fp_journal.specs.Pieces.{OnlyReads};
+ghost use Rattle.fp_journal.specs.Windows.{IsWindowAt, StandsIn};
+ghost use Rattle.fp_journal.specs.Holds.{Holds};
+ghost use Rattle.fp_journal.specs.Reading.{BreaksBefore, BreaksLink, IsOnlyDamage, IsWrong};
+ghost use Rattle.fp_journal.specs.Reading.{ReadsChain, Refuses, SpellsLink, TellsDamage};
+ghost use Rattle.fp_journal.specs.Reading.{fault_of_bytes};
+ghost use Rattle.fp_journal.specs.declared.chain.ChainFault.TheVariants.{Damaged, Device, Memory};
 
+use crate::pieces::BytesFault;
 use crate::slot::Slot;
+use crate::text::Text;
+use crate::window::Window;
+use fp_disk::Disk;
 use fp_gate::OPEN;
+use std::alloc::{AllocError, Global};
 
 /// Why a body wasn't taken.
 #[derive(Debug, Drop, PartialEq)]
@@ -21,8 +34,29 @@ pub enum BodyFault {
 pub enum ChainFault {
     /// This byte is the first to show it.
     Damaged { at: u64 },
+    /// The device refused.
+    Device,
     /// Memory ran out.
     Memory,
+}
+
+impl From<BytesFault> for ChainFault {
+    ghost from_gives = { λ f e. e ≡ fault_of_bytes f };
+
+    fn from(fault: BytesFault) -> ChainFault {
+        match fault {
+            BytesFault::Device => ChainFault::Device,
+            BytesFault::Memory => ChainFault::Memory,
+        }
+    }
+}
+
+impl From<AllocError> for ChainFault {
+    ghost from_gives = { λ _ e. e ≡ Memory };
+
+    fn from(_fault: AllocError) -> ChainFault {
+        ChainFault::Memory
+    }
 }
 
 /// What takes the bodies of a chain, one after another.
@@ -39,64 +73,101 @@ pub trait Reader {
         ensures fault { IfErr result (IsWrong (length body.now) (refuses self.old body.now)) };
 }
 
-// The body behind an open gate and the place of the gate behind it, or nothing where the gate is closed.
-fn next_body(
-    bytes: &[u8],
-    at: u64,
-    stop: u64,
-    most: u32,
-) -> Result<Option<(&[u8], u64)>, ChainFault>
-    ensures found { IfOk result (λ o. MatchOption o (IsClosed at stop bytes.now)
-        (λ p. IsNext most at stop p.0.now p.1 bytes.now)) }
-    ensures fault { IfErr result (IsOnlyDamage (Breaks most stop bytes.now at)) }
-    ensures small { most < 2 ^ 32 }
+// How long the body behind the gate is that stands at the front of these bytes, or nothing where
+// the gate is closed. The gate's place is `at`, and so many bytes lie between it and the end.
+fn body_length(bytes: &[u8], at: u64, left: u64, most: u32) -> Result<Option<u32>, ChainFault>
+    requires there { (0 < left) × (min left 5 ≤ length bytes.now) }
+    requires fits { at + left < 2 ^ 64 }
+    ensures found { IfOk result (λ o. MatchOption o (slice_index bytes.now 0 ≢ OPEN)
+        (SpellsLink bytes.now left most)) }
+    ensures fault { IfErr result (IsOnlyDamage (BreaksLink most bytes.now left at)) }
 {
-    let limit = stop.min(bytes.len() as u64);
-    if at >= limit {
-        return Err(ChainFault::Damaged { at });
-    }
-    let place = at as usize;
-    if bytes[place] != OPEN {
+    if bytes[0] != OPEN {
         return Ok(None);
     }
-    if limit - at < 5 {
+    if left < 5 {
         return Err(ChainFault::Damaged { at: at + 1 });
     }
-    let len = u32::from_be_bytes([
-        bytes[place + 1],
-        bytes[place + 2],
-        bytes[place + 3],
-        bytes[place + 4],
-    ]);
+    let len = u32::from_be_bytes([bytes[1], bytes[2], bytes[3], bytes[4]]);
     if len > most {
         return Err(ChainFault::Damaged { at: at + 1 });
     }
-    if limit - at - 5 < u64::from(len) {
+    if left - 5 < u64::from(len) {
         return Err(ChainFault::Damaged { at: at + 5 });
     }
-    let next = place + 5 + len as usize;
-    Ok(Some((&bytes[place + 5..next], next as u64)))
+    Ok(Some(len))
 }
 
-/// Gives a reader the bodies of the chain that begins at `at`, and answers the place of the closed gate behind the last.
-///
-/// The bytes are the disk's from its first one on, so that places in them are places on the disk.
-pub fn read_chain<R: Reader>(
-    bytes: &[u8],
+// The body behind the gate at `at`, which lies in front of the limit, or nothing where the gate is
+// closed. What was read of the disk already is in the window.
+fn next_body<D: Disk>(
+    alloc: Global,
+    disk: &mut D,
+    window: &mut Window,
+    at: u64,
+    limit: u64,
+    most: u32,
+) -> Result<Option<Vec<u8>>, ChainFault>
+    requires place { IsWindowAt window.old at }
+    requires long { D.honest disk.old → limit ≤ length (D.bytes disk.old) }
+    requires stands { D.honest disk.old → StandsIn window.old (D.bytes disk.old) }
+    ensures found { IfOk result (λ o. MatchOption o (at < limit)
+        (λ b. (length b.items ≤ most) × (at + 5 + length b.items ≤ limit)
+        × IsWindowAt window.new (at + 5 + length b.items))) }
+    ensures stands { D.honest disk.old → IfOk result (λ o. MatchOption o
+        (slice_index (D.bytes disk.old) at ≢ OPEN)
+        (λ b. Holds (D.bytes disk.old) at (OPEN ∷ framed b.items)
+        × StandsIn window.new (D.bytes disk.old))) }
+    ensures fault { D.honest disk.old →
+        IfErr result (TellsDamage (BreaksBefore most limit (D.bytes disk.old) at)) }
+    ensures kept { OnlyReads D.Disk disk.old disk.new }
+    ensures no_failure { OnOk result (D.faults disk.new ≡ D.faults disk.old) }
+    ensures cause { IsErrOf result Device → D.faults disk.old < D.faults disk.new }
+    ensures small { most < 2 ^ 32 }
+{
+    if at >= limit {
+        return Err(ChainFault::Damaged { at });
+    }
+    let left = limit - at;
+    window.reach(alloc, disk, at, left.min(5) as usize, limit)?;
+    let Some(len) = body_length(window.from(at), at, left, most)? else {
+        return Ok(None);
+    };
+    window.reach(alloc, disk, at, 5 + len as usize, limit)?;
+    let body = window.copy(alloc, at + 5, len as usize)?;
+    Ok(Some(body))
+}
+
+/// Gives a reader the bodies of the chain that begins at `at` of a disk of this length, and answers
+/// the place of the closed gate behind the last. The text of the chain goes behind the one given.
+pub fn read_chain<D: Disk, R: Reader>(
+    alloc: Global,
+    disk: &mut D,
     at: u64,
     slot: Slot,
+    len: u64,
     reader: &mut R,
+    text: &mut Text,
 ) -> Result<u64, ChainFault>
-    requires { at ≤ length bytes.now }
-    ensures found { IfOk result (FoundChain R.takes slot.most at slot.stop bytes.now reader.old
-        reader.new) }
-    ensures fault { IfErr result (Refuses R.takes R.refuses slot.most at slot.stop bytes.now
-        reader.old) }
+    requires there { at ≤ len }
+    requires long { D.honest disk.old → len ≡ length (D.bytes disk.old) }
+    ensures found { IfOk result (ReadsChain (D.honest disk.old) R.takes slot.most at slot.stop
+        (D.bytes disk.old) reader.old reader.new text.old text.new) }
+    ensures fault { D.honest disk.old → IfErr result
+        (Refuses R.takes R.refuses slot.most at slot.stop (D.bytes disk.old) reader.old) }
+    ensures kept { OnlyReads D.Disk disk.old disk.new }
+    ensures no_failure { OnOk result (D.faults disk.new ≡ D.faults disk.old) }
+    ensures cause { IsErrOf result Device → D.faults disk.old < D.faults disk.new }
 {
+    let limit = slot.stop.min(len);
+    let mut window = Window::new(alloc, at);
     let mut place = at;
-    while let Some((body, next)) = next_body(bytes, place, slot.stop, slot.most)? {
-        match reader.take(body) {
-            Ok(()) => place = next,
+    while let Some(body) = next_body(alloc, disk, &mut window, place, limit, slot.most)? {
+        match reader.take(&body) {
+            Ok(()) => {
+                text.push_body(&body);
+                place = place + 5 + body.len() as u64;
+            }
             Err(BodyFault::BadBody { at: offset }) => {
                 return Err(ChainFault::Damaged {
                     at: place + 5 + offset,

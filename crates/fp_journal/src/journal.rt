@@ -17,13 +17,13 @@ use crate::framed::Framed;
 use crate::held::Held;
 use crate::sealed::{Body, InFrame, Sealed};
 use crate::slot::Slot;
+use crate::text::Text;
 use fp_disk::{Checked, Disk, DiskFault, Synced};
 use fp_fronts::Growing;
 use fp_gate::{Closed, Gate, Open, Written};
 use std::alloc::Global;
 use std::marker::Model;
 use std::mem;
-use std::snapshot::Snapshot;
 
 /// How far a body is on its way.
 #[derive(Clone, Copy, Debug, PartialEq, Eq)]
@@ -49,13 +49,10 @@ pub struct Journal<D: Disk> {
     end: u64,
     in_flight: Vec<u8>,
     sealed: Growing<Body>,
-    opened: Snapshot<Vec<u8>>,
-    first: Snapshot<u64>,
-    begin: Snapshot<u64>,
+    front: Text,
 }
 
 impl<D: Disk> Model for Journal<D> {
-    ghost use Rattle.std.specs.Prelude.{slice_range};
     ghost use Rattle.fp_journal.specs.Chain.{body_of};
     ghost use Rattle.fp_journal.specs.State.{JournalState, IsHeld, IsKept, begun_of, phase_of};
 
@@ -66,7 +63,7 @@ impl<D: Disk> Model for Journal<D> {
       disk_name = s.disk.name;
       name = s.sealed.name;
       slot = s.slot;
-      front = slice_range s.opened.value.items s.first.value s.begin.value;
+      front = s.front;
       sealed = s.sealed.log;
       staged = body_of s.in_flight.items;
       phase = phase_of s.held;
@@ -79,7 +76,7 @@ impl<D: Disk> Model for Journal<D> {
           disk_name = s.disk.name;
           name = s.sealed.name;
           slot = s.slot;
-          front = slice_range s.opened.value.items s.first.value s.begin.value;
+          front = s.front;
           sealed = s.sealed.log;
           staged = body_of s.in_flight.items;
           phase = phase_of s.held;
@@ -101,6 +98,20 @@ impl<D: Disk> Journal<D> {
         ensures begins { (result.sealed ≡ []) × (result.phase ≡ Idle) }
         ensures disk { result.disk ≡ disk }
     {
+        let front = Text::new(&opened[slot.start as usize..end as usize]);
+        Journal::go_on(alloc, disk, slot, front, end)
+    }
+
+    // Goes on in a slot behind this text, which stands there firm before a closed gate.
+    pub(crate) fn go_on(alloc: Global, disk: D, slot: Slot, front: Text, end: u64) -> Journal<D>
+        requires place { end ≡ slot.start + length front }
+        requires within { end < slot.stop }
+        requires quiet { D.honest disk →
+            EndsClosed slot.start slot.stop front (D.unsynced disk) }
+        ensures slot { (result.slot ≡ slot) × (result.front ≡ front) }
+        ensures begins { (result.sealed ≡ []) × (result.phase ≡ Idle) }
+        ensures disk { result.disk ≡ disk }
+    {
         let (sealed, _) = Growing::new();
         Journal {
             disk: Checked::new(disk),
@@ -109,9 +120,7 @@ impl<D: Disk> Journal<D> {
             end,
             in_flight: Vec::new(alloc),
             sealed,
-            opened: Snapshot::of(opened),
-            first: Snapshot::of(&slot.start),
-            begin: Snapshot::of(&end),
+            front,
         }
     }
 
@@ -133,9 +142,7 @@ impl<D: Disk> Journal<D> {
         self.held = Held::Idle;
         self.end = slot.start + len;
         self.sealed = Growing::new().0;
-        self.opened = Snapshot::of(text);
-        self.first = Snapshot::of(&0);
-        self.begin = Snapshot::of(&len);
+        self.front = Text::new(&text[..len as usize]);
     }
 
     /// Where it lies.
@@ -189,9 +196,7 @@ impl<D: Disk> Journal<D> {
             end: _,
             in_flight: _,
             sealed: _,
-            opened: _,
-            first: _,
-            begin: _,
+            front: _,
         } = self;
         disk.into_disk()
     }

@@ -6,12 +6,17 @@ mod framed;
 mod held;
 mod journal;
 mod opening;
+mod pieces;
 mod sealed;
 mod slot;
+mod text;
+mod window;
 
 pub use chain::{BodyFault, ChainFault, Reader, read_chain};
 pub use framed::Framed;
 pub use journal::{Journal, Phase};
-pub use opening::{BytesFault, read_bytes, resume, synced_bytes};
+pub use opening::resume;
+pub use pieces::{BytesFault, PIECE, read_bytes, read_first};
 pub use sealed::{Body, Sealed};
 pub use slot::Slot;
+pub use text::Text;

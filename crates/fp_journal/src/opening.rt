@@ -1,103 +1,47 @@
-//! The bytes of a disk, and the chain that they hold.
+//! A journal behind the chain that is read of a disk.
 
-ghost use Rattle.fp_disk.specs.Crashes.{AtAnyMoment, SameHonesty};
-ghost use Rattle.std.specs.Prelude.{◌≡◌, ◌<◌, ◌≤◌, ◌+◌, [], ◌∷◌, List, ℕ, length, slice_range, IfOk, IfErr, OnOk, IsErrOf};
-ghost use Rattle.fp_disk.specs.History.{Makes};
-ghost use Rattle.fp_disk.specs.declared.history.CallKind.TheVariants.{Length, Read, Sync};
-ghost use Rattle.fp_disk.specs.Outcomes.{IsOutcome, all_synced};
-ghost use Rattle.fp_journal.specs.Reading.{FoundChain, Refuses};
+ghost use Rattle.std.specs.Prelude.{◌≡◌, ◌<◌, ◌≤◌, ◌+◌, [], length};
+ghost use Rattle.std.specs.Prelude.{IfOk, IfErr, MatchResult};
+ghost use Rattle.fp_disk.specs.Outcomes.{all_synced};
+ghost use Rattle.fp_journal.specs.Holds.{Holds};
+ghost use Rattle.fp_journal.specs.Pieces.{OnlyReads};
+ghost use Rattle.fp_journal.specs.Reading.{ReadsChain, Refuses};
+ghost use Rattle.fp_journal.specs.declared.chain.ChainFault.TheVariants.{Device};
 ghost use Rattle.fp_journal.specs.declared.journal.Phase.TheVariants.{Idle};
-ghost use Rattle.fp_journal.specs.declared.opening.BytesFault.TheVariants.{Device, Memory};
 
 use crate::chain::{ChainFault, Reader, read_chain};
 use crate::journal::Journal;
 use crate::slot::Slot;
-use fp_disk::{Disk, DiskFault};
-use std::alloc::{AllocError, Global};
+use crate::text::Text;
+use fp_disk::Disk;
+use std::alloc::Global;
 
-/// Why a disk's bytes weren't read.
-#[derive(Clone, Copy, Debug, PartialEq, Eq)]
-pub enum BytesFault {
-    /// The device refused.
-    Device,
-    /// Memory ran out.
-    Memory,
-}
-
-impl From<DiskFault> for BytesFault {
-    ghost from_gives = { λ _ e. e ≡ Device };
-
-    fn from(_fault: DiskFault) -> BytesFault {
-        BytesFault::Device
-    }
-}
-
-impl From<AllocError> for BytesFault {
-    ghost from_gives = { λ _ e. e ≡ Memory };
-
-    fn from(_fault: AllocError) -> BytesFault {
-        BytesFault::Memory
-    }
-}
-
-/// All bytes of a disk. Nothing is changed on it.
-pub fn read_bytes<D: Disk>(alloc: Global, disk: &mut D) -> Result<Vec<u8>, BytesFault>
-    ensures bytes { D.honest disk.old → IfOk result (λ v. v.items ≡ D.bytes disk.old) }
-    ensures same { D.honest disk.old → (D.bytes disk.new ≡ D.bytes disk.old)
-        × (D.unsynced disk.new ≡ D.unsynced disk.old) }
-    ensures any_moment { AtAnyMoment D.Disk disk.old disk.new (IsOutcome (D.unsynced disk.old)) }
-    ensures honest { SameHonesty D.Disk disk.old disk.new }
-    ensures called { Makes (Length ∷ Read ∷ []) (D.calls disk.old) (D.calls disk.new) result }
-    ensures no_failure { OnOk result (D.faults disk.new ≡ D.faults disk.old) }
-    ensures cause { IsErrOf result Device → D.faults disk.old < D.faults disk.new }
-{
-    let len = disk.len()?;
-    let mut bytes = Vec::new(alloc);
-    bytes.resize(len as usize, 0)?;
-    disk.read_at(0, &mut bytes)?;
-    Ok(bytes)
-}
-
-/// All bytes of a disk. They are synced before they are read, so that no crash takes back what was read.
-pub fn synced_bytes<D: Disk>(alloc: Global, disk: &mut D) -> Result<Vec<u8>, BytesFault>
-    ensures bytes { D.honest disk.old → IfOk result (λ v. v.items ≡ D.bytes disk.old) }
-    ensures all_synced { D.honest disk.old →
-        OnOk result (D.unsynced disk.new ≡ all_synced (D.bytes disk.old)) }
-    ensures same { D.honest disk.old → D.bytes disk.new ≡ D.bytes disk.old }
-    ensures any_moment { AtAnyMoment D.Disk disk.old disk.new (IsOutcome (D.unsynced disk.old)) }
-    ensures honest { SameHonesty D.Disk disk.old disk.new }
-    ensures called { Makes (Sync ∷ Length ∷ Read ∷ []) (D.calls disk.old)
-        (D.calls disk.new) result }
-    ensures no_failure { OnOk result (D.faults disk.new ≡ D.faults disk.old) }
-    ensures cause { IsErrOf result Device → D.faults disk.old < D.faults disk.new }
-{
-    disk.sync()?;
-    let bytes = read_bytes(alloc, disk)?;
-    Ok(bytes)
-}
-
-/// Goes on behind the chain that begins at `at`, in a disk of which these are all the bytes.
+/// Goes on behind the chain that begins behind this text of the slot, on a disk of this length.
 pub fn resume<D: Disk, R: Reader>(
     alloc: Global,
-    disk: D,
-    bytes: &Vec<u8>,
+    mut disk: D,
     slot: Slot,
     at: u64,
+    len: u64,
+    mut text: Text,
     reader: &mut R,
 ) -> Result<Journal<D>, (ChainFault, D)>
-    requires place { (slot.start ≤ at) × (at ≤ length bytes.now.items) }
-    requires synced { D.honest disk → D.unsynced disk ≡ all_synced bytes.now.items }
-    ensures begins { IfOk result (λ j. (j.disk ≡ disk) × (j.slot ≡ slot) × (j.sealed ≡ [])
-        × (j.phase ≡ Idle)) }
-    ensures front { IfOk result (λ j. j.front ≡ slice_range bytes.now.items slot.start
-        (slot.start + length j.front)) }
-    ensures found { IfOk result (λ j. FoundChain R.takes slot.most at slot.stop bytes.now.items
-        reader.old reader.new (slot.start + length j.front)) }
-    ensures fault { IfErr result (λ e. (e.1 ≡ disk)
-        × Refuses R.takes R.refuses slot.most at slot.stop bytes.now.items reader.old e.0) }
+    requires place { (at ≡ slot.start + length text) × (at ≤ len) }
+    requires long { D.honest disk → len ≡ length (D.bytes disk) }
+    requires stands { D.honest disk → Holds (D.bytes disk) slot.start text }
+    requires synced { D.honest disk → D.unsynced disk ≡ all_synced (D.bytes disk) }
+    ensures begins { IfOk result (λ j. (j.slot ≡ slot) × (j.sealed ≡ []) × (j.phase ≡ Idle)) }
+    ensures found { IfOk result (λ j. ReadsChain (D.honest disk) R.takes slot.most at slot.stop
+        (D.bytes disk) reader.old reader.new text j.front (slot.start + length j.front)) }
+    ensures fault { D.honest disk → IfErr result (λ e.
+        Refuses R.takes R.refuses slot.most at slot.stop (D.bytes disk) reader.old e.0) }
+    ensures kept { MatchResult result (λ j. OnlyReads D.Disk disk j.disk)
+        (λ e. OnlyReads D.Disk disk e.1) }
+    ensures no_failure { IfOk result (λ j. D.faults j.disk ≡ D.faults disk) }
+    ensures cause { IfErr result (λ e. e.0 ≡ Device → D.faults disk < D.faults e.1) }
 {
-    match read_chain(bytes, at, slot, reader) {
-        Ok(end) => Ok(Journal::adopt(alloc, disk, slot, bytes, end)),
+    match read_chain(alloc, &mut disk, at, slot, len, reader, &mut text) {
+        Ok(end) => Ok(Journal::go_on(alloc, disk, slot, text, end)),
         Err(fault) => Err((fault, disk)),
     }
 }

@@ -1,4 +1,9 @@
 pub mod Refusals
 pub mod Numbers
+pub mod Heads
+pub mod Headers
+pub mod Choosing
+pub mod Found
+pub mod Settled
 pub mod Both
 pub mod Making

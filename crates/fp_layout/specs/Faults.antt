@@ -4,8 +4,8 @@ use Rattle.std.specs.Int.{w64, to_be_bytes}
 use Rattle.fp_journal.specs.Holds.{Holds}
 use Rattle.fp_journal.specs.declared.chain.ChainFault.{ChainFault}
 use Rattle.fp_journal.specs.declared.chain.ChainFault.TheVariants as chain_fault
-use Rattle.fp_journal.specs.declared.opening.BytesFault.{BytesFault}
-use Rattle.fp_journal.specs.declared.opening.BytesFault.TheVariants as bytes_fault
+use Rattle.fp_journal.specs.declared.pieces.BytesFault.{BytesFault}
+use Rattle.fp_journal.specs.declared.pieces.BytesFault.TheVariants as bytes_fault
 use Rattle.fp_layout.specs.Size.{IsSlotSize}
 use Rattle.fp_slots.specs.declared.choosing.SlotFault.{SlotFault}
 use Rattle.fp_slots.specs.declared.choosing.SlotFault.TheVariants as slot_fault
@@ -49,6 +49,14 @@ IsDamage P (Damaged at) = P at
 IsDamage P Device = ⊥
 IsDamage P Memory = ⊥
 
+-- this of the fault, unless the device refused or memory ran out
+abbrev pub UnlessWanting : (OpenFault → Type 0) → OpenFault → Type 0
+UnlessWanting P Unformatted = P Unformatted
+UnlessWanting P (UnknownVersion v) = P (UnknownVersion v)
+UnlessWanting P (Damaged at) = P (Damaged at)
+UnlessWanting P Device = Unit {0}
+UnlessWanting P Memory = Unit {0}
+
 -- ---- other faults as faults of opening
 abbrev pub fault_of_bytes : BytesFault → OpenFault
 fault_of_bytes bytes_fault.Device = Device
@@ -56,6 +64,7 @@ fault_of_bytes bytes_fault.Memory = Memory
 
 abbrev pub fault_of_chain : ChainFault → OpenFault
 fault_of_chain (chain_fault.Damaged at) = Damaged at
+fault_of_chain chain_fault.Device = Device
 fault_of_chain chain_fault.Memory = Memory
 
 abbrev pub fault_of_slots : SlotFault → OpenFault

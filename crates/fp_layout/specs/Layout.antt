@@ -1,5 +1,5 @@
 -- The bytes of a disk, by their places.
-use Rattle.std.specs.Prelude.{◌≡◌, ◌≢◌, ◌<◌, ◌≤◌, ◌+◌, ◌/◌, ◌^◌, ℕ, List, length, slice_index, codes}
+use Rattle.std.specs.Prelude.{◌≡◌, ◌≢◌, ◌<◌, ◌≤◌, ◌+◌, ◌/◌, ◌^◌, ℕ, List, ◌∷◌, ◌++◌, length, slice_index, codes}
 use Rattle.std.specs.Int.{w32, w64, to_be_bytes}
 use Rattle.fp_journal.specs.Holds.{Holds}
 use Rattle.fp_journal.specs.declared.slot.Slot.{Slot}
@@ -52,6 +52,12 @@ pub record HasBase (c : List ℕ) (at base : ℕ) : Type 0 where
 pub record HasLength (c : List ℕ) (at size len : ℕ) : Type 0 where
   pub text : Holds c (at + LENGTH_PLACE) (to_be_bytes w32 len)
   pub small : len ≤ size / 2
+
+-- so it stands there, up to an image of so many bytes
+abbrev pub front_text : (generation base len : ℕ) → List ℕ
+front_text generation base len =
+    OPEN ∷ (to_be_bytes w64 generation
+    ++ VERSION ∷ (to_be_bytes w64 base ++ to_be_bytes w32 len))
 
 -- all of it
 pub record IsHead (c : List ℕ) (at size generation base : ℕ) (image : List ℕ) : Type 0 where

@@ -2,4 +2,5 @@ pub mod Size
 pub mod Layout
 pub mod Faults
 pub mod Opening
+pub mod Fronts
 pub mod NewDisk

@@ -1,16 +1,57 @@
 -- What a disk stands for, as its opening reads it.
-use Rattle.std.specs.Prelude.{◌≡◌, ◌+◌, ◌/◌, ℕ, List, length, slice_range}
+use Rattle.std.specs.Prelude.{◌≡◌, ◌<◌, ◌≤◌, ◌+◌, ◌/◌, ◌^◌, ℕ, List, ◌++◌, length, slice_range}
+use Rattle.fp_journal.specs.Chain.{spell}
+use Rattle.fp_journal.specs.State.{AllShort}
 use Rattle.fp_journal.specs.declared.slot.Slot.{Slot}
-use Rattle.fp_journal.specs.Reading.{FoundChain, StopsAt}
+use Rattle.fp_journal.specs.Reading.{FoundChain, Reads, StopsAt}
+use Rattle.fp_slots.specs.Head.{head_text}
 use Rattle.fp_slots.specs.Rules.{RulesNeither}
 use Rattle.fp_slots.specs.declared.places.TheConstants.{IMAGE_PLACE}
-use Rattle.fp_layout.specs.Size.{first_slot, second_slot}
+use Rattle.fp_layout.specs.Size.{IsSlotSize, Side, other_side, slot_of, first_slot, second_slot}
 use Rattle.fp_layout.specs.Layout.{IsHeader, IsHead, IsActive}
 use Rattle.fp_layout.specs.Faults.{RefusesHeader, BreaksHead}
 use Rattle.fp_layout.specs.declared.fault.OpenFault.{OpenFault}
 use Rattle.fp_layout.specs.declared.fault.OpenFault.TheVariants.{Unformatted, UnknownVersion, Damaged, Device, Memory}
 
+-- ---- what was read, whatever the disk is that it was read of
+-- the slots are the two of a disk, and the text of the one is a head, with whose image the reader has
+-- begun
+pub record ReadsImage {R : Type 0} (begins : R → ℕ → ℕ → List ℕ → R → Type 0) (before after : R)
+    (slot other : Slot) (generation : ℕ) (text : List ℕ) : Type 0 where
+  pub size : ℕ
+  pub side : Side
+  pub base : ℕ
+  pub image : List ℕ
+  pub allowed : IsSlotSize size
+  pub slot_is : slot ≡ slot_of size side
+  pub other_is : other ≡ slot_of size (other_side side)
+  pub text_is : text ≡ head_text generation base image
+  pub numbered : generation < 2 ^ 64
+  pub low : base < 2 ^ 63
+  pub small : length image ≤ size / 2
+  pub begun : begins before base (size / 2) image after
+
+-- and behind that stand bodies, which the reader has taken then, in order
+pub record ReadsSlot {R : Type 0} (begins : R → ℕ → ℕ → List ℕ → R → Type 0)
+    (takes : R → List ℕ → R → Type 0) (before after : R) (slot other : Slot) (generation : ℕ)
+    (text : List ℕ) : Type 0 where
+  pub middle : R
+  pub head : List ℕ
+  pub bodies : List (List ℕ)
+  pub begun : ReadsImage begins before middle slot other generation head
+  pub reads : Reads takes middle bodies after
+  pub short : AllShort slot.most bodies
+  pub text_is : text ≡ head ++ spell bodies
+
 -- ---- what stands in front of the batches
+-- neither of two slots of this size rules, or the one that does has no head; k is the first byte to
+-- show it
+pub data BreaksRuling (c : List ℕ) (size k : ℕ) : Type 0 where
+  in_neither : RulesNeither (first_slot size).start (second_slot size).start c k
+      → BreaksRuling c size k
+  in_one : (slot other : Slot) → IsActive c size slot other → BreaksHead c slot.start size k
+      → BreaksRuling c size k
+
 -- the header is there, this slot rules and has a head, the reader has begun with the image, and the
 -- first batch's gate is at this place
 pub record FoundFront {R : Type 0} (begins : R → ℕ → ℕ → List ℕ → R → Type 0) (c : List ℕ)
@@ -46,7 +87,7 @@ abbrev pub RefusesFront : {R : Type 0} → (R → ℕ → ℕ → List ℕ → �
 RefusesFront rejects c before Unformatted = RefusesHeader c Unformatted
 RefusesFront rejects c before (UnknownVersion v) = RefusesHeader c (UnknownVersion v)
 RefusesFront rejects c before (Damaged at) = BreaksFront rejects c before at
-RefusesFront rejects c before Device = ⊥
+RefusesFront rejects c before Device = Unit {0}
 RefusesFront rejects c before Memory = Unit {0}
 
 -- ---- the whole

@@ -2,7 +2,9 @@
 
 ghost use Rattle.std.specs.Prelude.{◌≡◌};
 ghost use Rattle.fp_layout.specs.Faults.{fault_of_bytes, fault_of_chain, fault_of_slots};
+ghost use Rattle.fp_layout.specs.declared.fault.OpenFault.TheVariants.{Device};
 
+use fp_disk::DiskFault;
 use fp_journal::{BytesFault, ChainFault};
 use fp_slots::SlotFault;
 
@@ -19,6 +21,14 @@ pub enum OpenFault {
     Device,
     /// Memory ran out.
     Memory,
+}
+
+impl From<DiskFault> for OpenFault {
+    ghost from_gives = { λ _ e. e ≡ Device };
+
+    fn from(_fault: DiskFault) -> OpenFault {
+        OpenFault::Device
+    }
 }
 
 impl From<BytesFault> for OpenFault {
@@ -38,6 +48,7 @@ impl From<ChainFault> for OpenFault {
     fn from(fault: ChainFault) -> OpenFault {
         match fault {
             ChainFault::Damaged { at } => OpenFault::Damaged { at },
+            ChainFault::Device => OpenFault::Device,
             ChainFault::Memory => OpenFault::Memory,
         }
     }

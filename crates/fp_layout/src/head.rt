@@ -1,43 +1,46 @@
 //! What stands in a slot in front of its batches.
 
-ghost use Rattle.std.specs.Prelude.{◌<◌, ℕ, ◌↔◌, IsTrue, length, IfOk, IfErr, IfSome, IfNone};
-ghost use Rattle.fp_layout.specs.Layout.{IsHead, HasVersion, HasBase, HasLength};
+ghost use Rattle.std.specs.Prelude.{◌≡◌, ◌≢◌, ◌<◌, ◌≤◌, ◌+◌, ◌-◌, ◌/◌, ◌^◌, List, ℕ, ◌↔◌, IsTrue};
+ghost use Rattle.std.specs.Prelude.{length, min, slice_index, IfOk, IfErr, IfSome, IfNone};
+ghost use Rattle.fp_gate.specs.declared.gate.TheConstants.{OPEN};
+ghost use Rattle.fp_layout.specs.Layout.{HasVersion, HasBase, HasLength, front_text};
 ghost use Rattle.fp_layout.specs.Faults.{IsDamage, BreaksHead};
+ghost use Rattle.fp_layout.specs.declared.fault.OpenFault.TheVariants.{Device};
+ghost use Rattle.fp_slots.specs.Rules.{IsLead};
+ghost use Rattle.fp_slots.specs.declared.places.TheConstants.{IMAGE_PLACE};
 
 use crate::fault::OpenFault;
 use crate::field::{u32_at, u64_at};
 use crate::size::SlotSize;
 use fp_slots::{BASE_PLACE, GENERATION_PLACE, IMAGE_PLACE, LENGTH_PLACE, VERSION, VERSION_PLACE};
 
-/// What stands in a slot in front of its batches.
+/// What stands in a slot in front of its image.
 #[derive(Clone, Copy)]
-pub struct Head<'a> {
+pub(crate) struct Head {
     /// Which of two slots is the later one.
-    pub generation: u64,
+    pub(crate) generation: u64,
     /// The revision of the image.
-    pub base: u64,
-    /// A set of flags.
-    pub image: &'a [u8],
+    pub(crate) base: u64,
+    /// How many bytes the image has.
+    pub(crate) len: usize,
 }
 
-// Whether a version stands in the slot that begins there, and it is this one.
-fn has_version(bytes: &[u8], slot: usize) -> bool
-    requires there { slot < length bytes.now }
-    ensures { IsTrue result ↔ HasVersion bytes.now slot }
+// Whether a version stands behind the gate and the generation, and it is this one.
+fn has_version(bytes: &[u8]) -> bool
+    ensures { IsTrue result ↔ HasVersion bytes.now 0 }
 {
-    bytes.len() - slot >= BASE_PLACE && bytes[slot + VERSION_PLACE] == VERSION
+    bytes.len() >= BASE_PLACE && bytes[VERSION_PLACE] == VERSION
 }
 
 // The revision of the image, where there is one.
-fn base_at(bytes: &[u8], slot: usize) -> Option<u64>
-    requires there { slot < length bytes.now }
-    ensures some { IfSome result (HasBase bytes.now slot) }
-    ensures none { IfNone result ((base : ℕ) → HasBase bytes.now slot base → ⊥) }
+fn base_of(bytes: &[u8]) -> Option<u64>
+    ensures some { IfSome result (HasBase bytes.now 0) }
+    ensures none { IfNone result ((base : ℕ) → HasBase bytes.now 0 base → ⊥) }
 {
-    if bytes.len() - slot < LENGTH_PLACE {
+    if bytes.len() < LENGTH_PLACE {
         return None;
     }
-    let base = u64_at(bytes, slot + BASE_PLACE);
+    let base = u64_at(bytes, BASE_PLACE);
     if base >= 1 << 63 {
         return None;
     }
@@ -45,56 +48,65 @@ fn base_at(bytes: &[u8], slot: usize) -> Option<u64>
 }
 
 // How many bytes the image has, where that is told and not too many.
-fn length_at(bytes: &[u8], slot: usize, size: SlotSize) -> Option<usize>
-    requires there { slot < length bytes.now }
-    ensures some { IfSome result (HasLength bytes.now slot size) }
-    ensures none { IfNone result ((len : ℕ) → HasLength bytes.now slot size len → ⊥) }
+fn length_of(bytes: &[u8], size: SlotSize) -> Option<usize>
+    ensures some { IfSome result (HasLength bytes.now 0 size) }
+    ensures none { IfNone result ((len : ℕ) → HasLength bytes.now 0 size len → ⊥) }
 {
-    if bytes.len() - slot < IMAGE_PLACE {
+    if bytes.len() < IMAGE_PLACE {
         return None;
     }
-    let len = u32_at(bytes, slot + LENGTH_PLACE);
+    let len = u32_at(bytes, LENGTH_PLACE);
     if u64::from(len) > size.bytes() / 2 {
         return None;
     }
     Some(len as usize)
 }
 
-/// Reads the head of the slot whose gate stands there.
-pub fn read_head(bytes: &[u8], slot: usize, size: SlotSize) -> Result<Head<'_>, OpenFault>
-    requires there { slot < length bytes.now }
-    ensures found { IfOk result (λ h.
-        IsHead bytes.now slot size h.generation h.base h.image.now) }
-    ensures fault { IfErr result (IsDamage (BreaksHead bytes.now slot size)) }
+// Reads the head of the slot that begins there and has these first bytes, on a disk of this length.
+pub(crate) fn read_head(
+    bytes: &[u8],
+    slot: u64,
+    len: u64,
+    size: SlotSize,
+) -> Result<Head, OpenFault>
+    requires open { slice_index bytes.now 0 ≡ OPEN }
+    requires many { length bytes.now ≡ min IMAGE_PLACE (len - slot) }
+    requires fits { slot + IMAGE_PLACE < 2 ^ 64 }
+    ensures text { IfOk result (λ h. bytes.now ≡ front_text h.generation h.base h.len) }
+    ensures small { IfOk result (λ h.
+        (h.generation < 2 ^ 64) × (h.base < 2 ^ 63) × (h.len ≤ size / 2)) }
+    ensures within { IfOk result (λ h. slot + IMAGE_PLACE + h.len ≤ len) }
+    ensures fault { IfErr result (λ f. (c : List ℕ) → IsLead c slot bytes.now →
+        length c ≡ len → IsDamage (BreaksHead c slot size) f) }
+    ensures no_device { IfErr result (λ e. e ≢ Device) }
 {
-    let at = slot as u64;
-    if bytes.len() - slot < VERSION_PLACE {
+    if bytes.len() < VERSION_PLACE {
         return Err(OpenFault::Damaged {
-            at: at + GENERATION_PLACE as u64,
+            at: slot + GENERATION_PLACE as u64,
         });
     }
-    if !has_version(bytes, slot) {
+    if !has_version(bytes) {
         return Err(OpenFault::Damaged {
-            at: at + VERSION_PLACE as u64,
+            at: slot + VERSION_PLACE as u64,
         });
     }
-    let Some(base) = base_at(bytes, slot) else {
+    let Some(base) = base_of(bytes) else {
         return Err(OpenFault::Damaged {
-            at: at + BASE_PLACE as u64,
+            at: slot + BASE_PLACE as u64,
         });
     };
-    let Some(len) = length_at(bytes, slot, size) else {
+    let Some(image) = length_of(bytes, size) else {
         return Err(OpenFault::Damaged {
-            at: at + LENGTH_PLACE as u64,
+            at: slot + LENGTH_PLACE as u64,
         });
     };
-    let image = slot + IMAGE_PLACE;
-    if bytes.len() - image < len {
-        return Err(OpenFault::Damaged { at: image as u64 });
+    let place = slot + IMAGE_PLACE as u64;
+    if len - place < image as u64 {
+        return Err(OpenFault::Damaged { at: place });
     }
     Ok(Head {
-        generation: u64_at(bytes, slot + GENERATION_PLACE),
+        generation: u64_at(bytes, GENERATION_PLACE),
         base,
-        image: &bytes[image..image + len],
+        len: image,
     })
 }

@@ -11,7 +11,5 @@ mod size;
 
 pub use fault::OpenFault;
 pub use format::{CreateFault, create};
-pub use head::{Head, read_head};
-pub use header::read_header;
 pub use opening::{Place, SlotReader, open, read_disk};
 pub use size::SlotSize;

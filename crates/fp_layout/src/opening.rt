@@ -1,29 +1,32 @@
 //! A disk that is there, opened.
 
-ghost use Rattle.fp_disk.specs.Crashes.{SameHonesty};
-ghost use Rattle.std.specs.Prelude.{◌≡◌, ◌≢◌, ◌≤◌, ◌<◌, ◌+◌, ◌-◌, ◌/◌, [], ◌∷◌, ◌++◌, List, ℕ, ◌↔◌, IsTrue, slice_index, slice_range, length, IfOk, IfErr, OnOk, MatchResult, IsErrOf};
+ghost use Rattle.std.specs.Prelude.{◌≡◌, ◌≢◌, ◌≤◌, ◌<◌, ◌+◌, ◌-◌, [], ◌∷◌, List, ℕ, length, min};
+ghost use Rattle.std.specs.Prelude.{slice_range, IfOk, IfErr, OnOk, MatchResult, IsErrOf};
+ghost use Rattle.fp_disk.specs.Crashes.{AtAnyMoment, SameHonesty};
 ghost use Rattle.fp_disk.specs.History.{MakesSome};
-ghost use Rattle.fp_disk.specs.declared.history.CallKind.TheVariants.{Length, Read, Sync};
+ghost use Rattle.fp_disk.specs.declared.history.CallKind.TheVariants.{Length, Sync};
 ghost use Rattle.fp_disk.specs.Outcomes.{IsOutcome, LeavesOnly, all_synced};
+ghost use Rattle.fp_journal.specs.Pieces.{MakesThenReads, OnlyReads, ThenReads, ThenSomeReads};
 ghost use Rattle.fp_journal.specs.Reading.{IsWrong};
 ghost use Rattle.fp_journal.specs.declared.journal.Phase.TheVariants.{Idle};
-ghost use Rattle.fp_layout.specs.Faults.{IsDamage};
-ghost use Rattle.fp_layout.specs.Layout.{HasSlots, IsActive, IsHeader};
-ghost use Rattle.fp_gate.specs.declared.gate.TheConstants.{OPEN};
+ghost use Rattle.fp_slots.specs.Rules.{HasLeads};
 ghost use Rattle.fp_slots.specs.declared.places.TheConstants.{IMAGE_PLACE};
 ghost use Rattle.fp_slots.specs.declared.slots.Step.TheVariants.{Begin};
-ghost use Rattle.fp_layout.specs.Size.{first_slot, second_slot};
-ghost use Rattle.fp_slots.specs.Rules.{RulesNeither};
-ghost use Rattle.fp_layout.specs.Opening.{FoundFront, FoundDisk, RefusesFront, RefusesDisk};
+ghost use Rattle.fp_layout.specs.Size.{IsSlotSize, first_slot, second_slot};
+ghost use Rattle.fp_layout.specs.Faults.{IsDamage, RefusesHeader, UnlessWanting};
+ghost use Rattle.fp_layout.specs.Fronts.{FoundIn, IsFrontOn, IsHeadOn, StandsIn};
+ghost use Rattle.fp_layout.specs.Layout.{HasSlots, IsHeader};
+ghost use Rattle.fp_layout.specs.Opening.{BreaksRuling, FoundDisk, ReadsSlot};
+ghost use Rattle.fp_layout.specs.Opening.{RefusesFront, RefusesDisk};
 ghost use Rattle.fp_layout.specs.declared.fault.OpenFault.TheVariants.{Device};
 
 use crate::fault::OpenFault;
 use crate::head::{Head, read_head};
-use crate::header::read_header;
+use crate::header::{HEADER, read_header};
 use crate::size::SlotSize;
 use fp_disk::Disk;
-use fp_journal::{BodyFault, Reader, Slot, read_chain, resume, synced_bytes};
-use fp_slots::{Active, IMAGE_PLACE, Slots, pick};
+use fp_journal::{BodyFault, Reader, Slot, Text, read_bytes, read_chain, read_first, resume};
+use fp_slots::{IMAGE_PLACE, Slots, pick};
 use std::alloc::Global;
 
 /// What takes a slot's image, and then the bodies of its chain.
@@ -40,57 +43,216 @@ pub trait SlotReader: Reader {
         ensures fault { IfErr result (IsWrong (length image.now) (rejects self.old base limit image.now)) };
 }
 
-// Which of the two slots rules.
-fn read_active(bytes: &[u8], size: SlotSize) -> Result<Active, OpenFault>
-    requires header { IsHeader bytes.now size }
-    ensures found { IfOk result (λ r. IsActive bytes.now size r.slot r.other) }
-    ensures there { IfOk result (λ r. r.slot.start < length bytes.now) }
-    ensures open { IfOk result (λ r.
-        IsTrue r.is_open ↔ (slice_index bytes.now r.other.start ≡ OPEN)) }
-    ensures fault { IfErr result
-        (IsDamage (RulesNeither (first_slot size).start (second_slot size).start bytes.now)) }
-{
-    let active = pick(bytes, size.first_slot(), size.second_slot())?;
-    Ok(active)
+// The slot that rules, the other one, and what stands in front of the image.
+#[derive(Drop)]
+pub(crate) struct Ruling {
+    pub(crate) slot: Slot,
+    pub(crate) other: Slot,
+    pub(crate) is_open: bool,
+    pub(crate) head: Head,
+    pub(crate) text: Text,
 }
 
 // Where reading goes on behind the image, and what was found on the way there.
 #[derive(Drop)]
-struct Front {
-    active: Active,
-    generation: u64,
-    at: u64,
+pub(crate) struct Front {
+    pub(crate) slot: Slot,
+    pub(crate) other: Slot,
+    pub(crate) is_open: bool,
+    pub(crate) generation: u64,
+    pub(crate) text: Text,
+    pub(crate) at: u64,
+    // How many bytes the disk has.
+    pub(crate) len: u64,
 }
 
-// Reads what stands in front of the batches.
-fn read_front<R: SlotReader>(bytes: &[u8], reader: &mut R) -> Result<Front, OpenFault>
-    ensures found { IfOk result (λ p.
-        FoundFront R.begins bytes.now reader.old reader.new p.active.slot p.at) }
-    ensures active { IfOk result (λ p.
-        HasSlots bytes.now p.active.slot p.active.other p.generation) }
-    ensures open { IfOk result (λ p.
-        IsTrue p.active.is_open ↔ (slice_index bytes.now p.active.other.start ≡ OPEN)) }
-    ensures within { IfOk result (λ p.
-        (p.active.slot.start + IMAGE_PLACE ≤ p.at) × (p.at ≤ length bytes.now)) }
-    ensures fault { IfErr result (RefusesFront R.rejects bytes.now reader.old) }
+// Which slot rules, of two of this size, and its head, by the first bytes of both.
+fn choose(size: SlotSize, len: u64, mine: &[u8], its: &[u8]) -> Result<Ruling, OpenFault>
+    requires within { 65 + size ≤ len }
+    requires first { length mine.now ≡ min IMAGE_PLACE (len - (first_slot size).start) }
+    requires second { length its.now ≡ min IMAGE_PLACE (len - (second_slot size).start) }
+    ensures read { IfOk result (IsHeadOn size len) }
+    ensures found { IfOk result (λ r. (c : List ℕ) →
+        HasLeads (first_slot size) mine.now (second_slot size) its.now c → StandsIn r c) }
+    ensures fault { IfErr result (λ f. (c : List ℕ) →
+        HasLeads (first_slot size) mine.now (second_slot size) its.now c →
+        length c ≡ len → IsDamage (BreaksRuling c size) f) }
+    ensures no_device { IfErr result (λ e. e ≢ Device) }
 {
-    let size = read_header(bytes)?;
-    let active = read_active(bytes, size)?;
-    let Head {
-        generation,
-        base,
-        image,
-    } = read_head(bytes, active.slot.start as usize, size)?;
-    let place = active.slot.start + IMAGE_PLACE as u64;
-    match reader.begin(base, size.bytes() / 2, image) {
-        Ok(()) => Ok(Front {
-            active,
-            generation,
-            at: place + image.len() as u64,
-        }),
+    let active = pick(size.first_slot(), mine, size.second_slot(), its)?;
+    let head = read_head(active.bytes, active.slot.start, len, size)?;
+    Ok(Ruling {
+        slot: active.slot,
+        other: active.other,
+        is_open: active.is_open,
+        head,
+        text: Text::new(active.bytes),
+    })
+}
+
+// Reads which slot rules, of two of this size, and its head.
+fn read_ruling<D: Disk>(
+    alloc: Global,
+    disk: &mut D,
+    size: SlotSize,
+    len: u64,
+) -> Result<Ruling, OpenFault>
+    requires within { 65 + size ≤ len }
+    requires long { D.honest disk.old → len ≡ length (D.bytes disk.old) }
+    ensures read { IfOk result (IsHeadOn size len) }
+    ensures found { D.honest disk.old → IfOk result (λ r. StandsIn r (D.bytes disk.old)) }
+    ensures fault { D.honest disk.old →
+        IfErr result (UnlessWanting (IsDamage (BreaksRuling (D.bytes disk.old) size))) }
+    ensures kept { OnlyReads D.Disk disk.old disk.new }
+    ensures no_failure { OnOk result (D.faults disk.new ≡ D.faults disk.old) }
+    ensures cause { IsErrOf result Device → D.faults disk.old < D.faults disk.new }
+{
+    let first = size.first_slot().start;
+    let second = size.second_slot().start;
+    let mine = read_first(alloc, disk, first, IMAGE_PLACE, len)?;
+    let its = read_first(alloc, disk, second, IMAGE_PLACE, len)?;
+    let ruling = choose(size, len, &mine, &its)?;
+    Ok(ruling)
+}
+
+// Reads how many bytes a slot of a disk of this length has.
+fn read_size<D: Disk>(alloc: Global, disk: &mut D, len: u64) -> Result<SlotSize, OpenFault>
+    requires long { D.honest disk.old → len ≡ length (D.bytes disk.old) }
+    ensures allowed { IfOk result IsSlotSize }
+    ensures within { IfOk result (λ s. 65 + s ≤ len) }
+    ensures found { D.honest disk.old → IfOk result (IsHeader (D.bytes disk.old)) }
+    ensures fault { D.honest disk.old →
+        IfErr result (UnlessWanting (RefusesHeader (D.bytes disk.old))) }
+    ensures kept { OnlyReads D.Disk disk.old disk.new }
+    ensures no_failure { OnOk result (D.faults disk.new ≡ D.faults disk.old) }
+    ensures cause { IsErrOf result Device → D.faults disk.old < D.faults disk.new }
+{
+    let bytes = read_first(alloc, disk, 0, HEADER, len)?;
+    let size = read_header(&bytes, len)?;
+    Ok(size)
+}
+
+// Reads the image of the slot that rules, of two of this size, and gives it to the reader.
+fn read_image<D: Disk, R: SlotReader>(
+    alloc: Global,
+    disk: &mut D,
+    size: SlotSize,
+    len: u64,
+    ruling: Ruling,
+    reader: &mut R,
+) -> Result<Front, OpenFault>
+    requires read { IsHeadOn size len ruling }
+    requires long { D.honest disk.old → len ≡ length (D.bytes disk.old) }
+    requires header { D.honest disk.old → IsHeader (D.bytes disk.old) size }
+    requires stands { D.honest disk.old → StandsIn ruling (D.bytes disk.old) }
+    ensures read { IfOk result (IsFrontOn R.begins reader.old reader.new) }
+    ensures found { D.honest disk.old → IfOk result (λ p.
+        FoundIn R.begins reader.old reader.new p (D.bytes disk.old)) }
+    ensures fault { D.honest disk.old →
+        IfErr result (RefusesFront R.rejects (D.bytes disk.old) reader.old) }
+    ensures kept { OnlyReads D.Disk disk.old disk.new }
+    ensures no_failure { OnOk result (D.faults disk.new ≡ D.faults disk.old) }
+    ensures cause { IsErrOf result Device → D.faults disk.old < D.faults disk.new }
+{
+    let Ruling {
+        slot,
+        other,
+        is_open,
+        head,
+        mut text,
+    } = ruling;
+    let place = slot.start + IMAGE_PLACE as u64;
+    let image = read_bytes(alloc, disk, place, head.len)?;
+    match reader.begin(head.base, size.bytes() / 2, &image) {
+        Ok(()) => {
+            text.push(&image);
+            Ok(Front {
+                slot,
+                other,
+                is_open,
+                generation: head.generation,
+                text,
+                at: place + image.len() as u64,
+                len,
+            })
+        }
         Err(BodyFault::BadBody { at }) => Err(OpenFault::Damaged { at: place + at }),
         Err(BodyFault::Memory) => Err(OpenFault::Memory),
     }
+}
+
+// Reads what stands in front of the batches of a disk of this length.
+fn read_fronts<D: Disk, R: SlotReader>(
+    alloc: Global,
+    disk: &mut D,
+    len: u64,
+    reader: &mut R,
+) -> Result<Front, OpenFault>
+    requires long { D.honest disk.old → len ≡ length (D.bytes disk.old) }
+    ensures read { IfOk result (IsFrontOn R.begins reader.old reader.new) }
+    ensures found { D.honest disk.old → IfOk result (λ p.
+        FoundIn R.begins reader.old reader.new p (D.bytes disk.old)) }
+    ensures fault { D.honest disk.old →
+        IfErr result (RefusesFront R.rejects (D.bytes disk.old) reader.old) }
+    ensures kept { OnlyReads D.Disk disk.old disk.new }
+    ensures no_failure { OnOk result (D.faults disk.new ≡ D.faults disk.old) }
+    ensures cause { IsErrOf result Device → D.faults disk.old < D.faults disk.new }
+{
+    let size = read_size(alloc, disk, len)?;
+    let ruling = read_ruling(alloc, disk, size, len)?;
+    let front = read_image(alloc, disk, size, len, ruling, reader)?;
+    Ok(front)
+}
+
+// Asks how long the disk is, and reads what stands in front of the batches.
+fn read_front<D: Disk, R: SlotReader>(
+    alloc: Global,
+    disk: &mut D,
+    reader: &mut R,
+) -> Result<Front, OpenFault>
+    ensures read { IfOk result (IsFrontOn R.begins reader.old reader.new) }
+    ensures found { D.honest disk.old → IfOk result (λ p.
+        FoundIn R.begins reader.old reader.new p (D.bytes disk.old)) }
+    ensures fault { D.honest disk.old →
+        IfErr result (RefusesFront R.rejects (D.bytes disk.old) reader.old) }
+    ensures same { D.honest disk.old → (D.bytes disk.new ≡ D.bytes disk.old)
+        × (D.unsynced disk.new ≡ D.unsynced disk.old) }
+    ensures any_moment { AtAnyMoment D.Disk disk.old disk.new (IsOutcome (D.unsynced disk.old)) }
+    ensures honest { SameHonesty D.Disk disk.old disk.new }
+    ensures called { MakesThenReads (Length ∷ []) (D.calls disk.old) (D.calls disk.new) result }
+    ensures no_failure { OnOk result (D.faults disk.new ≡ D.faults disk.old) }
+    ensures cause { IsErrOf result Device → D.faults disk.old < D.faults disk.new }
+{
+    let len = disk.len()?;
+    let front = read_fronts(alloc, disk, len, reader)?;
+    Ok(front)
+}
+
+// Makes sure of all that is there, and reads what stands in front of the batches: no crash takes
+// back what was read.
+fn sync_front<D: Disk, R: SlotReader>(
+    alloc: Global,
+    disk: &mut D,
+    reader: &mut R,
+) -> Result<Front, OpenFault>
+    ensures read { IfOk result (IsFrontOn R.begins reader.old reader.new) }
+    ensures found { D.honest disk.old → IfOk result (λ p.
+        FoundIn R.begins reader.old reader.new p (D.bytes disk.old)) }
+    ensures fault { D.honest disk.old →
+        IfErr result (RefusesFront R.rejects (D.bytes disk.old) reader.old) }
+    ensures all_synced { D.honest disk.old →
+        OnOk result (D.unsynced disk.new ≡ all_synced (D.bytes disk.old)) }
+    ensures same { D.honest disk.old → D.bytes disk.new ≡ D.bytes disk.old }
+    ensures any_moment { AtAnyMoment D.Disk disk.old disk.new (IsOutcome (D.unsynced disk.old)) }
+    ensures honest { SameHonesty D.Disk disk.old disk.new }
+    ensures called { MakesThenReads (Sync ∷ Length ∷ []) (D.calls disk.old)
+        (D.calls disk.new) result }
+    ensures no_failure { OnOk result (D.faults disk.new ≡ D.faults disk.old) }
+    ensures cause { IsErrOf result Device → D.faults disk.old < D.faults disk.new }
+{
+    disk.sync()?;
+    let front = read_front(alloc, disk, reader)?;
+    Ok(front)
 }
 
 /// Where a disk goes on: the slot that rules, and the closed gate behind what stands in it.
@@ -102,19 +264,37 @@ pub struct Place {
     pub gate: u64,
 }
 
-/// Gives a reader what stands in the slot that rules, of all the bytes of a disk.
-pub fn read_disk<R: SlotReader>(bytes: &[u8], reader: &mut R) -> Result<Place, OpenFault>
-    ensures found { IfOk result (λ p. FoundDisk R.begins R.takes bytes.now reader.old reader.new
-        p.slot (slice_range bytes.now p.slot.start p.gate)) }
-    ensures gate { IfOk result (λ p.
-        p.gate ≡ p.slot.start + length (slice_range bytes.now p.slot.start p.gate)) }
-    ensures fault { IfErr result
-        (RefusesDisk R.begins R.rejects R.takes R.refuses bytes.now reader.old) }
-    ensures no_device { IfErr result (λ e. e ≢ Device) }
+/// Gives a reader what stands in the slot that rules. Nothing is synced and nothing written.
+pub fn read_disk<D: Disk, R: SlotReader>(
+    alloc: Global,
+    disk: &mut D,
+    reader: &mut R,
+) -> Result<Place, OpenFault>
+    ensures found { D.honest disk.old → IfOk result (λ p.
+        FoundDisk R.begins R.takes (D.bytes disk.old) reader.old reader.new p.slot
+        (slice_range (D.bytes disk.old) p.slot.start p.gate)) }
+    ensures gate { D.honest disk.old → IfOk result (λ p.
+        p.gate ≡ p.slot.start + length (slice_range (D.bytes disk.old) p.slot.start p.gate)) }
+    ensures fault { D.honest disk.old → IfErr result
+        (RefusesDisk R.begins R.rejects R.takes R.refuses (D.bytes disk.old) reader.old) }
+    ensures same { D.honest disk.old → (D.bytes disk.new ≡ D.bytes disk.old)
+        × (D.unsynced disk.new ≡ D.unsynced disk.old) }
+    ensures any_moment { AtAnyMoment D.Disk disk.old disk.new (IsOutcome (D.unsynced disk.old)) }
+    ensures honest { SameHonesty D.Disk disk.old disk.new }
+    ensures called { MakesThenReads (Length ∷ []) (D.calls disk.old) (D.calls disk.new) result }
+    ensures no_failure { OnOk result (D.faults disk.new ≡ D.faults disk.old) }
+    ensures cause { IsErrOf result Device → D.faults disk.old < D.faults disk.new }
 {
-    let front = read_front(bytes, reader)?;
-    let slot = front.active.slot;
-    let gate = read_chain(bytes, front.at, slot, reader)?;
+    let Front {
+        slot,
+        other: _,
+        is_open: _,
+        generation: _,
+        mut text,
+        at,
+        len,
+    } = read_front(alloc, disk, reader)?;
+    let gate = read_chain(alloc, disk, at, slot, len, reader, &mut text)?;
     Ok(Place { slot, gate })
 }
 
@@ -130,11 +310,11 @@ pub fn open<D: Disk, R: SlotReader>(
         reader.old reader.new s.journal.slot s.journal.front) }
     ensures slots { D.honest disk → IfOk result (λ s.
         HasSlots (D.bytes disk) s.journal.slot s.other s.generation) }
-    // It was read of some bytes, where the disk doesn't keep its word too.
-    ensures read { IfOk result (λ s. (c : List ℕ)
-        × FoundDisk R.begins R.takes c reader.old reader.new s.journal.slot s.journal.front
-        × HasSlots c s.journal.slot s.other s.generation) }
-    ensures fault { D.honest disk → IfErr result (λ e. RefusesDisk R.begins R.rejects R.takes R.refuses (D.bytes disk) reader.old e.0) }
+    // Where the disk doesn't keep its word too: what the journal goes on behind was read.
+    ensures read { IfOk result (λ s. ReadsSlot R.begins R.takes reader.old reader.new
+        s.journal.slot s.other s.generation s.journal.front) }
+    ensures fault { D.honest disk → IfErr result (λ e.
+        RefusesDisk R.begins R.rejects R.takes R.refuses (D.bytes disk) reader.old e.0) }
     ensures same { D.honest disk → MatchResult result (λ s. D.bytes s.journal.disk
         ≡ D.bytes disk) (λ e. D.bytes e.1 ≡ D.bytes disk) }
     ensures all_synced { D.honest disk → IfOk result (λ s. D.unsynced s.journal.disk
@@ -144,29 +324,27 @@ pub fn open<D: Disk, R: SlotReader>(
         (D.unsynced disk))) (λ e. LeavesOnly D.moment D.crash_states_since disk e.1 (IsOutcome
         (D.unsynced disk))) }
     ensures honest { MatchResult result (λ s. SameHonesty D.Disk disk s.journal.disk) (λ e. SameHonesty D.Disk disk e.1) }
-    ensures called { MatchResult result (λ s. D.calls s.journal.disk
-        ≡ D.calls disk ++ Sync ∷ Length ∷ Read ∷ []) (λ e. MakesSome (Sync ∷ Length ∷ Read ∷ [])
-        (D.calls disk) (D.calls e.1)) }
+    ensures called { MatchResult result
+        (λ s. ThenReads (Sync ∷ Length ∷ []) (D.calls disk) (D.calls s.journal.disk))
+        (λ e. ThenSomeReads (Sync ∷ Length ∷ []) (D.calls disk) (D.calls e.1)) }
     ensures no_failure { IfOk result (λ s. D.faults s.journal.disk ≡ D.faults disk) }
     ensures cause { IfErr result (λ e. e.0 ≡ Device → D.faults disk < D.faults e.1) }
 {
-    let bytes = match synced_bytes(alloc, &mut disk) {
-        Ok(bytes) => bytes,
-        Err(fault) => return Err((fault.into(), disk)),
-    };
-    let front = match read_front(&bytes, reader) {
+    let front = match sync_front(alloc, &mut disk, reader) {
         Ok(front) => front,
         Err(fault) => return Err((fault, disk)),
     };
-    let active = front.active;
-    match resume(alloc, disk, &bytes, active.slot, front.at, reader) {
-        Ok(journal) => Ok(Slots::new(
-            alloc,
-            journal,
-            active.other,
-            front.generation,
-            active.is_open,
-        )),
+    let Front {
+        slot,
+        other,
+        is_open,
+        generation,
+        text,
+        at,
+        len,
+    } = front;
+    match resume(alloc, disk, slot, at, len, text, reader) {
+        Ok(journal) => Ok(Slots::new(alloc, journal, other, generation, is_open)),
         Err((fault, disk)) => Err((fault.into(), disk)),
     }
 }

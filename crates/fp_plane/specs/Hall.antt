@@ -1,6 +1,7 @@
 -- What a plane's lock keeps.
 use Rattle.std.specs.Prelude.{◌≡◌, ℕ, Bool, false, List, [], Option, None, IfSome, All}
 use Rattle.fp_desk.specs.Desk.{DeskState, settled_front}
+use Rattle.fp_group_commit.specs.Store as stores
 use Rattle.fp_group_commit.specs.Store.{StoreState}
 use Rattle.fp_group_commit.specs.Tokens.{FrontState, Identity}
 use Rattle.fp_publish.specs.Evaluator.{EvaluatorState}
@@ -16,7 +17,7 @@ pub record HallState (D : Type 0) : Type 0 where
   -- how many seats are taken, and the front that was handed last
   pub taken : ℕ
   pub handed : Option FrontState
-  -- the store failed; the plane is to stop; no batch is drawn any more
+  -- sealing broke off; the plane is to stop; no batch is drawn any more
   pub failed : Bool
   pub closing : Bool
   pub ended : Bool
@@ -27,14 +28,15 @@ pub record HallState (D : Type 0) : Type 0 where
 abbrev pub IsAtRest : Identity → EvaluatorState → Type 0
 IsAtRest store e = (e.known.store ≡ store) × (e.lent ≡ None)
 
--- What holds whenever the lock is free: all in it is of one store, and what is
--- shown begins what is settled
+-- What holds whenever the lock is free: all in it is of one store, what is shown begins what is
+-- settled, and a store that was left is at rest, unless sealing broke off
 pub record IsKept {D : Type 0} (store : Identity) (h : HallState D) : Type 0 where
   pub ours : h.desk.store ≡ store
   pub shown : Begins h.shown (settled_front h.desk)
   pub idle : All (IsAtRest store) h.idle
   pub handed : IsOfStore h.handed h.shown
   pub left : IfSome h.left (λ s. s.store ≡ store)
+  pub rest : h.failed ≡ false → IfSome h.left stores.IsAtRest
 
 -- a hall in which nothing was done yet, with so many evaluators
 pub record IsNew {D : Type 0} (store : Identity) (h : HallState D) : Type 0 where

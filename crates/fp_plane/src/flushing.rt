@@ -5,7 +5,7 @@ ghost use Rattle.fp_disk.specs.Crashes.{AtAnyMoment, EachCrash, SameHonesty};
 ghost use Rattle.fp_journal.specs.declared.journal.Phase.TheVariants.{Idle};
 ghost use Rattle.fp_record.specs.declared.batch.TheConstants.{MOST_EDITS};
 ghost use Rattle.fp_recovery.specs.Stands.{StandsFor};
-ghost use Rattle.fp_group_commit.specs.Store.{kept};
+ghost use Rattle.fp_group_commit.specs.Store.{IsAtRest, kept};
 ghost use Rattle.fp_session.specs.Session.{KeepsOrGains};
 
 use crate::naming::Naming;
@@ -19,27 +19,39 @@ use std::sync::Wait;
 use std::time::Clock;
 
 /// Seals what is handed in, batch after batch, settles and shows it, and tells all who
-/// wait, until the plane is to stop and nothing waits, or the store failed. Then it
-/// leaves the store in the plane.
+/// wait, until the plane is to stop and nothing waits, or sealing broke off. Then it leaves the
+/// store in the plane.
 pub fn flusher<K, D, R>(plane: &Plane<K, D, R>, store: OwnStore<D>)
 where
     K: Naming,
     D: Disk + Drop,
     R: Wait + Clock + Drop,
     requires ours { store.store ≡ K.store }
-    requires idle { store.step ≡ Idle }
+    requires rest { IsAtRest store }
 {
     let mut store = store.into_store();
+    let ended = flush_all(plane, &mut store);
+    plane.leave(OwnStore::new(store), ended);
+}
+
+// Seals, settles and shows all that is drawn, until the plane is to stop and nothing waits.
+fn flush_all<K, D, R>(plane: &Plane<K, D, R>, store: &mut Store<D>) -> Result<(), Broken>
+where
+    K: Naming,
+    D: Disk + Drop,
+    R: Wait + Clock + Drop,
+    requires ours { store.old.store ≡ K.store }
+    requires rest { IsAtRest store.old }
+    ensures same { store.new.store ≡ store.old.store }
+    ensures rest { OnOk result (IsAtRest store.new) }
+{
     for _ in plane.shared.rt.forever() {
         let Some(draw) = plane.drawn() else {
-            break;
+            return Ok(());
         };
-        if flush(plane, &mut store, draw).is_err() {
-            plane.fail();
-            break;
-        }
+        flush(plane, store, draw)?;
     }
-    plane.leave(OwnStore::new(store));
+    unreachable!()
 }
 
 // Seals, settles and shows what is drawn, and then takes a step of a compaction where one is due.
@@ -55,7 +67,7 @@ where
     requires few { length draw.changes ≤ MOST_EDITS }
     ensures same { store.new.store ≡ store.old.store }
     ensures sealed { OnOk result (store.new.sealed ≡ store.old.sealed ++ draw.changes) }
-    ensures idle { OnOk result (store.new.step ≡ Idle) }
+    ensures rest { OnOk result (IsAtRest store.new) }
     ensures any_moment { AtAnyMoment D.Disk store.old.slots.journal.disk
         store.new.slots.journal.disk (KeepsOrGains store.old draw.changes) }
     ensures keeps { OnOk result (EachCrash D.Disk store.new.slots.journal.disk
@@ -134,17 +146,12 @@ impl<K: Naming, D: Disk + Drop, R: Wait + Clock + Drop> Plane<K, D, R> {
         }
     }
 
-    // The store failed.
-    fn fail(&self) {
-        self.shared.hall.lock(&self.shared.rt).fail();
-        self.shared.news.notify_all();
-    }
-
-    // Leaves the store.
-    fn leave(&self, store: OwnStore<D>)
-        requires { store.store ≡ K.store }
+    // Leaves the store, and tells all who wait.
+    fn leave(&self, store: OwnStore<D>, ended: Result<(), Broken>)
+        requires ours { store.store ≡ K.store }
+        requires rest { OnOk ended (IsAtRest store) }
     {
-        self.shared.hall.lock(&self.shared.rt).leave(store);
+        self.shared.hall.lock(&self.shared.rt).leave(store, ended);
         self.shared.news.notify_all();
     }
 }

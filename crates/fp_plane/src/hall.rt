@@ -1,12 +1,13 @@
 //! What a plane's lock keeps.
 
 ghost use Rattle.std.specs.Prelude.{◌≡◌, ◌≢◌, ◌⊎◌, ◌<◌, ◌≤◌, ◌+◌, ◌++◌, [], ◌∷◌, true, None, Some};
-ghost use Rattle.std.specs.Prelude.{length, IfOk, IfErr, IfSome, OnOk, OnErr, IsTrue, ◌↔◌};
+ghost use Rattle.std.specs.Prelude.{false, length, IfOk, IfErr, IfSome, OnOk, OnErr, IsTrue, ◌↔◌};
 ghost use Rattle.std.specs.Prelude.{MatchOption, MatchResult, All, vec_len, ◌||◌, ◌&&◌, ◌-◌};
 ghost use Rattle.fp_edit.specs.Edits.{proposal_of};
 ghost use Rattle.fp_desk.specs.Desk.{IsAccepted, IsDrawn, Draws, Refuses, SettlesNot, log};
 ghost use Rattle.fp_desk.specs.Desk.{settled_front, settled_revision};
 ghost use Rattle.fp_record.specs.declared.batch.TheConstants.{MOST_EDITS};
+ghost use Rattle.fp_group_commit.specs.Store as stores;
 ghost use Rattle.fp_group_commit.specs.Tokens.{front_revision};
 ghost use Rattle.fp_publish.specs.Fronts.{Begins};
 ghost use Rattle.fp_publish.specs.Seats.{IsNews, had_by};
@@ -18,6 +19,7 @@ ghost use Rattle.fp_plane.specs.Hall.{IsAtRest, IsNew};
 
 use crate::naming::Naming;
 use crate::owned::{OwnBoard, OwnStore};
+use crate::sealing::Broken;
 use fp_desk::{Desk, SettleFault, SubmitFault, Ticket};
 use fp_disk::Disk;
 use fp_edit::Edit;
@@ -170,7 +172,7 @@ impl<K: Naming, D: Disk + Drop, R: Wait + Drop> Hall<K, D, R> {
         Some((told, shown))
     }
 
-    /// Whether no edit is settled any more: the store failed, or the flusher has ended.
+    /// Whether no edit is settled any more: sealing broke off, or the flusher has ended.
     pub fn is_over(&self) -> bool
         ensures { result ≡ (self.now.failed || self.now.ended) }
     {
@@ -222,18 +224,7 @@ impl<K: Naming, D: Disk + Drop, R: Wait + Drop> Hall<K, D, R> {
         self.board.publish(&self.desk)
     }
 
-    /// The store failed: no edit is taken any more, and none is settled.
-    pub fn fail(&mut self)
-        ensures { self.new ≡ record self.old {
-          desk = record self.old.desk { stopped = true };
-          failed = true;
-        } }
-    {
-        self.desk.stop();
-        self.has_failed = true;
-    }
-
-    /// Whether the store failed.
+    /// Whether sealing broke off.
     pub fn has_failed(&self) -> bool
         ensures { result ≡ self.now.failed }
     {
@@ -251,11 +242,24 @@ impl<K: Naming, D: Disk + Drop, R: Wait + Drop> Hall<K, D, R> {
         self.is_closing = true;
     }
 
-    /// The flusher has ended, and leaves its store.
-    pub fn leave(&mut self, store: OwnStore<D>)
-        requires { store.store ≡ K.store }
-        ensures { self.new ≡ record self.old { ended = true; left = Some store } }
+    /// The flusher has ended, and leaves its store. Where sealing broke off no edit is taken any
+    /// more, and none is settled.
+    pub fn leave(&mut self, store: OwnStore<D>, ended: Result<(), Broken>)
+        requires ours { store.store ≡ K.store }
+        requires rest { OnOk ended (stores.IsAtRest store) }
+        ensures well { OnOk ended
+            (self.new ≡ record self.old { ended = true; left = Some store }) }
+        ensures broken { OnErr ended (self.new ≡ record self.old {
+          desk = record self.old.desk { stopped = true };
+          failed = true;
+          ended = true;
+          left = Some store;
+        }) }
     {
+        if ended.is_err() {
+            self.desk.stop();
+            self.has_failed = true;
+        }
         self.left = Some(store);
         self.has_ended = true;
     }
@@ -264,6 +268,7 @@ impl<K: Naming, D: Disk + Drop, R: Wait + Drop> Hall<K, D, R> {
     pub fn take_store(&mut self) -> Option<OwnStore<D>>
         ensures ours { IfSome result (λ s. s.store ≡ K.store) }
         ensures taken { result ≡ self.old.left }
+        ensures at_rest { self.old.failed ≡ false → IfSome result stores.IsAtRest }
         ensures rest { self.new ≡ record self.old { left = None } }
     {
         self.left.take()

@@ -16,5 +16,6 @@ pub use flushing::flusher;
 pub use hall::{EvaluatorsUsed, Hall};
 pub use naming::Naming;
 pub use owned::OwnStore;
-pub use plane::Plane;
+pub use plane::{Plane, Stopped};
+pub use sealing::Broken;
 pub use subscriber::{SubscriberFault, subscriber_loop};

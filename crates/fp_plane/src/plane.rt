@@ -1,13 +1,15 @@
 //! The plane: what threads share.
 
-ghost use Rattle.std.specs.Prelude.{◌≡◌, ◌≤◌, None, IfOk, IfErr, IfSome};
+ghost use Rattle.std.specs.Prelude.{◌≡◌, ◌≤◌, None, IfOk, IfErr, IfSome, MatchResult};
 ghost use Rattle.fp_edit.specs.Edits.{proposal_of};
+ghost use Rattle.fp_group_commit.specs.Store as stores;
 ghost use Rattle.fp_group_commit.specs.Tokens.{front_revision};
 ghost use Rattle.fp_publish.specs.Fronts.{Begins};
 ghost use Rattle.fp_publish.specs.Seats.{had_by};
 
 use crate::hall::{EvaluatorsUsed, Hall};
 use crate::naming::Naming;
+use crate::sealing::Broken;
 use fp_desk::{SubmitFault, Ticket};
 use fp_disk::Disk;
 use fp_edit::Edit;
@@ -27,6 +29,10 @@ pub(crate) struct Shared<K: Naming, D: Disk + Drop, R: Wait + Drop> {
     // For all others: something was settled and shown, or the plane is over.
     pub(crate) news: Condvar,
 }
+
+/// The store of a plane that was stopped; an error where sealing broke off before, by a failure of
+/// the device, or since the generations are used up.
+pub type Stopped<D> = Result<Store<D>, (Broken, Store<D>)>;
 
 /// A handle of a plane: one desk and one board under a lock, which editors, evaluators, subscribers
 /// and a flusher share. A plane is over the store that `K` names.
@@ -130,15 +136,11 @@ impl<K: Naming, D: Disk + Drop, R: Wait + Drop> Plane<K, D, R> {
 
     // ---- the end
 
-    /// Whether the store failed: no edit is taken any more, and none is settled.
-    pub fn has_failed(&self) -> bool {
-        self.shared.hall.lock(&self.shared.rt).has_failed()
-    }
-
     /// No edit is taken any more. Waits until what was taken is settled and the flusher has ended,
     /// and gives its store back.
-    pub fn stop(self) -> Store<D>
-        ensures { result.store ≡ K.store }
+    pub fn stop(self) -> Stopped<D>
+        ensures ours { MatchResult result (λ s. s.store ≡ K.store) (λ e. e.1.store ≡ K.store) }
+        ensures rest { IfOk result stores.IsAtRest }
     {
         let shared = &self.shared;
         let mut hall = shared.hall.lock(&shared.rt);
@@ -146,7 +148,12 @@ impl<K: Naming, D: Disk + Drop, R: Wait + Drop> Plane<K, D, R> {
         shared.work.notify_all();
         for _ in shared.rt.forever() {
             if let Some(store) = hall.take_store() {
-                return store.into_store();
+                let store = store.into_store();
+                return if hall.has_failed() {
+                    Err((Broken, store))
+                } else {
+                    Ok(store)
+                };
             }
             hall = shared.news.wait(&shared.rt, hall);
         }

@@ -118,9 +118,11 @@ pub fn compact_on<D: Disk>(store: &mut Store<D>) -> Result<(), Broken>
     requires keeps { EachCrash D.Disk store.old.slots.journal.disk
         (λ c. StandsFor c (kept store.old)) }
     ensures keeps { KeepsAll D.Disk store.old store.new }
+    ensures rest { OnOk result (IsAtRest store.new) }
 {
     match go_on(store) {
-        Ok(()) | Err(CommitFault::Memory) => Ok(()),
-        Err(CommitFault::StoreFailed) => Err(Broken),
+        Ok(()) => Ok(()),
+        Err(CommitFault::Memory) if !store.failed() => Ok(()),
+        Err(_) => Err(Broken),
     }
 }

@@ -1,7 +1,7 @@
 -- A set that is kept: its disk stands for it, and so after one batch more.
-use Rattle.std.proofs.Common.{◌≡◌, ◌⊎◌, ◌<◌, ◌≤◌, ◌+◌, ◌-◌, ◌/◌, ℕ, List, [], ◌∷◌, ◌++◌, length, refl, sym, ap, subst, ◌∙◌, inl, inr, ⊎_elim, arith, append_assoc, length-append, lit<, lit≤}
+use Rattle.std.proofs.Common.{◌≡◌, ◌⊎◌, ◌≤◌, ◌+◌, ◌-◌, ◌/◌, ℕ, List, [], ◌∷◌, ◌++◌, length, refl, sym, ap, subst, ◌∙◌, inl, inr, ⊎_elim, arith, append_assoc, length-append, lit<, lit≤}
 use Rattle.std.specs.Prelude.{slice_index, slice_range}
-use Rattle.std.proofs.lemmas.List.{append-nil, ext_get_or}
+use Rattle.std.proofs.lemmas.List.{append-nil}
 use Rattle.std.specs.FinMap as fin
 use Rattle.std.specs.List.Sorted.{IsStrictlySortedBy}
 use Rattle.fp_disk.specs.Outcomes.{PendingState, IsOutcome, all_synced}
@@ -19,6 +19,7 @@ use Rattle.fp_layout.specs.Size.{IsSlotSize, Side, first, second, other_side, sl
 use Rattle.fp_layout.specs.Layout.{IsHeader, IsHead, IsActive}
 use Rattle.fp_layout.specs.NewDisk.{IsNewDisk, IsNewOrNone, new_front, empty_image}
 use Rattle.fp_layout.specs.Opening.{FoundDisk}
+use Rattle.fp_layout.proofs.Settled.{settled_one}
 use Rattle.fp_layout.proofs.Making.{new_header, new_active, new_head}
 use Rattle.fp_layout.proofs.Numbers.{number64_one}
 use Rattle.fp_slots.specs.Rules.{Rules, Tells}
@@ -222,12 +223,7 @@ module _ (c : List ℕ) (before set : State) (slot : Slot) (front : List ℕ) (f
   pub found_kept : {D : Type 0} (u : PendingState) (journal : JournalState D) → journal.slot ≡ slot → journal.front ≡ front → journal.sealed ≡ [] → u ≡ all_synced c → IsKept u set journal
   found_kept u journal slot_is front_is none sure = read_kept c f.begun.size slot f.begun.other set found_read u journal slot_is (front_is ∙ found_front) none sure
 
--- after a sync a crash leaves what a read gives
-pub settled_one : (b c : List ℕ) → IsOutcome (all_synced b) c → c ≡ b
-settled_one b c o =
-    let low = o.no_shorter in let high = o.no_longer in let len : length c ≡ length b = omega (arith, low, high) in
-    ext_get_or 0 c b len (λ k lt. o.kept k (omega (arith, lt, len)) (λ none. none))
-
+-- after a sync a crash leaves what stands for the set
 pub settled_sure : (u : PendingState) (c : List ℕ) (set : State) → u ≡ all_synced c → StandsFor c set → IsDurable u set
 settled_sure u c set sure stands = λ o left. subst (λ (x : List ℕ). StandsFor x set) (sym (settled_one c o (subst (λ (v : PendingState). IsOutcome v o) sure left))) stands
 

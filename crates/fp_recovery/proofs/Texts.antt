@@ -1,7 +1,5 @@
 -- Texts of slots, whole and place by place.
-use Rattle.std.proofs.Common.{◌≡◌, ◌<◌, ◌≤◌, ◌+◌, ◌-◌, ◌/◌, ◌^◌, ℕ, List, [], ◌∷◌, ◌++◌, length, refl, sym, ap, subst, ◌∙◌, arith, length-append, append_assoc}
-use Rattle.std.specs.Prelude.{slice_index}
-use Rattle.std.specs.Int.{w32, w64, to_be_bytes}
+use Rattle.std.proofs.Common.{◌≡◌, ◌≤◌, ◌+◌, ◌-◌, ◌/◌, ℕ, List, [], ◌∷◌, ◌++◌, length, refl, sym, ap, subst, ◌∙◌, arith, length-append, append_assoc}
 use Rattle.fp_edit.specs.Flags.{State}
 use Rattle.fp_gate.specs.declared.gate.TheConstants.{OPEN}
 use Rattle.fp_journal.specs.Holds.{Holds}
@@ -9,12 +7,13 @@ use Rattle.fp_journal.specs.Chain.{Ends, framed, spell}
 use Rattle.fp_journal.specs.Reading.{IsChain, Reads}
 use Rattle.fp_journal.specs.State.{AllShort}
 use Rattle.fp_journal.specs.declared.slot.Slot.{Slot}
-use Rattle.fp_journal.proofs.Holds.{byte_held, holds_append, holds_byte, holds_front, holds_back}
+use Rattle.fp_journal.proofs.Holds.{holds_append, holds_front, holds_back}
 use Rattle.fp_journal.proofs.Gates.{text-more}
 use Rattle.fp_journal.proofs.Links.{reads_more}
 use Rattle.fp_journal.proofs.Steps.{All-push}
 use Rattle.fp_layout.specs.Size.{Side, first, second, slot_of, other_side}
 use Rattle.fp_layout.specs.Layout.{IsHeader, IsHead, IsActive}
+use Rattle.fp_layout.proofs.Heads.{head_length, head_places, head_whole}
 use Rattle.fp_slots.specs.Head.{head_text}
 use Rattle.fp_slots.specs.Rules.{Tells}
 use Rattle.fp_recovery.specs.Stands.{IsImageOf, TakesBatch, Spells, StandsFor}
@@ -40,49 +39,6 @@ most_of size first = refl
 most_of size second = refl
 
 -- ---- place by place
-pub head_length : (generation base : ℕ) (image : List ℕ) → length (head_text generation base image) ≡ 22 + length image
-head_length generation base image = omega arith
-
-module _ (at generation base : ℕ) (image c : List ℕ) where
-  abbrev Len : List ℕ
-  Len = to_be_bytes w32 (length image) ++ image
-
-  abbrev Base : List ℕ
-  Base = to_be_bytes w64 base ++ Len
-
-  abbrev Version : List ℕ
-  Version = 1 ∷ Base
-
-  abbrev Generation : List ℕ
-  Generation = to_be_bytes w64 generation ++ Version
-
-  place : (k n : ℕ) → k ≡ n → (t : List ℕ) → Holds c k t → Holds c n t
-  place k n is t h = subst (λ (m : ℕ). Holds c m t) is h
-
-  pub head_places : (size : ℕ) → generation < 2 ^ 64 → base < 2 ^ 63 → length image ≤ size / 2 → Holds c at (head_text generation base image) → IsHead c at size generation base image
-  head_places size numbered low small h =
-      let g : Holds c (at + 1) Generation = holds_back c at (OPEN ∷ []) Generation h in
-      let v : Holds c (at + 9) Version = place (at + 1 + 8) (at + 9) (omega arith) Version (holds_back c (at + 1) (to_be_bytes w64 generation) Version g) in
-      let b : Holds c (at + 10) Base = place (at + 9 + 1) (at + 10) (omega arith) Base (holds_back c (at + 9) (1 ∷ []) Base v) in
-      let l : Holds c (at + 18) Len = place (at + 10 + 8) (at + 18) (omega arith) Len (holds_back c (at + 10) (to_be_bytes w64 base) Len b) in
-      let long = b.long in record {
-        generation_is = record { small = numbered; text = holds_front c (at + 1) (to_be_bytes w64 generation) Version g };
-        version = record { long = omega (arith, long); is = byte_held c (at + 9) 1 Base v };
-        base_is = record { text = holds_front c (at + 10) (to_be_bytes w64 base) Len b; small = low };
-        length_is = record { text = holds_front c (at + 18) (to_be_bytes w32 (length image)) image l; small = small };
-        image_text = place (at + 18 + 4) (at + 22) (omega arith) image (holds_back c (at + 18) (to_be_bytes w32 (length image)) image l);
-      }
-
-  pub head_whole : (size : ℕ) → slice_index c at ≡ OPEN → IsHead c at size generation base image → Holds c at (head_text generation base image)
-  head_whole size open_is h = let long = h.version.long in
-      let l : Holds c (at + 18) Len = holds_append c (at + 18) (to_be_bytes w32 (length image)) image h.length_is.text (place (at + 22) (at + 18 + 4) (omega arith) image h.image_text) in
-      let b : Holds c (at + 10) Base = holds_append c (at + 10) (to_be_bytes w64 base) Len h.base_is.text (place (at + 18) (at + 10 + 8) (omega arith) Len l) in
-      let one : Holds c (at + 9) (1 ∷ []) = subst (λ (x : ℕ). Holds c (at + 9) (x ∷ [])) h.version.is (holds_byte c (at + 9) (omega (arith, long))) in
-      let v : Holds c (at + 9) Version = holds_append c (at + 9) (1 ∷ []) Base one (place (at + 10) (at + 9 + 1) (omega arith) Base b) in
-      let g : Holds c (at + 1) Generation = holds_append c (at + 1) (to_be_bytes w64 generation) Version h.generation_is.text (place (at + 9) (at + 1 + 8) (omega arith) Version v) in
-      let gate : Holds c at (OPEN ∷ []) = subst (λ (x : ℕ). Holds c at (x ∷ [])) open_is (holds_byte c at (omega (arith, long))) in
-      holds_append c at (OPEN ∷ []) Generation gate g
-
 -- what is read of a disk, by its places
 pub record IsReadFrom (c : List ℕ) (size : ℕ) (slot other : Slot) (s : State) : Type 0 where
   pub generation : ℕ

@@ -2,10 +2,10 @@
 
 ghost use Rattle.fp_disk.specs.Crashes.{AtAnyMoment, SameHonesty};
 ghost use Rattle.std.specs.Prelude.{◌≡◌, ◌<◌, [], ◌∷◌, IfOk, IfErr, OnOk, IsErrOf};
-ghost use Rattle.fp_disk.specs.History.{Makes};
-ghost use Rattle.fp_disk.specs.declared.history.CallKind.TheVariants.{Length, Read};
+ghost use Rattle.fp_disk.specs.declared.history.CallKind.TheVariants.{Length};
 ghost use Rattle.fp_disk.specs.Outcomes.{IsOutcome};
 ghost use Rattle.fp_edit.specs.Flags.{State};
+ghost use Rattle.fp_journal.specs.Pieces.{MakesThenReads};
 ghost use Rattle.fp_layout.specs.declared.fault.OpenFault.TheVariants.{Device};
 ghost use Rattle.fp_recovery.specs.Refusals.{RefusesBytes};
 ghost use Rattle.fp_recovery.specs.Recovered.{FindsEach, StandsAt, TellsEach};
@@ -13,12 +13,11 @@ ghost use Rattle.fp_recovery.specs.Recovered.{FindsEach, StandsAt, TellsEach};
 use crate::restoring::Replayer;
 use fp_disk::Disk;
 use fp_edit::FlagSet;
-use fp_journal::read_bytes;
 use fp_layout::{OpenFault, Place, read_disk};
 use std::alloc::Global;
 
 /// The set that a disk stands for, and the place where it goes on; or the first fault of its bytes.
-/// Nothing is synced and nothing written.
+/// No more is read than that takes. Nothing is synced and nothing written.
 pub fn recover<D: Disk>(alloc: Global, disk: &mut D) -> Result<(FlagSet, Place), OpenFault>
     ensures stands { D.honest disk.old →
         IfOk result (λ r. StandsAt (D.bytes disk.old) r.0 r.1) }
@@ -32,12 +31,11 @@ pub fn recover<D: Disk>(alloc: Global, disk: &mut D) -> Result<(FlagSet, Place),
         × (D.unsynced disk.new ≡ D.unsynced disk.old) }
     ensures any_moment { AtAnyMoment D.Disk disk.old disk.new (IsOutcome (D.unsynced disk.old)) }
     ensures honest { SameHonesty D.Disk disk.old disk.new }
-    ensures called { Makes (Length ∷ Read ∷ []) (D.calls disk.old) (D.calls disk.new) result }
+    ensures called { MakesThenReads (Length ∷ []) (D.calls disk.old) (D.calls disk.new) result }
     ensures no_failure { OnOk result (D.faults disk.new ≡ D.faults disk.old) }
     ensures cause { IsErrOf result Device → D.faults disk.old < D.faults disk.new }
 {
-    let bytes = read_bytes(alloc, disk)?;
     let mut restoring = Replayer::new(alloc);
-    let place = read_disk(&bytes, &mut restoring)?;
+    let place = read_disk(alloc, disk, &mut restoring)?;
     Ok((restoring.into_set(), place))
 }

@@ -1,8 +1,10 @@
 //! A store over sockets, from its opening to its end.
 
-ghost use Rattle.std.specs.Prelude.{◌≡◌, ◌<◌, ◌^◌, ◌++◌, ◌∷◌, [], IfOk, IfErr, IfSome};
+ghost use Rattle.std.specs.Prelude.{◌≡◌, ◌<◌, ◌^◌, ◌++◌, ◌∷◌, []};
+ghost use Rattle.std.specs.Prelude.{IfOk, IfErr, IfSome, None};
+ghost use Rattle.fp_commands.specs.declared.fault.CommandFault.TheVariants.{Memory};
 ghost use Rattle.fp_files.specs.Openings.{KeepsOthers};
-ghost use Rattle.fp_journal.specs.declared.journal.Phase.TheVariants.{Idle};
+ghost use Rattle.fp_group_commit.specs.Store.{IsAtRest};
 
 use crate::host::Host;
 use crate::listening::Listening;
@@ -212,9 +214,11 @@ where
     I: Read,
     O: Write,
     requires ours { opening ≡ store.store }
-    requires idle { store.step ≡ Idle }
+    requires rest { IsAtRest store }
     ensures same { IfOk result (λ s. s.store ≡ store.store) }
+    ensures rest { IfOk result IsAtRest }
     ensures given_back { IfErr result (λ e. IfSome e.1 (λ s. s.store ≡ store.store)) }
+    ensures lost { IfErr result (λ e. e.1 ≡ None → e.0 ≡ Memory) }
 {
     serve_named::<Brand, D, R, I, O>(rt, store, opening, listeners, r, w)
 }
@@ -236,9 +240,11 @@ where
     O: Write,
     requires ours { store.store ≡ K.store }
     requires opening { opening ≡ K.store }
-    requires idle { store.step ≡ Idle }
+    requires rest { IsAtRest store }
     ensures same { IfOk result (λ s. s.store ≡ K.store) }
+    ensures rest { IfOk result IsAtRest }
     ensures given_back { IfErr result (λ e. IfSome e.1 (λ s. s.store ≡ K.store)) }
+    ensures lost { IfErr result (λ e. e.1 ≡ None → e.0 ≡ Memory) }
 {
     let plane: Plane<K, D, R> = match Plane::new(*rt, rt.alloc(), opening) {
         Ok(plane) => plane,
@@ -260,7 +266,7 @@ where
     D: Disk + Drop + Send + 'static,
     R: Host,
     requires ours { store.store ≡ K.store }
-    requires idle { store.step ≡ Idle }
+    requires rest { IsAtRest store }
 {
     let own = OwnStore::new(store);
     let _thread = thread::spawn(rt, move || flusher(&plane, own))?;
@@ -283,18 +289,31 @@ where
     I: Read,
     O: Write,
     ensures same { IfOk result (λ s. s.store ≡ K.store) }
+    ensures rest { IfOk result IsAtRest }
     ensures given_back { IfErr result (λ e. IfSome e.1 (λ s. s.store ≡ K.store)) }
+    ensures lost { IfErr result (λ e. e.1 ≡ None → e.0 ≡ Memory) }
 {
     let Ok(services) = Services::of(rt, &listeners) else {
-        return Err((CommandFault::Device, Some(last.stop())));
+        return Err((CommandFault::Device, Some(stopped(last))));
     };
     let attended = services.attend(listeners, plane, r, w);
     services.edit.close(Shutdown::Read);
     let store = last.stop();
     services.end();
-    match attended {
-        Err(fault) => Err((fault, Some(store))),
-        Ok(()) if plane.has_failed() => Err((CommandFault::StoreFailed, Some(store))),
-        Ok(()) => Ok(store),
+    match (attended, store) {
+        (Ok(()), Ok(store)) => Ok(store),
+        (Ok(()), Err((_, store))) => Err((CommandFault::StoreFailed, Some(store))),
+        (Err(fault), Ok(store)) => Err((fault, Some(store))),
+        (Err(fault), Err((_, store))) => Err((fault, Some(store))),
+    }
+}
+
+// The store of a plane, which is stopped.
+fn stopped<K: Naming, D: Disk + Drop, R: Host>(plane: Plane<K, D, R>) -> Store<D>
+    ensures { result.store ≡ K.store }
+{
+    match plane.stop() {
+        Ok(store) => store,
+        Err((_, store)) => store,
     }
 }

@@ -1,11 +1,11 @@
 //! Edits that go to a store on a disk, by way of a desk.
 
-ghost use Rattle.std.specs.Prelude.{◌≡◌, ◌<◌, ◌++◌, [], ◌∷◌, IfOk, IfErr, IsTrue, MatchResult, ◌↔◌};
+ghost use Rattle.std.specs.Prelude.{◌≡◌, ◌<◌, [], ◌∷◌, IfOk, IfErr, IsTrue, MatchResult, ◌↔◌};
 ghost use Rattle.fp_disk.specs.Crashes.{EachCrash, SameHonesty};
-ghost use Rattle.fp_disk.specs.History.{MakesSome};
 ghost use Rattle.fp_disk.specs.Outcomes.{IsOutcome, LeavesOnly};
-ghost use Rattle.fp_disk.specs.declared.history.CallKind.TheVariants.{Length, Read, Sync};
+ghost use Rattle.fp_disk.specs.declared.history.CallKind.TheVariants.{Length, Sync};
 ghost use Rattle.fp_edit.specs.Flags.{State};
+ghost use Rattle.fp_journal.specs.Pieces.{ThenReads, ThenSomeReads};
 ghost use Rattle.fp_layout.specs.declared.fault.OpenFault.TheVariants as opening;
 ghost use Rattle.fp_recovery.specs.Refusals.{IsUnlessWanting, RefusesBytes};
 ghost use Rattle.fp_recovery.specs.Stands.{StandsFor};
@@ -96,8 +96,8 @@ impl<D: Disk> DiskSession<D> {
         ensures no_failure { IfOk result (λ s. D.faults (disk_of s) ≡ D.faults disk) }
         ensures cause { IfErr result (λ e. e.0 ≡ opening.Device → D.faults disk < D.faults e.1) }
         ensures called { MatchResult result
-            (λ s. D.calls (disk_of s) ≡ D.calls disk ++ Sync ∷ Length ∷ Read ∷ [])
-            (λ e. MakesSome (Sync ∷ Length ∷ Read ∷ []) (D.calls disk) (D.calls e.1)) }
+            (λ s. ThenReads (Sync ∷ Length ∷ []) (D.calls disk) (D.calls (disk_of s)))
+            (λ e. ThenSomeReads (Sync ∷ Length ∷ []) (D.calls disk) (D.calls e.1)) }
         ensures same { D.honest disk → MatchResult result
             (λ s. D.bytes (disk_of s) ≡ D.bytes disk) (λ e. D.bytes e.1 ≡ D.bytes disk) }
         ensures any_moment { D.honest disk → MatchResult result

@@ -1,13 +1,14 @@
 -- Which of two slots decides what a disk stands for.
-use Rattle.std.specs.Prelude.{◌≡◌, ◌≢◌, ◌⊎◌, ◌<◌, ◌+◌, ◌^◌, ℕ, List, length, slice_index}
+use Rattle.std.specs.Prelude.{◌≡◌, ◌≢◌, ◌⊎◌, ◌↔◌, ◌<◌, ◌+◌, ◌^◌, ℕ, Bool, IsTrue, List, length, slice_index}
 use Rattle.std.specs.Int.{w64, to_be_bytes}
 use Rattle.fp_journal.specs.Holds.{Holds}
+use Rattle.fp_journal.specs.Firsts.{AreFirst}
 use Rattle.fp_journal.specs.Chain.{Ends}
 use Rattle.fp_journal.specs.declared.slot.Slot.{Slot}
 use Rattle.fp_gate.specs.declared.gate.TheConstants.{OPEN}
 use Rattle.fp_slots.specs.declared.choosing.SlotFault.{SlotFault}
 use Rattle.fp_slots.specs.declared.choosing.SlotFault.TheVariants.{Damaged}
-use Rattle.fp_slots.specs.declared.places.TheConstants.{GENERATION_PLACE, VERSION_PLACE}
+use Rattle.fp_slots.specs.declared.places.TheConstants.{GENERATION_PLACE, VERSION_PLACE, IMAGE_PLACE}
 
 -- behind the gate of the slot that begins at this place stands this generation, whole
 pub record HasGeneration (slot n : ℕ) (c : List ℕ) : Type 0 where
@@ -28,10 +29,25 @@ pub record Tells (slot other : Slot) (text c : List ℕ) : Type 0 where
   pub ends : Ends slot.start slot.stop text c
 
 -- ---- what a reader finds
--- the slot at `slot` rules over the one at `other`, and they are those two
-pub record IsRuling (first second slot other : Slot) (c : List ℕ) : Type 0 where
-  pub are : ((slot ≡ first) × (other ≡ second)) ⊎ ((slot ≡ second) × (other ≡ first))
-  pub rules : Rules slot.start other.start c
+-- these are the first bytes of the slot that begins at this place: so many as stand in front of its
+-- image, or as many as there are
+abbrev pub IsLead : List ℕ → ℕ → List ℕ → Type 0
+IsLead c slot bytes = AreFirst c slot IMAGE_PLACE bytes
+
+-- these are those of both
+abbrev pub HasLeads : (first : Slot) (a : List ℕ) (second : Slot) (b : List ℕ) → List ℕ → Type 0
+HasLeads first a second b c = IsLead c first.start a × IsLead c second.start b
+
+-- one of two slots, with its first bytes, and the other one
+abbrev pub IsOneOf : (first : Slot) (a : List ℕ) (second : Slot) (b : List ℕ) (slot : Slot)
+    (bytes : List ℕ) (other : Slot) → Type 0
+IsOneOf first a second b slot bytes other = ((slot ≡ first) × (bytes ≡ a) × (other ≡ second))
+    ⊎ ((slot ≡ second) × (bytes ≡ b) × (other ≡ first))
+
+-- the one rules over the other, whose gate is open or isn't
+pub record IsRuling (slot other : ℕ) (is_open : Bool) (c : List ℕ) : Type 0 where
+  pub rules : Rules slot other c
+  pub gate : IsTrue is_open ↔ (slice_index c other ≡ OPEN)
 
 -- neither rules, and k is the place that tells it
 pub data RulesNeither (first second : ℕ) (c : List ℕ) (k : ℕ) : Type 0 where

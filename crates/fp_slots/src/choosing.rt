@@ -1,11 +1,10 @@
 //! Which of two slots rules.
 
-ghost use Rattle.std.specs.Prelude.{◌≡◌, ◌<◌, ◌≤◌, ◌+◌, ◌^◌, ◌↔◌, length, slice_index, IsTrue, IfOk, IfErr};
-ghost use Rattle.std.specs.Int.{w64, to_be_bytes};
-ghost use Rattle.fp_journal.specs.Holds.{Holds};
+ghost use Rattle.std.specs.Prelude.{◌≡◌, ◌<◌, ◌≤◌, ◌+◌, ◌^◌, List, ℕ, length, slice_index};
+ghost use Rattle.std.specs.Prelude.{IfOk, IfErr};
 ghost use Rattle.fp_gate.specs.declared.gate.TheConstants.{OPEN};
-ghost use Rattle.fp_slots.specs.Rules.{HasGeneration, IsRuling, RefusesSlots};
-ghost use Rattle.fp_slots.specs.declared.places.TheConstants.{VERSION_PLACE};
+ghost use Rattle.fp_slots.specs.Rules.{HasGeneration, HasLeads, IsOneOf, IsRuling, RefusesSlots};
+ghost use Rattle.fp_slots.specs.declared.places.TheConstants.{IMAGE_PLACE, VERSION_PLACE};
 
 use crate::places::{GENERATION_PLACE, VERSION_PLACE};
 use fp_gate::OPEN;
@@ -20,21 +19,23 @@ pub enum SlotFault {
 
 /// The slot that rules, the other one, and whether that one's gate is open.
 #[derive(Clone, Copy)]
-pub struct Active {
+pub struct Active<'a> {
     /// The one that rules.
     pub slot: Slot,
+    /// Its first bytes.
+    pub bytes: &'a [u8],
     /// The other one.
     pub other: Slot,
     /// Whether the other one's gate is open.
     pub is_open: bool,
 }
 
-// The generation behind the gate of the slot that begins there.
-fn generation_at(bytes: &[u8], slot: usize) -> u64
-    requires { slot + VERSION_PLACE ≤ length bytes.now }
-    ensures { HasGeneration slot result bytes.now }
+// The generation behind the gate of the slot of which these are the first bytes.
+fn generation_of(bytes: &[u8]) -> u64
+    requires { VERSION_PLACE ≤ length bytes.now }
+    ensures { HasGeneration 0 result bytes.now }
 {
-    let at = slot + GENERATION_PLACE;
+    let at = GENERATION_PLACE;
     u64::from_be_bytes([
         bytes[at],
         bytes[at + 1],
@@ -47,22 +48,32 @@ fn generation_at(bytes: &[u8], slot: usize) -> u64
     ])
 }
 
-/// Which of two slots rules in all the bytes of a disk, or the place that tells that neither does.
-pub fn pick(bytes: &[u8], first: Slot, second: Slot) -> Result<Active, SlotFault>
-    requires whole { first.start + VERSION_PLACE ≤ length bytes.now }
-    requires there { second.start < length bytes.now }
-    ensures found { IfOk result (λ r. IsRuling first second r.slot r.other bytes.now) }
-    ensures other { IfOk result (λ r. IsTrue r.is_open ↔
-        (slice_index bytes.now r.other.start ≡ OPEN)) }
-    ensures fault { IfErr result (RefusesSlots first.start second.start bytes.now) }
+/// Which of two slots rules, by the first bytes of both, or the place that tells that neither does.
+pub fn pick<'a>(
+    first: Slot,
+    mine: &'a [u8],
+    second: Slot,
+    its: &'a [u8],
+) -> Result<Active<'a>, SlotFault>
+    requires whole { VERSION_PLACE ≤ length mine.now }
+    requires there { 0 < length its.now }
+    requires fits { second.start + IMAGE_PLACE < 2 ^ 64 }
+    ensures are { IfOk result (λ r.
+        IsOneOf first mine.now second its.now r.slot r.bytes.now r.other) }
+    ensures open { IfOk result (λ r. slice_index r.bytes.now 0 ≡ OPEN) }
+    ensures found { IfOk result (λ r. (c : List ℕ) → HasLeads first mine.now second its.now c →
+        IsRuling r.slot.start r.other.start r.is_open c) }
+    ensures fault { IfErr result (λ f. (c : List ℕ) → HasLeads first mine.now second its.now c →
+        RefusesSlots first.start second.start c f) }
 {
-    let is_open = bytes[first.start as usize] == OPEN;
-    if bytes[second.start as usize] == OPEN {
+    let is_open = mine[0] == OPEN;
+    if its[0] == OPEN {
         if is_open {
-            return pick_by_generation(bytes, first, second);
+            return pick_by_generation(first, mine, second, its);
         }
         return Ok(Active {
             slot: second,
+            bytes: its,
             other: first,
             is_open: false,
         });
@@ -72,43 +83,54 @@ pub fn pick(bytes: &[u8], first: Slot, second: Slot) -> Result<Active, SlotFault
     }
     Ok(Active {
         slot: first,
+        bytes: mine,
         other: second,
         is_open: false,
     })
 }
 
 // Which of two slots rules whose gates are both open.
-fn pick_by_generation(bytes: &[u8], first: Slot, second: Slot) -> Result<Active, SlotFault>
-    requires whole { first.start + VERSION_PLACE ≤ length bytes.now }
-    requires there { second.start < length bytes.now }
-    requires first_open { slice_index bytes.now first.start ≡ OPEN }
-    requires second_open { slice_index bytes.now second.start ≡ OPEN }
-    ensures found { IfOk result (λ r. IsRuling first second r.slot r.other bytes.now) }
-    ensures other { IfOk result (λ r. IsTrue r.is_open ↔
-        (slice_index bytes.now r.other.start ≡ OPEN)) }
-    ensures fault { IfErr result (RefusesSlots first.start second.start bytes.now) }
+fn pick_by_generation<'a>(
+    first: Slot,
+    mine: &'a [u8],
+    second: Slot,
+    its: &'a [u8],
+) -> Result<Active<'a>, SlotFault>
+    requires whole { VERSION_PLACE ≤ length mine.now }
+    requires there { 0 < length its.now }
+    requires fits { second.start + IMAGE_PLACE < 2 ^ 64 }
+    requires first_open { slice_index mine.now 0 ≡ OPEN }
+    requires second_open { slice_index its.now 0 ≡ OPEN }
+    ensures are { IfOk result (λ r.
+        IsOneOf first mine.now second its.now r.slot r.bytes.now r.other) }
+    ensures open { IfOk result (λ r. slice_index r.bytes.now 0 ≡ OPEN) }
+    ensures found { IfOk result (λ r. (c : List ℕ) → HasLeads first mine.now second its.now c →
+        IsRuling r.slot.start r.other.start r.is_open c) }
+    ensures fault { IfErr result (λ f. (c : List ℕ) → HasLeads first mine.now second its.now c →
+        RefusesSlots first.start second.start c f) }
 {
-    let (a, b) = (first.start as usize, second.start as usize);
-    if bytes.len() - b < VERSION_PLACE {
+    if its.len() < VERSION_PLACE {
         return Err(SlotFault::Damaged {
-            at: bytes.len() as u64,
+            at: second.start + its.len() as u64,
         });
     }
-    let (mine, its) = (generation_at(bytes, a), generation_at(bytes, b));
-    if mine == its {
+    let (generation, other) = (generation_of(mine), generation_of(its));
+    if generation == other {
         return Err(SlotFault::Damaged {
             at: second.start + GENERATION_PLACE as u64,
         });
     }
-    if its < mine {
+    if other < generation {
         return Ok(Active {
             slot: first,
+            bytes: mine,
             other: second,
             is_open: true,
         });
     }
     Ok(Active {
         slot: second,
+        bytes: its,
         other: first,
         is_open: true,
     })

@@ -1,6 +1,8 @@
 //! Chains and journals in slots of a few bytes.
 
-ghost use Rattle.std.specs.Prelude.{◌≡◌, ◌≤◌, ◌<◌, ◌+◌, ◌^◌, length};
+ghost use Rattle.std.specs.Prelude.{◌≡◌, ◌≤◌, ◌<◌, ◌+◌, ◌^◌, length, IfOk, OnOk};
+ghost use Rattle.fp_disk.specs.Crashes.{SameHonesty};
+ghost use Rattle.fp_disk.specs.Outcomes.{all_synced};
 ghost use Rattle.fp_journal.specs.State.{room};
 ghost use Rattle.fp_journal.specs.declared.journal.Phase.TheVariants.{Idle};
 
@@ -8,14 +10,15 @@ use crate::text::Args;
 use crate::trial::{Answer, Fault, Trial};
 use fp_disk::{Disk, DiskFault, MemoryDisk};
 use fp_journal::{
-    BodyFault, ChainFault, Framed, Journal, Phase, Reader, Slot, read_chain, resume, synced_bytes,
+    BodyFault, ChainFault, Framed, Journal, Phase, Reader, Slot, Text, read_bytes, read_chain,
+    resume,
 };
 use std::alloc::{AllocError, Global};
 
 /// `chain STOP MOST BYTES`, `slot START STOP MOST AT [BODY]`.
 pub fn on_slots(trial: &mut Trial, word: &str, args: &mut Args<'_>) -> Answer {
     if word == "chain" {
-        chain(args)
+        chain(trial.alloc, args)
     } else {
         in_slot(trial, args)
     }
@@ -70,22 +73,38 @@ impl Reader for Bodies {
     }
 }
 
+// Makes sure of a disk, and asks how many bytes it has.
+fn synced_len<D: Disk>(disk: &mut D) -> Result<u64, DiskFault>
+    ensures long { D.honest disk.old → IfOk result (λ n. n ≡ length (D.bytes disk.new)) }
+    ensures all_synced { D.honest disk.old →
+        OnOk result (D.unsynced disk.new ≡ all_synced (D.bytes disk.new)) }
+    ensures honest { SameHonesty D.Disk disk.old disk.new }
+{
+    disk.sync()?;
+    let len = disk.len()?;
+    Ok(len)
+}
+
 // A journal in a slot of the disk, behind the chain that begins at this place.
-fn journal_in(
+fn journal_in<D: Disk>(
     alloc: Global,
-    mut disk: MemoryDisk,
+    mut disk: D,
     slot: Slot,
     at: u64,
-) -> Result<Journal<MemoryDisk>, (Fault, MemoryDisk)> {
-    let Ok(bytes) = synced_bytes(alloc, &mut disk) else {
+) -> Result<Journal<D>, (Fault, D)> {
+    let Ok(len) = synced_len(&mut disk) else {
         return Err((Fault::Device, disk));
     };
-    if at < slot.start || at > bytes.len() as u64 {
+    if at < slot.start || at > len {
         return Err((Fault::Damaged(at), disk));
     }
-    match resume(alloc, disk, &bytes, slot, at, &mut Bodies) {
+    let Ok(front) = read_bytes(alloc, &mut disk, slot.start, (at - slot.start) as usize) else {
+        return Err((Fault::Device, disk));
+    };
+    match resume(alloc, disk, slot, at, len, Text::new(&front), &mut Bodies) {
         Ok(journal) => Ok(journal),
         Err((ChainFault::Damaged { at }, disk)) => Err((Fault::Damaged(at), disk)),
+        Err((ChainFault::Device, disk)) => Err((Fault::Device, disk)),
         Err((ChainFault::Memory, disk)) => Err((Fault::Memory, disk)),
     }
 }
@@ -148,11 +167,23 @@ fn sent_if_any(
 
 // The place of the closed gate behind the chain that begins with these bytes, in a slot that ends
 // at this place and whose bodies have so many bytes at most.
-fn chain(args: &mut Args<'_>) -> Answer {
+fn chain(alloc: Global, args: &mut Args<'_>) -> Answer {
     let slot = slot_from(0, args);
-    match read_chain(&args.bytes(), 0, slot, &mut Bodies) {
+    let Ok(mut disk) = MemoryDisk::holding(alloc, args.bytes()) else {
+        return Answer::NoMemory;
+    };
+    chain_in(alloc, &mut disk, slot)
+}
+
+// The place of the closed gate behind the chain that a disk begins with.
+fn chain_in<D: Disk>(alloc: Global, disk: &mut D, slot: Slot) -> Answer {
+    let Ok(len) = disk.len() else {
+        return Answer::Fault(Fault::Device);
+    };
+    match read_chain(alloc, disk, 0, slot, len, &mut Bodies, &mut Text::new(&[])) {
         Ok(end) => Answer::Number(end),
         Err(ChainFault::Damaged { at }) => Answer::Fault(Fault::Damaged(at)),
+        Err(ChainFault::Device) => Answer::Fault(Fault::Device),
         Err(ChainFault::Memory) => Answer::NoMemory,
     }
 }

@@ -25,6 +25,9 @@ const HEAD: &str = "call: old new a5 00 37 seed1 seed2 seed3 | the same, longest
 // A sweep has at most so many calls.
 const MOST: u64 = 10_000;
 
+// So many calls open a disk whose chain is no longer than a piece.
+const OPENING: u64 = 7;
+
 // The block that is run, on a disk of these bytes whose calls fail so.
 #[derive(Clone, Copy)]
 struct Course<'a> {
@@ -263,7 +266,7 @@ fn round(trial: &mut Trial, each: u64, seed: u64) -> u64 {
     if let Answer::Revision(revision) = step(trial, "open") {
         trial.told = revision;
     }
-    trial.set_failing(Failing::From(3 + seed % 48), FailedWrite::Half);
+    trial.set_failing(Failing::From(OPENING + seed % 48), FailedWrite::Half);
     let _opened = step(trial, "open");
     let seed = edits(trial, each, seed);
     let _crashed = crash_as(trial, drawn_choice(seed));

@@ -2,9 +2,9 @@
 
 use crate::text::Text;
 use fp_commands::CommandFault;
-use fp_disk::{FailedWrite, Failing, MemoryDisk};
+use fp_disk::{Disk, FailedWrite, Failing, MemoryDisk};
 use fp_edit::{Edit, EditFault};
-use fp_journal::synced_bytes;
+use fp_journal::{BytesFault, read_bytes};
 use fp_layout::OpenFault;
 use fp_world::Committer;
 use std::alloc::Global;
@@ -46,6 +46,13 @@ fn as_told(fault: Fault) -> CommandFault {
         Fault::StoreFailed => CommandFault::StoreFailed,
         Fault::Memory => CommandFault::Memory,
     }
+}
+
+// All bytes of a disk, which is made sure of first.
+fn synced_bytes<D: Disk>(alloc: Global, disk: &mut D) -> Result<Vec<u8>, BytesFault> {
+    disk.sync()?;
+    let len = disk.len()?;
+    read_bytes(alloc, disk, 0, len as usize)
 }
 
 /// What came of a command.

@@ -1,9 +1,8 @@
-use Rattle.std.proofs.Common.{◌≡◌, ◌≢◌, ◌⊎◌, ◌∷◌, [], ◌++◌, append_assoc, ℕ, List, Bool, Option, true, map, Result, Ok, IfOk, IfErr, IfSome, OnOk, refl, inl, inr, sym, ap, subst, ◌∙◌}
+use Rattle.std.proofs.Common.{◌≡◌, ◌≢◌, ◌⊎◌, ℕ, List, Bool, Option, true, map, Result, Ok, IfOk, IfErr, IfSome, OnOk, refl, inl, inr, sym, ap, subst, ◌∙◌}
 use Rattle.std.proofs.lemmas.Option.{IfSome_then}
 use Rattle.std.specs.Io.KnownBytes.{Appends}
 use Rattle.fp_disk.specs.Moments.{leaves_map}
 use Rattle.fp_disk.specs.Outcomes.{IsOutcome, LeavesOnly}
-use Rattle.fp_disk.specs.declared.history.CallKind.TheVariants.{Length, Read, Sync}
 use Rattle.fp_edit.specs.Flags.{State}
 use Rattle.fp_imports.specs.Document.{Flag}
 use Rattle.fp_recovery.specs.Stands.{StandsFor}
@@ -12,7 +11,7 @@ use Rattle.fp_session.specs.Run.{after, IsAfterPrefix, IsRunWritten, IsToldBy, s
 use Rattle.fp_session.specs.Session.{disk_of, flags_of, IsAhead}
 use Rattle.fp_session.specs.declared.fault.ApplyFault.{ApplyFault}
 use Rattle.fp_session.specs.declared.replies.TheConstants.{MOST_WAITING}
-use Rattle.fp_commands.specs.Disks.{Asked, AskedByDocument, IsImportingFault, IsLeftOnDisk}
+use Rattle.fp_commands.specs.Disks.{Asked, AskedByDocument, IsImportingFault, IsLeftOnDisk, Opens}
 use Rattle.fp_commands.specs.Documents.{import_of, IsDocumentFault}
 use Rattle.fp_commands.specs.declared.fault.CommandFault.{CommandFault}
 use Rattle.fp_commands.specs.declared.fault.CommandFault.TheVariants.{StoreFailed}
@@ -80,16 +79,14 @@ returns-in-Err-read_document-clause-told g c = λ h same.
       record {
         same = λ honest. ap D.bytes here ∙ e.same honest;
         any_moment = λ honest. subst (λ (x : g.row.D.Denot). LeavesOnly D.moment D.crash_states_since c.args.disk x (IsOutcome (D.unsynced c.args.disk))) (sym here) (e.any_moment honest);
-        called = inr (inr (inr (ap D.calls here ∙ e.called
-            ∙ sym (append_assoc (D.calls c.args.disk ++ Sync ∷ []) (Length ∷ []) (Read ∷ []) ∙ append_assoc (D.calls c.args.disk) (Sync ∷ []) (Length ∷ Read ∷ [])))));
+        called = inr (subst (λ (x : g.row.D.Denot). Opens (D.calls c.args.disk) (D.calls x)) (sym here) e.called);
       },
     )
 
 pub returns-in-Err-read_document-clause-called : goal.returns-in-Err-read_document-clause-called
 returns-in-Err-read_document-clause-called g c =
     let D = g.D.Disk in
-    inl (inr (inr (inr (ap D.calls c.into_disk.ensures.disk ∙ c.in-Ok.ensures.called
-    ∙ sym (append_assoc (D.calls c.args.disk ++ Sync ∷ []) (Length ∷ []) (Read ∷ []) ∙ append_assoc (D.calls c.args.disk) (Sync ∷ []) (Length ∷ Read ∷ []))))))
+    inl (inr (subst (λ (x : g.row.D.Denot). Opens (D.calls c.args.disk) (D.calls x)) (sym c.into_disk.ensures.disk) c.in-Ok.ensures.called))
 
 -- ---- it was
 

@@ -1,37 +1,53 @@
-use Rattle.std.proofs.Common.{◌≡◌, ◌+◌, ◌-◌, ℕ, [], ◌∷◌, length, ap, subst, arith, length-append}
-use Rattle.std.specs.Prelude.{slice_range}
+use Rattle.std.proofs.Common.{inr, ◌+◌, ◌∙◌, ℕ, List, [], ◌∷◌, length, ap, subst}
 use Rattle.std.proofs.lemmas.Result.{err_from_is_err_and}
-use Rattle.fp_journal.specs.Chain.{spell}
-use Rattle.fp_journal.specs.Reading.{FoundChain}
-use Rattle.fp_journal.proofs.Holds.{held_range}
+use Rattle.fp_disk.specs.declared.history.CallKind.TheVariants.{Length}
+use Rattle.fp_journal.specs.Reading.{ReadsChain, Refuses}
+use Rattle.fp_journal.proofs.OnlyReading.{reads_behind}
+use Rattle.fp_layout.specs.Opening.{FoundDisk}
+use Rattle.fp_layout.proofs.Found.{chain_end, disk_found, text_range}
 use Rattle.fp_layout.proofs.Refusals.{front_refuses, chain_refuses}
 use Rattle.fp_layout.proofs.opening.read_disk.Goals as goal
 
-pub returns-in_err-front-clause-fault : goal.returns-in_err-front-clause-fault
-returns-in_err-front-clause-fault g c =
+pub returns-in_err-slot-clause-fault : goal.returns-in_err-slot-clause-fault
+returns-in_err-slot-clause-fault g c = λ h.
     let p = err_from_is_err_and c.from_residual.result c.from_residual.ensures.1 in
     let S = g.R.SlotReader in let R = g.R.Reader in
-    rw (p.1, p.2) (front_refuses S.begins S.rejects R.takes R.refuses c.args.bytes.now c.args.reader.now c.in_err-front.field-0.0 c.in_err-front.ensures.fault)
+    rw (p.1, p.2) (front_refuses S.begins S.rejects R.takes R.refuses (g.D.Disk.bytes c.args.disk.now) c.args.reader.now c.in_err-slot.field-0.0 (c.in_err-slot.ensures.fault h))
 
 pub returns-in_err-gate-clause-fault : goal.returns-in_err-gate-clause-fault
-returns-in_err-gate-clause-fault g c =
+returns-in_err-gate-clause-fault g c = λ h.
     let p = err_from_is_err_and c.from_residual-in_err-gate.result c.from_residual-in_err-gate.ensures.1 in
-    let S = g.R.SlotReader in let R = g.R.Reader in let front = c.in_ok-front.front in
-    rw (p.1, p.2) (chain_refuses S.begins S.rejects R.takes R.refuses c.args.bytes.now c.args.reader.now front.active.slot front.at c.read_front.new.reader c.in_err-gate.field-0.0 c.in_ok-front.ensures.found c.in_err-gate.ensures.fault)
+    let D = g.D.Disk in let S = g.R.SlotReader in let R = g.R.Reader in let b = D.bytes c.args.disk.now in let front = c.in_ok-slot.field-0 in let slot = front.slot in
+    let middle = c.read_front.new.reader in let d1 = c.read_front.new.disk in let f = c.in_err-gate.field-0.0 in
+    let there : Refuses R.takes R.refuses slot.most front.at slot.stop (D.bytes d1) middle f = c.in_err-gate.ensures.fault (c.read_front.ensures.honest.0 h) in
+    let refused : Refuses R.takes R.refuses slot.most front.at slot.stop b middle f = subst (λ (x : List ℕ). Refuses R.takes R.refuses slot.most front.at slot.stop x middle f) (c.read_front.ensures.same h).0 there in
+    rw (p.1, p.2) (chain_refuses S.begins S.rejects R.takes R.refuses b c.args.reader.now slot front.at middle f (c.in_ok-slot.ensures.found h).front refused)
+
+pub returns-in_err-gate-clause-called : goal.returns-in_err-gate-clause-called
+returns-in_err-gate-clause-called g c =
+    let p = err_from_is_err_and c.from_residual-in_err-gate.result c.from_residual-in_err-gate.ensures.1 in
+    let D = g.D.Disk in
+    rw p.1 (inr (reads_behind (Length ∷ []) (D.calls c.args.disk.now) (D.calls c.read_front.new.disk) (D.calls c.read_chain.new.disk) c.in_ok-slot.ensures.called c.read_chain.ensures.kept.called))
 
 pub returns-clause-found : goal.returns-clause-found
-returns-clause-found g c =
-    let b = c.args.bytes.now in let front = c.in_ok-front.front in let start = front.active.slot.start in let gate = c.in_ok-gate.gate in
-    let low = c.in_ok-front.ensures.within.0 in let chain = c.in_ok-gate.ensures.found in
-    let place = chain.place in let long = chain.chain.ends.holds.long in let text = length-append (spell chain.bodies) (chain.chain.ends.gate ∷ []) in
-    let there : start + (gate - start) ≡ gate = omega (arith, low, place) in
-    let r = held_range b start (gate - start) (omega (arith, there, place, long, text)) in
-    let len : length (slice_range b start gate) ≡ gate - start = subst (λ (n : ℕ). length (slice_range b start n) ≡ gate - start) there r.1 in
-    let end : gate ≡ start + length (slice_range b start gate) = omega (arith, len, there) in
-    record {
-      at = front.at;
-      middle = c.read_front.new.reader;
-      begun = c.in_ok-front.ensures.found;
-      chain = subst (λ (n : ℕ). FoundChain g.R.Reader.takes front.active.slot.most front.at front.active.slot.stop b c.read_front.new.reader c.read_chain.new.reader n) end chain;
-      front_is = ap (λ (n : ℕ). slice_range b start n) end;
-    }
+returns-clause-found g c = λ h.
+    let D = g.D.Disk in let S = g.R.SlotReader in let R = g.R.Reader in let b = D.bytes c.args.disk.now in let p = c.in_ok-slot.field-0 in let slot = p.slot in
+    let middle = c.read_front.new.reader in let after = c.read_chain.new.reader in let d1 = c.read_front.new.disk in let h1 = c.read_front.ensures.honest.0 h in let new = c.read_chain.new.text in let gate = c.in_ok-gate.gate in
+    let at = c.in_ok-slot.ensures.found h in let place = c.in_ok-slot.ensures.read.place in
+    let chain : ReadsChain (D.honest d1) R.takes slot.most p.at slot.stop b middle after p.text new gate = subst (λ (x : List ℕ). ReadsChain (D.honest d1) R.takes slot.most p.at slot.stop x middle after p.text new gate) (c.read_front.ensures.same h).0 c.in_ok-gate.ensures.found in
+    subst (λ (t : List ℕ). FoundDisk S.begins R.takes b c.args.reader.now after slot t)
+    (text_range (D.honest d1) S.begins R.takes b c.args.reader.now middle after slot p.at p.text new gate h1 at.front at.text place chain)
+    (disk_found (D.honest d1) S.begins R.takes b c.args.reader.now middle after slot p.at p.text new gate h1 at.front at.text place chain)
+
+pub returns-clause-gate : goal.returns-clause-gate
+returns-clause-gate g c = λ h.
+    let D = g.D.Disk in let S = g.R.SlotReader in let R = g.R.Reader in let b = D.bytes c.args.disk.now in let p = c.in_ok-slot.field-0 in let slot = p.slot in
+    let middle = c.read_front.new.reader in let after = c.read_chain.new.reader in let d1 = c.read_front.new.disk in let h1 = c.read_front.ensures.honest.0 h in let new = c.read_chain.new.text in let gate = c.in_ok-gate.gate in
+    let at = c.in_ok-slot.ensures.found h in let place = c.in_ok-slot.ensures.read.place in
+    let chain : ReadsChain (D.honest d1) R.takes slot.most p.at slot.stop b middle after p.text new gate = subst (λ (x : List ℕ). ReadsChain (D.honest d1) R.takes slot.most p.at slot.stop x middle after p.text new gate) (c.read_front.ensures.same h).0 c.in_ok-gate.ensures.found in
+    chain_end (D.honest d1) S.begins R.takes b c.args.reader.now middle after slot p.at p.text new gate h1 at.front at.text place chain
+    ∙ ap (λ (t : List ℕ). slot.start + length t) (text_range (D.honest d1) S.begins R.takes b c.args.reader.now middle after slot p.at p.text new gate h1 at.front at.text place chain)
+
+pub returns-clause-called : goal.returns-clause-called
+returns-clause-called g c =
+    let D = g.D.Disk in reads_behind (Length ∷ []) (D.calls c.args.disk.now) (D.calls c.read_front.new.disk) (D.calls c.read_chain.new.disk) c.in_ok-slot.ensures.called c.read_chain.ensures.kept.called

@@ -1,28 +1,10 @@
-use Rattle.std.proofs.Common.{rules, ℕ, ◌+◌, ap}
-use Rattle.std.proofs.lemmas.Result.{err_from_is_err_and}
-use Rattle.fp_layout.specs.Layout.{IsHeader, IsHead}
-use Rattle.fp_layout.specs.Faults.{IsDamage, BreaksHead}
-use Rattle.fp_layout.specs.Opening.{in_image}
-use Rattle.fp_layout.proofs.Refusals.{slots_refuse, head_refuses}
+use Rattle.std.proofs.Common.{ℕ, List, subst}
+use Rattle.fp_disk.specs.Moments.{leaves_call, leaves_then}
+use Rattle.fp_disk.specs.Outcomes.{PendingState, IsOutcome, LeavesOnly}
 use Rattle.fp_layout.proofs.opening.read_front.Goals as goal
 
-pub returns-in_err-active-clause-fault : goal.returns-in_err-active-clause-fault
-returns-in_err-active-clause-fault g c =
-    let p = err_from_is_err_and c.from_residual-in_err-active.result c.from_residual-in_err-active.ensures.1 in
-    let header : IsHeader c.args.bytes.now c.in_ok-size.size = search rules in
-    rw (p.1, p.2) (slots_refuse g.R.SlotReader.rejects c.args.bytes.now c.args.reader.now c.in_ok-size.size c.in_err-active.field-0.0 header c.in_err-active.ensures.fault)
-
-pub returns-in_err-generation-clause-fault : goal.returns-in_err-generation-clause-fault
-returns-in_err-generation-clause-fault g c =
-    let p = err_from_is_err_and c.from_residual-in_err-generation.result c.from_residual-in_err-generation.ensures.1 in
-    let header : IsHeader c.args.bytes.now c.in_ok-size.size = search rules in
-    let slot = c.in_ok-active.active.slot in let other = c.in_ok-active.active.other in
-    let broken : IsDamage (BreaksHead c.args.bytes.now slot.start c.in_ok-size.size) c.in_err-generation.field-0.0 = search rules in
-    rw (p.1, p.2) (head_refuses g.R.SlotReader.rejects c.args.bytes.now c.args.reader.now c.in_ok-size.size slot other c.in_err-generation.field-0.0 header c.in_ok-active.ensures.found broken)
-
-pub returns-in-Err-BadBody-clause-fault : goal.returns-in-Err-BadBody-clause-fault
-returns-in-Err-BadBody-clause-fault g c =
-    let header : IsHeader c.args.bytes.now c.in_ok-size.size = search rules in
-    let slot = c.in_ok-active.active.slot in let other = c.in_ok-active.active.other in let h = c.in_ok-generation.field-0 in
-    let head : IsHead c.args.bytes.now slot.start c.in_ok-size.size h.generation h.base h.image.now = search rules in
-    in_image c.in_ok-size.size h.generation h.base slot other h.image.now c.in-Err-BadBody.at header c.in_ok-active.ensures.found head (search rules) (ap (λ (n : ℕ). slot.start + 22 + n) c.in-Err-BadBody.at-is)
+pub returns-clause-any_moment : goal.returns-clause-any_moment
+returns-clause-any_moment g c = λ h.
+    let D = g.D.Disk in let m = g.met.D.Disk in let d0 = c.args.disk.now in let d1 = c.len.new.self in let d2 = c.read_fronts.new.disk in let P : List ℕ → Type 0 = IsOutcome (D.unsynced d0) in
+    leaves_then D.moment D.crash_states_since d0 d1 d2 P (leaves_call D.moment D.crash_states_since d0 d1 P P P (c.len.ensures.time h) (λ b left. m.only_now d0 b h left) (λ b out. out) (λ b out. out))
+    (subst (λ (u : PendingState). LeavesOnly D.moment D.crash_states_since d1 d2 (IsOutcome u)) (c.len.ensures.same h).1 (c.read_fronts.ensures.kept.any_moment (c.len.ensures.honest.0 h)))
