@@ -238,8 +238,8 @@ pub record IsKept {D : Type 0} (honest : D → Type 0) (bytes : D → List ℕ)
   pub plan : IsPlanned s.step s.other s.generation s.text planned done
   pub still : IsStill s.step s.journal.phase
   pub live : honest s.journal.disk → s.journal.phase ≢ Failed →
-      IsBeside s.step s.other.start s.generation may_open planned done (unsynced s.journal.disk)
-      (bytes s.journal.disk)
+      IsBeside s.step s.other.start s.generation may_open planned done
+      (unsynced s.journal.disk) (bytes s.journal.disk)
   pub failed : honest s.journal.disk → s.journal.phase ≡ Failed → (c : List ℕ) →
       IsOutcome (unsynced s.journal.disk) c → Leaves s.step s c
 
