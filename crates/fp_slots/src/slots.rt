@@ -60,10 +60,30 @@ impl<D: Disk> Model for Slots<D> {
 
     ghost Value = { SlotsState D };
 
-    ghost view = { λ s. record { journal = s.journal; other = s.other; generation = s.generation; may_open = s.may_open; step = step_of s.held; text = slice_range s.planned.items 0 s.ended; head = s.head; left = s.head - s.done; coming = drop (s.ended + 1) s.planned.items } };
+    ghost view = { λ s. record {
+      journal = s.journal;
+      other = s.other;
+      generation = s.generation;
+      may_open = s.may_open;
+      step = step_of s.held;
+      text = slice_range s.planned.items 0 s.ended;
+      head = s.head;
+      left = s.head - s.done;
+      coming = drop (s.ended + 1) s.planned.items;
+    } };
 
     ghost invariant = { λ s. IsKept D.honest D.bytes D.unsynced
-        (record { journal = s.journal; other = s.other; generation = s.generation; may_open = s.may_open; step = step_of s.held; text = slice_range s.planned.items 0 s.ended; head = s.head; left = s.head - s.done; coming = drop (s.ended + 1) s.planned.items })
+        (record {
+          journal = s.journal;
+          other = s.other;
+          generation = s.generation;
+          may_open = s.may_open;
+          step = step_of s.held;
+          text = slice_range s.planned.items 0 s.ended;
+          head = s.head;
+          left = s.head - s.done;
+          coming = drop (s.ended + 1) s.planned.items;
+        })
         s.may_open (slice_range s.planned.items 0 (s.ended + 1)) s.done
         × IsHeld D.honest D.moment s.journal s.other.start s.held
         × IsWithin s.planned.items s.ended s.head s.done };
