@@ -1,5 +1,6 @@
 -- What a command over a disk comes to.
-use Rattle.std.specs.Prelude.{◌≡◌, ◌≢◌, ◌⊎◌, ◌<◌, ◌≤◌, ◌+◌, ◌^◌, ℕ, List, [], ◌∷◌, ◌++◌, length, Bool, true, Option, IfSome, Result, Ok, Err}
+use Rattle.std.specs.Prelude.{◌≡◌, ◌≢◌, ◌⊎◌, ◌<◌, ◌≤◌, ◌+◌, ◌^◌, ℕ, List, [], ◌∷◌, ◌++◌, length}
+use Rattle.std.specs.Prelude.{Bool, true, Option, IfSome, Result, Ok, Err}
 use Rattle.std.specs.Io.KnownBytes.{Appends}
 use Rattle.fp_disk.specs.Crashes.{AtAnyMoment}
 use Rattle.fp_disk.specs.History.{MakesSome}
@@ -28,7 +29,12 @@ use Rattle.fp_recovery.specs.Stands.{StandsFor}
 use Rattle.fp_commands.specs.Documents.{import_of, IsDocumentFault}
 use Rattle.fp_commands.specs.Faults.{of_run}
 use Rattle.fp_commands.specs.declared.fault.CommandFault.{CommandFault}
-use Rattle.fp_commands.specs.declared.fault.CommandFault.TheVariants.{NotEmpty, Unformatted, UnknownVersion, Damaged, Device, StoreFailed, Memory, NotDocument, UnknownEvaluator, EvaluatorsTooDeep, BadKey, Flag}
+use Rattle.fp_commands.specs.declared.fault.CommandFault.TheVariants.{NotEmpty, Unformatted}
+use Rattle.fp_commands.specs.declared.fault.CommandFault.TheVariants.{UnknownVersion, Damaged}
+use Rattle.fp_commands.specs.declared.fault.CommandFault.TheVariants.{Device, StoreFailed, Memory}
+use Rattle.fp_commands.specs.declared.fault.CommandFault.TheVariants.{NotDocument, UnknownEvaluator}
+use Rattle.fp_commands.specs.declared.fault.CommandFault.TheVariants.{EvaluatorsTooDeep, BadKey}
+use Rattle.fp_commands.specs.declared.fault.CommandFault.TheVariants.{Flag}
 
 -- ---- faults
 
@@ -45,11 +51,13 @@ IsStreamFault Device = Unit {0}
 IsStreamFault Memory = Unit {0}
 IsStreamFault f = ⊥
 
--- opening refuses the bytes for this fault, and they stand for nothing; of a disk that claims no honesty that isn't said
+-- opening refuses the bytes for this fault, and they stand for nothing;
+-- of a disk that claims no honesty that isn't said
 abbrev pub IsRefusal : Type 0 → List ℕ → OpenFault → Type 0
 IsRefusal is_honest c fault = is_honest → RefusesBytes c fault × StandsForNone c
 
--- the faults of showing what bytes stand for: opening refuses them, or memory, the device or the writer failed
+-- the faults of showing what bytes stand for:
+-- opening refuses them, or memory, the device or the writer failed
 abbrev pub IsShowingFault : Type 0 → List ℕ → CommandFault → Type 0
 IsShowingFault is_honest c Unformatted = IsRefusal is_honest c opening.Unformatted
 IsShowingFault is_honest c (UnknownVersion version) = IsRefusal is_honest c
@@ -74,7 +82,8 @@ IsImportingFault is_honest c left BadKey = IsDocumentFault left BadKey
 IsImportingFault is_honest c left (Flag key fault) = IsDocumentFault left (Flag key fault)
 IsImportingFault is_honest c left f = IsApplyingFault is_honest c f
 
--- this holds where the bytes or what was read is at fault, and neither a device, the store nor memory
+-- this holds where the bytes or what was read is at fault,
+-- and neither a device, the store nor memory
 abbrev pub IfRefused : Type 0 → CommandFault → Type 0
 IfRefused p Device = Unit {0}
 IfRefused p StoreFailed = Unit {0}
@@ -89,7 +98,8 @@ IfFileRefused p (UnknownVersion version) = p
 IfFileRefused p (Damaged at) = p
 IfFileRefused p f = Unit {0}
 
--- a disk was opened at most, and nothing was written on it: a crash leaves what it might have left before
+-- a disk was opened at most, and nothing was written on it:
+-- a crash leaves what it might have left before
 pub record IsOnlyRead {D : Type 0} (disk : Ghosts D) (before after : D) : Type 0 where
   pub same : disk.honest before → disk.bytes after ≡ disk.bytes before
   pub any_moment : AtAnyMoment disk before after (IsOutcome (disk.unsynced before))
@@ -133,14 +143,15 @@ pub record IsRunOnDisk (is_honest : Type 0) (bytes : List ℕ) (now : PendingSta
   pub sure : is_honest → IsDurable now flags
   pub run : Asked left Reads (IsRunOver start told old new flags)
 
--- whatever the bytes stood for, they stand for that, or for what some first of what is asked makes of it
+-- whatever the bytes stood for, they stand for that, or for what some first
+-- of what is asked makes of it
 abbrev pub IsLeftOnDisk : List ℕ → List ℕ → Option (List ℕ) → (List ℕ → List Ask → Type 0) → Type 0
 IsLeftOnDisk before now left Reads = (start : State) → StandsFor before start
     → (flags : State) × StandsFor now flags
     × ((flags ≡ start) ⊎ Asked left Reads (λ asks. IsAfterPrefix start asks flags))
 
--- And for flags that hold all that was told, where a run ended by this fault: so much at most, of which no revision was told,
--- isn't known to be kept
+-- And for flags that hold all that was told, where a run ended by this fault: so much at most, of
+-- which no revision was told, isn't known to be kept
 abbrev pub IsToldOnDisk : List ℕ → List ℕ → Option (List ℕ) → (List ℕ → List Ask → Type 0) → ℕ
     → CommandFault → (old new : Option (List ℕ)) → Type 0
 IsToldOnDisk before now left Reads most fault old new = (start : State) → StandsFor before start
@@ -148,13 +159,14 @@ IsToldOnDisk before now left Reads most fault old new = (start : State) → Stan
     × (fault ≡ of_run ended)
     × Asked left Reads (λ asks. IsToldBy start asks most ended old new taken flags)
 
--- nothing was told, and the disk was only read: no run had begun, and so none was ended by a store that failed
+-- nothing was told, and the disk was only read:
+-- no run had begun, and so none was ended by a store that failed
 abbrev pub IsUnbegun : {D S : Type 0} → Ghosts D → CommandFault → D → D → S → S → Type 0
 IsUnbegun disk fault before after old new = (fault ≢ StoreFailed) × (new ≡ old)
     × IsOnlyRead disk before after
 
--- Flags that some first of what is asked led to, and edits behind them that more of it asks for, for which whatever a
--- crash leaves of the disk has no room, in a generation that none follows
+-- Flags that some first of what is asked led to, and edits behind them that more of it asks for,
+-- for which whatever a crash leaves of the disk has no room, in a generation that none follows
 pub record LacksRoom (is_honest : Type 0) (bytes : List ℕ) (now : PendingState) (left : Option
     (List ℕ))
     (Reads : List ℕ → List Ask → Type 0) : Type 0 where
@@ -182,7 +194,8 @@ pub record CallsWorks (old new : List CallKind) : Type 0 where
   pub lead : Leads Begin works Begin
   pub calls : new ≡ begun ++ calls_of works
 
--- it was opened, and its calls then were those of batches, of steps of compactions, and some first ones of one more
+-- it was opened, and its calls then were those of batches,
+-- of steps of compactions, and some first ones of one more
 pub record CallsSomeWorks (old new : List CallKind) : Type 0 where
   pub begun : List CallKind
   pub opened : Opens old begun
@@ -200,7 +213,8 @@ CallsOfRun old new (Err f) = ThenSomeReads (Sync ∷ Length ∷ []) old new ⊎ 
 
 -- ---- what failed
 
--- by the count of failures of the disk and the streams, before and after: `Device` comes only where one of them failed, and a good end only where none did
+-- by the count of failures of the disk and the streams, before and after: `Device` comes only where
+-- one of them failed, and a good end only where none did
 abbrev pub Blames : {A : Type 0} → ℕ → ℕ → Result A CommandFault → Type 0
 Blames before after (Ok x) = after ≡ before
 Blames before after (Err Device) = before < after

@@ -1,10 +1,12 @@
 -- Flagd documents that are imported.
-use Rattle.std.specs.Prelude.{◌≡◌, ℕ, List, Option, Some, None, Result, Err, IfSome, IsSomeAnd, string_bytes}
+use Rattle.std.specs.Prelude.{◌≡◌, ℕ, List, Option, Some, None, Result, Err, IfSome, IsSomeAnd}
+use Rattle.std.specs.Prelude.{string_bytes}
 use Rattle.serde_json.specs.Data.{Data}
 use Rattle.fp_base.specs.Json.{json_of}
 use Rattle.fp_definition.specs.Faults.{tells}
 use Rattle.fp_definition.specs.Key.{key_bytes}
-use Rattle.fp_imports.specs.Document.{Flag, Refusal, document, not_document, unknown_evaluator, nested_too_deep, bad_flag, bad_key}
+use Rattle.fp_imports.specs.Document.{Flag, Refusal, document, not_document, unknown_evaluator}
+use Rattle.fp_imports.specs.Document.{nested_too_deep, bad_flag, bad_key}
 use Rattle.fp_commands.specs.declared.fault.CommandFault.{CommandFault}
 use Rattle.fp_commands.specs.declared.fault.CommandFault.TheVariants as fault
 

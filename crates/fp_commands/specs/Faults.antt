@@ -12,7 +12,12 @@ use Rattle.fp_session.specs.declared.fault.ApplyFault.TheVariants as run
 use Rattle.fp_streams.specs.declared.counted.StreamFault.{StreamFault}
 use Rattle.fp_streams.specs.declared.counted.StreamFault.TheVariants as stream
 use Rattle.fp_commands.specs.declared.fault.CommandFault.{CommandFault}
-use Rattle.fp_commands.specs.declared.fault.CommandFault.TheVariants.{NotEmpty, Unformatted, UnknownVersion, Damaged, Device, StoreFailed, Memory, NotDocument, UnknownEvaluator, EvaluatorsTooDeep, BadKey, Flag}
+use Rattle.fp_commands.specs.declared.fault.CommandFault.TheVariants.{NotEmpty, Unformatted}
+use Rattle.fp_commands.specs.declared.fault.CommandFault.TheVariants.{UnknownVersion, Damaged}
+use Rattle.fp_commands.specs.declared.fault.CommandFault.TheVariants.{Device, StoreFailed, Memory}
+use Rattle.fp_commands.specs.declared.fault.CommandFault.TheVariants.{NotDocument, UnknownEvaluator}
+use Rattle.fp_commands.specs.declared.fault.CommandFault.TheVariants.{EvaluatorsTooDeep, BadKey}
+use Rattle.fp_commands.specs.declared.fault.CommandFault.TheVariants.{Flag}
 
 -- what stands behind the program's name on the error stream
 abbrev pub text_of : CommandFault → List ℕ

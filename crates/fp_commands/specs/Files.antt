@@ -1,5 +1,6 @@
 -- What a command does with the file that its words name.
-use Rattle.std.specs.Prelude.{◌≡◌, ◌≢◌, ◌⊎◌, ◌<◌, ◌+◌, ◌^◌, ℕ, List, [], ◌∷◌, ◌++◌, Bool, Option, Result, Ok, Err, IfErr, OnOk, IfOk, IfSome}
+use Rattle.std.specs.Prelude.{◌≡◌, ◌≢◌, ◌⊎◌, ◌<◌, ◌+◌, ◌^◌, ℕ, List, [], ◌∷◌, ◌++◌, Bool, Option}
+use Rattle.std.specs.Prelude.{Result, Ok, Err, IfErr, OnOk, IfOk, IfSome}
 use Rattle.fp_disk.specs.Crashes.{AtAnyMoment, EachCrash, SameHonesty}
 use Rattle.fp_disk.specs.History.{Makes}
 use Rattle.fp_disk.specs.Outcomes.{IsOutcome, all_synced}
@@ -14,13 +15,19 @@ use Rattle.fp_session.specs.Asks.{Ask, asked_by_input}
 use Rattle.fp_session.specs.Run.{IsRunWritten}
 use Rattle.fp_session.specs.declared.replies.TheConstants.{MOST_WAITING}
 use Rattle.fp_streams.specs.Failures.{Stream}
-use Rattle.fp_commands.specs.Disks.{AskedByDocument, AskedByLines, Blames, CallsOfRun, IfFileRefused, IfRefused, IsApplyingFault, IsImportingFault, IsLeftOnDisk, IsMakingFault, IsOnlyRead, IsRunOnDisk, IsShowingFault, IsShown, IsStreamFault, IsToldOnDisk, IsUnbegun, LacksRoom}
+use Rattle.fp_commands.specs.Disks.{AskedByDocument, AskedByLines, Blames, CallsOfRun}
+use Rattle.fp_commands.specs.Disks.{IfFileRefused, IfRefused, IsApplyingFault, IsImportingFault}
+use Rattle.fp_commands.specs.Disks.{IsLeftOnDisk, IsMakingFault, IsOnlyRead, IsRunOnDisk}
+use Rattle.fp_commands.specs.Disks.{IsShowingFault, IsShown, IsStreamFault, IsToldOnDisk, IsUnbegun}
+use Rattle.fp_commands.specs.Disks.{LacksRoom}
 use Rattle.fp_commands.specs.Eval.{IsEvaluated}
 use Rattle.fp_commands.specs.Task.{no_flags}
 use Rattle.fp_commands.specs.declared.fault.CommandFault.{CommandFault}
-use Rattle.fp_commands.specs.declared.fault.CommandFault.TheVariants.{Device, Memory, NotEmpty, StoreFailed}
+use Rattle.fp_commands.specs.declared.fault.CommandFault.TheVariants.{Device, Memory, NotEmpty}
+use Rattle.fp_commands.specs.declared.fault.CommandFault.TheVariants.{StoreFailed}
 use Rattle.fp_commands.specs.declared.program.Task.{Task}
-use Rattle.fp_commands.specs.declared.program.Task.TheVariants.{Apply, InitFile, ApplyFile, ShowFile, ImportFile, EvalFile}
+use Rattle.fp_commands.specs.declared.program.Task.TheVariants.{Apply, InitFile, ApplyFile}
+use Rattle.fp_commands.specs.declared.program.Task.TheVariants.{ShowFile, ImportFile, EvalFile}
 
 -- what a command reads from, writes to and opens, at a moment
 pub record Outside (F R W : Type 0) : Type 0 where
@@ -42,7 +49,8 @@ AppliesInMemory remaining contents r0 r w0 w (Ok x) = IfSome (remaining r0.inner
 AppliesInMemory remaining contents r0 r w0 w (Err f) = IsStreamFault f
     × Blames {A = Unit {0}} (r0.failures + w0.failures) (r.failures + w.failures) (Err f)
 
--- ---- what becomes of a disk: by these, as `init_disk`, `show_disk`, `apply_disk` and `import_disk` promise it
+-- ---- what becomes of a disk: by these, as `init_disk`, `show_disk`,
+-- `apply_disk` and `import_disk` promise it
 
 -- a disk of no flags was made of an empty one
 pub record MakesDisk {F R W D : Type 0} (disk : DiskGhosts D) (old new : Outside F R W)
@@ -80,8 +88,8 @@ pub record ShowsDisk {F R W D : Type 0} (disk : DiskGhosts D) (contents : W → 
   pub no_failure : OnOk outcome (disk.faults after ≡ disk.faults before)
   pub honest : SameHonesty disk before after
 
--- what is asked of it, read from the reader in this way, was answered, and led what the disk stood for to what it stands for;
--- so much of it may be on its way at once
+-- what is asked of it, read from the reader in this way, was answered, and led what the disk stood
+-- for to what it stands for; so much of it may be on its way at once
 pub record RunsOnDisk {F R W D : Type 0} (disk : DiskGhosts D) (remaining : R
     → Option (List ℕ)) (contents : W → Option (List ℕ))
     (Reads : List ℕ → List Ask → Type 0) (most : ℕ) (MayEnd : Type 0 → List ℕ → Option (List ℕ)
@@ -146,7 +154,8 @@ pub record EvaluatesOnDisk {F R W D : Type 0} (disk : DiskGhosts D) (remaining :
 
 -- ---- over files
 
--- A file was opened alone, the disk that was found there became another, which stands there now, and this is what was done with it
+-- A file was opened alone, the disk that was found there became another,
+-- which stands there now, and this is what was done with it
 pub record OverFile {F D : Type 0} (files : FileGhosts F D) (disk : DiskGhosts D) (old new : F)
     (path : List ℕ) (Found : D → Type 0) (Does : D → D → Type 0) : Type 0 where
   pub before : D

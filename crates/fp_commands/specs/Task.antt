@@ -1,5 +1,6 @@
 -- What the program's words ask for, and how it ends.
-use Rattle.std.specs.Prelude.{◌≡◌, ◌≤◌, ℕ, ◌+◌, ◌^◌, List, [], ◌∷◌, ◌++◌, codes, bytes_eq, Option, Some, None, if◌then◌else◌}
+use Rattle.std.specs.Prelude.{◌≡◌, ◌≤◌, ℕ, ◌+◌, ◌^◌, List, [], ◌∷◌, ◌++◌, codes, bytes_eq, Option}
+use Rattle.std.specs.Prelude.{Some, None, if◌then◌else◌}
 use Rattle.std.specs.FinMap as fin
 use Rattle.fp_edit.specs.Flags.{State}
 use Rattle.fp_streams.specs.Failures.{Stream}
@@ -7,7 +8,8 @@ use Rattle.fp_streams.specs.Said.{AppendsLine}
 use Rattle.fp_commands.specs.Faults.{text_of}
 use Rattle.fp_commands.specs.declared.fault.CommandFault.{CommandFault}
 use Rattle.fp_commands.specs.declared.program.Task.{Task}
-use Rattle.fp_commands.specs.declared.program.Task.TheVariants.{Apply, InitFile, ApplyFile, ShowFile, ImportFile, EvalFile}
+use Rattle.fp_commands.specs.declared.program.Task.TheVariants.{Apply, InitFile, ApplyFile}
+use Rattle.fp_commands.specs.declared.program.Task.TheVariants.{ShowFile, ImportFile, EvalFile}
 
 -- a command's name that wants the path of a file behind it
 abbrev pub over_file : List ℕ → Option Task
@@ -24,9 +26,11 @@ with_path path (Some task) = Some (task, path, [])
 -- a command's name that wants the key of a flag behind the path; the empty key is none
 abbrev pub of_flag : List ℕ → List ℕ → List ℕ → Option (Task × List ℕ × List ℕ)
 of_flag word path [] = None
-of_flag word path (b ∷ key) = if bytes_eq word (codes "eval") then Some (EvalFile, path, b ∷ key) else None
+of_flag word path (b ∷ key) =
+    if bytes_eq word (codes "eval") then Some (EvalFile, path, b ∷ key) else None
 
--- the task, the path, which `apply` alone has none of, and the key, which `eval` alone has; all other words are no command
+-- the task, the path, which `apply` alone has none of, and the key,
+-- which `eval` alone has; all other words are no command
 abbrev pub named : List (List ℕ) → Option (Task × List ℕ × List ℕ)
 named [] = None
 named (word ∷ []) = if bytes_eq word (codes "apply") then Some (Apply, [], []) else None
@@ -52,9 +56,11 @@ Tells contents old new line = new.failures ≡ old.failures
     → AppendsLine (contents old.inner) (contents new.inner) line
 
 abbrev pub usage : List ℕ
-usage = codes "usage: flagplane init FILE | apply [FILE] | show FILE | eval FILE KEY | import FILE | serve FILE OFREP EDIT STREAM | watch ADDR"
+usage = codes
+    "usage: flagplane init FILE | apply [FILE] | show FILE | eval FILE KEY | import FILE | serve FILE OFREP EDIT STREAM | watch ADDR"
 
 -- a fault that may have ended the task, by its own text
 abbrev pub TellsFault : {E : Type 0} → (E → Option (List ℕ)) → Stream E → Stream E → (CommandFault
     → Type 0) → Type 0
-TellsFault contents old new MayEnd = (f : CommandFault) × MayEnd f × Tells contents old new (codes "flagplane: " ++ text_of f)
+TellsFault contents old new MayEnd = (f : CommandFault) × MayEnd f
+    × Tells contents old new (codes "flagplane: " ++ text_of f)

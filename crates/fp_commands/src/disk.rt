@@ -11,9 +11,14 @@ ghost use Rattle.fp_layout.specs.NewDisk.{IsNewDisk, format_calls};
 ghost use Rattle.fp_session.specs.Run.{show_line};
 ghost use Rattle.fp_session.specs.declared.replies.TheConstants.{MOST_WAITING};
 ghost use Rattle.fp_recovery.specs.Durable.{IsNewSetOrNone, IsDurable};
-ghost use Rattle.fp_commands.specs.Disks.{AskedByDocument, AskedByLines, Blames, CallsOfRun, IfFileRefused, IfRefused, IsApplyingFault, IsImportingFault, IsLeftOnDisk, IsMakingFault, IsOnlyRead, IsRunOnDisk, IsShowingFault, IsShown, IsStreamFault, IsToldOnDisk, IsUnbegun, LacksRoom};
+ghost use Rattle.fp_commands.specs.Disks.{AskedByDocument, AskedByLines, Blames, CallsOfRun};
+ghost use Rattle.fp_commands.specs.Disks.{IfFileRefused, IfRefused, IsApplyingFault};
+ghost use Rattle.fp_commands.specs.Disks.{IsImportingFault, IsLeftOnDisk, IsMakingFault};
+ghost use Rattle.fp_commands.specs.Disks.{IsOnlyRead, IsRunOnDisk, IsShowingFault, IsShown};
+ghost use Rattle.fp_commands.specs.Disks.{IsStreamFault, IsToldOnDisk, IsUnbegun, LacksRoom};
 ghost use Rattle.fp_commands.specs.Task.{no_flags};
-ghost use Rattle.fp_commands.specs.declared.fault.CommandFault.TheVariants.{Device, Memory, NotEmpty, StoreFailed};
+ghost use Rattle.fp_commands.specs.declared.fault.CommandFault.TheVariants.{Device, Memory};
+ghost use Rattle.fp_commands.specs.declared.fault.CommandFault.TheVariants.{NotEmpty, StoreFailed};
 
 use crate::document::read_document;
 use crate::fault::CommandFault;
@@ -82,9 +87,10 @@ pub fn show_disk<D: Disk, W: Write>(
     }
 }
 
-/// Answers each line of the reader in order over what a disk stands for, and shows the flags behind the last reply. Each
-/// edit is sealed on the disk before it is answered. Where a slot runs short a compaction goes on beside the edits, and is
-/// ended before the flags are shown. `Ok(false)` says that a reply told of wanting memory.
+/// Answers each line of the reader in order over what a disk stands for, and shows the flags behind
+/// the last reply. Each edit is sealed on the disk before it is answered. Where a slot runs short a
+/// compaction goes on beside the edits, and is ended before the flags are shown. `Ok(false)` says
+/// that a reply told of wanting memory.
 pub fn apply_disk<D: Disk, R: Read, W: Write>(
     alloc: Global,
     r: &mut FailureCounted<R>,
@@ -96,32 +102,36 @@ pub fn apply_disk<D: Disk, R: Read, W: Write>(
         (W.contents w.old.inner) (W.contents w.new.inner)) }
     ensures called { CallsOfRun (D.calls disk) (D.calls result.0) result.1 }
 
-    // Whatever comes back, the disk stands for what some first lines leave, and so does whatever a crash leaves at any
-    // moment, but for what one might have left before.
+    // Whatever comes back, the disk stands for what some first lines leave, and so does whatever a
+    // crash leaves at any moment, but for what one might have left before.
     ensures left { D.honest disk →
         IsLeftOnDisk (D.bytes disk) (D.bytes result.0) (R.remaining r.old.inner) AskedByLines }
     ensures any_moment { AtAnyMoment D.Disk disk result.0 (λ c. IsOutcome (D.unsynced disk) c
         ⊎ IsLeftOnDisk (D.bytes disk) c (R.remaining r.old.inner) AskedByLines) }
 
-    // At a fault no run had begun, or all its replies were written, unless the writer failed: to what flags hold that each
-    // crash then leaves, and to what isn't known to be kept.
+    // At a fault no run had begun, or all its replies were written, unless the writer failed: to
+    // what flags hold that each crash then leaves, and to what isn't known to be kept.
     ensures told { D.honest disk → IfErr result.1 (λ f. w.new.failures ≡ w.old.failures
         → IsUnbegun D.Disk f disk result.0 w.old w.new
         ⊎ EachCrash D.Disk result.0 (λ c. IsToldOnDisk (D.bytes disk) c
-        (R.remaining r.old.inner) AskedByLines 1 f (W.contents w.old.inner) (W.contents w.new.inner))) }
+        (R.remaining r.old.inner) AskedByLines 1 f
+        (W.contents w.old.inner) (W.contents w.new.inner))) }
     ensures fault { IfErr result.1 (IsApplyingFault (D.honest disk) (D.bytes disk)) }
     ensures nothing_written { IfErr result.1 (IfRefused (w.new ≡ w.old)) }
 
-    // The store fails where the disk does, or has no room for edits that are asked for and no generation to make it.
+    // The store fails where the disk does, or has no room for edits
+    // that are asked for and no generation to make it.
     ensures cause { IfErr result.1 (λ f. f ≡ StoreFailed
         → LacksRoom (D.honest disk) (D.bytes disk) (D.unsynced result.0)
         (R.remaining r.old.inner) AskedByLines ⊎ (D.faults disk < D.faults result.0)) }
 
-    // Where the bytes or what was read is refused, the disk was only read, and a file is refused before anything is read.
+    // Where the bytes or what was read is refused, the disk was only read,
+    // and a file is refused before anything is read.
     ensures only_read { IfErr result.1 (IfRefused (IsOnlyRead D.Disk disk result.0)) }
     ensures unread { IfErr result.1 (IfFileRefused (r.new ≡ r.old)) }
 
-    // `Device` comes only where the disk, the reader or the writer failed, and a good end only where none did.
+    // `Device` comes only where the disk, the reader or the writer failed,
+    // and a good end only where none did.
     ensures device { Blames (D.faults disk + (r.old.failures + w.old.failures))
         (D.faults result.0 + (r.new.failures + w.new.failures)) result.1 }
     ensures no_failure { OnOk result.1 (D.faults result.0 ≡ D.faults disk) }
@@ -139,9 +149,10 @@ pub fn apply_disk<D: Disk, R: Read, W: Write>(
     }
 }
 
-/// Puts each flag of the flagd document that the reader gives over what a disk stands for, in ascending order of the keys
-/// and whatever stands there, answers each put, and shows the flags behind the last reply. Each put is sealed on the disk
-/// before it is answered; one that is refused is an answer. `Ok(false)` says that a reply told of wanting memory.
+/// Puts each flag of the flagd document that the reader gives over what a disk stands for, in
+/// ascending order of the keys and whatever stands there, answers each put, and shows the flags
+/// behind the last reply. Each put is sealed on the disk before it is answered; one that is refused
+/// is an answer. `Ok(false)` says that a reply told of wanting memory.
 pub fn import_disk<D: Disk, R: Read, W: Write>(
     alloc: Global,
     r: &mut FailureCounted<R>,
@@ -153,32 +164,37 @@ pub fn import_disk<D: Disk, R: Read, W: Write>(
         (W.contents w.old.inner) (W.contents w.new.inner)) }
     ensures called { CallsOfRun (D.calls disk) (D.calls result.0) result.1 }
 
-    // Whatever comes back, the disk stands for what some first puts leave, and so does whatever a crash leaves at any
-    // moment, but for what one might have left before.
+    // Whatever comes back, the disk stands for what some first puts leave, and so does whatever a
+    // crash leaves at any moment, but for what one might have left before.
     ensures left { D.honest disk →
         IsLeftOnDisk (D.bytes disk) (D.bytes result.0) (R.remaining r.old.inner) AskedByDocument }
     ensures any_moment { AtAnyMoment D.Disk disk result.0 (λ c. IsOutcome (D.unsynced disk) c
         ⊎ IsLeftOnDisk (D.bytes disk) c (R.remaining r.old.inner) AskedByDocument) }
 
-    // At a fault no run had begun, or all its replies were written, unless the writer failed: to what flags hold that each
-    // crash then leaves, and to what isn't known to be kept.
+    // At a fault no run had begun, or all its replies were written, unless the writer failed: to
+    // what flags hold that each crash then leaves, and to what isn't known to be kept.
     ensures told { D.honest disk → IfErr result.1 (λ f. w.new.failures ≡ w.old.failures
         → IsUnbegun D.Disk f disk result.0 w.old w.new
         ⊎ EachCrash D.Disk result.0 (λ c. IsToldOnDisk (D.bytes disk) c
-        (R.remaining r.old.inner) AskedByDocument MOST_WAITING f (W.contents w.old.inner) (W.contents w.new.inner))) }
-    ensures fault { IfErr result.1 (IsImportingFault (D.honest disk) (D.bytes disk) (R.remaining r.old.inner)) }
+        (R.remaining r.old.inner) AskedByDocument MOST_WAITING f
+        (W.contents w.old.inner) (W.contents w.new.inner))) }
+    ensures fault { IfErr result.1
+        (IsImportingFault (D.honest disk) (D.bytes disk) (R.remaining r.old.inner)) }
     ensures nothing_written { IfErr result.1 (IfRefused (w.new ≡ w.old)) }
 
-    // The store fails where the disk does, or has no room for edits that are asked for and no generation to make it.
+    // The store fails where the disk does, or has no room for edits
+    // that are asked for and no generation to make it.
     ensures cause { IfErr result.1 (λ f. f ≡ StoreFailed
         → LacksRoom (D.honest disk) (D.bytes disk) (D.unsynced result.0)
         (R.remaining r.old.inner) AskedByDocument ⊎ (D.faults disk < D.faults result.0)) }
 
-    // Where the bytes or what was read is refused, the disk was only read, and a file is refused before anything is read.
+    // Where the bytes or what was read is refused, the disk was only read,
+    // and a file is refused before anything is read.
     ensures only_read { IfErr result.1 (IfRefused (IsOnlyRead D.Disk disk result.0)) }
     ensures unread { IfErr result.1 (IfFileRefused (r.new ≡ r.old)) }
 
-    // `Device` comes only where the disk, the reader or the writer failed, and a good end only where none did.
+    // `Device` comes only where the disk, the reader or the writer failed,
+    // and a good end only where none did.
     ensures device { Blames (D.faults disk + (r.old.failures + w.old.failures))
         (D.faults result.0 + (r.new.failures + w.new.failures)) result.1 }
     ensures no_failure { OnOk result.1 (D.faults result.0 ≡ D.faults disk) }

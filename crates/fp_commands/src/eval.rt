@@ -6,7 +6,8 @@ ghost use Rattle.fp_disk.specs.Outcomes.{IsOutcome};
 ghost use Rattle.fp_disk.specs.declared.history.CallKind.TheVariants.{Length, Sync};
 ghost use Rattle.fp_journal.specs.Pieces.{ThenSomeReads};
 ghost use Rattle.fp_ofrep.specs.Seen.{seen};
-ghost use Rattle.fp_commands.specs.Disks.{Blames, IfFileRefused, IfRefused, IsShowingFault, IsStreamFault};
+ghost use Rattle.fp_commands.specs.Disks.{Blames, IfFileRefused, IfRefused, IsShowingFault};
+ghost use Rattle.fp_commands.specs.Disks.{IsStreamFault};
 ghost use Rattle.fp_commands.specs.Eval.{IsAnswered, IsEvaluated, reply_line};
 
 use crate::fault::CommandFault;
@@ -20,8 +21,8 @@ use itoa::Buffer;
 use std::alloc::{AllocError, Global};
 use std::io::{Read, Write};
 
-/// Writes the reply to the evaluation request that the reader gives, for the flag of this key in what a disk stands for, at a
-/// moment in seconds since 1970. Nothing is written on the disk.
+/// Writes the reply to the evaluation request that the reader gives, for the flag of this key in
+/// what a disk stands for, at a moment in seconds since 1970. Nothing is written on the disk.
 pub fn eval_disk<D: Disk, R: Read, W: Write>(
     alloc: Global,
     r: &mut FailureCounted<R>,
@@ -68,7 +69,8 @@ fn eval<R: Read, W: Write>(
     ensures answered { OnOk result (IsAnswered opening.start key.now now
         (R.remaining r.old.inner) (W.contents w.old.inner) (W.contents w.new.inner)) }
     ensures fault { IfErr result IsStreamFault }
-    ensures device { Blames (r.old.failures + w.old.failures) (r.new.failures + w.new.failures) result }
+    ensures device { Blames (r.old.failures + w.old.failures)
+        (r.new.failures + w.new.failures) result }
 {
     let published = published_of(alloc, opening)?;
     let body = r.read_to_end(alloc)?;

@@ -1,9 +1,13 @@
 //! The program: its words, its files, its streams and its status.
 
-ghost use Rattle.std.specs.Prelude.{◌≡◌, ◌<◌, ◌≤◌, ◌^◌, ◌↔◌, [], Ok, Err, None, Some, IfSome, OnOk, MatchOption, map, string_bytes};
+ghost use Rattle.std.specs.Prelude.{◌≡◌, ◌<◌, ◌≤◌, ◌^◌, ◌↔◌, [], Ok, Err, None, Some, IfSome, OnOk};
+ghost use Rattle.std.specs.Prelude.{MatchOption, map, string_bytes};
 ghost use Rattle.fp_commands.specs.Files.{AppliesInMemory, Performs};
-ghost use Rattle.fp_commands.specs.Task.{NoneFailed, Tells, TellsFault, named, of_flag, over_file, usage};
-ghost use Rattle.fp_commands.specs.declared.program.Task.TheVariants.{ApplyFile, EvalFile, ImportFile, InitFile, ShowFile};
+ghost use Rattle.fp_commands.specs.Task.{NoneFailed, Tells, TellsFault, named, of_flag, over_file};
+ghost use Rattle.fp_commands.specs.Task.{usage};
+ghost use Rattle.fp_commands.specs.declared.program.Task.TheVariants.{ApplyFile, EvalFile};
+ghost use Rattle.fp_commands.specs.declared.program.Task.TheVariants.{ImportFile, InitFile};
+ghost use Rattle.fp_commands.specs.declared.program.Task.TheVariants.{ShowFile};
 
 use crate::disk::{apply_disk, import_disk, init_disk, show_disk};
 use crate::eval::eval_disk;
@@ -32,10 +36,10 @@ enum Task {
     EvalFile,
 }
 
-/// Runs the command that the words name, over files and streams, and answers the program's status: 0 where it was done, 1
-/// where a fault ended it, which `e` is told, and 2 where the words name no command, where `e` is told the usage. It takes
-/// no memory to tell either. No file is opened but the one that the words name, and that once. The moment is in seconds
-/// since 1970.
+/// Runs the command that the words name, over files and streams, and answers the program's status:
+/// 0 where it was done, 1 where a fault ended it, which `e` is told, and 2 where the words name no
+/// command, where `e` is told the usage. It takes no memory to tell either. No file is opened but
+/// the one that the words name, and that once. The moment is in seconds since 1970.
 pub fn command<F, R, W, E>(
     alloc: Global,
     files: &mut F,
@@ -58,14 +62,16 @@ where
     ensures done { result ≡ 0 → IfSome (named (map string_bytes words.now)) (λ task.
         Performs F.DiskFiles F.Disk.Disk R.remaining W.contents
         (record { files = files.old; reader = r.old; writer = w.old })
-        (record { files = files.new; reader = r.new; writer = w.new }) task.0 task.1 task.2 now (Ok tt)) }
+        (record { files = files.new; reader = r.new; writer = w.new })
+        task.0 task.1 task.2 now (Ok tt)) }
     ensures no_failure { result ≡ 0 → NoneFailed r.old r.new w.old w.new }
     ensures quiet { result ≡ 0 → e.new ≡ e.old }
     ensures ends { result ≡ 1 → IfSome (named (map string_bytes words.now)) (λ task.
         TellsFault E.contents e.old e.new (λ fault.
         Performs F.DiskFiles F.Disk.Disk R.remaining W.contents
         (record { files = files.old; reader = r.old; writer = w.old })
-        (record { files = files.new; reader = r.new; writer = w.new }) task.0 task.1 task.2 now (Err fault))) }
+        (record { files = files.new; reader = r.new; writer = w.new })
+        task.0 task.1 task.2 now (Err fault))) }
     ensures small { result ≤ 2 }
 {
     let Some((task, path, key)) = task_of(words) else {
@@ -136,7 +142,8 @@ where
     requires { now < 2 ^ 63 }
     ensures performs { Performs F.DiskFiles F.Disk.Disk R.remaining W.contents
         (record { files = files.old; reader = r.old; writer = w.old })
-        (record { files = files.new; reader = r.new; writer = w.new }) task path.now key.now now result }
+        (record { files = files.new; reader = r.new; writer = w.new })
+        task path.now key.now now result }
     ensures no_failure { OnOk result (NoneFailed r.old r.new w.old w.new) }
 {
     match task {
@@ -177,7 +184,8 @@ where
     W: Write,
     ensures { Performs F.DiskFiles F.Disk.Disk R.remaining W.contents
         (record { files = files.old; reader = _r.now; writer = _w.now })
-        (record { files = files.new; reader = _r.now; writer = _w.now }) InitFile path.now [] 0 result }
+        (record { files = files.new; reader = _r.now; writer = _w.now })
+        InitFile path.now [] 0 result }
 {
     let disk = files.create(path)?;
     let (disk, outcome) = init_disk(alloc, disk);
@@ -199,7 +207,8 @@ where
     W: Write,
     ensures performs { Performs F.DiskFiles F.Disk.Disk R.remaining W.contents
         (record { files = files.old; reader = r.old; writer = w.old })
-        (record { files = files.new; reader = r.new; writer = w.new }) ApplyFile path.now [] 0 result }
+        (record { files = files.new; reader = r.new; writer = w.new })
+        ApplyFile path.now [] 0 result }
     ensures no_failure { OnOk result (NoneFailed r.old r.new w.old w.new) }
 {
     let disk = files.open(path)?;
@@ -223,7 +232,8 @@ where
     W: Write,
     ensures performs { Performs F.DiskFiles F.Disk.Disk R.remaining W.contents
         (record { files = files.old; reader = _r.now; writer = w.old })
-        (record { files = files.new; reader = _r.now; writer = w.new }) ShowFile path.now [] 0 result }
+        (record { files = files.new; reader = _r.now; writer = w.new })
+        ShowFile path.now [] 0 result }
     ensures no_failure { OnOk result (w.new.failures ≤ w.old.failures) }
 {
     let disk = files.open(path)?;
@@ -246,7 +256,8 @@ where
     W: Write,
     ensures performs { Performs F.DiskFiles F.Disk.Disk R.remaining W.contents
         (record { files = files.old; reader = r.old; writer = w.old })
-        (record { files = files.new; reader = r.new; writer = w.new }) ImportFile path.now [] 0 result }
+        (record { files = files.new; reader = r.new; writer = w.new })
+        ImportFile path.now [] 0 result }
     ensures no_failure { OnOk result (NoneFailed r.old r.new w.old w.new) }
 {
     let disk = files.open(path)?;
@@ -273,7 +284,8 @@ where
     requires { now < 2 ^ 63 }
     ensures performs { Performs F.DiskFiles F.Disk.Disk R.remaining W.contents
         (record { files = files.old; reader = r.old; writer = w.old })
-        (record { files = files.new; reader = r.new; writer = w.new }) EvalFile path.now key.now now result }
+        (record { files = files.new; reader = r.new; writer = w.new })
+        EvalFile path.now key.now now result }
     ensures no_failure { OnOk result (NoneFailed r.old r.new w.old w.new) }
 {
     let disk = files.open(path)?;

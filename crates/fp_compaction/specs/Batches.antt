@@ -10,13 +10,14 @@ use Rattle.fp_recovery.specs.Stands.{StandsFor, TakesBatch}
 use Rattle.fp_slots.specs.State.{SlotsState, HasBegun, IsEarly, IsGrowing}
 use Rattle.fp_compaction.specs.Sets.{IsKeptIn, IsPlannedFor}
 
--- the bytes behind the image that the other slot is to hold: batches, each with its gate and its length
+-- the bytes behind the image that the other slot is to hold:
+-- batches, each with its gate and its length
 abbrev pub tail_of : {D : Type 0} → SlotsState D → ℕ
 tail_of slots = length slots.text - slots.head
 
--- A body of n bytes is as short as its slot takes and fits behind the last closed gate with its gate,
--- its length and the gate behind it. While a compaction runs its tail isn't written yet, and with this
--- body and a last gate it takes a quarter of a slot at most
+-- A body of n bytes is as short as its slot takes and fits behind the last closed gate with its
+-- gate, its length and the gate behind it. While a compaction runs its tail isn't written yet, and
+-- with this body and a last gate it takes a quarter of a slot at most
 pub record HasRoomFor {D : Type 0} (slots : SlotsState D) (n : ℕ) : Type 0 where
   pub short : n ≤ slots.journal.slot.most
   pub fits : n + 6 ≤ room slots.journal

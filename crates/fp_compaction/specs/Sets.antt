@@ -10,8 +10,8 @@ use Rattle.fp_layout.specs.Size.{IsSlotSize, Side, other_side, slot_of}
 use Rattle.fp_recovery.specs.Stands.{Spells, StandsFor, TakesBatch}
 use Rattle.fp_slots.specs.State.{SlotsState, sealed_text}
 
--- The slots are those of a disk whose header no crash takes away, and what is sealed in the one that
--- rules spells the set
+-- The slots are those of a disk whose header no crash takes away, and what is sealed in the one
+-- that rules spells the set
 pub record IsKeptOn {D : Type 0} (u : PendingState) (slots : SlotsState D) (size : ℕ) (side : Side)
     (s : State) : Type 0 where
   pub header : List ℕ
@@ -30,7 +30,8 @@ IsKeptIn u slots size s = (side : Side) × IsKeptOn u slots size side s
 abbrev pub IsPlannedFor : {D : Type 0} → SlotsState D → ℕ → State → Type 0
 IsPlannedFor slots size s = Spells size slots.text s
 
--- the slots are the two of a disk whose slots have this size, and half of one is what a set's image may take
+-- the slots are the two of a disk whose slots have this size,
+-- and half of one is what a set's image may take
 pub record IsPlaced {D : Type 0} (size : ℕ) (slots : SlotsState D) (limit : ℕ) : Type 0 where
   pub allowed : IsSlotSize size
   pub side : Side
@@ -48,8 +49,8 @@ abbrev pub IsTaken : {D : Type 0} → JournalState D → ℕ → State → State
 IsTaken j size s t =
     HasBegun j → TakesBatch s j.staged t × (length j.staged ≤ size / 8 - 6)
 
--- what a crash leaves: the set, and once a call began to open the gate of the batch on its way perhaps
--- what that makes of it
+-- what a crash leaves: the set, and once a call began to open the gate of the batch on its way
+-- perhaps what that makes of it
 abbrev pub LeavesSet : {D : Type 0} → JournalState D → State → State → List ℕ → Type 0
 LeavesSet j s t c = StandsFor c s ⊎ (HasBegun j × StandsFor c t)
 

@@ -1,5 +1,6 @@
 -- A compaction step by step: which follows which, what each calls, leaves and keeps.
-use Rattle.std.specs.Prelude.{◌≡◌, ◌<◌, ◌≤◌, ◌+◌, ◌-◌, ◌^◌, ℕ, Bool, false, List, [], ◌∷◌, ◌++◌, if◌then◌else◌, length, nat_lt}
+use Rattle.std.specs.Prelude.{◌≡◌, ◌<◌, ◌≤◌, ◌+◌, ◌-◌, ◌^◌, ℕ, Bool, false, List, [], ◌∷◌, ◌++◌}
+use Rattle.std.specs.Prelude.{if◌then◌else◌, length, nat_lt}
 use Rattle.fp_disk.specs.Crashes.{SameHonesty}
 use Rattle.fp_disk.specs.Outcomes.{IsOutcome, LeavesOnly}
 use Rattle.fp_disk.specs.declared.disk.Disk.{Ghosts}
@@ -14,7 +15,8 @@ use Rattle.fp_recovery.specs.Stands.{StandsFor}
 use Rattle.fp_slots.specs.State.{SlotsState, SameSlots}
 use Rattle.fp_slots.specs.declared.places.TheConstants.{IMAGE_PLACE, PART}
 use Rattle.fp_slots.specs.declared.slots.Step.{Step}
-use Rattle.fp_slots.specs.declared.slots.Step.TheVariants.{Begin, Close, SyncClose, Part, Tail, SyncBody, Open, SyncOpen}
+use Rattle.fp_slots.specs.declared.slots.Step.TheVariants.{Begin, Close, SyncClose, Part, Tail}
+use Rattle.fp_slots.specs.declared.slots.Step.TheVariants.{SyncBody, Open, SyncOpen}
 use Rattle.fp_compaction.specs.Batches.{LeadsTo}
 use Rattle.fp_compaction.specs.Sets.{IsKeptIn, IsPlannedFor, IsTaken, LeavesSet}
 
@@ -29,7 +31,8 @@ next_step SyncBody left = Open
 next_step Open left = SyncOpen
 next_step SyncOpen left = Begin
 
--- how many bytes of head and image are left behind a step, where one runs: a Part writes one part of them
+-- how many bytes of head and image are left behind a step,
+-- where one runs: a Part writes one part of them
 abbrev pub next_left : Step → ℕ → ℕ
 next_left Begin left = left
 next_left Close left = left
@@ -62,7 +65,8 @@ IsLate SyncBody = ⊥
 IsLate Open = Unit {0}
 IsLate SyncOpen = Unit {0}
 
--- there is a generation behind the present one, where none runs, and no batch is on its way at the tail
+-- there is a generation behind the present one, where none runs,
+-- and no batch is on its way at the tail
 pub record MayStep {D : Type 0} (slots : SlotsState D) : Type 0 where
   pub next : slots.step ≡ Begin → slots.generation + 1 < 2 ^ 64
   pub still : slots.step ≡ Tail → IsOnWay slots.journal.phase → ⊥
@@ -73,8 +77,8 @@ pub record HasPlace {D : Type 0} (slots : SlotsState D) (s : State) : Type 0 whe
   pub short : s.limit < 2 ^ 32
   pub wide : slots.other.start + IMAGE_PLACE + s.limit < slots.other.stop
 
--- What a step leaves at each moment: the kept set, or what a batch makes of it whose gate was begun.
--- It asks that the other slot is to hold the kept set from where it may rule
+-- What a step leaves at each moment: the kept set, or what a batch makes of it whose gate was
+-- begun. It asks that the other slot is to hold the kept set from where it may rule
 abbrev pub LeavesStep : {D : Type 0} → Ghosts D → SlotsState D → SlotsState D → Type 0
 LeavesStep disk old new = disk.honest old.journal.disk → (size : ℕ) (s t : State)
     → IsKeptIn (disk.unsynced old.journal.disk) old size s → IsTaken old.journal size s t
@@ -144,8 +148,8 @@ ReadsNext disk slots = disk.honest slots.journal.disk → slots.journal.phase �
     → (size : ℕ) (s t : State) → IsKeptIn (disk.unsynced slots.journal.disk) slots size s
     → LeadsTo slots size s t → StandsFor (disk.bytes slots.journal.disk) t
 
--- where none runs, no gate was begun, and the slot that rules has no room for a body of n bytes: neither has whatever
--- a crash leaves, and that is of the same generation
+-- where none runs, no gate was begun, and the slot that rules has no room for a body of n bytes:
+-- neither has whatever a crash leaves, and that is of the same generation
 abbrev pub IsFullNow : {D : Type 0} → Ghosts D → SlotsState D → Type 0
 IsFullNow disk slots = disk.honest slots.journal.disk → slots.step ≡ Begin
     → has_begun slots.journal.phase slots.journal.begun ≡ false → (size : ℕ) (s : State)

@@ -3,15 +3,18 @@
 ghost use Rattle.fp_disk.specs.Crashes.{SameHonesty};
 ghost use Rattle.fp_disk.specs.Outcomes.{Answers};
 ghost use Rattle.fp_disk.specs.declared.history.CallKind.TheVariants.{Sync, Write};
-ghost use Rattle.std.specs.Prelude.{◌≡◌, ◌≢◌, [], ◌∷◌, ◌++◌, true, false, length, IfOk, OnOk, OnErr};
+ghost use Rattle.std.specs.Prelude.{◌≡◌, ◌≢◌, [], ◌∷◌, ◌++◌, true, false, length, IfOk, OnOk};
+ghost use Rattle.std.specs.Prelude.{OnErr};
 ghost use Rattle.fp_journal.specs.Chain.{body_of, framed as framed_text, with_gate};
 ghost use Rattle.fp_gate.specs.declared.gate.TheConstants.{OPEN};
 ghost use Rattle.fp_journal.specs.State.{SameSlot, has_begun};
-ghost use Rattle.fp_journal.specs.declared.journal.Phase.TheVariants.{Idle, Staged, BodySynced, GateOpened, Failed};
+ghost use Rattle.fp_journal.specs.declared.journal.Phase.TheVariants.{Idle, Staged, BodySynced};
+ghost use Rattle.fp_journal.specs.declared.journal.Phase.TheVariants.{GateOpened, Failed};
 ghost use Rattle.fp_slots.specs.State.{HasBegun, IsEarly, IsGrowing, SameCompaction, SamePlan};
 ghost use Rattle.fp_compaction.specs.Sets.{GoesOnKept};
 ghost use Rattle.fp_compaction.specs.Steps.{IsFullNow, LeavesNow, ReadsNext};
-ghost use Rattle.fp_compaction.specs.Batches.{FitsBeside, HasRoomFor, IsReadyFor, KeepsNext, LeavesNext, LeavesSealed, PlansNext};
+ghost use Rattle.fp_compaction.specs.Batches.{FitsBeside, HasRoomFor, IsReadyFor, KeepsNext};
+ghost use Rattle.fp_compaction.specs.Batches.{LeavesNext, LeavesSealed, PlansNext};
 
 use crate::room::is_growing;
 use fp_disk::{Disk, DiskFault};
@@ -19,7 +22,8 @@ use fp_journal::{Framed, Phase, Sealed};
 use fp_slots::Slots;
 use std::alloc::AllocError;
 
-/// Keeps a body ready to join what the other slot is to hold, where a compaction can take it. All memory is taken here.
+/// Keeps a body ready to join what the other slot is to hold, where a compaction can take it.
+/// All memory is taken here.
 pub fn make_ready<D: Disk>(slots: &mut Slots<D>, framed: &Framed) -> Result<(), AllocError>
     requires live { slots.old.journal.phase ≢ Failed }
     ensures same { SamePlan slots.old slots.new }
@@ -48,7 +52,8 @@ pub fn stage<D: Disk>(slots: &mut Slots<D>, framed: Framed) -> Result<(), DiskFa
     ensures honest { SameHonesty D.Disk slots.old.journal.disk slots.new.journal.disk }
     ensures called { D.calls slots.new.journal.disk
         ≡ D.calls slots.old.journal.disk ++ Write ∷ [] }
-    ensures cause { Answers (D.faults slots.old.journal.disk) (D.faults slots.new.journal.disk) result }
+    ensures cause { Answers (D.faults slots.old.journal.disk)
+        (D.faults slots.new.journal.disk) result }
 {
     slots.stage(framed)
 }
@@ -68,7 +73,8 @@ pub fn sync_body<D: Disk>(slots: &mut Slots<D>) -> Result<(), DiskFault>
     ensures honest { SameHonesty D.Disk slots.old.journal.disk slots.new.journal.disk }
     ensures called { D.calls slots.new.journal.disk
         ≡ D.calls slots.old.journal.disk ++ Sync ∷ [] }
-    ensures cause { Answers (D.faults slots.old.journal.disk) (D.faults slots.new.journal.disk) result }
+    ensures cause { Answers (D.faults slots.old.journal.disk)
+        (D.faults slots.new.journal.disk) result }
 {
     slots.sync_staged()
 }
@@ -88,12 +94,14 @@ pub fn open_gate<D: Disk>(slots: &mut Slots<D>) -> Result<(), DiskFault>
     ensures honest { SameHonesty D.Disk slots.old.journal.disk slots.new.journal.disk }
     ensures called { D.calls slots.new.journal.disk
         ≡ D.calls slots.old.journal.disk ++ Write ∷ [] }
-    ensures cause { Answers (D.faults slots.old.journal.disk) (D.faults slots.new.journal.disk) result }
+    ensures cause { Answers (D.faults slots.old.journal.disk)
+        (D.faults slots.new.journal.disk) result }
 {
     slots.open_gate()
 }
 
-// Lets the body that is kept ready join what the other slot is to hold, where a compaction can take it.
+// Lets the body that is kept ready join what the other slot is to hold,
+// where a compaction can take it.
 fn grow<D: Disk>(slots: &mut Slots<D>)
     requires live { slots.old.journal.phase ≢ Failed }
     requires ready { IsReadyFor slots.old (body_of slots.old.coming) }
@@ -111,7 +119,8 @@ fn grow<D: Disk>(slots: &mut Slots<D>)
     }
 }
 
-/// Makes sure of the open gate: the batch is sealed, and a compaction that can take it will have it in the other slot.
+/// Makes sure of the open gate: the batch is sealed, and a compaction
+/// that can take it will have it in the other slot.
 pub fn sync_gate<D: Disk>(slots: &mut Slots<D>) -> Result<Sealed, DiskFault>
     requires early { IsEarly slots.old.step }
     requires opened { slots.old.journal.phase ≡ GateOpened }
@@ -133,14 +142,17 @@ pub fn sync_gate<D: Disk>(slots: &mut Slots<D>) -> Result<Sealed, DiskFault>
     ensures bodies { OnErr result ((slots.new.journal.sealed ≡ slots.old.journal.sealed)
         × (slots.new.journal.staged ≡ slots.old.journal.staged)) }
     ensures broken { OnErr result ((slots.new.journal.phase ≡ Failed)
-        × (slots.new.journal.begun ≡ true) × GoesOnKept D.Disk slots.old slots.new × SameCompaction slots.old slots.new) }
+        × (slots.new.journal.begun ≡ true)
+        × GoesOnKept D.Disk slots.old slots.new
+        × SameCompaction slots.old slots.new) }
     ensures beside { (slots.new.other ≡ slots.old.other)
         × (slots.new.generation ≡ slots.old.generation) × (slots.new.step ≡ slots.old.step)
         × (slots.new.head ≡ slots.old.head) × (slots.new.left ≡ slots.old.left) }
     ensures honest { SameHonesty D.Disk slots.old.journal.disk slots.new.journal.disk }
     ensures called { D.calls slots.new.journal.disk
         ≡ D.calls slots.old.journal.disk ++ Sync ∷ [] }
-    ensures cause { Answers (D.faults slots.old.journal.disk) (D.faults slots.new.journal.disk) result }
+    ensures cause { Answers (D.faults slots.old.journal.disk)
+        (D.faults slots.new.journal.disk) result }
 {
     let sealed = slots.sync_gate()?;
     grow(slots);

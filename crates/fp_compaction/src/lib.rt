@@ -1,4 +1,5 @@
-//! A compaction: what the slot that rules keeps is written into the other one, beside batches, and that takes its place.
+//! A compaction: what the slot that rules keeps is written into the other one,
+//! beside batches, and that takes its place.
 #![tactic(auto)]
 
 mod batches;

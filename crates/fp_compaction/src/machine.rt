@@ -5,7 +5,8 @@ ghost use Rattle.fp_journal.specs.declared.journal.Phase.TheVariants.{Failed};
 ghost use Rattle.fp_edit.specs.Flags.{size as size_of};
 ghost use Rattle.fp_slots.specs.declared.slots.Step.TheVariants.{Begin, SyncOpen};
 ghost use Rattle.fp_compaction.specs.Sets.{IsPlannedFor};
-ghost use Rattle.fp_compaction.specs.Steps.{Begins, BreaksOff, HasPlace, MayStep, Stays, TakesStep, Turns, next_left, next_step};
+ghost use Rattle.fp_compaction.specs.Steps.{Begins, BreaksOff, HasPlace, MayStep, Stays, TakesStep};
+ghost use Rattle.fp_compaction.specs.Steps.{Turns, next_left, next_step};
 ghost use Rattle.fp_compaction.specs.declared.machine.StepFault.TheVariants.{Device, Memory};
 
 use crate::steps::{begin, chunk, close, copy_tail, finish, open_other, seal, sync_close};
@@ -40,7 +41,8 @@ impl From<AllocError> for StepFault {
     }
 }
 
-/// Whether a step may be taken: there is a generation behind the present one, where none runs, and no batch is on its way at the tail.
+/// Whether a step may be taken: there is a generation behind the present one,
+/// where none runs, and no batch is on its way at the tail.
 pub fn may_step<D: Disk>(slots: &Slots<D>) -> bool
     ensures { IsTrue result ↔ MayStep slots.now }
 {
@@ -51,7 +53,8 @@ pub fn may_step<D: Disk>(slots: &Slots<D>) -> bool
     }
 }
 
-/// Takes the next step, with one call of the disk at most. The set is what is kept, and is looked at only where none runs.
+/// Takes the next step, with one call of the disk at most.
+/// The set is what is kept, and is looked at only where none runs.
 pub fn take_step<D: Disk>(
     alloc: Global,
     slots: &mut Slots<D>,

@@ -19,8 +19,8 @@ use fp_recovery::Replayer;
 use fp_slots::Slots;
 use std::alloc::Global;
 
-/// Opens a disk: its two slots, with a journal in the one that rules, and the set that they keep. It syncs before it reads, and writes
-/// nothing.
+/// Opens a disk: its two slots, with a journal in the one that rules, and the set that they keep.
+/// It syncs before it reads, and writes nothing.
 pub fn open<D: Disk>(alloc: Global, disk: D) -> Result<(Slots<D>, FlagSet), (OpenFault, D)>
     ensures stands { D.honest disk → IfOk result (λ r. StandsFor (D.bytes disk) r.1) }
     ensures kept { IfOk result (λ r. (size : ℕ) × IsPlaced size r.0 r.1.limit

@@ -43,7 +43,8 @@ fn has_begun(step: Step) -> bool
     }
 }
 
-// Whether so many bytes more, and a gate and a length for them and a last gate, leave the tail within a quarter of its slot.
+// Whether so many bytes more, and a gate and a length for them and a last gate,
+// leave the tail within a quarter of its slot.
 fn fits_tail(size: u64, tail: u64, len: u64) -> bool
     requires { len < 2 ^ 32 }
     ensures { IsTrue result ↔ (tail + len + 6 ≤ size / 4) }

@@ -1,18 +1,22 @@
-//! The steps of a compaction, with one call of the disk each at most, by the set that the bytes stand for at each moment.
+//! The steps of a compaction, with one call of the disk each at most,
+//! by the set that the bytes stand for at each moment.
 
 ghost use Rattle.fp_disk.specs.Crashes.{SameHonesty};
 ghost use Rattle.fp_disk.specs.Outcomes.{Answers};
 ghost use Rattle.fp_disk.specs.declared.history.CallKind.TheVariants.{Sync, Write};
-ghost use Rattle.std.specs.Prelude.{◌≡◌, ◌≢◌, ◌<◌, ◌≤◌, ◌+◌, ◌-◌, ◌/◌, ◌^◌, [], ◌∷◌, ◌++◌, ℕ, length, if◌then◌else◌, OnOk, OnErr};
+ghost use Rattle.std.specs.Prelude.{◌≡◌, ◌≢◌, ◌<◌, ◌≤◌, ◌+◌, ◌-◌, ◌/◌, ◌^◌, [], ◌∷◌, ◌++◌, ℕ};
+ghost use Rattle.std.specs.Prelude.{length, if◌then◌else◌, OnOk, OnErr};
 ghost use Rattle.fp_edit.specs.Flags.{State};
 ghost use Rattle.fp_journal.specs.State.{room};
 ghost use Rattle.fp_journal.specs.declared.journal.Phase.TheVariants.{Idle, Failed};
 ghost use Rattle.fp_slots.specs.State.{SameSlots};
 ghost use Rattle.fp_slots.specs.declared.places.TheConstants.{IMAGE_PLACE, PART};
-ghost use Rattle.fp_slots.specs.declared.slots.Step.TheVariants.{Begin, Close, SyncClose, Part, Tail, SyncBody, Open, SyncOpen};
+ghost use Rattle.fp_slots.specs.declared.slots.Step.TheVariants.{Begin, Close, SyncClose, Part};
+ghost use Rattle.fp_slots.specs.declared.slots.Step.TheVariants.{Tail, SyncBody, Open, SyncOpen};
 ghost use Rattle.fp_edit.specs.Flags.{size as size_of};
 ghost use Rattle.fp_compaction.specs.Steps.{Begins, TakesStep, Turns};
-ghost use Rattle.fp_compaction.specs.Sets.{GoesOnKept, IsKeptIn, IsPlannedFor, LeavesEither, LeavesOld};
+ghost use Rattle.fp_compaction.specs.Sets.{GoesOnKept, IsKeptIn, IsPlannedFor, LeavesEither};
+ghost use Rattle.fp_compaction.specs.Sets.{LeavesOld};
 
 use crate::image::image_of;
 use fp_disk::{Disk, DiskFault};
@@ -20,8 +24,8 @@ use fp_edit::FlagSet;
 use fp_slots::Slots;
 use std::alloc::{AllocError, Global};
 
-/// Begins a compaction of this set. A batch on its way is kept ready to go behind the image. It makes no call of the disk; where memory
-/// runs out all stays as it was.
+/// Begins a compaction of this set. A batch on its way is kept ready to go behind the image. It
+/// makes no call of the disk; where memory runs out all stays as it was.
 pub fn begin<D: Disk>(alloc: Global, slots: &mut Slots<D>, set: &FlagSet) -> Result<(), AllocError>
     requires step { slots.old.step ≡ Begin }
     requires live { slots.old.journal.phase ≢ Failed }
@@ -62,7 +66,8 @@ pub fn close<D: Disk>(slots: &mut Slots<D>) -> Result<(), DiskFault>
     ensures honest { SameHonesty D.Disk slots.old.journal.disk slots.new.journal.disk }
     ensures called { D.calls slots.new.journal.disk
         ≡ D.calls slots.old.journal.disk ++ (if slots.old.may_open then Write ∷ [] else []) }
-    ensures cause { Answers (D.faults slots.old.journal.disk) (D.faults slots.new.journal.disk) result }
+    ensures cause { Answers (D.faults slots.old.journal.disk)
+        (D.faults slots.new.journal.disk) result }
 {
     slots.close_other()
 }
@@ -82,7 +87,8 @@ pub fn sync_close<D: Disk>(slots: &mut Slots<D>) -> Result<(), DiskFault>
     ensures honest { SameHonesty D.Disk slots.old.journal.disk slots.new.journal.disk }
     ensures called { D.calls slots.new.journal.disk
         ≡ D.calls slots.old.journal.disk ++ Sync ∷ [] }
-    ensures cause { Answers (D.faults slots.old.journal.disk) (D.faults slots.new.journal.disk) result }
+    ensures cause { Answers (D.faults slots.old.journal.disk)
+        (D.faults slots.new.journal.disk) result }
 {
     slots.sync_close()
 }
@@ -104,7 +110,8 @@ pub fn chunk<D: Disk>(slots: &mut Slots<D>) -> Result<(), DiskFault>
     ensures honest { SameHonesty D.Disk slots.old.journal.disk slots.new.journal.disk }
     ensures called { D.calls slots.new.journal.disk
         ≡ D.calls slots.old.journal.disk ++ Write ∷ [] }
-    ensures cause { Answers (D.faults slots.old.journal.disk) (D.faults slots.new.journal.disk) result }
+    ensures cause { Answers (D.faults slots.old.journal.disk)
+        (D.faults slots.new.journal.disk) result }
 {
     slots.write_part()
 }
@@ -124,7 +131,8 @@ pub fn copy_tail<D: Disk>(slots: &mut Slots<D>) -> Result<(), DiskFault>
     ensures honest { SameHonesty D.Disk slots.old.journal.disk slots.new.journal.disk }
     ensures called { D.calls slots.new.journal.disk
         ≡ D.calls slots.old.journal.disk ++ Write ∷ [] }
-    ensures cause { Answers (D.faults slots.old.journal.disk) (D.faults slots.new.journal.disk) result }
+    ensures cause { Answers (D.faults slots.old.journal.disk)
+        (D.faults slots.new.journal.disk) result }
 {
     slots.write_tail()
 }
@@ -144,7 +152,8 @@ pub fn seal<D: Disk>(slots: &mut Slots<D>) -> Result<(), DiskFault>
     ensures honest { SameHonesty D.Disk slots.old.journal.disk slots.new.journal.disk }
     ensures called { D.calls slots.new.journal.disk
         ≡ D.calls slots.old.journal.disk ++ Sync ∷ [] }
-    ensures cause { Answers (D.faults slots.old.journal.disk) (D.faults slots.new.journal.disk) result }
+    ensures cause { Answers (D.faults slots.old.journal.disk)
+        (D.faults slots.new.journal.disk) result }
 {
     slots.sync_parts()
 }
@@ -164,7 +173,8 @@ pub fn open_other<D: Disk>(slots: &mut Slots<D>) -> Result<(), DiskFault>
     ensures honest { SameHonesty D.Disk slots.old.journal.disk slots.new.journal.disk }
     ensures called { D.calls slots.new.journal.disk
         ≡ D.calls slots.old.journal.disk ++ Write ∷ [] }
-    ensures cause { Answers (D.faults slots.old.journal.disk) (D.faults slots.new.journal.disk) result }
+    ensures cause { Answers (D.faults slots.old.journal.disk)
+        (D.faults slots.new.journal.disk) result }
 {
     slots.open_other()
 }
@@ -193,7 +203,8 @@ pub fn finish<D: Disk>(slots: &mut Slots<D>) -> Result<(), DiskFault>
     ensures honest { SameHonesty D.Disk slots.old.journal.disk slots.new.journal.disk }
     ensures called { D.calls slots.new.journal.disk
         ≡ D.calls slots.old.journal.disk ++ Sync ∷ [] }
-    ensures cause { Answers (D.faults slots.old.journal.disk) (D.faults slots.new.journal.disk) result }
+    ensures cause { Answers (D.faults slots.old.journal.disk)
+        (D.faults slots.new.journal.disk) result }
 {
     // That no batch is on its way is known only where it is asked.
     let _ = slots.step();

@@ -27,13 +27,14 @@ SameCourse old new = (new.slots.step ≡ old.slots.step) × (new.slots.left ≡ 
 abbrev pub SamePlace : {D : Type 0} → StoreState D → StoreState D → Type 0
 SamePlace old new = SameCourse old new × (tail_of new.slots ≡ tail_of old.slots)
 
--- a batch may take as many bytes as before, as many are left for batches, and a compaction is where it was
+-- a batch may take as many bytes as before, as many are left for batches,
+-- and a compaction is where it was
 abbrev pub SameRoom : {D : Type 0} → StoreState D → StoreState D → Type 0
 SameRoom old new = (new.slots.journal.slot.most ≡ old.slots.journal.slot.most)
     × (room new.slots.journal ≡ room old.slots.journal) × SamePlace old new
 
--- of the bytes left the batch took those of its body, the number of its length and a gate, and as many
--- joined the tail of a compaction that can take it
+-- of the bytes left the batch took those of its body, the number of its length and a gate, and as
+-- many joined the tail of a compaction that can take it
 abbrev pub TakesRoom : {D : Type 0} → StoreState D → StoreState D → Type 0
 TakesRoom old new = (new.slots.journal.slot.most ≡ old.slots.journal.slot.most)
     × (room new.slots.journal + batch_len (record { first = 0; changes = old.staged }) + 5
@@ -44,7 +45,8 @@ TakesRoom old new = (new.slots.journal.slot.most ≡ old.slots.journal.slot.most
     × ((IsGrowing old.slots.step → ⊥) → tail_of new.slots ≡ tail_of old.slots)
 
 -- the store goes on to this phase, and the device failed neither before nor in the call
-pub record MovesTo {D : Type 0} (faults : D → ℕ) (phase : Phase) (old new : StoreState D) : Type 0 where
+pub record MovesTo {D : Type 0} (faults : D → ℕ) (phase : Phase)
+    (old new : StoreState D) : Type 0 where
   pub step : new.step ≡ phase
   pub well_before : old.slots.journal.phase ≢ Failed
   pub well_now : new.slots.journal.phase ≢ Failed
@@ -66,7 +68,8 @@ FailsBy faults old new fault.Memory = ⊥
 FailsBy faults old new fault.Stranger = ⊥
 
 -- why a batch wasn't staged
-abbrev pub RefusesBy : {D : Type 0} → (D → ℕ) → StoreState D → StoreState D → Group → StoreFault → Type 0
+abbrev pub RefusesBy : {D : Type 0} → (D → ℕ) → StoreState D → StoreState D →
+    Group → StoreFault → Type 0
 RefusesBy faults old new group fault.Device = Breaks faults old new × GoesOn (kept old) group
 RefusesBy faults old new group fault.Failed = (old.slots.journal.phase ≡ Failed) × (new ≡ old)
 RefusesBy faults old new group fault.Memory = (old.slots.journal.phase ≢ Failed) × (new ≡ old)
@@ -89,8 +92,9 @@ pub record PlansImage {D : Type 0} (old new : StoreState D) : Type 0 where
   pub text : length new.slots.text ≡ new.slots.head
 
 -- It was taken, and the device failed neither before nor in the call. What is left of head and
--- image and the tail are as long as before, but for a Part. At the last one the slots are turned: it is the next generation, and all room behind what the
--- other slot was to hold is there. At each other the slots and the room stay
+-- image and the tail are as long as before, but for a Part. At the last one the slots are turned:
+-- it is the next generation, and all room behind what the other slot was to hold is there. At each
+-- other the slots and the room stay
 pub record Compacts {D : Type 0} (faults : D → ℕ) (old new : StoreState D) : Type 0 where
   pub next : new.slots.step ≡ next_step old.slots.step old.slots.left
   pub left : old.slots.step ≢ Begin → new.slots.left ≡ next_left old.slots.step old.slots.left

@@ -16,9 +16,10 @@ use Rattle.fp_compaction.specs.Sets.{IsKeptIn, IsPlaced, IsPlannedFor}
 use Rattle.fp_group_commit.specs.Changes.{batch_len}
 use Rattle.fp_group_commit.specs.Store.{StoreState, coming, kept}
 
--- The batch on its way leads on from what is sealed, its edits are kept for the set, and those before it are all in the set.
--- A compaction that can take it has it ready
-pub record IsFlight {D : Type 0} (s : StoreState D) (first : ℕ) (ahead copies : List Change) : Type 0 where
+-- The batch on its way leads on from what is sealed, its edits are kept for the set, and those
+-- before it are all in the set. A compaction that can take it has it ready
+pub record IsFlight {D : Type 0} (s : StoreState D) (first : ℕ)
+    (ahead copies : List Change) : Type 0 where
   pub on_way : IsOnWay s.step
   pub none : ahead ≡ []
   pub copied : copies ≡ s.staged

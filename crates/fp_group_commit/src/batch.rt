@@ -4,8 +4,10 @@ ghost use Rattle.fp_disk.specs.Crashes.{AtAnyMoment, EachCrash, SameHonesty};
 ghost use Rattle.std.specs.Prelude.{◌≡◌, ◌+◌, ◌++◌, [], ◌∷◌, List, ℕ, IfOk, IfErr, OnOk, OnErr};
 ghost use Rattle.fp_disk.specs.History.{Makes};
 ghost use Rattle.fp_disk.specs.declared.history.CallKind.TheVariants.{Sync, Write};
-ghost use Rattle.fp_journal.specs.declared.journal.Phase.TheVariants.{Idle, Staged, BodySynced, GateOpened};
-ghost use Rattle.fp_group_commit.specs.Calls.{FailsBy, MovesTo, RefusesBy, SameRoom, SameStore, TakesRoom};
+ghost use Rattle.fp_journal.specs.declared.journal.Phase.TheVariants.{Idle, Staged, BodySynced};
+ghost use Rattle.fp_journal.specs.declared.journal.Phase.TheVariants.{GateOpened};
+ghost use Rattle.fp_group_commit.specs.Calls.{FailsBy, MovesTo, RefusesBy, SameRoom, SameStore};
+ghost use Rattle.fp_group_commit.specs.Calls.{TakesRoom};
 ghost use Rattle.fp_group_commit.specs.Changes.{GoesOn, HasRoom};
 ghost use Rattle.fp_group_commit.specs.Store.{Leaves, kept};
 
@@ -34,10 +36,11 @@ impl<D: Disk> Store<D> {
         ensures same_room { SameRoom self.old self.new }
         ensures called { Makes (Write ∷ []) (D.calls self.old.slots.journal.disk)
             (D.calls self.new.slots.journal.disk) result }
-        ensures any_moment { AtAnyMoment D.Disk self.old.slots.journal.disk self.new.slots.journal.disk
-            (Leaves self.old) }
+        ensures any_moment { AtAnyMoment D.Disk self.old.slots.journal.disk
+            self.new.slots.journal.disk (Leaves self.old) }
         ensures exit { EachCrash D.Disk self.new.slots.journal.disk (Leaves self.new) }
-        ensures honest { SameHonesty D.Disk self.old.slots.journal.disk self.new.slots.journal.disk }
+        ensures honest { SameHonesty D.Disk self.old.slots.journal.disk
+            self.new.slots.journal.disk }
     {
         if let Phase::Failed = phase(&self.slots) {
             return Err((StoreFault::Failed, draw));
@@ -75,10 +78,11 @@ impl<D: Disk> Store<D> {
         ensures same_room { SameRoom self.old self.new }
         ensures called { Makes (Sync ∷ []) (D.calls self.old.slots.journal.disk)
             (D.calls self.new.slots.journal.disk) result }
-        ensures any_moment { AtAnyMoment D.Disk self.old.slots.journal.disk self.new.slots.journal.disk
-            (Leaves self.old) }
+        ensures any_moment { AtAnyMoment D.Disk self.old.slots.journal.disk
+            self.new.slots.journal.disk (Leaves self.old) }
         ensures exit { EachCrash D.Disk self.new.slots.journal.disk (Leaves self.new) }
-        ensures honest { SameHonesty D.Disk self.old.slots.journal.disk self.new.slots.journal.disk }
+        ensures honest { SameHonesty D.Disk self.old.slots.journal.disk
+            self.new.slots.journal.disk }
     {
         if let Phase::Failed = phase(&self.slots) {
             return Err(StoreFault::Failed);
@@ -101,10 +105,11 @@ impl<D: Disk> Store<D> {
         ensures called { Makes (Write ∷ []) (D.calls self.old.slots.journal.disk)
             (D.calls self.new.slots.journal.disk) result }
         // This call begins to open the gate, so what it leaves is said of the store after it.
-        ensures any_moment { AtAnyMoment D.Disk self.old.slots.journal.disk self.new.slots.journal.disk
-            (Leaves self.new) }
+        ensures any_moment { AtAnyMoment D.Disk self.old.slots.journal.disk
+            self.new.slots.journal.disk (Leaves self.new) }
         ensures exit { EachCrash D.Disk self.new.slots.journal.disk (Leaves self.new) }
-        ensures honest { SameHonesty D.Disk self.old.slots.journal.disk self.new.slots.journal.disk }
+        ensures honest { SameHonesty D.Disk self.old.slots.journal.disk
+            self.new.slots.journal.disk }
     {
         if let Phase::Failed = phase(&self.slots) {
             return Err(StoreFault::Failed);
@@ -122,7 +127,8 @@ impl<D: Disk> Store<D> {
         ensures store { self.new.store ≡ self.old.store }
         ensures ok { OnOk result (MovesTo D.faults Idle self.old self.new) }
         ensures sealed { OnOk result (self.new.sealed ≡ self.old.sealed ++ self.old.staged) }
-        ensures receipt { IfOk result (λ r. (r.store ≡ self.new.store) × (r.edits ≡ self.new.sealed)) }
+        ensures receipt { IfOk result (λ r. (r.store ≡ self.new.store)
+            × (r.edits ≡ self.new.sealed)) }
         ensures batch { IfOk result (λ r. (r.batch.changes ≡ self.old.staged)
             × (r.batch.first ≡ (kept self.old).revision + 1)) }
         ensures err { IfErr result (λ _. SameStore self.old self.new) }
@@ -131,10 +137,11 @@ impl<D: Disk> Store<D> {
         ensures takes_room { OnOk result (TakesRoom self.old self.new) }
         ensures called { Makes (Sync ∷ []) (D.calls self.old.slots.journal.disk)
             (D.calls self.new.slots.journal.disk) result }
-        ensures any_moment { AtAnyMoment D.Disk self.old.slots.journal.disk self.new.slots.journal.disk
-            (Leaves self.old) }
+        ensures any_moment { AtAnyMoment D.Disk self.old.slots.journal.disk
+            self.new.slots.journal.disk (Leaves self.old) }
         ensures exit { EachCrash D.Disk self.new.slots.journal.disk (Leaves self.new) }
-        ensures honest { SameHonesty D.Disk self.old.slots.journal.disk self.new.slots.journal.disk }
+        ensures honest { SameHonesty D.Disk self.old.slots.journal.disk
+            self.new.slots.journal.disk }
     {
         if let Phase::Failed = phase(&self.slots) {
             return Err(StoreFault::Failed);

@@ -36,8 +36,8 @@ fn catch_up(step: Phase, set: &mut FlagSet, ahead: &mut VecDeque<Edit>) -> Resul
 }
 
 impl<D: Disk> Store<D> {
-    /// Takes the next step of a compaction, with one call of the disk at most, and answers the one behind it. It takes memory as one
-    /// begins, and for what the last batch adds to the set.
+    /// Takes the next step of a compaction, with one call of the disk at most, and answers the one
+    /// behind it. It takes memory as one begins, and for what the last batch adds to the set.
     pub fn compact_step(&mut self) -> Result<Step, StoreFault>
         requires { MayCompact self.old }
         ensures same { SameStore self.old self.new }

@@ -131,7 +131,8 @@ pub(crate) fn ready(
         ≡ after_all set.old (changes_of ahead.old.items) }
     ensures follows { Follows set.new (changes_of ahead.new.items) }
     ensures done { OnOk result (length ahead.new.items ≡ 0) }
-    ensures goes_on { OnOk result (GoesOn (after_all set.old (changes_of ahead.old.items)) draw.now) }
+    ensures goes_on { OnOk result
+        (GoesOn (after_all set.old (changes_of ahead.old.items)) draw.now) }
     ensures lawful { OnOk result (IsBatch draw.now) }
     ensures spelled { IfOk result (λ r. r.0 ≡ encoding_of_batch draw.now) }
     ensures copied { IfOk result (λ r. changes_of r.1.items ≡ draw.now.changes) }

@@ -1,7 +1,8 @@
 //! Stores on new disks and on disks that kept edits before.
 
 ghost use Rattle.fp_disk.specs.Crashes.{AtAnyMoment, SameHonesty};
-ghost use Rattle.std.specs.Prelude.{◌≡◌, ◌≢◌, ◌⊎◌, ◌<◌, ◌++◌, [], ◌∷◌, List, ℕ, length, IfOk, IfErr, IsOk, MatchResult};
+ghost use Rattle.std.specs.Prelude.{◌≡◌, ◌≢◌, ◌⊎◌, ◌<◌, ◌++◌, [], ◌∷◌, List, ℕ, length, IfOk};
+ghost use Rattle.std.specs.Prelude.{IfErr, IsOk, MatchResult};
 ghost use Rattle.fp_disk.specs.History.{MakesSome};
 ghost use Rattle.fp_disk.specs.Outcomes.{IsOutcome, LeavesOnly, all_synced};
 ghost use Rattle.fp_disk.specs.declared.history.CallKind.TheVariants.{Length, Sync};
@@ -14,7 +15,8 @@ ghost use Rattle.fp_recovery.specs.Durable.{IsNewSetOrNone, IsDurable};
 ghost use Rattle.fp_recovery.specs.Refusals.{IsUnlessWanting, RefusesBytes};
 ghost use Rattle.fp_recovery.specs.Stands.{StandsFor};
 ghost use Rattle.fp_group_commit.specs.Store.{IsFresh, new_set};
-ghost use Rattle.fp_group_commit.specs.declared.fault.CreateFault.TheVariants.{NotEmpty, BadSize, Device, Memory};
+ghost use Rattle.fp_group_commit.specs.declared.fault.CreateFault.TheVariants.{NotEmpty, BadSize};
+ghost use Rattle.fp_group_commit.specs.declared.fault.CreateFault.TheVariants.{Device, Memory};
 
 use crate::fault::CreateFault;
 use crate::opening::Opening;
@@ -70,7 +72,8 @@ impl<D: Disk> Store<D> {
 
         // A crash at any moment leaves what opening calls no disk, or one that stands for no flags.
         ensures any_moment { D.honest disk → D.unsynced disk ≡ all_synced [] → MatchResult result
-            (λ r. LeavesOnly D.moment D.crash_states_since disk r.0.slots.journal.disk (IsNewSetOrNone size))
+            (λ r. LeavesOnly D.moment D.crash_states_since disk r.0.slots.journal.disk
+            (IsNewSetOrNone size))
             (λ e. LeavesOnly D.moment D.crash_states_since disk e.1 (IsNewSetOrNone size)) }
         ensures called { MatchResult result
             (λ r. D.calls r.0.slots.journal.disk ≡ D.calls disk ++ Length ∷ format_calls)

@@ -138,7 +138,8 @@ impl Part {
     /// Shows that some list begins with both, so that the shorter begins the longer.
     pub fn meets(&self, other: &Part)
         requires { other.now.store ≡ self.now.store }
-        ensures { (whole : List Change) × IsPrefix self.now.edits whole × IsPrefix other.now.edits whole }
+        ensures { (whole : List Change) × IsPrefix self.now.edits whole
+            × IsPrefix other.now.edits whole }
     {
         self.front.meets(&other.front)
     }

@@ -7,7 +7,8 @@ use crate::draw::Draw;
 use crate::part::Part;
 use std::marker::Model;
 
-/// All that a store kept when it had sealed a batch, and that batch. It can't be copied, and is spent by who settles it or forgoes it.
+/// All that a store kept when it had sealed a batch, and that batch.
+/// It can't be copied, and is spent by who settles it or forgoes it.
 pub struct Receipt {
     pub(crate) draw: Draw,
     pub(crate) part: Part,
@@ -40,7 +41,8 @@ impl Receipt {
 
     /// The last revision that the store kept.
     pub fn revision(&self) -> u64
-        ensures { result ≡ front_revision (record { store = self.now.store; edits = self.now.edits }) }
+        ensures { result
+            ≡ front_revision (record { store = self.now.store; edits = self.now.edits }) }
     {
         let _ = &self.part;
         self.draw.first - 1 + self.draw.edits.len() as u64

@@ -1,7 +1,8 @@
 //! A store of edits on a disk.
 
 ghost use Rattle.fp_disk.specs.Crashes.{EachCrash};
-ghost use Rattle.std.specs.Prelude.{◌≡◌, ◌≢◌, ◌<◌, ◌≤◌, ◌+◌, ◌-◌, ◌/◌, ◌^◌, ◌↔◌, List, ℕ, length, IsTrue};
+ghost use Rattle.std.specs.Prelude.{◌≡◌, ◌≢◌, ◌<◌, ◌≤◌, ◌+◌, ◌-◌, ◌/◌, ◌^◌, ◌↔◌, List, ℕ, length};
+ghost use Rattle.std.specs.Prelude.{IsTrue};
 ghost use mathlib.Core.List.{IsPrefix};
 ghost use Rattle.fp_journal.specs.declared.journal.Phase.TheVariants.{Idle, Failed};
 ghost use Rattle.fp_journal.specs.State.{room};
@@ -27,7 +28,8 @@ use std::alloc::Global;
 use std::collections::VecDeque;
 use std::marker::Model;
 
-/// A disk that keeps edits, batch after batch. It isn't `Drop`, so that the disk comes back by `into_disk`.
+/// A disk that keeps edits, batch after batch.
+/// It isn't `Drop`, so that the disk comes back by `into_disk`.
 pub struct Store<D: Disk> {
     pub(crate) slots: Slots<D>,
     // The sealed set but for the edits of `ahead`, which are those of the last batch.
@@ -73,7 +75,8 @@ impl<D: Disk> Model for Store<D> {
 }
 
 impl<D: Disk> Store<D> {
-    // Goes on from what two slots keep. The two sets are the same: one is the store's, one the opening's.
+    // Goes on from what two slots keep. The two sets are the same:
+    // one is the store's, one the opening's.
     pub(crate) fn adopt(
         alloc: Global,
         set: FlagSet,
@@ -83,7 +86,8 @@ impl<D: Disk> Store<D> {
         requires same { own ≡ set }
         requires rest { (slots.journal.phase ≡ Idle) × (slots.step ≡ Begin) }
         requires kept { (size : ℕ) × IsPlaced size slots set.limit
-            × (D.honest slots.journal.disk → IsKeptIn (D.unsynced slots.journal.disk) slots size set) }
+            × (D.honest slots.journal.disk →
+            IsKeptIn (D.unsynced slots.journal.disk) slots size set) }
         ensures fresh { IsFresh result.0 set }
         ensures slots { result.0.slots ≡ slots }
         ensures opening { result.1 ≡ result.0.store }
@@ -108,7 +112,8 @@ impl<D: Disk> Store<D> {
         (store, Opening::new(set, part))
     }
 
-    /// How far the batch on its way is, so which call comes next. A call that the device refuses leaves it.
+    /// How far the batch on its way is, so which call comes next.
+    /// A call that the device refuses leaves it.
     pub fn phase(&self) -> Phase
         ensures phase { result ≡ self.now.step }
         ensures outcomes { EachCrash D.Disk self.now.slots.journal.disk (Leaves self.now) }
@@ -133,11 +138,13 @@ impl<D: Disk> Store<D> {
         matches!(self.slots.journal().phase(), Phase::Failed)
     }
 
-    /// Whether the draw is within the limits of a batch, and fits beside a compaction, where one runs.
+    /// Whether the draw is within the limits of a batch, and fits
+    /// beside a compaction, where one runs.
     pub fn has_room(&self, draw: &Draw) -> bool
         ensures room { IsTrue result ↔ HasRoom self.now.slots draw.now }
 
-        // Where no compaction runs and the slot that rules has none, nor has whatever a crash leaves, in the same generation.
+        // Where no compaction runs and the slot that rules has none,
+        // nor has whatever a crash leaves, in the same generation.
         ensures full { IsAtRest self.now → self.now.slots.step ≡ Begin
             → HasNoRoom self.now.slots.journal (batch_len draw.now)
             → EachCrash D.Disk self.now.slots.journal.disk
@@ -152,8 +159,8 @@ impl<D: Disk> Store<D> {
         has_room(&self.slots, draw)
     }
 
-    /// Whether a step of a compaction may be taken: where none runs there is a generation more, and no batch is on its way where the
-    /// tail is next.
+    /// Whether a step of a compaction may be taken: where none runs there is a generation more, and
+    /// no batch is on its way where the tail is next.
     pub fn may_compact(&self) -> bool
         ensures { IsTrue result ↔ MayCompact self.now }
     {

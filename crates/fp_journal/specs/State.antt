@@ -1,5 +1,6 @@
 -- A journal as its callers see it, and what its slot holds at each phase.
-use Rattle.std.specs.Prelude.{◌≡◌, ◌≢◌, ◌⊎◌, ◌<◌, ◌≤◌, ◌+◌, ◌-◌, ℕ, Bool, true, false, List, [], ◌∷◌, ◌++◌, length}
+use Rattle.std.specs.Prelude.{◌≡◌, ◌≢◌, ◌⊎◌, ◌<◌, ◌≤◌, ◌+◌, ◌-◌, ℕ, Bool, true, false, List, []}
+use Rattle.std.specs.Prelude.{◌∷◌, ◌++◌, length}
 use Rattle.std.specs.List.{AllByRecursion}
 use Rattle.fp_disk.specs.Outcomes.{PendingState}
 use Rattle.fp_gate.specs.Gates.{IsSyncOf}
@@ -7,7 +8,8 @@ use Rattle.fp_journal.specs.declared.slot.Slot.{Slot}
 use Rattle.fp_journal.specs.declared.held.Held.{Held}
 use Rattle.fp_journal.specs.declared.held.Held.TheVariants as held
 use Rattle.fp_journal.specs.declared.journal.Phase.{Phase}
-use Rattle.fp_journal.specs.declared.journal.Phase.TheVariants.{Idle, Staged, BodySynced, GateOpened, Failed}
+use Rattle.fp_journal.specs.declared.journal.Phase.TheVariants.{Idle, Staged, BodySynced}
+use Rattle.fp_journal.specs.declared.journal.Phase.TheVariants.{GateOpened, Failed}
 use Rattle.fp_journal.specs.Holds.{Holds, IsSynced}
 use Rattle.fp_journal.specs.Chain.{Ends, framed, with_gate, spell}
 use Rattle.fp_gate.specs.declared.gate.TheConstants.{OPEN}

@@ -23,7 +23,8 @@ use std::alloc::{AllocError, Global};
 /// Why a body wasn't taken.
 #[derive(Debug, Drop, PartialEq)]
 pub enum BodyFault {
-    /// It is none to take now, and this byte of it, counted from its first, is the first to show it.
+    /// It is none to take now, and this byte of it, counted from its first,
+    /// is the first to show it.
     BadBody { at: u64 },
     /// Memory ran out.
     Memory,

@@ -40,7 +40,8 @@ impl Framed {
         Ok(Framed { bytes })
     }
 
-    /// How many bytes of a slot the body takes, with its own gate in front of its length and the closed gate behind it.
+    /// How many bytes of a slot the body takes, with its own gate in front
+    /// of its length and the closed gate behind it.
     pub fn cost(&self) -> u64
         ensures { result ≡ length self.now + 6 }
     {

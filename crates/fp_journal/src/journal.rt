@@ -6,12 +6,16 @@ ghost use Rattle.fp_disk.specs.History.{Makes};
 ghost use Rattle.fp_disk.specs.declared.history.CallKind.TheVariants.{Sync, Write};
 ghost use Rattle.fp_gate.specs.Gates.{IsOpen, IsShut, IsSyncOf, StaysAsRead};
 ghost use Rattle.fp_gate.specs.declared.gate.TheConstants.{OPEN};
-ghost use Rattle.std.specs.Prelude.{◌≡◌, ◌⊎◌, ◌<◌, ◌≤◌, ◌+◌, ◌∷◌, [], ◌++◌, List, ℕ, true, false, length, slice_range, IfOk, OnOk, OnErr, IsErr};
+ghost use Rattle.std.specs.Prelude.{◌≡◌, ◌⊎◌, ◌<◌, ◌≤◌, ◌+◌, ◌∷◌, [], ◌++◌, List, ℕ, true, false};
+ghost use Rattle.std.specs.Prelude.{length, slice_range, IfOk, OnOk, OnErr, IsErr};
 ghost use Rattle.fp_journal.specs.Chain.{with_gate};
 ghost use Rattle.fp_journal.specs.Holds.{Apart};
 ghost use Rattle.fp_journal.specs.Calls.{KeepsAround};
-ghost use Rattle.fp_journal.specs.State.{AllShort, CrashStates, HasChain, HasChainOrNext, HasNext, EndsClosed, IsOnWay, Outside, SameSlot, StatesAfterSync, has_begun, room};
-ghost use Rattle.fp_journal.specs.declared.journal.Phase.TheVariants.{Idle, Staged, BodySynced, GateOpened, Failed};
+ghost use Rattle.fp_journal.specs.State.{AllShort, CrashStates, HasChain, HasChainOrNext, HasNext};
+ghost use Rattle.fp_journal.specs.State.{EndsClosed, IsOnWay, Outside, SameSlot, StatesAfterSync};
+ghost use Rattle.fp_journal.specs.State.{has_begun, room};
+ghost use Rattle.fp_journal.specs.declared.journal.Phase.TheVariants.{Idle, Staged, BodySynced};
+ghost use Rattle.fp_journal.specs.declared.journal.Phase.TheVariants.{GateOpened, Failed};
 
 use crate::framed::Framed;
 use crate::held::Held;
@@ -36,11 +40,13 @@ pub enum Phase {
     BodySynced,
     /// The gate in front of it was written open.
     GateOpened,
-    /// A call failed: nothing more is written. `begun` in clauses says whether one began to open the gate.
+    /// A call failed: nothing more is written.
+    /// `begun` in clauses says whether one began to open the gate.
     Failed,
 }
 
-/// A slot of a disk: a front, then bodies, each behind an open gate, and a closed gate behind the last.
+/// A slot of a disk: a front, then bodies, each behind an open gate,
+/// and a closed gate behind the last.
 #[derive(Drop)]
 pub struct Journal<D: Disk> {
     disk: Checked<D>,
@@ -124,7 +130,8 @@ impl<D: Disk> Journal<D> {
         }
     }
 
-    /// Goes on in another slot, where these bytes stand up to a closed gate behind the first so many. It makes no call of the disk.
+    /// Goes on in another slot, where these bytes stand up to a closed gate behind
+    /// the first so many. It makes no call of the disk.
     pub fn switch(&mut self, slot: Slot, text: &Vec<u8>, len: u64)
         requires idle { self.old.phase ≡ Idle }
         requires place { len ≤ length text.now.items }
@@ -254,7 +261,8 @@ impl<D: Disk> Journal<D> {
         Ok(synced)
     }
 
-    /// Takes the sync that made sure of the body, whose gate is closed still. It makes no call of the disk.
+    /// Takes the sync that made sure of the body, whose gate is closed still.
+    /// It makes no call of the disk.
     pub fn body_synced(&mut self, synced: Synced<D>)
         requires staged { self.old.phase ≡ Staged }
         requires token { IsSyncOf D.honest D.moment self.old.disk self.old.disk_name synced }
@@ -297,7 +305,8 @@ impl<D: Disk> Journal<D> {
         Ok(())
     }
 
-    /// Takes the sync that made sure of the open gate: the body is sealed. It makes no call of the disk.
+    /// Takes the sync that made sure of the open gate: the body is sealed.
+    /// It makes no call of the disk.
     pub fn gate_synced(&mut self, synced: Synced<D>) -> Sealed
         requires opened { self.old.phase ≡ GateOpened }
         requires token { IsSyncOf D.honest D.moment self.old.disk self.old.disk_name synced }
@@ -381,7 +390,8 @@ impl<D: Disk> Journal<D> {
         Gate::adopt(&self.disk, at)
     }
 
-    /// Opens a gate outside the slot, at any phase, for a sync made after what it guards was written.
+    /// Opens a gate outside the slot, at any phase, for a sync made
+    /// after what it guards was written.
     pub fn open_outside(
         &mut self,
         gate: Gate<Closed>,

@@ -1,6 +1,7 @@
 //! A part of a disk's bytes that was read, and more of them as they are needed.
 
-ghost use Rattle.std.specs.Prelude.{◌≡◌, ◌<◌, ◌≤◌, ◌+◌, ◌-◌, ◌^◌, length, slice_range, IfOk, OnOk, IsErrOf};
+ghost use Rattle.std.specs.Prelude.{◌≡◌, ◌<◌, ◌≤◌, ◌+◌, ◌-◌, ◌^◌, length, slice_range, IfOk, OnOk};
+ghost use Rattle.std.specs.Prelude.{IsErrOf};
 ghost use Rattle.fp_journal.specs.Holds.{Holds};
 ghost use Rattle.fp_journal.specs.Pieces.{OnlyReads};
 ghost use Rattle.fp_journal.specs.Windows.{IsWindowAt, StandsIn};
@@ -78,8 +79,8 @@ impl Window {
     }
 }
 
-// These bytes, which stand at `at`, and behind them more, so that they are so many at least: a piece
-// of them, or as many as are needed or left.
+// These bytes, which stand at `at`, and behind them more, so that they are so many at least: a
+// piece of them, or as many as are needed or left.
 fn read_from<D: Disk>(
     alloc: Global,
     disk: &mut D,

@@ -9,12 +9,16 @@ use Rattle.fp_journal.specs.declared.pieces.BytesFault.TheVariants as bytes_faul
 use Rattle.fp_layout.specs.Size.{IsSlotSize}
 use Rattle.fp_slots.specs.declared.choosing.SlotFault.{SlotFault}
 use Rattle.fp_slots.specs.declared.choosing.SlotFault.TheVariants as slot_fault
-use Rattle.fp_slots.specs.declared.places.TheConstants.{GENERATION_PLACE, VERSION_PLACE, BASE_PLACE, LENGTH_PLACE, IMAGE_PLACE}
-use Rattle.fp_layout.specs.Layout.{IsFormatted, IsFirstOther, AreZeros, HasVersion, HasBase, HasLength}
+use Rattle.fp_slots.specs.declared.places.TheConstants.{GENERATION_PLACE, VERSION_PLACE, BASE_PLACE}
+use Rattle.fp_slots.specs.declared.places.TheConstants.{LENGTH_PLACE, IMAGE_PLACE}
+use Rattle.fp_layout.specs.Layout.{IsFormatted, IsFirstOther, AreZeros, HasVersion, HasBase}
+use Rattle.fp_layout.specs.Layout.{HasLength}
 use Rattle.fp_layout.specs.declared.fault.OpenFault.{OpenFault}
-use Rattle.fp_layout.specs.declared.fault.OpenFault.TheVariants.{Unformatted, UnknownVersion, Damaged, Device, Memory}
+use Rattle.fp_layout.specs.declared.fault.OpenFault.TheVariants.{Unformatted, UnknownVersion}
+use Rattle.fp_layout.specs.declared.fault.OpenFault.TheVariants.{Damaged, Device, Memory}
 
--- ---- the header, in which the number at the size's place is this one; k is the first byte to show the damage
+-- ---- the header, in which the number at the size's place is this one;
+-- k is the first byte to show the damage
 pub data BreaksHeader (c : List ℕ) (size k : ℕ) : Type 0 where
   bad_size : (IsSlotSize size → ⊥) → k ≡ 10 → BreaksHeader c size k
   not_zero : IsSlotSize size → IsFirstOther c 18 64 k → BreaksHeader c size k
@@ -29,8 +33,8 @@ RefusesHeader c (Damaged at) = IsFormatted c × (slice_index c 9 ≡ 1) × ((siz
 RefusesHeader c Device = ⊥
 RefusesHeader c Memory = ⊥
 
--- ---- the head of the slot that begins at this place. A field that passes the end of the bytes, or has
--- a value that isn't allowed, shows it at its own first byte
+-- ---- the head of the slot that begins at this place. A field that passes the end of the bytes, or
+-- has a value that isn't allowed, shows it at its own first byte
 pub data BreaksHead (c : List ℕ) (at size k : ℕ) : Type 0 where
   no_generation : length c < at + VERSION_PLACE → k ≡ at + GENERATION_PLACE → BreaksHead c at size k
   no_version : at + VERSION_PLACE ≤ length c → (HasVersion c at → ⊥) → k ≡ at + VERSION_PLACE

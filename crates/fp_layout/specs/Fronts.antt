@@ -1,5 +1,6 @@
 -- What was read of a disk's slots, as far as the batches of the one that rules.
-use Rattle.std.specs.Prelude.{◌≡◌, ◌↔◌, ◌<◌, ◌≤◌, ◌+◌, ◌/◌, ◌^◌, ℕ, IsTrue, List, length, slice_index}
+use Rattle.std.specs.Prelude.{◌≡◌, ◌↔◌, ◌<◌, ◌≤◌, ◌+◌, ◌/◌, ◌^◌, ℕ, IsTrue, List, length}
+use Rattle.std.specs.Prelude.{slice_index}
 use Rattle.fp_gate.specs.declared.gate.TheConstants.{OPEN}
 use Rattle.fp_journal.specs.Holds.{Holds}
 use Rattle.fp_slots.specs.Rules.{IsRuling}
@@ -11,7 +12,8 @@ use Rattle.fp_layout.specs.declared.opening.Ruling.{Ruling}
 use Rattle.fp_layout.specs.declared.opening.Front.{Front}
 
 -- ---- the head
--- these are two slots of this size, and the text is that of a head, whose image ends within so many bytes
+-- these are two slots of this size, and the text is that of a head,
+-- whose image ends within so many bytes
 pub record IsHeadOn (size len : ℕ) (r : Ruling) : Type 0 where
   pub allowed : IsSlotSize size
   pub side : Side

@@ -1,10 +1,12 @@
 -- The bytes of a disk, by their places.
-use Rattle.std.specs.Prelude.{◌≡◌, ◌≢◌, ◌<◌, ◌≤◌, ◌+◌, ◌/◌, ◌^◌, ℕ, List, ◌∷◌, ◌++◌, length, slice_index, codes}
+use Rattle.std.specs.Prelude.{◌≡◌, ◌≢◌, ◌<◌, ◌≤◌, ◌+◌, ◌/◌, ◌^◌, ℕ, List, ◌∷◌, ◌++◌, length}
+use Rattle.std.specs.Prelude.{slice_index, codes}
 use Rattle.std.specs.Int.{w32, w64, to_be_bytes}
 use Rattle.fp_journal.specs.Holds.{Holds}
 use Rattle.fp_journal.specs.declared.slot.Slot.{Slot}
 use Rattle.fp_slots.specs.Rules.{HasGeneration, Rules}
-use Rattle.fp_slots.specs.declared.places.TheConstants.{VERSION_PLACE, BASE_PLACE, LENGTH_PLACE, IMAGE_PLACE, VERSION}
+use Rattle.fp_slots.specs.declared.places.TheConstants.{VERSION_PLACE, BASE_PLACE, LENGTH_PLACE}
+use Rattle.fp_slots.specs.declared.places.TheConstants.{IMAGE_PLACE, VERSION}
 use Rattle.fp_layout.specs.Size.{IsSlotSize, Side, other_side, slot_of}
 use Rattle.fp_gate.specs.declared.gate.TheConstants.{OPEN}
 

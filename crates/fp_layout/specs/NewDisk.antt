@@ -27,8 +27,8 @@ new_front = OPEN ∷ slot_text 1 0 empty_image
 abbrev pub closed_bytes : ℕ → List ℕ
 closed_bytes size = 0 ∷ (header_text size ++ 0 ∷ (slot_text 1 0 empty_image ++ 0 ∷ []))
 
--- the calls that write it: the header's closed gate, and a sync; the text behind it, the second slot's closed gate, and a sync; the
--- first slot's gate, and a sync; the header's, and a sync
+-- the calls that write it: the header's closed gate, and a sync; the text behind it, the second
+-- slot's closed gate, and a sync; the first slot's gate, and a sync; the header's, and a sync
 abbrev pub format_calls : List CallKind
 format_calls = Write ∷ Sync ∷ Write ∷ Write ∷ Sync ∷ Write ∷ Sync ∷ Write ∷ Sync ∷ []
 

@@ -11,11 +11,12 @@ use Rattle.fp_layout.specs.Size.{IsSlotSize, Side, other_side, slot_of, first_sl
 use Rattle.fp_layout.specs.Layout.{IsHeader, IsHead, IsActive}
 use Rattle.fp_layout.specs.Faults.{RefusesHeader, BreaksHead}
 use Rattle.fp_layout.specs.declared.fault.OpenFault.{OpenFault}
-use Rattle.fp_layout.specs.declared.fault.OpenFault.TheVariants.{Unformatted, UnknownVersion, Damaged, Device, Memory}
+use Rattle.fp_layout.specs.declared.fault.OpenFault.TheVariants.{Unformatted, UnknownVersion}
+use Rattle.fp_layout.specs.declared.fault.OpenFault.TheVariants.{Damaged, Device, Memory}
 
 -- ---- what was read, whatever the disk is that it was read of
--- the slots are the two of a disk, and the text of the one is a head, with whose image the reader has
--- begun
+-- the slots are the two of a disk, and the text of the one is a head, with whose image the reader
+-- has begun
 pub record ReadsImage {R : Type 0} (begins : R → ℕ → ℕ → List ℕ → R → Type 0) (before after : R)
     (slot other : Slot) (generation : ℕ) (text : List ℕ) : Type 0 where
   pub size : ℕ
@@ -115,6 +116,7 @@ abbrev pub RefusesDisk : {R : Type 0} → (R → ℕ → ℕ → List ℕ → R 
 RefusesDisk begins rejects takes refuses c before Unformatted = RefusesHeader c Unformatted
 RefusesDisk begins rejects takes refuses c before (UnknownVersion v) = RefusesHeader c
     (UnknownVersion v)
-RefusesDisk begins rejects takes refuses c before (Damaged at) = BreaksDisk begins rejects takes refuses c before at
+RefusesDisk begins rejects takes refuses c before (Damaged at) =
+    BreaksDisk begins rejects takes refuses c before at
 RefusesDisk begins rejects takes refuses c before Device = Unit {0}
 RefusesDisk begins rejects takes refuses c before Memory = Unit {0}

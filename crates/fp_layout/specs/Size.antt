@@ -8,7 +8,8 @@ pub record IsSlotSize (bytes : ℕ) : Type 0 where
   pub least : 2 ^ 18 ≤ bytes
   pub greatest : bytes ≤ 2 ^ 30
 
--- the slot behind the header, in which a batch with its two gates has an eighth of its bytes at most
+-- the slot behind the header, in which a batch with its two gates
+-- has an eighth of its bytes at most
 abbrev pub first_slot : ℕ → Slot
 first_slot bytes = record { start = 64; stop = 64 + bytes; most = bytes / 8 - 6 }
 

@@ -1,14 +1,17 @@
 //! A new disk.
 
 ghost use Rattle.fp_disk.specs.Crashes.{AtAnyMoment, SameHonesty};
-ghost use Rattle.std.specs.Prelude.{◌≡◌, ◌≢◌, ◌⊎◌, ◌<◌, ◌+◌, ◌∷◌, ◌++◌, [], List, ℕ, length, IfOk, IfErr, OnOk, IsOk, IsErr, MatchResult};
+ghost use Rattle.std.specs.Prelude.{◌≡◌, ◌≢◌, ◌⊎◌, ◌<◌, ◌+◌, ◌∷◌, ◌++◌, [], List, ℕ, length, IfOk};
+ghost use Rattle.std.specs.Prelude.{IfErr, OnOk, IsOk, IsErr, MatchResult};
 ghost use Rattle.fp_disk.specs.History.{Makes, MakesSome};
 ghost use Rattle.fp_disk.specs.declared.history.CallKind.TheVariants.{Length, Sync, Write};
-ghost use Rattle.fp_disk.specs.Outcomes.{Answers, IsOutcome, LeavesOnly, Written, all_synced, with_write};
+ghost use Rattle.fp_disk.specs.Outcomes.{Answers, IsOutcome, LeavesOnly, Written, all_synced};
+ghost use Rattle.fp_disk.specs.Outcomes.{with_write};
 ghost use Rattle.fp_journal.specs.declared.journal.Phase.TheVariants.{Idle};
 ghost use Rattle.fp_layout.specs.Size.{IsSlotSize, first_slot, second_slot};
 ghost use Rattle.fp_layout.specs.Layout.{IsHeader, IsHead, IsActive};
-ghost use Rattle.fp_layout.specs.NewDisk.{IsNewDisk, IsNewOrNone, closed_bytes, empty_image, format_calls, new_front};
+ghost use Rattle.fp_layout.specs.NewDisk.{IsNewDisk, IsNewOrNone, closed_bytes, empty_image};
+ghost use Rattle.fp_layout.specs.NewDisk.{format_calls, new_front};
 ghost use Rattle.fp_slots.specs.declared.slots.Step.TheVariants.{Begin};
 ghost use Rattle.fp_layout.specs.declared.format.CreateFault.TheVariants.{NotEmpty, Device, Memory};
 
@@ -56,7 +59,8 @@ fn write_synced<D: Disk>(disk: &mut D, at: u64, from: &[u8]) -> Result<(), DiskF
         (D.bytes disk.new)) }
     ensures all_synced { D.honest disk.old → OnOk result (D.unsynced disk.new
         ≡ all_synced (D.bytes disk.new)) }
-    ensures any_moment { AtAnyMoment D.Disk disk.old disk.new (IsOutcome (with_write (D.unsynced disk.old) at (length from.now))) }
+    ensures any_moment { AtAnyMoment D.Disk disk.old disk.new
+        (IsOutcome (with_write (D.unsynced disk.old) at (length from.now))) }
     ensures honest { SameHonesty D.Disk disk.old disk.new }
     ensures called { Makes (Write ∷ Sync ∷ []) (D.calls disk.old) (D.calls disk.new) result }
     ensures cause { Answers (D.faults disk.old) (D.faults disk.new) result }
@@ -65,7 +69,8 @@ fn write_synced<D: Disk>(disk: &mut D, at: u64, from: &[u8]) -> Result<(), DiskF
     disk.sync()
 }
 
-// Writes the layout onto an empty disk: the header's gate, which comes last, opens over what is synced.
+// Writes the layout onto an empty disk: the header's gate,
+// which comes last, opens over what is synced.
 fn format<D: Disk>(disk: &mut D, size: SlotSize, closed: &[u8]) -> Result<(), DiskFault>
     requires { closed.now ≡ closed_bytes size }
     ensures made { D.honest disk.old → D.bytes disk.old ≡ []
@@ -85,7 +90,8 @@ fn format<D: Disk>(disk: &mut D, size: SlotSize, closed: &[u8]) -> Result<(), Di
     write_synced(disk, 0, &[OPEN])
 }
 
-/// Makes an empty disk one of this layout, with no flag and revision 0, and its two slots, of which the first rules.
+/// Makes an empty disk one of this layout, with no flag and revision 0,
+/// and its two slots, of which the first rules.
 pub fn create<D: Disk>(
     alloc: Global,
     mut disk: D,
@@ -108,7 +114,8 @@ pub fn create<D: Disk>(
         → MatchResult result (λ s. LeavesOnly D.moment D.crash_states_since disk s.journal.disk
         (IsNewOrNone size)) (λ e. LeavesOnly D.moment D.crash_states_since disk e.1
         (IsNewOrNone size)) }
-    ensures honest { MatchResult result (λ s. SameHonesty D.Disk disk s.journal.disk) (λ e. SameHonesty D.Disk disk e.1) }
+    ensures honest { MatchResult result (λ s. SameHonesty D.Disk disk s.journal.disk)
+        (λ e. SameHonesty D.Disk disk e.1) }
     ensures called { MatchResult result (λ s. D.calls s.journal.disk
         ≡ D.calls disk ++ Length ∷ format_calls) (λ e. MakesSome (Length ∷ format_calls)
         (D.calls disk) (D.calls e.1)) }

@@ -40,7 +40,8 @@ pub trait SlotReader: Reader {
     /// Takes the image.
     fn begin(&mut self, base: u64, limit: u64, image: &[u8]) -> Result<(), BodyFault>
         ensures taken { OnOk result (begins self.old base limit image.now self.new) }
-        ensures fault { IfErr result (IsWrong (length image.now) (rejects self.old base limit image.now)) };
+        ensures fault { IfErr result
+            (IsWrong (length image.now) (rejects self.old base limit image.now)) };
 }
 
 // The slot that rules, the other one, and what stands in front of the image.
@@ -323,7 +324,8 @@ pub fn open<D: Disk, R: SlotReader>(
         (λ s. LeavesOnly D.moment D.crash_states_since disk s.journal.disk (IsOutcome
         (D.unsynced disk))) (λ e. LeavesOnly D.moment D.crash_states_since disk e.1 (IsOutcome
         (D.unsynced disk))) }
-    ensures honest { MatchResult result (λ s. SameHonesty D.Disk disk s.journal.disk) (λ e. SameHonesty D.Disk disk e.1) }
+    ensures honest { MatchResult result (λ s. SameHonesty D.Disk disk s.journal.disk)
+        (λ e. SameHonesty D.Disk disk e.1) }
     ensures called { MatchResult result
         (λ s. ThenReads (Sync ∷ Length ∷ []) (D.calls disk) (D.calls s.journal.disk))
         (λ e. ThenSomeReads (Sync ∷ Length ∷ []) (D.calls disk) (D.calls e.1)) }

@@ -22,8 +22,8 @@ abbrev pub IsNewSetOrNone : ℕ → List ℕ → Type 0
 IsNewSetOrNone size c = RefusesBytes c Unformatted ⊎ StandsFor c
     (record { flags = map.empty; revision = 0; limit = size / 2 })
 
--- A journal's slot is one of a disk's two, and what it sealed there spells the set. Outside the slot the
--- header is firm, and so is a text by which the other slot doesn't rule
+-- A journal's slot is one of a disk's two, and what it sealed there spells the set. Outside the
+-- slot the header is firm, and so is a text by which the other slot doesn't rule
 pub record IsKept {D : Type 0} (u : PendingState) (set : State)
     (journal : JournalState D) : Type 0 where
   pub size : ℕ

@@ -1,6 +1,7 @@
--- Reading an image, or a batch over a set, forward and field by field: what is read, or the place of
--- the first field that can't stand there. Each test stands where its field does.
-use Rattle.std.specs.Prelude.{ℕ, zero, suc, ◌+◌, ◌&&◌, List, length, nat_lt, nat_le, ◌==◌, is_none, Result, Ok, Err, if◌then◌else◌}
+-- Reading an image, or a batch over a set, forward and field by field: what is read, or the place
+-- of the first field that can't stand there. Each test stands where its field does.
+use Rattle.std.specs.Prelude.{ℕ, zero, suc, ◌+◌, ◌&&◌, List, length, nat_lt, nat_le, ◌==◌, is_none}
+use Rattle.std.specs.Prelude.{Result, Ok, Err, if◌then◌else◌}
 use Rattle.std.specs.Int.{w64}
 use Rattle.fp_base.specs.Steps.{◌>>=◌}
 use Rattle.fp_edit.specs.Admits.{refusal, next}

@@ -9,7 +9,8 @@ use Rattle.fp_recovery.specs.Exact.{IsOfBytes}
 use Rattle.fp_recovery.specs.Refusals.{RefusesBytes}
 use Rattle.fp_recovery.specs.Stands.{StandsFor, gate_of}
 
--- the bytes stand for the set, by the text of this slot, and the closed gate behind it is at this place
+-- the bytes stand for the set, by the text of this slot,
+-- and the closed gate behind it is at this place
 pub record StandsAt (c : List ℕ) (s : State) (place : Place) : Type 0 where
   pub stands : StandsFor c s
   pub slot_is : place.slot ≡ slot_of stands.size stands.side

@@ -6,7 +6,8 @@ use Rattle.fp_journal.specs.declared.chain.BodyFault.{BodyFault}
 use Rattle.fp_journal.specs.declared.chain.BodyFault.TheVariants as body
 use Rattle.fp_layout.specs.Opening.{RefusesDisk}
 use Rattle.fp_layout.specs.declared.fault.OpenFault.{OpenFault}
-use Rattle.fp_layout.specs.declared.fault.OpenFault.TheVariants.{Unformatted, UnknownVersion, Damaged, Device, Memory}
+use Rattle.fp_layout.specs.declared.fault.OpenFault.TheVariants.{Unformatted, UnknownVersion}
+use Rattle.fp_layout.specs.declared.fault.OpenFault.TheVariants.{Damaged, Device, Memory}
 use Rattle.fp_record.specs.declared.fault.RecordFault.{RecordFault}
 use Rattle.fp_record.specs.declared.fault.RecordFault.TheVariants as record_fault
 use Rattle.fp_recovery.specs.Reading.{image_under, batch_onto}
@@ -36,7 +37,8 @@ nothing_read = record { flags = map.empty; revision = 0; limit = 0 }
 
 -- why these bytes can't be opened: the first fault in the order of the layout
 abbrev pub RefusesBytes : List ℕ → OpenFault → Type 0
-RefusesBytes c fault = RefusesDisk BeginsWith RejectsImage TakesBatch RefusesBatch c nothing_read fault
+RefusesBytes c fault =
+    RefusesDisk BeginsWith RejectsImage TakesBatch RefusesBatch c nothing_read fault
 
 abbrev pub StandsForNone : List ℕ → Type 0
 StandsForNone c = (s : State) → StandsFor c s → ⊥

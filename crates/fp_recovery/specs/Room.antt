@@ -6,12 +6,13 @@ use Rattle.fp_journal.specs.State.{JournalState, room}
 use Rattle.fp_layout.specs.Size.{slot_of}
 use Rattle.fp_recovery.specs.Stands.{StandsFor, gate_of}
 
--- the journal has no room for a batch of n bytes; its gate, the number of its length and the gate behind it take six bytes more
+-- the journal has no room for a batch of n bytes;
+-- its gate, the number of its length and the gate behind it take six bytes more
 abbrev pub HasNoRoom : {D : Type 0} → JournalState D → ℕ → Type 0
 HasNoRoom journal n = (journal.slot.most < n) ⊎ (room journal < 6 + n)
 
--- the bytes stand for the set in that generation, and a batch of n bytes is longer than their slot takes, or would reach
--- past its end
+-- the bytes stand for the set in that generation, and a batch of n bytes is longer than their slot
+-- takes, or would reach past its end
 pub record IsFullFor (c : List ℕ) (s : State) (n generation : ℕ) : Type 0 where
   pub stands : StandsFor c s
   pub full : ((slot_of stands.size stands.side).most < n)

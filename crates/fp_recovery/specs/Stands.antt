@@ -43,7 +43,8 @@ abbrev pub Leads : State → List Change → State → Type 0
 Leads s [] t = t ≡ s
 Leads s (c ∷ cs) t = (u : State) × Admits s (unconditional c) (accepted u) × Leads u cs t
 
--- the bytes are a batch whose first revision is the one behind the set's, and whose changes lead from the set to t
+-- the bytes are a batch whose first revision is the one behind the set's,
+-- and whose changes lead from the set to t
 pub record TakesBatch (s : State) (bytes : List ℕ) (t : State) : Type 0 where
   pub group : Group
   pub lawful : IsBatch group
@@ -52,8 +53,8 @@ pub record TakesBatch (s : State) (bytes : List ℕ) (t : State) : Type 0 where
   pub leads : Leads s group.changes t
 
 -- ---- a slot
--- The text of a slot, up to the closed gate behind its last batch: a head with the image of a set, and
--- batches that lead from that set to s, each from where the one before it led
+-- The text of a slot, up to the closed gate behind its last batch: a head with the image of a set,
+-- and batches that lead from that set to s, each from where the one before it led
 pub record Spells (size : ℕ) (text : List ℕ) (s : State) : Type 0 where
   pub generation : ℕ
   pub base : ℕ

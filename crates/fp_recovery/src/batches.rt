@@ -38,7 +38,8 @@ fn make_edit(
     at: usize,
 ) -> Result<usize, RecordFault>
     requires { at ≤ length bytes.now }
-    ensures made { Gives (λ next. (set.new, next)) Tells result (edit_onto bytes.now (set.old, at)) }
+    ensures made { Gives (λ next. (set.new, next)) Tells result
+        (edit_onto bytes.now (set.old, at)) }
     ensures within { IfOk result (λ next. next ≤ length bytes.now) }
 {
     let (edit, next) = edit_from(alloc, bytes, at)?;

@@ -41,7 +41,8 @@ fn restore_flags(alloc: Global, set: &mut FlagSet, bytes: &[u8]) -> Result<usize
 // The set of which the bytes are the image, at this revision and under this limit.
 #[tactic(auto, unfolding(crate::specs::Reading::image_under))]
 fn set_from(alloc: Global, base: u64, limit: u64, bytes: &[u8]) -> Result<FlagSet, RecordFault>
-    ensures read { Gives (λ s. map.entries s.flags) Tells result (image_under base limit bytes.now) }
+    ensures read { Gives (λ s. map.entries s.flags) Tells result
+        (image_under base limit bytes.now) }
     ensures found { IfOk result (IsImageOf base limit bytes.now) }
 {
     if base >= REVISIONS_END || bytes.len() as u64 > limit {

@@ -1,5 +1,6 @@
 -- The lines of an input, and those that are answered.
-use Rattle.std.specs.Prelude.{ℕ, List, [], ◌∷◌, length, Bool, ◌&&◌, ◌||◌, ◌==◌, not, nat_le, if◌then◌else◌, filter}
+use Rattle.std.specs.Prelude.{ℕ, List, [], ◌∷◌, length, Bool, ◌&&◌, ◌||◌, ◌==◌, not, nat_le}
+use Rattle.std.specs.Prelude.{if◌then◌else◌, filter}
 use Rattle.std.specs.List.{list_all}
 use Rattle.fp_edit.specs.declared.line.TheConstants.{LONGEST_LINE}
 

@@ -1,5 +1,6 @@
 -- How far what is asked was answered.
-use Rattle.std.specs.Prelude.{◌≡◌, ◌⊎◌, ℕ, ◌+◌, List, [], ◌∷◌, ◌++◌, map, take, Bool, Option, Ok, Err, Result, IfSome, OnOk}
+use Rattle.std.specs.Prelude.{◌≡◌, ◌⊎◌, ℕ, ◌+◌, List, [], ◌∷◌, ◌++◌, map, take, Bool, Option, Ok}
+use Rattle.std.specs.Prelude.{Err, Result, IfSome, OnOk}
 use Rattle.std.specs.List.{list_all}
 use Rattle.std.specs.Io.KnownBytes.{Appends}
 use Rattle.fp_edit.specs.Edits.{proposal_of}
@@ -11,7 +12,8 @@ use Rattle.fp_edit.specs.declared.line.TheConstants.{LONGEST_LINE}
 use Rattle.fp_session.specs.Asks.{Ask, asked_by_input, asked_by_lines}
 use Rattle.fp_session.specs.Lines.{lines}
 use Rattle.fp_session.specs.Reply.{Reply, said, texts_of, is_told, told_if}
-use Rattle.fp_session.specs.Run.{Answers, IsRun, IsAfterPrefix, IsRunWritten, IsTold, IsToldBy, show_line}
+use Rattle.fp_session.specs.Run.{Answers, IsRun, IsAfterPrefix, IsRunWritten, IsTold, IsToldBy}
+use Rattle.fp_session.specs.Run.{show_line}
 use Rattle.fp_session.specs.StoreRun.{StoreRun}
 use Rattle.fp_session.specs.declared.edit_store.EditStore.{Ghosts}
 use Rattle.fp_session.specs.declared.fault.ApplyFault.{ApplyFault}
@@ -35,7 +37,8 @@ pub record Takes {E : Type 0} (store : Ghosts E) (a : E) (x : Ask) (reply : Repl
   pub leaves : store.leaves a b (store.may_stand a)
   pub goes_on : store.continues_to a b
 
--- what was asked was answered: what is kept, with texts of which `sent` was sent, and behind it a batch whose replies wait
+-- what was asked was answered: what is kept, with texts of which `sent` was sent,
+-- and behind it a batch whose replies wait
 pub record At {E : Type 0} (store : Ghosts E) (first now : E) (asked : List Ask)
     (sent text : List ℕ) (waiting : List Reply) (is_told_all : Bool) : Type 0 where
   pub done : List Ask
@@ -63,7 +66,8 @@ pub record StopsAt {E : Type 0} (store : Ghosts E) (first now : E) (asked : List
       (Err fault)
   pub leaves : store.leaves first now (IsAfterPrefix (store.state first) asked)
 
--- it broke off: of all that was asked the texts tell, but for so many at most that aren't known to be kept
+-- it broke off: of all that was asked the texts tell, but for so many
+-- at most that aren't known to be kept
 pub record IsBroken {E : Type 0} (store : Ghosts E) (most : ℕ) (first now : E) (asked : List Ask)
     (sent : List ℕ) (r : Replies) (fault : ApplyFault) : Type 0 where
   pub told : (flags : State) → store.may_stand now flags
@@ -83,7 +87,8 @@ pub record IsEnded {E : Type 0} (store : Ghosts E) (first now : E) (asked : List
   pub leaves : store.leaves first now (IsAfterPrefix (store.state first) asked)
 
 -- the first of the replies that wait are told by a text
-pub record IsToldUpTo (is_kept : Bool) (waiting : List code.Reply) (t : Telling) (n : ℕ) : Type 0 where
+pub record IsToldUpTo (is_kept : Bool) (waiting : List code.Reply) (t : Telling)
+    (n : ℕ) : Type 0 where
   pub texts : t.text.items ≡ texts_of (map (told_if is_kept) (map said (take n waiting)))
   pub tells : t.is_told ≡ list_all is_told (map (told_if is_kept) (map said (take n waiting)))
 
@@ -156,7 +161,8 @@ pub record IsBrokenWithin {E : Type 0} (store : Ghosts E) (first now : E) (seen 
   pub split : lines front ≡ done ++ line ∷ []
   pub broken : IsBroken store 1 first now (asked_by_lines done) sent r fault
 
--- how a run over what a reader gives ends: over some first things that the input asks, and where it is done over all
+-- how a run over what a reader gives ends:
+-- over some first things that the input asks, and where it is done over all
 pub record EndsOver {E : Type 0} (store : Ghosts E) (first now : E) (reads : Option (List ℕ))
     (before now_held : Option (List ℕ)) (f0 f : ℕ) (outcome : Result Bool ApplyFault) : Type 0 where
   pub asked : List Ask

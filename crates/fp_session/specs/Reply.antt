@@ -1,5 +1,6 @@
 -- Replies to lines, and their texts.
-use Rattle.std.specs.Prelude.{ℕ, List, [], ◌∷◌, ◌++◌, codes, decimal, Bool, true, false, not, ◌||◌, if◌then◌else◌, Option, Some, None}
+use Rattle.std.specs.Prelude.{ℕ, List, [], ◌∷◌, ◌++◌, codes, decimal, Bool, true, false, not, ◌||◌}
+use Rattle.std.specs.Prelude.{if◌then◌else◌, Option, Some, None}
 use Rattle.serde_json.specs.Data.{string}
 use Rattle.serde_json.specs.Written.{compact_text}
 use Rattle.fp_definition.specs.Valid as flag
@@ -8,9 +9,12 @@ use Rattle.fp_edit.specs.Line as line
 use Rattle.fp_edit.specs.declared.edit.EditFault.{EditFault}
 use Rattle.fp_edit.specs.declared.edit.EditFault.TheVariants as edit
 use Rattle.fp_edit.specs.declared.line.LineFault.{LineFault}
-use Rattle.fp_edit.specs.declared.line.LineFault.TheVariants.{TooLong, NotJson, NotObject, BadMember, BadOp, BadKey, BadIf, BadFlag, Memory}
+use Rattle.fp_edit.specs.declared.line.LineFault.TheVariants.{TooLong, NotJson, NotObject}
+use Rattle.fp_edit.specs.declared.line.LineFault.TheVariants.{BadMember, BadOp, BadKey, BadIf}
+use Rattle.fp_edit.specs.declared.line.LineFault.TheVariants.{BadFlag, Memory}
 use Rattle.fp_session.specs.declared.reply.Reply as code
-use Rattle.fp_session.specs.declared.reply.Reply.TheVariants.{Revision, Refused, NoEdit, StoreFailed}
+use Rattle.fp_session.specs.declared.reply.Reply.TheVariants.{Revision, Refused, NoEdit}
+use Rattle.fp_session.specs.declared.reply.Reply.TheVariants.{StoreFailed}
 
 pub data Reply : Type 0 where
   -- the revision that the edit made
@@ -36,11 +40,13 @@ number_or_null (Some n) = decimal n
 
 -- the operator that there isn't, as a JSON text
 abbrev pub operator_member : flag.Fault → List ℕ
-operator_member (flag.unsupported_operator name) = codes ",\"operator\":" ++ compact_text (string name)
+operator_member (flag.unsupported_operator name) =
+    codes ",\"operator\":" ++ compact_text (string name)
 operator_member f = []
 
 abbrev pub flag_text : flag.Fault → List ℕ
-flag_text f = codes "{\"detail\":\"" ++ word_of f ++ codes "\",\"error\":\"flag\"" ++ operator_member f ++ codes "}"
+flag_text f = codes "{\"detail\":\"" ++ word_of f ++ codes "\",\"error\":\"flag\""
+    ++ operator_member f ++ codes "}"
 
 abbrev pub line_text : line.Fault → List ℕ
 line_text line.too_long = error_text (codes "line-too-long")
@@ -54,7 +60,8 @@ line_text (line.bad_flag f) = flag_text f
 
 abbrev pub text_of : Reply → List ℕ
 text_of (revision n) = codes "{\"revision\":" ++ decimal n ++ codes "}"
-text_of (conflict current) = codes "{\"current\":" ++ number_or_null current ++ codes ",\"error\":\"conflict\"}"
+text_of (conflict current) =
+    codes "{\"current\":" ++ number_or_null current ++ codes ",\"error\":\"conflict\"}"
 text_of set_too_large = error_text (codes "set-too-large")
 text_of revisions_used = error_text (codes "revisions-used")
 text_of (no_edit f) = line_text f
@@ -86,7 +93,8 @@ tells_revision (no_edit f) = false
 tells_revision out_of_memory = false
 tells_revision store_failed = false
 
--- how a reply is told where the batch that it waits for is kept, and where it isn't: then no revision is told
+-- how a reply is told where the batch that it waits for is kept,
+-- and where it isn't: then no revision is told
 abbrev pub told_if : Bool → Reply → Reply
 told_if is_kept r = if is_kept || not (tells_revision r) then r else store_failed
 

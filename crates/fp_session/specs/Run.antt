@@ -1,5 +1,6 @@
 -- Runs over what is asked: the reply to each, where it leads the flags, and what is written.
-use Rattle.std.specs.Prelude.{◌≡◌, ◌≤◌, ℕ, ◌+◌, List, [], ◌∷◌, ◌++◌, decimal, length, map, Bool, false, Option, None, Some, Ok, Err}
+use Rattle.std.specs.Prelude.{◌≡◌, ◌≤◌, ℕ, ◌+◌, List, [], ◌∷◌, ◌++◌, decimal, length, map, Bool}
+use Rattle.std.specs.Prelude.{false, Option, None, Some, Ok, Err}
 use Rattle.std.specs.List.{list_all}
 use Rattle.std.specs.Io.KnownBytes.{Appends}
 use Rattle.fp_edit.specs.Admits.{refusal, next}
@@ -8,9 +9,12 @@ use Rattle.fp_edit.specs.Edits.{Proposal}
 use Rattle.fp_edit.specs.Flags.{State}
 use Rattle.fp_edit.specs.declared.edit.EditFault.{EditFault}
 use Rattle.fp_session.specs.Asks.{Ask}
-use Rattle.fp_session.specs.Reply.{Reply, revision, conflict, set_too_large, revisions_used, no_edit, out_of_memory, store_failed, refusal_of, told_if, texts_of, is_told}
+use Rattle.fp_session.specs.Reply.{Reply, revision, conflict, set_too_large, revisions_used}
+use Rattle.fp_session.specs.Reply.{no_edit, out_of_memory, store_failed, refusal_of, told_if}
+use Rattle.fp_session.specs.Reply.{texts_of, is_told}
 use Rattle.fp_session.specs.declared.fault.ApplyFault.{ApplyFault}
-use Rattle.fp_session.specs.declared.fault.ApplyFault.TheVariants.{Device, StoreFailed, Memory, CommitMemory}
+use Rattle.fp_session.specs.declared.fault.ApplyFault.TheVariants.{Device, StoreFailed, Memory}
+use Rattle.fp_session.specs.declared.fault.ApplyFault.TheVariants.{CommitMemory}
 
 abbrev pub decided : State → Proposal → Option EditFault → Reply × State
 decided s p None = (revision (s.revision + 1), next s p.change)
@@ -78,8 +82,8 @@ pub record IsAfterPrefix (start : State) (xs : List Ask) (now : State) : Type 0 
 
 -- ---- where it breaks off
 
--- what is told of a batch that isn't known to be kept, by the fault that ended the run: where it couldn't be kept each reply,
--- but no revision, and where memory was wanting to tell of it nothing
+-- what is told of a batch that isn't known to be kept, by the fault that ended the run: where it
+-- couldn't be kept each reply, but no revision, and where memory was wanting to tell of it nothing
 abbrev pub last_replies : ApplyFault → List Reply → List Reply
 last_replies StoreFailed waiting = map (told_if false) waiting
 last_replies CommitMemory waiting = map (told_if false) waiting
@@ -93,8 +97,9 @@ most_open StoreFailed most = most
 most_open Memory most = most
 most_open CommitMemory most = most
 
--- The text is the replies to some first of them, which these flags hold, and what is told of a batch behind them, of whose
--- edits they hold some first. All that was taken is among them: it leads to the flags at the end
+-- The text is the replies to some first of them, which these flags hold, and what is told of a
+-- batch behind them, of whose edits they hold some first. All that was taken is among them: it
+-- leads to the flags at the end
 pub record IsTold (start : State) (xs : List Ask) (most : ℕ) (fault : ApplyFault) (text : List ℕ)
     (taken flags : State) : Type 0 where
   pub done : List Ask

@@ -1,5 +1,6 @@
 -- A session of edits over a store and a desk: what a crash may leave of it, and what it calls.
-use Rattle.std.specs.Prelude.{◌≡◌, ◌≢◌, ◌⊎◌, ◌<◌, ◌≤◌, ◌+◌, ◌^◌, ℕ, Bool, false, List, [], ◌∷◌, ◌++◌, length, take}
+use Rattle.std.specs.Prelude.{◌≡◌, ◌≢◌, ◌⊎◌, ◌<◌, ◌≤◌, ◌+◌, ◌^◌, ℕ, Bool, false, List, [], ◌∷◌}
+use Rattle.std.specs.Prelude.{◌++◌, length, take}
 use Rattle.fp_disk.specs.Crashes.{AtAnyMoment, EachCrash, SameHonesty}
 use Rattle.fp_disk.specs.History.{MakesSome}
 use Rattle.fp_disk.specs.declared.disk.Disk.{Ghosts}
@@ -67,7 +68,8 @@ KeepsOrGains s batch c = StandsFor c (kept s) ⊎ StandsFor c (after_all s.store
 
 -- ---- the calls of a run
 
--- what makes calls of the disk: a batch, or a step of a compaction, before which the other slot's gate may be open or isn't
+-- what makes calls of the disk: a batch, or a step of a compaction,
+-- before which the other slot's gate may be open or isn't
 pub data Work : Type 0 where
   whole_batch : Work
   compaction_step : Step → Bool → Work
@@ -84,7 +86,8 @@ abbrev pub calls_of : List Work → List CallKind
 calls_of [] = []
 calls_of (w ∷ works) = work_calls w ++ calls_of works
 
--- a batch may be sealed before the tail of a compaction is written, and of its steps the next one is taken
+-- a batch may be sealed before the tail of a compaction is written,
+-- and of its steps the next one is taken
 abbrev pub MayCome : Step → Work → Type 0
 MayCome next whole_batch = IsEarly next
 MayCome next (compaction_step p may_open) = p ≡ next
@@ -124,8 +127,8 @@ pub record Commits {D : Type 0} (disk : Ghosts D) (s t : StoreState D)
   pub works : Works disk s t
   pub no_failure : disk.faults t.slots.journal.disk ≡ disk.faults s.slots.journal.disk
 
--- flags on the way, and edits that wait behind them, for which whatever a crash leaves of the disk has no room, in a
--- generation that none follows
+-- flags on the way, and edits that wait behind them, for which whatever a crash leaves of the disk
+-- has no room, in a generation that none follows
 pub record LacksRoomFor {D : Type 0} (disk : Ghosts D) (d : DeskState) (now : D) : Type 0 where
   pub flags : State
   pub batch : List Change
@@ -138,7 +141,8 @@ pub record LacksRoomFor {D : Type 0} (disk : Ghosts D) (d : DeskState) (now : D)
       (record { first = 0; changes = batch })) generation)
 
 -- ---- compactions
--- the store keeps the same edits, no batch is on its way, and whatever a crash leaves at any moment is those
+-- the store keeps the same edits, no batch is on its way,
+-- and whatever a crash leaves at any moment is those
 pub record KeepsAll {D : Type 0} (disk : Ghosts D) (a b : StoreState D) : Type 0 where
   pub store : b.store ≡ a.store
   pub sealed : b.sealed ≡ a.sealed
@@ -156,7 +160,8 @@ pub record Proceeds {D : Type 0} (disk : Ghosts D) (a b : StoreState D) : Type 0
   pub works : Works disk a b
 
 -- a step wasn't taken, and the device failed, or memory was wanting
-pub record Halts {D : Type 0} (disk : Ghosts D) (a b : StoreState D) (f : CommitFault) : Type 0 where
+pub record Halts {D : Type 0} (disk : Ghosts D) (a b : StoreState D)
+    (f : CommitFault) : Type 0 where
   pub keeps : KeepsAll disk a b
   pub works : BreaksOff disk a b
   pub cause : f ≡ StoreFailed → disk.faults a.slots.journal.disk < disk.faults b.slots.journal.disk
@@ -176,7 +181,8 @@ abbrev pub LeavesFlags : {D : Type 0} → Ghosts D → SessionState D → Sessio
 LeavesFlags disk a b P = SameHonesty disk (disk_of a) (disk_of b)
     × AtAnyMoment disk (disk_of a) (disk_of b) (λ c. (flags : State) × P flags × StandsFor c flags)
 
--- a session goes on: its disk keeps its word as before and hasn't failed, and its calls were those of whole works
+-- a session goes on: its disk keeps its word as before and hasn't failed,
+-- and its calls were those of whole works
 pub record Keeps {D : Type 0} (disk : Ghosts D) (a b : SessionState D) : Type 0 where
   pub honest : SameHonesty disk (disk_of a) (disk_of b)
   pub no_failure : disk.faults (disk_of b) ≡ disk.faults (disk_of a)

@@ -1,5 +1,6 @@
 -- Going on is of any length.
-use Rattle.std.proofs.Common.{◌≡◌, List, [], ◌∷◌, ◌++◌, false, inl, refl, sym, ap, subst, ◌∙◌, append_assoc, append-nil}
+use Rattle.std.proofs.Common.{◌≡◌, List, [], ◌∷◌, ◌++◌, false, inl, refl, sym, ap, subst, ◌∙◌}
+use Rattle.std.proofs.Common.{append_assoc, append-nil}
 use Rattle.fp_compaction.specs.Steps as compaction
 use Rattle.fp_disk.specs.History.{MakesSome}
 use Rattle.fp_group_commit.specs.Store.{StoreState}
@@ -9,7 +10,8 @@ use Rattle.fp_disk.specs.declared.disk.Disk.{Ghosts}
 use Rattle.fp_disk.specs.declared.history.CallKind.{CallKind}
 use Rattle.fp_edit.specs.Flags.{State}
 use Rattle.fp_recovery.specs.Stands.{StandsFor}
-use Rattle.fp_session.specs.Session.{BreaksOff, Keeps, Leads, LeavesFlags, SessionState, Work, Works, calls_of, disk_of, work_calls}
+use Rattle.fp_session.specs.Session.{BreaksOff, Keeps, Leads, LeavesFlags, SessionState, Work}
+use Rattle.fp_session.specs.Session.{Works, calls_of, disk_of, work_calls}
 use Rattle.fp_session.specs.Session.{compaction_step, whole_batch}
 
 -- the calls of some works and then of others
@@ -20,7 +22,8 @@ calls_more (w ∷ xs) ys =
     ∙ sym (append_assoc (work_calls w) (calls_of xs) (calls_of ys))
 
 -- works lead on from where others led
-pub leads_more : (p q r : Step) (xs ys : List Work) → Leads p xs q → Leads q ys r → Leads p (xs ++ ys) r
+pub leads_more : (p q r : Step) (xs ys : List Work) → Leads p xs q → Leads q ys r →
+    Leads p (xs ++ ys) r
 leads_more p q r [] ys h k = subst (λ (x : Step). Leads x ys r) h k
 leads_more p q r (whole_batch ∷ xs) ys h k = (h.0, leads_more p q r xs ys h.1 k)
 leads_more p q r (compaction_step x may_open ∷ xs) ys h k =
@@ -28,7 +31,8 @@ leads_more p q r (compaction_step x may_open ∷ xs) ys h k =
 
 module _ {D : Type 0} (disk : Ghosts D) where
   pub no_works : (a : StoreState D) → Works disk a a
-  no_works a = record { works = []; lead = refl; calls = sym (append-nil (disk.calls a.slots.journal.disk)) }
+  no_works a =
+      record { works = []; lead = refl; calls = sym (append-nil (disk.calls a.slots.journal.disk)) }
 
   pub works_on : (a b c : StoreState D) → Works disk a b → Works disk b c → Works disk a c
   works_on a b c h k = record {
@@ -36,7 +40,8 @@ module _ {D : Type 0} (disk : Ghosts D) where
     lead = leads_more a.slots.step b.slots.step c.slots.step h.works k.works h.lead k.lead;
     calls = k.calls ∙ ap (λ (l : List CallKind). l ++ calls_of k.works) h.calls
         ∙ append_assoc (disk.calls a.slots.journal.disk) (calls_of h.works) (calls_of k.works)
-        ∙ ap (λ (l : List CallKind). disk.calls a.slots.journal.disk ++ l) (sym (calls_more h.works k.works));
+        ∙ ap (λ (l : List CallKind). disk.calls a.slots.journal.disk ++ l)
+        (sym (calls_more h.works k.works));
   }
 
   pub breaks_on : (a b c : StoreState D) → Works disk a b → BreaksOff disk b c → BreaksOff disk a c
@@ -47,8 +52,11 @@ module _ {D : Type 0} (disk : Ghosts D) where
         last = k.last;
         lead = leads_more a.slots.step b.slots.step k.next h.works k.works h.lead k.lead;
         may = k.may;
-        calls = subst (λ (l : List CallKind). MakesSome (work_calls k.last) l (disk.calls c.slots.journal.disk))
-            (ap (λ (l : List CallKind). l ++ calls_of k.works) h.calls ∙ append_assoc first (calls_of h.works) (calls_of k.works)
+        calls = subst
+            (λ (l : List CallKind).
+            MakesSome (work_calls k.last) l (disk.calls c.slots.journal.disk))
+            (ap (λ (l : List CallKind). l ++ calls_of k.works) h.calls
+            ∙ append_assoc first (calls_of h.works) (calls_of k.works)
             ∙ ap (λ (l : List CallKind). first ++ l) (sym (calls_more h.works k.works))) k.calls;
       }
 
@@ -60,7 +68,9 @@ module _ {D : Type 0} (disk : Ghosts D) where
     last = compaction_step b.slots.step false;
     lead = h.lead;
     may = refl;
-    calls = none (work_calls (compaction_step b.slots.step false)) (disk.calls a.slots.journal.disk ++ calls_of h.works) (disk.calls b.slots.journal.disk) h.calls;
+    calls = none (work_calls (compaction_step b.slots.step false))
+        (disk.calls a.slots.journal.disk ++ calls_of h.works)
+        (disk.calls b.slots.journal.disk) h.calls;
   }
     where
       none : (kinds old new : List CallKind) → new ≡ old → MakesSome kinds old new

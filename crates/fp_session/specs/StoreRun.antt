@@ -5,7 +5,8 @@ use Rattle.fp_session.specs.declared.commit.CommitFault.{CommitFault}
 use Rattle.fp_session.specs.declared.commit.CommitFault.TheVariants as commit
 use Rattle.fp_session.specs.declared.edit_store.EditStore.{Ghosts}
 use Rattle.fp_session.specs.declared.fault.ApplyFault.{ApplyFault}
-use Rattle.fp_session.specs.declared.fault.ApplyFault.TheVariants.{Device, StoreFailed, Memory, CommitMemory}
+use Rattle.fp_session.specs.declared.fault.ApplyFault.TheVariants.{Device, StoreFailed, Memory}
+use Rattle.fp_session.specs.declared.fault.ApplyFault.TheVariants.{CommitMemory}
 
 -- it went on until it failed to keep edits that had been asked of it
 pub record FailsFrom {E : Type 0} (store : Ghosts E) (IsAsked : State

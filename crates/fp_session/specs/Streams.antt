@@ -3,13 +3,15 @@ use Rattle.std.specs.Prelude.{◌≡◌, ◌<◌, ◌≤◌, ℕ, Result, Ok, Er
 use Rattle.fp_streams.specs.declared.counted.StreamFault.{StreamFault}
 use Rattle.fp_streams.specs.declared.counted.StreamFault.TheVariants as stream
 use Rattle.fp_session.specs.declared.fault.ApplyFault.{ApplyFault}
-use Rattle.fp_session.specs.declared.fault.ApplyFault.TheVariants.{Device, StoreFailed, Memory, CommitMemory}
+use Rattle.fp_session.specs.declared.fault.ApplyFault.TheVariants.{Device, StoreFailed, Memory}
+use Rattle.fp_session.specs.declared.fault.ApplyFault.TheVariants.{CommitMemory}
 
 abbrev pub of_stream : StreamFault → ApplyFault
 of_stream stream.Device = Device
 of_stream stream.Memory = Memory
 
--- by the count of failures before and after: it ends by `Device` only where a stream failed, and well only where none did
+-- by the count of failures before and after:
+-- it ends by `Device` only where a stream failed, and well only where none did
 abbrev pub Blames : {A : Type 0} → ℕ → ℕ → Result A ApplyFault → Type 0
 Blames before after (Ok x) = after ≡ before
 Blames before after (Err Device) = before < after

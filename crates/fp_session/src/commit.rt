@@ -1,6 +1,7 @@
 //! Batches of a desk's edits, sealed by its store and settled.
 
-ghost use Rattle.std.specs.Prelude.{◌≡◌, ◌≢◌, ◌⊎◌, ◌<◌, ◌≤◌, ◌+◌, ◌++◌, List, ℕ, [], ◌∷◌, length, IfOk, IfErr, MatchResult, OnOk, OnErr};
+ghost use Rattle.std.specs.Prelude.{◌≡◌, ◌≢◌, ◌⊎◌, ◌<◌, ◌≤◌, ◌+◌, ◌++◌, List, ℕ, [], ◌∷◌, length};
+ghost use Rattle.std.specs.Prelude.{IfOk, IfErr, MatchResult, OnOk, OnErr};
 ghost use Rattle.fp_disk.specs.Crashes.{AtAnyMoment, EachCrash, SameHonesty};
 ghost use Rattle.fp_disk.specs.History.{Makes, MakesSome};
 ghost use Rattle.fp_disk.specs.declared.history.CallKind.TheVariants.{Sync, Write};
@@ -11,7 +12,8 @@ ghost use Rattle.fp_group_commit.specs.Changes.{GoesOn, HasRoom};
 ghost use Rattle.fp_group_commit.specs.Store.{IsAtRest, Leaves, kept};
 ghost use Rattle.fp_desk.specs.Desk.{IsDrawn, log};
 ghost use Rattle.fp_slots.specs.State.{IsEarly};
-ghost use Rattle.fp_session.specs.Session.{BreaksOff, Commits, IsInStep, IsSealed, KeepsOrGains, LacksRoomFor, StandsAhead, Works, batch_calls};
+ghost use Rattle.fp_session.specs.Session.{BreaksOff, Commits, IsInStep, IsSealed, KeepsOrGains};
+ghost use Rattle.fp_session.specs.Session.{LacksRoomFor, StandsAhead, Works, batch_calls};
 ghost use Rattle.fp_session.specs.declared.commit.CommitFault.TheVariants.{Memory, StoreFailed};
 
 use crate::compacting::make_room;
@@ -39,8 +41,8 @@ fn stage<D: Disk>(store: &mut Store<D>, draw: Draw) -> Result<(), CommitFault>
         × (store.new.staged ≡ draw.changes)) }
     ensures cause { IfErr result (λ f. f ≡ StoreFailed
         → D.faults store.old.slots.journal.disk < D.faults store.new.slots.journal.disk) }
-    ensures any_moment { AtAnyMoment D.Disk store.old.slots.journal.disk store.new.slots.journal.disk
-        (Leaves store.old) }
+    ensures any_moment { AtAnyMoment D.Disk store.old.slots.journal.disk
+        store.new.slots.journal.disk (Leaves store.old) }
     ensures called { Makes (Write ∷ []) (D.calls store.old.slots.journal.disk)
         (D.calls store.new.slots.journal.disk) result }
     ensures honest { SameHonesty D.Disk store.old.slots.journal.disk store.new.slots.journal.disk }
@@ -66,8 +68,8 @@ fn seal<D: Disk>(store: &mut Store<D>, draw: Draw) -> Result<Receipt, CommitFaul
         × (r.batch.first ≡ (kept store.old).revision + 1)) }
     ensures cause { IfErr result (λ f. f ≡ StoreFailed
         → D.faults store.old.slots.journal.disk < D.faults store.new.slots.journal.disk) }
-    ensures any_moment { AtAnyMoment D.Disk store.old.slots.journal.disk store.new.slots.journal.disk
-        (KeepsOrGains store.old draw.changes) }
+    ensures any_moment { AtAnyMoment D.Disk store.old.slots.journal.disk
+        store.new.slots.journal.disk (KeepsOrGains store.old draw.changes) }
     ensures called { Makes batch_calls (D.calls store.old.slots.journal.disk)
         (D.calls store.new.slots.journal.disk) result }
     ensures keeps { OnOk result (EachCrash D.Disk store.new.slots.journal.disk
@@ -96,8 +98,8 @@ pub fn seal_staged<D: Disk>(store: &mut Store<D>) -> Result<Receipt, CommitFault
         × (r.batch.first ≡ (kept store.old).revision + 1)) }
     ensures cause { IfErr result (λ f. (f ≡ StoreFailed)
         × (D.faults store.old.slots.journal.disk < D.faults store.new.slots.journal.disk)) }
-    ensures any_moment { AtAnyMoment D.Disk store.old.slots.journal.disk store.new.slots.journal.disk
-        (KeepsOrGains store.old store.old.staged) }
+    ensures any_moment { AtAnyMoment D.Disk store.old.slots.journal.disk
+        store.new.slots.journal.disk (KeepsOrGains store.old store.old.staged) }
     ensures called { Makes (Sync ∷ Write ∷ Sync ∷ []) (D.calls store.old.slots.journal.disk)
         (D.calls store.new.slots.journal.disk) result }
     ensures keeps { OnOk result (EachCrash D.Disk store.new.slots.journal.disk
@@ -147,8 +149,8 @@ fn commit<D: Disk>(store: &mut Store<D>, desk: &mut Desk) -> Result<(), CommitFa
     ensures cause { IfErr result (λ f. f ≡ StoreFailed
         → LacksRoomFor D.Disk desk.old store.new.slots.journal.disk
         ⊎ (D.faults store.old.slots.journal.disk < D.faults store.new.slots.journal.disk)) }
-    ensures any_moment { AtAnyMoment D.Disk store.old.slots.journal.disk store.new.slots.journal.disk
-        (StandsAhead desk.old) }
+    ensures any_moment { AtAnyMoment D.Disk store.old.slots.journal.disk
+        store.new.slots.journal.disk (StandsAhead desk.old) }
     ensures settled { OnErr result (desk.new.settled ≡ desk.old.settled) }
     ensures called { IfErr result (λ _. BreaksOff D.Disk store.old store.new) }
     ensures honest { SameHonesty D.Disk store.old.slots.journal.disk store.new.slots.journal.disk }
@@ -174,8 +176,8 @@ pub fn commit_all<D: Disk>(store: &mut Store<D>, desk: &mut Desk) -> Result<(), 
     ensures cause { IfErr result (λ f. f ≡ StoreFailed
         → LacksRoomFor D.Disk desk.old store.new.slots.journal.disk
         ⊎ (D.faults store.old.slots.journal.disk < D.faults store.new.slots.journal.disk)) }
-    ensures any_moment { AtAnyMoment D.Disk store.old.slots.journal.disk store.new.slots.journal.disk
-        (StandsAhead desk.old) }
+    ensures any_moment { AtAnyMoment D.Disk store.old.slots.journal.disk
+        store.new.slots.journal.disk (StandsAhead desk.old) }
     ensures now { EachCrash D.Disk store.new.slots.journal.disk (StandsAhead desk.new) }
     ensures called { MatchResult result (λ _. Works D.Disk store.old store.new)
         (λ _. BreaksOff D.Disk store.old store.new) }

@@ -11,7 +11,8 @@ ghost use Rattle.fp_recovery.specs.Refusals.{IsUnlessWanting, RefusesBytes};
 ghost use Rattle.fp_recovery.specs.Stands.{StandsFor};
 ghost use Rattle.fp_slots.specs.declared.slots.Step.TheVariants.{Begin};
 ghost use Rattle.fp_group_commit.specs.Store.{IsFresh};
-ghost use Rattle.fp_session.specs.Session.{Fails, HasPlace, IsAhead, IsReady, Keeps, LeavesFlags, StandsAhead, disk_of, flags_of};
+ghost use Rattle.fp_session.specs.Session.{Fails, HasPlace, IsAhead, IsReady, Keeps, LeavesFlags};
+ghost use Rattle.fp_session.specs.Session.{StandsAhead, disk_of, flags_of};
 ghost use Rattle.fp_session.specs.SessionLaws.{flags_as, flags_on, keeps_itself, keeps_on};
 
 use crate::commit::commit_all;

@@ -17,7 +17,8 @@ pub trait EditStore {
     // The flags after all edits that were taken.
     ghost state: { Self → State };
 
-    // What a crash may leave: the flags that are kept, or those after some first of the edits that wait.
+    // What a crash may leave: the flags that are kept, or those
+    // after some first of the edits that wait.
     ghost may_stand: { Self → State → Type 0 };
 
     // The change may wait together with those that do.

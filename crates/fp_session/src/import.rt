@@ -1,6 +1,7 @@
 //! Imports.
 
-ghost use Rattle.std.specs.Prelude.{◌≡◌, ◌<◌, ◌≤◌, length, ◌++◌, [], ◌∷◌, List, ℕ, Ok, Option, true, map, IfErr, IfOk, MatchResult, OnOk};
+ghost use Rattle.std.specs.Prelude.{◌≡◌, ◌<◌, ◌≤◌, length, ◌++◌, [], ◌∷◌, List, ℕ, Ok, Option};
+ghost use Rattle.std.specs.Prelude.{true, map, IfErr, IfOk, MatchResult, OnOk};
 ghost use Rattle.std.specs.Io.KnownBytes.{Appends};
 ghost use Rattle.fp_edit.specs.Edits.{proposal_of};
 ghost use Rattle.fp_edit.specs.Flags.{State};
@@ -50,15 +51,18 @@ pub fn import_flags<W: Write, E: EditStore>(
     ensures kept { OnOk result.1 ((flags : State) → E.may_stand result.0 flags
         → flags ≡ E.state result.0) }
 
-    // At a fault all replies were written, unless the writer failed: those to what any flags that may stand hold, and those to
-    // the batch behind that isn't known to be kept, which tell no revision, or none where memory was wanting.
+    // At a fault all replies were written, unless the writer failed: those to what any flags that
+    // may stand hold, and those to the batch behind that isn't known to be kept, which tell no
+    // revision, or none where memory was wanting.
     ensures told { IfErr result.1 (λ fault. w.new.failures ≡ w.old.failures
         → (s : State) → E.may_stand result.0 s
         → IsToldBy (E.state edits) (asked_by_flags (map seen flags.items)) MOST_WAITING fault
         (W.contents w.old.inner) (W.contents w.new.inner) (E.state result.0) s) }
 
-    // Whatever comes back, the flags are as some first puts leave them, and so is whatever a crash leaves at any moment.
-    ensures left { IsAfterPrefix (E.state edits) (asked_by_flags (map seen flags.items)) (E.state result.0) }
+    // Whatever comes back, the flags are as some first puts leave them,
+    // and so is whatever a crash leaves at any moment.
+    ensures left { IsAfterPrefix (E.state edits) (asked_by_flags (map seen flags.items))
+        (E.state result.0) }
     ensures any_moment { E.leaves edits result.0
         (IsAfterPrefix (E.state edits) (asked_by_flags (map seen flags.items))) }
 

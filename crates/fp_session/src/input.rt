@@ -1,10 +1,12 @@
 //! A run over an input.
 
-ghost use Rattle.std.specs.Prelude.{◌≡◌, ◌+◌, ◌++◌, [], ◌∷◌, ℕ, List, Option, true, IfErr, IfOk, IfSome, MatchResult, OnOk};
+ghost use Rattle.std.specs.Prelude.{◌≡◌, ◌+◌, ◌++◌, [], ◌∷◌, ℕ, List, Option, true, IfErr, IfOk};
+ghost use Rattle.std.specs.Prelude.{IfSome, MatchResult, OnOk};
 ghost use Rattle.std.specs.Io.KnownBytes.{Appends};
 ghost use Rattle.fp_edit.specs.Flags.{State};
 ghost use Rattle.fp_session.specs.Asks.{Ask, asked_by_input, asked_by_lines};
-ghost use Rattle.fp_session.specs.Progress.{EndsOver, IsAt, IsBroken, IsBrokenWithin, IsEnded, IsReading, cut};
+ghost use Rattle.fp_session.specs.Progress.{EndsOver, IsAt, IsBroken, IsBrokenWithin, IsEnded};
+ghost use Rattle.fp_session.specs.Progress.{IsReading, cut};
 ghost use Rattle.fp_session.specs.Run.{IsAfterPrefix, IsRunWritten, IsToldBy, after, script};
 ghost use Rattle.fp_session.specs.StoreRun.{StoreRun};
 ghost use Rattle.fp_session.specs.Streams.{Blames, IsFromWithin};
@@ -18,13 +20,13 @@ use std::io::{Read, Write};
 
 const CHUNK: usize = 65_536;
 
-/// Answers each line of the reader in order, and shows the flags behind the last reply. Each edit is kept before it is
-/// answered.
+/// Answers each line of the reader in order, and shows the flags behind the last reply. Each edit
+/// is kept before it is answered.
 ///
 /// The replies to what was read are sent before the next read, and no more than a chunk of the
-/// input and its replies is held. `Ok(false)` says that a reply told of wanting memory. Where an edit isn't kept its reply
-/// is `store-failed`, the last one.
-/// A reader or a writer that fails is `Device`, unless the store failed or memory was wanting just before.
+/// input and its replies is held. `Ok(false)` says that a reply told of wanting memory. Where an
+/// edit isn't kept its reply is `store-failed`, the last one. A reader or a writer that fails is
+/// `Device`, unless the store failed or memory was wanting just before.
 pub fn apply_lines<R: Read, W: Write, E: EditStore>(
     alloc: Global,
     r: &mut FailureCounted<R>,
@@ -48,18 +50,20 @@ pub fn apply_lines<R: Read, W: Write, E: EditStore>(
     ensures kept { OnOk result.1 ((flags : State) → E.may_stand result.0 flags
         → flags ≡ E.state result.0) }
 
-    // At a fault all replies were written, unless the writer failed: those to what any flags that may stand hold, and the one
-    // to an edit behind that isn't known to be kept, which tells no revision, or none where memory was wanting.
+    // At a fault all replies were written, unless the writer failed: those to what any flags that
+    // may stand hold, and the one to an edit behind that isn't known to be kept, which tells no
+    // revision, or none where memory was wanting.
     ensures told { IfErr result.1 (λ fault. w.new.failures ≡ w.old.failures
         → (flags : State) → E.may_stand result.0 flags → IfSome (R.remaining r.old.inner) (λ input.
         IsToldBy (E.state edits) (asked_by_input input) 1 fault
         (W.contents w.old.inner) (W.contents w.new.inner) (E.state result.0) flags)) }
 
-    // Whatever comes back, the flags are as some first lines of the input leave them, and so is whatever a crash leaves at
-    // any moment.
+    // Whatever comes back, the flags are as some first lines of the input leave them, and so is
+    // whatever a crash leaves at any moment.
     ensures left { IfSome (R.remaining r.old.inner) (λ input.
         IsAfterPrefix (E.state edits) (asked_by_input input) (E.state result.0)) }
-    ensures any_moment { E.leaves edits result.0 (λ flags. IfSome (R.remaining r.old.inner) (λ input.
+    ensures any_moment { E.leaves edits result.0
+        (λ flags. IfSome (R.remaining r.old.inner) (λ input.
         IsAfterPrefix (E.state edits) (asked_by_input input) flags)) }
 
     // At the end nothing goes on beside the edits.
@@ -69,7 +73,8 @@ pub fn apply_lines<R: Read, W: Write, E: EditStore>(
     ensures course { StoreRun E.EditStore (λ flags. IfSome (R.remaining r.old.inner) (λ input.
         IsAfterPrefix (E.state edits) (asked_by_input input) flags)) edits result.0 result.1 }
 
-    // `Device` comes only where the reader or the writer failed, and a run to the end only where neither did.
+    // `Device` comes only where the reader or the writer failed,
+    // and a run to the end only where neither did.
     ensures device { Blames (r.old.failures + w.old.failures) (r.new.failures + w.new.failures)
         result.1 }
 {
@@ -143,7 +148,8 @@ fn answer_line<E: EditStore>(
     ensures answered { (first : E) (asked : List Ask) (sent bytes : List ℕ)
         → line.old ≡ cut bytes → replies.old.waiting.items ≡ []
         → IsAt E.EditStore first edits.old asked sent replies.old → MatchResult result
-        (λ _. IsAt E.EditStore first edits.new (asked ++ asked_by_lines (bytes ∷ [])) sent replies.new)
+        (λ _. IsAt E.EditStore first edits.new
+        (asked ++ asked_by_lines (bytes ∷ [])) sent replies.new)
         (IsBroken E.EditStore 1 first edits.new (asked ++ asked_by_lines (bytes ∷ [])) sent
         replies.new) }
     ensures none { replies.old.waiting.items ≡ [] → OnOk result (replies.new.waiting.items ≡ []) }

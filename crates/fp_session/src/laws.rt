@@ -10,8 +10,8 @@ use fp_disk::Disk;
 use fp_layout::OpenFault;
 use std::alloc::Global;
 
-/// Closing a session that keeps all its edits and opening its disk gives the same flags at the same revision, unless the device
-/// refuses or memory runs out.
+/// Closing a session that keeps all its edits and opening its disk gives the same flags at the same
+/// revision, unless the device refuses or memory runs out.
 pub fn closes_and_opens<D: Disk>(
     alloc: Global,
     session: DiskSession<D>,

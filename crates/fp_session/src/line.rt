@@ -1,6 +1,7 @@
 //! The line that is coming in.
 
-ghost use Rattle.std.specs.Prelude.{◌≡◌, ◌+◌, ◌++◌, ◌^◌, ◌<◌, ◌==◌, [], List, ℕ, OnOk, IfSome, MatchOption, length, position, true, false};
+ghost use Rattle.std.specs.Prelude.{◌≡◌, ◌+◌, ◌++◌, ◌^◌, ◌<◌, ◌==◌, [], List, ℕ, OnOk, IfSome};
+ghost use Rattle.std.specs.Prelude.{MatchOption, length, position, true, false};
 ghost use Rattle.std.specs.List.{list_all};
 ghost use Rattle.fp_edit.specs.Line.{line_of};
 ghost use Rattle.fp_session.specs.Lines as lines;

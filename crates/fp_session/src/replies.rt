@@ -1,6 +1,8 @@
 //! Replies: those that wait until their batch is kept, and the texts of the others.
 
-ghost use Rattle.std.specs.Prelude.{◌≡◌, ◌++◌, ◌&&◌, [], ◌∷◌, ℕ, List, Ok, Err, IfErr, IfOk, OnOk, ◌+◌, MatchResult, ◌<◌, ◌≤◌, nat_lt, length, true, vec_capacity, vec_len};
+ghost use Rattle.std.specs.Prelude.{◌≡◌, ◌++◌, ◌&&◌, [], ◌∷◌, ℕ, List, Ok, Err, IfErr, IfOk, OnOk};
+ghost use Rattle.std.specs.Prelude.{◌+◌, MatchResult, ◌<◌, ◌≤◌, nat_lt, length, true, vec_capacity};
+ghost use Rattle.std.specs.Prelude.{vec_len};
 ghost use Rattle.std.specs.Io.KnownBytes.{Appends};
 ghost use Rattle.fp_edit.specs.Edits.{Change, proposal_of};
 ghost use Rattle.fp_edit.specs.Flags.{State};
@@ -86,7 +88,8 @@ impl Replies {
     ) -> Result<(), ApplyFault>
         ensures asked { (first : E) (asked : List Ask) (sent : List ℕ)
             → IsAt E.EditStore first edits.old asked sent self.old → MatchResult result
-            (λ _. IsAt E.EditStore first edits.new (asked ++ Ok (proposal_of edit) ∷ []) sent self.new)
+            (λ _. IsAt E.EditStore first edits.new
+            (asked ++ Ok (proposal_of edit) ∷ []) sent self.new)
             (IsBroken E.EditStore (length self.old.waiting.items) first edits.new
             (asked ++ Ok (proposal_of edit) ∷ []) sent self.new) }
         ensures one { OnOk result (length self.new.waiting.items
@@ -128,8 +131,8 @@ impl Replies {
         Ok(())
     }
 
-    /// Has what waits kept, and then tells of it. Where that fails, its replies tell no revision. What is done beside the edits
-    /// goes on then by a step.
+    /// Has what waits kept, and then tells of it. Where that fails, its replies tell no revision.
+    /// What is done beside the edits goes on then by a step.
     ///
     /// What is told in either case is made before, so that no memory is wanting then.
     pub fn seal<E: EditStore>(&mut self, alloc: Global, edits: &mut E) -> Result<(), ApplyFault>

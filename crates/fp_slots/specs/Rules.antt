@@ -1,5 +1,6 @@
 -- Which of two slots decides what a disk stands for.
-use Rattle.std.specs.Prelude.{◌≡◌, ◌≢◌, ◌⊎◌, ◌↔◌, ◌<◌, ◌+◌, ◌^◌, ℕ, Bool, IsTrue, List, length, slice_index}
+use Rattle.std.specs.Prelude.{◌≡◌, ◌≢◌, ◌⊎◌, ◌↔◌, ◌<◌, ◌+◌, ◌^◌, ℕ, Bool, IsTrue, List, length}
+use Rattle.std.specs.Prelude.{slice_index}
 use Rattle.std.specs.Int.{w64, to_be_bytes}
 use Rattle.fp_journal.specs.Holds.{Holds}
 use Rattle.fp_journal.specs.Firsts.{AreFirst}
@@ -8,7 +9,8 @@ use Rattle.fp_journal.specs.declared.slot.Slot.{Slot}
 use Rattle.fp_gate.specs.declared.gate.TheConstants.{OPEN}
 use Rattle.fp_slots.specs.declared.choosing.SlotFault.{SlotFault}
 use Rattle.fp_slots.specs.declared.choosing.SlotFault.TheVariants.{Damaged}
-use Rattle.fp_slots.specs.declared.places.TheConstants.{GENERATION_PLACE, VERSION_PLACE, IMAGE_PLACE}
+use Rattle.fp_slots.specs.declared.places.TheConstants.{GENERATION_PLACE, VERSION_PLACE}
+use Rattle.fp_slots.specs.declared.places.TheConstants.{IMAGE_PLACE}
 
 -- behind the gate of the slot that begins at this place stands this generation, whole
 pub record HasGeneration (slot n : ℕ) (c : List ℕ) : Type 0 where

@@ -3,11 +3,14 @@
 ghost use Rattle.fp_disk.specs.Crashes.{AtAnyMoment, SameHonesty};
 ghost use Rattle.fp_disk.specs.Outcomes.{Answers};
 ghost use Rattle.fp_disk.specs.declared.history.CallKind.TheVariants.{Sync, Write};
-ghost use Rattle.std.specs.Prelude.{◌≡◌, ◌≤◌, ◌+◌, [], ◌∷◌, ◌++◌, true, false, length, IfOk, OnOk, OnErr};
+ghost use Rattle.std.specs.Prelude.{◌≡◌, ◌≤◌, ◌+◌, [], ◌∷◌, ◌++◌, true, false, length, IfOk, OnOk};
+ghost use Rattle.std.specs.Prelude.{OnErr};
 ghost use Rattle.fp_journal.specs.Moments.{KeepsSynced};
 ghost use Rattle.fp_journal.specs.State.{room};
-ghost use Rattle.fp_journal.specs.declared.journal.Phase.TheVariants.{Idle, Staged, BodySynced, GateOpened, Failed};
-ghost use Rattle.fp_slots.specs.State.{IsEarly, KeepsOrNext, KeepsSealed, OutsideBoth, SameCompaction};
+ghost use Rattle.fp_journal.specs.declared.journal.Phase.TheVariants.{Idle, Staged, BodySynced};
+ghost use Rattle.fp_journal.specs.declared.journal.Phase.TheVariants.{GateOpened, Failed};
+ghost use Rattle.fp_slots.specs.State.{IsEarly, KeepsOrNext, KeepsSealed, OutsideBoth};
+ghost use Rattle.fp_slots.specs.State.{SameCompaction};
 
 use crate::slots::Slots;
 use fp_disk::{Disk, DiskFault};
@@ -21,14 +24,20 @@ impl<D: Disk> Slots<D> {
         requires short { length framed ≤ self.old.journal.slot.most }
         requires room { length framed + 6 ≤ room self.old.journal }
         ensures same { SameCompaction self.old self.new }
-        ensures bodies { (self.new.journal.sealed ≡ self.old.journal.sealed) × (self.new.journal.staged ≡ framed) }
-        ensures phase { OnOk result (self.new.journal.phase ≡ Staged) × OnErr result (self.new.journal.phase ≡ Failed) }
+        ensures bodies { (self.new.journal.sealed ≡ self.old.journal.sealed)
+            × (self.new.journal.staged ≡ framed) }
+        ensures phase { OnOk result (self.new.journal.phase ≡ Staged)
+            × OnErr result (self.new.journal.phase ≡ Failed) }
         ensures begun { self.new.journal.begun ≡ false }
-        ensures any_moment { AtAnyMoment D.Disk self.old.journal.disk self.new.journal.disk (KeepsSealed self.old) }
-        ensures apart { KeepsSynced D.Disk self.old.journal.disk self.new.journal.disk (OutsideBoth self.old) }
+        ensures any_moment { AtAnyMoment D.Disk self.old.journal.disk self.new.journal.disk
+            (KeepsSealed self.old) }
+        ensures apart { KeepsSynced D.Disk self.old.journal.disk self.new.journal.disk
+            (OutsideBoth self.old) }
         ensures honest { SameHonesty D.Disk self.old.journal.disk self.new.journal.disk }
-        ensures called { D.calls self.new.journal.disk ≡ D.calls self.old.journal.disk ++ Write ∷ [] }
-        ensures cause { Answers (D.faults self.old.journal.disk) (D.faults self.new.journal.disk) result }
+        ensures called { D.calls self.new.journal.disk
+            ≡ D.calls self.old.journal.disk ++ Write ∷ [] }
+        ensures cause { Answers (D.faults self.old.journal.disk)
+            (D.faults self.new.journal.disk) result }
     {
         self.journal.stage(framed)?;
         Ok(())
@@ -39,14 +48,20 @@ impl<D: Disk> Slots<D> {
         requires early { IsEarly self.old.step }
         requires staged { self.old.journal.phase ≡ Staged }
         ensures same { SameCompaction self.old self.new }
-        ensures bodies { (self.new.journal.sealed ≡ self.old.journal.sealed) × (self.new.journal.staged ≡ self.old.journal.staged) }
-        ensures phase { OnOk result (self.new.journal.phase ≡ BodySynced) × OnErr result (self.new.journal.phase ≡ Failed) }
+        ensures bodies { (self.new.journal.sealed ≡ self.old.journal.sealed)
+            × (self.new.journal.staged ≡ self.old.journal.staged) }
+        ensures phase { OnOk result (self.new.journal.phase ≡ BodySynced)
+            × OnErr result (self.new.journal.phase ≡ Failed) }
         ensures begun { self.new.journal.begun ≡ false }
-        ensures any_moment { AtAnyMoment D.Disk self.old.journal.disk self.new.journal.disk (KeepsSealed self.old) }
-        ensures apart { KeepsSynced D.Disk self.old.journal.disk self.new.journal.disk (OutsideBoth self.old) }
+        ensures any_moment { AtAnyMoment D.Disk self.old.journal.disk self.new.journal.disk
+            (KeepsSealed self.old) }
+        ensures apart { KeepsSynced D.Disk self.old.journal.disk self.new.journal.disk
+            (OutsideBoth self.old) }
         ensures honest { SameHonesty D.Disk self.old.journal.disk self.new.journal.disk }
-        ensures called { D.calls self.new.journal.disk ≡ D.calls self.old.journal.disk ++ Sync ∷ [] }
-        ensures cause { Answers (D.faults self.old.journal.disk) (D.faults self.new.journal.disk) result }
+        ensures called { D.calls self.new.journal.disk
+            ≡ D.calls self.old.journal.disk ++ Sync ∷ [] }
+        ensures cause { Answers (D.faults self.old.journal.disk)
+            (D.faults self.new.journal.disk) result }
     {
         let synced = self.journal.sync()?;
         self.journal.body_synced(synced);
@@ -58,14 +73,20 @@ impl<D: Disk> Slots<D> {
         requires early { IsEarly self.old.step }
         requires synced { self.old.journal.phase ≡ BodySynced }
         ensures same { SameCompaction self.old self.new }
-        ensures bodies { (self.new.journal.sealed ≡ self.old.journal.sealed) × (self.new.journal.staged ≡ self.old.journal.staged) }
-        ensures phase { OnOk result (self.new.journal.phase ≡ GateOpened) × OnErr result (self.new.journal.phase ≡ Failed) }
+        ensures bodies { (self.new.journal.sealed ≡ self.old.journal.sealed)
+            × (self.new.journal.staged ≡ self.old.journal.staged) }
+        ensures phase { OnOk result (self.new.journal.phase ≡ GateOpened)
+            × OnErr result (self.new.journal.phase ≡ Failed) }
         ensures begun { self.new.journal.begun ≡ true }
-        ensures any_moment { AtAnyMoment D.Disk self.old.journal.disk self.new.journal.disk (KeepsOrNext self.old self.old.journal.staged) }
-        ensures apart { KeepsSynced D.Disk self.old.journal.disk self.new.journal.disk (OutsideBoth self.old) }
+        ensures any_moment { AtAnyMoment D.Disk self.old.journal.disk self.new.journal.disk
+            (KeepsOrNext self.old self.old.journal.staged) }
+        ensures apart { KeepsSynced D.Disk self.old.journal.disk self.new.journal.disk
+            (OutsideBoth self.old) }
         ensures honest { SameHonesty D.Disk self.old.journal.disk self.new.journal.disk }
-        ensures called { D.calls self.new.journal.disk ≡ D.calls self.old.journal.disk ++ Write ∷ [] }
-        ensures cause { Answers (D.faults self.old.journal.disk) (D.faults self.new.journal.disk) result }
+        ensures called { D.calls self.new.journal.disk
+            ≡ D.calls self.old.journal.disk ++ Write ∷ [] }
+        ensures cause { Answers (D.faults self.old.journal.disk)
+            (D.faults self.new.journal.disk) result }
     {
         self.journal.open_gate()?;
         Ok(())
@@ -76,15 +97,25 @@ impl<D: Disk> Slots<D> {
         requires early { IsEarly self.old.step }
         requires opened { self.old.journal.phase ≡ GateOpened }
         ensures same { SameCompaction self.old self.new }
-        ensures ok { OnOk result ((self.new.journal.sealed ≡ self.old.journal.sealed ++ self.old.journal.staged ∷ []) × (self.new.journal.phase ≡ Idle)) }
-        ensures token { IfOk result (λ t. (t.name ≡ self.new.journal.name) × (t.bodies ≡ self.new.journal.sealed)) }
-        ensures begun { OnOk result (self.new.journal.begun ≡ false) × OnErr result (self.new.journal.begun ≡ true) }
-        ensures err { OnErr result ((self.new.journal.sealed ≡ self.old.journal.sealed) × (self.new.journal.staged ≡ self.old.journal.staged) × (self.new.journal.phase ≡ Failed)) }
-        ensures any_moment { AtAnyMoment D.Disk self.old.journal.disk self.new.journal.disk (KeepsOrNext self.old self.old.journal.staged) }
-        ensures apart { KeepsSynced D.Disk self.old.journal.disk self.new.journal.disk (OutsideBoth self.old) }
+        ensures ok { OnOk result
+            ((self.new.journal.sealed ≡ self.old.journal.sealed ++ self.old.journal.staged ∷ [])
+            × (self.new.journal.phase ≡ Idle)) }
+        ensures token { IfOk result (λ t. (t.name ≡ self.new.journal.name)
+            × (t.bodies ≡ self.new.journal.sealed)) }
+        ensures begun { OnOk result (self.new.journal.begun ≡ false)
+            × OnErr result (self.new.journal.begun ≡ true) }
+        ensures err { OnErr result ((self.new.journal.sealed ≡ self.old.journal.sealed)
+            × (self.new.journal.staged ≡ self.old.journal.staged)
+            × (self.new.journal.phase ≡ Failed)) }
+        ensures any_moment { AtAnyMoment D.Disk self.old.journal.disk self.new.journal.disk
+            (KeepsOrNext self.old self.old.journal.staged) }
+        ensures apart { KeepsSynced D.Disk self.old.journal.disk self.new.journal.disk
+            (OutsideBoth self.old) }
         ensures honest { SameHonesty D.Disk self.old.journal.disk self.new.journal.disk }
-        ensures called { D.calls self.new.journal.disk ≡ D.calls self.old.journal.disk ++ Sync ∷ [] }
-        ensures cause { Answers (D.faults self.old.journal.disk) (D.faults self.new.journal.disk) result }
+        ensures called { D.calls self.new.journal.disk
+            ≡ D.calls self.old.journal.disk ++ Sync ∷ [] }
+        ensures cause { Answers (D.faults self.old.journal.disk)
+            (D.faults self.new.journal.disk) result }
     {
         let synced = self.journal.sync()?;
         Ok(self.journal.gate_synced(synced))

@@ -3,12 +3,14 @@
 ghost use Rattle.fp_disk.specs.Crashes.{AtAnyMoment, SameHonesty};
 ghost use Rattle.fp_disk.specs.Outcomes.{Answers};
 ghost use Rattle.fp_disk.specs.declared.history.CallKind.TheVariants.{Sync, Write};
-ghost use Rattle.std.specs.Prelude.{◌≡◌, ◌≢◌, ◌<◌, ◌≤◌, ◌+◌, ◌-◌, [], ◌∷◌, ◌++◌, if◌then◌else◌, true, false, OnOk, OnErr};
+ghost use Rattle.std.specs.Prelude.{◌≡◌, ◌≢◌, ◌<◌, ◌≤◌, ◌+◌, ◌-◌, [], ◌∷◌, ◌++◌, if◌then◌else◌};
+ghost use Rattle.std.specs.Prelude.{true, false, OnOk, OnErr};
 ghost use Rattle.fp_journal.specs.Moments.{KeepsSynced};
 ghost use Rattle.fp_journal.specs.declared.journal.Phase.TheVariants.{Idle, Failed};
 ghost use Rattle.fp_slots.specs.State.{Keeps, KeepsEither, OutsideBoth, SameSlots};
 ghost use Rattle.fp_slots.specs.declared.places.TheConstants.{PART};
-ghost use Rattle.fp_slots.specs.declared.slots.Step.TheVariants.{Begin, Close, SyncClose, Part, Tail, SyncBody, Open, SyncOpen};
+ghost use Rattle.fp_slots.specs.declared.slots.Step.TheVariants.{Begin, Close, SyncClose, Part};
+ghost use Rattle.fp_slots.specs.declared.slots.Step.TheVariants.{Tail, SyncBody, Open, SyncOpen};
 
 use crate::held::Held;
 use crate::places::PART;
@@ -22,15 +24,21 @@ impl<D: Disk> Slots<D> {
     pub fn close_other(&mut self) -> Result<(), DiskFault>
         requires step { self.old.step ≡ Close }
         requires live { self.old.journal.phase ≢ Failed }
-        ensures step { OnOk result (self.new.step ≡ SyncClose) × OnErr result (self.new.step ≡ Close) }
+        ensures step { OnOk result (self.new.step ≡ SyncClose)
+            × OnErr result (self.new.step ≡ Close) }
         ensures same { SameSlots self.old self.new }
         ensures left { self.new.left ≡ self.old.left }
-        ensures phase { OnOk result (self.new.journal.phase ≡ self.old.journal.phase) × OnErr result (self.new.journal.phase ≡ Failed) }
-        ensures any_moment { AtAnyMoment D.Disk self.old.journal.disk self.new.journal.disk (Keeps self.old) }
-        ensures apart { KeepsSynced D.Disk self.old.journal.disk self.new.journal.disk (OutsideBoth self.old) }
+        ensures phase { OnOk result (self.new.journal.phase ≡ self.old.journal.phase)
+            × OnErr result (self.new.journal.phase ≡ Failed) }
+        ensures any_moment { AtAnyMoment D.Disk self.old.journal.disk self.new.journal.disk
+            (Keeps self.old) }
+        ensures apart { KeepsSynced D.Disk self.old.journal.disk self.new.journal.disk
+            (OutsideBoth self.old) }
         ensures honest { SameHonesty D.Disk self.old.journal.disk self.new.journal.disk }
-        ensures called { D.calls self.new.journal.disk ≡ D.calls self.old.journal.disk ++ (if self.old.may_open then Write ∷ [] else []) }
-        ensures cause { Answers (D.faults self.old.journal.disk) (D.faults self.new.journal.disk) result }
+        ensures called { D.calls self.new.journal.disk
+            ≡ D.calls self.old.journal.disk ++ (if self.old.may_open then Write ∷ [] else []) }
+        ensures cause { Answers (D.faults self.old.journal.disk)
+            (D.faults self.new.journal.disk) result }
     {
         let _phase = self.journal.phase();
         if !self.may_open {
@@ -46,15 +54,21 @@ impl<D: Disk> Slots<D> {
     pub fn sync_close(&mut self) -> Result<(), DiskFault>
         requires step { self.old.step ≡ SyncClose }
         requires live { self.old.journal.phase ≢ Failed }
-        ensures step { OnOk result (self.new.step ≡ Part) × OnErr result (self.new.step ≡ SyncClose) }
+        ensures step { OnOk result (self.new.step ≡ Part)
+            × OnErr result (self.new.step ≡ SyncClose) }
         ensures same { SameSlots self.old self.new }
         ensures left { self.new.left ≡ self.old.left }
-        ensures phase { OnOk result (self.new.journal.phase ≡ self.old.journal.phase) × OnErr result (self.new.journal.phase ≡ Failed) }
-        ensures any_moment { AtAnyMoment D.Disk self.old.journal.disk self.new.journal.disk (Keeps self.old) }
-        ensures apart { KeepsSynced D.Disk self.old.journal.disk self.new.journal.disk (OutsideBoth self.old) }
+        ensures phase { OnOk result (self.new.journal.phase ≡ self.old.journal.phase)
+            × OnErr result (self.new.journal.phase ≡ Failed) }
+        ensures any_moment { AtAnyMoment D.Disk self.old.journal.disk self.new.journal.disk
+            (Keeps self.old) }
+        ensures apart { KeepsSynced D.Disk self.old.journal.disk self.new.journal.disk
+            (OutsideBoth self.old) }
         ensures honest { SameHonesty D.Disk self.old.journal.disk self.new.journal.disk }
-        ensures called { D.calls self.new.journal.disk ≡ D.calls self.old.journal.disk ++ Sync ∷ [] }
-        ensures cause { Answers (D.faults self.old.journal.disk) (D.faults self.new.journal.disk) result }
+        ensures called { D.calls self.new.journal.disk
+            ≡ D.calls self.old.journal.disk ++ Sync ∷ [] }
+        ensures cause { Answers (D.faults self.old.journal.disk)
+            (D.faults self.new.journal.disk) result }
     {
         let _closed = self.journal.sync()?;
         self.held = Held::Part;
@@ -65,16 +79,23 @@ impl<D: Disk> Slots<D> {
     pub fn write_part(&mut self) -> Result<(), DiskFault>
         requires step { self.old.step ≡ Part }
         requires live { self.old.journal.phase ≢ Failed }
-        ensures step { OnOk result ((PART < self.old.left → self.new.step ≡ Part) × (self.old.left ≤ PART → self.new.step ≡ Tail)) × OnErr result (self.new.step ≡ Part) }
+        ensures step { OnOk result ((PART < self.old.left → self.new.step ≡ Part)
+            × (self.old.left ≤ PART → self.new.step ≡ Tail))
+            × OnErr result (self.new.step ≡ Part) }
         ensures less { OnOk result (self.new.left ≡ self.old.left - PART) }
         ensures same { SameSlots self.old self.new }
         ensures left { OnErr result (self.new.left ≡ self.old.left) }
-        ensures phase { OnOk result (self.new.journal.phase ≡ self.old.journal.phase) × OnErr result (self.new.journal.phase ≡ Failed) }
-        ensures any_moment { AtAnyMoment D.Disk self.old.journal.disk self.new.journal.disk (Keeps self.old) }
-        ensures apart { KeepsSynced D.Disk self.old.journal.disk self.new.journal.disk (OutsideBoth self.old) }
+        ensures phase { OnOk result (self.new.journal.phase ≡ self.old.journal.phase)
+            × OnErr result (self.new.journal.phase ≡ Failed) }
+        ensures any_moment { AtAnyMoment D.Disk self.old.journal.disk self.new.journal.disk
+            (Keeps self.old) }
+        ensures apart { KeepsSynced D.Disk self.old.journal.disk self.new.journal.disk
+            (OutsideBoth self.old) }
         ensures honest { SameHonesty D.Disk self.old.journal.disk self.new.journal.disk }
-        ensures called { D.calls self.new.journal.disk ≡ D.calls self.old.journal.disk ++ Write ∷ [] }
-        ensures cause { Answers (D.faults self.old.journal.disk) (D.faults self.new.journal.disk) result }
+        ensures called { D.calls self.new.journal.disk
+            ≡ D.calls self.old.journal.disk ++ Write ∷ [] }
+        ensures cause { Answers (D.faults self.old.journal.disk)
+            (D.faults self.new.journal.disk) result }
     {
         let left = self.head - self.done;
         let to = self.done + left.min(PART);
@@ -94,15 +115,21 @@ impl<D: Disk> Slots<D> {
     pub fn write_tail(&mut self) -> Result<(), DiskFault>
         requires step { self.old.step ≡ Tail }
         requires live { self.old.journal.phase ≡ Idle }
-        ensures step { OnOk result (self.new.step ≡ SyncBody) × OnErr result (self.new.step ≡ Tail) }
+        ensures step { OnOk result (self.new.step ≡ SyncBody)
+            × OnErr result (self.new.step ≡ Tail) }
         ensures same { SameSlots self.old self.new }
         ensures left { self.new.left ≡ self.old.left }
-        ensures phase { OnOk result (self.new.journal.phase ≡ self.old.journal.phase) × OnErr result (self.new.journal.phase ≡ Failed) }
-        ensures any_moment { AtAnyMoment D.Disk self.old.journal.disk self.new.journal.disk (Keeps self.old) }
-        ensures apart { KeepsSynced D.Disk self.old.journal.disk self.new.journal.disk (OutsideBoth self.old) }
+        ensures phase { OnOk result (self.new.journal.phase ≡ self.old.journal.phase)
+            × OnErr result (self.new.journal.phase ≡ Failed) }
+        ensures any_moment { AtAnyMoment D.Disk self.old.journal.disk self.new.journal.disk
+            (Keeps self.old) }
+        ensures apart { KeepsSynced D.Disk self.old.journal.disk self.new.journal.disk
+            (OutsideBoth self.old) }
         ensures honest { SameHonesty D.Disk self.old.journal.disk self.new.journal.disk }
-        ensures called { D.calls self.new.journal.disk ≡ D.calls self.old.journal.disk ++ Write ∷ [] }
-        ensures cause { Answers (D.faults self.old.journal.disk) (D.faults self.new.journal.disk) result }
+        ensures called { D.calls self.new.journal.disk
+            ≡ D.calls self.old.journal.disk ++ Write ∷ [] }
+        ensures cause { Answers (D.faults self.old.journal.disk)
+            (D.faults self.new.journal.disk) result }
     {
         let to = self.ended + 1;
         self.journal.write_outside(
@@ -117,15 +144,21 @@ impl<D: Disk> Slots<D> {
     pub fn sync_parts(&mut self) -> Result<(), DiskFault>
         requires step { self.old.step ≡ SyncBody }
         requires live { self.old.journal.phase ≢ Failed }
-        ensures step { OnOk result (self.new.step ≡ Open) × OnErr result (self.new.step ≡ SyncBody) }
+        ensures step { OnOk result (self.new.step ≡ Open)
+            × OnErr result (self.new.step ≡ SyncBody) }
         ensures same { SameSlots self.old self.new }
         ensures left { self.new.left ≡ self.old.left }
-        ensures phase { OnOk result (self.new.journal.phase ≡ self.old.journal.phase) × OnErr result (self.new.journal.phase ≡ Failed) }
-        ensures any_moment { AtAnyMoment D.Disk self.old.journal.disk self.new.journal.disk (Keeps self.old) }
-        ensures apart { KeepsSynced D.Disk self.old.journal.disk self.new.journal.disk (OutsideBoth self.old) }
+        ensures phase { OnOk result (self.new.journal.phase ≡ self.old.journal.phase)
+            × OnErr result (self.new.journal.phase ≡ Failed) }
+        ensures any_moment { AtAnyMoment D.Disk self.old.journal.disk self.new.journal.disk
+            (Keeps self.old) }
+        ensures apart { KeepsSynced D.Disk self.old.journal.disk self.new.journal.disk
+            (OutsideBoth self.old) }
         ensures honest { SameHonesty D.Disk self.old.journal.disk self.new.journal.disk }
-        ensures called { D.calls self.new.journal.disk ≡ D.calls self.old.journal.disk ++ Sync ∷ [] }
-        ensures cause { Answers (D.faults self.old.journal.disk) (D.faults self.new.journal.disk) result }
+        ensures called { D.calls self.new.journal.disk
+            ≡ D.calls self.old.journal.disk ++ Sync ∷ [] }
+        ensures cause { Answers (D.faults self.old.journal.disk)
+            (D.faults self.new.journal.disk) result }
     {
         let synced = self.journal.sync()?;
         self.held = Held::Open(synced);
@@ -136,15 +169,21 @@ impl<D: Disk> Slots<D> {
     pub fn open_other(&mut self) -> Result<(), DiskFault>
         requires step { self.old.step ≡ Open }
         requires live { self.old.journal.phase ≢ Failed }
-        ensures step { OnOk result (self.new.step ≡ SyncOpen) × OnErr result (self.new.step ≡ Open) }
+        ensures step { OnOk result (self.new.step ≡ SyncOpen)
+            × OnErr result (self.new.step ≡ Open) }
         ensures same { SameSlots self.old self.new }
         ensures left { self.new.left ≡ self.old.left }
-        ensures phase { OnOk result (self.new.journal.phase ≡ self.old.journal.phase) × OnErr result (self.new.journal.phase ≡ Failed) }
-        ensures any_moment { AtAnyMoment D.Disk self.old.journal.disk self.new.journal.disk (KeepsEither self.old) }
-        ensures apart { KeepsSynced D.Disk self.old.journal.disk self.new.journal.disk (OutsideBoth self.old) }
+        ensures phase { OnOk result (self.new.journal.phase ≡ self.old.journal.phase)
+            × OnErr result (self.new.journal.phase ≡ Failed) }
+        ensures any_moment { AtAnyMoment D.Disk self.old.journal.disk self.new.journal.disk
+            (KeepsEither self.old) }
+        ensures apart { KeepsSynced D.Disk self.old.journal.disk self.new.journal.disk
+            (OutsideBoth self.old) }
         ensures honest { SameHonesty D.Disk self.old.journal.disk self.new.journal.disk }
-        ensures called { D.calls self.new.journal.disk ≡ D.calls self.old.journal.disk ++ Write ∷ [] }
-        ensures cause { Answers (D.faults self.old.journal.disk) (D.faults self.new.journal.disk) result }
+        ensures called { D.calls self.new.journal.disk
+            ≡ D.calls self.old.journal.disk ++ Write ∷ [] }
+        ensures cause { Answers (D.faults self.old.journal.disk)
+            (D.faults self.new.journal.disk) result }
     {
         let Held::Open(synced) = mem::replace(&mut self.held, Held::Opening) else {
             unreachable!()
@@ -162,16 +201,28 @@ impl<D: Disk> Slots<D> {
     pub fn switch(&mut self) -> Result<(), DiskFault>
         requires step { self.old.step ≡ SyncOpen }
         requires live { self.old.journal.phase ≢ Failed }
-        ensures switched { OnOk result ((self.new.journal.slot ≡ self.old.other) × (self.new.journal.front ≡ self.old.text) × (self.new.journal.sealed ≡ []) × (self.new.journal.phase ≡ Idle)) }
+        ensures switched { OnOk result ((self.new.journal.slot ≡ self.old.other)
+            × (self.new.journal.front ≡ self.old.text)
+            × (self.new.journal.sealed ≡ [])
+            × (self.new.journal.phase ≡ Idle)) }
         ensures begun { OnOk result (self.new.journal.begun ≡ false) }
-        ensures turned { OnOk result ((self.new.other ≡ self.old.journal.slot) × (self.new.generation ≡ self.old.generation + 1) × (self.new.may_open ≡ true) × (self.new.step ≡ Begin)) }
-        ensures broken { OnErr result (SameSlots self.old self.new × (self.new.step ≡ SyncOpen) × (self.new.journal.phase ≡ Failed)) }
+        ensures turned { OnOk result ((self.new.other ≡ self.old.journal.slot)
+            × (self.new.generation ≡ self.old.generation + 1)
+            × (self.new.may_open ≡ true)
+            × (self.new.step ≡ Begin)) }
+        ensures broken { OnErr result (SameSlots self.old self.new
+            × (self.new.step ≡ SyncOpen)
+            × (self.new.journal.phase ≡ Failed)) }
         ensures left { self.new.left ≡ self.old.left }
-        ensures any_moment { AtAnyMoment D.Disk self.old.journal.disk self.new.journal.disk (KeepsEither self.old) }
-        ensures apart { KeepsSynced D.Disk self.old.journal.disk self.new.journal.disk (OutsideBoth self.old) }
+        ensures any_moment { AtAnyMoment D.Disk self.old.journal.disk self.new.journal.disk
+            (KeepsEither self.old) }
+        ensures apart { KeepsSynced D.Disk self.old.journal.disk self.new.journal.disk
+            (OutsideBoth self.old) }
         ensures honest { SameHonesty D.Disk self.old.journal.disk self.new.journal.disk }
-        ensures called { D.calls self.new.journal.disk ≡ D.calls self.old.journal.disk ++ Sync ∷ [] }
-        ensures cause { Answers (D.faults self.old.journal.disk) (D.faults self.new.journal.disk) result }
+        ensures called { D.calls self.new.journal.disk
+            ≡ D.calls self.old.journal.disk ++ Sync ∷ [] }
+        ensures cause { Answers (D.faults self.old.journal.disk)
+            (D.faults self.new.journal.disk) result }
     {
         let synced = self.journal.sync()?;
         let Held::SyncOpen(gate) = mem::replace(&mut self.held, Held::Begin) else {

@@ -1,6 +1,7 @@
 //! The text that a slot is to hold, as its bytes.
 
-ghost use Rattle.std.specs.Prelude.{◌≡◌, ◌<◌, ◌≤◌, ◌+◌, ◌-◌, ◌^◌, [], ◌∷◌, ◌++◌, length, slice_range, slice_set, IfOk, OnOk, OnErr};
+ghost use Rattle.std.specs.Prelude.{◌≡◌, ◌<◌, ◌≤◌, ◌+◌, ◌-◌, ◌^◌, [], ◌∷◌, ◌++◌, length};
+ghost use Rattle.std.specs.Prelude.{slice_range, slice_set, IfOk, OnOk, OnErr};
 ghost use Rattle.fp_gate.specs.declared.gate.TheConstants.{OPEN};
 ghost use Rattle.fp_journal.specs.Chain.{with_gate};
 ghost use Rattle.fp_journal.specs.State.{IsOnWay};
@@ -58,7 +59,8 @@ pub(crate) fn piece(planned: &Vec<u8>, from: usize, to: usize) -> &[u8]
 // Puts these bytes behind the first so many, in place of all that was there.
 pub(crate) fn put_behind(planned: &mut Vec<u8>, len: usize, bytes: &[u8]) -> Result<(), AllocError>
     requires { len ≤ length planned.old.items }
-    ensures ok { OnOk result (planned.new.items ≡ slice_range planned.old.items 0 len ++ bytes.now) }
+    ensures ok { OnOk result
+        (planned.new.items ≡ slice_range planned.old.items 0 len ++ bytes.now) }
     ensures err { OnErr result (planned.new.items ≡ planned.old.items) }
 {
     planned.reserve(bytes.len())?;

@@ -60,9 +60,33 @@ impl<D: Disk> Model for Slots<D> {
 
     ghost Value = { SlotsState D };
 
-    ghost view = { λ s. record { journal = s.journal; other = s.other; generation = s.generation; may_open = s.may_open; step = step_of s.held; text = slice_range s.planned.items 0 s.ended; head = s.head; left = s.head - s.done; coming = drop (s.ended + 1) s.planned.items } };
+    ghost view = { λ s. record {
+      journal = s.journal;
+      other = s.other;
+      generation = s.generation;
+      may_open = s.may_open;
+      step = step_of s.held;
+      text = slice_range s.planned.items 0 s.ended;
+      head = s.head;
+      left = s.head - s.done;
+      coming = drop (s.ended + 1) s.planned.items;
+    } };
 
-    ghost invariant = { λ s. IsKept D.honest D.bytes D.unsynced (record { journal = s.journal; other = s.other; generation = s.generation; may_open = s.may_open; step = step_of s.held; text = slice_range s.planned.items 0 s.ended; head = s.head; left = s.head - s.done; coming = drop (s.ended + 1) s.planned.items }) s.may_open (slice_range s.planned.items 0 (s.ended + 1)) s.done × IsHeld D.honest D.moment s.journal s.other.start s.held × IsWithin s.planned.items s.ended s.head s.done };
+    ghost invariant = { λ s. IsKept D.honest D.bytes D.unsynced
+        (record {
+          journal = s.journal;
+          other = s.other;
+          generation = s.generation;
+          may_open = s.may_open;
+          step = step_of s.held;
+          text = slice_range s.planned.items 0 s.ended;
+          head = s.head;
+          left = s.head - s.done;
+          coming = drop (s.ended + 1) s.planned.items;
+        })
+        s.may_open (slice_range s.planned.items 0 (s.ended + 1)) s.done
+        × IsHeld D.honest D.moment s.journal s.other.start s.held
+        × IsWithin s.planned.items s.ended s.head s.done };
 }
 
 impl<D: Disk> Slots<D> {
@@ -75,11 +99,17 @@ impl<D: Disk> Slots<D> {
         may_open: bool,
     ) -> Slots<D>
         requires apart { (journal.slot.stop ≤ other.start) ⊎ (other.stop ≤ journal.slot.start) }
-        requires wide { (other.start + VERSION_PLACE ≤ other.stop) × (journal.slot.start + VERSION_PLACE ≤ journal.slot.stop) }
+        requires wide { (other.start + VERSION_PLACE ≤ other.stop)
+            × (journal.slot.start + VERSION_PLACE ≤ journal.slot.stop) }
         requires front { IsFrontOf generation journal.front }
         requires live { journal.phase ≢ Failed }
-        requires beaten { D.honest journal.disk → IsBeaten may_open other.start generation (D.unsynced journal.disk) }
-        ensures same { (result.journal ≡ journal) × (result.other ≡ other) × (result.generation ≡ generation) × (result.may_open ≡ may_open) × (result.step ≡ Begin) }
+        requires beaten { D.honest journal.disk →
+            IsBeaten may_open other.start generation (D.unsynced journal.disk) }
+        ensures same { (result.journal ≡ journal)
+            × (result.other ≡ other)
+            × (result.generation ≡ generation)
+            × (result.may_open ≡ may_open)
+            × (result.step ≡ Begin) }
     {
         let _phase = journal.phase();
         Slots {
@@ -152,17 +182,26 @@ impl<D: Disk> Slots<D> {
         )
     }
 
-    /// Begins a compaction that is to leave this image of that revision in the other slot, under the next generation. A body on its way
-    /// is kept ready to go behind it. It makes no call of the disk; where memory runs out all stays as it was.
+    /// Begins a compaction that is to leave this image of that revision in the other slot, under
+    /// the next generation. A body on its way is kept ready to go behind it. It makes no call of
+    /// the disk; where memory runs out all stays as it was.
     pub fn begin(&mut self, alloc: Global, base: u64, image: &[u8]) -> Result<(), AllocError>
         requires step { self.old.step ≡ Begin }
         requires live { self.old.journal.phase ≢ Failed }
         requires next { self.old.generation + 1 < 2 ^ 64 }
         requires short { length image.now < 2 ^ 32 }
-        requires fits { self.old.other.start + IMAGE_PLACE + length image.now < self.old.other.stop }
-        ensures same { (self.new.journal ≡ self.old.journal) × (self.new.other ≡ self.old.other) × (self.new.generation ≡ self.old.generation) × (self.new.may_open ≡ self.old.may_open) }
-        ensures text { OnOk result ((self.new.text ≡ head_text (self.old.generation + 1) base image.now) × (self.new.head ≡ IMAGE_PLACE + length image.now) × (self.new.left + 1 ≡ self.new.head)) }
-        ensures ready { OnOk result (IsOnWay self.old.journal.phase → self.new.coming ≡ with_gate self.old.journal.staged) }
+        requires fits { self.old.other.start + IMAGE_PLACE + length image.now
+            < self.old.other.stop }
+        ensures same { (self.new.journal ≡ self.old.journal)
+            × (self.new.other ≡ self.old.other)
+            × (self.new.generation ≡ self.old.generation)
+            × (self.new.may_open ≡ self.old.may_open) }
+        ensures text { OnOk result
+            ((self.new.text ≡ head_text (self.old.generation + 1) base image.now)
+            × (self.new.head ≡ IMAGE_PLACE + length image.now)
+            × (self.new.left + 1 ≡ self.new.head)) }
+        ensures ready { OnOk result (IsOnWay self.old.journal.phase →
+            self.new.coming ≡ with_gate self.old.journal.staged) }
         ensures err { OnErr result (self.new ≡ self.old) }
         ensures step { OnOk result (self.new.step ≡ Close) × OnErr result (self.new.step ≡ Begin) }
     {
