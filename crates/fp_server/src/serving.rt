@@ -1,10 +1,11 @@
 //! A store over sockets, from its opening to its end.
 
 ghost use Rattle.std.specs.Prelude.{◌≡◌, ◌<◌, ◌^◌, ◌++◌, ◌∷◌, []};
-ghost use Rattle.std.specs.Prelude.{IfOk, IfErr, IfSome, None};
+ghost use Rattle.std.specs.Prelude.{IfOk, IfErr, IfSome, OnOk, None};
 ghost use Rattle.fp_commands.specs.declared.fault.CommandFault.TheVariants.{Memory};
 ghost use Rattle.fp_files.specs.Openings.{KeepsOthers};
 ghost use Rattle.fp_group_commit.specs.Store.{IsAtRest};
+ghost use Rattle.fp_server.specs.Ends.{EndsBadly, EndsWell, SaysWhere};
 
 use crate::host::Host;
 use crate::listening::Listening;
@@ -15,7 +16,7 @@ use fp_files::DiskFiles;
 use fp_group_commit::{Opening, Store};
 use fp_plane::{Naming, OwnStore, Plane, flusher};
 use fp_publish::{MOST_EVALUATORS, MOST_SEATS};
-use fp_streams::FailureCounted;
+use fp_streams::{FailureCounted, StreamFault};
 use std::io::{Read, Write};
 use std::marker::Brand;
 use std::net::{Shutdown, SocketAddrV4, TcpListener};
@@ -116,19 +117,23 @@ impl<R: Host> Services<R> {
         D: Disk + Drop + Send + 'static,
         I: Read,
         O: Write,
+        ensures said { OnOk result (SaysWhere (O.contents w.old.inner) (O.contents w.new.inner)) }
     {
         if self.start(listeners, plane).is_err() {
             return Err(CommandFault::Device);
         }
+        self.say_where(w)?;
+        await_end(r)?;
+        Ok(())
+    }
+
+    // Says where connections are let in.
+    fn say_where<O: Write>(&self, w: &mut FailureCounted<O>) -> Result<(), StreamFault>
+        ensures said { OnOk result (SaysWhere (O.contents w.old.inner) (O.contents w.new.inner)) }
+    {
         w.say(&format_args!("ofrep {}", self.ofrep.bound()))?;
         w.say(&format_args!("edit {}", self.edit.bound()))?;
         w.say(&format_args!("stream {}", self.stream.bound()))?;
-        let mut bytes = [0; 512];
-        for _ in 0..u64::MAX {
-            if r.read(&mut bytes)? == 0 {
-                break;
-            }
-        }
         Ok(())
     }
 
@@ -145,6 +150,17 @@ impl<R: Host> Services<R> {
             }
         }
     }
+}
+
+// Reads an input to its end.
+fn await_end<I: Read>(r: &mut FailureCounted<I>) -> Result<(), StreamFault> {
+    let mut bytes = [0; 512];
+    for _ in 0..u64::MAX {
+        if r.read(&mut bytes)? == 0 {
+            break;
+        }
+    }
+    Ok(())
 }
 
 /// Serves the file at this path to editors, evaluators and subscribers, until the input ends. Then
@@ -164,6 +180,9 @@ where
     F::Disk: Drop + Send + 'static,
     I: Read,
     O: Write,
+    ensures ok { OnOk result (EndsWell F.DiskFiles F.Disk.Disk files.old files.new path.now
+        (O.contents w.old.inner) (O.contents w.new.inner)) }
+    ensures err { IfErr result (EndsBadly F.DiskFiles F.Disk.Disk files.old files.new path.now) }
     ensures asked { F.asked files.new ≡ F.asked files.old ++ path.now ∷ [] }
     ensures others { KeepsOthers F.at files.old files.new path.now }
 {
@@ -219,6 +238,7 @@ where
     ensures rest { IfOk result IsAtRest }
     ensures given_back { IfErr result (λ e. IfSome e.1 (λ s. s.store ≡ store.store)) }
     ensures lost { IfErr result (λ e. e.1 ≡ None → e.0 ≡ Memory) }
+    ensures said { OnOk result (SaysWhere (O.contents w.old.inner) (O.contents w.new.inner)) }
 {
     serve_named::<Brand, D, R, I, O>(rt, store, opening, listeners, r, w)
 }
@@ -245,6 +265,7 @@ where
     ensures rest { IfOk result IsAtRest }
     ensures given_back { IfErr result (λ e. IfSome e.1 (λ s. s.store ≡ K.store)) }
     ensures lost { IfErr result (λ e. e.1 ≡ None → e.0 ≡ Memory) }
+    ensures said { OnOk result (SaysWhere (O.contents w.old.inner) (O.contents w.new.inner)) }
 {
     let plane: Plane<K, D, R> = match Plane::new(*rt, rt.alloc(), opening) {
         Ok(plane) => plane,
@@ -292,6 +313,7 @@ where
     ensures rest { IfOk result IsAtRest }
     ensures given_back { IfErr result (λ e. IfSome e.1 (λ s. s.store ≡ K.store)) }
     ensures lost { IfErr result (λ e. e.1 ≡ None → e.0 ≡ Memory) }
+    ensures said { OnOk result (SaysWhere (O.contents w.old.inner) (O.contents w.new.inner)) }
 {
     let Ok(services) = Services::of(rt, &listeners) else {
         return Err((CommandFault::Device, Some(stopped(last))));

@@ -1,0 +1,80 @@
+-- How a service ends, of what its store is.
+use Rattle.std.proofs.Common.{◌≡◌, ◌⊎◌, ◌+◌, ℕ, List, ◌++◌, length, Result, Ok, Err, IfErr, inl, inr, ap, subst, ◌∙◌}
+use Rattle.std.specs.Prelude.{Option, Some, codes, decimal}
+use Rattle.std.specs.Net.Text.{socket_text}
+use Rattle.std.specs.declared.net.socket_addr.SocketAddr.{SocketAddr}
+use Rattle.fp_base.proofs.Known.{Appends-more}
+use Rattle.fp_commands.specs.declared.fault.CommandFault.{CommandFault}
+use Rattle.fp_disk.specs.Crashes.{EachCrash}
+use Rattle.fp_disk.specs.declared.disk.Disk.{Ghosts as DiskGhosts}
+use Rattle.fp_edit.specs.Log.{after_all}
+use Rattle.fp_files.specs.declared.files.DiskFiles.{Ghosts as FileGhosts}
+use Rattle.fp_group_commit.specs.Store.{Leaves, StoreState, coming, kept}
+use Rattle.fp_group_commit.specs.Tokens.{Identity}
+use Rattle.fp_journal.specs.declared.journal.Phase.TheVariants.{Idle}
+use Rattle.fp_recovery.specs.Stands.{StandsFor}
+use Rattle.fp_streams.specs.Said.{AppendsLine}
+use Rattle.fp_server.specs.Ends.{BreaksOff, EndsBadly, EndsWell, IsBack, SaysAll, SaysWhere, broken_off, line, where_text}
+
+pub says_where : (a b c d : Option (List ℕ)) (x y z : SocketAddr) → AppendsLine a b (codes "ofrep " ++ socket_text x) → AppendsLine b c (codes "edit " ++ socket_text y) → AppendsLine c d (codes "stream " ++ socket_text z) → SaysWhere a d
+says_where a b c d x y z p q r =
+    let first = line (codes "ofrep " ++ socket_text x) in
+    let second = line (codes "edit " ++ socket_text y) in
+    let third = line (codes "stream " ++ socket_text z) in
+    record {
+      ofrep = x;
+      edit = y;
+      stream = z;
+      text = Appends-more a c d (first ++ second) third (Appends-more a b c first second p q) r;
+    }
+
+pub says_all : (revision : ℕ) (before held after : Option (List ℕ)) → SaysWhere before held → AppendsLine held after (codes "stopped at revision " ++ decimal revision) → SaysAll revision before after
+says_all revision before held after p q = record {
+  ofrep = p.ofrep;
+  edit = p.edit;
+  stream = p.stream;
+  text = Appends-more before held after (where_text p.ofrep p.edit p.stream) (line (codes "stopped at revision " ++ decimal revision)) p.text q;
+}
+
+-- whatever the fault is
+pub if_err : {A E : Type 0} {P : E → Type 0} (r : Result A E) → ((e : E) → P e) → IfErr r P
+if_err (Ok _) p = tt
+if_err (Err e) p = p e
+
+-- with nothing on its way, what a crash leaves is what is kept
+kept_alone : {D : Type 0} (s : StoreState D) (c : List ℕ) → s.step ≡ Idle → Leaves s c → StandsFor c (kept s)
+kept_alone s c idle (inl stands) = stands
+kept_alone s c idle (inr begun) = absurd (begun.0 idle)
+
+-- and else perhaps with the batch on its way
+either : {D : Type 0} (s : StoreState D) (c : List ℕ) → Leaves s c → StandsFor c (kept s) ⊎ StandsFor c (coming s)
+either s c (inl stands) = inl stands
+either s c (inr begun) = inr begun.2
+
+module _ {F D : Type 0} (files : FileGhosts F D) (disk : DiskGhosts D) (old new : F) (path : List ℕ) (before after : D) (t s : StoreState D)
+    (found : files.at old path ≡ Some before) (stands : disk.honest before → StandsFor (disk.bytes before) t.store.start) (same : s.store ≡ t.store)
+    (leaves : EachCrash disk after (Leaves s)) (back : IsBack files disk new path after) where
+  pub ends_well : (said held : Option (List ℕ)) → s.step ≡ Idle → (revision : ℕ) → revision ≡ s.store.start.revision + length s.sealed → SaysAll revision said held → EndsWell files disk old new path said held
+  ends_well said held idle revision is told = record {
+    start = t.store.start;
+    edits = s.sealed;
+    after = after;
+    opened = record { before = before; found = found; stands = stands };
+    back = back;
+    keeps = λ h c o. subst (λ (i : Identity). StandsFor c (after_all i.start s.sealed)) same (kept_alone s c idle (leaves h c o));
+    told = subst (λ n. SaysAll n said held) (is ∙ ap (λ (i : Identity). i.start.revision + length s.sealed) same) told;
+  }
+
+  breaks_off : BreaksOff files disk old new path
+  breaks_off = record {
+    start = t.store.start;
+    edits = s.sealed;
+    last = s.staged;
+    after = after;
+    opened = record { before = before; found = found; stands = stands };
+    back = back;
+    keeps = λ h c o. subst (λ (i : Identity). StandsFor c (after_all i.start s.sealed) ⊎ StandsFor c (after_all i.start (s.sealed ++ s.staged))) same (either s c (leaves h c o));
+  }
+
+  pub ends_broken : (f : CommandFault) → EndsBadly files disk old new path f
+  ends_broken f = broken_off breaks_off

@@ -1,0 +1,94 @@
+-- How a service leaves its file, and what it says.
+use Rattle.std.specs.Prelude.{◌≡◌, ◌⊎◌, ◌+◌, ℕ, List, [], ◌∷◌, ◌++◌, length, codes, decimal}
+use Rattle.std.specs.Prelude.{Option, Some}
+use Rattle.std.specs.Io.KnownBytes.{Appends}
+use Rattle.std.specs.Net.Text.{socket_text}
+use Rattle.std.specs.declared.net.socket_addr.SocketAddr.{SocketAddr}
+use Rattle.fp_disk.specs.Crashes.{EachCrash}
+use Rattle.fp_disk.specs.declared.disk.Disk.{Ghosts as DiskGhosts}
+use Rattle.fp_edit.specs.Edits.{Change}
+use Rattle.fp_edit.specs.Flags.{State}
+use Rattle.fp_edit.specs.Log.{after_all}
+use Rattle.fp_commands.specs.declared.fault.CommandFault.{CommandFault}
+use Rattle.fp_commands.specs.declared.fault.CommandFault.TheVariants.{Memory}
+use Rattle.fp_files.specs.Openings.{KeepsAll}
+use Rattle.fp_files.specs.declared.files.DiskFiles.{Ghosts as FileGhosts}
+use Rattle.fp_recovery.specs.Stands.{StandsFor}
+
+-- ---- what it says
+
+abbrev pub line : List ℕ → List ℕ
+line text = text ++ 10 ∷ []
+
+-- where it listens, each address on a line behind its name
+abbrev pub where_text : (ofrep edit stream : SocketAddr) → List ℕ
+where_text ofrep edit stream = line (codes "ofrep " ++ socket_text ofrep)
+    ++ line (codes "edit " ++ socket_text edit) ++ line (codes "stream " ++ socket_text stream)
+
+pub record SaysWhere (before held : Option (List ℕ)) : Type 0 where
+  pub ofrep : SocketAddr
+  pub edit : SocketAddr
+  pub stream : SocketAddr
+  pub text : Appends before held (where_text ofrep edit stream)
+
+-- and at its end the revision
+pub record SaysAll (revision : ℕ) (before held : Option (List ℕ)) : Type 0 where
+  pub ofrep : SocketAddr
+  pub edit : SocketAddr
+  pub stream : SocketAddr
+  pub text : Appends before held (where_text ofrep edit stream
+      ++ line (codes "stopped at revision " ++ decimal revision))
+
+-- ---- its file
+
+-- the disk at the path held these flags
+pub record Opens {F D : Type 0} (files : FileGhosts F D) (disk : DiskGhosts D) (old : F)
+    (path : List ℕ) (start : State) : Type 0 where
+  pub before : D
+  pub found : files.at old path ≡ Some before
+  pub stands : disk.honest before → StandsFor (disk.bytes before) start
+
+-- it stands there again as this one
+abbrev pub IsBack : {F D : Type 0} → FileGhosts F D → DiskGhosts D → F → List ℕ → D → Type 0
+IsBack files disk new path after = disk.honest after → files.at new path ≡ Some after
+
+-- It ended well: whatever a crash leaves of the disk at the path stands for the flags that it held
+-- and some edits, and the revision that these make was told
+pub record EndsWell {F D : Type 0} (files : FileGhosts F D) (disk : DiskGhosts D) (old new : F)
+    (path : List ℕ) (before held : Option (List ℕ)) : Type 0 where
+  pub start : State
+  pub edits : List Change
+  pub after : D
+  pub opened : Opens files disk old path start
+  pub back : IsBack files disk new path after
+  pub keeps : EachCrash disk after (λ c. StandsFor c (after_all start edits))
+  pub told : SaysAll (start.revision + length edits) before held
+
+-- it was broken off: of a last batch of edits nothing is known
+pub record BreaksOff {F D : Type 0} (files : FileGhosts F D) (disk : DiskGhosts D) (old new : F)
+    (path : List ℕ) : Type 0 where
+  pub start : State
+  pub edits : List Change
+  pub last : List Change
+  pub after : D
+  pub opened : Opens files disk old path start
+  pub back : IsBack files disk new path after
+  pub keeps : EachCrash disk after (λ c. StandsFor c (after_all start edits)
+      ⊎ StandsFor c (after_all start (edits ++ last)))
+
+-- the disk at the path wasn't one to serve, and has the bytes that it had
+pub record IsUnserved {F D : Type 0} (files : FileGhosts F D) (disk : DiskGhosts D) (old new : F)
+    (path : List ℕ) : Type 0 where
+  pub before : D
+  pub after : D
+  pub found : files.at old path ≡ Some before
+  pub back : IsBack files disk new path after
+  pub same : disk.honest before → disk.bytes after ≡ disk.bytes before
+
+-- it ended by a fault; the disk is lost only where memory was wanting for a thread
+pub data EndsBadly {F D : Type 0} (files : FileGhosts F D) (disk : DiskGhosts D) (old new : F)
+    (path : List ℕ) (f : CommandFault) : Type 0 where
+  not_opened : KeepsAll files.at old new → EndsBadly files disk old new path f
+  unserved : IsUnserved files disk old new path → EndsBadly files disk old new path f
+  broken_off : BreaksOff files disk old new path → EndsBadly files disk old new path f
+  lost : f ≡ Memory → EndsBadly files disk old new path f
