@@ -1,8 +1,8 @@
 pub mod Faults
 pub mod Key
-pub mod Kept
 pub mod Kinds
 pub mod Valid
 pub mod Resolving
 pub mod Outcome
 pub mod Targeting
+pub mod Kept

@@ -1,6 +1,7 @@
 //! A flag's definition.
 
-ghost use Rattle.std.specs.Prelude.{◌≡◌, true, Some, None, IfOk, IfErr, IfSome, if◌then◌else◌};
+ghost use Rattle.std.specs.Prelude.{◌≡◌, ◌≢◌, true, Some, None, IfOk, IfErr, IfSome};
+ghost use Rattle.std.specs.Prelude.{if◌then◌else◌};
 ghost use Rattle.std.specs.Prelude.{codes, option_map};
 ghost use Rattle.serde_json.specs.Find.{get};
 ghost use Rattle.serde_json.specs.View.{view};
@@ -15,7 +16,7 @@ ghost use Rattle.fp_definition.specs.Valid.{first_fault, IsValid, is_definition_
 ghost use Rattle.fp_definition.specs.Valid.{definition_in, is_text_of};
 
 use crate::faults::DefFault;
-use crate::members::tested_members;
+use crate::members::{tested_members, without};
 use fp_base::{canonical_text_within, nests_within, read_json, whole_numbers};
 use fp_targeting::Rule;
 use serde_json::Value;
@@ -29,14 +30,17 @@ pub const DEEPEST_DEFINITION: u32 = 32;
 /// The most bytes that a definition's canonical text has.
 pub const LONGEST_DEFINITION: usize = 16_384;
 
+// What all shares have in common: the canonical text, the value that it spells but for its
+// `targeting`, and the rule that this is.
 #[derive(Drop)]
 struct Kept {
     text: Vec<u8>,
-    value: Value,
+    rest: Value,
     rule: Option<Rule>,
 }
 
-/// A share of a definition. The value was tested and its text made once, for all shares.
+/// A share of a definition. It was tested, its text made and its rule compiled once, for all
+/// shares.
 #[derive(Drop)]
 pub struct Definition {
     share: Arc<Kept, Global>,
@@ -63,7 +67,8 @@ impl Definition {
         ensures refused { IfErr result (IsFirst Tells (first_fault (view value))) }
     {
         let (text, rule) = tested_parts(alloc, &value)?;
-        let share = Arc::new(alloc, Kept { text, value, rule })?;
+        let rest = without(value, "targeting");
+        let share = Arc::new(alloc, Kept { text, rest, rule })?;
         Ok(Definition { share })
     }
 
@@ -85,32 +90,29 @@ impl Definition {
         self.share.text.as_slice()
     }
 
-    /// The value that the text spells.
-    pub fn value(&self) -> &Value
-        ensures reads { json_of self.now ≡ Some (view result.now) }
-        ensures text { self.now ≡ compact_text (view result.now) }
-        ensures valid { IsValid (view result.now) }
-        ensures whole { is_whole (view result.now) ≡ true }
-    {
-        &self.share.value
-    }
-
     /// The member `metadata`.
     pub fn metadata(&self) -> Option<&Value>
         ensures value { option_map (λ m. view m.now) result
             ≡ get (codes "metadata") (data_of self.now) }
         ensures whole { IfSome result (λ m. is_whole (view m.now) ≡ true) }
     {
-        self.value().get("metadata")
+        self.member("metadata")
     }
 
-    // The value, and the rule of its `targeting`, compiled when the definition was made.
-    pub(crate) fn value_and_rule(&self) -> (&Value, &Option<Rule>)
-        ensures value { (json_of self.now ≡ Some (view result.0.now))
-            × (is_whole (view result.0.now) ≡ true) }
-        ensures rule { result.1.now ≡ rule_in (get (codes "targeting") (view result.0.now)) }
+    // The member of this name.
+    pub(crate) fn member(&self, name: &str) -> Option<&Value>
+        requires kept { name.now ≢ codes "targeting" }
+        ensures value { option_map (λ m. view m.now) result ≡ get name.now (data_of self.now) }
+        ensures whole { IfSome result (λ m. is_whole (view m.now) ≡ true) }
     {
-        (&self.share.value, &self.share.rule)
+        self.share.rest.get(name)
+    }
+
+    // The rule of the member `targeting`.
+    pub(crate) fn rule(&self) -> &Option<Rule>
+        ensures { result.now ≡ rule_in (get (codes "targeting") (data_of self.now)) }
+    {
+        &self.share.rule
     }
 
     /// Another share of the same definition.

@@ -1,12 +1,14 @@
 //! The tests that each member of a definition has to meet.
 
-ghost use Rattle.std.specs.Prelude.{◌≡◌, codes, None, IfOk, IfErr};
+ghost use Rattle.std.specs.Prelude.{◌≡◌, codes, true, None, IfOk, IfErr};
 ghost use Rattle.serde_json.specs.Events.{members_len};
 ghost use Rattle.serde_json.specs.Find.{get};
 ghost use Rattle.serde_json.specs.View.{view, members_view};
 ghost use Rattle.fp_base.specs.Answer.{IsFirst};
 ghost use Rattle.fp_base.specs.Tests.{first_failed};
+ghost use Rattle.fp_base.specs.Whole.{is_whole, members_whole};
 ghost use Rattle.fp_definition.specs.Faults.{Tells};
+ghost use Rattle.fp_definition.specs.Kept.{HasAllBut, HasAllMembersBut};
 ghost use Rattle.fp_definition.specs.Targeting.{rule_in};
 ghost use Rattle.fp_definition.specs.Valid.{member_tests, is_state, are_variants, variant_members};
 ghost use Rattle.fp_definition.specs.Valid.{is_between, names_variant, is_metadata};
@@ -114,4 +116,27 @@ pub(crate) fn count_of(members: &Map<String, Value>) -> usize
     ensures { result ≡ members_len (members_view members.now.entries) }
 {
     members.len()
+}
+
+// The value without its member of this name.
+pub(crate) fn without(value: Value, name: &str) -> Value
+    ensures others { HasAllBut name.now (view value) (view result) }
+    ensures whole { is_whole (view value) ≡ true → is_whole (view result) ≡ true }
+{
+    match value {
+        Value::Object(mut members) => {
+            leave_out(&mut members, name);
+            Value::Object(members)
+        }
+        other => other,
+    }
+}
+
+fn leave_out(members: &mut Map<String, Value>, name: &str)
+    ensures others { HasAllMembersBut name.now
+        (members_view members.old.entries) (members_view members.new.entries) }
+    ensures whole { members_whole (members_view members.old.entries) ≡ true
+        → members_whole (members_view members.new.entries) ≡ true }
+{
+    let _ = members.remove(name);
 }

@@ -85,15 +85,14 @@ impl Definition {
             (outcome_of (data_of self.now) (key_bytes key.now) (view context.now) now) }
         ensures printable { IfOk result (λ r. is_whole (view r.value.now) ≡ true) }
     {
-        let (value, rule) = self.value_and_rule();
-        if is_disabled_in(value) {
+        if self.is_disabled() {
             return Err(EvalFault::Disabled);
         }
-        match rule {
-            None => default_of(value, Reason::Static),
+        match self.rule() {
+            None => self.default_of(Reason::Static),
             Some(rule) => {
                 let data = Data::new(alloc, context, key.as_str(), now)?;
-                by_rule(alloc, value, rule, &data)
+                self.by_rule(alloc, rule, &data)
             }
         }
     }
@@ -117,15 +116,14 @@ impl Definition {
             → IsOfContext context now «data».new }
         ensures printable { IfOk result (λ r. is_whole (view r.value.now) ≡ true) }
     {
-        let (value, rule) = self.value_and_rule();
-        if is_disabled_in(value) {
+        if self.is_disabled() {
             return Err(EvalFault::Disabled);
         }
-        let Some(rule) = rule else {
-            return default_of(value, Reason::Static);
+        let Some(rule) = self.rule() else {
+            return self.default_of(Reason::Static);
         };
         data.set_flag(alloc, key.as_str())?;
-        by_rule(alloc, value, rule, data)
+        self.by_rule(alloc, rule, data)
     }
 
     /// Exactly one outcome, whatever the key, the context and the moment, which `resolve` answers
@@ -135,8 +133,65 @@ impl Definition {
             → Resolves (data_of self.now) key context now outcome
             ↔ (outcome ≡ outcome_of (data_of self.now) key context now) }
     {
-        let (_, rule) = self.value_and_rule();
-        rule_has_one_result(rule);
+        rule_has_one_result(self.rule());
+    }
+
+    fn is_disabled(&self) -> bool
+        ensures { result ≡ is_disabled (get (codes "state") (data_of self.now)) }
+    {
+        match self.member("state") {
+            Some(Value::String(text)) => text.as_str() == "DISABLED",
+            _ => false,
+        }
+    }
+
+    fn by_rule(&self, alloc: Global, rule: &Rule, data: &Data) -> Result<Resolved<'_>, EvalFault>
+        ensures resolves { Answers said_by Tells result (λ outcome.
+            (x : values.Data) × Means rule.now «data».now x
+            × (outcome ≡ by_result (data_of self.now) x)) }
+        ensures computed { Gives said_by Tells result
+            (by_result (data_of self.now) (meaning «data».now rule.now)) }
+        ensures printable { IfOk result (λ r. is_whole (view r.value.now) ≡ true) }
+    {
+        let given = rule.eval(alloc, data)?;
+        self.named_by(&given)
+    }
+
+    // The variant that a rule's result names.
+    fn named_by(&self, given: &Datum) -> Result<Resolved<'_>, EvalFault>
+        ensures resolves { Gives said_by TellsItself result
+            (by_result (data_of self.now) (datum_view given.now)) }
+        ensures printable { IfOk result (λ r. is_whole (view r.value.now) ≡ true) }
+    {
+        match given {
+            Datum::Null => self.default_of(Reason::Default),
+            Datum::Text(name) => self.variant_named(name.as_str(), Reason::TargetingMatch),
+            Datum::Bool(true) => self.variant_named("true", Reason::TargetingMatch),
+            Datum::Bool(false) => self.variant_named("false", Reason::TargetingMatch),
+            Datum::Whole(_) | Datum::List(_) | Datum::Object(_) => Err(EvalFault::NoVariant),
+        }
+    }
+
+    fn default_of(&self, reason: Reason) -> Result<Resolved<'_>, EvalFault>
+        ensures resolves { Gives said_by TellsItself result
+            (by_default reason (data_of self.now)) }
+        ensures printable { IfOk result (λ r. is_whole (view r.value.now) ≡ true) }
+    {
+        match self.member("defaultVariant") {
+            Some(Value::String(name)) => self.variant_named(name.as_str(), reason),
+            _ => Err(EvalFault::NoVariant),
+        }
+    }
+
+    fn variant_named(&self, name: &str, reason: Reason) -> Result<Resolved<'_>, EvalFault>
+        ensures resolves { Gives said_by TellsItself result
+            (named name.now reason (get (codes "variants") (data_of self.now))) }
+        ensures printable { IfOk result (λ r. is_whole (view r.value.now) ≡ true) }
+    {
+        match self.member("variants") {
+            Some(Value::Object(variants)) => variant_among(variants, name, reason),
+            _ => Err(EvalFault::NoVariant),
+        }
     }
 }
 
@@ -146,76 +201,6 @@ fn rule_has_one_result(rule: &Option<Rule>)
 {
     if let Some(rule) = rule {
         rule.one_result();
-    }
-}
-
-fn is_disabled_in(value: &Value) -> bool
-    ensures { result ≡ is_disabled (get (codes "state") (view value.now)) }
-{
-    match value.get("state") {
-        Some(Value::String(text)) => text.as_str() == "DISABLED",
-        _ => false,
-    }
-}
-
-fn by_rule<'d>(
-    alloc: Global,
-    value: &'d Value,
-    rule: &Rule,
-    data: &Data,
-) -> Result<Resolved<'d>, EvalFault>
-    ensures resolves { Answers said_by Tells result (λ outcome.
-        (x : values.Data) × Means rule.now «data».now x
-        × (outcome ≡ by_result (view value.now) x)) }
-    ensures computed { Gives said_by Tells result
-        (by_result (view value.now) (meaning «data».now rule.now)) }
-    ensures printable { is_whole (view value.now) ≡ true → IfOk result (λ r.
-        is_whole (view r.value.now) ≡ true) }
-{
-    let given = rule.eval(alloc, data)?;
-    named_by(value, &given)
-}
-
-// The variant that a rule's result names.
-fn named_by<'d>(value: &'d Value, given: &Datum) -> Result<Resolved<'d>, EvalFault>
-    ensures resolves { Gives said_by TellsItself result
-        (by_result (view value.now) (datum_view given.now)) }
-    ensures printable { is_whole (view value.now) ≡ true → IfOk result (λ r.
-        is_whole (view r.value.now) ≡ true) }
-{
-    match given {
-        Datum::Null => default_of(value, Reason::Default),
-        Datum::Text(name) => variant_named(value, name.as_str(), Reason::TargetingMatch),
-        Datum::Bool(true) => variant_named(value, "true", Reason::TargetingMatch),
-        Datum::Bool(false) => variant_named(value, "false", Reason::TargetingMatch),
-        Datum::Whole(_) | Datum::List(_) | Datum::Object(_) => Err(EvalFault::NoVariant),
-    }
-}
-
-fn default_of(value: &Value, reason: Reason) -> Result<Resolved<'_>, EvalFault>
-    ensures resolves { Gives said_by TellsItself result (by_default reason (view value.now)) }
-    ensures printable { is_whole (view value.now) ≡ true → IfOk result (λ r.
-        is_whole (view r.value.now) ≡ true) }
-{
-    match value.get("defaultVariant") {
-        Some(Value::String(name)) => variant_named(value, name.as_str(), reason),
-        _ => Err(EvalFault::NoVariant),
-    }
-}
-
-fn variant_named<'d>(
-    value: &'d Value,
-    name: &str,
-    reason: Reason,
-) -> Result<Resolved<'d>, EvalFault>
-    ensures resolves { Gives said_by TellsItself result
-        (named name.now reason (get (codes "variants") (view value.now))) }
-    ensures printable { is_whole (view value.now) ≡ true → IfOk result (λ r.
-        is_whole (view r.value.now) ≡ true) }
-{
-    match value.get("variants") {
-        Some(Value::Object(variants)) => variant_among(variants, name, reason),
-        _ => Err(EvalFault::NoVariant),
     }
 }
 
