@@ -9,6 +9,7 @@ use Rattle.std.proofs.option.Option.TheSendSync as option
 use Rattle.std.proofs.sync.Condvar.TheSendSync as condvar
 use Rattle.fp_disk.specs.declared.disk.Disk as disk
 use Rattle.fp_plane.proofs.Crossing.{desk_sent}
+use Rattle.fp_plane.proofs.bells.Bells.TheSendSync as bells
 use Rattle.fp_plane.proofs.PublishCrossing.{board_sent, evaluator_sent, seats_sent}
 use Rattle.fp_plane.proofs.StoreCrossing.{store_sent}
 use Rattle.fp_plane.specs.contracts.hall.Hall as hall
@@ -53,12 +54,12 @@ module _ (K D R : RattleType) (k : naming.Ghosts K.Denot) (d : disk.Ghosts D.Den
   shared_sent : IsSend (shared.the_row K D R k d)
   shared_sent = let T = shared.the_type K D R k d in
       recorded_send _ _ _ T.to_one (struct_send (shape T)
-      (search (sendable, sr) depth 5, (search (sendable, crosses, hall_sent) depth 10, (condvar.the_field_send, (condvar.the_field_send, tt)))))
+      (search (sendable, sr) depth 5, (search (sendable, crosses, hall_sent) depth 10, (condvar.the_field_send, (bells.the_field_send, (condvar.the_field_send, tt))))))
 
   shared_shared : IsSync R → IsSync (shared.the_row K D R k d)
   shared_shared yr = let T = shared.the_type K D R k d in
       recorded_sync _ _ _ T.to_one (struct_sync (shape T)
-      (search (sendable, yr) depth 5, (search (sendable, crosses, hall_sent) depth 10, (condvar.the_field_sync, (condvar.the_field_sync, tt)))))
+      (search (sendable, yr) depth 5, (search (sendable, crosses, hall_sent) depth 10, (condvar.the_field_sync, (bells.the_field_sync, (condvar.the_field_sync, tt))))))
 
   pub plane_sent : IsSync R → IsSend (plane.the_row K D R k d)
   plane_sent yr = let T = plane.the_type K D R k d in

@@ -103,21 +103,25 @@ impl<K: Naming, D: Disk + Drop, R: Wait + Clock + Drop> Plane<K, D, R> {
         unreachable!()
     }
 
-    // Settles a batch, shows it and tells all who wait.
+    // Settles a batch, shows it and tells those whose edits it has, and the subscribers.
     fn settle(&self, receipt: Receipt) -> Result<(), Broken>
         requires { receipt.store ≡ K.store }
     {
         let shared = &self.shared;
         let mut receipt = receipt;
+        let first = receipt.batch().first();
+        let count = receipt.batch().edits().len();
         for _ in shared.rt.forever() {
             let mut hall = shared.hall.lock(&shared.rt);
             match hall.settle(receipt) {
                 Ok(()) => {
                     let shown = hall.publish();
-                    shared.news.notify_all();
+
+                    // Who is woken wants the lock.
                     drop(hall);
-                    if shown.is_err() {
-                        self.publish();
+                    match shown {
+                        Ok(()) => self.tell(first, count),
+                        Err(_) => self.publish(),
                     }
                     return Ok(());
                 }
@@ -133,14 +137,26 @@ impl<K: Naming, D: Disk + Drop, R: Wait + Clock + Drop> Plane<K, D, R> {
         unreachable!()
     }
 
-    // Shows what is settled, as soon as there is memory for it.
+    // Wakes the editors of so many revisions, from the first on, and the subscribers.
+    fn tell(&self, first: u64, count: usize) {
+        self.shared.bells.ring(first, count);
+        self.shared.news.notify_all();
+    }
+
+    // Wakes all who wait for the flusher.
+    fn tell_all(&self) {
+        self.shared.bells.ring_all();
+        self.shared.news.notify_all();
+    }
+
+    // Shows what is settled, as soon as there is memory for it, and tells all.
     fn publish(&self) {
         let shared = &self.shared;
         for _ in shared.rt.forever() {
             pause(&shared.rt);
-            let mut hall = shared.hall.lock(&shared.rt);
-            if hall.publish().is_ok() {
-                shared.news.notify_all();
+            let shown = shared.hall.lock(&shared.rt).publish();
+            if shown.is_ok() {
+                self.tell_all();
                 return;
             }
         }
@@ -152,6 +168,6 @@ impl<K: Naming, D: Disk + Drop, R: Wait + Clock + Drop> Plane<K, D, R> {
         requires rest { OnOk ended (IsAtRest store) }
     {
         self.shared.hall.lock(&self.shared.rt).leave(store, ended);
-        self.shared.news.notify_all();
+        self.tell_all();
     }
 }

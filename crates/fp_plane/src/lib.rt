@@ -2,6 +2,7 @@
 #![tactic(auto)]
 
 mod answer;
+mod bells;
 mod editor;
 mod flushing;
 mod hall;

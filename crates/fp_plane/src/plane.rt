@@ -7,6 +7,7 @@ ghost use Rattle.fp_group_commit.specs.Tokens.{front_revision};
 ghost use Rattle.fp_publish.specs.Fronts.{Begins};
 ghost use Rattle.fp_publish.specs.Seats.{had_by};
 
+use crate::bells::Bells;
 use crate::hall::{EvaluatorsUsed, Hall};
 use crate::naming::Naming;
 use crate::sealing::Broken;
@@ -26,7 +27,9 @@ pub(crate) struct Shared<K: Naming, D: Disk + Drop, R: Wait + Drop> {
     pub(crate) hall: Mutex<Hall<K, D, R>>,
     // For the flusher: an edit waits, or the plane is to stop.
     pub(crate) work: Condvar,
-    // For all others: something was settled and shown, or the plane is over.
+    // For editors: the edit of a revision was settled and shown, or the plane is over.
+    pub(crate) bells: Bells,
+    // For subscribers, and for who stops the plane: something was shown, or the plane is over.
     pub(crate) news: Condvar,
 }
 
@@ -54,6 +57,7 @@ impl<K: Naming, D: Disk + Drop, R: Wait + Copy + Drop> Plane<K, D, R> {
             rt,
             hall: Mutex::new(hall),
             work: Condvar::new(),
+            bells: Bells::new(alloc)?,
             news: Condvar::new(),
         };
         Ok(Plane {
@@ -91,6 +95,7 @@ impl<K: Naming, D: Disk + Drop, R: Wait + Drop> Plane<K, D, R> {
         ensures shown { IfSome result (λ p. Begins p.0 p.1) }
     {
         let shared = &self.shared;
+        let bell = shared.bells.of(ticket.revision());
         let mut hall = shared.hall.lock(&shared.rt);
         for _ in shared.rt.forever() {
             if let Some(told) = hall.answer(&ticket) {
@@ -99,7 +104,7 @@ impl<K: Naming, D: Disk + Drop, R: Wait + Drop> Plane<K, D, R> {
             if hall.is_over() {
                 return None;
             }
-            hall = shared.news.wait(&shared.rt, hall);
+            hall = bell.wait(&shared.rt, hall);
         }
         unreachable!()
     }

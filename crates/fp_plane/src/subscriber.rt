@@ -120,11 +120,14 @@ impl<K: Naming, D: Disk + Drop, R: Wait + Clock + Drop> Plane<K, D, R> {
                 Ok(None) => {
                     let quiet = Duration::from_secs(1);
                     let (held, waited) = shared.news.wait_timeout(&shared.rt, hall, quiet);
-                    drop(held);
-                    if waited.timed_out() && has_left() {
-                        return None;
+                    hall = held;
+                    if waited.timed_out() {
+                        drop(hall);
+                        if has_left() {
+                            return None;
+                        }
+                        hall = shared.hall.lock(&shared.rt);
                     }
-                    hall = shared.hall.lock(&shared.rt);
                 }
                 Err(_) => {
                     drop(hall);

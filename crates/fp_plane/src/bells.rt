@@ -1,0 +1,46 @@
+//! Where editors wait until they are told of their edits.
+
+ghost use Rattle.std.specs.Prelude.{◌≡◌, vec_len};
+ghost use Rattle.fp_plane.specs.declared.bells.TheConstants.{BELLS};
+
+use std::alloc::{AllocError, Global};
+use std::sync::Condvar;
+
+// As many as a service lets editors in: their revisions follow one another, so one waits at each.
+const BELLS: usize = 32;
+
+/// A bell for each of a few revisions in turn, so that a batch wakes those whose edits it has and
+/// hardly anyone else.
+#[derive(Drop)]
+pub(crate) struct Bells {
+    bells: Vec<Condvar>,
+    ghost all: { vec_len bells ≡ BELLS },
+}
+
+impl Bells {
+    /// All bells. Nobody waits yet.
+    pub fn new(alloc: Global) -> Result<Bells, AllocError> {
+        let mut bells = Vec::with_capacity(alloc, BELLS)?;
+        for _ in 0..BELLS {
+            bells.push_reserved(Condvar::new());
+        }
+        Ok(Bells { bells })
+    }
+
+    /// The bell of a revision.
+    pub fn of(&self, revision: u64) -> &Condvar {
+        &self.bells[(revision % BELLS as u64) as usize]
+    }
+
+    /// Wakes who waits for one of so many revisions, from the first on.
+    pub fn ring(&self, first: u64, count: usize) {
+        for n in 0..count.min(BELLS) {
+            self.of(first.wrapping_add(n as u64)).notify_all();
+        }
+    }
+
+    /// Wakes all who wait.
+    pub fn ring_all(&self) {
+        self.ring(0, BELLS);
+    }
+}
