@@ -8,4 +8,5 @@ pub mod Texts
 pub mod One
 pub mod Refused
 pub mod OneFault
+pub mod FaultPlaces
 pub mod Recovered

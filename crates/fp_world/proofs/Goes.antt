@@ -2,23 +2,19 @@
 use Rattle.std.proofs.Common.{◌≡◌, ◌≢◌, ◌⊎◌, ◌<◌, ◌≤◌, ◌+◌, ◌-◌, ◌/◌, ℕ, Bool, true, false, List, [], ◌∷◌, ◌++◌, length, refl, sym, ap, ◌∙◌, inl, inr, arith, length-append}
 use Rattle.fp_disk.specs.History.{MakesSome}
 use Rattle.fp_disk.specs.declared.history.CallKind.{CallKind}
-use Rattle.fp_disk.specs.declared.history.CallKind.TheVariants.{Sync, Write}
-use Rattle.std.proofs.lemmas.List.{append-nil}
-use Rattle.fp_compaction.specs.Steps.{calls_of}
 use Rattle.fp_edit.specs.Edits.{Change, Proposal}
-use Rattle.fp_edit.specs.Flags.{State, size}
+use Rattle.fp_edit.specs.Flags.{State}
 use Rattle.fp_journal.specs.State.{room}
 use Rattle.fp_journal.specs.declared.journal.Phase.{Phase}
 use Rattle.fp_journal.specs.declared.journal.Phase.TheVariants.{Idle, Staged, BodySynced, GateOpened, Failed}
 use Rattle.fp_record.specs.Group.{Group}
-use Rattle.fp_group_commit.specs.Calls.{Breaks, Compacts, FailsBy, MovesTo, RefusesBy, SamePlace, SameRoom, StopsBy, TakesRoom}
+use Rattle.fp_group_commit.specs.Calls.{Breaks, FailsBy, MovesTo, RefusesBy, SamePlace, SameRoom, TakesRoom}
 use Rattle.fp_group_commit.specs.Changes.{HasRoom, batch_len}
 use Rattle.fp_slots.specs.declared.slots.Step.{Step}
-use Rattle.fp_slots.specs.declared.slots.Step.TheVariants.{Begin, Close, SyncClose, Part, Tail, SyncBody, Open, SyncOpen}
 use Rattle.fp_compaction.specs.Batches.{tail_of}
 use Rattle.std.specs.Prelude.{if◌then◌else◌, IsTrue, ◌↔◌}
 use Rattle.fp_edit.specs.Log.{after_all}
-use Rattle.fp_group_commit.specs.Store.{MayCompact, StoreState, coming, is_failed, kept, reached, reached_at}
+use Rattle.fp_group_commit.specs.Store.{StoreState, coming, is_failed, kept, reached, reached_at}
 use Rattle.fp_group_commit.specs.Tokens.{Identity, ReceiptState}
 use Rattle.fp_group_commit.specs.declared.fault.StoreFault.{StoreFault}
 use Rattle.fp_group_commit.specs.declared.fault.StoreFault.TheVariants as fault
@@ -31,13 +27,12 @@ use Rattle.fp_layout.specs.declared.fault.OpenFault.TheVariants as opening
 use Rattle.fp_recovery.specs.Refusals.{IsUnlessWanting}
 use Rattle.fp_recovery.specs.Stands.{StandsFor}
 use Rattle.fp_world.specs.declared.event.Answer.{Answer}
-use Rattle.fp_world.specs.declared.event.Event.TheVariants as event
 use Rattle.fp_world.specs.declared.event.Answer.TheVariants as answer
 use Rattle.fp_world.specs.declared.committer.Held.{Held}
 use Rattle.fp_world.specs.declared.committer.Held.TheVariants as held
-use Rattle.fp_world.specs.Commits.{Advances, CanStage, Commits, Compaction, IsAt, MayStep, Progress, Seals, Stages, StepsOn, Submits, is_flying, is_read, is_sealed, opened_set, sealed_edits, told_after}
+use Rattle.fp_world.specs.Commits.{Advances, CanStage, Commits, Compaction, IsAt, Progress, Seals, Stages, Submits, is_read, opened_set, told_after}
 use Rattle.fp_world.specs.Commits.{nothing_drawn, batch_drawn, batch_staged, body_synced, gate_opened, batch_sealed}
-use Rattle.fp_world.specs.Committer.{IsOut, MakesItsCall, MakesNoMore, MakesOne, RisesFor, compaction_of, in_flight_at, is_in_flight, progress_of}
+use Rattle.fp_world.specs.Committer.{IsOut, MakesOne, RisesFor, compaction_of, in_flight_at, is_in_flight, progress_of}
 
 -- machines are the same by their parts
 pub machine_is : (a b : Commits) → a.desk ≡ b.desk → a.progress ≡ b.progress → a.failed ≡ b.failed → a.most ≡ b.most → a.room ≡ b.room → a.told ≡ b.told → a.compaction ≡ b.compaction → a ≡ b
@@ -262,7 +257,7 @@ read_by BodySynced now more start few all air a b = a
 read_by GateOpened now more start few all air a b = b
 read_by Failed now more start few all air a b = absurd cc
 
-sealed_is : {D : Type 0} (s : StoreState D) (d : DeskState) (few : List Change) → d.store ≡ s.store → s.sealed ≡ few → kept s ≡ after_all d.store.start few
+pub sealed_is : {D : Type 0} (s : StoreState D) (d : DeskState) (few : List Change) → d.store ≡ s.store → s.sealed ≡ few → kept s ≡ after_all d.store.start few
 sealed_is s d few same is = ap (λ (l : List Change). after_all s.store.start l) is ∙ ap (λ (x : Identity). after_all x.start few) (sym same)
 
 pub reads_as : {D : Type 0} (s : StoreState D) (d : DeskState) (h : Held) (told : ℕ) → d.store ≡ s.store → IsOut h s d → reached s ≡ opened_set (At h s d told)
@@ -326,116 +321,3 @@ told_rises told (answer.Published n) = omega arith
 told_rises told (answer.Handed h) = omega arith
 told_rises told answer.Nothing = omega arith
 told_rises told (answer.Reply n r) = omega arith
-
--- ---- a compaction
-flying : (p : Phase) → is_in_flight p ≡ true → is_flying (in_flight_at p) ≡ true
-flying Idle air = absurd cc
-flying Staged air = refl
-flying BodySynced air = refl
-flying GateOpened air = refl
-flying Failed air = absurd cc
-
-idle_air : (p : Phase) → is_in_flight p ≡ true → p ≢ Idle
-idle_air p air e = let both : true ≡ false = sym air ∙ ap is_in_flight e in absurd cc
-
--- no batch is in flight exactly where the store has none
-pub still_now : {D : Type 0} (s : StoreState D) (d : DeskState) (h : Held) → IsOut h s d → s.step ≡ Idle → is_flying (progress_of h s.step) ≡ false
-still_now s d held.Nothing o idle = refl
-still_now s d (held.Drawn group) o idle = refl
-still_now s d held.InFlight o idle = absurd (idle_air s.step o.0 idle)
-still_now s d (held.Sealed receipt) o idle = refl
-
-pub still_then : {D : Type 0} (s : StoreState D) (d : DeskState) (h : Held) → IsOut h s d → is_flying (progress_of h s.step) ≡ false → s.step ≡ Idle
-still_then s d held.Nothing o still = o.0
-still_then s d (held.Drawn group) o still = o.0
-still_then s d held.InFlight o still = let both : true ≡ false = sym (flying s.step o.0) ∙ still in absurd cc
-still_then s d (held.Sealed receipt) o still = o.0
-
-pub may_step : {D : Type 0} (h : Held) (s : StoreState D) (d : DeskState) (told : ℕ) → IsOut h s d → MayCompact s → MayStep (At h s d told)
-may_step h s d told o may = (may.next, λ at. still_now s d h o (may.still at))
-
-pub may_compact : {D : Type 0} (h : Held) (s : StoreState D) (d : DeskState) (told : ℕ) → IsOut h s d → MayStep (At h s d told) → MayCompact s
-may_compact h s d told o may = record { next = may.0; still = λ at. still_then s d h o (may.1 at) }
-
-air_not_sealed_yet : (p : Phase) → is_sealed (in_flight_at p) ≡ false
-air_not_sealed_yet Idle = refl
-air_not_sealed_yet Staged = refl
-air_not_sealed_yet BodySynced = refl
-air_not_sealed_yet GateOpened = refl
-air_not_sealed_yet Failed = refl
-
--- what the store keeps is what the machine says is sealed
-pub kept_is : {D : Type 0} (h : Held) (s : StoreState D) (d : DeskState) (told : ℕ) → d.store ≡ s.store → IsOut h s d → kept s ≡ after_all d.store.start (sealed_edits (At h s d told))
-kept_is held.Nothing s d told same o = sealed_is s d d.settled same o.1
-kept_is (held.Drawn group) s d told same o = sealed_is s d d.settled same o.1
-kept_is held.InFlight s d told same o = sealed_is s d d.settled same o.1 ∙ ap (λ (b : Bool). after_all d.store.start (if b then d.settled ++ d.drawn else d.settled)) (sym (air_not_sealed_yet s.step))
-kept_is (held.Sealed receipt) s d told same o = sealed_is s d (d.settled ++ d.drawn) same o.1
-
-pub compacts : {D : Type 0} (faults : D → ℕ) (h : Held) (s n : StoreState D) (d : DeskState) (told : ℕ) (next : Step) → d.store ≡ s.store → IsOut h s d → MayCompact s → Compacts faults s n → n.step ≡ s.step → next ≡ n.slots.step → StepsOn (At h s d told) (answer.Phase next) (At h n d told)
-compacts faults h s n d told next same o may c step is =
-    let well = is_well s.slots.journal.phase c.well_before in (
-      well,
-      may_step h s d told o may,
-      record {
-        next = c.next;
-        begun = λ at. (let plans = c.begun at in let left = plans.left in let head = plans.head in let image = ap (λ (t : State). size t.flags) (kept_is h s d told same o) in let text = plans.text in (omega (arith, left, head, image), omega (arith, text)));
-        left = c.left;
-        tail = c.tail_stays;
-        stays = λ on. ((c.slots_stay on).1, c.room_stays on);
-        turns = λ at. (c.slots_turn at).1;
-        rest = machine_is (At h n d told) (record (At h s d told) { room = room n.slots.journal; compaction = compaction_of n }) refl (ap (λ (p : Phase). progress_of h p) step) (is_well n.slots.journal.phase c.well_now ∙ sym well) c.most refl refl refl;
-      },
-      is,
-    )
-
-pub stops : {D : Type 0} (faults : D → ℕ) (e : StoreFault) (h : Held) (s n : StoreState D) (d : DeskState) (told : ℕ) → IsOut h s d → MayCompact s → StopsBy faults s n e → StepsOn (At h s d told) (answer.Fault e) (At h n d told)
-stops faults fault.Device h s n d told o may b =
-    (is_well s.slots.journal.phase b.well_before, may_step h s d told o may, machine_is (At h n d told) (record (At h s d told) { failed = true }) refl (ap (λ (p : Phase). progress_of h p) b.step) (ap is_failed b.failed) b.room.0 b.room.1 refl (compaction_is s n b.room.2))
-stops faults fault.Failed h s n d told o may b = (ap is_failed b.0, ap (λ (x : StoreState _). At h x d told) b.1)
-stops faults fault.Memory h s n d told o may b = (is_well s.slots.journal.phase b.0, may_step h s d told o may, ap (λ (x : StoreState _). At h x d told) b.1)
-stops faults fault.Stranger h s n d told o may b = absurd b
-
--- its calls
-none_or_one : (next : Step) (may_open : Bool) (old new : List CallKind) → new ≡ old ++ calls_of next may_open → MakesNoMore old new
-none_or_one Begin b old new is = inl (is ∙ append-nil old)
-none_or_one Close true old new is = inr (Write, is)
-none_or_one Close false old new is = inl (is ∙ append-nil old)
-none_or_one SyncClose b old new is = inr (Sync, is)
-none_or_one Part b old new is = inr (Write, is)
-none_or_one Tail b old new is = inr (Write, is)
-none_or_one SyncBody b old new is = inr (Sync, is)
-none_or_one Open b old new is = inr (Write, is)
-none_or_one SyncOpen b old new is = inr (Sync, is)
-
-some_or_one : (next : Step) (may_open : Bool) (old new : List CallKind) → MakesSome (calls_of next may_open) old new → MakesNoMore old new
-some_or_one Begin b old new s = inl s
-some_or_one Close false old new s = inl s
-some_or_one Close true old new (inl s) = inl s
-some_or_one Close true old new (inr s) = inr (Write, s)
-some_or_one SyncClose b old new (inl s) = inl s
-some_or_one SyncClose b old new (inr s) = inr (Sync, s)
-some_or_one Part b old new (inl s) = inl s
-some_or_one Part b old new (inr s) = inr (Write, s)
-some_or_one Tail b old new (inl s) = inl s
-some_or_one Tail b old new (inr s) = inr (Write, s)
-some_or_one SyncBody b old new (inl s) = inl s
-some_or_one SyncBody b old new (inr s) = inr (Sync, s)
-some_or_one Open b old new (inl s) = inl s
-some_or_one Open b old new (inr s) = inr (Write, s)
-some_or_one SyncOpen b old new (inl s) = inl s
-some_or_one SyncOpen b old new (inr s) = inr (Sync, s)
-
-pub calls_of_step : (next : Step) (may_open : Bool) (p : Step) (old new : List CallKind) → new ≡ old ++ calls_of next may_open → MakesItsCall event.Compact (answer.Phase p) old new
-calls_of_step next may_open p old new is = none_or_one next may_open old new is
-
-pub calls_of_stop : {D : Type 0} (faults : D → ℕ) (calls : D → List CallKind) (e : StoreFault) (s n : StoreState D) → StopsBy faults s n e → MakesSome (calls_of s.slots.step s.slots.may_open) (calls s.slots.journal.disk) (calls n.slots.journal.disk) → MakesItsCall event.Compact (answer.Fault e) (calls s.slots.journal.disk) (calls n.slots.journal.disk)
-calls_of_stop faults calls fault.Device s n b made = some_or_one s.slots.step s.slots.may_open (calls s.slots.journal.disk) (calls n.slots.journal.disk) made
-calls_of_stop faults calls fault.Failed s n b made = ap (λ (x : StoreState _). calls x.slots.journal.disk) b.1
-calls_of_stop faults calls fault.Memory s n b made = ap (λ (x : StoreState _). calls x.slots.journal.disk) b.1
-calls_of_stop faults calls fault.Stranger s n b made = absurd b
-
-pub rise_of_stop : {D : Type 0} (faults : D → ℕ) (e : StoreFault) (s n : StoreState D) → StopsBy faults s n e → RisesFor (answer.Fault e) (faults s.slots.journal.disk) (faults n.slots.journal.disk)
-rise_of_stop faults fault.Device s n b = b.cause
-rise_of_stop faults fault.Failed s n b = ap (λ (x : StoreState _). faults x.slots.journal.disk) b.1
-rise_of_stop faults fault.Memory s n b = ap (λ (x : StoreState _). faults x.slots.journal.disk) b.1
-rise_of_stop faults fault.Stranger s n b = absurd b

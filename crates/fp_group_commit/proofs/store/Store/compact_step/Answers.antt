@@ -5,6 +5,7 @@ use Rattle.fp_journal.specs.declared.journal.Phase.TheVariants.{Failed}
 use Rattle.fp_slots.specs.State.{SlotsState}
 use Rattle.fp_group_commit.specs.Store.{MayCompact, StoreState}
 use Rattle.fp_group_commit.proofs.Steps as steps
+use Rattle.fp_group_commit.proofs.CompactionSteps as compaction_steps
 use Rattle.fp_group_commit.proofs.store.Store.compact_step.Goals as goal
 
 pub returns-in-Failed-clause-any_moment : goal.returns-in-Failed-clause-any_moment
@@ -19,7 +20,7 @@ returns-in-Failed-clause-called g c = rw (← c.self.view_is) (steps.makes_none 
 pub invariant_of-self : goal.invariant_of-self
 invariant_of-self g c =
     let cu = c.catch_up.ensures in
-    steps.caught g.D.Disk c.self.invariant c.catch_up.new.set (changes_of c.catch_up.new.ahead.items) cu.same cu.follows cu.still
+    compaction_steps.caught g.D.Disk c.self.invariant c.catch_up.new.set (changes_of c.catch_up.new.ahead.items) cu.same cu.follows cu.still
 
 pub returns-in_default-catch_up : goal.returns-in_default-catch_up
 returns-in_default-catch_up g c =
@@ -42,42 +43,42 @@ take_step-requires g c =
     let D = g.D.Disk in let m = g.met.D.Disk in let s = c.self.inside in let t = s.slots in let i = c.self.invariant in
     let well : t.journal.phase ≢ Failed = λ e. c.in_default.not-Failed (c.phase.ensures.phase ∙ e) in
     let cu = c.catch_up.ensures in let left = changes_of c.catch_up.new.ahead.items in
-    let i1 = steps.caught D i c.catch_up.new.set left cu.same cu.follows cu.still in
+    let i1 = compaction_steps.caught D i c.catch_up.new.set left cu.same cu.follows cu.still in
     let may : MayCompact _ = subst (λ (k : StoreState g.row.D.Denot). MayCompact k) (sym c.self.view_is) c.requires in
-    let is = steps.caught_all D i1 (λ idle. none_left c.catch_up.new.ahead.items (c.in-Ok.ensures.done idle)) in
-    record { live = well; may = steps.may_step D i1 may well; place = λ begins. steps.has_place D i1 is }
+    let is = compaction_steps.caught_all D i1 (λ idle. none_left c.catch_up.new.ahead.items (c.in-Ok.ensures.done idle)) in
+    record { live = well; may = compaction_steps.may_step D i1 may well; place = λ begins. compaction_steps.has_place D i1 is }
 
 pub invariant_of-self-in_default-take_step : goal.invariant_of-self-in_default-take_step
 invariant_of-self-in_default-take_step g c =
     let D = g.D.Disk in let m = g.met.D.Disk in let s = c.self.inside in let t = s.slots in let i = c.self.invariant in
     let well : t.journal.phase ≢ Failed = λ e. c.in_default.not-Failed (c.phase.ensures.phase ∙ e) in
     let cu = c.catch_up.ensures in let left = changes_of c.catch_up.new.ahead.items in
-    let i1 = steps.caught D i c.catch_up.new.set left cu.same cu.follows cu.still in
+    let i1 = compaction_steps.caught D i c.catch_up.new.set left cu.same cu.follows cu.still in
     let may : MayCompact _ = subst (λ (k : StoreState g.row.D.Denot). MayCompact k) (sym c.self.view_is) c.requires in
-    let is = steps.caught_all D i1 (λ idle. none_left c.catch_up.new.ahead.items (c.in-Ok.ensures.done idle)) in
+    let is = compaction_steps.caught_all D i1 (λ idle. none_left c.catch_up.new.ahead.items (c.in-Ok.ensures.done idle)) in
     let t1 = c.take_step.new.slots in let w = c.take_step.ensures in
     let o = c.in_default-take_step.ensures in
-    steps.sound_taken D i1 t1 w.taken is may well o.order.0 o.begun o.planned o.stays o.turned
+    compaction_steps.sound_taken D i1 t1 w.taken is may well o.order.0 o.begun o.planned o.stays o.turned
 
 pub returns-in_default-take_step : goal.returns-in_default-take_step
 returns-in_default-take_step g c =
     let D = g.D.Disk in let m = g.met.D.Disk in let s = c.self.inside in let t = s.slots in let i = c.self.invariant in
     let well : t.journal.phase ≢ Failed = λ e. c.in_default.not-Failed (c.phase.ensures.phase ∙ e) in
     let cu = c.catch_up.ensures in let left = changes_of c.catch_up.new.ahead.items in
-    let i1 = steps.caught D i c.catch_up.new.set left cu.same cu.follows cu.still in
+    let i1 = compaction_steps.caught D i c.catch_up.new.set left cu.same cu.follows cu.still in
     let may : MayCompact _ = subst (λ (k : StoreState g.row.D.Denot). MayCompact k) (sym c.self.view_is) c.requires in
-    let is = steps.caught_all D i1 (λ idle. none_left c.catch_up.new.ahead.items (c.in-Ok.ensures.done idle)) in
+    let is = compaction_steps.caught_all D i1 (λ idle. none_left c.catch_up.new.ahead.items (c.in-Ok.ensures.done idle)) in
     let t1 = c.take_step.new.slots in let w = c.take_step.ensures in
     let o = c.in_default-take_step.ensures in
     rw (← c.self.view_is) (record {
       same = (refl, refl, refl);
       phase = refl;
-      ok = steps.compacts D i1 t1 w.taken is may well o.order.0 o.begun o.planned o.stays o.turned D.faults o.no_failure o.left c.step.ensures.numbered;
+      ok = compaction_steps.compacts D i1 t1 w.taken is may well o.order.0 o.begun o.planned o.stays o.turned D.faults o.no_failure o.left c.step.ensures.numbered;
       next = c.step.ensures.step;
       fault = tt;
       called = w.taken.called;
-      any_moment = steps.step_leaves D i1 t1 w.taken;
-      exit = steps.exit_has D m.counts_now t.journal.disk t1.journal.disk _ _ (steps.leaves_then D i1 t1 w.taken is may well o.order.0 o.begun o.planned o.stays o.turned) w.taken.honest.1 (steps.step_leaves D i1 t1 w.taken);
+      any_moment = compaction_steps.step_leaves D i1 t1 w.taken;
+      exit = steps.exit_has D m.counts_now t.journal.disk t1.journal.disk _ _ (compaction_steps.leaves_then D i1 t1 w.taken is may well o.order.0 o.begun o.planned o.stays o.turned) w.taken.honest.1 (compaction_steps.step_leaves D i1 t1 w.taken);
       honest = w.taken.honest;
     })
 
@@ -86,9 +87,9 @@ invariant_of-self-in-Memory g c =
     let D = g.D.Disk in let m = g.met.D.Disk in let s = c.self.inside in let t = s.slots in let i = c.self.invariant in
     let well : t.journal.phase ≢ Failed = λ e. c.in_default.not-Failed (c.phase.ensures.phase ∙ e) in
     let cu = c.catch_up.ensures in let left = changes_of c.catch_up.new.ahead.items in
-    let i1 = steps.caught D i c.catch_up.new.set left cu.same cu.follows cu.still in
+    let i1 = compaction_steps.caught D i c.catch_up.new.set left cu.same cu.follows cu.still in
     let may : MayCompact _ = subst (λ (k : StoreState g.row.D.Denot). MayCompact k) (sym c.self.view_is) c.requires in
-    let is = steps.caught_all D i1 (λ idle. none_left c.catch_up.new.ahead.items (c.in-Ok.ensures.done idle)) in
+    let is = compaction_steps.caught_all D i1 (λ idle. none_left c.catch_up.new.ahead.items (c.in-Ok.ensures.done idle)) in
     let t1 = c.take_step.new.slots in let w = c.take_step.ensures in
     let e = c.in-Err.ensures in let same = (e.memory c.in-Memory.is).1 in
     rw same i1
@@ -98,9 +99,9 @@ returns-in-Memory g c =
     let D = g.D.Disk in let m = g.met.D.Disk in let s = c.self.inside in let t = s.slots in let i = c.self.invariant in
     let well : t.journal.phase ≢ Failed = λ e. c.in_default.not-Failed (c.phase.ensures.phase ∙ e) in
     let cu = c.catch_up.ensures in let left = changes_of c.catch_up.new.ahead.items in
-    let i1 = steps.caught D i c.catch_up.new.set left cu.same cu.follows cu.still in
+    let i1 = compaction_steps.caught D i c.catch_up.new.set left cu.same cu.follows cu.still in
     let may : MayCompact _ = subst (λ (k : StoreState g.row.D.Denot). MayCompact k) (sym c.self.view_is) c.requires in
-    let is = steps.caught_all D i1 (λ idle. none_left c.catch_up.new.ahead.items (c.in-Ok.ensures.done idle)) in
+    let is = compaction_steps.caught_all D i1 (λ idle. none_left c.catch_up.new.ahead.items (c.in-Ok.ensures.done idle)) in
     let t1 = c.take_step.new.slots in let w = c.take_step.ensures in
     let e = c.in-Err.ensures in let same = (e.memory c.in-Memory.is).1 in
     rw (← c.self.view_is) (record {
@@ -120,21 +121,21 @@ invariant_of-self-2 g c =
     let D = g.D.Disk in let m = g.met.D.Disk in let s = c.self.inside in let t = s.slots in let i = c.self.invariant in
     let well : t.journal.phase ≢ Failed = λ e. c.in_default.not-Failed (c.phase.ensures.phase ∙ e) in
     let cu = c.catch_up.ensures in let left = changes_of c.catch_up.new.ahead.items in
-    let i1 = steps.caught D i c.catch_up.new.set left cu.same cu.follows cu.still in
+    let i1 = compaction_steps.caught D i c.catch_up.new.set left cu.same cu.follows cu.still in
     let may : MayCompact _ = subst (λ (k : StoreState g.row.D.Denot). MayCompact k) (sym c.self.view_is) c.requires in
-    let is = steps.caught_all D i1 (λ idle. none_left c.catch_up.new.ahead.items (c.in-Ok.ensures.done idle)) in
+    let is = compaction_steps.caught_all D i1 (λ idle. none_left c.catch_up.new.ahead.items (c.in-Ok.ensures.done idle)) in
     let t1 = c.take_step.new.slots in let w = c.take_step.ensures in
     let e = c.in-Err.ensures in
-    steps.sound_broken D i1 t1 w.taken e.order.1 (e.device c.in_default-fault.is)
+    compaction_steps.sound_broken D i1 t1 w.taken e.order.1 (e.device c.in_default-fault.is)
 
 pub returns : goal.returns
 returns g c =
     let D = g.D.Disk in let m = g.met.D.Disk in let s = c.self.inside in let t = s.slots in let i = c.self.invariant in
     let well : t.journal.phase ≢ Failed = λ e. c.in_default.not-Failed (c.phase.ensures.phase ∙ e) in
     let cu = c.catch_up.ensures in let left = changes_of c.catch_up.new.ahead.items in
-    let i1 = steps.caught D i c.catch_up.new.set left cu.same cu.follows cu.still in
+    let i1 = compaction_steps.caught D i c.catch_up.new.set left cu.same cu.follows cu.still in
     let may : MayCompact _ = subst (λ (k : StoreState g.row.D.Denot). MayCompact k) (sym c.self.view_is) c.requires in
-    let is = steps.caught_all D i1 (λ idle. none_left c.catch_up.new.ahead.items (c.in-Ok.ensures.done idle)) in
+    let is = compaction_steps.caught_all D i1 (λ idle. none_left c.catch_up.new.ahead.items (c.in-Ok.ensures.done idle)) in
     let t1 = c.take_step.new.slots in let w = c.take_step.ensures in
     let e = c.in-Err.ensures in let off = e.device c.in_default-fault.is in
     rw (← c.self.view_is) (record {
@@ -142,9 +143,9 @@ returns g c =
       phase = refl;
       ok = tt;
       next = tt;
-      fault = steps.breaks_step D i1 t1 w.taken e.order.1 off off.left well;
+      fault = compaction_steps.breaks_step D i1 t1 w.taken e.order.1 off off.left well;
       called = steps.makes_all _ _ _ w.taken.called;
-      any_moment = steps.step_leaves D i1 t1 w.taken;
-      exit = steps.exit_has D m.counts_now t.journal.disk t1.journal.disk _ _ (steps.leaves_broken D i1 t1 w.taken e.order.1 off c.phase.ensures.begun) w.taken.honest.1 (steps.step_leaves D i1 t1 w.taken);
+      any_moment = compaction_steps.step_leaves D i1 t1 w.taken;
+      exit = steps.exit_has D m.counts_now t.journal.disk t1.journal.disk _ _ (compaction_steps.leaves_broken D i1 t1 w.taken e.order.1 off c.phase.ensures.begun) w.taken.honest.1 (compaction_steps.step_leaves D i1 t1 w.taken);
       honest = w.taken.honest;
     })

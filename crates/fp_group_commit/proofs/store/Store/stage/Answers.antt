@@ -14,6 +14,7 @@ use Rattle.fp_compaction.specs.Batches.{HasRoomFor, tail_of}
 use Rattle.fp_group_commit.specs.Changes.{GoesOn, HasRoom}
 use Rattle.fp_group_commit.specs.Store.{StoreState}
 use Rattle.fp_group_commit.proofs.Steps as steps
+use Rattle.fp_group_commit.proofs.BatchSteps as batch_steps
 use Rattle.fp_group_commit.proofs.store.Store.stage.Goals as goal
 
 pub returns-in-Failed-clause-any_moment : goal.returns-in-Failed-clause-any_moment
@@ -31,7 +32,7 @@ returns-in-Err g c =
       staged = tt;
       goes_on = tt;
       phase = refl;
-      fault = steps.refuses D.honest D.unsynced i D.faults (λ e. c.in_default.not-Failed (c.phase.ensures.phase ∙ e)) c.args.draw c.in-Err.fault c.in-Err.ensures.fault;
+      fault = batch_steps.refuses D.honest D.unsynced i D.faults (λ e. c.in_default.not-Failed (c.phase.ensures.phase ∙ e)) c.args.draw c.in-Err.fault c.in-Err.ensures.fault;
       given_back = refl;
       same_room = (refl, refl, ((refl, refl, refl, refl), refl));
       called = inl refl;
@@ -76,7 +77,7 @@ stage-requires g c =
     let mid = c.make_ready.new.slots in let plan = c.make_ready.ensures.same in
     let begun : mid.journal.begun ≡ false = ap (λ (j : JournalState g.row.D.Denot). j.begun) plan.0 ∙ none.1 in
     let going : mid.journal.phase ≡ Idle = ap (λ (j : JournalState g.row.D.Denot). j.phase) plan.0 ∙ is in
-    let i2 = steps.sound_at_rest D.honest D.unsynced i Idle mid (steps.beside_plan t mid plan) (ap (λ (j : JournalState g.row.D.Denot). j.sealed) plan.0) (steps.kept_plan_now t mid plan D.honest D.unsynced i.kept_is) refl begun c.ready.new.set (changes_of c.ready.new.ahead.items) c.ready.ensures.same c.ready.ensures.follows (inl going) in
+    let i2 = batch_steps.sound_at_rest D.honest D.unsynced i Idle mid (steps.beside_plan t mid plan) (ap (λ (j : JournalState g.row.D.Denot). j.sealed) plan.0) (steps.kept_plan_now t mid plan D.honest D.unsynced i.kept_is) refl begun c.ready.new.set (changes_of c.ready.new.ahead.items) c.ready.ensures.same c.ready.ensures.follows (inl going) in
     let room : HasRoom t c.args.draw = subst (λ (k : StoreState g.row.D.Denot). HasRoom k.slots c.args.draw) (sym c.self.view_is) c.requires.room in
     let len = ap length c.in-Ok.ensures.spelled ∙ length-encoding_of_batch c.args.draw in
     record { idle = going; room = subst (λ (n : ℕ). HasRoomFor mid n) (sym len) (steps.room_plan t mid plan room.room) }
@@ -91,13 +92,13 @@ invariant_of-self-in_default-stage g c =
     let mid = c.make_ready.new.slots in let plan = c.make_ready.ensures.same in
     let begun : mid.journal.begun ≡ false = ap (λ (j : JournalState g.row.D.Denot). j.begun) plan.0 ∙ none.1 in
     let going : mid.journal.phase ≡ Idle = ap (λ (j : JournalState g.row.D.Denot). j.phase) plan.0 ∙ is in
-    let i2 = steps.sound_at_rest D.honest D.unsynced i Idle mid (steps.beside_plan t mid plan) (ap (λ (j : JournalState g.row.D.Denot). j.sealed) plan.0) (steps.kept_plan_now t mid plan D.honest D.unsynced i.kept_is) refl begun c.ready.new.set (changes_of c.ready.new.ahead.items) c.ready.ensures.same c.ready.ensures.follows (inl going) in
+    let i2 = batch_steps.sound_at_rest D.honest D.unsynced i Idle mid (steps.beside_plan t mid plan) (ap (λ (j : JournalState g.row.D.Denot). j.sealed) plan.0) (steps.kept_plan_now t mid plan D.honest D.unsynced i.kept_is) refl begun c.ready.new.set (changes_of c.ready.new.ahead.items) c.ready.ensures.same c.ready.ensures.follows (inl going) in
     let room : HasRoom t c.args.draw = subst (λ (k : StoreState g.row.D.Denot). HasRoom k.slots c.args.draw) (sym c.self.view_is) c.requires.room in
     let len = ap length c.in-Ok.ensures.spelled ∙ length-encoding_of_batch c.args.draw in
     let t1 = c.stage.new.slots in let w = c.stage.ensures in
     let leaves = steps.sealed_leaves D i2 t1 w.stands in
     let on : steps.SameBeside t t1 = steps.beside_then t mid t1 plan w.same in let bodies = w.bodies.0 ∙ ap (λ (j : JournalState g.row.D.Denot). j.sealed) plan.0 in
-    rw (at) (steps.sound_at_rest D.honest D.unsynced i2 Idle t1 (steps.beside_of mid t1 w.same) w.bodies.0 (steps.kept_on D i2 t1 w.kept w.honest.1) refl w.begun c.ready.new.set (changes_of c.ready.new.ahead.items) refl c.ready.ensures.follows (inr c.in_default-stage.ensures.phase.1))
+    rw (at) (batch_steps.sound_at_rest D.honest D.unsynced i2 Idle t1 (steps.beside_of mid t1 w.same) w.bodies.0 (steps.kept_on D i2 t1 w.kept w.honest.1) refl w.begun c.ready.new.set (changes_of c.ready.new.ahead.items) refl c.ready.ensures.follows (inr c.in_default-stage.ensures.phase.1))
 
 pub returns-in_default-stage : goal.returns-in_default-stage
 returns-in_default-stage g c =
@@ -109,7 +110,7 @@ returns-in_default-stage g c =
     let mid = c.make_ready.new.slots in let plan = c.make_ready.ensures.same in
     let begun : mid.journal.begun ≡ false = ap (λ (j : JournalState g.row.D.Denot). j.begun) plan.0 ∙ none.1 in
     let going : mid.journal.phase ≡ Idle = ap (λ (j : JournalState g.row.D.Denot). j.phase) plan.0 ∙ is in
-    let i2 = steps.sound_at_rest D.honest D.unsynced i Idle mid (steps.beside_plan t mid plan) (ap (λ (j : JournalState g.row.D.Denot). j.sealed) plan.0) (steps.kept_plan_now t mid plan D.honest D.unsynced i.kept_is) refl begun c.ready.new.set (changes_of c.ready.new.ahead.items) c.ready.ensures.same c.ready.ensures.follows (inl going) in
+    let i2 = batch_steps.sound_at_rest D.honest D.unsynced i Idle mid (steps.beside_plan t mid plan) (ap (λ (j : JournalState g.row.D.Denot). j.sealed) plan.0) (steps.kept_plan_now t mid plan D.honest D.unsynced i.kept_is) refl begun c.ready.new.set (changes_of c.ready.new.ahead.items) c.ready.ensures.same c.ready.ensures.follows (inl going) in
     let room : HasRoom t c.args.draw = subst (λ (k : StoreState g.row.D.Denot). HasRoom k.slots c.args.draw) (sym c.self.view_is) c.requires.room in
     let len = ap length c.in-Ok.ensures.spelled ∙ length-encoding_of_batch c.args.draw in
     let t1 = c.stage.new.slots in let w = c.stage.ensures in
@@ -121,9 +122,9 @@ returns-in_default-stage g c =
       staged = tt;
       goes_on = tt;
       phase = refl;
-      fault = (steps.moved_breaks D.honest D.unsynced i s.step t1 on bodies D.faults well c.in_default-stage.ensures.phase.1 (search rules) refl, steps.goes_kept D.honest D.unsynced i c.args.draw c.in-Ok.ensures.goes_on);
+      fault = (batch_steps.moved_breaks D.honest D.unsynced i s.step t1 on bodies D.faults well c.in_default-stage.ensures.phase.1 (search rules) refl, batch_steps.goes_kept D.honest D.unsynced i c.args.draw c.in-Ok.ensures.goes_on);
       given_back = refl;
-      same_room = steps.moved_room D.honest D.unsynced i s.step t1 on bodies;
+      same_room = batch_steps.moved_room D.honest D.unsynced i s.step t1 on bodies;
       called = inr (w.called ∙ ap (λ (j : JournalState g.row.D.Denot). D.calls j.disk ++ Write ∷ []) plan.0);
       any_moment = steps.from_plan D t mid t1 plan (λ h. leaves_map D.moment D.crash_states_since mid.journal.disk t1.journal.disk _ _ (λ o stands. inl stands) (leaves h));
       exit = steps.exit_has D m.counts_now mid.journal.disk t1.journal.disk _ _ (λ o stands. inl stands) w.honest.1 leaves;
@@ -140,14 +141,14 @@ invariant_of-self-2 g c =
     let mid = c.make_ready.new.slots in let plan = c.make_ready.ensures.same in
     let begun : mid.journal.begun ≡ false = ap (λ (j : JournalState g.row.D.Denot). j.begun) plan.0 ∙ none.1 in
     let going : mid.journal.phase ≡ Idle = ap (λ (j : JournalState g.row.D.Denot). j.phase) plan.0 ∙ is in
-    let i2 = steps.sound_at_rest D.honest D.unsynced i Idle mid (steps.beside_plan t mid plan) (ap (λ (j : JournalState g.row.D.Denot). j.sealed) plan.0) (steps.kept_plan_now t mid plan D.honest D.unsynced i.kept_is) refl begun c.ready.new.set (changes_of c.ready.new.ahead.items) c.ready.ensures.same c.ready.ensures.follows (inl going) in
+    let i2 = batch_steps.sound_at_rest D.honest D.unsynced i Idle mid (steps.beside_plan t mid plan) (ap (λ (j : JournalState g.row.D.Denot). j.sealed) plan.0) (steps.kept_plan_now t mid plan D.honest D.unsynced i.kept_is) refl begun c.ready.new.set (changes_of c.ready.new.ahead.items) c.ready.ensures.same c.ready.ensures.follows (inl going) in
     let room : HasRoom t c.args.draw = subst (λ (k : StoreState g.row.D.Denot). HasRoom k.slots c.args.draw) (sym c.self.view_is) c.requires.room in
     let len = ap length c.in-Ok.ensures.spelled ∙ length-encoding_of_batch c.args.draw in
     let t1 = c.stage.new.slots in let w = c.stage.ensures in
     let leaves = steps.sealed_leaves D i2 t1 w.stands in
     let on : steps.SameBeside t t1 = steps.beside_then t mid t1 plan w.same in let bodies = w.bodies.0 ∙ ap (λ (j : JournalState g.row.D.Denot). j.sealed) plan.0 in
     let body = ap length w.bodies.1 ∙ len in
-    steps.sound_staged D.honest D.unsynced i2 Staged t1 (steps.beside_of mid t1 w.same) w.bodies.0 (steps.kept_on D i2 t1 w.kept w.honest.1) c.args.draw c.ready.new.set (changes_of c.ready.new.ahead.items) (changes_of c.in-Ok.ready.1.items) refl c.ready.ensures.follows (none_left c.ready.new.ahead.items c.in-Ok.ensures.done) c.in-Ok.ensures.copied
+    batch_steps.sound_staged D.honest D.unsynced i2 Staged t1 (steps.beside_of mid t1 w.same) w.bodies.0 (steps.kept_on D i2 t1 w.kept w.honest.1) c.args.draw c.ready.new.set (changes_of c.ready.new.ahead.items) (changes_of c.in-Ok.ready.1.items) refl c.ready.ensures.follows (none_left c.ready.new.ahead.items c.in-Ok.ensures.done) c.in-Ok.ensures.copied
     (subst (λ (x : State). GoesOn x c.args.draw) (sym c.ready.ensures.same) c.in-Ok.ensures.goes_on) c.in-Ok.ensures.lawful (w.bodies.1 ∙ c.in-Ok.ensures.spelled) body (steps.room_plan t mid plan room.room)
     (λ growing. w.same.8 ∙ c.in-Ok-make_ready.ensures.ready (subst (λ (x : Step). IsGrowing x) w.same.4 growing) ∙ sym (ap with_gate w.bodies.1)) c.in-Ok-stage.ensures.phase.0
 
@@ -161,7 +162,7 @@ returns g c =
     let mid = c.make_ready.new.slots in let plan = c.make_ready.ensures.same in
     let begun : mid.journal.begun ≡ false = ap (λ (j : JournalState g.row.D.Denot). j.begun) plan.0 ∙ none.1 in
     let going : mid.journal.phase ≡ Idle = ap (λ (j : JournalState g.row.D.Denot). j.phase) plan.0 ∙ is in
-    let i2 = steps.sound_at_rest D.honest D.unsynced i Idle mid (steps.beside_plan t mid plan) (ap (λ (j : JournalState g.row.D.Denot). j.sealed) plan.0) (steps.kept_plan_now t mid plan D.honest D.unsynced i.kept_is) refl begun c.ready.new.set (changes_of c.ready.new.ahead.items) c.ready.ensures.same c.ready.ensures.follows (inl going) in
+    let i2 = batch_steps.sound_at_rest D.honest D.unsynced i Idle mid (steps.beside_plan t mid plan) (ap (λ (j : JournalState g.row.D.Denot). j.sealed) plan.0) (steps.kept_plan_now t mid plan D.honest D.unsynced i.kept_is) refl begun c.ready.new.set (changes_of c.ready.new.ahead.items) c.ready.ensures.same c.ready.ensures.follows (inl going) in
     let room : HasRoom t c.args.draw = subst (λ (k : StoreState g.row.D.Denot). HasRoom k.slots c.args.draw) (sym c.self.view_is) c.requires.room in
     let len = ap length c.in-Ok.ensures.spelled ∙ length-encoding_of_batch c.args.draw in
     let t1 = c.stage.new.slots in let w = c.stage.ensures in
@@ -171,11 +172,11 @@ returns g c =
       same = (refl, refl);
       ok = record { step = refl; well_before = well; well_now = (λ e. let both : Staged ≡ Failed = sym c.in-Ok-stage.ensures.phase.0 ∙ e in absurd (cc both)); no_failure = search rules };
       staged = refl;
-      goes_on = steps.goes_kept D.honest D.unsynced i c.args.draw c.in-Ok.ensures.goes_on;
+      goes_on = batch_steps.goes_kept D.honest D.unsynced i c.args.draw c.in-Ok.ensures.goes_on;
       phase = tt;
       fault = tt;
       given_back = tt;
-      same_room = steps.moved_room D.honest D.unsynced i Staged t1 on bodies;
+      same_room = batch_steps.moved_room D.honest D.unsynced i Staged t1 on bodies;
       called = w.called ∙ ap (λ (j : JournalState g.row.D.Denot). D.calls j.disk ++ Write ∷ []) plan.0;
       any_moment = steps.from_plan D t mid t1 plan (λ h. leaves_map D.moment D.crash_states_since mid.journal.disk t1.journal.disk _ _ (λ o stands. inl stands) (leaves h));
       exit = steps.exit_has D m.counts_now mid.journal.disk t1.journal.disk _ _ (λ o stands. inl stands) w.honest.1 leaves;

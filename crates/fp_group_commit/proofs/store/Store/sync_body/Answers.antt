@@ -3,6 +3,7 @@ use Rattle.fp_disk.specs.Moments.{leaves_map}
 use Rattle.fp_journal.specs.declared.journal.Phase.TheVariants.{Idle, Staged, BodySynced, Failed}
 use Rattle.fp_group_commit.specs.Store.{StoreState}
 use Rattle.fp_group_commit.proofs.Steps as steps
+use Rattle.fp_group_commit.proofs.BatchSteps as batch_steps
 use Rattle.fp_group_commit.proofs.store.Store.sync_body.Goals as goal
 
 pub returns-in-Failed-clause-any_moment : goal.returns-in-Failed-clause-any_moment
@@ -28,7 +29,7 @@ invariant_of-self g c =
     let is : t.journal.phase ≡ Staged = steps.goes t.journal.phase s.step well i.going ∙ at in
     let f = steps.not_idle s.step Staged _ _ at (λ (e : Staged ≡ Idle). absurd (cc e)) i.flight in
     let t1 = c.sync_body.new.slots in let w = c.sync_body.ensures in
-    steps.sound_moved D.honest D.unsynced i s.step t1 (steps.beside_of t t1 w.same) w.bodies.0 (steps.kept_on D i t1 w.kept w.honest.1) f f.on_way w.bodies.1 w.same.8 (inr c.in_default-sync_body.ensures.phase.1)
+    batch_steps.sound_moved D.honest D.unsynced i s.step t1 (steps.beside_of t t1 w.same) w.bodies.0 (steps.kept_on D i t1 w.kept w.honest.1) f f.on_way w.bodies.1 w.same.8 (inr c.in_default-sync_body.ensures.phase.1)
 
 pub returns-in_default-sync_body : goal.returns-in_default-sync_body
 returns-in_default-sync_body g c =
@@ -43,8 +44,8 @@ returns-in_default-sync_body g c =
       same = (refl, refl, refl);
       ok = tt;
       phase = refl;
-      fault = steps.moved_breaks D.honest D.unsynced i s.step t1 (steps.beside_of t t1 w.same) w.bodies.0 D.faults well c.in_default-sync_body.ensures.phase.1 (search rules) refl;
-      same_room = steps.moved_room D.honest D.unsynced i s.step t1 (steps.beside_of t t1 w.same) w.bodies.0;
+      fault = batch_steps.moved_breaks D.honest D.unsynced i s.step t1 (steps.beside_of t t1 w.same) w.bodies.0 D.faults well c.in_default-sync_body.ensures.phase.1 (search rules) refl;
+      same_room = batch_steps.moved_room D.honest D.unsynced i s.step t1 (steps.beside_of t t1 w.same) w.bodies.0;
       called = inr w.called;
       any_moment = λ h. leaves_map D.moment D.crash_states_since t.journal.disk t1.journal.disk _ _ (λ o stands. inl stands) (leaves h);
       exit = steps.exit_has D m.counts_now t.journal.disk t1.journal.disk _ _ (λ o stands. inl stands) w.honest.1 leaves;
@@ -59,7 +60,7 @@ invariant_of-self-2 g c =
     let is : t.journal.phase ≡ Staged = steps.goes t.journal.phase s.step well i.going ∙ at in
     let f = steps.not_idle s.step Staged _ _ at (λ (e : Staged ≡ Idle). absurd (cc e)) i.flight in
     let t1 = c.sync_body.new.slots in let w = c.sync_body.ensures in
-    steps.sound_moved D.honest D.unsynced i BodySynced t1 (steps.beside_of t t1 w.same) w.bodies.0 (steps.kept_on D i t1 w.kept w.honest.1) f tt w.bodies.1 w.same.8 (inl c.in-Ok.ensures.phase.0)
+    batch_steps.sound_moved D.honest D.unsynced i BodySynced t1 (steps.beside_of t t1 w.same) w.bodies.0 (steps.kept_on D i t1 w.kept w.honest.1) f tt w.bodies.1 w.same.8 (inl c.in-Ok.ensures.phase.0)
 
 pub returns : goal.returns
 returns g c =
@@ -75,7 +76,7 @@ returns g c =
       ok = record { step = refl; well_before = well; well_now = λ e. (let both : BodySynced ≡ Failed = sym c.in-Ok.ensures.phase.0 ∙ e in absurd (cc both)); no_failure = search rules };
       phase = tt;
       fault = tt;
-      same_room = steps.moved_room D.honest D.unsynced i BodySynced t1 (steps.beside_of t t1 w.same) w.bodies.0;
+      same_room = batch_steps.moved_room D.honest D.unsynced i BodySynced t1 (steps.beside_of t t1 w.same) w.bodies.0;
       called = w.called;
       any_moment = λ h. leaves_map D.moment D.crash_states_since t.journal.disk t1.journal.disk _ _ (λ o stands. inl stands) (leaves h);
       exit = steps.exit_has D m.counts_now t.journal.disk t1.journal.disk _ _ (λ o stands. inl stands) w.honest.1 leaves;

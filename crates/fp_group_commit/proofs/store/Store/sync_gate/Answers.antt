@@ -7,6 +7,7 @@ use Rattle.fp_record.specs.Group.{Group}
 use Rattle.fp_group_commit.specs.Store.{StoreState}
 use Rattle.fp_group_commit.specs.Tokens.{FrontState, Identity}
 use Rattle.fp_group_commit.proofs.Steps as steps
+use Rattle.fp_group_commit.proofs.BatchSteps as batch_steps
 use Rattle.fp_group_commit.proofs.store.Store.sync_gate.Goals as goal
 
 pub returns-in-Failed-clause-any_moment : goal.returns-in-Failed-clause-any_moment
@@ -30,7 +31,7 @@ invariant_of-self g c =
     let at : s.step ≡ GateOpened = ap (λ (k : StoreState g.row.D.Denot). k.step) c.self.view_is ∙ c.requires in
     let f = steps.not_idle s.step GateOpened _ _ at (λ (e : GateOpened ≡ Idle). absurd (cc e)) i.flight in
     let t1 = c.sync_gate.new.slots in let w = c.sync_gate.ensures in let e = c.in_default-sync_gate.ensures in
-    steps.sound_moved D.honest D.unsynced i s.step t1 (steps.beside_of s.slots t1 e.broken.3) e.bodies.0 (steps.kept_on D i t1 e.broken.2 w.honest.1) f f.on_way e.bodies.1 e.broken.3.8 (inr e.broken.0)
+    batch_steps.sound_moved D.honest D.unsynced i s.step t1 (steps.beside_of s.slots t1 e.broken.3) e.bodies.0 (steps.kept_on D i t1 e.broken.2 w.honest.1) f f.on_way e.bodies.1 e.broken.3.8 (inr e.broken.0)
 
 pub returns-in_default-sync_gate : goal.returns-in_default-sync_gate
 returns-in_default-sync_gate g c =
@@ -52,11 +53,11 @@ returns-in_default-sync_gate g c =
       batch = tt;
       err = (refl, refl, refl);
       phase = refl;
-      fault = steps.moved_breaks D.honest D.unsynced i s.step t1 (steps.beside_of s.slots t1 e.broken.3) e.bodies.0 D.faults well e.broken.0 (search rules) refl;
+      fault = batch_steps.moved_breaks D.honest D.unsynced i s.step t1 (steps.beside_of s.slots t1 e.broken.3) e.bodies.0 D.faults well e.broken.0 (search rules) refl;
       takes_room = tt;
       called = inr w.called;
-      any_moment = λ h. leaves_map D.moment D.crash_states_since t.journal.disk t1.journal.disk _ _ (steps.open_leaves (steps.Moved D.honest D.unsynced i s.step t) off begun) (leaves h);
-      exit = steps.exit_has D m.counts_now t.journal.disk t1.journal.disk _ _ (steps.open_leaves (steps.Moved D.honest D.unsynced i s.step t1) off begun_now) w.honest.1 leaves;
+      any_moment = λ h. leaves_map D.moment D.crash_states_since t.journal.disk t1.journal.disk _ _ (steps.open_leaves (batch_steps.Moved D.honest D.unsynced i s.step t) off begun) (leaves h);
+      exit = steps.exit_has D m.counts_now t.journal.disk t1.journal.disk _ _ (steps.open_leaves (batch_steps.Moved D.honest D.unsynced i s.step t1) off begun_now) w.honest.1 leaves;
       honest = w.honest;
     })
 
@@ -69,7 +70,7 @@ invariant_of-result g c =
     let start : c.again.result ≡ s.origin = c.again.ensures in
     let store : c.new-2.result.store ≡ record { name = s.sealed.name; start = s.origin } = ap (λ (p : FrontState). p.store) c.new-2.ensures ∙ ap (λ (n : ℕ). record { name = n; start = c.again.result }) l.2 ∙ ap (λ (x : State). record { name = s.sealed.name; start = x }) start in
     let edits = ap (λ (p : FrontState). p.edits) c.new-2.ensures ∙ l.3 ∙ l.1 in
-    steps.receipt_of D.honest D.unsynced i f (record { store = c.new-2.result.store; edits = c.new-2.result.edits; batch = c.replace-draw.result }) store edits
+    batch_steps.receipt_of D.honest D.unsynced i f (record { store = c.new-2.result.store; edits = c.new-2.result.edits; batch = c.replace-draw.result }) store edits
     (ap (λ (b : Group). b.changes) c.replace-draw.ensures.value) (ap (λ (b : Group). b.first) c.replace-draw.ensures.value)
 
 pub invariant_of-self-2 : goal.invariant_of-self-2
@@ -79,7 +80,7 @@ invariant_of-self-2 g c =
     let f = steps.not_idle s.step GateOpened _ _ at (λ (e : GateOpened ≡ Idle). absurd (cc e)) i.flight in
     let t1 = c.sync_gate.new.slots in let w = c.sync_gate.ensures in let o = c.in-Ok.ensures in let l = c.lengthen-front.ensures in let b = w.beside in
     let store : ◌≡◌ {A = Identity} (record { name = c.lengthen-front.new.self.name; start = s.origin }) (record { name = s.sealed.name; start = s.origin }) = ap (λ (n : ℕ). record { name = n; start = s.origin }) l.0 in
-    rw c.swap.ensures.x_after (steps.sound_sealed D.honest D.unsynced i f
+    rw c.swap.ensures.x_after (batch_steps.sound_sealed D.honest D.unsynced i f
     (record { store = record { name = c.lengthen-front.new.self.name; start = s.origin }; sealed = c.lengthen-front.new.self.log; staged = c.replace-draw.new.dest.changes; step = Idle; slots = t1 }) store l.1 refl o.sealed.0 o.shut w.same_slot.1 b.0 b.2 b.3 o.grown
     (λ h. let back = w.honest.1 h in o.next back i.size _ _ (i.kept_is back) (steps.leads D i f)) (λ growing. o.planned growing i.size _ _ (i.planned growing.0).spells (steps.leads D i f)) c.replace-draw.new.dest.first (changes_of c.swap.new.y.items))
 
@@ -96,7 +97,7 @@ returns g c =
     let off : s.step ≢ Idle = λ e. (let other : GateOpened ≡ Idle = sym at ∙ e in absurd (cc other)) in
     let begun = steps.begun_opened t.journal.phase t.journal.begun (inl is) in
     let start : c.again.result ≡ s.origin = c.again.ensures in
-    let sound = steps.sound_sealed D.honest D.unsynced i f
+    let sound = batch_steps.sound_sealed D.honest D.unsynced i f
     (record { store = record { name = c.lengthen-front.new.self.name; start = s.origin }; sealed = c.lengthen-front.new.self.log; staged = c.replace-draw.new.dest.changes; step = Idle; slots = t1 }) store l.1 refl o.sealed.0 o.shut w.same_slot.1 b.0 b.2 b.3 o.grown
     (λ h. let back = w.honest.1 h in o.next back i.size _ _ (i.kept_is back) (steps.leads D i f)) (λ growing. o.planned growing i.size _ _ (i.planned growing.0).spells (steps.leads D i f)) c.replace-draw.new.dest.first (changes_of c.swap.new.y.items) in
     rw (← c.self.view_is) (record {
@@ -108,9 +109,9 @@ returns g c =
       err = tt;
       phase = tt;
       fault = tt;
-      takes_room = (ap (λ x. x.most) w.same_slot.1, steps.takes_room D.honest D.unsynced i f t1.journal w.same_slot.1 w.same_slot.2 o.sealed.1, (b.2, b.4, b.0, b.1), steps.tail_grows D.honest D.unsynced i f t1 b.3 o.grown, λ still. steps.tail_stays t t1 b.3 (o.still still));
+      takes_room = (ap (λ x. x.most) w.same_slot.1, batch_steps.takes_room D.honest D.unsynced i f t1.journal w.same_slot.1 w.same_slot.2 o.sealed.1, (b.2, b.4, b.0, b.1), batch_steps.tail_grows D.honest D.unsynced i f t1 b.3 o.grown, λ still. steps.tail_stays t t1 b.3 (o.still still));
       called = w.called;
-      any_moment = λ h. leaves_map D.moment D.crash_states_since t.journal.disk t1.journal.disk _ _ (steps.open_leaves (steps.Moved D.honest D.unsynced i s.step t) off begun) (leaves h);
+      any_moment = λ h. leaves_map D.moment D.crash_states_since t.journal.disk t1.journal.disk _ _ (steps.open_leaves (batch_steps.Moved D.honest D.unsynced i s.step t) off begun) (leaves h);
       exit = steps.now D sound c.phase-self-inside.ensures.outcomes;
       honest = w.honest;
     })

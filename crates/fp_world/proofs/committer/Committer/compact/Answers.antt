@@ -5,6 +5,7 @@ use Rattle.fp_world.specs.Committer.{CommitterState, commits_of}
 use Rattle.fp_world.specs.declared.event.Answer.TheVariants as answer
 use Rattle.fp_group_commit.proofs.Steps as moves
 use Rattle.fp_world.proofs.Goes as goes
+use Rattle.fp_world.proofs.CompactionGoes as compaction_goes
 use Rattle.fp_world.proofs.Keeps as keeps
 use Rattle.fp_world.proofs.Sound as sound
 use Rattle.fp_world.proofs.committer.Committer.compact.Goals as goal
@@ -21,7 +22,7 @@ returns-then-failed-clause-exit g c = let D = g.D.Disk in rw (← c.self.view_is
 pub returns-then-not-may_compact-clause-steps : goal.returns-then-not-may_compact-clause-steps
 returns-then-not-may_compact-clause-steps g c =
     let D = g.D.Disk in let m = g.met.D.Disk in let s = c.self.inside.store in let d = c.self.inside.desk in let h = c.self.inside.held in let told = c.self.inside.told in let i = c.self.invariant in
-    let none : MayStep (goes.At h s d told) → ⊥ = (λ may. let yes = c.may_compact.ensures.1 (goes.may_compact h s d told i.out may) in absurd (search rules)) in
+    let none : MayStep (goes.At h s d told) → ⊥ = (λ may. let yes = c.may_compact.ensures.1 (compaction_goes.may_compact h s d told i.out may) in absurd (search rules)) in
     rw (← c.self.view_is) (goes.well_by c.failed.result s.slots.journal.phase c.failed.ensures c.if-failed.false, none, refl)
 
 pub returns-then-not-may_compact-clause-any_moment : goal.returns-then-not-may_compact-clause-any_moment
@@ -48,14 +49,14 @@ returns-in-Err g c =
     let w = c.compact_step.ensures in let n = c.compact_step.new.self in
     let may : MayCompact s = c.may_compact.ensures.0 (search rules) in
     rw (← c.self.view_is) (record {
-      steps = subst (λ (x : CommitterState g.row.D.Denot). StepsOn (commits_of x) (answer.Fault c.in-Err.fault) (goes.At h n d told)) c.self.view_is (goes.stops D.faults c.in-Err.fault h s n d told i.out may c.in-Err.ensures.fault);
+      steps = subst (λ (x : CommitterState g.row.D.Denot). StepsOn (commits_of x) (answer.Fault c.in-Err.fault) (goes.At h n d told)) c.self.view_is (compaction_goes.stops D.faults c.in-Err.fault h s n d told i.out may c.in-Err.ensures.fault);
       told = refl;
       same = (refl, refl, w.same.0);
       any_moment = λ h0. keeps.kept_leaves D.honest D.moment D.crash_states_since D.unsynced i n.slots.journal.disk (w.any_moment h0);
       exit = moves.exit_has D m.counts_now s.slots.journal.disk n.slots.journal.disk _ _ (λ o p. p) w.honest.1 (λ h0. keeps.kept_leaves D.honest D.moment D.crash_states_since D.unsynced i n.slots.journal.disk (w.any_moment h0));
       honest = w.honest;
-      called = goes.calls_of_stop D.faults D.calls c.in-Err.fault s n c.in-Err.ensures.fault c.in-Err.ensures.called;
-      cause = goes.rise_of_stop D.faults c.in-Err.fault s n c.in-Err.ensures.fault;
+      called = compaction_goes.calls_of_stop D.faults D.calls c.in-Err.fault s n c.in-Err.ensures.fault c.in-Err.ensures.called;
+      cause = compaction_goes.rise_of_stop D.faults c.in-Err.fault s n c.in-Err.ensures.fault;
     })
 
 pub returns : goal.returns
@@ -65,12 +66,12 @@ returns g c =
     let may : MayCompact s = c.may_compact.ensures.0 (search rules) in
     let ok = c.in_default.ensures.ok in
     rw (← c.self.view_is) (record {
-      steps = goes.compacts D.faults h s n d told c.step.result i.same i.out may ok w.phase c.step.ensures;
+      steps = compaction_goes.compacts D.faults h s n d told c.step.result i.same i.out may ok w.phase c.step.ensures;
       told = refl;
       same = (refl, refl, w.same.0);
       any_moment = λ h0. keeps.kept_leaves D.honest D.moment D.crash_states_since D.unsynced i n.slots.journal.disk (w.any_moment h0);
       exit = moves.exit_has D m.counts_now s.slots.journal.disk n.slots.journal.disk _ _ (λ o p. p) w.honest.1 (λ h0. keeps.kept_leaves D.honest D.moment D.crash_states_since D.unsynced i n.slots.journal.disk (w.any_moment h0));
       honest = w.honest;
-      called = goes.calls_of_step s.slots.step s.slots.may_open c.step.result (D.calls s.slots.journal.disk) (D.calls n.slots.journal.disk) c.in_default.ensures.called;
+      called = compaction_goes.calls_of_step s.slots.step s.slots.may_open c.step.result (D.calls s.slots.journal.disk) (D.calls n.slots.journal.disk) c.in_default.ensures.called;
       cause = ok.no_failure;
     })
