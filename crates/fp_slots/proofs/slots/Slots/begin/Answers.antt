@@ -7,7 +7,7 @@ use Rattle.fp_slots.specs.declared.places.TheConstants.{IMAGE_PLACE}
 use Rattle.fp_slots.specs.declared.slots.Step.TheVariants.{Begin}
 use Rattle.fp_slots.proofs.Beside.{head_long, head_plan}
 use Rattle.fp_slots.proofs.Fronts.{shut_front, shut_all, shut_back}
-use Rattle.fp_slots.proofs.Steps as steps
+use Rattle.fp_slots.proofs.EarlySteps as early_steps
 use Rattle.fp_slots.proofs.slots.Slots.begin.Goals as goal
 
 pub invariant_of-self : goal.invariant_of-self
@@ -22,7 +22,7 @@ invariant_of-self g c =
     let n : ℕ = IMAGE_PLACE + length c.args.image.now in let n_is : n ≡ length head = omega (arith, long) in
     let front = shut_front bytes head behind n made n_is in let all = shut_all bytes head behind n made n_is in
     let size = ap length made in let joined = length-append (head ++ 0 ∷ []) behind in let shut = length-append head (0 ∷ []) in (
-      steps.begins D.honest D.bytes D.unsynced c.self.invariant.0 is alive (slice_range bytes 0 n) (slice_range bytes 0 (n + 1)) (drop (n + 1) bytes) n (n - 1)
+      early_steps.begins D.honest D.bytes D.unsynced c.self.invariant.0 is alive (slice_range bytes 0 n) (slice_range bytes 0 (n + 1)) (drop (n + 1) bytes) n (n - 1)
           (head_plan s.other s.generation c.args.base c.args.image.now (slice_range bytes 0 n) (slice_range bytes 0 (n + 1)) next fits front (all ∙ ap (λ t. t ++ 0 ∷ []) (sym front))),
       tt,
       record { there = omega (arith, size, joined, shut, n_is); image = omega arith; part = omega arith },

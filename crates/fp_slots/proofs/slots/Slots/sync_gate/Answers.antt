@@ -7,6 +7,7 @@ use Rattle.fp_journal.specs.declared.journal.Phase.{Phase}
 use Rattle.fp_journal.specs.declared.journal.Phase.TheVariants.{Idle, GateOpened, Failed}
 use Rattle.fp_slots.specs.State.{step_of, SlotsState, IsEarly}
 use Rattle.fp_slots.proofs.Steps as steps
+use Rattle.fp_slots.proofs.EarlySteps as early_steps
 use Rattle.fp_slots.proofs.slots.Slots.sync_gate.Goals as goal
 
 pub invariant_of-self : goal.invariant_of-self
@@ -17,7 +18,7 @@ invariant_of-self g c =
     let early = subst (λ (k : SlotsState g.row.D.Denot). IsEarly k.step) (sym c.self.view_is) c.requires.early in
     let leave : D.honest s.journal.disk → LeavesOnly D.moment D.crash_states_since s.journal.disk j.disk (λ o. HasChainOrNext s.journal.slot s.journal.front s.journal.sealed s.journal.staged o) = λ h. subst (λ (p : Phase). LeavesOnly D.moment D.crash_states_since s.journal.disk j.disk (λ o. ClaimsAt p s.journal.begun s.journal.slot s.journal.front s.journal.sealed s.journal.staged o)) at (w.kept.any_moment h) in
     let begun : s.journal.begun ≡ true = sym c.self.invariant.0.told ∙ ap (λ (p : Phase). has_begun p s.journal.begun) at in
-    (steps.early_broke D.honest D.bytes D.unsynced D.moment D.crash_states_since m.counts_now c.self.invariant.0 alive j w.kept.same ((λ o. HasChainOrNext s.journal.slot s.journal.front s.journal.sealed s.journal.staged o)) (λ o e. rw (w.begun ∙ begun, w.bodies.0, w.bodies.1) e) (search rules) early w.kept.honest.1 (steps.early_rules D.honest D.bytes D.unsynced D.moment D.crash_states_since m.counts_now c.self.invariant.0 alive j w.kept.same early (steps.Always D.honest D.bytes D.unsynced D.moment D.crash_states_since m.counts_now c.self.invariant.0 alive j w.kept.same) (steps.always_inside D.honest D.bytes D.unsynced D.moment D.crash_states_since m.counts_now c.self.invariant.0 alive j w.kept.same) ((λ o. HasChainOrNext s.journal.slot s.journal.front s.journal.sealed s.journal.staged o)) (steps.next_front D.honest D.bytes D.unsynced D.moment D.crash_states_since m.counts_now c.self.invariant.0 alive j w.kept.same s.journal.staged) leave w.kept.apart), steps.held_on D.honest D.moment c.self.inside.journal j c.self.inside.other.start c.self.inside.held (steps.early_not_open (step_of c.self.inside.held) early) c.self.invariant.1, c.self.invariant.2)
+    (early_steps.early_broke D.honest D.bytes D.unsynced D.moment D.crash_states_since m.counts_now c.self.invariant.0 alive j w.kept.same ((λ o. HasChainOrNext s.journal.slot s.journal.front s.journal.sealed s.journal.staged o)) (λ o e. rw (w.begun ∙ begun, w.bodies.0, w.bodies.1) e) (search rules) early w.kept.honest.1 (early_steps.early_rules D.honest D.bytes D.unsynced D.moment D.crash_states_since m.counts_now c.self.invariant.0 alive j w.kept.same early (steps.Always D.honest D.bytes D.unsynced D.moment D.crash_states_since m.counts_now c.self.invariant.0 alive j w.kept.same) (early_steps.always_inside D.honest D.bytes D.unsynced D.moment D.crash_states_since m.counts_now c.self.invariant.0 alive j w.kept.same) ((λ o. HasChainOrNext s.journal.slot s.journal.front s.journal.sealed s.journal.staged o)) (early_steps.next_front D.honest D.bytes D.unsynced D.moment D.crash_states_since m.counts_now c.self.invariant.0 alive j w.kept.same s.journal.staged) leave w.kept.apart), steps.held_on D.honest D.moment c.self.inside.journal j c.self.inside.other.start c.self.inside.held (steps.early_not_open (step_of c.self.inside.held) early) c.self.invariant.1, c.self.invariant.2)
 
 pub returns-in_err-synced-clause-any_moment : goal.returns-in_err-synced-clause-any_moment
 returns-in_err-synced-clause-any_moment g c =
@@ -26,7 +27,7 @@ returns-in_err-synced-clause-any_moment g c =
     let alive : s.journal.phase ≢ Failed = λ e. let no : GateOpened ≡ Failed = sym at ∙ e in absurd (cc no) in
     let early = subst (λ (k : SlotsState g.row.D.Denot). IsEarly k.step) (sym c.self.view_is) c.requires.early in
     let leave : D.honest s.journal.disk → LeavesOnly D.moment D.crash_states_since s.journal.disk j.disk (λ o. HasChainOrNext s.journal.slot s.journal.front s.journal.sealed s.journal.staged o) = λ h. subst (λ (p : Phase). LeavesOnly D.moment D.crash_states_since s.journal.disk j.disk (λ o. ClaimsAt p s.journal.begun s.journal.slot s.journal.front s.journal.sealed s.journal.staged o)) at (w.kept.any_moment h) in
-    rw (← c.self.view_is) (steps.early_rules D.honest D.bytes D.unsynced D.moment D.crash_states_since m.counts_now c.self.invariant.0 alive j w.kept.same early (steps.Always D.honest D.bytes D.unsynced D.moment D.crash_states_since m.counts_now c.self.invariant.0 alive j w.kept.same) (steps.always_inside D.honest D.bytes D.unsynced D.moment D.crash_states_since m.counts_now c.self.invariant.0 alive j w.kept.same) ((λ o. HasChainOrNext s.journal.slot s.journal.front s.journal.sealed s.journal.staged o)) (steps.next_front D.honest D.bytes D.unsynced D.moment D.crash_states_since m.counts_now c.self.invariant.0 alive j w.kept.same s.journal.staged) leave w.kept.apart)
+    rw (← c.self.view_is) (early_steps.early_rules D.honest D.bytes D.unsynced D.moment D.crash_states_since m.counts_now c.self.invariant.0 alive j w.kept.same early (steps.Always D.honest D.bytes D.unsynced D.moment D.crash_states_since m.counts_now c.self.invariant.0 alive j w.kept.same) (early_steps.always_inside D.honest D.bytes D.unsynced D.moment D.crash_states_since m.counts_now c.self.invariant.0 alive j w.kept.same) ((λ o. HasChainOrNext s.journal.slot s.journal.front s.journal.sealed s.journal.staged o)) (early_steps.next_front D.honest D.bytes D.unsynced D.moment D.crash_states_since m.counts_now c.self.invariant.0 alive j w.kept.same s.journal.staged) leave w.kept.apart)
 
 pub returns-in_err-synced-clause-apart : goal.returns-in_err-synced-clause-apart
 returns-in_err-synced-clause-apart g c =
@@ -51,7 +52,7 @@ invariant_of-self-2 g c =
     let held2 : D.honest s.journal.disk → KeepsHeld D.bytes s.journal.disk k.disk (λ from n. Unit {0}) = λ h from t out p. subst (λ (d : g.row.D.Denot). Holds (D.bytes d) from t) (sym e) (subst (λ (b : List ℕ). Holds b from t) (sym (w.same_bytes h)) p) in
     let back : D.honest k.disk → D.honest s.journal.disk = λ h. w.kept.honest.1 (subst D.honest e h) in
     let told : has_begun k.phase k.begun ≡ k.begun = rw (v.sealed.1, v.begun) refl in
-    (steps.early_done D.honest D.bytes D.unsynced D.moment D.crash_states_since m.counts_now c.self.invariant.0 alive k same2 early (λ x. let no : Idle ≡ Failed = sym v.sealed.1 ∙ x in absurd (cc no)) told back (λ from n. Unit {0}) (λ from n low high. tt) frame2 held2, steps.held_on D.honest D.moment c.self.inside.journal k c.self.inside.other.start c.self.inside.held (steps.early_not_open (step_of c.self.inside.held) early) c.self.invariant.1, c.self.invariant.2)
+    (early_steps.early_done D.honest D.bytes D.unsynced D.moment D.crash_states_since m.counts_now c.self.invariant.0 alive k same2 early (λ x. let no : Idle ≡ Failed = sym v.sealed.1 ∙ x in absurd (cc no)) told back (λ from n. Unit {0}) (λ from n low high. tt) frame2 held2, steps.held_on D.honest D.moment c.self.inside.journal k c.self.inside.other.start c.self.inside.held (steps.early_not_open (step_of c.self.inside.held) early) c.self.invariant.1, c.self.invariant.2)
 
 pub returns-clause-any_moment : goal.returns-clause-any_moment
 returns-clause-any_moment g c =
@@ -66,7 +67,7 @@ returns-clause-any_moment g c =
     let frame2 : D.honest s.journal.disk → KeepsFirm D.moment D.crash_states_since D.unsynced s.journal.disk k.disk (λ from n. Unit {0}) = λ h. subst (λ (d : g.row.D.Denot). KeepsFirm D.moment D.crash_states_since D.unsynced s.journal.disk d (λ from n. Unit {0})) (sym e) (w.kept.apart h) in
     let held2 : D.honest s.journal.disk → KeepsHeld D.bytes s.journal.disk k.disk (λ from n. Unit {0}) = λ h from t out p. subst (λ (d : g.row.D.Denot). Holds (D.bytes d) from t) (sym e) (subst (λ (b : List ℕ). Holds b from t) (sym (w.same_bytes h)) p) in
     let back : D.honest k.disk → D.honest s.journal.disk = λ h. w.kept.honest.1 (subst D.honest e h) in
-    rw (← c.self.view_is) (steps.early_rules D.honest D.bytes D.unsynced D.moment D.crash_states_since m.counts_now c.self.invariant.0 alive k same2 early (steps.Always D.honest D.bytes D.unsynced D.moment D.crash_states_since m.counts_now c.self.invariant.0 alive k same2) (steps.always_inside D.honest D.bytes D.unsynced D.moment D.crash_states_since m.counts_now c.self.invariant.0 alive k same2) ((λ o. HasChainOrNext s.journal.slot s.journal.front s.journal.sealed s.journal.staged o)) (steps.next_front D.honest D.bytes D.unsynced D.moment D.crash_states_since m.counts_now c.self.invariant.0 alive j w.kept.same s.journal.staged) leave2 frame2)
+    rw (← c.self.view_is) (early_steps.early_rules D.honest D.bytes D.unsynced D.moment D.crash_states_since m.counts_now c.self.invariant.0 alive k same2 early (steps.Always D.honest D.bytes D.unsynced D.moment D.crash_states_since m.counts_now c.self.invariant.0 alive k same2) (early_steps.always_inside D.honest D.bytes D.unsynced D.moment D.crash_states_since m.counts_now c.self.invariant.0 alive k same2) ((λ o. HasChainOrNext s.journal.slot s.journal.front s.journal.sealed s.journal.staged o)) (early_steps.next_front D.honest D.bytes D.unsynced D.moment D.crash_states_since m.counts_now c.self.invariant.0 alive j w.kept.same s.journal.staged) leave2 frame2)
 
 pub returns-clause-apart : goal.returns-clause-apart
 returns-clause-apart g c =
