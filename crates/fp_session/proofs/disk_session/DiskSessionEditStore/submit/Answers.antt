@@ -1,9 +1,10 @@
 use Rattle.std.proofs.Common.{◌≡◌, false, refl, sym, subst, ◌∙◌}
 use Rattle.fp_disk.specs.Crashes.{EachCrash}
-use Rattle.fp_desk.specs.Desk.{DeskState}
+use Rattle.fp_desk.specs.Desk.{DeskState, Refuses, head}
+use Rattle.fp_desk.specs.declared.fault.SubmitFault.{SubmitFault}
 use Rattle.fp_edit.specs.Edits.{proposal_of}
 use Rattle.fp_session.specs.Session.{IsInStep, SessionState, StandsAhead}
-use Rattle.fp_session.proofs.Sessions.{keeps_desk, mid_ahead, mid_in_step, mid_keeps, mid_revision, still_leaves}
+use Rattle.fp_session.proofs.Sessions.{keeps_desk, mid_ahead, mid_in_step, mid_keeps, mid_revision, refused_known, still_leaves}
 use Rattle.fp_session.proofs.disk_session.DiskSessionEditStore.submit.Goals as goal
 
 pub invariant_of-self : goal.invariant_of-self
@@ -45,3 +46,9 @@ pub returns-in-Err-Memory-default-clause-any_moment : goal.returns-in-Err-Memory
 returns-in-Err-Memory-default-clause-any_moment g c =
     let i = c.self.inside in let s : SessionState g.row.D.Denot = record { store = i.store; desk = i.desk; stopped = i.is_stopped } in
     rw (← c.self.view_is) (still_leaves g.D.Disk s (record { store = i.store; desk = c.submit.new.self; stopped = i.is_stopped }) g.met.D.Disk.only_now refl c.self.invariant.0)
+
+pub returns-in-Err-Edit-default-clause-refused : goal.returns-in-Err-Edit-default-clause-refused
+returns-in-Err-Edit-default-clause-refused g c =
+    let d = c.self.inside.desk in let p = proposal_of c.args.edit in let e = c.in-Err-Edit-default in
+    let refused = subst (λ (f : SubmitFault). Refuses d p f) e.field-0-0-is e.ensures.refused in
+    rw (← c.self.view_is) (refused_known (head d) p e.fault refused.1)
