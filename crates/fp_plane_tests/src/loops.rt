@@ -30,18 +30,21 @@ pub type Frames = Option<Vec<u8>>;
 /// A hello of a subscriber that has nothing.
 pub const HAS_NOTHING: &[u8] = &[0; 9];
 
-const EDITORS: usize = 2;
+// More than a plane has bells for them.
+const EDITORS: usize = 40;
 
 const SUBSCRIBERS: usize = 2;
 
-const LINES: u64 = 100;
+const LINES: u64 = 25;
 
-// Puts of so many keys that begin by this.
-fn lines_of(alloc: Global, key: &str) -> Result<Vec<u8>, AllocError> {
+const EDITS: u64 = 1_000;
+
+// Puts of keys of this editor's own.
+fn lines_of(alloc: Global, editor: usize) -> Result<Vec<u8>, AllocError> {
     let mut lines = Vec::new(alloc);
     for n in 0..LINES {
         let line = format!(in alloc;
-            "{{\"flag\":{{\"defaultVariant\":\"on\",\"state\":\"ENABLED\",\"variants\":{{\"on\":true}}}},\"key\":\"{key}{n}\",\"op\":\"put\"}}\n"
+            "{{\"flag\":{{\"defaultVariant\":\"on\",\"state\":\"ENABLED\",\"variants\":{{\"on\":true}}}},\"key\":\"{editor}-{n}\",\"op\":\"put\"}}\n"
         )?;
         lines.extend_from_slice(line.as_bytes())?;
     }
@@ -156,7 +159,7 @@ fn are_all(alloc: Global, edits: &[Received]) -> bool {
         }
     }
     all.sort_unstable();
-    all.iter().copied().eq(1..=2 * LINES)
+    all.iter().copied().eq(1..=EDITS)
 }
 
 // Each line is told its own revision, and each subscriber gets frames that rise to the last one.
@@ -177,14 +180,15 @@ where
     for _ in 0..SUBSCRIBERS {
         start_subscriber(rt, &plane, &frames)?;
     }
-    start_editor(rt, &plane, lines_of(alloc, "a")?, &edits)?;
-    start_editor(rt, &plane, lines_of(alloc, "b")?, &edits)?;
-    assert!(rt; comes_to(rt, &plane, 2 * LINES) && edits.come_to(rt, EDITORS));
+    for editor in 0..EDITORS {
+        start_editor(rt, &plane, lines_of(alloc, editor)?, &edits)?;
+    }
+    assert!(rt; comes_to(rt, &plane, EDITS) && edits.come_to(rt, EDITORS));
     assert!(rt; are_all(alloc, &edits.take(rt)));
-    assert_eq!(rt; revision_left(rt, plane)?, 2 * LINES);
+    assert_eq!(rt; revision_left(rt, plane)?, EDITS);
     assert!(rt; frames.come_to(rt, SUBSCRIBERS));
     for sent in frames.take(rt) {
-        assert_eq!(rt; last_of(alloc, &sent), Some(2 * LINES));
+        assert_eq!(rt; last_of(alloc, &sent), Some(EDITS));
     }
     Ok(())
 }
