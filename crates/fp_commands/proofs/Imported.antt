@@ -15,7 +15,7 @@ use Rattle.fp_session.specs.declared.fault.ApplyFault.TheVariants as run
 use Rattle.fp_recovery.specs.Refusals.{RefusesBytes, IsUnlessWanting}
 use Rattle.fp_commands.specs.declared.fault.CommandFault.{CommandFault}
 use Rattle.fp_commands.specs.declared.fault.CommandFault.TheVariants as command
-use Rattle.fp_commands.specs.Documents.{import_of, defined, IsDocumentFault}
+use Rattle.fp_commands.specs.Documents.{import_of, import_of_data, IsDocumentFault}
 use Rattle.fp_commands.specs.Disks.{IsImportingFault}
 use Rattle.fp_commands.specs.Faults.{of_import, of_open, of_run}
 
@@ -23,7 +23,7 @@ use Rattle.fp_commands.specs.Faults.{of_import, of_open, of_run}
 
 -- the bytes are these data
 pub import-known : {D : Type 0} (view : D → Data) (input items : List ℕ) (o : Option D) (d : D) → items ≡ input → option_map view o ≡ json_of items → o ≡ Some d → import_of input ≡ document (view d)
-import-known view input items o d is read some = ap defined (ap json_of (sym is) ∙ sym read ∙ ap (option_map view) some)
+import-known view input items o d is read some = ap import_of_data (ap json_of (sym is) ∙ sym read ∙ ap (option_map view) some)
 
 pub document-fault : (left : Option (List ℕ)) (fault : ImportFault) → IfSome left (λ input. Tells fault (λ f. import_of input ≡ Err f)) → IsDocumentFault left (of_import fault)
 document-fault left import.NotDocument h = h

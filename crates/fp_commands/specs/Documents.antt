@@ -10,13 +10,13 @@ use Rattle.fp_imports.specs.Document.{nested_too_deep, bad_flag, bad_key}
 use Rattle.fp_commands.specs.declared.fault.CommandFault.{CommandFault}
 use Rattle.fp_commands.specs.declared.fault.CommandFault.TheVariants as fault
 
-abbrev pub defined : Option Data → Result (List Flag) Refusal
-defined None = Err not_document
-defined (Some d) = document d
+abbrev pub import_of_data : Option Data → Result (List Flag) Refusal
+import_of_data None = Err not_document
+import_of_data (Some d) = document d
 
 -- the flags of the document that the bytes are, or why they are none
 abbrev pub import_of : List ℕ → Result (List Flag) Refusal
-import_of bytes = defined (json_of bytes)
+import_of bytes = import_of_data (json_of bytes)
 
 -- the fault is that of the document that is read, or reading it failed
 abbrev pub IsDocumentFault : Option (List ℕ) → CommandFault → Type 0

@@ -20,19 +20,20 @@ use Rattle.fp_commands.specs.declared.fault.CommandFault.TheVariants.{Evaluators
 use Rattle.fp_commands.specs.declared.fault.CommandFault.TheVariants.{Flag}
 
 -- what stands behind the program's name on the error stream
-abbrev pub text_of : CommandFault → List ℕ
-text_of NotEmpty = codes "file is not empty"
-text_of Unformatted = codes "not a flagplane file"
-text_of (UnknownVersion version) = codes "unknown version " ++ decimal version
-text_of (Damaged at) = codes "damaged at byte " ++ decimal at
-text_of Device = run_fault.text_of run.Device
-text_of StoreFailed = run_fault.text_of run.StoreFailed
-text_of Memory = run_fault.text_of run.Memory
-text_of NotDocument = codes "not a flag document"
-text_of (UnknownEvaluator name) = codes "unknown evaluator " ++ string_bytes name
-text_of EvaluatorsTooDeep = codes "evaluators nested too deep"
-text_of BadKey = codes "bad key"
-text_of (Flag key fault) = codes "flag " ++ key_bytes key ++ codes ": " ++ definition.text_of fault
+abbrev pub fault_text : CommandFault → List ℕ
+fault_text NotEmpty = codes "file is not empty"
+fault_text Unformatted = codes "not a flagplane file"
+fault_text (UnknownVersion version) = codes "unknown version " ++ decimal version
+fault_text (Damaged at) = codes "damaged at byte " ++ decimal at
+fault_text Device = run_fault.text_of run.Device
+fault_text StoreFailed = run_fault.text_of run.StoreFailed
+fault_text Memory = run_fault.text_of run.Memory
+fault_text NotDocument = codes "not a flag document"
+fault_text (UnknownEvaluator name) = codes "unknown evaluator " ++ string_bytes name
+fault_text EvaluatorsTooDeep = codes "evaluators nested too deep"
+fault_text BadKey = codes "bad key"
+fault_text (Flag key fault) = codes "flag " ++ key_bytes key ++ codes ": "
+    ++ definition.text_of fault
 
 -- ---- the faults of what a command does
 

@@ -5,7 +5,7 @@ use Rattle.std.specs.FinMap as fin
 use Rattle.fp_edit.specs.Flags.{State}
 use Rattle.fp_streams.specs.Failures.{Stream}
 use Rattle.fp_streams.specs.Said.{AppendsLine}
-use Rattle.fp_commands.specs.Faults.{text_of}
+use Rattle.fp_commands.specs.Faults.{fault_text}
 use Rattle.fp_commands.specs.declared.fault.CommandFault.{CommandFault}
 use Rattle.fp_commands.specs.declared.program.Task.{Task}
 use Rattle.fp_commands.specs.declared.program.Task.TheVariants.{Apply, InitFile, ApplyFile}
@@ -31,12 +31,12 @@ of_flag word path (b ∷ key) =
 
 -- the task, the path, which `apply` alone has none of, and the key,
 -- which `eval` alone has; all other words are no command
-abbrev pub named : List (List ℕ) → Option (Task × List ℕ × List ℕ)
-named [] = None
-named (word ∷ []) = if bytes_eq word (codes "apply") then Some (Apply, [], []) else None
-named (word ∷ path ∷ []) = with_path path (over_file word)
-named (word ∷ path ∷ key ∷ []) = of_flag word path key
-named (word ∷ path ∷ key ∷ next ∷ more) = None
+abbrev pub task_of_words : List (List ℕ) → Option (Task × List ℕ × List ℕ)
+task_of_words [] = None
+task_of_words (word ∷ []) = if bytes_eq word (codes "apply") then Some (Apply, [], []) else None
+task_of_words (word ∷ path ∷ []) = with_path path (over_file word)
+task_of_words (word ∷ path ∷ key ∷ []) = of_flag word path key
+task_of_words (word ∷ path ∷ key ∷ next ∷ more) = None
 
 -- what a run over memory starts from, and what a new disk stands for
 abbrev pub no_flags : State
@@ -63,4 +63,4 @@ usage = codes
 abbrev pub TellsFault : {E : Type 0} → (E → Option (List ℕ)) → Stream E → Stream E → (CommandFault
     → Type 0) → Type 0
 TellsFault contents old new MayEnd = (f : CommandFault) × MayEnd f
-    × Tells contents old new (codes "flagplane: " ++ text_of f)
+    × Tells contents old new (codes "flagplane: " ++ fault_text f)

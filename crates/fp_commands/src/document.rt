@@ -1,7 +1,7 @@
 //! Flagd documents as they are read.
 
 ghost use Rattle.std.specs.Prelude.{◌≡◌, Ok, IfSome, IfOk, IfErr, map};
-ghost use Rattle.fp_session.specs.Asks.{seen};
+ghost use Rattle.fp_session.specs.Asks.{flag_bytes};
 ghost use Rattle.fp_commands.specs.Disks.{Blames};
 ghost use Rattle.fp_commands.specs.Documents.{import_of, IsDocumentFault};
 
@@ -19,7 +19,7 @@ pub fn read_document<R: Read>(
     r: &mut FailureCounted<R>,
 ) -> Result<Vec<(FlagKey, Definition)>, CommandFault>
     ensures flags { IfSome (R.remaining r.old.inner) (λ input.
-        IfOk result (λ flags. import_of input ≡ Ok (map seen flags.items))) }
+        IfOk result (λ flags. import_of input ≡ Ok (map flag_bytes flags.items))) }
     ensures fault { IfErr result (IsDocumentFault (R.remaining r.old.inner)) }
     ensures device { Blames r.old.failures r.new.failures result }
 {

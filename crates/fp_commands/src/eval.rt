@@ -5,7 +5,7 @@ ghost use Rattle.fp_disk.specs.Crashes.{AtAnyMoment, SameHonesty};
 ghost use Rattle.fp_disk.specs.Outcomes.{IsOutcome};
 ghost use Rattle.fp_disk.specs.declared.history.CallKind.TheVariants.{Length, Sync};
 ghost use Rattle.fp_journal.specs.Pieces.{ThenSomeReads};
-ghost use Rattle.fp_ofrep.specs.Seen.{seen};
+ghost use Rattle.fp_ofrep.specs.Seen.{response_seen};
 ghost use Rattle.fp_commands.specs.Disks.{Blames, IfFileRefused, IfRefused, IsShowingFault};
 ghost use Rattle.fp_commands.specs.Disks.{IsStreamFault};
 ghost use Rattle.fp_commands.specs.Eval.{IsAnswered, IsEvaluated, reply_line};
@@ -92,7 +92,7 @@ fn published_of(alloc: Global, opening: Opening) -> Result<Published, AllocError
 
 // The line that shows a reply.
 fn line_of(alloc: Global, reply: &Reply) -> Result<Vec<u8>, AllocError>
-    ensures { IfOk result (λ line. line.items ≡ reply_line (seen reply.now)) }
+    ensures { IfOk result (λ line. line.items ≡ reply_line (response_seen reply.now)) }
 {
     let mut line = Vec::from_slice(
         alloc,

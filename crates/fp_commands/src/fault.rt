@@ -45,9 +45,9 @@ pub enum CommandFault {
 
 impl fmt::Display for CommandFault {
     ghost use Rattle.std.specs.Prelude.{Some};
-    ghost use Rattle.fp_commands.specs.Faults.{text_of};
+    ghost use Rattle.fp_commands.specs.Faults.{fault_text};
 
-    ghost output = { λ e. Some (text_of e) };
+    ghost output = { λ e. Some (fault_text e) };
 
     fn fmt<W: fmt::Write>(&self, f: &mut fmt::Formatter<W>) -> fmt::Result {
         match self {

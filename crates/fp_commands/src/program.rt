@@ -3,7 +3,8 @@
 ghost use Rattle.std.specs.Prelude.{◌≡◌, ◌<◌, ◌≤◌, ◌^◌, ◌↔◌, [], Ok, Err, None, Some, IfSome, OnOk};
 ghost use Rattle.std.specs.Prelude.{MatchOption, map, string_bytes};
 ghost use Rattle.fp_commands.specs.Files.{AppliesInMemory, Performs};
-ghost use Rattle.fp_commands.specs.Task.{NoneFailed, Tells, TellsFault, named, of_flag, over_file};
+ghost use Rattle.fp_commands.specs.Task.{NoneFailed, Tells, TellsFault, task_of_words, of_flag};
+ghost use Rattle.fp_commands.specs.Task.{over_file};
 ghost use Rattle.fp_commands.specs.Task.{usage};
 ghost use Rattle.fp_commands.specs.declared.program.Task.TheVariants.{ApplyFile, EvalFile};
 ghost use Rattle.fp_commands.specs.declared.program.Task.TheVariants.{ImportFile, InitFile};
@@ -55,18 +56,18 @@ where
     W: Write,
     E: Write,
     requires { now < 2 ^ 63 }
-    ensures usage { (result ≡ 2) ↔ (named (map string_bytes words.now) ≡ None) }
+    ensures usage { (result ≡ 2) ↔ (task_of_words (map string_bytes words.now) ≡ None) }
     ensures helps { result ≡ 2 → Tells E.contents e.old e.new usage }
     ensures untouched { result ≡ 2
         → (files.new ≡ files.old) × (r.new ≡ r.old) × (w.new ≡ w.old) }
-    ensures done { result ≡ 0 → IfSome (named (map string_bytes words.now)) (λ task.
+    ensures done { result ≡ 0 → IfSome (task_of_words (map string_bytes words.now)) (λ task.
         Performs F.DiskFiles F.Disk.Disk R.remaining W.contents
         (record { files = files.old; reader = r.old; writer = w.old })
         (record { files = files.new; reader = r.new; writer = w.new })
         task.0 task.1 task.2 now (Ok tt)) }
     ensures no_failure { result ≡ 0 → NoneFailed r.old r.new w.old w.new }
     ensures quiet { result ≡ 0 → e.new ≡ e.old }
-    ensures ends { result ≡ 1 → IfSome (named (map string_bytes words.now)) (λ task.
+    ensures ends { result ≡ 1 → IfSome (task_of_words (map string_bytes words.now)) (λ task.
         TellsFault E.contents e.old e.new (λ fault.
         Performs F.DiskFiles F.Disk.Disk R.remaining W.contents
         (record { files = files.old; reader = r.old; writer = w.old })
@@ -88,8 +89,9 @@ where
 }
 
 fn task_of(words: &[String]) -> Option<(Task, &str, &str)>
-    ensures { MatchOption result (named (map string_bytes words.now) ≡ None)
-        (λ task. named (map string_bytes words.now) ≡ Some (task.0, task.1.now, task.2.now)) }
+    ensures { MatchOption result (task_of_words (map string_bytes words.now) ≡ None)
+        (λ task. task_of_words (map string_bytes words.now)
+        ≡ Some (task.0, task.1.now, task.2.now)) }
 {
     match words {
         [word] if word.as_str() == "apply" => Some((Task::Apply, "", "")),

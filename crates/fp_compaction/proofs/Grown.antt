@@ -3,7 +3,7 @@ use Rattle.std.proofs.Common.{◌≡◌, ◌<◌, ◌+◌, ℕ, List, ◌∷◌,
 use Rattle.std.specs.Prelude.{Result, Ok, Err, OnErr}
 use Rattle.fp_edit.specs.Flags.{State}
 use Rattle.fp_gate.specs.declared.gate.TheConstants.{OPEN}
-use Rattle.fp_journal.specs.Chain.{body_of, framed, with_gate}
+use Rattle.fp_journal.specs.Chain.{body_of, with_length, with_gate}
 use Rattle.fp_journal.specs.declared.slot.Slot.{Slot}
 use Rattle.fp_journal.proofs.Steps.{body_of-with_gate}
 use Rattle.fp_recovery.specs.Stands.{Spells}
@@ -32,16 +32,16 @@ module _ {D : Type 0} (old mid : SlotsState D) (same : SameCompaction old mid) (
   pub ready_on : mid.coming ≡ with_gate (body_of mid.coming)
   ready_on = coming ∙ sym (ap with_gate body)
 
-  pub fits_on : FitsBeside old old.journal.staged → mid.other.start + length (mid.text ++ OPEN ∷ framed (body_of mid.coming)) < mid.other.stop
+  pub fits_on : FitsBeside old old.journal.staged → mid.other.start + length (mid.text ++ OPEN ∷ with_length (body_of mid.coming)) < mid.other.stop
   fits_on fits =
-      let a : old.other.start + length (old.text ++ OPEN ∷ framed old.journal.staged) < old.other.stop = fits growing in
-      let b : mid.other.start + length (old.text ++ OPEN ∷ framed old.journal.staged) < mid.other.stop = subst (λ (x : Slot). x.start + length (old.text ++ OPEN ∷ framed old.journal.staged) < x.stop) (sym same.1) a in
-      let d : mid.other.start + length (mid.text ++ OPEN ∷ framed old.journal.staged) < mid.other.stop = subst (λ (t : List ℕ). mid.other.start + length (t ++ OPEN ∷ framed old.journal.staged) < mid.other.stop) (sym same.5) b in
-      subst (λ (t : List ℕ). mid.other.start + length (mid.text ++ OPEN ∷ framed t) < mid.other.stop) (sym body) d
+      let a : old.other.start + length (old.text ++ OPEN ∷ with_length old.journal.staged) < old.other.stop = fits growing in
+      let b : mid.other.start + length (old.text ++ OPEN ∷ with_length old.journal.staged) < mid.other.stop = subst (λ (x : Slot). x.start + length (old.text ++ OPEN ∷ with_length old.journal.staged) < x.stop) (sym same.1) a in
+      let d : mid.other.start + length (mid.text ++ OPEN ∷ with_length old.journal.staged) < mid.other.stop = subst (λ (t : List ℕ). mid.other.start + length (t ++ OPEN ∷ with_length old.journal.staged) < mid.other.stop) (sym same.5) b in
+      subst (λ (t : List ℕ). mid.other.start + length (mid.text ++ OPEN ∷ with_length t) < mid.other.stop) (sym body) d
 
-  pub text_on : (new : SlotsState D) → new.text ≡ mid.text ++ OPEN ∷ framed (body_of mid.coming) → new.text ≡ old.text ++ OPEN ∷ framed old.journal.staged
-  text_on new grown = grown ∙ ap (λ (x : List ℕ). x ++ OPEN ∷ framed (body_of mid.coming)) same.5 ∙ ap (λ (x : List ℕ). old.text ++ OPEN ∷ framed x) body
+  pub text_on : (new : SlotsState D) → new.text ≡ mid.text ++ OPEN ∷ with_length (body_of mid.coming) → new.text ≡ old.text ++ OPEN ∷ with_length old.journal.staged
+  text_on new grown = grown ∙ ap (λ (x : List ℕ). x ++ OPEN ∷ with_length (body_of mid.coming)) same.5 ∙ ap (λ (x : List ℕ). old.text ++ OPEN ∷ with_length x) body
 
-  pub plans_next : (new : SlotsState D) → new.text ≡ mid.text ++ OPEN ∷ framed (body_of mid.coming) → (size : ℕ) (s t : State) → IsPlannedFor old size s → LeadsTo old size s t → IsPlannedFor new size t
+  pub plans_next : (new : SlotsState D) → new.text ≡ mid.text ++ OPEN ∷ with_length (body_of mid.coming) → (size : ℕ) (s t : State) → IsPlannedFor old size s → LeadsTo old size s t → IsPlannedFor new size t
   plans_next new grown size s t planned leads =
       subst (λ (x : List ℕ). Spells size x t) (sym (text_on new grown)) (spells_on size old.text old.journal.staged s t planned leads.0 leads.1)

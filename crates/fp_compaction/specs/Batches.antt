@@ -4,7 +4,7 @@ use Rattle.fp_disk.specs.Outcomes.{LeavesOnly}
 use Rattle.fp_disk.specs.declared.disk.Disk.{Ghosts}
 use Rattle.fp_edit.specs.Flags.{State}
 use Rattle.fp_gate.specs.declared.gate.TheConstants.{OPEN}
-use Rattle.fp_journal.specs.Chain.{framed, with_gate}
+use Rattle.fp_journal.specs.Chain.{with_length, with_gate}
 use Rattle.fp_journal.specs.State.{room}
 use Rattle.fp_recovery.specs.Stands.{StandsFor, TakesBatch}
 use Rattle.fp_slots.specs.State.{SlotsState, HasBegun, IsEarly, IsGrowing}
@@ -32,7 +32,7 @@ IsReadyFor slots body = IsGrowing slots.step → slots.coming ≡ with_gate body
 -- and then fits there
 abbrev pub FitsBeside : {D : Type 0} → SlotsState D → List ℕ → Type 0
 FitsBeside slots body = IsGrowing slots.step
-    → slots.other.start + length (slots.text ++ OPEN ∷ framed body) < slots.other.stop
+    → slots.other.start + length (slots.text ++ OPEN ∷ with_length body) < slots.other.stop
 
 -- ---- what a call leaves
 -- at each moment the set is kept

@@ -5,7 +5,7 @@ ghost use Rattle.fp_disk.specs.Outcomes.{Answers};
 ghost use Rattle.fp_disk.specs.declared.history.CallKind.TheVariants.{Sync, Write};
 ghost use Rattle.std.specs.Prelude.{◌≡◌, ◌≢◌, [], ◌∷◌, ◌++◌, true, false, length, IfOk, OnOk};
 ghost use Rattle.std.specs.Prelude.{OnErr};
-ghost use Rattle.fp_journal.specs.Chain.{body_of, framed as framed_text, with_gate};
+ghost use Rattle.fp_journal.specs.Chain.{body_of, with_length, with_gate};
 ghost use Rattle.fp_gate.specs.declared.gate.TheConstants.{OPEN};
 ghost use Rattle.fp_journal.specs.State.{SameSlot, has_begun};
 ghost use Rattle.fp_journal.specs.declared.journal.Phase.TheVariants.{Idle, Staged, BodySynced};
@@ -107,7 +107,7 @@ fn grow<D: Disk>(slots: &mut Slots<D>)
     requires ready { IsReadyFor slots.old (body_of slots.old.coming) }
     requires fits { FitsBeside slots.old (body_of slots.old.coming) }
     ensures grown { IsGrowing slots.old.step →
-        slots.new.text ≡ slots.old.text ++ OPEN ∷ framed_text (body_of slots.old.coming) }
+        slots.new.text ≡ slots.old.text ++ OPEN ∷ with_length (body_of slots.old.coming) }
     ensures still { (IsGrowing slots.old.step → ⊥) → slots.new.text ≡ slots.old.text }
     ensures journal { (slots.new.journal ≡ slots.old.journal)
         × (slots.new.other ≡ slots.old.other) × (slots.new.generation ≡ slots.old.generation)
@@ -132,7 +132,7 @@ pub fn sync_gate<D: Disk>(slots: &mut Slots<D>) -> Result<Sealed, DiskFault>
     ensures next { OnOk result (KeepsNext D.Disk slots.old slots.new) }
     ensures planned { OnOk result (PlansNext slots.old slots.new) }
     ensures grown { OnOk result (IsGrowing slots.old.step → slots.new.text
-        ≡ slots.old.text ++ OPEN ∷ framed_text slots.old.journal.staged) }
+        ≡ slots.old.text ++ OPEN ∷ with_length slots.old.journal.staged) }
     ensures still { OnOk result ((IsGrowing slots.old.step → ⊥)
         → slots.new.text ≡ slots.old.text) }
     ensures token { IfOk result (λ t. (t.name ≡ slots.new.journal.name)

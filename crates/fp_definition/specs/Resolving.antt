@@ -35,12 +35,12 @@ said_or_none name reason None = Err NoVariant
 said_or_none name reason (Some d) = Ok (name, d, reason)
 
 -- the variant of that name among these
-abbrev pub named : List ℕ → Reason → Option Data → Result Said EvalFault
-named name reason None = Err NoVariant
-named name reason (Some variants) = said_or_none name reason (get name variants)
+abbrev pub outcome_of_variant : List ℕ → Reason → Option Data → Result Said EvalFault
+outcome_of_variant name reason None = Err NoVariant
+outcome_of_variant name reason (Some variants) = said_or_none name reason (get name variants)
 
 abbrev pub default_named : Reason → Option Data → Option Data → Result Said EvalFault
-default_named reason (Some (string name)) variants = named name reason variants
+default_named reason (Some (string name)) variants = outcome_of_variant name reason variants
 default_named reason other variants = Err NoVariant
 
 -- the default variant
@@ -52,9 +52,11 @@ by_default reason d =
 -- false
 abbrev pub by_result : Data → value.Data → Result Said EvalFault
 by_result d value.null = by_default Default d
-by_result d (value.text name) = named name TargetingMatch (get (codes "variants") d)
-by_result d (value.boolean true) = named (codes "true") TargetingMatch (get (codes "variants") d)
-by_result d (value.boolean false) = named (codes "false") TargetingMatch (get (codes "variants") d)
+by_result d (value.text name) = outcome_of_variant name TargetingMatch (get (codes "variants") d)
+by_result d (value.boolean true) =
+    outcome_of_variant (codes "true") TargetingMatch (get (codes "variants") d)
+by_result d (value.boolean false) =
+    outcome_of_variant (codes "false") TargetingMatch (get (codes "variants") d)
 by_result d (value.whole z) = Err NoVariant
 by_result d (value.list xs) = Err NoVariant
 by_result d (value.object ms) = Err NoVariant

@@ -11,7 +11,7 @@ ghost use Rattle.fp_definition.specs.Key.{key_bytes};
 ghost use Rattle.fp_definition.specs.Outcome.{outcome_of};
 ghost use Rattle.fp_definition.specs.Resolving.{Resolves, Said, Tells, TellsItself, said_by};
 ghost use Rattle.fp_definition.specs.Resolving.{by_default, by_result, data_of, is_disabled};
-ghost use Rattle.fp_definition.specs.Resolving.{named, said_or_none};
+ghost use Rattle.fp_definition.specs.Resolving.{outcome_of_variant, said_or_none};
 ghost use Rattle.fp_operators.specs.Data as values;
 ghost use Rattle.fp_operators.specs.View.{view as datum_view};
 ghost use Rattle.fp_targeting.specs.Meaning.{meaning};
@@ -185,7 +185,7 @@ impl Definition {
 
     fn variant_named(&self, name: &str, reason: Reason) -> Result<Resolved<'_>, EvalFault>
         ensures resolves { Gives said_by TellsItself result
-            (named name.now reason (get (codes "variants") (data_of self.now))) }
+            (outcome_of_variant name.now reason (get (codes "variants") (data_of self.now))) }
         ensures printable { IfOk result (λ r. is_whole (view r.value.now) ≡ true) }
     {
         match self.member("variants") {

@@ -43,8 +43,8 @@ abbrev pub settled_revision : DeskState → ℕ
 settled_revision d = d.store.start.revision + length d.settled
 
 -- how many edits aren't settled yet
-abbrev pub queued : DeskState → ℕ
-queued d = length d.drawn + length d.waiting
+abbrev pub unsettled_count : DeskState → ℕ
+unsettled_count d = length d.drawn + length d.waiting
 
 -- the edit that was handed in, with what its editor expected, and the revision that it makes
 pub record TicketState : Type 0 where
@@ -95,7 +95,7 @@ Draws old new (Some group) = IsNewDraw old new group
 pub record IsAccepted (old new : DeskState) (edit : Proposal) : Type 0 where
   pub open_desk : old.stopped ≡ false
   pub admitted : Admits (head old) edit (accepted (head new))
-  pub room : queued old < MOST_QUEUED
+  pub room : unsettled_count old < MOST_QUEUED
   pub new_is : new ≡ record old { waiting = old.waiting ++ edit.change ∷ [] }
 
 -- why an edit wasn't accepted: the first that applies
@@ -103,9 +103,9 @@ abbrev pub Refuses : DeskState → Proposal → SubmitFault → Type 0
 Refuses d edit submit.Stopped = d.stopped ≡ true
 Refuses d edit (submit.Edit fault) = (d.stopped ≡ false) × (refusal (head d) edit ≡ Some fault)
 Refuses d edit submit.QueueFull = (d.stopped ≡ false) × (refusal (head d) edit ≡ None)
-    × (queued d ≡ MOST_QUEUED)
+    × (unsettled_count d ≡ MOST_QUEUED)
 Refuses d edit submit.Memory = (d.stopped ≡ false) × (refusal (head d) edit ≡ None)
-    × (queued d < MOST_QUEUED)
+    × (unsettled_count d < MOST_QUEUED)
 
 -- the receipt's batch is what is drawn
 abbrev pub IsDrawn : DeskState → ReceiptState → Type 0
@@ -124,5 +124,5 @@ pub record IsSound (d : DeskState) (head_set base : State) (lag : List Change) :
   pub base_is : after_all base lag ≡ settled_set d
   pub lag_follows : Follows base lag
   pub follows : Follows (settled_set d) (d.drawn ++ d.waiting)
-  pub few : queued d ≤ MOST_QUEUED
+  pub few : unsettled_count d ≤ MOST_QUEUED
   pub bounded : (head d).revision < REVISIONS_END

@@ -8,7 +8,7 @@ ghost use Rattle.fp_edit.specs.Edits.{Change, proposal_of};
 ghost use Rattle.fp_edit.specs.Flags.{State};
 ghost use Rattle.fp_edit.specs.Following.{change_of, changes_of};
 ghost use Rattle.fp_group_commit.specs.Tokens.{EndsWith};
-ghost use Rattle.fp_desk.specs.Desk.{head, log, queued, settled_front, settled_revision};
+ghost use Rattle.fp_desk.specs.Desk.{head, log, unsettled_count, settled_front, settled_revision};
 ghost use Rattle.fp_desk.specs.Desk.{settled_set, most_of, FitsBehind, IsAccepted, IsDrawn, Draws};
 ghost use Rattle.fp_desk.specs.Desk.{Refuses, SettlesNot};
 

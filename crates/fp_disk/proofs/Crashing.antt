@@ -10,7 +10,7 @@ use Rattle.fp_disk.specs.declared.call.Request.TheVariants.{Len, Read, Write, Sy
 use Rattle.fp_disk.specs.declared.choice.Fill.{Fill}
 use Rattle.fp_disk.specs.Outcomes.{IsOutcome, AreBytes, Covers}
 use Rattle.fp_disk.specs.Memory.{Memory, HoldsBytes, fresh, state, unsynced_of, ranges_of, reach_of, with_request, writes_after}
-use Rattle.fp_disk.specs.Crash.{IsLeft, laid, fill_of, filled, reaches}
+use Rattle.fp_disk.specs.Crash.{IsLeft, byte_after_writes, fill_of, byte_of_fill, reaches}
 use Rattle.fp_disk.proofs.Keeping.{writes_after_more}
 
 apart : (at n k : ℕ) → ((at ≤ k) × (k < at + n) → ⊥) → (nat_le at k && nat_lt k (at + n)) ≡ false
@@ -23,7 +23,7 @@ apart at n k out = elim (cases_lt k at) [
 ]
 
 -- a place that no write reaches keeps its byte
-laid_apart : (fills : List Fill) (rest : Fill) (ws : List (ℕ × List ℕ)) (k byte : ℕ) → (Covers (ranges_of ws) k → ⊥) → laid fills rest ws k byte ≡ byte
+laid_apart : (fills : List Fill) (rest : Fill) (ws : List (ℕ × List ℕ)) (k byte : ℕ) → (Covers (ranges_of ws) k → ⊥) → byte_after_writes fills rest ws k byte ≡ byte
 laid_apart fills rest [] k byte out = refl
 laid_apart fills rest (w ∷ ws) k byte out =
     let off : reaches w k ≡ false = apart w.0 (length w.1) k (λ inside. out (inl inside)) in
@@ -38,7 +38,7 @@ left_outcome wanted fills rest m c bytes left = let least = reach_least (length 
   bytes = bytes;
   no_shorter = omega (arith, n);
   no_longer = omega (arith, least, n);
-  kept = λ k lt out. left.places k (omega (arith, n, lt)) ∙ (laid_apart fills rest (state m).writes k (slice_index_or (state m).synced k (filled rest k 0 0)) out ∙ within (state m).synced k (filled rest k 0 0) lt);
+  kept = λ k lt out. left.places k (omega (arith, n, lt)) ∙ (laid_apart fills rest (state m).writes k (slice_index_or (state m).synced k (byte_of_fill rest k 0 0)) out ∙ within (state m).synced k (byte_of_fill rest k 0 0) lt);
 }
   where
     within : (xs : List ℕ) (k d : ℕ) → k < length xs → slice_index_or xs k d ≡ slice_index xs k
@@ -62,11 +62,11 @@ writes_after-take calls i c lt is = ap (λ (cs : List Call). writes_after [] cs)
 
 -- one write more, laid over what was left so far
 pub laid_more : (fills : List Fill) (rest fill : Fill) (ws : List (ℕ × List ℕ)) (at number : ℕ) (bytes first before now : List ℕ) → number ≡ length ws → fill ≡ fill_of fills rest number → length before ≡ length first
-    → ((k : ℕ) → k < length first → slice_index before k ≡ laid fills rest ws k (slice_index first k))
-    → ((k : ℕ) → k < length before → slice_index now k ≡ (if reaches (at, bytes) k then filled fill k (slice_index before k) (slice_index bytes (k - at)) else slice_index before k))
-    → (k : ℕ) → k < length first → slice_index now k ≡ laid fills rest ((at, bytes) ∷ ws) k (slice_index first k)
+    → ((k : ℕ) → k < length first → slice_index before k ≡ byte_after_writes fills rest ws k (slice_index first k))
+    → ((k : ℕ) → k < length before → slice_index now k ≡ (if reaches (at, bytes) k then byte_of_fill fill k (slice_index before k) (slice_index bytes (k - at)) else slice_index before k))
+    → (k : ℕ) → k < length first → slice_index now k ≡ byte_after_writes fills rest ((at, bytes) ∷ ws) k (slice_index first k)
 laid_more fills rest fill ws at number bytes first before now is chosen len so_far one k lt =
-    let before_k : slice_index before k ≡ laid fills rest ws k (slice_index first k) = so_far k lt in
+    let before_k : slice_index before k ≡ byte_after_writes fills rest ws k (slice_index first k) = so_far k lt in
     let fill_is : fill ≡ fill_of fills rest (length ws) = chosen ∙ ap (λ (n : ℕ). fill_of fills rest n) is in
-    one k (omega (arith, len, lt)) ∙ (ap (λ (old : ℕ). (if reaches (at, bytes) k then filled fill k old (slice_index bytes (k - at)) else old)) before_k
-    ∙ ap (λ (f : Fill). (if reaches (at, bytes) k then filled f k (laid fills rest ws k (slice_index first k)) (slice_index bytes (k - at)) else laid fills rest ws k (slice_index first k))) fill_is)
+    one k (omega (arith, len, lt)) ∙ (ap (λ (old : ℕ). (if reaches (at, bytes) k then byte_of_fill fill k old (slice_index bytes (k - at)) else old)) before_k
+    ∙ ap (λ (f : Fill). (if reaches (at, bytes) k then byte_of_fill f k (byte_after_writes fills rest ws k (slice_index first k)) (slice_index bytes (k - at)) else byte_after_writes fills rest ws k (slice_index first k))) fill_is)

@@ -4,7 +4,7 @@ use Rattle.fp_disk.specs.declared.call.Call.{Call}
 use Rattle.fp_disk.specs.declared.call.Progress.{Progress}
 use Rattle.fp_disk.specs.declared.call.Progress.TheVariants.{Whole, Half, Nothing}
 use Rattle.fp_disk.specs.declared.call.Request.TheVariants.{Len, Read, Write, Sync}
-use Rattle.fp_disk.specs.Memory.{State, BringsBytes, after, replay, at_first, reach_of, with_request, writes_after, written, HoldsBytes, Keeps}
+use Rattle.fp_disk.specs.Memory.{State, BringsBytes, after, replay, at_first, reach_of, with_request, writes_after, bytes_after_write, HoldsBytes, Keeps}
 use Rattle.fp_disk.specs.Outcomes.{AreBytes}
 use Rattle.fp_disk.specs.MemoryLaws.{replay_more, holds_more}
 
@@ -47,10 +47,10 @@ module _ (first bytes synced : List ℕ) (calls : List Call) (all_synced reach :
   pub keeps_read : (at n : ℕ) (p : Progress) (calls' : List Call) → calls' ≡ calls ++ (record { request = Read at n; progress = p }) ∷ [] → Keeps first bytes synced calls' all_synced reach
   keeps_read at n p calls' is = let c : Call = record { request = Read at n; progress = p } in along c calls' bytes synced all_synced reach is (keeps_more c bytes reach tt kept.bytes_are refl refl kept.reach_is)
 
-  pub keeps_write : (at : ℕ) (more bytes' : List ℕ) (p : Progress) (end : ℕ) (calls' : List Call) → AreBytes more → bytes' ≡ written p bytes at more → end ≡ at + length more
+  pub keeps_write : (at : ℕ) (more bytes' : List ℕ) (p : Progress) (end : ℕ) (calls' : List Call) → AreBytes more → bytes' ≡ bytes_after_write p bytes at more → end ≡ at + length more
       → calls' ≡ calls ++ (record { request = Write at more; progress = p }) ∷ [] → Keeps first bytes' synced calls' all_synced (max reach end)
   keeps_write at more bytes' p end calls' m put ends is = let c : Call = record { request = Write at more; progress = p } in along c calls' bytes' synced all_synced (max reach end) is
-      (keeps_more c bytes' (max reach end) m (put ∙ ap (λ (b : List ℕ). written p b at more) kept.bytes_are) refl refl (ap (λ (r : ℕ). max r end) kept.reach_is ∙ ap (λ (e : ℕ). max (reach_of (length synced) (replay (at_first first) calls).writes) e) ends))
+      (keeps_more c bytes' (max reach end) m (put ∙ ap (λ (b : List ℕ). bytes_after_write p b at more) kept.bytes_are) refl refl (ap (λ (r : ℕ). max r end) kept.reach_is ∙ ap (λ (e : ℕ). max (reach_of (length synced) (replay (at_first first) calls).writes) e) ends))
 
   pub keeps_failed_sync : (p : Progress) (calls' : List Call) → (p ≡ Whole → ⊥) → calls' ≡ calls ++ (record { request = Sync; progress = p }) ∷ [] → Keeps first bytes synced calls' all_synced reach
   keeps_failed_sync Whole calls' failed is = absurd (failed refl)

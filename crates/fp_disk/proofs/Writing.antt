@@ -1,7 +1,7 @@
 -- Bytes put over others past the end, where room for them is filled up first.
 use Rattle.std.proofs.Common.{◌≡◌, ◌≤◌, ◌<◌, ◌+◌, ◌-◌, ℕ, List, [], ◌∷◌, ◌++◌, length, take, drop, replicate, refl, arith, sym, ap, ◌∙◌, zero, suc}
 use Rattle.std.proofs.lemmas.Grind.{common_steps}
-use Rattle.fp_disk.specs.Outcomes.{overwritten}
+use Rattle.fp_disk.specs.Outcomes.{with_bytes_at}
 use Rattle.std.proofs.lemmas.List.{append-nil, take-replicate, drop_all}
 
 -- however many zeros are behind, so long as there are enough
@@ -10,7 +10,7 @@ same_front zero old n m le le' = refl
 same_front (suc k) [] n m le le' = take-replicate (suc k) n 0 (omega arith) ∙ sym (take-replicate (suc k) m 0 (omega arith))
 same_front (suc k) (x ∷ xs) n m le le' = ap (λ (l : List ℕ). x ∷ l) (same_front k xs n m (omega arith) (omega arith))
 
-pub overwritten-filled : (old more : List ℕ) (at end : ℕ) → end ≡ at + length more → length old < end → overwritten (old ++ replicate (end - length old) 0) at more ≡ overwritten old at more
+pub overwritten-filled : (old more : List ℕ) (at end : ℕ) → end ≡ at + length more → length old < end → with_bytes_at (old ++ replicate (end - length old) 0) at more ≡ with_bytes_at old at more
 overwritten-filled old more at end is lt =
     let len : length (old ++ replicate (end - length old) 0) ≡ end = grind (arith, common_steps) in
     let none : at - length (old ++ replicate (end - length old) 0) ≡ 0 = omega (arith, len, is) in

@@ -3,7 +3,7 @@ use Rattle.std.specs.Prelude.{◌≡◌, ◌⊎◌, ◌≤◌, ◌+◌, ◌-◌,
 use Rattle.std.specs.Prelude.{if◌then◌else◌, List, [], ◌∷◌, ◌++◌, length, take, drop, Result}
 use Rattle.std.specs.Prelude.{IsTrue, OnOk, OnErr}
 use Rattle.std.specs.List.{AllByRecursion}
-use Rattle.fp_disk.specs.Outcomes.{PendingState, IsOutcome, AreBytes, overwritten}
+use Rattle.fp_disk.specs.Outcomes.{PendingState, IsOutcome, AreBytes, with_bytes_at}
 use Rattle.fp_disk.specs.declared.history.CallKind.{CallKind}
 use Rattle.fp_disk.specs.declared.history.CallKind.TheVariants as kind
 use Rattle.fp_disk.specs.declared.disk.DiskFault.{DiskFault}
@@ -45,10 +45,10 @@ pub record State : Type 0 where
   pub writes : List (ℕ × List ℕ)
 
 -- these bytes after so much of a write
-abbrev pub written : Progress → List ℕ → ℕ → List ℕ → List ℕ
-written Whole old at more = overwritten old at more
-written Half old at more = overwritten old at (take (length more / 2) more)
-written Nothing old at more = old
+abbrev pub bytes_after_write : Progress → List ℕ → ℕ → List ℕ → List ℕ
+bytes_after_write Whole old at more = with_bytes_at old at more
+bytes_after_write Half old at more = with_bytes_at old at (take (length more / 2) more)
+bytes_after_write Nothing old at more = old
 
 abbrev pub synced_after : Progress → State → State
 synced_after Whole s = record { bytes = s.bytes; synced = s.bytes; writes = [] }
@@ -60,7 +60,11 @@ abbrev pub after_request : Request → Progress → State → State
 after_request Len p s = s
 after_request (Read at n) p s = s
 after_request (Write at more) p s =
-    record { bytes = written p s.bytes at more; synced = s.synced; writes = (at, more) ∷ s.writes }
+    record {
+      bytes = bytes_after_write p s.bytes at more;
+      synced = s.synced;
+      writes = (at, more) ∷ s.writes;
+    }
 after_request Sync p s = synced_after p s
 
 abbrev pub after : State → Call → State
@@ -142,8 +146,8 @@ fresh bytes = record {
 }
 
 -- a call that was recorded
-abbrev pub recorded : Memory → Call → Memory
-recorded m c = record {
+abbrev pub after_recorded_call : Memory → Call → Memory
+after_recorded_call m c = record {
   first = m.first;
   calls = m.calls ++ c ∷ [];
   failing = after_call m.failing;
@@ -153,8 +157,8 @@ recorded m c = record {
 }
 
 -- a call that failed as it was told to
-abbrev pub failed : Memory → Call → Memory
-failed m c = record {
+abbrev pub after_failed_call : Memory → Call → Memory
+after_failed_call m c = record {
   first = m.first;
   calls = m.calls ++ c ∷ [];
   failing = after_call m.failing;
@@ -164,8 +168,8 @@ failed m c = record {
 }
 
 -- a call that failed since there was no memory to record it
-abbrev pub refused : Memory → Request → Memory
-refused m request = record {
+abbrev pub after_unrecorded_call : Memory → Request → Memory
+after_unrecorded_call m request = record {
   first = m.first;
   calls = m.calls;
   failing = after_call m.failing;
@@ -179,10 +183,10 @@ refused m request = record {
 pub record Answered {T : Type 0} (old new : Memory) (request : Request) (progress : Progress)
     (result : Result T DiskFault) : Type 0 where
   pub ok : OnOk result (IsTrue (passes old.failing)
-      × (new ≡ recorded old (record { request = request; progress = Whole })))
+      × (new ≡ after_recorded_call old (record { request = request; progress = Whole })))
   pub err : OnErr result ((((IsTrue (passes old.failing)) → ⊥)
-      × (new ≡ failed old (record { request = request; progress = progress })))
-      ⊎ (new ≡ refused old request))
+      × (new ≡ after_failed_call old (record { request = request; progress = progress })))
+      ⊎ (new ≡ after_unrecorded_call old request))
 
 -- the writes with one more, if this is a write
 abbrev pub with_request : List (ℕ × List ℕ) → Request → List (ℕ × List ℕ)

@@ -7,14 +7,15 @@ use Rattle.std.proofs.lemmas.Bool.{cases_lt}
 use Rattle.std.proofs.lemmas.List.Elements.{All-append, All-take, All-drop, All-replicate}
 use Rattle.std.proofs.Common.{inl, inr, length-append, sym, ap, ◌∙◌, subst, arith, zero, suc}
 use Rattle.fp_disk.specs.Outcomes.{PendingState, IsOutcome, IsByte, AreBytes, Elapses}
-use Rattle.fp_disk.specs.Outcomes.{ChangesWithin, all_synced, overwritten}
+use Rattle.fp_disk.specs.Outcomes.{ChangesWithin, all_synced, with_bytes_at}
 use Rattle.fp_disk.specs.Writes.{length-overwritten, overwritten_before, overwritten_behind}
 use Rattle.fp_disk.specs.declared.call.Call.{Call}
 use Rattle.fp_disk.specs.declared.call.Progress.{Progress}
 use Rattle.fp_disk.specs.declared.call.Progress.TheVariants.{Whole, Half, Nothing}
 use Rattle.fp_disk.specs.declared.call.Request.{Request}
 use Rattle.fp_disk.specs.declared.call.Request.TheVariants.{Len, Read, Write, Sync}
-use Rattle.fp_disk.specs.Memory.{State, Memory, state, written, after, after_request, replay}
+use Rattle.fp_disk.specs.Memory.{State, Memory, state, bytes_after_write, after, after_request}
+use Rattle.fp_disk.specs.Memory.{replay}
 use Rattle.fp_disk.specs.Memory.{at_first, unsynced_of, state_at, LeftSince}
 use Rattle.fp_disk.specs.Memory.{BringsBytes, HoldsBytes}
 
@@ -63,7 +64,7 @@ changes_less old new at m n le c = let a = c.no_longer in record {
 }
 
 overwritten_changes : (old more : List ℕ) (at : ℕ) →
-    ChangesWithin old at (length more) (overwritten old at more)
+    ChangesWithin old at (length more) (with_bytes_at old at more)
 overwritten_changes old more at = let len = length-overwritten old more at in record {
   no_shorter = omega (arith, len);
   no_longer = omega (arith, len);
@@ -77,7 +78,7 @@ overwritten_changes old more at = let len = length-overwritten old more at in re
 }
 
 pub written_changes : (p : Progress) (old more : List ℕ) (at : ℕ) →
-    ChangesWithin old at (length more) (written p old at more)
+    ChangesWithin old at (length more) (bytes_after_write p old at more)
 written_changes Whole old more at = overwritten_changes old more at
 written_changes Half old more at =
     let half = overwritten_changes old (take (length more / 2) more) at in
@@ -92,7 +93,7 @@ written_changes Nothing old more at = record {
 -- bytes put over bytes are bytes
 
 overwritten_bytes : (old more : List ℕ) (at : ℕ) → AreBytes old → AreBytes more →
-    AreBytes (overwritten old at more)
+    AreBytes (with_bytes_at old at more)
 overwritten_bytes old more at o m =
     let filled : List ℕ = old ++ replicate (at - length old) 0 in
     let before = All-take IsByte at filled
@@ -103,7 +104,7 @@ overwritten_bytes old more at o m =
     (All-drop IsByte (at + length more) old o)
 
 written_bytes : (p : Progress) (old more : List ℕ) (at : ℕ) → AreBytes old → AreBytes more →
-    AreBytes (written p old at more)
+    AreBytes (bytes_after_write p old at more)
 written_bytes Whole old more at o m = overwritten_bytes old more at o m
 written_bytes Half old more at o m =
     overwritten_bytes old (take (length more / 2) more) at o
@@ -114,7 +115,8 @@ written_bytes Nothing old more at o m = o
 
 wrote_real : (p : Progress) (s : State) (at : ℕ) (more : List ℕ) → AreBytes more →
     IsOutcome (unsynced_of s) s.bytes →
-    IsOutcome (unsynced_of (after_request (Write at more) p s)) (written p s.bytes at more)
+    IsOutcome (unsynced_of (after_request (Write at more) p s))
+    (bytes_after_write p s.bytes at more)
 wrote_real p s at more m r =
     let c = written_changes p s.bytes more at in
     let a = r.no_shorter in let b = r.no_longer in

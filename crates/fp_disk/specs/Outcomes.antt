@@ -45,13 +45,13 @@ with_write u at n = record {
 }
 
 -- these bytes with others at this place, and zeros in a gap
-abbrev pub overwritten : List ℕ → ℕ → List ℕ → List ℕ
-overwritten old at more = take at (old ++ replicate (at - length old) 0) ++ more
+abbrev pub with_bytes_at : List ℕ → ℕ → List ℕ → List ℕ
+with_bytes_at old at more = take at (old ++ replicate (at - length old) 0) ++ more
     ++ drop (at + length more) old
 
 -- new is old with these bytes at this place
 abbrev pub Written : List ℕ → ℕ → List ℕ → List ℕ → Type 0
-Written old at more new = new ≡ overwritten old at more
+Written old at more new = new ≡ with_bytes_at old at more
 
 -- new is old but for these places, and ends no later than it or they do:
 -- what a write leaves that did a part of its work

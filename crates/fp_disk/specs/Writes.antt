@@ -4,18 +4,18 @@ use Rattle.std.specs.Prelude.{replicate, slice_index}
 use Rattle.std.proofs.lemmas.Grind.{common_steps}
 use Rattle.std.proofs.lemmas.List.{get_or-append_right, get_or_append_left, get_or-drop}
 use Rattle.std.proofs.Common.{ap, ◌∙◌, arith}
-use Rattle.fp_disk.specs.Outcomes.{overwritten}
+use Rattle.fp_disk.specs.Outcomes.{with_bytes_at}
 
 pub length-overwritten : (old more : List ℕ) (at : ℕ) →
-    length (overwritten old at more) ≡ max (length old) (at + length more)
+    length (with_bytes_at old at more) ≡ max (length old) (at + length more)
 length-overwritten old more at = grind (arith, common_steps)
 
 pub overwritten_before : (old more : List ℕ) (at k : ℕ) → k < at → k < length old →
-    slice_index (overwritten old at more) k ≡ slice_index old k
+    slice_index (with_bytes_at old at more) k ≡ slice_index old k
 overwritten_before old more at k lt in_old = grind (arith, common_steps)
 
 pub overwritten_behind : (old more : List ℕ) (at k : ℕ) → at + length more ≤ k →
-    slice_index (overwritten old at more) k ≡ slice_index old k
+    slice_index (with_bytes_at old at more) k ≡ slice_index old k
 overwritten_behind old more at k le =
     let front = take at (old ++ replicate (at - length old) 0) ++ more in
     let len : length front ≡ at + length more = grind (arith, common_steps) in
@@ -25,7 +25,7 @@ overwritten_behind old more at k le =
     ∙ ap (λ (j : ℕ). slice_index old j) there)
 
 pub overwritten_inside : (old more : List ℕ) (at k : ℕ) → k < length more →
-    slice_index (overwritten old at more) (at + k) ≡ slice_index more k
+    slice_index (with_bytes_at old at more) (at + k) ≡ slice_index more k
 overwritten_inside old more at k lt =
     let front = take at (old ++ replicate (at - length old) 0) in
     let len : length front ≡ at = grind (arith, common_steps) in

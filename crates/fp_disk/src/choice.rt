@@ -1,7 +1,7 @@
 //! What a crash leaves, as a trial chooses it.
 
 ghost use Rattle.std.specs.Prelude.{◌≡◌};
-ghost use Rattle.fp_disk.specs.Crash.{drawn, filled};
+ghost use Rattle.fp_disk.specs.Crash.{byte_of_seed, byte_of_fill};
 
 /// What becomes of a byte that a crash leaves open.
 #[derive(Clone, Copy, Debug, PartialEq, Eq)]
@@ -29,10 +29,10 @@ pub struct Choice<'a> {
     pub rest: Fill,
 }
 
-#[tactic(auto, unfolding(crate::specs::Crash::drawn))]
+#[tactic(auto, unfolding(crate::specs::Crash::byte_of_seed))]
 // A byte from this seed, for this place.
 pub(crate) fn draw(seed: u64, place: u64) -> u8
-    ensures { result ≡ drawn seed place }
+    ensures { result ≡ byte_of_seed seed place }
 {
     let spread = place.wrapping_mul(0x9e37_79b9_7f4a_7c15).wrapping_add(seed);
     let folded = spread.wrapping_add(spread / 0x1_0000_0000);
@@ -43,7 +43,7 @@ pub(crate) fn draw(seed: u64, place: u64) -> u8
 impl Fill {
     // The byte at a place where these were.
     pub(crate) fn of(self, place: usize, old: u8, new: u8) -> u8
-        ensures { result ≡ filled self place old new }
+        ensures { result ≡ byte_of_fill self place old new }
     {
         match self {
             Fill::Old => old,

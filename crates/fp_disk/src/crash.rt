@@ -4,7 +4,7 @@ ghost use Rattle.std.specs.Prelude.{◌≡◌, ◌≤◌, ◌<◌, ◌-◌, ℕ,
 ghost use Rattle.std.specs.Prelude.{if◌then◌else◌, IfOk};
 ghost use Rattle.fp_disk.specs.Outcomes.{IsOutcome};
 ghost use Rattle.fp_disk.specs.Memory.{HoldsBytes, state, fresh, unsynced_of, writes_after};
-ghost use Rattle.fp_disk.specs.Crash.{IsLeft, filled, fill_of, laid, reaches};
+ghost use Rattle.fp_disk.specs.Crash.{IsLeft, byte_of_fill, fill_of, byte_after_writes, reaches};
 
 use crate::call::{Call, Request};
 use crate::choice::{Choice, Fill};
@@ -22,7 +22,7 @@ fn synced_and_more(
     ensures len { IfOk result (λ v. length v.items ≡ len) }
     ensures places { IfOk result
         (λ v. (k : ℕ) → k < len →
-        slice_index v.items k ≡ slice_index_or synced.now k (filled rest k 0 0)) }
+        slice_index v.items k ≡ slice_index_or synced.now k (byte_of_fill rest k 0 0)) }
 {
     let mut left = synced.to_vec(alloc)?;
     for place in synced.len()..len {
@@ -36,7 +36,7 @@ fn lay(left: &mut [u8], at: u64, bytes: &[u8], fill: Fill)
     ensures len { length left.new ≡ length left.old }
     ensures places { (k : ℕ) → k < length left.old →
         slice_index left.new k ≡
-        (if reaches (at, bytes.now) k then filled fill k (slice_index left.old k)
+        (if reaches (at, bytes.now) k then byte_of_fill fill k (slice_index left.old k)
         (slice_index bytes.now (k - at)) else slice_index left.old k) }
 {
     let first = at as usize;
@@ -57,7 +57,7 @@ fn nth(fills: &[Fill], number: usize, rest: Fill) -> Fill
 fn lay_all(left: &mut [u8], calls: &[Call], fills: &[Fill], rest: Fill)
     ensures len { length left.new ≡ length left.old }
     ensures places { (k : ℕ) → k < length left.old →
-        slice_index left.new k ≡ laid fills.now rest (writes_after [] calls.now) k
+        slice_index left.new k ≡ byte_after_writes fills.now rest (writes_after [] calls.now) k
         (slice_index left.old k) }
 {
     let mut number = 0usize;

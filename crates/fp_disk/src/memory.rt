@@ -2,9 +2,9 @@
 
 ghost use Rattle.std.specs.Prelude.{◌≡◌, ◌↔◌, ◌≤◌, ◌<◌, ◌+◌, ◌^◌, ◌-◌, ℕ, List, [], ◌∷◌, ◌++◌};
 ghost use Rattle.std.specs.Prelude.{length, slice_range, IfOk, OnOk, OnErr};
-ghost use Rattle.fp_disk.specs.Outcomes.{AreBytes, overwritten};
+ghost use Rattle.fp_disk.specs.Outcomes.{AreBytes, with_bytes_at};
 ghost use Rattle.fp_disk.specs.Memory.{Memory, Answered, HoldsBytes, Keeps, state, unsynced_of};
-ghost use Rattle.fp_disk.specs.Memory.{LeftSince, fresh, written, write_progress};
+ghost use Rattle.fp_disk.specs.Memory.{LeftSince, fresh, bytes_after_write, write_progress};
 ghost use Rattle.fp_disk.specs.MemoryLaws.{counts, only, has_present};
 ghost use Rattle.fp_disk.specs.declared.call.Request.TheVariants.{Len, Read, Write, Sync};
 ghost use Rattle.fp_disk.specs.declared.call.Progress.TheVariants.{Nothing};
@@ -114,7 +114,7 @@ impl MemoryDisk {
 // Puts these at a place that is there.
 fn lay(bytes: &mut [u8], at: usize, from: &[u8])
     requires { at + length from.now ≤ length bytes.old }
-    ensures { bytes.new ≡ overwritten bytes.old at from.now }
+    ensures { bytes.new ≡ with_bytes_at bytes.old at from.now }
 {
     bytes[at..at + from.len()].copy_from_slice(from);
 }
@@ -122,7 +122,7 @@ fn lay(bytes: &mut [u8], at: usize, from: &[u8])
 // Puts these at a place, and zeros in a gap.
 fn overwrite(bytes: &mut Vec<u8>, at: usize, from: &[u8]) -> Result<(), AllocError>
     requires { at + length from.now < 2 ^ 64 }
-    ensures ok { OnOk result (bytes.new.items ≡ overwritten bytes.old.items at from.now) }
+    ensures ok { OnOk result (bytes.new.items ≡ with_bytes_at bytes.old.items at from.now) }
     ensures err { OnErr result (bytes.new.items ≡ bytes.old.items) }
 {
     let end = at + from.len();
@@ -138,7 +138,8 @@ fn overwrite(bytes: &mut Vec<u8>, at: usize, from: &[u8]) -> Result<(), AllocErr
 // So much of a write.
 fn put(bytes: &mut Vec<u8>, at: usize, from: &[u8], progress: Progress) -> Result<(), AllocError>
     requires { at + length from.now < 2 ^ 64 }
-    ensures ok { OnOk result (bytes.new.items ≡ written progress bytes.old.items at from.now) }
+    ensures ok { OnOk result
+        (bytes.new.items ≡ bytes_after_write progress bytes.old.items at from.now) }
     ensures err { OnErr result (bytes.new.items ≡ bytes.old.items) }
 {
     match progress {
@@ -159,7 +160,8 @@ fn put_and_record(
 ) -> Result<u64, AllocError>
     ensures brought { AreBytes from.now }
     ensures end { IfOk result (λ end. end ≡ at + length from.now) }
-    ensures bytes { OnOk result (bytes.new.items ≡ written progress bytes.old.items at from.now) }
+    ensures bytes { OnOk result
+        (bytes.new.items ≡ bytes_after_write progress bytes.old.items at from.now) }
     ensures calls { OnOk result
         (calls.new.items ≡ calls.old.items ++
         (record { request = Write at from.now; progress = progress }) ∷ []) }

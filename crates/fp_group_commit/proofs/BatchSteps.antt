@@ -11,7 +11,7 @@ use Rattle.fp_gate.specs.declared.gate.TheConstants.{OPEN}
 use Rattle.fp_journal.specs.declared.journal.Phase.{Phase}
 use Rattle.fp_journal.specs.declared.journal.Phase.TheVariants.{Idle, Staged, Failed}
 use Rattle.fp_journal.specs.declared.slot.Slot.{Slot}
-use Rattle.fp_journal.specs.Chain.{framed, spell, with_gate}
+use Rattle.fp_journal.specs.Chain.{with_length, spell, with_gate}
 use Rattle.fp_journal.specs.State.{IsOnWay, JournalState, room}
 use Rattle.fp_journal.proofs.Gates.{text-more}
 use Rattle.fp_layout.specs.Size.{other_side, slot_of}
@@ -29,7 +29,7 @@ use Rattle.fp_group_commit.specs.declared.fault.StoreFault.TheVariants as fault
 use Rattle.fp_group_commit.specs.Changes.{GoesOn, batch_len}
 use Rattle.fp_group_commit.specs.Calls.{Breaks, IsStrange, RefusesBy, SameRoom}
 use Rattle.fp_group_commit.specs.Tokens.{Identity, ReceiptState, IsReceipt}
-use Rattle.fp_group_commit.specs.Store.{StoreState, kept, coming}
+use Rattle.fp_group_commit.specs.Store.{StoreState, sealed_set, coming}
 use Rattle.fp_group_commit.specs.Sound.{IsFlight, IsPlan, IsSound}
 use Rattle.fp_group_commit.proofs.Steps.{SameBeside, breaks, fits_other, placed_as, room_same, same_room, wide_of}
 
@@ -38,10 +38,10 @@ module _ {D : Type 0} (honest : D → Type 0) (unsynced : D → PendingState) {s
   abbrev pub Moved : Phase → SlotsState D → StoreState D
   Moved p t = record { store = s.store; sealed = s.sealed; staged = s.staged; step = p; slots = t }
 
-  module _ (p : Phase) (t : SlotsState D) (same : SameBeside s.slots t) (bodies : t.journal.sealed ≡ s.slots.journal.sealed) (kept_is : honest t.journal.disk → IsKeptIn (unsynced t.journal.disk) t i.size (kept s)) where
+  module _ (p : Phase) (t : SlotsState D) (same : SameBeside s.slots t) (bodies : t.journal.sealed ≡ s.slots.journal.sealed) (kept_is : honest t.journal.disk → IsKeptIn (unsynced t.journal.disk) t i.size (sealed_set s)) where
     plan_as : HasBegun t.step → IsPlan i.size (Moved p t)
     plan_as begun = let q = i.planned (subst (λ (x : Step). HasBegun x) same.4 begun) in let head = q.head in let front = q.front in let text = ap length same.5 in let at = same.6 in record {
-      spells = subst (λ (x : List ℕ). Spells i.size x (kept s)) (sym same.5) q.spells;
+      spells = subst (λ (x : List ℕ). Spells i.size x (sealed_set s)) (sym same.5) q.spells;
       head = omega (arith, head, at);
       front = omega (arith, front, text, at);
     }
@@ -55,15 +55,15 @@ module _ {D : Type 0} (honest : D → Type 0) (unsynced : D → PendingState) {s
       place = f.place;
       lawful = f.lawful;
       short = subst (λ (b : List ℕ). length b ≤ t.journal.slot.most) (sym staged) (subst (λ (x : Slot). length s.slots.journal.staged ≤ x.most) (sym same.0.1) f.short);
-      takes = subst (λ (b : List ℕ). TakesBatch (kept s) b (coming s)) (sym staged) f.takes;
+      takes = subst (λ (b : List ℕ). TakesBatch (sealed_set s) b (coming s)) (sym staged) f.takes;
       len = ap length staged ∙ f.len;
       fits = (let left = room_same s.slots.journal t.journal same.0.1 same.0.2 bodies in let l = ap length staged in let fits = f.fits in omega (arith, left, l, fits));
       early = subst (λ (x : Step). IsEarly x) (sym same.4) f.early;
       ready = λ growing. coming_same ∙ f.ready (subst (λ (x : Step). IsGrowing x) same.4 growing) ∙ sym (ap with_gate staged);
       beside = λ growing. (let fits = f.beside (subst (λ (x : Step). IsGrowing x) same.4 growing) in
-          subst (λ (x : Slot). x.start + length (t.text ++ OPEN ∷ framed t.journal.staged) < x.stop) (sym same.1)
-          (subst (λ (x : List ℕ). s.slots.other.start + length (x ++ OPEN ∷ framed t.journal.staged) < s.slots.other.stop) (sym same.5)
-          (subst (λ (x : List ℕ). s.slots.other.start + length (s.slots.text ++ OPEN ∷ framed x) < s.slots.other.stop) (sym staged) fits)));
+          subst (λ (x : Slot). x.start + length (t.text ++ OPEN ∷ with_length t.journal.staged) < x.stop) (sym same.1)
+          (subst (λ (x : List ℕ). s.slots.other.start + length (x ++ OPEN ∷ with_length t.journal.staged) < s.slots.other.stop) (sym same.5)
+          (subst (λ (x : List ℕ). s.slots.other.start + length (s.slots.text ++ OPEN ∷ with_length x) < s.slots.other.stop) (sym staged) fits)));
     }
 
     pub sound_moved : IsFlight s first ahead copies → IsOnWay p → t.journal.staged ≡ s.slots.journal.staged → t.coming ≡ s.slots.coming → (t.journal.phase ≡ p) ⊎ (t.journal.phase ≡ Failed) → IsSound honest unsynced (Moved p t) set first ahead copies
@@ -99,8 +99,8 @@ module _ {D : Type 0} (honest : D → Type 0) (unsynced : D → PendingState) {s
         → t.journal.staged ≡ encoding_of_batch group → length t.journal.staged ≡ batch_len group → HasRoomFor s.slots (batch_len group) → (IsGrowing t.step → t.coming ≡ with_gate t.journal.staged) → t.journal.phase ≡ Staged
         → IsSound honest unsynced (StagedNow group) later group.first left twice
     sound_staged group later left twice keeps follows none copied on lawful spelled len has ready phase =
-        let place : group.first ≡ (kept s).revision + 1 = on.0 ∙ ap (λ (x : State). x.revision + 1) i.set_is in
-        let goes_on : Follows (kept s) group.changes = subst (λ (x : State). Follows x group.changes) i.set_is on.1 in
+        let place : group.first ≡ (sealed_set s).revision + 1 = on.0 ∙ ap (λ (x : State). x.revision + 1) i.set_is in
+        let goes_on : Follows (sealed_set s) group.changes = subst (λ (x : State). Follows x group.changes) i.set_is on.1 in
         let left_room = room_same s.slots.journal t.journal same.0.1 same.0.2 bodies in let short = has.short in let wide = has.fits in let most = ap (λ (x : Slot). x.most) same.0.1 in
         record {
           set_is = keeps ∙ i.set_is;
@@ -119,7 +119,7 @@ module _ {D : Type 0} (honest : D → Type 0) (unsynced : D → PendingState) {s
               lawful = lawful;
               spelled = spelled;
               follows = place;
-              leads = subst (λ (x : State). Leads (kept s) group.changes x) (sym (after-append s.store.start s.sealed group.changes)) (leads_all (kept s) group.changes goes_on);
+              leads = subst (λ (x : State). Leads (sealed_set s) group.changes x) (sym (after-append s.store.start s.sealed group.changes)) (leads_all (sealed_set s) group.changes goes_on);
             };
             len = len;
             fits = omega (arith, len, left_room, wide);
@@ -139,7 +139,7 @@ module _ {D : Type 0} (honest : D → Type 0) (unsynced : D → PendingState) {s
         }
 
   -- ---- what stands against a draw where nothing was written
-  pub goes_kept : (group : Group) → GoesOn (after_all set ahead) group → GoesOn (kept s) group
+  pub goes_kept : (group : Group) → GoesOn (after_all set ahead) group → GoesOn (sealed_set s) group
   goes_kept group on = subst (λ (t : State). GoesOn t group) i.set_is on
 
   pub refuses : (faults : D → ℕ) → s.slots.journal.phase ≢ Failed → (group : Group) (e : StoreFault) → IsStrange (after_all set ahead) group e → RefusesBy faults s s group e
@@ -158,21 +158,21 @@ module _ {D : Type 0} (honest : D → Type 0) (unsynced : D → PendingState) {s
       let len = f.len in let fits = f.fits in
       omega (arith, same, text, len, fits)
 
-  pub tail_grows : IsFlight s first ahead copies → (t : SlotsState D) → t.head ≡ s.slots.head → (IsGrowing s.slots.step → t.text ≡ s.slots.text ++ OPEN ∷ framed s.slots.journal.staged) → IsGrowing s.slots.step
+  pub tail_grows : IsFlight s first ahead copies → (t : SlotsState D) → t.head ≡ s.slots.head → (IsGrowing s.slots.step → t.text ≡ s.slots.text ++ OPEN ∷ with_length s.slots.journal.staged) → IsGrowing s.slots.step
       → tail_of t ≡ tail_of s.slots + batch_len (record { first = 0; changes = s.staged }) + 5
   tail_grows f t head grown growing =
-      let front = (i.planned growing.0).front in let len = f.len in let text = ap length (grown growing) in let joined = length-append s.slots.text (OPEN ∷ framed s.slots.journal.staged) in
+      let front = (i.planned growing.0).front in let len = f.len in let text = ap length (grown growing) in let joined = length-append s.slots.text (OPEN ∷ with_length s.slots.journal.staged) in
       omega (arith, front, len, text, joined, head)
 
   pub sound_sealed : IsFlight s first ahead copies → (n : StoreState D) → n.store ≡ s.store → n.sealed ≡ s.sealed ++ s.staged → n.step ≡ Idle → n.slots.journal.phase ≡ Idle → n.slots.journal.begun ≡ false → n.slots.journal.slot ≡ s.slots.journal.slot → n.slots.other ≡ s.slots.other → n.slots.step ≡ s.slots.step
-      → n.slots.head ≡ s.slots.head → (IsGrowing s.slots.step → n.slots.text ≡ s.slots.text ++ OPEN ∷ framed s.slots.journal.staged)
+      → n.slots.head ≡ s.slots.head → (IsGrowing s.slots.step → n.slots.text ≡ s.slots.text ++ OPEN ∷ with_length s.slots.journal.staged)
       → (honest n.slots.journal.disk → IsKeptIn (unsynced n.slots.journal.disk) n.slots i.size (coming s)) → (IsGrowing s.slots.step → IsPlannedFor n.slots i.size (coming s)) → (next_first : ℕ) (rest : List Change) → IsSound honest unsynced n set next_first copies rest
   sound_sealed f n store sealed step phase begun slot other compacts head grown kept_next planned next_first rest =
-      let set_is : set ≡ kept s = ap (λ (l : List Change). after_all set l) (sym f.none) ∙ i.set_is in
-      let kept_is : kept n ≡ coming s = ap (λ (x : Identity). after_all x.start n.sealed) store ∙ ap (λ (l : List Change). after_all s.store.start l) sealed in
+      let set_is : set ≡ sealed_set s = ap (λ (l : List Change). after_all set l) (sym f.none) ∙ i.set_is in
+      let kept_is : sealed_set n ≡ coming s = ap (λ (x : Identity). after_all x.start n.sealed) store ∙ ap (λ (l : List Change). after_all s.store.start l) sealed in
       record {
-        set_is = ap (λ (t : State). after_all t copies) set_is ∙ ap (λ (l : List Change). after_all (kept s) l) f.copied ∙ sym (after-append s.store.start s.sealed s.staged) ∙ sym kept_is;
-        follows = subst (λ (t : State). Follows t copies) (sym set_is) (subst (λ (l : List Change). Follows (kept s) l) (sym f.copied) f.follows);
+        set_is = ap (λ (t : State). after_all t copies) set_is ∙ ap (λ (l : List Change). after_all (sealed_set s) l) f.copied ∙ sym (after-append s.store.start s.sealed s.staged) ∙ sym kept_is;
+        follows = subst (λ (t : State). Follows t copies) (sym set_is) (subst (λ (l : List Change). Follows (sealed_set s) l) (sym f.copied) f.follows);
         going = inl (phase ∙ sym step);
         flight = inl (step, begun);
         size = i.size;
@@ -180,7 +180,7 @@ module _ {D : Type 0} (honest : D → Type 0) (unsynced : D → PendingState) {s
         kept_is = λ h. subst (λ (t : State). IsKeptIn (unsynced n.slots.journal.disk) n.slots i.size t) (sym kept_is) (kept_next h);
         planned = λ begins.
             (let growing : IsGrowing s.slots.step = (subst (λ (x : Step). HasBegun x) compacts begins, f.early) in let q = i.planned growing.0 in let at = q.head in let front = q.front in
-            let text = ap length (grown growing) in let joined = length-append s.slots.text (OPEN ∷ framed s.slots.journal.staged) in record {
+            let text = ap length (grown growing) in let joined = length-append s.slots.text (OPEN ∷ with_length s.slots.journal.staged) in record {
               spells = subst (λ (t : State). IsPlannedFor n.slots i.size t) (sym kept_is) (planned growing);
               head = omega (arith, at, head);
               front = omega (arith, front, head, text, joined);

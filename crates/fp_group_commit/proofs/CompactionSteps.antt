@@ -13,7 +13,7 @@ use Rattle.fp_gate.specs.declared.gate.TheConstants.{OPEN}
 use Rattle.fp_journal.specs.declared.journal.Phase.{Phase}
 use Rattle.fp_journal.specs.declared.journal.Phase.TheVariants.{Idle, Failed}
 use Rattle.fp_journal.specs.declared.slot.Slot.{Slot}
-use Rattle.fp_journal.specs.Chain.{framed, with_gate}
+use Rattle.fp_journal.specs.Chain.{with_length, with_gate}
 use Rattle.fp_journal.specs.State.{IsOnWay, JournalState, SameSlot, room}
 use Rattle.fp_journal.specs.State as journal
 use Rattle.fp_layout.specs.Size.{other_side, slot_of}
@@ -26,7 +26,7 @@ use Rattle.fp_compaction.specs.Batches.{tail_of}
 use Rattle.fp_compaction.specs.Sets.{IsKeptIn, IsPlannedFor, LeavesSet}
 use Rattle.fp_compaction.specs.Steps.{Begins, BreaksOff, HasPlace, MayStep, Stays, TakesStep, Turns, next_left, next_step}
 use Rattle.fp_group_commit.specs.Calls.{Breaks, Compacts, PlansImage}
-use Rattle.fp_group_commit.specs.Store.{MayCompact, StoreState, Leaves, kept, coming}
+use Rattle.fp_group_commit.specs.Store.{MayCompact, StoreState, Leaves, sealed_set, coming}
 use Rattle.fp_group_commit.specs.Sound.{IsFlight, IsPlan, IsSound}
 use Rattle.fp_group_commit.proofs.Steps.{begun_stays, begun_unless, breaks, by_place, early_next, fits_other, goes, late, leaves_of, most_of, placed_as, placed_turned, room_same, still, taken, wide_of}
 use Rattle.fp_group_commit.proofs.BatchSteps.{Moved}
@@ -64,7 +64,7 @@ module _ {D : Type 0} (disk : Ghosts D) {s : StoreState D} {set : State} {first 
         beside = f.beside;
       })
 
-  pub caught_all : (s.step ≡ Idle → ahead ≡ []) → set ≡ kept s
+  pub caught_all : (s.step ≡ Idle → ahead ≡ []) → set ≡ sealed_set s
   caught_all done = ap (λ (l : List Change). after_all set l) (sym (none i.flight)) ∙ i.set_is
     where
       none : ((s.step ≡ Idle) × (s.slots.journal.begun ≡ false)) ⊎ IsFlight s first ahead copies → ahead ≡ []
@@ -77,7 +77,7 @@ module _ {D : Type 0} (disk : Ghosts D) {s : StoreState D} {set : State} {first 
     still = λ tail way. subst (λ (p : Phase). IsOnWay p) (goes s.slots.journal.phase s.step well i.going ∙ may.still tail) way;
   }
 
-  pub has_place : set ≡ kept s → HasPlace s.slots set
+  pub has_place : set ≡ sealed_set s → HasPlace s.slots set
   has_place is =
       let limit : set.limit ≡ s.store.start.limit = ap (λ (t : State). t.limit) is ∙ limit-after_all s.store.start s.sealed in
       let half = i.placed.half in let least = i.placed.allowed.least in let most = i.placed.allowed.greatest in let wide = wide_of i.size (other_side i.placed.side) s.slots.other i.placed.its in
@@ -87,12 +87,12 @@ module _ {D : Type 0} (disk : Ghosts D) {s : StoreState D} {set : State} {first 
     abbrev Now : StoreState D
     Now = Moved disk.honest disk.unsynced i s.step t
 
-    kept_step : disk.honest t.journal.disk → IsKeptIn (disk.unsynced t.journal.disk) t i.size (kept s)
-    kept_step h = let back = taken_step.honest.1 h in taken_step.kept back i.size (kept s) (i.kept_is back) (late disk i)
+    kept_step : disk.honest t.journal.disk → IsKeptIn (disk.unsynced t.journal.disk) t i.size (sealed_set s)
+    kept_step h = let back = taken_step.honest.1 h in taken_step.kept back i.size (sealed_set s) (i.kept_is back) (late disk i)
 
     pub step_leaves : disk.honest s.slots.journal.disk → LeavesOnly disk.moment disk.crash_states_since s.slots.journal.disk t.journal.disk (Leaves s)
-    step_leaves h = leaves_map disk.moment disk.crash_states_since s.slots.journal.disk t.journal.disk (LeavesSet s.slots.journal (kept s) (coming s)) (Leaves s) (leaves_of disk i)
-        (taken_step.stands h i.size (kept s) (coming s) (i.kept_is h) (taken disk i) (late disk i))
+    step_leaves h = leaves_map disk.moment disk.crash_states_since s.slots.journal.disk t.journal.disk (LeavesSet s.slots.journal (sealed_set s) (coming s)) (Leaves s) (leaves_of disk i)
+        (taken_step.stands h i.size (sealed_set s) (coming s) (i.kept_is h) (taken disk i) (late disk i))
 
     module _ (same : SameSlots s.slots t) (going : (t.journal.phase ≡ s.step) ⊎ (t.journal.phase ≡ Failed)) (begun : HasBegun t.step → HasBegun s.slots.step) (early : IsFlight s first ahead copies → IsEarly t.step) where
       same_flight : IsFlight s first ahead copies → IsFlight Now first ahead copies
@@ -104,15 +104,15 @@ module _ {D : Type 0} (disk : Ghosts D) {s : StoreState D} {set : State} {first 
         place = f.place;
         lawful = f.lawful;
         short = subst (λ (b : List ℕ). length b ≤ t.journal.slot.most) (sym same.2) (subst (λ (x : Slot). length s.slots.journal.staged ≤ x.most) (sym same.0.1) f.short);
-        takes = subst (λ (b : List ℕ). TakesBatch (kept s) b (coming s)) (sym same.2) f.takes;
+        takes = subst (λ (b : List ℕ). TakesBatch (sealed_set s) b (coming s)) (sym same.2) f.takes;
         len = ap length same.2 ∙ f.len;
         fits = (let left = room_same s.slots.journal t.journal same.0.1 same.0.2 same.1 in let l = ap length same.2 in let fits = f.fits in omega (arith, left, l, fits));
         early = early f;
         ready = λ growing. same.8 ∙ f.ready (begun growing.0, f.early) ∙ sym (ap with_gate same.2);
         beside = λ growing. (let fits = f.beside (begun growing.0, f.early) in
-            subst (λ (x : Slot). x.start + length (t.text ++ OPEN ∷ framed t.journal.staged) < x.stop) (sym same.3)
-            (subst (λ (x : List ℕ). s.slots.other.start + length (x ++ OPEN ∷ framed t.journal.staged) < s.slots.other.stop) (sym same.6)
-            (subst (λ (x : List ℕ). s.slots.other.start + length (s.slots.text ++ OPEN ∷ framed x) < s.slots.other.stop) (sym same.2) fits)));
+            subst (λ (x : Slot). x.start + length (t.text ++ OPEN ∷ with_length t.journal.staged) < x.stop) (sym same.3)
+            (subst (λ (x : List ℕ). s.slots.other.start + length (x ++ OPEN ∷ with_length t.journal.staged) < s.slots.other.stop) (sym same.6)
+            (subst (λ (x : List ℕ). s.slots.other.start + length (s.slots.text ++ OPEN ∷ with_length x) < s.slots.other.stop) (sym same.2) fits)));
       }
 
       same_or : ((s.step ≡ Idle) × (s.slots.journal.begun ≡ false)) ⊎ IsFlight s first ahead copies → ((s.step ≡ Idle) × (t.journal.begun ≡ false)) ⊎ IsFlight Now first ahead copies
@@ -129,14 +129,14 @@ module _ {D : Type 0} (disk : Ghosts D) {s : StoreState D} {set : State} {first 
         placed = placed_as i.size s.store.start.limit s.slots t i.placed same.0.1 same.3;
         kept_is = kept_step;
         planned = λ runs. (let q = i.planned (begun runs) in let head = q.head in let front = q.front in let text = ap length same.6 in let at = same.7 in record {
-          spells = subst (λ (x : List ℕ). Spells i.size x (kept s)) (sym same.6) q.spells;
+          spells = subst (λ (x : List ℕ). Spells i.size x (sealed_set s)) (sym same.6) q.spells;
           head = omega (arith, head, at);
           front = omega (arith, front, text, at);
         });
       }
 
     -- as it begins
-    module _ (is : set ≡ kept s) (b : Begins (flags.size set.flags) set.limit s.slots t) (next : t.step ≡ Close) (planned : (size : ℕ) → set.limit ≡ size / 2 → IsPlannedFor t size set) (well : s.slots.journal.phase ≢ Failed) where
+    module _ (is : set ≡ sealed_set s) (b : Begins (flags.size set.flags) set.limit s.slots t) (next : t.step ≡ Close) (planned : (size : ℕ) → set.limit ≡ size / 2 → IsPlannedFor t size set) (well : s.slots.journal.phase ≢ Failed) where
       half : set.limit ≡ i.size / 2
       half = ap (λ (x : State). x.limit) is ∙ limit-after_all s.store.start s.sealed ∙ i.placed.half
 
@@ -158,7 +158,7 @@ module _ {D : Type 0} (disk : Ghosts D) {s : StoreState D} {set : State} {first 
             place = f.place;
             lawful = f.lawful;
             short = subst (λ (j : JournalState D). length j.staged ≤ j.slot.most) (sym b.journal) f.short;
-            takes = subst (λ (l : List ℕ). TakesBatch (kept s) l (coming s)) (sym staged) f.takes;
+            takes = subst (λ (l : List ℕ). TakesBatch (sealed_set s) l (coming s)) (sym staged) f.takes;
             len = ap length staged ∙ f.len;
             fits = subst (λ (j : JournalState D). length j.staged + 6 ≤ room j) (sym b.journal) f.fits;
             early = subst (λ (x : Step). IsEarly x) (sym next) tt;
@@ -204,7 +204,7 @@ module _ {D : Type 0} (disk : Ghosts D) {s : StoreState D} {set : State} {first 
         at_rest (inr f) = absurd (subst (λ (x : Step). IsEarly x) at f.early)
 
   -- ---- a step was taken, whichever it was
-  module _ (t : SlotsState D) (taken_step : TakesStep disk s.slots t) (is : set ≡ kept s) (may : MayCompact s) (well : s.slots.journal.phase ≢ Failed) (order : t.step ≡ next_step s.slots.step s.slots.left)
+  module _ (t : SlotsState D) (taken_step : TakesStep disk s.slots t) (is : set ≡ sealed_set s) (may : MayCompact s) (well : s.slots.journal.phase ≢ Failed) (order : t.step ≡ next_step s.slots.step s.slots.left)
       (begun : s.slots.step ≡ Begin → Begins (flags.size set.flags) set.limit s.slots t) (planned : s.slots.step ≡ Begin → (size : ℕ) → set.limit ≡ size / 2 → IsPlannedFor t size set)
       (stays : s.slots.step ≢ Begin → s.slots.step ≢ SyncOpen → Stays s.slots t) (turned : s.slots.step ≡ SyncOpen → Turns s.slots t) where
     abbrev pub Then : StoreState D
@@ -273,7 +273,7 @@ module _ {D : Type 0} (disk : Ghosts D) {s : StoreState D} {set : State} {first 
     plans_now at =
         let b = begun at in let text = b.text in let short = b.short in
         let limit : set.limit ≡ s.store.start.limit = ap (λ (x : State). x.limit) is ∙ limit-after_all s.store.start s.sealed in
-        let sizes : flags.size set.flags ≡ flags.size (kept s).flags = ap (λ (x : State). flags.size x.flags) is in
+        let sizes : flags.size set.flags ≡ flags.size (sealed_set s).flags = ap (λ (x : State). flags.size x.flags) is in
         record {
           head = b.head ∙ ap (λ (n : ℕ). IMAGE_PLACE + n) sizes;
           small = omega (arith, short, limit, sizes);

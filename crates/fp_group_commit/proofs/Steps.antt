@@ -15,7 +15,7 @@ use Rattle.fp_gate.specs.declared.gate.TheConstants.{OPEN}
 use Rattle.fp_journal.specs.declared.journal.Phase.{Phase}
 use Rattle.fp_journal.specs.declared.journal.Phase.TheVariants.{Idle, Staged, BodySynced, GateOpened, Failed}
 use Rattle.fp_journal.specs.declared.slot.Slot.{Slot}
-use Rattle.fp_journal.specs.Chain.{framed, spell}
+use Rattle.fp_journal.specs.Chain.{with_length, spell}
 use Rattle.fp_journal.specs.State.{IsOnWay, JournalState, SameSlot, room}
 use Rattle.fp_journal.specs.State as journal
 use Rattle.fp_layout.specs.Size.{Side, other_side, slot_of}
@@ -28,7 +28,7 @@ use Rattle.fp_compaction.specs.Batches.{HasRoomFor, LeadsTo, LeavesNext, LeavesS
 use Rattle.fp_compaction.specs.Sets.{GoesOnKept, IsKeptIn, IsPlaced, IsPlannedFor, IsTaken, LeavesSet}
 use Rattle.fp_compaction.specs.Steps.{IsLate, LeavesNow, ReadsNext, next_step}
 use Rattle.fp_group_commit.specs.Calls.{Breaks, SameRoom}
-use Rattle.fp_group_commit.specs.Store.{IsAtRest, reached, reached_at, StoreState, Leaves, kept, coming}
+use Rattle.fp_group_commit.specs.Store.{IsAtRest, readable_set, reached_at, StoreState, Leaves, sealed_set, coming}
 use Rattle.fp_group_commit.specs.Sound.{IsFlight, IsSound}
 
 -- ---- phases
@@ -131,9 +131,9 @@ module _ {D : Type 0} (size limit : ℕ) (old new : SlotsState D) (p : IsPlaced 
   placed_turned slot other = record { allowed = p.allowed; side = other_side p.side; mine = slot ∙ p.its; its = other ∙ p.mine ∙ sym (ap (λ (x : Side). slot_of size x) (flip p.side)); half = p.half }
 
 -- a body of n bytes has room behind a text of so many
-pub fits_other : (size : ℕ) (x : Side) (slot : Slot) (text body : List ℕ) → slot ≡ slot_of size x → 2 ^ 18 ≤ size → length text + length body + 5 < size → slot.start + length (text ++ OPEN ∷ framed body) < slot.stop
+pub fits_other : (size : ℕ) (x : Side) (slot : Slot) (text body : List ℕ) → slot ≡ slot_of size x → 2 ^ 18 ≤ size → length text + length body + 5 < size → slot.start + length (text ++ OPEN ∷ with_length body) < slot.stop
 fits_other size x slot text body is large less =
-    let wide = wide_of size x slot is in let joined = length-append text (OPEN ∷ framed body) in omega (arith, wide, joined, less)
+    let wide = wide_of size x slot is in let joined = length-append text (OPEN ∷ with_length body) in omega (arith, wide, joined, less)
 
 -- ---- calls of a disk
 pub makes_none : (kinds : List CallKind) (old : List CallKind) → MakesSome kinds old old
@@ -142,15 +142,15 @@ makes_none (k ∷ kinds) old = inl refl
 
 -- ---- what a crash leaves, and what a read gives
 module _ {D : Type 0} (disk : Ghosts D) {s : StoreState D} {set : State} {first : ℕ} {ahead copies : List Change} (i : IsSound disk.honest disk.unsynced s set first ahead copies) where
-  pub taken : IsTaken s.slots.journal i.size (kept s) (coming s)
+  pub taken : IsTaken s.slots.journal i.size (sealed_set s) (coming s)
   taken begun = ⊎_elim
       (λ none. absurd (never_begun s.slots.journal.phase s.step s.slots.journal.begun none.0 i.going none.1 begun))
       (λ f. let most = most_of i.size i.placed.side s.slots.journal.slot i.placed.mine in let short = f.short in (f.takes, omega (arith, most, short))) i.flight
 
-  pub late : IsLate s.slots.step → IsPlannedFor s.slots i.size (kept s)
+  pub late : IsLate s.slots.step → IsPlannedFor s.slots i.size (sealed_set s)
   late l = (i.planned (late_begun s.slots.step l)).spells
 
-  pub leads : IsFlight s first ahead copies → LeadsTo s.slots i.size (kept s) (coming s)
+  pub leads : IsFlight s first ahead copies → LeadsTo s.slots i.size (sealed_set s) (coming s)
   leads f = let most = most_of i.size i.placed.side s.slots.journal.slot i.placed.mine in let short = f.short in (f.takes, omega (arith, most, short))
 
   off_idle : journal.has_begun s.slots.journal.phase s.slots.journal.begun ≡ true → s.step ≢ Idle
@@ -158,14 +158,14 @@ module _ {D : Type 0} (disk : Ghosts D) {s : StoreState D} {set : State} {first 
       (λ none. never_begun s.slots.journal.phase s.step s.slots.journal.begun none.0 i.going none.1 begun)
       (λ f. subst (λ (p : Phase). IsOnWay p) idle f.on_way) i.flight
 
-  pub leaves_of : (c : List ℕ) → LeavesSet s.slots.journal (kept s) (coming s) c → Leaves s c
+  pub leaves_of : (c : List ℕ) → LeavesSet s.slots.journal (sealed_set s) (coming s) c → Leaves s c
   leaves_of c (inl stands) = inl stands
   leaves_of c (inr both) = inr (off_idle both.0, both.0, both.1)
 
   pub now : LeavesNow disk s.slots → disk.honest s.slots.journal.disk → (c : List ℕ) → IsOutcome (disk.unsynced s.slots.journal.disk) c → Leaves s c
-  now leaves h c out = leaves_of c (leaves h i.size (kept s) (coming s) (i.kept_is h) taken late c out)
+  now leaves h c out = leaves_of c (leaves h i.size (sealed_set s) (coming s) (i.kept_is h) taken late c out)
 
-  shut_reads : (p : Phase) (c : List ℕ) → (p ≡ GateOpened → ⊥) → (p ≡ s.slots.journal.phase) → s.slots.journal.phase ≢ Failed → Leaves s c → StandsFor c (kept s)
+  shut_reads : (p : Phase) (c : List ℕ) → (p ≡ GateOpened → ⊥) → (p ≡ s.slots.journal.phase) → s.slots.journal.phase ≢ Failed → Leaves s c → StandsFor c (sealed_set s)
   shut_reads p c never is well (inl stands) = stands
   shut_reads p c never is well (inr both) = absurd (no p is never)
     where
@@ -176,18 +176,18 @@ module _ {D : Type 0} (disk : Ghosts D) {s : StoreState D} {set : State} {first 
       no GateOpened e n = absurd (n refl)
       no Failed e n = absurd (well (sym e))
 
-  by_step : (p : Phase) → p ≡ s.slots.journal.phase → s.slots.journal.phase ≢ Failed → (c : List ℕ) → (p ≡ GateOpened → StandsFor c (coming s)) → Leaves s c → StandsFor c (reached_at p (kept s) (coming s))
+  by_step : (p : Phase) → p ≡ s.slots.journal.phase → s.slots.journal.phase ≢ Failed → (c : List ℕ) → (p ≡ GateOpened → StandsFor c (coming s)) → Leaves s c → StandsFor c (reached_at p (sealed_set s) (coming s))
   by_step Idle is well c opened left = shut_reads Idle c (λ e. absurd (cc e)) is well left
   by_step Staged is well c opened left = shut_reads Staged c (λ e. absurd (cc e)) is well left
   by_step BodySynced is well c opened left = shut_reads BodySynced c (λ e. absurd (cc e)) is well left
   by_step GateOpened is well c opened left = opened refl
   by_step Failed is well c opened left = absurd (well (sym is))
 
-  pub reads : ((d : D) → disk.honest d → IsOutcome (disk.unsynced d) (disk.bytes d)) → LeavesNow disk s.slots → (IsEarly s.slots.step → ReadsNext disk s.slots) → disk.honest s.slots.journal.disk → s.slots.journal.phase ≢ Failed → StandsFor (disk.bytes s.slots.journal.disk) (reached s)
+  pub reads : ((d : D) → disk.honest d → IsOutcome (disk.unsynced d) (disk.bytes d)) → LeavesNow disk s.slots → (IsEarly s.slots.step → ReadsNext disk s.slots) → disk.honest s.slots.journal.disk → s.slots.journal.phase ≢ Failed → StandsFor (disk.bytes s.slots.journal.disk) (readable_set s)
   reads present leaves next h well =
       let is = goes s.slots.journal.phase s.step well i.going in let c = disk.bytes s.slots.journal.disk in
       by_step s.step (sym is) well c
-      (λ opened. let f = not_idle s.step GateOpened _ _ opened (λ e. absurd (cc e)) i.flight in next f.early h (is ∙ opened) i.size (kept s) (coming s) (i.kept_is h) (leads f))
+      (λ opened. let f = not_idle s.step GateOpened _ _ opened (λ e. absurd (cc e)) i.flight in next f.early h (is ∙ opened) i.size (sealed_set s) (coming s) (i.kept_is h) (leads f))
       (now leaves h c (present s.slots.journal.disk h))
 
   pub rests : IsAtRest s → journal.has_begun s.slots.journal.phase s.slots.journal.begun ≡ false
@@ -244,7 +244,7 @@ module _ {D : Type 0} (old new : SlotsState D) (same : SamePlan old new) where
 pub sound_new : {D : Type 0} (honest : D → Type 0) (unsynced : D → PendingState) (n : StoreState D) (set : State) → n.store.start ≡ set → n.sealed ≡ [] → n.step ≡ Idle → n.slots.journal.phase ≡ Idle → n.slots.journal.begun ≡ false → n.slots.step ≡ Begin
     → (k : (size : ℕ) × IsPlaced size n.slots set.limit × (honest n.slots.journal.disk → IsKeptIn (unsynced n.slots.journal.disk) n.slots size set)) → (own : State) → own ≡ set → (first : ℕ) (ahead copies : List Change) → ahead ≡ [] → IsSound honest unsynced n own first ahead copies
 sound_new honest unsynced n set start none step phase begun rests k own own_is first ahead copies left =
-    let kept_is : kept n ≡ set = ap (λ (l : List Change). after_all n.store.start l) none ∙ start in
+    let kept_is : sealed_set n ≡ set = ap (λ (l : List Change). after_all n.store.start l) none ∙ start in
     record {
       set_is = ap (λ (l : List Change). after_all own l) left ∙ own_is ∙ sym kept_is;
       follows = subst (λ (l : List Change). Follows own l) (sym left) tt;
@@ -268,17 +268,17 @@ pub breaks : {D : Type 0} (faults : D → ℕ) (old new : StoreState D) → old.
 breaks faults old new well failed cause step same bodies = record { well_before = well; failed = failed; cause = cause; step = step; room = same_room old new same bodies }
 
 module _ {D : Type 0} (disk : Ghosts D) {s : StoreState D} {set : State} {first : ℕ} {ahead copies : List Change} (i : IsSound disk.honest disk.unsynced s set first ahead copies) (t : SlotsState D) where
-  pub sealed_leaves : LeavesSealed disk s.slots t → disk.honest s.slots.journal.disk → LeavesOnly disk.moment disk.crash_states_since s.slots.journal.disk t.journal.disk (λ c. StandsFor c (kept s))
-  sealed_leaves l h = l h i.size (kept s) (i.kept_is h)
+  pub sealed_leaves : LeavesSealed disk s.slots t → disk.honest s.slots.journal.disk → LeavesOnly disk.moment disk.crash_states_since s.slots.journal.disk t.journal.disk (λ c. StandsFor c (sealed_set s))
+  sealed_leaves l h = l h i.size (sealed_set s) (i.kept_is h)
 
-  pub next_leaves : IsFlight s first ahead copies → LeavesNext disk s.slots t → disk.honest s.slots.journal.disk → LeavesOnly disk.moment disk.crash_states_since s.slots.journal.disk t.journal.disk (λ c. StandsFor c (kept s) ⊎ StandsFor c (coming s))
-  next_leaves f l h = l h i.size (kept s) (coming s) (i.kept_is h) (leads disk i f)
+  pub next_leaves : IsFlight s first ahead copies → LeavesNext disk s.slots t → disk.honest s.slots.journal.disk → LeavesOnly disk.moment disk.crash_states_since s.slots.journal.disk t.journal.disk (λ c. StandsFor c (sealed_set s) ⊎ StandsFor c (coming s))
+  next_leaves f l h = l h i.size (sealed_set s) (coming s) (i.kept_is h) (leads disk i f)
 
-  pub kept_on : GoesOnKept disk s.slots t → (disk.honest t.journal.disk → disk.honest s.slots.journal.disk) → disk.honest t.journal.disk → IsKeptIn (disk.unsynced t.journal.disk) t i.size (kept s)
-  kept_on k back h = k (back h) i.size (kept s) (i.kept_is (back h))
+  pub kept_on : GoesOnKept disk s.slots t → (disk.honest t.journal.disk → disk.honest s.slots.journal.disk) → disk.honest t.journal.disk → IsKeptIn (disk.unsynced t.journal.disk) t i.size (sealed_set s)
+  kept_on k back h = k (back h) i.size (sealed_set s) (i.kept_is (back h))
 
 -- of two sets that are left the second only where a gate began to open
-pub open_leaves : {D : Type 0} (s : StoreState D) → s.step ≢ Idle → journal.has_begun s.slots.journal.phase s.slots.journal.begun ≡ true → (c : List ℕ) → StandsFor c (kept s) ⊎ StandsFor c (coming s) → Leaves s c
+pub open_leaves : {D : Type 0} (s : StoreState D) → s.step ≢ Idle → journal.has_begun s.slots.journal.phase s.slots.journal.begun ≡ true → (c : List ℕ) → StandsFor c (sealed_set s) ⊎ StandsFor c (coming s) → Leaves s c
 open_leaves s off begun c (inl stands) = inl stands
 open_leaves s off begun c (inr stands) = inr (off, begun, stands)
 

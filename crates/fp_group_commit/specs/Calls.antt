@@ -11,7 +11,7 @@ use Rattle.fp_journal.specs.declared.journal.Phase.{Phase}
 use Rattle.fp_journal.specs.declared.journal.Phase.TheVariants.{Failed}
 use Rattle.fp_record.specs.Group.{Group}
 use Rattle.fp_group_commit.specs.Changes.{GoesOn, batch_len}
-use Rattle.fp_group_commit.specs.Store.{StoreState, kept}
+use Rattle.fp_group_commit.specs.Store.{StoreState, sealed_set}
 use Rattle.fp_group_commit.specs.declared.fault.StoreFault.{StoreFault}
 use Rattle.fp_group_commit.specs.declared.fault.StoreFault.TheVariants as fault
 
@@ -70,11 +70,11 @@ FailsBy faults old new fault.Stranger = ⊥
 -- why a batch wasn't staged
 abbrev pub RefusesBy : {D : Type 0} → (D → ℕ) → StoreState D → StoreState D →
     Group → StoreFault → Type 0
-RefusesBy faults old new group fault.Device = Breaks faults old new × GoesOn (kept old) group
+RefusesBy faults old new group fault.Device = Breaks faults old new × GoesOn (sealed_set old) group
 RefusesBy faults old new group fault.Failed = (old.slots.journal.phase ≡ Failed) × (new ≡ old)
 RefusesBy faults old new group fault.Memory = (old.slots.journal.phase ≢ Failed) × (new ≡ old)
 RefusesBy faults old new group fault.Stranger =
-    (old.slots.journal.phase ≢ Failed) × (new ≡ old) × (GoesOn (kept old) group → ⊥)
+    (old.slots.journal.phase ≢ Failed) × (new ≡ old) × (GoesOn (sealed_set old) group → ⊥)
 
 -- what stands against a group before anything is written
 abbrev pub IsStrange : State → Group → StoreFault → Type 0
@@ -86,8 +86,8 @@ IsStrange s group fault.Stranger = GoesOn s group → ⊥
 -- ---- a step of a compaction
 -- head and image of the sealed set are to be written, all but the gate, and no tail behind them yet
 pub record PlansImage {D : Type 0} (old new : StoreState D) : Type 0 where
-  pub head : new.slots.head ≡ IMAGE_PLACE + size (kept old).flags
-  pub small : size (kept old).flags ≤ old.store.start.limit
+  pub head : new.slots.head ≡ IMAGE_PLACE + size (sealed_set old).flags
+  pub small : size (sealed_set old).flags ≤ old.store.start.limit
   pub left : new.slots.left + 1 ≡ new.slots.head
   pub text : length new.slots.text ≡ new.slots.head
 

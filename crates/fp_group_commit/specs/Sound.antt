@@ -14,7 +14,7 @@ use Rattle.fp_slots.specs.declared.places.TheConstants.{IMAGE_PLACE}
 use Rattle.fp_compaction.specs.Batches.{FitsBeside, IsReadyFor}
 use Rattle.fp_compaction.specs.Sets.{IsKeptIn, IsPlaced, IsPlannedFor}
 use Rattle.fp_group_commit.specs.Changes.{batch_len}
-use Rattle.fp_group_commit.specs.Store.{StoreState, coming, kept}
+use Rattle.fp_group_commit.specs.Store.{StoreState, coming, sealed_set}
 
 -- The batch on its way leads on from what is sealed, its edits are kept for the set, and those
 -- before it are all in the set. A compaction that can take it has it ready
@@ -23,11 +23,11 @@ pub record IsFlight {D : Type 0} (s : StoreState D) (first : ℕ)
   pub on_way : IsOnWay s.step
   pub none : ahead ≡ []
   pub copied : copies ≡ s.staged
-  pub follows : Follows (kept s) s.staged
-  pub place : first ≡ (kept s).revision + 1
+  pub follows : Follows (sealed_set s) s.staged
+  pub place : first ≡ (sealed_set s).revision + 1
   pub lawful : IsBatch (record { first = first; changes = s.staged })
   pub short : length s.slots.journal.staged ≤ s.slots.journal.slot.most
-  pub takes : TakesBatch (kept s) s.slots.journal.staged (coming s)
+  pub takes : TakesBatch (sealed_set s) s.slots.journal.staged (coming s)
   pub len : length s.slots.journal.staged ≡ batch_len (record { first = first; changes = s.staged })
   pub fits : length s.slots.journal.staged + 6 ≤ room s.slots.journal
   pub early : IsEarly s.slots.step
@@ -36,19 +36,19 @@ pub record IsFlight {D : Type 0} (s : StoreState D) (first : ℕ)
 
 -- what the other slot is to hold spells the sealed set, and begins with its head and an image
 pub record IsPlan {D : Type 0} (size : ℕ) (s : StoreState D) : Type 0 where
-  pub spells : IsPlannedFor s.slots size (kept s)
+  pub spells : IsPlannedFor s.slots size (sealed_set s)
   pub head : s.slots.head ≤ IMAGE_PLACE + size / 2
   pub front : s.slots.head ≤ length s.slots.text
 
 -- the set is behind by the edits that are ahead of it
 pub record IsSound {D : Type 0} (honest : D → Type 0) (unsynced : D → PendingState)
     (s : StoreState D) (set : State) (first : ℕ) (ahead copies : List Change) : Type 0 where
-  pub set_is : after_all set ahead ≡ kept s
+  pub set_is : after_all set ahead ≡ sealed_set s
   pub follows : Follows set ahead
   pub going : (s.slots.journal.phase ≡ s.step) ⊎ (s.slots.journal.phase ≡ Failed)
   pub flight : ((s.step ≡ Idle) × (s.slots.journal.begun ≡ false)) ⊎ IsFlight s first ahead copies
   pub size : ℕ
   pub placed : IsPlaced size s.slots s.store.start.limit
   pub kept_is : honest s.slots.journal.disk
-      → IsKeptIn (unsynced s.slots.journal.disk) s.slots size (kept s)
+      → IsKeptIn (unsynced s.slots.journal.disk) s.slots size (sealed_set s)
   pub planned : HasBegun s.slots.step → IsPlan size s

@@ -24,8 +24,8 @@ pub record StoreState (D : Type 0) : Type 0 where
   pub slots : SlotsState D
 
 -- the set that is sealed, and the one that the batch on its way makes of it
-abbrev pub kept : {D : Type 0} → StoreState D → State
-kept s = after_all s.store.start s.sealed
+abbrev pub sealed_set : {D : Type 0} → StoreState D → State
+sealed_set s = after_all s.store.start s.sealed
 
 abbrev pub coming : {D : Type 0} → StoreState D → State
 coming s = after_all s.store.start (s.sealed ++ s.staged)
@@ -44,7 +44,7 @@ has_begun s = begins_at s.slots.journal.phase s.slots.journal.begun
 -- what a crash may leave: the sealed edits, and once its gate may be open perhaps the whole batch
 -- on its way, where there is one
 abbrev pub Leaves : {D : Type 0} → StoreState D → List ℕ → Type 0
-Leaves s c = StandsFor c (kept s)
+Leaves s c = StandsFor c (sealed_set s)
     ⊎ ((s.step ≢ Idle) × (has_begun s ≡ true) × StandsFor c (coming s))
 
 -- what a read gives, where no call of the device failed:
@@ -56,8 +56,8 @@ reached_at BodySynced now then = now
 reached_at GateOpened now then = then
 reached_at Failed now then = now
 
-abbrev pub reached : {D : Type 0} → StoreState D → State
-reached s = reached_at s.step (kept s) (coming s)
+abbrev pub readable_set : {D : Type 0} → StoreState D → State
+readable_set s = reached_at s.step (sealed_set s) (coming s)
 
 -- ---- a store as it begins
 -- it goes on from this set, with nothing sealed since and nothing on its way

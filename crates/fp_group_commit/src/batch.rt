@@ -9,7 +9,7 @@ ghost use Rattle.fp_journal.specs.declared.journal.Phase.TheVariants.{GateOpened
 ghost use Rattle.fp_group_commit.specs.Calls.{FailsBy, MovesTo, RefusesBy, SameRoom, SameStore};
 ghost use Rattle.fp_group_commit.specs.Calls.{TakesRoom};
 ghost use Rattle.fp_group_commit.specs.Changes.{GoesOn, HasRoom};
-ghost use Rattle.fp_group_commit.specs.Store.{Leaves, kept};
+ghost use Rattle.fp_group_commit.specs.Store.{Leaves, sealed_set};
 
 use crate::draw::{Draw, InDraw, ready};
 use crate::fault::StoreFault;
@@ -29,7 +29,7 @@ impl<D: Disk> Store<D> {
         ensures same { (self.new.store ≡ self.old.store) × (self.new.sealed ≡ self.old.sealed) }
         ensures ok { OnOk result (MovesTo D.faults Staged self.old self.new) }
         ensures staged { OnOk result (self.new.staged ≡ draw.changes) }
-        ensures goes_on { OnOk result (GoesOn (kept self.old) draw) }
+        ensures goes_on { OnOk result (GoesOn (sealed_set self.old) draw) }
         ensures phase { OnErr result (self.new.step ≡ self.old.step) }
         ensures fault { IfErr result (λ e. RefusesBy D.faults self.old self.new draw e.0) }
         ensures given_back { IfErr result (λ e. e.1 ≡ draw) }
@@ -130,7 +130,7 @@ impl<D: Disk> Store<D> {
         ensures receipt { IfOk result (λ r. (r.store ≡ self.new.store)
             × (r.edits ≡ self.new.sealed)) }
         ensures batch { IfOk result (λ r. (r.batch.changes ≡ self.old.staged)
-            × (r.batch.first ≡ (kept self.old).revision + 1)) }
+            × (r.batch.first ≡ (sealed_set self.old).revision + 1)) }
         ensures err { IfErr result (λ _. SameStore self.old self.new) }
         ensures phase { OnErr result (self.new.step ≡ self.old.step) }
         ensures fault { IfErr result (FailsBy D.faults self.old self.new) }

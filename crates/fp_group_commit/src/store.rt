@@ -11,7 +11,8 @@ ghost use Rattle.fp_recovery.specs.Stands.{StandsFor};
 ghost use Rattle.fp_slots.specs.declared.slots.Step.TheVariants.{Begin};
 ghost use Rattle.fp_recovery.specs.Room.{HasNoRoom, IsFullFor};
 ghost use Rattle.fp_group_commit.specs.Changes.{HasRoom, batch_len};
-ghost use Rattle.fp_group_commit.specs.Store.{IsAtRest, IsFresh, Leaves, MayCompact, kept, reached};
+ghost use Rattle.fp_group_commit.specs.Store.{IsAtRest, IsFresh, Leaves, MayCompact, sealed_set};
+ghost use Rattle.fp_group_commit.specs.Store.{readable_set};
 
 use crate::draw::{Draw, has_room};
 use crate::opening::Opening;
@@ -148,7 +149,8 @@ impl<D: Disk> Store<D> {
         ensures full { IsAtRest self.now → self.now.slots.step ≡ Begin
             → HasNoRoom self.now.slots.journal (batch_len draw.now)
             → EachCrash D.Disk self.now.slots.journal.disk
-            (λ c. IsFullFor c (kept self.now) (batch_len draw.now) self.now.slots.generation) }
+            (λ c. IsFullFor c (sealed_set self.now) (batch_len draw.now)
+            self.now.slots.generation) }
 
         // A quarter of a slot is half of what a set may take.
         ensures quarter { (self.now.slots.other.stop - self.now.slots.other.start) / 4
@@ -202,7 +204,7 @@ impl<D: Disk> Store<D> {
         ensures disk { result ≡ self.slots.journal.disk }
         ensures outcomes { EachCrash D.Disk result (Leaves self) }
         ensures reads { D.honest result → self.slots.journal.phase ≢ Failed →
-            StandsFor (D.bytes result) (reached self) }
+            StandsFor (D.bytes result) (readable_set self) }
     {
         // What the slots' outcomes are is known only where it is asked.
         let _ = phase(&self.slots);

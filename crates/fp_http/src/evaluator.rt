@@ -3,7 +3,7 @@
 ghost use Rattle.std.specs.Prelude.{◌<◌, ◌^◌, ℕ, List, Option, IfOk};
 ghost use Rattle.std.specs.Option.{option_copied};
 ghost use Rattle.fp_ofrep.specs.Response.{Response};
-ghost use Rattle.fp_ofrep.specs.Seen.{body_seen, seen};
+ghost use Rattle.fp_ofrep.specs.Seen.{body_seen, response_seen};
 
 use crate::fault::NoReply;
 use fp_ofrep::{Body, Reply};
@@ -28,5 +28,5 @@ pub trait Evaluator: Drop {
     ) -> Result<Reply, NoReply>
         requires { now < 2 ^ 63 }
         ensures { IfOk result (λ r. replies method.now target.now
-            (option_copied if_none_match.entry) (body_seen body.entry) now (seen r)) };
+            (option_copied if_none_match.entry) (body_seen body.entry) now (response_seen r)) };
 }

@@ -5,7 +5,7 @@ ghost use Rattle.std.specs.Option.{option_copied};
 ghost use Rattle.fp_group_commit.specs.Tokens.{FrontState, front_set};
 ghost use Rattle.fp_publish.specs.Fronts.{Begins};
 ghost use Rattle.fp_ofrep.specs.Reply.{reply};
-ghost use Rattle.fp_ofrep.specs.Seen.{body_seen, seen};
+ghost use Rattle.fp_ofrep.specs.Seen.{body_seen, response_seen};
 
 use crate::evaluator::Evaluator;
 use crate::fault::NoReply;
@@ -25,10 +25,11 @@ fn reply_over(
     now: u64,
 ) -> Result<Reply, NoReply>
     requires { now < 2 ^ 63 }
-    ensures said { IfOk result (λ r. (front : FrontState) × (seen r
+    ensures said { IfOk result (λ r. (front : FrontState) × (response_seen r
         ≡ reply (front_set front) method.now target.now (option_copied if_none_match.entry)
         (body_seen body.entry) now)) }
-    ensures over { IfOk result (λ r. (front : FrontState) × (view.entry ≡ Some front) × (seen r
+    ensures over { IfOk result
+        (λ r. (front : FrontState) × (view.entry ≡ Some front) × (response_seen r
         ≡ reply (front_set front) method.now target.now (option_copied if_none_match.entry)
         (body_seen body.entry) now)) }
 {
@@ -57,12 +58,12 @@ impl Evaluator for Reader {
         now: u64,
     ) -> Result<Reply, NoReply>
         requires { now < 2 ^ 63 }
-        ensures replies { IfOk result (λ r. (front : FrontState) × (seen r
+        ensures replies { IfOk result (λ r. (front : FrontState) × (response_seen r
             ≡ reply (front_set front) method.now target.now (option_copied if_none_match.entry)
             (body_seen body.entry) now)) }
         // Over no less than it took or learnt before, and then it holds nothing back.
         ensures goes_on { Begins self.old.known self.new.known }
-        ensures over { IfOk result (λ r. seen r
+        ensures over { IfOk result (λ r. response_seen r
             ≡ reply (front_set self.new.known) method.now target.now
             (option_copied if_none_match.entry) (body_seen body.entry) now) }
         ensures rested { self.new.lent ≡ None }

@@ -5,7 +5,7 @@ ghost use Rattle.std.specs.Prelude.{option_map, string_bytes, if◌then◌else�
 ghost use Rattle.http.specs.Response.{body_of, head_of};
 ghost use Rattle.http_header.specs.FieldValue.{plain_value};
 ghost use Rattle.http_header.specs.HeaderMap.{insert};
-ghost use Rattle.fp_ofrep.specs.Seen.{seen};
+ghost use Rattle.fp_ofrep.specs.Seen.{response_seen};
 ghost use Rattle.fp_http.specs.Responses.{IsHeadOf, and_field, when};
 
 use crate::fault::NoReply;
@@ -100,7 +100,7 @@ fn set_tag(
 
 /// The response that a reply is sent as.
 pub fn response_of(alloc: Global, reply: Reply) -> Result<Response<Full<Bytes>>, NoReply>
-    ensures head { IfOk result (λ r. IsHeadOf (seen reply) (head_of r)) }
+    ensures head { IfOk result (λ r. IsHeadOf (response_seen reply) (head_of r)) }
     ensures body { IfOk result (λ r. (body_of r).buf
         ≡ (if length reply.body.items == 0 then None else Some reply.body.items)) }
 {

@@ -5,7 +5,7 @@ ghost use Rattle.std.specs.Prelude.{option_map, string_bytes};
 ghost use Rattle.std.specs.Option.{option_copied};
 ghost use Rattle.http.specs.Request.{head_of};
 ghost use Rattle.http.specs.Response as reply;
-ghost use Rattle.fp_ofrep.specs.Seen.{body_seen, seen};
+ghost use Rattle.fp_ofrep.specs.Seen.{body_seen, response_seen};
 ghost use Rattle.fp_http.specs.Asking.{IsAsked};
 ghost use Rattle.fp_http.specs.Answering.{Answers as IsAnswer, MayReply, WasCollected};
 
@@ -151,7 +151,7 @@ fn reply_to<E: Evaluator>(
     moment: u64,
 ) -> Result<Reply, NoReply>
     ensures { IfOk result (λ reply.
-        MayReply E.replies asked.now (body_seen body.entry) moment (seen reply)) }
+        MayReply E.replies asked.now (body_seen body.entry) moment (response_seen reply)) }
 {
     let mut held = evaluator.try_borrow_mut().map_err(|_| NoReply)?;
     let there = held.as_mut().ok_or(NoReply)?;

@@ -5,7 +5,7 @@ use Rattle.std.proofs.lemmas.Bool.{cases_eq}
 use Rattle.std.proofs.lemmas.List.{append_assoc, append-nil}
 use Rattle.fp_disk.specs.Outcomes.{PendingState, IsOutcome, all_synced, with_write, Written}
 use Rattle.fp_journal.specs.Holds.{Holds, Apart}
-use Rattle.fp_journal.specs.Chain.{Ends, framed, spell}
+use Rattle.fp_journal.specs.Chain.{Ends, with_length, spell}
 use Rattle.fp_journal.specs.State.{EndsClosed, IsReady, IsDurable, IsBetween}
 use Rattle.fp_journal.proofs.Holds.{holds_append, holds_front, holds_byte, holds_written, holds_apart, firm_outcome, firm_touched, firm_settled, firm_front}
 use Rattle.fp_gate.specs.declared.gate.TheConstants.{OPEN}
@@ -68,10 +68,10 @@ module _ (start stop : ℕ) (text : List ℕ) where
         longer new r.gate r.shut (holds_apart b (OPEN ∷ []) new text End start w (inr (omega arith)) (holds_front b start text (q.gate ∷ []) (firm_outcome u start (text ++ q.gate ∷ []) b q.firm o))) (holds_written b (OPEN ∷ []) new End w)
         (holds_apart b (OPEN ∷ []) new (more ++ r.gate ∷ []) End (End + 1) w (inl (omega arith)) (firm_outcome u (End + 1) (more ++ r.gate ∷ []) b r.firm o)) r.within
 
-pub spell-more : (bs : List (List ℕ)) (b : List ℕ) → spell (bs ++ b ∷ []) ≡ spell bs ++ OPEN ∷ framed b
-spell-more [] b = ap (λ (t : List ℕ). OPEN ∷ t) (append-nil (framed b))
-spell-more (x ∷ xs) b = ap (λ (t : List ℕ). OPEN ∷ t) (ap (λ (t : List ℕ). framed x ++ t) (spell-more xs b) ∙ sym (append_assoc (framed x) (spell xs) (OPEN ∷ framed b)))
+pub spell-more : (bs : List (List ℕ)) (b : List ℕ) → spell (bs ++ b ∷ []) ≡ spell bs ++ OPEN ∷ with_length b
+spell-more [] b = ap (λ (t : List ℕ). OPEN ∷ t) (append-nil (with_length b))
+spell-more (x ∷ xs) b = ap (λ (t : List ℕ). OPEN ∷ t) (ap (λ (t : List ℕ). with_length x ++ t) (spell-more xs b) ∙ sym (append_assoc (with_length x) (spell xs) (OPEN ∷ with_length b)))
 
 -- one more body is one more piece of text
-pub text-more : (front : List ℕ) (bs : List (List ℕ)) (b : List ℕ) → front ++ spell (bs ++ b ∷ []) ≡ (front ++ spell bs) ++ OPEN ∷ framed b
-text-more front bs b = ap (λ (t : List ℕ). front ++ t) (spell-more bs b) ∙ sym (append_assoc front (spell bs) (OPEN ∷ framed b))
+pub text-more : (front : List ℕ) (bs : List (List ℕ)) (b : List ℕ) → front ++ spell (bs ++ b ∷ []) ≡ (front ++ spell bs) ++ OPEN ∷ with_length b
+text-more front bs b = ap (λ (t : List ℕ). front ++ t) (spell-more bs b) ∙ sym (append_assoc front (spell bs) (OPEN ∷ with_length b))

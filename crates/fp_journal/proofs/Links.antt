@@ -5,7 +5,7 @@ use Rattle.std.specs.Int.{w32, to_be_bytes}
 use Rattle.std.proofs.lemmas.List.{append_assoc, append-nil}
 use Rattle.std.proofs.lemmas.Nat.{from_be_bytes-to_be_bytes_4}
 use Rattle.fp_journal.specs.Holds.{Holds}
-use Rattle.fp_journal.specs.Chain.{Ends, framed, spell}
+use Rattle.fp_journal.specs.Chain.{Ends, with_length, spell}
 use Rattle.fp_journal.specs.declared.chain.ChainFault.{ChainFault}
 use Rattle.fp_journal.specs.declared.chain.ChainFault.TheVariants.{Damaged, Device, Memory}
 use Rattle.fp_journal.specs.State.{AllShort}
@@ -22,17 +22,17 @@ chain_within most at stop bs c h = let e = h.ends in let w = e.within in let l =
 pub chain_first : (most at stop : ℕ) (b : List ℕ) (bs : List (List ℕ)) (c : List ℕ) → IsChain most at stop (b ∷ bs) c → IsNext most at stop b (at + 5 + length b) c × IsChain most (at + 5 + length b) stop bs c
 chain_first most at stop b bs c h =
     let e = h.ends in let g = e.gate in let w = e.within in
-    let all : Holds c at ((OPEN ∷ framed b) ++ (spell bs ++ g ∷ [])) = subst (λ (t : List ℕ). Holds c at (OPEN ∷ t)) (append_assoc (framed b) (spell bs) (g ∷ [])) e.holds in
-    let len = length-append (framed b) (spell bs) in let place : at + length (OPEN ∷ framed b) ≡ at + 5 + length b = omega arith in
-    let rest : Holds c (at + 5 + length b) (spell bs ++ g ∷ []) = subst (λ (k : ℕ). Holds c k (spell bs ++ g ∷ [])) place (holds_back c at (OPEN ∷ framed b) (spell bs ++ g ∷ []) all) in (
-      record { holds = holds_front c at (OPEN ∷ framed b) (spell bs ++ g ∷ []) all; short = h.short.0; place = refl; within = omega (arith, w, len) },
+    let all : Holds c at ((OPEN ∷ with_length b) ++ (spell bs ++ g ∷ [])) = subst (λ (t : List ℕ). Holds c at (OPEN ∷ t)) (append_assoc (with_length b) (spell bs) (g ∷ [])) e.holds in
+    let len = length-append (with_length b) (spell bs) in let place : at + length (OPEN ∷ with_length b) ≡ at + 5 + length b = omega arith in
+    let rest : Holds c (at + 5 + length b) (spell bs ++ g ∷ []) = subst (λ (k : ℕ). Holds c k (spell bs ++ g ∷ [])) place (holds_back c at (OPEN ∷ with_length b) (spell bs ++ g ∷ []) all) in (
+      record { holds = holds_front c at (OPEN ∷ with_length b) (spell bs ++ g ∷ []) all; short = h.short.0; place = refl; within = omega (arith, w, len) },
       record { short = h.short.1; ends = record { gate = g; shut = e.shut; holds = rest; within = omega (arith, w, len) } },
     )
 
 -- behind a closed gate there is no body
 pub chain_closed : (most at stop : ℕ) (bs : List (List ℕ)) (c : List ℕ) → IsClosed at stop c → IsChain most at stop bs c → bs ≡ []
 chain_closed most at stop [] c shut h = refl
-chain_closed most at stop (b ∷ bs) c shut h = absurd (shut.shut (byte_held c at OPEN (framed b) (chain_first most at stop b bs c h).0.holds))
+chain_closed most at stop (b ∷ bs) c shut h = absurd (shut.shut (byte_held c at OPEN (with_length b) (chain_first most at stop b bs c h).0.holds))
 
 -- behind an open gate there is one
 pub chain_opened : (most at stop : ℕ) (bs : List (List ℕ)) (c : List ℕ) → slice_index c at ≡ OPEN → IsChain most at stop bs c
@@ -41,18 +41,18 @@ chain_opened most at stop [] c is h = absurd (h.ends.shut (sym (byte_held c at h
 chain_opened most at stop (b ∷ bs) c is h = let f = chain_first most at stop b bs c h in (b, bs, refl, f.0, f.1)
 
 -- ---- its length and its body
-pub length_read : (c : List ℕ) (at : ℕ) (b : List ℕ) → Holds c at (OPEN ∷ framed b) → length b < 2 ^ 32 → length_at c at ≡ length b
+pub length_read : (c : List ℕ) (at : ℕ) (b : List ℕ) → Holds c at (OPEN ∷ with_length b) → length b < 2 ^ 32 → length_at c at ≡ length b
 length_read c at b p short =
     let one = p.same 1 (omega arith) in let two = p.same 2 (omega arith) in let three = p.same 3 (omega arith) in let four = p.same 4 (omega arith) in
     rw (one, two, three, four) (from_be_bytes-to_be_bytes_4 (length b) short)
 
-pub body_held : (c : List ℕ) (at : ℕ) (b : List ℕ) → Holds c at (OPEN ∷ framed b) → Holds c (at + 5) b
+pub body_held : (c : List ℕ) (at : ℕ) (b : List ℕ) → Holds c at (OPEN ∷ with_length b) → Holds c (at + 5) b
 body_held c at b p = holds_back c at (OPEN ∷ to_be_bytes w32 (length b)) b p
 
-pub body_read : (c : List ℕ) (at n : ℕ) (b : List ℕ) → Holds c at (OPEN ∷ framed b) → n ≡ length b → slice_range c (at + 5) (at + 5 + n) ≡ b
+pub body_read : (c : List ℕ) (at n : ℕ) (b : List ℕ) → Holds c at (OPEN ∷ with_length b) → n ≡ length b → slice_range c (at + 5) (at + 5 + n) ≡ b
 body_read c at n b p is = rw is (range_held c (at + 5) b (body_held c at b p))
 
-pub same_body : (c : List ℕ) (at : ℕ) (a b : List ℕ) → Holds c at (OPEN ∷ framed a) → length a < 2 ^ 32 → Holds c at (OPEN ∷ framed b) → length b < 2 ^ 32 → a ≡ b
+pub same_body : (c : List ℕ) (at : ℕ) (a b : List ℕ) → Holds c at (OPEN ∷ with_length a) → length a < 2 ^ 32 → Holds c at (OPEN ∷ with_length b) → length b < 2 ^ 32 → a ≡ b
 same_body c at a b p short q short2 = sym (body_read c at (length_at c at) a p (length_read c at a p short)) ∙ body_read c at (length_at c at) b q (length_read c at b q short2)
 
 -- ---- its front, in a part that was read
@@ -84,7 +84,7 @@ link_breaks most limit c at left k part there some le end (link_no_body opened w
     no_body (first_byte c at part there (omega (arith, some, le)) ∙ opened) (omega (arith, whole, end)) (rw same few) (rw same (omega (arith, end, long))) is
 
 -- and its body
-pub link_stands : (c : List ℕ) (at left most n : ℕ) (part body : List ℕ) → Holds c at part → SpellsLink part left most n → Holds c (at + 5) body → length body ≡ n → Holds c at (OPEN ∷ framed body)
+pub link_stands : (c : List ℕ) (at left most n : ℕ) (part body : List ℕ) → Holds c at part → SpellsLink part left most n → Holds c (at + 5) body → length body ≡ n → Holds c at (OPEN ∷ with_length body)
 link_stands c at left most n part body there front behind is =
     let e : at + 0 ≡ at = omega arith in
     let link : Holds c at (OPEN ∷ to_be_bytes w32 n) = subst (λ (k : ℕ). Holds c k (OPEN ∷ to_be_bytes w32 n)) e (holds_inner c at 0 part (OPEN ∷ to_be_bytes w32 n) there front.text) in
@@ -105,13 +105,13 @@ read_none most from stop c le = record { holds = record { long = omega (arith, l
 module _ (most from stop : ℕ) (c : List ℕ) (small : most < 2 ^ 32) where
   pub read_more : (found : List (List ℕ)) (at next : ℕ) (b : List ℕ) → HasRead most from stop c found at → IsNext most at stop b next c → HasRead most from stop c (found ++ b ∷ []) next
   read_more found at next b r n =
-      let e = spell-more found b in let place = r.place in let np = n.place in let ns = n.short in let len = length-append (spell found) (OPEN ∷ framed b) in let size : length (spell (found ++ b ∷ [])) ≡ length (spell found ++ OPEN ∷ framed b) = ap length e in
+      let e = spell-more found b in let place = r.place in let np = n.place in let ns = n.short in let len = length-append (spell found) (OPEN ∷ with_length b) in let size : length (spell (found ++ b ∷ [])) ≡ length (spell found ++ OPEN ∷ with_length b) = ap length e in
       record {
-        holds = subst (λ (t : List ℕ). Holds c from t) (sym e) (holds_append c from (spell found) (OPEN ∷ framed b) r.holds (subst (λ (k : ℕ). Holds c k (OPEN ∷ framed b)) place n.holds));
+        holds = subst (λ (t : List ℕ). Holds c from t) (sym e) (holds_append c from (spell found) (OPEN ∷ with_length b) r.holds (subst (λ (k : ℕ). Holds c k (OPEN ∷ with_length b)) place n.holds));
         place = omega (arith, place, np, len, size);
         within = inr n.within;
         short = All-push (λ (x : List ℕ). length x ≤ most) found b r.short n.short;
-        only = λ bs h. let o = r.only bs h in let t = chain_opened most at stop o.0 c (byte_held c at OPEN (framed b) n.holds) o.2 in let ts = t.3.short in
+        only = λ bs h. let o = r.only bs h in let t = chain_opened most at stop o.0 c (byte_held c at OPEN (with_length b) n.holds) o.2 in let ts = t.3.short in
             let same : t.0 ≡ b = same_body c at t.0 b t.3.holds (omega (arith, ts, small)) n.holds (omega (arith, ns, small)) in
             let here : at + 5 + length t.0 ≡ next = ap (λ (x : List ℕ). at + 5 + length x) same ∙ sym np in
             (t.1, o.1 ∙ ap (λ (l : List (List ℕ)). found ++ l) (t.2 ∙ ap (λ (x : List ℕ). x ∷ t.1) same) ∙ sym (append_assoc found (b ∷ []) t.1), subst (λ (k : ℕ). IsChain most k stop t.1 c) here t.4);
@@ -171,14 +171,14 @@ to_none honest takes most from stop c before old le = record { bodies = []; read
 
 module _ {R : Type 0} (honest : Type 0) (takes : R → List ℕ → R → Type 0) (most from stop : ℕ) (c : List ℕ) (small : most < 2 ^ 32) (before : R) (old : List ℕ) where
   pub to_more : (at : ℕ) (now then : R) (text longer b : List ℕ) → IsReadTo honest takes most from stop c before now old text at → takes now b then → length b ≤ most → at + 5 + length b ≤ stop
-      → (honest → Holds c at (OPEN ∷ framed b)) → longer ≡ text ++ OPEN ∷ framed b → IsReadTo honest takes most from stop c before then old longer (at + 5 + length b)
+      → (honest → Holds c at (OPEN ∷ with_length b)) → longer ≡ text ++ OPEN ∷ with_length b → IsReadTo honest takes most from stop c before then old longer (at + 5 + length b)
   to_more at now then text longer b r one short within holds grown =
-      let e = spell-more r.bodies b in let place = r.place in let len = length-append (spell r.bodies) (OPEN ∷ framed b) in let size : length (spell (r.bodies ++ b ∷ [])) ≡ length (spell r.bodies ++ OPEN ∷ framed b) = ap length e in
+      let e = spell-more r.bodies b in let place = r.place in let len = length-append (spell r.bodies) (OPEN ∷ with_length b) in let size : length (spell (r.bodies ++ b ∷ [])) ≡ length (spell r.bodies ++ OPEN ∷ with_length b) = ap length e in
       record {
         bodies = r.bodies ++ b ∷ [];
         reads = reads_more takes before now then r.bodies b r.reads one;
         short = All-push (λ (x : List ℕ). length x ≤ most) r.bodies b r.short short;
-        text_is = grown ∙ ap (λ (t : List ℕ). t ++ OPEN ∷ framed b) r.text_is ∙ append_assoc old (spell r.bodies) (OPEN ∷ framed b) ∙ ap (λ (t : List ℕ). old ++ t) (sym e);
+        text_is = grown ∙ ap (λ (t : List ℕ). t ++ OPEN ∷ with_length b) r.text_is ∙ append_assoc old (spell r.bodies) (OPEN ∷ with_length b) ∙ ap (λ (t : List ℕ). old ++ t) (sym e);
         place = omega (arith, place, len, size);
         read = λ h. read_more most from stop c small r.bodies at (at + 5 + length b) b (r.read h) (record { holds = holds h; short = short; place = refl; within = within });
       }
@@ -198,7 +198,7 @@ module _ {R : Type 0} (honest : Type 0) (takes : R → List ℕ → R → Type 0
   to_broken refuses at limit now text Device h r is broken = tt
   to_broken refuses at limit now text Memory h r is broken = tt
 
-  pub to_refused : (refuses : R → List ℕ → ℕ → Type 0) (at offset : ℕ) (now : R) (text b : List ℕ) → honest → IsReadTo honest takes most from stop c before now old text at → length b ≤ most → at + 5 + length b ≤ stop → Holds c at (OPEN ∷ framed b) → refuses now b offset → (k : ℕ) → k ≡ at + 5 + offset
+  pub to_refused : (refuses : R → List ℕ → ℕ → Type 0) (at offset : ℕ) (now : R) (text b : List ℕ) → honest → IsReadTo honest takes most from stop c before now old text at → length b ≤ most → at + 5 + length b ≤ stop → Holds c at (OPEN ∷ with_length b) → refuses now b offset → (k : ℕ) → k ≡ at + 5 + offset
       → StopsAt takes refuses most from stop c before k
   to_refused refuses at offset now text b h r short within holds bad k is =
       subst (λ (n : ℕ). StopsAt takes refuses most from stop c before n) (sym is) (reading_refused takes refuses most from stop c small before at (at + 5 + length b) now b offset (reading_of at now text h r) (record { holds = holds; short = short; place = refl; within = within }) bad)

@@ -5,7 +5,7 @@ use Rattle.fp_journal.specs.declared.slot.Slot.{Slot}
 use Rattle.fp_journal.specs.declared.journal.Phase.{Phase}
 use Rattle.fp_journal.specs.declared.journal.Phase.TheVariants.{Idle, Staged, BodySynced, GateOpened, Failed}
 use Rattle.fp_journal.specs.Holds.{Apart}
-use Rattle.fp_journal.specs.Chain.{Ends, framed, spell}
+use Rattle.fp_journal.specs.Chain.{Ends, with_length, spell}
 use Rattle.fp_journal.specs.State.{ClaimsAt, SecuresAt, HasAmong, HasChainOrNext, IsAt, IsLeft, EndsClosed, IsReady, IsDurable, IsBetween, has_begun}
 use Rattle.fp_journal.proofs.Holds.{holds_apart, firm_touched, firm_outcome, firm_settled, settled_outcome}
 use Rattle.fp_journal.proofs.Gates.{quiet_outcome, quiet_touched, quiet_settled, sure_touched, between_outcome, text-more}
@@ -89,29 +89,29 @@ module _ (slot : Slot) (front : List ℕ) (bodies : List (List ℕ)) (body : Lis
   abbrev next : List ℕ
   next = front ++ spell (bodies ++ body ∷ [])
 
-  either : (u : PendingState) (c : List ℕ) → IsBetween slot.start slot.stop text (framed body) u → IsOutcome u c → HasChainOrNext slot front bodies body c
-  either u c i o = subst (λ (t : List ℕ). Ends slot.start slot.stop text c ⊎ Ends slot.start slot.stop t c) (sym (text-more front bodies body)) (between_outcome slot.start slot.stop text (framed body) u c i o)
+  either : (u : PendingState) (c : List ℕ) → IsBetween slot.start slot.stop text (with_length body) u → IsOutcome u c → HasChainOrNext slot front bodies body c
+  either u c i o = subst (λ (t : List ℕ). Ends slot.start slot.stop text c ⊎ Ends slot.start slot.stop t c) (sym (text-more front bodies body)) (between_outcome slot.start slot.stop text (with_length body) u c i o)
 
-  left_claims : (begun : Bool) (u : PendingState) (c : List ℕ) → IsLeft begun u slot.start slot.stop text (framed body) → IsOutcome u c → HasAmong begun slot front bodies body c
+  left_claims : (begun : Bool) (u : PendingState) (c : List ℕ) → IsLeft begun u slot.start slot.stop text (with_length body) → IsOutcome u c → HasAmong begun slot front bodies body c
   left_claims false u c q o = quiet_outcome slot.start slot.stop text u c q o
   left_claims true u c s o = ⊎_elim (λ q. inl (quiet_outcome slot.start slot.stop text u c q o)) (λ i. either u c i o) s
 
-  pub at_claims : (p : Phase) (begun : Bool) (b : List ℕ) (u : PendingState) (c : List ℕ) → IsAt p begun u b slot.start slot.stop text (framed body) next → IsOutcome u c → ClaimsAt p begun slot front bodies body c
-  at_claims p begun b u c s o = left_claims (has_begun p begun) u c (left_at slot.start slot.stop text (framed body) next b u p begun s) o
+  pub at_claims : (p : Phase) (begun : Bool) (b : List ℕ) (u : PendingState) (c : List ℕ) → IsAt p begun u b slot.start slot.stop text (with_length body) next → IsOutcome u c → ClaimsAt p begun slot front bodies body c
+  at_claims p begun b u c s o = left_claims (has_begun p begun) u c (left_at slot.start slot.stop text (with_length body) next b u p begun s) o
 
   -- what a sync leaves
-  pub at_secures : (p : Phase) (begun : Bool) (b : List ℕ) (u : PendingState) (c : List ℕ) → IsOutcome u b → IsAt p begun u b slot.start slot.stop text (framed body) next → IsOutcome (all_synced b) c → SecuresAt p begun slot front bodies body c
+  pub at_secures : (p : Phase) (begun : Bool) (b : List ℕ) (u : PendingState) (c : List ℕ) → IsOutcome u b → IsAt p begun u b slot.start slot.stop text (with_length body) next → IsOutcome (all_synced b) c → SecuresAt p begun slot front bodies body c
   at_secures Idle begun b u c now q o = quiet_outcome slot.start slot.stop text u c q (settled_outcome u b c now o)
   at_secures Staged begun b u c now s o = let r = s.1 in let at : ℕ = slot.start + length text + 1 in record {
     chain = quiet_outcome slot.start slot.stop text u c s.0 (settled_outcome u b c now o);
-    next = record { gate = r.gate; shut = r.shut; holds = firm_outcome (all_synced b) at (framed body ++ r.gate ∷ []) c (firm_settled b at (framed body ++ r.gate ∷ []) r.holds) o; within = r.within };
+    next = record { gate = r.gate; shut = r.shut; holds = firm_outcome (all_synced b) at (with_length body ++ r.gate ∷ []) c (firm_settled b at (with_length body ++ r.gate ∷ []) r.holds) o; within = r.within };
   }
   at_secures BodySynced begun b u c now s o = let r = s.1 in let was = settled_outcome u b c now o in record {
     chain = quiet_outcome slot.start slot.stop text u c s.0 was;
-    next = record { gate = r.gate; shut = r.shut; holds = firm_outcome u (slot.start + length text + 1) (framed body ++ r.gate ∷ []) c r.firm was; within = r.within };
+    next = record { gate = r.gate; shut = r.shut; holds = firm_outcome u (slot.start + length text + 1) (with_length body ++ r.gate ∷ []) c r.firm was; within = r.within };
   }
   at_secures GateOpened begun b u c now s o = quiet_outcome slot.start slot.stop next (all_synced b) c (quiet_settled slot.start slot.stop next b s.0) o
   at_secures Failed begun b u c now s o = left_claims begun u c s (settled_outcome u b c now o)
 
-  pub outside_claims : (from n : ℕ) → (from + n ≤ slot.start) ⊎ (slot.stop ≤ from) → (p : Phase) (begun : Bool) (b : List ℕ) (u : PendingState) (c : List ℕ) → IsAt p begun u b slot.start slot.stop text (framed body) next → IsOutcome (with_write u from n) c → ClaimsAt p begun slot front bodies body c
-  outside_claims from n out p begun b u c s o = left_claims (has_begun p begun) (with_write u from n) c (left_outside slot.start slot.stop text (framed body) next from n out p begun b u s) o
+  pub outside_claims : (from n : ℕ) → (from + n ≤ slot.start) ⊎ (slot.stop ≤ from) → (p : Phase) (begun : Bool) (b : List ℕ) (u : PendingState) (c : List ℕ) → IsAt p begun u b slot.start slot.stop text (with_length body) next → IsOutcome (with_write u from n) c → ClaimsAt p begun slot front bodies body c
+  outside_claims from n out p begun b u c s o = left_claims (has_begun p begun) (with_write u from n) c (left_outside slot.start slot.stop text (with_length body) next from n out p begun b u s) o

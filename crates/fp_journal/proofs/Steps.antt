@@ -10,7 +10,7 @@ use Rattle.fp_journal.specs.declared.journal.Phase.{Phase}
 use Rattle.fp_journal.specs.declared.journal.Phase.TheVariants.{Idle, Staged, BodySynced, GateOpened, Failed}
 use Rattle.fp_journal.specs.Holds.{Apart, Holds}
 use Rattle.fp_gate.specs.Gates.{IsOpen, IsShut, StaysAsRead}
-use Rattle.fp_journal.specs.Chain.{Ends, framed, with_gate, body_of, spell}
+use Rattle.fp_journal.specs.Chain.{Ends, with_length, with_gate, body_of, spell}
 use Rattle.fp_journal.specs.Moments.{KeepsFirm, KeepsHeld}
 use Rattle.fp_journal.specs.declared.held.Held.{Held}
 use Rattle.fp_journal.specs.declared.held.Held.TheVariants as held
@@ -33,8 +33,8 @@ pub All-push : {X : Type 0} (P : X → Type 0) (xs : List X) (x : X) → AllByRe
 All-push P [] x all p = (p, tt)
 All-push P (y ∷ ys) x all p = (all.0, All-push P ys x all.1 p)
 
-longer_text : (t b : List ℕ) → length (t ++ OPEN ∷ framed b) ≡ length t + 5 + length b
-longer_text t b = let e = length-append t (OPEN ∷ framed b) in omega (arith, e)
+longer_text : (t b : List ℕ) → length (t ++ OPEN ∷ with_length b) ≡ length t + 5 + length b
+longer_text t b = let e = length-append t (OPEN ∷ with_length b) in omega (arith, e)
 
 module _ {D : Type 0} (honest : D → Type 0) (bytes : D → List ℕ) (unsynced : D → PendingState) (moment : D → ℕ) (crash_states_since : D → ℕ → List ℕ → Type 0)
     (present : (d : D) → honest d → IsOutcome (unsynced d) (bytes d))
@@ -47,7 +47,7 @@ module _ {D : Type 0} (honest : D → Type 0) (bytes : D → List ℕ) (unsynced
   next body = k.front ++ spell (k.sealed ++ body ∷ [])
 
   abbrev State : Phase → Bool → List ℕ → D → Type 0
-  State p begun body d = IsAt p begun (unsynced d) (bytes d) k.slot.start k.slot.stop text (framed body) (next body)
+  State p begun body d = IsAt p begun (unsynced d) (bytes d) k.slot.start k.slot.stop text (with_length body) (next body)
 
   abbrev Kept : D → List ℕ → Phase → Bool → List ℕ → Type 0
   Kept d body p begun written = IsKept honest bytes unsynced (record k { disk = d; staged = body; phase = p; begun = begun }) end written
@@ -89,7 +89,7 @@ module _ {D : Type 0} (honest : D → Type 0) (bytes : D → List ℕ) (unsynced
   -- ---- body_synced
   pub body_done : k.phase ≡ Staged → (honest k.disk → (c : List ℕ) → IsOutcome (unsynced k.disk) c → HasNext k.slot k.front k.sealed k.staged c) → Kept k.disk k.staged BodySynced false in_flight
   body_done staged all = goes_on k.disk k.staged BodySynced false in_flight (flight_is Staged staged) (λ h.
-      let q = firm.ends_firm (unsynced k.disk) (bytes k.disk) (present k.disk h) (k.slot.start + length text + 1) k.slot.stop (framed k.staged) (λ c o. (all h c o).next) in
+      let q = firm.ends_firm (unsynced k.disk) (bytes k.disk) (present k.disk h) (k.slot.start + length text + 1) k.slot.stop (with_length k.staged) (λ c o. (all h c o).next) in
       ((state_is Staged staged h).0, record { gate = q.gate; shut = q.shut; firm = q.firm; within = q.within }))
 
   -- ---- the gate of a body that is synced
@@ -106,16 +106,16 @@ module _ {D : Type 0} (honest : D → Type 0) (bytes : D → List ℕ) (unsynced
     pub body_stays : honest k.disk → StaysAsRead (unsynced k.disk) (bytes k.disk) (end + 1) (end + 1 + length in_flight)
     body_stays h = let size = frame_long in let place = kept.place in
         let from : end + 1 ≡ k.slot.start + length text + 1 = omega (arith, place) in
-        let to : end + 1 + length in_flight ≡ k.slot.start + length text + 1 + (length (framed k.staged) + 1) = omega (arith, place, size) in
+        let to : end + 1 + length in_flight ≡ k.slot.start + length text + 1 + (length (with_length k.staged) + 1) = omega (arith, place, size) in
         subst (λ (j : ℕ). StaysAsRead (unsynced k.disk) (bytes k.disk) j (end + 1 + length in_flight)) (sym from)
         (subst (λ (j : ℕ). StaysAsRead (unsynced k.disk) (bytes k.disk) (k.slot.start + length text + 1) j) (sym to)
-        (firm.sure_stays k.slot.start k.slot.stop text (unsynced k.disk) (framed k.staged) (bytes k.disk) (state_is BodySynced synced h).1 (present k.disk h)))
+        (firm.sure_stays k.slot.start k.slot.stop text (unsynced k.disk) (with_length k.staged) (bytes k.disk) (state_is BodySynced synced h).1 (present k.disk h)))
 
   -- ---- gate_synced
   module _ (opened : k.phase ≡ GateOpened) (all : honest k.disk → (c : List ℕ) → IsOutcome (unsynced k.disk) c → HasChain k.slot k.front (k.sealed ++ k.staged ∷ []) c) where
     pub gate_open : honest k.disk → IsOpen (unsynced k.disk) end
     gate_open h = λ c o. subst (λ (at : ℕ). (at < length c) × (slice_index c at ≡ OPEN)) (sym kept.place)
-        (firm.ends_open k.slot.start k.slot.stop text (framed k.staged) c (subst (λ (t : List ℕ). Ends k.slot.start k.slot.stop t c) (text-more k.front k.sealed k.staged) (all h c o)))
+        (firm.ends_open k.slot.start k.slot.stop text (with_length k.staged) c (subst (λ (t : List ℕ). Ends k.slot.start k.slot.stop t c) (text-more k.front k.sealed k.staged) (all h c o)))
 
     pub sealed_done : (name : ℕ) (sealed : List (List ℕ)) (n : ℕ) → sealed ≡ k.sealed ++ k.staged ∷ [] → n ≡ length in_flight
         → IsKept honest bytes unsynced (record k { name = name; sealed = sealed; phase = Idle; begun = false }) (end + n) in_flight
@@ -146,7 +146,7 @@ module _ {D : Type 0} (honest : D → Type 0) (bytes : D → List ℕ) (unsynced
 
       pub stage_failed : (body written : List ℕ) (n : ℕ) → (honest new → honest k.disk) → (honest k.disk → (unsynced new ≡ unsynced k.disk) ⊎ (unsynced new ≡ with_write (unsynced k.disk) (end + 1) n)) → Kept new body Failed false written
       stage_failed body written n back failed = goes_on new body Failed false written tt
-          (λ h. let h0 = back h in calls.stage_failed honest bytes unsynced moment crash_states_since present only_now k.disk new h0 k.slot.start k.slot.stop text (framed body) (next body) (text-more k.front k.sealed body) (quiet h0) (end + 1) n behind (failed h0))
+          (λ h. let h0 = back h in calls.stage_failed honest bytes unsynced moment crash_states_since present only_now k.disk new h0 k.slot.start k.slot.stop text (with_length body) (next body) (text-more k.front k.sealed body) (quiet h0) (end + 1) n behind (failed h0))
 
       -- the body lies in the frame's bytes, of which the piece is what was written
       module _ (body written piece : List ℕ) (frame : written ≡ with_gate body) (shape : piece ≡ with_gate body) (fits : length body + 6 ≤ room k) where
@@ -156,8 +156,8 @@ module _ {D : Type 0} (honest : D → Type 0) (bytes : D → List ℕ) (unsynced
             let place = kept.place in let within = kept.within in
             let is : body_of written ≡ body = ap body_of frame ∙ body_of-with_gate body in
             subst (λ (b : List ℕ). Kept new b Staged false written) (sym is) (goes_on new body Staged false written (record { shape = frame; short = short; fits = omega (arith, fits, place) }) (λ h. let h0 = back h in (
-              calls.stage_quiet honest bytes unsynced moment crash_states_since present only_now k.disk new h0 k.slot.start k.slot.stop text (framed body) (next body) (text-more k.front k.sealed body) (quiet h0) (end + 1) (length piece) behind (touch h0),
-              ready_written k.slot.start k.slot.stop text (framed body) (bytes k.disk) (bytes new) (end + 1) (omega (arith, place)) (omega (arith, place, fits, within)) (subst (λ (t : List ℕ). Written (bytes k.disk) (end + 1) t (bytes new)) shape (wrote h0)),
+              calls.stage_quiet honest bytes unsynced moment crash_states_since present only_now k.disk new h0 k.slot.start k.slot.stop text (with_length body) (next body) (text-more k.front k.sealed body) (quiet h0) (end + 1) (length piece) behind (touch h0),
+              ready_written k.slot.start k.slot.stop text (with_length body) (bytes k.disk) (bytes new) (end + 1) (omega (arith, place)) (omega (arith, place, fits, within)) (subst (λ (t : List ℕ). Written (bytes k.disk) (end + 1) t (bytes new)) shape (wrote h0)),
             )))
 
         pub stage_apart : (honest k.disk → Time new (with_write (unsynced k.disk) (end + 1) (length piece)))
@@ -175,15 +175,15 @@ module _ {D : Type 0} (honest : D → Type 0) (bytes : D → List ℕ) (unsynced
     -- ---- open_gate
     module _ (synced : k.phase ≡ BodySynced) (place : ℕ) (is : place ≡ end) where
       pub gate_leaves : (honest k.disk → Time new (with_write (unsynced k.disk) place 1)) → honest k.disk → Leaves new (HasChainOrNext k.slot k.front k.sealed k.staged)
-      gate_leaves time h = calls.gate_leaves honest bytes unsynced moment crash_states_since present only_now k.disk new h k.slot.start k.slot.stop text (framed k.staged) (next k.staged) (text-more k.front k.sealed k.staged) (state_is BodySynced synced h) place (is ∙ kept.place) (time h)
+      gate_leaves time h = calls.gate_leaves honest bytes unsynced moment crash_states_since present only_now k.disk new h k.slot.start k.slot.stop text (with_length k.staged) (next k.staged) (text-more k.front k.sealed k.staged) (state_is BodySynced synced h) place (is ∙ kept.place) (time h)
 
       pub gate_failed : (honest new → honest k.disk) → (honest k.disk → (unsynced new ≡ unsynced k.disk) ⊎ (unsynced new ≡ with_write (unsynced k.disk) place 1)) → Kept new k.staged Failed true in_flight
       gate_failed back failed = goes_on new k.staged Failed true in_flight tt
-          (λ h. let h0 = back h in calls.gate_failed honest bytes unsynced moment crash_states_since present only_now k.disk new h0 k.slot.start k.slot.stop text (framed k.staged) (next k.staged) (text-more k.front k.sealed k.staged) (state_is BodySynced synced h0) place (is ∙ kept.place) (failed h0))
+          (λ h. let h0 = back h in calls.gate_failed honest bytes unsynced moment crash_states_since present only_now k.disk new h0 k.slot.start k.slot.stop text (with_length k.staged) (next k.staged) (text-more k.front k.sealed k.staged) (state_is BodySynced synced h0) place (is ∙ kept.place) (failed h0))
 
       pub gate_done : (honest new → honest k.disk) → (honest k.disk → Written (bytes k.disk) place (OPEN ∷ []) (bytes new)) → (honest k.disk → unsynced new ≡ with_write (unsynced k.disk) place 1) → Kept new k.staged GateOpened true in_flight
       gate_done back wrote touch = goes_on new k.staged GateOpened true in_flight (flight_is BodySynced synced)
-          (λ h. let h0 = back h in calls.gate_open honest bytes unsynced moment crash_states_since present only_now k.disk new h0 k.slot.start k.slot.stop text (framed k.staged) (next k.staged) (text-more k.front k.sealed k.staged) (state_is BodySynced synced h0) place (is ∙ kept.place) (wrote h0) (touch h0))
+          (λ h. let h0 = back h in calls.gate_open honest bytes unsynced moment crash_states_since present only_now k.disk new h0 k.slot.start k.slot.stop text (with_length k.staged) (next k.staged) (text-more k.front k.sealed k.staged) (state_is BodySynced synced h0) place (is ∙ kept.place) (wrote h0) (touch h0))
 
       pub gate_apart : (honest k.disk → Time new (with_write (unsynced k.disk) place 1)) → (honest k.disk → (unsynced new ≡ unsynced k.disk) ⊎ (unsynced new ≡ with_write (unsynced k.disk) place 1)) → honest k.disk → KeepsFirm moment crash_states_since unsynced k.disk new (Outside k.slot)
       gate_apart time failed h = let ends = kept.place in let within = kept.within in
@@ -195,7 +195,7 @@ module _ {D : Type 0} (honest : D → Type 0) (bytes : D → List ℕ) (unsynced
           λ at t out p. holds_within (bytes k.disk) (bytes new) t place 1 at changes (⊎_elim (λ before. inr (omega (arith, before, ends, is))) (λ after. inl (omega (arith, after, within, is))) out) p
 
       pub gate_reads : (honest k.disk → Written (bytes k.disk) place (OPEN ∷ []) (bytes new)) → (honest k.disk → unsynced new ≡ with_write (unsynced k.disk) place 1) → honest k.disk → HasChain k.slot k.front (k.sealed ++ k.staged ∷ []) (bytes new)
-      gate_reads wrote touch h = (calls.gate_open honest bytes unsynced moment crash_states_since present only_now k.disk new h k.slot.start k.slot.stop text (framed k.staged) (next k.staged) (text-more k.front k.sealed k.staged) (state_is BodySynced synced h) place (is ∙ kept.place) (wrote h) (touch h)).0
+      gate_reads wrote touch h = (calls.gate_open honest bytes unsynced moment crash_states_since present only_now k.disk new h k.slot.start k.slot.stop text (with_length k.staged) (next k.staged) (text-more k.front k.sealed k.staged) (state_is BodySynced synced h) place (is ∙ kept.place) (wrote h) (touch h)).0
 
     -- ---- syncs
     pub sync_apart : (Out : ℕ → ℕ → Type 0) → (honest k.disk → Time new (unsynced k.disk)) → (honest k.disk → (unsynced new ≡ unsynced k.disk) ⊎ (unsynced new ≡ all_synced (bytes k.disk))) → honest k.disk → KeepsFirm moment crash_states_since unsynced k.disk new Out
@@ -206,12 +206,12 @@ module _ {D : Type 0} (honest : D → Type 0) (bytes : D → List ℕ) (unsynced
 
     pub sync_failed : (begun : Bool) → has_begun k.phase k.begun ≡ begun → (honest new → honest k.disk) → (honest k.disk → unsynced new ≡ unsynced k.disk) → Kept new k.staged Failed begun in_flight
     sync_failed begun is back same = subst (λ (b : Bool). Kept new k.staged Failed b in_flight) is (goes_on new k.staged Failed (has_begun k.phase k.begun) in_flight tt
-        (λ h. let h0 = back h in subst (λ (u : PendingState). IsLeft (has_begun k.phase k.begun) u k.slot.start k.slot.stop text (framed k.staged)) (sym (same h0)) (stays.left_at k.slot.start k.slot.stop text (framed k.staged) (next k.staged) (bytes k.disk) (unsynced k.disk) k.phase k.begun (kept.state h0))))
+        (λ h. let h0 = back h in subst (λ (u : PendingState). IsLeft (has_begun k.phase k.begun) u k.slot.start k.slot.stop text (with_length k.staged)) (sym (same h0)) (stays.left_at k.slot.start k.slot.stop text (with_length k.staged) (next k.staged) (bytes k.disk) (unsynced k.disk) k.phase k.begun (kept.state h0))))
 
     pub sync_done : (honest new → honest k.disk) → (honest k.disk → bytes new ≡ bytes k.disk) → (honest k.disk → unsynced new ≡ all_synced (bytes k.disk)) → Kept new k.staged k.phase k.begun in_flight
     sync_done back same sure = goes_on new k.staged k.phase k.begun in_flight kept.flight
-        (λ h. let h0 = back h in subst (λ (b : List ℕ). IsAt k.phase k.begun (unsynced new) b k.slot.start k.slot.stop text (framed k.staged) (next k.staged)) (sym (same h0))
-        (subst (λ (u : PendingState). IsAt k.phase k.begun u (bytes k.disk) k.slot.start k.slot.stop text (framed k.staged) (next k.staged)) (sym (sure h0)) (stays.at_synced k.slot.start k.slot.stop text (framed k.staged) (next k.staged) (bytes k.disk) (unsynced k.disk) (present k.disk h0) k.phase k.begun (kept.state h0))))
+        (λ h. let h0 = back h in subst (λ (b : List ℕ). IsAt k.phase k.begun (unsynced new) b k.slot.start k.slot.stop text (with_length k.staged) (next k.staged)) (sym (same h0))
+        (subst (λ (u : PendingState). IsAt k.phase k.begun u (bytes k.disk) k.slot.start k.slot.stop text (with_length k.staged) (next k.staged)) (sym (sure h0)) (stays.at_synced k.slot.start k.slot.stop text (with_length k.staged) (next k.staged) (bytes k.disk) (unsynced k.disk) (present k.disk h0) k.phase k.begun (kept.state h0))))
 
     pub sync_secures : (honest new → honest k.disk) → (honest k.disk → unsynced new ≡ all_synced (bytes k.disk)) → honest new → (c : List ℕ) → IsOutcome (unsynced new) c → StatesAfterSync k c
     sync_secures back sure h c o = let h0 = back h in stays.at_secures k.slot k.front k.sealed k.staged k.phase k.begun (bytes k.disk) (unsynced k.disk) c (present k.disk h0) (kept.state h0) (subst (λ (u : PendingState). IsOutcome u c) (sure h0) o)
@@ -233,12 +233,12 @@ module _ {D : Type 0} (honest : D → Type 0) (bytes : D → List ℕ) (unsynced
 
       pub outside_failed : (begun : Bool) → has_begun k.phase k.begun ≡ begun → (honest new → honest k.disk) → (honest k.disk → (unsynced new ≡ unsynced k.disk) ⊎ (unsynced new ≡ Tried)) → Kept new k.staged Failed begun in_flight
       outside_failed begun is back failed = subst (λ (b : Bool). Kept new k.staged Failed b in_flight) is (goes_on new k.staged Failed (has_begun k.phase k.begun) in_flight tt (λ h. let h0 = back h in ⊎_elim
-          (λ same. subst (λ (u : PendingState). IsLeft (has_begun k.phase k.begun) u k.slot.start k.slot.stop text (framed k.staged)) (sym same) (stays.left_at k.slot.start k.slot.stop text (framed k.staged) (next k.staged) (bytes k.disk) (unsynced k.disk) k.phase k.begun (kept.state h0)))
-          (λ touch. subst (λ (u : PendingState). IsLeft (has_begun k.phase k.begun) u k.slot.start k.slot.stop text (framed k.staged)) (sym touch) (stays.left_outside k.slot.start k.slot.stop text (framed k.staged) (next k.staged) from (length piece) out k.phase k.begun (bytes k.disk) (unsynced k.disk) (kept.state h0))) (failed h0)))
+          (λ same. subst (λ (u : PendingState). IsLeft (has_begun k.phase k.begun) u k.slot.start k.slot.stop text (with_length k.staged)) (sym same) (stays.left_at k.slot.start k.slot.stop text (with_length k.staged) (next k.staged) (bytes k.disk) (unsynced k.disk) k.phase k.begun (kept.state h0)))
+          (λ touch. subst (λ (u : PendingState). IsLeft (has_begun k.phase k.begun) u k.slot.start k.slot.stop text (with_length k.staged)) (sym touch) (stays.left_outside k.slot.start k.slot.stop text (with_length k.staged) (next k.staged) from (length piece) out k.phase k.begun (bytes k.disk) (unsynced k.disk) (kept.state h0))) (failed h0)))
 
       pub outside_done : (honest new → honest k.disk) → (honest k.disk → Written (bytes k.disk) from piece (bytes new)) → (honest k.disk → unsynced new ≡ Tried) → Kept new k.staged k.phase k.begun in_flight
       outside_done back wrote touch = goes_on new k.staged k.phase k.begun in_flight kept.flight
-          (λ h. let h0 = back h in subst (λ (u : PendingState). IsAt k.phase k.begun u (bytes new) k.slot.start k.slot.stop text (framed k.staged) (next k.staged)) (sym (touch h0)) (stays.at_outside k.slot.start k.slot.stop text (framed k.staged) (next k.staged) from (length piece) out (bytes k.disk) (bytes new) piece refl (wrote h0) k.phase k.begun (unsynced k.disk) (kept.state h0)))
+          (λ h. let h0 = back h in subst (λ (u : PendingState). IsAt k.phase k.begun u (bytes new) k.slot.start k.slot.stop text (with_length k.staged) (next k.staged)) (sym (touch h0)) (stays.at_outside k.slot.start k.slot.stop text (with_length k.staged) (next k.staged) from (length piece) out (bytes k.disk) (bytes new) piece refl (wrote h0) k.phase k.begun (unsynced k.disk) (kept.state h0)))
 
 -- ---- what is kept for the next call
 pub begun_is : {D : Type 0} (held : Held D) → has_begun (phase_of held) (begun_of held) ≡ begun_of held

@@ -5,12 +5,12 @@ use Rattle.fp_journal.specs.Holds.{Holds}
 use Rattle.fp_gate.specs.declared.gate.TheConstants.{OPEN}
 
 -- a body behind its length
-abbrev pub framed : List ℕ → List ℕ
-framed body = to_be_bytes w32 (length body) ++ body
+abbrev pub with_length : List ℕ → List ℕ
+with_length body = to_be_bytes w32 (length body) ++ body
 
 -- and a closed gate behind it
 abbrev pub with_gate : List ℕ → List ℕ
-with_gate body = framed body ++ 0 ∷ []
+with_gate body = with_length body ++ 0 ∷ []
 
 -- the body in such bytes
 abbrev pub body_of : List ℕ → List ℕ
@@ -19,7 +19,7 @@ body_of bytes = slice_range bytes 4 (length bytes - 1)
 -- each body behind its length and an open gate
 abbrev pub spell : List (List ℕ) → List ℕ
 spell [] = []
-spell (b ∷ bs) = OPEN ∷ (framed b ++ spell bs)
+spell (b ∷ bs) = OPEN ∷ (with_length b ++ spell bs)
 
 -- The text stands there, and before this stop it ends at a closed gate.
 -- Behind that gate may be anything

@@ -9,7 +9,7 @@ use Rattle.fp_journal.specs.declared.pieces.BytesFault.TheVariants as bytes_faul
 use Rattle.fp_journal.specs.declared.chain.ChainFault.{ChainFault}
 use Rattle.fp_journal.specs.declared.chain.ChainFault.TheVariants as chain_fault
 use Rattle.fp_journal.specs.Holds.{Holds}
-use Rattle.fp_journal.specs.Chain.{Ends, framed, spell}
+use Rattle.fp_journal.specs.Chain.{Ends, with_length, spell}
 use Rattle.fp_journal.specs.State.{AllShort}
 use Rattle.fp_gate.specs.declared.gate.TheConstants.{OPEN}
 
@@ -28,7 +28,7 @@ pub record IsClosed (at stop : ℕ) (c : List ℕ) : Type 0 where
 
 -- the gate is open, and behind it stand the body's length and the body, up to the next gate
 pub record IsNext (most at stop : ℕ) (body : List ℕ) (next : ℕ) (c : List ℕ) : Type 0 where
-  pub holds : Holds c at (OPEN ∷ framed body)
+  pub holds : Holds c at (OPEN ∷ with_length body)
   pub short : length body ≤ most
   pub place : next ≡ at + 5 + length body
   pub within : next ≤ stop

@@ -11,7 +11,7 @@ use Rattle.fp_journal.specs.declared.journal.Phase.{Phase}
 use Rattle.fp_journal.specs.declared.journal.Phase.TheVariants.{Idle, Staged, BodySynced}
 use Rattle.fp_journal.specs.declared.journal.Phase.TheVariants.{GateOpened, Failed}
 use Rattle.fp_journal.specs.Holds.{Holds, IsSynced}
-use Rattle.fp_journal.specs.Chain.{Ends, framed, with_gate, spell}
+use Rattle.fp_journal.specs.Chain.{Ends, with_length, with_gate, spell}
 use Rattle.fp_gate.specs.declared.gate.TheConstants.{OPEN}
 
 -- what a journal had sealed, and which one it was
@@ -47,7 +47,7 @@ HasChainOrNext slot front bodies body c = HasChain slot front bodies c
 pub record HasNext (slot : Slot) (front : List ℕ) (bodies : List (List ℕ))
     (body c : List ℕ) : Type 0 where
   pub chain : HasChain slot front bodies c
-  pub next : Ends (slot.start + length (front ++ spell bodies) + 1) slot.stop (framed body) c
+  pub next : Ends (slot.start + length (front ++ spell bodies) + 1) slot.stop (with_length body) c
 
 -- a body is on its way
 abbrev pub IsOnWay : Phase → Type 0
@@ -172,7 +172,7 @@ pub record IsKept {D : Type 0} (honest : D → Type 0) (bytes : D → List ℕ)
   pub short : AllShort k.slot.most k.sealed
   pub flight : InFlight k.phase k.slot.most (k.slot.stop - end) k.staged in_flight
   pub state : honest k.disk → IsAt k.phase k.begun (unsynced k.disk)
-      (bytes k.disk) k.slot.start k.slot.stop (k.front ++ spell k.sealed) (framed k.staged)
+      (bytes k.disk) k.slot.start k.slot.stop (k.front ++ spell k.sealed) (with_length k.staged)
       (k.front ++ spell (k.sealed ++ k.staged ∷ []))
 
 -- ---- what a journal keeps for its next call

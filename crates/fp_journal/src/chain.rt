@@ -3,7 +3,7 @@
 ghost use Rattle.std.specs.Prelude.{◌≡◌, ◌≢◌, ◌<◌, ◌≤◌, ◌+◌, ◌^◌, ◌∷◌, List, ℕ, min, length};
 ghost use Rattle.std.specs.Prelude.{slice_index, IfOk, IfErr, OnOk, IsErrOf, MatchOption};
 ghost use Rattle.fp_gate.specs.declared.gate.TheConstants.{OPEN};
-ghost use Rattle.fp_journal.specs.Chain.{framed};
+ghost use Rattle.fp_journal.specs.Chain.{with_length};
 ghost use Rattle.fp_journal.specs.Pieces.{OnlyReads};
 ghost use Rattle.fp_journal.specs.Windows.{IsWindowAt, StandsIn};
 ghost use Rattle.fp_journal.specs.Holds.{Holds};
@@ -117,7 +117,7 @@ fn next_body<D: Disk>(
         × IsWindowAt window.new (at + 5 + length b.items))) }
     ensures stands { D.honest disk.old → IfOk result (λ o. MatchOption o
         (slice_index (D.bytes disk.old) at ≢ OPEN)
-        (λ b. Holds (D.bytes disk.old) at (OPEN ∷ framed b.items)
+        (λ b. Holds (D.bytes disk.old) at (OPEN ∷ with_length b.items)
         × StandsIn window.new (D.bytes disk.old))) }
     ensures fault { D.honest disk.old →
         IfErr result (TellsDamage (BreaksBefore most limit (D.bytes disk.old) at)) }

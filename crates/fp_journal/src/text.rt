@@ -2,7 +2,7 @@
 
 ghost use Rattle.std.specs.Prelude.{◌≡◌, [], ◌∷◌, ◌++◌};
 ghost use Rattle.fp_gate.specs.declared.gate.TheConstants.{OPEN};
-ghost use Rattle.fp_journal.specs.Chain.{framed};
+ghost use Rattle.fp_journal.specs.Chain.{with_length};
 
 use fp_fronts::{Growing, Lists};
 use std::marker::Model;
@@ -16,7 +16,7 @@ impl<'a> Lists<&'a [u8], u8> for Bytes {
 struct Linked;
 
 impl<'a> Lists<&'a [u8], u8> for Linked {
-    ghost items = { λ b. OPEN ∷ framed b.now };
+    ghost items = { λ b. OPEN ∷ with_length b.now };
 }
 
 /// The text that stands in a slot, as far as it was read. It is there in proofs alone and takes no
@@ -58,7 +58,7 @@ impl Text {
 
     /// And this body, behind its length and an open gate.
     pub fn push_body(&mut self, body: &[u8])
-        ensures { self.new ≡ self.old ++ OPEN ∷ framed body.now }
+        ensures { self.new ≡ self.old ++ OPEN ∷ with_length body.now }
     {
         self.bytes.lengthen::<&[u8], Linked>(&body);
     }

@@ -9,8 +9,8 @@ use Rattle.fp_definition.specs.Resolving.{Said}
 use Rattle.fp_definition.specs.declared.resolving.EvalFault.{EvalFault}
 use Rattle.fp_definition.specs.declared.resolving.EvalFault.TheVariants.{Disabled, NoVariant}
 use Rattle.fp_ofrep.specs.Bodies.{success, failure}
-use Rattle.fp_ofrep.specs.Bulk.{listed}
-use Rattle.fp_ofrep.specs.Single.{told}
+use Rattle.fp_ofrep.specs.Bulk.{with_flag_item}
+use Rattle.fp_ofrep.specs.Single.{value_or_failure}
 use Rattle.fp_ofrep.specs.declared.failure.Failure.TheVariants.{NamesNoVariant}
 
 assoc : (a b c : List Token) → (a ++ b) ++ c ≡ a ++ (b ++ c)
@@ -18,7 +18,7 @@ assoc [] b c = refl
 assoc (t ∷ a) b c = ap (λ ts. t ∷ ts) (assoc a b c)
 
 abbrev Lists : List Token → List Token → List ℕ → Data → Items → Result Said EvalFault → Type 0
-Lists old new k d rest o = new ++ items_tokens (items_outline rest) ≡ old ++ items_tokens (items_outline (listed k (told k d o) rest))
+Lists old new k d rest o = new ++ items_tokens (items_outline rest) ≡ old ++ items_tokens (items_outline (with_flag_item k (value_or_failure k d o) rest))
 
 pub listed_success : (old new : List Token) (k j : List ℕ) (d : Data) (m : Option Data) (s : Said) (o : Result Said EvalFault) (rest : Items) → new ≡ old ++ json_tokens (outline (success j m s)) → j ≡ k → m ≡ get (codes "metadata") d → Ok s ≡ o → Lists old new k d rest o
 listed_success old new k j d m s o rest e p q r =

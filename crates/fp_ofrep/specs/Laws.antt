@@ -9,13 +9,13 @@ use Rattle.serde_json.specs.Find.{get}
 use Rattle.serde_json.specs.Written.{compact_text}
 use Rattle.fp_definition.specs.Key.{is_key}
 use Rattle.fp_edit.specs.Flags.{State}
-use Rattle.fp_ofrep.specs.Bulk.{bulk_data, bulk_reply, flag_items, listed}
+use Rattle.fp_ofrep.specs.Bulk.{bulk_data, bulk_reply, flag_items, with_flag_item}
 use Rattle.fp_ofrep.specs.Context.{context_of}
 use Rattle.fp_ofrep.specs.Reply.{reply, reply_for}
 use Rattle.fp_ofrep.specs.Response.{Response}
 use Rattle.fp_ofrep.specs.Route.{route_of, single}
-use Rattle.fp_ofrep.specs.Single.{evaluation_at, keyed, response_of}
-use Rattle.fp_ofrep.specs.Tag.{tagged}
+use Rattle.fp_ofrep.specs.Single.{evaluation_at, reply_with_key, response_of}
+use Rattle.fp_ofrep.specs.Tag.{response_with_tag}
 use Rattle.fp_ofrep.specs.declared.failure.Failure.{Failure}
 use Rattle.fp_ofrep.specs.declared.failure.Failure.TheVariants.{NotFound}
 
@@ -54,7 +54,7 @@ items_of k (item d rest) =
 -- such flag, or it is disabled
 abbrev pub part_of : List ℕ → Result Data Failure → Items
 part_of k (Err NotFound) = no_items
-part_of k evaluation = listed k evaluation no_items
+part_of k evaluation = with_flag_item k evaluation no_items
 
 -- in one set, in one context: the reply for one flag tells its evaluation, and what the list in the
 -- reply for all has of its key is that evaluation
@@ -62,10 +62,10 @@ abbrev pub ListHasEachFlag : Type 0
 ListHasEachFlag = (set : State) (k : List ℕ) (if_none_match : Option (List ℕ)) (body : List ℕ)
     (context : Data) (now : ℕ)
     → context_of body ≡ Ok context → is_key k ≡ true
-    → (keyed set k body now
+    → (reply_with_key set k body now
     ≡ response_of set.revision k (evaluation_at k (map.get set.flags k) context now))
     × (bulk_reply set if_none_match body now
-    ≡ tagged set.revision if_none_match (compact_text (bulk_data set.flags context now)))
+    ≡ response_with_tag set.revision if_none_match (compact_text (bulk_data set.flags context now)))
     × (items_of k (flag_items (map.entries set.flags) context now)
     ≡ part_of k (evaluation_at k (map.get set.flags k) context now))
 

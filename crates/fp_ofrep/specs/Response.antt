@@ -37,8 +37,8 @@ not_allowed = record {
   body = [];
 }
 
-abbrev pub failed : Failure → Option (List ℕ) → Response
-failed f key = record {
+abbrev pub failure_response : Failure → Option (List ℕ) → Response
+failure_response f key = record {
   status = status_of f;
   allow_post = false;
   is_json = true;
@@ -47,8 +47,8 @@ failed f key = record {
   body = compact_text (failure f key);
 }
 
-abbrev pub succeeded : ℕ → Option (List ℕ) → List ℕ → Response
-succeeded revision etag body = record {
+abbrev pub success_response : ℕ → Option (List ℕ) → List ℕ → Response
+success_response revision etag body = record {
   status = 200;
   allow_post = false;
   is_json = true;

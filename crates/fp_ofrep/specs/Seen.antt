@@ -10,8 +10,8 @@ abbrev pub result_map : {A B E : Type 0} → (A → B) → Result A E → Result
 result_map f (Ok a) = Ok (f a)
 result_map f (Err e) = Err e
 
-abbrev pub seen : Reply → Response
-seen r = record {
+abbrev pub response_seen : Reply → Response
+response_seen r = record {
   status = r.status;
   allow_post = r.headers.allow_post;
   is_json = r.headers.is_json;

@@ -16,20 +16,20 @@ use Rattle.fp_edit.specs.Flags.{Flags, State}
 use Rattle.fp_edit.specs.declared.flags.Flag.{Flag}
 use Rattle.fp_ofrep.specs.Bodies.{success}
 use Rattle.fp_ofrep.specs.Context.{context_of}
-use Rattle.fp_ofrep.specs.Response.{Response, failed, succeeded}
+use Rattle.fp_ofrep.specs.Response.{Response, failure_response, success_response}
 use Rattle.fp_ofrep.specs.declared.failure.Failure.{Failure}
 use Rattle.fp_ofrep.specs.declared.failure.Failure.TheVariants.{NotFound, FlagDisabled}
 use Rattle.fp_ofrep.specs.declared.failure.Failure.TheVariants.{NamesNoVariant}
 
 -- the body's object that tells an outcome, or why there is none
-abbrev pub told : List ℕ → Data → Result Said EvalFault → Result Data Failure
-told key d (Ok said) = Ok (success key (get (codes "metadata") d) said)
-told key d (Err Disabled) = Err FlagDisabled
-told key d (Err e) = Err NamesNoVariant
+abbrev pub value_or_failure : List ℕ → Data → Result Said EvalFault → Result Data Failure
+value_or_failure key d (Ok said) = Ok (success key (get (codes "metadata") d) said)
+value_or_failure key d (Err Disabled) = Err FlagDisabled
+value_or_failure key d (Err e) = Err NamesNoVariant
 
 -- the evaluation of a definition
 abbrev pub evaluation_of : List ℕ → Data → Data → ℕ → Result Data Failure
-evaluation_of key d context now = told key d (outcome_of d key context now)
+evaluation_of key d context now = value_or_failure key d (outcome_of d key context now)
 
 abbrev pub evaluation_at : List ℕ → Option Flag → Data → ℕ → Result Data Failure
 evaluation_at key None context now = Err NotFound
@@ -41,26 +41,27 @@ after_body key found (Err f) now = Err f
 after_body key found (Ok context) now = evaluation_at key found context now
 
 abbrev pub response_of : ℕ → List ℕ → Result Data Failure → Response
-response_of revision key (Ok d) = succeeded revision None (compact_text d)
-response_of revision key (Err f) = failed f (Some key)
+response_of revision key (Ok d) = success_response revision None (compact_text d)
+response_of revision key (Err f) = failure_response f (Some key)
 
 -- no set has a flag under what is no key
 abbrev pub flag_at : Flags → List ℕ → Option Flag
 flag_at flags key = if is_key key then map.get flags key else None
 
-abbrev pub keyed : State → List ℕ → List ℕ → ℕ → Response
-keyed set key body now =
+abbrev pub reply_with_key : State → List ℕ → List ℕ → ℕ → Response
+reply_with_key set key body now =
     response_of set.revision key (after_body key (flag_at set.flags key) (context_of body) now)
 
 -- a key that isn't UTF-8 names no flag, and is shown with U+FFFD
-abbrev pub broken : State → List ℕ → List ℕ → ℕ → Response
-broken set shown body now =
+abbrev pub reply_for_invalid_utf8 : State → List ℕ → List ℕ → ℕ → Response
+reply_for_invalid_utf8 set shown body now =
     response_of set.revision shown (after_body shown None (context_of body) now)
 
-abbrev pub decoded : State → List ℕ → List ℕ → ℕ → Response
-decoded set key body now =
-    if is_utf8 key then keyed set key body now else broken set (utf8_lossy key) body now
+abbrev pub reply_for_decoded_key : State → List ℕ → List ℕ → ℕ → Response
+reply_for_decoded_key set key body now =
+    if is_utf8 key then reply_with_key set key body now
+    else reply_for_invalid_utf8 set (utf8_lossy key) body now
 
 -- the key is a segment of a path
 abbrev pub single_reply : State → List ℕ → List ℕ → ℕ → Response
-single_reply set segment body now = decoded set (percent_decode segment) body now
+single_reply set segment body now = reply_for_decoded_key set (percent_decode segment) body now

@@ -3,7 +3,7 @@ use Rattle.std.specs.Prelude.{ℕ, List, [], ◌∷◌, ◌++◌, codes, Bool, t
 use Rattle.std.specs.Prelude.{if◌then◌else◌, bytes_eq, Option, Some, None}
 use Rattle.sha2.specs.Sha256.{sha256}
 use Rattle.hex.specs.Hex.{encode_lower}
-use Rattle.fp_ofrep.specs.Response.{Response, not_modified, succeeded}
+use Rattle.fp_ofrep.specs.Response.{Response, not_modified, success_response}
 use Rattle.fp_ofrep.specs.Route.{behind}
 
 -- the digest in lower-case hexadecimal, in quotes
@@ -49,6 +49,7 @@ abbrev pub is_known : List ℕ → Option (List ℕ) → Bool
 is_known tag None = false
 is_known tag (Some field) = bytes_eq field (codes "*") || has_tag tag [] field
 
-abbrev pub tagged : ℕ → Option (List ℕ) → List ℕ → Response
-tagged revision if_none_match body = if is_known (tag_of body) if_none_match
-    then not_modified revision (tag_of body) else succeeded revision (Some (tag_of body)) body
+abbrev pub response_with_tag : ℕ → Option (List ℕ) → List ℕ → Response
+response_with_tag revision if_none_match body = if is_known (tag_of body) if_none_match
+    then not_modified revision (tag_of body)
+    else success_response revision (Some (tag_of body)) body

@@ -11,10 +11,10 @@ ghost use Rattle.fp_base.specs.Whole.{is_whole};
 ghost use Rattle.fp_definition.specs.Key.{key_bytes};
 ghost use Rattle.fp_definition.specs.Resolving.{data_of};
 ghost use Rattle.fp_targeting.specs.RuleData.{IsOfContext};
-ghost use Rattle.fp_ofrep.specs.Bulk.{bulk_data, bulk_reply, flag_items, listed};
+ghost use Rattle.fp_ofrep.specs.Bulk.{bulk_data, bulk_reply, flag_items, with_flag_item};
 ghost use Rattle.std.specs.Option.{option_copied};
-ghost use Rattle.fp_ofrep.specs.Seen.{seen};
-ghost use Rattle.fp_ofrep.specs.Tag.{tagged};
+ghost use Rattle.fp_ofrep.specs.Seen.{response_seen};
+ghost use Rattle.fp_ofrep.specs.Tag.{response_with_tag};
 ghost use Rattle.fp_ofrep.specs.Single.{evaluation_of};
 
 use crate::context::read_context;
@@ -44,7 +44,7 @@ pub(crate) fn evaluate_bulk(
     now: u64,
 ) -> Result<Reply, AllocError>
     requires { now < 2 ^ 63 }
-    ensures { IfOk result (λ r. seen r
+    ensures { IfOk result (λ r. response_seen r
         ≡ bulk_reply set.now (option_copied if_none_match.entry) body.now now) }
 {
     match read_context(alloc, body)? {
@@ -63,8 +63,8 @@ fn tagged_reply(
     if_none_match: Option<&[u8]>,
     body: Vec<u8>,
 ) -> Result<Reply, AllocError>
-    ensures { IfOk result (λ r. seen r
-        ≡ tagged revision (option_copied if_none_match.entry) body.items) }
+    ensures { IfOk result (λ r. response_seen r
+        ≡ response_with_tag revision (option_copied if_none_match.entry) body.items) }
 {
     let tag = entity_tag(alloc, &body)?;
     if is_known(&tag, if_none_match) {
@@ -140,7 +140,7 @@ fn write_flag(
     ensures tokens { OnOk result ((context : JsonData) (now : ℕ) (rest : Items)
         → IsOfContext context now «data».old
         → out.new.tokens ++ items_tokens (items_outline rest) ≡ out.old.tokens ++ items_tokens
-        (items_outline (listed (key_bytes key.now)
+        (items_outline (with_flag_item (key_bytes key.now)
         (evaluation_of (key_bytes key.now) (data_of definition.now) context now) rest))) }
     ensures before { OnOk result (out.new.before ≡ out.old.before) }
     ensures context { OnOk result ((context : JsonData) (now : ℕ)

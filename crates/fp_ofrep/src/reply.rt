@@ -2,8 +2,8 @@
 
 ghost use Rattle.std.specs.Prelude.{◌≡◌, IfOk};
 ghost use Rattle.std.specs.Option.{option_copied};
-ghost use Rattle.fp_ofrep.specs.Response.{failed as failed_response};
-ghost use Rattle.fp_ofrep.specs.Seen.{seen};
+ghost use Rattle.fp_ofrep.specs.Response.{failure_response};
+ghost use Rattle.fp_ofrep.specs.Seen.{response_seen};
 
 use crate::failure::Failure;
 use crate::write::failure_text;
@@ -37,7 +37,8 @@ pub(crate) fn failed(
     failure: Failure,
     key: Option<&str>,
 ) -> Result<Reply, AllocError>
-    ensures { IfOk result (λ r. seen r ≡ failed_response failure (option_copied key.entry)) }
+    ensures { IfOk result
+        (λ r. response_seen r ≡ failure_response failure (option_copied key.entry)) }
 {
     let body = failure_text(alloc, failure, key)?;
     Ok(Reply {

@@ -3,10 +3,10 @@
 ghost use Rattle.std.specs.Prelude.{◌≡◌, ◌<◌, ◌^◌, IfOk, option_map};
 ghost use Rattle.std.specs.Option.{option_copied};
 ghost use Rattle.fp_group_commit.specs.Tokens.{front_set};
-ghost use Rattle.fp_ofrep.specs.Reply.{evaluated as evaluated_by, posted as posted_by, reply};
-ghost use Rattle.fp_ofrep.specs.Reply.{reply_for, routed as routed_by};
+ghost use Rattle.fp_ofrep.specs.Reply.{reply_to_evaluation, reply_to_post, reply};
+ghost use Rattle.fp_ofrep.specs.Reply.{reply_for, reply_to_route};
 ghost use Rattle.fp_ofrep.specs.Response.{empty as empty_response, not_allowed};
-ghost use Rattle.fp_ofrep.specs.Seen.{body_seen, route_seen, seen};
+ghost use Rattle.fp_ofrep.specs.Seen.{body_seen, route_seen, response_seen};
 
 use crate::bulk::evaluate_bulk;
 use crate::reply::{Headers, Reply};
@@ -39,7 +39,7 @@ pub fn answer(
     now: u64,
 ) -> Result<Reply, AllocError>
     requires { now < 2 ^ 63 }
-    ensures { IfOk result (λ r. seen r
+    ensures { IfOk result (λ r. response_seen r
         ≡ reply (front_set view.now) method.now target.now (option_copied if_none_match.entry)
         (body_seen body.entry) now) }
 {
@@ -55,7 +55,7 @@ pub fn answer_for(
     now: u64,
 ) -> Result<Reply, AllocError>
     requires { now < 2 ^ 63 }
-    ensures { IfOk result (λ r. seen r
+    ensures { IfOk result (λ r. response_seen r
         ≡ reply_for (front_set view.now) key.now (body_seen body.entry) now) }
 {
     posted(alloc, view.set(), Route::Key(key), None, body, now)
@@ -72,7 +72,7 @@ pub fn answer_over(
     now: u64,
 ) -> Result<Reply, AllocError>
     requires { now < 2 ^ 63 }
-    ensures { IfOk result (λ r. seen r
+    ensures { IfOk result (λ r. response_seen r
         ≡ reply set.now method.now target.now (option_copied if_none_match.entry)
         (body_seen body.entry) now) }
 {
@@ -90,8 +90,8 @@ fn routed(
     now: u64,
 ) -> Result<Reply, AllocError>
     requires { now < 2 ^ 63 }
-    ensures { IfOk result (λ r. seen r
-        ≡ routed_by set.now (option_map route_seen route.entry) method.now
+    ensures { IfOk result (λ r. response_seen r
+        ≡ reply_to_route set.now (option_map route_seen route.entry) method.now
         (option_copied if_none_match.entry) (body_seen body.entry) now) }
 {
     let Some(route) = route else {
@@ -112,8 +112,8 @@ fn posted(
     now: u64,
 ) -> Result<Reply, AllocError>
     requires { now < 2 ^ 63 }
-    ensures { IfOk result (λ r. seen r
-        ≡ posted_by set.now (route_seen route.entry) (option_copied if_none_match.entry)
+    ensures { IfOk result (λ r. response_seen r
+        ≡ reply_to_post set.now (route_seen route.entry) (option_copied if_none_match.entry)
         (body_seen body.entry) now) }
 {
     let Body::Whole(body) = body else {
@@ -134,8 +134,8 @@ fn evaluated(
     now: u64,
 ) -> Result<Reply, AllocError>
     requires { now < 2 ^ 63 }
-    ensures { IfOk result (λ r. seen r
-        ≡ evaluated_by set.now (route_seen route.entry) (option_copied if_none_match.entry)
+    ensures { IfOk result (λ r. response_seen r
+        ≡ reply_to_evaluation set.now (route_seen route.entry) (option_copied if_none_match.entry)
         body.now now) }
 {
     match route {
@@ -146,7 +146,7 @@ fn evaluated(
 }
 
 fn empty(alloc: Global, status: StatusCode) -> Reply
-    ensures { seen result ≡ empty_response status }
+    ensures { response_seen result ≡ empty_response status }
 {
     Reply {
         status,
@@ -161,7 +161,7 @@ fn empty(alloc: Global, status: StatusCode) -> Reply
 }
 
 fn only_post(alloc: Global) -> Reply
-    ensures { seen result ≡ not_allowed }
+    ensures { response_seen result ≡ not_allowed }
 {
     Reply {
         status: StatusCode::METHOD_NOT_ALLOWED,

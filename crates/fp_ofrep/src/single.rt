@@ -4,16 +4,17 @@ ghost use Rattle.std.specs.Prelude.{◌≡◌, ◌<◌, ◌^◌, ℕ, List, true
 ghost use Rattle.serde_json.specs.Written.{compact_text};
 ghost use Rattle.fp_definition.specs.Key.{key_bytes};
 ghost use Rattle.fp_ofrep.specs.Bodies.{success};
-ghost use Rattle.fp_ofrep.specs.Response.{succeeded};
+ghost use Rattle.fp_ofrep.specs.Response.{success_response};
 ghost use Rattle.serde_json.specs.Find.{as_object, get};
 ghost use Rattle.std.specs.Str.Lossy.{utf8_lossy};
 ghost use Rattle.fp_edit.specs.Flags.{State};
 ghost use Rattle.serde_json.specs.View.{view};
 ghost use Rattle.fp_base.specs.Whole.{is_whole};
 ghost use Rattle.fp_ofrep.specs.Context.{context_of};
-ghost use Rattle.fp_ofrep.specs.Seen.{seen};
-ghost use Rattle.fp_ofrep.specs.Single.{after_body, broken, decoded, evaluation_at, evaluation_of};
-ghost use Rattle.fp_ofrep.specs.Single.{flag_at, keyed, response_of, single_reply};
+ghost use Rattle.fp_ofrep.specs.Seen.{response_seen};
+ghost use Rattle.fp_ofrep.specs.Single.{after_body, reply_for_invalid_utf8, reply_for_decoded_key};
+ghost use Rattle.fp_ofrep.specs.Single.{evaluation_at, evaluation_of};
+ghost use Rattle.fp_ofrep.specs.Single.{flag_at, reply_with_key, response_of, single_reply};
 ghost use Rattle.fp_definition.specs.Resolving.{data_of, said_by};
 
 use crate::context::read_context;
@@ -36,7 +37,7 @@ pub(crate) fn evaluate_single(
     now: u64,
 ) -> Result<Reply, AllocError>
     requires { now < 2 ^ 63 }
-    ensures { IfOk result (λ r. seen r ≡ single_reply set.now segment.now body.now now) }
+    ensures { IfOk result (λ r. response_seen r ≡ single_reply set.now segment.now body.now now) }
 {
     let key = percent_decode(segment).into_cow(alloc)?;
     decoded_reply(alloc, set, &key, body, now)
@@ -50,7 +51,8 @@ fn decoded_reply(
     now: u64,
 ) -> Result<Reply, AllocError>
     requires { now < 2 ^ 63 }
-    ensures { IfOk result (λ r. seen r ≡ decoded set.now key.now body.now now) }
+    ensures { IfOk result
+        (λ r. response_seen r ≡ reply_for_decoded_key set.now key.now body.now now) }
 {
     match str::from_utf8(key) {
         Ok(text) => evaluate_key(alloc, set, text, body, now),
@@ -61,7 +63,7 @@ fn decoded_reply(
 // The reply at a key that isn't UTF-8.
 fn broken_reply(alloc: Global, key: &[u8], body: &[u8]) -> Result<Reply, AllocError>
     ensures { IfOk result (λ r. (set : State) (now : ℕ)
-        → seen r ≡ broken set (utf8_lossy key.now) body.now now) }
+        → response_seen r ≡ reply_for_invalid_utf8 set (utf8_lossy key.now) body.now now) }
 {
     let shown = String::from_utf8_lossy(alloc, key)?;
     let failure = body_failure(alloc, body)?;
@@ -88,7 +90,7 @@ pub(crate) fn evaluate_key(
     now: u64,
 ) -> Result<Reply, AllocError>
     requires { now < 2 ^ 63 }
-    ensures { IfOk result (λ r. seen r ≡ keyed set.now text.now body.now now) }
+    ensures { IfOk result (λ r. response_seen r ≡ reply_with_key set.now text.now body.now now) }
 {
     match read_context(alloc, body)? {
         Ok(context) => found_reply(alloc, set, text, &context, now),
@@ -106,7 +108,7 @@ fn found_reply(
     requires object { IsSome (as_object (view context.now)) }
     requires whole { is_whole (view context.now) ≡ true }
     requires moment { now < 2 ^ 63 }
-    ensures { IfOk result (λ r. seen r
+    ensures { IfOk result (λ r. response_seen r
         ≡ response_of set.now.revision text.now
         (evaluation_at text.now (flag_at set.now.flags text.now) (view context.now) now)) }
 {
@@ -138,7 +140,7 @@ fn resolved_reply(
     requires object { IsSome (as_object (view context.now)) }
     requires whole { is_whole (view context.now) ≡ true }
     requires moment { now < 2 ^ 63 }
-    ensures { IfOk result (λ r. seen r
+    ensures { IfOk result (λ r. response_seen r
         ≡ response_of revision (key_bytes key.now)
         (evaluation_of (key_bytes key.now) (data_of definition.now) (view context.now) now)) }
 {
@@ -158,8 +160,8 @@ fn said_reply(
     said: &Resolved<'_>,
 ) -> Result<Reply, AllocError>
     requires { is_whole (view said.now.value.now) ≡ true }
-    ensures { IfOk result (λ r. seen r
-        ≡ succeeded revision None (compact_text (success (key_bytes key.now)
+    ensures { IfOk result (λ r. response_seen r
+        ≡ success_response revision None (compact_text (success (key_bytes key.now)
         (get (codes "metadata") (data_of definition.now)) (said_by said.now)))) }
 {
     let body = success_text(alloc, key.as_str(), definition.metadata(), said)?;

@@ -7,16 +7,16 @@ use Rattle.semver.specs.OrderLaws.{pre_cmp-right}
 use Rattle.semver.specs.Grammar.{IsValid}
 use Rattle.semver.specs.Identifiers.{parts_text}
 use Rattle.semver.proofs.Grammar.{version_parts-sound, version_parts-complete}
-use Rattle.fp_operators.specs.Version.{without_v, filled, read_parts, version_of, precedence, holds}
+use Rattle.fp_operators.specs.Version.{without_v, with_zero_groups, read_parts, version_of, precedence, holds}
 use Rattle.fp_operators.specs.Laws.{SameButBuild}
 
 read : {E : Type 0} (r : Result Parts E) (p : Parts) → read_parts r ≡ Some p → r ≡ Ok p
 read (Ok q) p h = cc h
 read (Err e) p h = cc h
 
-pub version_grammar : (bs : List ℕ) (p : Parts) → (version_of bs ≡ Some p) ↔ (IsValid p × (parts_text p ≡ filled (without_v bs)))
+pub version_grammar : (bs : List ℕ) (p : Parts) → (version_of bs ≡ Some p) ↔ (IsValid p × (parts_text p ≡ with_zero_groups (without_v bs)))
 version_grammar bs p = (
-  λ h. let both = version_parts-sound (filled (without_v bs)) p (read (version_parts (filled (without_v bs))) p h) in (both.1, both.0),
+  λ h. let both = version_parts-sound (with_zero_groups (without_v bs)) p (read (version_parts (with_zero_groups (without_v bs))) p h) in (both.1, both.0),
   λ k. ap (λ t. read_parts (version_parts t)) (sym k.1) ∙ ap read_parts (version_parts-complete p k.0),
 )
 

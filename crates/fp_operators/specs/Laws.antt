@@ -14,7 +14,7 @@ use Rattle.fp_operators.specs.Equality.{strict_equality, loose_equality}
 use Rattle.fp_operators.specs.Order.{order, is_below, is_at_most}
 use Rattle.fp_operators.specs.Arithmetic.{remainder_of}
 use Rattle.fp_operators.specs.Text.{is_part, has_prefix, has_suffix}
-use Rattle.fp_operators.specs.Version.{without_v, filled, version_of, precedence, holds}
+use Rattle.fp_operators.specs.Version.{without_v, with_zero_groups, version_of, precedence, holds}
 
 -- neither a list nor an object
 abbrev pub IsScalar : Data → Type 0
@@ -98,7 +98,7 @@ SuffixesStandLast =
 -- a text is a version where, without its `v` and filled up, it is the text of valid parts
 abbrev pub VersionsFollowTheGrammar : Type 0
 VersionsFollowTheGrammar = (bs : List ℕ) (p : Parts)
-    → (version_of bs ≡ Some p) ↔ (IsValid p × (parts_text p ≡ filled (without_v bs)))
+    → (version_of bs ≡ Some p) ↔ (IsValid p × (parts_text p ≡ with_zero_groups (without_v bs)))
 
 -- two versions that differ in build metadata alone
 pub record SameButBuild (p q : Parts) : Type 0 where

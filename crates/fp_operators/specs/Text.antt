@@ -42,9 +42,10 @@ scalar_text (list ds) = None
 scalar_text (object ms) = None
 
 -- the texts of scalars, one behind the other
-abbrev pub joined : List Data → Option (List ℕ)
-joined [] = Some []
-joined (d ∷ ds) = option_and_then (λ s. option_map (λ t. s ++ t) (joined ds)) (scalar_text d)
+abbrev pub text_of_scalars : List Data → Option (List ℕ)
+text_of_scalars [] = Some []
+text_of_scalars (d ∷ ds) =
+    option_and_then (λ s. option_map (λ t. s ++ t) (text_of_scalars ds)) (scalar_text d)
 
 abbrev pub text_or_null : Option (List ℕ) → Data
 text_or_null None = null
@@ -52,4 +53,4 @@ text_or_null (Some s) = text s
 
 -- null where a list or an object is among the data
 abbrev pub concatenation : List Data → Data
-concatenation ds = text_or_null (joined ds)
+concatenation ds = text_or_null (text_of_scalars ds)

@@ -20,8 +20,8 @@ filling bs =
     if is_numeral (before_first (λ b. b == 46) bs) && is_numeral (after_first (λ b. b == 46) bs)
     then codes ".0" else []
 
-abbrev pub filled : List ℕ → List ℕ
-filled bs = bs ++ filling bs
+abbrev pub with_zero_groups : List ℕ → List ℕ
+with_zero_groups bs = bs ++ filling bs
 
 abbrev pub read_parts : {E : Type 0} → Result Parts E → Option Parts
 read_parts (Ok p) = Some p
@@ -29,7 +29,7 @@ read_parts (Err e) = None
 
 -- the version that a text is, if it is one
 abbrev pub version_of : List ℕ → Option Parts
-version_of bs = read_parts (version_parts (filled (without_v bs)))
+version_of bs = read_parts (version_parts (with_zero_groups (without_v bs)))
 
 abbrev pub precedence : Parts → Parts → Ordering
 precedence p q =

@@ -5,7 +5,7 @@ ghost use Rattle.std.specs.Prelude.{option_map, string_bytes, map};
 ghost use Rattle.std.specs.List.{starts_with as begins, ends_with as finishes};
 ghost use Rattle.fp_operators.specs.View.{view, items_view};
 ghost use Rattle.fp_operators.specs.Text.{occurs, is_among, is_part, has_prefix, has_suffix};
-ghost use Rattle.fp_operators.specs.Text.{scalar_text, joined, concatenation};
+ghost use Rattle.fp_operators.specs.Text.{scalar_text, text_of_scalars, concatenation};
 
 use crate::datum::Datum;
 use crate::equality::strictly_equal;
@@ -83,7 +83,7 @@ pub fn concatenate(alloc: Global, parts: &[Datum]) -> Result<Datum, AllocError>
 }
 
 fn joined_text(alloc: Global, parts: &[Datum]) -> Result<Option<String>, AllocError>
-    ensures { IfOk result (λ t. option_map string_bytes t ≡ joined (map view parts.now)) }
+    ensures { IfOk result (λ t. option_map string_bytes t ≡ text_of_scalars (map view parts.now)) }
 {
     let mut out = String::new(alloc);
     for datum in parts {

@@ -7,7 +7,7 @@ ghost use Rattle.semver.specs.Identifiers.{parts_of};
 ghost use Rattle.fp_operators.specs.View.{view};
 ghost use Rattle.fp_operators.specs.Numeral.{is_numeral};
 ghost use Rattle.fp_operators.specs.Version.{without_v as without_v_of, filling as filling_of};
-ghost use Rattle.fp_operators.specs.Version.{filled, version_of, holds as holds_of};
+ghost use Rattle.fp_operators.specs.Version.{with_zero_groups, version_of, holds as holds_of};
 ghost use Rattle.fp_operators.specs.Version.{comparison, text_comparison};
 
 use crate::datum::Datum;
@@ -86,7 +86,7 @@ fn version(alloc: Global, text: &str) -> Result<Option<Version>, AllocError>
 }
 
 fn complete(alloc: Global, text: &str) -> Result<String, AllocError>
-    ensures { IfOk result (λ s. string_bytes s ≡ filled (without_v_of text.now)) }
+    ensures { IfOk result (λ s. string_bytes s ≡ with_zero_groups (without_v_of text.now)) }
 {
     let rest = without_v(text);
     let mut full = String::from_str(alloc, rest)?;

@@ -9,12 +9,12 @@ use Rattle.fp_edit.specs.declared.line.LineFault.TheVariants.{TooLong, NotJson, 
 use Rattle.fp_session.specs.Reply as flags
 use Rattle.fp_session.specs.Reply.{bad_flag_or_memory, fault_of, refusal_of}
 use Rattle.fp_streams.specs.Said.{AppendsLine}
-use Rattle.fp_plane.specs.Answers.{Answer, reply, IsSaid, only_refuses, text_of}
+use Rattle.fp_plane.specs.Answers.{Answer, reply, IsSaid, only_refuses, answer_text}
 
-pub said-whole : (a : Answer) (before held : Option (List ℕ)) → AppendsLine before held (text_of a) → IsSaid a before held
+pub said-whole : (a : Answer) (before held : Option (List ℕ)) → AppendsLine before held (answer_text a) → IsSaid a before held
 said-whole a before held line = record { shown = a; like = inl refl; line = line }
 
-pub said-wanting : (r : flags.Reply) (before held : Option (List ℕ)) → only_refuses r ≡ true → AppendsLine before held (text_of (reply flags.out_of_memory)) → IsSaid (reply r) before held
+pub said-wanting : (r : flags.Reply) (before held : Option (List ℕ)) → only_refuses r ≡ true → AppendsLine before held (answer_text (reply flags.out_of_memory)) → IsSaid (reply r) before held
 said-wanting r before held refuses line = record { shown = reply flags.out_of_memory; like = inr (refuses, refl); line = line }
 
 -- a refusal only refuses, and so does what says why a line is no edit

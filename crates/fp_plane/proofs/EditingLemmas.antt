@@ -6,10 +6,10 @@ use Rattle.fp_base.proofs.Known.{Appends-nil, Appends-more, IfSome-each}
 use Rattle.fp_group_commit.specs.Tokens.{FrontState, Identity, front_revision}
 use Rattle.fp_session.specs.Asks.{Ask, asked_by_input, asked_by_lines}
 use Rattle.fp_session.specs.Lines.{lines}
-use Rattle.fp_session.specs.Progress.{cut}
+use Rattle.fp_session.specs.Progress.{line_up_to_limit}
 use Rattle.fp_session.proofs.Endings.{IsPartRead}
 use Rattle.fp_session.proofs.LineLemmas.{asked-append, lines-append}
-use Rattle.fp_plane.specs.Answers.{Answer, AreAnswersTo, IsAnswerTo, IsShownAs, IsWithin, revision_in, text_of, texts_of, says_no_edit}
+use Rattle.fp_plane.specs.Answers.{Answer, AreAnswersTo, IsAnswerTo, IsShownAs, IsWithin, revision_in, answer_text, texts_of, says_no_edit}
 use Rattle.fp_plane.specs.Editing.{IsNoLess, IsReading, IsServed}
 
 -- ---- answers, one behind the other
@@ -20,9 +20,9 @@ AreAnswersTo-push [] (b ∷ bs) x a each one = absurd each
 AreAnswersTo-push (y ∷ xs) [] x a each one = absurd each
 AreAnswersTo-push (y ∷ xs) (b ∷ bs) x a each one = (each.0, AreAnswersTo-push xs bs x a each.1 one)
 
-texts_of-push : (bs : List Answer) (a : Answer) → texts_of (bs ++ a ∷ []) ≡ texts_of bs ++ (text_of a ++ 10 ∷ [])
-texts_of-push [] a = append-nil (text_of a ++ 10 ∷ [])
-texts_of-push (b ∷ bs) a = ap (λ (t : List ℕ). (text_of b ++ 10 ∷ []) ++ t) (texts_of-push bs a) ∙ sym (append_assoc (text_of b ++ 10 ∷ []) (texts_of bs) (text_of a ++ 10 ∷ []))
+texts_of-push : (bs : List Answer) (a : Answer) → texts_of (bs ++ a ∷ []) ≡ texts_of bs ++ (answer_text a ++ 10 ∷ [])
+texts_of-push [] a = append-nil (answer_text a ++ 10 ∷ [])
+texts_of-push (b ∷ bs) a = ap (λ (t : List ℕ). (answer_text b ++ 10 ∷ []) ++ t) (texts_of-push bs a) ∙ sym (append_assoc (answer_text b ++ 10 ∷ []) (texts_of bs) (answer_text a ++ 10 ∷ []))
 
 -- ---- what was told
 
@@ -65,11 +65,11 @@ served-none store held = record {
 }
 
 pub served-more : (store : Identity) (told more : Option FrontState) (asked : List Ask) (before held then : Option (List ℕ)) (x : Ask) (a : Answer) → IsServed store told asked before held → IsNoLess more told → IsAnswerTo x a → IsWithin more a
-    → IfSome more (λ f. f.store ≡ store) → Appends held then (text_of a ++ 10 ∷ []) → IsServed store more (asked ++ x ∷ []) before then
+    → IfSome more (λ f. f.store ≡ store) → Appends held then (answer_text a ++ 10 ∷ []) → IsServed store more (asked ++ x ∷ []) before then
 served-more store told more asked before held then x a served less answers within ours written = record {
   answers = served.answers ++ a ∷ [];
   each = AreAnswersTo-push asked served.answers x a served.each answers;
-  written = subst (Appends before then) (sym (texts_of-push served.answers a)) (Appends-more before held then (texts_of served.answers) (text_of a ++ 10 ∷ []) served.written written);
+  written = subst (Appends before then) (sym (texts_of-push served.answers a)) (Appends-more before held then (texts_of served.answers) (answer_text a ++ 10 ∷ []) served.written written);
   within = All-push (IsWithin more) served.answers a (all_within-more told more served.answers less served.within) within;
   ours = ours;
 }
@@ -95,7 +95,7 @@ reading-none store kept held none = record {
 }
 
 -- a piece without a newline lengthens the line
-pub reading-more : (store : Identity) (told : Option FrontState) (seen piece kept then : List ℕ) (before held : Option (List ℕ)) (i : IsReading store told seen kept before held) → lines piece ≡ piece ∷ [] → then ≡ cut (i.line ++ piece)
+pub reading-more : (store : Identity) (told : Option FrontState) (seen piece kept then : List ℕ) (before held : Option (List ℕ)) (i : IsReading store told seen kept before held) → lines piece ≡ piece ∷ [] → then ≡ line_up_to_limit (i.line ++ piece)
     → IsReading store told (seen ++ piece) then before held
 reading-more store told seen piece kept then before held i one is = record {
   done = i.done;

@@ -6,7 +6,7 @@ use Rattle.fp_edit.specs.Edits.{Change}
 use Rattle.fp_edit.specs.Flags.{State}
 use Rattle.fp_edit.specs.Log.{after_all}
 use Rattle.fp_recovery.specs.Stands.{StandsFor}
-use Rattle.fp_group_commit.specs.Store.{Leaves, StoreState, kept}
+use Rattle.fp_group_commit.specs.Store.{Leaves, StoreState, sealed_set}
 use Rattle.fp_group_commit.specs.Tokens.{Identity}
 use Rattle.fp_session.specs.Session.{KeepsAll, KeepsOrGains}
 use Rattle.fp_session.proofs.Commits.{gains_as, next_moment, weaker}
@@ -14,7 +14,7 @@ use Rattle.fp_session.proofs.Commits.{gains_as, next_moment, weaker}
 module _ {D : Type 0} (disk : Ghosts D) (a m : StoreState D) (batch : List Change) where
   -- what is kept through steps of a compaction is kept, or gains the batch
   pub gains_kept : KeepsAll disk a m → AtAnyMoment disk a.slots.journal.disk m.slots.journal.disk (KeepsOrGains a batch)
-  gains_kept k = weaker disk a.slots.journal.disk m.slots.journal.disk (λ c. StandsFor c (kept a)) (KeepsOrGains a batch) (λ c stands. inl stands) k.any_moment
+  gains_kept k = weaker disk a.slots.journal.disk m.slots.journal.disk (λ c. StandsFor c (sealed_set a)) (KeepsOrGains a batch) (λ c stands. inl stands) k.any_moment
 
   -- and then a batch from there
   pub gains_behind : (t : StoreState D) (x : List Change) → KeepsAll disk a m → x ≡ batch → AtAnyMoment disk m.slots.journal.disk t.slots.journal.disk (KeepsOrGains m x) → AtAnyMoment disk a.slots.journal.disk t.slots.journal.disk (KeepsOrGains a batch)
@@ -25,7 +25,7 @@ module _ {D : Type 0} (disk : Ghosts D) (a m : StoreState D) (batch : List Chang
   pub gains_on : (u : StoreState D) → m.store ≡ a.store → m.sealed ≡ a.sealed ++ batch → SameHonesty disk a.slots.journal.disk m.slots.journal.disk → AtAnyMoment disk a.slots.journal.disk m.slots.journal.disk (KeepsOrGains a batch) → KeepsAll disk m u → AtAnyMoment disk a.slots.journal.disk u.slots.journal.disk (KeepsOrGains a batch)
   gains_on u store sealed honest moment k =
       next_moment disk a.slots.journal.disk m.slots.journal.disk u.slots.journal.disk (KeepsOrGains a batch) honest moment
-      (weaker disk m.slots.journal.disk u.slots.journal.disk (λ c. StandsFor c (kept m)) (KeepsOrGains a batch)
+      (weaker disk m.slots.journal.disk u.slots.journal.disk (λ c. StandsFor c (sealed_set m)) (KeepsOrGains a batch)
       (λ c stands. inr (subst (λ (s : State). StandsFor c s) (ap (λ (i : Identity). after_all i.start m.sealed) store ∙ ap (λ (l : List Change). after_all a.store.start l) sealed) stands)) k.any_moment)
 
 -- what a call leaves from an equal store on

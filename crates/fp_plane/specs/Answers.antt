@@ -5,7 +5,7 @@ use Rattle.fp_group_commit.specs.Tokens.{FrontState, front_revision}
 use Rattle.fp_streams.specs.Said.{AppendsLine}
 use Rattle.fp_session.specs.Asks.{Ask}
 use Rattle.fp_session.specs.Reply as flags
-use Rattle.fp_session.specs.Reply.{Reply, error_text, said}
+use Rattle.fp_session.specs.Reply.{Reply, error_text, reply_of_code}
 use Rattle.fp_plane.specs.declared.answer.Answer as code
 use Rattle.fp_plane.specs.declared.answer.Answer.TheVariants.{Flags, QueueFull, Stopped}
 
@@ -17,15 +17,15 @@ pub data Answer : Type 0 where
   -- no edit is taken any more
   stopped : Answer
 
-abbrev pub text_of : Answer → List ℕ
-text_of (reply r) = flags.text_of r
-text_of queue_full = error_text (codes "queue-full")
-text_of stopped = error_text (codes "stopped")
+abbrev pub answer_text : Answer → List ℕ
+answer_text (reply r) = flags.reply_text r
+answer_text queue_full = error_text (codes "queue-full")
+answer_text stopped = error_text (codes "stopped")
 
 -- each on a line of its own
 abbrev pub texts_of : List Answer → List ℕ
 texts_of [] = []
-texts_of (a ∷ bs) = (text_of a ++ 10 ∷ []) ++ texts_of bs
+texts_of (a ∷ bs) = (answer_text a ++ 10 ∷ []) ++ texts_of bs
 
 -- the revision that an answer tells as the one that its edit made
 abbrev pub revision_of_reply : Reply → Option ℕ
@@ -76,10 +76,10 @@ IsWithin told a = IfSome (revision_in a) (λ n. IsSomeAnd told (λ f. n ≤ fron
 
 -- ---- the answers of the code
 
-abbrev pub seen : code.Answer → Answer
-seen (Flags r) = reply (said r)
-seen QueueFull = queue_full
-seen Stopped = stopped
+abbrev pub answer_of_code : code.Answer → Answer
+answer_of_code (Flags r) = reply (reply_of_code r)
+answer_of_code QueueFull = queue_full
+answer_of_code Stopped = stopped
 
 -- whether a reply only refuses, or says why a line is no edit
 abbrev pub only_refuses : Reply → Bool
@@ -104,4 +104,4 @@ IsShownAs a b = (b ≡ a) ⊎ ((may_want a ≡ true) × (b ≡ reply flags.out_o
 pub record IsSaid (a : Answer) (before held : Option (List ℕ)) : Type 0 where
   pub shown : Answer
   pub like : IsShownAs a shown
-  pub line : AppendsLine before held (text_of shown)
+  pub line : AppendsLine before held (answer_text shown)

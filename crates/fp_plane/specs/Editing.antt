@@ -4,7 +4,7 @@ use Rattle.std.specs.Io.KnownBytes.{Appends}
 use Rattle.fp_group_commit.specs.Tokens.{FrontState, Identity, front_revision}
 use Rattle.fp_session.specs.Asks.{Ask, asked_by_lines}
 use Rattle.fp_session.specs.Lines.{lines}
-use Rattle.fp_session.specs.Progress.{cut}
+use Rattle.fp_session.specs.Progress.{line_up_to_limit}
 use Rattle.fp_plane.specs.Answers.{Answer, AreAnswersTo, IsWithin, texts_of}
 
 -- Behind what a writer held stand the answers to what was asked, a line each, and no revision among
@@ -24,7 +24,7 @@ pub record IsReading (store : Identity) (told : Option FrontState) (seen kept : 
   pub done : List (List ℕ)
   pub line : List ℕ
   pub split : lines seen ≡ done ++ line ∷ []
-  pub kept_is : kept ≡ cut line
+  pub kept_is : kept ≡ line_up_to_limit line
   pub served : IsServed store told (asked_by_lines done) before held
 
 -- what was told is no less than this

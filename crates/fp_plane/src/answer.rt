@@ -5,9 +5,9 @@ ghost use Rattle.fp_streams.specs.Failures.{CountsFailures};
 ghost use Rattle.fp_streams.specs.Said.{AppendsLine};
 ghost use Rattle.fp_streams.specs.declared.counted.StreamFault.TheVariants.{Device};
 ghost use Rattle.fp_session.specs.Reply as flags;
-ghost use Rattle.fp_session.specs.Reply.{said};
+ghost use Rattle.fp_session.specs.Reply.{reply_of_code};
 ghost use Rattle.fp_plane.specs.Answers as answers;
-ghost use Rattle.fp_plane.specs.Answers.{IsSaid, only_refuses, seen};
+ghost use Rattle.fp_plane.specs.Answers.{IsSaid, only_refuses, answer_of_code};
 
 use fp_session::Reply;
 use fp_streams::{FailureCounted, StreamFault};
@@ -33,7 +33,7 @@ struct RevisionLine(u64);
 impl fmt::Display for RevisionLine {
     ghost use Rattle.std.specs.Prelude.{Some};
 
-    ghost output = { λ r. Some (flags.text_of (flags.revision r.0)) };
+    ghost output = { λ r. Some (flags.reply_text (flags.revision r.0)) };
 
     fn fmt<W: fmt::Write>(&self, f: &mut fmt::Formatter<W>) -> fmt::Result {
         write!(f, "{{\"revision\":{}}}", self.0)
@@ -42,7 +42,8 @@ impl fmt::Display for RevisionLine {
 
 // The text of a reply on a line of its own.
 fn line_of(alloc: Global, reply: &Reply) -> Result<Vec<u8>, AllocError>
-    ensures { IfOk result (λ line. line.items ≡ flags.text_of (said reply.now) ++ 10 ∷ []) }
+    ensures { IfOk result
+        (λ line. line.items ≡ flags.reply_text (reply_of_code reply.now) ++ 10 ∷ []) }
 {
     let mut line = reply.text(alloc)?;
     line.push(b'\n')?;
@@ -65,8 +66,8 @@ fn send_refusal<O: Write>(
     w: &mut FailureCounted<O>,
     reply: &Reply,
 ) -> Result<(), StreamFault>
-    requires { only_refuses (said reply.now) ≡ true }
-    ensures sent { OnOk result (IsSaid (answers.reply (said reply.now))
+    requires { only_refuses (reply_of_code reply.now) ≡ true }
+    ensures sent { OnOk result (IsSaid (answers.reply (reply_of_code reply.now))
         (O.contents w.old.inner) (O.contents w.new.inner)) }
     ensures fault { IfErr result (λ f. f ≡ Device) }
     ensures counted { CountsFailures w.old.failures w.new.failures result }
@@ -83,7 +84,7 @@ fn send_reply<O: Write>(
     w: &mut FailureCounted<O>,
     reply: &Reply,
 ) -> Result<(), StreamFault>
-    ensures sent { OnOk result (IsSaid (answers.reply (said reply.now))
+    ensures sent { OnOk result (IsSaid (answers.reply (reply_of_code reply.now))
         (O.contents w.old.inner) (O.contents w.new.inner)) }
     ensures fault { IfErr result (λ f. f ≡ Device) }
     ensures counted { CountsFailures w.old.failures w.new.failures result }
@@ -102,7 +103,7 @@ pub fn send_answer<O: Write>(
     w: &mut FailureCounted<O>,
     answer: &Answer,
 ) -> Result<(), StreamFault>
-    ensures sent { OnOk result (IsSaid (seen answer.now)
+    ensures sent { OnOk result (IsSaid (answer_of_code answer.now)
         (O.contents w.old.inner) (O.contents w.new.inner)) }
     ensures fault { IfErr result (λ f. f ≡ Device) }
     ensures counted { CountsFailures w.old.failures w.new.failures result }

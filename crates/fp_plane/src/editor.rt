@@ -4,9 +4,10 @@ ghost use Rattle.std.specs.Prelude.{◌≡◌, ◌+◌, ◌++◌, ◌∷◌, [],
 ghost use Rattle.std.specs.Prelude.{false, IfOk, IfErr, IfSome, IsSomeAnd, OnOk, MatchBool};
 ghost use Rattle.fp_group_commit.specs.Tokens.{Identity, front_revision};
 ghost use Rattle.fp_session.specs.Asks.{Ask, asked_by_input, asked_by_lines};
-ghost use Rattle.fp_session.specs.Progress.{AsksFor, cut};
+ghost use Rattle.fp_session.specs.Progress.{AsksFor, line_up_to_limit};
 ghost use Rattle.fp_streams.specs.Failures.{CountsFailures};
-ghost use Rattle.fp_plane.specs.Answers.{IsAnswerTo, IsWithin, revision_in, says_no_edit, seen};
+ghost use Rattle.fp_plane.specs.Answers.{IsAnswerTo, IsWithin, revision_in, says_no_edit};
+ghost use Rattle.fp_plane.specs.Answers.{answer_of_code};
 ghost use Rattle.fp_plane.specs.Editing.{IsNoLess, IsReading, IsServed};
 
 use crate::answer::{Answer, send_answer};
@@ -109,7 +110,7 @@ where
     R: Wait + Drop,
     O: Write,
     ensures answered { OnOk result ((asked : List Ask) (bytes : List ℕ) (before : Option (List ℕ))
-        → line.old ≡ cut bytes
+        → line.old ≡ line_up_to_limit bytes
         → IsServed K.store told.old asked before (O.contents w.old.inner)
         → IsServed K.store told.new (asked ++ asked_by_lines (bytes ∷ [])) before
         (O.contents w.new.inner)) }
@@ -134,8 +135,8 @@ where
     K: Naming,
     D: Disk + Drop,
     R: Wait + Drop,
-    ensures answer { (x : Ask) → AsksFor asked x → IsAnswerTo x (seen result.0) }
-    ensures within { IsWithin result.1 (seen result.0) }
+    ensures answer { (x : Ask) → AsksFor asked x → IsAnswerTo x (answer_of_code result.0) }
+    ensures within { IsWithin result.1 (answer_of_code result.0) }
     ensures ours { IfSome result.1 (λ t. t.store ≡ K.store) }
 {
     match asked {
@@ -150,8 +151,8 @@ where
     K: Naming,
     D: Disk + Drop,
     R: Wait + Drop,
-    ensures answer { says_no_edit (seen result.0) ≡ false }
-    ensures within { IsWithin result.1 (seen result.0) }
+    ensures answer { says_no_edit (answer_of_code result.0) ≡ false }
+    ensures within { IsWithin result.1 (answer_of_code result.0) }
     ensures ours { IfSome result.1 (λ t. t.store ≡ K.store) }
 {
     let ticket = match plane.submit(edit) {
@@ -167,8 +168,8 @@ where
 
 // The answer to an edit that wasn't taken.
 fn answer_to_refused(fault: SubmitFault) -> Answer
-    ensures answer { says_no_edit (seen result) ≡ false }
-    ensures none { revision_in (seen result) ≡ None }
+    ensures answer { says_no_edit (answer_of_code result) ≡ false }
+    ensures none { revision_in (answer_of_code result) ≡ None }
 {
     match fault {
         SubmitFault::Stopped => Answer::Stopped,

@@ -5,7 +5,7 @@ ghost use Rattle.fp_disk.specs.Crashes.{AtAnyMoment, EachCrash, SameHonesty};
 ghost use Rattle.fp_journal.specs.declared.journal.Phase.TheVariants.{Idle};
 ghost use Rattle.fp_record.specs.declared.batch.TheConstants.{MOST_EDITS};
 ghost use Rattle.fp_recovery.specs.Stands.{StandsFor};
-ghost use Rattle.fp_group_commit.specs.Store.{IsAtRest, kept};
+ghost use Rattle.fp_group_commit.specs.Store.{IsAtRest, sealed_set};
 ghost use Rattle.fp_session.specs.Session.{KeepsOrGains};
 
 use crate::naming::Naming;
@@ -71,7 +71,7 @@ where
     ensures any_moment { AtAnyMoment D.Disk store.old.slots.journal.disk
         store.new.slots.journal.disk (KeepsOrGains store.old draw.changes) }
     ensures keeps { OnOk result (EachCrash D.Disk store.new.slots.journal.disk
-        (λ c. StandsFor c (kept store.new))) }
+        (λ c. StandsFor c (sealed_set store.new))) }
     ensures honest { SameHonesty D.Disk store.old.slots.journal.disk store.new.slots.journal.disk }
 {
     let receipt = seal(&plane.shared.rt, store, draw)?;

@@ -7,7 +7,7 @@ ghost use Rattle.fp_journal.specs.declared.journal.Phase.TheVariants.{Failed, Id
 ghost use Rattle.fp_record.specs.declared.batch.TheConstants.{MOST_EDITS};
 ghost use Rattle.fp_recovery.specs.Stands.{StandsFor};
 ghost use Rattle.fp_group_commit.specs.Changes.{HasRoom};
-ghost use Rattle.fp_group_commit.specs.Store.{IsAtRest, Leaves, kept};
+ghost use Rattle.fp_group_commit.specs.Store.{IsAtRest, Leaves, sealed_set};
 ghost use Rattle.fp_session.specs.Session.{KeepsAll, KeepsOrGains};
 
 use fp_disk::Disk;
@@ -34,7 +34,7 @@ fn make_room<D: Disk, R: Wait + Clock>(
 ) -> Result<(), Broken>
     requires idle { store.old.step ≡ Idle }
     requires keeps { EachCrash D.Disk store.old.slots.journal.disk
-        (λ c. StandsFor c (kept store.old)) }
+        (λ c. StandsFor c (sealed_set store.old)) }
     requires some { 0 < length draw.now.changes }
     requires few { length draw.now.changes ≤ MOST_EDITS }
     ensures keeps { KeepsAll D.Disk store.old store.new }
@@ -94,11 +94,11 @@ pub fn seal<D: Disk, R: Wait + Clock>(
     ensures receipt { IfOk result (λ r. (r.store ≡ store.old.store)
         × (r.edits ≡ store.new.sealed)) }
     ensures batch { IfOk result (λ r. (r.batch.changes ≡ draw.changes)
-        × (r.batch.first ≡ (kept store.old).revision + 1)) }
+        × (r.batch.first ≡ (sealed_set store.old).revision + 1)) }
     ensures any_moment { AtAnyMoment D.Disk store.old.slots.journal.disk
         store.new.slots.journal.disk (KeepsOrGains store.old draw.changes) }
     ensures keeps { OnOk result (EachCrash D.Disk store.new.slots.journal.disk
-        (λ c. StandsFor c (kept store.new))) }
+        (λ c. StandsFor c (sealed_set store.new))) }
     ensures honest { SameHonesty D.Disk store.old.slots.journal.disk store.new.slots.journal.disk }
 {
     // What a crash leaves is known only where it is asked.
@@ -116,7 +116,7 @@ pub fn seal<D: Disk, R: Wait + Clock>(
 pub fn compact_on<D: Disk>(store: &mut Store<D>) -> Result<(), Broken>
     requires rest { IsAtRest store.old }
     requires keeps { EachCrash D.Disk store.old.slots.journal.disk
-        (λ c. StandsFor c (kept store.old)) }
+        (λ c. StandsFor c (sealed_set store.old)) }
     ensures keeps { KeepsAll D.Disk store.old store.new }
     ensures rest { OnOk result (IsAtRest store.new) }
 {

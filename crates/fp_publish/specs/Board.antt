@@ -1,7 +1,7 @@
 -- What holds of a board between its calls.
 use Rattle.std.specs.Prelude.{◌≡◌, Bool, true, List, fold, Option, Some}
 use Rattle.fp_group_commit.specs.Tokens.{FrontState}
-use Rattle.fp_publish.specs.Rule.{applied, page_at}
+use Rattle.fp_publish.specs.Rule.{page_after, page_at}
 use Rattle.fp_publish.specs.declared.page.Page.{Page}
 use Rattle.fp_publish.specs.declared.page.Step.{Step}
 
@@ -12,4 +12,4 @@ pub record IsReady (published : Page) (knows : Option FrontState) (pending : Lis
   pub now : published ≡ page_at shown
   pub known : knows ≡ Some shown
   pub store : next.store ≡ shown.store
-  pub led : leads ≡ true → fold applied published pending ≡ page_at next
+  pub led : leads ≡ true → fold page_after published pending ≡ page_at next

@@ -25,10 +25,10 @@ page_at f = record { set = front_set f; front = f }
 abbrev pub with_changes : Page → List Change → Page
 with_changes p cs = record { set = after_all p.set cs; front = p.front }
 
-abbrev pub applied : Page → Step → Page
-applied p (takes edit) = record { set = next p.set (change_of edit); front = p.front }
-applied p (Settled front) = record { set = p.set; front = front }
-applied p (Whole set front) = record { set = set; front = front }
+abbrev pub page_after : Page → Step → Page
+page_after p (takes edit) = record { set = next p.set (change_of edit); front = p.front }
+page_after p (Settled front) = record { set = p.set; front = front }
+page_after p (Whole set front) = record { set = set; front = front }
 
 -- what a seat knows, if anything, begins this
 abbrev pub IfKnownBegins : Option FrontState → FrontState → Type 0

@@ -6,7 +6,7 @@ ghost use Rattle.fp_edit.specs.Following.{changes_of};
 ghost use Rattle.fp_desk.specs.Desk.{settled_front};
 ghost use Rattle.fp_group_commit.specs.Tokens.{front_revision};
 ghost use Rattle.fp_publish.specs.Fronts.{Begins};
-ghost use Rattle.fp_publish.specs.Rule.{applied, page_at, with_changes};
+ghost use Rattle.fp_publish.specs.Rule.{page_after, page_at, with_changes};
 ghost use Rattle.fp_publish.specs.declared.board.TheConstants.{MOST_EVALUATORS};
 
 use crate::evaluator::Evaluator;
@@ -62,8 +62,8 @@ impl Model for Board {
 fn put(writer: &mut Pages, step: Step) -> Result<(), AllocError>
     ensures desk { writer.new.desk ≡ writer.old.desk }
     ensures appended { OnOk result ((p : Page)
-        → fold applied p (drop writer.new.behind writer.new.log.items)
-        ≡ applied (fold applied p (drop writer.old.behind writer.old.log.items)) step) }
+        → fold page_after p (drop writer.new.behind writer.new.log.items)
+        ≡ page_after (fold page_after p (drop writer.old.behind writer.old.log.items)) step) }
 {
     if writer.append(step).is_err() {
         return Err(AllocError);
@@ -75,8 +75,8 @@ fn put(writer: &mut Pages, step: Step) -> Result<(), AllocError>
 fn put_edits(writer: &mut Pages, edits: &[Edit]) -> Result<(), AllocError>
     ensures desk { writer.new.desk ≡ writer.old.desk }
     ensures appended { OnOk result ((p : Page)
-        → fold applied p (drop writer.new.behind writer.new.log.items)
-        ≡ with_changes (fold applied p (drop writer.old.behind writer.old.log.items))
+        → fold page_after p (drop writer.new.behind writer.new.log.items)
+        ≡ with_changes (fold page_after p (drop writer.old.behind writer.old.log.items))
         (changes_of edits.now)) }
 {
     for edit in edits {
@@ -89,10 +89,10 @@ fn put_edits(writer: &mut Pages, edits: &[Edit]) -> Result<(), AllocError>
 // last, or all of the set.
 fn put_settled(writer: &mut Pages, next: &Shown, leads: bool, desk: &Desk) -> Result<(), AllocError>
     requires store { next.now.store ≡ desk.now.store }
-    requires leads { leads ≡ true → fold applied writer.old.desk.shown.value
+    requires leads { leads ≡ true → fold page_after writer.old.desk.shown.value
         (drop writer.old.behind writer.old.log.items) ≡ page_at next.now }
     ensures desk { writer.new.desk ≡ writer.old.desk }
-    ensures appended { OnOk result (fold applied writer.old.desk.shown.value
+    ensures appended { OnOk result (fold page_after writer.old.desk.shown.value
         (drop writer.new.behind writer.new.log.items) ≡ page_at (settled_front desk.now)) }
 {
     let told = Shown::of(&desk.told());

@@ -2,7 +2,7 @@
 
 ghost use Rattle.std.specs.Prelude.{◌≡◌, IfOk};
 ghost use Rattle.fp_group_commit.specs.Tokens.{front_revision};
-ghost use Rattle.fp_publish.specs.Rule.{IsConsistent, applied};
+ghost use Rattle.fp_publish.specs.Rule.{IsConsistent, page_after};
 
 use crate::shown::Shown;
 use fp_edit::{Edit, FlagSet};
@@ -61,7 +61,7 @@ impl Absorb<Step> for Page {
 
     ghost state = { λ p. p };
 
-    ghost applied = { applied };
+    ghost applied = { page_after };
 
     fn absorb_first(&mut self, operation: &Step, _other: &Page) -> Result<(), AllocError> {
         match operation {

@@ -9,7 +9,7 @@ use Rattle.fp_edit.specs.Flags.{State}
 use Rattle.std.specs.Int.{w32, w64, to_be_bytes}
 use Rattle.fp_gate.specs.declared.gate.TheConstants.{OPEN}
 use Rattle.fp_journal.specs.Holds.{Holds, IsSynced}
-use Rattle.fp_journal.specs.Chain.{framed, spell}
+use Rattle.fp_journal.specs.Chain.{with_length, spell}
 use Rattle.fp_journal.specs.Reading.{IsChain}
 use Rattle.fp_journal.specs.State.{HasChain, HasChainOrNext, JournalState, Outside}
 use Rattle.fp_journal.specs.declared.slot.Slot.{Slot}
@@ -93,7 +93,7 @@ module _ {D : Type 0} (u : PendingState) (set : State) (journal : JournalState D
   kept_more v t later b takes short slot front sealed firm =
       let most : journal.slot.most ≡ k.size / 8 - 6 = ap (λ (s : Slot). s.most) k.slot_is ∙ most_of k.size k.side in
       let fits : length b ≤ k.size / 8 - 6 = subst (λ (n : ℕ). length b ≤ n) most short in
-      let text : later.front ++ spell later.sealed ≡ (journal.front ++ spell journal.sealed) ++ OPEN ∷ framed b =
+      let text : later.front ++ spell later.sealed ≡ (journal.front ++ spell journal.sealed) ++ OPEN ∷ with_length b =
       ap (λ (f : List ℕ). f ++ spell later.sealed) front ∙ ap (λ (l : List (List ℕ)). journal.front ++ spell l) sealed ∙ text-more journal.front journal.sealed b in
       kept_over v t later slot front (subst (λ (x : List ℕ). Spells k.size x t) (sym text) (spells_on k.size (journal.front ++ spell journal.sealed) b set t k.spells takes fits)) firm
 

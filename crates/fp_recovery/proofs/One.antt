@@ -4,7 +4,7 @@ use Rattle.std.specs.FinMap as fin
 use Rattle.std.proofs.lemmas.List.{append-nil}
 use Rattle.fp_edit.specs.Flags.{State, Flags}
 use Rattle.fp_gate.specs.declared.gate.TheConstants.{OPEN}
-use Rattle.fp_journal.specs.Chain.{framed}
+use Rattle.fp_journal.specs.Chain.{with_length}
 use Rattle.fp_journal.specs.Reading.{IsChain, Reads}
 use Rattle.fp_journal.specs.declared.slot.Slot.{Slot}
 use Rattle.fp_journal.proofs.Holds.{byte_held}
@@ -51,8 +51,8 @@ reads_one s t u (b ∷ bs) p q = reads_one q.0 t u bs (subst (λ (v : State). Re
 
 pub chain_one : (most at stop : ℕ) (xs ys : List (List ℕ)) (c : List ℕ) → most < 2 ^ 32 → IsChain most at stop xs c → IsChain most at stop ys c → xs ≡ ys
 chain_one most at stop [] [] c small p q = refl
-chain_one most at stop [] (y ∷ ys) c small p q = absurd (p.ends.shut (sym (byte_held c at p.ends.gate [] p.ends.holds) ∙ byte_held c at OPEN (framed y) (chain_first most at stop y ys c q).0.holds))
-chain_one most at stop (x ∷ xs) [] c small p q = absurd (q.ends.shut (sym (byte_held c at q.ends.gate [] q.ends.holds) ∙ byte_held c at OPEN (framed x) (chain_first most at stop x xs c p).0.holds))
+chain_one most at stop [] (y ∷ ys) c small p q = absurd (p.ends.shut (sym (byte_held c at p.ends.gate [] p.ends.holds) ∙ byte_held c at OPEN (with_length y) (chain_first most at stop y ys c q).0.holds))
+chain_one most at stop (x ∷ xs) [] c small p q = absurd (q.ends.shut (sym (byte_held c at q.ends.gate [] q.ends.holds) ∙ byte_held c at OPEN (with_length x) (chain_first most at stop x xs c p).0.holds))
 chain_one most at stop (x ∷ xs) (y ∷ ys) c small p q =
     let f = chain_first most at stop x xs c p in let g = chain_first most at stop y ys c q in let a = f.0.short in let b = g.0.short in
     let same : x ≡ y = same_body c at x y f.0.holds (omega (arith, a, small)) g.0.holds (omega (arith, b, small)) in

@@ -6,7 +6,7 @@ use Rattle.std.specs.FinMap as fin
 use Rattle.std.proofs.lemmas.Bool.{cases_lt}
 use Rattle.fp_edit.specs.Flags.{State}
 use Rattle.fp_gate.specs.declared.gate.TheConstants.{OPEN}
-use Rattle.fp_journal.specs.Chain.{framed, spell}
+use Rattle.fp_journal.specs.Chain.{with_length, spell}
 use Rattle.fp_journal.specs.Holds.{Holds}
 use Rattle.fp_journal.specs.Reading.{IsNext, Breaks, no_gate, no_length, too_long, no_body, Reads, StopsAt, length_at}
 use Rattle.fp_journal.specs.State.{AllShort}
@@ -38,7 +38,7 @@ module _ (most stop : ℕ) (c : List ℕ) (small : most < 2 ^ 32) where
   next_long : (at next : ℕ) (b : List ℕ) → IsNext most at stop b next c → (length_at c at ≡ length b) × (length b ≤ most) × (at + 5 + length b ≤ length c) × (at + 5 + length b ≤ stop)
   next_long at next b n =
       let fits = n.short in let long = n.holds.long in let within = n.within in let place = n.place in
-      let len : length (framed b) ≡ 4 + length b = length-append (to_be_bytes w32 (length b)) b in
+      let len : length (with_length b) ≡ 4 + length b = length-append (to_be_bytes w32 (length b)) b in
       (length_read c at b n.holds (omega (arith, fits, small)), fits, omega (arith, long, len), omega (arith, within, place))
 
   next_sound : (at next k : ℕ) (b : List ℕ) → IsNext most at stop b next c → Breaks most stop c at k → ⊥
@@ -104,20 +104,20 @@ module _ (most stop : ℕ) (c : List ℕ) (small : most < 2 ^ 32) where
 
   first_of : (at : ℕ) (b : List ℕ) (bs : List (List ℕ)) (s t : State) → AreHere at (b ∷ bs) s t → FirstOf at b bs s t
   first_of at b bs s t h =
-      let len : length (framed b) ≡ 4 + length b = length-append (to_be_bytes w32 (length b)) b in
-      let all = length-append (framed b) (spell bs) in
+      let len : length (with_length b) ≡ 4 + length b = length-append (to_be_bytes w32 (length b)) b in
+      let all = length-append (with_length b) (spell bs) in
       let end : at + length (spell (b ∷ bs)) ≡ at + 5 + length b + length (spell bs) = omega (arith, len, all) in
       let fits : at + 5 + length b + length (spell bs) ≤ stop = elim h.within [
         | inl is ↦ absurd (omega (arith, is, end))
         | inr le ↦ omega (arith, le, end)
       ] in
-      let place : at + length (OPEN ∷ framed b) ≡ at + 5 + length b = omega (arith, len) in
+      let place : at + length (OPEN ∷ with_length b) ≡ at + 5 + length b = omega (arith, len) in
       let r = h.reads in
       record {
         middle = r.0;
         taken = r.1;
-        link = record { holds = holds_front c at (OPEN ∷ framed b) (spell bs) h.holds; short = h.short.0; place = refl; within = omega (arith, fits) };
-        others = record { holds = subst (λ (k : ℕ). Holds c k (spell bs)) place (holds_back c at (OPEN ∷ framed b) (spell bs) h.holds); short = h.short.1; within = inr fits; reads = r.2 };
+        link = record { holds = holds_front c at (OPEN ∷ with_length b) (spell bs) h.holds; short = h.short.0; place = refl; within = omega (arith, fits) };
+        others = record { holds = subst (λ (k : ℕ). Holds c k (spell bs)) place (holds_back c at (OPEN ∷ with_length b) (spell bs) h.holds); short = h.short.1; within = inr fits; reads = r.2 };
         end = end;
       }
 

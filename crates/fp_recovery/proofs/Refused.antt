@@ -5,7 +5,7 @@ use Rattle.std.specs.FinMap as fin
 use Rattle.std.specs.Int.{w32, w64, to_be_bytes}
 use Rattle.fp_edit.specs.Flags.{State}
 use Rattle.fp_journal.specs.Holds.{Holds}
-use Rattle.fp_journal.specs.Chain.{framed, spell}
+use Rattle.fp_journal.specs.Chain.{with_length, spell}
 use Rattle.fp_journal.specs.Reading.{IsChain, IsNext, Breaks, no_gate, no_length, too_long, no_body, Reads, StopsAt, length_at}
 use Rattle.fp_journal.specs.State.{AllShort}
 use Rattle.fp_journal.proofs.Holds.{byte_held, holds_front, holds_back}
@@ -39,16 +39,16 @@ pub chain_after : (most at stop : ℕ) (bodies bs : List (List ℕ)) (c : List �
     → (rest : List (List ℕ)) × (bs ≡ bodies ++ rest) × IsChain most (at + length (spell bodies)) stop rest c
 chain_after most at stop [] bs c small h short chain = (bs, refl, subst (λ (k : ℕ). IsChain most k stop bs c) (sym (add-zero at)) chain)
 chain_after most at stop (b ∷ bodies) bs c small h short chain =
-    let front : Holds c at (OPEN ∷ framed b) = holds_front c at (OPEN ∷ framed b) (spell bodies) h in
-    let t = chain_opened most at stop bs c (byte_held c at OPEN (framed b) front) chain in
+    let front : Holds c at (OPEN ∷ with_length b) = holds_front c at (OPEN ∷ with_length b) (spell bodies) h in
+    let t = chain_opened most at stop bs c (byte_held c at OPEN (with_length b) front) chain in
     let fits = t.3.short in let fits_b = short.0 in
     let same : t.0 ≡ b = same_body c at t.0 b t.3.holds (omega (arith, fits, small)) front (omega (arith, fits_b, small)) in
     let here : IsChain most (at + 5 + length b) stop t.1 c = subst (λ (x : List ℕ). IsChain most (at + 5 + length x) stop t.1 c) same t.4 in
-    let len : length (framed b) ≡ 4 + length b = length-append (to_be_bytes w32 (length b)) b in
-    let place : at + length (OPEN ∷ framed b) ≡ at + 5 + length b = omega (arith, len) in
-    let back : Holds c (at + 5 + length b) (spell bodies) = subst (λ (k : ℕ). Holds c k (spell bodies)) place (holds_back c at (OPEN ∷ framed b) (spell bodies) h) in
+    let len : length (with_length b) ≡ 4 + length b = length-append (to_be_bytes w32 (length b)) b in
+    let place : at + length (OPEN ∷ with_length b) ≡ at + 5 + length b = omega (arith, len) in
+    let back : Holds c (at + 5 + length b) (spell bodies) = subst (λ (k : ℕ). Holds c k (spell bodies)) place (holds_back c at (OPEN ∷ with_length b) (spell bodies) h) in
     let r = chain_after most (at + 5 + length b) stop bodies t.1 c small back short.1 here in
-    let all = length-append (framed b) (spell bodies) in
+    let all = length-append (with_length b) (spell bodies) in
     let end : at + 5 + length b + length (spell bodies) ≡ at + length (spell (b ∷ bodies)) = omega (arith, len, all) in
     (r.0, t.2 ∙ ap (λ (x : List ℕ). x ∷ t.1) same ∙ ap (λ (l : List (List ℕ)). b ∷ l) r.1, subst (λ (k : ℕ). IsChain most k stop r.0 c) end r.2)
 
@@ -56,7 +56,7 @@ link_long : (most at stop : ℕ) (rest : List (List ℕ)) (c : List ℕ) → mos
     → (n : ℕ) × (length_at c at ≡ n) × (n ≤ most) × (at + 5 + n ≤ length c) × (at + 5 + n ≤ stop)
 link_long most at stop rest c small is chain =
     let t = chain_opened most at stop rest c is chain in let fits = t.3.short in let long = t.3.holds.long in let within = t.3.within in
-    let len : length (framed t.0) ≡ 4 + length t.0 = length-append (to_be_bytes w32 (length t.0)) t.0 in
+    let len : length (with_length t.0) ≡ 4 + length t.0 = length-append (to_be_bytes w32 (length t.0)) t.0 in
     (length t.0, length_read c at t.0 t.3.holds (omega (arith, fits, small)), fits, omega (arith, long, len), within)
 
 chain_sound : (most at stop k : ℕ) (rest : List (List ℕ)) (c : List ℕ) → most < 2 ^ 32 → IsChain most at stop rest c → Breaks most stop c at k → ⊥
@@ -80,7 +80,7 @@ chain_read most at stop k c first s bs small chain reads stops =
   where
     next_refused : (rest : List (List ℕ)) → IsChain most stops.gate stop rest c → Reads TakesBatch stops.last rest s → (body : List ℕ) (next offset : ℕ) → IsNext most stops.gate stop body next c → RefusesBatch stops.last body offset → ⊥
     next_refused rest here left body next offset n refuses =
-        let t = chain_opened most stops.gate stop rest c (byte_held c stops.gate OPEN (framed body) n.holds) here in let fits = t.3.short in let fits_b = n.short in
+        let t = chain_opened most stops.gate stop rest c (byte_held c stops.gate OPEN (with_length body) n.holds) here in let fits = t.3.short in let fits_b = n.short in
         let same : t.0 ≡ body = same_body c stops.gate t.0 body t.3.holds (omega (arith, fits, small)) n.holds (omega (arith, fits_b, small)) in
         let r : Reads TakesBatch stops.last (t.0 ∷ t.1) s = subst (λ (l : List (List ℕ)). Reads TakesBatch stops.last l s) t.2 left in
         apart (batch_onto stops.last body) r.0 offset (batch_back stops.last r.0 body (subst (λ (x : List ℕ). TakesBatch stops.last x r.0) same r.1)) refuses

@@ -3,7 +3,7 @@ use Rattle.std.proofs.Common.{◌≡◌, ◌≤◌, ◌+◌, ◌-◌, ◌/◌, �
 use Rattle.fp_edit.specs.Flags.{State}
 use Rattle.fp_gate.specs.declared.gate.TheConstants.{OPEN}
 use Rattle.fp_journal.specs.Holds.{Holds}
-use Rattle.fp_journal.specs.Chain.{Ends, framed, spell}
+use Rattle.fp_journal.specs.Chain.{Ends, with_length, spell}
 use Rattle.fp_journal.specs.Reading.{IsChain, Reads}
 use Rattle.fp_journal.specs.State.{AllShort}
 use Rattle.fp_journal.specs.declared.slot.Slot.{Slot}
@@ -19,14 +19,14 @@ use Rattle.fp_slots.specs.Rules.{Tells}
 use Rattle.fp_recovery.specs.Stands.{IsImageOf, TakesBatch, Spells, StandsFor}
 
 -- ---- a batch more
-pub spells_on : (size : ℕ) (text body : List ℕ) (s t : State) → Spells size text s → TakesBatch s body t → length body ≤ size / 8 - 6 → Spells size (text ++ OPEN ∷ framed body) t
+pub spells_on : (size : ℕ) (text body : List ℕ) (s t : State) → Spells size text s → TakesBatch s body t → length body ≤ size / 8 - 6 → Spells size (text ++ OPEN ∷ with_length body) t
 spells_on size text body s t p takes fits = record {
   generation = p.generation;
   base = p.base;
   image = p.image;
   first = p.first;
   batches = p.batches ++ body ∷ [];
-  text_is = ap (λ (x : List ℕ). x ++ OPEN ∷ framed body) p.text_is ∙ sym (text-more (head_text p.generation p.base p.image) p.batches body);
+  text_is = ap (λ (x : List ℕ). x ++ OPEN ∷ with_length body) p.text_is ∙ sym (text-more (head_text p.generation p.base p.image) p.batches body);
   numbered = p.numbered;
   small = p.small;
   image_is = p.image_is;

@@ -9,7 +9,7 @@ use Rattle.fp_disk.specs.Crashes.{EachCrash}
 use Rattle.fp_disk.specs.declared.disk.Disk.{Ghosts as DiskGhosts}
 use Rattle.fp_edit.specs.Log.{after_all}
 use Rattle.fp_files.specs.declared.files.DiskFiles.{Ghosts as FileGhosts}
-use Rattle.fp_group_commit.specs.Store.{Leaves, StoreState, coming, kept}
+use Rattle.fp_group_commit.specs.Store.{Leaves, StoreState, coming, sealed_set}
 use Rattle.fp_group_commit.specs.Tokens.{Identity}
 use Rattle.fp_journal.specs.declared.journal.Phase.TheVariants.{Idle}
 use Rattle.fp_recovery.specs.Stands.{StandsFor}
@@ -42,12 +42,12 @@ if_err (Ok _) p = tt
 if_err (Err e) p = p e
 
 -- with nothing on its way, what a crash leaves is what is kept
-kept_alone : {D : Type 0} (s : StoreState D) (c : List ℕ) → s.step ≡ Idle → Leaves s c → StandsFor c (kept s)
+kept_alone : {D : Type 0} (s : StoreState D) (c : List ℕ) → s.step ≡ Idle → Leaves s c → StandsFor c (sealed_set s)
 kept_alone s c idle (inl stands) = stands
 kept_alone s c idle (inr begun) = absurd (begun.0 idle)
 
 -- and else perhaps with the batch on its way
-either : {D : Type 0} (s : StoreState D) (c : List ℕ) → Leaves s c → StandsFor c (kept s) ⊎ StandsFor c (coming s)
+either : {D : Type 0} (s : StoreState D) (c : List ℕ) → Leaves s c → StandsFor c (sealed_set s) ⊎ StandsFor c (coming s)
 either s c (inl stands) = inl stands
 either s c (inr begun) = inr begun.2
 

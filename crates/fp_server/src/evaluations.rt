@@ -6,7 +6,7 @@ ghost use Rattle.std.specs.Option.{option_copied};
 ghost use Rattle.fp_edit.specs.Flags.{coded_state};
 ghost use Rattle.fp_group_commit.specs.Tokens.{FrontState, front_set};
 ghost use Rattle.fp_ofrep.specs.Reply.{reply};
-ghost use Rattle.fp_ofrep.specs.Seen.{body_seen, seen};
+ghost use Rattle.fp_ofrep.specs.Seen.{body_seen, response_seen};
 
 use fp_disk::Disk;
 use fp_http::{Evaluator as Answers, NoReply};
@@ -76,7 +76,8 @@ impl<K: Naming, D: Disk + Drop, R: Wait + Copy + Drop> Answers for LentEvaluator
         now: u64,
     ) -> Result<Reply, NoReply>
         requires { now < 2 ^ 63 }
-        ensures { IfOk result (λ r. (front : FrontState) × (front.store ≡ K.store) × (seen r
+        ensures { IfOk result
+            (λ r. (front : FrontState) × (front.store ≡ K.store) × (response_seen r
             ≡ reply (front_set front) method.now target.now (option_copied if_none_match.entry)
             (body_seen body.entry) now)) }
     {

@@ -10,7 +10,7 @@ use Rattle.fp_edit.specs.Flags.{State}
 use Rattle.fp_edit.specs.Log.{after_all}
 use Rattle.fp_journal.specs.declared.journal.Phase.TheVariants.{Idle}
 use Rattle.fp_recovery.specs.Stands.{StandsFor}
-use Rattle.fp_group_commit.specs.Store.{StoreState, Leaves, kept}
+use Rattle.fp_group_commit.specs.Store.{StoreState, Leaves, sealed_set}
 use Rattle.fp_slots.specs.State.{HasBegun, IsEarly, SlotsState}
 use Rattle.fp_slots.specs.declared.slots.Step.{Step}
 use Rattle.fp_slots.specs.declared.slots.Step.TheVariants.{Begin}
@@ -45,7 +45,7 @@ module _ {D : Type 0} (disk : Ghosts D) where
   pub honest_on : (a b c : D) → SameHonesty disk a b → SameHonesty disk b c → SameHonesty disk a c
   honest_on a b c h k = (λ x. k.0 (h.0 x), λ x. h.1 (k.1 x))
 
-pub idle_keeps : {D : Type 0} (s : StoreState D) → s.step ≡ Idle → (c : List ℕ) → Leaves s c → StandsFor c (kept s)
+pub idle_keeps : {D : Type 0} (s : StoreState D) → s.step ≡ Idle → (c : List ℕ) → Leaves s c → StandsFor c (sealed_set s)
 idle_keeps s idle c (inl stands) = stands
 idle_keeps s idle c (inr both) = absurd (both.0 idle)
 
@@ -140,13 +140,13 @@ module _ {D : Type 0} (disk : Ghosts D) (s : StoreState D) (d : DeskState) (i : 
   sealed_ahead new batch rest parts l = weaker disk s.slots.journal.disk new (KeepsOrGains s batch) (StandsAhead d) (stands_ahead s d i.same i.settled i.none_drawn batch rest parts) l
 
   -- a first part of what waits that has no room
-  pub lacks_part : (batch rest : List Change) → d.waiting ≡ batch ++ rest → 0 < length batch → (generation : ℕ) → 2 ^ 64 ≤ generation + 1 → EachCrash disk s.slots.journal.disk (λ c. IsFullFor c (kept s) (batch_len (record { first = 0; changes = batch })) generation) → LacksRoomFor disk d s.slots.journal.disk
+  pub lacks_part : (batch rest : List Change) → d.waiting ≡ batch ++ rest → 0 < length batch → (generation : ℕ) → 2 ^ 64 ≤ generation + 1 → EachCrash disk s.slots.journal.disk (λ c. IsFullFor c (sealed_set s) (batch_len (record { first = 0; changes = batch })) generation) → LacksRoomFor disk d s.slots.journal.disk
   lacks_part batch rest parts some generation last full =
-      let same_kept : kept s ≡ after_all d.store.start d.settled = ap (λ (x : Identity). after_all x.start s.sealed) (sym i.same) ∙ ap (λ (l : List Change). after_all d.store.start l) i.settled in
+      let same_kept : sealed_set s ≡ after_all d.store.start d.settled = ap (λ (x : Identity). after_all x.start s.sealed) (sym i.same) ∙ ap (λ (l : List Change). after_all d.store.start l) i.settled in
       let whole = log_parts s d i.same i.settled i.none_drawn batch rest parts in
       let more = length-append d.settled batch in
       record {
-        flags = kept s;
+        flags = sealed_set s;
         batch = batch;
         from = subst (λ (u : State). IsAhead d u) (sym same_kept) (ahead_at d d.settled (batch ++ rest) (whole ∙ append_assoc d.settled batch rest) (omega arith));
         to = subst (λ (u : State). IsAhead d u) (after-append d.store.start d.settled batch ∙ ap (λ (u : State). after_all u batch) (sym same_kept)) (ahead_at d (d.settled ++ batch) rest whole (omega (arith, more)));
@@ -161,7 +161,7 @@ module _ {D : Type 0} (disk : Ghosts D) (s : StoreState D) (d : DeskState) (i : 
   now_ahead = λ h c o. stands_ahead s d i.same i.settled i.none_drawn [] d.waiting refl c (inl (i.keeps h c o))
 
   -- the receipt for it is for what is drawn
-  pub receipt_drawn : (group : Group) (new : DeskState) (r : ReceiptState) → IsNewDraw d new group → r.batch.changes ≡ group.changes → r.batch.first ≡ (kept s).revision + 1 → IsDrawn new r
+  pub receipt_drawn : (group : Group) (new : DeskState) (r : ReceiptState) → IsNewDraw d new group → r.batch.changes ≡ group.changes → r.batch.first ≡ (sealed_set s).revision + 1 → IsDrawn new r
   receipt_drawn group new r draw changes first =
       let some = draw.longest.some in
       let drawn : new.drawn ≡ group.changes = ap (λ (x : DeskState). x.drawn) draw.new_is in
@@ -185,7 +185,7 @@ in_step_on disk s m d i p = record {
 
 -- while steps are taken the desk's edits are ahead
 pub kept_ahead : {D : Type 0} (disk : Ghosts D) (s m : StoreState D) (d : DeskState) → IsInStep disk s d → KeepsAll disk s m → AtAnyMoment disk s.slots.journal.disk m.slots.journal.disk (StandsAhead d)
-kept_ahead disk s m d i k = weaker disk s.slots.journal.disk m.slots.journal.disk (λ c. StandsFor c (kept s)) (StandsAhead d) (λ c stands. stands_ahead s d i.same i.settled i.none_drawn [] d.waiting refl c (inl stands)) k.any_moment
+kept_ahead disk s m d i k = weaker disk s.slots.journal.disk m.slots.journal.disk (λ c. StandsFor c (sealed_set s)) (StandsAhead d) (λ c stands. stands_ahead s d i.same i.settled i.none_drawn [] d.waiting refl c (inl stands)) k.any_moment
 
 -- ---- a batch that was drawn, and sealed behind steps of a compaction
 module _ {D : Type 0} (disk : Ghosts D) (s m t : StoreState D) (d mid : DeskState) (i : IsInStep disk s d) (p : Proceeds disk s m) (group : Group) (draw : IsNewDraw d mid group) where
@@ -218,7 +218,7 @@ module _ {D : Type 0} (disk : Ghosts D) (s m t : StoreState D) (d mid : DeskStat
     pub works_sealed : Works disk s t
     works_sealed = works_on disk s m t p.works (record { works = whole_batch ∷ []; lead = (sealed.early, sealed.course); calls = calls })
 
-    pub committed : EachCrash disk t.slots.journal.disk (λ c. StandsFor c (kept t)) → (e : DeskState) → e ≡ record mid { settled = mid.settled ++ mid.drawn; drawn = [] } → Commits disk s t d e
+    pub committed : EachCrash disk t.slots.journal.disk (λ c. StandsFor c (sealed_set t)) → (e : DeskState) → e ≡ record mid { settled = mid.settled ++ mid.drawn; drawn = [] } → Commits disk s t d e
     committed keeps e is =
         let now = settled_is e is in record {
           batch = group.changes;

@@ -17,7 +17,7 @@ use Rattle.fp_slots.specs.declared.slots.Step.{Step}
 use Rattle.fp_slots.specs.declared.slots.Step.TheVariants.{Begin, Close, SyncClose, Part, Tail, SyncBody, Open, SyncOpen}
 use Rattle.fp_compaction.specs.Steps.{calls_of, next_left, next_step}
 use Rattle.fp_group_commit.specs.Calls.{Compacts}
-use Rattle.fp_group_commit.specs.Store.{Leaves, MayCompact, StoreState, kept}
+use Rattle.fp_group_commit.specs.Store.{Leaves, MayCompact, StoreState, sealed_set}
 use Rattle.fp_group_commit.specs.Tokens.{Identity}
 use Rattle.fp_session.specs.Session.{BreaksOff, Halts, KeepsAll, Proceeds, Works}
 use Rattle.fp_session.specs.Session.{compaction_step}
@@ -27,7 +27,7 @@ use Rattle.fp_session.proofs.Commits.{honest_on, idle_keeps, next_moment, weaker
 
 -- ---- steps
 module _ {D : Type 0} (disk : Ghosts D) where
-  pub kept_as : (a b : StoreState D) → b.store ≡ a.store → b.sealed ≡ a.sealed → kept b ≡ kept a
+  pub kept_as : (a b : StoreState D) → b.store ≡ a.store → b.sealed ≡ a.sealed → sealed_set b ≡ sealed_set a
   kept_as a b store sealed = ap (λ (x : Identity). after_all x.start b.sealed) store ∙ ap (λ l. after_all a.store.start l) sealed
 
   -- a call that leaves what a store at rest leaves
@@ -37,36 +37,36 @@ module _ {D : Type 0} (disk : Ghosts D) where
     store = store;
     sealed = sealed;
     step = step;
-    any_moment = weaker disk a.slots.journal.disk b.slots.journal.disk (Leaves a) (λ c. StandsFor c (kept a)) (idle_keeps a idle) moment;
+    any_moment = weaker disk a.slots.journal.disk b.slots.journal.disk (Leaves a) (λ c. StandsFor c (sealed_set a)) (idle_keeps a idle) moment;
     now = λ h c o. idle_keeps b (step ∙ idle) c (exit h c o);
     honest = same;
   }
 
   pub keeps_none : ((x : D) (c : _) → disk.honest x → disk.crash_states_since x (disk.moment x) c → IsOutcome (disk.unsynced x) c)
-      → (a : StoreState D) → EachCrash disk a.slots.journal.disk (λ c. StandsFor c (kept a)) → KeepsAll disk a a
+      → (a : StoreState D) → EachCrash disk a.slots.journal.disk (λ c. StandsFor c (sealed_set a)) → KeepsAll disk a a
   keeps_none only_now a keeps = record {
     store = refl;
     sealed = refl;
     step = refl;
-    any_moment = λ h. leaves_still disk.moment disk.crash_states_since a.slots.journal.disk (λ c. StandsFor c (kept a)) (λ c left. keeps h c (only_now a.slots.journal.disk c h left));
+    any_moment = λ h. leaves_still disk.moment disk.crash_states_since a.slots.journal.disk (λ c. StandsFor c (sealed_set a)) (λ c left. keeps h c (only_now a.slots.journal.disk c h left));
     now = keeps;
     honest = (λ h. h, λ h. h);
   }
 
   pub keeps_then : (a b c : StoreState D) → KeepsAll disk a b → KeepsAll disk b c → KeepsAll disk a c
   keeps_then a b c h k =
-      let same : kept b ≡ kept a = kept_as a b h.store h.sealed in record {
+      let same : sealed_set b ≡ sealed_set a = kept_as a b h.store h.sealed in record {
         store = k.store ∙ h.store;
         sealed = k.sealed ∙ h.sealed;
         step = k.step ∙ h.step;
-        any_moment = next_moment disk a.slots.journal.disk b.slots.journal.disk c.slots.journal.disk (λ o. StandsFor o (kept a)) h.honest h.any_moment
-            (weaker disk b.slots.journal.disk c.slots.journal.disk (λ o. StandsFor o (kept b)) (λ o. StandsFor o (kept a)) (λ o stands. subst (λ (s : State). StandsFor o s) same stands) k.any_moment);
+        any_moment = next_moment disk a.slots.journal.disk b.slots.journal.disk c.slots.journal.disk (λ o. StandsFor o (sealed_set a)) h.honest h.any_moment
+            (weaker disk b.slots.journal.disk c.slots.journal.disk (λ o. StandsFor o (sealed_set b)) (λ o. StandsFor o (sealed_set a)) (λ o stands. subst (λ (s : State). StandsFor o s) same stands) k.any_moment);
         now = k.now;
         honest = honest_on disk a.slots.journal.disk b.slots.journal.disk c.slots.journal.disk h.honest k.honest;
       }
 
   pub proceeds_none : ((x : D) (c : _) → disk.honest x → disk.crash_states_since x (disk.moment x) c → IsOutcome (disk.unsynced x) c)
-      → (a : StoreState D) → a.slots.journal.phase ≢ Failed → EachCrash disk a.slots.journal.disk (λ c. StandsFor c (kept a)) → Proceeds disk a a
+      → (a : StoreState D) → a.slots.journal.phase ≢ Failed → EachCrash disk a.slots.journal.disk (λ c. StandsFor c (sealed_set a)) → Proceeds disk a a
   proceeds_none only_now a well keeps = record { keeps = keeps_none only_now a keeps; well = well; no_failure = refl; works = no_works disk a }
 
   pub proceeds_then : (a b c : StoreState D) → Proceeds disk a b → Proceeds disk b c → Proceeds disk a c

@@ -6,7 +6,7 @@ use Rattle.fp_edit.specs.Flags.{State}
 use Rattle.fp_session.specs.Asks.{Ask, asked_by_input, asked_by_lines}
 use Rattle.fp_session.specs.Lines.{lines}
 use Rattle.fp_session.specs.Progress.{Ends, EndsOver, IsAt, IsAtWith, IsBroken, IsBrokenWith, IsEnded, IsSentFurther, StopsAt}
-use Rattle.fp_session.specs.Reply.{Reply, said}
+use Rattle.fp_session.specs.Reply.{Reply, reply_of_code}
 use Rattle.fp_session.specs.Run.{after, IsAfterPrefix, IsRun, IsRunWritten, IsToldBy, script}
 use Rattle.fp_session.specs.StoreRun.{StoreRun}
 use Rattle.fp_session.specs.declared.edit_store.EditStore.{Ghosts}
@@ -51,7 +51,7 @@ module _ {E : Type 0} (store : Ghosts E) (first now : E) where
   pub read-device : (asked : List Ask) (sent : List ℕ) (most : ℕ) (before now_held : Option (List ℕ)) (f0 f : ℕ) (r : Replies) → IsAt store first now asked sent r → r.waiting.items ≡ [] → r.text.items ≡ [] → Appends before now_held sent
       → IsBrokenWith store most first now asked before now_held f0 f Device
   read-device asked sent most before now_held f0 f r i none empty appended = record {
-    told = λ same u a. (sent, appended, at-failed store first now asked sent r.text.items (map said r.waiting.items) r.is_told i (ap (λ (ws : List code.Reply). map said ws) none) empty most u a);
+    told = λ same u a. (sent, appended, at-failed store first now asked sent r.text.items (map reply_of_code r.waiting.items) r.is_told i (ap (λ (ws : List code.Reply). map reply_of_code ws) none) empty most u a);
     stops = at-device asked sent r i;
   }
 
@@ -89,7 +89,7 @@ module _ {E : Type 0} (store : Ghosts E) (first now : E) where
       replies = i.replies;
       split = i.split;
       run = i.run;
-      on = subst (λ (rs : List Reply). IsRun i.kept i.batch rs (store.state now)) (ap (λ v. map said v.items) (sym s.waiting)) i.on;
+      on = subst (λ (rs : List Reply). IsRun i.kept i.batch rs (store.state now)) (ap (λ v. map reply_of_code v.items) (sym s.waiting)) i.on;
       ahead = i.ahead;
       written = s.same ∙ i.written;
       told = s.told ∙ i.told;

@@ -10,8 +10,8 @@ use Rattle.fp_edit.specs.Line as line
 use Rattle.fp_edit.specs.Line.{line_of}
 use Rattle.fp_edit.specs.declared.line.TheConstants.{LONGEST_LINE}
 use Rattle.fp_session.specs.Asks.{Ask, asked_by_input, asked_by_lines}
-use Rattle.fp_session.specs.Lines.{answered, is_blank, is_space, lines, onto_first}
-use Rattle.fp_session.specs.Progress.{cut}
+use Rattle.fp_session.specs.Lines.{lines_with_reply, is_blank, is_space, lines, onto_first}
+use Rattle.fp_session.specs.Progress.{line_up_to_limit}
 
 abbrev Lists : Type 0
 Lists = List (List ℕ)
@@ -139,10 +139,10 @@ cut-append (suc n) (b ∷ line) piece =
     let less : suc n - length (b ∷ take n line) ≡ n - length (take n line) = omega arith in
     ap (λ k. b ∷ take n line ++ take (min (length piece) k) piece) less ∙ ap (λ l. b ∷ l) (cut-append n line piece)
 
-pub cut-short : (line : List ℕ) → length line ≤ LONGEST_LINE → cut line ≡ line
+pub cut-short : (line : List ℕ) → length line ≤ LONGEST_LINE → line_up_to_limit line ≡ line
 cut-short line h = take_all (LONGEST_LINE + 1) line (omega arith)
 
-pub cut-long : (line : List ℕ) → LONGEST_LINE < length line → LONGEST_LINE < length (cut line)
+pub cut-long : (line : List ℕ) → LONGEST_LINE < length line → LONGEST_LINE < length (line_up_to_limit line)
 cut-long line h = omega (arith, length-take (LONGEST_LINE + 1) line)
 
 -- ---- what lines ask
@@ -155,18 +155,18 @@ is_blank-long : (l : List ℕ) → LONGEST_LINE < length l → is_blank l ≡ fa
 is_blank-long l h = ap (λ b. b && list_all is_space l) (lt-leb (length l) LONGEST_LINE h)
 
 -- of a line that is too long no more is looked at
-pub cut-same : (l : List ℕ) → (is_blank (cut l) ≡ is_blank l) × (line_of (cut l) ≡ line_of l)
+pub cut-same : (l : List ℕ) → (is_blank (line_up_to_limit l) ≡ is_blank l) × (line_of (line_up_to_limit l) ≡ line_of l)
 cut-same l =
-    elim (nat_le (length l) LONGEST_LINE) as (λ b. nat_le (length l) LONGEST_LINE ≡ b → (is_blank (cut l) ≡ is_blank l) × (line_of (cut l) ≡ line_of l)) [
+    elim (nat_le (length l) LONGEST_LINE) as (λ b. nat_le (length l) LONGEST_LINE ≡ b → (is_blank (line_up_to_limit l) ≡ is_blank l) × (line_of (line_up_to_limit l) ≡ line_of l)) [
       | true ↦ λ short. let same = cut-short l (leb-true _ _ short) in (ap is_blank same, ap line_of same)
       | false ↦ λ long.
           let over : LONGEST_LINE < length l = leb-false _ _ long in
           let cut_over = cut-long l over in
-          (is_blank-long (cut l) cut_over ∙ sym (is_blank-long l over), line_of-long (cut l) cut_over ∙ sym (line_of-long l over))
+          (is_blank-long (line_up_to_limit l) cut_over ∙ sym (is_blank-long l over), line_of-long (line_up_to_limit l) cut_over ∙ sym (line_of-long l over))
     ] refl
 
 pub asked-append : (ls ms : List (List ℕ)) → asked_by_lines (ls ++ ms) ≡ asked_by_lines ls ++ asked_by_lines ms
-asked-append ls ms = ap (λ (l : List (List ℕ)). map line_of l) (filter-append (λ l. not (is_blank l)) ls ms) ∙ map-append line_of (answered ls) (answered ms)
+asked-append ls ms = ap (λ (l : List (List ℕ)). map line_of l) (filter-append (λ l. not (is_blank l)) ls ms) ∙ map-append line_of (lines_with_reply ls) (lines_with_reply ms)
 
 -- a blank line asks nothing, another one what it says
 pub asked-blank : (l : List ℕ) → is_blank l ≡ true → asked_by_lines (l ∷ []) ≡ []

@@ -7,7 +7,7 @@ use Rattle.fp_edit.specs.Flags.{State}
 use Rattle.fp_session.specs.Asks.{Ask}
 use Rattle.fp_session.specs.Fault.{of_commit}
 use Rattle.fp_session.specs.Progress.{At, IsAt, IsBroken, IsEnded, StopsAt, Takes}
-use Rattle.fp_session.specs.Reply.{Reply, is_told, said, texts_of, told_if}
+use Rattle.fp_session.specs.Reply.{Reply, is_told, reply_of_code, texts_of, told_if}
 use Rattle.fp_session.specs.Run.{Answers, IsRun, IsAfterPrefix, IsTold, last_replies, most_open, show_line}
 use Rattle.fp_session.specs.StoreRun.{StoreRun}
 use Rattle.fp_session.specs.declared.commit.CommitFault.{CommitFault}
@@ -41,7 +41,7 @@ module _ {E : Type 0} (store : Ghosts E) where
   pub is_at-start : (first : E) (r : Replies) → r.text.items ≡ [] → r.waiting.items ≡ [] → r.is_told ≡ true → ((u : State) → store.may_stand first u → u ≡ store.state first)
       → store.leaves first first (store.may_stand first) → IsAt store first first [] [] r
   is_at-start first r text none told fresh still =
-      subst (λ (rs : List Reply). At store first first [] [] r.text.items rs r.is_told) (ap (λ (ws : List code.Reply). map said ws) (sym none)) (at-start first r text told fresh still)
+      subst (λ (rs : List Reply). At store first first [] [] r.text.items rs r.is_told) (ap (λ (ws : List code.Reply). map reply_of_code ws) (sym none)) (at-start first r text told fresh still)
 
   module _ (first now : E) (asked : List Ask) (sent text : List ℕ) (waiting : List Reply) (told : Bool) (i : At store first now asked sent text waiting told) where
     abbrev pub start : State
@@ -223,20 +223,20 @@ module _ {E : Type 0} (store : Ghosts E) where
 
   pub is_at-broken : (first now : E) (asked : List Ask) (sent : List ℕ) (r q : Replies) (most : ℕ) → IsAt store first now asked sent r → q.text.items ≡ r.text.items → length r.waiting.items ≤ most → IsBroken store most first now asked sent q Memory
   is_at-broken first now asked sent r q most i same le =
-      let all = length-map r.waiting.items said in
-      at-broken first now asked sent r.text.items (map said r.waiting.items) r.is_told i q most same (omega (arith, le, all))
+      let all = length-map r.waiting.items reply_of_code in
+      at-broken first now asked sent r.text.items (map reply_of_code r.waiting.items) r.is_told i q most same (omega (arith, le, all))
 
   -- ---- what is done beside the edits, where none waits
   module _ (first now next : E) (asked : List Ask) (sent : List ℕ) (r : Replies) (i : IsAt store first now asked sent r) (same : store.state next ≡ store.state now) (ahead : (u : State) → store.may_stand next u → store.may_stand now u)
       (moment : store.leaves now next (store.may_stand now)) where
     pub is_at-gone : store.continues_to now next → IsAt store first next asked sent r
-    is_at-gone goes = at-gone first now asked sent r.text.items (map said r.waiting.items) r.is_told i next same ahead moment goes
+    is_at-gone goes = at-gone first now asked sent r.text.items (map reply_of_code r.waiting.items) r.is_told i next same ahead moment goes
 
     pub is_at-halted : (most : ℕ) (f : CommitFault) → r.waiting.items ≡ [] → store.fails_on f now next → IsBroken store most first next asked sent r (of_commit f)
     is_at-halted most f none fails =
-        let zero = ap length none in let all = length-map r.waiting.items said in
-        seal-broken first now asked sent r.text.items (map said r.waiting.items) r.is_told i next r most f same ahead moment fails
-        (sym (append-nil r.text.items) ∙ ap (λ (ws : List code.Reply). r.text.items ++ texts_of (map (told_if false) (map said ws))) (sym none)) (omega (arith, zero, all))
+        let zero = ap length none in let all = length-map r.waiting.items reply_of_code in
+        seal-broken first now asked sent r.text.items (map reply_of_code r.waiting.items) r.is_told i next r most f same ahead moment fails
+        (sym (append-nil r.text.items) ∙ ap (λ (ws : List code.Reply). r.text.items ++ texts_of (map (told_if false) (map reply_of_code ws))) (sym none)) (omega (arith, zero, all))
 
   -- ---- the texts were sent
   pub at-sent : (first now : E) (asked : List Ask) (sent : List ℕ) (r q : Replies) → IsAt store first now asked sent r → q.text.items ≡ [] → q.waiting ≡ r.waiting → q.is_told ≡ r.is_told → IsAt store first now asked (sent ++ r.text.items) q
@@ -247,7 +247,7 @@ module _ {E : Type 0} (store : Ghosts E) where
     replies = i.replies;
     split = i.split;
     run = i.run;
-    on = subst (λ (rs : List Reply). IsRun i.kept i.batch rs (store.state now)) (ap (λ v. map said v.items) (sym waiting)) i.on;
+    on = subst (λ (rs : List Reply). IsRun i.kept i.batch rs (store.state now)) (ap (λ v. map reply_of_code v.items) (sym waiting)) i.on;
     ahead = i.ahead;
     written = ap (λ (l : List ℕ). (sent ++ r.text.items) ++ l) none ∙ append-nil (sent ++ r.text.items) ∙ i.written;
     told = told ∙ i.told;

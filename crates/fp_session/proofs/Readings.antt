@@ -3,7 +3,7 @@ use Rattle.std.proofs.Common.{◌≡◌, ℕ, List, [], ◌∷◌, ◌++◌, len
 use Rattle.fp_edit.specs.Flags.{State}
 use Rattle.fp_session.specs.Asks.{Ask, asked_by_input, asked_by_lines}
 use Rattle.fp_session.specs.Lines.{lines}
-use Rattle.fp_session.specs.Progress.{IsAt, IsBroken, IsBrokenWithin, IsReading, cut}
+use Rattle.fp_session.specs.Progress.{IsAt, IsBroken, IsBrokenWithin, IsReading, line_up_to_limit}
 use Rattle.fp_session.specs.declared.edit_store.EditStore.{Ghosts}
 use Rattle.fp_session.specs.declared.fault.ApplyFault.{ApplyFault}
 use Rattle.fp_session.specs.declared.fault.ApplyFault.TheVariants.{Memory}
@@ -22,7 +22,7 @@ newline seen line done split =
 
 module _ {E : Type 0} (store : Ghosts E) (first : E) (sent : List ℕ) where
   -- a piece without a newline lengthens the line
-  pub reading-more : (now : E) (seen piece : List ℕ) (r : Replies) (l k : List ℕ) (i : IsReading store first now seen sent r l) → lines piece ≡ piece ∷ [] → k ≡ cut (i.line ++ piece) → IsReading store first now (seen ++ piece) sent r k
+  pub reading-more : (now : E) (seen piece : List ℕ) (r : Replies) (l k : List ℕ) (i : IsReading store first now seen sent r l) → lines piece ≡ piece ∷ [] → k ≡ line_up_to_limit (i.line ++ piece) → IsReading store first now (seen ++ piece) sent r k
   reading-more now seen piece r l k i one held = record {
     done = i.done;
     line = i.line ++ piece;

@@ -16,7 +16,7 @@ use Rattle.fp_edit.specs.declared.edit.EditFault.TheVariants as edit
 use Rattle.fp_edit.specs.declared.line.LineFault.{LineFault}
 use Rattle.fp_edit.specs.declared.line.LineFault.TheVariants.{TooLong, NotJson, NotObject, BadMember, BadOp, BadKey, BadIf, BadFlag, Memory}
 use Rattle.fp_session.specs.Asks.{Ask}
-use Rattle.fp_session.specs.Reply.{Reply, revision, conflict, set_too_large, revisions_used, no_edit, out_of_memory, store_failed, is_told, texts_of, text_of, told_if, said, refusal_of, fault_of, bad_flag_or_memory}
+use Rattle.fp_session.specs.Reply.{Reply, revision, conflict, set_too_large, revisions_used, no_edit, out_of_memory, store_failed, is_told, texts_of, reply_text, told_if, reply_of_code, refusal_of, fault_of, bad_flag_or_memory}
 use Rattle.fp_session.specs.Progress.{IsToldUpTo}
 use Rattle.fp_session.specs.declared.fault.ApplyFault.{ApplyFault}
 use Rattle.fp_session.specs.declared.fault.ApplyFault.TheVariants.{Device, StoreFailed, CommitMemory}
@@ -24,7 +24,7 @@ use Rattle.fp_session.specs.declared.fault.ApplyFault.TheVariants as run
 use Rattle.fp_session.specs.declared.replies.Telling.{Telling}
 use Rattle.fp_session.specs.declared.reply.Reply as code
 use Rattle.fp_session.specs.declared.reply.Reply.TheVariants.{Refused, NoEdit}
-use Rattle.fp_session.specs.Run.{decided, verdict, after, replies_to, script, show_line, Answers, IsRun, IsRunWritten, IsAfterPrefix, IsTold, IsToldBy, most_open}
+use Rattle.fp_session.specs.Run.{verdict_on_edit, verdict, after, replies_to, script, show_line, Answers, IsRun, IsRunWritten, IsAfterPrefix, IsTold, IsToldBy, most_open}
 
 -- one run after another
 pub run-append : (s t u : State) (xs ys : List Ask) (rs qs : List Reply) → IsRun s xs rs t → IsRun t ys qs u → IsRun s (xs ++ ys) (rs ++ qs) u
@@ -43,7 +43,7 @@ run-none s t (x ∷ xs) h = absurd h
 
 pub texts_of-append : (rs qs : List Reply) → texts_of (rs ++ qs) ≡ texts_of rs ++ texts_of qs
 texts_of-append [] qs = refl
-texts_of-append (r ∷ rs) qs = ap (λ t. (text_of r ++ 10 ∷ []) ++ t) (texts_of-append rs qs) ∙ sym (append_assoc (text_of r ++ 10 ∷ []) (texts_of rs) (texts_of qs))
+texts_of-append (r ∷ rs) qs = ap (λ t. (reply_text r ++ 10 ∷ []) ++ t) (texts_of-append rs qs) ∙ sym (append_assoc (reply_text r ++ 10 ∷ []) (texts_of rs) (texts_of qs))
 
 -- ---- some first of what is asked
 
@@ -111,14 +111,14 @@ told_by-more s taken u xs ys most fault old new t = (t.0, t.1, told-more s taken
 pub accepted-answers : (s t : State) (p : Proposal) (n : ℕ) → Admits s p (accepted t) → n ≡ t.revision → Answers s (Ok p) (revision n) t
 accepted-answers s t p n admits counted =
     let made : s.revision + 1 ≡ n = sym (counted ∙ ap (λ u. u.revision) admits.1) in
-    ap (decided s p) admits.0 ∙ ap (λ m. (revision m, next s p.change)) made ∙ ap (λ u. (revision n, u)) (sym admits.1)
+    ap (verdict_on_edit s p) admits.0 ∙ ap (λ m. (revision m, next s p.change)) made ∙ ap (λ u. (revision n, u)) (sym admits.1)
 
 -- that wasn't
-pub refused-answers : (s t : State) (p : Proposal) (e : EditFault) → IsRefusedOrWanting s p e → t ≡ s → Answers s (Ok p) (said (Refused e)) t
+pub refused-answers : (s t : State) (p : Proposal) (e : EditFault) → IsRefusedOrWanting s p e → t ≡ s → Answers s (Ok p) (reply_of_code (Refused e)) t
 refused-answers s t p e refused stays = by_fault e refused
   where
     stands : (e : EditFault) → refusal s p ≡ Some e → verdict s (Ok p) ≡ (refusal_of e, t)
-    stands e h = ap (decided s p) h ∙ ap (λ u. (refusal_of e, u)) (sym stays)
+    stands e h = ap (verdict_on_edit s p) h ∙ ap (λ u. (refusal_of e, u)) (sym stays)
 
     by_fault : (e : EditFault) → IsRefusedOrWanting s p e → Answers s (Ok p) (refusal_of e) t
     by_fault (edit.Conflict current) h = stands (edit.Conflict current) h
@@ -127,7 +127,7 @@ refused-answers s t p e refused stays = by_fault e refused
     by_fault edit.Memory h = stays
 
 -- ---- what is no edit
-pub no_edit-answers : (s : State) (x : Ask) (e : LineFault) → Tells e (λ f. x ≡ Err f) → Answers s x (said (NoEdit e)) s
+pub no_edit-answers : (s : State) (x : Ask) (e : LineFault) → Tells e (λ f. x ≡ Err f) → Answers s x (reply_of_code (NoEdit e)) s
 no_edit-answers s x e fault = by_fault e fault
   where
     stands : (f : line.Fault) → x ≡ Err f → verdict s x ≡ (no_edit f, s)
@@ -189,13 +189,13 @@ told_if-kept [] = refl
 told_if-kept (r ∷ rs) = ap (λ (l : List Reply). r ∷ l) (told_if-kept rs)
 
 -- one more of those that wait is told
-pub told_up_to-more : (is_kept : Bool) (waiting : List code.Reply) (t u : Telling) (n : ℕ) (reply : code.Reply) (told : Reply) → n < length waiting → reply ≡ get_or waiting n reply → told ≡ told_if is_kept (said reply)
+pub told_up_to-more : (is_kept : Bool) (waiting : List code.Reply) (t u : Telling) (n : ℕ) (reply : code.Reply) (told : Reply) → n < length waiting → reply ≡ get_or waiting n reply → told ≡ told_if is_kept (reply_of_code reply)
     → u.text.items ≡ t.text.items ++ texts_of (told ∷ []) → u.is_told ≡ (t.is_told && is_told told) → IsToldUpTo is_kept waiting t n → IsToldUpTo is_kept waiting u (n + 1)
 told_up_to-more is_kept waiting t u n reply told lt here is texts tells h =
-    let first = λ (xs : List code.Reply). map (told_if is_kept) (map said xs) in
+    let first = λ (xs : List code.Reply). map (told_if is_kept) (map reply_of_code xs) in
     let taken : take (n + 1) waiting ≡ take n waiting ++ reply ∷ [] = take_more waiting n reply lt ∙ ap (λ (x : code.Reply). take n waiting ++ x ∷ []) (sym here) in
     let all_of : first (take (n + 1) waiting) ≡ first (take n waiting) ++ told ∷ [] =
-    ap first taken ∙ ap (λ (l : List Reply). map (told_if is_kept) l) (map-append said (take n waiting) (reply ∷ [])) ∙ map-append (told_if is_kept) (map said (take n waiting)) (said reply ∷ [])
+    ap first taken ∙ ap (λ (l : List Reply). map (told_if is_kept) l) (map-append reply_of_code (take n waiting) (reply ∷ [])) ∙ map-append (told_if is_kept) (map reply_of_code (take n waiting)) (reply_of_code reply ∷ [])
     ∙ ap (λ (x : Reply). first (take n waiting) ++ x ∷ []) (sym is) in
     record {
       texts = texts ∙ ap (λ (l : List ℕ). l ++ texts_of (told ∷ [])) h.texts ∙ sym (texts_of-append (first (take n waiting)) (told ∷ [])) ∙ ap texts_of (sym all_of);
@@ -211,7 +211,7 @@ told_up_to-more is_kept waiting t u n reply told lt here is texts tells h =
 
 -- all of them are
 pub told_up_to-all : (is_kept : Bool) (waiting : List code.Reply) (t : Telling) → IsToldUpTo is_kept waiting t (length waiting)
-    → (t.text.items ≡ texts_of (map (told_if is_kept) (map said waiting))) × (t.is_told ≡ list_all is_told (map (told_if is_kept) (map said waiting)))
+    → (t.text.items ≡ texts_of (map (told_if is_kept) (map reply_of_code waiting))) × (t.is_told ≡ list_all is_told (map (told_if is_kept) (map reply_of_code waiting)))
 told_up_to-all is_kept waiting t h =
     let all : take (length waiting) waiting ≡ waiting = take_all (length waiting) waiting (omega arith) in
-    (h.texts ∙ ap (λ (l : List code.Reply). texts_of (map (told_if is_kept) (map said l))) all, h.tells ∙ ap (λ (l : List code.Reply). list_all is_told (map (told_if is_kept) (map said l))) all)
+    (h.texts ∙ ap (λ (l : List code.Reply). texts_of (map (told_if is_kept) (map reply_of_code l))) all, h.tells ∙ ap (λ (l : List code.Reply). list_all is_told (map (told_if is_kept) (map reply_of_code l))) all)

@@ -17,7 +17,7 @@ use Rattle.fp_edit.proofs.Runs.{revision-after_all}
 use Rattle.fp_group_commit.specs.Store.{IsFresh, Leaves, StoreState}
 use Rattle.fp_journal.specs.declared.journal.Phase.TheVariants.{Failed, Idle}
 use Rattle.fp_group_commit.specs.Tokens.{Identity}
-use Rattle.fp_desk.specs.Desk.{DeskState, FitsBehind, head, IsAccepted, log, queued}
+use Rattle.fp_desk.specs.Desk.{DeskState, FitsBehind, head, IsAccepted, log, unsettled_count}
 use Rattle.fp_desk.specs.declared.desk.TheConstants.{MOST_QUEUED}
 use Rattle.fp_session.specs.Session.{CanFail, disk_of, IsAhead, IsInStep, Keeps, LeavesFlags, SessionState, StandsAhead}
 use Rattle.fp_session.specs.Session.{Fails, Halts, KeepsAll, Proceeds}
@@ -89,7 +89,7 @@ module _ (d mid : DeskState) (edit : Proposal) (acc : IsAccepted d mid edit) whe
       (s.0, (n, omega (arith, low, settled), omega (arith, high, len, more), s.1.3 ∙ sym (first_same n high)), s.2)
 
 -- an edit that waits together with others finds a queue with room
-pub not_full : (d : DeskState) (most : ℕ) (c : Change) → d.drawn ≡ [] → FitsBehind most d.waiting c → queued d ≡ MOST_QUEUED → ⊥
+pub not_full : (d : DeskState) (most : ℕ) (c : Change) → d.drawn ≡ [] → FitsBehind most d.waiting c → unsettled_count d ≡ MOST_QUEUED → ⊥
 not_full d most c none (inl empty) full = let drawn = ap length none in let waiting = ap length empty in omega (arith, drawn, waiting, full)
 not_full d most c none (inr fits) full = let drawn = ap length none in let few = fits.0 in omega (arith, drawn, few, full)
 

@@ -5,21 +5,21 @@ use Rattle.fp_definition.specs.declared.key.FlagKey.{FlagKey}
 use Rattle.fp_edit.specs.Edits.{put, Proposal}
 use Rattle.fp_edit.specs.declared.edit.Expect.TheVariants.{Any}
 use Rattle.fp_edit.specs.Line.{line_of, Fault}
-use Rattle.fp_session.specs.Lines.{lines, answered}
+use Rattle.fp_session.specs.Lines.{lines, lines_with_reply}
 
 abbrev pub Ask : Type 0
 Ask = Result Proposal Fault
 
 -- what an input asks: each of its lines that isn't blank
 abbrev pub asked_by_lines : List (List ℕ) → List Ask
-asked_by_lines ls = map line_of (answered ls)
+asked_by_lines ls = map line_of (lines_with_reply ls)
 
 abbrev pub asked_by_input : List ℕ → List Ask
 asked_by_input input = asked_by_lines (lines input)
 
 -- a flag that is imported: the bytes of its key, and its definition's canonical text
-abbrev pub seen : FlagKey × List ℕ → List ℕ × List ℕ
-seen f = (key_bytes f.0, f.1)
+abbrev pub flag_bytes : FlagKey × List ℕ → List ℕ × List ℕ
+flag_bytes f = (key_bytes f.0, f.1)
 
 -- it is put, whatever stands at its key
 abbrev pub put_of : List ℕ × List ℕ → Proposal

@@ -21,5 +21,5 @@ abbrev pub is_blank : List ℕ → Bool
 is_blank line = nat_le (length line) LONGEST_LINE && list_all is_space line
 
 -- the lines that get a reply: all but the blank ones
-abbrev pub answered : List (List ℕ) → List (List ℕ)
-answered ls = filter (λ line. not (is_blank line)) ls
+abbrev pub lines_with_reply : List (List ℕ) → List (List ℕ)
+lines_with_reply ls = filter (λ line. not (is_blank line)) ls

@@ -11,7 +11,7 @@ use Rattle.fp_edit.specs.declared.line.LineFault.{LineFault}
 use Rattle.fp_edit.specs.declared.line.TheConstants.{LONGEST_LINE}
 use Rattle.fp_session.specs.Asks.{Ask, asked_by_input, asked_by_lines}
 use Rattle.fp_session.specs.Lines.{lines}
-use Rattle.fp_session.specs.Reply.{Reply, said, texts_of, is_told, told_if}
+use Rattle.fp_session.specs.Reply.{Reply, reply_of_code, texts_of, is_told, told_if}
 use Rattle.fp_session.specs.Run.{Answers, IsRun, IsAfterPrefix, IsRunWritten, IsTold, IsToldBy}
 use Rattle.fp_session.specs.Run.{show_line}
 use Rattle.fp_session.specs.StoreRun.{StoreRun}
@@ -56,7 +56,7 @@ pub record At {E : Type 0} (store : Ghosts E) (first now : E) (asked : List Ask)
 
 abbrev pub IsAt : {E : Type 0} → Ghosts E → E → E → List Ask → List ℕ → Replies → Type 0
 IsAt store first now asked sent r = At store first now asked sent r.text.items
-    (map said r.waiting.items) r.is_told
+    (map reply_of_code r.waiting.items) r.is_told
 
 -- where it broke off
 pub record StopsAt {E : Type 0} (store : Ghosts E) (first now : E) (asked : List Ask)
@@ -89,8 +89,9 @@ pub record IsEnded {E : Type 0} (store : Ghosts E) (first now : E) (asked : List
 -- the first of the replies that wait are told by a text
 pub record IsToldUpTo (is_kept : Bool) (waiting : List code.Reply) (t : Telling)
     (n : ℕ) : Type 0 where
-  pub texts : t.text.items ≡ texts_of (map (told_if is_kept) (map said (take n waiting)))
-  pub tells : t.is_told ≡ list_all is_told (map (told_if is_kept) (map said (take n waiting)))
+  pub texts : t.text.items ≡ texts_of (map (told_if is_kept) (map reply_of_code (take n waiting)))
+  pub tells : t.is_told
+      ≡ list_all is_told (map (told_if is_kept) (map reply_of_code (take n waiting)))
 
 -- ---- with a writer that held `before` and holds `now_held`, and failed so often
 
@@ -137,8 +138,8 @@ Ends store most first now asked before now_held f0 f (Err fault) =
 -- ---- lines
 
 -- a line, or one byte more of it than is looked at
-abbrev pub cut : List ℕ → List ℕ
-cut line = take (LONGEST_LINE + 1) line
+abbrev pub line_up_to_limit : List ℕ → List ℕ
+line_up_to_limit line = take (LONGEST_LINE + 1) line
 
 -- each line that ended in `seen` was answered and is kept, and the last one hasn't ended
 pub record IsReading {E : Type 0} (store : Ghosts E) (first now : E) (seen sent : List ℕ)
@@ -146,7 +147,7 @@ pub record IsReading {E : Type 0} (store : Ghosts E) (first now : E) (seen sent 
   pub done : List (List ℕ)
   pub line : List ℕ
   pub split : lines seen ≡ done ++ line ∷ []
-  pub held : l ≡ cut line
+  pub held : l ≡ line_up_to_limit line
   pub at : IsAt store first now (asked_by_lines done) sent r
   pub none : r.waiting.items ≡ []
 

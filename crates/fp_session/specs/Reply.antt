@@ -58,20 +58,20 @@ line_text line.bad_key = error_text (codes "bad-key")
 line_text line.bad_if = error_text (codes "bad-if")
 line_text (line.bad_flag f) = flag_text f
 
-abbrev pub text_of : Reply → List ℕ
-text_of (revision n) = codes "{\"revision\":" ++ decimal n ++ codes "}"
-text_of (conflict current) =
+abbrev pub reply_text : Reply → List ℕ
+reply_text (revision n) = codes "{\"revision\":" ++ decimal n ++ codes "}"
+reply_text (conflict current) =
     codes "{\"current\":" ++ number_or_null current ++ codes ",\"error\":\"conflict\"}"
-text_of set_too_large = error_text (codes "set-too-large")
-text_of revisions_used = error_text (codes "revisions-used")
-text_of (no_edit f) = line_text f
-text_of out_of_memory = error_text (codes "out-of-memory")
-text_of store_failed = error_text (codes "store-failed")
+reply_text set_too_large = error_text (codes "set-too-large")
+reply_text revisions_used = error_text (codes "revisions-used")
+reply_text (no_edit f) = line_text f
+reply_text out_of_memory = error_text (codes "out-of-memory")
+reply_text store_failed = error_text (codes "store-failed")
 
 -- each reply on a line of its own
 abbrev pub texts_of : List Reply → List ℕ
 texts_of [] = []
-texts_of (r ∷ rs) = (text_of r ++ 10 ∷ []) ++ texts_of rs
+texts_of (r ∷ rs) = (reply_text r ++ 10 ∷ []) ++ texts_of rs
 
 -- whether a reply tells what became of its line
 abbrev pub is_told : Reply → Bool
@@ -121,8 +121,8 @@ fault_of BadIf = no_edit line.bad_if
 fault_of (BadFlag f) = bad_flag_or_memory (tells f)
 fault_of Memory = out_of_memory
 
-abbrev pub said : code.Reply → Reply
-said (Revision n) = revision n
-said (Refused e) = refusal_of e
-said (NoEdit f) = fault_of f
-said StoreFailed = store_failed
+abbrev pub reply_of_code : code.Reply → Reply
+reply_of_code (Revision n) = revision n
+reply_of_code (Refused e) = refusal_of e
+reply_of_code (NoEdit f) = fault_of f
+reply_of_code StoreFailed = store_failed

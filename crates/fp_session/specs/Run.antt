@@ -16,13 +16,13 @@ use Rattle.fp_session.specs.declared.fault.ApplyFault.{ApplyFault}
 use Rattle.fp_session.specs.declared.fault.ApplyFault.TheVariants.{Device, StoreFailed, Memory}
 use Rattle.fp_session.specs.declared.fault.ApplyFault.TheVariants.{CommitMemory}
 
-abbrev pub decided : State → Proposal → Option EditFault → Reply × State
-decided s p None = (revision (s.revision + 1), next s p.change)
-decided s p (Some e) = (refusal_of e, s)
+abbrev pub verdict_on_edit : State → Proposal → Option EditFault → Reply × State
+verdict_on_edit s p None = (revision (s.revision + 1), next s p.change)
+verdict_on_edit s p (Some e) = (refusal_of e, s)
 
 -- by the flags that it comes upon: the reply to what is asked, and the flags after it
 abbrev pub verdict : State → Ask → Reply × State
-verdict s (Ok p) = decided s p (refusal s p)
+verdict s (Ok p) = verdict_on_edit s p (refusal s p)
 verdict s (Err f) = (no_edit f, s)
 
 -- ---- where memory never wants

@@ -16,7 +16,7 @@ use Rattle.fp_slots.specs.declared.slots.Step.{Step}
 use Rattle.fp_compaction.specs.Steps as compaction
 use Rattle.fp_recovery.specs.Stands.{StandsFor}
 use Rattle.fp_group_commit.specs.Changes.{batch_len}
-use Rattle.fp_group_commit.specs.Store.{IsAtRest, StoreState, kept}
+use Rattle.fp_group_commit.specs.Store.{IsAtRest, StoreState, sealed_set}
 use Rattle.fp_desk.specs.Desk.{DeskState, FitsBehind, head, log, most_of}
 use Rattle.fp_session.specs.declared.commit.CommitFault.{CommitFault}
 use Rattle.fp_session.specs.declared.commit.CommitFault.TheVariants.{StoreFailed, Memory}
@@ -50,7 +50,7 @@ pub record IsInStep {D : Type 0} (disk : Ghosts D) (s : StoreState D) (d : DeskS
   pub settled : s.sealed ≡ d.settled
   pub none_drawn : d.drawn ≡ []
   pub accepts : d.stopped ≡ false
-  pub keeps : EachCrash disk s.slots.journal.disk (λ c. StandsFor c (kept s))
+  pub keeps : EachCrash disk s.slots.journal.disk (λ c. StandsFor c (sealed_set s))
 
 -- the batch was sealed, and no call of the device failed
 pub record IsSealed {D : Type 0} (faults : D → ℕ) (batch : List Change)
@@ -63,7 +63,7 @@ pub record IsSealed {D : Type 0} (faults : D → ℕ) (batch : List Change)
 
 -- the bytes stand for what is kept, or for that and the batch
 abbrev pub KeepsOrGains : {D : Type 0} → StoreState D → List Change → List ℕ → Type 0
-KeepsOrGains s batch c = StandsFor c (kept s) ⊎ StandsFor c (after_all s.store.start
+KeepsOrGains s batch c = StandsFor c (sealed_set s) ⊎ StandsFor c (after_all s.store.start
     (s.sealed ++ batch))
 
 -- ---- the calls of a run
@@ -148,8 +148,8 @@ pub record KeepsAll {D : Type 0} (disk : Ghosts D) (a b : StoreState D) : Type 0
   pub sealed : b.sealed ≡ a.sealed
   pub step : b.step ≡ a.step
   pub any_moment : AtAnyMoment disk a.slots.journal.disk b.slots.journal.disk
-      (λ c. StandsFor c (kept a))
-  pub now : EachCrash disk b.slots.journal.disk (λ c. StandsFor c (kept b))
+      (λ c. StandsFor c (sealed_set a))
+  pub now : EachCrash disk b.slots.journal.disk (λ c. StandsFor c (sealed_set b))
   pub honest : SameHonesty disk a.slots.journal.disk b.slots.journal.disk
 
 -- and the device hasn't failed

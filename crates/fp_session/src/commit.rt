@@ -9,7 +9,7 @@ ghost use Rattle.fp_journal.specs.declared.journal.Phase.TheVariants.{Failed, St
 ghost use Rattle.fp_recovery.specs.Stands.{StandsFor};
 ghost use Rattle.fp_group_commit.specs.Calls.{MovesTo};
 ghost use Rattle.fp_group_commit.specs.Changes.{GoesOn, HasRoom};
-ghost use Rattle.fp_group_commit.specs.Store.{IsAtRest, Leaves, kept};
+ghost use Rattle.fp_group_commit.specs.Store.{IsAtRest, Leaves, sealed_set};
 ghost use Rattle.fp_desk.specs.Desk.{IsDrawn, log};
 ghost use Rattle.fp_slots.specs.State.{IsEarly};
 ghost use Rattle.fp_session.specs.Session.{BreaksOff, Commits, IsInStep, IsSealed, KeepsOrGains};
@@ -34,7 +34,7 @@ pub enum CommitFault {
 fn stage<D: Disk>(store: &mut Store<D>, draw: Draw) -> Result<(), CommitFault>
     requires rest { IsAtRest store.old }
     requires room { HasRoom store.old.slots draw }
-    requires goes_on { GoesOn (kept store.old) draw }
+    requires goes_on { GoesOn (sealed_set store.old) draw }
     ensures same { (store.new.store ≡ store.old.store) × (store.new.sealed ≡ store.old.sealed)
         × (store.new.slots.step ≡ store.old.slots.step) × IsEarly store.old.slots.step }
     ensures staged { OnOk result (MovesTo D.faults Staged store.old store.new
@@ -60,12 +60,12 @@ fn stage<D: Disk>(store: &mut Store<D>, draw: Draw) -> Result<(), CommitFault>
 fn seal<D: Disk>(store: &mut Store<D>, draw: Draw) -> Result<Receipt, CommitFault>
     requires rest { IsAtRest store.old }
     requires room { HasRoom store.old.slots draw }
-    requires goes_on { GoesOn (kept store.old) draw }
+    requires goes_on { GoesOn (sealed_set store.old) draw }
     ensures same { store.new.store ≡ store.old.store }
     ensures sealed { OnOk result (IsSealed D.faults draw.changes store.old store.new) }
     ensures receipt { IfOk result (λ r. (r.store ≡ store.new.store)
         × (r.batch.changes ≡ draw.changes)
-        × (r.batch.first ≡ (kept store.old).revision + 1)) }
+        × (r.batch.first ≡ (sealed_set store.old).revision + 1)) }
     ensures cause { IfErr result (λ f. f ≡ StoreFailed
         → D.faults store.old.slots.journal.disk < D.faults store.new.slots.journal.disk) }
     ensures any_moment { AtAnyMoment D.Disk store.old.slots.journal.disk
@@ -73,7 +73,7 @@ fn seal<D: Disk>(store: &mut Store<D>, draw: Draw) -> Result<Receipt, CommitFaul
     ensures called { Makes batch_calls (D.calls store.old.slots.journal.disk)
         (D.calls store.new.slots.journal.disk) result }
     ensures keeps { OnOk result (EachCrash D.Disk store.new.slots.journal.disk
-        (λ c. StandsFor c (kept store.new))) }
+        (λ c. StandsFor c (sealed_set store.new))) }
     ensures honest { SameHonesty D.Disk store.old.slots.journal.disk store.new.slots.journal.disk }
 {
     if let Err(fault) = stage(store, draw) {
@@ -95,7 +95,7 @@ pub fn seal_staged<D: Disk>(store: &mut Store<D>) -> Result<Receipt, CommitFault
         × (D.faults store.new.slots.journal.disk ≡ D.faults store.old.slots.journal.disk)) }
     ensures receipt { IfOk result (λ r. (r.store ≡ store.new.store) × (r.edits ≡ store.new.sealed)
         × (r.batch.changes ≡ store.old.staged)
-        × (r.batch.first ≡ (kept store.old).revision + 1)) }
+        × (r.batch.first ≡ (sealed_set store.old).revision + 1)) }
     ensures cause { IfErr result (λ f. (f ≡ StoreFailed)
         × (D.faults store.old.slots.journal.disk < D.faults store.new.slots.journal.disk)) }
     ensures any_moment { AtAnyMoment D.Disk store.old.slots.journal.disk
@@ -103,7 +103,7 @@ pub fn seal_staged<D: Disk>(store: &mut Store<D>) -> Result<Receipt, CommitFault
     ensures called { Makes (Sync ∷ Write ∷ Sync ∷ []) (D.calls store.old.slots.journal.disk)
         (D.calls store.new.slots.journal.disk) result }
     ensures keeps { OnOk result (EachCrash D.Disk store.new.slots.journal.disk
-        (λ c. StandsFor c (kept store.new))) }
+        (λ c. StandsFor c (sealed_set store.new))) }
     ensures honest { SameHonesty D.Disk store.old.slots.journal.disk store.new.slots.journal.disk }
 {
     let Ok(()) = store.sync_body() else {

@@ -9,7 +9,7 @@ ghost use Rattle.fp_recovery.specs.Stands.{StandsFor};
 ghost use Rattle.fp_slots.specs.declared.slots.Step.TheVariants.{Begin};
 ghost use Rattle.fp_group_commit.specs.Calls.{Compacts};
 ghost use Rattle.fp_group_commit.specs.Changes.{HasRoom, batch_len};
-ghost use Rattle.fp_group_commit.specs.Store.{IsAtRest, MayCompact, kept};
+ghost use Rattle.fp_group_commit.specs.Store.{IsAtRest, MayCompact, sealed_set};
 ghost use Rattle.fp_session.specs.Session.{Halts, KeepsAll, Proceeds};
 ghost use Rattle.fp_session.specs.declared.commit.CommitFault.TheVariants.{StoreFailed};
 
@@ -39,7 +39,7 @@ fn take_step<D: Disk>(store: &mut Store<D>) -> Result<(), CommitFault>
 pub fn make_room<D: Disk>(store: &mut Store<D>, draw: &Draw) -> Result<(), CommitFault>
     requires rest { IsAtRest store.old }
     requires keeps { EachCrash D.Disk store.old.slots.journal.disk
-        (λ c. StandsFor c (kept store.old)) }
+        (λ c. StandsFor c (sealed_set store.old)) }
     requires some { 0 < length draw.now.changes }
     requires few { length draw.now.changes ≤ 64 }
     ensures room { OnOk result (HasRoom store.new.slots draw.now) }
@@ -48,7 +48,8 @@ pub fn make_room<D: Disk>(store: &mut Store<D>, draw: &Draw) -> Result<(), Commi
         ⊎ ((f ≡ StoreFailed) × Proceeds D.Disk store.old store.new
         × (2 ^ 64 ≤ store.new.slots.generation + 1)
         × EachCrash D.Disk store.new.slots.journal.disk
-        (λ c. IsFullFor c (kept store.new) (batch_len draw.now) store.new.slots.generation))) }
+        (λ c. IsFullFor c (sealed_set store.new) (batch_len draw.now)
+        store.new.slots.generation))) }
 {
     while !store.has_room(draw) {
         if !store.may_compact() {
@@ -63,7 +64,7 @@ pub fn make_room<D: Disk>(store: &mut Store<D>, draw: &Draw) -> Result<(), Commi
 pub fn go_on<D: Disk>(store: &mut Store<D>) -> Result<(), CommitFault>
     requires rest { IsAtRest store.old }
     requires keeps { EachCrash D.Disk store.old.slots.journal.disk
-        (λ c. StandsFor c (kept store.old)) }
+        (λ c. StandsFor c (sealed_set store.old)) }
     ensures proceeds { OnOk result (Proceeds D.Disk store.old store.new) }
     ensures halts { IfErr result (Halts D.Disk store.old store.new) }
 {
@@ -81,7 +82,7 @@ pub fn go_on<D: Disk>(store: &mut Store<D>) -> Result<(), CommitFault>
 pub fn finish<D: Disk>(store: &mut Store<D>) -> Result<(), CommitFault>
     requires rest { IsAtRest store.old }
     requires keeps { EachCrash D.Disk store.old.slots.journal.disk
-        (λ c. StandsFor c (kept store.old)) }
+        (λ c. StandsFor c (sealed_set store.old)) }
     ensures none_runs { OnOk result (store.new.slots.step ≡ Begin) }
     ensures proceeds { OnOk result (Proceeds D.Disk store.old store.new) }
     ensures halts { IfErr result (Halts D.Disk store.old store.new) }

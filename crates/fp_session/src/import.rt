@@ -5,7 +5,7 @@ ghost use Rattle.std.specs.Prelude.{true, map, IfErr, IfOk, MatchResult, OnOk};
 ghost use Rattle.std.specs.Io.KnownBytes.{Appends};
 ghost use Rattle.fp_edit.specs.Edits.{proposal_of};
 ghost use Rattle.fp_edit.specs.Flags.{State};
-ghost use Rattle.fp_session.specs.Asks.{Ask, asked_by_flags, seen};
+ghost use Rattle.fp_session.specs.Asks.{Ask, asked_by_flags, flag_bytes};
 ghost use Rattle.fp_session.specs.Progress.{Ends, IsAtWith, IsBrokenWith, IsSentFurther};
 ghost use Rattle.fp_session.specs.Run.{IsAfterPrefix, IsRunWritten, IsToldBy, after, script};
 ghost use Rattle.fp_session.specs.StoreRun.{StoreRun};
@@ -40,13 +40,13 @@ pub fn import_flags<W: Write, E: EditStore>(
     // What is written is the import's script, and the flags are as it leaves them.
     ensures script { IfOk result.1 (λ told. told ≡ true →
         Appends (W.contents w.old.inner) (W.contents w.new.inner)
-        (script (E.state edits) (asked_by_flags (map seen flags.items)))) }
+        (script (E.state edits) (asked_by_flags (map flag_bytes flags.items)))) }
     ensures flags { IfOk result.1 (λ told. told ≡ true →
-        E.state result.0 ≡ after (E.state edits) (asked_by_flags (map seen flags.items))) }
+        E.state result.0 ≡ after (E.state edits) (asked_by_flags (map flag_bytes flags.items))) }
 
     // Where a reply tells of wanting memory, its put changed nothing, and all else is as before.
     ensures run { IfOk result.1 (λ told.
-        IsRunWritten (E.state edits) (asked_by_flags (map seen flags.items)) told
+        IsRunWritten (E.state edits) (asked_by_flags (map flag_bytes flags.items)) told
         (W.contents w.old.inner) (W.contents w.new.inner) (E.state result.0)) }
     ensures kept { OnOk result.1 ((flags : State) → E.may_stand result.0 flags
         → flags ≡ E.state result.0) }
@@ -56,22 +56,22 @@ pub fn import_flags<W: Write, E: EditStore>(
     // revision, or none where memory was wanting.
     ensures told { IfErr result.1 (λ fault. w.new.failures ≡ w.old.failures
         → (s : State) → E.may_stand result.0 s
-        → IsToldBy (E.state edits) (asked_by_flags (map seen flags.items)) MOST_WAITING fault
+        → IsToldBy (E.state edits) (asked_by_flags (map flag_bytes flags.items)) MOST_WAITING fault
         (W.contents w.old.inner) (W.contents w.new.inner) (E.state result.0) s) }
 
     // Whatever comes back, the flags are as some first puts leave them,
     // and so is whatever a crash leaves at any moment.
-    ensures left { IsAfterPrefix (E.state edits) (asked_by_flags (map seen flags.items))
+    ensures left { IsAfterPrefix (E.state edits) (asked_by_flags (map flag_bytes flags.items))
         (E.state result.0) }
     ensures any_moment { E.leaves edits result.0
-        (IsAfterPrefix (E.state edits) (asked_by_flags (map seen flags.items))) }
+        (IsAfterPrefix (E.state edits) (asked_by_flags (map flag_bytes flags.items))) }
 
     // At the end nothing goes on beside the edits.
     ensures rests { OnOk result.1 (E.rests result.0) }
 
     // What keeps the flags goes on, but where it failed to keep what waited.
     ensures course { StoreRun E.EditStore
-        (IsAfterPrefix (E.state edits) (asked_by_flags (map seen flags.items)))
+        (IsAfterPrefix (E.state edits) (asked_by_flags (map flag_bytes flags.items)))
         edits result.0 result.1 }
 
     // `Device` comes only where the writer failed, and a run to the end only where it didn't.
@@ -90,7 +90,8 @@ fn put_flags<W: Write, E: EditStore>(
 ) -> Result<bool, ApplyFault>
     requires fresh { (s : State) → E.may_stand edits.old s → s ≡ E.state edits.old }
     ensures ends { Ends E.EditStore MOST_WAITING edits.old edits.new
-        (asked_by_flags (map seen flags.items)) (W.contents w.old.inner) (W.contents w.new.inner)
+        (asked_by_flags (map flag_bytes flags.items)) (W.contents w.old.inner)
+        (W.contents w.new.inner)
         w.old.failures w.new.failures result }
     ensures device { Blames w.old.failures w.new.failures result }
 {

@@ -6,7 +6,7 @@ ghost use Rattle.std.specs.Io.KnownBytes.{Appends};
 ghost use Rattle.fp_edit.specs.Flags.{State};
 ghost use Rattle.fp_session.specs.Asks.{Ask, asked_by_input, asked_by_lines};
 ghost use Rattle.fp_session.specs.Progress.{EndsOver, IsAt, IsBroken, IsBrokenWithin, IsEnded};
-ghost use Rattle.fp_session.specs.Progress.{IsReading, cut};
+ghost use Rattle.fp_session.specs.Progress.{IsReading, line_up_to_limit};
 ghost use Rattle.fp_session.specs.Run.{IsAfterPrefix, IsRunWritten, IsToldBy, after, script};
 ghost use Rattle.fp_session.specs.StoreRun.{StoreRun};
 ghost use Rattle.fp_session.specs.Streams.{Blames, IsFromWithin};
@@ -146,7 +146,7 @@ fn answer_line<E: EditStore>(
     line: &mut IncomingLine,
 ) -> Result<(), ApplyFault>
     ensures answered { (first : E) (asked : List Ask) (sent bytes : List ℕ)
-        → line.old ≡ cut bytes → replies.old.waiting.items ≡ []
+        → line.old ≡ line_up_to_limit bytes → replies.old.waiting.items ≡ []
         → IsAt E.EditStore first edits.old asked sent replies.old → MatchResult result
         (λ _. IsAt E.EditStore first edits.new
         (asked ++ asked_by_lines (bytes ∷ [])) sent replies.new)

@@ -5,7 +5,7 @@ ghost use Rattle.std.specs.Prelude.{MatchOption, length, position, true, false};
 ghost use Rattle.std.specs.List.{list_all};
 ghost use Rattle.fp_edit.specs.Line.{line_of};
 ghost use Rattle.fp_session.specs.Lines as lines;
-ghost use Rattle.fp_session.specs.Progress.{AsksFor, cut};
+ghost use Rattle.fp_session.specs.Progress.{AsksFor, line_up_to_limit};
 
 use fp_edit::{Edit, LONGEST_LINE, LineFault, parse_line};
 use std::alloc::{AllocError, Global};
@@ -37,8 +37,8 @@ impl IncomingLine {
 
     /// Adds to the line.
     pub fn extend(&mut self, piece: &[u8]) -> Result<(), AllocError>
-        ensures grown { OnOk result ((line : List ℕ) → self.old ≡ cut line
-            → self.new ≡ cut (line ++ piece.now)) }
+        ensures grown { OnOk result ((line : List ℕ) → self.old ≡ line_up_to_limit line
+            → self.new ≡ line_up_to_limit (line ++ piece.now)) }
     {
         let room = (LONGEST_LINE + 1).saturating_sub(self.bytes.len());
         let part = &piece[..piece.len().min(room)];
@@ -48,7 +48,7 @@ impl IncomingLine {
 
     /// Ends the line, and gives what it asks; a blank one asks nothing.
     pub fn end(&mut self, alloc: Global) -> Option<Result<Edit, LineFault>>
-        ensures asks { (line : List ℕ) → self.old ≡ cut line
+        ensures asks { (line : List ℕ) → self.old ≡ line_up_to_limit line
             → MatchOption result (lines.is_blank line ≡ true)
             (λ edit. (lines.is_blank line ≡ false) × AsksFor edit (line_of line)) }
         ensures ended { self.new ≡ [] }

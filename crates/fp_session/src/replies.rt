@@ -9,7 +9,7 @@ ghost use Rattle.fp_edit.specs.Flags.{State};
 ghost use Rattle.fp_edit.specs.Following.{change_of};
 ghost use Rattle.fp_session.specs.Asks.{Ask};
 ghost use Rattle.fp_session.specs.Progress.{AsksFor, IsAt, IsBroken, IsEnded, IsToldUpTo, Takes};
-ghost use Rattle.fp_session.specs.Reply.{is_told, said, store_failed, texts_of, told_if};
+ghost use Rattle.fp_session.specs.Reply.{is_told, reply_of_code, store_failed, texts_of, told_if};
 ghost use Rattle.fp_session.specs.Streams.{IsFromWithin};
 ghost use Rattle.fp_session.specs.declared.replies.TheConstants.{MOST_WAITING};
 ghost use Rattle.fp_session.specs.declared.fault.ApplyFault.TheVariants as run;
@@ -257,9 +257,9 @@ impl Telling {
     // Puts a reply on a line of its own behind the others.
     fn add(&mut self, alloc: Global, reply: &Reply) -> Result<(), AllocError>
         ensures text { OnOk result
-            (self.new.text.items ≡ self.old.text.items ++ texts_of (said reply.now ∷ [])) }
+            (self.new.text.items ≡ self.old.text.items ++ texts_of (reply_of_code reply.now ∷ [])) }
         ensures told { OnOk result
-            (self.new.is_told ≡ (self.old.is_told && is_told (said reply.now))) }
+            (self.new.is_told ≡ (self.old.is_told && is_told (reply_of_code reply.now))) }
     {
         let line = reply.text(alloc)?;
         self.text.extend_from_slice(&line)?;
@@ -271,8 +271,8 @@ impl Telling {
 
 // How a reply is told: as it is, but of what isn't kept no revision.
 fn as_told<'r>(reply: &'r Reply, is_kept: bool, failed: &'r Reply) -> &'r Reply
-    requires { said failed.now ≡ store_failed }
-    ensures { said result.now ≡ told_if is_kept (said reply.now) }
+    requires { reply_of_code failed.now ≡ store_failed }
+    ensures { reply_of_code result.now ≡ told_if is_kept (reply_of_code reply.now) }
 {
     if is_kept || !reply.tells_revision() {
         reply
@@ -284,7 +284,8 @@ fn as_told<'r>(reply: &'r Reply, is_kept: bool, failed: &'r Reply) -> &'r Reply
 // Puts an edit to the flags, which have place for it.
 fn submit<E: EditStore>(edits: &mut E, edit: Edit) -> Reply
     requires place { E.has_place edits.old (change_of edit) }
-    ensures taken { Takes E.EditStore edits.old (Ok (proposal_of edit)) (said result) edits.new }
+    ensures taken { Takes E.EditStore edits.old (Ok (proposal_of edit)) (reply_of_code result)
+        edits.new }
 {
     match edits.submit(edit) {
         Ok(revision) => Reply::Revision(revision),

@@ -4,7 +4,7 @@ ghost use Rattle.std.specs.Prelude.{◌≡◌, ◌++◌, not, Some, IfOk, OnOk};
 ghost use Rattle.fp_definition.specs.Faults as flag;
 ghost use Rattle.fp_definition.specs.Valid as flag_fault;
 ghost use Rattle.fp_session.specs.Reply as say;
-ghost use Rattle.fp_session.specs.Reply.{said, text_of, is_told, tells_revision};
+ghost use Rattle.fp_session.specs.Reply.{reply_of_code, reply_text, is_told, tells_revision};
 
 use fp_base::put_quoted;
 use fp_definition::DefFault;
@@ -28,7 +28,7 @@ pub enum Reply {
 impl Reply {
     /// The reply as JSON, without the newline that ends its line.
     pub fn text(&self, alloc: Global) -> Result<Vec<u8>, AllocError>
-        ensures { IfOk result (λ t. t.items ≡ text_of (said self.now)) }
+        ensures { IfOk result (λ t. t.items ≡ reply_text (reply_of_code self.now)) }
     {
         match self {
             Reply::Revision(revision) => revision_text(alloc, *revision),
@@ -40,7 +40,7 @@ impl Reply {
 
     /// Whether the reply tells of a revision.
     pub fn tells_revision(&self) -> bool
-        ensures { result ≡ tells_revision (said self.now) }
+        ensures { result ≡ tells_revision (reply_of_code self.now) }
     {
         matches!(
             self,
@@ -50,7 +50,7 @@ impl Reply {
 
     /// Whether the reply says nothing of the line, for want of memory.
     pub fn is_out_of_memory(&self) -> bool
-        ensures { result ≡ not (is_told (said self.now)) }
+        ensures { result ≡ not (is_told (reply_of_code self.now)) }
     {
         matches!(
             self,
@@ -70,7 +70,7 @@ fn error_text(alloc: Global, name: &str) -> Result<Vec<u8>, AllocError>
 }
 
 fn revision_text(alloc: Global, revision: u64) -> Result<Vec<u8>, AllocError>
-    ensures { IfOk result (λ t. t.items ≡ text_of (say.revision revision)) }
+    ensures { IfOk result (λ t. t.items ≡ reply_text (say.revision revision)) }
 {
     let mut text = Vec::from_slice(alloc, b"{\"revision\":")?;
     text.extend_from_slice(Buffer::new().format(revision).as_bytes())?;
@@ -79,7 +79,7 @@ fn revision_text(alloc: Global, revision: u64) -> Result<Vec<u8>, AllocError>
 }
 
 fn conflict_text(alloc: Global, current: Option<u64>) -> Result<Vec<u8>, AllocError>
-    ensures { IfOk result (λ t. t.items ≡ text_of (say.conflict current)) }
+    ensures { IfOk result (λ t. t.items ≡ reply_text (say.conflict current)) }
 {
     let mut text = Vec::from_slice(alloc, b"{\"current\":")?;
     put_number_or_null(&mut text, current)?;
@@ -97,7 +97,7 @@ fn put_number_or_null(text: &mut Vec<u8>, number: Option<u64>) -> Result<(), All
 }
 
 fn refusal_text(alloc: Global, fault: &EditFault) -> Result<Vec<u8>, AllocError>
-    ensures { IfOk result (λ t. t.items ≡ text_of (say.refusal_of fault.now)) }
+    ensures { IfOk result (λ t. t.items ≡ reply_text (say.refusal_of fault.now)) }
 {
     match fault {
         EditFault::Conflict { current } => conflict_text(alloc, *current),
@@ -108,7 +108,7 @@ fn refusal_text(alloc: Global, fault: &EditFault) -> Result<Vec<u8>, AllocError>
 }
 
 fn fault_text(alloc: Global, fault: &LineFault) -> Result<Vec<u8>, AllocError>
-    ensures { IfOk result (λ t. t.items ≡ text_of (say.fault_of fault.now)) }
+    ensures { IfOk result (λ t. t.items ≡ reply_text (say.fault_of fault.now)) }
 {
     match fault {
         LineFault::TooLong => error_text(alloc, "line-too-long"),
@@ -124,7 +124,8 @@ fn fault_text(alloc: Global, fault: &LineFault) -> Result<Vec<u8>, AllocError>
 }
 
 fn flag_text(alloc: Global, fault: &DefFault) -> Result<Vec<u8>, AllocError>
-    ensures { IfOk result (λ t. t.items ≡ text_of (say.bad_flag_or_memory (flag.tells fault.now))) }
+    ensures { IfOk result
+        (λ t. t.items ≡ reply_text (say.bad_flag_or_memory (flag.tells fault.now))) }
 {
     match fault {
         DefFault::Memory => error_text(alloc, "out-of-memory"),

@@ -7,7 +7,7 @@ use Rattle.std.proofs.lemmas.List.{get_or-drop, get_or_append_left, length-drop}
 use Rattle.fp_disk.specs.Outcomes.{IsOutcome, PendingState, Written}
 use Rattle.fp_gate.specs.declared.gate.TheConstants.{OPEN}
 use Rattle.fp_journal.specs.Holds.{Holds}
-use Rattle.fp_journal.specs.Chain.{Ends, framed}
+use Rattle.fp_journal.specs.Chain.{Ends, with_length}
 use Rattle.fp_journal.specs.declared.slot.Slot.{Slot}
 use Rattle.fp_journal.proofs.Holds.{holds_front, holds_byte, byte_held, holds_append, held_range, holds_written, holds_apart, written_long, firm_outcome}
 use Rattle.fp_slots.specs.Head.{head_text}
@@ -121,12 +121,12 @@ head_plan slot generation base image text bytes next fits is all = record {
 -- ---- a batch that is sealed meanwhile
 module _ (slot : Slot) (generation done : ℕ) (text body b : List ℕ) where
   abbrev Longer : List ℕ
-  Longer = text ++ OPEN ∷ framed body
+  Longer = text ++ OPEN ∷ with_length body
 
   pub plan_longer : IsPlan slot generation text (text ++ 0 ∷ []) → slot.start + length Longer < slot.stop → IsPlan slot generation Longer (Longer ++ 0 ∷ [])
   plan_longer p fits = record {
-    rest = p.rest ++ OPEN ∷ framed body;
-    text_is = ap (λ (t : List ℕ). t ++ OPEN ∷ framed body) p.text_is ∙ ap (λ (t : List ℕ). OPEN ∷ t) (append_assoc (to_be_bytes w64 (generation + 1)) p.rest (OPEN ∷ framed body));
+    rest = p.rest ++ OPEN ∷ with_length body;
+    text_is = ap (λ (t : List ℕ). t ++ OPEN ∷ with_length body) p.text_is ∙ ap (λ (t : List ℕ). OPEN ∷ t) (append_assoc (to_be_bytes w64 (generation + 1)) p.rest (OPEN ∷ with_length body));
     bytes_are = refl;
     next = p.next;
     fits = fits;
@@ -135,14 +135,14 @@ module _ (slot : Slot) (generation done : ℕ) (text body b : List ℕ) where
   pub copied_longer : done ≤ length text → IsCopied slot.start (text ++ 0 ∷ []) done b → IsCopied slot.start (Longer ++ 0 ∷ []) done b
   copied_longer le c = record {
     long = c.long;
-    same = λ k low lt. c.same k low lt ∙ get_or_append_left text (0 ∷ []) 0 k (omega (arith, le, lt)) ∙ sym (get_or_append_left text (OPEN ∷ framed body) 0 k (omega (arith, le, lt)))
-        ∙ sym (get_or_append_left (text ++ OPEN ∷ framed body) (0 ∷ []) 0 k (let len = length-append text (OPEN ∷ framed body) in omega (arith, le, lt, len)));
+    same = λ k low lt. c.same k low lt ∙ get_or_append_left text (0 ∷ []) 0 k (omega (arith, le, lt)) ∙ sym (get_or_append_left text (OPEN ∷ with_length body) 0 k (omega (arith, le, lt)))
+        ∙ sym (get_or_append_left (text ++ OPEN ∷ with_length body) (0 ∷ []) 0 k (let len = length-append text (OPEN ∷ with_length body) in omega (arith, le, lt, len)));
   }
 
   pub part_longer : IsPart (text ++ 0 ∷ []) done → IsPart (Longer ++ 0 ∷ []) done
-  part_longer q = let some = q.some in let part = q.part in let a = length-append text (0 ∷ []) in let l = length-append text (OPEN ∷ framed body) in let z = length-append Longer (0 ∷ []) in
+  part_longer q = let some = q.some in let part = q.part in let a = length-append text (0 ∷ []) in let l = length-append text (OPEN ∷ with_length body) in let z = length-append Longer (0 ∷ []) in
       record { some = some; part = omega (arith, part, a, l, z) }
 
-pub plan_goes_on : (slot : Slot) (generation done : ℕ) (text body b : List ℕ) → IsPlan slot generation text (text ++ 0 ∷ []) → done ≤ length text → IsCopied slot.start (text ++ 0 ∷ []) done b → slot.start + length (text ++ OPEN ∷ framed body) < slot.stop
-    → IsPlan slot generation (text ++ OPEN ∷ framed body) ((text ++ OPEN ∷ framed body) ++ 0 ∷ []) × IsCopied slot.start ((text ++ OPEN ∷ framed body) ++ 0 ∷ []) done b
+pub plan_goes_on : (slot : Slot) (generation done : ℕ) (text body b : List ℕ) → IsPlan slot generation text (text ++ 0 ∷ []) → done ≤ length text → IsCopied slot.start (text ++ 0 ∷ []) done b → slot.start + length (text ++ OPEN ∷ with_length body) < slot.stop
+    → IsPlan slot generation (text ++ OPEN ∷ with_length body) ((text ++ OPEN ∷ with_length body) ++ 0 ∷ []) × IsCopied slot.start ((text ++ OPEN ∷ with_length body) ++ 0 ∷ []) done b
 plan_goes_on slot generation done text body b p le c fits = (plan_longer slot generation done text body b p fits, copied_longer slot generation done text body b le c)

@@ -4,7 +4,7 @@ use Rattle.std.specs.Prelude.{slice_range}
 use Rattle.std.proofs.Math.Seq.{take-append_seam, drop-append_seam, set-append_seam}
 use Rattle.std.proofs.lemmas.List.{append-nil, drop-take, take-append-drop, take-append-le, length-take, length-take-le, length-drop}
 use Rattle.fp_gate.specs.declared.gate.TheConstants.{OPEN}
-use Rattle.fp_journal.specs.Chain.{framed, with_gate}
+use Rattle.fp_journal.specs.Chain.{with_length, with_gate}
 
 pub front_is : (xs : List ℕ) (n : ℕ) → slice_range xs 0 n ≡ take n xs
 front_is xs n = let e : n - 0 ≡ n = omega arith in ap (λ (k : ℕ). take k xs) e
@@ -47,7 +47,7 @@ back_of_front xs k all = ap (drop k) (sym (append-nil (slice_range xs 0 k))) ∙
 -- ---- a body behind the text: the closed gate between them opens
 module _ (planned text body : List ℕ) (n : ℕ) (there : n < length planned) (front : slice_range planned 0 (n + 1) ≡ text ++ 0 ∷ []) (is : slice_range planned 0 n ≡ text) (coming : drop (n + 1) planned ≡ with_gate body) where
   abbrev Longer : List ℕ
-  Longer = text ++ OPEN ∷ framed body
+  Longer = text ++ OPEN ∷ with_length body
 
   ends : n ≡ length text
   ends = sym (front_long planned n (omega (arith, there))) ∙ ap length is
@@ -56,13 +56,13 @@ module _ (planned text body : List ℕ) (n : ℕ) (there : n < length planned) (
   all = sym (take-append-drop (n + 1) planned) ∙ ap (λ (t : List ℕ). t ++ drop (n + 1) planned) (sym (front_is planned (n + 1)) ∙ front) ∙ ap (λ (t : List ℕ). (text ++ 0 ∷ []) ++ t) coming ∙ append_assoc text (0 ∷ []) (with_gate body)
 
   pub opened_is : set planned n OPEN ≡ Longer ++ 0 ∷ []
-  opened_is = ap (λ (t : List ℕ). set t n OPEN) all ∙ ap (λ (k : ℕ). set (text ++ 0 ∷ with_gate body) k OPEN) ends ∙ set-append_seam text 0 (with_gate body) OPEN ∙ sym (append_assoc text (OPEN ∷ framed body) (0 ∷ []))
+  opened_is = ap (λ (t : List ℕ). set t n OPEN) all ∙ ap (λ (k : ℕ). set (text ++ 0 ∷ with_gate body) k OPEN) ends ∙ set-append_seam text 0 (with_gate body) OPEN ∙ sym (append_assoc text (OPEN ∷ with_length body) (0 ∷ []))
 
   pub planned_long : length planned ≡ length Longer + 1
-  planned_long = let a = ap length all in let b = length-append text (0 ∷ with_gate body) in let c = length-append text (OPEN ∷ framed body) in let d = length-append (framed body) (0 ∷ []) in omega (arith, a, b, c, d)
+  planned_long = let a = ap length all in let b = length-append text (0 ∷ with_gate body) in let c = length-append text (OPEN ∷ with_length body) in let d = length-append (with_length body) (0 ∷ []) in omega (arith, a, b, c, d)
 
   pub longer_long : length Longer ≡ n + length (with_gate body)
-  longer_long = let e = ends in let c = length-append text (OPEN ∷ framed body) in let d = length-append (framed body) (0 ∷ []) in omega (arith, e, c, d)
+  longer_long = let e = ends in let c = length-append text (OPEN ∷ with_length body) in let d = length-append (with_length body) (0 ∷ []) in omega (arith, e, c, d)
 
 -- the text in front of a closed gate, behind which these stand
 module _ (xs text behind : List ℕ) (n : ℕ) (is : xs ≡ (text ++ 0 ∷ []) ++ behind) (len : n ≡ length text) where

@@ -3,7 +3,7 @@ use Rattle.std.proofs.Common.{◌≡◌, ◌≢◌, ℕ, ◌+◌, ◌<◌, List,
 use Rattle.std.specs.Prelude.{Bool}
 use Rattle.fp_disk.specs.Outcomes.{PendingState}
 use Rattle.fp_gate.specs.declared.gate.TheConstants.{OPEN}
-use Rattle.fp_journal.specs.Chain.{framed}
+use Rattle.fp_journal.specs.Chain.{with_length}
 use Rattle.fp_journal.specs.declared.slot.Slot.{Slot}
 use Rattle.fp_journal.specs.declared.journal.Phase.TheVariants.{Failed}
 use Rattle.fp_slots.specs.declared.slots.Step.{Step}
@@ -11,9 +11,9 @@ use Rattle.fp_slots.specs.declared.slots.Step.TheVariants.{Begin, Close, SyncClo
 use Rattle.fp_slots.specs.State.{SlotsState, IsBeside, IsCopied, IsGrowing, IsKept, IsPart, IsPlan, IsPlanned}
 use Rattle.fp_slots.proofs.Beside.{plan_longer, copied_longer, part_longer}
 
-module _ (slot : Slot) (generation done : ℕ) (text body planned : List ℕ) (fits : slot.start + length (text ++ OPEN ∷ framed body) < slot.stop) where
+module _ (slot : Slot) (generation done : ℕ) (text body planned : List ℕ) (fits : slot.start + length (text ++ OPEN ∷ with_length body) < slot.stop) where
   abbrev pub Longer : List ℕ
-  Longer = text ++ OPEN ∷ framed body
+  Longer = text ++ OPEN ∷ with_length body
 
   longer : IsPlan slot generation text planned → IsPlan slot generation Longer (Longer ++ 0 ∷ [])
   longer p = plan_longer slot generation done text body [] (subst (λ (t : List ℕ). IsPlan slot generation text t) p.bytes_are p) fits
@@ -60,8 +60,8 @@ module _ {D : Type 0} (honest : D → Type 0) (bytes : D → List ℕ) (unsynced
   pub planned_is : IsGrowing s.step → planned ≡ s.text ++ 0 ∷ []
   planned_is growing = (plan_in s.other s.generation done s.text planned s.step growing kept.plan).bytes_are
 
-  grown : (body coming : List ℕ) → IsGrowing s.step → s.journal.phase ≢ Failed → s.other.start + length (s.text ++ OPEN ∷ framed body) < s.other.stop
-      → IsKept honest bytes unsynced (record s { text = s.text ++ OPEN ∷ framed body; coming = coming }) may_open ((s.text ++ OPEN ∷ framed body) ++ 0 ∷ []) done
+  grown : (body coming : List ℕ) → IsGrowing s.step → s.journal.phase ≢ Failed → s.other.start + length (s.text ++ OPEN ∷ with_length body) < s.other.stop
+      → IsKept honest bytes unsynced (record s { text = s.text ++ OPEN ∷ with_length body; coming = coming }) may_open ((s.text ++ OPEN ∷ with_length body) ++ 0 ∷ []) done
   grown body coming growing alive fits = record {
     apart = kept.apart;
     wide = kept.wide;
@@ -75,11 +75,11 @@ module _ {D : Type 0} (honest : D → Type 0) (bytes : D → List ℕ) (unsynced
     failed = λ h no. absurd (alive no);
   }
 
-  pub lengthened : (body coming text next : List ℕ) → IsGrowing s.step → s.journal.phase ≢ Failed → s.other.start + length (s.text ++ OPEN ∷ framed body) < s.other.stop
-      → text ≡ s.text ++ OPEN ∷ framed body → next ≡ (s.text ++ OPEN ∷ framed body) ++ 0 ∷ [] → IsKept honest bytes unsynced (record s { text = text; coming = coming }) may_open next done
+  pub lengthened : (body coming text next : List ℕ) → IsGrowing s.step → s.journal.phase ≢ Failed → s.other.start + length (s.text ++ OPEN ∷ with_length body) < s.other.stop
+      → text ≡ s.text ++ OPEN ∷ with_length body → next ≡ (s.text ++ OPEN ∷ with_length body) ++ 0 ∷ [] → IsKept honest bytes unsynced (record s { text = text; coming = coming }) may_open next done
   lengthened body coming text next growing alive fits is all =
       subst (λ (t : List ℕ). IsKept honest bytes unsynced (record s { text = t; coming = coming }) may_open next done) (sym is)
-      (subst (λ (n : List ℕ). IsKept honest bytes unsynced (record s { text = s.text ++ OPEN ∷ framed body; coming = coming }) may_open n done) (sym all) (grown body coming growing alive fits))
+      (subst (λ (n : List ℕ). IsKept honest bytes unsynced (record s { text = s.text ++ OPEN ∷ with_length body; coming = coming }) may_open n done) (sym all) (grown body coming growing alive fits))
 
   -- what is kept ready is in no claim
   pub readied : s.journal.phase ≢ Failed → (coming text next : List ℕ) → text ≡ s.text → next ≡ planned → IsKept honest bytes unsynced (record s { text = text; coming = coming }) may_open next done

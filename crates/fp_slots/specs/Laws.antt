@@ -1,6 +1,6 @@
 -- What follows from the definitions.
 use Rattle.std.specs.Prelude.{◌<◌, ◌≤◌, ◌+◌, ℕ, List, [], ◌∷◌, ◌++◌, length}
-use Rattle.fp_journal.specs.Chain.{framed}
+use Rattle.fp_journal.specs.Chain.{with_length}
 use Rattle.fp_gate.specs.declared.gate.TheConstants.{OPEN}
 use Rattle.fp_journal.specs.declared.slot.Slot.{Slot}
 use Rattle.fp_slots.specs.State.{IsCopied, IsPlan}
@@ -21,6 +21,7 @@ abbrev pub PlanGoesOn : Type 0
 PlanGoesOn = (slot : Slot) (generation done : ℕ) (text body b : List ℕ) →
     IsPlan slot generation text (text ++ 0 ∷ []) → done ≤ length text →
     IsCopied slot.start (text ++ 0 ∷ []) done b
-    → slot.start + length (text ++ OPEN ∷ framed body) < slot.stop
-    → IsPlan slot generation (text ++ OPEN ∷ framed body) ((text ++ OPEN ∷ framed body) ++ 0 ∷ [])
-    × IsCopied slot.start ((text ++ OPEN ∷ framed body) ++ 0 ∷ []) done b
+    → slot.start + length (text ++ OPEN ∷ with_length body) < slot.stop
+    → IsPlan slot generation (text ++ OPEN ∷ with_length body)
+    ((text ++ OPEN ∷ with_length body) ++ 0 ∷ [])
+    × IsCopied slot.start ((text ++ OPEN ∷ with_length body) ++ 0 ∷ []) done b

@@ -3,7 +3,7 @@
 
 ghost use Rattle.std.specs.Prelude.{◌≡◌, ◌≢◌, ◌<◌, ◌+◌, [], ◌∷◌, ◌++◌, length, OnOk, OnErr};
 ghost use Rattle.fp_gate.specs.declared.gate.TheConstants.{OPEN};
-ghost use Rattle.fp_journal.specs.Chain.{body_of, framed as framed_text, with_gate};
+ghost use Rattle.fp_journal.specs.Chain.{body_of, with_length, with_gate};
 ghost use Rattle.fp_journal.specs.declared.journal.Phase.TheVariants.{Failed};
 ghost use Rattle.fp_slots.specs.State.{IsGrowing, SamePlan};
 
@@ -33,10 +33,10 @@ impl<D: Disk> Slots<D> {
         requires live { self.old.journal.phase ≢ Failed }
         requires ready { self.old.coming ≡ with_gate (body_of self.old.coming) }
         requires fits { self.old.other.start
-            + length (self.old.text ++ OPEN ∷ framed_text (body_of self.old.coming))
+            + length (self.old.text ++ OPEN ∷ with_length (body_of self.old.coming))
             < self.old.other.stop }
         ensures grown { (self.new.text
-            ≡ self.old.text ++ OPEN ∷ framed_text (body_of self.old.coming))
+            ≡ self.old.text ++ OPEN ∷ with_length (body_of self.old.coming))
             × (self.new.coming ≡ []) }
         ensures same { (self.new.journal ≡ self.old.journal) × (self.new.other ≡ self.old.other)
             × (self.new.generation ≡ self.old.generation) × (self.new.may_open ≡ self.old.may_open)

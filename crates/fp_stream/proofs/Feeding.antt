@@ -9,7 +9,7 @@ use Rattle.fp_stream.specs.declared.fault.FrameFault.{FrameFault}
 use Rattle.fp_stream.specs.declared.fault.FrameFault.TheVariants.{BadMagic, TooLong, NotRising, Memory, Failed}
 use Rattle.fp_stream.specs.Frames.{Snapshot, stream_of, has_after, snapshots_of}
 use Rattle.fp_stream.specs.Reading.{Reads}
-use Rattle.fp_stream.specs.Decoding.{Reader, Refuses, Feeds, HasRead, taken, given}
+use Rattle.fp_stream.specs.Decoding.{Reader, Refuses, Feeds, HasRead, bytes_taken, snapshots_given}
 use Rattle.fp_stream.proofs.Streams.{Reads-more, has_after-append}
 
 at_none : (o : Option FrameFault) (P : Type 0) → o ≡ None → IfNone o P → P
@@ -49,7 +49,7 @@ not_memory : (has : Hello) (bytes : List ℕ) (frames : List Snapshot) (rest : L
 not_memory has bytes frames rest f y r (inl p) m = (subst (λ (z : FrameFault). Reads has bytes frames rest (Some z)) (sym p ∙ m) r).stops.wrong
 not_memory has bytes frames rest f y r (inr p) m = absurd cc
 
-all_taken : (f : FrameFault) (piece : List ℕ) → (f ≡ Memory → ⊥) → taken (Err f) piece ≡ piece
+all_taken : (f : FrameFault) (piece : List ℕ) → (f ≡ Memory → ⊥) → bytes_taken (Err f) piece ≡ piece
 all_taken BadMagic piece n = refl
 all_taken TooLong piece n = refl
 all_taken NotRising piece n = refl
@@ -57,11 +57,11 @@ all_taken Memory piece n = absurd (n refl)
 all_taken Failed piece n = refl
 
 pub after_fault : (has : Hello) (bytes : List ℕ) (frames : List Snapshot) (piece : List ℕ) (before after : Reader) (f : FrameFault)
-    → HasRead has bytes frames before → before.owed ≡ Some f → after.owed ≡ Some Failed → HasRead has (bytes ++ taken (Err f) piece) (frames ++ given (Err f)) after
+    → HasRead has bytes frames before → before.owed ≡ Some f → after.owed ≡ Some Failed → HasRead has (bytes ++ bytes_taken (Err f) piece) (frames ++ snapshots_given (Err f)) after
 after_fault has bytes frames piece before after f h e failed =
     let o = owed_stands h.fault before.owed f e h.told in
     let reads : Reads has bytes frames h.rest (Some o.0) = subst (λ (z : Option FrameFault). Reads has bytes frames h.rest z) o.1 h.reads in
-    let all : taken (Err f) piece ≡ piece = all_taken f piece (not_memory has bytes frames h.rest f o.0 reads o.2) in
+    let all : bytes_taken (Err f) piece ≡ piece = all_taken f piece (not_memory has bytes frames h.rest f o.0 reads o.2) in
     let more : HasRead has (bytes ++ piece) frames after = record {
       rest = h.rest ++ piece;
       fault = Some o.0;
@@ -96,7 +96,7 @@ refused has bytes frames piece before after f h e r = record {
 }
 
 pub after_piece : (has : Hello) (bytes : List ℕ) (frames : List Snapshot) (piece : List ℕ) (before after : Reader) (r : Result (Vec Frame) FrameFault)
-    → HasRead has bytes frames before → before.owed ≡ None → Feeds before piece r after → HasRead has (bytes ++ taken r piece) (frames ++ given r) after
+    → HasRead has bytes frames before → before.owed ≡ None → Feeds before piece r after → HasRead has (bytes ++ bytes_taken r piece) (frames ++ snapshots_given r) after
 after_piece has bytes frames piece before after (Ok v) h e p =
     let l = p.leaves in
     let more = snapshots_of v.items in

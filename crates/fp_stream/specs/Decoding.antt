@@ -61,14 +61,14 @@ pub record HasRead (has : Hello) (bytes : List ℕ) (frames : List Snapshot)
   pub last : IfNone now.owed (now.has ≡ has_after has frames)
 
 -- what a call took of its piece, and what it gave
-abbrev pub taken : Result (Vec Frame) FrameFault → List ℕ → List ℕ
-taken (Ok frames) piece = piece
-taken (Err BadMagic) piece = piece
-taken (Err TooLong) piece = piece
-taken (Err NotRising) piece = piece
-taken (Err Memory) piece = []
-taken (Err Failed) piece = piece
+abbrev pub bytes_taken : Result (Vec Frame) FrameFault → List ℕ → List ℕ
+bytes_taken (Ok frames) piece = piece
+bytes_taken (Err BadMagic) piece = piece
+bytes_taken (Err TooLong) piece = piece
+bytes_taken (Err NotRising) piece = piece
+bytes_taken (Err Memory) piece = []
+bytes_taken (Err Failed) piece = piece
 
-abbrev pub given : Result (Vec Frame) FrameFault → List Snapshot
-given (Ok frames) = snapshots_of frames.items
-given (Err fault) = []
+abbrev pub snapshots_given : Result (Vec Frame) FrameFault → List Snapshot
+snapshots_given (Ok frames) = snapshots_of frames.items
+snapshots_given (Err fault) = []

@@ -7,7 +7,7 @@ ghost use Rattle.fp_stream.specs.declared.hello.Hello.{Hello};
 ghost use Rattle.fp_stream.specs.declared.head.TheConstants.{HEAD};
 ghost use Rattle.fp_stream.specs.Heads.{head, IsHead};
 ghost use Rattle.fp_stream.specs.Frames.{Snapshot, snapshots_of};
-ghost use Rattle.fp_stream.specs.Decoding.{Leaves, Feeds, HasRead, taken, given};
+ghost use Rattle.fp_stream.specs.Decoding.{Leaves, Feeds, HasRead, bytes_taken, snapshots_given};
 ghost use Rattle.fp_stream.specs.Steps.{wanted_by};
 
 use crate::fault::FrameFault;
@@ -66,7 +66,8 @@ impl Decoder {
         ensures read { self.old.owed ≡ None → Feeds self.old piece.now result self.new }
         ensures so_far { (has : Hello) (bytes : List ℕ) (frames : List Snapshot) →
             HasRead has bytes frames self.old →
-            HasRead has (bytes ++ taken result piece.now) (frames ++ given result) self.new }
+            HasRead has (bytes ++ bytes_taken result piece.now) (frames ++ snapshots_given result)
+            self.new }
     {
         if let Some(fault) = self.owed {
             self.owed = Some(FrameFault::Failed);

@@ -11,7 +11,7 @@ use Rattle.fp_targeting.specs.Rule.{Rule, Rules, literal, list, apply, no_rules,
 use Rattle.fp_targeting.specs.Operators.{takes, count_of, well_formed, all_well_formed, unary, binary, ascending, at_most_two, one, two, three, neighbours, result_of}
 use Rattle.fp_targeting.specs.Means as is
 use Rattle.fp_targeting.specs.Means.{Means, AllMean}
-use Rattle.fp_targeting.specs.Meaning.{meaning, meanings, or_null, applied, chosen, first_false, first_true}
+use Rattle.fp_targeting.specs.Meaning.{meaning, meanings, or_null, value_of_operator, value_behind_true, first_false, first_true}
 use Rattle.fp_targeting.specs.declared.operator.Operator.{Operator}
 use Rattle.fp_targeting.specs.declared.operator.Operator.TheVariants.{If, And, Or, Var, Cat, SemVer, Unary, Binary, Chain}
 
@@ -21,7 +21,7 @@ either_way true x = refl
 either_way false x = refl
 
 -- an operator that doesn't choose gives the same in both
-gives_result : (o : Operator) (d x : Data) (xs : List Data) → result_of o d xs ≡ Some x → x ≡ applied o d xs
+gives_result : (o : Operator) (d x : Data) (xs : List Data) → result_of o d xs ≡ Some x → x ≡ value_of_operator o d xs
 gives_result If d x xs e = absurd (cc)
 gives_result And d x xs e = absurd (cc)
 gives_result Or d x xs e = absurd (cc)
@@ -32,7 +32,7 @@ mutual
   pub Means-unique : {r : Rule} {d x : Data} → Means r d x → x ≡ meaning d r
   Means-unique is.literal_means = refl
   Means-unique (is.list_means rs) = ap (λ xs. values.list (items_of xs)) (AllMean-unique rs)
-  Means-unique (is.operator_means {o = o} {d = d} rs e) = gives_result o d _ _ e ∙ ap (applied o d) (AllMean-unique rs)
+  Means-unique (is.operator_means {o = o} {d = d} rs e) = gives_result o d _ _ e ∙ ap (value_of_operator o d) (AllMean-unique rs)
   Means-unique is.if_none = refl
   Means-unique (is.if_last m) = Means-unique m
   Means-unique (is.if_true c e m) = rw (sym (ap truth (Means-unique c)) ∙ e) (Means-unique m)
@@ -87,7 +87,7 @@ if_step : (b : Bool) {c r : Rule} {rs : Rules} {d t x y : Data} → truth t ≡ 
 if_step true e c m n = is.if_true c e m
 if_step false e c m n = is.if_false c e n
 
-if_means : {rs : Rules} {d : Data} {xs : List Data} → AllMean rs d xs → Means (apply If rs) d (chosen xs)
+if_means : {rs : Rules} {d : Data} {xs : List Data} → AllMean rs d xs → Means (apply If rs) d (value_behind_true xs)
 if_means is.none_mean = is.if_none
 if_means (is.next_means c is.none_mean) = is.if_last c
 if_means (is.next_means c (is.next_means m ms)) = if_step _ refl c m (if_means ms)
@@ -113,7 +113,7 @@ both true b h = (refl, h)
 both false b h = absurd (cc)
 
 -- an operator at arguments that have their results
-operator_has : (o : Operator) (d : Data) (rs : Rules) → takes o (length (meanings d rs)) ≡ true → AllMean rs d (meanings d rs) → Means (apply o rs) d (applied o d (meanings d rs))
+operator_has : (o : Operator) (d : Data) (rs : Rules) → takes o (length (meanings d rs)) ≡ true → AllMean rs d (meanings d rs) → Means (apply o rs) d (value_of_operator o d (meanings d rs))
 operator_has If d rs h all = if_means all
 operator_has And d no_rules h all = absurd (grind (arith, h))
 operator_has And d (rule r rs) h (is.next_means m ms) = and_means null m ms

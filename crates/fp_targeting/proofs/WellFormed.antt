@@ -5,7 +5,7 @@ use Rattle.fp_targeting.specs.Rule as tree
 use Rattle.fp_targeting.specs.Rule.{Rule}
 use Rattle.fp_targeting.specs.Operators.{operator_of, takes, count_of, well_formed, all_well_formed}
 use Rattle.fp_targeting.specs.View.{rules_of, rule_view, rules_view}
-use Rattle.fp_targeting.specs.Compile.{formed, one_more, where_counts_fit, where_all_counts_fit}
+use Rattle.fp_targeting.specs.Compile.{operator_rule, one_more, where_counts_fit, where_all_counts_fit}
 use Rattle.fp_targeting.specs.declared.operator.Operator.{Operator}
 use Rattle.fp_targeting.specs.declared.tree.Tree.{Tree, the_lemmas}
 use Rattle.fp_targeting.specs.declared.tree.Tree.TheVariants.{Apply}
@@ -74,5 +74,5 @@ formed_if : (o : Option Operator) (p : Operator) (arguments : Option (List Rule)
 formed_if o p arguments e = rw e refl
 
 -- an operator that was looked up, at its arguments
-pub formed-known : (k : List ℕ) (o : Operator) (rs : List Rule) → operator_of k ≡ Some o → where_counts_fit (tree.apply o (rules_of rs)) ≡ formed k (where_all_counts_fit rs)
+pub formed-known : (k : List ℕ) (o : Operator) (rs : List Rule) → operator_of k ≡ Some o → where_counts_fit (tree.apply o (rules_of rs)) ≡ operator_rule k (where_all_counts_fit rs)
 formed-known k o rs e = sym (formed_if (operator_of k) o (where_all_counts_fit rs) e ∙ counts_fit-apply o rs)

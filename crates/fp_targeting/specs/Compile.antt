@@ -37,8 +37,8 @@ abbrev pub one_more : Option Rule → Option (List Rule) → Option (List Rule)
 one_more first others = option_and_then (λ r. option_map (λ rs. r ∷ rs) others) first
 
 -- the operator of a name at its arguments, if it takes that many
-abbrev pub formed : List ℕ → Option (List Rule) → Option Rule
-formed name arguments =
+abbrev pub operator_rule : List ℕ → Option (List Rule) → Option Rule
+operator_rule name arguments =
     option_and_then
     (λ o. option_and_then
     (λ rs. if takes o (length rs) then Some (tree.apply o (rules_of rs)) else None) arguments)
@@ -54,8 +54,8 @@ abbrev mutual
   rule_of (string s) = Some (tree.literal (data_of (string s)))
   rule_of (array ds) = option_map (λ rs. tree.list (rules_of rs)) (rules_from ds)
   rule_of (object no_members) = Some (tree.literal (data_of (object no_members)))
-  rule_of (object (member k (array ds) no_members)) = formed k (rules_from ds)
-  rule_of (object (member k d no_members)) = formed k (one_more (rule_of d) (Some []))
+  rule_of (object (member k (array ds) no_members)) = operator_rule k (rules_from ds)
+  rule_of (object (member k d no_members)) = operator_rule k (one_more (rule_of d) (Some []))
   rule_of (object (member k d (member l e ms))) =
       Some (tree.literal (data_of (object (member k d (member l e ms)))))
 

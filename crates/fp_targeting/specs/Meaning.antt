@@ -10,10 +10,10 @@ use Rattle.fp_targeting.specs.declared.operator.Operator.{Operator}
 use Rattle.fp_targeting.specs.declared.operator.Operator.TheVariants.{If, And, Or}
 
 -- what stands behind the first true condition, else the odd last one, else null
-abbrev pub chosen : List Data → Data
-chosen [] = null
-chosen (last ∷ []) = last
-chosen (condition ∷ x ∷ ds) = if truth condition then x else chosen ds
+abbrev pub value_behind_true : List Data → Data
+value_behind_true [] = null
+value_behind_true (last ∷ []) = last
+value_behind_true (condition ∷ x ∷ ds) = if truth condition then x else value_behind_true ds
 
 -- the first false one, else the last, which is `last` where there is none
 abbrev pub first_false : Data → List Data → Data
@@ -28,17 +28,17 @@ abbrev pub or_null : Option Data → Data
 or_null None = null
 or_null (Some x) = x
 
-abbrev pub applied : Operator → Data → List Data → Data
-applied If root ds = chosen ds
-applied And root ds = first_false null ds
-applied Or root ds = first_true null ds
-applied o root ds = or_null (result_of o root ds)
+abbrev pub value_of_operator : Operator → Data → List Data → Data
+value_of_operator If root ds = value_behind_true ds
+value_of_operator And root ds = first_false null ds
+value_of_operator Or root ds = first_true null ds
+value_of_operator o root ds = or_null (result_of o root ds)
 
 abbrev mutual
   pub meaning : Data → Rule → Data
   meaning root (literal x) = x
   meaning root (list rs) = values.list (items_of (meanings root rs))
-  meaning root (apply o rs) = applied o root (meanings root rs)
+  meaning root (apply o rs) = value_of_operator o root (meanings root rs)
 
   pub meanings : Data → Rules → List Data
   meanings root no_rules = []

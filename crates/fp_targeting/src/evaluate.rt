@@ -4,7 +4,8 @@ ghost use Rattle.std.specs.Prelude.{◌≡◌, IfOk, map};
 ghost use Rattle.fp_operators.specs.Data.{null};
 ghost use Rattle.fp_operators.specs.View.{view};
 ghost use Rattle.fp_targeting.specs.Operators.{unary, binary};
-ghost use Rattle.fp_targeting.specs.Meaning.{meaning, meanings, applied, chosen};
+ghost use Rattle.fp_targeting.specs.Meaning.{meaning, meanings, value_of_operator};
+ghost use Rattle.fp_targeting.specs.Meaning.{value_behind_true};
 ghost use Rattle.fp_targeting.specs.Meaning.{first_false, first_true};
 ghost use Rattle.fp_targeting.specs.View.{rule_view, rules_view};
 ghost use Rattle.fp_targeting.specs.Found.{found_view};
@@ -78,7 +79,7 @@ fn apply<'d>(
     root: &'d Datum,
 ) -> Result<Found<'d>, AllocError>
     ensures { IfOk result (λ x.
-        found_view x ≡ applied operator (view root.now)
+        found_view x ≡ value_of_operator operator (view root.now)
         (meanings (view root.now) (rules_view arguments.now.items))) }
 {
     match operator {
@@ -101,7 +102,7 @@ fn evaluate_if<'d>(
     root: &'d Datum,
 ) -> Result<Found<'d>, AllocError>
     ensures { IfOk result (λ x.
-        found_view x ≡ chosen (meanings (view root.now) (rules_view rules.now.items))) }
+        found_view x ≡ value_behind_true (meanings (view root.now) (rules_view rules.now.items))) }
 {
     let mut i = 0;
     'pairs: while rules.len() - i > 1 {
@@ -161,7 +162,7 @@ fn evaluate_var<'d>(
     root: &'d Datum,
 ) -> Result<Found<'d>, AllocError>
     ensures { IfOk result (λ x.
-        found_view x ≡ applied Operator.Var (view root.now)
+        found_view x ≡ value_of_operator Operator.Var (view root.now)
         (meanings (view root.now) (rules_view arguments.now.items))) }
 {
     match arguments.as_slice() {
@@ -181,7 +182,7 @@ fn evaluate_var<'d>(
 #[cycle(evaluate)]
 fn evaluate_cat(alloc: Global, arguments: &Vec<Tree>, root: &Datum) -> Result<Datum, AllocError>
     ensures { IfOk result (λ x.
-        view x ≡ applied Operator.Cat (view root.now)
+        view x ≡ value_of_operator Operator.Cat (view root.now)
         (meanings (view root.now) (rules_view arguments.now.items))) }
 {
     let mut text = String::new(alloc);
@@ -197,7 +198,7 @@ fn evaluate_cat(alloc: Global, arguments: &Vec<Tree>, root: &Datum) -> Result<Da
 #[cycle(evaluate)]
 fn evaluate_version(alloc: Global, arguments: &Vec<Tree>, root: &Datum) -> Result<Datum, AllocError>
     ensures { IfOk result (λ x.
-        view x ≡ applied Operator.SemVer (view root.now)
+        view x ≡ value_of_operator Operator.SemVer (view root.now)
         (meanings (view root.now) (rules_view arguments.now.items))) }
 {
     match arguments.as_slice() {
@@ -219,7 +220,7 @@ fn evaluate_one(
     root: &Datum,
 ) -> Result<Datum, AllocError>
     ensures { IfOk result (λ x.
-        view x ≡ applied (Operator.Unary operator) (view root.now)
+        view x ≡ value_of_operator (Operator.Unary operator) (view root.now)
         (meanings (view root.now) (rules_view arguments.now.items))) }
 {
     match arguments.as_slice() {
@@ -239,7 +240,7 @@ fn evaluate_two(
     root: &Datum,
 ) -> Result<Datum, AllocError>
     ensures { IfOk result (λ x.
-        view x ≡ applied (Operator.Binary operator) (view root.now)
+        view x ≡ value_of_operator (Operator.Binary operator) (view root.now)
         (meanings (view root.now) (rules_view arguments.now.items))) }
 {
     match arguments.as_slice() {
@@ -260,7 +261,7 @@ fn evaluate_chain(
     root: &Datum,
 ) -> Result<Datum, AllocError>
     ensures { IfOk result (λ x.
-        view x ≡ applied (Operator.Chain operator) (view root.now)
+        view x ≡ value_of_operator (Operator.Chain operator) (view root.now)
         (meanings (view root.now) (rules_view arguments.now.items))) }
 {
     match arguments.as_slice() {

@@ -14,7 +14,7 @@ use Rattle.fp_slots.specs.declared.slots.Step.{Step}
 use Rattle.fp_slots.specs.declared.slots.Step.TheVariants.{Begin, Close, SyncClose, Part, Tail, SyncBody, Open, SyncOpen}
 use Rattle.std.specs.Prelude.{if◌then◌else◌}
 use Rattle.fp_edit.specs.Log.{after_all}
-use Rattle.fp_group_commit.specs.Store.{MayCompact, StoreState, is_failed, kept}
+use Rattle.fp_group_commit.specs.Store.{MayCompact, StoreState, is_failed, sealed_set}
 use Rattle.fp_group_commit.specs.declared.fault.StoreFault.{StoreFault}
 use Rattle.fp_group_commit.specs.declared.fault.StoreFault.TheVariants as fault
 use Rattle.fp_desk.specs.Desk.{DeskState}
@@ -64,7 +64,7 @@ air_not_sealed_yet GateOpened = refl
 air_not_sealed_yet Failed = refl
 
 -- what the store keeps is what the machine says is sealed
-pub kept_is : {D : Type 0} (h : Held) (s : StoreState D) (d : DeskState) (told : ℕ) → d.store ≡ s.store → IsOut h s d → kept s ≡ after_all d.store.start (sealed_edits (At h s d told))
+pub kept_is : {D : Type 0} (h : Held) (s : StoreState D) (d : DeskState) (told : ℕ) → d.store ≡ s.store → IsOut h s d → sealed_set s ≡ after_all d.store.start (sealed_edits (At h s d told))
 kept_is held.Nothing s d told same o = sealed_is s d d.settled same o.1
 kept_is (held.Drawn group) s d told same o = sealed_is s d d.settled same o.1
 kept_is held.InFlight s d told same o = sealed_is s d d.settled same o.1 ∙ ap (λ (b : Bool). after_all d.store.start (if b then d.settled ++ d.drawn else d.settled)) (sym (air_not_sealed_yet s.step))

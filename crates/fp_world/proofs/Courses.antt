@@ -9,7 +9,7 @@ use Rattle.fp_edit.specs.Edits.{Change}
 use Rattle.fp_desk.specs.Desk.{DeskState, log}
 use Rattle.fp_world.specs.Commits.{accepted_by}
 use Rattle.fp_world.specs.Committer.{KeptFrom}
-use Rattle.fp_world.specs.Machine.{Run, accepted, told_by}
+use Rattle.fp_world.specs.Machine.{Run, accepted_edits, told_by}
 use Rattle.fp_world.specs.World.{Course, StepsTo, WorldState, desk_of, disk_of, machine, told_of}
 use Rattle.fp_world.specs.declared.event.Answer.{Answer}
 use Rattle.fp_world.specs.declared.event.Event.{Event}
@@ -39,13 +39,13 @@ module _ {D : Type 0} (disk : Ghosts D) where
   course_told old new (f ∷ events) [] r = absurd r
   course_told old new (f ∷ events) (b ∷ answers) r = let first = r.1 in course_told r.0 new events answers r.2 ∙ ap (λ (n : ℕ). told_by n answers) first.told
 
-  pub course_log : (old new : WorldState D) (events : List Event) (answers : List Answer) → Course disk old events answers new → (log (desk_of new) ≡ log (desk_of old) ++ accepted events answers) × ((desk_of new).store ≡ (desk_of old).store)
+  pub course_log : (old new : WorldState D) (events : List Event) (answers : List Answer) → Course disk old events answers new → (log (desk_of new) ≡ log (desk_of old) ++ accepted_edits events answers) × ((desk_of new).store ≡ (desk_of old).store)
   course_log old new [] [] r = (ap (λ (w : WorldState D). log (desk_of w)) r ∙ sym (append-nil (log (desk_of old))), ap (λ (w : WorldState D). (desk_of w).store) r)
   course_log old new [] (b ∷ answers) r = absurd r
   course_log old new (f ∷ events) [] r = absurd r
   course_log old new (f ∷ events) (b ∷ answers) r =
       let first = r.1 in let rest = course_log r.0 new events answers r.2 in
-      (rest.0 ∙ ap (λ (l : List Change). l ++ accepted events answers) first.log ∙ append_assoc (log (desk_of old)) (accepted_by f b) (accepted events answers), rest.1 ∙ first.desk)
+      (rest.0 ∙ ap (λ (l : List Change). l ++ accepted_edits events answers) first.log ∙ append_assoc (log (desk_of old)) (accepted_by f b) (accepted_edits events answers), rest.1 ∙ first.desk)
 
   pub course_honest : (old new : WorldState D) (events : List Event) (answers : List Answer) → Course disk old events answers new → SameHonesty disk (disk_of old) (disk_of new)
   course_honest old new [] [] r = subst (λ (w : WorldState D). SameHonesty disk (disk_of old) (disk_of w)) (sym r) ((λ h. h), (λ h. h))
@@ -65,7 +65,7 @@ module _ {D : Type 0} (disk : Ghosts D) where
   course_leaves only_now old new (f ∷ events) (b ∷ answers) now r = λ h.
       let mid = r.0 in let first = r.1 in let on = first.honest in let told = first.told in let rises = told_rises (told_of old) b in let grows = course_log mid new events answers r.2 in
       leaves_then disk.moment disk.crash_states_since (disk_of old) (disk_of mid) (disk_of new) (KeptFrom (desk_of new) (told_of old))
-      (leaves_map disk.moment disk.crash_states_since (disk_of old) (disk_of mid) (KeptFrom (desk_of mid) (told_of old)) (KeptFrom (desk_of new) (told_of old)) (λ c k. kept_more (desk_of mid) (desk_of new) (accepted events answers) (told_of old) c grows.1 grows.0 k) (first.any_moment h))
+      (leaves_map disk.moment disk.crash_states_since (disk_of old) (disk_of mid) (KeptFrom (desk_of mid) (told_of old)) (KeptFrom (desk_of new) (told_of old)) (λ c k. kept_more (desk_of mid) (desk_of new) (accepted_edits events answers) (told_of old) c grows.1 grows.0 k) (first.any_moment h))
       (leaves_map disk.moment disk.crash_states_since (disk_of mid) (disk_of new) (KeptFrom (desk_of new) (told_of mid)) (KeptFrom (desk_of new) (told_of old)) (λ c k. kept_low (desk_of new) (told_of mid) (told_of old) c (omega (arith, told, rises)) k) (course_leaves only_now mid new events answers first.exit r.2 (on.0 h)))
 
   pub course_exit : (old new : WorldState D) (events : List Event) (answers : List Answer) → EachCrash disk (disk_of old) (KeptFrom (desk_of old) (told_of old)) → Course disk old events answers new → EachCrash disk (disk_of new) (KeptFrom (desk_of new) (told_of new))

@@ -14,7 +14,7 @@ use Rattle.fp_slots.specs.declared.slots.Step.{Step}
 use Rattle.fp_compaction.specs.Batches.{tail_of}
 use Rattle.std.specs.Prelude.{if◌then◌else◌, IsTrue, ◌↔◌}
 use Rattle.fp_edit.specs.Log.{after_all}
-use Rattle.fp_group_commit.specs.Store.{StoreState, coming, is_failed, kept, reached, reached_at}
+use Rattle.fp_group_commit.specs.Store.{StoreState, coming, is_failed, sealed_set, readable_set, reached_at}
 use Rattle.fp_group_commit.specs.Tokens.{Identity, ReceiptState}
 use Rattle.fp_group_commit.specs.declared.fault.StoreFault.{StoreFault}
 use Rattle.fp_group_commit.specs.declared.fault.StoreFault.TheVariants as fault
@@ -257,16 +257,16 @@ read_by BodySynced now more start few all air a b = a
 read_by GateOpened now more start few all air a b = b
 read_by Failed now more start few all air a b = absurd cc
 
-pub sealed_is : {D : Type 0} (s : StoreState D) (d : DeskState) (few : List Change) → d.store ≡ s.store → s.sealed ≡ few → kept s ≡ after_all d.store.start few
+pub sealed_is : {D : Type 0} (s : StoreState D) (d : DeskState) (few : List Change) → d.store ≡ s.store → s.sealed ≡ few → sealed_set s ≡ after_all d.store.start few
 sealed_is s d few same is = ap (λ (l : List Change). after_all s.store.start l) is ∙ ap (λ (x : Identity). after_all x.start few) (sym same)
 
-pub reads_as : {D : Type 0} (s : StoreState D) (d : DeskState) (h : Held) (told : ℕ) → d.store ≡ s.store → IsOut h s d → reached s ≡ opened_set (At h s d told)
-reads_as s d held.Nothing told same o = ap (λ (p : Phase). reached_at p (kept s) (coming s)) o.0 ∙ sealed_is s d d.settled same o.1
-reads_as s d (held.Drawn group) told same o = ap (λ (p : Phase). reached_at p (kept s) (coming s)) o.0 ∙ sealed_is s d d.settled same o.1
+pub reads_as : {D : Type 0} (s : StoreState D) (d : DeskState) (h : Held) (told : ℕ) → d.store ≡ s.store → IsOut h s d → readable_set s ≡ opened_set (At h s d told)
+reads_as s d held.Nothing told same o = ap (λ (p : Phase). reached_at p (sealed_set s) (coming s)) o.0 ∙ sealed_is s d d.settled same o.1
+reads_as s d (held.Drawn group) told same o = ap (λ (p : Phase). reached_at p (sealed_set s) (coming s)) o.0 ∙ sealed_is s d d.settled same o.1
 reads_as s d held.InFlight told same o =
-    read_by s.step (kept s) (coming s) d.store.start d.settled (d.settled ++ d.drawn) o.0 (sealed_is s d d.settled same o.1)
+    read_by s.step (sealed_set s) (coming s) d.store.start d.settled (d.settled ++ d.drawn) o.0 (sealed_is s d d.settled same o.1)
     (ap (λ (l : List Change). after_all s.store.start (l ++ s.staged)) o.1 ∙ ap (λ (l : List Change). after_all s.store.start (d.settled ++ l)) o.2 ∙ ap (λ (x : Identity). after_all x.start (d.settled ++ d.drawn)) (sym same))
-reads_as s d (held.Sealed receipt) told same o = ap (λ (p : Phase). reached_at p (kept s) (coming s)) o.0 ∙ sealed_is s d (d.settled ++ d.drawn) same o.1
+reads_as s d (held.Sealed receipt) told same o = ap (λ (p : Phase). reached_at p (sealed_set s) (coming s)) o.0 ∙ sealed_is s d (d.settled ++ d.drawn) same o.1
 
 pub well_is : (p : Phase) → is_failed p ≡ false → p ≢ Failed
 well_is p e f = let both : false ≡ true = sym e ∙ ap is_failed f in absurd cc

@@ -10,7 +10,7 @@ use Rattle.fp_stream.specs.declared.hello.Hello.{Hello}
 use Rattle.fp_stream.specs.declared.hello.Hello.TheVariants.{Has}
 use Rattle.fp_ofrep.specs.Reply.{reply}
 use Rattle.fp_ofrep.specs.Response.{Response}
-use Rattle.fp_ofrep.specs.Seen.{seen}
+use Rattle.fp_ofrep.specs.Seen.{response_seen}
 use Rattle.fp_world.specs.Commits.{Commits, CommitStep, accepted_by, told_after}
 use Rattle.fp_world.specs.declared.event.Answer.{Answer}
 use Rattle.fp_world.specs.declared.event.Answer.TheVariants as answer
@@ -77,7 +77,7 @@ reply_to set r now = reply set r.method (string_bytes r.target)
 abbrev pub Evaluates : ℕ → Request → ℕ → Machine → Answer → Machine → Type 0
 Evaluates reader request now old (answer.Reply revision said) new = (reader < old.readers)
     × (revision ≡ old.published)
-    × (seen said ≡ reply_to (front_set (published_front old)) request now)
+    × (response_seen said ≡ reply_to (front_set (published_front old)) request now)
     × (new ≡ record old { commits = and_published old })
 Evaluates reader request now old answer.Memory new = (reader < old.readers) × (new ≡ old)
 Evaluates reader request now old answer.NotNow new = (old.readers ≤ reader) × (new ≡ old)
@@ -101,9 +101,9 @@ Run old (e ∷ events) [] new = ⊥
 
 -- ---- what a list of answers alone says
 -- the accepted edits, in their order
-abbrev pub accepted : List Event → List Answer → List Change
-accepted (e ∷ events) (a ∷ answers) = accepted_by e a ++ accepted events answers
-accepted events answers = []
+abbrev pub accepted_edits : List Event → List Answer → List Change
+accepted_edits (e ∷ events) (a ∷ answers) = accepted_by e a ++ accepted_edits events answers
+accepted_edits events answers = []
 
 -- the greatest revision told, where this one was told before
 abbrev pub told_by : ℕ → List Answer → ℕ

@@ -11,7 +11,7 @@ ghost use Rattle.fp_world.specs.Commits.{CommitStep, accepted_by, opened_set, to
 ghost use Rattle.fp_world.specs.Committer.{IsNewCommitter, KeptFrom, MakesItsCall};
 ghost use Rattle.fp_world.specs.Committer.{RisesFor, commits_of};
 ghost use Rattle.fp_world.specs.declared.event.Answer.TheVariants.{NotNow};
-ghost use Rattle.fp_group_commit.specs.Store.{IsFresh, reached};
+ghost use Rattle.fp_group_commit.specs.Store.{IsFresh, readable_set};
 
 use crate::event::{Answer, Event};
 use fp_desk::{Desk, Ticket};
@@ -199,7 +199,7 @@ impl<D: Disk> Committer<D> {
         ensures disk { result ≡ self.store.slots.journal.disk }
         ensures outcomes { EachCrash D.Disk result (KeptFrom self.desk self.told) }
         ensures reads { D.honest result → self.store.slots.journal.phase ≢ Failed →
-            StandsFor (D.bytes result) (reached self.store) }
+            StandsFor (D.bytes result) (readable_set self.store) }
         ensures stands { D.honest result → (commits_of self).failed ≡ false →
             StandsFor (D.bytes result) (opened_set (commits_of self)) }
     {

@@ -5,7 +5,7 @@ ghost use Rattle.std.specs.Prelude.{MatchOption, OnErr};
 ghost use Rattle.std.specs.List.{All};
 ghost use Rattle.fp_group_commit.specs.Tokens.{front_revision, front_set};
 ghost use Rattle.fp_desk.specs.Desk.{settled_front, settled_revision};
-ghost use Rattle.fp_ofrep.specs.Seen.{seen};
+ghost use Rattle.fp_ofrep.specs.Seen.{response_seen};
 ghost use Rattle.fp_publish.specs.Fronts.{Begins};
 ghost use Rattle.fp_publish.specs.Seats.{had_by};
 ghost use Rattle.fp_stream.specs.declared.hello.Hello.TheVariants.{Has};
@@ -91,7 +91,8 @@ fn replied(
     request: &Request,
     now: &Moment,
 ) -> Result<Reply, AllocError>
-    ensures { IfOk result (λ r. seen r ≡ reply_to (front_set view.now) request.now now.now) }
+    ensures { IfOk result
+        (λ r. response_seen r ≡ reply_to (front_set view.now) request.now now.now) }
 {
     let tags = request.if_none_match.as_ref().map(|tags| tags.as_slice());
     let body = match &request.body {
@@ -123,7 +124,8 @@ fn evaluated(
     requires shown { shown.now ≡ board.now }
     requires rests { IsResting board.now.store evaluator.old }
     ensures rests { IsResting board.now.store evaluator.new }
-    ensures over { IfOk result (λ r. seen r ≡ reply_to (front_set board.now) request.now now.now) }
+    ensures over { IfOk result
+        (λ r. response_seen r ≡ reply_to (front_set board.now) request.now now.now) }
 {
     evaluator.learn(shown);
     let _ = evaluator.enter();
@@ -230,7 +232,7 @@ impl Views {
         now: &Moment,
     ) -> Result<Reply, AllocError>
         requires { reader < self.old.readers }
-        ensures over { IfOk result (λ r. seen r
+        ensures over { IfOk result (λ r. response_seen r
             ≡ reply_to (front_set self.old.board) request.now now.now) }
         ensures same { self.new ≡ self.old }
     {

@@ -12,7 +12,7 @@ ghost use Rattle.fp_publish.specs.declared.seats.TheConstants.{MOST_SEATS};
 ghost use Rattle.fp_world.specs.declared.event.Event.TheVariants as asked;
 ghost use Rattle.fp_world.specs.Commits.{accepted_by, opened_set, told_after};
 ghost use Rattle.fp_world.specs.Committer.{KeptFrom, MakesItsCall, RisesFor};
-ghost use Rattle.fp_world.specs.Machine.{Run, Step, accepted, told_by};
+ghost use Rattle.fp_world.specs.Machine.{Run, Step, accepted_edits, told_by};
 ghost use Rattle.fp_world.specs.World.{Course, IsKept, IsNewWorld, IsOfEdits, StepsTo, desk_of};
 ghost use Rattle.fp_world.specs.World.{disk_of, machine, told_of};
 
@@ -201,7 +201,7 @@ impl<D: Disk> World<D> {
         ensures run { IfOk result (λ answers.
             Run (machine self.old) events.now answers.items (machine self.new)) }
         ensures log { IfOk result (λ answers. log (desk_of self.new)
-            ≡ log (desk_of self.old) ++ accepted events.now answers.items) }
+            ≡ log (desk_of self.old) ++ accepted_edits events.now answers.items) }
         ensures told { IfOk result (λ answers.
             told_of self.new ≡ told_by (told_of self.old) answers.items) }
         ensures any_moment { AtAnyMoment D.Disk (disk_of self.old) (disk_of self.new)

@@ -6,7 +6,7 @@ use Rattle.fp_disk.specs.Outcomes.{IsOutcome, LeavesOnly}
 use Rattle.fp_edit.specs.Flags.{State}
 use Rattle.fp_imports.specs.Document.{Flag}
 use Rattle.fp_recovery.specs.Stands.{StandsFor}
-use Rattle.fp_session.specs.Asks.{asked_by_flags, seen}
+use Rattle.fp_session.specs.Asks.{asked_by_flags, flag_bytes}
 use Rattle.fp_session.specs.Run.{after, IsAfterPrefix, IsRunWritten, IsToldBy, script}
 use Rattle.fp_session.specs.Session.{disk_of, flags_of, IsAhead}
 use Rattle.fp_session.specs.declared.fault.ApplyFault.{ApplyFault}
@@ -95,7 +95,7 @@ returns-in-Ok-outcome-clause-run g c =
     let D = g.D.Disk in let e = c.in-Ok.ensures in let s = c.in-Ok.session in let l = c.import_flags-kept.ensures in let k = c.import_flags-kept.result.0 in let r = c.import_flags-kept.result.1 in
     let told = c.in-Ok-outcome.told in let is = c.in-Ok-outcome.is in let start = flags_of s in let now = flags_of k in
     let left = g.R.Read.remaining c.args.r.now.inner in let old = g.W.Write.contents c.args.w.now.inner in let new = g.W.Write.contents c.import_flags-kept.new.w.inner in
-    let puts : List Flag = map seen c.in-Ok-read_document.flags.items in let asks = asked_by_flags puts in
+    let puts : List Flag = map flag_bytes c.in-Ok-read_document.flags.items in let asks = asked_by_flags puts in
     let Outcome : Type 0 = Result Bool ApplyFault in
     record {
       start = start;
@@ -119,40 +119,40 @@ returns-in-Ok-outcome-clause-run g c =
 pub returns-in-Ok-outcome-clause-left : goal.returns-in-Ok-outcome-clause-left
 returns-in-Ok-outcome-clause-left g c =
     let e = c.in-Ok.ensures in let s = c.in-Ok.session in let left = g.R.Read.remaining c.args.r.now.inner in
-    ran-left g.D.Disk c.args.disk c.into_disk-disk.result s c.import_flags-kept.result.0 e.stands e.only e.any_moment e.honest c.into_disk-disk.ensures.disk (LedBy (map seen c.in-Ok-read_document.flags.items) (flags_of s)) c.import_flags-kept.ensures.any_moment left AskedByDocument (joins left (map seen c.in-Ok-read_document.flags.items) c.in-Ok-read_document.ensures.flags (flags_of s))
+    ran-left g.D.Disk c.args.disk c.into_disk-disk.result s c.import_flags-kept.result.0 e.stands e.only e.any_moment e.honest c.into_disk-disk.ensures.disk (LedBy (map flag_bytes c.in-Ok-read_document.flags.items) (flags_of s)) c.import_flags-kept.ensures.any_moment left AskedByDocument (joins left (map flag_bytes c.in-Ok-read_document.flags.items) c.in-Ok-read_document.ensures.flags (flags_of s))
     g.met.D.Disk.counts_now g.met.D.Disk.present
 
 pub returns-in-Ok-outcome-clause-any_moment : goal.returns-in-Ok-outcome-clause-any_moment
 returns-in-Ok-outcome-clause-any_moment g c =
     let e = c.in-Ok.ensures in let s = c.in-Ok.session in let left = g.R.Read.remaining c.args.r.now.inner in
-    ran-any_moment g.D.Disk c.args.disk c.into_disk-disk.result s c.import_flags-kept.result.0 e.stands e.only e.any_moment e.honest c.into_disk-disk.ensures.disk (LedBy (map seen c.in-Ok-read_document.flags.items) (flags_of s)) c.import_flags-kept.ensures.any_moment left AskedByDocument (joins left (map seen c.in-Ok-read_document.flags.items) c.in-Ok-read_document.ensures.flags (flags_of s))
+    ran-any_moment g.D.Disk c.args.disk c.into_disk-disk.result s c.import_flags-kept.result.0 e.stands e.only e.any_moment e.honest c.into_disk-disk.ensures.disk (LedBy (map flag_bytes c.in-Ok-read_document.flags.items) (flags_of s)) c.import_flags-kept.ensures.any_moment left AskedByDocument (joins left (map flag_bytes c.in-Ok-read_document.flags.items) c.in-Ok-read_document.ensures.flags (flags_of s))
 
 pub returns-in-Ok-outcome-clause-honest : goal.returns-in-Ok-outcome-clause-honest
 returns-in-Ok-outcome-clause-honest g c =
     let e = c.in-Ok.ensures in let s = c.in-Ok.session in let left = g.R.Read.remaining c.args.r.now.inner in
-    ran-honest g.D.Disk c.args.disk c.into_disk-disk.result s c.import_flags-kept.result.0 e.stands e.only e.any_moment e.honest c.into_disk-disk.ensures.disk (LedBy (map seen c.in-Ok-read_document.flags.items) (flags_of s)) c.import_flags-kept.ensures.any_moment left AskedByDocument (joins left (map seen c.in-Ok-read_document.flags.items) c.in-Ok-read_document.ensures.flags (flags_of s))
+    ran-honest g.D.Disk c.args.disk c.into_disk-disk.result s c.import_flags-kept.result.0 e.stands e.only e.any_moment e.honest c.into_disk-disk.ensures.disk (LedBy (map flag_bytes c.in-Ok-read_document.flags.items) (flags_of s)) c.import_flags-kept.ensures.any_moment left AskedByDocument (joins left (map flag_bytes c.in-Ok-read_document.flags.items) c.in-Ok-read_document.ensures.flags (flags_of s))
 
 pub returns-in-Err-outcome-clause-left : goal.returns-in-Err-outcome-clause-left
 returns-in-Err-outcome-clause-left g c =
     let e = c.in-Ok.ensures in let s = c.in-Ok.session in let left = g.R.Read.remaining c.args.r.now.inner in
-    ran-left g.D.Disk c.args.disk c.into_disk-disk.result s c.import_flags-kept.result.0 e.stands e.only e.any_moment e.honest c.into_disk-disk.ensures.disk (LedBy (map seen c.in-Ok-read_document.flags.items) (flags_of s)) c.import_flags-kept.ensures.any_moment left AskedByDocument (joins left (map seen c.in-Ok-read_document.flags.items) c.in-Ok-read_document.ensures.flags (flags_of s))
+    ran-left g.D.Disk c.args.disk c.into_disk-disk.result s c.import_flags-kept.result.0 e.stands e.only e.any_moment e.honest c.into_disk-disk.ensures.disk (LedBy (map flag_bytes c.in-Ok-read_document.flags.items) (flags_of s)) c.import_flags-kept.ensures.any_moment left AskedByDocument (joins left (map flag_bytes c.in-Ok-read_document.flags.items) c.in-Ok-read_document.ensures.flags (flags_of s))
     g.met.D.Disk.counts_now g.met.D.Disk.present
 
 pub returns-in-Err-outcome-clause-any_moment : goal.returns-in-Err-outcome-clause-any_moment
 returns-in-Err-outcome-clause-any_moment g c =
     let e = c.in-Ok.ensures in let s = c.in-Ok.session in let left = g.R.Read.remaining c.args.r.now.inner in
-    ran-any_moment g.D.Disk c.args.disk c.into_disk-disk.result s c.import_flags-kept.result.0 e.stands e.only e.any_moment e.honest c.into_disk-disk.ensures.disk (LedBy (map seen c.in-Ok-read_document.flags.items) (flags_of s)) c.import_flags-kept.ensures.any_moment left AskedByDocument (joins left (map seen c.in-Ok-read_document.flags.items) c.in-Ok-read_document.ensures.flags (flags_of s))
+    ran-any_moment g.D.Disk c.args.disk c.into_disk-disk.result s c.import_flags-kept.result.0 e.stands e.only e.any_moment e.honest c.into_disk-disk.ensures.disk (LedBy (map flag_bytes c.in-Ok-read_document.flags.items) (flags_of s)) c.import_flags-kept.ensures.any_moment left AskedByDocument (joins left (map flag_bytes c.in-Ok-read_document.flags.items) c.in-Ok-read_document.ensures.flags (flags_of s))
 
 pub returns-in-Err-outcome-clause-honest : goal.returns-in-Err-outcome-clause-honest
 returns-in-Err-outcome-clause-honest g c =
     let e = c.in-Ok.ensures in let s = c.in-Ok.session in let left = g.R.Read.remaining c.args.r.now.inner in
-    ran-honest g.D.Disk c.args.disk c.into_disk-disk.result s c.import_flags-kept.result.0 e.stands e.only e.any_moment e.honest c.into_disk-disk.ensures.disk (LedBy (map seen c.in-Ok-read_document.flags.items) (flags_of s)) c.import_flags-kept.ensures.any_moment left AskedByDocument (joins left (map seen c.in-Ok-read_document.flags.items) c.in-Ok-read_document.ensures.flags (flags_of s))
+    ran-honest g.D.Disk c.args.disk c.into_disk-disk.result s c.import_flags-kept.result.0 e.stands e.only e.any_moment e.honest c.into_disk-disk.ensures.disk (LedBy (map flag_bytes c.in-Ok-read_document.flags.items) (flags_of s)) c.import_flags-kept.ensures.any_moment left AskedByDocument (joins left (map flag_bytes c.in-Ok-read_document.flags.items) c.in-Ok-read_document.ensures.flags (flags_of s))
 
 pub returns-in-Err-outcome-clause-told : goal.returns-in-Err-outcome-clause-told
 returns-in-Err-outcome-clause-told g c = λ h same.
     let e = c.in-Ok.ensures in let s = c.in-Ok.session in let l = c.import_flags-kept.ensures in let k = c.import_flags-kept.result.0 in let left = g.R.Read.remaining c.args.r.now.inner in
     let old = g.W.Write.contents c.args.w.now.inner in let new = g.W.Write.contents c.import_flags-kept.new.w.inner in
-    let puts = map seen c.in-Ok-read_document.flags.items in let known = c.in-Ok-read_document.ensures.flags in
+    let puts = map flag_bytes c.in-Ok-read_document.flags.items in let known = c.in-Ok-read_document.ensures.flags in
     let ended = c.in-Err-outcome.fault in let w = c.import_flags-kept.new.w.failures ≡ c.args.w.now.failures in
     let Tells : ApplyFault → State → Type 0 = λ f u. IsToldBy (flags_of s) (asked_by_flags puts) MOST_WAITING f old new (flags_of k) u in
     let tells : (u : State) → IsAhead k.desk u → Tells ended u = subst (λ (o : Result Bool ApplyFault). IfErr o (λ f. w → (u : State) → IsAhead k.desk u → Tells f u)) c.in-Err-outcome.is l.told same in
@@ -167,19 +167,19 @@ returns-in-Err-outcome-clause-fault g c =
 pub returns-in-Err-outcome-clause-cause : goal.returns-in-Err-outcome-clause-cause
 returns-in-Err-outcome-clause-cause g c = λ is.
     let e = c.in-Ok.ensures in let s = c.in-Ok.session in let l = c.import_flags-kept.ensures in let k = c.import_flags-kept.result.0 in let left = g.R.Read.remaining c.args.r.now.inner in
-    let failed = course-failed (session_store g.D.Disk) (LedBy (map seen c.in-Ok-read_document.flags.items) (flags_of s)) s k c.import_flags-kept.result.1 c.in-Err-outcome.fault c.in-Err-outcome.is (sym c.into-in-Err-outcome.ensures ∙ is) l.course in
-    ran-cause g.D.Disk c.args.disk c.into_disk-disk.result s k e.stands e.only e.any_moment e.honest c.into_disk-disk.ensures.disk (LedBy (map seen c.in-Ok-read_document.flags.items) (flags_of s)) l.any_moment left AskedByDocument (joins left (map seen c.in-Ok-read_document.flags.items) c.in-Ok-read_document.ensures.flags (flags_of s))
+    let failed = course-failed (session_store g.D.Disk) (LedBy (map flag_bytes c.in-Ok-read_document.flags.items) (flags_of s)) s k c.import_flags-kept.result.1 c.in-Err-outcome.fault c.in-Err-outcome.is (sym c.into-in-Err-outcome.ensures ∙ is) l.course in
+    ran-cause g.D.Disk c.args.disk c.into_disk-disk.result s k e.stands e.only e.any_moment e.honest c.into_disk-disk.ensures.disk (LedBy (map flag_bytes c.in-Ok-read_document.flags.items) (flags_of s)) l.any_moment left AskedByDocument (joins left (map flag_bytes c.in-Ok-read_document.flags.items) c.in-Ok-read_document.ensures.flags (flags_of s))
     failed.before failed.led failed.asked failed.failed e.ready e.no_failure
 
 pub returns-in-Ok-outcome-clause-called : goal.returns-in-Ok-outcome-clause-called
 returns-in-Ok-outcome-clause-called g c =
-    let D = g.D.Disk in let e = c.in-Ok.ensures in let s = c.in-Ok.session in let l = c.import_flags-kept.ensures in let k = c.import_flags-kept.result.0 in let left = g.R.Read.remaining c.args.r.now.inner in let puts = map seen c.in-Ok-read_document.flags.items in
+    let D = g.D.Disk in let e = c.in-Ok.ensures in let s = c.in-Ok.session in let l = c.import_flags-kept.ensures in let k = c.import_flags-kept.result.0 in let left = g.R.Read.remaining c.args.r.now.inner in let puts = map flag_bytes c.in-Ok-read_document.flags.items in
     let went = course-goes (session_store D) (LedBy puts (flags_of s)) s k c.import_flags-kept.result.1 c.in-Ok-outcome.told c.in-Ok-outcome.is l.course in
     ran-called D c.args.disk c.into_disk-disk.result s k e.stands e.only e.any_moment e.honest c.into_disk-disk.ensures.disk (LedBy puts (flags_of s)) l.any_moment left AskedByDocument (joins left puts c.in-Ok-read_document.ensures.flags (flags_of s))
     went e.rests (subst (λ (o : Result Bool ApplyFault). OnOk o (k.store.slots.step ≡ Begin)) c.in-Ok-outcome.is l.rests) e.called
 
 pub returns-in-Err-outcome-clause-called : goal.returns-in-Err-outcome-clause-called
 returns-in-Err-outcome-clause-called g c =
-    let D = g.D.Disk in let e = c.in-Ok.ensures in let s = c.in-Ok.session in let l = c.import_flags-kept.ensures in let k = c.import_flags-kept.result.0 in let left = g.R.Read.remaining c.args.r.now.inner in let puts = map seen c.in-Ok-read_document.flags.items in
+    let D = g.D.Disk in let e = c.in-Ok.ensures in let s = c.in-Ok.session in let l = c.import_flags-kept.ensures in let k = c.import_flags-kept.result.0 in let left = g.R.Read.remaining c.args.r.now.inner in let puts = map flag_bytes c.in-Ok-read_document.flags.items in
     inr (ran-broke D c.args.disk c.into_disk-disk.result s k e.stands e.only e.any_moment e.honest c.into_disk-disk.ensures.disk (LedBy puts (flags_of s)) l.any_moment left AskedByDocument (joins left puts c.in-Ok-read_document.ensures.flags (flags_of s))
     c.in-Err-outcome.fault (subst (λ (o : Result Bool ApplyFault). StoreRun (session_store D) (LedBy puts (flags_of s)) s k o) c.in-Err-outcome.is l.course) e.rests e.called)

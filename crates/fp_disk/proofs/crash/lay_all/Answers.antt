@@ -1,5 +1,5 @@
 use Rattle.std.proofs.Common.{rules, ◌≡◌, ◌+◌, ◌∷◌, [], length, take, arith, ap, ◌∙◌, ℕ, List, slice_index, sym, add-one, suc}
-use Rattle.fp_disk.specs.Crash.{laid}
+use Rattle.fp_disk.specs.Crash.{byte_after_writes}
 use Rattle.fp_disk.specs.Memory.{with_request, writes_after}
 use Rattle.fp_disk.specs.declared.call.Request.{Request}
 use Rattle.fp_disk.proofs.Crashing.{laid_more, with_request-other, writes_after-take}
@@ -19,7 +19,7 @@ loop-call-preserved c =
             len = ap (λ (l : List ℕ). length l) left ∙ (w.lay.ensures.len ∙ len);
             number = counted ∙ (add-one c.loop-call.number ∙ (ap (λ (n : ℕ). suc n) number ∙ sym (ap (λ (vs : List (ℕ × List ℕ)). length vs) now)));
             within = omega arith;
-            places = λ k lt. ap (λ (l : List ℕ). slice_index l k) left ∙ (laid_more c.args.fills.now c.args.rest w.nth.result ws w.in-Write.at c.loop-call.number w.in-Write.bytes c.args.left.now c.loop-call.left w.lay.new.left number w.nth.ensures len c.loop-call.invariant.places (search rules) k lt ∙ ap (λ (vs : List (ℕ × List ℕ)). laid c.args.fills.now c.args.rest vs k (slice_index c.args.left.now k)) (sym now));
+            places = λ k lt. ap (λ (l : List ℕ). slice_index l k) left ∙ (laid_more c.args.fills.now c.args.rest w.nth.result ws w.in-Write.at c.loop-call.number w.in-Write.bytes c.args.left.now c.loop-call.left w.lay.new.left number w.nth.ensures len c.loop-call.invariant.places (search rules) k lt ∙ ap (λ (vs : List (ℕ × List ℕ)). byte_after_writes c.args.fills.now c.args.rest vs k (slice_index c.args.left.now k)) (sym now));
           }
       | in_default w ↦
           let now : writes_after [] (take (c.loop-call.call-index + 1) c.args.calls.now) ≡ ws = more ∙ with_request-other ws c.call-item.result.request w.in_default.not-Write in
@@ -27,6 +27,6 @@ loop-call-preserved c =
             len = ap (λ (l : List ℕ). length l) left ∙ len;
             number = counted ∙ (number ∙ sym (ap (λ (vs : List (ℕ × List ℕ)). length vs) now));
             within = omega arith;
-            places = λ k lt. ap (λ (l : List ℕ). slice_index l k) left ∙ (c.loop-call.invariant.places k lt ∙ ap (λ (vs : List (ℕ × List ℕ)). laid c.args.fills.now c.args.rest vs k (slice_index c.args.left.now k)) (sym now));
+            places = λ k lt. ap (λ (l : List ℕ). slice_index l k) left ∙ (c.loop-call.invariant.places k lt ∙ ap (λ (vs : List (ℕ × List ℕ)). byte_after_writes c.args.fills.now c.args.rest vs k (slice_index c.args.left.now k)) (sym now));
           }
     ]

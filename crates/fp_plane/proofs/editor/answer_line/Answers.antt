@@ -2,7 +2,7 @@ use Rattle.std.proofs.Common.{◌++◌, List, sym, subst}
 use Rattle.fp_edit.specs.Line.{line_of}
 use Rattle.fp_session.specs.Asks.{Ask}
 use Rattle.fp_session.proofs.LineLemmas.{asked-line}
-use Rattle.fp_plane.specs.Answers.{IsAnswerTo, IsWithin, seen}
+use Rattle.fp_plane.specs.Answers.{IsAnswerTo, IsWithin, answer_of_code}
 use Rattle.fp_plane.specs.Editing.{IsServed}
 use Rattle.fp_plane.proofs.EditingLemmas.{served-more, shown-answers, shown-within, within-more}
 use Rattle.fp_plane.proofs.editor.answer_line.Goals as goal
@@ -10,7 +10,7 @@ use Rattle.fp_plane.proofs.editor.answer_line.Goals as goal
 -- one answer more, and what was told before it is kept
 pub returns-clause-answered : goal.returns-clause-answered
 returns-clause-answered g c = λ asked bytes before kept served.
-    let asks = c.in-Some.ensures.asks bytes kept in let x = line_of bytes in let a = seen c.answer_to-answer.result.0 in
+    let asks = c.in-Some.ensures.asks bytes kept in let x = line_of bytes in let a = answer_of_code c.answer_to-answer.result.0 in
     let said = c.in_ok-send_answer.ensures.sent in let keeps = c.keep_greater.ensures in
     let old = c.args.told.now in let now = c.keep_greater.new.told in let store = g.K.Naming.store in
     let held = g.O.Write.contents c.args.w.now.inner in let then = g.O.Write.contents c.send_answer.new.w.inner in

@@ -4,7 +4,7 @@ use Rattle.serde_json.specs.Data.{object, member, no_members}
 use Rattle.serde_json.specs.View.{view as json_view, items_view, members_view}
 use Rattle.serde_json.proofs.Views.{view-Object}
 use Rattle.fp_targeting.specs.View.{rule_view}
-use Rattle.fp_targeting.specs.Compile.{first_of, items_unknown, where_counts_fit, rule_of, formed, arguments_of, one_more, rules_from}
+use Rattle.fp_targeting.specs.Compile.{first_of, items_unknown, where_counts_fit, rule_of, operator_rule, arguments_of, one_more, rules_from}
 use Rattle.fp_targeting.proofs.Arguments.{rule_of-operator}
 use Rattle.fp_targeting.proofs.WellFormed.{before, before-more, before-none, rule_view-apply, formed-known}
 use Rattle.fp_targeting.proofs.build.+build.Goals as goal
@@ -20,8 +20,8 @@ build-returns-in_ok-build_arguments-in-Some-None-clause-rule t c =
     ap json_view c.in-Object.is ∙ view-Object c.in-Object.members ∙ ap (λ es. object (members_view es)) only in
     ap where_counts_fit (rule_view-apply o v)
     ∙ formed-known c.as_str.result.now o (map rule_view v.items) (c.in_ok-operator-in-Some-None.ensures.known)
-    ∙ ap (formed c.as_str.result.now) c.in_ok-build_arguments-in-Some-None.ensures.rules
-    ∙ ap (λ n. formed n (arguments_of (json_view d))) c.as_str.ensures.value ∙ sym (rule_of-operator (string_bytes k) (json_view d)) ∙ ap rule_of (sym shape)
+    ∙ ap (operator_rule c.as_str.result.now) c.in_ok-build_arguments-in-Some-None.ensures.rules
+    ∙ ap (λ n. operator_rule n (arguments_of (json_view d))) c.as_str.ensures.value ∙ sym (rule_of-operator (string_bytes k) (json_view d)) ∙ ap rule_of (sym shape)
 
 pub build_all-loop-item-preserved : goal.build_all-loop-item-preserved
 build_all-loop-item-preserved t c =

@@ -8,7 +8,7 @@ use Rattle.fp_operators.specs.Path.{variable_of}
 use Rattle.fp_operators.specs.Version.{comparison}
 use Rattle.fp_operators.specs.Data.{boolean}
 use Rattle.fp_targeting.specs.Operators.{unary, binary, ascending}
-use Rattle.fp_targeting.specs.Meaning.{meaning, meanings, chosen}
+use Rattle.fp_targeting.specs.Meaning.{meaning, meanings, value_behind_true}
 use Rattle.fp_targeting.proofs.Counts.{length-meanings_view, at_most_two-more, one-other, two-other, three-other, neighbours-other}
 use Rattle.fp_targeting.specs.View.{rule_view, rules_view}
 use Rattle.fp_targeting.proofs.evaluate.+evaluate.Goals as goal
@@ -24,14 +24,14 @@ evaluate_if-pairs-preserved t c =
     let second : drop (i + 1) xs ≡ get_or xs (i + 1) a ∷ drop (i + 1 + 1) xs = drop_more xs (i + 1) a (omega arith) in
     let next : drop (i + 1 + 1) xs ≡ drop (i + 2) xs = ap (λ n. drop n xs) (omega arith) in
     let not_here : truth (meaning root (rule_view a)) ≡ false = sym (ap truth (c.datum.ensures ∙ c.in_ok-evaluate.ensures)) ∙ sym c.is_truthy.ensures ∙ c.if-is_truthy.false in
-    let skip : chosen (meanings root (rules_view (drop i xs))) ≡ chosen (meanings root (rules_view (drop (i + 2) xs))) =
-    ap (λ ys. chosen (meanings root (rules_view ys))) (first ∙ ap (λ ys. a ∷ ys) second) ∙ rw not_here (ap (λ ys. chosen (meanings root (rules_view ys))) next) in
+    let skip : value_behind_true (meanings root (rules_view (drop i xs))) ≡ value_behind_true (meanings root (rules_view (drop (i + 2) xs))) =
+    ap (λ ys. value_behind_true (meanings root (rules_view ys))) (first ∙ ap (λ ys. a ∷ ys) second) ∙ rw not_here (ap (λ ys. value_behind_true (meanings root (rules_view ys))) next) in
     record { within = omega arith; left = sym skip ∙ c.pairs.invariant.left }
 
 pub evaluate_if-returns : goal.evaluate_if-returns
 evaluate_if-returns t c =
     let none : drop c.pairs.i c.args.rules.now.items ≡ [] = drop_all c.pairs.i c.args.rules.now.items (omega arith) in
-    view-Null ∙ ap (λ xs. chosen (meanings (view c.args.root.now) (rules_view xs))) (sym none) ∙ c.pairs.invariant.left
+    view-Null ∙ ap (λ xs. value_behind_true (meanings (view c.args.root.now) (rules_view xs))) (sym none) ∙ c.pairs.invariant.left
 
 pub evaluate_one-returns-in_default : goal.evaluate_one-returns-in_default
 evaluate_one-returns-in_default t c =

@@ -1,8 +1,8 @@
 use Rattle.std.proofs.Common.{◌≡◌, ◌-◌, ◌≤◌, ◌++◌, length, drop, map, option_map, string_bytes}
 use Rattle.fp_operators.specs.Data.{null}
-use Rattle.fp_operators.specs.Text.{joined}
+use Rattle.fp_operators.specs.Text.{text_of_scalars}
 use Rattle.fp_operators.specs.View.{view}
-use Rattle.fp_targeting.specs.Meaning.{meanings, chosen, first_false, first_true}
+use Rattle.fp_targeting.specs.Meaning.{meanings, value_behind_true, first_false, first_true}
 use Rattle.fp_targeting.specs.View.{rules_view}
 use Rattle.fp_targeting.specs.Found.{found_view}
 use Rattle.fp_targeting.proofs.evaluate.+evaluate.Given as goal
@@ -16,7 +16,7 @@ invariant-evaluate_each-loop-rule l =
 abbrev pub invariant-evaluate_if-pairs : goal.invariant-evaluate_if-pairs
 invariant-evaluate_if-pairs l = record {
   within : l.i ≤ length l.rules.items;
-  left : chosen (meanings (view l.root) (rules_view (drop l.i l.rules.items))) ≡ chosen (meanings (view l.root) (rules_view l.rules.items));
+  left : value_behind_true (meanings (view l.root) (rules_view (drop l.i l.rules.items))) ≡ value_behind_true (meanings (view l.root) (rules_view l.rules.items));
 }
 
 abbrev pub decreases-evaluate_if-pairs : goal.decreases-evaluate_if-pairs
@@ -33,4 +33,4 @@ invariant-evaluate_or-loop-rule l =
 -- the text so far, and that of what is left
 abbrev pub invariant-evaluate_cat-loop-argument : goal.invariant-evaluate_cat-loop-argument
 invariant-evaluate_cat-loop-argument l =
-    option_map (λ t. string_bytes l.text ++ t) (joined (meanings (view l.root) (rules_view (drop l.argument-index l.argument-items)))) ≡ joined (meanings (view l.root) (rules_view l.argument-items))
+    option_map (λ t. string_bytes l.text ++ t) (text_of_scalars (meanings (view l.root) (rules_view (drop l.argument-index l.argument-items)))) ≡ text_of_scalars (meanings (view l.root) (rules_view l.argument-items))

@@ -4,7 +4,7 @@ use Rattle.fp_edit.specs.declared.edit.Edit.{Edit}
 use Rattle.fp_edit.specs.declared.line.LineFault.{LineFault}
 use Rattle.fp_session.specs.Asks.{Ask}
 use Rattle.fp_session.specs.Lines as lines
-use Rattle.fp_session.specs.Progress.{AsksFor, cut}
+use Rattle.fp_session.specs.Progress.{AsksFor, line_up_to_limit}
 use Rattle.fp_session.proofs.LineLemmas.{cut-same}
 use Rattle.fp_session.proofs.line.IncomingLine.end.Goals as goal
 
@@ -15,5 +15,5 @@ pub returns-clause-asks : goal.returns-clause-asks
 returns-clause-asks c = λ line kept.
     let same = cut-same line in
     subst (λ (b : Bool). Asked c.asked_by-edit.result b (line_of line)) same.0
-    (subst (λ (x : Ask). Asked c.asked_by-edit.result (lines.is_blank (cut line)) x) same.1
+    (subst (λ (x : Ask). Asked c.asked_by-edit.result (lines.is_blank (line_up_to_limit line)) x) same.1
     (subst (λ (l : List ℕ). Asked c.asked_by-edit.result (lines.is_blank l) (line_of l)) (c.deref.ensures.value ∙ c.self.view_is ∙ kept) c.asked_by-edit.ensures))

@@ -4,7 +4,7 @@ use Rattle.std.proofs.lemmas.Result.{err_from_is_err_and}
 use Rattle.fp_edit.specs.declared.edit.Edit.{Edit}
 use Rattle.fp_edit.specs.declared.line.LineFault.{LineFault}
 use Rattle.fp_session.specs.Progress.{AsksFor, At}
-use Rattle.fp_session.specs.Reply.{Reply, said}
+use Rattle.fp_session.specs.Reply.{Reply, reply_of_code}
 use Rattle.fp_session.specs.declared.fault.ApplyFault.TheVariants.{Memory}
 use Rattle.fp_session.specs.declared.replies.Replies.{Replies}
 use Rattle.fp_session.specs.declared.reply.Reply as code
@@ -24,6 +24,6 @@ pub returns-in_ok-push-in-Err-clause-asked : goal.returns-in_ok-push-in-Err-clau
 returns-in_ok-push-in-Err-clause-asked g c = λ first asked sent x asks i.
     let q = c.args.self.now in let now = c.args.edits.now in let reply = NoEdit c.in-Err.fault in
     let fault = subst (λ (e : Result Edit LineFault). AsksFor e x) c.in-Err.is asks in
-    subst (λ (ws : List code.Reply). At g.E.EditStore first now (asked ++ x ∷ []) sent q.text.items (map said ws) q.is_told) (sym c.in_ok-push-in-Err.ensures.items)
-    (subst (λ (rs : List Reply). At g.E.EditStore first now (asked ++ x ∷ []) sent q.text.items rs q.is_told) (sym (map-append said q.waiting.items (reply ∷ [])))
-    (at-no_edit g.E.EditStore first now asked sent q.text.items (map said q.waiting.items) q.is_told i x (said reply) (no_edit-answers (g.E.EditStore.state now) x c.in-Err.fault fault)))
+    subst (λ (ws : List code.Reply). At g.E.EditStore first now (asked ++ x ∷ []) sent q.text.items (map reply_of_code ws) q.is_told) (sym c.in_ok-push-in-Err.ensures.items)
+    (subst (λ (rs : List Reply). At g.E.EditStore first now (asked ++ x ∷ []) sent q.text.items rs q.is_told) (sym (map-append reply_of_code q.waiting.items (reply ∷ [])))
+    (at-no_edit g.E.EditStore first now asked sent q.text.items (map reply_of_code q.waiting.items) q.is_told i x (reply_of_code reply) (no_edit-answers (g.E.EditStore.state now) x c.in-Err.fault fault)))

@@ -3,7 +3,7 @@ use Rattle.std.proofs.lemmas.List.{map-append}
 use Rattle.std.proofs.lemmas.Result.{err_from_is_err_and}
 use Rattle.fp_edit.specs.Edits.{proposal_of}
 use Rattle.fp_session.specs.Progress.{At}
-use Rattle.fp_session.specs.Reply.{Reply, said}
+use Rattle.fp_session.specs.Reply.{Reply, reply_of_code}
 use Rattle.fp_session.specs.declared.fault.ApplyFault.TheVariants.{Memory}
 use Rattle.fp_session.specs.declared.replies.Replies.{Replies}
 use Rattle.fp_session.specs.declared.reply.Reply as code
@@ -27,6 +27,6 @@ returns-in_err-reserve-clause-asked g c = λ first asked sent i.
 pub returns-clause-asked : goal.returns-clause-asked
 returns-clause-asked g c = λ first asked sent i.
     let q = c.make_place.new.self in let reply = c.submit-reply.result in let x = Ok (proposal_of c.args.edit) in let next = c.submit-reply.new.edits in
-    subst (λ (ws : List code.Reply). At g.E.EditStore first next (asked ++ x ∷ []) sent q.text.items (map said ws) q.is_told) (sym (c.in-Ok.ensures.items ∙ ap (λ (l : List code.Reply). l ++ reply ∷ []) c.reserve.ensures.items))
-    (subst (λ (rs : List Reply). At g.E.EditStore first next (asked ++ x ∷ []) sent q.text.items rs q.is_told) (sym (map-append said q.waiting.items (reply ∷ [])))
-    (at-asked g.E.EditStore first c.make_place.new.edits asked sent q.text.items (map said q.waiting.items) q.is_told (c.in_ok-make_place.ensures.asked first asked sent i) next x (said reply) c.submit-reply.ensures.taken))
+    subst (λ (ws : List code.Reply). At g.E.EditStore first next (asked ++ x ∷ []) sent q.text.items (map reply_of_code ws) q.is_told) (sym (c.in-Ok.ensures.items ∙ ap (λ (l : List code.Reply). l ++ reply ∷ []) c.reserve.ensures.items))
+    (subst (λ (rs : List Reply). At g.E.EditStore first next (asked ++ x ∷ []) sent q.text.items rs q.is_told) (sym (map-append reply_of_code q.waiting.items (reply ∷ [])))
+    (at-asked g.E.EditStore first c.make_place.new.edits asked sent q.text.items (map reply_of_code q.waiting.items) q.is_told (c.in_ok-make_place.ensures.asked first asked sent i) next x (reply_of_code reply) c.submit-reply.ensures.taken))

@@ -1,7 +1,7 @@
 use Rattle.std.proofs.Common.{◌≡◌, ◌≤◌, ◌++◌, ℕ, List, [], length, map, refl, ap, subst, ◌∙◌, arith}
 use Rattle.std.proofs.lemmas.Result.{err_from_is_err_and}
 use Rattle.fp_session.specs.Progress.{At}
-use Rattle.fp_session.specs.Reply.{said}
+use Rattle.fp_session.specs.Reply.{reply_of_code}
 use Rattle.fp_session.specs.Run.{show_line}
 use Rattle.fp_session.specs.declared.reply.Reply as code
 use Rattle.fp_session.proofs.ProgressLemmas.{at-ended, is_at-broken}
@@ -33,6 +33,6 @@ pub returns-clause-ended : goal.returns-clause-ended
 returns-clause-ended g c = λ first asked sent i.
     let q = c.seal.new.self in let next = c.rest.new.edits in
     let now : At g.E.EditStore first next asked sent q.text.items [] q.is_told =
-    subst (λ (ws : List code.Reply). At g.E.EditStore first next asked sent q.text.items (map said ws) q.is_told) c.in_ok-seal.ensures.none (c.in_ok-rest.ensures.at first asked sent q 0 c.in_ok-seal.ensures.none (c.in_ok-seal.ensures.asked first asked sent i)) in
+    subst (λ (ws : List code.Reply). At g.E.EditStore first next asked sent q.text.items (map reply_of_code ws) q.is_told) c.in_ok-seal.ensures.none (c.in_ok-rest.ensures.at first asked sent q 0 c.in_ok-seal.ensures.none (c.in_ok-seal.ensures.asked first asked sent i)) in
     at-ended g.E.EditStore first next asked sent q.text.items q.is_told (record { text = c.extend_from_slice.new.self; waiting = q.waiting; is_told = q.is_told }) now
     (c.in_ok-extend_from_slice.ensures.items ∙ ap (λ (l : List ℕ). q.text.items ++ l) (c.deref.ensures.value ∙ c.in_ok-line.ensures ∙ ap show_line c.flags.ensures.value)) refl c.in_ok-rest.ensures.rests

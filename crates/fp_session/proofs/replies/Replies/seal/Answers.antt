@@ -2,7 +2,7 @@ use Rattle.std.proofs.Common.{◌++◌, ℕ, List, Bool, true, false, ◌&&◌, 
 use Rattle.std.proofs.lemmas.List.{length-map}
 use Rattle.std.proofs.lemmas.Result.{err_from_is_err_and}
 use Rattle.fp_session.specs.Progress.{At, IsBroken}
-use Rattle.fp_session.specs.Reply.{said}
+use Rattle.fp_session.specs.Reply.{reply_of_code}
 use Rattle.fp_session.specs.declared.fault.ApplyFault.{ApplyFault}
 use Rattle.fp_session.specs.declared.reply.Reply as code
 use Rattle.fp_session.proofs.ProgressLemmas.{at-sealed, is_at-broken, seal-broken}
@@ -30,9 +30,9 @@ returns-in_err-go_on-clause-asked g c = λ first asked sent i.
     let p = err_from_is_err_and c.from_residual-in_err-go_on.result c.from_residual-in_err-go_on.ensures.1 in
     let old = c.args.self.now in let q = c.tell.new.self in let w = c.in-Ok.ensures in let next = c.commit.new.self in let t = c.tell.ensures in
     let all = told_up_to-all true old.waiting.items c.in_ok-kept.kept c.in_ok-kept.ensures.told in
-    let at : At g.E.EditStore first next asked sent q.text.items (map said q.waiting.items) q.is_told =
-    subst (λ (ws : List code.Reply). At g.E.EditStore first next asked sent q.text.items (map said ws) q.is_told) (sym t.none)
-    (at-sealed g.E.EditStore first c.args.edits.now asked sent old.text.items (map said old.waiting.items) old.is_told i next w.same w.kept w.any_moment w.fate
+    let at : At g.E.EditStore first next asked sent q.text.items (map reply_of_code q.waiting.items) q.is_told =
+    subst (λ (ws : List code.Reply). At g.E.EditStore first next asked sent q.text.items (map reply_of_code ws) q.is_told) (sym t.none)
+    (at-sealed g.E.EditStore first c.args.edits.now asked sent old.text.items (map reply_of_code old.waiting.items) old.is_told i next w.same w.kept w.any_moment w.fate
     q.text.items q.is_told (t.text ∙ ap (λ (l : List ℕ). l ++ c.in_ok-kept.kept.text.items) c.reserve.ensures.items ∙ ap (λ (l : List ℕ). old.text.items ++ l) all.0)
     (t.told ∙ ap (λ (b : Bool). old.is_told && b) all.1)) in
     rw (p.1, p.2) (c.in_err-go_on.ensures.at first asked sent q (length old.waiting.items) t.none at)
@@ -41,9 +41,9 @@ pub returns-clause-asked : goal.returns-clause-asked
 returns-clause-asked g c = λ first asked sent i.
     let old = c.args.self.now in let q = c.tell.new.self in let w = c.in-Ok.ensures in let next = c.commit.new.self in let t = c.tell.ensures in
     let all = told_up_to-all true old.waiting.items c.in_ok-kept.kept c.in_ok-kept.ensures.told in
-    let at : At g.E.EditStore first next asked sent q.text.items (map said q.waiting.items) q.is_told =
-    subst (λ (ws : List code.Reply). At g.E.EditStore first next asked sent q.text.items (map said ws) q.is_told) (sym t.none)
-    (at-sealed g.E.EditStore first c.args.edits.now asked sent old.text.items (map said old.waiting.items) old.is_told i next w.same w.kept w.any_moment w.fate
+    let at : At g.E.EditStore first next asked sent q.text.items (map reply_of_code q.waiting.items) q.is_told =
+    subst (λ (ws : List code.Reply). At g.E.EditStore first next asked sent q.text.items (map reply_of_code ws) q.is_told) (sym t.none)
+    (at-sealed g.E.EditStore first c.args.edits.now asked sent old.text.items (map reply_of_code old.waiting.items) old.is_told i next w.same w.kept w.any_moment w.fate
     q.text.items q.is_told (t.text ∙ ap (λ (l : List ℕ). l ++ c.in_ok-kept.kept.text.items) c.reserve.ensures.items ∙ ap (λ (l : List ℕ). old.text.items ++ l) all.0)
     (t.told ∙ ap (λ (b : Bool). old.is_told && b) all.1)) in
     c.in_ok-go_on.ensures.at first asked sent q 0 t.none at
@@ -51,8 +51,8 @@ returns-clause-asked g c = λ first asked sent i.
 pub returns-in-Err-clause-asked : goal.returns-in-Err-clause-asked
 returns-in-Err-clause-asked g c = λ first asked sent i.
     let old = c.args.self.now in let w = c.in-Err.ensures in let next = c.commit.new.self in let t = c.tell-in-Err.ensures in
-    let all = told_up_to-all false old.waiting.items c.in_ok-failed.failed c.in_ok-failed.ensures.told in let few = length-map old.waiting.items said in
+    let all = told_up_to-all false old.waiting.items c.in_ok-failed.failed c.in_ok-failed.ensures.told in let few = length-map old.waiting.items reply_of_code in
     subst (λ (f : ApplyFault). IsBroken g.E.EditStore (length old.waiting.items) first next asked sent c.tell-in-Err.new.self f) (sym c.into.ensures)
-    (seal-broken g.E.EditStore first c.args.edits.now asked sent old.text.items (map said old.waiting.items) old.is_told i next c.tell-in-Err.new.self (length old.waiting.items) c.in-Err.fault
+    (seal-broken g.E.EditStore first c.args.edits.now asked sent old.text.items (map reply_of_code old.waiting.items) old.is_told i next c.tell-in-Err.new.self (length old.waiting.items) c.in-Err.fault
     w.same w.ahead w.any_moment w.fate (t.text ∙ ap (λ (l : List ℕ). l ++ c.in_ok-failed.failed.text.items) c.reserve.ensures.items ∙ ap (λ (l : List ℕ). old.text.items ++ l) all.0)
     (omega (arith, few)))
