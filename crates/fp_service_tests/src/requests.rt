@@ -1,0 +1,5 @@
+//! Requests over a connection in memory.
+
+mod connection;
+mod peer;
+mod published;
