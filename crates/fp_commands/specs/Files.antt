@@ -1,5 +1,5 @@
 -- What a command does with the file that its words name.
-use Rattle.std.specs.Prelude.{◌≡◌, ◌≢◌, ◌⊎◌, ◌<◌, ◌+◌, ◌^◌, ℕ, List, [], ◌∷◌, ◌++◌, Bool, Option}
+use Rattle.std.specs.Prelude.{◌≡◌, ◌≢◌, ◌⊎◌, ◌<◌, ◌+◌, ℕ, List, [], ◌∷◌, ◌++◌, Bool, Option}
 use Rattle.std.specs.Prelude.{Result, Ok, Err, IfErr, OnOk, IfOk, IfSome}
 use Rattle.fp_disk.specs.Crashes.{AtAnyMoment, EachCrash, SameHonesty}
 use Rattle.fp_disk.specs.History.{Makes}
@@ -8,6 +8,7 @@ use Rattle.fp_disk.specs.declared.disk.Disk.{Ghosts as DiskGhosts}
 use Rattle.fp_disk.specs.declared.history.CallKind.TheVariants.{Length}
 use Rattle.fp_files.specs.Lending.{IsLentOnce, IsNotOpened, IsThere, IsThereOrNew}
 use Rattle.fp_files.specs.declared.files.DiskFiles.{Ghosts as FileGhosts}
+use Rattle.fp_layout.specs.declared.size.TheConstants.{STANDARD_SLOT}
 use Rattle.fp_layout.specs.NewDisk.{IsNewDisk, format_calls}
 use Rattle.fp_recovery.specs.Durable.{IsNewSetOrNone, IsDurable}
 use Rattle.fp_edit.specs.Flags.{State}
@@ -57,7 +58,7 @@ pub record MakesDisk {F R W D : Type 0} (disk : DiskGhosts D) (old new : Outside
     (before after : D) (outcome : Result (Unit {0}) CommandFault) : Type 0 where
   pub unread : new.reader ≡ old.reader
   pub nothing_written : new.writer ≡ old.writer
-  pub made : disk.honest before → OnOk outcome (IsNewDisk (2 ^ 24) (disk.bytes after))
+  pub made : disk.honest before → OnOk outcome (IsNewDisk STANDARD_SLOT (disk.bytes after))
   pub sure : disk.honest before → OnOk outcome (IsDurable (disk.unsynced after) no_flags)
   pub empty : disk.honest before → OnOk outcome (disk.bytes before ≡ [])
   pub not_empty : disk.honest before → IfErr outcome (λ f. f ≡ NotEmpty
@@ -65,7 +66,7 @@ pub record MakesDisk {F R W D : Type 0} (disk : DiskGhosts D) (old new : Outside
   pub memory : disk.honest before → IfErr outcome (λ f. f ≡ Memory
       → (disk.bytes after ≡ disk.bytes before) × (disk.unsynced after ≡ disk.unsynced before))
   pub any_moment : disk.unsynced before ≡ all_synced []
-      → AtAnyMoment disk before after (IsNewSetOrNone (2 ^ 24))
+      → AtAnyMoment disk before after (IsNewSetOrNone STANDARD_SLOT)
   pub called : Makes (Length ∷ format_calls) (disk.calls before) (disk.calls after) outcome
   pub untouched : IfErr outcome (λ f. (f ≡ Device) ⊎ (disk.calls after
       ≡ disk.calls before ++ Length ∷ []))

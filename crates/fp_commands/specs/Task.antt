@@ -1,5 +1,5 @@
 -- What the program's words ask for, and how it ends.
-use Rattle.std.specs.Prelude.{◌≡◌, ◌≤◌, ℕ, ◌+◌, ◌^◌, List, [], ◌∷◌, ◌++◌, codes, bytes_eq, Option}
+use Rattle.std.specs.Prelude.{◌≡◌, ◌≤◌, ℕ, ◌+◌, List, [], ◌∷◌, ◌++◌, codes, bytes_eq, Option}
 use Rattle.std.specs.Prelude.{Some, None, if◌then◌else◌}
 use Rattle.std.specs.FinMap as fin
 use Rattle.fp_edit.specs.Flags.{State}
@@ -7,6 +7,7 @@ use Rattle.fp_streams.specs.Failures.{Stream}
 use Rattle.fp_streams.specs.Said.{AppendsLine}
 use Rattle.fp_commands.specs.Faults.{fault_text}
 use Rattle.fp_commands.specs.declared.fault.CommandFault.{CommandFault}
+use Rattle.fp_commands.specs.declared.program.TheConstants.{IMAGE_LIMIT}
 use Rattle.fp_commands.specs.declared.program.Task.{Task}
 use Rattle.fp_commands.specs.declared.program.Task.TheVariants.{Apply, InitFile, ApplyFile}
 use Rattle.fp_commands.specs.declared.program.Task.TheVariants.{ShowFile, ImportFile, EvalFile}
@@ -40,7 +41,7 @@ task_of_words (word ∷ path ∷ key ∷ next ∷ more) = None
 
 -- what a run over memory starts from, and what a new disk stands for
 abbrev pub no_flags : State
-no_flags = record { flags = fin.empty; revision = 0; limit = 2 ^ 23 }
+no_flags = record { flags = fin.empty; revision = 0; limit = IMAGE_LIMIT }
 
 -- ---- how a task ends
 

@@ -1,12 +1,13 @@
 //! The commands over a disk. Each gives the disk back.
 
 ghost use Rattle.fp_disk.specs.Crashes.{AtAnyMoment, EachCrash, SameHonesty};
-ghost use Rattle.std.specs.Prelude.{◌≡◌, ◌≢◌, ◌⊎◌, ◌<◌, ◌+◌, ◌++◌, ◌^◌, [], ◌∷◌, IfOk, IfErr, OnOk};
+ghost use Rattle.std.specs.Prelude.{◌≡◌, ◌≢◌, ◌⊎◌, ◌<◌, ◌+◌, ◌++◌, [], ◌∷◌, IfOk, IfErr, OnOk};
 ghost use Rattle.std.specs.Io.KnownBytes.{Appends};
 ghost use Rattle.fp_disk.specs.History.{Makes};
 ghost use Rattle.fp_disk.specs.Outcomes.{IsOutcome, LeavesOnly, all_synced};
 ghost use Rattle.fp_disk.specs.declared.history.CallKind.TheVariants.{Length, Sync};
 ghost use Rattle.fp_journal.specs.Pieces.{ThenSomeReads};
+ghost use Rattle.fp_layout.specs.declared.size.TheConstants.{STANDARD_SLOT};
 ghost use Rattle.fp_layout.specs.NewDisk.{IsNewDisk, format_calls};
 ghost use Rattle.fp_session.specs.Run.{show_line};
 ghost use Rattle.fp_session.specs.declared.replies.TheConstants.{MOST_WAITING};
@@ -33,7 +34,7 @@ use std::io::{Read, Write};
 
 /// Makes an empty disk one that stands for no flags at revision 0.
 pub fn init_disk<D: Disk>(alloc: Global, disk: D) -> (D, Result<(), CommandFault>)
-    ensures made { D.honest disk → OnOk result.1 (IsNewDisk (2 ^ 24) (D.bytes result.0)) }
+    ensures made { D.honest disk → OnOk result.1 (IsNewDisk STANDARD_SLOT (D.bytes result.0)) }
     ensures sure { D.honest disk → OnOk result.1 (IsDurable (D.unsynced result.0) no_flags) }
     ensures empty { D.honest disk → OnOk result.1 (D.bytes disk ≡ []) }
     ensures not_empty { D.honest disk → IfErr result.1 (λ f. f ≡ NotEmpty
@@ -43,7 +44,7 @@ pub fn init_disk<D: Disk>(alloc: Global, disk: D) -> (D, Result<(), CommandFault
 
     // A crash at any moment of it leaves what is no disk yet, or one of no flags.
     ensures any_moment { D.honest disk → D.unsynced disk ≡ all_synced []
-        → LeavesOnly D.moment D.crash_states_since disk result.0 (IsNewSetOrNone (2 ^ 24)) }
+        → LeavesOnly D.moment D.crash_states_since disk result.0 (IsNewSetOrNone STANDARD_SLOT) }
     ensures called { Makes (Length ∷ format_calls) (D.calls disk) (D.calls result.0) result.1 }
     ensures untouched { IfErr result.1 (λ f. (f ≡ Device)
         ⊎ (D.calls result.0 ≡ D.calls disk ++ Length ∷ [])) }

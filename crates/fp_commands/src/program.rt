@@ -23,8 +23,8 @@ use std::io::{Read, Write};
 const USAGE: &str =
     "usage: flagplane init FILE | apply [FILE] | show FILE | eval FILE KEY | import FILE | serve FILE OFREP EDIT STREAM | watch ADDR";
 
-// The most bytes of the image of flags that are kept in memory.
-const IMAGE_LIMIT: u64 = 0x80_0000;
+/// The most bytes of the image of flags that are kept in memory.
+pub const IMAGE_LIMIT: u64 = 0x80_0000;
 
 // What there is to do; all but the first are over a file.
 #[derive(Debug, Clone, Copy)]

@@ -6,6 +6,7 @@ use Rattle.fp_edit.specs.Flags.{State}
 use Rattle.fp_gate.specs.declared.gate.TheConstants.{OPEN}
 use Rattle.fp_journal.specs.Chain.{with_length, with_gate}
 use Rattle.fp_journal.specs.State.{room}
+use Rattle.fp_layout.specs.Size.{most_in}
 use Rattle.fp_recovery.specs.Stands.{StandsFor, TakesBatch}
 use Rattle.fp_slots.specs.State.{SlotsState, HasBegun, IsEarly, IsGrowing}
 use Rattle.fp_compaction.specs.Sets.{IsKeptIn, IsPlannedFor}
@@ -45,7 +46,7 @@ LeavesSealed disk old new = disk.honest old.journal.disk → (size : ℕ) (s : S
 -- the batch on its way leads from this set to that one
 abbrev pub LeadsTo : {D : Type 0} → SlotsState D → ℕ → State → State → Type 0
 LeadsTo slots size s t =
-    TakesBatch s slots.journal.staged t × (length slots.journal.staged ≤ size / 8 - 6)
+    TakesBatch s slots.journal.staged t × (length slots.journal.staged ≤ most_in size)
 
 -- at each moment the set is kept, or what the batch on its way makes of it
 abbrev pub LeavesNext : {D : Type 0} → Ghosts D → SlotsState D → SlotsState D → Type 0

@@ -1,12 +1,13 @@
 -- Two slots of a disk, as the set of flags that they keep.
-use Rattle.std.specs.Prelude.{◌≡◌, ◌⊎◌, ◌≤◌, ◌+◌, ◌-◌, ◌/◌, ℕ, true, List, length}
+use Rattle.std.specs.Prelude.{◌≡◌, ◌⊎◌, ◌≤◌, ◌+◌, ◌/◌, ℕ, true, List, length}
 use Rattle.fp_disk.specs.Outcomes.{PendingState, LeavesOnly}
 use Rattle.fp_disk.specs.declared.disk.Disk.{Ghosts}
 use Rattle.fp_edit.specs.Flags.{State}
 use Rattle.fp_journal.specs.Holds.{Holds, IsSynced}
 use Rattle.fp_journal.specs.State.{JournalState, has_begun}
 use Rattle.fp_layout.specs.Layout.{IsHeader}
-use Rattle.fp_layout.specs.Size.{IsSlotSize, Side, other_side, slot_of}
+use Rattle.fp_layout.specs.declared.header.TheConstants.{HEADER}
+use Rattle.fp_layout.specs.Size.{IsSlotSize, Side, most_in, other_side, slot_of}
 use Rattle.fp_recovery.specs.Stands.{Spells, StandsFor, TakesBatch}
 use Rattle.fp_slots.specs.State.{SlotsState, sealed_text}
 
@@ -15,8 +16,8 @@ use Rattle.fp_slots.specs.State.{SlotsState, sealed_text}
 pub record IsKeptOn {D : Type 0} (u : PendingState) (slots : SlotsState D) (size : ℕ) (side : Side)
     (s : State) : Type 0 where
   pub header : List ℕ
-  pub is_header : (c : List ℕ) → Holds c 0 header → 65 + size ≤ length c → IsHeader c size
-  pub header_long : length header ≡ 64
+  pub is_header : (c : List ℕ) → Holds c 0 header → HEADER + 1 + size ≤ length c → IsHeader c size
+  pub header_long : length header ≡ HEADER
   pub firm : IsSynced u 0 header
   pub mine : slots.journal.slot ≡ slot_of size side
   pub its : slots.other ≡ slot_of size (other_side side)
@@ -47,7 +48,7 @@ HasBegun j = has_begun j.phase j.begun ≡ true
 -- then it leads from this set to that one
 abbrev pub IsTaken : {D : Type 0} → JournalState D → ℕ → State → State → Type 0
 IsTaken j size s t =
-    HasBegun j → TakesBatch s j.staged t × (length j.staged ≤ size / 8 - 6)
+    HasBegun j → TakesBatch s j.staged t × (length j.staged ≤ most_in size)
 
 -- what a crash leaves: the set, and once a call began to open the gate of the batch on its way
 -- perhaps what that makes of it

@@ -7,7 +7,7 @@ use Rattle.fp_edit.specs.Flags.{State}
 use Rattle.fp_edit.specs.Log.{after_all}
 use Rattle.fp_edit.specs.declared.edit.TheConstants.{REVISIONS_END}
 use Rattle.fp_record.specs.Group.{Group}
-use Rattle.fp_record.specs.declared.batch.TheConstants.{LONGEST_EDIT, MOST_EDITS}
+use Rattle.fp_record.specs.declared.batch.TheConstants.{BATCH_HEAD, LONGEST_EDIT, MOST_EDITS}
 use Rattle.fp_desk.specs.declared.desk.TheConstants.{MOST_QUEUED}
 use Rattle.fp_edit.specs.Following.{Follows}
 use Rattle.fp_group_commit.specs.Changes.{GoesOn, batch_len}
@@ -68,7 +68,7 @@ pub record IsLongestPart (most : ℕ) (group : Group) (waiting rest : List Chang
   pub some : 0 < length group.changes
   pub few : length group.changes ≤ MOST_EDITS
   pub short : (length group.changes ≡ 1) ⊎ (batch_len group ≤ most)
-  pub fits : 10 + LONGEST_EDIT ≤ most → batch_len group ≤ most
+  pub fits : BATCH_HEAD + LONGEST_EDIT ≤ most → batch_len group ≤ most
   pub longest : (rest ≡ []) ⊎ (length group.changes ≡ MOST_EDITS)
       ⊎ ((c : Change) (more : List Change) → rest ≡ c ∷ more → most < batch_len (and_more group c))
 

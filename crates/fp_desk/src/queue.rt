@@ -8,7 +8,7 @@ ghost use Rattle.fp_edit.specs.Edits.{proposal_of};
 ghost use Rattle.fp_edit.specs.Following.{change_of, changes_of};
 
 use fp_edit::Edit;
-use fp_record::{MOST_EDITS, encoded_len};
+use fp_record::{BATCH_HEAD, MOST_EDITS, encoded_len};
 use std::alloc::{AllocError, Global};
 use std::collections::VecDeque;
 
@@ -58,7 +58,7 @@ pub fn first_part(waiting: &VecDeque<Edit>, most: u64) -> usize
     ensures within { result ≤ length waiting.now.items }
 {
     let mut n = 1;
-    let mut sum = 10 + encoded_len(&waiting[0]) as u64;
+    let mut sum = BATCH_HEAD as u64 + encoded_len(&waiting[0]) as u64;
     while n < waiting.len() && n < MOST_EDITS {
         let next = sum + encoded_len(&waiting[n]) as u64;
         if next > most {
@@ -81,7 +81,7 @@ pub fn fits_behind(waiting: &VecDeque<Edit>, edit: &Edit, most: u64) -> bool
     if waiting.len() >= MOST_EDITS {
         return false;
     }
-    let mut sum = 10 + encoded_len(edit) as u64;
+    let mut sum = BATCH_HEAD as u64 + encoded_len(edit) as u64;
     let mut i = 0;
     while i < waiting.len() {
         sum += encoded_len(&waiting[i]) as u64;

@@ -7,17 +7,18 @@ use Rattle.fp_edit.specs.Flags.{State}
 use Rattle.fp_edit.specs.Following.{Follows}
 use Rattle.fp_compaction.specs.Batches.{HasRoomFor}
 use Rattle.fp_record.specs.Group.{Group}
+use Rattle.fp_record.specs.declared.batch.TheConstants.{BATCH_HEAD, MOST_EDITS}
 use Rattle.fp_slots.specs.State.{SlotsState}
 use Rattle.fp_record.specs.Encoding.{encoding_of_change}
 
 -- the length of a batch's body
 abbrev pub batch_len : Group → ℕ
-batch_len group = 10 + sum_by (λ c. length (encoding_of_change c)) group.changes
+batch_len group = BATCH_HEAD + sum_by (λ c. length (encoding_of_change c)) group.changes
 
--- 1 to 64 changes, and room for the batch's body beside a compaction, where one runs
+-- as many changes as a batch has, and room for the batch's body beside a compaction, where one runs
 pub record HasRoom {D : Type 0} (slots : SlotsState D) (group : Group) : Type 0 where
   pub some : 0 < length group.changes
-  pub few : length group.changes ≤ 64
+  pub few : length group.changes ≤ MOST_EDITS
   pub room : HasRoomFor slots (batch_len group)
 
 -- the group's first revision is the next one, and its changes are accepted one after another

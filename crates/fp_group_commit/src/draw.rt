@@ -16,7 +16,7 @@ use fp_disk::Disk;
 use fp_edit::{Edit, FlagSet, copies_of};
 use fp_fronts::Lists;
 use fp_journal::Framed;
-use fp_record::{Batch, MOST_EDITS, encoded_len};
+use fp_record::{BATCH_HEAD, Batch, MOST_EDITS, encoded_len};
 use fp_slots::Slots;
 use std::alloc::{AllocError, Global};
 use std::collections::VecDeque;
@@ -80,7 +80,7 @@ pub fn spelled_sum(edits: &[Edit]) -> u64
     requires { length edits.now ≤ MOST_EDITS }
     ensures { result ≡ batch_len (record { first = 0; changes = changes_of edits.now }) }
 {
-    let mut sum = 10;
+    let mut sum = BATCH_HEAD as u64;
     for edit in edits {
         sum += encoded_len(edit) as u64;
     }

@@ -12,7 +12,8 @@ use Rattle.fp_journal.proofs.Holds.{holds_append, holds_front, holds_back, holds
 use Rattle.fp_disk.specs.Moments.{leaves_call, leaves_then, leaves_map}
 use Rattle.fp_slots.specs.State as slots
 use Rattle.fp_layout.specs.Layout.{magic, IsFormatted, IsHeader, IsHead, IsActive}
-use Rattle.fp_layout.specs.NewDisk.{header_text, slot_text, empty_image, new_front, IsMade, IsNewDisk, IsNewOrNone}
+use Rattle.fp_slots.specs.Head.{slot_text}
+use Rattle.fp_layout.specs.NewDisk.{header_text, empty_image, new_front, IsMade, IsNewDisk, IsNewOrNone}
 use Rattle.fp_gate.specs.declared.gate.TheConstants.{OPEN}
 
 pub no_bytes : (c : List ℕ) → length c ≡ 0 → c ≡ []

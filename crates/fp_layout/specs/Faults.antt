@@ -10,9 +10,11 @@ use Rattle.fp_layout.specs.Size.{IsSlotSize}
 use Rattle.fp_slots.specs.declared.choosing.SlotFault.{SlotFault}
 use Rattle.fp_slots.specs.declared.choosing.SlotFault.TheVariants as slot_fault
 use Rattle.fp_slots.specs.declared.places.TheConstants.{GENERATION_PLACE, VERSION_PLACE, BASE_PLACE}
-use Rattle.fp_slots.specs.declared.places.TheConstants.{LENGTH_PLACE, IMAGE_PLACE}
+use Rattle.fp_slots.specs.declared.places.TheConstants.{LENGTH_PLACE, IMAGE_PLACE, VERSION}
 use Rattle.fp_layout.specs.Layout.{IsFormatted, IsFirstOther, AreZeros, HasVersion, HasBase}
 use Rattle.fp_layout.specs.Layout.{HasLength}
+use Rattle.fp_layout.specs.declared.header.TheConstants.{HEADER, HEADER_VERSION_PLACE}
+use Rattle.fp_layout.specs.declared.header.TheConstants.{SIZE_PLACE, ZEROS_PLACE}
 use Rattle.fp_layout.specs.declared.fault.OpenFault.{OpenFault}
 use Rattle.fp_layout.specs.declared.fault.OpenFault.TheVariants.{Unformatted, UnknownVersion}
 use Rattle.fp_layout.specs.declared.fault.OpenFault.TheVariants.{Damaged, Device, Memory}
@@ -20,16 +22,18 @@ use Rattle.fp_layout.specs.declared.fault.OpenFault.TheVariants.{Damaged, Device
 -- ---- the header, in which the number at the size's place is this one;
 -- k is the first byte to show the damage
 pub data BreaksHeader (c : List ℕ) (size k : ℕ) : Type 0 where
-  bad_size : (IsSlotSize size → ⊥) → k ≡ 10 → BreaksHeader c size k
-  not_zero : IsSlotSize size → IsFirstOther c 18 64 k → BreaksHeader c size k
-  too_short : IsSlotSize size → AreZeros c 18 64 → length c < 65 + size → k ≡ length c
-      → BreaksHeader c size k
+  bad_size : (IsSlotSize size → ⊥) → k ≡ SIZE_PLACE → BreaksHeader c size k
+  not_zero : IsSlotSize size → IsFirstOther c ZEROS_PLACE HEADER k → BreaksHeader c size k
+  too_short : IsSlotSize size → AreZeros c ZEROS_PLACE HEADER → length c < HEADER + 1 + size
+      → k ≡ length c → BreaksHeader c size k
 
 abbrev pub RefusesHeader : List ℕ → OpenFault → Type 0
 RefusesHeader c Unformatted = IsFormatted c → ⊥
-RefusesHeader c (UnknownVersion v) = IsFormatted c × (slice_index c 9 ≡ v) × (v ≢ 1)
-RefusesHeader c (Damaged at) = IsFormatted c × (slice_index c 9 ≡ 1) × ((size : ℕ) × (size < 2 ^ 64)
-    × Holds c 10 (to_be_bytes w64 size) × BreaksHeader c size at)
+RefusesHeader c (UnknownVersion v) =
+    IsFormatted c × (slice_index c HEADER_VERSION_PLACE ≡ v) × (v ≢ VERSION)
+RefusesHeader c (Damaged at) = IsFormatted c × (slice_index c HEADER_VERSION_PLACE ≡ VERSION)
+    × ((size : ℕ) × (size < 2 ^ 64) × Holds c SIZE_PLACE (to_be_bytes w64 size)
+    × BreaksHeader c size at)
 RefusesHeader c Device = ⊥
 RefusesHeader c Memory = ⊥
 

@@ -8,6 +8,7 @@ use Rattle.fp_slots.specs.declared.places.TheConstants.{IMAGE_PLACE}
 use Rattle.fp_layout.specs.Size.{IsSlotSize, Side, other_side, slot_of}
 use Rattle.fp_layout.specs.Layout.{HasSlots, front_text}
 use Rattle.fp_layout.specs.Opening.{FoundFront, ReadsImage}
+use Rattle.fp_layout.specs.declared.head.TheConstants.{BASES_END}
 use Rattle.fp_layout.specs.declared.opening.Ruling.{Ruling}
 use Rattle.fp_layout.specs.declared.opening.Front.{Front}
 
@@ -21,7 +22,7 @@ pub record IsHeadOn (size len : ℕ) (r : Ruling) : Type 0 where
   pub other_is : r.other ≡ slot_of size (other_side side)
   pub text_is : r.text ≡ front_text r.head.generation r.head.base r.head.len
   pub numbered : r.head.generation < 2 ^ 64
-  pub low : r.head.base < 2 ^ 63
+  pub low : r.head.base < BASES_END
   pub small : r.head.len ≤ size / 2
   pub within : r.slot.start + IMAGE_PLACE + r.head.len ≤ len
 

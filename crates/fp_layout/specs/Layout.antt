@@ -1,5 +1,5 @@
 -- The bytes of a disk, by their places.
-use Rattle.std.specs.Prelude.{◌≡◌, ◌≢◌, ◌<◌, ◌≤◌, ◌+◌, ◌/◌, ◌^◌, ℕ, List, ◌∷◌, ◌++◌, length}
+use Rattle.std.specs.Prelude.{◌≡◌, ◌≢◌, ◌<◌, ◌≤◌, ◌+◌, ◌/◌, ℕ, List, ◌∷◌, ◌++◌, length}
 use Rattle.std.specs.Prelude.{slice_index, codes}
 use Rattle.std.specs.Int.{w32, w64, to_be_bytes}
 use Rattle.fp_journal.specs.Holds.{Holds}
@@ -7,6 +7,9 @@ use Rattle.fp_journal.specs.declared.slot.Slot.{Slot}
 use Rattle.fp_slots.specs.Rules.{HasGeneration, Rules}
 use Rattle.fp_slots.specs.declared.places.TheConstants.{VERSION_PLACE, BASE_PLACE, LENGTH_PLACE}
 use Rattle.fp_slots.specs.declared.places.TheConstants.{IMAGE_PLACE, VERSION}
+use Rattle.fp_layout.specs.declared.head.TheConstants.{BASES_END}
+use Rattle.fp_layout.specs.declared.header.TheConstants.{HEADER, HEADER_VERSION_PLACE}
+use Rattle.fp_layout.specs.declared.header.TheConstants.{SIZE_PLACE, ZEROS_PLACE}
 use Rattle.fp_layout.specs.Size.{IsSlotSize, Side, other_side, slot_of}
 use Rattle.fp_gate.specs.declared.gate.TheConstants.{OPEN}
 
@@ -24,21 +27,21 @@ pub record IsFirstOther (c : List ℕ) (from stop at : ℕ) : Type 0 where
   pub other : slice_index c at ≢ 0
   pub zeros : AreZeros c from at
 
--- ---- the header, of 64 bytes
+-- ---- the header
 -- its gate is open, and behind it stands the magic text
 pub record IsFormatted (c : List ℕ) : Type 0 where
-  pub long : 64 ≤ length c
+  pub long : HEADER ≤ length c
   pub gate : slice_index c 0 ≡ OPEN
   pub magic_text : Holds c 1 magic
 
 -- a disk with slots of this size
 pub record IsHeader (c : List ℕ) (size : ℕ) : Type 0 where
   pub formatted : IsFormatted c
-  pub version : slice_index c 9 ≡ 1
-  pub size_text : Holds c 10 (to_be_bytes w64 size)
+  pub version : slice_index c HEADER_VERSION_PLACE ≡ VERSION
+  pub size_text : Holds c SIZE_PLACE (to_be_bytes w64 size)
   pub allowed : IsSlotSize size
-  pub zeros : AreZeros c 18 64
-  pub long : 65 + size ≤ length c
+  pub zeros : AreZeros c ZEROS_PLACE HEADER
+  pub long : HEADER + 1 + size ≤ length c
 
 -- ---- the head of the slot that begins at this place, behind its gate
 pub record HasVersion (c : List ℕ) (at : ℕ) : Type 0 where
@@ -48,7 +51,7 @@ pub record HasVersion (c : List ℕ) (at : ℕ) : Type 0 where
 -- its image is one of this revision
 pub record HasBase (c : List ℕ) (at base : ℕ) : Type 0 where
   pub text : Holds c (at + BASE_PLACE) (to_be_bytes w64 base)
-  pub small : base < 2 ^ 63
+  pub small : base < BASES_END
 
 -- and has this many bytes, half the slot's at most
 pub record HasLength (c : List ℕ) (at size len : ℕ) : Type 0 where

@@ -1,19 +1,21 @@
 -- A disk as it is made.
-use Rattle.std.specs.Prelude.{◌≡◌, ◌⊎◌, ◌+◌, ℕ, List, [], ◌∷◌, ◌++◌, length, replicate, slice_index}
+use Rattle.std.specs.Prelude.{◌≡◌, ◌⊎◌, ◌+◌, ◌-◌, ℕ, List, [], ◌∷◌, ◌++◌, length, replicate}
+use Rattle.std.specs.Prelude.{slice_index}
 use Rattle.std.specs.Int.{w32, w64, to_be_bytes}
 use Rattle.fp_disk.specs.declared.history.CallKind.{CallKind}
 use Rattle.fp_disk.specs.declared.history.CallKind.TheVariants.{Sync, Write}
 use Rattle.fp_journal.specs.Holds.{Holds}
 use Rattle.fp_layout.specs.Layout.{magic, AreZeros, IsFormatted}
+use Rattle.fp_layout.specs.declared.format.TheConstants.{FIRST_GATE}
+use Rattle.fp_layout.specs.declared.header.TheConstants.{HEADER, ZEROS_PLACE}
+use Rattle.fp_slots.specs.Head.{head_text, slot_text}
+use Rattle.fp_slots.specs.declared.places.TheConstants.{VERSION}
 use Rattle.fp_gate.specs.declared.gate.TheConstants.{OPEN}
 
--- ---- the texts behind the gates of header and slot
+-- ---- the text behind the header's gate
 abbrev pub header_text : ℕ → List ℕ
-header_text size = magic ++ 1 ∷ (to_be_bytes w64 size ++ replicate 46 0)
-
-abbrev pub slot_text : ℕ → ℕ → List ℕ → List ℕ
-slot_text generation base image = to_be_bytes w64 generation ++ 1 ∷ (to_be_bytes w64 base ++
-    (to_be_bytes w32 (length image) ++ image))
+header_text size =
+    magic ++ VERSION ∷ (to_be_bytes w64 size ++ replicate (HEADER - ZEROS_PLACE) 0)
 
 -- an image of no flags
 abbrev pub empty_image : List ℕ
@@ -21,7 +23,7 @@ empty_image = to_be_bytes w32 0
 
 -- what stands in a new slot in front of the first batch's gate
 abbrev pub new_front : List ℕ
-new_front = OPEN ∷ slot_text 1 0 empty_image
+new_front = head_text 1 0 empty_image
 
 -- the bytes up to that gate, it included, as they are while all gates are closed
 abbrev pub closed_bytes : ℕ → List ℕ
@@ -34,9 +36,9 @@ format_calls = Write ∷ Sync ∷ Write ∷ Write ∷ Sync ∷ Write ∷ Sync �
 
 -- ---- the whole disk, but for the header's gate
 pub record IsMade (size : ℕ) (c : List ℕ) : Type 0 where
-  pub long : length c ≡ 65 + size
+  pub long : length c ≡ HEADER + 1 + size
   pub text : Holds c 1 (header_text size ++ new_front)
-  pub zeros : AreZeros c 90 (65 + size)
+  pub zeros : AreZeros c FIRST_GATE (HEADER + 1 + size)
 
 -- and with it
 pub record IsNewDisk (size : ℕ) (c : List ℕ) : Type 0 where

@@ -10,6 +10,7 @@ use Rattle.fp_slots.specs.declared.places.TheConstants.{IMAGE_PLACE}
 use Rattle.fp_layout.specs.Size.{IsSlotSize, Side, other_side, slot_of, first_slot, second_slot}
 use Rattle.fp_layout.specs.Layout.{IsHeader, IsHead, IsActive}
 use Rattle.fp_layout.specs.Faults.{RefusesHeader, BreaksHead}
+use Rattle.fp_layout.specs.declared.head.TheConstants.{BASES_END}
 use Rattle.fp_layout.specs.declared.fault.OpenFault.{OpenFault}
 use Rattle.fp_layout.specs.declared.fault.OpenFault.TheVariants.{Unformatted, UnknownVersion}
 use Rattle.fp_layout.specs.declared.fault.OpenFault.TheVariants.{Damaged, Device, Memory}
@@ -28,7 +29,7 @@ pub record ReadsImage {R : Type 0} (begins : R → ℕ → ℕ → List ℕ → 
   pub other_is : other ≡ slot_of size (other_side side)
   pub text_is : text ≡ head_text generation base image
   pub numbered : generation < 2 ^ 64
-  pub low : base < 2 ^ 63
+  pub low : base < BASES_END
   pub small : length image ≤ size / 2
   pub begun : begins before base (size / 2) image after
 

@@ -2,20 +2,26 @@
 use Rattle.std.specs.Prelude.{◌≤◌, ◌+◌, ◌-◌, ◌/◌, ◌^◌, ℕ, IsTrue}
 use Rattle.std.specs.Int.{is_power_of_two}
 use Rattle.fp_journal.specs.declared.slot.Slot.{Slot}
+use Rattle.fp_layout.specs.declared.header.TheConstants.{HEADER}
 
 pub record IsSlotSize (bytes : ℕ) : Type 0 where
   pub power : IsTrue (is_power_of_two bytes)
   pub least : 2 ^ 18 ≤ bytes
   pub greatest : bytes ≤ 2 ^ 30
 
--- the slot behind the header, in which a batch with its two gates
--- has an eighth of its bytes at most
+-- the longest body that a slot of so many bytes takes:
+-- a batch with its length and its two gates has an eighth of them at most
+abbrev pub most_in : ℕ → ℕ
+most_in bytes = bytes / 8 - 6
+
+-- the slot behind the header
 abbrev pub first_slot : ℕ → Slot
-first_slot bytes = record { start = 64; stop = 64 + bytes; most = bytes / 8 - 6 }
+first_slot bytes = record { start = HEADER; stop = HEADER + bytes; most = most_in bytes }
 
 -- the slot behind that one
 abbrev pub second_slot : ℕ → Slot
-second_slot bytes = record { start = 64 + bytes; stop = 64 + bytes + bytes; most = bytes / 8 - 6 }
+second_slot bytes =
+    record { start = HEADER + bytes; stop = HEADER + bytes + bytes; most = most_in bytes }
 
 -- which of the two
 pub data Side : Type 0 where

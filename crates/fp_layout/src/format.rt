@@ -12,15 +12,20 @@ ghost use Rattle.fp_layout.specs.Size.{IsSlotSize, first_slot, second_slot};
 ghost use Rattle.fp_layout.specs.Layout.{IsHeader, IsHead, IsActive};
 ghost use Rattle.fp_layout.specs.NewDisk.{IsNewDisk, IsNewOrNone, closed_bytes, empty_image};
 ghost use Rattle.fp_layout.specs.NewDisk.{format_calls, new_front};
+ghost use Rattle.fp_layout.specs.declared.header.TheConstants.{HEADER};
 ghost use Rattle.fp_slots.specs.declared.slots.Step.TheVariants.{Begin};
 ghost use Rattle.fp_layout.specs.declared.format.CreateFault.TheVariants.{NotEmpty, Device, Memory};
 
+use crate::header::{HEADER, ZEROS_PLACE};
 use crate::size::SlotSize;
 use fp_disk::{Disk, DiskFault};
 use fp_gate::OPEN;
 use fp_journal::Journal;
-use fp_slots::Slots;
+use fp_slots::{IMAGE_PLACE, Slots, VERSION};
 use std::alloc::{AllocError, Global};
+
+/// The place of the first batch's gate on a new disk, behind an image of no flags, of four bytes.
+pub const FIRST_GATE: usize = HEADER + IMAGE_PLACE + 4;
 
 /// Why a disk wasn't made.
 #[derive(Clone, Copy, Debug, PartialEq, Eq)]
@@ -37,15 +42,15 @@ pub enum CreateFault {
 fn closed(alloc: Global, size: SlotSize) -> Result<Vec<u8>, AllocError>
     ensures { IfOk result (λ v. v.items ≡ closed_bytes size) }
 {
-    let mut bytes = Vec::with_capacity(alloc, 91)?;
+    let mut bytes = Vec::with_capacity(alloc, FIRST_GATE + 1)?;
     bytes.push(0)?;
     bytes.extend_from_slice(b"FLAGPLN1")?;
-    bytes.push(1)?;
+    bytes.push(VERSION)?;
     bytes.extend_from_slice(&size.bytes().to_be_bytes())?;
-    bytes.extend_from_slice(&[0; 46])?;
+    bytes.extend_from_slice(&[0; HEADER - ZEROS_PLACE])?;
     bytes.push(0)?;
     bytes.extend_from_slice(&1u64.to_be_bytes())?;
-    bytes.push(1)?;
+    bytes.push(VERSION)?;
     bytes.extend_from_slice(&0u64.to_be_bytes())?;
     bytes.extend_from_slice(&4u32.to_be_bytes())?;
     bytes.extend_from_slice(&0u32.to_be_bytes())?;
@@ -85,8 +90,8 @@ fn format<D: Disk>(disk: &mut D, size: SlotSize, closed: &[u8]) -> Result<(), Di
 {
     write_synced(disk, 0, &[0])?;
     disk.write_at(1, &closed[1..])?;
-    write_synced(disk, 64 + size.bytes(), &[0])?;
-    write_synced(disk, 64, &[OPEN])?;
+    write_synced(disk, HEADER as u64 + size.bytes(), &[0])?;
+    write_synced(disk, HEADER as u64, &[OPEN])?;
     write_synced(disk, 0, &[OPEN])
 }
 
@@ -106,7 +111,7 @@ pub fn create<D: Disk>(
         ≡ all_synced (D.bytes s.journal.disk)) }
     ensures stands { D.honest disk → IfOk result (λ s. IsHeader (D.bytes s.journal.disk) size
         × IsActive (D.bytes s.journal.disk) size (first_slot size) (second_slot size)
-        × IsHead (D.bytes s.journal.disk) 64 size 1 0 empty_image) }
+        × IsHead (D.bytes s.journal.disk) HEADER size 1 0 empty_image) }
     ensures not_empty { D.honest disk → IfErr result (λ e. e.0 ≡ NotEmpty
         → (D.bytes disk ≢ []) × (D.bytes e.1 ≡ D.bytes disk) × (D.unsynced e.1 ≡ D.unsynced disk)) }
     ensures empty { D.honest disk → IsOk result → D.bytes disk ≡ [] }
@@ -136,7 +141,7 @@ pub fn create<D: Disk>(
     let Ok(()) = format(&mut disk, size, &bytes) else {
         return Err((CreateFault::Device, disk));
     };
-    bytes[64] = OPEN;
-    let journal = Journal::adopt(alloc, disk, size.first_slot(), &bytes, 90);
+    bytes[HEADER] = OPEN;
+    let journal = Journal::adopt(alloc, disk, size.first_slot(), &bytes, FIRST_GATE as u64);
     Ok(Slots::new(alloc, journal, size.second_slot(), 1, false))
 }

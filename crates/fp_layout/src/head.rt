@@ -6,6 +6,7 @@ ghost use Rattle.fp_gate.specs.declared.gate.TheConstants.{OPEN};
 ghost use Rattle.fp_layout.specs.Layout.{HasVersion, HasBase, HasLength, front_text};
 ghost use Rattle.fp_layout.specs.Faults.{IsDamage, BreaksHead};
 ghost use Rattle.fp_layout.specs.declared.fault.OpenFault.TheVariants.{Device};
+ghost use Rattle.fp_layout.specs.declared.head.TheConstants.{BASES_END};
 ghost use Rattle.fp_slots.specs.Rules.{IsLead};
 ghost use Rattle.fp_slots.specs.declared.places.TheConstants.{IMAGE_PLACE};
 
@@ -13,6 +14,9 @@ use crate::fault::OpenFault;
 use crate::field::{u32_at, u64_at};
 use crate::size::SlotSize;
 use fp_slots::{BASE_PLACE, GENERATION_PLACE, IMAGE_PLACE, LENGTH_PLACE, VERSION, VERSION_PLACE};
+
+/// No image is of this revision or a later one.
+pub const BASES_END: u64 = 1 << 63;
 
 /// What stands in a slot in front of its image.
 #[derive(Clone, Copy)]
@@ -41,7 +45,7 @@ fn base_of(bytes: &[u8]) -> Option<u64>
         return None;
     }
     let base = u64_at(bytes, BASE_PLACE);
-    if base >= 1 << 63 {
+    if base >= BASES_END {
         return None;
     }
     Some(base)
@@ -74,7 +78,7 @@ pub(crate) fn read_head(
     requires fits { slot + IMAGE_PLACE < 2 ^ 64 }
     ensures text { IfOk result (λ h. bytes.now ≡ front_text h.generation h.base h.len) }
     ensures small { IfOk result (λ h.
-        (h.generation < 2 ^ 64) × (h.base < 2 ^ 63) × (h.len ≤ size / 2)) }
+        (h.generation < 2 ^ 64) × (h.base < BASES_END) × (h.len ≤ size / 2)) }
     ensures within { IfOk result (λ h. slot + IMAGE_PLACE + h.len ≤ len) }
     ensures fault { IfErr result (λ f. (c : List ℕ) → IsLead c slot bytes.now →
         length c ≡ len → IsDamage (BreaksHead c slot size) f) }

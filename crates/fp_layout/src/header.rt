@@ -13,9 +13,19 @@ use crate::fault::OpenFault;
 use crate::field::u64_at;
 use crate::size::SlotSize;
 use fp_gate::OPEN;
+use fp_slots::VERSION;
 
 /// How many bytes it has.
 pub const HEADER: usize = 64;
+
+/// The place of the version, of one byte, behind the magic text.
+pub const HEADER_VERSION_PLACE: usize = 9;
+
+/// The place of how many bytes a slot has, of eight bytes.
+pub const SIZE_PLACE: usize = 10;
+
+/// The place of the zeros that fill the header.
+pub const ZEROS_PLACE: usize = 18;
 
 /// `FLAGPLN1` as a number.
 pub const MAGIC: u64 = 0x464c_4147_504c_4e31;
@@ -46,7 +56,7 @@ pub(crate) fn read_header(bytes: &[u8], len: u64) -> Result<SlotSize, OpenFault>
     ensures found { IfOk result (λ s. (c : List ℕ) → AreFirst c 0 HEADER bytes.now →
         length c ≡ len → IsHeader c s) }
     ensures allowed { IfOk result IsSlotSize }
-    ensures within { IfOk result (λ s. 65 + s ≤ len) }
+    ensures within { IfOk result (λ s. HEADER + 1 + s ≤ len) }
     ensures fault { IfErr result (λ f. (c : List ℕ) → AreFirst c 0 HEADER bytes.now →
         length c ≡ len → RefusesHeader c f) }
     ensures no_device { IfErr result (λ e. e ≢ Device) }
@@ -54,16 +64,18 @@ pub(crate) fn read_header(bytes: &[u8], len: u64) -> Result<SlotSize, OpenFault>
     if !is_formatted(bytes) {
         return Err(OpenFault::Unformatted);
     }
-    if bytes[9] != 1 {
-        return Err(OpenFault::UnknownVersion(bytes[9]));
+    if bytes[HEADER_VERSION_PLACE] != VERSION {
+        return Err(OpenFault::UnknownVersion(bytes[HEADER_VERSION_PLACE]));
     }
-    let Some(size) = SlotSize::new(u64_at(bytes, 10)) else {
-        return Err(OpenFault::Damaged { at: 10 });
+    let Some(size) = SlotSize::new(u64_at(bytes, SIZE_PLACE)) else {
+        return Err(OpenFault::Damaged {
+            at: SIZE_PLACE as u64,
+        });
     };
-    if let Some(at) = first_other(bytes, 18, HEADER) {
+    if let Some(at) = first_other(bytes, ZEROS_PLACE, HEADER) {
         return Err(OpenFault::Damaged { at: at as u64 });
     }
-    if len < 65 + size.bytes() {
+    if len < HEADER as u64 + 1 + size.bytes() {
         return Err(OpenFault::Damaged { at: len });
     }
     Ok(size)

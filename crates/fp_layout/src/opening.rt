@@ -19,6 +19,7 @@ ghost use Rattle.fp_layout.specs.Layout.{HasSlots, IsHeader};
 ghost use Rattle.fp_layout.specs.Opening.{BreaksRuling, FoundDisk, ReadsSlot};
 ghost use Rattle.fp_layout.specs.Opening.{RefusesFront, RefusesDisk};
 ghost use Rattle.fp_layout.specs.declared.fault.OpenFault.TheVariants.{Device};
+ghost use Rattle.fp_layout.specs.declared.header.TheConstants.{HEADER};
 
 use crate::fault::OpenFault;
 use crate::head::{Head, read_head};
@@ -69,7 +70,7 @@ pub(crate) struct Front {
 
 // Which slot rules, of two of this size, and its head, by the first bytes of both.
 fn choose(size: SlotSize, len: u64, mine: &[u8], its: &[u8]) -> Result<Ruling, OpenFault>
-    requires within { 65 + size ≤ len }
+    requires within { HEADER + 1 + size ≤ len }
     requires first { length mine.now ≡ min IMAGE_PLACE (len - (first_slot size).start) }
     requires second { length its.now ≡ min IMAGE_PLACE (len - (second_slot size).start) }
     ensures read { IfOk result (IsHeadOn size len) }
@@ -98,7 +99,7 @@ fn read_ruling<D: Disk>(
     size: SlotSize,
     len: u64,
 ) -> Result<Ruling, OpenFault>
-    requires within { 65 + size ≤ len }
+    requires within { HEADER + 1 + size ≤ len }
     requires long { D.honest disk.old → len ≡ length (D.bytes disk.old) }
     ensures read { IfOk result (IsHeadOn size len) }
     ensures found { D.honest disk.old → IfOk result (λ r. StandsIn r (D.bytes disk.old)) }
@@ -120,7 +121,7 @@ fn read_ruling<D: Disk>(
 fn read_size<D: Disk>(alloc: Global, disk: &mut D, len: u64) -> Result<SlotSize, OpenFault>
     requires long { D.honest disk.old → len ≡ length (D.bytes disk.old) }
     ensures allowed { IfOk result IsSlotSize }
-    ensures within { IfOk result (λ s. 65 + s ≤ len) }
+    ensures within { IfOk result (λ s. HEADER + 1 + s ≤ len) }
     ensures found { D.honest disk.old → IfOk result (IsHeader (D.bytes disk.old)) }
     ensures fault { D.honest disk.old →
         IfErr result (UnlessWanting (RefusesHeader (D.bytes disk.old))) }

@@ -2,9 +2,14 @@
 
 ghost use Rattle.std.specs.Prelude.{◌≡◌, ◌<◌, ◌≤◌, ◌+◌, ◌-◌, ◌/◌, ◌^◌, ◌↔◌, IsSome, IfSome};
 ghost use Rattle.fp_layout.specs.Size.{IsSlotSize, first_slot, second_slot};
+ghost use Rattle.fp_layout.specs.declared.size.TheConstants.{STANDARD_SLOT};
 
+use crate::header::HEADER;
 use fp_journal::Slot;
 use std::marker::Model;
+
+/// How many bytes a slot of a new disk has, as the program makes it.
+pub const STANDARD_SLOT: u64 = 1 << 24;
 
 /// How many bytes a slot has: a power of two from 2^18 to 2^30.
 #[derive(Clone, Copy, Debug)]
@@ -31,9 +36,11 @@ impl Model for SlotSize {
 impl SlotSize {
     /// The size that the program gives a new disk.
     pub const fn standard() -> SlotSize
-        ensures { result ≡ 2 ^ 24 }
+        ensures { result ≡ STANDARD_SLOT }
     {
-        SlotSize { bytes: 1 << 24 }
+        SlotSize {
+            bytes: STANDARD_SLOT,
+        }
     }
 
     /// The size of this many bytes, if it is one.
@@ -62,8 +69,8 @@ impl SlotSize {
         ensures allowed { IsSlotSize self }
     {
         Slot {
-            start: 64,
-            stop: 64 + self.bytes,
+            start: HEADER as u64,
+            stop: HEADER as u64 + self.bytes,
             most: (self.bytes / 8 - 6) as u32,
         }
     }

@@ -5,6 +5,7 @@ use Rattle.std.specs.FinMap as map
 use Rattle.fp_edit.specs.Flags.{Flags, size}
 use Rattle.fp_edit.specs.declared.flags.Flag.{Flag}
 use Rattle.fp_record.specs.Group.{Group}
+use Rattle.fp_record.specs.declared.batch.TheConstants.{BATCH_HEAD}
 use Rattle.fp_record.specs.WellFormed.{IsBatch, IsImage}
 use Rattle.fp_record.specs.Encoding.{encoding_of_change, encoding_of_batch, encoding_of_image}
 
@@ -17,10 +18,11 @@ abbrev pub ImagesStandAlone : Type 0
 ImagesStandAlone = (v w : List (List ℕ × Flag)) (x y : List ℕ) → IsImage v → IsImage w
     → encoding_of_image v ++ x ≡ encoding_of_image w ++ y → (v ≡ w) × (x ≡ y)
 
--- a batch takes 10 bytes and those of its changes
+-- a batch takes those of its head and those of its changes
 abbrev pub BatchesTakeTheirChanges : Type 0
 BatchesTakeTheirChanges = (v : Group)
-    → length (encoding_of_batch v) ≡ 10 + sum_by (λ c. length (encoding_of_change c)) v.changes
+    → length (encoding_of_batch v)
+    ≡ BATCH_HEAD + sum_by (λ c. length (encoding_of_change c)) v.changes
 
 -- the image of a set takes the set's size
 abbrev pub ImagesTakeTheirSetsSize : Type 0

@@ -1,5 +1,4 @@
 pub mod Group
-pub mod Edits
 pub mod Fields
 pub mod WellFormed
 pub mod Laws

@@ -5,9 +5,8 @@ ghost use Rattle.std.specs.Prelude.{OnOk, Ok, Err};
 ghost use Rattle.std.specs.List.{AllByRecursion};
 ghost use Rattle.fp_base.specs.Answer.{Gives};
 ghost use Rattle.fp_edit.specs.Edits.{proposal_of};
-ghost use Rattle.fp_edit.specs.Following.{unconditional};
+ghost use Rattle.fp_edit.specs.Following.{change_of, changes_of, unconditional};
 ghost use Rattle.fp_record.specs.Group.{Group};
-ghost use Rattle.fp_record.specs.Edits.{change_of, changes_of};
 ghost use Rattle.fp_record.specs.Fields.{Tells};
 ghost use Rattle.fp_record.specs.declared.fault.RecordFault.TheVariants.{Memory};
 ghost use Rattle.fp_record.specs.WellFormed.{IsBatch, IsChange};
@@ -26,6 +25,9 @@ use std::marker::Model;
 /// The most edits that a batch has.
 pub const MOST_EDITS: usize = 64;
 
+/// How many bytes stand in front of a batch's edits: the first revision, and their number.
+pub const BATCH_HEAD: usize = 10;
+
 /// The most bytes that an edit takes in a batch: a kind, and a key and a definition behind their
 /// lengths.
 pub const LONGEST_EDIT: usize = 7 + LONGEST_KEY + LONGEST_DEFINITION;
@@ -41,7 +43,7 @@ impl Model for Batch {
     ghost use Rattle.std.specs.Prelude.{ℕ, ◌+◌, ◌<◌, ◌≤◌, length};
     ghost use Rattle.std.specs.List.{AllByRecursion};
     ghost use Rattle.fp_record.specs.Group.{Group};
-    ghost use Rattle.fp_record.specs.Edits.{changes_of};
+    ghost use Rattle.fp_edit.specs.Following.{changes_of};
     ghost use Rattle.fp_edit.specs.declared.edit.TheConstants.{REVISIONS_END};
     ghost use Rattle.fp_record.specs.declared.batch.TheConstants.{MOST_EDITS};
 

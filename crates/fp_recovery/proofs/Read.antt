@@ -28,7 +28,8 @@ use Rattle.fp_record.proofs.Places.{IsBytes, bind_ok, both_true, met, ok_is}
 use Rattle.fp_record.proofs.Whole.{whole_ok}
 use Rattle.fp_recovery.specs.Reading.{image_under, edit_onto, edits_onto, front_behind, batch_onto}
 use Rattle.fp_recovery.specs.Refusals.{RefusesBatch, body_fault}
-use Rattle.fp_recovery.specs.Stands.{IsImageAt, IsImageOf, Leads, TakesBatch, unconditional}
+use Rattle.fp_edit.specs.Following.{unconditional}
+use Rattle.fp_recovery.specs.Stands.{IsImageAt, IsImageOf, Leads, TakesBatch}
 use Rattle.fp_recovery.proofs.Restored.{image_of, image_within}
 
 is_nothing : {A : Type 0} (o : Option A) → is_none o ≡ true → o ≡ None

@@ -8,6 +8,7 @@ use Rattle.fp_journal.specs.Chain.{spell}
 use Rattle.fp_journal.specs.State.{JournalState, Outside}
 use Rattle.fp_layout.specs.Size.{Side, other_side, slot_of}
 use Rattle.fp_layout.specs.Layout.{IsHeader}
+use Rattle.fp_layout.specs.declared.header.TheConstants.{HEADER}
 use Rattle.fp_layout.specs.declared.fault.OpenFault.TheVariants.{Unformatted}
 use Rattle.fp_slots.specs.Rules.{Rules}
 use Rattle.fp_recovery.specs.Refusals.{RefusesBytes}
@@ -29,8 +30,8 @@ pub record IsKept {D : Type 0} (u : PendingState) (set : State)
   pub size : ℕ
   pub side : Side
   pub header : List ℕ
-  pub is_header : (c : List ℕ) → Holds c 0 header → 65 + size ≤ length c → IsHeader c size
-  pub header_long : length header ≡ 64
+  pub is_header : (c : List ℕ) → Holds c 0 header → HEADER + 1 + size ≤ length c → IsHeader c size
+  pub header_long : length header ≡ HEADER
   pub header_firm : IsSynced u 0 header
   pub slot_is : journal.slot ≡ slot_of size side
   pub spells : Spells size (journal.front ++ spell journal.sealed) set

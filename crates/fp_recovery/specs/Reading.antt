@@ -10,7 +10,7 @@ use Rattle.fp_edit.specs.declared.edit.TheConstants.{REVISIONS_END}
 use Rattle.fp_edit.specs.declared.flags.Flag.{Flag}
 use Rattle.fp_record.specs.Fields.{number_at}
 use Rattle.fp_record.specs.Reading.{change_at, count_at, image_in, whole}
-use Rattle.fp_recovery.specs.Stands.{unconditional}
+use Rattle.fp_edit.specs.Following.{unconditional}
 
 -- the flags of an image of this revision, none of them newer; the image is no longer than the limit
 unfoldable pub image_under : ℕ → ℕ → List ℕ → Result (List (List ℕ × Flag)) ℕ

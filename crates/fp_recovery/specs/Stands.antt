@@ -1,16 +1,17 @@
 -- What the bytes of a disk stand for: a set of flags at a revision.
-use Rattle.std.specs.Prelude.{◌≡◌, ◌<◌, ◌≤◌, ◌+◌, ◌-◌, ◌/◌, ◌^◌, ℕ, List, [], ◌∷◌, ◌++◌, length}
+use Rattle.std.specs.Prelude.{◌≡◌, ◌<◌, ◌≤◌, ◌+◌, ◌/◌, ◌^◌, ℕ, List, [], ◌∷◌, ◌++◌, length}
 use Rattle.std.specs.List.{AllByRecursion}
 use Rattle.std.specs.FinMap as map
 use Rattle.fp_edit.specs.Flags.{State, total_cost}
 use Rattle.fp_edit.specs.declared.flags.Flag.{Flag}
-use Rattle.fp_edit.specs.Edits.{Change, Proposal}
+use Rattle.fp_edit.specs.Edits.{Change}
 use Rattle.fp_edit.specs.Admits.{Admits, accepted}
-use Rattle.fp_edit.specs.declared.edit.Expect.TheVariants.{Any}
+use Rattle.fp_edit.specs.declared.edit.TheConstants.{REVISIONS_END}
+use Rattle.fp_edit.specs.Following.{unconditional}
 use Rattle.fp_journal.specs.Chain.{spell}
 use Rattle.fp_journal.specs.Reading.{Reads}
 use Rattle.fp_journal.specs.State.{AllShort}
-use Rattle.fp_layout.specs.Size.{Side, other_side, slot_of}
+use Rattle.fp_layout.specs.Size.{Side, most_in, other_side, slot_of}
 use Rattle.fp_layout.specs.Layout.{IsHeader}
 use Rattle.fp_slots.specs.Head.{head_text}
 use Rattle.fp_slots.specs.Rules.{Tells}
@@ -21,7 +22,7 @@ use Rattle.fp_record.specs.Encoding.{encoding_of_batch, encoding_of_image}
 -- ---- an image
 -- an image can be that of a set at this revision, whose image may take this many bytes
 pub record IsImageAt (base limit : ℕ) (image : List (List ℕ × Flag)) : Type 0 where
-  pub numbered : base < 2 ^ 63
+  pub numbered : base < REVISIONS_END
   pub changed : AllByRecursion (λ f. f.1.changed ≤ base) image
   pub within : 4 + total_cost image ≤ limit
 
@@ -34,10 +35,6 @@ pub record IsImageOf (base limit : ℕ) (bytes : List ℕ) (s : State) : Type 0 
   pub limit_is : s.limit ≡ limit
 
 -- ---- a batch
--- a change by an editor that expects nothing
-abbrev pub unconditional : Change → Proposal
-unconditional c = record { change = c; expect = Any }
-
 -- each change is accepted by the set that those before it left, and the last leaves t
 abbrev pub Leads : State → List Change → State → Type 0
 Leads s [] t = t ≡ s
@@ -65,7 +62,7 @@ pub record Spells (size : ℕ) (text : List ℕ) (s : State) : Type 0 where
   pub numbered : generation < 2 ^ 64
   pub small : length image ≤ size / 2
   pub image_is : IsImageOf base (size / 2) image first
-  pub short : AllShort (size / 8 - 6) batches
+  pub short : AllShort (most_in size) batches
   pub leads : Reads TakesBatch first batches s
 
 -- ---- a disk

@@ -4,6 +4,7 @@ ghost use Rattle.std.specs.Prelude.{◌≡◌, ◌⊎◌, ◌<◌, ◌≤◌, �
 ghost use Rattle.fp_disk.specs.Crashes.{AtAnyMoment, EachCrash, SameHonesty};
 ghost use Rattle.fp_disk.specs.History.{Makes};
 ghost use Rattle.fp_compaction.specs.Steps.{calls_of};
+ghost use Rattle.fp_record.specs.declared.batch.TheConstants.{MOST_EDITS};
 ghost use Rattle.fp_recovery.specs.Room.{IsFullFor};
 ghost use Rattle.fp_recovery.specs.Stands.{StandsFor};
 ghost use Rattle.fp_slots.specs.declared.slots.Step.TheVariants.{Begin};
@@ -41,7 +42,7 @@ pub fn make_room<D: Disk>(store: &mut Store<D>, draw: &Draw) -> Result<(), Commi
     requires keeps { EachCrash D.Disk store.old.slots.journal.disk
         (λ c. StandsFor c (sealed_set store.old)) }
     requires some { 0 < length draw.now.changes }
-    requires few { length draw.now.changes ≤ 64 }
+    requires few { length draw.now.changes ≤ MOST_EDITS }
     ensures room { OnOk result (HasRoom store.new.slots draw.now) }
     ensures proceeds { OnOk result (Proceeds D.Disk store.old store.new) }
     ensures halts { IfErr result (λ f. Halts D.Disk store.old store.new f

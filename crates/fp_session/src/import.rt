@@ -10,7 +10,7 @@ ghost use Rattle.fp_session.specs.Progress.{Ends, IsAtWith, IsBrokenWith, IsSent
 ghost use Rattle.fp_session.specs.Run.{IsAfterPrefix, IsRunWritten, IsToldBy, after, script};
 ghost use Rattle.fp_session.specs.StoreRun.{StoreRun};
 ghost use Rattle.fp_session.specs.Streams.{Blames};
-ghost use Rattle.fp_session.specs.declared.replies.TheConstants.{MOST_WAITING};
+ghost use Rattle.fp_session.specs.declared.replies.TheConstants.{LONG, MOST_WAITING};
 ghost use Rattle.fp_session.specs.declared.fault.ApplyFault.TheVariants.{Device};
 
 use crate::replies::{Replies, conclude, give_up, go_on};
@@ -124,7 +124,7 @@ fn put_flag<W: Write, E: EditStore>(
         before (W.contents w.new.inner) replies.new)
         (IsBrokenWith E.EditStore MOST_WAITING first edits.new (asked ++ Ok (proposal_of put) ∷ [])
         before (W.contents w.new.inner) w.old.failures w.new.failures) }
-    ensures bounded { OnOk result ((length replies.new.text.items ≤ 65536)
+    ensures bounded { OnOk result ((length replies.new.text.items ≤ LONG)
         × (length replies.new.waiting.items ≤ MOST_WAITING)) }
     ensures device { Blames w.old.failures w.new.failures result }
 {
@@ -139,7 +139,7 @@ fn send_long<W: Write>(w: &mut FailureCounted<W>, replies: &mut Replies) -> Resu
     ensures sent { (sent : List ℕ) (before : Option (List ℕ))
         → Appends before (W.contents w.old.inner) sent → OnOk result
         (IsSentFurther before (W.contents w.new.inner) sent replies.old replies.new) }
-    ensures bounded { OnOk result (length replies.new.text.items ≤ 65536) }
+    ensures bounded { OnOk result (length replies.new.text.items ≤ LONG) }
     ensures waiting { replies.new.waiting ≡ replies.old.waiting }
     ensures failed { IfErr result (λ f. (f ≡ Device) × (w.old.failures < w.new.failures)) }
     ensures device { Blames w.old.failures w.new.failures result }

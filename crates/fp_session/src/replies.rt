@@ -11,7 +11,7 @@ ghost use Rattle.fp_session.specs.Asks.{Ask};
 ghost use Rattle.fp_session.specs.Progress.{AsksFor, IsAt, IsBroken, IsEnded, IsToldUpTo, Takes};
 ghost use Rattle.fp_session.specs.Reply.{is_told, reply_of_code, store_failed, texts_of, told_if};
 ghost use Rattle.fp_session.specs.Streams.{IsFromWithin};
-ghost use Rattle.fp_session.specs.declared.replies.TheConstants.{MOST_WAITING};
+ghost use Rattle.fp_session.specs.declared.replies.TheConstants.{LONG, MOST_WAITING};
 ghost use Rattle.fp_session.specs.declared.fault.ApplyFault.TheVariants as run;
 ghost use Rattle.fp_streams.specs.Failures.{CountsFailures};
 ghost use Rattle.fp_streams.specs.declared.counted.StreamFault.TheVariants.{Device};
@@ -23,7 +23,8 @@ use fp_streams::{FailureCounted, StreamFault};
 use std::alloc::{AllocError, Global};
 use std::io::Write;
 
-const LONG: usize = 65_536;
+/// The most bytes of texts that stay unsent.
+pub const LONG: usize = 65_536;
 
 /// The most replies that wait until what they tell of is kept.
 pub const MOST_WAITING: usize = 1_024;
@@ -184,7 +185,7 @@ impl Replies {
 
     /// Whether so much waits to be sent that it is better sent.
     pub fn is_long(&self) -> bool
-        ensures { result ≡ nat_lt 65536 (length self.now.text.items) }
+        ensures { result ≡ nat_lt LONG (length self.now.text.items) }
     {
         self.text.len() > LONG
     }

@@ -1,7 +1,7 @@
 use Rattle.std.proofs.Common.{◌≡◌, ◌+◌, ◌++◌, ◌∷◌, [], length, arith}
 use Rattle.std.proofs.lemmas.Result.{err_from_is_err_and}
 use Rattle.std.proofs.lemmas.List.{map_push, length-append}
-use Rattle.fp_record.specs.Edits.{change_of, changes_of}
+use Rattle.fp_edit.specs.Following.{change_of, changes_of}
 use Rattle.fp_record.specs.Reading.{change_at, changes_at}
 use Rattle.fp_record.proofs.Loop.{goes_on, ends, is_done}
 use Rattle.fp_record.proofs.batch.edits_from.Goals as goal

@@ -1,5 +1,5 @@
 use Rattle.std.proofs.Common.{◌≡◌, ◌-◌, ◌≤◌, length}
-use Rattle.fp_record.specs.Edits.{changes_of}
+use Rattle.fp_edit.specs.Following.{changes_of}
 use Rattle.fp_record.specs.Reading.{changes_at}
 use Rattle.fp_record.proofs.Loop.{with_front}
 use Rattle.fp_record.proofs.batch.edits_from.Given as goal

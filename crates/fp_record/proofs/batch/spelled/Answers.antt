@@ -4,7 +4,7 @@ use Rattle.std.specs.List.{flat_map}
 use Rattle.std.proofs.lemmas.List.{take_all, length-map}
 use Rattle.fp_edit.specs.declared.edit.Edit.{Edit}
 use Rattle.std.specs.Prelude.{List}
-use Rattle.fp_record.specs.Edits.{change_of, changes_of}
+use Rattle.fp_edit.specs.Following.{change_of, changes_of}
 use Rattle.fp_record.specs.Encoding.{encoding_of_change}
 use Rattle.fp_record.proofs.Written.{batch_written}
 use Rattle.fp_record.proofs.batch.spelled.Goals as goal

@@ -1,7 +1,7 @@
 use Rattle.std.proofs.Common.{◌≡◌, ◌++◌, length, take, drop}
 use Rattle.std.specs.Int.{w16, w64, to_be_bytes}
 use Rattle.std.specs.List.{flat_map, AllByRecursion}
-use Rattle.fp_record.specs.Edits.{changes_of}
+use Rattle.fp_edit.specs.Following.{changes_of}
 use Rattle.fp_record.specs.WellFormed.{IsChange}
 use Rattle.fp_record.specs.Encoding.{encoding_of_change}
 use Rattle.fp_record.proofs.batch.spelled.Given as goal
