@@ -2,7 +2,7 @@ use Rattle.std.proofs.Common.{rules, length, sym, subst, inr}
 use Rattle.fp_journal.specs.State.{JournalState, Outside, begun_of}
 use Rattle.fp_journal.proofs.Holds.{written_within}
 use Rattle.fp_journal.proofs.Steps as steps
-use Rattle.fp_journal.proofs.journal.outside.Journal.write_outside.Goals as goal
+use Rattle.fp_journal.proofs.journal.Journal.write_outside.Goals as goal
 
 pub invariant_of-self : goal.invariant_of-self
 invariant_of-self g c =

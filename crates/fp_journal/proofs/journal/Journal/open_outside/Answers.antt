@@ -4,7 +4,7 @@ use Rattle.fp_gate.specs.declared.gate.TheConstants.{OPEN}
 use Rattle.fp_journal.specs.State.{JournalState, Outside, begun_of}
 use Rattle.fp_journal.proofs.Holds.{written_within}
 use Rattle.fp_journal.proofs.Steps as steps
-use Rattle.fp_journal.proofs.journal.outside.Journal.open_outside.Goals as goal
+use Rattle.fp_journal.proofs.journal.Journal.open_outside.Goals as goal
 
 pub open-requires-clause-firm : goal.open-requires-clause-firm
 open-requires-clause-firm g c =
