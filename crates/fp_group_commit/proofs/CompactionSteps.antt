@@ -1,5 +1,5 @@
 -- A step of a compaction, in each of its kinds.
-use Rattle.std.proofs.Common.{◌≡◌, ◌≢◌, ◌⊎◌, ◌<◌, ◌≤◌, ◌+◌, ◌/◌, ◌^◌, ℕ, true, false, List, [], ◌∷◌, ◌++◌, length, refl, sym, ap, subst, ◌∙◌, inl, inr, arith}
+use Rattle.std.proofs.Common.{◌≡◌, ◌≢◌, ◌⊎◌, ◌<◌, ◌≤◌, ◌+◌, ◌-◌, ◌*◌, ◌/◌, ◌^◌, ℕ, true, false, List, [], ◌∷◌, ◌++◌, length, refl, sym, ap, subst, ◌∙◌, inl, inr, arith}
 use Rattle.fp_disk.specs.Outcomes.{LeavesOnly}
 use Rattle.fp_disk.specs.Moments.{leaves_map}
 use Rattle.fp_disk.specs.declared.disk.Disk.{Ghosts}
@@ -30,6 +30,7 @@ use Rattle.fp_group_commit.specs.Store.{MayCompact, StoreState, Leaves, sealed_s
 use Rattle.fp_group_commit.specs.Sound.{IsFlight, IsPlan, IsSound}
 use Rattle.fp_group_commit.proofs.Steps.{begun_stays, begun_unless, breaks, by_place, early_next, fits_other, goes, late, leaves_of, most_of, placed_as, placed_turned, room_same, still, taken, wide_of}
 use Rattle.fp_group_commit.proofs.BatchSteps.{Moved}
+use Rattle.fp_group_commit.proofs.Sizes.{halves}
 
 -- ---- a step of a compaction
 module _ {D : Type 0} (disk : Ghosts D) {s : StoreState D} {set : State} {first : ℕ} {ahead copies : List Change} (i : IsSound disk.honest disk.unsynced s set first ahead copies) where
@@ -64,12 +65,15 @@ module _ {D : Type 0} (disk : Ghosts D) {s : StoreState D} {set : State} {first 
         beside = f.beside;
       })
 
-  pub caught_all : (s.step ≡ Idle → ahead ≡ []) → set ≡ sealed_set s
+  caught_all : (s.step ≡ Idle → ahead ≡ []) → set ≡ sealed_set s
   caught_all done = ap (λ (l : List Change). after_all set l) (sym (none i.flight)) ∙ i.set_is
     where
       none : ((s.step ≡ Idle) × (s.slots.journal.begun ≡ false)) ⊎ IsFlight s first ahead copies → ahead ≡ []
       none (inl rest) = done rest.0
       none (inr f) = f.none
+
+  pub caught_begin : (s.slots.step ≡ Begin → s.step ≡ Idle → ahead ≡ []) → s.slots.step ≡ Begin → set ≡ sealed_set s
+  caught_begin done at = caught_all (done at)
 
   pub may_step : MayCompact s → s.slots.journal.phase ≢ Failed → MayStep s.slots
   may_step may well = record {
@@ -204,7 +208,7 @@ module _ {D : Type 0} (disk : Ghosts D) {s : StoreState D} {set : State} {first 
         at_rest (inr f) = absurd (subst (λ (x : Step). IsEarly x) at f.early)
 
   -- ---- a step was taken, whichever it was
-  module _ (t : SlotsState D) (taken_step : TakesStep disk s.slots t) (is : set ≡ sealed_set s) (may : MayCompact s) (well : s.slots.journal.phase ≢ Failed) (order : t.step ≡ next_step s.slots.step s.slots.left)
+  module _ (t : SlotsState D) (taken_step : TakesStep disk s.slots t) (is : s.slots.step ≡ Begin → set ≡ sealed_set s) (may : MayCompact s) (well : s.slots.journal.phase ≢ Failed) (order : t.step ≡ next_step s.slots.step s.slots.left)
       (begun : s.slots.step ≡ Begin → Begins (flags.size set.flags) set.limit s.slots t) (planned : s.slots.step ≡ Begin → (size : ℕ) → set.limit ≡ size / 2 → IsPlannedFor t size set)
       (stays : s.slots.step ≢ Begin → s.slots.step ≢ SyncOpen → Stays s.slots t) (turned : s.slots.step ≡ SyncOpen → Turns s.slots t) where
     abbrev pub Then : StoreState D
@@ -223,7 +227,7 @@ module _ {D : Type 0} (disk : Ghosts D) {s : StoreState D} {set : State} {first 
     sound_between off on = by_stays (stays off on) (begun_unless s.slots.step off)
 
     sound_begin : s.slots.step ≡ Begin → IsSound disk.honest disk.unsynced Then set first ahead copies
-    sound_begin at = sound_begun t taken_step is (begun at) (order ∙ ap (λ (x : Step). next_step x s.slots.left) at) (planned at) well
+    sound_begin at = sound_begun t taken_step (is at) (begun at) (order ∙ ap (λ (x : Step). next_step x s.slots.left) at) (planned at) well
 
     sound_end : s.slots.step ≡ SyncOpen → IsSound disk.honest disk.unsynced Then set first ahead copies
     sound_end at = sound_turned t taken_step at (turned at) (order ∙ ap (λ (x : Step). next_step x s.slots.left) at)
@@ -269,11 +273,22 @@ module _ {D : Type 0} (disk : Ghosts D) {s : StoreState D} {set : State} {first 
     tail_now : s.slots.step ≢ Begin → s.slots.step ≢ SyncOpen → tail_of t ≡ tail_of s.slots
     tail_now off on = let same = (stays off on).slots in let text = ap length same.6 in let head = same.7 in omega (arith, text, head)
 
+    head_now : s.slots.step ≢ Begin → s.slots.step ≢ SyncOpen → t.head ≡ s.slots.head
+    head_now off on = (stays off on).slots.7
+
+    -- what the slot that was turned to has, but for head, image and tail
+    gained_now : s.slots.step ≡ SyncOpen → room t.journal ≡ 2 * s.store.start.limit - (s.slots.head + tail_of s.slots)
+    gained_now at =
+        let room = (turned at).room in let wide = wide_of i.size (other_side i.placed.side) s.slots.other i.placed.its in
+        let front = (i.planned (begun_unless s.slots.step (λ e. let both : Begin ≡ SyncOpen = sym e ∙ at in absurd (cc both)))).front in
+        let half = i.placed.half in let even = halves i.size i.placed.allowed in
+        omega (arith, room, wide, front, half, even)
+
     plans_now : s.slots.step ≡ Begin → PlansImage s Then
     plans_now at =
-        let b = begun at in let text = b.text in let short = b.short in
-        let limit : set.limit ≡ s.store.start.limit = ap (λ (x : State). x.limit) is ∙ limit-after_all s.store.start s.sealed in
-        let sizes : flags.size set.flags ≡ flags.size (sealed_set s).flags = ap (λ (x : State). flags.size x.flags) is in
+        let b = begun at in let text = b.text in let short = b.short in let own : set ≡ sealed_set s = is at in
+        let limit : set.limit ≡ s.store.start.limit = ap (λ (x : State). x.limit) own ∙ limit-after_all s.store.start s.sealed in
+        let sizes : flags.size set.flags ≡ flags.size (sealed_set s).flags = ap (λ (x : State). flags.size x.flags) own in
         record {
           head = b.head ∙ ap (λ (n : ℕ). IMAGE_PLACE + n) sizes;
           small = omega (arith, short, limit, sizes);
@@ -290,12 +305,13 @@ module _ {D : Type 0} (disk : Ghosts D) {s : StoreState D} {set : State} {first 
       no_failure = no_failure;
       most = most_now;
       begun = plans_now;
+      head_stays = head_now;
       tail_stays = tail_now;
       numbered = numbered;
       slots_stay = slots_now;
       slots_turn = λ at. ((turned at).its, (turned at).generation);
       room_stays = room_now;
-      room_gained = λ at. (turned at).room;
+      room_gained = gained_now;
     }
 
   -- ---- the device failed in a step

@@ -1,10 +1,15 @@
 -- How large the slots of a store are.
-use Rattle.std.proofs.Common.{◌≡◌, ◌+◌, ◌-◌, ◌/◌, ℕ, List, ap, arith}
+use Rattle.std.proofs.Common.{◌≡◌, ◌⊎◌, ◌<◌, ◌≤◌, ◌+◌, ◌-◌, ◌*◌, ◌/◌, ◌^◌, ℕ, true, false, List, ap, refl, inl, inr, ⊎_elim, ◌∙◌, lit<, arith}
+use Rattle.std.specs.Prelude.{IsTrue, nat_lt}
+use Rattle.std.specs.Int.{is_power_of_two}
+use Rattle.std.specs.Int.Count.{ones, ones-ones}
+use Rattle.std.proofs.lemmas.Nat.{ones_cat, zero_from_ones}
+use borrow.Author.Tests.{eqb-true, leb-true, leb-false}
 use Rattle.fp_disk.specs.Outcomes.{PendingState}
 use Rattle.fp_edit.specs.Edits.{Change}
 use Rattle.fp_edit.specs.Flags.{State}
 use Rattle.fp_journal.specs.declared.slot.Slot.{Slot}
-use Rattle.fp_layout.specs.Size.{Side, other_side, slot_of}
+use Rattle.fp_layout.specs.Size.{IsSlotSize, Side, other_side, slot_of}
 use Rattle.fp_layout.specs.Size as sides
 use Rattle.fp_group_commit.specs.Sound.{IsSound}
 use Rattle.fp_group_commit.specs.Store.{StoreState}
@@ -18,3 +23,22 @@ pub quarter : {D : Type 0} (honest : D → Type 0) (unsynced : D → PendingStat
 quarter honest unsynced {s} i =
     let long = wide i.size (other_side i.placed.side) s.slots.other i.placed.its in let half = i.placed.half in
     omega (arith, long, half)
+
+-- a size is a power of two, and so twice its half
+odd : (n : ℕ) → n ≡ n / 2 * 2 ^ 1 + 1 → IsTrue (is_power_of_two n) → n ≡ 1
+odd n is power =
+    let one : ones n ≡ 1 = eqb-true _ _ power in
+    let parts : ones n ≡ ones (n / 2) + ones 1 = ap ones is ∙ ones_cat 1 (n / 2) 1 (lit< tt) in
+    let single : ones 1 ≡ 1 = ones-ones 1 in
+    let none = zero_from_ones (n / 2) (omega (arith, one, parts, single)) in
+    omega (arith, is, none)
+
+pub halves : (n : ℕ) → IsSlotSize n → n ≡ 2 * (n / 2)
+halves n allowed =
+    ⊎_elim (λ even. omega (arith, even)) (λ at. let least = allowed.least in let one = odd n at allowed.power in absurd (omega (arith, least, one))) (parity n)
+  where
+    parity : (m : ℕ) → (m ≡ 2 * (m / 2)) ⊎ (m ≡ m / 2 * 2 ^ 1 + 1)
+    parity m = elim (nat_lt (m / 2 * 2) m) as (λ t. nat_lt (m / 2 * 2) m ≡ t → (m ≡ 2 * (m / 2)) ⊎ (m ≡ m / 2 * 2 ^ 1 + 1)) [
+      | true ↦ λ e. (let more = leb-true _ _ e in inr (omega (arith, more)))
+      | false ↦ λ e. (let less = leb-false _ _ e in inl (omega (arith, less)))
+    ] refl

@@ -1,5 +1,5 @@
 -- What a call of a store changes, and why it wasn't done.
-use Rattle.std.specs.Prelude.{◌≡◌, ◌≢◌, ◌<◌, ◌≤◌, ◌+◌, ◌-◌, ◌^◌, ℕ, length}
+use Rattle.std.specs.Prelude.{◌≡◌, ◌≢◌, ◌<◌, ◌≤◌, ◌+◌, ◌-◌, ◌*◌, ◌^◌, ℕ, length}
 use Rattle.fp_edit.specs.Flags.{State, size}
 use Rattle.fp_compaction.specs.Batches.{tail_of}
 use Rattle.fp_journal.specs.State.{room}
@@ -18,10 +18,12 @@ use Rattle.fp_group_commit.specs.declared.fault.StoreFault.TheVariants as fault
 abbrev pub SameStore : {D : Type 0} → StoreState D → StoreState D → Type 0
 SameStore old new = (new.store ≡ old.store) × (new.sealed ≡ old.sealed) × (new.staged ≡ old.staged)
 
--- a compaction's next step, how much of the image is left, and the slots' sizes are the same
+-- a compaction's next step, how long its head and image are and how much of them is left, and the
+-- slots are the same
 abbrev pub SameCourse : {D : Type 0} → StoreState D → StoreState D → Type 0
 SameCourse old new = (new.slots.step ≡ old.slots.step) × (new.slots.left ≡ old.slots.left)
     × (new.slots.other ≡ old.slots.other) × (new.slots.generation ≡ old.slots.generation)
+    × (new.slots.head ≡ old.slots.head)
 
 -- and the tail is as long
 abbrev pub SamePlace : {D : Type 0} → StoreState D → StoreState D → Type 0
@@ -91,10 +93,10 @@ pub record PlansImage {D : Type 0} (old new : StoreState D) : Type 0 where
   pub left : new.slots.left + 1 ≡ new.slots.head
   pub text : length new.slots.text ≡ new.slots.head
 
--- It was taken, and the device failed neither before nor in the call. What is left of head and
--- image and the tail are as long as before, but for a Part. At the last one the slots are turned:
--- it is the next generation, and all room behind what the other slot was to hold is there. At each
--- other the slots and the room stay
+-- It was taken, and the device failed neither before nor in the call. Head and image, what is left
+-- of them and the tail are as long as before, but for a Part. At the last one the slots are turned:
+-- it is the next generation, and a slot's bytes, twice what a set may take, but for head, image and
+-- tail are room. At each other the slots and the room stay
 pub record Compacts {D : Type 0} (faults : D → ℕ) (old new : StoreState D) : Type 0 where
   pub next : new.slots.step ≡ next_step old.slots.step old.slots.left
   pub left : old.slots.step ≢ Begin → new.slots.left ≡ next_left old.slots.step old.slots.left
@@ -103,6 +105,8 @@ pub record Compacts {D : Type 0} (faults : D → ℕ) (old new : StoreState D) :
   pub no_failure : faults new.slots.journal.disk ≡ faults old.slots.journal.disk
   pub most : new.slots.journal.slot.most ≡ old.slots.journal.slot.most
   pub begun : old.slots.step ≡ Begin → PlansImage old new
+  pub head_stays : old.slots.step ≢ Begin → old.slots.step ≢ SyncOpen
+      → new.slots.head ≡ old.slots.head
   pub tail_stays : old.slots.step ≢ Begin → old.slots.step ≢ SyncOpen
       → tail_of new.slots ≡ tail_of old.slots
   pub numbered : new.slots.generation < 2 ^ 64
@@ -112,11 +116,12 @@ pub record Compacts {D : Type 0} (faults : D → ℕ) (old new : StoreState D) :
       × (new.slots.generation ≡ old.slots.generation + 1)
   pub room_stays : old.slots.step ≢ SyncOpen → room new.slots.journal ≡ room old.slots.journal
   pub room_gained : old.slots.step ≡ SyncOpen → room new.slots.journal
-      ≡ old.slots.other.stop - (old.slots.other.start + length old.slots.text)
+      ≡ 2 * old.store.start.limit - (old.slots.head + tail_of old.slots)
 
--- why a step wasn't taken
+-- why a step wasn't taken. Memory can be wanting only as a compaction begins
 abbrev pub StopsBy : {D : Type 0} → (D → ℕ) → StoreState D → StoreState D → StoreFault → Type 0
 StopsBy faults old new fault.Device = Breaks faults old new
 StopsBy faults old new fault.Failed = (old.slots.journal.phase ≡ Failed) × (new ≡ old)
-StopsBy faults old new fault.Memory = (old.slots.journal.phase ≢ Failed) × (new ≡ old)
+StopsBy faults old new fault.Memory =
+    (old.slots.journal.phase ≢ Failed) × (old.slots.step ≡ Begin) × (new ≡ old)
 StopsBy faults old new fault.Stranger = ⊥

@@ -5,8 +5,9 @@ ghost use Rattle.fp_disk.specs.History.{Makes};
 ghost use Rattle.fp_edit.specs.Following.{Follows, changes_of};
 ghost use Rattle.fp_edit.specs.Log.{after_all};
 ghost use Rattle.fp_journal.specs.declared.journal.Phase.TheVariants.{Idle};
-ghost use Rattle.std.specs.Prelude.{◌≡◌, length, IfOk, IfErr, OnOk};
+ghost use Rattle.std.specs.Prelude.{◌≡◌, length, IfOk, IfErr, OnOk, OnErr};
 ghost use Rattle.fp_compaction.specs.Steps.{calls_of};
+ghost use Rattle.fp_slots.specs.declared.slots.Step.TheVariants.{Begin};
 ghost use Rattle.fp_group_commit.specs.Calls.{Compacts, SameStore, StopsBy};
 ghost use Rattle.fp_group_commit.specs.Store.{Leaves, MayCompact};
 
@@ -20,15 +21,25 @@ use fp_slots::Step;
 use std::alloc::AllocError;
 use std::collections::VecDeque;
 
-// Takes into the set what is ahead of it. Where a batch is on its way nothing is.
-fn catch_up(step: Phase, set: &mut FlagSet, ahead: &mut VecDeque<Edit>) -> Result<(), AllocError>
+// Takes into the set what is ahead of it, where a compaction begins with it. Where a batch is on
+// its way nothing is.
+fn catch_up(
+    next: Step,
+    step: Phase,
+    set: &mut FlagSet,
+    ahead: &mut VecDeque<Edit>,
+) -> Result<(), AllocError>
     requires follows { Follows set.old (changes_of ahead.old.items) }
     ensures same { after_all set.new (changes_of ahead.new.items)
         ≡ after_all set.old (changes_of ahead.old.items) }
     ensures follows { Follows set.new (changes_of ahead.new.items) }
-    ensures done { OnOk result (step ≡ Idle → length ahead.new.items ≡ 0) }
+    ensures done { OnOk result (next ≡ Begin → step ≡ Idle → length ahead.new.items ≡ 0) }
+    ensures begins { OnErr result (next ≡ Begin) }
     ensures still { (step ≡ Idle → ⊥) → changes_of ahead.new.items ≡ changes_of ahead.old.items }
 {
+    if !matches!(next, Step::Begin) {
+        return Ok(());
+    }
     match step {
         Phase::Idle => set.catch_up(ahead),
         Phase::Staged | Phase::BodySynced | Phase::GateOpened | Phase::Failed => Ok(()),
@@ -37,7 +48,8 @@ fn catch_up(step: Phase, set: &mut FlagSet, ahead: &mut VecDeque<Edit>) -> Resul
 
 impl<D: Disk> Store<D> {
     /// Takes the next step of a compaction, with one call of the disk at most, and answers the one
-    /// behind it. It takes memory as one begins, and for what the last batch adds to the set.
+    /// behind it. It takes memory only as one begins, for the image and for what the last batch
+    /// adds to the set.
     pub fn compact_step(&mut self) -> Result<Step, StoreFault>
         requires { MayCompact self.old }
         ensures same { SameStore self.old self.new }
@@ -56,7 +68,8 @@ impl<D: Disk> Store<D> {
         if let Phase::Failed = phase(&self.slots) {
             return Err(StoreFault::Failed);
         }
-        let Ok(()) = catch_up(self.step, &mut self.set, &mut self.ahead) else {
+        let next = self.slots.step();
+        let Ok(()) = catch_up(next, self.step, &mut self.set, &mut self.ahead) else {
             return Err(StoreFault::Memory);
         };
         let Err(fault) = take_step(self.alloc, &mut self.slots, &self.set) else {

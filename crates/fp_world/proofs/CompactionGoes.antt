@@ -1,9 +1,10 @@
 -- A compaction as the plain commits have it, from step to step.
-use Rattle.std.proofs.Common.{◌≡◌, ◌≢◌, ℕ, Bool, true, false, List, ◌++◌, refl, sym, ap, ◌∙◌, inl, inr, arith}
+use Rattle.std.proofs.Common.{◌≡◌, ◌≢◌, ◌+◌, ◌-◌, ◌*◌, ℕ, Bool, true, false, List, ◌++◌, refl, sym, ap, ◌∙◌, inl, inr, arith}
 use Rattle.fp_disk.specs.History.{MakesSome}
 use Rattle.fp_disk.specs.declared.history.CallKind.{CallKind}
 use Rattle.fp_disk.specs.declared.history.CallKind.TheVariants.{Sync, Write}
 use Rattle.std.proofs.lemmas.List.{append-nil}
+use Rattle.fp_compaction.specs.Batches.{tail_of}
 use Rattle.fp_compaction.specs.Steps.{calls_of}
 use Rattle.fp_edit.specs.Flags.{State, size}
 use Rattle.fp_journal.specs.State.{room}
@@ -15,6 +16,7 @@ use Rattle.fp_slots.specs.declared.slots.Step.TheVariants.{Begin, Close, SyncClo
 use Rattle.std.specs.Prelude.{if◌then◌else◌}
 use Rattle.fp_edit.specs.Log.{after_all}
 use Rattle.fp_group_commit.specs.Store.{MayCompact, StoreState, is_failed, sealed_set}
+use Rattle.fp_group_commit.specs.Tokens.{Identity}
 use Rattle.fp_group_commit.specs.declared.fault.StoreFault.{StoreFault}
 use Rattle.fp_group_commit.specs.declared.fault.StoreFault.TheVariants as fault
 use Rattle.fp_desk.specs.Desk.{DeskState}
@@ -77,11 +79,12 @@ compacts faults h s n d told next same o may c step is =
       may_step h s d told o may,
       record {
         next = c.next;
-        begun = λ at. (let plans = c.begun at in let left = plans.left in let head = plans.head in let image = ap (λ (t : State). size t.flags) (kept_is h s d told same o) in let text = plans.text in (omega (arith, left, head, image), omega (arith, text)));
+        begun = λ at. (let plans = c.begun at in let left = plans.left in let head = plans.head in let image = ap (λ (t : State). size t.flags) (kept_is h s d told same o) in let text = plans.text in (omega (arith, head, image), left, omega (arith, text)));
         left = c.left;
+        head = c.head_stays;
         tail = c.tail_stays;
         stays = λ on. ((c.slots_stay on).1, c.room_stays on);
-        turns = λ at. (c.slots_turn at).1;
+        turns = λ at. ((c.slots_turn at).1, c.room_gained at ∙ ap (λ (x : Identity). 2 * x.start.limit - (s.slots.head + tail_of s.slots)) (sym same));
         rest = machine_is (At h n d told) (record (At h s d told) { room = room n.slots.journal; compaction = compaction_of n }) refl (ap (λ (p : Phase). progress_of h p) step) (is_well n.slots.journal.phase c.well_now ∙ sym well) c.most refl refl refl;
       },
       is,
@@ -91,7 +94,7 @@ pub stops : {D : Type 0} (faults : D → ℕ) (e : StoreFault) (h : Held) (s n :
 stops faults fault.Device h s n d told o may b =
     (is_well s.slots.journal.phase b.well_before, may_step h s d told o may, machine_is (At h n d told) (record (At h s d told) { failed = true }) refl (ap (λ (p : Phase). progress_of h p) b.step) (ap is_failed b.failed) b.room.0 b.room.1 refl (compaction_is s n b.room.2))
 stops faults fault.Failed h s n d told o may b = (ap is_failed b.0, ap (λ (x : StoreState _). At h x d told) b.1)
-stops faults fault.Memory h s n d told o may b = (is_well s.slots.journal.phase b.0, may_step h s d told o may, ap (λ (x : StoreState _). At h x d told) b.1)
+stops faults fault.Memory h s n d told o may b = (is_well s.slots.journal.phase b.0, b.1, may_step h s d told o may, ap (λ (x : StoreState _). At h x d told) b.2)
 stops faults fault.Stranger h s n d told o may b = absurd b
 
 -- its calls
@@ -130,11 +133,11 @@ calls_of_step next may_open p old new is = none_or_one next may_open old new is
 pub calls_of_stop : {D : Type 0} (faults : D → ℕ) (calls : D → List CallKind) (e : StoreFault) (s n : StoreState D) → StopsBy faults s n e → MakesSome (calls_of s.slots.step s.slots.may_open) (calls s.slots.journal.disk) (calls n.slots.journal.disk) → MakesItsCall event.Compact (answer.Fault e) (calls s.slots.journal.disk) (calls n.slots.journal.disk)
 calls_of_stop faults calls fault.Device s n b made = some_or_one s.slots.step s.slots.may_open (calls s.slots.journal.disk) (calls n.slots.journal.disk) made
 calls_of_stop faults calls fault.Failed s n b made = ap (λ (x : StoreState _). calls x.slots.journal.disk) b.1
-calls_of_stop faults calls fault.Memory s n b made = ap (λ (x : StoreState _). calls x.slots.journal.disk) b.1
+calls_of_stop faults calls fault.Memory s n b made = ap (λ (x : StoreState _). calls x.slots.journal.disk) b.2
 calls_of_stop faults calls fault.Stranger s n b made = absurd b
 
 pub rise_of_stop : {D : Type 0} (faults : D → ℕ) (e : StoreFault) (s n : StoreState D) → StopsBy faults s n e → RisesFor (answer.Fault e) (faults s.slots.journal.disk) (faults n.slots.journal.disk)
 rise_of_stop faults fault.Device s n b = b.cause
 rise_of_stop faults fault.Failed s n b = ap (λ (x : StoreState _). faults x.slots.journal.disk) b.1
-rise_of_stop faults fault.Memory s n b = ap (λ (x : StoreState _). faults x.slots.journal.disk) b.1
+rise_of_stop faults fault.Memory s n b = ap (λ (x : StoreState _). faults x.slots.journal.disk) b.2
 rise_of_stop faults fault.Stranger s n b = absurd b

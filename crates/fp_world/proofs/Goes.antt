@@ -8,7 +8,7 @@ use Rattle.fp_journal.specs.State.{room}
 use Rattle.fp_journal.specs.declared.journal.Phase.{Phase}
 use Rattle.fp_journal.specs.declared.journal.Phase.TheVariants.{Idle, Staged, BodySynced, GateOpened, Failed}
 use Rattle.fp_record.specs.Group.{Group}
-use Rattle.fp_group_commit.specs.Calls.{Breaks, FailsBy, MovesTo, RefusesBy, SamePlace, SameRoom, TakesRoom}
+use Rattle.fp_group_commit.specs.Calls.{Breaks, FailsBy, MovesTo, RefusesBy, SameCourse, SamePlace, SameRoom, TakesRoom}
 use Rattle.fp_group_commit.specs.Changes.{HasRoom, batch_len}
 use Rattle.fp_slots.specs.declared.slots.Step.{Step}
 use Rattle.fp_compaction.specs.Batches.{tail_of}
@@ -64,13 +64,18 @@ At h s d told = record {
   compaction = compaction_of s;
 }
 
--- a compaction is where it was
+-- a compaction is where it was, but for its tail
+course_is : {D : Type 0} (s n : StoreState D) → SameCourse s n → (tail : ℕ) → ◌≡◌ {A = Compaction} (record (compaction_of n) { tail = tail }) (record (compaction_of s) { tail = tail })
+course_is s n same tail =
+    ap (λ (x : Step). record { next = x; head = n.slots.head; left = n.slots.left; tail = tail; generation = n.slots.generation }) same.0
+    ∙ ap (λ (x : ℕ). record { next = s.slots.step; head = x; left = n.slots.left; tail = tail; generation = n.slots.generation }) same.4
+    ∙ ap (λ (x : ℕ). record { next = s.slots.step; head = s.slots.head; left = x; tail = tail; generation = n.slots.generation }) same.1
+    ∙ ap (λ (x : ℕ). record { next = s.slots.step; head = s.slots.head; left = s.slots.left; tail = tail; generation = x }) same.3
+
+-- and with it
 pub compaction_is : {D : Type 0} (s n : StoreState D) → SamePlace s n → compaction_of n ≡ compaction_of s
 compaction_is s n same =
-    ap (λ (x : Step). record { next = x; left = n.slots.left; tail = tail_of n.slots; generation = n.slots.generation }) same.0.0
-    ∙ ap (λ (x : ℕ). record { next = s.slots.step; left = x; tail = tail_of n.slots; generation = n.slots.generation }) same.0.1
-    ∙ ap (λ (x : ℕ). record { next = s.slots.step; left = s.slots.left; tail = x; generation = n.slots.generation }) same.1
-    ∙ ap (λ (x : ℕ). record { next = s.slots.step; left = s.slots.left; tail = tail_of s.slots; generation = x }) same.0.3
+    ap (λ (x : ℕ). record (compaction_of n) { tail = x }) same.1 ∙ course_is s n same.0 (tail_of s.slots)
 
 -- ---- where the drawn edits are
 pub some_in : (xs : List Change) → xs ≢ [] → 0 < length xs
@@ -217,9 +222,7 @@ seals faults h r s n d told revision same moves takes store settled drawn all po
       omega (arith, bytes, left),
       ((λ grows. let tail = takes.3 grows in omega (arith, bytes, tail)), takes.4),
       machine_is (At (held.Sealed r) n d told) (record (At h s d told) { progress = batch_sealed; room = room n.slots.journal; compaction = record (compaction_of s) { tail = tail_of n.slots } }) refl refl (is_well n.slots.journal.phase moves.well_now ∙ sym well) takes.0 refl refl
-          (ap (λ (x : Step). record { next = x; left = n.slots.left; tail = tail_of n.slots; generation = n.slots.generation }) takes.2.0
-          ∙ ap (λ (x : ℕ). record { next = s.slots.step; left = x; tail = tail_of n.slots; generation = n.slots.generation }) takes.2.1
-          ∙ ap (λ (x : ℕ). record { next = s.slots.step; left = s.slots.left; tail = tail_of n.slots; generation = x }) takes.2.3),
+          (course_is s n takes.2 (tail_of n.slots)),
     )
 
 pub seal_fails : {D : Type 0} (faults : D → ℕ) (e : StoreFault) (h : Held) (s n : StoreState D) (d : DeskState) (told : ℕ) → FailsBy faults s n e → n.step ≡ s.step → progress_of h s.step ≡ gate_opened → Seals (At h s d told) (answer.Fault e) (At h n d told)

@@ -1,7 +1,7 @@
 -- The plain machine of the edits, from where they are handed in to where they are settled and told:
 -- a desk, and how far its drawn edits are. It has no disk.
-use Rattle.std.specs.Prelude.{◌≡◌, ◌≢◌, ◌⊎◌, ◌<◌, ◌≤◌, ◌+◌, ◌/◌, ◌^◌, ℕ, max, Bool, true, false}
-use Rattle.std.specs.Prelude.{List, [], ◌∷◌, ◌++◌, length, if◌then◌else◌}
+use Rattle.std.specs.Prelude.{◌≡◌, ◌≢◌, ◌⊎◌, ◌<◌, ◌≤◌, ◌+◌, ◌-◌, ◌*◌, ◌/◌, ◌^◌, ℕ, max, Bool, true}
+use Rattle.std.specs.Prelude.{false, List, [], ◌∷◌, ◌++◌, length, if◌then◌else◌}
 use Rattle.fp_edit.specs.Edits.{Change, Proposal, proposal_of}
 use Rattle.fp_edit.specs.Flags.{State, size}
 use Rattle.fp_edit.specs.Following.{change_of}
@@ -32,10 +32,12 @@ pub data Progress : Type 0 where
   gate_opened : Progress
   batch_sealed : Progress
 
--- A compaction: its next step (`Begin` where none runs), how many bytes of head and image no part
--- wrote yet, how many the batches behind them have, and the generation of the slot that rules
+-- A compaction: its next step (`Begin` where none runs), how many bytes head and image have, how
+-- many of them no part wrote yet, how many the batches behind them have, and the generation of the
+-- slot that rules
 pub record Compaction : Type 0 where
   pub next : Step
+  pub head : ℕ
   pub left : ℕ
   pub tail : ℕ
   pub generation : ℕ
@@ -187,31 +189,36 @@ MayStep m = (m.compaction.next ≡ Begin → m.compaction.generation + 1 < 2 ^ 6
     × (m.compaction.next ≡ Tail → is_flying m.progress ≡ false)
 
 -- One step of it. As it begins, an image of the sealed set is to be written, behind a head and all
--- but its gate. A Part writes one part of it. At the last step the next generation rules, with a
--- room of which nothing is said here; at each other the room stays
+-- but its gate. A Part writes one part of it. At the last step the next generation rules, and a
+-- slot's bytes, twice what a set may take, but for head, image and tail are room; at each other the
+-- room stays
 pub record Compacts (old new : Commits) : Type 0 where
   pub next : new.compaction.next ≡ next_step old.compaction.next old.compaction.left
-  pub begun : old.compaction.next ≡ Begin → (new.compaction.left + 1
+  pub begun : old.compaction.next ≡ Begin → (new.compaction.head
       ≡ IMAGE_PLACE + size (after_all old.desk.store.start (sealed_edits old)).flags)
-      × (new.compaction.tail ≡ 0)
+      × (new.compaction.left + 1 ≡ new.compaction.head) × (new.compaction.tail ≡ 0)
   pub left : old.compaction.next ≢ Begin
       → new.compaction.left ≡ next_left old.compaction.next old.compaction.left
+  pub head : old.compaction.next ≢ Begin → old.compaction.next ≢ SyncOpen
+      → new.compaction.head ≡ old.compaction.head
   pub tail : old.compaction.next ≢ Begin → old.compaction.next ≢ SyncOpen
       → new.compaction.tail ≡ old.compaction.tail
   pub stays : old.compaction.next ≢ SyncOpen
       → (new.compaction.generation ≡ old.compaction.generation) × (new.room ≡ old.room)
   pub turns : old.compaction.next ≡ SyncOpen
-      → new.compaction.generation ≡ old.compaction.generation + 1
+      → (new.compaction.generation ≡ old.compaction.generation + 1) × (new.room
+      ≡ 2 * old.desk.store.start.limit - (old.compaction.head + old.compaction.tail))
   pub rest : new ≡ record old { room = new.room; compaction = new.compaction }
 
--- its next step is taken, where it may be
+-- its next step is taken, where it may be. Only as one begins memory can be wanting
 abbrev pub StepsOn : Commits → Answer → Commits → Type 0
 StepsOn old (answer.Phase next) new = (old.failed ≡ false) × MayStep old × Compacts old new
     × (next ≡ new.compaction.next)
 StepsOn old (answer.Fault fault.Device) new =
     (old.failed ≡ false) × MayStep old × (new ≡ record old { failed = true })
 StepsOn old (answer.Fault fault.Failed) new = (old.failed ≡ true) × (new ≡ old)
-StepsOn old (answer.Fault fault.Memory) new = (old.failed ≡ false) × MayStep old × (new ≡ old)
+StepsOn old (answer.Fault fault.Memory) new =
+    (old.failed ≡ false) × (old.compaction.next ≡ Begin) × MayStep old × (new ≡ old)
 StepsOn old answer.NotNow new = (old.failed ≡ false) × (MayStep old → ⊥) × (new ≡ old)
 StepsOn old _ new = ⊥
 

@@ -36,6 +36,7 @@ pub record CommitterState (D : Type 0) : Type 0 where
 abbrev pub compaction_of : {D : Type 0} → StoreState D → Compaction
 compaction_of s = record {
   next = s.slots.step;
+  head = s.slots.head;
   left = s.slots.left;
   tail = tail_of s.slots;
   generation = s.slots.generation;

@@ -31,7 +31,7 @@ returns-in_default-catch_up g c =
       phase = refl;
       ok = tt;
       next = tt;
-      fault = (well, refl);
+      fault = (well, sym c.step-next.ensures.step ∙ c.in_default-catch_up.ensures.begins, refl);
       called = steps.makes_none _ _;
       any_moment = λ h. steps.still D i m.only_now c.phase.ensures.outcomes h;
       exit = steps.now D i c.phase.ensures.outcomes;
@@ -45,8 +45,8 @@ take_step-requires g c =
     let cu = c.catch_up.ensures in let left = changes_of c.catch_up.new.ahead.items in
     let i1 = compaction_steps.caught D i c.catch_up.new.set left cu.same cu.follows cu.still in
     let may : MayCompact _ = subst (λ (k : StoreState g.row.D.Denot). MayCompact k) (sym c.self.view_is) c.requires in
-    let is = compaction_steps.caught_all D i1 (λ idle. none_left c.catch_up.new.ahead.items (c.in-Ok.ensures.done idle)) in
-    record { live = well; may = compaction_steps.may_step D i1 may well; place = λ begins. compaction_steps.has_place D i1 is }
+    let is = compaction_steps.caught_begin D i1 (λ at idle. none_left c.catch_up.new.ahead.items (c.in-Ok.ensures.done (c.step-next.ensures.step ∙ at) idle)) in
+    record { live = well; may = compaction_steps.may_step D i1 may well; place = λ begins. compaction_steps.has_place D i1 (is begins) }
 
 pub invariant_of-self-in_default-take_step : goal.invariant_of-self-in_default-take_step
 invariant_of-self-in_default-take_step g c =
@@ -55,7 +55,7 @@ invariant_of-self-in_default-take_step g c =
     let cu = c.catch_up.ensures in let left = changes_of c.catch_up.new.ahead.items in
     let i1 = compaction_steps.caught D i c.catch_up.new.set left cu.same cu.follows cu.still in
     let may : MayCompact _ = subst (λ (k : StoreState g.row.D.Denot). MayCompact k) (sym c.self.view_is) c.requires in
-    let is = compaction_steps.caught_all D i1 (λ idle. none_left c.catch_up.new.ahead.items (c.in-Ok.ensures.done idle)) in
+    let is = compaction_steps.caught_begin D i1 (λ at idle. none_left c.catch_up.new.ahead.items (c.in-Ok.ensures.done (c.step-next.ensures.step ∙ at) idle)) in
     let t1 = c.take_step.new.slots in let w = c.take_step.ensures in
     let o = c.in_default-take_step.ensures in
     compaction_steps.sound_taken D i1 t1 w.taken is may well o.order.0 o.begun o.planned o.stays o.turned
@@ -67,7 +67,7 @@ returns-in_default-take_step g c =
     let cu = c.catch_up.ensures in let left = changes_of c.catch_up.new.ahead.items in
     let i1 = compaction_steps.caught D i c.catch_up.new.set left cu.same cu.follows cu.still in
     let may : MayCompact _ = subst (λ (k : StoreState g.row.D.Denot). MayCompact k) (sym c.self.view_is) c.requires in
-    let is = compaction_steps.caught_all D i1 (λ idle. none_left c.catch_up.new.ahead.items (c.in-Ok.ensures.done idle)) in
+    let is = compaction_steps.caught_begin D i1 (λ at idle. none_left c.catch_up.new.ahead.items (c.in-Ok.ensures.done (c.step-next.ensures.step ∙ at) idle)) in
     let t1 = c.take_step.new.slots in let w = c.take_step.ensures in
     let o = c.in_default-take_step.ensures in
     rw (← c.self.view_is) (record {
@@ -89,7 +89,7 @@ invariant_of-self-in-Memory g c =
     let cu = c.catch_up.ensures in let left = changes_of c.catch_up.new.ahead.items in
     let i1 = compaction_steps.caught D i c.catch_up.new.set left cu.same cu.follows cu.still in
     let may : MayCompact _ = subst (λ (k : StoreState g.row.D.Denot). MayCompact k) (sym c.self.view_is) c.requires in
-    let is = compaction_steps.caught_all D i1 (λ idle. none_left c.catch_up.new.ahead.items (c.in-Ok.ensures.done idle)) in
+    let is = compaction_steps.caught_begin D i1 (λ at idle. none_left c.catch_up.new.ahead.items (c.in-Ok.ensures.done (c.step-next.ensures.step ∙ at) idle)) in
     let t1 = c.take_step.new.slots in let w = c.take_step.ensures in
     let e = c.in-Err.ensures in let same = (e.memory c.in-Memory.is).1 in
     rw same i1
@@ -101,7 +101,7 @@ returns-in-Memory g c =
     let cu = c.catch_up.ensures in let left = changes_of c.catch_up.new.ahead.items in
     let i1 = compaction_steps.caught D i c.catch_up.new.set left cu.same cu.follows cu.still in
     let may : MayCompact _ = subst (λ (k : StoreState g.row.D.Denot). MayCompact k) (sym c.self.view_is) c.requires in
-    let is = compaction_steps.caught_all D i1 (λ idle. none_left c.catch_up.new.ahead.items (c.in-Ok.ensures.done idle)) in
+    let is = compaction_steps.caught_begin D i1 (λ at idle. none_left c.catch_up.new.ahead.items (c.in-Ok.ensures.done (c.step-next.ensures.step ∙ at) idle)) in
     let t1 = c.take_step.new.slots in let w = c.take_step.ensures in
     let e = c.in-Err.ensures in let same = (e.memory c.in-Memory.is).1 in
     rw (← c.self.view_is) (record {
@@ -109,7 +109,7 @@ returns-in-Memory g c =
       phase = refl;
       ok = tt;
       next = tt;
-      fault = (well, ap (λ (x : SlotsState g.row.D.Denot). record { store = record { name = s.sealed.name; start = s.origin }; sealed = s.sealed.log; staged = s.batch.changes; step = s.step; slots = x }) same);
+      fault = (well, (e.memory c.in-Memory.is).0, ap (λ (x : SlotsState g.row.D.Denot). record { store = record { name = s.sealed.name; start = s.origin }; sealed = s.sealed.log; staged = s.batch.changes; step = s.step; slots = x }) same);
       called = rw same (steps.makes_none _ _);
       any_moment = rw same (λ h. steps.still D i m.only_now c.phase.ensures.outcomes h);
       exit = rw same (steps.now D i c.phase.ensures.outcomes);
@@ -123,7 +123,7 @@ invariant_of-self-2 g c =
     let cu = c.catch_up.ensures in let left = changes_of c.catch_up.new.ahead.items in
     let i1 = compaction_steps.caught D i c.catch_up.new.set left cu.same cu.follows cu.still in
     let may : MayCompact _ = subst (λ (k : StoreState g.row.D.Denot). MayCompact k) (sym c.self.view_is) c.requires in
-    let is = compaction_steps.caught_all D i1 (λ idle. none_left c.catch_up.new.ahead.items (c.in-Ok.ensures.done idle)) in
+    let is = compaction_steps.caught_begin D i1 (λ at idle. none_left c.catch_up.new.ahead.items (c.in-Ok.ensures.done (c.step-next.ensures.step ∙ at) idle)) in
     let t1 = c.take_step.new.slots in let w = c.take_step.ensures in
     let e = c.in-Err.ensures in
     compaction_steps.sound_broken D i1 t1 w.taken e.order.1 (e.device c.in_default-fault.is)
@@ -135,7 +135,7 @@ returns g c =
     let cu = c.catch_up.ensures in let left = changes_of c.catch_up.new.ahead.items in
     let i1 = compaction_steps.caught D i c.catch_up.new.set left cu.same cu.follows cu.still in
     let may : MayCompact _ = subst (λ (k : StoreState g.row.D.Denot). MayCompact k) (sym c.self.view_is) c.requires in
-    let is = compaction_steps.caught_all D i1 (λ idle. none_left c.catch_up.new.ahead.items (c.in-Ok.ensures.done idle)) in
+    let is = compaction_steps.caught_begin D i1 (λ at idle. none_left c.catch_up.new.ahead.items (c.in-Ok.ensures.done (c.step-next.ensures.step ∙ at) idle)) in
     let t1 = c.take_step.new.slots in let w = c.take_step.ensures in
     let e = c.in-Err.ensures in let off = e.device c.in_default-fault.is in
     rw (← c.self.view_is) (record {
