@@ -29,3 +29,10 @@ blames-run A B a b s t run.Device no_failure h = let same = no_failure refl in o
 blames-run A B a b s t run.StoreFailed no_failure h = tt
 blames-run A B a b s t run.Memory no_failure h = tt
 blames-run A B a b s t run.CommitMemory no_failure h = tt
+
+-- a run over streams, beside no disk
+pub blames-alone : (A B : Type 0) (s t : ℕ) (f : ApplyFault) → plane.Blames {A = A} s t (Err f) → Blames {A = B} s t (Err (of_run f))
+blames-alone A B s t run.Device h = h
+blames-alone A B s t run.StoreFailed h = tt
+blames-alone A B s t run.Memory h = tt
+blames-alone A B s t run.CommitMemory h = tt

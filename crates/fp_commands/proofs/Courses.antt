@@ -24,7 +24,7 @@ use Rattle.fp_session.specs.declared.commit.CommitFault.TheVariants as commit
 use Rattle.fp_session.specs.declared.edit_store.EditStore.{Ghosts as StoreGhosts}
 use Rattle.fp_session.specs.declared.fault.ApplyFault.{ApplyFault}
 use Rattle.fp_session.specs.declared.fault.ApplyFault.TheVariants.{Device, StoreFailed, Memory, CommitMemory}
-use Rattle.fp_commands.specs.Disks.{Asked, CallsSomeWorks, CallsWorks, IsLeftOnDisk, IsToldOnDisk, LacksRoom, Opens}
+use Rattle.fp_commands.specs.Disks.{Asked, CallsSomeWorks, CallsWorks, IsLeftOnDisk, IsStreamFault, IsToldOnDisk, LacksRoom, Opens}
 use Rattle.fp_commands.specs.Faults.{of_run}
 use Rattle.fp_commands.specs.declared.fault.CommandFault.{CommandFault}
 use Rattle.fp_commands.specs.declared.fault.CommandFault.TheVariants as command
@@ -43,6 +43,31 @@ module _ {E : Type 0} (store : StoreGhosts E) (P : State → Type 0) (a b : E) w
       by_fault Memory e h = absurd (cc)
       by_fault CommitMemory e h = absurd (cc)
       by_fault StoreFailed e h = h
+
+-- ---- flags in memory
+
+-- as a place where edits go
+abbrev pub set_store : StoreGhosts State
+set_store = record {
+  state = λ s. s;
+  may_stand = λ s flags. flags ≡ s;
+  has_place = λ s change. Unit {0};
+  rests = λ s. Unit {0};
+  continues_to = λ a b. Unit {0};
+  fails_on = λ f a b. ⊥;
+  leaves = λ a b P. Unit {0};
+  leads_to_itself = λ s. tt;
+  leads_on = λ a b c h k. tt;
+  leaves_on = λ a b c P h k. tt;
+  leaves_as = λ a b P Q f h. tt;
+}
+
+-- no run over them fails to keep edits
+pub set-course : (A : Type 0) (P : State → Type 0) (a b : State) (f : ApplyFault) → StoreRun {A = A} set_store P a b (Err f) → IsStreamFault (of_run f)
+set-course A P a b Device h = tt
+set-course A P a b StoreFailed h = absurd h.failed
+set-course A P a b Memory h = tt
+set-course A P a b CommitMemory h = absurd h.failed
 
 -- ---- a session
 

@@ -13,7 +13,8 @@ use Rattle.fp_layout.specs.NewDisk.{IsNewDisk, format_calls}
 use Rattle.fp_recovery.specs.Durable.{IsNewSetOrNone, IsDurable}
 use Rattle.fp_edit.specs.Flags.{State}
 use Rattle.fp_session.specs.Asks.{Ask, asked_by_input}
-use Rattle.fp_session.specs.Run.{IsRunWritten}
+use Rattle.fp_session.specs.Run.{IsRunWritten, IsToldBy}
+use Rattle.fp_session.specs.declared.fault.ApplyFault.{ApplyFault}
 use Rattle.fp_session.specs.declared.replies.TheConstants.{MOST_WAITING}
 use Rattle.fp_streams.specs.Failures.{Stream}
 use Rattle.fp_commands.specs.Disks.{AskedByDocument, AskedByLines, Blames, CallsOfRun}
@@ -22,6 +23,7 @@ use Rattle.fp_commands.specs.Disks.{IsLeftOnDisk, IsMakingFault, IsOnlyRead, IsR
 use Rattle.fp_commands.specs.Disks.{IsShowingFault, IsShown, IsStreamFault, IsToldOnDisk, IsUnbegun}
 use Rattle.fp_commands.specs.Disks.{LacksRoom}
 use Rattle.fp_commands.specs.Eval.{IsEvaluated}
+use Rattle.fp_commands.specs.Faults.{of_run}
 use Rattle.fp_commands.specs.Task.{no_flags}
 use Rattle.fp_commands.specs.declared.fault.CommandFault.{CommandFault}
 use Rattle.fp_commands.specs.declared.fault.CommandFault.TheVariants.{Device, Memory, NotEmpty}
@@ -40,7 +42,8 @@ pub record Outside (F R W : Type 0) : Type 0 where
 abbrev pub failures : {F R W : Type 0} → Outside F R W → ℕ
 failures o = o.reader.failures + o.writer.failures
 
--- over memory: what a run from no flags writes, or that memory ran out or a stream failed
+-- over memory: what a run from no flags writes, or that memory ran out or a stream failed, and
+-- that all was told by then, unless the writer failed: of one line at most no revision
 abbrev pub AppliesInMemory : {R W : Type 0} → (R → Option (List ℕ)) → (W → Option (List ℕ))
     → Stream R → Stream R
     → Stream W → Stream W → Result (Unit {0}) CommandFault → Type 0
@@ -49,6 +52,10 @@ AppliesInMemory remaining contents r0 r w0 w (Ok x) = IfSome (remaining r0.inner
     (contents w0.inner) (contents w.inner) flags)
 AppliesInMemory remaining contents r0 r w0 w (Err f) = IsStreamFault f
     × Blames {A = Unit {0}} (r0.failures + w0.failures) (r.failures + w.failures) (Err f)
+    × (w.failures ≡ w0.failures → IfSome (remaining r0.inner) (λ input.
+    (ended : ApplyFault) × (flags : State) × (f ≡ of_run ended)
+    × IsToldBy no_flags (asked_by_input input) 1 ended (contents w0.inner) (contents w.inner)
+    flags flags))
 
 -- ---- what becomes of a disk: by these, as `init_disk`, `show_disk`,
 -- `apply_disk` and `import_disk` promise it

@@ -1,4 +1,4 @@
-//! The bytes of a flagplane disk: its header and its first slot, made and read.
+//! The bytes of a flagplane disk: its header and its two slots, made and read.
 #![tactic(auto)]
 
 mod fault;
