@@ -1,6 +1,6 @@
 -- A compaction step by step: which follows which, what each calls, leaves and keeps.
-use Rattle.std.specs.Prelude.{◌≡◌, ◌<◌, ◌≤◌, ◌+◌, ◌-◌, ◌^◌, ℕ, Bool, false, List, [], ◌∷◌, ◌++◌}
-use Rattle.std.specs.Prelude.{if◌then◌else◌, length, nat_lt}
+use Rattle.std.specs.Prelude.{◌≡◌, ◌<◌, ◌≤◌, ◌+◌, ◌-◌, ◌^◌, ℕ, Bool, true, false, List, [], ◌∷◌}
+use Rattle.std.specs.Prelude.{◌++◌, if◌then◌else◌, length, nat_lt}
 use Rattle.fp_disk.specs.Crashes.{SameHonesty}
 use Rattle.fp_disk.specs.Outcomes.{IsOutcome, LeavesOnly}
 use Rattle.fp_disk.specs.declared.disk.Disk.{Ghosts}
@@ -112,17 +112,20 @@ pub record Begins {D : Type 0} (image limit : ℕ) (old new : SlotsState D) : Ty
   pub journal : new.journal ≡ old.journal
   pub other : new.other ≡ old.other
   pub generation : new.generation ≡ old.generation
+  pub may_open : new.may_open ≡ old.may_open
   pub head : new.head ≡ IMAGE_PLACE + image
   pub left : new.left + 1 ≡ new.head
   pub short : image ≤ limit
   pub text : length new.text ≡ new.head
   pub ready : IsOnWay old.journal.phase → new.coming ≡ with_gate old.journal.staged
 
--- the slots are turned, and all room behind the text that the other one was to hold is there
+-- the slots are turned, the gate of the one that ruled may be open, and all room behind the text
+-- that the other one was to hold is there
 pub record Turns {D : Type 0} (old new : SlotsState D) : Type 0 where
   pub mine : new.journal.slot ≡ old.other
   pub its : new.other ≡ old.journal.slot
   pub generation : new.generation ≡ old.generation + 1
+  pub may_open : new.may_open ≡ true
   pub still : old.journal.phase ≡ Idle
   pub phase : new.journal.phase ≡ Idle
   pub begun : new.journal.begun ≡ false

@@ -147,7 +147,8 @@ pub fn sync_gate<D: Disk>(slots: &mut Slots<D>) -> Result<Sealed, DiskFault>
         × SameCompaction slots.old slots.new) }
     ensures beside { (slots.new.other ≡ slots.old.other)
         × (slots.new.generation ≡ slots.old.generation) × (slots.new.step ≡ slots.old.step)
-        × (slots.new.head ≡ slots.old.head) × (slots.new.left ≡ slots.old.left) }
+        × (slots.new.head ≡ slots.old.head) × (slots.new.left ≡ slots.old.left)
+        × (slots.new.may_open ≡ slots.old.may_open) }
     ensures honest { SameHonesty D.Disk slots.old.journal.disk slots.new.journal.disk }
     ensures called { D.calls slots.new.journal.disk
         ≡ D.calls slots.old.journal.disk ++ Sync ∷ [] }

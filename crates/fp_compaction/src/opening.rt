@@ -1,9 +1,11 @@
 //! A disk that is there, opened as two slots and the set that they keep.
 
 ghost use Rattle.fp_disk.specs.Crashes.{SameHonesty};
-ghost use Rattle.std.specs.Prelude.{◌≡◌, ◌<◌, [], ◌∷◌, ℕ, IfOk, IfErr, MatchResult};
+ghost use Rattle.std.specs.Prelude.{◌≡◌, ◌<◌, ◌↔◌, [], ◌∷◌, ℕ, IfOk, IfErr, IsTrue, MatchResult};
+ghost use Rattle.std.specs.Prelude.{slice_index};
 ghost use Rattle.fp_disk.specs.declared.history.CallKind.TheVariants.{Length, Sync};
 ghost use Rattle.fp_disk.specs.Outcomes.{IsOutcome, LeavesOnly, all_synced};
+ghost use Rattle.fp_gate.specs.declared.gate.TheConstants.{OPEN};
 ghost use Rattle.fp_journal.specs.Pieces.{ThenReads, ThenSomeReads};
 ghost use Rattle.fp_journal.specs.declared.journal.Phase.TheVariants.{Idle};
 ghost use Rattle.fp_layout.specs.declared.fault.OpenFault.TheVariants.{Device};
@@ -26,6 +28,8 @@ pub fn open<D: Disk>(alloc: Global, disk: D) -> Result<(Slots<D>, FlagSet), (Ope
     ensures kept { IfOk result (λ r. (size : ℕ) × IsPlaced size r.0 r.1.limit
         × (D.honest disk → IsKeptIn (D.unsynced r.0.journal.disk) r.0 size r.1)) }
     ensures rest { IfOk result (λ r. (r.0.step ≡ Begin) × (r.0.journal.phase ≡ Idle)) }
+    ensures other_gate { D.honest disk → IfOk result (λ r. IsTrue r.0.may_open
+        ↔ (slice_index (D.bytes disk) r.0.other.start ≡ OPEN)) }
     ensures fault { D.honest disk → IfErr result (λ e. RefusesBytes (D.bytes disk) e.0) }
     ensures all_synced { D.honest disk →
         IfOk result (λ r. D.unsynced r.0.journal.disk ≡ all_synced (D.bytes disk)) }

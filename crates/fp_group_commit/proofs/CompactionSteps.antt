@@ -264,10 +264,10 @@ module _ {D : Type 0} (disk : Ghosts D) {s : StoreState D} {set : State} {first 
     leaves_then c (inl stands) = inl stands
     leaves_then c (inr both) = inr (both.0, begun_now both.1, both.2)
 
-    slots_now : s.slots.step ≢ SyncOpen → (t.other ≡ s.slots.other) × (t.generation ≡ s.slots.generation)
+    slots_now : s.slots.step ≢ SyncOpen → (t.other ≡ s.slots.other) × (t.generation ≡ s.slots.generation) × (t.may_open ≡ s.slots.may_open)
     slots_now on = by_place s.slots.step _
-        (λ at. ((begun at).other, (begun at).generation))
-        (λ off on. let same = (stays off on).slots in (same.3, same.4))
+        (λ at. ((begun at).other, (begun at).generation, (begun at).may_open))
+        (λ off on. let same = (stays off on).slots in (same.3, same.4, same.5))
         (λ at. absurd (on at))
 
     tail_now : s.slots.step ≢ Begin → s.slots.step ≢ SyncOpen → tail_of t ≡ tail_of s.slots
@@ -309,7 +309,7 @@ module _ {D : Type 0} (disk : Ghosts D) {s : StoreState D} {set : State} {first 
       tail_stays = tail_now;
       numbered = numbered;
       slots_stay = slots_now;
-      slots_turn = λ at. ((turned at).its, (turned at).generation);
+      slots_turn = λ at. ((turned at).its, (turned at).generation, (turned at).may_open);
       room_stays = room_now;
       room_gained = gained_now;
     }

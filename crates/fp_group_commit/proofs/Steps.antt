@@ -260,7 +260,7 @@ sound_new honest unsynced n set start none step phase begun rests k own own_is f
 pub same_room : {D : Type 0} (old new : StoreState D) → SameBeside old.slots new.slots → new.slots.journal.sealed ≡ old.slots.journal.sealed → SameRoom old new
 same_room old new same bodies =
     let text = ap length same.5 in let head = same.6 in
-    (ap (λ (x : Slot). x.most) same.0.1, room_same old.slots.journal new.slots.journal same.0.1 same.0.2 bodies, ((same.4, same.7, same.1, same.2, head), omega (arith, text, head)))
+    (ap (λ (x : Slot). x.most) same.0.1, room_same old.slots.journal new.slots.journal same.0.1 same.0.2 bodies, ((same.4, same.7, same.1, same.2, head, same.3), omega (arith, text, head)))
 
 -- the device failed in a call
 pub breaks : {D : Type 0} (faults : D → ℕ) (old new : StoreState D) → old.slots.journal.phase ≢ Failed → new.slots.journal.phase ≡ Failed → faults old.slots.journal.disk < faults new.slots.journal.disk → new.step ≡ old.step → SameBeside old.slots new.slots

@@ -1,5 +1,5 @@
 -- What a call of a store changes, and why it wasn't done.
-use Rattle.std.specs.Prelude.{◌≡◌, ◌≢◌, ◌<◌, ◌≤◌, ◌+◌, ◌-◌, ◌*◌, ◌^◌, ℕ, length}
+use Rattle.std.specs.Prelude.{◌≡◌, ◌≢◌, ◌<◌, ◌≤◌, ◌+◌, ◌-◌, ◌*◌, ◌^◌, ℕ, true, length}
 use Rattle.fp_edit.specs.Flags.{State, size}
 use Rattle.fp_compaction.specs.Batches.{tail_of}
 use Rattle.fp_journal.specs.State.{room}
@@ -18,12 +18,12 @@ use Rattle.fp_group_commit.specs.declared.fault.StoreFault.TheVariants as fault
 abbrev pub SameStore : {D : Type 0} → StoreState D → StoreState D → Type 0
 SameStore old new = (new.store ≡ old.store) × (new.sealed ≡ old.sealed) × (new.staged ≡ old.staged)
 
--- a compaction's next step, how long its head and image are and how much of them is left, and the
--- slots are the same
+-- a compaction's next step, how long its head and image are and how much of them is left, the
+-- slots, and whether the other one's gate may be open, are the same
 abbrev pub SameCourse : {D : Type 0} → StoreState D → StoreState D → Type 0
 SameCourse old new = (new.slots.step ≡ old.slots.step) × (new.slots.left ≡ old.slots.left)
     × (new.slots.other ≡ old.slots.other) × (new.slots.generation ≡ old.slots.generation)
-    × (new.slots.head ≡ old.slots.head)
+    × (new.slots.head ≡ old.slots.head) × (new.slots.may_open ≡ old.slots.may_open)
 
 -- and the tail is as long
 abbrev pub SamePlace : {D : Type 0} → StoreState D → StoreState D → Type 0
@@ -112,8 +112,9 @@ pub record Compacts {D : Type 0} (faults : D → ℕ) (old new : StoreState D) :
   pub numbered : new.slots.generation < 2 ^ 64
   pub slots_stay : old.slots.step ≢ SyncOpen → (new.slots.other ≡ old.slots.other)
       × (new.slots.generation ≡ old.slots.generation)
+      × (new.slots.may_open ≡ old.slots.may_open)
   pub slots_turn : old.slots.step ≡ SyncOpen → (new.slots.other ≡ old.slots.journal.slot)
-      × (new.slots.generation ≡ old.slots.generation + 1)
+      × (new.slots.generation ≡ old.slots.generation + 1) × (new.slots.may_open ≡ true)
   pub room_stays : old.slots.step ≢ SyncOpen → room new.slots.journal ≡ room old.slots.journal
   pub room_gained : old.slots.step ≡ SyncOpen → room new.slots.journal
       ≡ 2 * old.store.start.limit - (old.slots.head + tail_of old.slots)

@@ -2,11 +2,12 @@
 
 ghost use Rattle.fp_disk.specs.Crashes.{AtAnyMoment, SameHonesty};
 ghost use Rattle.std.specs.Prelude.{◌≡◌, ◌≢◌, ◌⊎◌, ◌<◌, ◌++◌, [], ◌∷◌, List, ℕ, length, IfOk};
-ghost use Rattle.std.specs.Prelude.{IfErr, IsOk, MatchResult};
+ghost use Rattle.std.specs.Prelude.{◌↔◌, IfErr, IsOk, IsTrue, MatchResult, false, slice_index};
 ghost use Rattle.fp_disk.specs.History.{MakesSome};
 ghost use Rattle.fp_disk.specs.Outcomes.{IsOutcome, LeavesOnly, all_synced};
 ghost use Rattle.fp_disk.specs.declared.history.CallKind.TheVariants.{Length, Sync};
 ghost use Rattle.fp_edit.specs.Flags.{State};
+ghost use Rattle.fp_gate.specs.declared.gate.TheConstants.{OPEN};
 ghost use Rattle.fp_journal.specs.Pieces.{ThenReads, ThenSomeReads};
 ghost use Rattle.fp_layout.specs.NewDisk.{IsNewDisk, format_calls};
 ghost use Rattle.fp_layout.specs.Size.{IsSlotSize};
@@ -55,6 +56,7 @@ impl<D: Disk> Store<D> {
         ensures empty { D.honest disk → IsOk result → D.bytes disk ≡ [] }
         ensures fresh { IfOk result (λ r. IsFresh r.0 (new_set size)) }
         ensures opening { IfOk result (λ r. r.1 ≡ r.0.store) }
+        ensures other_gate { IfOk result (λ r. r.0.slots.may_open ≡ false) }
         ensures made { D.honest disk →
             IfOk result (λ r. IsNewDisk size (D.bytes r.0.slots.journal.disk)) }
         ensures sure { D.honest disk →
@@ -105,6 +107,8 @@ impl<D: Disk> Store<D> {
             StandsFor (D.bytes disk) other → other ≡ r.0.store.start) }
         ensures fresh { IfOk result (λ r. IsFresh r.0 r.0.store.start) }
         ensures opening { IfOk result (λ r. r.1 ≡ r.0.store) }
+        ensures other_gate { D.honest disk → IfOk result (λ r. IsTrue r.0.slots.may_open
+            ↔ (slice_index (D.bytes disk) r.0.slots.other.start ≡ OPEN)) }
 
         // Bytes that no sync made sure of are none to open: each outcome stands for the set now.
         ensures sure { D.honest disk →

@@ -2,7 +2,7 @@
 
 ghost use Rattle.fp_disk.specs.Crashes.{AtAnyMoment, SameHonesty};
 ghost use Rattle.std.specs.Prelude.{◌≡◌, ◌≢◌, ◌⊎◌, ◌<◌, ◌+◌, ◌∷◌, ◌++◌, [], List, ℕ, length, IfOk};
-ghost use Rattle.std.specs.Prelude.{IfErr, OnOk, IsOk, IsErr, MatchResult};
+ghost use Rattle.std.specs.Prelude.{false, IfErr, OnOk, IsOk, IsErr, MatchResult};
 ghost use Rattle.fp_disk.specs.History.{Makes, MakesSome};
 ghost use Rattle.fp_disk.specs.declared.history.CallKind.TheVariants.{Length, Sync, Write};
 ghost use Rattle.fp_disk.specs.Outcomes.{Answers, IsOutcome, LeavesOnly, Written, all_synced};
@@ -105,7 +105,7 @@ pub fn create<D: Disk>(
     ensures journal { IfOk result (λ s. (s.journal.slot ≡ first_slot size)
         × (s.journal.front ≡ new_front) × (s.journal.sealed ≡ []) × (s.journal.phase ≡ Idle)) }
     ensures beside { IfOk result (λ s. (s.other ≡ second_slot size) × (s.generation ≡ 1)
-        × (s.step ≡ Begin)) }
+        × (s.step ≡ Begin) × (s.may_open ≡ false)) }
     ensures made { D.honest disk → IfOk result (λ s. IsNewDisk size (D.bytes s.journal.disk)) }
     ensures all_synced { D.honest disk → IfOk result (λ s. D.unsynced s.journal.disk
         ≡ all_synced (D.bytes s.journal.disk)) }

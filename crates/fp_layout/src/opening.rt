@@ -1,8 +1,10 @@
 //! A disk that is there, opened.
 
 ghost use Rattle.std.specs.Prelude.{◌≡◌, ◌≢◌, ◌≤◌, ◌<◌, ◌+◌, ◌-◌, [], ◌∷◌, List, ℕ, length, min};
-ghost use Rattle.std.specs.Prelude.{slice_range, IfOk, IfErr, OnOk, MatchResult, IsErrOf};
+ghost use Rattle.std.specs.Prelude.{◌↔◌, slice_index, slice_range, IfOk, IfErr, IsTrue, OnOk};
+ghost use Rattle.std.specs.Prelude.{MatchResult, IsErrOf};
 ghost use Rattle.fp_disk.specs.Crashes.{AtAnyMoment, SameHonesty};
+ghost use Rattle.fp_gate.specs.declared.gate.TheConstants.{OPEN};
 ghost use Rattle.fp_disk.specs.History.{MakesSome};
 ghost use Rattle.fp_disk.specs.declared.history.CallKind.TheVariants.{Length, Sync};
 ghost use Rattle.fp_disk.specs.Outcomes.{IsOutcome, LeavesOnly, all_synced};
@@ -312,6 +314,9 @@ pub fn open<D: Disk, R: SlotReader>(
         reader.old reader.new s.journal.slot s.journal.front) }
     ensures slots { D.honest disk → IfOk result (λ s.
         HasSlots (D.bytes disk) s.journal.slot s.other s.generation) }
+    // Where its gate is closed a compaction doesn't close it again.
+    ensures other_gate { D.honest disk → IfOk result (λ s. IsTrue s.may_open
+        ↔ (slice_index (D.bytes disk) s.other.start ≡ OPEN)) }
     // Where the disk doesn't keep its word too: what the journal goes on behind was read.
     ensures read { IfOk result (λ s. ReadsSlot R.begins R.takes reader.old reader.new
         s.journal.slot s.other s.generation s.journal.front) }

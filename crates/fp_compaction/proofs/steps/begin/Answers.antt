@@ -30,6 +30,7 @@ returns-clause-begun g c =
       journal = same.0;
       other = same.1;
       generation = same.2;
+      may_open = same.3;
       left = c.in_ok-begin.ensures.text.2;
       head = head ∙ ap (λ (n : ℕ). IMAGE_PLACE + n) len;
       short = c.in_ok-image.ensures.within;

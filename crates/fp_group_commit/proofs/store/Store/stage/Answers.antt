@@ -34,7 +34,7 @@ returns-in-Err g c =
       phase = refl;
       fault = batch_steps.refuses D.honest D.unsynced i D.faults (λ e. c.in_default.not-Failed (c.phase.ensures.phase ∙ e)) c.args.draw c.in-Err.fault c.in-Err.ensures.fault;
       given_back = refl;
-      same_room = (refl, refl, ((refl, refl, refl, refl, refl), refl));
+      same_room = (refl, refl, ((refl, refl, refl, refl, refl, refl), refl));
       called = inl refl;
       any_moment = λ h. steps.still D i m.only_now c.phase.ensures.outcomes h;
       exit = steps.now D i c.phase.ensures.outcomes;
@@ -60,7 +60,7 @@ returns-in_default-make_ready g c =
       phase = refl;
       fault = (well, ap (λ (x : SlotsState g.row.D.Denot). record { store = record { name = s.sealed.name; start = s.origin }; sealed = s.sealed.log; staged = s.batch.changes; step = s.step; slots = x }) same);
       given_back = refl;
-      same_room = (ap (λ (x : SlotsState g.row.D.Denot). x.journal.slot.most) same, ap (λ (x : SlotsState g.row.D.Denot). room x.journal) same, ((plan.4, plan.7, plan.1, plan.2, plan.6), ap (λ (x : SlotsState g.row.D.Denot). tail_of x) same));
+      same_room = (ap (λ (x : SlotsState g.row.D.Denot). x.journal.slot.most) same, ap (λ (x : SlotsState g.row.D.Denot). room x.journal) same, ((plan.4, plan.7, plan.1, plan.2, plan.6, plan.3), ap (λ (x : SlotsState g.row.D.Denot). tail_of x) same));
       called = inl (ap (λ (x : SlotsState g.row.D.Denot). D.calls x.journal.disk) same);
       any_moment = rw same (λ h. steps.still D i m.only_now c.phase.ensures.outcomes h);
       exit = rw same (steps.now D i c.phase.ensures.outcomes);
