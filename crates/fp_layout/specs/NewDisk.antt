@@ -1,5 +1,5 @@
 -- A disk as it is made.
-use Rattle.std.specs.Prelude.{◌≡◌, ◌⊎◌, ◌+◌, ◌-◌, ℕ, List, [], ◌∷◌, ◌++◌, length, replicate}
+use Rattle.std.specs.Prelude.{◌≡◌, ◌⊎◌, ◌+◌, ℕ, List, [], ◌∷◌, ◌++◌, length, replicate}
 use Rattle.std.specs.Prelude.{slice_index}
 use Rattle.std.specs.Int.{w32, w64, to_be_bytes}
 use Rattle.fp_disk.specs.declared.history.CallKind.{CallKind}
@@ -7,15 +7,14 @@ use Rattle.fp_disk.specs.declared.history.CallKind.TheVariants.{Sync, Write}
 use Rattle.fp_journal.specs.Holds.{Holds}
 use Rattle.fp_layout.specs.Layout.{magic, AreZeros, IsFormatted}
 use Rattle.fp_layout.specs.declared.format.TheConstants.{FIRST_GATE}
-use Rattle.fp_layout.specs.declared.header.TheConstants.{HEADER, ZEROS_PLACE}
+use Rattle.fp_layout.specs.declared.header.TheConstants.{HEADER, ZEROS}
 use Rattle.fp_slots.specs.Head.{head_text, slot_text}
 use Rattle.fp_slots.specs.declared.places.TheConstants.{VERSION}
 use Rattle.fp_gate.specs.declared.gate.TheConstants.{OPEN}
 
 -- ---- the text behind the header's gate
 abbrev pub header_text : ℕ → List ℕ
-header_text size =
-    magic ++ VERSION ∷ (to_be_bytes w64 size ++ replicate (HEADER - ZEROS_PLACE) 0)
+header_text size = magic ++ VERSION ∷ (to_be_bytes w64 size ++ replicate ZEROS 0)
 
 -- an image of no flags
 abbrev pub empty_image : List ℕ

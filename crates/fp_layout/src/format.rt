@@ -16,7 +16,7 @@ ghost use Rattle.fp_layout.specs.declared.header.TheConstants.{HEADER};
 ghost use Rattle.fp_slots.specs.declared.slots.Step.TheVariants.{Begin};
 ghost use Rattle.fp_layout.specs.declared.format.CreateFault.TheVariants.{NotEmpty, Device, Memory};
 
-use crate::header::{HEADER, ZEROS_PLACE};
+use crate::header::{HEADER, ZEROS};
 use crate::size::SlotSize;
 use fp_disk::{Disk, DiskFault};
 use fp_gate::OPEN;
@@ -47,7 +47,7 @@ fn closed(alloc: Global, size: SlotSize) -> Result<Vec<u8>, AllocError>
     bytes.extend_from_slice(b"FLAGPLN1")?;
     bytes.push(VERSION)?;
     bytes.extend_from_slice(&size.bytes().to_be_bytes())?;
-    bytes.extend_from_slice(&[0; HEADER - ZEROS_PLACE])?;
+    bytes.extend_from_slice(&[0; ZEROS])?;
     bytes.push(0)?;
     bytes.extend_from_slice(&1u64.to_be_bytes())?;
     bytes.push(VERSION)?;

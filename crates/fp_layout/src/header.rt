@@ -27,6 +27,9 @@ pub const SIZE_PLACE: usize = 10;
 /// The place of the zeros that fill the header.
 pub const ZEROS_PLACE: usize = 18;
 
+/// How many they are.
+pub const ZEROS: usize = HEADER - ZEROS_PLACE;
+
 /// `FLAGPLN1` as a number.
 pub const MAGIC: u64 = 0x464c_4147_504c_4e31;
 
