@@ -1,5 +1,0 @@
-//! Requests over a connection in memory.
-
-mod connection;
-mod peer;
-mod published;
