@@ -11,16 +11,9 @@ use std::alloc::{AllocGlobal, Global};
 use std::cell::RefCell;
 use std::fs;
 use std::path::PathBuf;
-use std::process::Abort;
 use std::test::Fail;
 
 const ALL: u32 = u32::MAX;
-
-// The calls are these, a line each.
-fn assert_calls(rt: &impl Abort, calls: RefCell<Calls>, want: &str) {
-    let calls = calls.into_inner();
-    assert_eq!(rt; calls.text.as_str(), want);
-}
 
 fn steps<D: Disk>(disk: &mut D) -> Result<(), DiskFault> {
     disk.write_at(0, b"abcd")?;
@@ -72,33 +65,53 @@ fn failing(rt: &HostRuntime, path: &PathBuf, left: u32) -> Result<(bool, Vec<u8>
     Ok((is_made, bytes, calls.into_inner().text))
 }
 
+// Whether, of a row of `FAILING`, the steps aren't made, and the file and the calls are these.
+fn fails_as(
+    rt: &HostRuntime,
+    path: &PathBuf,
+    row: &(u32, &[u8], &str),
+) -> Result<(bool, bool, bool), Fail> {
+    let (left, want_bytes, want) = *row;
+    let (is_made, bytes, text) = failing(rt, path, left)?;
+    Ok((
+        !is_made,
+        bytes.as_slice() == want_bytes,
+        text.as_str() == want,
+    ))
+}
+
 #[test]
 fn a_call_of_the_file_that_fails_is_a_fault_of_the_disk(rt: HostRuntime) -> Result<(), Fail> {
     let path = in_temp(&rt, "fp_device_tests_fails")?;
-    for (left, want_bytes, want) in FAILING {
-        let (is_made, bytes, text) = failing(&rt, &path, left)?;
-        assert_eq!(rt; text.as_str(), want);
-        assert!(rt; !is_made, "{left}");
-        assert_eq!(rt; bytes.as_slice(), want_bytes, "{left}");
+    for row in &FAILING {
+        assert!(rt;
+            fails_as(&rt, &path, row)? == (true, true, true),
+            "{}",
+            row.0
+        );
     }
     Ok(())
 }
 
+// The steps and a read: whether they are made, what is read, and the calls.
+fn stepping(rt: &HostRuntime, path: &PathBuf) -> Result<(bool, [u8; 3], String), Fail> {
+    let calls = passing(rt.alloc(), ALL);
+    let mut disk = noted(rt, path, &calls)?;
+    let mut three = [0u8; 3];
+    let is_made = steps(&mut disk).is_ok() && disk.read_at(2, &mut three).is_ok();
+    drop(disk);
+    Ok((is_made, three, calls.into_inner().text))
+}
+
+const STEPS: &str =
+    "seek 0\nwrite 4\nsync_data\nseek 2\nwrite 2\nsync_data\nseek end\nseek end\nset_len 6\nseek 2\nread 3\n";
+
 #[test]
 fn a_disk_makes_no_further_call(rt: HostRuntime) -> Result<(), Fail> {
     let path = in_temp(&rt, "fp_device_tests_steps")?;
-    let calls = passing(rt.alloc(), ALL);
-    let mut disk = noted(&rt, &path, &calls)?;
-    assert!(rt; steps(&mut disk).is_ok());
-    let mut three = [0u8; 3];
-    assert!(rt; disk.read_at(2, &mut three).is_ok());
-    assert_eq!(rt; three, *b"XY\0");
-    drop(disk);
-    assert_calls(
-        &rt,
-        calls,
-        "seek 0\nwrite 4\nsync_data\nseek 2\nwrite 2\nsync_data\nseek end\nseek end\nset_len 6\nseek 2\nread 3\n",
-    );
+    let (is_made, three, text) = stepping(&rt, &path)?;
+    assert!(rt; is_made && three == *b"XY\0");
+    assert!(rt; text.as_str() == STEPS, "{text}");
     fs::remove_file(&rt, path.as_path())?;
     Ok(())
 }
@@ -121,16 +134,26 @@ fn smallest() -> Result<SlotSize, Fail> {
     Ok(SlotSize::new(1 << 18).ok_or("size")?)
 }
 
+// Makes a new disk: whether it is made, and the calls.
+fn making(rt: &HostRuntime, path: &PathBuf) -> Result<(bool, String), Fail> {
+    let size = smallest()?;
+    let calls = passing(rt.alloc(), ALL);
+    let disk = noted(rt, path, &calls)?;
+    let is_made = match create(rt.alloc(), disk, size) {
+        Ok(slots) => {
+            drop(slots.into_disk());
+            true
+        }
+        Err(_) => false,
+    };
+    Ok((is_made, calls.into_inner().text))
+}
+
 #[test]
 fn a_new_disk_is_written_in_this_order(rt: HostRuntime) -> Result<(), Fail> {
     let path = in_temp(&rt, "fp_device_tests_making")?;
-    let calls = passing(rt.alloc(), ALL);
-    let disk = noted(&rt, &path, &calls)?;
-    match create(rt.alloc(), disk, smallest()?) {
-        Ok(slots) => drop(slots.into_disk()),
-        Err(_) => return Err(Fail::new("not made")),
-    }
-    assert_calls(&rt, calls, MAKING);
+    let (is_made, text) = making(&rt, &path)?;
+    assert!(rt; is_made && text.as_str() == MAKING, "{text}");
     fs::remove_file(&rt, path.as_path())?;
     Ok(())
 }
@@ -176,19 +199,38 @@ fn putting(rt: &HostRuntime, path: &PathBuf, left: u32) -> Result<((bool, bool),
 fn an_edit_is_two_writes_and_two_syncs(rt: HostRuntime) -> Result<(), Fail> {
     let path = in_temp(&rt, "fp_device_tests_editing")?;
     let (put, text) = putting(&rt, &path, ALL)?;
-    assert_eq!(rt; put, (true, true));
-    assert_eq!(rt; text.as_str(), OPENING_AND_EDITING);
+    assert!(rt;
+        put == (true, true) && text.as_str() == OPENING_AND_EDITING,
+        "{text}"
+    );
     Ok(())
+}
+
+// What comes of putting where so many calls pass; whether the calls are the first of those that
+// are made, and how many they are.
+fn cut_short(
+    rt: &HostRuntime,
+    path: &PathBuf,
+    left: u32,
+) -> Result<((bool, bool), bool, usize), Fail> {
+    let (put, text) = putting(rt, path, left)?;
+    let text = text.as_str();
+    Ok((
+        put,
+        OPENING_AND_EDITING.starts_with(text),
+        text.lines().count(),
+    ))
 }
 
 #[test]
 fn a_call_that_fails_is_the_last(rt: HostRuntime) -> Result<(), Fail> {
     let path = in_temp(&rt, "fp_device_tests_last")?;
     for left in 0..18 {
-        let (put, text) = putting(&rt, &path, left)?;
-        assert_eq!(rt; put, (left >= 12, false), "{left}");
-        assert!(rt; OPENING_AND_EDITING.starts_with(text.as_str()), "{left}");
-        assert_eq!(rt; text.lines().count(), left as usize + 1);
+        let got = cut_short(&rt, &path, left)?;
+        assert!(rt;
+            got == ((left >= 12, false), true, left as usize + 1),
+            "{left}"
+        );
     }
     Ok(())
 }

@@ -26,17 +26,26 @@ fn read(disk: &mut FileDisk<File>) -> Result<([u8; 12], u64, bool), DiskFault> {
 
 const KEPT: [u8; 12] = *b"\0-\0\0\0\0abcd\0\0";
 
+fn written(rt: &HostRuntime, name: &str) -> Result<u64, DiskFault> {
+    write(&mut create_file(rt, name)?)
+}
+
+fn kept(disk: Result<FileDisk<File>, DiskFault>) -> Result<([u8; 12], u64, bool), DiskFault> {
+    read(&mut disk?)
+}
+
 #[test]
 fn a_file_keeps_what_is_written(rt: HostRuntime) -> Result<(), Fail> {
     let path = in_temp(&rt, "fp_device_tests_keeps")?;
     let name = path.as_path().to_str().ok_or("path")?;
-    assert!(rt; open_file(&rt, name).is_err());
-    let mut disk = create_file(&rt, name)?;
-    assert_eq!(rt; write(&mut disk)?, 0);
-    for mut again in [disk, create_file(&rt, name)?, open_file(&rt, name)?] {
-        assert_eq!(rt; read(&mut again)?, (KEPT, 12, false));
-    }
-    fs::remove_file(&rt, path.as_path())?;
+    let is_missing = open_file(&rt, name).is_err();
+    let length = written(&rt, name);
+    let made_again = kept(create_file(&rt, name));
+    let opened = kept(open_file(&rt, name));
+    let _ = fs::remove_file(&rt, path.as_path());
+    assert!(rt; is_missing && length == Ok(0));
+    let want = Ok((KEPT, 12, false));
+    assert!(rt; made_again == want && opened == want);
     Ok(())
 }
 
@@ -44,8 +53,10 @@ fn a_file_keeps_what_is_written(rt: HostRuntime) -> Result<(), Fail> {
 fn what_is_no_file_is_a_fault(rt: HostRuntime) -> Result<(), Fail> {
     let folder = env::temp_dir(&rt)?;
     let name = folder.as_path().to_str().ok_or("path")?;
-    assert_eq!(rt; create_file(&rt, name).err(), Some(DiskFault::Device));
-    assert_eq!(rt; open_file(&rt, name).err(), Some(DiskFault::Device));
+    let made = create_file(&rt, name).err();
+    let opened = open_file(&rt, name).err();
+    let want = Some(DiskFault::Device);
+    assert!(rt; made == want && opened == want);
     Ok(())
 }
 
@@ -58,13 +69,19 @@ fn checked(disk: &mut Checked<FileDisk<File>>) -> Result<([u8; 2], u64), DiskFau
     Ok((got, disk.len()?))
 }
 
+// What is read through a checked disk over a new file, and the length of the file's disk.
+fn checked_file(rt: &HostRuntime, name: &str) -> Result<(([u8; 2], u64), u64), DiskFault> {
+    let mut disk = Checked::new(create_file(rt, name)?);
+    let read = checked(&mut disk)?;
+    Ok((read, disk.into_disk().len()?))
+}
+
 #[test]
 fn a_checked_disk_is_the_disk(rt: HostRuntime) -> Result<(), Fail> {
     let path = in_temp(&rt, "fp_device_tests_checked")?;
     let name = path.as_path().to_str().ok_or("path")?;
-    let mut disk = Checked::new(create_file(&rt, name)?);
-    assert_eq!(rt; checked(&mut disk)?, (*b"bc", 4));
-    assert_eq!(rt; disk.into_disk().len()?, 4);
-    fs::remove_file(&rt, path.as_path())?;
+    let got = checked_file(&rt, name);
+    let _ = fs::remove_file(&rt, path.as_path());
+    assert!(rt; got == Ok(((*b"bc", 4), 4)));
     Ok(())
 }

@@ -30,41 +30,46 @@ fn named(alloc: Global, keys: &[&str]) -> Result<Vec<(FlagKey, Definition)>, Fai
     Ok(flags)
 }
 
+// How the import of three flags ends whose store keeps so many edits; the edits that are kept.
+fn lost<W: Write>(
+    alloc: Global,
+    edits_left: usize,
+    w: &mut FailureCounted<W>,
+) -> Result<(Result<bool, ApplyFault>, u64), Fail> {
+    let three = named(alloc, &["a", "b", "c"])?;
+    let (edits, outcome) = import_flags(alloc, w, Failing::after(alloc, edits_left), three);
+    Ok((outcome, edits.kept))
+}
+
 // The three puts wait together, and none of them is told of as kept.
 #[test]
 fn a_store_that_fails_ends_the_import_behind_its_replies(rt: HostRuntime) -> Result<(), Fail> {
-    let alloc = rt.alloc();
     for edits_left in 0..3 {
-        let mut w = FailureCounted::new(Vec::new(alloc));
-        let three = named(alloc, &["a", "b", "c"])?;
-        let (edits, outcome) = import_flags(
-            alloc,
-            &mut w,
-            Failing::after(alloc, edits_left),
-            three,
-        );
-        assert_eq!(rt; outcome, Err(ApplyFault::StoreFailed));
-        assert_eq!(rt; w.get_ref().as_slice(), LOST.as_bytes());
-        assert_eq!(rt; edits.kept, 0);
+        let mut w = FailureCounted::new(Vec::new(rt.alloc()));
+        let ended = lost(rt.alloc(), edits_left, &mut w)?;
+        assert!(rt; ended == (Err(ApplyFault::StoreFailed), 0));
+        assert!(rt; w.get_ref().as_slice() == LOST.as_bytes());
     }
     Ok(())
 }
 
+// How an import of three flags ends whose writer is full, their revision, and how much is written.
+fn unwritten(alloc: Global) -> Result<(Result<bool, ApplyFault>, u64, usize), Fail> {
+    let three = named(alloc, &["a", "b", "c"])?;
+    let mut w = FailureCounted::new(Full::after(alloc, 0));
+    let (flags, outcome) = import_flags(alloc, &mut w, flags(alloc), three);
+    Ok((outcome, flags.revision(), w.get_ref().taken.len()))
+}
+
 #[test]
 fn a_writer_that_fails_ends_the_import(rt: HostRuntime) -> Result<(), Fail> {
-    let alloc = rt.alloc();
-    let mut w = FailureCounted::new(Full::after(alloc, 0));
-    let three = named(alloc, &["a", "b", "c"])?;
-    let (flags, outcome) = import_flags(alloc, &mut w, flags(alloc), three);
-    assert_eq!(rt; outcome, Err(ApplyFault::Device));
-    assert_eq!(rt; w.get_ref().taken.as_slice(), b"".as_slice());
-    assert_eq!(rt; flags.revision(), 3);
+    let ended = unwritten(rt.alloc())?;
+    assert!(rt; ended == (Err(ApplyFault::Device), 3, 0));
 
     // where the store fails too, it is the store that is told
-    let mut w = FailureCounted::new(Full::after(alloc, 0));
-    let three = named(alloc, &["a", "b", "c"])?;
-    let (_edits, outcome) = import_flags(alloc, &mut w, Failing::after(alloc, 1), three);
-    assert_eq!(rt; outcome, Err(ApplyFault::StoreFailed));
+    let mut w = FailureCounted::new(Full::after(rt.alloc(), 0));
+    let (outcome, _) = lost(rt.alloc(), 1, &mut w)?;
+    assert!(rt; outcome == Err(ApplyFault::StoreFailed));
     Ok(())
 }
 
@@ -96,14 +101,19 @@ fn many(alloc: Global, count: usize) -> Result<Vec<(FlagKey, Definition)>, Fail>
     Ok(flags)
 }
 
+// How the import of 5,000 flags ends, how much is written, and the most at once.
+fn in_parts(alloc: Global) -> Result<(Result<bool, ApplyFault>, usize, usize), Fail> {
+    let many = many(alloc, 5_000)?;
+    let mut w = FailureCounted::new(Widest { total: 0, most: 0 });
+    let (_flags, outcome) = import_flags(alloc, &mut w, flags(alloc), many);
+    let widest = w.get_ref();
+    Ok((outcome, widest.total, widest.most))
+}
+
 #[test]
 fn many_replies_are_sent_in_parts(rt: HostRuntime) -> Result<(), Fail> {
-    let alloc = rt.alloc();
-    let mut w = FailureCounted::new(Widest { total: 0, most: 0 });
-    let (_flags, outcome) = import_flags(alloc, &mut w, flags(alloc), many(alloc, 5_000)?);
-    assert_eq!(rt; outcome, Ok(true));
-    assert_eq!(rt; w.get_ref().total, 88_893 + 5 + 14 + 64 + 3);
-    assert!(rt; w.get_ref().most > 65_536);
-    assert!(rt; w.get_ref().most <= 65_536 + 1_024 * 18);
+    let (outcome, total, most) = in_parts(rt.alloc())?;
+    assert!(rt; outcome == Ok(true) && total == 88_893 + 5 + 14 + 64 + 3);
+    assert!(rt; most > 65_536 && most <= 65_536 + 1_024 * 18);
     Ok(())
 }

@@ -102,17 +102,24 @@ fn new_disk(alloc: Global) -> Result<Vec<u8>, AllocError> {
     Ok(bytes)
 }
 
-#[test]
-fn no_more_than_a_piece_is_read_at_once(rt: HostRuntime) -> Result<(), Fail> {
+// How many bytes the longest read of opening a vast disk asks for, and whether its flags are
+// given; `None` where it isn't opened.
+fn opened(alloc: Global, bytes: Vec<u8>) -> Option<(usize, bool)> {
     let mut reader = Asked(false);
     let disk = Vast {
-        disk: MemoryDisk::new(rt.alloc()),
-        bytes: new_disk(rt.alloc())?,
+        disk: MemoryDisk::new(alloc),
+        bytes,
         longest: 0,
     };
-    let Ok(slots) = open(rt.alloc(), disk, &mut reader) else {
-        return Err(Fail::new("not opened"));
-    };
-    assert_eq!(rt; (slots.into_disk().longest, reader.0), (65_536, true));
+    match open(alloc, disk, &mut reader) {
+        Ok(slots) => Some((slots.into_disk().longest, reader.0)),
+        Err(_) => None,
+    }
+}
+
+#[test]
+fn no_more_than_a_piece_is_read_at_once(rt: HostRuntime) -> Result<(), Fail> {
+    let got = opened(rt.alloc(), new_disk(rt.alloc())?);
+    assert!(rt; got == Some((65_536, true)));
     Ok(())
 }

@@ -8,7 +8,7 @@ use fp_edit::{EditFault, LineFault};
 use fp_files::SystemFiles;
 use fp_session::{ApplyFault, Reply, apply_lines};
 use fp_streams::FailureCounted;
-use std::alloc::{AllocGlobal, Global};
+use std::alloc::{AllocError, AllocGlobal, Global};
 use std::cell::RefCell;
 use std::io;
 use std::io::{ErrorKind, Read, Write};
@@ -99,17 +99,26 @@ fn cut_up(bytes: &[u8], most: usize, reads_left: usize) -> Pieces<'_> {
     }
 }
 
+// How a run over no flags ends, their revision then, and whether this is written.
+type Ended = (Result<bool, ApplyFault>, u64, bool);
+
+// A run over pieces, into memory.
+fn read_from(alloc: Global, pieces: Pieces<'_>, want: &[u8]) -> Ended {
+    let mut r = FailureCounted::new(pieces);
+    let mut w = FailureCounted::new(Vec::new(alloc));
+    let (flags, outcome) = apply_lines(alloc, &mut r, &mut w, flags(alloc));
+    (outcome, flags.revision(), w.get_ref().as_slice() == want)
+}
+
 #[test]
 fn any_cutting_gives_the_same_replies(rt: HostRuntime) -> Result<(), Fail> {
     let alloc = rt.alloc();
     let input = written_out(alloc, INPUT)?;
     let output = written_out(alloc, OUTPUT)?;
     for most in [1, 2, 17, 4096] {
-        let mut r = FailureCounted::new(cut_up(input.as_bytes(), most, 10_000));
-        let mut w = FailureCounted::new(Vec::new(alloc));
-        let (_flags, outcome) = apply_lines(alloc, &mut r, &mut w, flags(alloc));
-        assert_eq!(rt; outcome, Ok(true));
-        assert_eq!(rt; w.get_ref().as_slice(), output.as_bytes());
+        let pieces = cut_up(input.as_bytes(), most, 10_000);
+        let got = read_from(alloc, pieces, output.as_bytes());
+        assert!(rt; got == (Ok(true), 2, true), "{most}");
     }
     Ok(())
 }
@@ -119,30 +128,35 @@ fn a_reader_that_fails_ends_the_run(rt: HostRuntime) -> Result<(), Fail> {
     let alloc = rt.alloc();
     let input = written_out(alloc, INPUT)?;
     let line = 64 + 32;
-    let rows = [(0, ""), (1, "{\"revision\":1}\n")];
-    for (reads_left, output) in rows {
-        let mut r = FailureCounted::new(cut_up(input.as_bytes(), line, reads_left));
-        let mut w = FailureCounted::new(Vec::new(alloc));
-        let (flags, outcome) = apply_lines(alloc, &mut r, &mut w, flags(alloc));
-        assert_eq!(rt; outcome, Err(ApplyFault::Device));
-        assert_eq!(rt; w.get_ref().as_slice(), output.as_bytes());
-        assert_eq!(rt; flags.revision(), reads_left as u64);
+    for (reads_left, output) in [(0, ""), (1, "{\"revision\":1}\n")] {
+        let pieces = cut_up(input.as_bytes(), line, reads_left);
+        let got = read_from(alloc, pieces, output.as_bytes());
+        assert!(rt; got == (Err(ApplyFault::Device), reads_left as u64, true));
     }
     Ok(())
+}
+
+// How a run over lines ends whose writer takes so many writes, and whether this is written.
+fn written_to(
+    alloc: Global,
+    input: &[u8],
+    writes_left: usize,
+    want: &[u8],
+) -> (Result<bool, ApplyFault>, bool) {
+    let line = 64 + 32;
+    let mut r = FailureCounted::new(cut_up(input, line, 100));
+    let mut w = FailureCounted::new(Full::after(alloc, writes_left));
+    let (_flags, outcome) = apply_lines(alloc, &mut r, &mut w, flags(alloc));
+    (outcome, w.get_ref().taken.as_slice() == want)
 }
 
 #[test]
 fn a_writer_that_fails_ends_the_run(rt: HostRuntime) -> Result<(), Fail> {
     let alloc = rt.alloc();
     let input = written_out(alloc, INPUT)?;
-    let line = 64 + 32;
-    let rows = [(0, ""), (1, "{\"revision\":1}\n")];
-    for (writes_left, output) in rows {
-        let mut r = FailureCounted::new(cut_up(input.as_bytes(), line, 100));
-        let mut w = FailureCounted::new(Full::after(alloc, writes_left));
-        let (_flags, outcome) = apply_lines(alloc, &mut r, &mut w, flags(alloc));
-        assert_eq!(rt; outcome, Err(ApplyFault::Device));
-        assert_eq!(rt; w.get_ref().taken.as_slice(), output.as_bytes());
+    for (writes_left, output) in [(0, ""), (1, "{\"revision\":1}\n")] {
+        let got = written_to(alloc, input.as_bytes(), writes_left, output.as_bytes());
+        assert!(rt; got == (Err(ApplyFault::Device), true));
     }
     Ok(())
 }
@@ -173,22 +187,31 @@ const LOST: [Row; 4] = [
     ),
 ];
 
+// How a run over a writer ends whose store keeps so many edits; the edits that are kept.
+fn lost<W: Write>(
+    alloc: Global,
+    input: &[u8],
+    edits_left: usize,
+    w: &mut FailureCounted<W>,
+) -> (Result<bool, ApplyFault>, u64) {
+    let mut r = FailureCounted::new(input);
+    let (edits, outcome) = apply_lines(alloc, &mut r, w, Failing::after(alloc, edits_left));
+    (outcome, edits.kept)
+}
+
+// Whether a row's run ends as it says.
+fn is_lost(alloc: Global, row: &Row) -> Result<bool, AllocError> {
+    let (edits_left, input, output, kept) = *row;
+    let input = written_out(alloc, input)?;
+    let mut w = FailureCounted::new(Vec::new(alloc));
+    let ended = lost(alloc, input.as_bytes(), edits_left, &mut w);
+    Ok(ended == (Err(ApplyFault::StoreFailed), kept) && w.get_ref().as_slice() == output.as_bytes())
+}
+
 #[test]
 fn a_store_that_fails_ends_the_run_behind_its_replies(rt: HostRuntime) -> Result<(), Fail> {
-    let alloc = rt.alloc();
-    for (edits_left, input, output, kept) in LOST {
-        let input = written_out(alloc, input)?;
-        let mut r = FailureCounted::new(input.as_bytes());
-        let mut w = FailureCounted::new(Vec::new(alloc));
-        let (edits, outcome) = apply_lines(
-            alloc,
-            &mut r,
-            &mut w,
-            Failing::after(alloc, edits_left),
-        );
-        assert_eq!(rt; outcome, Err(ApplyFault::StoreFailed));
-        assert_eq!(rt; w.get_ref().as_slice(), output.as_bytes(), "{input}");
-        assert_eq!(rt; edits.kept, kept);
+    for row in &LOST {
+        assert!(rt; is_lost(rt.alloc(), row)?, "{}", row.1);
     }
     Ok(())
 }
@@ -198,14 +221,8 @@ fn a_store_that_failed_is_told_though_the_writer_fails(rt: HostRuntime) -> Resul
     let alloc = rt.alloc();
     let input = written_out(alloc, INPUT)?;
     let mut w = FailureCounted::new(Full::after(alloc, 0));
-    let edits = Failing::after(alloc, 1);
-    let (_edits, outcome) = apply_lines(
-        alloc,
-        &mut FailureCounted::new(input.as_bytes()),
-        &mut w,
-        edits,
-    );
-    assert_eq!(rt; outcome, Err(ApplyFault::StoreFailed));
+    let (outcome, _) = lost(alloc, input.as_bytes(), 1, &mut w);
+    assert!(rt; outcome == Err(ApplyFault::StoreFailed));
     Ok(())
 }
 
@@ -222,9 +239,9 @@ fn at_terminal(alloc: Global, log: &RefCell<Vec<u8>>) -> Result<bool, ApplyFault
 #[test]
 fn replies_are_sent_before_the_next_read(rt: HostRuntime) -> Result<(), Fail> {
     let log = RefCell::new(Vec::new(rt.alloc()));
-    assert_eq!(rt; at_terminal(rt.alloc(), &log), Ok(true));
+    let outcome = at_terminal(rt.alloc(), &log);
     let log = log.into_inner();
-    assert_eq!(rt; log.as_slice(), b"rwfrwfrwf".as_slice());
+    assert!(rt; outcome == Ok(true) && log.as_slice() == b"rwfrwfrwf".as_slice());
     Ok(())
 }
 
@@ -248,54 +265,56 @@ impl Write for Broken {
     }
 }
 
-#[test]
-fn streams_that_fail_are_told_on_the_error_stream(rt: HostRuntime) -> Result<(), Fail> {
+// What `apply` over these streams exits with, and whether it writes nothing but this, on the
+// error stream.
+fn apply_over<R: Read, W: Write>(
+    rt: &HostRuntime,
+    input: &mut FailureCounted<R>,
+    output: &mut FailureCounted<W>,
+    want: &[u8],
+) -> Result<(u8, bool), AllocError> {
     let alloc = rt.alloc();
     let words = [String::from_str(alloc, "apply")?];
-    let mut broken = FailureCounted::new(Broken);
-    let mut output = FailureCounted::new(Vec::new(alloc));
     let mut errors = FailureCounted::new(Vec::new(alloc));
-    let files = &mut SystemFiles::of(&rt);
-    let read = command(
+    let status = command(
         alloc,
-        files,
+        &mut SystemFiles::of(rt),
         words.as_slice(),
-        &mut broken,
-        &mut output,
+        input,
+        output,
         &mut errors,
         0,
     );
-    assert_eq!(rt; (read, output.get_ref().len()), (1, 0));
-    let mut input = FailureCounted::new(b"[]\n".as_slice());
+    Ok((status, errors.get_ref().as_slice() == want))
+}
+
+#[test]
+fn streams_that_fail_are_told_on_the_error_stream(rt: HostRuntime) -> Result<(), Fail> {
+    let told = b"flagplane: device fault\n".as_slice();
+    let mut output = FailureCounted::new(Vec::new(rt.alloc()));
+    let read = apply_over(&rt, &mut FailureCounted::new(Broken), &mut output, told);
+    assert!(rt; read == Ok((1, true)) && output.get_ref().is_empty());
     let mut full = FailureCounted::new(Broken);
-    let written = command(
-        alloc,
-        files,
-        words.as_slice(),
-        &mut input,
-        &mut full,
-        &mut errors,
-        0,
-    );
-    assert_eq!(rt; written, 1);
-    assert_eq!(rt;
-        errors.get_ref().as_slice(),
-        b"flagplane: device fault\nflagplane: device fault\n".as_slice()
-    );
+    let mut input = FailureCounted::new(b"[]\n".as_slice());
+    let written = apply_over(&rt, &mut input, &mut full, told);
+    assert!(rt; written == Ok((1, true)));
     Ok(())
 }
 
 const WANT: &[u8] = b"{\"error\":\"out-of-memory\"}";
 
+// Whether a reply is that one.
+fn is_want(alloc: Global, reply: Reply) -> Result<bool, AllocError> {
+    Ok(reply.text(alloc)?.as_slice() == WANT)
+}
+
 // No input can ask for these.
 #[test]
 fn want_of_memory_has_one_reply(rt: HostRuntime) -> Result<(), Fail> {
-    let alloc = rt.alloc();
-    let refused = Reply::Refused(EditFault::Memory).text(alloc)?;
-    let line = Reply::NoEdit(LineFault::Memory).text(alloc)?;
-    let flag = Reply::NoEdit(LineFault::BadFlag(DefFault::Memory)).text(alloc)?;
-    for text in [refused, line, flag] {
-        assert_eq!(rt; text.as_slice(), WANT);
-    }
+    let refused = is_want(rt.alloc(), Reply::Refused(EditFault::Memory));
+    let line = is_want(rt.alloc(), Reply::NoEdit(LineFault::Memory));
+    let flag = LineFault::BadFlag(DefFault::Memory);
+    let flag = is_want(rt.alloc(), Reply::NoEdit(flag));
+    assert!(rt; refused == Ok(true) && line == Ok(true) && flag == Ok(true));
     Ok(())
 }

@@ -1,7 +1,7 @@
 //! Readers and writers whose failures are counted.
 
 use fp_streams::{FailureCounted, StreamFault};
-use std::alloc::AllocGlobal;
+use std::alloc::{AllocGlobal, Global};
 use std::io;
 use std::io::{ErrorKind, Read, Write};
 use std::test::Fail;
@@ -40,33 +40,41 @@ impl Write for Unflushed {
     }
 }
 
-#[test]
-fn reads_to_the_end(rt: HostRuntime) -> Result<(), Fail> {
-    let alloc = rt.alloc();
-    let mut r = FailureCounted::new(b"abc".as_slice());
+// Two bytes of a reader, the rest of it, and what is read at its end.
+type ReadTwice = (
+    Result<usize, StreamFault>,
+    [u8; 2],
+    bool,
+    Result<usize, StreamFault>,
+);
+
+// What a reader of these bytes gives; whether the rest is this.
+fn read_twice(alloc: Global, bytes: &[u8], rest: &[u8]) -> Result<ReadTwice, StreamFault> {
+    let mut r = FailureCounted::new(bytes);
     let mut two = [0; 2];
-    assert_eq!(rt; r.read(&mut two), Ok(2));
-    assert_eq!(rt; two.as_slice(), b"ab".as_slice());
-    let Ok(rest) = r.read_to_end(alloc) else {
-        return Err(Fail::new("not read"));
-    };
-    assert_eq!(rt; rest.as_slice(), b"c".as_slice());
-    assert_eq!(rt; r.read(&mut two), Ok(0));
-    Ok(())
+    let first = r.read(&mut two);
+    let is_rest = r.read_to_end(alloc)?.as_slice() == rest;
+    Ok((first, two, is_rest, r.read(&mut [0; 2])))
+}
+
+#[test]
+fn reads_to_the_end(rt: HostRuntime) {
+    let got = read_twice(rt.alloc(), b"abc", b"c");
+    assert!(rt; got == Ok((Ok(2), *b"ab", true, Ok(0))));
 }
 
 #[test]
 fn an_interrupted_read_goes_on(rt: HostRuntime) -> Result<(), Fail> {
-    let alloc = rt.alloc();
     let kinds = [
         ErrorKind::Other,
         ErrorKind::Interrupted,
         ErrorKind::Interrupted,
     ];
-    let errors = Vec::from_slice(alloc, kinds.as_slice())?;
+    let errors = Vec::from_slice(rt.alloc(), kinds.as_slice())?;
     let mut r = FailureCounted::new(Failing { errors });
-    assert_eq!(rt; r.read(&mut [0]), Err(StreamFault::Device));
-    assert_eq!(rt; r.read(&mut [0]), Ok(0));
+    let first = r.read(&mut [0]);
+    let second = r.read(&mut [0]);
+    assert!(rt; first == Err(StreamFault::Device) && second == Ok(0));
     Ok(())
 }
 
@@ -76,36 +84,47 @@ fn want_of_memory_is_told_as_such(rt: HostRuntime) -> Result<(), Fail> {
     let kinds = [ErrorKind::Other, ErrorKind::OutOfMemory];
     let errors = Vec::from_slice(alloc, kinds.as_slice())?;
     let mut r = FailureCounted::new(Failing { errors });
-    assert!(rt; matches!(r.read_to_end(alloc), Err(StreamFault::Memory)));
-    assert!(rt; matches!(r.read_to_end(alloc), Err(StreamFault::Device)));
+    let first = r.read_to_end(alloc).err();
+    let second = r.read_to_end(alloc).err();
+    assert!(rt; first == Some(StreamFault::Memory) && second == Some(StreamFault::Device));
     Ok(())
 }
 
-#[test]
-fn what_is_sent_is_written_and_flushed(rt: HostRuntime) -> Result<(), Fail> {
-    let alloc = rt.alloc();
-    let mut w = FailureCounted::new(Vec::new(alloc));
-    assert_eq!(rt; w.send(b"ab"), Ok(()));
-    assert_eq!(rt; w.send(b"c"), Ok(()));
-    assert_eq!(rt; w.get_ref().len(), 3);
-    assert_eq!(rt; w.into_inner().as_slice(), b"abc".as_slice());
+// Sends to a writer that fails at a flush: what that answers, and whether this was written.
+fn send_unflushed(alloc: Global, bytes: &[u8]) -> (Result<(), StreamFault>, bool) {
     let taken = Vec::new(alloc);
     let mut full = FailureCounted::new(Unflushed { taken });
-    assert_eq!(rt; full.send(b"ab"), Err(StreamFault::Device));
-    assert_eq!(rt; full.get_ref().taken.as_slice(), b"ab".as_slice());
-    Ok(())
+    let sent = full.send(bytes);
+    (sent, full.get_ref().taken.as_slice() == bytes)
 }
 
 #[test]
-fn what_is_said_is_a_line(rt: HostRuntime) -> Result<(), Fail> {
-    let alloc = rt.alloc();
-    let mut w = FailureCounted::new(Vec::new(alloc));
-    assert_eq!(rt; w.say(&"ab"), Ok(()));
-    assert_eq!(rt; w.say(&format_args!("c{}", 7)), Ok(()));
-    assert_eq!(rt; w.into_inner().as_slice(), b"ab\nc7\n".as_slice());
+fn what_is_sent_is_written_and_flushed(rt: HostRuntime) {
+    let mut w = FailureCounted::new(Vec::new(rt.alloc()));
+    let first = w.send(b"ab");
+    let second = w.send(b"c");
+    let written = w.into_inner();
+    assert!(rt; first == Ok(()) && second == Ok(()) && written.as_slice() == b"abc".as_slice());
+    let full = send_unflushed(rt.alloc(), b"ab");
+    assert!(rt; full == (Err(StreamFault::Device), true));
+}
+
+// Says to a writer that fails at a flush: what that answers, and whether this was written.
+fn say_unflushed(alloc: Global, text: &str, want: &[u8]) -> (Result<(), StreamFault>, bool) {
     let taken = Vec::new(alloc);
     let mut full = FailureCounted::new(Unflushed { taken });
-    assert_eq!(rt; full.say(&"ab"), Err(StreamFault::Device));
-    assert_eq!(rt; full.get_ref().taken.as_slice(), b"ab\n".as_slice());
-    Ok(())
+    let said = full.say(&text);
+    (said, full.get_ref().taken.as_slice() == want)
+}
+
+#[test]
+fn what_is_said_is_a_line(rt: HostRuntime) {
+    let mut w = FailureCounted::new(Vec::new(rt.alloc()));
+    let first = w.say(&"ab");
+    let second = w.say(&format_args!("c{}", 7));
+    let written = w.into_inner();
+    assert!(rt; first == Ok(()) && second == Ok(()));
+    assert!(rt; written.as_slice() == b"ab\nc7\n".as_slice());
+    let full = say_unflushed(rt.alloc(), "ab", b"ab\n");
+    assert!(rt; full == (Err(StreamFault::Device), true));
 }
