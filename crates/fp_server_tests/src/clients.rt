@@ -71,8 +71,8 @@ pub fn revision_in(reply: &str) -> Option<u64> {
         .ok()
 }
 
-/// The whole response to an evaluation of a key, on a connection of its own.
-pub fn evaluated<R: Host>(rt: &R, at: SocketAddr, key: &str) -> io::Result<String> {
+// The whole response to an evaluation of a key, on a connection of its own.
+fn evaluated<R: Host>(rt: &R, at: SocketAddr, key: &str) -> io::Result<String> {
     let mut stream = connect(rt, at)?;
     let request = format!(in rt.alloc();
         "POST /ofrep/v1/evaluate/flags/{key} HTTP/1.1\r\nhost: a\r\nconnection: close\r\ncontent-length: 2\r\n\r\n{{}}"
@@ -81,6 +81,26 @@ pub fn evaluated<R: Host>(rt: &R, at: SocketAddr, key: &str) -> io::Result<Strin
     let mut response = String::new(rt.alloc());
     stream.read_to_string(&mut response)?;
     Ok(response)
+}
+
+/// Whether the response to an evaluation of a key begins with this.
+pub fn is_evaluated<R: Host>(rt: &R, at: SocketAddr, key: &str, status: &str) -> bool {
+    match evaluated(rt, at, key) {
+        Ok(response) => response.as_str().starts_with(status),
+        Err(_) => false,
+    }
+}
+
+/// Puts so many flags, one by one: whether each reply told a revision.
+pub fn are_put<R: Host>(rt: &R, at: SocketAddr, count: usize) -> io::Result<bool> {
+    let mut editor = Editor::new(rt, at)?;
+    for n in 0..count {
+        let key = format!(in rt.alloc(); "flag-{n}")?;
+        if revision_in(editor.put(rt, key.as_str())?.as_str()).is_none() {
+            return Ok(false);
+        }
+    }
+    Ok(true)
 }
 
 /// What a subscriber that had nothing is shown until the stream ends.

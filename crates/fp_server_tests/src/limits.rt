@@ -1,6 +1,6 @@
 //! How many connections there may be at once.
 
-use crate::clients::{Editor, connect, evaluated, is_closed, revision_in};
+use crate::clients::{are_put, connect, is_closed, is_evaluated};
 use crate::running::{Sockets, new_disk, start};
 use fp_server::Host;
 use std::alloc::AllocGlobal;
@@ -8,8 +8,8 @@ use std::io::{Read, Write};
 use std::net::{SocketAddr, TcpStream};
 use std::process::Abort;
 use std::test::Fail;
-use std::thread;
 use std::time::Duration;
+use std::{io, thread};
 
 // Connections of which each was let in, as its answer to these bytes shows.
 fn let_in<R: Host + Abort>(
@@ -64,12 +64,23 @@ fn the_next_connection_is_closed_without_a_byte(rt: HostRuntime) -> Result<(), F
     limits(&rt)
 }
 
+// Each port has its limit.
+fn limit_each<R: Host + Abort>(
+    rt: &R,
+    edit: SocketAddr,
+    stream: SocketAddr,
+    ofrep: SocketAddr,
+) -> Result<(), Fail> {
+    limit(rt, edit, 32, b"x\n")?;
+    limit(rt, stream, 32, &[0; 9])?;
+    limit(rt, ofrep, 16, EVALUATION)
+}
+
 fn limits<R: Host + Abort>(rt: &R) -> Result<(), Fail> {
     let service = start(rt, new_disk(rt.alloc())?)?;
-    limit(rt, service.edit, 32, b"x\n")?;
-    limit(rt, service.stream, 32, &[0; 9])?;
-    limit(rt, service.ofrep, 16, EVALUATION)?;
-    assert!(rt; service.end(rt)?.outcome.is_ok());
+    limit_each(rt, service.edit, service.stream, service.ofrep)?;
+    let ended = service.end(rt)?;
+    assert!(rt; ended.outcome.is_ok());
     Ok(())
 }
 
@@ -79,29 +90,39 @@ fn who_hangs_stops_nobody(rt: HostRuntime) -> Result<(), Fail> {
     hang(&rt)
 }
 
-// An edit without an end, a request whose body doesn't come, a hello that is cut,
-// and one who reads no frame.
+// A connection that said this.
+fn saying<R: Host>(rt: &R, at: SocketAddr, bytes: &[u8]) -> io::Result<TcpStream> {
+    let mut stream = connect(rt, at)?;
+    stream.write_all(bytes)?;
+    Ok(stream)
+}
+
+const HALVED: &[u8] =
+    b"POST /ofrep/v1/evaluate/flags/a HTTP/1.1\r\nhost: a\r\ncontent-length: 9\r\n\r\n{";
+
+// An edit without an end, a request whose body doesn't come, a hello that is cut, and one who
+// reads no frame.
+fn hanging<R: Host>(
+    rt: &R,
+    edit: SocketAddr,
+    stream: SocketAddr,
+    ofrep: SocketAddr,
+) -> io::Result<Vec<TcpStream>> {
+    let mut streams = Vec::new(rt.alloc());
+    streams.push(saying(rt, edit, b"{\"flag\":")?)?;
+    streams.push(saying(rt, ofrep, HALVED)?)?;
+    streams.push(saying(rt, stream, &[0; 4])?)?;
+    streams.push(saying(rt, stream, &[0; 9])?)?;
+    Ok(streams)
+}
+
 fn hang<R: Host + Abort>(rt: &R) -> Result<(), Fail> {
     let service = start(rt, new_disk(rt.alloc())?)?;
-    let mut unfinished = connect(rt, service.edit)?;
-    unfinished.write_all(b"{\"flag\":")?;
-    let mut halved = connect(rt, service.ofrep)?;
-    halved.write_all(
-        b"POST /ofrep/v1/evaluate/flags/a HTTP/1.1\r\nhost: a\r\ncontent-length: 9\r\n\r\n{",
-    )?;
-    let mut cut = connect(rt, service.stream)?;
-    cut.write_all(&[0; 4])?;
-    let mut deaf = connect(rt, service.stream)?;
-    deaf.write_all(&[0; 9])?;
-    let mut editor = Editor::new(rt, service.edit)?;
-    for n in 0..100 {
-        let key = format!(in rt.alloc(); "flag-{n}")?;
-        assert!(rt; revision_in(editor.put(rt, key.as_str())?.as_str()).is_some());
-    }
-    let response = evaluated(rt, service.ofrep, "flag-99")?;
-    assert!(rt; response.as_str().starts_with("HTTP/1.1 200 "));
+    let hanging = hanging(rt, service.edit, service.stream, service.ofrep)?;
+    let are_put = matches!(are_put(rt, service.edit, 100), Ok(true));
+    let is_evaluated = is_evaluated(rt, service.ofrep, "flag-99", "HTTP/1.1 200 ");
     let ended = service.end(rt)?;
-    assert!(rt; ended.outcome.is_ok());
-    assert_eq!(rt; ended.said.as_str(), "stopped at revision 100\n");
+    assert!(rt; hanging.len() == 4 && are_put && is_evaluated && ended.outcome.is_ok());
+    assert!(rt; ended.said.as_str() == "stopped at revision 100\n");
     Ok(())
 }

@@ -110,6 +110,16 @@ fn address(
     Ok(text.parse::<SocketAddr>().ok().ok_or("no address")?)
 }
 
+// The addresses in the first three lines.
+fn addresses(
+    rt: &impl AllocGlobal,
+    output: &mut BufReader<UnixStream>,
+) -> Result<(SocketAddr, SocketAddr, SocketAddr), Fail> {
+    let ofrep = address(rt, output, "ofrep ")?;
+    let edit = address(rt, output, "edit ")?;
+    Ok((ofrep, edit, address(rt, output, "stream ")?))
+}
+
 /// Starts a service over the disk.
 pub fn start<R, D>(rt: &R, disk: D) -> Result<Running<D>, Fail>
 where
@@ -124,10 +134,11 @@ where
         return Err(Fail::new("no thread"));
     };
     let mut output = BufReader::new(rt.alloc(), output)?;
+    let (ofrep, edit, stream) = addresses(rt, &mut output)?;
     Ok(Running {
-        ofrep: address(rt, &mut output, "ofrep ")?,
-        edit: address(rt, &mut output, "edit ")?,
-        stream: address(rt, &mut output, "stream ")?,
+        ofrep,
+        edit,
+        stream,
         input,
         output,
         thread,

@@ -3,8 +3,9 @@
 use crate::clients::{Editor, revision_in};
 use crate::running::{Sockets, held, new_disk, start};
 use fp_definition::FlagKey;
+use fp_edit::FlagSet;
 use fp_server::Host;
-use std::alloc::AllocGlobal;
+use std::alloc::{AllocError, AllocGlobal, Global};
 use std::net::SocketAddr;
 use std::process::Abort;
 use std::test::Fail;
@@ -41,6 +42,47 @@ fn start_editor<R: Host>(
     }
 }
 
+type Editors = Vec<JoinHandle<Option<Vec<(String, u64)>>>>;
+
+fn start_editors<R: Host>(rt: &R, at: SocketAddr) -> Result<Editors, Fail> {
+    let mut editors = Vec::new(rt.alloc());
+    for name in 0..8 {
+        editors.push(start_editor(rt, at, name)?)?;
+    }
+    Ok(editors)
+}
+
+// Whether a flag was changed by this revision, and the flags are at no earlier one.
+fn is_kept(alloc: Global, flags: &FlagSet, key: &str, revision: u64) -> bool {
+    match FlagKey::new(alloc, key) {
+        Ok(key) => {
+            revision <= flags.revision()
+                && flags.get(&key).map(|flag| flag.changed) == Some(revision)
+        }
+        Err(_) => false,
+    }
+}
+
+// How many edits the editors were told of, where each of them is kept.
+fn count_kept<R: Host>(rt: &R, flags: &FlagSet, editors: Editors) -> Option<usize> {
+    let mut count = 0usize;
+    for editor in editors {
+        for (key, revision) in &editor.join(rt)? {
+            if !is_kept(rt.alloc(), flags, key.as_str(), *revision) {
+                return None;
+            }
+            count = count.saturating_add(1);
+        }
+    }
+    Some(count)
+}
+
+// Whether this is said last, at this revision.
+fn says_revision(alloc: Global, said: &str, revision: u64) -> Result<bool, AllocError> {
+    let last = format!(in alloc; "stopped at revision {revision}\n")?;
+    Ok(said == last.as_str())
+}
+
 #[test]
 fn a_stop_under_load_loses_nothing_that_was_told(rt: HostRuntime) -> Result<(), Fail> {
     let _sockets: Sockets = None;
@@ -49,27 +91,13 @@ fn a_stop_under_load_loses_nothing_that_was_told(rt: HostRuntime) -> Result<(), 
 
 fn stop<R: Host + Abort>(rt: &R) -> Result<(), Fail> {
     let service = start(rt, new_disk(rt.alloc())?)?;
-    let mut editors = Vec::new(rt.alloc());
-    for name in 0..8 {
-        editors.push(start_editor(rt, service.edit, name)?)?;
-    }
+    let editors = start_editors(rt, service.edit)?;
     thread::sleep(rt, Duration::from_millis(200));
     let ended = service.end(rt)?;
     assert!(rt; ended.outcome.is_ok());
     let flags = held(rt.alloc(), ended.disk)?;
-    let last = format!(in rt.alloc(); "stopped at revision {}\n", flags.revision())?;
-    assert_eq!(rt; ended.said.as_str(), last.as_str());
-    let mut count = 0usize;
-    for editor in editors {
-        for (key, revision) in editor.join(rt).ok_or("no memory")? {
-            count = count.saturating_add(1);
-            assert!(rt; revision <= flags.revision());
-            let Ok(key) = FlagKey::new(rt.alloc(), key.as_str()) else {
-                return Err(Fail::new("no key"));
-            };
-            assert_eq!(rt; flags.get(&key).map(|flag| flag.changed), Some(revision));
-        }
-    }
-    assert!(rt; count > 0);
+    let is_said = says_revision(rt.alloc(), ended.said.as_str(), flags.revision());
+    assert!(rt; is_said == Ok(true));
+    assert!(rt; count_kept(rt, &flags, editors).is_some_and(|count| count > 0));
     Ok(())
 }
