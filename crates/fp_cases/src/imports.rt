@@ -1,39 +1,49 @@
 //! Cases of flagd documents.
 
-use crate::values::{SHOWN, put_utf8};
+use crate::values::SHOWN;
 use fp_definition::{Definition, FlagKey};
 use fp_imports::{ImportFault, expand_document};
+use fp_transcript::Text;
 use serde_json::Value;
-use std::alloc::{AllocError, Global};
 
 /// The flags of a document.
-pub fn imported(alloc: Global, document: Value, out: &mut String) -> Result<(), AllocError> {
-    match expand_document(alloc, document) {
+pub fn imported(document: Value, out: &mut Text) {
+    match expand_document(out.alloc, document) {
         Ok(flags) => put_flags(&flags, out),
         Err(fault) => put_fault(&fault, out),
     }
 }
 
-fn put_flags(flags: &[(FlagKey, Definition)], out: &mut String) -> Result<(), AllocError> {
-    write!(out, "flags {}\n", flags.len())?;
+fn put_flags(flags: &[(FlagKey, Definition)], out: &mut Text) {
+    out.named("flags", flags.len() as u64);
+    out.push("\n");
     for (key, definition) in flags.iter().take(SHOWN) {
-        write!(out, "{} ", key.as_str())?;
-        put_utf8(out, definition.text())?;
-        out.push('\n')?;
+        out.push(key.as_str());
+        out.push(" ");
+        out.utf8(definition.text());
+        out.push("\n");
     }
     match flags.last() {
-        Some((key, _)) if flags.len() > SHOWN => write!(out, "the last {}", key.as_str()),
-        _ => Ok(()),
+        Some((key, _)) if flags.len() > SHOWN => {
+            out.push("the last ");
+            out.push(key.as_str());
+        }
+        _ => {}
     }
 }
 
-fn put_fault(fault: &ImportFault, out: &mut String) -> Result<(), AllocError> {
+fn put_fault(fault: &ImportFault, out: &mut Text) {
     match fault {
-        ImportFault::NotDocument => out.push_str("not a document"),
-        ImportFault::RefUnknown(name) => write!(out, "unknown \"{name}\""),
-        ImportFault::RefTooDeep => out.push_str("too deep"),
-        ImportFault::Flag(key, fault) => write!(out, "flag {}: {fault}", key.as_str()),
-        ImportFault::BadKey(name) => write!(out, "bad key \"{name}\""),
-        ImportFault::Memory => Err(AllocError),
+        ImportFault::NotDocument => out.push("not a document"),
+        ImportFault::RefUnknown(name) => out.quoted("unknown", name.as_str()),
+        ImportFault::RefTooDeep => out.push("too deep"),
+        ImportFault::Flag(key, fault) => {
+            out.push("flag ");
+            out.push(key.as_str());
+            out.push(": ");
+            out.shown(fault);
+        }
+        ImportFault::BadKey(name) => out.quoted("bad key", name.as_str()),
+        ImportFault::Memory => out.is_short = true,
     }
 }

@@ -5,7 +5,6 @@
 mod data;
 mod definitions;
 mod edits;
-mod expand;
 mod imports;
 mod operators;
 mod records;

@@ -1,155 +1,157 @@
 //! Cases of the bytes of batches and images.
 
 use crate::edits::{edit_of, put_edit};
-use crate::expand::put_bytes;
 use crate::values::SHOWN;
 use fp_definition::FlagKey;
 use fp_edit::{Edit, Flag, FlagSet};
 use fp_record::{Batch, Image, RecordFault, encoded_len};
-use std::alloc::{AllocError, Global};
+use fp_transcript::Text;
 
 /// The batch that bytes spell.
-pub fn batch(alloc: Global, bytes: &[u8], out: &mut String) -> Result<(), AllocError> {
-    match Batch::decode(alloc, bytes) {
+pub fn batch(bytes: &[u8], out: &mut Text) {
+    match Batch::decode(out.alloc, bytes) {
         Ok(batch) => {
-            write!(out, "first {}\n", batch.first())?;
-            for edit in batch.edits().iter().take(SHOWN) {
-                write!(out, "{} bytes, ", encoded_len(edit))?;
-                put_edit(edit, out)?;
-                out.push('\n')?;
+            put_batch(&batch, out);
+            if let Some(again) = out.got(batch.encode(out.alloc)) {
+                put_again(&again, bytes, out);
             }
-            put_again(&batch.encode(alloc)?, bytes, out)
         }
         Err(fault) => put_fault(fault, out),
     }
 }
 
-fn put_again(again: &[u8], bytes: &[u8], out: &mut String) -> Result<(), AllocError> {
-    write!(out, "{} bytes", bytes.len())?;
-    out.push_str(if again == bytes {
-        ", spelled again"
-    } else {
-        ", spelled otherwise"
-    })
+fn put_batch(batch: &Batch, out: &mut Text) {
+    out.named("first", batch.first());
+    out.push("\n");
+    for edit in batch.edits().iter().take(SHOWN) {
+        out.number(encoded_len(edit) as u64);
+        out.push(" bytes, ");
+        put_edit(edit, out);
+        out.push("\n");
+    }
 }
 
-fn put_fault(fault: RecordFault, out: &mut String) -> Result<(), AllocError> {
+fn put_again(again: &[u8], bytes: &[u8], out: &mut Text) {
+    out.number(bytes.len() as u64);
+    out.push(if again == bytes {
+        " bytes, spelled again"
+    } else {
+        " bytes, spelled otherwise"
+    });
+}
+
+fn put_fault(fault: RecordFault, out: &mut Text) {
     match fault {
-        RecordFault::BadRecord { at } => write!(out, "bad at {at}"),
-        RecordFault::Memory => Err(AllocError),
+        RecordFault::BadRecord { at } => out.named("bad at", at as u64),
+        RecordFault::Memory => out.is_short = true,
     }
 }
 
 /// The image that bytes spell.
-pub fn image(alloc: Global, bytes: &[u8], out: &mut String) -> Result<(), AllocError> {
-    match Image::decode(alloc, bytes) {
+pub fn image(bytes: &[u8], out: &mut Text) {
+    match Image::decode(out.alloc, bytes) {
         Ok(image) => {
-            put_flags(image.flags(), out)?;
-            let again = Image::new(image.into_flags()).encode(alloc)?;
-            put_again(&again, bytes, out)
+            put_flags(image.flags(), out);
+            let again = Image::new(image.into_flags()).encode(out.alloc);
+            if let Some(again) = out.got(again) {
+                put_again(&again, bytes, out);
+            }
         }
         Err(fault) => put_fault(fault, out),
     }
 }
 
-fn put_flags(flags: &[(FlagKey, Flag)], out: &mut String) -> Result<(), AllocError> {
-    write!(out, "flags {}\n", flags.len())?;
+fn put_flags(flags: &[(FlagKey, Flag)], out: &mut Text) {
+    out.named("flags", flags.len() as u64);
+    out.push("\n");
     for (key, flag) in flags.iter().take(SHOWN) {
-        put_flag(key, flag, out)?;
+        out.push(key.as_str());
+        out.named(", changed", flag.changed);
+        out.push(", ");
+        out.number(flag.definition.text().len() as u64);
+        out.push(" bytes\n");
     }
-    Ok(())
-}
-
-fn put_flag(key: &FlagKey, flag: &Flag, out: &mut String) -> Result<(), AllocError> {
-    let bytes = flag.definition.text().len();
-    write!(
-        out,
-        "{}, changed {}, {bytes} bytes\n",
-        key.as_str(),
-        flag.changed
-    )
 }
 
 /// The bytes of the image of a set.
-pub fn image_of(alloc: Global, set: &FlagSet, out: &mut String) -> Result<(), AllocError> {
-    let image = Image::of(alloc, set)?;
-    put_bytes(out, &image.encode(alloc)?)
+pub fn image_of(set: &FlagSet, out: &mut Text) {
+    if let Some(image) = out.got(Image::of(out.alloc, set)) {
+        if let Some(bytes) = out.got(image.encode(out.alloc)) {
+            out.written(&bytes);
+        }
+    }
 }
 
 /// The bytes of the batch of edits, a line for each.
-pub fn spelled(
-    alloc: Global,
-    first: u64,
-    lines: &[u8],
-    out: &mut String,
-) -> Result<(), AllocError> {
-    let edits = edits_of(alloc, lines, out)?;
+pub fn spelled(first: u64, lines: &[u8], out: &mut Text) {
+    let edits = edits_of(lines, out);
     if edits.is_empty() || edits.len() > 64 || first > (1 << 63) - edits.len() as u64 {
-        return out.push_str("no batch");
+        return out.push("no batch");
     }
-    put_bytes(out, &Batch::new(first, edits).encode(alloc)?)
+    if let Some(bytes) = out.got(Batch::new(first, edits).encode(out.alloc)) {
+        out.written(&bytes);
+    }
 }
 
-fn edits_of(alloc: Global, lines: &[u8], out: &mut String) -> Result<Vec<Edit>, AllocError> {
-    let mut edits = Vec::new(alloc);
+fn edits_of(lines: &[u8], out: &mut Text) -> Vec<Edit> {
+    let mut edits = Vec::new(out.alloc);
     if let Ok(lines) = std::str::from_utf8(lines) {
         for line in lines.lines() {
-            if let Some(edit) = edit_of(alloc, line.as_bytes(), out)? {
-                edits.push(edit)?;
+            if let Some(edit) = edit_of(line.as_bytes(), out) {
+                let _ = out.got(edits.push(edit));
             }
         }
     }
-    Ok(edits)
+    edits
 }
 
-/// Where a batch's bytes are wrong, if they are.
-fn place(alloc: Global, bytes: &[u8]) -> Result<Option<usize>, AllocError> {
-    match Batch::decode(alloc, bytes) {
-        Ok(_) => Ok(None),
-        Err(RecordFault::BadRecord { at }) => Ok(Some(at)),
-        Err(RecordFault::Memory) => Err(AllocError),
+// Where a batch's bytes are wrong, if they are.
+fn place(bytes: &[u8], out: &mut Text) -> Option<usize> {
+    match Batch::decode(out.alloc, bytes) {
+        Ok(_) => None,
+        Err(RecordFault::BadRecord { at }) => Some(at),
+        Err(RecordFault::Memory) => {
+            out.is_short = true;
+            None
+        }
     }
 }
 
-fn put_place(place: Option<usize>, out: &mut String) -> Result<(), AllocError> {
+fn put_place(place: Option<usize>, out: &mut Text) {
     match place {
-        Some(at) => write!(out, "bad at {at}\n"),
-        None => out.push_str("stands\n"),
+        Some(at) => out.named("bad at", at as u64),
+        None => out.push("stands"),
     }
+    out.push("\n");
 }
 
 /// What each beginning of a batch's bytes is, a line for lengths in a row that are the same.
-pub fn beginnings(alloc: Global, bytes: &[u8], out: &mut String) -> Result<(), AllocError> {
+pub fn beginnings(bytes: &[u8], out: &mut Text) {
     let mut before = None;
     for end in 0..=bytes.len() {
-        let now = place(alloc, &bytes[..end])?;
+        let now = place(&bytes[..end], out);
         if before != Some(now) {
-            write!(out, "from {end}: ")?;
-            put_place(now, out)?;
+            out.named("from", end as u64);
+            out.push(": ");
+            put_place(now, out);
             before = Some(now);
         }
     }
-    Ok(())
 }
 
 /// What a batch's bytes are once one of them is another: at each, a line for values in
 /// a row that are the same.
-pub fn changed(alloc: Global, bytes: &[u8], out: &mut String) -> Result<(), AllocError> {
-    let mut body = Vec::from_slice(alloc, bytes)?;
-    for at in 0..body.len() {
-        changed_at(alloc, &mut body, at, out)?;
+pub fn changed(bytes: &[u8], out: &mut Text) {
+    if let Some(mut body) = out.got(Vec::from_slice(out.alloc, bytes)) {
+        for at in 0..body.len() {
+            changed_at(&mut body, at, out);
+        }
     }
-    Ok(())
 }
 
-fn changed_at(
-    alloc: Global,
-    body: &mut Vec<u8>,
-    at: usize,
-    out: &mut String,
-) -> Result<(), AllocError> {
+fn changed_at(body: &mut Vec<u8>, at: usize, out: &mut Text) {
     if at >= body.len() {
-        return Ok(());
+        return;
     }
     let kept = body[at];
     let mut before = None;
@@ -157,15 +159,16 @@ fn changed_at(
         if at < body.len() {
             body[at] = byte;
         }
-        let now = place(alloc, body)?;
+        let now = place(body, out);
         if before != Some(now) {
-            write!(out, "byte {at} from {byte}: ")?;
-            put_place(now, out)?;
+            out.named("byte", at as u64);
+            out.named(" from", u64::from(byte));
+            out.push(": ");
+            put_place(now, out);
             before = Some(now);
         }
     }
     if at < body.len() {
         body[at] = kept;
     }
-    Ok(())
 }

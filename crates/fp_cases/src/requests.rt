@@ -1,8 +1,8 @@
 //! Cases of evaluation requests.
 
-use crate::values::put_utf8;
 use fp_edit::FlagSet;
 use fp_ofrep::{Body, Reply, answer_over};
+use fp_transcript::Text;
 use http::Method;
 use http::method::MethodError;
 use std::alloc::{AllocError, Global};
@@ -23,63 +23,62 @@ impl Asking {
         })
     }
 
-    pub fn set_method(&mut self, alloc: Global, method: &[u8]) -> Result<(), AllocError> {
-        self.method = Vec::from_slice(alloc, method)?;
-        Ok(())
+    pub fn set_method(&mut self, method: Vec<u8>) {
+        self.method = method;
     }
 
     /// No bytes stand for no header.
-    pub fn set_if_none_match(&mut self, alloc: Global, field: &[u8]) -> Result<(), AllocError> {
-        self.if_none_match = if field.is_empty() {
-            None
-        } else {
-            Some(Vec::from_slice(alloc, field)?)
-        };
-        Ok(())
+    pub fn set_if_none_match(&mut self, field: Vec<u8>) {
+        self.if_none_match = if field.is_empty() { None } else { Some(field) };
+    }
+
+    fn method(&self, out: &mut Text) -> Option<Method> {
+        match Method::from_bytes(out.alloc, &self.method) {
+            Ok(method) => Some(method),
+            Err(MethodError::Invalid) => {
+                out.push("no method");
+                None
+            }
+            Err(MethodError::OutOfMemory) => {
+                out.is_short = true;
+                None
+            }
+        }
     }
 
     /// The reply to a request: its status, a line for each header, and the body if there is one.
-    pub fn ask(
-        &self,
-        alloc: Global,
-        set: &FlagSet,
-        target: &str,
-        body: Body<'_>,
-        now: u64,
-        out: &mut String,
-    ) -> Result<(), AllocError> {
+    pub fn ask(&self, set: &FlagSet, target: &str, body: Body<'_>, now: u64, out: &mut Text) {
         if now >= 1 << 63 {
-            return out.push_str("no moment");
+            return out.push("no moment");
         }
-        let method = match Method::from_bytes(alloc, &self.method) {
-            Ok(method) => method,
-            Err(MethodError::Invalid) => return out.push_str("no method"),
-            Err(MethodError::OutOfMemory) => return Err(AllocError),
+        let Some(method) = self.method(out) else {
+            return;
         };
         let field = self.if_none_match.as_deref();
-        let reply = answer_over(alloc, set, &method, target, field, body, now)?;
-        put_reply(&reply, out)
+        let reply = answer_over(out.alloc, set, &method, target, field, body, now);
+        if let Some(reply) = out.got(reply) {
+            put_reply(&reply, out);
+        }
     }
 }
 
-fn put_reply(reply: &Reply, out: &mut String) -> Result<(), AllocError> {
-    write!(out, "{}", reply.status.as_u16())?;
+fn put_reply(reply: &Reply, out: &mut Text) {
+    out.number(u64::from(reply.status.as_u16()));
     if reply.headers.allow_post {
-        out.push_str("\nallow: POST")?;
+        out.push("\nallow: POST");
     }
     if reply.headers.is_json {
-        out.push_str("\ncontent-type: application/json")?;
+        out.push("\ncontent-type: application/json");
     }
     if let Some(revision) = reply.headers.flag_revision {
-        write!(out, "\nflag-revision: {revision}")?;
+        out.named("\nflag-revision:", revision);
     }
     if let Some(tag) = &reply.headers.etag {
-        out.push_str("\netag: ")?;
-        put_utf8(out, tag)?;
+        out.push("\netag: ");
+        out.utf8(tag);
     }
-    if reply.body.is_empty() {
-        return Ok(());
+    if !reply.body.is_empty() {
+        out.push("\n");
+        out.utf8(&reply.body);
     }
-    out.push('\n')?;
-    put_utf8(out, &reply.body)
 }

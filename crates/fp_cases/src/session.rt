@@ -1,7 +1,6 @@
 //! What the commands of a file share, and the commands by their words.
 
 use crate::data::put_datum;
-use crate::expand::{Texts, expanded};
 use crate::requests::Asking;
 use crate::streams::Subscriber;
 use crate::{definitions, edits, imports, operators, records, rules, values};
@@ -10,10 +9,11 @@ use fp_definition::{FlagKey, KeyFault};
 use fp_edit::FlagSet;
 use fp_ofrep::Body;
 use fp_operators::Datum;
-use fp_transcript::Answers;
+use fp_transcript::{Answers, Text, Texts, expanded};
 use serde_json::Value;
 use std::alloc::{AllocError, Global};
 use std::collections::BTreeMap;
+use std::mem;
 
 // The words that a name or a number stands behind.
 const HAVE_FIRST: [&str; 16] = [
@@ -41,6 +41,9 @@ const TAKE_JSON: [&str; 13] = [
     "resolve", "import", "data",
 ];
 
+// The words of `run_json`, which takes its JSON; the others only read it.
+const TAKE_OVER: [&str; 5] = ["member", "flag", "resolve", "import", "data"];
+
 // The words of `tell_bytes`.
 const OF_BYTES: [&str; 7] = [
     "text",
@@ -58,7 +61,7 @@ const ON_SET: [&str; 5] = ["edit", "judge", "restore", "key", "set"];
 // The words of `run_request`.
 const ON_REQUESTS: [&str; 4] = ["method", "if-none-match", "ask", "ask-too-long"];
 
-// The words of `subscribe`.
+// The words of a subscriber.
 const ON_SUBSCRIBER: [&str; 8] = [
     "hello",
     "subscriber",
@@ -73,7 +76,6 @@ const ON_SUBSCRIBER: [&str; 8] = [
 /// What the commands of a file share.
 #[derive(Drop)]
 pub struct Session {
-    alloc: Global,
     /// The texts that are named.
     texts: Texts,
     /// What rules and operators read, and the key and the moment that rules are told.
@@ -101,7 +103,6 @@ impl Session {
     pub fn new(alloc: Global) -> Result<Session, AllocError> {
         let key = first_key(alloc)?;
         Ok(Session {
-            alloc,
             texts: BTreeMap::new(alloc),
             data: Value::Null,
             key,
@@ -112,244 +113,184 @@ impl Session {
             subscriber: Subscriber::new(alloc),
         })
     }
-
-    fn name_text(&mut self, name: &str, text: Vec<u8>) -> Result<(), AllocError> {
-        let name = String::from_str(self.alloc, name)?;
-        drop(self.texts.insert(name, text)?);
-        Ok(())
-    }
-
-    fn run_json(
-        &mut self,
-        word: &str,
-        first: &str,
-        value: Value,
-        out: &mut String,
-    ) -> Result<(), AllocError> {
-        let alloc = self.alloc;
-        match word {
-            "member" => values::member(alloc, first, value, out),
-            "flag" => definitions::canonical(alloc, value, out),
-            "resolve" => definitions::resolved(alloc, &self.data, &self.key, self.now, value, out),
-            "import" => imports::imported(alloc, value, out),
-            "data" => self.set_data(value, out),
-            _ => self.run_shown_json(word, first, &value, out),
-        }
-    }
-
-    // Commands that only read their JSON.
-    fn run_shown_json(
-        &self,
-        word: &str,
-        first: &str,
-        value: &Value,
-        out: &mut String,
-    ) -> Result<(), AllocError> {
-        let alloc = self.alloc;
-        let number = number_in(first);
-        match word {
-            "json" => values::put_canonical(alloc, value, out),
-            "fits" => values::fits(alloc, number, value, out),
-            "nests" => values::nests(number, value, out),
-            "budget" => values::budget(number, value, out),
-            "op" => operators::applied(alloc, &self.data, first, value, out),
-            "versions" => operators::compared(alloc, first, value, out),
-            "compile" => rules::compiled(alloc, value, out),
-            _ => rules::evaluated(alloc, &self.data, self.key.as_str(), self.now, value, out),
-        }
-    }
-
-    fn run_bytes(
-        &mut self,
-        word: &str,
-        first: &str,
-        operand: &[u8],
-        out: &mut String,
-    ) -> Result<(), AllocError> {
-        if OF_BYTES.contains(&word) {
-            tell_bytes(self.alloc, word, number_in(first), operand, out)
-        } else if ON_SET.contains(&word) {
-            self.run_on_set(word, number_in(first), operand, out)
-        } else if ON_REQUESTS.contains(&word) {
-            self.run_request(word, first, operand, out)
-        } else if ON_SUBSCRIBER.contains(&word) {
-            self.subscribe(word, first, operand, out)
-        } else {
-            self.run_word(word, first, out)
-        }
-    }
-
-    // Commands on the set, and on the key.
-    fn run_on_set(
-        &mut self,
-        word: &str,
-        number: u64,
-        operand: &[u8],
-        out: &mut String,
-    ) -> Result<(), AllocError> {
-        let alloc = self.alloc;
-        match word {
-            "edit" => edits::admitted(alloc, &mut self.set, operand, out),
-            "judge" => edits::judged(alloc, &self.set, operand, out),
-            "restore" => edits::restored(alloc, &mut self.set, number, operand, out),
-            "key" => self.set_key(operand, out),
-            _ => self.start_set(number, operand, out),
-        }
-    }
-
-    fn run_request(
-        &mut self,
-        word: &str,
-        target: &str,
-        operand: &[u8],
-        out: &mut String,
-    ) -> Result<(), AllocError> {
-        match word {
-            "method" => self.asking.set_method(self.alloc, operand),
-            "if-none-match" => self.asking.set_if_none_match(self.alloc, operand),
-            "ask" => self.ask(target, Body::Whole(operand), out),
-            _ => self.ask(target, Body::TooLong, out),
-        }
-    }
-
-    // Commands without an operand.
-    fn run_word(&mut self, word: &str, first: &str, out: &mut String) -> Result<(), AllocError> {
-        match word {
-            "now" => {
-                self.now = number_in(first);
-                Ok(())
-            }
-            "get" => edits::put_flag(&self.set, &self.key, out),
-            "document" => values::put_utf8(out, &self.set.document()?),
-            "changes" => edits::put_changes(&self.set, out),
-            "keep" => {
-                self.kept = self.set.try_copy()?;
-                Ok(())
-            }
-            "swap" => {
-                std::mem::swap(&mut self.set, &mut self.kept);
-                Ok(())
-            }
-            "image-of-set" => records::image_of(self.alloc, &self.set, out),
-            _ => out.push_str("no such command"),
-        }
-    }
-
-    fn ask(&self, target: &str, body: Body<'_>, out: &mut String) -> Result<(), AllocError> {
-        self.asking
-            .ask(self.alloc, &self.set, target, body, self.now, out)
-    }
-
-    fn subscribe(
-        &mut self,
-        word: &str,
-        first: &str,
-        operand: &[u8],
-        out: &mut String,
-    ) -> Result<(), AllocError> {
-        self.subscriber
-            .run(self.alloc, word, number_in(first), operand, out)
-    }
-
-    // An empty set under a limit, at a revision.
-    fn start_set(
-        &mut self,
-        limit: u64,
-        operand: &[u8],
-        out: &mut String,
-    ) -> Result<(), AllocError> {
-        let revision = match std::str::from_utf8(operand) {
-            Ok(text) => number_in(text),
-            Err(_) => 0,
-        };
-        if revision >= 1 << 63 {
-            return out.push_str("no revision");
-        }
-        self.set = FlagSet::at_revision(self.alloc, revision, limit);
-        edits::put_size(&self.set, out)
-    }
-
-    // The data of operators and rules, shown as they are copied.
-    fn set_data(&mut self, value: Value, out: &mut String) -> Result<(), AllocError> {
-        put_copy(self.alloc, &value, out)?;
-        self.data = value;
-        Ok(())
-    }
-
-    fn set_key(&mut self, operand: &[u8], out: &mut String) -> Result<(), AllocError> {
-        let Ok(text) = std::str::from_utf8(operand) else {
-            return out.push_str("no text");
-        };
-        match FlagKey::new(self.alloc, text) {
-            Ok(key) => {
-                self.key = key;
-                out.push_str(self.key.as_str())
-            }
-            Err(KeyFault::BadKey) => out.push_str("bad key"),
-            Err(KeyFault::Memory) => Err(AllocError),
-        }
-    }
-}
-
-// What bytes are: a definition, an edit line, a batch, an image.
-fn tell_bytes(
-    alloc: Global,
-    word: &str,
-    number: u64,
-    operand: &[u8],
-    out: &mut String,
-) -> Result<(), AllocError> {
-    match word {
-        "text" => definitions::read_back(alloc, operand, out),
-        "line" => edits::parsed(alloc, operand, out),
-        "batch" => records::batch(alloc, operand, out),
-        "image" => records::image(alloc, operand, out),
-        "beginnings" => records::beginnings(alloc, operand, out),
-        "changed" => records::changed(alloc, operand, out),
-        _ => records::spelled(alloc, number, operand, out),
-    }
 }
 
 impl Answers for Session {
     /// A command is its word, for some words a name or a number, and the operand, which is all
     /// that is left of the line.
-    fn answer(&mut self, command: &str, out: &mut String) -> Result<(), AllocError> {
+    fn answer(&mut self, command: &str, out: &mut Text) {
         let (word, rest) = split(command);
         let (first, rest) = if HAVE_FIRST.contains(&word) {
             split(rest)
         } else {
             ("", rest)
         };
-        let operand = expanded(self.alloc, &self.texts, rest)?;
-        if word == "let" {
-            return self.name_text(first, operand);
+        if let Some(operand) = out.got(expanded(out.alloc, &self.texts, rest)) {
+            self.run(word, first, operand, out);
         }
-        self.run(word, first, &operand, out)
     }
 }
 
 impl Session {
-    fn run(
-        &mut self,
-        word: &str,
-        first: &str,
-        operand: &[u8],
-        out: &mut String,
-    ) -> Result<(), AllocError> {
-        if !TAKE_JSON.contains(&word) {
-            return self.run_bytes(word, first, operand, out);
+    fn run(&mut self, word: &str, first: &str, operand: Vec<u8>, out: &mut Text) {
+        if word == "let" {
+            self.name_text(first, operand, out);
+        } else if TAKE_JSON.contains(&word) {
+            match out.got(read_json(out.alloc, &operand)) {
+                Some(Some(value)) => self.run_json(word, first, value, out),
+                _ => out.push("no JSON"),
+            }
+        } else if OF_BYTES.contains(&word) {
+            tell_bytes(word, number_in(first), &operand, out);
+        } else if ON_SET.contains(&word) {
+            self.run_on_set(word, number_in(first), &operand, out);
+        } else if ON_REQUESTS.contains(&word) {
+            self.run_request(word, first, operand, out);
+        } else if ON_SUBSCRIBER.contains(&word) {
+            self.subscriber.run(word, number_in(first), &operand, out);
+        } else {
+            self.run_word(word, first, out);
         }
-        match read_json(self.alloc, operand)? {
-            Some(value) => self.run_json(word, first, value, out),
-            None => out.push_str("no JSON"),
+    }
+
+    fn name_text(&mut self, name: &str, text: Vec<u8>, out: &mut Text) {
+        if let Some(name) = out.got(String::from_str(out.alloc, name)) {
+            let named = self.texts.insert(name, text);
+            let _ = out.got(named);
+        }
+    }
+
+    fn run_json(&mut self, word: &str, first: &str, value: Value, out: &mut Text) {
+        if !TAKE_OVER.contains(&word) {
+            return self.run_shown_json(word, first, &value, out);
+        }
+        match word {
+            "member" => values::member(first, value, out),
+            "flag" => definitions::canonical(value, out),
+            "resolve" => definitions::resolved(&self.data, &self.key, self.now, value, out),
+            "import" => imports::imported(value, out),
+            _ => self.set_data(value, out),
+        }
+    }
+
+    // Commands that only read their JSON.
+    fn run_shown_json(&self, word: &str, first: &str, value: &Value, out: &mut Text) {
+        let number = number_in(first);
+        match word {
+            "json" => values::put_canonical(value, out),
+            "fits" => values::fits(number, value, out),
+            "nests" => values::nests(number, value, out),
+            "budget" => values::budget(number, value, out),
+            "op" => operators::applied(&self.data, first, value, out),
+            "versions" => operators::compared(first, value, out),
+            "compile" => rules::compiled(value, out),
+            _ => rules::evaluated(&self.data, self.key.as_str(), self.now, value, out),
+        }
+    }
+
+    // Commands on the set, and on the key.
+    fn run_on_set(&mut self, word: &str, number: u64, operand: &[u8], out: &mut Text) {
+        match word {
+            "edit" => edits::admitted(&mut self.set, operand, out),
+            "judge" => edits::judged(&self.set, operand, out),
+            "restore" => edits::restored(&mut self.set, number, operand, out),
+            "key" => self.set_key(operand, out),
+            _ => self.start_set(number, operand, out),
+        }
+    }
+
+    fn run_request(&mut self, word: &str, target: &str, operand: Vec<u8>, out: &mut Text) {
+        match word {
+            "method" => self.asking.set_method(operand),
+            "if-none-match" => self.asking.set_if_none_match(operand),
+            "ask" => self.ask(target, Body::Whole(&operand), out),
+            _ => self.ask(target, Body::TooLong, out),
+        }
+    }
+
+    // Commands without an operand.
+    fn run_word(&mut self, word: &str, first: &str, out: &mut Text) {
+        match word {
+            "now" => self.now = number_in(first),
+            "get" => edits::put_flag(&self.set, &self.key, out),
+            "document" => put_document(&self.set, out),
+            "changes" => edits::put_changes(&self.set, out),
+            "keep" => self.keep(out),
+            "swap" => mem::swap(&mut self.set, &mut self.kept),
+            "image-of-set" => records::image_of(&self.set, out),
+            _ => out.push("no such command"),
+        }
+    }
+
+    fn ask(&self, target: &str, body: Body<'_>, out: &mut Text) {
+        self.asking.ask(&self.set, target, body, self.now, out);
+    }
+
+    fn keep(&mut self, out: &mut Text) {
+        if let Some(copy) = out.got(self.set.try_copy()) {
+            self.kept = copy;
+        }
+    }
+
+    // An empty set under a limit, at a revision.
+    fn start_set(&mut self, limit: u64, operand: &[u8], out: &mut Text) {
+        let revision = match std::str::from_utf8(operand) {
+            Ok(text) => number_in(text),
+            Err(_) => 0,
+        };
+        if revision >= 1 << 63 {
+            return out.push("no revision");
+        }
+        self.set = FlagSet::at_revision(out.alloc, revision, limit);
+        edits::put_size(&self.set, out);
+    }
+
+    // The data of operators and rules, shown as they are copied.
+    fn set_data(&mut self, value: Value, out: &mut Text) {
+        put_copy(&value, out);
+        self.data = value;
+    }
+
+    fn set_key(&mut self, operand: &[u8], out: &mut Text) {
+        let Ok(text) = std::str::from_utf8(operand) else {
+            return out.push("no text");
+        };
+        match FlagKey::new(out.alloc, text) {
+            Ok(key) => {
+                out.push(key.as_str());
+                self.key = key;
+            }
+            Err(KeyFault::BadKey) => out.push("bad key"),
+            Err(KeyFault::Memory) => out.is_short = true,
         }
     }
 }
 
-fn put_copy(alloc: Global, value: &Value, out: &mut String) -> Result<(), AllocError> {
-    let datum = Datum::from_value(alloc, value)?;
-    let copy = datum.try_copy(alloc)?;
-    put_datum(alloc, &copy, out)
+// What bytes are: a definition, an edit line, a batch, an image.
+fn tell_bytes(word: &str, number: u64, operand: &[u8], out: &mut Text) {
+    match word {
+        "text" => definitions::read_back(operand, out),
+        "line" => edits::parsed(operand, out),
+        "batch" => records::batch(operand, out),
+        "image" => records::image(operand, out),
+        "beginnings" => records::beginnings(operand, out),
+        "changed" => records::changed(operand, out),
+        _ => records::spelled(number, operand, out),
+    }
+}
+
+fn put_document(set: &FlagSet, out: &mut Text) {
+    if let Some(document) = out.got(set.document()) {
+        out.utf8(&document);
+    }
+}
+
+fn put_copy(value: &Value, out: &mut Text) {
+    if let Some(datum) = out.got(Datum::from_value(out.alloc, value)) {
+        if let Some(copy) = out.got(datum.try_copy(out.alloc)) {
+            put_datum(&copy, out);
+        }
+    }
 }
 
 fn split(line: &str) -> (&str, &str) {

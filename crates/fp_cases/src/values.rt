@@ -3,62 +3,58 @@
 use fp_base::{
     canonical_text, canonical_text_within, nests_within, take_member, values_left, whole_numbers,
 };
+use fp_transcript::Text;
 use serde_json::Value;
-use std::alloc::{AllocError, Global};
 
 /// So many items are shown of a list that may be long.
 pub const SHOWN: usize = 8;
 
 /// The canonical text.
-pub fn put_canonical(alloc: Global, value: &Value, out: &mut String) -> Result<(), AllocError> {
+pub fn put_canonical(value: &Value, out: &mut Text) {
     if !nests_within(value, 127) || !whole_numbers(value) {
-        return out.push_str("numbers that aren't whole");
+        return out.push("numbers that aren't whole");
     }
-    let text = canonical_text(alloc, value)?;
-    put_utf8(out, &text)
-}
-
-/// Bytes that are a text, or that they are none.
-pub fn put_utf8(out: &mut String, bytes: &[u8]) -> Result<(), AllocError> {
-    match std::str::from_utf8(bytes) {
-        Ok(text) => out.push_str(text),
-        Err(_) => out.push_str("no UTF-8"),
+    if let Some(text) = out.got(canonical_text(out.alloc, value)) {
+        out.utf8(&text);
     }
 }
 
 /// Whether the canonical text has so many bytes at most.
-pub fn fits(alloc: Global, limit: u64, value: &Value, out: &mut String) -> Result<(), AllocError> {
+pub fn fits(limit: u64, value: &Value, out: &mut Text) {
     if !nests_within(value, 127) || !whole_numbers(value) {
-        return out.push_str("numbers that aren't whole");
+        return out.push("numbers that aren't whole");
     }
-    match canonical_text_within(alloc, value, limit as usize)? {
-        Some(_) => out.push_str("fits"),
-        None => out.push_str("is longer"),
+    match out.got(canonical_text_within(out.alloc, value, limit as usize)) {
+        Some(Some(_)) => out.push("fits"),
+        _ => out.push("is longer"),
     }
 }
 
 /// Whether lists and objects stand in one another so deep at most.
-pub fn nests(limit: u64, value: &Value, out: &mut String) -> Result<(), AllocError> {
+pub fn nests(limit: u64, value: &Value, out: &mut Text) {
     let limit = u32::try_from(limit).unwrap_or(u32::MAX);
-    out.push_str(if nests_within(value, limit) {
+    out.push(if nests_within(value, limit) {
         "within"
     } else {
         "deeper"
-    })
+    });
 }
 
 /// What is left of so many values.
-pub fn budget(values: u64, value: &Value, out: &mut String) -> Result<(), AllocError> {
+pub fn budget(values: u64, value: &Value, out: &mut Text) {
     match values_left(value, values as usize) {
-        Some(left) => write!(out, "{left} left"),
-        None => out.push_str("spent"),
+        Some(left) => {
+            out.number(left as u64);
+            out.push(" left");
+        }
+        None => out.push("spent"),
     }
 }
 
 /// The member of that name.
-pub fn member(alloc: Global, name: &str, value: Value, out: &mut String) -> Result<(), AllocError> {
+pub fn member(name: &str, value: Value, out: &mut Text) {
     match take_member(value, name) {
-        Some(member) => out.push_str(member.to_string(alloc)?.as_str()),
-        None => out.push_str("none"),
+        Some(member) => out.shown(&member),
+        None => out.push("none"),
     }
 }

@@ -4,6 +4,7 @@ ghost use Rattle.std.specs.Prelude.{◌≡◌, count_by};
 ghost use Rattle.std.specs.Str.Lines.{lines};
 ghost use Rattle.fp_transcript.specs.Lines.{is_answer, is_command};
 
+use crate::text::Text;
 use std::alloc::{AllocError, Global};
 
 /// A longer line of an answer is cut.
@@ -13,7 +14,7 @@ const LONGEST: usize = 400;
 pub trait Answers {
     /// Appends the answer to a command, of no line or of several. What one command set
     /// holds for those behind it.
-    fn answer(&mut self, command: &str, out: &mut String) -> Result<(), AllocError>;
+    fn answer(&mut self, command: &str, out: &mut Text);
 }
 
 // Whether a line is one of an answer.
@@ -44,33 +45,39 @@ pub fn transcript<A: Answers>(
     file: &str,
     answers: &mut A,
 ) -> Result<String, AllocError> {
-    let mut text = String::new(alloc);
-    let mut answer = String::new(alloc);
+    let mut text = Text::new(alloc);
+    let mut answer = Text::new(alloc);
     for line in file.lines() {
         if is_answer(line) {
             continue;
         }
-        text.push_str(line)?;
-        text.push('\n')?;
+        text.push(line);
+        text.push("\n");
         if is_command(line) {
             answer.clear();
-            answers.answer(line, &mut answer)?;
-            push_answer(answer.as_str(), &mut text)?;
+            answers.answer(line, &mut answer);
+            push_answer(&answer, &mut text);
         }
     }
-    Ok(text)
+    text.whole()
 }
 
-fn push_answer(answer: &str, text: &mut String) -> Result<(), AllocError> {
-    for line in answer.lines() {
-        push_line(line, text)?;
+fn push_answer(answer: &Text, text: &mut Text) {
+    for line in answer.as_str().lines() {
+        push_line(line, text);
     }
-    Ok(())
+    text.is_short = text.is_short || answer.is_short;
 }
 
-fn push_line(line: &str, text: &mut String) -> Result<(), AllocError> {
+fn push_line(line: &str, text: &mut Text) {
+    text.push("= ");
     match line.get(..LONGEST) {
-        Some(start) if LONGEST < line.len() => write!(text, "= {start} .. {} bytes\n", line.len()),
-        _ => write!(text, "= {line}\n"),
+        Some(start) if LONGEST < line.len() => {
+            text.push(start);
+            text.named(" ..", line.len() as u64);
+            text.push(" bytes");
+        }
+        _ => text.push(line),
     }
+    text.push("\n");
 }

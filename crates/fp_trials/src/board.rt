@@ -5,7 +5,6 @@ ghost use Rattle.fp_publish.specs.declared.board.TheConstants.{MOST_EVALUATORS};
 ghost use Rattle.fp_desk.specs.Desk.{settled_front};
 
 use crate::parts::{committed, taken};
-use crate::text::{Args, Text};
 use crate::trial::{Answer, Fault, Trial};
 use crate::world::{found, show};
 use fp_desk::Desk;
@@ -14,6 +13,7 @@ use fp_group_commit::{Opening, Store};
 use fp_ofrep::{Body, Reply, answer};
 use fp_publish::{Board, Evaluator, Seat, Seats, View};
 use fp_stream::Hello;
+use fp_transcript::{Args, Text};
 use http::Method;
 use std::alloc::{AllocError, Global};
 use std::marker::Model;

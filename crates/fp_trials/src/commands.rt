@@ -1,11 +1,12 @@
 //! The commands of the program, over a disk in memory, and the lines that they read.
 
-use crate::text::{Args, Text, number};
+use crate::text::{bytes_of, put_line};
 use crate::trial::{Answer, Trial, tell_fault};
 use crate::world::room;
 use fp_commands::{CommandFault, apply_disk, import_disk, init_disk, show_disk};
 use fp_disk::MemoryDisk;
 use fp_streams::FailureCounted;
+use fp_transcript::{Args, Text, number};
 use std::alloc::Global;
 use std::io;
 use std::io::{ErrorKind, Read};
@@ -13,10 +14,10 @@ use std::io::{ErrorKind, Read};
 /// `input EDIT`, `last EDIT` for a line without its end, and `raw BYTES`.
 pub fn on_input(trial: &mut Trial, word: &str, args: &mut Args<'_>) -> Answer {
     if word == "raw" {
-        return trial.wait(&args.bytes());
+        return trial.wait(&bytes_of(args));
     }
     let mut line = Text::new(trial.alloc);
-    args.line(&mut line);
+    put_line(args, &mut line);
     if word == "input" {
         line.push("\n");
     }

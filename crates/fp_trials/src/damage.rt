@@ -1,10 +1,10 @@
 //! Disks of which single bytes were changed.
 
 use crate::seeds::{FIRST_SEED, next_seed};
-use crate::text::{Args, Text};
 use crate::trial::{Answer, Fault, Trial};
 use crate::world::found;
 use fp_disk::MemoryDisk;
+use fp_transcript::{Args, Text};
 use std::alloc::Global;
 use std::mem;
 

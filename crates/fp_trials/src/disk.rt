@@ -2,16 +2,17 @@
 
 ghost use Rattle.std.specs.Prelude.{◌≤◌, ◌+◌};
 
-use crate::text::{Args, Text};
+use crate::text::{bytes_of, fill_of};
 use crate::trial::{Answer, Fault, Trial};
 use fp_disk::{Call, Choice, Disk, DiskFault, FailedWrite, Failing, Fill, Progress, Request};
+use fp_transcript::{Args, Text};
 use std::alloc::Global;
 
 /// `hold BYTES`, `write AT BYTES`, `read AT LENGTH`, `text AT LENGTH`, `len`, `sync`,
 /// `cut LENGTH`, `keep`, `back`.
 pub fn on_bytes(trial: &mut Trial, word: &str, args: &mut Args<'_>) -> Answer {
     match word {
-        "hold" => trial.hold(args.bytes()),
+        "hold" => trial.hold(bytes_of(args)),
         "write" => write(trial, args),
         "read" | "text" => read(trial, word, args),
         "len" => len(trial),
@@ -62,7 +63,7 @@ const FARTHEST: u64 = 1 << 62;
 
 fn write(trial: &mut Trial, args: &mut Args<'_>) -> Answer {
     let at = args.number();
-    let bytes = args.bytes();
+    let bytes = bytes_of(args);
     match write_at(trial, at, &bytes) {
         Ok(()) => Answer::Done,
         Err(_) if at > FARTHEST => Answer::Fault(Fault::Device),
@@ -170,7 +171,7 @@ pub fn failed_write(word: &str) -> FailedWrite {
 
 fn crash(trial: &mut Trial, args: &mut Args<'_>) -> Answer {
     let length = left_length(args);
-    let rest = args.fill();
+    let rest = fill_of(args);
     let writes = fills(args);
     crash_as(
         trial,
@@ -199,7 +200,7 @@ fn fills(args: &mut Args<'_>) -> Vec<Fill> {
         if args.rest.is_empty() {
             break;
         }
-        let fill = args.fill();
+        let fill = fill_of(args);
         if writes.push(fill).is_err() {
             args.is_short = true;
         }

@@ -3,10 +3,10 @@
 ghost use Rattle.std.specs.Prelude.{◌<◌, ◌^◌};
 
 use crate::commands::stopped;
-use crate::text::Args;
 use crate::trial::{Answer, Trial};
 use fp_commands::{CommandFault, eval_disk};
 use fp_streams::FailureCounted;
+use fp_transcript::Args;
 
 /// `eval KEY [at MOMENT]`: the evaluation of the flag of a key by the request that waits.
 pub fn on_eval(trial: &mut Trial, args: &mut Args<'_>) -> Answer {

@@ -1,7 +1,7 @@
 //! The world's events, one at a time and in courses.
 
 use crate::board::say_reply;
-use crate::text::{Args, Text};
+use crate::text::edit_of;
 use crate::trial::{Answer, Fault, Held, Trial};
 use crate::world::open;
 use fp_desk::SubmitFault;
@@ -9,6 +9,7 @@ use fp_disk::MemoryDisk;
 use fp_edit::{Edit, EditFault};
 use fp_group_commit::StoreFault;
 use fp_slots::Step;
+use fp_transcript::{Args, Text};
 use fp_world::{Answer as Reply, Committer, Event};
 
 /// `draw`, `stage`, `sync-body`, `open-gate`, `sync-gate`, `settle`, `compact`, `ack REVISION`.
@@ -43,7 +44,7 @@ pub fn on_edits(trial: &mut Trial, word: &str, args: &mut Args<'_>) -> Answer {
 }
 
 fn wait_with(trial: &mut Trial, args: &mut Args<'_>) -> Answer {
-    let Some(edit) = args.edit() else {
+    let Some(edit) = edit_of(args) else {
         return Answer::NotUnderstood;
     };
     match trial.edits.push_back(edit) {
@@ -183,7 +184,7 @@ pub fn not_done(trial: &Trial, fault: StoreFault) -> Answer {
 
 // Submits an edit so many times, and answers the last time.
 fn submit(trial: &mut Trial, count: u64, args: &mut Args<'_>) -> Answer {
-    match args.edit() {
+    match edit_of(args) {
         Some(edit) => submit_often(trial, count, &Event::Submit(edit)),
         None => Answer::NotUnderstood,
     }
@@ -253,7 +254,7 @@ fn how_far(events: u64) -> &'static str {
 const WHOLE: u64 = 7;
 
 fn admit(trial: &mut Trial, args: &mut Args<'_>) -> Answer {
-    match args.edit() {
+    match edit_of(args) {
         Some(edit) => admit_edit(trial, edit, WHOLE),
         None => Answer::NotUnderstood,
     }

@@ -1,4 +1,4 @@
-//! Chains and journals in slots of a few bytes.
+//! Chains and journals in slots of a few bytes, and a gate alone.
 
 ghost use Rattle.std.specs.Prelude.{◌≡◌, ◌≤◌, ◌<◌, ◌+◌, ◌^◌, length, IfOk, OnOk};
 ghost use Rattle.fp_disk.specs.Crashes.{SameHonesty};
@@ -6,22 +6,46 @@ ghost use Rattle.fp_disk.specs.Outcomes.{all_synced};
 ghost use Rattle.fp_journal.specs.State.{room};
 ghost use Rattle.fp_journal.specs.declared.journal.Phase.TheVariants.{Idle};
 
-use crate::text::Args;
+use crate::text::bytes_of;
 use crate::trial::{Answer, Fault, Trial};
-use fp_disk::{Disk, DiskFault, MemoryDisk};
+use fp_disk::{Checked, Disk, DiskFault, FailedWrite, Failing, MemoryDisk};
+use fp_gate::{Gate, write_behind};
 use fp_journal::{
     BodyFault, ChainFault, Framed, Journal, Phase, Reader, Slot, Text, read_bytes, read_chain,
     resume,
 };
+use fp_transcript::Args;
 use std::alloc::{AllocError, Global};
 
-/// `chain STOP MOST BYTES`, `slot START STOP MOST AT [BODY]`.
+/// `chain STOP MOST BYTES`, `slot START STOP MOST AT [BODY]`, `behind CALL`.
 pub fn on_slots(trial: &mut Trial, word: &str, args: &mut Args<'_>) -> Answer {
-    if word == "chain" {
-        chain(trial.alloc, args)
-    } else {
-        in_slot(trial, args)
+    match word {
+        "chain" => chain(trial.alloc, args),
+        "slot" => in_slot(trial, args),
+        _ => behind(trial, args.number()),
     }
+}
+
+// `behind CALL`: another disk, with a closed gate at 1, of which the calls from this one on fail;
+// three bytes are written behind the gate.
+fn behind(trial: &mut Trial, call: u64) -> Answer {
+    match written_behind(trial.alloc, call) {
+        Some((disk, is_open)) => {
+            trial.put_disk(disk);
+            Answer::Word(if is_open { "gate open" } else { "not open" })
+        }
+        None => Answer::NoMemory,
+    }
+}
+
+fn written_behind(alloc: Global, call: u64) -> Option<(MemoryDisk, bool)> {
+    let bytes = b"-\x37--".to_vec(alloc).ok()?;
+    let mut disk = MemoryDisk::holding(alloc, bytes).ok()?;
+    disk.set_failing(Failing::From(call), FailedWrite::Nothing);
+    let mut disk = Checked::new(disk);
+    let gate = Gate::adopt(&disk, 1);
+    let is_open = write_behind(gate, &mut disk, 2, b"abc").is_ok();
+    Some((disk.into_disk(), is_open))
 }
 
 // Seals a body by four calls, or as many of them as the disk does.
@@ -114,7 +138,7 @@ fn in_slot(trial: &mut Trial, args: &mut Args<'_>) -> Answer {
     let start = args.number();
     let slot = slot_from(start, args);
     let at = args.number();
-    let body = args.bytes();
+    let body = bytes_of(args);
     if body.len() > 1 << 30 {
         return Answer::NotUnderstood;
     }
@@ -169,7 +193,7 @@ fn sent_if_any(
 // at this place and whose bodies have so many bytes at most.
 fn chain(alloc: Global, args: &mut Args<'_>) -> Answer {
     let slot = slot_from(0, args);
-    let Ok(mut disk) = MemoryDisk::holding(alloc, args.bytes()) else {
+    let Ok(mut disk) = MemoryDisk::holding(alloc, bytes_of(args)) else {
         return Answer::NoMemory;
     };
     chain_in(alloc, &mut disk, slot)

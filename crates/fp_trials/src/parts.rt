@@ -6,7 +6,7 @@ ghost use Rattle.fp_journal.specs.declared.journal.Phase.TheVariants.{Staged, Bo
 ghost use Rattle.fp_journal.specs.declared.journal.Phase.TheVariants.{GateOpened};
 
 use crate::event::{not_done, refused};
-use crate::text::{Args, Text};
+use crate::text::edit_of;
 use crate::trial::{Answer, Trial};
 use crate::world::found;
 use fp_desk::{Desk, SettleFault};
@@ -14,6 +14,7 @@ use fp_disk::MemoryDisk;
 use fp_edit::Edit;
 use fp_group_commit::{Draw, Opening, Receipt, Store, StoreFault};
 use fp_journal::Phase;
+use fp_transcript::{Args, Text};
 use std::alloc::{AllocError, Global};
 
 /// `stop EDIT`, `stray FIRST EDIT`, `receipt EDIT / EDIT`, of the disk as it is opened now.
@@ -77,7 +78,7 @@ pub fn taken(args: &mut Args<'_>, desk: &mut Desk) -> Answer
     ensures store { desk.new.store ≡ desk.old.store }
     ensures settled { desk.new.settled ≡ desk.old.settled }
 {
-    match args.edit() {
+    match edit_of(args) {
         Some(edit) => submitted(desk, edit),
         None => Answer::NotUnderstood,
     }
@@ -120,7 +121,7 @@ fn stop_desk(desk: &mut Desk) {
 
 // One edit as a batch.
 fn batch_of(first: u64, args: &mut Args<'_>) -> Option<Draw> {
-    let Some(edit) = args.edit() else {
+    let Some(edit) = edit_of(args) else {
         return None;
     };
     let mut edits = Vec::new(args.alloc);

@@ -1,8 +1,9 @@
 //! One command, and blocks of commands that are run for each of some words.
 
-use crate::text::{Args, Text};
+use crate::text::judged;
 use crate::trial::{Answer, Trial};
 use crate::{commands, damage, disk, eval, event, journal, parts, world};
+use fp_transcript::{Args, Text};
 
 // The words of the modules.
 const ON_BYTES: [&str; 9] = [
@@ -34,7 +35,7 @@ const ON_INPUT: [&str; 3] = ["input", "last", "raw"];
 
 const ON_COMMANDS: [&str; 4] = ["init", "apply", "import", "shown"];
 
-const ON_SLOTS: [&str; 2] = ["chain", "slot"];
+const ON_SLOTS: [&str; 3] = ["chain", "slot", "behind"];
 
 const ON_DAMAGE: [&str; 2] = ["flips", "seeds"];
 
@@ -79,7 +80,7 @@ pub fn step(trial: &mut Trial, line: &str) -> Answer {
     let mut args = Args::of(trial.alloc, line);
     let word = args.word();
     let answer = understood(trial, word, &mut args);
-    args.judged(answer)
+    judged(&args, answer)
 }
 
 /// `for WORD ..`: the block once for each word, which stands at each `%` in it. A word as `0..4` is

@@ -4,15 +4,15 @@ use crate::board::OpenBoard;
 use crate::run::{repeat, step};
 use crate::seeded::on_seeds;
 use crate::sweep::{rounds, sweep};
-use crate::text::{Args, Text, first_word};
+use crate::text::judged;
 use crate::trial::{Answer, Fault, Trial};
 use crate::whole::{Whole, is_of_world, on_whole};
 use fp_commands::command;
 use fp_files::SystemFiles;
 use fp_publish::MOST_EVALUATORS;
 use fp_streams::FailureCounted;
-use fp_transcript::Answers;
-use std::alloc::{AllocError, AllocGlobal};
+use fp_transcript::{Answers, Args, Text, first_word};
+use std::alloc::AllocGlobal;
 use std::rt::Files;
 use std::sync::Wait;
 use std::{fs, mem};
@@ -25,7 +25,6 @@ pub struct Script<'a, R: Files + AllocGlobal + Wait> {
     board: Option<OpenBoard>,
     world: Option<Whole>,
     block: Block,
-    out: Text,
 }
 
 // The line that opened a block, and the lines in it.
@@ -48,7 +47,6 @@ impl<'a, R: Files + AllocGlobal + Wait> Script<'a, R> {
                 head: Text::new(alloc),
                 lines: Vec::new(alloc),
             },
-            out: Text::new(alloc),
         }
     }
 
@@ -60,7 +58,6 @@ impl<'a, R: Files + AllocGlobal + Wait> Script<'a, R> {
             board,
             world,
             block: _,
-            out: _,
         } = self;
         if let Some(board) = board {
             let _disk = board.end(rt);
@@ -77,25 +74,15 @@ fn end_world<R: Wait>(rt: &R, world: Option<Whole>) {
 
 impl<'a, R: Files + AllocGlobal + Wait> Answers for Script<'a, R> {
     // The lines between one that ends in `{` and a `}` are a block, for which the latter answers.
-    fn answer(&mut self, command: &str, out: &mut String) -> Result<(), AllocError> {
-        self.out.clear();
-        self.answer_line(command.trim());
-        if self.out.is_short {
-            return Err(AllocError);
-        }
-        out.push_str(self.out.as_str())
-    }
-}
-
-impl<'a, R: Files + AllocGlobal + Wait> Script<'a, R> {
-    fn answer_line(&mut self, line: &str) {
+    fn answer(&mut self, command: &str, out: &mut Text) {
+        let line = command.trim();
         if line == "}" {
-            run_block(&mut self.trial, &mut self.block, &mut self.out);
+            run_block(&mut self.trial, &mut self.block, out);
         } else if !self.block.head.is_empty() {
-            push_line(&mut self.block, line, &mut self.out);
+            push_line(&mut self.block, line, out);
         } else if let Some(head) = head_of(line) {
             self.block.head.push(head);
-            self.out.is_short = self.block.head.is_short;
+            out.is_short = self.block.head.is_short;
         } else {
             let answer = alone(
                 self.rt,
@@ -104,7 +91,7 @@ impl<'a, R: Files + AllocGlobal + Wait> Script<'a, R> {
                 &mut self.world,
                 line,
             );
-            answer.tell(&self.trial.text, &mut self.out);
+            answer.tell(&self.trial.text, out);
         }
     }
 }
@@ -134,7 +121,7 @@ fn run_block(trial: &mut Trial, block: &mut Block, out: &mut Text) {
         "" => out.push("not understood"),
         word => sweep(trial, word, args.rest, &lines, out),
     }
-    args.judged(Answer::Done).tell_plain(out);
+    judged(&args, Answer::Done).tell_plain(out);
 }
 
 // The words of commands that can't stand in a block.
@@ -173,19 +160,19 @@ fn alone<R: Files + AllocGlobal + Wait>(
     if is_of_world(word, world) {
         trial.text.clear();
         let answer = on_whole(rt, trial, world, word, &mut args);
-        args.judged(answer)
+        judged(&args, answer)
     } else if OF_BOARD.contains(&word) {
         trial.text.clear();
         let answer = with_board(rt, trial, board, word, &mut args);
-        args.judged(answer)
+        judged(&args, answer)
     } else if OF_SEEDS.contains(&word) {
         trial.text.clear();
         let answer = on_seeds(rt, trial, word, &mut args);
-        args.judged(answer)
+        judged(&args, answer)
     } else if OVER_FILES.contains(&word) {
         trial.text.clear();
         let answer = over_files(rt, trial, word, &mut args);
-        args.judged(answer)
+        judged(&args, answer)
     } else {
         step(trial, line)
     }

@@ -4,13 +4,14 @@
 use crate::disk::crash_as;
 use crate::seeds::{FIRST_SEED, next_seed};
 use crate::sweep::FILLS;
-use crate::text::{Args, Text};
+use crate::text::edit_of;
 use crate::told::Told;
 use crate::trial::{Answer, Trial};
 use crate::whole::{Whole, made, posted};
 use fp_disk::{Choice, FailedWrite, Failing, Fill, MemoryDisk};
 use fp_edit::Edit;
 use fp_stream::Hello;
+use fp_transcript::{Args, Text};
 use fp_world::{Answer as Reply, Event, recover};
 use std::alloc::{AllocError, Global};
 use std::sync::Wait;
@@ -118,7 +119,7 @@ impl Draws {
             line.number(self.length());
         }
         self.expected(&mut line);
-        Args::of(self.alloc, line.as_str()).edit()
+        edit_of(&mut Args::of(self.alloc, line.as_str()))
     }
 
     fn length(&mut self) -> u64 {

@@ -4,9 +4,9 @@
 use crate::disk::{crash_as, failed_write};
 use crate::run::step;
 use crate::seeds::{FIRST_SEED, next_seed};
-use crate::text::{Args, Text};
 use crate::trial::{Answer, Fault, Trial};
 use fp_disk::{Choice, FailedWrite, Failing, Fill};
+use fp_transcript::{Args, Text};
 
 /// What becomes of pending bytes.
 pub const FILLS: [Fill; 8] = [

@@ -1,8 +1,8 @@
 //! What a world told, and what its disk has to be opened as.
 
-use crate::text::{Text, number};
 use crate::trial::Answer;
 use fp_edit::{Edit, FlagSet};
+use fp_transcript::{Text, number};
 use fp_world::{Answer as Reply, Event};
 use std::alloc::{AllocError, Global};
 

@@ -7,12 +7,13 @@ ghost use Rattle.fp_publish.specs.declared.seats.TheConstants.{MOST_SEATS};
 
 use crate::event::{Became, answer_of, became_of, event_of};
 use crate::run::ON_EVENTS;
-use crate::text::{Args, Text};
+use crate::text::edit_of;
 use crate::trial::{Answer, Fault, Trial};
 use crate::world::found;
 use fp_disk::MemoryDisk;
 use fp_publish::{MOST_EVALUATORS, MOST_SEATS};
 use fp_stream::Hello;
+use fp_transcript::{Args, Text};
 use fp_world::{Event, Moment, Request, World};
 use http::Method;
 use std::alloc::Global;
@@ -141,7 +142,7 @@ pub fn made<R: Wait>(
 // What a line asks of a world.
 fn asked(trial: &mut Trial, word: &str, args: &mut Args<'_>) -> Option<Event> {
     match word {
-        "submit" => args.edit().map(Event::Submit),
+        "submit" => edit_of(args).map(Event::Submit),
         "publish" => Some(Event::Publish),
         "hand" => Some(Event::Hand(args.number() as usize)),
         "evaluate" => evaluation(trial, args),

@@ -113,24 +113,3 @@ fn digit(letter: u8) -> u8 {
         _ => 0,
     }
 }
-
-/// Bytes as an operand may write them.
-pub fn put_bytes(out: &mut String, bytes: &[u8]) -> Result<(), AllocError> {
-    let mut inside = false;
-    for byte in bytes {
-        let is_text = *byte >= b' ' && *byte <= b'~' && *byte != b'`';
-        if inside == is_text {
-            out.push_str(if is_text { "`" } else { "`0x" })?;
-            inside = !is_text;
-        }
-        if is_text {
-            out.push(char::from(*byte))?;
-        } else {
-            write!(out, "{byte:02x}")?;
-        }
-    }
-    if inside {
-        out.push('`')?;
-    }
-    Ok(())
-}
