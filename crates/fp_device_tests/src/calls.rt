@@ -7,7 +7,7 @@ use fp_edit::parse_line;
 use fp_group_commit::Store;
 use fp_layout::{SlotSize, create};
 use fp_session::{DiskSession, EditStore};
-use std::alloc::{AllocGlobal, Global};
+use std::alloc::AllocGlobal;
 use std::cell::RefCell;
 use std::fs;
 use std::path::PathBuf;

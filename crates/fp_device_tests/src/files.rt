@@ -1,7 +1,7 @@
 //! A file as a disk.
 
 use crate::flaky::in_temp;
-use fp_disk::{Checked, Disk, DiskFault, FileDisk, create_file, open_file};
+use fp_disk::{Disk, DiskFault, FileDisk, create_file, open_file};
 use std::fs::File;
 use std::test::Fail;
 use std::{env, fs};
@@ -57,31 +57,5 @@ fn what_is_no_file_is_a_fault(rt: HostRuntime) -> Result<(), Fail> {
     let opened = open_file(&rt, name).err();
     let want = Some(DiskFault::Device);
     assert!(rt; made == want && opened == want);
-    Ok(())
-}
-
-// Writes, and what is read then: two bytes and the length.
-fn checked(disk: &mut Checked<FileDisk<File>>) -> Result<([u8; 2], u64), DiskFault> {
-    disk.write_at(0, b"abcd")?;
-    let _synced = disk.sync()?;
-    let mut got = [0u8; 2];
-    disk.read_at(1, &mut got)?;
-    Ok((got, disk.len()?))
-}
-
-// What is read through a checked disk over a new file, and the length of the file's disk.
-fn checked_file(rt: &HostRuntime, name: &str) -> Result<(([u8; 2], u64), u64), DiskFault> {
-    let mut disk = Checked::new(create_file(rt, name)?);
-    let read = checked(&mut disk)?;
-    Ok((read, disk.into_disk().len()?))
-}
-
-#[test]
-fn a_checked_disk_is_the_disk(rt: HostRuntime) -> Result<(), Fail> {
-    let path = in_temp(&rt, "fp_device_tests_checked")?;
-    let name = path.as_path().to_str().ok_or("path")?;
-    let got = checked_file(&rt, name);
-    let _ = fs::remove_file(&rt, path.as_path());
-    assert!(rt; got == Ok(((*b"bc", 4), 4)));
     Ok(())
 }

@@ -8,14 +8,8 @@ mod files;
 #[cfg(test)]
 mod flaky;
 #[cfg(test)]
-mod gates;
-#[cfg(test)]
-mod imports;
-#[cfg(test)]
 mod memory;
 #[cfg(test)]
 mod replies;
-#[cfg(test)]
-mod stores;
 #[cfg(test)]
 mod streams;

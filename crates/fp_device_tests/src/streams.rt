@@ -40,29 +40,6 @@ impl Write for Unflushed {
     }
 }
 
-// Two bytes of a reader, the rest of it, and what is read at its end.
-type ReadTwice = (
-    Result<usize, StreamFault>,
-    [u8; 2],
-    bool,
-    Result<usize, StreamFault>,
-);
-
-// What a reader of these bytes gives; whether the rest is this.
-fn read_twice(alloc: Global, bytes: &[u8], rest: &[u8]) -> Result<ReadTwice, StreamFault> {
-    let mut r = FailureCounted::new(bytes);
-    let mut two = [0; 2];
-    let first = r.read(&mut two);
-    let is_rest = r.read_to_end(alloc)?.as_slice() == rest;
-    Ok((first, two, is_rest, r.read(&mut [0; 2])))
-}
-
-#[test]
-fn reads_to_the_end(rt: HostRuntime) {
-    let got = read_twice(rt.alloc(), b"abc", b"c");
-    assert!(rt; got == Ok((Ok(2), *b"ab", true, Ok(0))));
-}
-
 #[test]
 fn an_interrupted_read_goes_on(rt: HostRuntime) -> Result<(), Fail> {
     let kinds = [
@@ -90,41 +67,24 @@ fn want_of_memory_is_told_as_such(rt: HostRuntime) -> Result<(), Fail> {
     Ok(())
 }
 
-// Sends to a writer that fails at a flush: what that answers, and whether this was written.
-fn send_unflushed(alloc: Global, bytes: &[u8]) -> (Result<(), StreamFault>, bool) {
+// A writer that fails at a flush.
+fn failing_writer(alloc: Global) -> FailureCounted<Unflushed> {
     let taken = Vec::new(alloc);
-    let mut full = FailureCounted::new(Unflushed { taken });
-    let sent = full.send(bytes);
-    (sent, full.get_ref().taken.as_slice() == bytes)
+    FailureCounted::new(Unflushed { taken })
 }
 
 #[test]
 fn what_is_sent_is_written_and_flushed(rt: HostRuntime) {
-    let mut w = FailureCounted::new(Vec::new(rt.alloc()));
-    let first = w.send(b"ab");
-    let second = w.send(b"c");
-    let written = w.into_inner();
-    assert!(rt; first == Ok(()) && second == Ok(()) && written.as_slice() == b"abc".as_slice());
-    let full = send_unflushed(rt.alloc(), b"ab");
-    assert!(rt; full == (Err(StreamFault::Device), true));
-}
-
-// Says to a writer that fails at a flush: what that answers, and whether this was written.
-fn say_unflushed(alloc: Global, text: &str, want: &[u8]) -> (Result<(), StreamFault>, bool) {
-    let taken = Vec::new(alloc);
-    let mut full = FailureCounted::new(Unflushed { taken });
-    let said = full.say(&text);
-    (said, full.get_ref().taken.as_slice() == want)
+    let mut full = failing_writer(rt.alloc());
+    let sent = full.send(b"ab");
+    let written = full.into_inner().taken;
+    assert!(rt; sent == Err(StreamFault::Device) && written.as_slice() == b"ab".as_slice());
 }
 
 #[test]
-fn what_is_said_is_a_line(rt: HostRuntime) {
-    let mut w = FailureCounted::new(Vec::new(rt.alloc()));
-    let first = w.say(&"ab");
-    let second = w.say(&format_args!("c{}", 7));
-    let written = w.into_inner();
-    assert!(rt; first == Ok(()) && second == Ok(()));
-    assert!(rt; written.as_slice() == b"ab\nc7\n".as_slice());
-    let full = say_unflushed(rt.alloc(), "ab", b"ab\n");
-    assert!(rt; full == (Err(StreamFault::Device), true));
+fn what_is_said_is_written_and_flushed(rt: HostRuntime) {
+    let mut full = failing_writer(rt.alloc());
+    let said = full.say(&"ab");
+    let written = full.into_inner().taken;
+    assert!(rt; said == Err(StreamFault::Device) && written.as_slice() == b"ab\n".as_slice());
 }
