@@ -1,5 +1,0 @@
-use Rattle.fp_plane_tests.proofs.views.views_never_fall.Given as goal
-
--- the store that was just opened
-abbrev pub ghosts-run : goal.ghosts-run
-ghosts-run g a = record { store = a.opening }

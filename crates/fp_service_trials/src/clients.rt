@@ -1,0 +1,164 @@
+//! Connections to the service, and what is said on them.
+
+use fp_server::Host;
+use fp_transcript::Text;
+use std::alloc::Global;
+use std::io;
+use std::io::{Read, Write};
+use std::net::{Shutdown, SocketAddr, TcpStream};
+use std::time::Duration;
+
+/// What is put where an edit names a key alone.
+pub const ON: &str = r#"{"defaultVariant":"on","state":"ENABLED","variants":{"on":true}}"#;
+
+/// A connection whose reads give up after ten seconds.
+pub fn connect<R: Host>(rt: &R, at: SocketAddr) -> io::Result<TcpStream> {
+    let stream = TcpStream::connect(rt, at)?;
+    stream.set_read_timeout(Some(Duration::from_secs(10)))?;
+    Ok(stream)
+}
+
+/// Says these bytes: whether they were taken.
+pub fn say(mut stream: &TcpStream, bytes: &[u8]) -> bool {
+    stream.write_all(bytes).is_ok()
+}
+
+/// The next byte. None at the end, and where none comes.
+pub fn byte_of<S: Read>(stream: &mut S) -> Option<u8> {
+    let mut byte = [0; 1];
+    match stream.read(&mut byte) {
+        Ok(1) => Some(byte[0]),
+        _ => None,
+    }
+}
+
+/// Whether the peer ended the connection, without one more byte.
+pub fn is_closed(mut stream: &TcpStream) -> bool {
+    matches!(stream.read(&mut [0; 1]), Ok(0))
+}
+
+/// Whether nothing comes within a tenth of a second.
+pub fn is_quiet(stream: &TcpStream) -> bool {
+    let _ = stream.set_read_timeout(Some(Duration::from_millis(100)));
+    let mut reader = stream;
+    let is_quiet = reader.read(&mut [0; 1]).is_err();
+    let _ = stream.set_read_timeout(Some(Duration::from_secs(10)));
+    is_quiet
+}
+
+/// The next line, without its end.
+pub fn line_of<S: Read>(alloc: Global, stream: &mut S) -> Vec<u8> {
+    let mut line = Vec::new(alloc);
+    for _ in 0..u64::MAX {
+        match byte_of(stream) {
+            Some(byte) if byte != b'\n' => {
+                let _ = line.push(byte);
+            }
+            _ => break,
+        }
+    }
+    line
+}
+
+/// The next bytes, as many as these if so many come.
+pub fn bytes_of<S: Read>(alloc: Global, stream: &mut S, count: u64) -> Vec<u8> {
+    let mut bytes = Vec::new(alloc);
+    for _ in 0..count {
+        if let Some(byte) = byte_of(stream) {
+            let _ = bytes.push(byte);
+        } else {
+            break;
+        }
+    }
+    bytes
+}
+
+/// Says nothing more.
+pub fn end(stream: &TcpStream) {
+    let _ = stream.shutdown(Shutdown::Write);
+}
+
+/// The number behind this, in a line that ends there.
+pub fn number_behind(line: &[u8], head: &str) -> Option<u64> {
+    let text = str::from_utf8(line).ok()?;
+    text.strip_prefix(head)?.trim_end().parse().ok()
+}
+
+/// The revision that the next reply tells.
+pub fn told_next(alloc: Global, mut stream: &TcpStream) -> Option<u64> {
+    let line = line_of(alloc, &mut stream);
+    number_behind(line.strip_suffix(b"}")?, "{\"revision\":")
+}
+
+/// Says a put of a flag that is on.
+pub fn say_put(alloc: Global, stream: &TcpStream, key: &str) -> bool {
+    let mut line = Text::new(alloc);
+    line.push("{\"flag\":");
+    line.push(ON);
+    line.push(",\"key\":\"");
+    line.push(key);
+    line.push("\",\"op\":\"put\"}\n");
+    say(stream, line.as_str().as_bytes())
+}
+
+/// Puts a flag so often, each time once the one before was told, and gives the revision that was
+/// told last, where each was one more than the one before.
+pub fn put_often(alloc: Global, stream: &TcpStream, key: &str, count: u64) -> Option<u64> {
+    let mut last = None;
+    for _ in 0..count {
+        let _ = say_put(alloc, stream, key);
+        let told = told_next(alloc, stream)?;
+        if last.is_some_and(|last: u64| last.checked_add(1) != Some(told)) {
+            return None;
+        }
+        last = Some(told);
+    }
+    last
+}
+
+/// Says a request to evaluate a flag.
+pub fn say_request(alloc: Global, stream: &TcpStream, key: &str) -> bool {
+    let mut request = Text::new(alloc);
+    request.push("POST /ofrep/v1/evaluate/flags/");
+    request.push(key);
+    request.push(" HTTP/1.1\r\nhost: a\r\ncontent-length: 2\r\n\r\n{}");
+    say(stream, request.as_str().as_bytes())
+}
+
+/// What a response says in short.
+#[derive(Clone, Copy)]
+pub struct Response {
+    /// Whether there is one.
+    pub is_there: bool,
+    /// Whether it is of a flag.
+    pub is_found: bool,
+    /// The revision that it is of; 0 where it names none.
+    pub revision: u64,
+}
+
+/// The next response, read to its end.
+pub fn response_of(alloc: Global, mut stream: &TcpStream) -> Response {
+    let status = line_of(alloc, &mut stream);
+    let mut response = Response {
+        is_there: !status.is_empty(),
+        is_found: status.starts_with(b"HTTP/1.1 200 "),
+        revision: 0,
+    };
+    let mut length = 0;
+    for _ in 0..u64::MAX {
+        let line = line_of(alloc, &mut stream);
+        if line.len() <= 1 {
+            break;
+        }
+        response.revision = number_behind(&line, "flag-revision: ").unwrap_or(response.revision);
+        length = number_behind(&line, "content-length: ").unwrap_or(length);
+    }
+    let _body = bytes_of(alloc, &mut stream, length);
+    response
+}
+
+/// An evaluation of a flag.
+pub fn evaluated(alloc: Global, stream: &TcpStream, key: &str) -> Response {
+    let _ = say_request(alloc, stream, key);
+    response_of(alloc, stream)
+}

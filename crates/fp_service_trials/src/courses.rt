@@ -1,0 +1,242 @@
+//! Editors, evaluators and subscribers in threads of their own, and what they came to.
+
+use crate::clients::{connect, evaluated, say_put, told_next};
+use fp_server::Host;
+use fp_stream::{Hello, watch_loop, write_hello};
+use fp_streams::FailureCounted;
+use fp_transcript::Text;
+use std::alloc::{AllocGlobal, Global};
+use std::net::{SocketAddr, TcpStream};
+use std::thread::JoinHandle;
+use std::time::Duration;
+use std::{mem, thread};
+
+// An evaluator that sees nothing new so often gives up.
+const MOST_TURNS: u32 = 2_000;
+
+/// Who is at work.
+#[derive(Drop)]
+pub struct Courses {
+    editors: Vec<JoinHandle<String>>,
+    evaluators: Vec<JoinHandle<Option<u64>>>,
+    subscribers: Vec<JoinHandle<Vec<u8>>>,
+}
+
+impl Courses {
+    /// Nobody.
+    pub fn new(alloc: Global) -> Courses {
+        Courses {
+            editors: Vec::new(alloc),
+            evaluators: Vec::new(alloc),
+            subscribers: Vec::new(alloc),
+        }
+    }
+}
+
+/// What an editor does: its number, how many puts it makes, and whether it says them all before it
+/// hears of one.
+#[derive(Clone, Copy)]
+pub struct Course {
+    pub number: u64,
+    pub count: u64,
+    pub is_at_once: bool,
+}
+
+// The key of an editor's put.
+fn key_of(course: Course, n: u64, key: &mut Text) {
+    key.clear();
+    key.push("editor-");
+    key.number(course.number);
+    key.push("-flag-");
+    key.number(n);
+}
+
+// Makes the puts until one isn't told a revision: a line for each that is, its key and the revision.
+fn told_of<R: Host>(rt: &R, at: SocketAddr, course: Course) -> String {
+    let alloc = rt.alloc();
+    let mut told = Text::new(alloc);
+    if let Ok(stream) = connect(rt, at) {
+        let mut key = Text::new(alloc);
+        if course.is_at_once {
+            say_all(alloc, &stream, course, &mut key);
+        }
+        for n in 0..course.count {
+            key_of(course, n, &mut key);
+            if !course.is_at_once {
+                let _ = say_put(alloc, &stream, key.as_str());
+            }
+            let Some(revision) = told_next(alloc, &stream) else {
+                break;
+            };
+            told.named(key.as_str(), revision);
+            told.push("\n");
+        }
+    }
+    told.text
+}
+
+fn say_all(alloc: Global, stream: &TcpStream, course: Course, key: &mut Text) {
+    for n in 0..course.count {
+        key_of(course, n, key);
+        let _ = say_put(alloc, stream, key.as_str());
+    }
+}
+
+/// Starts so many editors.
+pub fn start_editors<R: Host>(
+    rt: &R,
+    at: SocketAddr,
+    editors: u64,
+    course: Course,
+    courses: &mut Courses,
+) {
+    for number in 0..editors {
+        start_editor(rt, at, Course { number, ..course }, courses);
+    }
+}
+
+fn start_editor<R: Host>(rt: &R, at: SocketAddr, course: Course, courses: &mut Courses) {
+    let own = *rt;
+    if let Ok(handle) = thread::spawn(rt, move || told_of(&own, at, course)) {
+        let _ = courses.editors.push(handle);
+    }
+}
+
+/// Waits for the editors, and gives all lines of what they were told.
+pub fn told<R: Host>(rt: &R, courses: &mut Courses) -> Text {
+    let mut told = Text::new(rt.alloc());
+    let none = Vec::new(rt.alloc());
+    for editor in mem::replace(&mut courses.editors, none) {
+        told.push(editor.join(rt).as_str());
+    }
+    told
+}
+
+/// The revisions in such lines, in order.
+pub fn revisions_in(alloc: Global, lines: &str) -> Vec<u64> {
+    let mut revisions = Vec::new(alloc);
+    for line in lines.lines() {
+        if let Some((_, revision)) = line.rsplit_once(' ') {
+            let _ = revisions.push(revision.parse().unwrap_or(0));
+        }
+    }
+    revisions.sort_unstable();
+    revisions
+}
+
+// Evaluates until this revision is seen, or nothing new is for long, and gives the one seen last.
+// None where one fell.
+fn seen_until<R: Host>(rt: &R, at: SocketAddr, key: &str, last: u64) -> Option<u64> {
+    let stream = connect(rt, at).ok()?;
+    let mut seen = 0;
+    let mut turns: u32 = 0;
+    for _ in 0..u64::MAX {
+        let now = evaluated(rt.alloc(), &stream, key).revision;
+        if now < seen {
+            return None;
+        }
+        turns = if seen < now {
+            0
+        } else {
+            turns.saturating_add(1)
+        };
+        seen = now;
+        if seen == last || turns >= MOST_TURNS {
+            break;
+        }
+        thread::sleep(rt, Duration::from_millis(5));
+    }
+    Some(seen)
+}
+
+/// Starts so many evaluators of the flag `a`, each until it sees this revision.
+pub fn start_evaluators<R: Host>(
+    rt: &R,
+    at: SocketAddr,
+    count: u64,
+    last: u64,
+    courses: &mut Courses,
+) {
+    for _ in 0..count {
+        let own = *rt;
+        if let Ok(handle) = thread::spawn(rt, move || seen_until(&own, at, "a", last)) {
+            let _ = courses.evaluators.push(handle);
+        }
+    }
+}
+
+/// Waits for the evaluators, and says the revision that each saw last, or that one fell.
+pub fn seen<R: Host>(rt: &R, courses: &mut Courses, out: &mut Text) {
+    let none = Vec::new(rt.alloc());
+    for evaluator in mem::replace(&mut courses.evaluators, none) {
+        out.part();
+        match evaluator.join(rt) {
+            Some(revision) => out.number(revision),
+            None => out.push("fell"),
+        }
+    }
+}
+
+// A subscriber that has nothing, and was sent something.
+fn subscribed<R: Host>(rt: &R, at: SocketAddr) -> Option<TcpStream> {
+    let stream = connect(rt, at).ok()?;
+    let is_said = write_hello(&mut FailureCounted::new(&stream), Hello::Nothing).is_ok();
+    if is_said && matches!(stream.peek(&mut [0; 1]), Ok(1)) {
+        Some(stream)
+    } else {
+        None
+    }
+}
+
+// What it is shown until the stream ends.
+fn shown_to(alloc: Global, stream: &TcpStream) -> Vec<u8> {
+    let mut shown = FailureCounted::new(Vec::new(alloc));
+    let _ = stream.set_read_timeout(None);
+    let mut frames = FailureCounted::new(stream);
+    if watch_loop(alloc, &mut frames, &mut shown, Hello::Nothing).is_err() {
+        let _ = shown.send(b"0 fault\n");
+    }
+    shown.into_inner()
+}
+
+/// Starts so many subscribers.
+pub fn start_subscribers<R: Host>(rt: &R, at: SocketAddr, count: u64, courses: &mut Courses) {
+    for _ in 0..count {
+        if let Some(stream) = subscribed(rt, at) {
+            start_subscriber(rt, stream, courses);
+        }
+    }
+}
+
+fn start_subscriber<R: Host>(rt: &R, stream: TcpStream, courses: &mut Courses) {
+    let alloc = rt.alloc();
+    if let Ok(handle) = thread::spawn(rt, move || shown_to(alloc, &stream)) {
+        let _ = courses.subscribers.push(handle);
+    }
+}
+
+// The revision of the last line that was shown. None where they don't rise.
+fn last_shown(shown: &[u8]) -> Option<u64> {
+    let mut last = None;
+    for line in str::from_utf8(shown).ok()?.lines() {
+        let (revision, _) = line.split_once(' ')?;
+        let revision = revision.parse::<u64>().ok()?;
+        if last >= Some(revision) {
+            return None;
+        }
+        last = Some(revision);
+    }
+    last
+}
+
+/// Waits for the subscribers, and says the revision that each was shown last, behind rising ones.
+pub fn shown<R: Host>(rt: &R, courses: &mut Courses, out: &mut Text) {
+    let none = Vec::new(rt.alloc());
+    for subscriber in mem::replace(&mut courses.subscribers, none) {
+        out.part();
+        match last_shown(&subscriber.join(rt)) {
+            Some(revision) => out.number(revision),
+            None => out.push("not rising"),
+        }
+    }
+}

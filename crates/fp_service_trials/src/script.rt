@@ -1,0 +1,350 @@
+//! The commands of a file.
+
+use crate::clients::{bytes_of, connect, end, is_closed, is_quiet, line_of, put_often, say};
+use crate::courses::{
+    Course, Courses, revisions_in, seen, shown, start_editors, start_evaluators, start_subscribers,
+    told,
+};
+use crate::crowd::{comes_in, enter, found, is_refused, see};
+use crate::held::Hold;
+use crate::running::{Ended, Running};
+use fp_server::Host;
+use fp_transcript::{Args, Text, Texts, expanded};
+use std::alloc::AllocGlobal;
+use std::collections::BTreeMap;
+use std::net::{SocketAddr, TcpStream};
+use std::thread;
+use std::time::Duration;
+
+/// What answers the lines of a file: the texts that are named, the service that runs and what the
+/// last one left, and who is connected to it.
+#[derive(Drop)]
+pub struct Script<R: Host> {
+    rt: R,
+    texts: Texts,
+    service: Option<Running<R>>,
+    left: String,
+    peers: BTreeMap<String, TcpStream>,
+    crowd: Vec<TcpStream>,
+    courses: Courses,
+}
+
+impl<R: Host> Script<R> {
+    /// No service, and nobody.
+    pub fn new(rt: R) -> Script<R> {
+        let alloc = rt.alloc();
+        Script {
+            rt,
+            texts: BTreeMap::new(alloc),
+            service: None,
+            left: String::new(alloc),
+            peers: BTreeMap::new(alloc),
+            crowd: Vec::new(alloc),
+            courses: Courses::new(alloc),
+        }
+    }
+
+    /// Ends the service that still runs.
+    pub fn finish(self) {
+        let Script { rt, service, .. } = self;
+        if let Some(service) = service {
+            let _ended = service.end(&rt);
+        }
+    }
+}
+
+impl<R: Host> Script<R> {
+    /// Appends the answer to a command.
+    pub fn answer(&mut self, command: &str, out: &mut Text) {
+        let mut args = Args::of(out.alloc, command.trim());
+        let word = args.word();
+        self.run(word, &mut args, out);
+        if args.is_bad {
+            out.push("not understood");
+        }
+        out.is_short = out.is_short || args.is_short;
+    }
+}
+
+// The words of `on_service`.
+const OF_SERVICE: [&str; 8] = [
+    "serve", "hold", "held", "let-go", "end", "stop", "left", "pause",
+];
+
+// The words of `on_peer`.
+const OF_PEER: [&str; 6] = ["say", "line", "hear", "puts", "quiet", "closed"];
+
+// The words of `on_crowd`.
+const OF_CROWD: [&str; 5] = ["enter", "refused", "comes-in", "one-leaves", "all-leave"];
+
+// The words of `on_course`.
+const OF_COURSE: [&str; 5] = ["editors", "evaluators", "subscribers", "see", "finds"];
+
+impl<R: Host> Script<R> {
+    fn run(&mut self, word: &str, args: &mut Args<'_>, out: &mut Text) {
+        if OF_SERVICE.contains(&word) {
+            self.on_service(word, args, out);
+        } else if OF_PEER.contains(&word) {
+            self.on_peer(word, args, out);
+        } else if OF_CROWD.contains(&word) {
+            self.on_crowd(word, args, out);
+        } else if OF_COURSE.contains(&word) {
+            self.on_course(word, args, out);
+        } else {
+            self.on_other(word, args, out);
+        }
+    }
+
+    // Where the next word's port is reached.
+    fn port(&self, args: &mut Args<'_>) -> Option<SocketAddr> {
+        let word = args.word();
+        let port = self.service.as_ref()?.ports.port(word);
+        args.is_bad = port.is_none();
+        port
+    }
+
+    // `serve`, `serve failing CALL`, `hold behind COUNT`, `hold from PLACE`, `held`, `let-go`, `end`,
+    // `stop`, `left`, `pause MILLISECONDS`.
+    fn on_service(&mut self, word: &str, args: &mut Args<'_>, out: &mut Text) {
+        match word {
+            "serve" => self.serve(args, out),
+            "end" => {
+                let said = self.end();
+                out.push(said.as_str());
+            }
+            "stop" => {
+                let said = self.end();
+                out.yes(is_at(said.as_str(), self.left.as_str()) == Some(true));
+            }
+            "left" => out.push(first_line(self.left.as_str())),
+            "pause" => thread::sleep(&self.rt, Duration::from_millis(args.number())),
+            _ => self.on_gate(word, args, out),
+        }
+    }
+
+    fn serve(&mut self, args: &mut Args<'_>, out: &mut Text) {
+        let failing = match args.word() {
+            "failing" => Some(args.number()),
+            _ => None,
+        };
+        self.service = Running::start(&self.rt, failing);
+        if self.service.is_none() {
+            out.push("no service");
+        }
+    }
+
+    fn on_gate(&mut self, word: &str, args: &mut Args<'_>, out: &mut Text) {
+        let Some(service) = &self.service else {
+            args.is_bad = true;
+            return;
+        };
+        match word {
+            "hold" => service.gate.hold(hold_of(args)),
+            "held" if service.gate.comes_to_hold() => out.push("held"),
+            "held" => out.push("not held"),
+            _ => service.gate.let_go(),
+        }
+    }
+
+    // Ends the service, and gives what it said last.
+    fn end(&mut self) -> String {
+        match self.service.take() {
+            Some(service) => {
+                let Ended { said, left } = service.end(&self.rt);
+                self.left = left;
+                said
+            }
+            None => String::new(self.rt.alloc()),
+        }
+    }
+
+    // `say NAME BYTES`, `line NAME`, `hear NAME COUNT`, `puts NAME KEY COUNT`, `quiet NAME`,
+    // `closed NAME`.
+    fn on_peer(&mut self, word: &str, args: &mut Args<'_>, out: &mut Text) {
+        let alloc = args.alloc;
+        let Some(mut peer) = self.peers.get(args.word()) else {
+            args.is_bad = true;
+            return;
+        };
+        match word {
+            "say" => {
+                let _ = say(peer, &bytes(&self.texts, args));
+            }
+            "line" => out.written(&line_of(alloc, &mut peer)),
+            "hear" => out.written(&bytes_of(alloc, &mut peer, args.number())),
+            "puts" => say_last(put_often(alloc, peer, args.word(), args.number()), out),
+            "quiet" => out.yes(is_quiet(peer)),
+            _ => out.yes(is_closed(peer)),
+        }
+    }
+
+    // `connect NAME PORT`, `ends NAME`, `let NAME BYTES`, `told`, `kept`, `seen`, `shown`.
+    fn on_other(&mut self, word: &str, args: &mut Args<'_>, out: &mut Text) {
+        match word {
+            "connect" => self.connect(args, out),
+            "ends" => self.peers.get(args.word()).map_or((), end),
+            "let" => self.name(args),
+            "told" => say_told(&told(&self.rt, &mut self.courses), out),
+            "kept" => self.kept(out),
+            "seen" => seen(&self.rt, &mut self.courses, out),
+            "shown" => shown(&self.rt, &mut self.courses, out),
+            _ => args.is_bad = true,
+        }
+    }
+
+    fn connect(&mut self, args: &mut Args<'_>, out: &mut Text) {
+        let name = args.word();
+        let Some(at) = self.port(args) else {
+            return;
+        };
+        match (connect(&self.rt, at), String::from_str(args.alloc, name)) {
+            (Ok(stream), Ok(name)) => {
+                let _ = self.peers.insert(name, stream);
+            }
+            _ => out.push("no connection"),
+        }
+    }
+
+    fn name(&mut self, args: &mut Args<'_>) {
+        let name = args.word();
+        let bytes = bytes(&self.texts, args);
+        if let Ok(name) = String::from_str(args.alloc, name) {
+            let _ = self.texts.insert(name, bytes);
+        }
+    }
+
+    // How many edits the editors were told of, and how many of them the disk doesn't hold.
+    fn kept(&mut self, out: &mut Text) {
+        let told = told(&self.rt, &mut self.courses);
+        let mut lost = 0u64;
+        for line in told.as_str().lines() {
+            if !self.left.as_str().lines().any(|held| held == line) {
+                lost = lost.saturating_add(1);
+            }
+        }
+        out.push(if told.is_empty() {
+            "none told"
+        } else {
+            "some told"
+        });
+        out.named(", lost", lost);
+    }
+
+    // `enter PORT COUNT BYTES`, `refused PORT`, `comes-in PORT BYTES`, `one-leaves`, `all-leave`.
+    fn on_crowd(&mut self, word: &str, args: &mut Args<'_>, out: &mut Text) {
+        match word {
+            "one-leaves" => drop(self.crowd.pop()),
+            "all-leave" => self.crowd.clear(),
+            _ => self.come(word, args, out),
+        }
+    }
+
+    fn come(&mut self, word: &str, args: &mut Args<'_>, out: &mut Text) {
+        let Some(at) = self.port(args) else {
+            return;
+        };
+        let count = if word == "enter" { args.number() } else { 1 };
+        let bytes = bytes(&self.texts, args);
+        match word {
+            "enter" => {
+                let entered = enter(&self.rt, at, count, &bytes, &mut self.crowd);
+                out.named("let in", entered);
+            }
+            "refused" => out.yes(is_refused(&self.rt, at)),
+            _ => out.yes(comes_in(&self.rt, at, &bytes, &mut self.crowd)),
+        }
+    }
+
+    // `editors COUNT EDITS`, with `at-once` behind it or without; `evaluators COUNT REVISION`,
+    // `subscribers COUNT`, `see COUNT KEY`, `finds COUNT`.
+    fn on_course(&mut self, word: &str, args: &mut Args<'_>, out: &mut Text) {
+        let Some(service) = &self.service else {
+            args.is_bad = true;
+            return;
+        };
+        let rt = &self.rt;
+        let count = args.number();
+        match word {
+            "editors" => start_editors(
+                rt,
+                service.ports.edit,
+                count,
+                course(args),
+                &mut self.courses,
+            ),
+            "evaluators" => {
+                start_evaluators(
+                    rt,
+                    service.ports.ofrep,
+                    count,
+                    args.number(),
+                    &mut self.courses,
+                )
+            }
+            "subscribers" => start_subscribers(rt, service.ports.stream, count, &mut self.courses),
+            "see" => see(rt, service.ports.ofrep, count, args.word(), out),
+            _ => out.number(found(rt, service.ports.edit, service.ports.ofrep, count)),
+        }
+    }
+}
+
+fn first_line(text: &str) -> &str {
+    text.lines().next().unwrap_or("")
+}
+
+// `behind COUNT`, `from PLACE`.
+fn hold_of(args: &mut Args<'_>) -> Hold {
+    match args.word() {
+        "behind" => Hold::Behind(args.number()),
+        _ => Hold::WriteFrom(args.number()),
+    }
+}
+
+fn course(args: &mut Args<'_>) -> Course {
+    Course {
+        number: 0,
+        count: args.number(),
+        is_at_once: args.word() == "at-once",
+    }
+}
+
+// The bytes that are left of the line.
+fn bytes(texts: &Texts, args: &mut Args<'_>) -> Vec<u8> {
+    match expanded(args.alloc, texts, args.rest) {
+        Ok(bytes) => bytes,
+        Err(_) => {
+            args.is_short = true;
+            Vec::new(args.alloc)
+        }
+    }
+}
+
+// The revision that was told last, if all were in order.
+fn say_last(last: Option<u64>, out: &mut Text) {
+    match last {
+        Some(last) => out.named("one by one, to", last),
+        None => out.push("not one by one"),
+    }
+}
+
+// Whether the service stopped at the revision that its disk is left at.
+fn is_at(said: &str, left: &str) -> Option<bool> {
+    let said = said.trim_end().strip_prefix("stopped at ")?;
+    let (revision, _) = left.split_once(',')?;
+    Some(said == revision)
+}
+
+// How many revisions were told, and whether they are those from 1 on, each once.
+fn say_told(told: &Text, out: &mut Text) {
+    let revisions = revisions_in(told.alloc, told.as_str());
+    let last = revisions.len() as u64;
+    let are_all = revisions.iter().copied().eq(1..=last);
+    out.named(
+        if are_all {
+            "each from 1 to"
+        } else {
+            "others, so many:"
+        },
+        last,
+    );
+}
