@@ -4,15 +4,21 @@ use crate::text::{bytes_of, put_line};
 use crate::trial::{Answer, Trial, tell_fault};
 use crate::world::room;
 use fp_commands::{CommandFault, apply_disk, import_disk, init_disk, show_disk};
-use fp_disk::MemoryDisk;
+use fp_disk::Disk;
 use fp_streams::FailureCounted;
 use fp_transcript::{Args, Text, number};
 use std::alloc::Global;
+use std::cell::RefCell;
 use std::io;
 use std::io::{ErrorKind, Read};
 
-/// `input EDIT`, `last EDIT` for a line without its end, and `raw BYTES`.
+/// `input EDIT`, `last EDIT` for a line without its end, and `raw BYTES`; `turns`, of the streams of
+/// the last command.
 pub fn on_input(trial: &mut Trial, word: &str, args: &mut Args<'_>) -> Answer {
+    if word == "turns" {
+        trial.text.put(&trial.turns);
+        return Answer::Text;
+    }
     if word == "raw" {
         return trial.wait(&bytes_of(args));
     }
@@ -25,31 +31,110 @@ pub fn on_input(trial: &mut Trial, word: &str, args: &mut Args<'_>) -> Answer {
     trial.wait(line.as_str().as_bytes())
 }
 
+/// What becomes of the streams.
+#[derive(Clone, Copy)]
+pub enum How {
+    Well,
+    /// The input gives a line a read.
+    Terminal,
+    /// The input ends in a failure.
+    Broken,
+    /// The input ends for want of memory.
+    Short,
+    /// The first two reads are interrupted.
+    Interrupted,
+    /// The output takes so many bytes.
+    Full(u64),
+    /// The output takes all, and fails as it is flushed.
+    Unflushed,
+}
+
+fn how_of(rest: &str) -> Option<How> {
+    match rest {
+        "" => Some(How::Well),
+        "terminal" => Some(How::Terminal),
+        "broken" => Some(How::Broken),
+        "short" => Some(How::Short),
+        "interrupted" => Some(How::Interrupted),
+        "unflushed" => Some(How::Unflushed),
+        _ => number(rest.strip_prefix("full ")?).map(How::Full),
+    }
+}
+
+// Tells of a call of a stream.
+fn note(turns: &RefCell<Text>, what: &str) {
+    if let Ok(mut turns) = turns.try_borrow_mut() {
+        turns.part();
+        turns.push(what);
+    }
+}
+
 /// Gives these bytes, and then ends or fails.
 #[derive(Drop)]
 struct Source<'a> {
     bytes: &'a [u8],
-    is_broken: bool,
+    how: How,
+    interruptions: u32,
+    turns: &'a RefCell<Text>,
+}
+
+impl Source<'_> {
+    // Why the next read fails, if it does.
+    fn failure(&mut self) -> Option<ErrorKind> {
+        match self.how {
+            How::Broken if self.bytes.is_empty() => Some(ErrorKind::Other),
+            How::Short if self.bytes.is_empty() => Some(ErrorKind::OutOfMemory),
+            How::Interrupted if self.interruptions > 0 => {
+                self.interruptions -= 1;
+                Some(ErrorKind::Interrupted)
+            }
+            _ => None,
+        }
+    }
+
+    // How many bytes a read gives at most.
+    fn given(&self) -> usize {
+        match self.how {
+            How::Terminal => line_length(self.bytes),
+            _ => self.bytes.len(),
+        }
+    }
+}
+
+// The bytes of the first line, with its end.
+fn line_length(bytes: &[u8]) -> usize {
+    match bytes.iter().position(|byte| *byte == b'\n') {
+        Some(at) => at.saturating_add(1),
+        None => bytes.len(),
+    }
 }
 
 impl<'a> Read for Source<'a> {
     fn read(&mut self, buf: &mut [u8]) -> io::Result<usize> {
-        if self.is_broken && self.bytes.is_empty() {
-            return Err(ErrorKind::Other.into());
+        note(self.turns, "read");
+        if let Some(kind) = self.failure() {
+            return Err(kind.into());
         }
-        self.bytes.read(buf)
+        let count = self.given().min(self.bytes.len()).min(buf.len());
+        let (now, later) = self.bytes.split_at(count);
+        buf[..count].copy_from_slice(now);
+        self.bytes = later;
+        Ok(count)
     }
 }
 
 /// Takes so many bytes, and then fails.
 #[derive(Drop)]
-struct Sink {
+struct Sink<'a> {
     bytes: Vec<u8>,
     room: usize,
+    how: How,
+    turns: &'a RefCell<Text>,
 }
 
-impl io::Write for Sink {
+impl io::Write for Sink<'_> {
     fn write(&mut self, buf: &[u8]) -> io::Result<usize> {
+        note(self.turns, "write");
         let count = buf.len().min(self.room);
         if count == 0 && !buf.is_empty() {
             return Err(ErrorKind::StorageFull.into());
@@ -60,27 +145,23 @@ impl io::Write for Sink {
     }
 
     fn flush(&mut self) -> io::Result<()> {
-        Ok(())
+        note(self.turns, "flush");
+        match self.how {
+            How::Unflushed => Err(ErrorKind::StorageFull.into()),
+            _ => Ok(()),
+        }
     }
 }
 
-// How much output is taken: `full ROOM`, or all.
-fn room_in(rest: &str) -> Option<u64> {
-    match rest.strip_prefix("full ") {
-        Some(room) => number(room),
-        None if rest.is_empty() || rest == "broken" => Some(u64::MAX),
-        None => None,
-    }
-}
-
-/// `init`, `apply`, `import`, `shown`. With `broken` the input ends in a failure, with `full ROOM`
-/// the output takes so many bytes.
+/// `init`, `apply`, `import`, `shown`; behind each of them what becomes of the streams: `terminal`,
+/// `broken`, `short`, `interrupted`, `full ROOM`, `unflushed`.
 pub fn on_commands(trial: &mut Trial, word: &str, rest: &str) -> Answer {
-    let Some(room) = room_in(rest) else {
+    let Some(how) = how_of(rest) else {
         return Answer::NotUnderstood;
     };
-    let outcome = run(trial, word, rest == "broken", room as usize);
-    trial.told = told_in(trial.text.as_str(), trial.told);
+    let disk = trial.take_disk();
+    let (disk, outcome) = ran(trial, word, how, disk);
+    trial.put_disk(disk);
     match outcome {
         Ok(true) if trial.text.is_empty() && !trial.text.is_short => Answer::Done,
         Ok(true) => Answer::Text,
@@ -89,70 +170,57 @@ pub fn on_commands(trial: &mut Trial, word: &str, rest: &str) -> Answer {
     }
 }
 
-// The command on the lines that wait: what it wrote stands in the trial.
-fn run(trial: &mut Trial, word: &str, is_broken: bool, room: usize) -> Result<bool, CommandFault> {
-    let alloc = trial.alloc;
+/// The command on the lines that wait, over a disk: what it wrote stands in the trial, and so do
+/// the turns of its streams.
+pub fn ran<D: Disk + Drop>(
+    trial: &mut Trial,
+    word: &str,
+    how: How,
+    disk: D,
+) -> (D, Result<bool, CommandFault>) {
+    let turns = RefCell::new(Text::new(trial.alloc));
     let mut writer = FailureCounted::new(Sink {
-        bytes: Vec::new(alloc),
-        room,
+        bytes: Vec::new(trial.alloc),
+        room: match how {
+            How::Full(room) => room as usize,
+            _ => usize::MAX,
+        },
+        how,
+        turns: &turns,
     });
     let input = trial.take_input();
     let source = Source {
         bytes: &input,
-        is_broken,
+        how,
+        interruptions: 2,
+        turns: &turns,
     };
-    let disk = trial.take_disk();
-    let (disk, outcome) = run_on(alloc, word, source, &mut writer, disk);
-    trial.put_disk(disk);
+    let ran = run_on(trial.alloc, word, source, &mut writer, disk);
     trial.text.bytes(&writer.into_inner().bytes);
-    outcome
+    trial.turns = turns.into_inner();
+    trial.told = told_in(trial.text.as_str(), trial.told);
+    ran
 }
 
-fn run_on(
+fn run_on<D: Disk>(
     alloc: Global,
     word: &str,
     source: Source<'_>,
-    writer: &mut FailureCounted<Sink>,
-    disk: MemoryDisk,
-) -> Ran {
+    writer: &mut FailureCounted<Sink<'_>>,
+    disk: D,
+) -> Ran<D> {
     match word {
-        "init" => init(alloc, disk),
-        "shown" => shown(alloc, writer, disk),
-        "apply" => apply(alloc, source, writer, disk),
-        _ => import(alloc, source, writer, disk),
+        "init" => of_unit(init_disk(alloc, disk)),
+        "shown" => of_unit(show_disk(alloc, writer, disk)),
+        "apply" => apply_disk(alloc, &mut FailureCounted::new(source), writer, disk),
+        _ => import_disk(alloc, &mut FailureCounted::new(source), writer, disk),
     }
 }
 
-type Ran = (MemoryDisk, Result<bool, CommandFault>);
-
-fn init(alloc: Global, disk: MemoryDisk) -> Ran {
-    of_unit(init_disk(alloc, disk))
-}
-
-fn shown(alloc: Global, writer: &mut FailureCounted<Sink>, disk: MemoryDisk) -> Ran {
-    of_unit(show_disk(alloc, writer, disk))
-}
-
-fn apply(
-    alloc: Global,
-    source: Source<'_>,
-    writer: &mut FailureCounted<Sink>,
-    disk: MemoryDisk,
-) -> Ran {
-    apply_disk(alloc, &mut FailureCounted::new(source), writer, disk)
-}
-
-fn import(
-    alloc: Global,
-    source: Source<'_>,
-    writer: &mut FailureCounted<Sink>,
-    disk: MemoryDisk,
-) -> Ran {
-    import_disk(alloc, &mut FailureCounted::new(source), writer, disk)
-}
+type Ran<D> = (D, Result<bool, CommandFault>);
 
 // No reply of a command without any tells of wanting memory.
-fn of_unit(ran: (MemoryDisk, Result<(), CommandFault>)) -> Ran {
+fn of_unit<D>(ran: (D, Result<(), CommandFault>)) -> Ran<D> {
     match ran {
         (disk, Ok(())) => (disk, Ok(true)),
         (disk, Err(fault)) => (disk, Err(fault)),
@@ -193,7 +261,7 @@ const LONGEST: u64 = 32_768;
 // store that has room for any edit.
 fn wants_memory(trial: &mut Trial, rest: &str, fault: &CommandFault) -> bool {
     match fault {
-        CommandFault::Memory => true,
+        CommandFault::Memory => rest != "short",
         CommandFault::Device => rest.is_empty() && !trial.is_failing,
         CommandFault::StoreFailed => !trial.is_failing && LONGEST < room(trial),
         _ => false,

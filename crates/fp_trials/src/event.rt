@@ -1,6 +1,5 @@
 //! The world's events, one at a time and in courses.
 
-use crate::board::say_reply;
 use crate::text::edit_of;
 use crate::trial::{Answer, Fault, Held, Trial};
 use crate::world::open;
@@ -8,6 +7,7 @@ use fp_desk::SubmitFault;
 use fp_disk::MemoryDisk;
 use fp_edit::{Edit, EditFault};
 use fp_group_commit::StoreFault;
+use fp_ofrep::Reply as Evaluation;
 use fp_slots::Step;
 use fp_transcript::{Args, Text};
 use fp_world::{Answer as Reply, Committer, Event};
@@ -118,6 +118,18 @@ fn shown_of(reply: &Reply, out: &mut Text) -> Answer {
         }
         _ => Answer::NotUnderstood,
     }
+}
+
+// The status, the revision and the body.
+fn say_reply(reply: &Evaluation, out: &mut Text) -> Answer {
+    out.number(u64::from(reply.status.as_u16()));
+    out.push(" ");
+    if let Some(revision) = reply.headers.flag_revision {
+        out.named("at", revision);
+        out.push(" ");
+    }
+    out.bytes(&reply.body);
+    Answer::Text
 }
 
 fn stepped(world: &mut Committer<MemoryDisk>, event: &Event, out: &mut Text) -> Became {

@@ -3,13 +3,13 @@
 //! out again with the answers.
 #![tactic(auto)]
 
-mod board;
 mod commands;
 mod damage;
 mod disk;
 mod eval;
 mod event;
 mod journal;
+mod noted;
 mod parts;
 mod run;
 mod script;

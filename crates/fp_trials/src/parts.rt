@@ -1,7 +1,6 @@
 //! A store and a desk without a world, for what no list of events leads to.
 
 ghost use Rattle.std.specs.Prelude.{◌≡◌, IfOk, IfSome, OnOk, IsTrue};
-ghost use mathlib.Core.List.{IsPrefix};
 ghost use Rattle.fp_journal.specs.declared.journal.Phase.TheVariants.{Staged, BodySynced};
 ghost use Rattle.fp_journal.specs.declared.journal.Phase.TheVariants.{GateOpened};
 
@@ -15,7 +14,7 @@ use fp_edit::Edit;
 use fp_group_commit::{Draw, Opening, Receipt, Store, StoreFault};
 use fp_journal::Phase;
 use fp_transcript::{Args, Text};
-use std::alloc::{AllocError, Global};
+use std::alloc::Global;
 
 /// `stop EDIT`, `stray FIRST EDIT`, `receipt EDIT / EDIT`, of the disk as it is opened now.
 pub fn on_parts(trial: &mut Trial, word: &str, args: &mut Args<'_>) -> Answer {
@@ -65,7 +64,6 @@ fn desk_over(alloc: Global, opening: Opening) -> Option<Desk>
 
 fn submitted(desk: &mut Desk, edit: Edit) -> Answer
     ensures store { desk.new.store ≡ desk.old.store }
-    ensures settled { desk.new.settled ≡ desk.old.settled }
 {
     match desk.submit(edit) {
         Ok(ticket) => Answer::Named("ticket", ticket.revision()),
@@ -73,10 +71,9 @@ fn submitted(desk: &mut Desk, edit: Edit) -> Answer
     }
 }
 
-/// The desk takes an edit.
-pub fn taken(args: &mut Args<'_>, desk: &mut Desk) -> Answer
+// The desk takes an edit.
+fn taken(args: &mut Args<'_>, desk: &mut Desk) -> Answer
     ensures store { desk.new.store ≡ desk.old.store }
-    ensures settled { desk.new.settled ≡ desk.old.settled }
 {
     match edit_of(args) {
         Some(edit) => submitted(desk, edit),
@@ -204,7 +201,6 @@ fn sealed(store: &mut Store<MemoryDisk>) -> Result<Receipt, StoreFault>
 fn settled(desk: &mut Desk, receipt: Receipt) -> Answer
     requires { receipt.store ≡ desk.old.store }
     ensures store { desk.new.store ≡ desk.old.store }
-    ensures grows { IsPrefix desk.old.settled desk.new.settled }
 {
     match desk.settle(receipt) {
         Ok(()) => Answer::Named("settled", desk.settled_revision()),
@@ -279,7 +275,6 @@ fn sealed_and_settled(
 ) -> Answer
     requires { desk.old.store ≡ store.old.store }
     ensures store { (store.new.store ≡ store.old.store) × (desk.new.store ≡ desk.old.store) }
-    ensures grows { IsPrefix desk.old.settled desk.new.settled }
 {
     match staged(store, draw) {
         Ok(true) => answer_to_staged(trial, store, desk),
@@ -292,7 +287,6 @@ fn answer_to_staged(trial: &Trial, store: &mut Store<MemoryDisk>, desk: &mut Des
     requires one { desk.old.store ≡ store.old.store }
     requires staged { store.old.step ≡ Staged }
     ensures store { (store.new.store ≡ store.old.store) × (desk.new.store ≡ desk.old.store) }
-    ensures grows { IsPrefix desk.old.settled desk.new.settled }
 {
     match sealed(store) {
         Ok(receipt) => {
@@ -300,26 +294,5 @@ fn answer_to_staged(trial: &Trial, store: &mut Store<MemoryDisk>, desk: &mut Des
             settled(desk, receipt)
         }
         Err(fault) => not_done(trial, fault),
-    }
-}
-
-// A batch of what waits, where something does.
-fn drawn_batch(desk: &mut Desk) -> Result<Option<Draw>, AllocError>
-    ensures store { desk.new.store ≡ desk.old.store }
-    ensures settled { desk.new.settled ≡ desk.old.settled }
-{
-    desk.draw()
-}
-
-/// What waits is drawn, sealed and settled as a batch.
-pub fn committed(trial: &Trial, store: &mut Store<MemoryDisk>, desk: &mut Desk) -> Answer
-    requires { desk.old.store ≡ store.old.store }
-    ensures store { (store.new.store ≡ store.old.store) × (desk.new.store ≡ desk.old.store) }
-    ensures grows { IsPrefix desk.old.settled desk.new.settled }
-{
-    match drawn_batch(desk) {
-        Ok(Some(draw)) => sealed_and_settled(trial, store, desk, draw),
-        Ok(None) => Answer::Word("not now"),
-        Err(_) => Answer::NoMemory,
     }
 }

@@ -31,7 +31,7 @@ const ON_EDITS: [&str; 5] = ["submit", "submits", "edit", "with", "batch"];
 
 const ON_PARTS: [&str; 3] = ["stop", "stray", "receipt"];
 
-const ON_INPUT: [&str; 3] = ["input", "last", "raw"];
+const ON_INPUT: [&str; 4] = ["input", "last", "raw", "turns"];
 
 const ON_COMMANDS: [&str; 4] = ["init", "apply", "import", "shown"];
 

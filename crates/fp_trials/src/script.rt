@@ -1,6 +1,6 @@
 //! A file of trials: its lines in order, its blocks, and the program's commands over files.
 
-use crate::board::OpenBoard;
+use crate::noted::on_noted;
 use crate::run::{repeat, step};
 use crate::seeded::on_seeds;
 use crate::sweep::{rounds, sweep};
@@ -9,7 +9,6 @@ use crate::trial::{Answer, Fault, Trial};
 use crate::whole::{Whole, is_of_world, on_whole};
 use fp_commands::command;
 use fp_files::SystemFiles;
-use fp_publish::MOST_EVALUATORS;
 use fp_streams::FailureCounted;
 use fp_transcript::{Answers, Args, Text, first_word};
 use std::alloc::AllocGlobal;
@@ -17,12 +16,11 @@ use std::rt::Files;
 use std::sync::Wait;
 use std::{fs, mem};
 
-/// What answers the lines of a file: what they work on; the board, the world and the block that
-/// are open, if there are any.
+/// What answers the lines of a file: what they work on; the world and the block that are open, if
+/// there are any.
 pub struct Script<'a, R: Files + AllocGlobal + Wait> {
     rt: &'a R,
     trial: Trial,
-    board: Option<OpenBoard>,
     world: Option<Whole>,
     block: Block,
 }
@@ -41,7 +39,6 @@ impl<'a, R: Files + AllocGlobal + Wait> Script<'a, R> {
         Script {
             rt,
             trial: Trial::new(alloc),
-            board: None,
             world: None,
             block: Block {
                 head: Text::new(alloc),
@@ -50,18 +47,14 @@ impl<'a, R: Files + AllocGlobal + Wait> Script<'a, R> {
         }
     }
 
-    /// Ends the board and the world that are open.
+    /// Ends the world that is open.
     pub fn end(self) {
         let Script {
             rt,
             trial: _,
-            board,
             world,
             block: _,
         } = self;
-        if let Some(board) = board {
-            let _disk = board.end(rt);
-        }
         end_world(rt, world);
     }
 }
@@ -84,13 +77,7 @@ impl<'a, R: Files + AllocGlobal + Wait> Answers for Script<'a, R> {
             self.block.head.push(head);
             out.is_short = self.block.head.is_short;
         } else {
-            let answer = alone(
-                self.rt,
-                &mut self.trial,
-                &mut self.board,
-                &mut self.world,
-                line,
-            );
+            let answer = alone(self.rt, &mut self.trial, &mut self.world, line);
             answer.tell(&self.trial.text, out);
         }
     }
@@ -125,33 +112,14 @@ fn run_block(trial: &mut Trial, block: &mut Block, out: &mut Text) {
 }
 
 // The words of commands that can't stand in a block.
-const OVER_FILES: [&str; 4] = ["$", "load", "save", "rounds"];
+const OVER_FILES: [&str; 5] = ["$", "load", "save", "noted", "rounds"];
 
 const OF_SEEDS: [&str; 2] = ["worlds", "stops"];
 
-const OF_BOARD: [&str; 15] = [
-    "board",
-    "end-board",
-    "queue",
-    "commit",
-    "publish",
-    "is-shown",
-    "published",
-    "evaluator",
-    "enter",
-    "rest",
-    "learn",
-    "leave",
-    "ask",
-    "sit",
-    "stand",
-];
-
-// What works on a world or on a board, what can't stand in a block, and any other line.
+// What works on a world, what can't stand in a block, and any other line.
 fn alone<R: Files + AllocGlobal + Wait>(
     rt: &R,
     trial: &mut Trial,
-    board: &mut Option<OpenBoard>,
     world: &mut Option<Whole>,
     line: &str,
 ) -> Answer {
@@ -160,10 +128,6 @@ fn alone<R: Files + AllocGlobal + Wait>(
     if is_of_world(word, world) {
         trial.text.clear();
         let answer = on_whole(rt, trial, world, word, &mut args);
-        judged(&args, answer)
-    } else if OF_BOARD.contains(&word) {
-        trial.text.clear();
-        let answer = with_board(rt, trial, board, word, &mut args);
         judged(&args, answer)
     } else if OF_SEEDS.contains(&word) {
         trial.text.clear();
@@ -178,7 +142,7 @@ fn alone<R: Files + AllocGlobal + Wait>(
     }
 }
 
-// `$ WORD ..`, `load NAME`, `save NAME`, `rounds COUNT EDITS`.
+// `$ WORD ..`, `load NAME`, `save NAME`, `noted ..`, `rounds COUNT EDITS`.
 fn over_files<R: Files + AllocGlobal>(
     rt: &R,
     trial: &mut Trial,
@@ -189,6 +153,7 @@ fn over_files<R: Files + AllocGlobal>(
         "$" => program(rt, trial, args),
         "load" => load(rt, trial, args.rest),
         "save" => save(rt, trial, args.rest),
+        "noted" => on_noted(rt, trial, args),
         _ => rounds(trial, args),
     }
 }
@@ -261,95 +226,5 @@ fn save<R: Files>(rt: &R, trial: &mut Trial, name: &str) -> Answer {
     match fs::write(rt, name, bytes.as_slice()) {
         Ok(()) => Answer::Done,
         Err(_) => Answer::Fault(Fault::Device),
-    }
-}
-
-// `board PLACES`, `end-board`, and what works on the board that is open.
-fn with_board<R: Wait>(
-    rt: &R,
-    trial: &mut Trial,
-    board: &mut Option<OpenBoard>,
-    word: &str,
-    args: &mut Args<'_>,
-) -> Answer {
-    match board.take() {
-        Some(open) => on_open(rt, trial, board, open, word, args),
-        None if word == "board" => begin_board(rt, trial, board, args.number() as usize),
-        None => Answer::NotUnderstood,
-    }
-}
-
-fn on_open<R: Wait>(
-    rt: &R,
-    trial: &mut Trial,
-    board: &mut Option<OpenBoard>,
-    open: OpenBoard,
-    word: &str,
-    args: &mut Args<'_>,
-) -> Answer {
-    let mut open = open;
-    if word == "end-board" {
-        trial.put_disk(open.end(rt));
-        return Answer::Done;
-    }
-    let answer = on_board(rt, trial, &mut open, word, args);
-    put_board(rt, board, open);
-    answer
-}
-
-// `board PLACES`: a board over the disk, which is lent to it until `end-board`.
-fn begin_board<R: Wait>(
-    rt: &R,
-    trial: &mut Trial,
-    board: &mut Option<OpenBoard>,
-    places: usize,
-) -> Answer {
-    if places == 0 || places > MOST_EVALUATORS {
-        return Answer::NotUnderstood;
-    }
-    let disk = trial.take_disk();
-    match OpenBoard::new(rt, trial.alloc, disk, places) {
-        Ok(open) => {
-            put_board(rt, board, open);
-            Answer::Done
-        }
-        Err((fault, disk)) => {
-            trial.put_disk(disk);
-            trial.fault(fault)
-        }
-    }
-}
-
-fn put_board<R: Wait>(rt: &R, board: &mut Option<OpenBoard>, open: OpenBoard) {
-    if let Some(before) = mem::replace(board, Some(open)) {
-        let _disk = before.end(rt);
-    }
-}
-
-// The words of an evaluator.
-const OF_EVALUATOR: [&str; 4] = ["enter", "rest", "learn", "leave"];
-
-fn on_board<R: Wait>(
-    rt: &R,
-    trial: &mut Trial,
-    board: &mut OpenBoard,
-    word: &str,
-    args: &mut Args<'_>,
-) -> Answer {
-    if OF_EVALUATOR.contains(&word) {
-        return board.turn(word, args.rest);
-    }
-    match word {
-        "queue" => board.queue(args),
-        "commit" => board.commit(trial, args),
-        "publish" => board.publish(rt),
-        "is-shown" => board.shown(),
-        "published" => board.published(&mut trial.text),
-        "evaluator" => board.seat(args.rest),
-        "ask" => board.ask(trial, args),
-        "sit" => board.sit(args.number()),
-        "stand" => board.stand(),
-        // There is a board already.
-        _ => Answer::NotUnderstood,
     }
 }

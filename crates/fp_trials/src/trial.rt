@@ -151,8 +151,8 @@ pub enum Held {
 }
 
 /// What commands work on: a disk or an open world, the bytes that were kept of one, the
-/// edits and the lines that wait, and the greatest revision that was told; and the text of
-/// the last answer that is one.
+/// edits and the lines that wait, and the greatest revision that was told; the text of the
+/// last answer that is one; and the reads, writes and flushes of the last command.
 #[derive(Drop)]
 pub struct Trial {
     pub alloc: Global,
@@ -162,6 +162,7 @@ pub struct Trial {
     pub input: Vec<u8>,
     pub told: u64,
     pub text: Text,
+    pub turns: Text,
     // Whether calls of the disk were told to fail.
     pub is_failing: bool,
 }
@@ -177,6 +178,7 @@ impl Trial {
             input: Vec::new(alloc),
             told: 0,
             text: Text::new(alloc),
+            turns: Text::new(alloc),
             is_failing: false,
         }
     }

@@ -154,8 +154,8 @@ fn told(word: &str, set: &FlagSet, room: u64, out: &mut Text) -> Answer {
     }
 }
 
-/// The document of a set.
-pub fn show(set: &FlagSet, out: &mut Text) -> Answer {
+// The document of a set.
+fn show(set: &FlagSet, out: &mut Text) -> Answer {
     match set.document() {
         Ok(document) => {
             out.bytes(&document);
