@@ -1,21 +1,23 @@
 -- Steps by the step that is next.
-use Rattle.std.proofs.Common.{◌≡◌, ◌<◌, ◌^◌, ℕ, Bool, true, false, List, [], ◌∷◌, ◌++◌, inl, sym, ◌∙◌, ap, subst}
+use Rattle.std.proofs.Common.{refl, ◌≡◌, ◌<◌, ◌^◌, ℕ, Bool, true, false, List, [], ◌∷◌, ◌++◌, inl, sym, ◌∙◌, ap, subst}
 use Rattle.std.proofs.lemmas.List.{append-nil}
-use Rattle.fp_disk.specs.Moments.{leaves_still}
+use Rattle.fp_disk.specs.Crashes.{AtAnyMoment, SameHonesty}
+use Rattle.fp_disk.specs.Moments.{leaves_map, leaves_still}
 use Rattle.fp_disk.specs.Outcomes.{IsOutcome, LeavesOnly}
 use Rattle.fp_disk.specs.declared.disk.Disk.{Ghosts}
 use Rattle.fp_journal.specs.Holds.{Holds, IsSynced}
+use Rattle.fp_journal.specs.Moments.{KeepsSynced}
 use Rattle.fp_journal.specs.State.{HasAmong, HasChain, JournalState, has_begun}
 use Rattle.fp_journal.specs.declared.journal.Phase.TheVariants.{GateOpened}
 use Rattle.fp_journal.proofs.Holds.{firm_outcome}
 use Rattle.fp_edit.specs.Flags.{State}
-use Rattle.fp_recovery.specs.Stands.{Spells}
+use Rattle.fp_recovery.specs.Stands.{Spells, StandsFor}
 use Rattle.fp_slots.specs.Rules.{Rules}
-use Rattle.fp_slots.specs.State.{IsEarly, IsFrontOf, Keeps, Leaves, sealed_text}
+use Rattle.fp_slots.specs.State.{IsEarly, IsFrontOf, Keeps, KeepsEither, Leaves, OutsideBoth, SameSlots, sealed_text}
 use Rattle.fp_slots.specs.declared.slots.Step.TheVariants.{Begin, Close, SyncClose, Part, Tail, SyncBody, Open, SyncOpen}
-use Rattle.fp_compaction.specs.Sets.{IsKeptIn, IsPlannedFor, IsTaken, LeavesSet}
-use Rattle.fp_compaction.specs.Steps.{IsFullNow, LeavesNow, ReadsNext, TakesStep}
-use Rattle.fp_compaction.proofs.Kept.{either_stands, keeps_stands, opened_stands, sealed_full}
+use Rattle.fp_compaction.specs.Sets.{IsKeptIn, IsPlannedFor, IsTaken, LeavesEither, LeavesSet}
+use Rattle.fp_compaction.specs.Steps.{IsFullNow, LeavesNow, LeavesStep, ReadsNext, TakesStep}
+use Rattle.fp_compaction.proofs.Kept.{either_stands, keeps_stands, kept_on, leaves_stands, opened_stands, sealed_full}
 use Rattle.fp_disk.specs.declared.history.CallKind.{CallKind}
 use Rattle.fp_slots.specs.State.{SlotsState}
 use Rattle.fp_slots.specs.declared.slots.Step.{Step}
@@ -27,6 +29,25 @@ called_at calls old new is made = made ∙ ap (λ (q : Step). calls old.journal.
 
 pub is_late : (p q : Step) → p ≡ q → IsLate q → IsLate p
 is_late p q is late = subst (λ (x : Step). IsLate x) (sym is) late
+
+-- a step while the slot that rules is the same in every crash state
+pub early_step : {D : Type 0} (disk : Ghosts D) (old new : SlotsState D) {p : Step} → old.step ≡ p → AtAnyMoment disk old.journal.disk new.journal.disk (Keeps old) → KeepsSynced disk old.journal.disk new.journal.disk (OutsideBoth old) → SameSlots old new
+    → SameHonesty disk old.journal.disk new.journal.disk → disk.calls new.journal.disk ≡ disk.calls old.journal.disk ++ calls_of p old.may_open → TakesStep disk old new
+early_step disk old new is any_moment apart same honest made = let u = disk.unsynced old.journal.disk in record {
+  stands = λ h size s t k taken late. leaves_stands u old size k.0 s k.1 disk.moment disk.crash_states_since disk.unsynced old.journal.disk new.journal.disk refl (apart h) (Keeps old) (LeavesSet old.journal s t) (keeps_stands u old size k.0 s k.1 t taken) (any_moment h);
+  kept = λ h size s k late. (k.0, kept_on u old size k.0 s k.1 disk.moment disk.crash_states_since disk.unsynced old.journal.disk new.journal.disk refl (apart h) new same);
+  honest = honest;
+  called = called_at disk.calls old new is made;
+}
+
+-- a call in which either slot may come to rule
+pub either_leaves : {D : Type 0} (disk : Ghosts D) (old new : SlotsState D) → AtAnyMoment disk old.journal.disk new.journal.disk (KeepsEither old) → KeepsSynced disk old.journal.disk new.journal.disk (OutsideBoth old) → LeavesEither disk old new
+either_leaves disk old new any_moment apart = let u = disk.unsynced old.journal.disk in
+    λ h size s k planned. leaves_stands u old size k.0 s k.1 disk.moment disk.crash_states_since disk.unsynced old.journal.disk new.journal.disk refl (apart h) (KeepsEither old) (λ o. StandsFor o s) (either_stands u old size k.0 s k.1 planned) (any_moment h)
+
+pub late_leaves : {D : Type 0} (disk : Ghosts D) (old new : SlotsState D) {p : Step} → old.step ≡ p → IsLate p → LeavesEither disk old new → LeavesStep disk old new
+late_leaves disk old new is late either = λ h size s t k taken planned.
+    leaves_map disk.moment disk.crash_states_since old.journal.disk new.journal.disk (λ o. StandsFor o s) (LeavesSet old.journal s t) (λ c stands. inl stands) (either h size s k (planned (is_late old.step _ is late)))
 
 -- no call was made: what is left now is what was left before
 pub still_step : {D : Type 0} (disk : Ghosts D) (old new : SlotsState D) → ((d : D) (c : List ℕ) → disk.honest d → disk.crash_states_since d (disk.moment d) c → IsOutcome (disk.unsynced d) c)

@@ -56,14 +56,7 @@ abbrev pub LeavesSet : {D : Type 0} → JournalState D → State → State → L
 LeavesSet j s t c = StandsFor c s ⊎ (HasBegun j × StandsFor c t)
 
 -- ---- what a call leaves
--- at each moment of a call beside which a batch may be on its way
-abbrev pub LeavesOld : {D : Type 0} → Ghosts D → SlotsState D → SlotsState D → Type 0
-LeavesOld disk old new = disk.honest old.journal.disk → (size : ℕ) (s t : State)
-    → IsKeptIn (disk.unsynced old.journal.disk) old size s → IsTaken old.journal size s t
-    → LeavesOnly disk.moment disk.crash_states_since old.journal.disk new.journal.disk
-    (LeavesSet old.journal s t)
-
--- at each moment of one at which either slot may rule: both stand for one set
+-- at each moment of a call in which either slot may come to rule: both stand for one set
 abbrev pub LeavesEither : {D : Type 0} → Ghosts D → SlotsState D → SlotsState D → Type 0
 LeavesEither disk old new = disk.honest old.journal.disk → (size : ℕ) (s : State)
     → IsKeptIn (disk.unsynced old.journal.disk) old size s → IsPlannedFor old size s

@@ -1,22 +1,14 @@
 //! The steps of a compaction, with one call of the disk each at most,
 //! by the set that the bytes stand for at each moment.
 
-ghost use Rattle.fp_disk.specs.Crashes.{SameHonesty};
-ghost use Rattle.fp_disk.specs.Outcomes.{Answers};
-ghost use Rattle.fp_disk.specs.declared.history.CallKind.TheVariants.{Sync, Write};
-ghost use Rattle.std.specs.Prelude.{◌≡◌, ◌≢◌, ◌<◌, ◌≤◌, ◌+◌, ◌-◌, ◌/◌, ◌^◌, [], ◌∷◌, ◌++◌, ℕ};
-ghost use Rattle.std.specs.Prelude.{length, if◌then◌else◌, OnOk, OnErr};
-ghost use Rattle.fp_edit.specs.Flags.{State};
-ghost use Rattle.fp_journal.specs.State.{room};
+ghost use Rattle.std.specs.Prelude.{◌≡◌, ◌≢◌, ◌<◌, ◌≤◌, ◌+◌, ◌-◌, ◌/◌, ◌^◌, [], ℕ, OnOk, OnErr};
 ghost use Rattle.fp_journal.specs.declared.journal.Phase.TheVariants.{Idle, Failed};
-ghost use Rattle.fp_slots.specs.State.{SameSlots};
 ghost use Rattle.fp_slots.specs.declared.places.TheConstants.{IMAGE_PLACE, PART};
 ghost use Rattle.fp_slots.specs.declared.slots.Step.TheVariants.{Begin, Close, SyncClose, Part};
 ghost use Rattle.fp_slots.specs.declared.slots.Step.TheVariants.{Tail, SyncBody, Open, SyncOpen};
 ghost use Rattle.fp_edit.specs.Flags.{size as size_of};
-ghost use Rattle.fp_compaction.specs.Steps.{Begins, TakesStep, Turns};
-ghost use Rattle.fp_compaction.specs.Sets.{GoesOnKept, IsKeptIn, IsPlannedFor, LeavesEither};
-ghost use Rattle.fp_compaction.specs.Sets.{LeavesOld};
+ghost use Rattle.fp_compaction.specs.Steps.{Begins, BreaksOff, Stays, TakesStep, Turns};
+ghost use Rattle.fp_compaction.specs.Sets.{IsPlannedFor, LeavesEither};
 
 use crate::image::image_of;
 use fp_disk::{Disk, DiskFault};
@@ -37,11 +29,7 @@ pub fn begin<D: Disk>(alloc: Global, slots: &mut Slots<D>, set: &FlagSet) -> Res
     ensures planned { OnOk result ((size : ℕ) → set.now.limit ≡ size / 2
         → IsPlannedFor slots.new size set.now) }
     ensures begun { OnOk result (Begins (size_of set.now.flags) set.now.limit slots.old slots.new) }
-    ensures left { OnOk result (slots.new.left + 1 ≡ slots.new.head) }
     ensures err { OnErr result (slots.new ≡ slots.old) }
-    ensures same { (slots.new.journal ≡ slots.old.journal) × (slots.new.other ≡ slots.old.other)
-        × (slots.new.generation ≡ slots.old.generation)
-        × (slots.new.may_open ≡ slots.old.may_open) }
 {
     // What a crash leaves now is known only where it is asked.
     let _ = slots.step();
@@ -55,19 +43,13 @@ pub fn close<D: Disk>(slots: &mut Slots<D>) -> Result<(), DiskFault>
     requires step { slots.old.step ≡ Close }
     requires live { slots.old.journal.phase ≢ Failed }
     ensures taken { TakesStep D.Disk slots.old slots.new }
-    ensures stands { LeavesOld D.Disk slots.old slots.new }
-    ensures kept { GoesOnKept D.Disk slots.old slots.new }
     ensures step { OnOk result (slots.new.step ≡ SyncClose)
         × OnErr result (slots.new.step ≡ Close) }
-    ensures same { SameSlots slots.old slots.new }
-    ensures left { slots.new.left ≡ slots.old.left }
-    ensures phase { OnOk result (slots.new.journal.phase ≡ slots.old.journal.phase)
-        × OnErr result (slots.new.journal.phase ≡ Failed) }
-    ensures honest { SameHonesty D.Disk slots.old.journal.disk slots.new.journal.disk }
-    ensures called { D.calls slots.new.journal.disk
-        ≡ D.calls slots.old.journal.disk ++ (if slots.old.may_open then Write ∷ [] else []) }
-    ensures cause { Answers (D.faults slots.old.journal.disk)
-        (D.faults slots.new.journal.disk) result }
+    ensures stays { OnOk result (Stays slots.old slots.new) }
+    ensures left { OnOk result (slots.new.left ≡ slots.old.left) }
+    ensures no_failure { OnOk result
+        (D.faults slots.new.journal.disk ≡ D.faults slots.old.journal.disk) }
+    ensures broken { OnErr result (BreaksOff D.faults slots.old slots.new) }
 {
     slots.close_other()
 }
@@ -77,18 +59,12 @@ pub fn sync_close<D: Disk>(slots: &mut Slots<D>) -> Result<(), DiskFault>
     requires step { slots.old.step ≡ SyncClose }
     requires live { slots.old.journal.phase ≢ Failed }
     ensures taken { TakesStep D.Disk slots.old slots.new }
-    ensures stands { LeavesOld D.Disk slots.old slots.new }
-    ensures kept { GoesOnKept D.Disk slots.old slots.new }
     ensures step { OnOk result (slots.new.step ≡ Part) × OnErr result (slots.new.step ≡ SyncClose) }
-    ensures same { SameSlots slots.old slots.new }
-    ensures left { slots.new.left ≡ slots.old.left }
-    ensures phase { OnOk result (slots.new.journal.phase ≡ slots.old.journal.phase)
-        × OnErr result (slots.new.journal.phase ≡ Failed) }
-    ensures honest { SameHonesty D.Disk slots.old.journal.disk slots.new.journal.disk }
-    ensures called { D.calls slots.new.journal.disk
-        ≡ D.calls slots.old.journal.disk ++ Sync ∷ [] }
-    ensures cause { Answers (D.faults slots.old.journal.disk)
-        (D.faults slots.new.journal.disk) result }
+    ensures stays { OnOk result (Stays slots.old slots.new) }
+    ensures left { OnOk result (slots.new.left ≡ slots.old.left) }
+    ensures no_failure { OnOk result
+        (D.faults slots.new.journal.disk ≡ D.faults slots.old.journal.disk) }
+    ensures broken { OnErr result (BreaksOff D.faults slots.old slots.new) }
 {
     slots.sync_close()
 }
@@ -98,20 +74,13 @@ pub fn chunk<D: Disk>(slots: &mut Slots<D>) -> Result<(), DiskFault>
     requires step { slots.old.step ≡ Part }
     requires live { slots.old.journal.phase ≢ Failed }
     ensures taken { TakesStep D.Disk slots.old slots.new }
-    ensures stands { LeavesOld D.Disk slots.old slots.new }
-    ensures kept { GoesOnKept D.Disk slots.old slots.new }
     ensures step { OnOk result ((PART < slots.old.left → slots.new.step ≡ Part)
         × (slots.old.left ≤ PART → slots.new.step ≡ Tail)) × OnErr result (slots.new.step ≡ Part) }
     ensures less { OnOk result (slots.new.left ≡ slots.old.left - PART) }
-    ensures same { SameSlots slots.old slots.new }
-    ensures left { OnErr result (slots.new.left ≡ slots.old.left) }
-    ensures phase { OnOk result (slots.new.journal.phase ≡ slots.old.journal.phase)
-        × OnErr result (slots.new.journal.phase ≡ Failed) }
-    ensures honest { SameHonesty D.Disk slots.old.journal.disk slots.new.journal.disk }
-    ensures called { D.calls slots.new.journal.disk
-        ≡ D.calls slots.old.journal.disk ++ Write ∷ [] }
-    ensures cause { Answers (D.faults slots.old.journal.disk)
-        (D.faults slots.new.journal.disk) result }
+    ensures stays { OnOk result (Stays slots.old slots.new) }
+    ensures no_failure { OnOk result
+        (D.faults slots.new.journal.disk ≡ D.faults slots.old.journal.disk) }
+    ensures broken { OnErr result (BreaksOff D.faults slots.old slots.new) }
 {
     slots.write_part()
 }
@@ -121,18 +90,12 @@ pub fn copy_tail<D: Disk>(slots: &mut Slots<D>) -> Result<(), DiskFault>
     requires step { slots.old.step ≡ Tail }
     requires live { slots.old.journal.phase ≡ Idle }
     ensures taken { TakesStep D.Disk slots.old slots.new }
-    ensures stands { LeavesOld D.Disk slots.old slots.new }
-    ensures kept { GoesOnKept D.Disk slots.old slots.new }
     ensures step { OnOk result (slots.new.step ≡ SyncBody) × OnErr result (slots.new.step ≡ Tail) }
-    ensures same { SameSlots slots.old slots.new }
-    ensures left { slots.new.left ≡ slots.old.left }
-    ensures phase { OnOk result (slots.new.journal.phase ≡ slots.old.journal.phase)
-        × OnErr result (slots.new.journal.phase ≡ Failed) }
-    ensures honest { SameHonesty D.Disk slots.old.journal.disk slots.new.journal.disk }
-    ensures called { D.calls slots.new.journal.disk
-        ≡ D.calls slots.old.journal.disk ++ Write ∷ [] }
-    ensures cause { Answers (D.faults slots.old.journal.disk)
-        (D.faults slots.new.journal.disk) result }
+    ensures stays { OnOk result (Stays slots.old slots.new) }
+    ensures left { OnOk result (slots.new.left ≡ slots.old.left) }
+    ensures no_failure { OnOk result
+        (D.faults slots.new.journal.disk ≡ D.faults slots.old.journal.disk) }
+    ensures broken { OnErr result (BreaksOff D.faults slots.old slots.new) }
 {
     slots.write_tail()
 }
@@ -142,18 +105,12 @@ pub fn seal<D: Disk>(slots: &mut Slots<D>) -> Result<(), DiskFault>
     requires step { slots.old.step ≡ SyncBody }
     requires live { slots.old.journal.phase ≢ Failed }
     ensures taken { TakesStep D.Disk slots.old slots.new }
-    ensures stands { LeavesOld D.Disk slots.old slots.new }
-    ensures kept { GoesOnKept D.Disk slots.old slots.new }
     ensures step { OnOk result (slots.new.step ≡ Open) × OnErr result (slots.new.step ≡ SyncBody) }
-    ensures same { SameSlots slots.old slots.new }
-    ensures left { slots.new.left ≡ slots.old.left }
-    ensures phase { OnOk result (slots.new.journal.phase ≡ slots.old.journal.phase)
-        × OnErr result (slots.new.journal.phase ≡ Failed) }
-    ensures honest { SameHonesty D.Disk slots.old.journal.disk slots.new.journal.disk }
-    ensures called { D.calls slots.new.journal.disk
-        ≡ D.calls slots.old.journal.disk ++ Sync ∷ [] }
-    ensures cause { Answers (D.faults slots.old.journal.disk)
-        (D.faults slots.new.journal.disk) result }
+    ensures stays { OnOk result (Stays slots.old slots.new) }
+    ensures left { OnOk result (slots.new.left ≡ slots.old.left) }
+    ensures no_failure { OnOk result
+        (D.faults slots.new.journal.disk ≡ D.faults slots.old.journal.disk) }
+    ensures broken { OnErr result (BreaksOff D.faults slots.old slots.new) }
 {
     slots.sync_parts()
 }
@@ -164,17 +121,12 @@ pub fn open_other<D: Disk>(slots: &mut Slots<D>) -> Result<(), DiskFault>
     requires live { slots.old.journal.phase ≢ Failed }
     ensures taken { TakesStep D.Disk slots.old slots.new }
     ensures stands { LeavesEither D.Disk slots.old slots.new }
-    ensures kept { GoesOnKept D.Disk slots.old slots.new }
     ensures step { OnOk result (slots.new.step ≡ SyncOpen) × OnErr result (slots.new.step ≡ Open) }
-    ensures same { SameSlots slots.old slots.new }
-    ensures left { slots.new.left ≡ slots.old.left }
-    ensures phase { OnOk result (slots.new.journal.phase ≡ slots.old.journal.phase)
-        × OnErr result (slots.new.journal.phase ≡ Failed) }
-    ensures honest { SameHonesty D.Disk slots.old.journal.disk slots.new.journal.disk }
-    ensures called { D.calls slots.new.journal.disk
-        ≡ D.calls slots.old.journal.disk ++ Write ∷ [] }
-    ensures cause { Answers (D.faults slots.old.journal.disk)
-        (D.faults slots.new.journal.disk) result }
+    ensures stays { OnOk result (Stays slots.old slots.new) }
+    ensures left { OnOk result (slots.new.left ≡ slots.old.left) }
+    ensures no_failure { OnOk result
+        (D.faults slots.new.journal.disk ≡ D.faults slots.old.journal.disk) }
+    ensures broken { OnErr result (BreaksOff D.faults slots.old slots.new) }
 {
     slots.open_other()
 }
@@ -185,26 +137,14 @@ pub fn finish<D: Disk>(slots: &mut Slots<D>) -> Result<(), DiskFault>
     requires live { slots.old.journal.phase ≢ Failed }
     ensures taken { TakesStep D.Disk slots.old slots.new }
     ensures stands { LeavesEither D.Disk slots.old slots.new }
-    ensures turned { D.honest slots.old.journal.disk → OnOk result ((size : ℕ) (s : State)
-        → IsKeptIn (D.unsynced slots.old.journal.disk) slots.old size s
-        → IsPlannedFor slots.old size s
-        → IsKeptIn (D.unsynced slots.new.journal.disk) slots.new size s) }
-    ensures switched { OnOk result ((slots.new.journal.slot ≡ slots.old.other)
-        × (slots.new.journal.front ≡ slots.old.text) × (slots.new.journal.sealed ≡ [])
-        × (slots.new.journal.phase ≡ Idle)) }
-    ensures room { OnOk result (room slots.new.journal
-        ≡ slots.old.other.stop - (slots.old.other.start + length slots.old.text)) }
-    ensures broken { OnErr result (SameSlots slots.old slots.new × (slots.new.step ≡ SyncOpen)
-        × (slots.new.journal.phase ≡ Failed)) }
-    ensures left { slots.new.left ≡ slots.old.left }
-    ensures step { OnOk result (slots.new.step ≡ Begin) }
-    ensures generation { OnOk result (slots.new.generation ≡ slots.old.generation + 1) }
+    ensures step { OnOk result (slots.new.step ≡ Begin) × OnErr result (slots.new.step ≡ SyncOpen) }
     ensures turns { OnOk result (Turns slots.old slots.new) }
-    ensures honest { SameHonesty D.Disk slots.old.journal.disk slots.new.journal.disk }
-    ensures called { D.calls slots.new.journal.disk
-        ≡ D.calls slots.old.journal.disk ++ Sync ∷ [] }
-    ensures cause { Answers (D.faults slots.old.journal.disk)
-        (D.faults slots.new.journal.disk) result }
+    ensures text { OnOk result ((slots.new.journal.front ≡ slots.old.text)
+        × (slots.new.journal.sealed ≡ [])) }
+    ensures left { OnOk result (slots.new.left ≡ slots.old.left) }
+    ensures no_failure { OnOk result
+        (D.faults slots.new.journal.disk ≡ D.faults slots.old.journal.disk) }
+    ensures broken { OnErr result (BreaksOff D.faults slots.old slots.new) }
 {
     // That no batch is on its way is known only where it is asked.
     let _ = slots.step();

@@ -205,8 +205,8 @@ impl Desk {
         }
         let first = self.settled.revision() + 1;
         let n = first_part(&self.waiting, self.longest_body());
-        let edits = copies_of_front(self.alloc, &self.waiting, n)?;
         self.drawn.try_reserve(n)?;
+        let edits = copies_of_front(self.alloc, &self.waiting, n)?;
         move_front(&mut self.waiting, &mut self.drawn, n);
         Ok(Some(Draw::new(first, edits)))
     }

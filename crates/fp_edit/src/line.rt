@@ -101,12 +101,17 @@ fn all_known(members: &Map<String, Value>) -> bool
     ensures { result ≡ says.all_known (members_view members.now.entries) }
 {
     for (name, _member) in members.iter() {
-        let name = name.as_str();
-        if !(name == "flag" || name == "if" || name == "key" || name == "op") {
+        if !is_known(name.as_str()) {
             return false;
         }
     }
     true
+}
+
+fn is_known(name: &str) -> bool
+    ensures { result ≡ says.is_known name.now }
+{
+    name == "flag" || name == "if" || name == "key" || name == "op"
 }
 
 #[tactic(auto, unfolding(crate::specs::Line::parts_of))]

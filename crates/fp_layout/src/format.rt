@@ -42,20 +42,21 @@ pub enum CreateFault {
 fn closed(alloc: Global, size: SlotSize) -> Result<Vec<u8>, AllocError>
     ensures { IfOk result (λ v. v.items ≡ closed_bytes size) }
 {
-    let mut bytes = Vec::with_capacity(alloc, FIRST_GATE + 1)?;
-    bytes.push(0)?;
-    bytes.extend_from_slice(b"FLAGPLN1")?;
-    bytes.push(VERSION)?;
-    bytes.extend_from_slice(&size.bytes().to_be_bytes())?;
-    bytes.extend_from_slice(&[0; ZEROS])?;
-    bytes.push(0)?;
-    bytes.extend_from_slice(&1u64.to_be_bytes())?;
-    bytes.push(VERSION)?;
-    bytes.extend_from_slice(&0u64.to_be_bytes())?;
-    bytes.extend_from_slice(&4u32.to_be_bytes())?;
-    bytes.extend_from_slice(&0u32.to_be_bytes())?;
-    bytes.push(0)?;
-    Ok(bytes)
+    [
+        &[0][..],
+        b"FLAGPLN1",
+        &[VERSION],
+        &size.bytes().to_be_bytes(),
+        &[0; ZEROS],
+        &[0],
+        &1u64.to_be_bytes(),
+        &[VERSION],
+        &0u64.to_be_bytes(),
+        &4u32.to_be_bytes(),
+        &0u32.to_be_bytes(),
+        &[0],
+    ]
+    .concat(alloc)
 }
 
 // Writes, and makes sure of it.

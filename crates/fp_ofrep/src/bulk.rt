@@ -2,11 +2,11 @@
 
 ghost use Rattle.std.specs.Prelude.{◌≡◌, ◌++◌, ℕ, ◌<◌, ◌^◌, true, IfOk, IsSome, OnOk};
 ghost use Rattle.std.specs.FinMap as map;
-ghost use Rattle.json.specs.Tree.{items_tokens};
+ghost use Rattle.json.specs.Tree.{items_tokens, json_tokens};
 ghost use Rattle.serde_json.specs.Data.{Data as JsonData, Items};
 ghost use Rattle.serde_json.specs.Find.{as_object};
 ghost use Rattle.serde_json.specs.View.{view};
-ghost use Rattle.serde_json.specs.Written.{compact_text, items_outline};
+ghost use Rattle.serde_json.specs.Written.{compact_text, items_outline, outline};
 ghost use Rattle.fp_base.specs.Whole.{is_whole};
 ghost use Rattle.fp_definition.specs.Key.{key_bytes};
 ghost use Rattle.fp_definition.specs.Resolving.{data_of};
@@ -101,13 +101,32 @@ fn bulk_text(alloc: Global, set: &FlagSet, context: &Value, now: u64) -> Result<
 {
     let room = ROOM_ROUND_FLAGS + set.len() * ROOM_FOR_A_FLAG;
     let mut out = Writer::new(Vec::with_capacity(alloc, room)?);
+    write_bulk(alloc, &mut out, set, context, now)?;
+    Ok(out.into_inner())
+}
+
+// Writes all flags.
+fn write_bulk(
+    alloc: Global,
+    out: &mut Writer,
+    set: &FlagSet,
+    context: &Value,
+    now: u64,
+) -> Result<(), AllocError>
+    requires object { IsSome (as_object (view context.now)) }
+    requires whole { is_whole (view context.now) ≡ true }
+    requires moment { now < 2 ^ 63 }
+    ensures tokens { OnOk result (out.new.tokens ≡ out.old.tokens
+        ++ json_tokens (outline (bulk_data set.now.flags (view context.now) now))) }
+    ensures before { OnOk result (out.new.before ≡ out.old.before) }
+{
     out.begin_object()?;
     out.key("flags")?;
     out.begin_array()?;
     let mut data = Data::new(alloc, context, "", now)?;
-    write_flags(alloc, &mut out, set, &mut data)?;
+    write_flags(alloc, out, set, &mut data)?;
     out.end_object()?;
-    Ok(out.into_inner())
+    Ok(())
 }
 
 // Writes the flags of the list. The data are made once for all of them.

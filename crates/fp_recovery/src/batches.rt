@@ -43,10 +43,12 @@ fn make_edit(
     ensures within { IfOk result (λ next. next ≤ length bytes.now) }
 {
     let (edit, next) = edit_from(alloc, bytes, at)?;
-    match set.admit(edit) {
-        Ok(_) => Ok(next),
-        Err((EditFault::Memory, _)) => Err(RecordFault::Memory),
-        Err(_) => Err(RecordFault::BadRecord { at }),
+    let Err((fault, _edit)) = set.admit(edit) else {
+        return Ok(next);
+    };
+    match fault {
+        EditFault::Memory => Err(RecordFault::Memory),
+        _ => Err(RecordFault::BadRecord { at }),
     }
 }
 

@@ -35,12 +35,14 @@ pub(crate) fn shut_head(
     ensures { IfOk result (λ v. v.items
         ≡ (head_text generation base image.now ++ 0 ∷ []) ++ behind.now) }
 {
-    let mut bytes = Vec::with_capacity(alloc, IMAGE_PLACE)?;
-    bytes.push(OPEN)?;
-    bytes.extend_from_slice(&generation.to_be_bytes())?;
-    bytes.push(VERSION)?;
-    bytes.extend_from_slice(&base.to_be_bytes())?;
-    bytes.extend_from_slice(&(image.len() as u32).to_be_bytes())?;
+    let mut bytes = [
+        &[OPEN][..],
+        &generation.to_be_bytes(),
+        &[VERSION],
+        &base.to_be_bytes(),
+        &(image.len() as u32).to_be_bytes(),
+    ]
+    .concat(alloc)?;
     bytes.extend_from_slice(image)?;
     bytes.push(0)?;
     bytes.extend_from_slice(behind)?;

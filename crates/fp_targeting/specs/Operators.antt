@@ -32,6 +32,17 @@ use Rattle.fp_targeting.specs.declared.operator.BinaryOperator.TheVariants.{
 use Rattle.fp_targeting.specs.declared.operator.ChainOperator.{ChainOperator}
 use Rattle.fp_targeting.specs.declared.operator.ChainOperator.TheVariants.{Less, LessOrEqual}
 
+abbrev pub comparison_of : List ℕ → Option Operator
+comparison_of name =
+    if bytes_eq name (codes "===") then Some (Binary StrictlyEqual) else
+    if bytes_eq name (codes "!==") then Some (Binary StrictlyUnequal) else
+    if bytes_eq name (codes "==") then Some (Binary LooselyEqual) else
+    if bytes_eq name (codes "!=") then Some (Binary LooselyUnequal) else
+    if bytes_eq name (codes "<") then Some (Chain Less) else
+    if bytes_eq name (codes "<=") then Some (Chain LessOrEqual) else
+    if bytes_eq name (codes ">") then Some (Binary Greater) else
+    if bytes_eq name (codes ">=") then Some (Binary GreaterOrEqual) else None
+
 abbrev pub operator_of : List ℕ → Option Operator
 operator_of name =
     if bytes_eq name (codes "var") then Some Var else
@@ -40,20 +51,12 @@ operator_of name =
     if bytes_eq name (codes "or") then Some Or else
     if bytes_eq name (codes "!") then Some (Unary Not) else
     if bytes_eq name (codes "!!") then Some (Unary Truth) else
-    if bytes_eq name (codes "===") then Some (Binary StrictlyEqual) else
-    if bytes_eq name (codes "!==") then Some (Binary StrictlyUnequal) else
-    if bytes_eq name (codes "==") then Some (Binary LooselyEqual) else
-    if bytes_eq name (codes "!=") then Some (Binary LooselyUnequal) else
-    if bytes_eq name (codes "<") then Some (Chain Less) else
-    if bytes_eq name (codes "<=") then Some (Chain LessOrEqual) else
-    if bytes_eq name (codes ">") then Some (Binary Greater) else
-    if bytes_eq name (codes ">=") then Some (Binary GreaterOrEqual) else
     if bytes_eq name (codes "in") then Some (Binary In) else
     if bytes_eq name (codes "cat") then Some Cat else
     if bytes_eq name (codes "%") then Some (Binary Remainder) else
     if bytes_eq name (codes "starts_with") then Some (Binary StartsWith) else
     if bytes_eq name (codes "ends_with") then Some (Binary EndsWith) else
-    if bytes_eq name (codes "sem_ver") then Some SemVer else None
+    if bytes_eq name (codes "sem_ver") then Some SemVer else comparison_of name
 
 -- how many arguments an operator takes
 abbrev pub takes : Operator → ℕ → Bool

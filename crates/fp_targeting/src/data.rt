@@ -72,12 +72,9 @@ fn flag_datum(alloc: Global, flag_key: &str, now: u64) -> Result<Datum, AllocErr
     requires { now < 2 ^ 63 }
     ensures { IfOk result (λ d. view d ≡ flag_data flag_key.now now) }
 {
-    let mut members = BTreeMap::new(alloc);
     let key = Datum::Text(String::from_str(alloc, flag_key)?);
-    drop(members.insert(String::from_str(alloc, "flagKey")?, key)?);
-    let moment = Datum::Whole(now as i64);
-    drop(members.insert(String::from_str(alloc, "timestamp")?, moment)?);
-    Ok(Datum::Object(members))
+    let flag = with(alloc, Datum::Object(BTreeMap::new(alloc)), "flagKey", key)?;
+    with(alloc, flag, "timestamp", Datum::Whole(now as i64))
 }
 
 /// An object with a member set. Data of other kinds have no members.

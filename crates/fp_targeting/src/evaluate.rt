@@ -1,9 +1,10 @@
 //! What the tree of a rule gives for data.
 
-ghost use Rattle.std.specs.Prelude.{◌≡◌, IfOk, map};
+ghost use Rattle.std.specs.Prelude.{◌≡◌, ◌&&◌, IfOk, map, option_map};
 ghost use Rattle.fp_operators.specs.Data.{null};
+ghost use Rattle.fp_operators.specs.Path.{named_by};
 ghost use Rattle.fp_operators.specs.View.{view};
-ghost use Rattle.fp_targeting.specs.Operators.{unary, binary};
+ghost use Rattle.fp_targeting.specs.Operators.{ascending, binary, unary};
 ghost use Rattle.fp_targeting.specs.Meaning.{meaning, meanings, value_of_operator};
 ghost use Rattle.fp_targeting.specs.Meaning.{value_behind_true};
 ghost use Rattle.fp_targeting.specs.Meaning.{first_false, first_true};
@@ -167,16 +168,30 @@ fn evaluate_var<'d>(
 {
     match arguments.as_slice() {
         [] => Ok(Found::Lent(root)),
-        [path] => match named(alloc, root, evaluate(alloc, path, root)?.datum())? {
+        [path] => match named_in(alloc, path, root)? {
             Some(found) => Ok(Found::Lent(found)),
             None => Ok(Found::Made(Datum::Null)),
         },
-        [path, default] => match named(alloc, root, evaluate(alloc, path, root)?.datum())? {
+        [path, default] => match named_in(alloc, path, root)? {
             Some(found) => Ok(Found::Lent(found)),
             None => evaluate(alloc, default, root),
         },
         _ => Ok(Found::Made(Datum::Null)),
     }
+}
+
+// What the result of a rule names in the data.
+#[cycle(evaluate)]
+fn named_in<'d>(
+    alloc: Global,
+    path: &Tree,
+    root: &'d Datum,
+) -> Result<Option<&'d Datum>, AllocError>
+    ensures { IfOk result (λ o. option_map (λ d. view d.now) o
+        ≡ named_by (meaning (view root.now) (rule_view path.now)) (view root.now)) }
+{
+    let path = evaluate(alloc, path, root)?;
+    named(alloc, root, path.datum())
 }
 
 #[cycle(evaluate)]
@@ -268,22 +283,34 @@ fn evaluate_chain(
         [first, second] => {
             let first = evaluate(alloc, first, root)?;
             let second = evaluate(alloc, second, root)?;
-            Ok(Datum::Bool(match operator {
-                ChainOperator::Less => less(first.datum(), second.datum()),
-                ChainOperator::LessOrEqual => less_or_equal(first.datum(), second.datum()),
-            }))
+            Ok(Datum::Bool(is_ascending(operator, first.datum(), second.datum())))
         }
         [low, middle, high] => {
             let low = evaluate(alloc, low, root)?;
             let middle = evaluate(alloc, middle, root)?;
             let high = evaluate(alloc, high, root)?;
-            let (low, middle, high) = (low.datum(), middle.datum(), high.datum());
-            Ok(Datum::Bool(match operator {
-                ChainOperator::Less => between_exclusive(low, middle, high),
-                ChainOperator::LessOrEqual => between_inclusive(low, middle, high),
-            }))
+            Ok(Datum::Bool(are_ascending(operator, low.datum(), middle.datum(), high.datum())))
         }
         _ => Ok(Datum::Null),
+    }
+}
+
+fn is_ascending(operator: ChainOperator, first: &Datum, second: &Datum) -> bool
+    ensures { result ≡ ascending operator (view first.now) (view second.now) }
+{
+    match operator {
+        ChainOperator::Less => less(first, second),
+        ChainOperator::LessOrEqual => less_or_equal(first, second),
+    }
+}
+
+fn are_ascending(operator: ChainOperator, low: &Datum, middle: &Datum, high: &Datum) -> bool
+    ensures { let m = view middle.now in
+        result ≡ (ascending operator (view low.now) m && ascending operator m (view high.now)) }
+{
+    match operator {
+        ChainOperator::Less => between_exclusive(low, middle, high),
+        ChainOperator::LessOrEqual => between_inclusive(low, middle, high),
     }
 }
 

@@ -1,7 +1,7 @@
 //! Operators: their names, and how many arguments they take.
 
 ghost use Rattle.std.specs.Prelude.{◌≡◌};
-ghost use Rattle.fp_targeting.specs.Operators.{operator_of, takes as takes_of};
+ghost use Rattle.fp_targeting.specs.Operators.{comparison_of, operator_of, takes as takes_of};
 
 /// What an object of one member asks for.
 #[derive(Clone, Copy, Drop)]
@@ -58,21 +58,13 @@ impl Operator {
             "or" => Some(Operator::Or),
             "!" => Some(Operator::Unary(UnaryOperator::Not)),
             "!!" => Some(Operator::Unary(UnaryOperator::Truth)),
-            "===" => Some(Operator::Binary(BinaryOperator::StrictlyEqual)),
-            "!==" => Some(Operator::Binary(BinaryOperator::StrictlyUnequal)),
-            "==" => Some(Operator::Binary(BinaryOperator::LooselyEqual)),
-            "!=" => Some(Operator::Binary(BinaryOperator::LooselyUnequal)),
-            "<" => Some(Operator::Chain(ChainOperator::Less)),
-            "<=" => Some(Operator::Chain(ChainOperator::LessOrEqual)),
-            ">" => Some(Operator::Binary(BinaryOperator::Greater)),
-            ">=" => Some(Operator::Binary(BinaryOperator::GreaterOrEqual)),
             "in" => Some(Operator::Binary(BinaryOperator::In)),
             "cat" => Some(Operator::Cat),
             "%" => Some(Operator::Binary(BinaryOperator::Remainder)),
             "starts_with" => Some(Operator::Binary(BinaryOperator::StartsWith)),
             "ends_with" => Some(Operator::Binary(BinaryOperator::EndsWith)),
             "sem_ver" => Some(Operator::SemVer),
-            _ => None,
+            _ => comparison_named(name),
         }
     }
 
@@ -89,5 +81,22 @@ impl Operator {
             Operator::Binary(_) => count == 2,
             Operator::Chain(_) => count == 2 || count == 3,
         }
+    }
+}
+
+// The comparison of that name.
+fn comparison_named(name: &str) -> Option<Operator>
+    ensures { result ≡ comparison_of name.now }
+{
+    match name {
+        "===" => Some(Operator::Binary(BinaryOperator::StrictlyEqual)),
+        "!==" => Some(Operator::Binary(BinaryOperator::StrictlyUnequal)),
+        "==" => Some(Operator::Binary(BinaryOperator::LooselyEqual)),
+        "!=" => Some(Operator::Binary(BinaryOperator::LooselyUnequal)),
+        "<" => Some(Operator::Chain(ChainOperator::Less)),
+        "<=" => Some(Operator::Chain(ChainOperator::LessOrEqual)),
+        ">" => Some(Operator::Binary(BinaryOperator::Greater)),
+        ">=" => Some(Operator::Binary(BinaryOperator::GreaterOrEqual)),
+        _ => None,
     }
 }

@@ -1,1 +1,2 @@
+pub mod DiskCrossing
 pub mod Fresh

@@ -3,14 +3,14 @@
 use crate::noted::on_noted;
 use crate::run::{repeat, step};
 use crate::seeded::on_seeds;
-use crate::sweep::{rounds, sweep};
+use crate::sweep::sweep;
 use crate::text::judged;
 use crate::trial::{Answer, Fault, Trial};
 use crate::whole::{Whole, is_of_world, on_whole};
 use fp_commands::command;
 use fp_files::SystemFiles;
 use fp_streams::FailureCounted;
-use fp_transcript::{Answers, Args, Text, first_word};
+use fp_transcript::{Args, Text, first_word};
 use std::alloc::AllocGlobal;
 use std::rt::Files;
 use std::sync::Wait;
@@ -65,10 +65,10 @@ fn end_world<R: Wait>(rt: &R, world: Option<Whole>) {
     }
 }
 
-impl<'a, R: Files + AllocGlobal + Wait> Answers for Script<'a, R> {
-    // The lines between one that ends in `{` and a `}` are a block, for which the latter answers.
-    fn answer(&mut self, command: &str, out: &mut Text) {
-        let line = command.trim();
+impl<'a, R: Files + AllocGlobal + Wait> Script<'a, R> {
+    /// Appends the answer to a line. Those between one that ends in `{` and a `}` are a block, for
+    /// which the latter answers.
+    pub fn answer(&mut self, line: &str, out: &mut Text) {
         if line == "}" {
             run_block(&mut self.trial, &mut self.block, out);
         } else if !self.block.head.is_empty() {
@@ -112,7 +112,7 @@ fn run_block(trial: &mut Trial, block: &mut Block, out: &mut Text) {
 }
 
 // The words of commands that can't stand in a block.
-const OVER_FILES: [&str; 5] = ["$", "load", "save", "noted", "rounds"];
+const OVER_FILES: [&str; 4] = ["$", "load", "save", "noted"];
 
 const OF_SEEDS: [&str; 2] = ["worlds", "stops"];
 
@@ -142,7 +142,7 @@ fn alone<R: Files + AllocGlobal + Wait>(
     }
 }
 
-// `$ WORD ..`, `load NAME`, `save NAME`, `noted ..`, `rounds COUNT EDITS`.
+// `$ WORD ..`, `load NAME`, `save NAME`, `noted ..`.
 fn over_files<R: Files + AllocGlobal>(
     rt: &R,
     trial: &mut Trial,
@@ -153,8 +153,7 @@ fn over_files<R: Files + AllocGlobal>(
         "$" => program(rt, trial, args),
         "load" => load(rt, trial, args.rest),
         "save" => save(rt, trial, args.rest),
-        "noted" => on_noted(rt, trial, args),
-        _ => rounds(trial, args),
+        _ => on_noted(rt, trial, args),
     }
 }
 

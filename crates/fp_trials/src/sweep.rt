@@ -1,9 +1,7 @@
-//! A block run again and again with a stop at each call of the disk and each kind of crash there,
-//! and rounds of edits that end in crashes.
+//! A block run again and again with a stop at each call of the disk and each kind of crash there.
 
 use crate::disk::{crash_as, failed_write};
 use crate::run::step;
-use crate::seeds::{FIRST_SEED, next_seed};
 use crate::trial::{Answer, Fault, Trial};
 use fp_disk::{Choice, FailedWrite, Failing, Fill};
 use fp_transcript::{Args, Text};
@@ -24,9 +22,6 @@ const HEAD: &str = "call: old new a5 00 37 seed1 seed2 seed3 | the same, longest
 
 // A sweep has at most so many calls.
 const MOST: u64 = 10_000;
-
-// So many calls open a disk whose chain is no longer than a piece.
-const OPENING: u64 = 7;
 
 // The block that is run, on a disk of these bytes whose calls fail so.
 #[derive(Clone, Copy)]
@@ -209,74 +204,5 @@ fn tell_all(found: &[Shown], out: &mut Text) {
         out.push(" ");
         out.put(&shown.document);
         out.push("\n");
-    }
-}
-
-// An edit by this number on the open world: a put of one of eight keys, or a delete.
-fn draw_edit(trial: &mut Trial, seed: u64) -> Answer {
-    let mut line = Text::new(trial.alloc);
-    if seed / 8 % 4 == 0 {
-        line.push("edit delete k");
-    } else {
-        line.push("edit put k");
-    }
-    line.number(seed % 8);
-    step(trial, line.as_str())
-}
-
-// So many edits on the open world, or up to the first that the disk fails.
-fn edits(trial: &mut Trial, count: u64, seed: u64) -> u64 {
-    let mut seed = seed;
-    for _ in 0..count {
-        seed = next_seed(seed);
-        if draw_edit(trial, seed).is_fault() {
-            break;
-        }
-    }
-    next_seed(seed)
-}
-
-/// `rounds COUNT EDITS`: the disk is opened, takes so many edits or stops among them, and crashes
-/// as a seed says, again and again. Each time it has to open at the revision that was told last, or
-/// at the one after it; else it answers that.
-pub fn rounds(trial: &mut Trial, args: &mut Args<'_>) -> Answer {
-    let count = args.number();
-    let each = args.number();
-    let mut seed = FIRST_SEED;
-    for _ in 0..count {
-        seed = round(trial, each, seed);
-        let answer = otherwise(trial);
-        if !matches!(answer, Answer::Done) {
-            return answer;
-        }
-    }
-    Answer::Word("each as told, or one more")
-}
-
-// What the disk is opened as, where it isn't as told.
-fn otherwise(trial: &mut Trial) -> Answer {
-    match step(trial, "open") {
-        Answer::Revision(revision) if trial.told == revision => Answer::Done,
-        Answer::Revision(revision) if trial.told.saturating_add(1) == revision => Answer::Done,
-        answer => answer,
-    }
-}
-
-fn round(trial: &mut Trial, each: u64, seed: u64) -> u64 {
-    if let Answer::Revision(revision) = step(trial, "open") {
-        trial.told = revision;
-    }
-    trial.set_failing(Failing::From(OPENING + seed % 48), FailedWrite::Half);
-    let _opened = step(trial, "open");
-    let seed = edits(trial, each, seed);
-    let _crashed = crash_as(trial, drawn_choice(seed));
-    seed
-}
-
-fn drawn_choice(seed: u64) -> Choice<'static> {
-    Choice {
-        length: if seed / 8 % 2 == 0 { 0 } else { u64::MAX },
-        writes: &[],
-        rest: FILLS[(seed % 8) as usize],
     }
 }

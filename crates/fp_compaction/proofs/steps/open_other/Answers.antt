@@ -1,27 +1,17 @@
-use Rattle.std.proofs.Common.{refl, inl}
-use Rattle.fp_recovery.specs.Stands.{StandsFor}
-use Rattle.fp_slots.specs.State.{KeepsEither}
-use Rattle.fp_compaction.specs.Sets.{LeavesSet}
-use Rattle.fp_compaction.proofs.Kept as kept
-use Rattle.fp_slots.specs.declared.slots.Step.TheVariants.{Open}
+use Rattle.std.proofs.Common.{refl}
+use Rattle.fp_compaction.proofs.Kept.{kept_on}
 use Rattle.fp_compaction.proofs.Stepping as steps
 use Rattle.fp_compaction.proofs.steps.open_other.Goals as goal
 
 pub returns-clause-stands : goal.returns-clause-stands
 returns-clause-stands g c =
-    let D = g.D.Disk in let old = c.args.slots.now in let w = c.open_other.ensures in let new = c.open_other.new.self in
-    λ h size s k planned. kept.leaves_stands (D.unsynced old.journal.disk) old size k.0 s k.1 D.moment D.crash_states_since D.unsynced old.journal.disk new.journal.disk refl (w.apart h) (KeepsEither old) (λ o. StandsFor o s) (kept.either_stands (D.unsynced old.journal.disk) old size k.0 s k.1 planned) (w.any_moment h)
-
-pub returns-clause-kept : goal.returns-clause-kept
-returns-clause-kept g c =
-    let D = g.D.Disk in let old = c.args.slots.now in let w = c.open_other.ensures in let new = c.open_other.new.self in
-    λ h size s k. (k.0, kept.kept_on (D.unsynced old.journal.disk) old size k.0 s k.1 D.moment D.crash_states_since D.unsynced old.journal.disk new.journal.disk refl (w.apart h) new w.same)
+    let w = c.open_other.ensures in steps.either_leaves g.D.Disk c.args.slots.now c.open_other.new.self w.any_moment w.apart
 
 pub returns-clause-taken : goal.returns-clause-taken
 returns-clause-taken g c =
     let D = g.D.Disk in let old = c.args.slots.now in let w = c.open_other.ensures in let new = c.open_other.new.self in record {
-      stands = λ h size s t k taken late. kept.leaves_stands (D.unsynced old.journal.disk) old size k.0 s k.1 D.moment D.crash_states_since D.unsynced old.journal.disk new.journal.disk refl (w.apart h) (KeepsEither old) (LeavesSet old.journal s t) (λ o head e. inl (kept.either_stands (D.unsynced old.journal.disk) old size k.0 s k.1 (late (steps.is_late old.step Open c.requires.step tt)) o head e)) (w.any_moment h);
-      kept = λ h size s k late. (k.0, kept.kept_on (D.unsynced old.journal.disk) old size k.0 s k.1 D.moment D.crash_states_since D.unsynced old.journal.disk new.journal.disk refl (w.apart h) new w.same);
+      stands = steps.late_leaves D old new c.requires.step tt (steps.either_leaves D old new w.any_moment w.apart);
+      kept = λ h size s k late. (k.0, kept_on (D.unsynced old.journal.disk) old size k.0 s k.1 D.moment D.crash_states_since D.unsynced old.journal.disk new.journal.disk refl (w.apart h) new w.same);
       honest = w.honest;
       called = steps.called_at D.calls old new c.requires.step w.called;
     }

@@ -66,8 +66,8 @@ evaluate_chain-returns-in_default t c =
     let not3 : length xs ≡ 3 → ⊥ = λ e. elim c.in_default.branch [ evaluate_chain-in_default-via-then-as_slice-lt2 w ↦ grind (arith, tests, c.as_slice.ensures.len) | evaluate_chain-in_default-via-else-as_slice-lt2+else-this-lt3+else-this-lt4 w ↦ grind (arith, tests, c.as_slice.ensures.len) ] in
     view-Null ∙ sym (neighbours-other (ascending c.args.operator) xs not2 not3)
 
-pub evaluate_var-returns : goal.evaluate_var-returns
-evaluate_var-returns t c =
+pub evaluate_var-returns-in_default : goal.evaluate_var-returns-in_default
+evaluate_var-returns-in_default t c =
     let ts = c.args.arguments.now.items in
     let xs = meanings (view c.args.root.now) (rules_view ts) in
     let same : length xs ≡ length ts = length-meanings_view (view c.args.root.now) ts in

@@ -1,13 +1,15 @@
-//! The commands of a file.
+//! The commands of a file of trials of the service.
 
-use crate::clients::{bytes_of, connect, end, is_closed, is_quiet, line_of, put_often, say};
-use crate::courses::{
+use crate::service::clients::{
+    bytes_of, connect, end, is_closed, is_quiet, line_of, put_often, say,
+};
+use crate::service::courses::{
     Course, Courses, revisions_in, seen, shown, start_editors, start_evaluators, start_subscribers,
     told,
 };
-use crate::crowd::{comes_in, enter, found, is_refused, see};
-use crate::held::Hold;
-use crate::running::{Ended, Running};
+use crate::service::crowd::{comes_in, enter, found, is_refused, see};
+use crate::service::held::Hold;
+use crate::service::running::{Ended, Running};
 use fp_server::Host;
 use fp_transcript::{Args, Text, Texts, expanded};
 use std::alloc::AllocGlobal;
@@ -19,7 +21,7 @@ use std::time::Duration;
 /// What answers the lines of a file: the texts that are named, the service that runs and what the
 /// last one left, and who is connected to it.
 #[derive(Drop)]
-pub struct Script<R: Host> {
+pub struct ServiceScript<R: Host> {
     rt: R,
     texts: Texts,
     service: Option<Running<R>>,
@@ -29,11 +31,11 @@ pub struct Script<R: Host> {
     courses: Courses,
 }
 
-impl<R: Host> Script<R> {
+impl<R: Host> ServiceScript<R> {
     /// No service, and nobody.
-    pub fn new(rt: R) -> Script<R> {
+    pub fn new(rt: R) -> ServiceScript<R> {
         let alloc = rt.alloc();
-        Script {
+        ServiceScript {
             rt,
             texts: BTreeMap::new(alloc),
             service: None,
@@ -45,18 +47,18 @@ impl<R: Host> Script<R> {
     }
 
     /// Ends the service that still runs.
-    pub fn finish(self) {
-        let Script { rt, service, .. } = self;
+    pub fn end(self) {
+        let ServiceScript { rt, service, .. } = self;
         if let Some(service) = service {
             let _ended = service.end(&rt);
         }
     }
 }
 
-impl<R: Host> Script<R> {
+impl<R: Host> ServiceScript<R> {
     /// Appends the answer to a command.
     pub fn answer(&mut self, command: &str, out: &mut Text) {
-        let mut args = Args::of(out.alloc, command.trim());
+        let mut args = Args::of(out.alloc, command);
         let word = args.word();
         self.run(word, &mut args, out);
         if args.is_bad {
@@ -80,7 +82,7 @@ const OF_CROWD: [&str; 5] = ["enter", "refused", "comes-in", "one-leaves", "all-
 // The words of `on_course`.
 const OF_COURSE: [&str; 5] = ["editors", "evaluators", "subscribers", "see", "finds"];
 
-impl<R: Host> Script<R> {
+impl<R: Host> ServiceScript<R> {
     fn run(&mut self, word: &str, args: &mut Args<'_>, out: &mut Text) {
         if OF_SERVICE.contains(&word) {
             self.on_service(word, args, out);
@@ -109,11 +111,11 @@ impl<R: Host> Script<R> {
         match word {
             "serve" => self.serve(args, out),
             "end" => {
-                let said = self.end();
+                let said = self.ended();
                 out.push(said.as_str());
             }
             "stop" => {
-                let said = self.end();
+                let said = self.ended();
                 out.yes(is_at(said.as_str(), self.left.as_str()) == Some(true));
             }
             "left" => out.push(first_line(self.left.as_str())),
@@ -147,7 +149,7 @@ impl<R: Host> Script<R> {
     }
 
     // Ends the service, and gives what it said last.
-    fn end(&mut self) -> String {
+    fn ended(&mut self) -> String {
         match self.service.take() {
             Some(service) => {
                 let Ended { said, left } = service.end(&self.rt);

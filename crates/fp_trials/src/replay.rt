@@ -2,10 +2,12 @@
 //! thread rests on bounds of a function, and in a method of a trait none holds in another thread.
 
 use crate::script::Script;
+use crate::service::ServiceScript;
 use fp_server::Host;
 use fp_transcript::{Answers, Text, transcript};
 use std::alloc::{AllocError, AllocGlobal};
 use std::collections::VecDeque;
+use std::rt::Files;
 
 // The commands of a file, in order.
 #[derive(Drop)]
@@ -15,7 +17,7 @@ struct Commands {
 
 impl Answers for Commands {
     fn answer(&mut self, command: &str, out: &mut Text) {
-        if !out.push_copy(command, &mut self.lines) {
+        if !out.push_copy(command.trim(), &mut self.lines) {
             out.is_short = true;
         }
     }
@@ -37,7 +39,7 @@ impl Answers for Given {
 }
 
 /// The answers to the commands of a file.
-pub fn answered<R: Host>(rt: &R, file: &str) -> Result<Given, AllocError> {
+pub fn answered<R: Host + Files>(rt: &R, file: &str) -> Result<Given, AllocError> {
     let alloc = rt.alloc();
     let lines = Vec::new(alloc);
     let mut commands = Commands { lines };
@@ -50,15 +52,23 @@ pub fn answered<R: Host>(rt: &R, file: &str) -> Result<Given, AllocError> {
     }
 }
 
-// The answers, as many as there was memory for.
-fn run<R: Host>(rt: &R, commands: &[String]) -> VecDeque<Text> {
+// The answers, as many as there was memory for. Those behind the command `service` are a service's.
+fn run<R: Host + Files>(rt: &R, commands: &[String]) -> VecDeque<Text> {
     let mut answers = VecDeque::new(rt.alloc());
-    let mut script = Script::new(*rt);
+    let mut script = Script::new(rt);
+    let mut service: Option<ServiceScript<R>> = None;
     for command in commands {
         let mut answer = Text::new(rt.alloc());
-        script.answer(command.as_str(), &mut answer);
+        match &mut service {
+            Some(service) => service.answer(command.as_str(), &mut answer),
+            None if command.as_str() == "service" => service = Some(ServiceScript::new(*rt)),
+            None => script.answer(command.as_str(), &mut answer),
+        }
         let _ = answers.push_back(answer);
     }
-    script.finish();
+    script.end();
+    if let Some(service) = service {
+        service.end();
+    }
     answers
 }

@@ -1,5 +1,6 @@
 //! Connections to the service, and what is said on them.
 
+use crate::text::ON;
 use fp_server::Host;
 use fp_transcript::Text;
 use std::alloc::Global;
@@ -7,9 +8,6 @@ use std::io;
 use std::io::{Read, Write};
 use std::net::{Shutdown, SocketAddr, TcpStream};
 use std::time::Duration;
-
-/// What is put where an edit names a key alone.
-pub const ON: &str = r#"{"defaultVariant":"on","state":"ENABLED","variants":{"on":true}}"#;
 
 /// A connection whose reads give up after ten seconds.
 pub fn connect<R: Host>(rt: &R, at: SocketAddr) -> io::Result<TcpStream> {
