@@ -8,7 +8,7 @@ ghost use Rattle.fp_slots.specs.declared.slots.Step.TheVariants.{Begin, Close, S
 ghost use Rattle.fp_slots.specs.declared.slots.Step.TheVariants.{Tail, SyncBody, Open, SyncOpen};
 ghost use Rattle.fp_edit.specs.Flags.{size as size_of};
 ghost use Rattle.fp_compaction.specs.Steps.{Begins, BreaksOff, Stays, TakesStep, Turns};
-ghost use Rattle.fp_compaction.specs.Sets.{IsPlannedFor, LeavesEither};
+ghost use Rattle.fp_compaction.specs.Sets.{GoesOnKept, IsPlannedFor, LeavesEither};
 
 use crate::image::image_of;
 use fp_disk::{Disk, DiskFault};
@@ -121,6 +121,7 @@ pub fn open_other<D: Disk>(slots: &mut Slots<D>) -> Result<(), DiskFault>
     requires live { slots.old.journal.phase ≢ Failed }
     ensures taken { TakesStep D.Disk slots.old slots.new }
     ensures stands { LeavesEither D.Disk slots.old slots.new }
+    ensures kept { GoesOnKept D.Disk slots.old slots.new }
     ensures step { OnOk result (slots.new.step ≡ SyncOpen) × OnErr result (slots.new.step ≡ Open) }
     ensures stays { OnOk result (Stays slots.old slots.new) }
     ensures left { OnOk result (slots.new.left ≡ slots.old.left) }

@@ -7,6 +7,11 @@ pub returns-clause-stands : goal.returns-clause-stands
 returns-clause-stands g c =
     let w = c.open_other.ensures in steps.either_leaves g.D.Disk c.args.slots.now c.open_other.new.self w.any_moment w.apart
 
+pub returns-clause-kept : goal.returns-clause-kept
+returns-clause-kept g c =
+    let D = g.D.Disk in let old = c.args.slots.now in let w = c.open_other.ensures in let new = c.open_other.new.self in
+    λ h size s k. (k.0, kept_on (D.unsynced old.journal.disk) old size k.0 s k.1 D.moment D.crash_states_since D.unsynced old.journal.disk new.journal.disk refl (w.apart h) new w.same)
+
 pub returns-clause-taken : goal.returns-clause-taken
 returns-clause-taken g c =
     let D = g.D.Disk in let old = c.args.slots.now in let w = c.open_other.ensures in let new = c.open_other.new.self in record {
