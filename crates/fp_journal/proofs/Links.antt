@@ -9,8 +9,8 @@ use Rattle.fp_journal.specs.Chain.{Ends, with_length, spell}
 use Rattle.fp_journal.specs.declared.chain.ChainFault.{ChainFault}
 use Rattle.fp_journal.specs.declared.chain.ChainFault.TheVariants.{Damaged, Device, Memory}
 use Rattle.fp_journal.specs.State.{AllShort}
-use Rattle.fp_journal.specs.Reading.{IsChain, IsClosed, IsNext, Breaks, BreaksBefore, no_length, too_long, no_body, BreaksLink, link_no_length, link_too_long, link_no_body, SpellsLink, Reads, FoundChain, ReadsChain, Refuses, StopsAt, TellsDamage, length_at}
-use Rattle.fp_journal.proofs.Holds.{holds_append, holds_front, holds_back, holds_byte, holds_part, holds_inner, byte_held, range_held}
+use Rattle.fp_journal.specs.Reading.{IsChain, IsClosed, IsNext, Breaks, BreaksBefore, no_length, too_long, no_body, BreaksLink, link_no_length, link_too_long, link_no_body, SpellsLink, Reads, FoundChain, ReadsChain, Refuses, StopsAt, IsOnlyDamage, TellsDamage, length_at}
+use Rattle.fp_journal.proofs.Holds.{holds_append, holds_front, holds_back, holds_byte, holds_part, holds_inner, held_range, byte_held, range_held}
 use Rattle.fp_journal.proofs.Gates.{spell-more}
 use Rattle.fp_journal.proofs.Steps.{All-push}
 use Rattle.fp_gate.specs.declared.gate.TheConstants.{OPEN}
@@ -64,6 +64,20 @@ part_from c first at items part there le within is =
     let place : first + (at - first) ≡ at = omega (arith, le) in
     (subst (λ (k : ℕ). Holds c k part) place h.0, h.1)
 
+-- it is as long as was asked for
+pub part_reached : (first at limit n : ℕ) (items part : List ℕ) → first ≤ at → at ≤ first + length items → at + n ≤ first + length items → n ≡ min (limit - at) 5 → at < limit → part ≡ slice_range items (at - first) (length items) → (0 < limit - at) × (min (limit - at) 5 ≤ length part)
+part_reached first at limit n items part le within more asked less is =
+    let end : at - first + (first + length items - at) ≡ length items = omega (arith, le, within) in
+    let len : length part ≡ first + length items - at = ap length (is ∙ ap (λ (k : ℕ). slice_range items (at - first) k) (sym end)) ∙ (held_range items (at - first) (first + length items - at) (omega (arith, end))).1 in
+    (omega (arith, less), omega (arith, len, more, asked))
+
+-- the body behind the front, in one that was read
+pub body_fits : (first at limit most n : ℕ) (items body : List ℕ) → first ≤ at → at + (5 + n) ≤ first + length items → n ≤ most → 5 + n ≤ limit - at → body ≡ slice_range items (at + 5 - first) (at + 5 - first + n)
+    → (length body ≤ most) × (at + 5 + length body ≤ limit) × (first ≤ at + 5 + length body) × (at + 5 + length body ≤ first + length items)
+body_fits first at limit most n items body low high short within is =
+    let len : length body ≡ n = ap length is ∙ (held_range items (at + 5 - first) n (omega (arith, low, high))).1 in
+    (omega (arith, len, short), omega (arith, len, within), omega (arith, low), omega (arith, len, high))
+
 pub first_byte : (c : List ℕ) (at : ℕ) (part : List ℕ) → Holds c at part → 0 < length part → slice_index c at ≡ slice_index part 0
 first_byte c at part there lt = let e : at ≡ at + 0 = omega arith in ap (λ (j : ℕ). slice_index c j) e ∙ there.same 0 lt
 
@@ -82,6 +96,15 @@ link_breaks most limit c at left k part there some le end (link_too_long opened 
 link_breaks most limit c at left k part there some le end (link_no_body opened whole few long is) =
     let same = length_same c at part there (omega (arith, whole, le)) in
     no_body (first_byte c at part there (omega (arith, some, le)) ∙ opened) (omega (arith, whole, end)) (rw same few) (rw same (omega (arith, end, long))) is
+
+pub link_tells : (most limit : ℕ) (c : List ℕ) (at : ℕ) (part : List ℕ) (f : ChainFault) → Holds c at part → at < limit → min (limit - at) 5 ≤ length part → IsOnlyDamage (BreaksLink most part (limit - at) at) f → TellsDamage (BreaksBefore most limit c at) f
+link_tells most limit c at part (Damaged k) there less le broken = link_breaks most limit c at (limit - at) k part there (omega (arith, less)) le (omega (arith, less)) broken
+link_tells most limit c at part Device there less le broken = tt
+link_tells most limit c at part Memory there less le broken = tt
+
+-- and so is its closed gate
+pub link_shut : (c : List ℕ) (at left : ℕ) (part : List ℕ) → Holds c at part → 0 < left → min left 5 ≤ length part → (slice_index part 0 ≡ OPEN → ⊥) → slice_index c at ≡ OPEN → ⊥
+link_shut c at left part there some le shut opened = shut (sym (first_byte c at part there (omega (arith, some, le))) ∙ opened)
 
 -- and its body
 pub link_stands : (c : List ℕ) (at left most n : ℕ) (part body : List ℕ) → Holds c at part → SpellsLink part left most n → Holds c (at + 5) body → length body ≡ n → Holds c at (OPEN ∷ with_length body)

@@ -1,6 +1,7 @@
 -- Reads of a disk, one after another.
-use Rattle.std.proofs.Common.{◌≡◌, ◌+◌, ◌≤◌, ℕ, List, [], ◌∷◌, ◌++◌, length, refl, sym, ◌∙◌, ap, subst, arith, append_assoc}
+use Rattle.std.proofs.Common.{◌≡◌, ◌+◌, ◌≤◌, ℕ, List, [], ◌∷◌, ◌++◌, length, take, drop, refl, sym, ◌∙◌, ap, subst, arith, append_assoc}
 use Rattle.std.specs.Prelude.{slice_range}
+use Rattle.std.proofs.lemmas.Grind.{common_steps}
 use Rattle.std.proofs.lemmas.List.{append-nil}
 use Rattle.fp_disk.specs.Crashes.{SameHonesty}
 use Rattle.fp_disk.specs.Moments.{leaves_call, leaves_then, leaves_still}
@@ -69,6 +70,10 @@ pub piece_more : (c : List ℕ) (first count at n : ℕ) (old piece new : List �
 piece_more c first count at n old piece new there le here all is grown =
     let more = (held_range c at n (omega (arith, le, here, all))).0 in
     subst (λ (t : List ℕ). Holds c first t) (sym grown) (holds_append c first old piece there (subst (λ (k : ℕ). Holds c k piece) here (subst (λ (t : List ℕ). Holds c at t) (sym is) more)))
+
+-- what a slice as long as the list was filled with is the whole list
+pub whole_back : (new items : List ℕ) (n : ℕ) → length new ≡ n → length items ≡ n → take n (new ++ drop (length new) items) ≡ new
+whole_back new items n long all = grind (arith, common_steps)
 
 -- as far as reading came
 pub record IsReadOn {D : Type 0} (disk : Ghosts D) (old now : D) (first : ℕ) (before bytes : List ℕ) (count : ℕ) : Type 0 where

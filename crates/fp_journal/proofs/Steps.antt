@@ -2,9 +2,11 @@
 use Rattle.std.proofs.Common.{◌≡◌, ◌⊎◌, ◌≤◌, ◌<◌, ◌+◌, ◌-◌, inl, inr, ⊎_elim, ℕ, Bool, true, false, List, [], ◌∷◌, ◌++◌, length, refl, arith, sym, ◌∙◌, ap, subst, length-append}
 use Rattle.std.specs.List.{AllByRecursion}
 use Rattle.std.specs.Prelude.{slice_index}
-use Rattle.std.proofs.lemmas.List.{take_at}
+use Rattle.std.proofs.lemmas.List.{append_assoc, take_at}
 use Rattle.fp_disk.specs.Outcomes.{ChangesWithin, Elapses, IsOutcome, LeavesOnly, PendingState, Written, all_synced, with_write}
+use Rattle.fp_disk.specs.Crashes.{SameHonesty}
 use Rattle.fp_disk.specs.Moments.{leaves_map, leaves_then}
+use Rattle.fp_disk.specs.declared.disk.Disk.{Ghosts}
 use Rattle.fp_journal.specs.declared.slot.Slot.{Slot}
 use Rattle.fp_journal.specs.declared.journal.Phase.{Phase}
 use Rattle.fp_journal.specs.declared.journal.Phase.TheVariants.{Idle, Staged, BodySynced, GateOpened, Failed}
@@ -257,6 +259,17 @@ held_stays honest moment old new name end (held.GateOpened gate) back later is =
 held_stays honest moment old new name end (held.Failed begun) back later is = tt
 
 -- ---- four calls in turn
+-- the calls that were made
+pub calls_more : {K : Type 0} (old middle new kinds : List K) (kind : K) → middle ≡ old ++ kinds → new ≡ middle ++ kind ∷ [] → new ≡ old ++ (kinds ++ kind ∷ [])
+calls_more {K} old middle new kinds kind before now = now ∙ ap (λ (l : List K). l ++ kind ∷ []) before ∙ append_assoc old kinds (kind ∷ [])
+
+-- and honesty over them
+pub honest_then : {D : Type 0} (disk : Ghosts D) (a b c : D) → SameHonesty disk a b → SameHonesty disk b c → SameHonesty disk a c
+honest_then disk a b c p q = (λ h. q.0 (p.0 h), λ h. p.1 (q.1 h))
+
+pub honest_still : {D : Type 0} (disk : Ghosts D) (a b c : D) → c ≡ b → SameHonesty disk a b → SameHonesty disk a c
+honest_still {D} disk a b c same p = subst (λ (d : D). SameHonesty disk a d) (sym same) p
+
 module _ {D : Type 0} (moment : D → ℕ) (crash_states_since : D → ℕ → List ℕ → Type 0) (first : JournalState D) (body : List ℕ) where
   abbrev Sealing : List ℕ → Type 0
   Sealing c = HasChainOrNext first.slot first.front first.sealed body c

@@ -1,13 +1,15 @@
 //! The board: who publishes.
 
-ghost use Rattle.std.specs.Prelude.{◌≡◌, ◌<◌, ◌≤◌, true, None, drop, fold, IfOk};
+ghost use Rattle.std.specs.Prelude.{◌≡◌, ◌<◌, ◌≤◌, true, None, [], drop, fold, IfOk};
 ghost use Rattle.std.specs.Prelude.{OnOk, OnErr, MatchOption};
+ghost use Rattle.left_right.specs.Sides.{view as seat_knows};
 ghost use Rattle.fp_edit.specs.Following.{changes_of};
 ghost use Rattle.fp_desk.specs.Desk.{settled_front};
 ghost use Rattle.fp_group_commit.specs.Tokens.{front_revision};
 ghost use Rattle.fp_publish.specs.Fronts.{Begins};
 ghost use Rattle.fp_publish.specs.Rule.{page_after, page_at, with_changes};
 ghost use Rattle.fp_publish.specs.declared.board.TheConstants.{MOST_EVALUATORS};
+ghost use Rattle.fp_publish.specs.declared.page.Step.TheVariants.{Settled};
 
 use crate::evaluator::Evaluator;
 use crate::page::{Page, Step};
@@ -85,6 +87,31 @@ fn put_edits(writer: &mut Pages, edits: &[Edit]) -> Result<(), AllocError>
     Ok(())
 }
 
+// Appends a batch's edits, and what they lead to.
+fn put_batch(writer: &mut Pages, edits: &[Edit], told: &Shown) -> Result<(), AllocError>
+    ensures desk { writer.new.desk ≡ writer.old.desk }
+    ensures appended { OnOk result ((p : Page)
+        → fold page_after p (drop writer.new.behind writer.new.log.items)
+        ≡ page_after (with_changes (fold page_after p
+        (drop writer.old.behind writer.old.log.items)) (changes_of edits.now))
+        (Settled told.now)) }
+{
+    put_edits(writer, edits)?;
+    put(writer, Step::Settled(told.front()))
+}
+
+// Appends all of the settled set.
+fn put_whole(writer: &mut Pages, desk: &Desk, told: &Shown) -> Result<(), AllocError>
+    requires { told.now ≡ settled_front desk.now }
+    ensures desk { writer.new.desk ≡ writer.old.desk }
+    ensures appended { OnOk result ((p : Page)
+        → fold page_after p (drop writer.new.behind writer.new.log.items)
+        ≡ page_at (settled_front desk.now)) }
+{
+    let set = desk.settled_copy()?;
+    put(writer, Step::Whole(set, told.front()))
+}
+
 // Appends what leads to the settled set: nothing, or the batch that was settled
 // last, or all of the set.
 fn put_settled(writer: &mut Pages, next: &Shown, leads: bool, desk: &Desk) -> Result<(), AllocError>
@@ -101,12 +128,20 @@ fn put_settled(writer: &mut Pages, next: &Shown, leads: bool, desk: &Desk) -> Re
         return Ok(());
     }
     if leads && next.is_just_before(&told, last) {
-        put_edits(writer, last)?;
-        put(writer, Step::Settled(told.front()))?;
-        return Ok(());
+        return put_batch(writer, last, &told);
     }
-    let set = desk.settled_copy()?;
-    put(writer, Step::Whole(set, told.front()))
+    put_whole(writer, desk, &told)
+}
+
+// A writer over two copies of the page that the desk's settled set makes.
+fn first_pages(alloc: Global, desk: &Desk, evaluators: usize) -> Result<Pages, AllocError>
+    requires { (0 < evaluators) × (evaluators ≤ MOST_EVALUATORS) }
+    ensures { IfOk result (λ w. (w.desk.shown.value ≡ page_at (settled_front desk.now))
+        × (drop w.behind w.log.items ≡ []) × (seat_knows w.desk.place ≡ None)) }
+{
+    let first = Published::build(desk)?.into_page();
+    let second = first.try_copy()?;
+    Writer::new(alloc, first, second, evaluators)
 }
 
 // Ends a writer, where there is one.
@@ -127,15 +162,13 @@ impl Board {
         requires { (0 < evaluators) × (evaluators ≤ MOST_EVALUATORS) }
         ensures { IfOk result (λ b. b ≡ settled_front desk.now) }
     {
-        let shown = Shown::of(&desk.told());
-        let first = Published::build(desk)?.into_page();
-        let second = first.try_copy()?;
-        let writer: Pages = Writer::new(alloc, first, second, evaluators)?;
+        let writer = first_pages(alloc, desk, evaluators)?;
         let (writer, done) = writer.publish_as::<Sees, R>(rt);
         if done.is_err() {
             writer.take(rt);
             return Err(AllocError);
         }
+        let shown = Shown::of(&desk.told());
         Ok(Board {
             writer: Some(writer),
             next: shown.again(),
@@ -166,7 +199,6 @@ impl Board {
         ensures shown { IfOk result (λ s. s ≡ self.new) }
         ensures unchanged { OnErr result (self.new ≡ self.old) }
     {
-        let told = Shown::of(&desk.told());
         let Some(mut writer) = self.writer.take() else {
             unreachable!()
         };
@@ -177,6 +209,7 @@ impl Board {
         };
         let (writer, done) = writer.publish_as::<Sees, R>(rt);
         end_writer(rt, mem::replace(&mut self.writer, Some(writer)));
+        let told = Shown::of(&desk.told());
         self.next = told.again();
         self.leads = true;
         if done.is_err() {

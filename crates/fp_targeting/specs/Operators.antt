@@ -127,14 +127,16 @@ neighbours f (a ∷ b ∷ []) = Some (boolean (f a b))
 neighbours f (a ∷ b ∷ c ∷ []) = Some (boolean (f a b && f b c))
 neighbours f ds = None
 
+-- what an operator of one to three arguments gives for their results, where it takes that many
+abbrev pub result_of_few : Operator → List Data → Option Data
+result_of_few SemVer ds = three (λ a b c. boolean (comparison a b c)) ds
+result_of_few (Unary o) ds = one (unary o) ds
+result_of_few (Binary o) ds = two (binary o) ds
+result_of_few (Chain o) ds = neighbours (ascending o) ds
+result_of_few o ds = None
+
 -- what an operator that needs all its arguments gives for their results, where it takes that many
 abbrev pub result_of : Operator → Data → List Data → Option Data
 result_of Var root ds = at_most_two (variable_of root) ds
 result_of Cat root ds = Some (concatenation ds)
-result_of SemVer root ds = three (λ a b c. boolean (comparison a b c)) ds
-result_of (Unary o) root ds = one (unary o) ds
-result_of (Binary o) root ds = two (binary o) ds
-result_of (Chain o) root ds = neighbours (ascending o) ds
-result_of If root ds = None
-result_of And root ds = None
-result_of Or root ds = None
+result_of o root ds = result_of_few o ds

@@ -1,12 +1,12 @@
 //! What the tree of a rule gives for data.
 
-ghost use Rattle.std.specs.Prelude.{◌≡◌, ◌&&◌, IfOk, map, option_map};
+ghost use Rattle.std.specs.Prelude.{◌≡◌, ◌∷◌, [], ◌&&◌, IfOk, drop, map, option_map};
 ghost use Rattle.fp_operators.specs.Data.{null};
 ghost use Rattle.fp_operators.specs.Path.{named_by};
 ghost use Rattle.fp_operators.specs.View.{view};
-ghost use Rattle.fp_targeting.specs.Operators.{ascending, binary, unary};
+ghost use Rattle.fp_targeting.specs.Operators.{ascending, binary, result_of_few};
 ghost use Rattle.fp_targeting.specs.Meaning.{meaning, meanings, value_of_operator};
-ghost use Rattle.fp_targeting.specs.Meaning.{value_behind_true};
+ghost use Rattle.fp_targeting.specs.Meaning.{or_null, value_behind_true};
 ghost use Rattle.fp_targeting.specs.Meaning.{first_false, first_true};
 ghost use Rattle.fp_targeting.specs.View.{rule_view, rules_view};
 ghost use Rattle.fp_targeting.specs.Found.{found_view};
@@ -89,10 +89,9 @@ fn apply<'d>(
         Operator::Or => evaluate_or(alloc, arguments, root),
         Operator::Var => evaluate_var(alloc, arguments, root),
         Operator::Cat => Ok(Found::Made(evaluate_cat(alloc, arguments, root)?)),
-        Operator::SemVer => Ok(Found::Made(evaluate_version(alloc, arguments, root)?)),
-        Operator::Unary(unary) => Ok(Found::Made(evaluate_one(alloc, unary, arguments, root)?)),
-        Operator::Binary(binary) => Ok(Found::Made(evaluate_two(alloc, binary, arguments, root)?)),
-        Operator::Chain(chain) => Ok(Found::Made(evaluate_chain(alloc, chain, arguments, root)?)),
+        Operator::SemVer | Operator::Unary(_) | Operator::Binary(_) | Operator::Chain(_) => {
+            Ok(Found::Made(evaluate_few(alloc, operator, arguments, root)?))
+        }
     }
 }
 
@@ -210,87 +209,106 @@ fn evaluate_cat(alloc: Global, arguments: &Vec<Tree>, root: &Datum) -> Result<Da
     Ok(Datum::Text(text))
 }
 
+// What an operator of one to three arguments gives: it looks at the results of all of them.
 #[cycle(evaluate)]
-fn evaluate_version(alloc: Global, arguments: &Vec<Tree>, root: &Datum) -> Result<Datum, AllocError>
-    ensures { IfOk result (λ x.
-        view x ≡ value_of_operator Operator.SemVer (view root.now)
-        (meanings (view root.now) (rules_view arguments.now.items))) }
-{
-    match arguments.as_slice() {
-        [first, operator, second] => {
-            let first = evaluate(alloc, first, root)?;
-            let operator = evaluate(alloc, operator, root)?;
-            let second = evaluate(alloc, second, root)?;
-            Ok(Datum::Bool(sem_ver(alloc, first.datum(), operator.datum(), second.datum())?))
-        }
-        _ => Ok(Datum::Null),
-    }
-}
-
-#[cycle(evaluate)]
-fn evaluate_one(
+fn evaluate_few(
     alloc: Global,
-    operator: UnaryOperator,
+    operator: Operator,
     arguments: &Vec<Tree>,
     root: &Datum,
 ) -> Result<Datum, AllocError>
     ensures { IfOk result (λ x.
-        view x ≡ value_of_operator (Operator.Unary operator) (view root.now)
-        (meanings (view root.now) (rules_view arguments.now.items))) }
+        view x ≡ or_null (result_of_few operator
+        (meanings (view root.now) (rules_view arguments.now.items)))) }
 {
     match arguments.as_slice() {
-        [only] => {
-            let only = evaluate(alloc, only, root)?;
-            Ok(of_one(operator, only.datum()))
+        [] => Ok(Datum::Null),
+        [first, ..] => {
+            let first = evaluate(alloc, first, root)?;
+            evaluate_after_first(alloc, operator, arguments, first.datum(), root)
         }
-        _ => Ok(Datum::Null),
     }
 }
 
 #[cycle(evaluate)]
-fn evaluate_two(
+fn evaluate_after_first(
     alloc: Global,
-    operator: BinaryOperator,
+    operator: Operator,
     arguments: &Vec<Tree>,
+    first: &Datum,
     root: &Datum,
 ) -> Result<Datum, AllocError>
     ensures { IfOk result (λ x.
-        view x ≡ value_of_operator (Operator.Binary operator) (view root.now)
-        (meanings (view root.now) (rules_view arguments.now.items))) }
+        view x ≡ or_null (result_of_few operator
+        (view first.now ∷ drop 1 (meanings (view root.now) (rules_view arguments.now.items))))) }
 {
     match arguments.as_slice() {
-        [first, second] => {
-            let first = evaluate(alloc, first, root)?;
+        [_, second, ..] => {
             let second = evaluate(alloc, second, root)?;
-            Ok(of_two(operator, first.datum(), second.datum()))
+            evaluate_after_second(alloc, operator, arguments, first, second.datum(), root)
         }
-        _ => Ok(Datum::Null),
+        _ => Ok(of_one(operator, first)),
     }
 }
 
 #[cycle(evaluate)]
-fn evaluate_chain(
+fn evaluate_after_second(
     alloc: Global,
-    operator: ChainOperator,
+    operator: Operator,
     arguments: &Vec<Tree>,
+    first: &Datum,
+    second: &Datum,
     root: &Datum,
 ) -> Result<Datum, AllocError>
     ensures { IfOk result (λ x.
-        view x ≡ value_of_operator (Operator.Chain operator) (view root.now)
-        (meanings (view root.now) (rules_view arguments.now.items))) }
+        view x ≡ or_null (result_of_few operator (view first.now ∷ view second.now
+        ∷ drop 2 (meanings (view root.now) (rules_view arguments.now.items))))) }
 {
     match arguments.as_slice() {
-        [first, second] => {
-            let first = evaluate(alloc, first, root)?;
-            let second = evaluate(alloc, second, root)?;
-            Ok(Datum::Bool(is_ascending(operator, first.datum(), second.datum())))
+        [_, _, third] => {
+            let third = evaluate(alloc, third, root)?;
+            of_three(alloc, operator, first, second, third.datum())
         }
-        [low, middle, high] => {
-            let low = evaluate(alloc, low, root)?;
-            let middle = evaluate(alloc, middle, root)?;
-            let high = evaluate(alloc, high, root)?;
-            Ok(Datum::Bool(are_ascending(operator, low.datum(), middle.datum(), high.datum())))
-        }
+        [_, _, _, ..] => Ok(Datum::Null),
+        _ => Ok(of_two(operator, first, second)),
+    }
+}
+
+fn of_one(operator: Operator, only: &Datum) -> Datum
+    ensures { view result ≡ or_null (result_of_few operator (view only.now ∷ [])) }
+{
+    match operator {
+        Operator::Unary(UnaryOperator::Not) => Datum::Bool(is_falsy(only)),
+        Operator::Unary(UnaryOperator::Truth) => Datum::Bool(is_truthy(only)),
+        _ => Datum::Null,
+    }
+}
+
+fn of_two(operator: Operator, first: &Datum, second: &Datum) -> Datum
+    ensures { view result
+        ≡ or_null (result_of_few operator (view first.now ∷ view second.now ∷ [])) }
+{
+    match operator {
+        Operator::Binary(binary) => of_binary(binary, first, second),
+        Operator::Chain(chain) => Datum::Bool(is_ascending(chain, first, second)),
+        _ => Datum::Null,
+    }
+}
+
+fn of_three(
+    alloc: Global,
+    operator: Operator,
+    first: &Datum,
+    second: &Datum,
+    third: &Datum,
+) -> Result<Datum, AllocError>
+    ensures { IfOk result (λ x.
+        view x ≡ or_null (result_of_few operator
+        (view first.now ∷ view second.now ∷ view third.now ∷ []))) }
+{
+    match operator {
+        Operator::SemVer => Ok(Datum::Bool(sem_ver(alloc, first, second, third)?)),
+        Operator::Chain(chain) => Ok(Datum::Bool(are_ascending(chain, first, second, third))),
         _ => Ok(Datum::Null),
     }
 }
@@ -314,16 +332,7 @@ fn are_ascending(operator: ChainOperator, low: &Datum, middle: &Datum, high: &Da
     }
 }
 
-fn of_one(operator: UnaryOperator, only: &Datum) -> Datum
-    ensures { view result ≡ unary operator (view only.now) }
-{
-    match operator {
-        UnaryOperator::Not => Datum::Bool(is_falsy(only)),
-        UnaryOperator::Truth => Datum::Bool(is_truthy(only)),
-    }
-}
-
-fn of_two(operator: BinaryOperator, first: &Datum, second: &Datum) -> Datum
+fn of_binary(operator: BinaryOperator, first: &Datum, second: &Datum) -> Datum
     ensures { view result ≡ binary operator (view first.now) (view second.now) }
 {
     match operator {
