@@ -324,6 +324,9 @@ module _ {D : Type 0} (honest : D → Type 0) (bytes : D → List ℕ) (unsynced
   pub still_shut : s.step ≡ Close → may_open ≡ false → honest s.journal.disk → IsShut s.other.start (unsynced s.journal.disk)
   still_shut is not h = subst (λ (b : Bool). IsBeaten b s.other.start s.generation (unsynced s.journal.disk)) not (beside_is Close is h)
 
+  pub still_closed : s.step ≡ Close → may_open ≡ false → j ≡ s.journal → IsKept honest bytes unsynced (record s { step = SyncClose }) may_open planned done
+  still_closed is not at = subst (λ (k : JournalState D). IsKept honest bytes unsynced (record s { journal = k; step = SyncClose }) may_open planned done) at (went (ap (λ (k : JournalState D). k.phase) at) (ap (λ (k : JournalState D). k.begun) at) SyncClose done s.left (λ _. tt) (plan_is Close is) (λ h. inl (subst (λ (k : JournalState D). IsShut s.other.start (unsynced k.disk)) (sym at) (still_shut is not (subst (λ (k : JournalState D). honest k.disk) at h)))))
+
   pub still_leaves : ((d : D) (c : List ℕ) → honest d → crash_states_since d (moment d) c → IsOutcome (unsynced d) c) → ((c : List ℕ) → honest s.journal.disk → IsOutcome (unsynced s.journal.disk) c → Says c) → honest s.journal.disk
       → IsShut s.other.start (unsynced s.journal.disk) → LeavesOnly moment crash_states_since s.journal.disk s.journal.disk (Keeps s)
   still_leaves only_now now h x = leaves_still moment crash_states_since s.journal.disk (Keeps s) (λ c left. let o = only_now s.journal.disk c h left in let p = now c h o in

@@ -45,7 +45,6 @@ returns-clause-grown g c =
     let ready : drop (s.ended + 1) old ≡ with_gate body = subst (λ (k : SlotsState g.row.D.Denot). k.coming ≡ with_gate (body_of k.coming)) (sym c.self.view_is) c.requires.ready in
     let new = c.open_between-self-inside.new.planned.items in let n = c.open_between-self-inside.result in
     let made : new ≡ longer ++ 0 ∷ [] = c.open_between-self-inside.ensures.opened ∙ opened_is old text body s.ended there shut refl ready in
-    let size = planned_long old text body s.ended there shut refl ready in let grew = longer_long old text body s.ended there shut refl ready in let last = c.open_between-self-inside.ensures.last in
+    let size = planned_long old text body s.ended there shut refl ready in let last = c.open_between-self-inside.ensures.last in
     let n_is : n ≡ length longer = omega (arith, size, last) in
-    let front = shut_front new longer [] n (made ∙ sym (append-nil (longer ++ 0 ∷ []))) n_is in let all = shut_all new longer [] n (made ∙ sym (append-nil (longer ++ 0 ∷ []))) n_is in
-    rw (← c.self.view_is) (front, shut_back new longer [] n (made ∙ sym (append-nil (longer ++ 0 ∷ []))) n_is)
+    let front = shut_front new longer [] n (made ∙ sym (append-nil (longer ++ 0 ∷ []))) n_is in rw (← c.self.view_is) (front, shut_back new longer [] n (made ∙ sym (append-nil (longer ++ 0 ∷ []))) n_is)

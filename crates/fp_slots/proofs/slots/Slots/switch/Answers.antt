@@ -1,10 +1,12 @@
-use Rattle.std.proofs.Common.{ℕ, rules, ◌≡◌, ◌≢◌, ap, sym, ◌∙◌, subst, arith}
+use Rattle.std.proofs.Common.{ℕ, rules, ◌≡◌, ◌≢◌, ap, sym, ◌∙◌, subst, arith, refl}
+use Rattle.std.proofs.lemmas.Result.{err_from_is_err_and}
 use Rattle.fp_journal.specs.declared.journal.Phase.TheVariants.{Failed}
 use Rattle.fp_gate.specs.Gates.{IsOpen}
 use Rattle.fp_slots.specs.declared.held.Held.{Held}
 use Rattle.fp_slots.specs.State.{IsHeld, step_of, SlotsState}
 use Rattle.fp_slots.specs.declared.slots.Step.TheVariants.{SyncOpen, Open}
 use Rattle.fp_slots.proofs.Fronts.{front_long}
+use Rattle.fp_slots.proofs.Exits.{answers_err}
 use Rattle.fp_slots.proofs.Steps as steps
 use Rattle.fp_slots.proofs.slots.Slots.switch.Goals as goal
 
@@ -15,19 +17,24 @@ invariant_of-self g c =
     let is : step_of c.self.inside.held ≡ SyncOpen = ap (λ (k : SlotsState g.row.D.Denot). k.step) c.self.view_is ∙ c.requires.step in
     (steps.broke D.honest D.bytes D.unsynced D.moment D.crash_states_since m.counts_now c.self.invariant.0 alive j w.kept.same w.bodies w.begun (search rules) w.kept.honest.1 SyncOpen is (steps.opened_leaves D.honest D.bytes D.unsynced D.moment D.crash_states_since m.counts_now c.self.invariant.0 alive j w.kept.same w.kept.any_moment w.kept.apart is), steps.held_on D.honest D.moment c.self.inside.journal j c.self.inside.other.start c.self.inside.held (λ e. let no : SyncOpen ≡ Open = sym is ∙ e in absurd (cc no)) c.self.invariant.1, c.self.invariant.2)
 
-pub returns-in_err-synced-clause-any_moment : goal.returns-in_err-synced-clause-any_moment
-returns-in_err-synced-clause-any_moment g c =
+pub returns-in_err-synced : goal.returns-in_err-synced
+returns-in_err-synced g c =
     let D = g.D.Disk in let m = g.met.D.Disk in let w = c.sync.ensures in let j = c.sync.new.self in
     let alive = subst (λ (k : SlotsState g.row.D.Denot). k.journal.phase ≢ Failed) (sym c.self.view_is) c.requires.live in
     let is : step_of c.self.inside.held ≡ SyncOpen = ap (λ (k : SlotsState g.row.D.Denot). k.step) c.self.view_is ∙ c.requires.step in
-    rw (← c.self.view_is) (steps.opened_leaves D.honest D.bytes D.unsynced D.moment D.crash_states_since m.counts_now c.self.invariant.0 alive j w.kept.same w.kept.any_moment w.kept.apart is)
-
-pub returns-in_err-synced-clause-apart : goal.returns-in_err-synced-clause-apart
-returns-in_err-synced-clause-apart g c =
-    let D = g.D.Disk in let m = g.met.D.Disk in let w = c.sync.ensures in let j = c.sync.new.self in
-    let alive = subst (λ (k : SlotsState g.row.D.Denot). k.journal.phase ≢ Failed) (sym c.self.view_is) c.requires.live in
-    let is : step_of c.self.inside.held ≡ SyncOpen = ap (λ (k : SlotsState g.row.D.Denot). k.step) c.self.view_is ∙ c.requires.step in
-    rw (← c.self.view_is) (λ h. steps.sync_frame D.honest D.bytes D.unsynced D.moment D.crash_states_since m.counts_now c.self.invariant.0 alive j w.kept.same (w.kept.apart h))
+    let p = err_from_is_err_and c.from_residual.result c.from_residual.ensures.1 in
+    rw (p.1, ← c.self.view_is) (record {
+      switched = tt;
+      begun = tt;
+      turned = tt;
+      broken = ((w.kept.same, w.bodies.0, w.bodies.1, refl, refl, refl, refl, refl, refl, w.begun), is, c.in_err-synced.ensures.phase.1);
+      left = refl;
+      any_moment = (steps.opened_leaves D.honest D.bytes D.unsynced D.moment D.crash_states_since m.counts_now c.self.invariant.0 alive j w.kept.same w.kept.any_moment w.kept.apart is);
+      apart = (λ h. steps.sync_frame D.honest D.bytes D.unsynced D.moment D.crash_states_since m.counts_now c.self.invariant.0 alive j w.kept.same (w.kept.apart h));
+      honest = w.kept.honest;
+      called = w.called;
+      cause = answers_err c.in_err-synced.ensures.kept.cause;
+    })
 
 pub switch-requires-clause-quiet : goal.switch-requires-clause-quiet
 switch-requires-clause-quiet g c =
@@ -54,7 +61,6 @@ pub returns-clause-apart : goal.returns-clause-apart
 returns-clause-apart g c =
     let D = g.D.Disk in let m = g.met.D.Disk in let w = c.sync.ensures in let j = c.sync.new.self in
     let alive = subst (λ (k : SlotsState g.row.D.Denot). k.journal.phase ≢ Failed) (sym c.self.view_is) c.requires.live in
-    let is : step_of c.self.inside.held ≡ SyncOpen = ap (λ (k : SlotsState g.row.D.Denot). k.step) c.self.view_is ∙ c.requires.step in
     rw (← c.self.view_is, c.switch.ensures.disk.0) (λ h. steps.sync_frame D.honest D.bytes D.unsynced D.moment D.crash_states_since m.counts_now c.self.invariant.0 alive j w.kept.same (w.kept.apart h))
 
 pub seal_outside-gate-requires-clause-open : goal.seal_outside-gate-requires-clause-open

@@ -1,7 +1,9 @@
-use Rattle.std.proofs.Common.{rules, ◌≡◌, ◌≢◌, ap, sym, ◌∙◌, subst}
+use Rattle.std.proofs.Common.{rules, ◌≡◌, ◌≢◌, ap, sym, ◌∙◌, subst, refl}
+use Rattle.std.proofs.lemmas.Result.{err_from_is_err_and}
 use Rattle.fp_journal.specs.declared.journal.Phase.TheVariants.{Failed}
 use Rattle.fp_slots.specs.State.{step_of, SlotsState}
 use Rattle.fp_slots.specs.declared.slots.Step.TheVariants.{SyncBody, Open}
+use Rattle.fp_slots.proofs.Exits.{answers_err, answers_ok}
 use Rattle.fp_slots.proofs.Steps as steps
 use Rattle.fp_slots.proofs.slots.Slots.sync_parts.Goals as goal
 
@@ -10,39 +12,46 @@ invariant_of-self g c =
     let D = g.D.Disk in let m = g.met.D.Disk in let w = c.sync.ensures in let j = c.sync.new.self in
     let alive = subst (λ (k : SlotsState g.row.D.Denot). k.journal.phase ≢ Failed) (sym c.self.view_is) c.requires.live in
     let is : step_of c.self.inside.held ≡ SyncBody = ap (λ (k : SlotsState g.row.D.Denot). k.step) c.self.view_is ∙ c.requires.step in
-    (steps.broke D.honest D.bytes D.unsynced D.moment D.crash_states_since m.counts_now c.self.invariant.0 alive j w.kept.same w.bodies w.begun (search rules) w.kept.honest.1 SyncBody is (steps.body_leaves D.honest D.bytes D.unsynced D.moment D.crash_states_since m.counts_now c.self.invariant.0 alive j w.kept.same w.kept.any_moment w.kept.apart is), steps.held_on D.honest D.moment c.self.inside.journal j c.self.inside.other.start c.self.inside.held (λ e. let no : SyncBody ≡ Open = sym is ∙ e in absurd (cc no)) c.self.invariant.1, c.self.invariant.2)
+    (steps.broke D.honest D.bytes D.unsynced D.moment D.crash_states_since m.counts_now c.self.invariant.0 alive j w.kept.same w.bodies w.begun c.in_err-synced.ensures.phase.1 w.kept.honest.1 SyncBody is (steps.body_leaves D.honest D.bytes D.unsynced D.moment D.crash_states_since m.counts_now c.self.invariant.0 alive j w.kept.same w.kept.any_moment w.kept.apart is), steps.held_on D.honest D.moment c.self.inside.journal j c.self.inside.other.start c.self.inside.held (λ e. let no : SyncBody ≡ Open = sym is ∙ e in absurd (cc no)) c.self.invariant.1, c.self.invariant.2)
 
-pub returns-in_err-synced-clause-any_moment : goal.returns-in_err-synced-clause-any_moment
-returns-in_err-synced-clause-any_moment g c =
+pub returns-in_err-synced : goal.returns-in_err-synced
+returns-in_err-synced g c =
     let D = g.D.Disk in let m = g.met.D.Disk in let w = c.sync.ensures in let j = c.sync.new.self in
     let alive = subst (λ (k : SlotsState g.row.D.Denot). k.journal.phase ≢ Failed) (sym c.self.view_is) c.requires.live in
     let is : step_of c.self.inside.held ≡ SyncBody = ap (λ (k : SlotsState g.row.D.Denot). k.step) c.self.view_is ∙ c.requires.step in
-    rw (← c.self.view_is) (steps.body_leaves D.honest D.bytes D.unsynced D.moment D.crash_states_since m.counts_now c.self.invariant.0 alive j w.kept.same w.kept.any_moment w.kept.apart is)
-
-pub returns-in_err-synced-clause-apart : goal.returns-in_err-synced-clause-apart
-returns-in_err-synced-clause-apart g c =
-    let D = g.D.Disk in let m = g.met.D.Disk in let w = c.sync.ensures in let j = c.sync.new.self in
-    let alive = subst (λ (k : SlotsState g.row.D.Denot). k.journal.phase ≢ Failed) (sym c.self.view_is) c.requires.live in
-    let is : step_of c.self.inside.held ≡ SyncBody = ap (λ (k : SlotsState g.row.D.Denot). k.step) c.self.view_is ∙ c.requires.step in
-    rw (← c.self.view_is) (λ h. steps.sync_frame D.honest D.bytes D.unsynced D.moment D.crash_states_since m.counts_now c.self.invariant.0 alive j w.kept.same (w.kept.apart h))
+    let p = err_from_is_err_and c.from_residual.result c.from_residual.ensures.1 in
+    rw (p.1, ← c.self.view_is) (record {
+      step = (tt, is);
+      same = (w.kept.same, w.bodies.0, w.bodies.1, refl, refl, refl, refl, refl, refl, w.begun);
+      left = refl;
+      phase = (tt, c.in_err-synced.ensures.phase.1);
+      any_moment = (steps.body_leaves D.honest D.bytes D.unsynced D.moment D.crash_states_since m.counts_now c.self.invariant.0 alive j w.kept.same w.kept.any_moment w.kept.apart is);
+      apart = (λ h. steps.sync_frame D.honest D.bytes D.unsynced D.moment D.crash_states_since m.counts_now c.self.invariant.0 alive j w.kept.same (w.kept.apart h));
+      honest = w.kept.honest;
+      called = w.called;
+      cause = answers_err c.in_err-synced.ensures.kept.cause;
+    })
 
 pub invariant_of-self-2 : goal.invariant_of-self-2
 invariant_of-self-2 g c =
     let D = g.D.Disk in let m = g.met.D.Disk in let w = c.sync.ensures in let j = c.sync.new.self in
     let alive = subst (λ (k : SlotsState g.row.D.Denot). k.journal.phase ≢ Failed) (sym c.self.view_is) c.requires.live in
     let is : step_of c.self.inside.held ≡ SyncBody = ap (λ (k : SlotsState g.row.D.Denot). k.step) c.self.view_is ∙ c.requires.step in
-    (steps.body_synced D.honest D.bytes D.unsynced D.moment D.crash_states_since m.counts_now c.self.invariant.0 alive j w.kept.same w.kept.any_moment w.kept.apart m.present w.kept.honest.1 (λ h. (w.same_bytes h, c.in_ok-synced.ensures.durable h)) (search rules) w.begun is, search rules, c.self.invariant.2)
+    (steps.body_synced D.honest D.bytes D.unsynced D.moment D.crash_states_since m.counts_now c.self.invariant.0 alive j w.kept.same w.kept.any_moment w.kept.apart m.present w.kept.honest.1 (λ h. (w.same_bytes h, c.in_ok-synced.ensures.durable h)) c.in_ok-synced.ensures.phase.0 w.begun is, search rules, c.self.invariant.2)
 
-pub returns-clause-any_moment : goal.returns-clause-any_moment
-returns-clause-any_moment g c =
+pub returns : goal.returns
+returns g c =
     let D = g.D.Disk in let m = g.met.D.Disk in let w = c.sync.ensures in let j = c.sync.new.self in
     let alive = subst (λ (k : SlotsState g.row.D.Denot). k.journal.phase ≢ Failed) (sym c.self.view_is) c.requires.live in
     let is : step_of c.self.inside.held ≡ SyncBody = ap (λ (k : SlotsState g.row.D.Denot). k.step) c.self.view_is ∙ c.requires.step in
-    rw (← c.self.view_is) (steps.body_leaves D.honest D.bytes D.unsynced D.moment D.crash_states_since m.counts_now c.self.invariant.0 alive j w.kept.same w.kept.any_moment w.kept.apart is)
-
-pub returns-clause-apart : goal.returns-clause-apart
-returns-clause-apart g c =
-    let D = g.D.Disk in let m = g.met.D.Disk in let w = c.sync.ensures in let j = c.sync.new.self in
-    let alive = subst (λ (k : SlotsState g.row.D.Denot). k.journal.phase ≢ Failed) (sym c.self.view_is) c.requires.live in
-    let is : step_of c.self.inside.held ≡ SyncBody = ap (λ (k : SlotsState g.row.D.Denot). k.step) c.self.view_is ∙ c.requires.step in
-    rw (← c.self.view_is) (λ h. steps.sync_frame D.honest D.bytes D.unsynced D.moment D.crash_states_since m.counts_now c.self.invariant.0 alive j w.kept.same (w.kept.apart h))
+    rw (← c.self.view_is) (record {
+      step = (refl, tt);
+      same = (w.kept.same, w.bodies.0, w.bodies.1, refl, refl, refl, refl, refl, refl, w.begun);
+      left = refl;
+      phase = (c.in_ok-synced.ensures.phase.0, tt);
+      any_moment = (steps.body_leaves D.honest D.bytes D.unsynced D.moment D.crash_states_since m.counts_now c.self.invariant.0 alive j w.kept.same w.kept.any_moment w.kept.apart is);
+      apart = (λ h. steps.sync_frame D.honest D.bytes D.unsynced D.moment D.crash_states_since m.counts_now c.self.invariant.0 alive j w.kept.same (w.kept.apart h));
+      honest = w.kept.honest;
+      called = w.called;
+      cause = answers_ok c.in_ok-synced.ensures.kept.cause;
+    })

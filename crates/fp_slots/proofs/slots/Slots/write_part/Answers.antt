@@ -1,4 +1,5 @@
-use Rattle.std.proofs.Common.{rules, refl, ◌≡◌, ◌≢◌, inl, inr, ℕ, ◌+◌, ◌-◌, ◌<◌, ◌≤◌, List, ap, sym, ◌∙◌, subst, arith, length}
+use Rattle.std.proofs.Common.{refl, ◌≡◌, ◌≢◌, inl, inr, ℕ, ◌+◌, ◌-◌, ◌<◌, ◌≤◌, List, ap, sym, ◌∙◌, subst, arith, length}
+use Rattle.std.proofs.lemmas.Result.{err_from_is_err_and}
 use Rattle.fp_journal.specs.declared.journal.Phase.TheVariants.{Failed}
 use Rattle.std.specs.Prelude.{slice_range}
 use Rattle.fp_disk.specs.Outcomes.{Written}
@@ -7,6 +8,7 @@ use Rattle.fp_slots.specs.State.{step_of, SlotsState}
 use Rattle.fp_slots.specs.declared.slots.Step.TheVariants.{Part, Tail, Open}
 use Rattle.fp_slots.proofs.Beside.{plan_within}
 use Rattle.fp_slots.proofs.Fronts.{there_is, front_long, range_of_front}
+use Rattle.fp_slots.proofs.Exits.{answers_err, answers_ok}
 use Rattle.fp_slots.proofs.Steps as steps
 use Rattle.fp_slots.proofs.slots.Slots.write_part.Goals as goal
 
@@ -16,24 +18,22 @@ invariant_of-self g c =
     let alive = subst (λ (k : SlotsState g.row.D.Denot). k.journal.phase ≢ Failed) (sym c.self.view_is) c.requires.live in
     let is : step_of c.self.inside.held ≡ Part = ap (λ (k : SlotsState g.row.D.Denot). k.step) c.self.view_is ∙ c.requires.step in
     let part = steps.plan_is D.honest D.bytes D.unsynced D.moment D.crash_states_since m.counts_now c.self.invariant.0 alive j w.kept.same Part is in
-    let some = part.1.some in let short = part.1.part in let min = c.min.ensures in
+    let min = c.min.ensures in
     let q = c.self.inside in let z = c.self.invariant.2 in let image = z.image in let past = z.part in let there = there_is q.planned.items q.ended z.there part.0.bytes_are in
     let size : length (slice_range q.planned.items 0 (q.ended + 1)) ≡ q.ended + 1 = front_long q.planned.items (q.ended + 1) (omega (arith, there)) in
-    let fits = plan_within q.other q.generation (slice_range q.planned.items 0 q.ended) (slice_range q.planned.items 0 (q.ended + 1)) part.0 q.other.start refl in
-    let n : ℕ = length c.piece.result.now in let len_is = c.piece.ensures.len in
-    let to_head : q.done + c.min.result ≤ q.head = omega (arith, past, min) in
+    let n : ℕ = length c.piece.result.now in let to_head : q.done + c.min.result ≤ q.head = omega (arith, past, min) in
     let le : c.self.inside.done ≤ c.self.inside.done + c.min.result = omega arith in
     let within : q.done + c.min.result < length (slice_range q.planned.items 0 (q.ended + 1)) = omega (arith, size, to_head, image) in
     let within2 : q.done + c.min.result ≤ length (slice_range q.planned.items 0 (q.ended + 1)) = omega (arith, within) in
-    (steps.broke D.honest D.bytes D.unsynced D.moment D.crash_states_since m.counts_now c.self.invariant.0 alive j w.kept.same w.bodies w.begun (search rules) w.kept.honest.1 Part is (steps.next_leaves D.honest D.bytes D.unsynced D.moment D.crash_states_since m.counts_now c.self.invariant.0 alive j w.kept.same (c.self.inside.done + c.min.result) n le within2 w.kept.any_moment w.kept.apart is), steps.held_on D.honest D.moment c.self.inside.journal j c.self.inside.other.start c.self.inside.held (λ e. let no : Part ≡ Open = sym is ∙ e in absurd (cc no)) c.self.invariant.1, c.self.invariant.2)
+    (steps.broke D.honest D.bytes D.unsynced D.moment D.crash_states_since m.counts_now c.self.invariant.0 alive j w.kept.same w.bodies w.begun c.in_err-write_outside.ensures.phase.1 w.kept.honest.1 Part is (steps.next_leaves D.honest D.bytes D.unsynced D.moment D.crash_states_since m.counts_now c.self.invariant.0 alive j w.kept.same (c.self.inside.done + c.min.result) n le within2 w.kept.any_moment w.kept.apart is), steps.held_on D.honest D.moment c.self.inside.journal j c.self.inside.other.start c.self.inside.held (λ e. let no : Part ≡ Open = sym is ∙ e in absurd (cc no)) c.self.invariant.1, c.self.invariant.2)
 
-pub returns-in_err-write_outside-clause-any_moment : goal.returns-in_err-write_outside-clause-any_moment
-returns-in_err-write_outside-clause-any_moment g c =
+pub returns-in_err-write_outside : goal.returns-in_err-write_outside
+returns-in_err-write_outside g c =
     let D = g.D.Disk in let m = g.met.D.Disk in let w = c.write_outside.ensures in let j = c.write_outside.new.self in
     let alive = subst (λ (k : SlotsState g.row.D.Denot). k.journal.phase ≢ Failed) (sym c.self.view_is) c.requires.live in
     let is : step_of c.self.inside.held ≡ Part = ap (λ (k : SlotsState g.row.D.Denot). k.step) c.self.view_is ∙ c.requires.step in
     let part = steps.plan_is D.honest D.bytes D.unsynced D.moment D.crash_states_since m.counts_now c.self.invariant.0 alive j w.kept.same Part is in
-    let some = part.1.some in let short = part.1.part in let min = c.min.ensures in
+    let min = c.min.ensures in
     let q = c.self.inside in let z = c.self.invariant.2 in let image = z.image in let past = z.part in let there = there_is q.planned.items q.ended z.there part.0.bytes_are in
     let size : length (slice_range q.planned.items 0 (q.ended + 1)) ≡ q.ended + 1 = front_long q.planned.items (q.ended + 1) (omega (arith, there)) in
     let fits = plan_within q.other q.generation (slice_range q.planned.items 0 q.ended) (slice_range q.planned.items 0 (q.ended + 1)) part.0 q.other.start refl in
@@ -42,24 +42,19 @@ returns-in_err-write_outside-clause-any_moment g c =
     let le : c.self.inside.done ≤ c.self.inside.done + c.min.result = omega arith in
     let within : q.done + c.min.result < length (slice_range q.planned.items 0 (q.ended + 1)) = omega (arith, size, to_head, image) in
     let within2 : q.done + c.min.result ≤ length (slice_range q.planned.items 0 (q.ended + 1)) = omega (arith, within) in
-    rw (← c.self.view_is) (steps.next_leaves D.honest D.bytes D.unsynced D.moment D.crash_states_since m.counts_now c.self.invariant.0 alive j w.kept.same (c.self.inside.done + c.min.result) n le within2 w.kept.any_moment w.kept.apart is)
-
-pub returns-in_err-write_outside-clause-apart : goal.returns-in_err-write_outside-clause-apart
-returns-in_err-write_outside-clause-apart g c =
-    let D = g.D.Disk in let m = g.met.D.Disk in let w = c.write_outside.ensures in let j = c.write_outside.new.self in
-    let alive = subst (λ (k : SlotsState g.row.D.Denot). k.journal.phase ≢ Failed) (sym c.self.view_is) c.requires.live in
-    let is : step_of c.self.inside.held ≡ Part = ap (λ (k : SlotsState g.row.D.Denot). k.step) c.self.view_is ∙ c.requires.step in
-    let part = steps.plan_is D.honest D.bytes D.unsynced D.moment D.crash_states_since m.counts_now c.self.invariant.0 alive j w.kept.same Part is in
-    let some = part.1.some in let short = part.1.part in let min = c.min.ensures in
-    let q = c.self.inside in let z = c.self.invariant.2 in let image = z.image in let past = z.part in let there = there_is q.planned.items q.ended z.there part.0.bytes_are in
-    let size : length (slice_range q.planned.items 0 (q.ended + 1)) ≡ q.ended + 1 = front_long q.planned.items (q.ended + 1) (omega (arith, there)) in
-    let fits = plan_within q.other q.generation (slice_range q.planned.items 0 q.ended) (slice_range q.planned.items 0 (q.ended + 1)) part.0 q.other.start refl in
-    let n : ℕ = length c.piece.result.now in let len_is = c.piece.ensures.len in
-    let to_head : q.done + c.min.result ≤ q.head = omega (arith, past, min) in
-    let le : c.self.inside.done ≤ c.self.inside.done + c.min.result = omega arith in
-    let within : q.done + c.min.result < length (slice_range q.planned.items 0 (q.ended + 1)) = omega (arith, size, to_head, image) in
-    let within2 : q.done + c.min.result ≤ length (slice_range q.planned.items 0 (q.ended + 1)) = omega (arith, within) in
-    rw (← c.self.view_is) (λ h. steps.part_frame D.honest D.bytes D.unsynced D.moment D.crash_states_since m.counts_now c.self.invariant.0 alive j w.kept.same (c.self.inside.other.start + c.self.inside.done) n (omega arith) (omega (arith, fits, len_is, size, within2)) (w.kept.apart h))
+    let p = err_from_is_err_and c.from_residual.result c.from_residual.ensures.1 in
+    rw (p.1, ← c.self.view_is) (record {
+      step = (tt, is);
+      less = tt;
+      same = (w.kept.same, w.bodies.0, w.bodies.1, refl, refl, refl, refl, refl, refl, w.begun);
+      left = refl;
+      phase = (tt, c.in_err-write_outside.ensures.phase.1);
+      any_moment = (steps.next_leaves D.honest D.bytes D.unsynced D.moment D.crash_states_since m.counts_now c.self.invariant.0 alive j w.kept.same (c.self.inside.done + c.min.result) n le within2 w.kept.any_moment w.kept.apart is);
+      apart = (λ h. steps.part_frame D.honest D.bytes D.unsynced D.moment D.crash_states_since m.counts_now c.self.invariant.0 alive j w.kept.same (c.self.inside.other.start + c.self.inside.done) n (omega arith) (omega (arith, fits, len_is, size, within2)) (w.kept.apart h));
+      honest = w.kept.honest;
+      called = w.called;
+      cause = answers_err c.in_err-write_outside.ensures.kept.cause;
+    })
 
 pub invariant_of-self-2 : goal.invariant_of-self-2
 invariant_of-self-2 g c =
@@ -67,24 +62,22 @@ invariant_of-self-2 g c =
     let alive = subst (λ (k : SlotsState g.row.D.Denot). k.journal.phase ≢ Failed) (sym c.self.view_is) c.requires.live in
     let is : step_of c.self.inside.held ≡ Part = ap (λ (k : SlotsState g.row.D.Denot). k.step) c.self.view_is ∙ c.requires.step in
     let part = steps.plan_is D.honest D.bytes D.unsynced D.moment D.crash_states_since m.counts_now c.self.invariant.0 alive j w.kept.same Part is in
-    let some = part.1.some in let short = part.1.part in let min = c.min.ensures in
+    let min = c.min.ensures in
     let q = c.self.inside in let z = c.self.invariant.2 in let image = z.image in let past = z.part in let there = there_is q.planned.items q.ended z.there part.0.bytes_are in
     let size : length (slice_range q.planned.items 0 (q.ended + 1)) ≡ q.ended + 1 = front_long q.planned.items (q.ended + 1) (omega (arith, there)) in
-    let fits = plan_within q.other q.generation (slice_range q.planned.items 0 q.ended) (slice_range q.planned.items 0 (q.ended + 1)) part.0 q.other.start refl in
-    let n : ℕ = length c.piece.result.now in let len_is = c.piece.ensures.len in
-    let to_head : q.done + c.min.result ≤ q.head = omega (arith, past, min) in
+    let n : ℕ = length c.piece.result.now in let to_head : q.done + c.min.result ≤ q.head = omega (arith, past, min) in
     let le : c.self.inside.done ≤ c.self.inside.done + c.min.result = omega arith in
     let within : q.done + c.min.result < length (slice_range q.planned.items 0 (q.ended + 1)) = omega (arith, size, to_head, image) in
     let within2 : q.done + c.min.result ≤ length (slice_range q.planned.items 0 (q.ended + 1)) = omega (arith, within) in
-    (steps.next_written D.honest D.bytes D.unsynced D.moment D.crash_states_since m.counts_now c.self.invariant.0 alive j w.kept.same (c.self.inside.done + c.min.result) n le within2 w.kept.any_moment w.kept.apart is Tail (q.head - (q.done + c.min.result)) (inr refl) within (search rules) w.begun w.kept.honest.1 (λ h. subst (λ (t : List ℕ). Written (D.bytes q.journal.disk) (q.other.start + q.done) t (D.bytes j.disk)) (c.piece.ensures.bytes ∙ sym (range_of_front q.planned.items q.done (q.done + c.min.result) (q.ended + 1) le (omega (arith, to_head, image)) (omega (arith, there)))) (c.in_ok-write_outside.ensures.written h).0), tt, record { there = z.there; image = image; part = to_head })
+    (steps.next_written D.honest D.bytes D.unsynced D.moment D.crash_states_since m.counts_now c.self.invariant.0 alive j w.kept.same (c.self.inside.done + c.min.result) n le within2 w.kept.any_moment w.kept.apart is Tail (q.head - (q.done + c.min.result)) (inr refl) within c.in_ok-write_outside.ensures.phase.0 w.begun w.kept.honest.1 (λ h. subst (λ (t : List ℕ). Written (D.bytes q.journal.disk) (q.other.start + q.done) t (D.bytes j.disk)) (c.piece.ensures.bytes ∙ sym (range_of_front q.planned.items q.done (q.done + c.min.result) (q.ended + 1) le (omega (arith, to_head, image)) (omega (arith, there)))) (c.in_ok-write_outside.ensures.written h).0), tt, record { there = z.there; image = image; part = to_head })
 
-pub returns-clause-any_moment : goal.returns-clause-any_moment
-returns-clause-any_moment g c =
+pub returns : goal.returns
+returns g c =
     let D = g.D.Disk in let m = g.met.D.Disk in let w = c.write_outside.ensures in let j = c.write_outside.new.self in
     let alive = subst (λ (k : SlotsState g.row.D.Denot). k.journal.phase ≢ Failed) (sym c.self.view_is) c.requires.live in
     let is : step_of c.self.inside.held ≡ Part = ap (λ (k : SlotsState g.row.D.Denot). k.step) c.self.view_is ∙ c.requires.step in
     let part = steps.plan_is D.honest D.bytes D.unsynced D.moment D.crash_states_since m.counts_now c.self.invariant.0 alive j w.kept.same Part is in
-    let some = part.1.some in let short = part.1.part in let min = c.min.ensures in
+    let min = c.min.ensures in
     let q = c.self.inside in let z = c.self.invariant.2 in let image = z.image in let past = z.part in let there = there_is q.planned.items q.ended z.there part.0.bytes_are in
     let size : length (slice_range q.planned.items 0 (q.ended + 1)) ≡ q.ended + 1 = front_long q.planned.items (q.ended + 1) (omega (arith, there)) in
     let fits = plan_within q.other q.generation (slice_range q.planned.items 0 q.ended) (slice_range q.planned.items 0 (q.ended + 1)) part.0 q.other.start refl in
@@ -93,24 +86,18 @@ returns-clause-any_moment g c =
     let le : c.self.inside.done ≤ c.self.inside.done + c.min.result = omega arith in
     let within : q.done + c.min.result < length (slice_range q.planned.items 0 (q.ended + 1)) = omega (arith, size, to_head, image) in
     let within2 : q.done + c.min.result ≤ length (slice_range q.planned.items 0 (q.ended + 1)) = omega (arith, within) in
-    rw (← c.self.view_is) (steps.next_leaves D.honest D.bytes D.unsynced D.moment D.crash_states_since m.counts_now c.self.invariant.0 alive j w.kept.same (c.self.inside.done + c.min.result) n le within2 w.kept.any_moment w.kept.apart is)
-
-pub returns-clause-apart : goal.returns-clause-apart
-returns-clause-apart g c =
-    let D = g.D.Disk in let m = g.met.D.Disk in let w = c.write_outside.ensures in let j = c.write_outside.new.self in
-    let alive = subst (λ (k : SlotsState g.row.D.Denot). k.journal.phase ≢ Failed) (sym c.self.view_is) c.requires.live in
-    let is : step_of c.self.inside.held ≡ Part = ap (λ (k : SlotsState g.row.D.Denot). k.step) c.self.view_is ∙ c.requires.step in
-    let part = steps.plan_is D.honest D.bytes D.unsynced D.moment D.crash_states_since m.counts_now c.self.invariant.0 alive j w.kept.same Part is in
-    let some = part.1.some in let short = part.1.part in let min = c.min.ensures in
-    let q = c.self.inside in let z = c.self.invariant.2 in let image = z.image in let past = z.part in let there = there_is q.planned.items q.ended z.there part.0.bytes_are in
-    let size : length (slice_range q.planned.items 0 (q.ended + 1)) ≡ q.ended + 1 = front_long q.planned.items (q.ended + 1) (omega (arith, there)) in
-    let fits = plan_within q.other q.generation (slice_range q.planned.items 0 q.ended) (slice_range q.planned.items 0 (q.ended + 1)) part.0 q.other.start refl in
-    let n : ℕ = length c.piece.result.now in let len_is = c.piece.ensures.len in
-    let to_head : q.done + c.min.result ≤ q.head = omega (arith, past, min) in
-    let le : c.self.inside.done ≤ c.self.inside.done + c.min.result = omega arith in
-    let within : q.done + c.min.result < length (slice_range q.planned.items 0 (q.ended + 1)) = omega (arith, size, to_head, image) in
-    let within2 : q.done + c.min.result ≤ length (slice_range q.planned.items 0 (q.ended + 1)) = omega (arith, within) in
-    rw (← c.self.view_is) (λ h. steps.part_frame D.honest D.bytes D.unsynced D.moment D.crash_states_since m.counts_now c.self.invariant.0 alive j w.kept.same (c.self.inside.other.start + c.self.inside.done) n (omega arith) (omega (arith, fits, len_is, size, within2)) (w.kept.apart h))
+    rw (← c.self.view_is) (record {
+      step = ((λ more. absurd (omega (arith, min, more, c.if-to-self.false)), λ all. refl), tt);
+      less = omega (arith, min);
+      same = (w.kept.same, w.bodies.0, w.bodies.1, refl, refl, refl, refl, refl, refl, w.begun);
+      left = tt;
+      phase = (c.in_ok-write_outside.ensures.phase.0, tt);
+      any_moment = (steps.next_leaves D.honest D.bytes D.unsynced D.moment D.crash_states_since m.counts_now c.self.invariant.0 alive j w.kept.same (c.self.inside.done + c.min.result) n le within2 w.kept.any_moment w.kept.apart is);
+      apart = (λ h. steps.part_frame D.honest D.bytes D.unsynced D.moment D.crash_states_since m.counts_now c.self.invariant.0 alive j w.kept.same (c.self.inside.other.start + c.self.inside.done) n (omega arith) (omega (arith, fits, len_is, size, within2)) (w.kept.apart h));
+      honest = w.kept.honest;
+      called = w.called;
+      cause = answers_ok c.in_ok-write_outside.ensures.kept.cause;
+    })
 
 pub invariant_of-self-then-to-self : goal.invariant_of-self-then-to-self
 invariant_of-self-then-to-self g c =
@@ -118,24 +105,22 @@ invariant_of-self-then-to-self g c =
     let alive = subst (λ (k : SlotsState g.row.D.Denot). k.journal.phase ≢ Failed) (sym c.self.view_is) c.requires.live in
     let is : step_of c.self.inside.held ≡ Part = ap (λ (k : SlotsState g.row.D.Denot). k.step) c.self.view_is ∙ c.requires.step in
     let part = steps.plan_is D.honest D.bytes D.unsynced D.moment D.crash_states_since m.counts_now c.self.invariant.0 alive j w.kept.same Part is in
-    let some = part.1.some in let short = part.1.part in let min = c.min.ensures in
+    let min = c.min.ensures in
     let q = c.self.inside in let z = c.self.invariant.2 in let image = z.image in let past = z.part in let there = there_is q.planned.items q.ended z.there part.0.bytes_are in
     let size : length (slice_range q.planned.items 0 (q.ended + 1)) ≡ q.ended + 1 = front_long q.planned.items (q.ended + 1) (omega (arith, there)) in
-    let fits = plan_within q.other q.generation (slice_range q.planned.items 0 q.ended) (slice_range q.planned.items 0 (q.ended + 1)) part.0 q.other.start refl in
-    let n : ℕ = length c.piece.result.now in let len_is = c.piece.ensures.len in
-    let to_head : q.done + c.min.result ≤ q.head = omega (arith, past, min) in
+    let n : ℕ = length c.piece.result.now in let to_head : q.done + c.min.result ≤ q.head = omega (arith, past, min) in
     let le : c.self.inside.done ≤ c.self.inside.done + c.min.result = omega arith in
     let within : q.done + c.min.result < length (slice_range q.planned.items 0 (q.ended + 1)) = omega (arith, size, to_head, image) in
     let within2 : q.done + c.min.result ≤ length (slice_range q.planned.items 0 (q.ended + 1)) = omega (arith, within) in
-    (steps.next_written D.honest D.bytes D.unsynced D.moment D.crash_states_since m.counts_now c.self.invariant.0 alive j w.kept.same (c.self.inside.done + c.min.result) n le within2 w.kept.any_moment w.kept.apart is (step_of c.self.inside.held) (q.head - (q.done + c.min.result)) (inl is) within (search rules) w.begun w.kept.honest.1 (λ h. subst (λ (t : List ℕ). Written (D.bytes q.journal.disk) (q.other.start + q.done) t (D.bytes j.disk)) (c.piece.ensures.bytes ∙ sym (range_of_front q.planned.items q.done (q.done + c.min.result) (q.ended + 1) le (omega (arith, to_head, image)) (omega (arith, there)))) (c.in_ok-write_outside.ensures.written h).0), steps.held_on D.honest D.moment c.self.inside.journal j c.self.inside.other.start c.self.inside.held (λ e. let no : Part ≡ Open = sym is ∙ e in absurd (cc no)) c.self.invariant.1, record { there = z.there; image = image; part = to_head })
+    (steps.next_written D.honest D.bytes D.unsynced D.moment D.crash_states_since m.counts_now c.self.invariant.0 alive j w.kept.same (c.self.inside.done + c.min.result) n le within2 w.kept.any_moment w.kept.apart is (step_of c.self.inside.held) (q.head - (q.done + c.min.result)) (inl is) within c.in_ok-write_outside.ensures.phase.0 w.begun w.kept.honest.1 (λ h. subst (λ (t : List ℕ). Written (D.bytes q.journal.disk) (q.other.start + q.done) t (D.bytes j.disk)) (c.piece.ensures.bytes ∙ sym (range_of_front q.planned.items q.done (q.done + c.min.result) (q.ended + 1) le (omega (arith, to_head, image)) (omega (arith, there)))) (c.in_ok-write_outside.ensures.written h).0), steps.held_on D.honest D.moment c.self.inside.journal j c.self.inside.other.start c.self.inside.held (λ e. let no : Part ≡ Open = sym is ∙ e in absurd (cc no)) c.self.invariant.1, record { there = z.there; image = image; part = to_head })
 
-pub returns-then-to-self-clause-any_moment : goal.returns-then-to-self-clause-any_moment
-returns-then-to-self-clause-any_moment g c =
+pub returns-then-to-self : goal.returns-then-to-self
+returns-then-to-self g c =
     let D = g.D.Disk in let m = g.met.D.Disk in let w = c.write_outside.ensures in let j = c.write_outside.new.self in
     let alive = subst (λ (k : SlotsState g.row.D.Denot). k.journal.phase ≢ Failed) (sym c.self.view_is) c.requires.live in
     let is : step_of c.self.inside.held ≡ Part = ap (λ (k : SlotsState g.row.D.Denot). k.step) c.self.view_is ∙ c.requires.step in
     let part = steps.plan_is D.honest D.bytes D.unsynced D.moment D.crash_states_since m.counts_now c.self.invariant.0 alive j w.kept.same Part is in
-    let some = part.1.some in let short = part.1.part in let min = c.min.ensures in
+    let min = c.min.ensures in
     let q = c.self.inside in let z = c.self.invariant.2 in let image = z.image in let past = z.part in let there = there_is q.planned.items q.ended z.there part.0.bytes_are in
     let size : length (slice_range q.planned.items 0 (q.ended + 1)) ≡ q.ended + 1 = front_long q.planned.items (q.ended + 1) (omega (arith, there)) in
     let fits = plan_within q.other q.generation (slice_range q.planned.items 0 q.ended) (slice_range q.planned.items 0 (q.ended + 1)) part.0 q.other.start refl in
@@ -144,24 +129,18 @@ returns-then-to-self-clause-any_moment g c =
     let le : c.self.inside.done ≤ c.self.inside.done + c.min.result = omega arith in
     let within : q.done + c.min.result < length (slice_range q.planned.items 0 (q.ended + 1)) = omega (arith, size, to_head, image) in
     let within2 : q.done + c.min.result ≤ length (slice_range q.planned.items 0 (q.ended + 1)) = omega (arith, within) in
-    rw (← c.self.view_is) (steps.next_leaves D.honest D.bytes D.unsynced D.moment D.crash_states_since m.counts_now c.self.invariant.0 alive j w.kept.same (c.self.inside.done + c.min.result) n le within2 w.kept.any_moment w.kept.apart is)
-
-pub returns-then-to-self-clause-apart : goal.returns-then-to-self-clause-apart
-returns-then-to-self-clause-apart g c =
-    let D = g.D.Disk in let m = g.met.D.Disk in let w = c.write_outside.ensures in let j = c.write_outside.new.self in
-    let alive = subst (λ (k : SlotsState g.row.D.Denot). k.journal.phase ≢ Failed) (sym c.self.view_is) c.requires.live in
-    let is : step_of c.self.inside.held ≡ Part = ap (λ (k : SlotsState g.row.D.Denot). k.step) c.self.view_is ∙ c.requires.step in
-    let part = steps.plan_is D.honest D.bytes D.unsynced D.moment D.crash_states_since m.counts_now c.self.invariant.0 alive j w.kept.same Part is in
-    let some = part.1.some in let short = part.1.part in let min = c.min.ensures in
-    let q = c.self.inside in let z = c.self.invariant.2 in let image = z.image in let past = z.part in let there = there_is q.planned.items q.ended z.there part.0.bytes_are in
-    let size : length (slice_range q.planned.items 0 (q.ended + 1)) ≡ q.ended + 1 = front_long q.planned.items (q.ended + 1) (omega (arith, there)) in
-    let fits = plan_within q.other q.generation (slice_range q.planned.items 0 q.ended) (slice_range q.planned.items 0 (q.ended + 1)) part.0 q.other.start refl in
-    let n : ℕ = length c.piece.result.now in let len_is = c.piece.ensures.len in
-    let to_head : q.done + c.min.result ≤ q.head = omega (arith, past, min) in
-    let le : c.self.inside.done ≤ c.self.inside.done + c.min.result = omega arith in
-    let within : q.done + c.min.result < length (slice_range q.planned.items 0 (q.ended + 1)) = omega (arith, size, to_head, image) in
-    let within2 : q.done + c.min.result ≤ length (slice_range q.planned.items 0 (q.ended + 1)) = omega (arith, within) in
-    rw (← c.self.view_is) (λ h. steps.part_frame D.honest D.bytes D.unsynced D.moment D.crash_states_since m.counts_now c.self.invariant.0 alive j w.kept.same (c.self.inside.other.start + c.self.inside.done) n (omega arith) (omega (arith, fits, len_is, size, within2)) (w.kept.apart h))
+    rw (← c.self.view_is) (record {
+      step = ((λ more. is, λ all. absurd (omega (arith, min, all, c.if-to-self.true))), tt);
+      less = omega (arith, min);
+      same = (w.kept.same, w.bodies.0, w.bodies.1, refl, refl, refl, refl, refl, refl, w.begun);
+      left = tt;
+      phase = (c.in_ok-write_outside.ensures.phase.0, tt);
+      any_moment = (steps.next_leaves D.honest D.bytes D.unsynced D.moment D.crash_states_since m.counts_now c.self.invariant.0 alive j w.kept.same (c.self.inside.done + c.min.result) n le within2 w.kept.any_moment w.kept.apart is);
+      apart = (λ h. steps.part_frame D.honest D.bytes D.unsynced D.moment D.crash_states_since m.counts_now c.self.invariant.0 alive j w.kept.same (c.self.inside.other.start + c.self.inside.done) n (omega arith) (omega (arith, fits, len_is, size, within2)) (w.kept.apart h));
+      honest = w.kept.honest;
+      called = w.called;
+      cause = answers_ok c.in_ok-write_outside.ensures.kept.cause;
+    })
 
 pub piece-requires : goal.piece-requires
 piece-requires g c =
@@ -170,7 +149,6 @@ piece-requires g c =
     let is : step_of q.held ≡ Part = ap (λ (k : SlotsState g.row.D.Denot). k.step) c.self.view_is ∙ c.requires.step in
     let part = steps.plan_is D.honest D.bytes D.unsynced D.moment D.crash_states_since m.counts_now c.self.invariant.0 alive q.journal (steps.same_slot q.journal) Part is in
     let image = z.image in let past = z.part in let there = there_is q.planned.items q.ended z.there part.0.bytes_are in
-    let size : length (slice_range q.planned.items 0 (q.ended + 1)) ≡ q.ended + 1 = front_long q.planned.items (q.ended + 1) (omega (arith, there)) in
     let min = c.min.ensures in let to_head : q.done + c.min.result ≤ q.head = omega (arith, past, min) in
     record { within = (omega arith, omega (arith, to_head, image, there)) }
 
