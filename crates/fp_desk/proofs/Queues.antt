@@ -1,13 +1,17 @@
 -- Edits of two queues, one by one.
-use Rattle.std.proofs.Common.{◌≡◌, ◌<◌, ◌≤◌, ◌+◌, ◌*◌, ℕ, zero, suc, List, [], ◌∷◌, ◌++◌, ◌⊎◌, inl, inr, ⊎_elim, length, take, drop, get_or, refl, sym, ap, ◌∙◌, arith}
-use Rattle.std.proofs.lemmas.List.{length-map, take_at, drop_at}
+use Rattle.std.proofs.Common.{◌≡◌, ◌<◌, ◌≤◌, ◌+◌, ◌*◌, ◌^◌, ℕ, zero, suc, List, [], ◌∷◌, ◌++◌, ◌⊎◌, inl, inr, ⊎_elim, length, take, drop, get_or, Bool, true, false, Result, Ok, Err, Fits, refl, sym, ap, ◌∙◌, arith}
+use borrow.Author.Tests.{eqb-false, eqb-true}
+use Rattle.std.specs.Int.{w64}
+use Rattle.std.specs.Prelude.{OnOk, OnErr, ◌==◌, ◌≢◌}
+use Rattle.std.specs.Result.{is_err}
+use Rattle.std.proofs.lemmas.List.{length-map, map-append, take_at, drop_at}
 use Rattle.std.proofs.lemmas.List.Sums.{sum_by-append, sum_by-cons}
 use Rattle.fp_record.specs.declared.batch.TheConstants.{LONGEST_EDIT, MOST_EDITS}
 use Rattle.fp_record.specs.Group.{Group}
 use Rattle.fp_record.specs.Encoding.{encoding_of_change}
 use Rattle.fp_group_commit.specs.Changes.{batch_len}
 use Rattle.fp_desk.specs.Desk.{IsLongestPart}
-use Rattle.fp_edit.specs.Edits.{Change}
+use Rattle.fp_edit.specs.Edits.{Change, Proposal, proposal_of}
 use Rattle.fp_edit.specs.declared.edit.Edit.{Edit}
 use Rattle.fp_edit.specs.Following.{change_of, changes_of}
 use Rattle.fp_edit.proofs.Followed.{all_taken, taken_more}
@@ -82,3 +86,42 @@ moved [] xs ys zs n none all count =
     let len : length xs ≡ n = omega (arith, count, none) in
     (sym (ap (λ (l : List Edit). take n l) (sym all) ∙ take_at xs ys n len), sym (ap (λ (l : List Edit). drop n l) (sym all) ∙ drop_at xs ys n len), all)
 moved (x ∷ old) xs ys zs n none all count = absurd (omega (arith, none))
+
+-- how many changes two queues have
+pub counted : (xs ys : List Edit) (a b : ℕ) → a ≡ length xs → b ≡ length ys → length (changes_of xs) + length (changes_of ys) ≡ a + b
+counted xs ys a b p q = let first = length-map xs change_of in let second = length-map ys change_of in omega (arith, first, second, p, q)
+
+pub fits_both : (a b m n k l : ℕ) → a ≡ m → b ≡ n → (k < 2 ^ 63) × (m ≤ k) → (l < 2 ^ 63) × (n ≤ l) → Fits w64 (a + b)
+fits_both a b m n k l p q r s = let k_small = r.0 in let l_small = s.0 in let m_le = r.1 in let n_le = s.1 in omega (arith, p, q, k_small, l_small, m_le, n_le)
+
+-- what a call promises where it hasn't failed
+pub held : {A E : Type 0} (r : Result A E) (failed : Bool) (P : Type 0) → OnOk r P → failed ≡ is_err r → failed ≡ false → P
+held (Ok x) failed P ok is not = ok
+held (Err e) failed P ok is not = absurd cc
+
+pub has_room : {A E : Type 0} (r : Result A E) (failed : Bool) (m n : ℕ) → OnOk r (m + 1 ≤ n) → failed ≡ is_err r → failed ≡ false → m < n
+has_room r failed m n room is not = let more = held r failed (m + 1 ≤ n) room is not in omega (arith, more)
+
+pub on_err : {A E : Type 0} (r : Result A E) (P : Type 0) → P → OnErr r P
+on_err (Ok x) P p = tt
+on_err (Err e) P p = p
+
+-- whether a queue is empty
+pub no_items : (xs : List Edit) (b : Bool) (n : ℕ) → b ≡ (n == 0) → n ≡ length xs → b ≡ true → length xs ≡ 0
+no_items xs b n is len on = sym len ∙ eqb-true n 0 (sym is ∙ on)
+
+pub some_items : (xs : List Edit) (b : Bool) (n : ℕ) → b ≡ (n == 0) → n ≡ length xs → b ≡ false → 0 < length xs
+some_items xs b n is len off = let some : n ≢ 0 = eqb-false n 0 (sym is ∙ off) in omega (arith, some, len)
+
+pub some_changes : (xs : List Edit) → 0 < length xs → changes_of xs ≢ []
+some_changes [] some e = omega (arith, some)
+some_changes (x ∷ xs) some e = cc
+
+-- one more was copied
+pub copied_more : (xs copies more : List Edit) (i : ℕ) (x y : Edit) → more ≡ copies ++ y ∷ [] → changes_of copies ≡ changes_of (take i xs) → proposal_of y ≡ proposal_of x → i < length xs → x ≡ get_or xs i x → changes_of more ≡ changes_of (take (i + 1) xs)
+copied_more xs copies more i x y pushed before copy lt is =
+    ap changes_of pushed ∙ map-append change_of copies (y ∷ []) ∙ ap (λ (l : List Change). l ++ change_of y ∷ []) before
+    ∙ ap (λ (p : Proposal). changes_of (take i xs) ++ p.change ∷ []) copy ∙ sym (taken_more xs i x lt is)
+
+pub within : (i n m : ℕ) → i < n → n ≤ m → i < m
+within i n m lt le = omega (arith, lt, le)

@@ -1,7 +1,8 @@
 -- A desk from call to call.
-use Rattle.std.proofs.Common.{◌≡◌, ◌<◌, ◌+◌, ◌^◌, List, [], ◌∷◌, ◌++◌, length, sym, ap, subst, ◌∙◌, arith, append_assoc, length-append, None}
+use Rattle.std.proofs.Common.{◌≡◌, ◌<◌, ◌≤◌, ◌+◌, ◌^◌, ℕ, Bool, List, [], ◌∷◌, ◌++◌, length, Option, sym, ap, subst, ◌∙◌, arith, append_assoc, length-append, None}
 use Rattle.fp_edit.specs.Admits.{Admits, accepted, next, refusal}
 use Rattle.fp_edit.specs.Edits.{Change, Proposal}
+use Rattle.fp_edit.specs.declared.edit.EditFault.{EditFault}
 use Rattle.fp_edit.specs.Flags.{State}
 use Rattle.fp_edit.specs.Log.{after_all}
 use Rattle.fp_edit.proofs.Runs.{revision-after_all}
@@ -11,7 +12,14 @@ use Rattle.fp_edit.specs.Following.{Follows}
 use Rattle.fp_group_commit.specs.Tokens.{Identity}
 use Rattle.fp_edit.proofs.Followed.{after-append, follows_join, follows_behind, follows_front}
 use Rattle.fp_desk.specs.declared.desk.TheConstants.{MOST_QUEUED}
-use Rattle.fp_desk.specs.Desk.{DeskState, IsSound, head, log, settled_set, settled_revision}
+use Rattle.fp_desk.specs.Desk.{DeskState, IsSound, head, log, settled_set, settled_revision, unsettled_count}
+
+pub with_settled : (waiting : List Change) (stopped : Bool) (s t : Identity) (xs ys ds es : List Change) → s ≡ t → xs ≡ ys → ds ≡ es
+    → ◌≡◌ {A = DeskState} (record { store = s; settled = xs; drawn = ds; waiting = waiting; stopped = stopped }) (record { store = t; settled = ys; drawn = es; waiting = waiting; stopped = stopped })
+with_settled waiting stopped s t xs ys ds es store settled drawn =
+    ap (λ (x : Identity). record { store = x; settled = xs; drawn = ds; waiting = waiting; stopped = stopped }) store
+    ∙ ap (λ (l : List Change). record { store = t; settled = l; drawn = ds; waiting = waiting; stopped = stopped }) settled
+    ∙ ap (λ (l : List Change). record { store = t; settled = ys; drawn = l; waiting = waiting; stopped = stopped }) drawn
 
 module _ (d : DeskState) (h base : State) (lag : List Change) (i : IsSound d h base lag) where
   -- the numbers
@@ -19,6 +27,21 @@ module _ (d : DeskState) (h base : State) (lag : List Change) (i : IsSound d h b
   revisions =
       let all = revision-after_all d.store.start (log d) in let small = i.bounded in let len = length-append d.settled (d.drawn ++ d.waiting) in let more = length-append d.drawn d.waiting in
       omega (arith, all, small, len, more)
+
+  -- the edit is judged by the head, and the queue is full or isn't
+  pub judged : (p : Proposal) (found is : Option EditFault) → found ≡ refusal h p → found ≡ is → refusal (head d) p ≡ is
+  judged p found is by eq = ap (λ (t : State). refusal t p) (sym i.head_is) ∙ sym by ∙ eq
+
+  pub full : (n : ℕ) → unsettled_count d ≡ n → MOST_QUEUED ≤ n → unsettled_count d ≡ MOST_QUEUED
+  full n count most = let few = i.few in omega (arith, few, count, most)
+
+  pub still : (h2 : State) (waiting : List Change) → h2 ≡ h → waiting ≡ d.waiting → IsSound (record { store = d.store; settled = d.settled; drawn = d.drawn; waiting = waiting; stopped = d.stopped }) h2 base lag
+  still h2 waiting same waits =
+      subst (λ (l : List Change). IsSound (record { store = d.store; settled = d.settled; drawn = d.drawn; waiting = l; stopped = d.stopped }) h2 base lag) (sym waits)
+      (subst (λ (t : State). IsSound d t base lag) (sym same) i)
+
+  pub behind : (base1 : State) (left : List Change) → after_all base1 left ≡ after_all base lag → Follows base1 left → IsSound d h base1 left
+  behind base1 left same led = record { head_is = i.head_is; base_is = same ∙ i.base_is; lag_follows = led; follows = i.follows; few = i.few; bounded = i.bounded }
 
   -- ---- what is drawn is settled
   module _ (base1 : State) (left : List Change) (same : after_all base1 left ≡ after_all base lag) (none : left ≡ []) where

@@ -152,12 +152,12 @@ impl Desk {
         if self.drawn.len() + self.waiting.len() >= MOST_QUEUED {
             return Err((SubmitFault::QueueFull, edit));
         }
-        let Ok(copy) = edit.try_copy() else {
-            return Err((SubmitFault::Memory, edit));
-        };
         if self.waiting.try_reserve(1).is_err() {
             return Err((SubmitFault::Memory, edit));
         }
+        let Ok(copy) = edit.try_copy() else {
+            return Err((SubmitFault::Memory, edit));
+        };
         let shown = Snapshot::of(&edit);
         match self.head.admit(edit) {
             Ok(revision) => {

@@ -102,7 +102,7 @@ pub fn copies_of_front(
 {
     let mut copies = Vec::with_capacity(alloc, n)?;
     for i in 0..n {
-        copies.push(waiting[i].try_copy()?)?;
+        copies.push_reserved(waiting[i].try_copy()?);
     }
     Ok(copies)
 }

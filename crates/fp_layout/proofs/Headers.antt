@@ -4,7 +4,7 @@ use Rattle.std.specs.Prelude.{slice_index}
 use Rattle.std.specs.Int.{w64, to_be_bytes}
 use Rattle.fp_journal.specs.Holds.{Holds}
 use Rattle.fp_journal.specs.Firsts.{AreFirst}
-use Rattle.fp_journal.proofs.Firsts.{first_at, held_from}
+use Rattle.fp_journal.proofs.Firsts.{first_at, held_from, held_in}
 use Rattle.fp_layout.specs.Layout.{IsFormatted, AreZeros, IsFirstOther, magic}
 
 module _ (c bytes : List ℕ) (first : AreFirst c 0 64 bytes) (whole : 64 ≤ length bytes) where
@@ -31,3 +31,11 @@ module _ (c bytes : List ℕ) (first : AreFirst c 0 64 bytes) (whole : 64 ≤ le
     other = λ e. o.other (sym (byte_from k before) ∙ e);
     zeros = λ j low lt. byte_from j (omega (arith, lt, before)) ∙ o.zeros j low lt;
   }
+
+-- the other way
+pub formatted_in : (c bytes : List ℕ) → AreFirst c 0 64 bytes → IsFormatted c → IsFormatted bytes
+formatted_in c bytes first f = let long = f.long in let many = first.many in let whole : 64 ≤ length bytes = omega (arith, long, many) in record {
+  long = whole;
+  gate = sym (byte_from c bytes first whole 0 (omega arith)) ∙ f.gate;
+  magic_text = held_in c 0 64 1 bytes magic first (omega arith) f.magic_text;
+}

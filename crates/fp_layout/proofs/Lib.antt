@@ -1,3 +1,4 @@
+pub mod Calls
 pub mod Refusals
 pub mod Numbers
 pub mod Heads

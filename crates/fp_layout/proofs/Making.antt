@@ -1,10 +1,13 @@
 -- A disk in the making: until the header's gate is open it is none, and then it is whole.
-use Rattle.std.proofs.Common.{◌≡◌, inl, inr, ⊎_elim, ℕ, ◌+◌, ◌-◌, ◌<◌, ◌≤◌, List, [], ◌∷◌, ◌++◌, length, refl, sym, ◌∙◌, ap, subst, arith, replicate, lit<, lit≤}
-use Rattle.std.specs.Prelude.{slice_index}
+use Rattle.std.proofs.Common.{◌≡◌, inl, inr, ⊎_elim, ℕ, ◌+◌, ◌-◌, ◌<◌, ◌≤◌, List, [], ◌∷◌, ◌++◌, length, set, refl, sym, ◌∙◌, ap, subst, arith, replicate, lit<, lit≤}
+use Rattle.std.specs.Prelude.{slice_index, slice_range}
 use Rattle.std.proofs.lemmas.Bool.{cases_eq}
 use Rattle.std.specs.Int.{w32, w64, to_be_bytes}
 use Rattle.std.proofs.lemmas.List.{get_or-replicate}
 use Rattle.fp_journal.specs.Chain.{Ends}
+use Rattle.fp_journal.specs.declared.journal.Phase.{Phase}
+use Rattle.fp_journal.specs.declared.journal.Phase.TheVariants.{Failed, Idle}
+use Rattle.fp_journal.specs.declared.slot.Slot.{Slot}
 use Rattle.fp_layout.specs.Size.{IsSlotSize, first, first_slot, second_slot}
 use Rattle.fp_disk.specs.Outcomes.{Elapses, IsOutcome, LeavesOnly, PendingState, Written, all_synced, with_write}
 use Rattle.fp_journal.specs.Holds.{Holds, IsSynced}
@@ -13,7 +16,7 @@ use Rattle.fp_disk.specs.Moments.{leaves_call, leaves_then, leaves_map}
 use Rattle.fp_slots.specs.State as slots
 use Rattle.fp_layout.specs.Layout.{magic, IsFormatted, IsHeader, IsHead, IsActive}
 use Rattle.fp_slots.specs.Head.{slot_text}
-use Rattle.fp_layout.specs.NewDisk.{header_text, empty_image, new_front, IsMade, IsNewDisk, IsNewOrNone}
+use Rattle.fp_layout.specs.NewDisk.{closed_bytes, header_text, empty_image, new_front, IsMade, IsNewDisk, IsNewOrNone}
 use Rattle.fp_gate.specs.declared.gate.TheConstants.{OPEN}
 
 pub no_bytes : (c : List ℕ) → length c ≡ 0 → c ≡ []
@@ -235,3 +238,31 @@ module _ (size : ℕ) (c : List ℕ) (allowed : IsSlotSize size) (n : IsNewDisk 
         holds = holds_append c 64 new_front (0 ∷ []) front (subst (λ (x : ℕ). Holds c 90 (x ∷ [])) zero (holds_byte c 90 (omega (arith, long, least))));
         within = omega (arith, least);
       }
+
+-- ---- what is handed to a journal and to slots: the bytes up to the first batch's gate, with the first slot's gate open
+module _ (size : ℕ) (slot : Slot) (at : slot ≡ first_slot size) where
+  module _ (items : List ℕ) (is : items ≡ closed_bytes size) where
+    pub opened_place : (slot.start ≤ 90) × (90 ≤ length (set items 64 OPEN))
+    opened_place = let long : length (set (closed_bytes size) 64 OPEN) ≡ 91 = refl in (
+      subst (λ (s : Slot). s.start ≤ 90) (sym at) (lit≤ tt),
+      subst (λ (t : List ℕ). 90 ≤ length (set t 64 OPEN)) (sym is) (omega (arith, long)),
+    )
+
+    pub opened_front : slice_range (set items 64 OPEN) slot.start 90 ≡ new_front
+    opened_front = subst (λ (s : Slot). slice_range (set items 64 OPEN) s.start 90 ≡ new_front) (sym at) (subst (λ (t : List ℕ). slice_range (set t 64 OPEN) 64 90 ≡ new_front) (sym is) refl)
+
+  pub first_within : IsSlotSize size → 90 < slot.stop
+  first_within allowed = let least = allowed.least in subst (λ (s : Slot). 90 < s.stop) (sym at) (omega (arith, least))
+
+  module _ (other : Slot) (beside : other ≡ second_slot size) where
+    pub two_apart : slot.stop ≤ other.start
+    two_apart = subst (λ (s : Slot). s.stop ≤ other.start) (sym at) (subst (λ (s : Slot). 64 + size ≤ s.start) (sym beside) (omega arith))
+
+    pub two_wide : IsSlotSize size → (other.start + 9 ≤ other.stop) × (slot.start + 9 ≤ slot.stop)
+    two_wide allowed = let least = allowed.least in (subst (λ (s : Slot). s.start + 9 ≤ s.stop) (sym beside) (omega (arith, least)), subst (λ (s : Slot). s.start + 9 ≤ s.stop) (sym at) (omega (arith, least)))
+
+pub new_is_front : (text : List ℕ) → text ≡ new_front → slots.IsFrontOf 1 text
+new_is_front text is = record { rest = 1 ∷ (to_be_bytes w64 0 ++ (to_be_bytes w32 4 ++ empty_image)); front_is = is }
+
+pub idle_lives : (p : Phase) → p ≡ Idle → p ≡ Failed → ⊥
+idle_lives p is failed = let no : Idle ≡ Failed = sym is ∙ failed in cc no

@@ -3,6 +3,8 @@ use Rattle.std.proofs.Common.{◌≢◌, ℕ, List}
 use Rattle.fp_journal.specs.Reading.{Refuses}
 use Rattle.fp_journal.specs.declared.chain.ChainFault.{ChainFault}
 use Rattle.fp_journal.specs.declared.chain.ChainFault.TheVariants as chain_fault
+use Rattle.fp_journal.specs.declared.pieces.BytesFault.{BytesFault}
+use Rattle.fp_journal.specs.declared.pieces.BytesFault.TheVariants as bytes_fault
 use Rattle.fp_layout.specs.declared.fault.OpenFault.{OpenFault}
 use Rattle.fp_layout.specs.declared.fault.OpenFault.TheVariants.{Unformatted, UnknownVersion, Damaged, Device, Memory}
 use Rattle.fp_journal.specs.declared.slot.Slot.{Slot}
@@ -11,7 +13,7 @@ use Rattle.fp_slots.specs.declared.choosing.SlotFault.{SlotFault}
 use Rattle.fp_slots.specs.declared.choosing.SlotFault.TheVariants as slot_fault
 use Rattle.fp_layout.specs.Size.{first_slot, second_slot}
 use Rattle.fp_layout.specs.Layout.{IsHeader, IsActive}
-use Rattle.fp_layout.specs.Faults.{RefusesHeader, BreaksHead, IsDamage, UnlessWanting, fault_of_chain, fault_of_slots}
+use Rattle.fp_layout.specs.Faults.{RefusesHeader, BreaksHead, IsDamage, UnlessWanting, fault_of_bytes, fault_of_chain, fault_of_slots}
 use Rattle.fp_layout.specs.Opening.{BreaksRuling, in_neither, in_one, FoundFront, BreaksFront, in_header, in_slots, in_head, RefusesFront, in_front, in_chain, RefusesDisk}
 
 -- what a fault says it says unless the device or memory was wanting
@@ -45,6 +47,10 @@ module _ {R : Type 0} (rejects : R → ℕ → ℕ → List ℕ → ℕ → Type
   header_refuses (Damaged at) r = in_header r
   header_refuses Device r = tt
   header_refuses Memory r = tt
+
+  pub bytes_refuse : (f : BytesFault) → RefusesFront rejects c before (fault_of_bytes f)
+  bytes_refuse bytes_fault.Device = tt
+  bytes_refuse bytes_fault.Memory = tt
 
   ruling_breaks : (size k : ℕ) → IsHeader c size → BreaksRuling c size k → BreaksFront rejects c before k
   ruling_breaks size k h (in_neither r) = in_slots size h r

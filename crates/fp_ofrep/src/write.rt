@@ -85,24 +85,22 @@ pub(crate) fn write_value(out: &mut Writer, value: &Value) -> Result<(), AllocEr
     ensures before { OnOk result (out.new.before ≡ out.old.before) }
 {
     match value {
-        Value::Null => out.null()?,
-        Value::Bool(b) => out.boolean(*b)?,
-        Value::Number(number) => {
-            if let Some(whole) = number.as_i64() {
-                out.i64(whole)?;
-            }
-        }
-        Value::String(text) => out.string(text.as_str())?,
+        Value::Null => out.null(),
+        Value::Bool(b) => out.boolean(*b),
+        Value::Number(number) => match number.as_i64() {
+            Some(whole) => out.i64(whole),
+            None => Ok(()),
+        },
+        Value::String(text) => out.string(text.as_str()),
         Value::Array(items) => {
             out.begin_array()?;
-            write_items(out, items)?;
+            write_items(out, items)
         }
         Value::Object(members) => {
             out.begin_object()?;
-            write_members(out, members)?;
+            write_members(out, members)
         }
     }
-    Ok(())
 }
 
 #[cycle(writes)]
@@ -115,8 +113,7 @@ fn write_items(out: &mut Writer, items: &Vec<Value>) -> Result<(), AllocError>
     for item in items {
         write_value(out, item)?;
     }
-    out.end_array()?;
-    Ok(())
+    out.end_array()
 }
 
 #[cycle(writes)]
@@ -130,8 +127,7 @@ fn write_members(out: &mut Writer, members: &Map<String, Value>) -> Result<(), A
         out.key(name.as_str())?;
         write_value(out, member)?;
     }
-    out.end_object()?;
-    Ok(())
+    out.end_object()
 }
 
 fn reason_word(reason: Reason) -> &'static str

@@ -1,9 +1,13 @@
-use Rattle.std.proofs.Common.{rules, ◌≡◌, ◌+◌, [], sym, ◌∙◌, ap, subst}
+use Rattle.std.proofs.Common.{rules, ◌≡◌, ◌+◌, ◌<◌, ℕ, List, [], ◌∷◌, inl, inr, refl, true, sym, ◌∙◌, ap, subst}
+use Rattle.fp_disk.specs.History.{MakesSome}
 use Rattle.fp_disk.specs.Outcomes.{PendingState, all_synced}
+use Rattle.fp_disk.specs.declared.history.CallKind.{CallKind}
+use Rattle.fp_disk.specs.declared.history.CallKind.TheVariants.{Length}
 use Rattle.fp_journal.specs.State.{EndsClosed, JournalState}
 use Rattle.fp_journal.proofs.Gates.{quiet_settled}
 use Rattle.fp_disk.specs.Moments.{leaves_then}
-use Rattle.fp_layout.specs.NewDisk.{IsNewDisk, IsNewOrNone, closed_bytes, new_front}
+use Rattle.fp_layout.specs.NewDisk.{IsNewDisk, IsNewOrNone, closed_bytes, format_calls, new_front}
+use Rattle.fp_layout.proofs.Calls.{calls_joined}
 use Rattle.fp_layout.proofs.Making as making
 use Rattle.fp_layout.proofs.format.create.Goals as goal
 
@@ -40,3 +44,125 @@ new-requires-clause-beaten g c =
     let new : D.honest d → IsNewDisk s (D.bytes d) = λ h. let h1 = c.format.ensures.honest.1 h in let h0 = c.len.ensures.honest.1 h1 in c.in-Ok-format.ensures.made h1 ((c.len.ensures.same h0).0 ∙ making.no_bytes (D.bytes c.args.disk) (sym (c.in-Ok-eq0.ensures.answer h0) ∙ c.in-Ok-eq0.field-0-test)) in
     let sure : D.honest d → D.unsynced d ≡ all_synced (D.bytes d) = search rules in
     rw (c.adopt-journal.ensures.disk, c.second_slot.ensures.slot) (λ h. making.new_shut s (D.bytes d) c.first_slot.ensures.allowed (new h) (D.unsynced d) (sure h))
+
+pub format-requires : goal.format-requires
+format-requires g c = c.deref.ensures.value ∙ c.in-Ok-closed.ensures
+
+pub adopt-journal-requires-clause-place : goal.adopt-journal-requires-clause-place
+adopt-journal-requires-clause-place g c = making.opened_place c.args.size c.first_slot.result c.first_slot.ensures.slot c.in-Ok-closed.bytes.items c.in-Ok-closed.ensures
+
+pub adopt-journal-requires-clause-within : goal.adopt-journal-requires-clause-within
+adopt-journal-requires-clause-within g c = making.first_within c.args.size c.first_slot.result c.first_slot.ensures.slot c.first_slot.ensures.allowed
+
+pub new-requires-clause-apart : goal.new-requires-clause-apart
+new-requires-clause-apart g c = inl (making.two_apart c.args.size c.adopt-journal.result.slot (c.adopt-journal.ensures.slot.0 ∙ c.first_slot.ensures.slot) c.second_slot.result c.second_slot.ensures.slot)
+
+pub new-requires-clause-wide : goal.new-requires-clause-wide
+new-requires-clause-wide g c = making.two_wide c.args.size c.adopt-journal.result.slot (c.adopt-journal.ensures.slot.0 ∙ c.first_slot.ensures.slot) c.second_slot.result c.second_slot.ensures.slot c.first_slot.ensures.allowed
+
+pub new-requires-clause-front : goal.new-requires-clause-front
+new-requires-clause-front g c =
+    making.new_is_front c.adopt-journal.result.front (c.adopt-journal.ensures.slot.1 ∙ making.opened_front c.args.size c.first_slot.result c.first_slot.ensures.slot c.in-Ok-closed.bytes.items c.in-Ok-closed.ensures)
+
+pub new-requires-clause-live : goal.new-requires-clause-live
+new-requires-clause-live g c = making.idle_lives c.adopt-journal.result.phase c.adopt-journal.ensures.begins.1
+
+pub returns-clause-journal : goal.returns-clause-journal
+returns-clause-journal g c =
+    let j = c.adopt-journal.ensures in let same = c.new.ensures.same.0 in
+    let front = making.opened_front c.args.size c.first_slot.result c.first_slot.ensures.slot c.in-Ok-closed.bytes.items c.in-Ok-closed.ensures in (
+      ap (λ (k : JournalState g.row.D.Denot). k.slot) same ∙ j.slot.0 ∙ c.first_slot.ensures.slot,
+      ap (λ (k : JournalState g.row.D.Denot). k.front) same ∙ j.slot.1 ∙ front,
+      ap (λ (k : JournalState g.row.D.Denot). k.sealed) same ∙ j.begins.0,
+      ap (λ (k : JournalState g.row.D.Denot). k.phase) same ∙ j.begins.1,
+    )
+
+pub returns-clause-beside : goal.returns-clause-beside
+returns-clause-beside g c = let same = c.new.ensures.same in (same.1 ∙ c.second_slot.ensures.slot, same.2, same.4, same.3)
+
+pub returns-clause-made : goal.returns-clause-made
+returns-clause-made g c = λ h.
+    let D = g.D.Disk in let empty = making.no_bytes (D.bytes c.args.disk) (sym (c.in-Ok-eq0.ensures.answer h) ∙ c.in-Ok-eq0.field-0-test) in
+    rw (ap (λ (j : JournalState g.row.D.Denot). j.disk) c.new.ensures.same.0 ∙ c.adopt-journal.ensures.disk) (c.in-Ok-format.ensures.made (c.len.ensures.honest.0 h) ((c.len.ensures.same h).0 ∙ empty))
+
+pub returns-clause-all_synced : goal.returns-clause-all_synced
+returns-clause-all_synced g c = λ h.
+    rw (ap (λ (j : JournalState g.row.D.Denot). j.disk) c.new.ensures.same.0 ∙ c.adopt-journal.ensures.disk) (c.in-Ok-format.ensures.all_synced (c.len.ensures.honest.0 h))
+
+pub returns-clause-empty : goal.returns-clause-empty
+returns-clause-empty g c = λ h ok. let D = g.D.Disk in making.no_bytes (D.bytes c.args.disk) (sym (c.in-Ok-eq0.ensures.answer h) ∙ c.in-Ok-eq0.field-0-test)
+
+pub returns-clause-honest : goal.returns-clause-honest
+returns-clause-honest g c =
+    let x = c.len.ensures.honest in let y = c.format.ensures.honest in
+    rw (ap (λ (j : JournalState g.row.D.Denot). j.disk) c.new.ensures.same.0 ∙ c.adopt-journal.ensures.disk) (λ h. y.0 (x.0 h), λ h. x.1 (y.1 h))
+
+pub returns-clause-called : goal.returns-clause-called
+returns-clause-called g c =
+    let D = g.D.Disk in
+    rw (ap (λ (j : JournalState g.row.D.Denot). j.disk) c.new.ensures.same.0 ∙ c.adopt-journal.ensures.disk) (calls_joined (Length ∷ []) format_calls (D.calls c.args.disk) (D.calls c.len.new.self) (D.calls c.format.new.disk) c.len.ensures.called c.in-Ok-format.ensures.called)
+
+pub returns-in-Ok-clause-any_moment : goal.returns-in-Ok-clause-any_moment
+returns-in-Ok-clause-any_moment g c = λ h is.
+    let D = g.D.Disk in let m = g.met.D.Disk in
+    making.empty_leaves D.honest D.bytes D.unsynced D.moment D.crash_states_since m.present m.only_now c.args.size c.args.disk c.len.new.self h is (c.len.ensures.time h)
+
+pub returns-in-Ok-clause-called : goal.returns-in-Ok-clause-called
+returns-in-Ok-clause-called g c = inr (inl c.len.ensures.called)
+
+pub returns-in-Ok-clause-honest : goal.returns-in-Ok-clause-honest
+returns-in-Ok-clause-honest g c = c.len.ensures.honest
+
+pub returns-in-Err-clause-any_moment : goal.returns-in-Err-clause-any_moment
+returns-in-Err-clause-any_moment g c = λ h is.
+    let D = g.D.Disk in let m = g.met.D.Disk in
+    making.empty_leaves D.honest D.bytes D.unsynced D.moment D.crash_states_since m.present m.only_now c.args.size c.args.disk c.len.new.self h is (c.len.ensures.time h)
+
+pub returns-in-Err-clause-called : goal.returns-in-Err-clause-called
+returns-in-Err-clause-called g c = inr (inl c.len.ensures.called)
+
+pub returns-in-Err-clause-honest : goal.returns-in-Err-clause-honest
+returns-in-Err-clause-honest g c = c.len.ensures.honest
+
+pub returns-in_default-clause-any_moment : goal.returns-in_default-clause-any_moment
+returns-in_default-clause-any_moment g c = λ h is.
+    let D = g.D.Disk in let m = g.met.D.Disk in
+    making.empty_leaves D.honest D.bytes D.unsynced D.moment D.crash_states_since m.present m.only_now c.args.size c.args.disk c.len.new.self h is (c.len.ensures.time h)
+
+pub returns-in_default-clause-called : goal.returns-in_default-clause-called
+returns-in_default-clause-called g c = inr (inl c.len.ensures.called)
+
+pub returns-in_default-clause-honest : goal.returns-in_default-clause-honest
+returns-in_default-clause-honest g c = c.len.ensures.honest
+
+pub returns-in-Ok-clause-untouched : goal.returns-in-Ok-clause-untouched
+returns-in-Ok-clause-untouched g c = inr c.len.ensures.called
+
+pub returns-in_default-clause-untouched : goal.returns-in_default-clause-untouched
+returns-in_default-clause-untouched g c = inr c.len.ensures.called
+
+pub returns-in-Err-clause-cause : goal.returns-in-Err-clause-cause
+returns-in-Err-clause-cause g c = λ e. c.in-Err.ensures.cause.ill (refl {a = true})
+
+pub returns-in_default-clause-memory : goal.returns-in_default-clause-memory
+returns-in_default-clause-memory g c = λ h e. c.len.ensures.same h
+
+pub returns-in_default-format-clause-called : goal.returns-in_default-format-clause-called
+returns-in_default-format-clause-called g c =
+    let D = g.D.Disk in let d2 = c.format.new.disk in
+    inr (subst (λ (l : List CallKind). MakesSome format_calls l (D.calls d2)) c.len.ensures.called c.in_default-format.ensures.called)
+
+pub returns-in_default-format-clause-honest : goal.returns-in_default-format-clause-honest
+returns-in_default-format-clause-honest g c =
+    let x = c.len.ensures.honest in let y = c.format.ensures.honest in (λ h. y.0 (x.0 h), λ h. x.1 (y.1 h))
+
+pub returns-in_default-format-clause-cause : goal.returns-in_default-format-clause-cause
+returns-in_default-format-clause-cause g c = λ e.
+    let D = g.D.Disk in
+    subst (λ (n : ℕ). n < D.faults c.format.new.disk) (c.in-Ok-eq0.ensures.cause.well (refl {a = true})) (c.in_default-format.ensures.cause.ill (refl {a = true}))
+
+pub returns-in_default-format-clause-untouched : goal.returns-in_default-format-clause-untouched
+returns-in_default-format-clause-untouched g c = inl refl
+
+pub returns-in-Err-clause-untouched : goal.returns-in-Err-clause-untouched
+returns-in-Err-clause-untouched g c = inl refl

@@ -1,11 +1,11 @@
-use Rattle.std.proofs.Common.{rules, ◌≡◌, ◌∙◌, sym, subst, arith, ℕ}
+use Rattle.std.proofs.Common.{rules, ◌≡◌, ◌∙◌, false, true, refl, sym, subst, arith, ℕ}
 use Rattle.std.specs.Prelude.{slice_index}
 use Rattle.std.specs.Int.{w64, to_be_bytes}
 use Rattle.fp_journal.specs.Holds.{Holds}
-use Rattle.fp_layout.specs.Faults.{not_zero, too_short}
+use Rattle.fp_layout.specs.Faults.{bad_size, not_zero, too_short}
 use Rattle.fp_layout.specs.Layout.{IsFormatted}
 use Rattle.fp_layout.specs.Size.{IsSlotSize}
-use Rattle.fp_layout.proofs.Headers.{byte_from, formatted_from, size_from, zeros_from, other_from}
+use Rattle.fp_layout.proofs.Headers.{byte_from, formatted_from, formatted_in, size_from, zeros_from, other_from}
 use Rattle.fp_layout.proofs.header.read_header.Goals as goal
 
 pub returns-in-Some-first_other-clause-fault : goal.returns-in-Some-first_other-clause-fault
@@ -41,3 +41,18 @@ returns-clause-found c = λ b first long.
       zeros = zeros_from b bytes first whole c.in_default-first_other.ensures.none;
       long = omega (arith, long, size, enough);
     }
+
+pub returns-then-not-is_formatted-clause-fault : goal.returns-then-not-is_formatted-clause-fault
+returns-then-not-is_formatted-clause-fault c = λ b first long there.
+    let no : IsFormatted c.args.bytes.now → ⊥ = search rules in no (formatted_in b c.args.bytes.now first there)
+
+pub returns-in_default-clause-fault : goal.returns-in_default-clause-fault
+returns-in_default-clause-fault c = λ b first long.
+    let bytes = c.args.bytes.now in let formatted : IsFormatted bytes = search rules in let whole = formatted.long in let n = c.u64_at.result in let version : slice_index bytes 9 ≡ 1 = search rules in (
+      formatted_from b bytes first whole formatted,
+      byte_from b bytes first whole 9 (omega arith) ∙ version,
+      (n, c.u64_at.ensures.fits, size_from b bytes first whole n c.u64_at.ensures.holds, bad_size (λ allowed. let no : false ≡ true = c.in_default.ensures.allowed.1 allowed in cc no) refl),
+    )
+
+pub returns-clause-within : goal.returns-clause-within
+returns-clause-within c = let size = c.bytes.ensures.bytes in let enough = c.if-len-bytes.false in rw (← size) enough

@@ -1,4 +1,4 @@
-use Rattle.std.proofs.Common.{rules, ◌≡◌, ◌+◌, ◌++◌, ℕ, List, length, take, drop, refl, sym, ap, subst, ◌∙◌, arith}
+use Rattle.std.proofs.Common.{◌≡◌, ◌≢◌, ◌<◌, ◌+◌, ◌++◌, ℕ, List, [], inl, inr, None, length, take, drop, refl, sym, ap, subst, ◌∙◌, arith}
 use Rattle.std.proofs.lemmas.List.{map-append}
 use Rattle.fp_edit.specs.Edits.{Change}
 use Rattle.fp_edit.specs.declared.edit.Edit.{Edit}
@@ -9,20 +9,81 @@ use Rattle.fp_edit.proofs.Runs.{revision-after_all}
 use Rattle.fp_edit.specs.Following.{Follows}
 use Rattle.fp_group_commit.specs.Changes.{GoesOn}
 use Rattle.fp_edit.proofs.Followed.{follows_front}
-use Rattle.fp_desk.specs.Desk.{IsLongestPart, most_of}
+use Rattle.fp_desk.specs.Desk.{DeskState, Draws, IsLongestPart, IsSound, most_of}
 use Rattle.fp_desk.proofs.Sound.{drawn_on, revisions}
-use Rattle.fp_desk.proofs.Queues.{moved, nil_of, renumbered}
+use Rattle.fp_desk.proofs.Queues.{moved, nil_of, no_items, on_err, renumbered, some_changes, some_items}
 use Rattle.fp_desk.proofs.desk.Desk.draw.Goals as goal
+use Rattle.fp_desk.proofs.desk.Desk.draw.Goals.{After-longest_body, After-try_reserve, then-not-is_empty-via-then-not-is_empty, then-not-is_empty-via-else-not-is_empty+then-is_empty}
 
 pub overflow_add-first : goal.overflow_add-first
 overflow_add-first c = let small = revisions _ _ _ _ c.self.invariant in let is = c.revision-first.ensures in omega (arith, small, is)
+
+pub returns-then-not-is_empty-clause-drawn : goal.returns-then-not-is_empty-clause-drawn
+returns-then-not-is_empty-clause-drawn c =
+    let drawn = c.self.inside.drawn in let waiting = c.self.inside.waiting in
+    subst (λ (d : DeskState). Draws d d None) c.self.view_is (
+      refl,
+      elim c.then-not-is_empty.branch [
+        | then-not-is_empty-via-then-not-is_empty w ↦ inl (some_changes drawn.items (some_items drawn.items _ _ c.is_empty.ensures drawn.ok.0 w.if-not-is_empty.true))
+        | then-not-is_empty-via-else-not-is_empty+then-is_empty w ↦ inr (nil_of waiting.items (no_items waiting.items _ _ w.is_empty-else-not-is_empty.ensures waiting.ok.0 w.if-is_empty.true))
+      ],
+    )
+
+module _ (c : goal.After-longest_body) where
+  none_out : length c.self.inside.drawn.items ≡ 0
+  none_out = no_items c.self.inside.drawn.items _ _ c.is_empty.ensures c.self.inside.drawn.ok.0 c.if-not-is_empty.false
+
+  some_wait : 0 < length c.self.inside.waiting.items
+  some_wait = some_items c.self.inside.waiting.items _ _ c.is_empty-else-not-is_empty.ensures c.self.inside.waiting.ok.0 c.if-is_empty.false
+
+  wanting : (c.args.self.now.drawn ≡ []) × (c.args.self.now.waiting ≢ [])
+  wanting = subst (λ (d : DeskState). (d.drawn ≡ []) × (d.waiting ≢ [])) c.self.view_is (nil_of c.self.inside.drawn.items none_out, some_changes c.self.inside.waiting.items some_wait)
+
+pub first_part-n-requires : goal.first_part-n-requires
+first_part-n-requires c = some_wait c
+
+pub copies_of_front-requires : goal.copies_of_front-requires
+copies_of_front-requires c = c.first_part-n.ensures.within
+
+pub move_front-requires-clause-there : goal.move_front-requires-clause-there
+move_front-requires-clause-there c = c.first_part-n.ensures.within
+
+pub move_front-requires-clause-room : goal.move_front-requires-clause-room
+move_front-requires-clause-room c = c.in_ok-try_reserve.ensures.ok
+
+module _ (c : goal.After-try_reserve) where
+  sound : IsSound (record { store = c.self.inside.settled.store; settled = c.self.inside.settled.edits; drawn = changes_of c.try_reserve.new.self.items; waiting = changes_of c.self.inside.waiting.items; stopped = c.self.inside.stopped })
+      c.self.inside.head c.self.inside.base (changes_of c.self.inside.lag.items)
+  sound = drawn_on _ _ _ _ c.self.invariant _ refl refl (ap (λ (l : List Edit). changes_of l ++ changes_of c.self.inside.waiting.items) c.try_reserve.ensures.items)
+
+  unchanged : (record { store = c.self.inside.settled.store; settled = c.self.inside.settled.edits; drawn = changes_of c.try_reserve.new.self.items; waiting = changes_of c.self.inside.waiting.items; stopped = c.self.inside.stopped }) ≡ c.args.self.now
+  unchanged =
+      ap (λ (l : List Edit). record { store = c.self.inside.settled.store; settled = c.self.inside.settled.edits; drawn = changes_of l; waiting = changes_of c.self.inside.waiting.items; stopped = c.self.inside.stopped }) c.try_reserve.ensures.items ∙ c.self.view_is
+
+pub invariant_of-self : goal.invariant_of-self
+invariant_of-self c = sound (goal.at.invariant_of-self c).After-try_reserve
+
+pub invariant_of-self-in_err-edits : goal.invariant_of-self-in_err-edits
+invariant_of-self-in_err-edits c = sound (goal.at.invariant_of-self-in_err-edits c).After-try_reserve
+
+pub returns-in_err-try_reserve-clause-memory : goal.returns-in_err-try_reserve-clause-memory
+returns-in_err-try_reserve-clause-memory c = on_err c.from_residual.result _ (wanting (goal.at.returns-in_err-try_reserve-clause-memory c).After-longest_body)
+
+pub returns-in_err-try_reserve-clause-unchanged : goal.returns-in_err-try_reserve-clause-unchanged
+returns-in_err-try_reserve-clause-unchanged c = on_err c.from_residual.result _ (unchanged (goal.at.returns-in_err-try_reserve-clause-unchanged c).After-try_reserve)
+
+pub returns-in_err-edits-clause-memory : goal.returns-in_err-edits-clause-memory
+returns-in_err-edits-clause-memory c = on_err c.from_residual-in_err-edits.result _ (wanting (goal.at.returns-in_err-edits-clause-memory c).After-longest_body)
+
+pub returns-in_err-edits-clause-unchanged : goal.returns-in_err-edits-clause-unchanged
+returns-in_err-edits-clause-unchanged c = on_err c.from_residual-in_err-edits.result _ (unchanged (goal.at.returns-in_err-edits-clause-unchanged c).After-try_reserve)
 
 module _ (c : goal.After-new) where
   abbrev Waits : List Edit
   Waits = c.self.inside.waiting.items
 
   none : length c.self.inside.drawn.items ≡ 0
-  none = search rules
+  none = no_items c.self.inside.drawn.items _ _ c.is_empty.ensures c.self.inside.drawn.ok.0 c.if-not-is_empty.false
 
   parts : (c.move_front.new.drawn.items ≡ take c.first_part-n.result Waits) × (c.move_front.new.waiting.items ≡ drop c.first_part-n.result Waits) × (c.move_front.new.drawn.items ++ c.move_front.new.waiting.items ≡ Waits)
   parts =
