@@ -18,7 +18,7 @@ pub struct FlagKey {
 }
 
 impl FlagKey {
-    ghost use Rattle.std.specs.Prelude.{◌≡◌, ◌↔◌, true, false, Err, IfOk};
+    ghost use Rattle.std.specs.Prelude.{◌≡◌, true, false, Err, IfOk};
     ghost use Rattle.fp_definition.specs.Key.{key_bytes, is_key};
     ghost use Rattle.fp_definition.specs.declared.faults.KeyFault.TheVariants.{BadKey};
 

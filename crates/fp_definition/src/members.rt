@@ -2,7 +2,7 @@
 
 ghost use Rattle.std.specs.Prelude.{◌≡◌, codes, true, None, IfOk, IfErr};
 ghost use Rattle.serde_json.specs.Events.{members_len};
-ghost use Rattle.serde_json.specs.Find.{get};
+ghost use Rattle.serde_json.specs.Find.{get, get_member};
 ghost use Rattle.serde_json.specs.View.{view, members_view};
 ghost use Rattle.fp_base.specs.Answer.{IsFirst};
 ghost use Rattle.fp_base.specs.Tests.{first_failed};
@@ -120,6 +120,7 @@ pub(crate) fn count_of(members: &Map<String, Value>) -> usize
 
 // The value without its member of this name.
 pub(crate) fn without(value: Value, name: &str) -> Value
+    ensures gone { get name.now (view result) ≡ None }
     ensures others { HasAllBut name.now (view value) (view result) }
     ensures whole { is_whole (view value) ≡ true → is_whole (view result) ≡ true }
 {
@@ -133,6 +134,7 @@ pub(crate) fn without(value: Value, name: &str) -> Value
 }
 
 fn leave_out(members: &mut Map<String, Value>, name: &str)
+    ensures gone { get_member name.now (members_view members.new.entries) ≡ None }
     ensures others { HasAllMembersBut name.now
         (members_view members.old.entries) (members_view members.new.entries) }
     ensures whole { members_whole (members_view members.old.entries) ≡ true

@@ -1,7 +1,6 @@
 //! The rule of a definition's `targeting`.
 
 ghost use Rattle.std.specs.Prelude.{◌≡◌, None, Some, Ok, IfOk, IfErr, codes};
-ghost use Rattle.serde_json.specs.Events.{members_len};
 ghost use Rattle.serde_json.specs.Find.{get};
 ghost use Rattle.serde_json.specs.View.{view};
 ghost use Rattle.fp_base.specs.Tests.{first_failed};

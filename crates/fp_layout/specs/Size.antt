@@ -1,13 +1,14 @@
 -- The sizes that a slot may have.
-use Rattle.std.specs.Prelude.{◌≤◌, ◌+◌, ◌-◌, ◌/◌, ◌^◌, ℕ, IsTrue}
+use Rattle.std.specs.Prelude.{◌≤◌, ◌+◌, ◌-◌, ◌/◌, ℕ, IsTrue}
 use Rattle.std.specs.Int.{is_power_of_two}
 use Rattle.fp_journal.specs.declared.slot.Slot.{Slot}
 use Rattle.fp_layout.specs.declared.header.TheConstants.{HEADER}
+use Rattle.fp_layout.specs.declared.size.TheConstants.{LARGEST_SLOT, SMALLEST_SLOT}
 
 pub record IsSlotSize (bytes : ℕ) : Type 0 where
   pub power : IsTrue (is_power_of_two bytes)
-  pub least : 2 ^ 18 ≤ bytes
-  pub greatest : bytes ≤ 2 ^ 30
+  pub least : SMALLEST_SLOT ≤ bytes
+  pub greatest : bytes ≤ LARGEST_SLOT
 
 -- the longest body that a slot of so many bytes takes:
 -- a batch with its length and its two gates has an eighth of them at most

@@ -1,14 +1,14 @@
 //! A new disk.
 
 ghost use Rattle.fp_disk.specs.Crashes.{AtAnyMoment, SameHonesty};
-ghost use Rattle.std.specs.Prelude.{◌≡◌, ◌≢◌, ◌⊎◌, ◌<◌, ◌+◌, ◌∷◌, ◌++◌, [], List, ℕ, length, IfOk};
-ghost use Rattle.std.specs.Prelude.{false, IfErr, OnOk, IsOk, IsErr, MatchResult};
+ghost use Rattle.std.specs.Prelude.{◌≡◌, ◌≢◌, ◌⊎◌, ◌<◌, ◌+◌, ◌∷◌, ◌++◌, [], length, IfOk};
+ghost use Rattle.std.specs.Prelude.{false, IfErr, OnOk, IsOk, MatchResult};
 ghost use Rattle.fp_disk.specs.History.{Makes, MakesSome};
 ghost use Rattle.fp_disk.specs.declared.history.CallKind.TheVariants.{Length, Sync, Write};
 ghost use Rattle.fp_disk.specs.Outcomes.{Answers, IsOutcome, LeavesOnly, Written, all_synced};
 ghost use Rattle.fp_disk.specs.Outcomes.{with_write};
 ghost use Rattle.fp_journal.specs.declared.journal.Phase.TheVariants.{Idle};
-ghost use Rattle.fp_layout.specs.Size.{IsSlotSize, first_slot, second_slot};
+ghost use Rattle.fp_layout.specs.Size.{first_slot, second_slot};
 ghost use Rattle.fp_layout.specs.Layout.{IsHeader, IsHead, IsActive};
 ghost use Rattle.fp_layout.specs.NewDisk.{IsNewDisk, IsNewOrNone, closed_bytes, empty_image};
 ghost use Rattle.fp_layout.specs.NewDisk.{format_calls, new_front};

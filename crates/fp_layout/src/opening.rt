@@ -5,7 +5,6 @@ ghost use Rattle.std.specs.Prelude.{◌↔◌, slice_index, slice_range, IfOk, I
 ghost use Rattle.std.specs.Prelude.{MatchResult, IsErrOf};
 ghost use Rattle.fp_disk.specs.Crashes.{AtAnyMoment, SameHonesty};
 ghost use Rattle.fp_gate.specs.declared.gate.TheConstants.{OPEN};
-ghost use Rattle.fp_disk.specs.History.{MakesSome};
 ghost use Rattle.fp_disk.specs.declared.history.CallKind.TheVariants.{Length, Sync};
 ghost use Rattle.fp_disk.specs.Outcomes.{IsOutcome, LeavesOnly, all_synced};
 ghost use Rattle.fp_journal.specs.Pieces.{MakesThenReads, OnlyReads, ThenReads, ThenSomeReads};

@@ -1,6 +1,6 @@
 //! How many bytes a slot has.
 
-ghost use Rattle.std.specs.Prelude.{◌≡◌, ◌<◌, ◌≤◌, ◌+◌, ◌-◌, ◌/◌, ◌^◌, ◌↔◌, IsSome, IfSome};
+ghost use Rattle.std.specs.Prelude.{◌≡◌, ◌<◌, ◌+◌, ◌-◌, ◌/◌, ◌↔◌, IsSome, IfSome};
 ghost use Rattle.fp_layout.specs.Size.{IsSlotSize, first_slot, second_slot};
 ghost use Rattle.fp_layout.specs.declared.size.TheConstants.{STANDARD_SLOT};
 
@@ -11,7 +11,13 @@ use std::marker::Model;
 /// How many bytes a slot of a new disk has, as the program makes it.
 pub const STANDARD_SLOT: u64 = 1 << 24;
 
-/// How many bytes a slot has: a power of two from 2^18 to 2^30.
+/// The fewest bytes that a slot has.
+pub const SMALLEST_SLOT: u64 = 1 << 18;
+
+/// The most bytes that a slot has.
+pub const LARGEST_SLOT: u64 = 1 << 30;
+
+/// How many bytes a slot has: a power of two from `SMALLEST_SLOT` to `LARGEST_SLOT`.
 #[derive(Clone, Copy, Debug)]
 pub struct SlotSize {
     bytes: u64,
@@ -48,7 +54,7 @@ impl SlotSize {
         ensures allowed { IsSome result ↔ IsSlotSize bytes }
         ensures value { IfSome result (λ s. s ≡ bytes) }
     {
-        if bytes.is_power_of_two() && bytes >= 1 << 18 && bytes <= 1 << 30 {
+        if bytes.is_power_of_two() && (SMALLEST_SLOT..=LARGEST_SLOT).contains(&bytes) {
             Some(SlotSize { bytes })
         } else {
             None
