@@ -1,10 +1,11 @@
 -- Steps by the step that is next.
-use Rattle.std.proofs.Common.{refl, ◌≡◌, ◌<◌, ◌^◌, ℕ, Bool, true, false, List, [], ◌∷◌, ◌++◌, inl, sym, ◌∙◌, ap, subst}
+use Rattle.std.proofs.Common.{refl, ◌≡◌, ◌<◌, ◌^◌, ℕ, Result, Bool, true, false, List, [], ◌∷◌, ◌++◌, inl, sym, ◌∙◌, ap, subst}
 use Rattle.std.proofs.lemmas.List.{append-nil}
-use Rattle.fp_disk.specs.Crashes.{AtAnyMoment, SameHonesty}
+use Rattle.fp_disk.specs.Crashes.{AtAnyMoment}
 use Rattle.fp_disk.specs.Moments.{leaves_map, leaves_still}
 use Rattle.fp_disk.specs.Outcomes.{IsOutcome, LeavesOnly}
 use Rattle.fp_disk.specs.declared.disk.Disk.{Ghosts}
+use Rattle.fp_disk.specs.declared.disk.DiskFault.{DiskFault}
 use Rattle.fp_journal.specs.Holds.{Holds, IsSynced}
 use Rattle.fp_journal.specs.Moments.{KeepsSynced}
 use Rattle.fp_journal.specs.State.{HasAmong, HasChain, JournalState, has_begun}
@@ -12,8 +13,9 @@ use Rattle.fp_journal.specs.declared.journal.Phase.TheVariants.{GateOpened}
 use Rattle.fp_journal.proofs.Holds.{firm_outcome}
 use Rattle.fp_edit.specs.Flags.{State}
 use Rattle.fp_recovery.specs.Stands.{Spells, StandsFor}
+use Rattle.fp_slots.specs.Calls.{KeepsSlots}
 use Rattle.fp_slots.specs.Rules.{Rules}
-use Rattle.fp_slots.specs.State.{IsEarly, IsFrontOf, Keeps, KeepsEither, Leaves, OutsideBoth, SameSlots, sealed_text}
+use Rattle.fp_slots.specs.State.{IsEarly, IsFrontOf, Keeps, KeepsEither, Leaves, OutsideBoth, sealed_text}
 use Rattle.fp_slots.specs.declared.slots.Step.TheVariants.{Begin, Close, SyncClose, Part, Tail, SyncBody, Open, SyncOpen}
 use Rattle.fp_compaction.specs.Sets.{IsKeptIn, IsPlannedFor, IsTaken, LeavesEither, LeavesSet}
 use Rattle.fp_compaction.specs.Steps.{IsFullNow, LeavesNow, LeavesStep, ReadsNext, TakesStep}
@@ -31,12 +33,11 @@ pub is_late : (p q : Step) → p ≡ q → IsLate q → IsLate p
 is_late p q is late = subst (λ (x : Step). IsLate x) (sym is) late
 
 -- a step while the slot that rules is the same in every crash state
-pub early_step : {D : Type 0} (disk : Ghosts D) (old new : SlotsState D) {p : Step} → old.step ≡ p → AtAnyMoment disk old.journal.disk new.journal.disk (Keeps old) → KeepsSynced disk old.journal.disk new.journal.disk (OutsideBoth old) → SameSlots old new
-    → SameHonesty disk old.journal.disk new.journal.disk → disk.calls new.journal.disk ≡ disk.calls old.journal.disk ++ calls_of p old.may_open → TakesStep disk old new
-early_step disk old new is any_moment apart same honest made = let u = disk.unsynced old.journal.disk in record {
-  stands = λ h size s t k taken late. leaves_stands u old size k.0 s k.1 disk.moment disk.crash_states_since disk.unsynced old.journal.disk new.journal.disk refl (apart h) (Keeps old) (LeavesSet old.journal s t) (keeps_stands u old size k.0 s k.1 t taken) (any_moment h);
-  kept = λ h size s k late. (k.0, kept_on u old size k.0 s k.1 disk.moment disk.crash_states_since disk.unsynced old.journal.disk new.journal.disk refl (apart h) new same);
-  honest = honest;
+pub early_step : {D T : Type 0} (disk : Ghosts D) (old new : SlotsState D) {p : Step} {r : Result T DiskFault} → old.step ≡ p → KeepsSlots disk old new (Keeps old) r → disk.calls new.journal.disk ≡ disk.calls old.journal.disk ++ calls_of p old.may_open → TakesStep disk old new
+early_step disk old new is w made = let u = disk.unsynced old.journal.disk in record {
+  stands = λ h size s t k taken late. leaves_stands u old size k.0 s k.1 disk.moment disk.crash_states_since disk.unsynced old.journal.disk new.journal.disk refl (w.apart h) (Keeps old) (LeavesSet old.journal s t) (keeps_stands u old size k.0 s k.1 t taken) (w.any_moment h);
+  kept = λ h size s k late. (k.0, kept_on u old size k.0 s k.1 disk.moment disk.crash_states_since disk.unsynced old.journal.disk new.journal.disk refl (w.apart h) new w.same);
+  honest = w.honest;
   called = called_at disk.calls old new is made;
 }
 

@@ -81,38 +81,15 @@ pub fn take_step<D: Disk>(
     ensures memory { IfErr result (λ e. e ≡ Memory →
         (slots.old.step ≡ Begin) × (slots.new ≡ slots.old)) }
 {
-    match slots.step() {
-        Step::Begin => {
-            begin(alloc, slots, set)?;
-            Ok(())
-        }
-        Step::Close => {
-            close(slots)?;
-            Ok(())
-        }
-        Step::SyncClose => {
-            sync_close(slots)?;
-            Ok(())
-        }
-        Step::Part => {
-            chunk(slots)?;
-            Ok(())
-        }
-        Step::Tail => {
-            copy_tail(slots)?;
-            Ok(())
-        }
-        Step::SyncBody => {
-            seal(slots)?;
-            Ok(())
-        }
-        Step::Open => {
-            open_other(slots)?;
-            Ok(())
-        }
-        Step::SyncOpen => {
-            finish(slots)?;
-            Ok(())
-        }
-    }
+    let taken = match slots.step() {
+        Step::Begin => return Ok(begin(alloc, slots, set)?),
+        Step::Close => close(slots),
+        Step::SyncClose => sync_close(slots),
+        Step::Part => chunk(slots),
+        Step::Tail => copy_tail(slots),
+        Step::SyncBody => seal(slots),
+        Step::Open => open_other(slots),
+        Step::SyncOpen => finish(slots),
+    };
+    Ok(taken?)
 }

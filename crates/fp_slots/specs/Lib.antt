@@ -1,4 +1,5 @@
 pub mod Rules
 pub mod Head
 pub mod State
+pub mod Calls
 pub mod Laws

@@ -7,6 +7,7 @@ ghost use Rattle.std.specs.Prelude.{◌≡◌, ◌≢◌, ◌<◌, ◌≤◌, �
 ghost use Rattle.std.specs.Prelude.{true, false, OnOk, OnErr};
 ghost use Rattle.fp_journal.specs.Moments.{KeepsSynced};
 ghost use Rattle.fp_journal.specs.declared.journal.Phase.TheVariants.{Idle, Failed};
+ghost use Rattle.fp_slots.specs.Calls.{KeepsSlots};
 ghost use Rattle.fp_slots.specs.State.{Keeps, KeepsEither, OutsideBoth, SameSlots};
 ghost use Rattle.fp_slots.specs.declared.places.TheConstants.{PART};
 ghost use Rattle.fp_slots.specs.declared.slots.Step.TheVariants.{Begin, Close, SyncClose, Part};
@@ -26,19 +27,10 @@ impl<D: Disk> Slots<D> {
         requires live { self.old.journal.phase ≢ Failed }
         ensures step { OnOk result (self.new.step ≡ SyncClose)
             × OnErr result (self.new.step ≡ Close) }
-        ensures same { SameSlots self.old self.new }
         ensures left { self.new.left ≡ self.old.left }
-        ensures phase { OnOk result (self.new.journal.phase ≡ self.old.journal.phase)
-            × OnErr result (self.new.journal.phase ≡ Failed) }
-        ensures any_moment { AtAnyMoment D.Disk self.old.journal.disk self.new.journal.disk
-            (Keeps self.old) }
-        ensures apart { KeepsSynced D.Disk self.old.journal.disk self.new.journal.disk
-            (OutsideBoth self.old) }
-        ensures honest { SameHonesty D.Disk self.old.journal.disk self.new.journal.disk }
+        ensures kept { KeepsSlots D.Disk self.old self.new (Keeps self.old) result }
         ensures called { D.calls self.new.journal.disk
             ≡ D.calls self.old.journal.disk ++ (if self.old.may_open then Write ∷ [] else []) }
-        ensures cause { Answers (D.faults self.old.journal.disk)
-            (D.faults self.new.journal.disk) result }
     {
         let _phase = self.journal.phase();
         if !self.may_open {
@@ -56,19 +48,10 @@ impl<D: Disk> Slots<D> {
         requires live { self.old.journal.phase ≢ Failed }
         ensures step { OnOk result (self.new.step ≡ Part)
             × OnErr result (self.new.step ≡ SyncClose) }
-        ensures same { SameSlots self.old self.new }
         ensures left { self.new.left ≡ self.old.left }
-        ensures phase { OnOk result (self.new.journal.phase ≡ self.old.journal.phase)
-            × OnErr result (self.new.journal.phase ≡ Failed) }
-        ensures any_moment { AtAnyMoment D.Disk self.old.journal.disk self.new.journal.disk
-            (Keeps self.old) }
-        ensures apart { KeepsSynced D.Disk self.old.journal.disk self.new.journal.disk
-            (OutsideBoth self.old) }
-        ensures honest { SameHonesty D.Disk self.old.journal.disk self.new.journal.disk }
+        ensures kept { KeepsSlots D.Disk self.old self.new (Keeps self.old) result }
         ensures called { D.calls self.new.journal.disk
             ≡ D.calls self.old.journal.disk ++ Sync ∷ [] }
-        ensures cause { Answers (D.faults self.old.journal.disk)
-            (D.faults self.new.journal.disk) result }
     {
         let _closed = self.journal.sync()?;
         self.held = Held::Part;
@@ -83,19 +66,10 @@ impl<D: Disk> Slots<D> {
             × (self.old.left ≤ PART → self.new.step ≡ Tail))
             × OnErr result (self.new.step ≡ Part) }
         ensures less { OnOk result (self.new.left ≡ self.old.left - PART) }
-        ensures same { SameSlots self.old self.new }
         ensures left { OnErr result (self.new.left ≡ self.old.left) }
-        ensures phase { OnOk result (self.new.journal.phase ≡ self.old.journal.phase)
-            × OnErr result (self.new.journal.phase ≡ Failed) }
-        ensures any_moment { AtAnyMoment D.Disk self.old.journal.disk self.new.journal.disk
-            (Keeps self.old) }
-        ensures apart { KeepsSynced D.Disk self.old.journal.disk self.new.journal.disk
-            (OutsideBoth self.old) }
-        ensures honest { SameHonesty D.Disk self.old.journal.disk self.new.journal.disk }
+        ensures kept { KeepsSlots D.Disk self.old self.new (Keeps self.old) result }
         ensures called { D.calls self.new.journal.disk
             ≡ D.calls self.old.journal.disk ++ Write ∷ [] }
-        ensures cause { Answers (D.faults self.old.journal.disk)
-            (D.faults self.new.journal.disk) result }
     {
         let left = self.head - self.done;
         let to = self.done + left.min(PART);
@@ -117,19 +91,10 @@ impl<D: Disk> Slots<D> {
         requires live { self.old.journal.phase ≡ Idle }
         ensures step { OnOk result (self.new.step ≡ SyncBody)
             × OnErr result (self.new.step ≡ Tail) }
-        ensures same { SameSlots self.old self.new }
         ensures left { self.new.left ≡ self.old.left }
-        ensures phase { OnOk result (self.new.journal.phase ≡ self.old.journal.phase)
-            × OnErr result (self.new.journal.phase ≡ Failed) }
-        ensures any_moment { AtAnyMoment D.Disk self.old.journal.disk self.new.journal.disk
-            (Keeps self.old) }
-        ensures apart { KeepsSynced D.Disk self.old.journal.disk self.new.journal.disk
-            (OutsideBoth self.old) }
-        ensures honest { SameHonesty D.Disk self.old.journal.disk self.new.journal.disk }
+        ensures kept { KeepsSlots D.Disk self.old self.new (Keeps self.old) result }
         ensures called { D.calls self.new.journal.disk
             ≡ D.calls self.old.journal.disk ++ Write ∷ [] }
-        ensures cause { Answers (D.faults self.old.journal.disk)
-            (D.faults self.new.journal.disk) result }
     {
         let to = self.ended + 1;
         self.journal.write_outside(
@@ -146,19 +111,10 @@ impl<D: Disk> Slots<D> {
         requires live { self.old.journal.phase ≢ Failed }
         ensures step { OnOk result (self.new.step ≡ Open)
             × OnErr result (self.new.step ≡ SyncBody) }
-        ensures same { SameSlots self.old self.new }
         ensures left { self.new.left ≡ self.old.left }
-        ensures phase { OnOk result (self.new.journal.phase ≡ self.old.journal.phase)
-            × OnErr result (self.new.journal.phase ≡ Failed) }
-        ensures any_moment { AtAnyMoment D.Disk self.old.journal.disk self.new.journal.disk
-            (Keeps self.old) }
-        ensures apart { KeepsSynced D.Disk self.old.journal.disk self.new.journal.disk
-            (OutsideBoth self.old) }
-        ensures honest { SameHonesty D.Disk self.old.journal.disk self.new.journal.disk }
+        ensures kept { KeepsSlots D.Disk self.old self.new (Keeps self.old) result }
         ensures called { D.calls self.new.journal.disk
             ≡ D.calls self.old.journal.disk ++ Sync ∷ [] }
-        ensures cause { Answers (D.faults self.old.journal.disk)
-            (D.faults self.new.journal.disk) result }
     {
         let synced = self.journal.sync()?;
         self.held = Held::Open(synced);
@@ -171,19 +127,10 @@ impl<D: Disk> Slots<D> {
         requires live { self.old.journal.phase ≢ Failed }
         ensures step { OnOk result (self.new.step ≡ SyncOpen)
             × OnErr result (self.new.step ≡ Open) }
-        ensures same { SameSlots self.old self.new }
         ensures left { self.new.left ≡ self.old.left }
-        ensures phase { OnOk result (self.new.journal.phase ≡ self.old.journal.phase)
-            × OnErr result (self.new.journal.phase ≡ Failed) }
-        ensures any_moment { AtAnyMoment D.Disk self.old.journal.disk self.new.journal.disk
-            (KeepsEither self.old) }
-        ensures apart { KeepsSynced D.Disk self.old.journal.disk self.new.journal.disk
-            (OutsideBoth self.old) }
-        ensures honest { SameHonesty D.Disk self.old.journal.disk self.new.journal.disk }
+        ensures kept { KeepsSlots D.Disk self.old self.new (KeepsEither self.old) result }
         ensures called { D.calls self.new.journal.disk
             ≡ D.calls self.old.journal.disk ++ Write ∷ [] }
-        ensures cause { Answers (D.faults self.old.journal.disk)
-            (D.faults self.new.journal.disk) result }
     {
         let Held::Open(synced) = mem::replace(&mut self.held, Held::Opening) else {
             unreachable!()

@@ -3,4 +3,4 @@ use Rattle.fp_compaction.proofs.steps.chunk.Goals as goal
 
 pub returns-clause-taken : goal.returns-clause-taken
 returns-clause-taken g c =
-    let w = c.write_part.ensures in steps.early_step g.D.Disk c.args.slots.now c.write_part.new.self c.requires.step w.any_moment w.apart w.same w.honest w.called
+    let w = c.write_part.ensures in steps.early_step g.D.Disk c.args.slots.now c.write_part.new.self c.requires.step w.kept w.called

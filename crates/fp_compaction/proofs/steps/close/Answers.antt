@@ -3,4 +3,4 @@ use Rattle.fp_compaction.proofs.steps.close.Goals as goal
 
 pub returns-clause-taken : goal.returns-clause-taken
 returns-clause-taken g c =
-    let w = c.close_other.ensures in steps.early_step g.D.Disk c.args.slots.now c.close_other.new.self c.requires.step w.any_moment w.apart w.same w.honest w.called
+    let w = c.close_other.ensures in steps.early_step g.D.Disk c.args.slots.now c.close_other.new.self c.requires.step w.kept w.called

@@ -23,14 +23,16 @@ returns-then-not-self g c =
     let is : step_of c.self.inside.held ≡ Close = ap (λ (k : SlotsState g.row.D.Denot). k.step) c.self.view_is ∙ c.requires.step in
     rw (← c.self.view_is) (record {
       step = (refl, tt);
-      same = (steps.same_slot j, refl, refl, refl, refl, refl, refl, refl, refl, refl);
       left = refl;
-      phase = (refl, tt);
-      any_moment = λ h. steps.still_leaves D.honest D.bytes D.unsynced D.moment D.crash_states_since m.counts_now c.self.invariant.0 alive j (steps.same_slot j) m.only_now (λ o h left. q.outcomes h o left) h (steps.still_shut D.honest D.bytes D.unsynced D.moment D.crash_states_since m.counts_now c.self.invariant.0 alive j (steps.same_slot j) is c.if-not-self.true h);
-      apart = λ h. steps.still_frame D.honest D.bytes D.unsynced D.moment D.crash_states_since m.counts_now c.self.invariant.0 alive j (steps.same_slot j) (λ at text o firm h left. firm_outcome (D.unsynced j.disk) at text o firm (m.only_now j.disk o h left)) h;
-      honest = (λ h. h, λ h. h);
+      kept = record {
+        same = (steps.same_slot j, refl, refl, refl, refl, refl, refl, refl, refl, refl);
+        phase = (refl, tt);
+        any_moment = λ h. steps.still_leaves D.honest D.bytes D.unsynced D.moment D.crash_states_since m.counts_now c.self.invariant.0 alive j (steps.same_slot j) m.only_now (λ o h left. q.outcomes h o left) h (steps.still_shut D.honest D.bytes D.unsynced D.moment D.crash_states_since m.counts_now c.self.invariant.0 alive j (steps.same_slot j) is c.if-not-self.true h);
+        apart = λ h. steps.still_frame D.honest D.bytes D.unsynced D.moment D.crash_states_since m.counts_now c.self.invariant.0 alive j (steps.same_slot j) (λ at text o firm h left. firm_outcome (D.unsynced j.disk) at text o firm (m.only_now j.disk o h left)) h;
+        honest = (λ h. h, λ h. h);
+        cause = answers_still;
+      };
       called = rw c.if-not-self.true (sym (append-nil (D.calls j.disk)));
-      cause = answers_still;
     })
 
 pub invariant_of-self-in_err-write_outside : goal.invariant_of-self-in_err-write_outside
@@ -47,14 +49,16 @@ returns-in_err-write_outside g c =
     let is : step_of c.self.inside.held ≡ Close = ap (λ (k : SlotsState g.row.D.Denot). k.step) c.self.view_is ∙ c.requires.step in
     let p = err_from_is_err_and c.from_residual.result c.from_residual.ensures.1 in rw (p.1, ← c.self.view_is) (record {
       step = (tt, is);
-      same = (w.kept.same, w.bodies.0, w.bodies.1, refl, refl, refl, refl, refl, refl, w.begun);
       left = refl;
-      phase = (tt, c.in_err-write_outside.ensures.phase.1);
-      any_moment = steps.close_leaves D.honest D.bytes D.unsynced D.moment D.crash_states_since m.counts_now c.self.invariant.0 alive j w.kept.same is c.if-not-self.false w.kept.any_moment w.kept.apart;
-      apart = λ h. steps.gate_frame D.honest D.bytes D.unsynced D.moment D.crash_states_since m.counts_now c.self.invariant.0 alive j w.kept.same (w.kept.apart h);
-      honest = w.kept.honest;
+      kept = record {
+        same = (w.kept.same, w.bodies.0, w.bodies.1, refl, refl, refl, refl, refl, refl, w.begun);
+        phase = (tt, c.in_err-write_outside.ensures.phase.1);
+        any_moment = steps.close_leaves D.honest D.bytes D.unsynced D.moment D.crash_states_since m.counts_now c.self.invariant.0 alive j w.kept.same is c.if-not-self.false w.kept.any_moment w.kept.apart;
+        apart = λ h. steps.gate_frame D.honest D.bytes D.unsynced D.moment D.crash_states_since m.counts_now c.self.invariant.0 alive j w.kept.same (w.kept.apart h);
+        honest = w.kept.honest;
+        cause = answers_err c.in_err-write_outside.ensures.kept.cause;
+      };
       called = rw c.if-not-self.false w.called;
-      cause = answers_err c.in_err-write_outside.ensures.kept.cause;
     })
 
 pub invariant_of-self-2 : goal.invariant_of-self-2
@@ -71,12 +75,14 @@ returns g c =
     let is : step_of c.self.inside.held ≡ Close = ap (λ (k : SlotsState g.row.D.Denot). k.step) c.self.view_is ∙ c.requires.step in
     rw (← c.self.view_is) (record {
       step = (refl, tt);
-      same = (w.kept.same, w.bodies.0, w.bodies.1, refl, refl, refl, refl, refl, refl, w.begun);
       left = refl;
-      phase = (c.in_ok-write_outside.ensures.phase.0, tt);
-      any_moment = steps.close_leaves D.honest D.bytes D.unsynced D.moment D.crash_states_since m.counts_now c.self.invariant.0 alive j w.kept.same is c.if-not-self.false w.kept.any_moment w.kept.apart;
-      apart = λ h. steps.gate_frame D.honest D.bytes D.unsynced D.moment D.crash_states_since m.counts_now c.self.invariant.0 alive j w.kept.same (w.kept.apart h);
-      honest = w.kept.honest;
+      kept = record {
+        same = (w.kept.same, w.bodies.0, w.bodies.1, refl, refl, refl, refl, refl, refl, w.begun);
+        phase = (c.in_ok-write_outside.ensures.phase.0, tt);
+        any_moment = steps.close_leaves D.honest D.bytes D.unsynced D.moment D.crash_states_since m.counts_now c.self.invariant.0 alive j w.kept.same is c.if-not-self.false w.kept.any_moment w.kept.apart;
+        apart = λ h. steps.gate_frame D.honest D.bytes D.unsynced D.moment D.crash_states_since m.counts_now c.self.invariant.0 alive j w.kept.same (w.kept.apart h);
+        honest = w.kept.honest;
+        cause = answers_ok c.in_ok-write_outside.ensures.kept.cause;
+      };
       called = rw c.if-not-self.false w.called;
-      cause = answers_ok c.in_ok-write_outside.ensures.kept.cause;
     })

@@ -65,14 +65,16 @@ returns-in_err-open_outside g c =
     let p = err_from_is_err_and c.from_residual.result c.from_residual.ensures.1 in
     rw (p.1, ← c.self.view_is) (record {
       step = (tt, rw c.replace.ensures.after refl);
-      same = (w.kept.same, w.bodies.0, w.bodies.1, refl, refl, refl, refl, refl, refl, w.begun);
       left = refl;
-      phase = (tt, c.in_err-open_outside.ensures.phase.1);
-      any_moment = (steps.opening_leaves D.honest D.bytes D.unsynced D.moment D.crash_states_since m.counts_now c.self.invariant.0 alive j w.kept.same is w.kept.any_moment apart);
-      apart = (λ h. steps.gate_frame D.honest D.bytes D.unsynced D.moment D.crash_states_since m.counts_now c.self.invariant.0 alive j w.kept.same (apart h));
-      honest = w.kept.honest;
+      kept = record {
+        same = (w.kept.same, w.bodies.0, w.bodies.1, refl, refl, refl, refl, refl, refl, w.begun);
+        phase = (tt, c.in_err-open_outside.ensures.phase.1);
+        any_moment = (steps.opening_leaves D.honest D.bytes D.unsynced D.moment D.crash_states_since m.counts_now c.self.invariant.0 alive j w.kept.same is w.kept.any_moment apart);
+        apart = (λ h. steps.gate_frame D.honest D.bytes D.unsynced D.moment D.crash_states_since m.counts_now c.self.invariant.0 alive j w.kept.same (apart h));
+        honest = w.kept.honest;
+        cause = answers_err c.in_err-open_outside.ensures.kept.cause;
+      };
       called = w.called;
-      cause = answers_err c.in_err-open_outside.ensures.kept.cause;
     })
 
 pub invariant_of-self-2 : goal.invariant_of-self-2
@@ -95,12 +97,14 @@ returns g c =
     let apart : D.honest s.journal.disk → KeepsFirm D.moment D.crash_states_since D.unsynced s.journal.disk j.disk (Apart s.other.start 1) = λ h. subst (λ (k : ℕ). KeepsFirm D.moment D.crash_states_since D.unsynced s.journal.disk j.disk (Apart k 1)) at_is (w.kept.apart h) in
     rw (← c.self.view_is) (record {
       step = (refl, tt);
-      same = (w.kept.same, w.bodies.0, w.bodies.1, refl, refl, refl, refl, refl, refl, w.begun);
       left = refl;
-      phase = (c.in_ok-open_outside.ensures.phase.0, tt);
-      any_moment = (steps.opening_leaves D.honest D.bytes D.unsynced D.moment D.crash_states_since m.counts_now c.self.invariant.0 alive j w.kept.same is w.kept.any_moment apart);
-      apart = (λ h. steps.gate_frame D.honest D.bytes D.unsynced D.moment D.crash_states_since m.counts_now c.self.invariant.0 alive j w.kept.same (apart h));
-      honest = w.kept.honest;
+      kept = record {
+        same = (w.kept.same, w.bodies.0, w.bodies.1, refl, refl, refl, refl, refl, refl, w.begun);
+        phase = (c.in_ok-open_outside.ensures.phase.0, tt);
+        any_moment = (steps.opening_leaves D.honest D.bytes D.unsynced D.moment D.crash_states_since m.counts_now c.self.invariant.0 alive j w.kept.same is w.kept.any_moment apart);
+        apart = (λ h. steps.gate_frame D.honest D.bytes D.unsynced D.moment D.crash_states_since m.counts_now c.self.invariant.0 alive j w.kept.same (apart h));
+        honest = w.kept.honest;
+        cause = answers_ok c.in_ok-open_outside.ensures.kept.cause;
+      };
       called = w.called;
-      cause = answers_ok c.in_ok-open_outside.ensures.kept.cause;
     })

@@ -22,14 +22,16 @@ returns-in_err-synced g c =
     let p = err_from_is_err_and c.from_residual.result c.from_residual.ensures.1 in
     rw (p.1, ← c.self.view_is) (record {
       step = (tt, is);
-      same = (w.kept.same, w.bodies.0, w.bodies.1, refl, refl, refl, refl, refl, refl, w.begun);
       left = refl;
-      phase = (tt, c.in_err-synced.ensures.phase.1);
-      any_moment = (steps.body_leaves D.honest D.bytes D.unsynced D.moment D.crash_states_since m.counts_now c.self.invariant.0 alive j w.kept.same w.kept.any_moment w.kept.apart is);
-      apart = (λ h. steps.sync_frame D.honest D.bytes D.unsynced D.moment D.crash_states_since m.counts_now c.self.invariant.0 alive j w.kept.same (w.kept.apart h));
-      honest = w.kept.honest;
+      kept = record {
+        same = (w.kept.same, w.bodies.0, w.bodies.1, refl, refl, refl, refl, refl, refl, w.begun);
+        phase = (tt, c.in_err-synced.ensures.phase.1);
+        any_moment = (steps.body_leaves D.honest D.bytes D.unsynced D.moment D.crash_states_since m.counts_now c.self.invariant.0 alive j w.kept.same w.kept.any_moment w.kept.apart is);
+        apart = (λ h. steps.sync_frame D.honest D.bytes D.unsynced D.moment D.crash_states_since m.counts_now c.self.invariant.0 alive j w.kept.same (w.kept.apart h));
+        honest = w.kept.honest;
+        cause = answers_err c.in_err-synced.ensures.kept.cause;
+      };
       called = w.called;
-      cause = answers_err c.in_err-synced.ensures.kept.cause;
     })
 
 pub invariant_of-self-2 : goal.invariant_of-self-2
@@ -46,12 +48,14 @@ returns g c =
     let is : step_of c.self.inside.held ≡ SyncBody = ap (λ (k : SlotsState g.row.D.Denot). k.step) c.self.view_is ∙ c.requires.step in
     rw (← c.self.view_is) (record {
       step = (refl, tt);
-      same = (w.kept.same, w.bodies.0, w.bodies.1, refl, refl, refl, refl, refl, refl, w.begun);
       left = refl;
-      phase = (c.in_ok-synced.ensures.phase.0, tt);
-      any_moment = (steps.body_leaves D.honest D.bytes D.unsynced D.moment D.crash_states_since m.counts_now c.self.invariant.0 alive j w.kept.same w.kept.any_moment w.kept.apart is);
-      apart = (λ h. steps.sync_frame D.honest D.bytes D.unsynced D.moment D.crash_states_since m.counts_now c.self.invariant.0 alive j w.kept.same (w.kept.apart h));
-      honest = w.kept.honest;
+      kept = record {
+        same = (w.kept.same, w.bodies.0, w.bodies.1, refl, refl, refl, refl, refl, refl, w.begun);
+        phase = (c.in_ok-synced.ensures.phase.0, tt);
+        any_moment = (steps.body_leaves D.honest D.bytes D.unsynced D.moment D.crash_states_since m.counts_now c.self.invariant.0 alive j w.kept.same w.kept.any_moment w.kept.apart is);
+        apart = (λ h. steps.sync_frame D.honest D.bytes D.unsynced D.moment D.crash_states_since m.counts_now c.self.invariant.0 alive j w.kept.same (w.kept.apart h));
+        honest = w.kept.honest;
+        cause = answers_ok c.in_ok-synced.ensures.kept.cause;
+      };
       called = w.called;
-      cause = answers_ok c.in_ok-synced.ensures.kept.cause;
     })

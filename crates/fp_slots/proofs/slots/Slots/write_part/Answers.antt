@@ -46,14 +46,16 @@ returns-in_err-write_outside g c =
     rw (p.1, ← c.self.view_is) (record {
       step = (tt, is);
       less = tt;
-      same = (w.kept.same, w.bodies.0, w.bodies.1, refl, refl, refl, refl, refl, refl, w.begun);
       left = refl;
-      phase = (tt, c.in_err-write_outside.ensures.phase.1);
-      any_moment = (steps.next_leaves D.honest D.bytes D.unsynced D.moment D.crash_states_since m.counts_now c.self.invariant.0 alive j w.kept.same (c.self.inside.done + c.min.result) n le within2 w.kept.any_moment w.kept.apart is);
-      apart = (λ h. steps.part_frame D.honest D.bytes D.unsynced D.moment D.crash_states_since m.counts_now c.self.invariant.0 alive j w.kept.same (c.self.inside.other.start + c.self.inside.done) n (omega arith) (omega (arith, fits, len_is, size, within2)) (w.kept.apart h));
-      honest = w.kept.honest;
+      kept = record {
+        same = (w.kept.same, w.bodies.0, w.bodies.1, refl, refl, refl, refl, refl, refl, w.begun);
+        phase = (tt, c.in_err-write_outside.ensures.phase.1);
+        any_moment = (steps.next_leaves D.honest D.bytes D.unsynced D.moment D.crash_states_since m.counts_now c.self.invariant.0 alive j w.kept.same (c.self.inside.done + c.min.result) n le within2 w.kept.any_moment w.kept.apart is);
+        apart = (λ h. steps.part_frame D.honest D.bytes D.unsynced D.moment D.crash_states_since m.counts_now c.self.invariant.0 alive j w.kept.same (c.self.inside.other.start + c.self.inside.done) n (omega arith) (omega (arith, fits, len_is, size, within2)) (w.kept.apart h));
+        honest = w.kept.honest;
+        cause = answers_err c.in_err-write_outside.ensures.kept.cause;
+      };
       called = w.called;
-      cause = answers_err c.in_err-write_outside.ensures.kept.cause;
     })
 
 pub invariant_of-self-2 : goal.invariant_of-self-2
@@ -89,14 +91,16 @@ returns g c =
     rw (← c.self.view_is) (record {
       step = ((λ more. absurd (omega (arith, min, more, c.if-to-self.false)), λ all. refl), tt);
       less = omega (arith, min);
-      same = (w.kept.same, w.bodies.0, w.bodies.1, refl, refl, refl, refl, refl, refl, w.begun);
       left = tt;
-      phase = (c.in_ok-write_outside.ensures.phase.0, tt);
-      any_moment = (steps.next_leaves D.honest D.bytes D.unsynced D.moment D.crash_states_since m.counts_now c.self.invariant.0 alive j w.kept.same (c.self.inside.done + c.min.result) n le within2 w.kept.any_moment w.kept.apart is);
-      apart = (λ h. steps.part_frame D.honest D.bytes D.unsynced D.moment D.crash_states_since m.counts_now c.self.invariant.0 alive j w.kept.same (c.self.inside.other.start + c.self.inside.done) n (omega arith) (omega (arith, fits, len_is, size, within2)) (w.kept.apart h));
-      honest = w.kept.honest;
+      kept = record {
+        same = (w.kept.same, w.bodies.0, w.bodies.1, refl, refl, refl, refl, refl, refl, w.begun);
+        phase = (c.in_ok-write_outside.ensures.phase.0, tt);
+        any_moment = (steps.next_leaves D.honest D.bytes D.unsynced D.moment D.crash_states_since m.counts_now c.self.invariant.0 alive j w.kept.same (c.self.inside.done + c.min.result) n le within2 w.kept.any_moment w.kept.apart is);
+        apart = (λ h. steps.part_frame D.honest D.bytes D.unsynced D.moment D.crash_states_since m.counts_now c.self.invariant.0 alive j w.kept.same (c.self.inside.other.start + c.self.inside.done) n (omega arith) (omega (arith, fits, len_is, size, within2)) (w.kept.apart h));
+        honest = w.kept.honest;
+        cause = answers_ok c.in_ok-write_outside.ensures.kept.cause;
+      };
       called = w.called;
-      cause = answers_ok c.in_ok-write_outside.ensures.kept.cause;
     })
 
 pub invariant_of-self-then-to-self : goal.invariant_of-self-then-to-self
@@ -132,14 +136,16 @@ returns-then-to-self g c =
     rw (← c.self.view_is) (record {
       step = ((λ more. is, λ all. absurd (omega (arith, min, all, c.if-to-self.true))), tt);
       less = omega (arith, min);
-      same = (w.kept.same, w.bodies.0, w.bodies.1, refl, refl, refl, refl, refl, refl, w.begun);
       left = tt;
-      phase = (c.in_ok-write_outside.ensures.phase.0, tt);
-      any_moment = (steps.next_leaves D.honest D.bytes D.unsynced D.moment D.crash_states_since m.counts_now c.self.invariant.0 alive j w.kept.same (c.self.inside.done + c.min.result) n le within2 w.kept.any_moment w.kept.apart is);
-      apart = (λ h. steps.part_frame D.honest D.bytes D.unsynced D.moment D.crash_states_since m.counts_now c.self.invariant.0 alive j w.kept.same (c.self.inside.other.start + c.self.inside.done) n (omega arith) (omega (arith, fits, len_is, size, within2)) (w.kept.apart h));
-      honest = w.kept.honest;
+      kept = record {
+        same = (w.kept.same, w.bodies.0, w.bodies.1, refl, refl, refl, refl, refl, refl, w.begun);
+        phase = (c.in_ok-write_outside.ensures.phase.0, tt);
+        any_moment = (steps.next_leaves D.honest D.bytes D.unsynced D.moment D.crash_states_since m.counts_now c.self.invariant.0 alive j w.kept.same (c.self.inside.done + c.min.result) n le within2 w.kept.any_moment w.kept.apart is);
+        apart = (λ h. steps.part_frame D.honest D.bytes D.unsynced D.moment D.crash_states_since m.counts_now c.self.invariant.0 alive j w.kept.same (c.self.inside.other.start + c.self.inside.done) n (omega arith) (omega (arith, fits, len_is, size, within2)) (w.kept.apart h));
+        honest = w.kept.honest;
+        cause = answers_ok c.in_ok-write_outside.ensures.kept.cause;
+      };
       called = w.called;
-      cause = answers_ok c.in_ok-write_outside.ensures.kept.cause;
     })
 
 pub piece-requires : goal.piece-requires

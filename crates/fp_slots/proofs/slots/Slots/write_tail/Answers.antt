@@ -41,14 +41,16 @@ returns-in_err-write_outside g c =
     let p = err_from_is_err_and c.from_residual.result c.from_residual.ensures.1 in
     rw (p.1, ← c.self.view_is) (record {
       step = (tt, is);
-      same = (w.kept.same, w.bodies.0, w.bodies.1, refl, refl, refl, refl, refl, refl, w.begun);
       left = refl;
-      phase = (tt, c.in_err-write_outside.ensures.phase.1);
-      any_moment = (steps.tail_leaves D.honest D.bytes D.unsynced D.moment D.crash_states_since m.counts_now c.self.invariant.0 alive j w.kept.same (q.ended + 1) n le within2 w.kept.any_moment w.kept.apart is);
-      apart = (λ h. steps.part_frame D.honest D.bytes D.unsynced D.moment D.crash_states_since m.counts_now c.self.invariant.0 alive j w.kept.same (c.self.inside.other.start + c.self.inside.done) n (omega arith) (omega (arith, fits, len_is, size, within2)) (w.kept.apart h));
-      honest = w.kept.honest;
+      kept = record {
+        same = (w.kept.same, w.bodies.0, w.bodies.1, refl, refl, refl, refl, refl, refl, w.begun);
+        phase = (tt, c.in_err-write_outside.ensures.phase.1);
+        any_moment = (steps.tail_leaves D.honest D.bytes D.unsynced D.moment D.crash_states_since m.counts_now c.self.invariant.0 alive j w.kept.same (q.ended + 1) n le within2 w.kept.any_moment w.kept.apart is);
+        apart = (λ h. steps.part_frame D.honest D.bytes D.unsynced D.moment D.crash_states_since m.counts_now c.self.invariant.0 alive j w.kept.same (c.self.inside.other.start + c.self.inside.done) n (omega arith) (omega (arith, fits, len_is, size, within2)) (w.kept.apart h));
+        honest = w.kept.honest;
+        cause = answers_err c.in_err-write_outside.ensures.kept.cause;
+      };
       called = w.called;
-      cause = answers_err c.in_err-write_outside.ensures.kept.cause;
     })
 
 pub invariant_of-self-2 : goal.invariant_of-self-2
@@ -80,14 +82,16 @@ returns g c =
     let within2 : q.ended + 1 ≤ length (slice_range q.planned.items 0 (q.ended + 1)) = omega (arith, size) in
     rw (← c.self.view_is) (record {
       step = (refl, tt);
-      same = (w.kept.same, w.bodies.0, w.bodies.1, refl, refl, refl, refl, refl, refl, w.begun);
       left = refl;
-      phase = (c.in_ok-write_outside.ensures.phase.0, tt);
-      any_moment = (steps.tail_leaves D.honest D.bytes D.unsynced D.moment D.crash_states_since m.counts_now c.self.invariant.0 alive j w.kept.same (q.ended + 1) n le within2 w.kept.any_moment w.kept.apart is);
-      apart = (λ h. steps.part_frame D.honest D.bytes D.unsynced D.moment D.crash_states_since m.counts_now c.self.invariant.0 alive j w.kept.same (c.self.inside.other.start + c.self.inside.done) n (omega arith) (omega (arith, fits, len_is, size, within2)) (w.kept.apart h));
-      honest = w.kept.honest;
+      kept = record {
+        same = (w.kept.same, w.bodies.0, w.bodies.1, refl, refl, refl, refl, refl, refl, w.begun);
+        phase = (c.in_ok-write_outside.ensures.phase.0, tt);
+        any_moment = (steps.tail_leaves D.honest D.bytes D.unsynced D.moment D.crash_states_since m.counts_now c.self.invariant.0 alive j w.kept.same (q.ended + 1) n le within2 w.kept.any_moment w.kept.apart is);
+        apart = (λ h. steps.part_frame D.honest D.bytes D.unsynced D.moment D.crash_states_since m.counts_now c.self.invariant.0 alive j w.kept.same (c.self.inside.other.start + c.self.inside.done) n (omega arith) (omega (arith, fits, len_is, size, within2)) (w.kept.apart h));
+        honest = w.kept.honest;
+        cause = answers_ok c.in_ok-write_outside.ensures.kept.cause;
+      };
       called = w.called;
-      cause = answers_ok c.in_ok-write_outside.ensures.kept.cause;
     })
 
 pub piece-requires : goal.piece-requires
