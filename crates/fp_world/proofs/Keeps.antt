@@ -1,8 +1,10 @@
 -- What a disk keeps of the desk's log.
 use Rattle.std.proofs.Common.{◌≡◌, ◌≢◌, ◌≤◌, ◌+◌, ◌-◌, ℕ, List, [], ◌∷◌, ◌++◌, length, zero, suc, take, refl, sym, ap, subst, ◌∙◌, inl, inr, arith, append_assoc, length-append}
 use Rattle.std.proofs.lemmas.List.{take_at}
+use Rattle.fp_disk.specs.Crashes.{AtAnyMoment, SameHonesty}
 use Rattle.fp_disk.specs.Outcomes.{PendingState, IsOutcome, LeavesOnly}
 use Rattle.fp_disk.specs.Moments.{leaves_map, leaves_still}
+use Rattle.fp_disk.specs.declared.disk.Disk.{Ghosts}
 use Rattle.fp_edit.specs.Edits.{Change}
 use Rattle.fp_edit.specs.Flags.{State}
 use Rattle.fp_edit.specs.Log.{after_all}
@@ -11,7 +13,10 @@ use Rattle.fp_recovery.specs.Stands.{StandsFor}
 use Rattle.fp_group_commit.specs.Store.{StoreState, Leaves}
 use Rattle.fp_group_commit.specs.Tokens.{Identity}
 use Rattle.fp_desk.specs.Desk.{DeskState, TicketState, log, settled_revision}
-use Rattle.fp_world.specs.Committer.{IsOut, IsCommitter, KeptFrom, CommitterState}
+use Rattle.fp_group_commit.proofs.Steps.{exit_has}
+use Rattle.fp_world.specs.Commits.{Progress, told_after}
+use Rattle.fp_world.specs.Committer.{IsOut, IsCommitter, KeepsTold, KeptFrom, CommitterState, RisesFor}
+use Rattle.fp_world.specs.declared.event.Answer.{Answer}
 use Rattle.fp_world.specs.declared.committer.Held.{Held}
 use Rattle.fp_world.specs.declared.committer.Held.TheVariants as held
 
@@ -108,3 +113,30 @@ module _ {D : Type 0} (honest : D → Type 0) (moment : D → ℕ) (crash_states
       (leaves_still moment crash_states_since old.store.slots.journal.disk (KeptFrom new.desk old.told) (λ c left.
       let k = exit (subst (λ (d : D). honest d) (sym disk) h) c (subst (λ (d : D). IsOutcome (unsynced d) c) (sym disk) (only_now old.store.slots.journal.disk c h left)) in
       let low = k.1 in (k.0, omega (arith, told, low), k.2, k.3)))
+
+module _ {D : Type 0} (disk : Ghosts D) (only_now : (d : D) (c : List ℕ) → disk.honest d → disk.crash_states_since d (disk.moment d) c → IsOutcome (disk.unsynced d) c) {h : Held} {ts : List TicketState} {start : ℕ} {s : StoreState D} {d : DeskState} {told : ℕ} (w : IsCommitter disk.honest disk.unsynced h ts start s d told) {p q : Progress} {a : Answer} where
+  -- an event that does nothing
+  pub told_still : told ≡ told_after told a → RisesFor a (disk.faults s.slots.journal.disk) (disk.faults s.slots.journal.disk)
+      → KeepsTold disk (record { store = s; desk = d; progress = p; told = told }) a (record { store = s; desk = d; progress = q; told = told })
+  told_still after rises = record {
+    told = after;
+    same = (refl, refl, refl);
+    any_moment = λ honest. still disk.honest disk.moment disk.crash_states_since disk.unsynced w only_now honest;
+    exit = λ honest c out. kept_now disk.honest disk.moment disk.crash_states_since disk.unsynced w honest c out;
+    honest = (λ honest. honest, λ honest. honest);
+    cause = rises;
+  }
+
+module _ {D : Type 0} (disk : Ghosts D) (counts_now : (d : D) (t : ℕ) (c : List ℕ) → disk.honest d → t ≤ disk.moment d → IsOutcome (disk.unsynced d) c → disk.crash_states_since d t c) {s n : StoreState D} {d : DeskState} {told : ℕ} {p q : Progress} {a : Answer} where
+  -- an event that calls the store
+  pub told_moved : told ≡ told_after told a → n.store ≡ s.store → AtAnyMoment disk s.slots.journal.disk n.slots.journal.disk (KeptFrom d told) → SameHonesty disk s.slots.journal.disk n.slots.journal.disk
+      → RisesFor a (disk.faults s.slots.journal.disk) (disk.faults n.slots.journal.disk)
+      → KeepsTold disk (record { store = s; desk = d; progress = p; told = told }) a (record { store = n; desk = d; progress = q; told = told })
+  told_moved after same leaves honest rises = record {
+    told = after;
+    same = (refl, refl, same);
+    any_moment = leaves;
+    exit = exit_has disk counts_now s.slots.journal.disk n.slots.journal.disk _ _ (λ c kept. kept) honest.1 leaves;
+    honest = honest;
+    cause = rises;
+  }

@@ -1,8 +1,10 @@
 -- A store, a desk, and what is between them.
 use Rattle.std.specs.Prelude.{◌≡◌, ◌≢◌, ◌⊎◌, ◌≤◌, ◌<◌, ◌+◌, ℕ, Bool, true, false, List, [], ◌∷◌}
 use Rattle.std.specs.Prelude.{◌++◌, length}
+use Rattle.fp_disk.specs.Crashes.{AtAnyMoment, EachCrash, SameHonesty}
 use Rattle.fp_disk.specs.History.{MakesSome}
 use Rattle.fp_disk.specs.Outcomes.{PendingState, IsOutcome}
+use Rattle.fp_disk.specs.declared.disk.Disk.{Ghosts}
 use Rattle.fp_disk.specs.declared.history.CallKind.{CallKind}
 use Rattle.fp_disk.specs.declared.history.CallKind.TheVariants.{Sync, Write}
 use Rattle.fp_edit.specs.Log.{after}
@@ -22,7 +24,7 @@ use Rattle.fp_world.specs.declared.event.Event.{Event}
 use Rattle.fp_world.specs.declared.event.Event.TheVariants as event
 use Rattle.fp_world.specs.declared.committer.Held.{Held}
 use Rattle.fp_world.specs.declared.committer.Held.TheVariants as held
-use Rattle.fp_world.specs.Commits.{Commits, Compaction, Progress}
+use Rattle.fp_world.specs.Commits.{Commits, Compaction, Progress, told_after}
 use Rattle.fp_world.specs.Commits.{nothing_drawn, batch_drawn, batch_staged, body_synced}
 use Rattle.fp_world.specs.Commits.{gate_opened, batch_sealed}
 
@@ -120,6 +122,20 @@ MakesItsCall _ a old new = new ≡ old
 abbrev pub RisesFor : Answer → (before now : ℕ) → Type 0
 RisesFor (answer.Fault fault.Device) before now = before < now
 RisesFor _ before now = now ≡ before
+
+-- ---- what an event of the store leaves
+-- the desk, and what was told, stay; each crash in it and behind it keeps what was told; and the
+-- device failed exactly where that is answered
+pub record KeepsTold {D : Type 0} (disk : Ghosts D) (old : CommitterState D) (answer : Answer)
+    (new : CommitterState D) : Type 0 where
+  pub told : new.told ≡ told_after old.told answer
+  pub same : (new.desk ≡ old.desk) × (new.told ≡ old.told) × (new.store.store ≡ old.store.store)
+  pub any_moment : AtAnyMoment disk old.store.slots.journal.disk new.store.slots.journal.disk
+      (KeptFrom new.desk old.told)
+  pub exit : EachCrash disk new.store.slots.journal.disk (KeptFrom new.desk new.told)
+  pub honest : SameHonesty disk old.store.slots.journal.disk new.store.slots.journal.disk
+  pub cause : RisesFor answer (disk.faults old.store.slots.journal.disk)
+      (disk.faults new.store.slots.journal.disk)
 
 -- ---- the invariant
 -- the tickets are for these revisions and the next ones

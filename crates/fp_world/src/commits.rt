@@ -1,7 +1,7 @@
 //! The events of the edits, each as a method.
 
-ghost use Rattle.fp_disk.specs.Crashes.{AtAnyMoment, EachCrash, SameHonesty};
-ghost use Rattle.std.specs.Prelude.{◌≡◌, ◌≤◌, ◌++◌};
+ghost use Rattle.fp_disk.specs.Crashes.{EachCrash};
+ghost use Rattle.std.specs.Prelude.{◌≡◌, ◌++◌};
 ghost use mathlib.Core.List.{IsPrefix};
 ghost use Rattle.fp_disk.specs.declared.history.CallKind.TheVariants.{Sync, Write};
 ghost use Rattle.fp_edit.specs.Edits.{proposal_of};
@@ -10,7 +10,7 @@ ghost use Rattle.fp_world.specs.Commits.{Advances, DrawsNext, IsAt, Seals, Settl
 ghost use Rattle.fp_world.specs.Commits.{StepsOn, Submits, Tells, accepted_by, told_after};
 ghost use Rattle.fp_world.specs.Commits.{batch_staged, body_synced, gate_opened};
 ghost use Rattle.fp_world.specs.declared.event.Event.TheVariants.{Compact, Submit};
-ghost use Rattle.fp_world.specs.Committer.{KeptFrom, MakesItsCall, MakesOne, RisesFor, commits_of};
+ghost use Rattle.fp_world.specs.Committer.{KeepsTold, KeptFrom, MakesItsCall, MakesOne, commits_of};
 
 use crate::committer::{Committer, Held, end};
 use crate::event::Answer;
@@ -55,19 +55,9 @@ impl<D: Disk> Committer<D> {
     // Writes what is drawn.
     pub(crate) fn stage(&mut self) -> Answer
         ensures steps { Stages (commits_of self.old) result (commits_of self.new) }
-        ensures told { self.new.told ≡ told_after self.old.told result }
-        ensures same { (self.new.desk ≡ self.old.desk) × (self.new.told ≡ self.old.told)
-            × (self.new.store.store ≡ self.old.store.store) }
-        ensures any_moment { AtAnyMoment D.Disk self.old.store.slots.journal.disk
-            self.new.store.slots.journal.disk (KeptFrom self.new.desk self.old.told) }
-        ensures exit { EachCrash D.Disk self.new.store.slots.journal.disk
-            (KeptFrom self.new.desk self.new.told) }
-        ensures honest { SameHonesty D.Disk self.old.store.slots.journal.disk
-            self.new.store.slots.journal.disk }
+        ensures kept { KeepsTold D.Disk self.old result self.new }
         ensures called { MakesOne Write result (D.calls self.old.store.slots.journal.disk)
             (D.calls self.new.store.slots.journal.disk) }
-        ensures cause { RisesFor result (D.faults self.old.store.slots.journal.disk)
-            (D.faults self.new.store.slots.journal.disk) }
     {
         let _ = &self.told;
         if self.store.failed() {
@@ -121,19 +111,9 @@ impl<D: Disk> Committer<D> {
     pub(crate) fn sync_body(&mut self) -> Answer
         ensures steps { Advances (IsAt batch_staged) body_synced (commits_of self.old) result
             (commits_of self.new) }
-        ensures told { self.new.told ≡ told_after self.old.told result }
-        ensures same { (self.new.desk ≡ self.old.desk) × (self.new.told ≡ self.old.told)
-            × (self.new.store.store ≡ self.old.store.store) }
-        ensures any_moment { AtAnyMoment D.Disk self.old.store.slots.journal.disk
-            self.new.store.slots.journal.disk (KeptFrom self.new.desk self.old.told) }
-        ensures exit { EachCrash D.Disk self.new.store.slots.journal.disk
-            (KeptFrom self.new.desk self.new.told) }
-        ensures honest { SameHonesty D.Disk self.old.store.slots.journal.disk
-            self.new.store.slots.journal.disk }
+        ensures kept { KeepsTold D.Disk self.old result self.new }
         ensures called { MakesOne Sync result (D.calls self.old.store.slots.journal.disk)
             (D.calls self.new.store.slots.journal.disk) }
-        ensures cause { RisesFor result (D.faults self.old.store.slots.journal.disk)
-            (D.faults self.new.store.slots.journal.disk) }
     {
         let _ = &self.told;
         if self.store.failed() {
@@ -152,19 +132,9 @@ impl<D: Disk> Committer<D> {
     pub(crate) fn open_gate(&mut self) -> Answer
         ensures steps { Advances (IsAt body_synced) gate_opened (commits_of self.old) result
             (commits_of self.new) }
-        ensures told { self.new.told ≡ told_after self.old.told result }
-        ensures same { (self.new.desk ≡ self.old.desk) × (self.new.told ≡ self.old.told)
-            × (self.new.store.store ≡ self.old.store.store) }
-        ensures any_moment { AtAnyMoment D.Disk self.old.store.slots.journal.disk
-            self.new.store.slots.journal.disk (KeptFrom self.new.desk self.old.told) }
-        ensures exit { EachCrash D.Disk self.new.store.slots.journal.disk
-            (KeptFrom self.new.desk self.new.told) }
-        ensures honest { SameHonesty D.Disk self.old.store.slots.journal.disk
-            self.new.store.slots.journal.disk }
+        ensures kept { KeepsTold D.Disk self.old result self.new }
         ensures called { MakesOne Write result (D.calls self.old.store.slots.journal.disk)
             (D.calls self.new.store.slots.journal.disk) }
-        ensures cause { RisesFor result (D.faults self.old.store.slots.journal.disk)
-            (D.faults self.new.store.slots.journal.disk) }
     {
         let _ = &self.told;
         if self.store.failed() {
@@ -182,19 +152,9 @@ impl<D: Disk> Committer<D> {
     // Seals what is in flight.
     pub(crate) fn sync_gate(&mut self) -> Answer
         ensures steps { Seals (commits_of self.old) result (commits_of self.new) }
-        ensures told { self.new.told ≡ told_after self.old.told result }
-        ensures same { (self.new.desk ≡ self.old.desk) × (self.new.told ≡ self.old.told)
-            × (self.new.store.store ≡ self.old.store.store) }
-        ensures any_moment { AtAnyMoment D.Disk self.old.store.slots.journal.disk
-            self.new.store.slots.journal.disk (KeptFrom self.new.desk self.old.told) }
-        ensures exit { EachCrash D.Disk self.new.store.slots.journal.disk
-            (KeptFrom self.new.desk self.new.told) }
-        ensures honest { SameHonesty D.Disk self.old.store.slots.journal.disk
-            self.new.store.slots.journal.disk }
+        ensures kept { KeepsTold D.Disk self.old result self.new }
         ensures called { MakesOne Sync result (D.calls self.old.store.slots.journal.disk)
             (D.calls self.new.store.slots.journal.disk) }
-        ensures cause { RisesFor result (D.faults self.old.store.slots.journal.disk)
-            (D.faults self.new.store.slots.journal.disk) }
     {
         let _ = &self.told;
         if self.store.failed() {
@@ -215,19 +175,9 @@ impl<D: Disk> Committer<D> {
     // Takes the next step of a compaction.
     pub(crate) fn compact(&mut self) -> Answer
         ensures steps { StepsOn (commits_of self.old) result (commits_of self.new) }
-        ensures told { self.new.told ≡ told_after self.old.told result }
-        ensures same { (self.new.desk ≡ self.old.desk) × (self.new.told ≡ self.old.told)
-            × (self.new.store.store ≡ self.old.store.store) }
-        ensures any_moment { AtAnyMoment D.Disk self.old.store.slots.journal.disk
-            self.new.store.slots.journal.disk (KeptFrom self.new.desk self.old.told) }
-        ensures exit { EachCrash D.Disk self.new.store.slots.journal.disk
-            (KeptFrom self.new.desk self.new.told) }
-        ensures honest { SameHonesty D.Disk self.old.store.slots.journal.disk
-            self.new.store.slots.journal.disk }
+        ensures kept { KeepsTold D.Disk self.old result self.new }
         ensures called { MakesItsCall Compact result (D.calls self.old.store.slots.journal.disk)
             (D.calls self.new.store.slots.journal.disk) }
-        ensures cause { RisesFor result (D.faults self.old.store.slots.journal.disk)
-            (D.faults self.new.store.slots.journal.disk) }
     {
         let _ = &self.told;
         if self.store.failed() {

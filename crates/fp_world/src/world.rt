@@ -3,7 +3,6 @@
 ghost use Rattle.fp_disk.specs.Crashes.{AtAnyMoment, EachCrash, SameHonesty};
 ghost use Rattle.std.specs.Prelude.{◌≡◌, ◌⊎◌, ◌≤◌, ◌++◌, ℕ, false, length, IfOk, IfErr, OnErr};
 ghost use Rattle.fp_desk.specs.Desk.{DeskState, log};
-ghost use Rattle.fp_edit.specs.Log.{after};
 ghost use Rattle.fp_layout.specs.declared.fault.OpenFault.TheVariants.{Device, Memory};
 ghost use Rattle.fp_group_commit.specs.Store.{IsFresh};
 ghost use Rattle.fp_recovery.specs.Stands.{StandsFor};

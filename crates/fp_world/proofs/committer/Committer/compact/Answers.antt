@@ -3,7 +3,6 @@ use Rattle.fp_group_commit.specs.Store.{MayCompact}
 use Rattle.fp_world.specs.Commits.{MayStep, StepsOn}
 use Rattle.fp_world.specs.Committer.{CommitterState, commits_of}
 use Rattle.fp_world.specs.declared.event.Answer.TheVariants as answer
-use Rattle.fp_group_commit.proofs.Steps as moves
 use Rattle.fp_world.proofs.Goes as goes
 use Rattle.fp_world.proofs.CompactionGoes as compaction_goes
 use Rattle.fp_world.proofs.Keeps as keeps
@@ -13,11 +12,8 @@ use Rattle.fp_world.proofs.committer.Committer.compact.Goals as goal
 pub returns-then-failed-clause-steps : goal.returns-then-failed-clause-steps
 returns-then-failed-clause-steps g c = rw (← c.self.view_is) (goes.ill_by c.failed.result c.self.inside.store.slots.journal.phase c.failed.ensures c.if-failed.true, refl)
 
-pub returns-then-failed-clause-any_moment : goal.returns-then-failed-clause-any_moment
-returns-then-failed-clause-any_moment g c = let D = g.D.Disk in let m = g.met.D.Disk in rw (← c.self.view_is) (λ h. keeps.still D.honest D.moment D.crash_states_since D.unsynced c.self.invariant m.only_now h)
-
-pub returns-then-failed-clause-exit : goal.returns-then-failed-clause-exit
-returns-then-failed-clause-exit g c = let D = g.D.Disk in rw (← c.self.view_is) (λ h o out. keeps.kept_now D.honest D.moment D.crash_states_since D.unsynced c.self.invariant h o out)
+pub returns-then-failed-clause-kept : goal.returns-then-failed-clause-kept
+returns-then-failed-clause-kept g c = rw (← c.self.view_is) (keeps.told_still g.D.Disk g.met.D.Disk.only_now c.self.invariant refl refl)
 
 pub returns-then-not-may_compact-clause-steps : goal.returns-then-not-may_compact-clause-steps
 returns-then-not-may_compact-clause-steps g c =
@@ -25,11 +21,8 @@ returns-then-not-may_compact-clause-steps g c =
     let none : MayStep (goes.At h s d told) → ⊥ = (λ may. let yes = c.may_compact.ensures.1 (compaction_goes.may_compact h s d told i.out may) in absurd (search rules)) in
     rw (← c.self.view_is) (goes.well_by c.failed.result s.slots.journal.phase c.failed.ensures c.if-failed.false, none, refl)
 
-pub returns-then-not-may_compact-clause-any_moment : goal.returns-then-not-may_compact-clause-any_moment
-returns-then-not-may_compact-clause-any_moment g c = let D = g.D.Disk in let m = g.met.D.Disk in rw (← c.self.view_is) (λ h. keeps.still D.honest D.moment D.crash_states_since D.unsynced c.self.invariant m.only_now h)
-
-pub returns-then-not-may_compact-clause-exit : goal.returns-then-not-may_compact-clause-exit
-returns-then-not-may_compact-clause-exit g c = let D = g.D.Disk in rw (← c.self.view_is) (λ h o out. keeps.kept_now D.honest D.moment D.crash_states_since D.unsynced c.self.invariant h o out)
+pub returns-then-not-may_compact-clause-kept : goal.returns-then-not-may_compact-clause-kept
+returns-then-not-may_compact-clause-kept g c = rw (← c.self.view_is) (keeps.told_still g.D.Disk g.met.D.Disk.only_now c.self.invariant refl refl)
 
 pub invariant_of-self : goal.invariant_of-self
 invariant_of-self g c =
@@ -50,13 +43,8 @@ returns-in-Err g c =
     let may : MayCompact s = c.may_compact.ensures.0 (search rules) in
     rw (← c.self.view_is) (record {
       steps = subst (λ (x : CommitterState g.row.D.Denot). StepsOn (commits_of x) (answer.Fault c.in-Err.fault) (goes.At h n d told)) c.self.view_is (compaction_goes.stops D.faults c.in-Err.fault h s n d told i.out may c.in-Err.ensures.fault);
-      told = refl;
-      same = (refl, refl, w.same.0);
-      any_moment = λ h0. keeps.kept_leaves D.honest D.moment D.crash_states_since D.unsynced i n.slots.journal.disk (w.any_moment h0);
-      exit = moves.exit_has D m.counts_now s.slots.journal.disk n.slots.journal.disk _ _ (λ o p. p) w.honest.1 (λ h0. keeps.kept_leaves D.honest D.moment D.crash_states_since D.unsynced i n.slots.journal.disk (w.any_moment h0));
-      honest = w.honest;
+      kept = keeps.told_moved D m.counts_now refl w.same.0 (λ h0. keeps.kept_leaves D.honest D.moment D.crash_states_since D.unsynced i n.slots.journal.disk (w.any_moment h0)) w.honest (compaction_goes.rise_of_stop D.faults c.in-Err.fault s n c.in-Err.ensures.fault);
       called = compaction_goes.calls_of_stop D.faults D.calls c.in-Err.fault s n c.in-Err.ensures.fault c.in-Err.ensures.called;
-      cause = compaction_goes.rise_of_stop D.faults c.in-Err.fault s n c.in-Err.ensures.fault;
     })
 
 pub returns : goal.returns
@@ -67,11 +55,6 @@ returns g c =
     let ok = c.in_default.ensures.ok in
     rw (← c.self.view_is) (record {
       steps = compaction_goes.compacts D.faults h s n d told c.step.result i.same i.out may ok w.phase c.step.ensures;
-      told = refl;
-      same = (refl, refl, w.same.0);
-      any_moment = λ h0. keeps.kept_leaves D.honest D.moment D.crash_states_since D.unsynced i n.slots.journal.disk (w.any_moment h0);
-      exit = moves.exit_has D m.counts_now s.slots.journal.disk n.slots.journal.disk _ _ (λ o p. p) w.honest.1 (λ h0. keeps.kept_leaves D.honest D.moment D.crash_states_since D.unsynced i n.slots.journal.disk (w.any_moment h0));
-      honest = w.honest;
+      kept = keeps.told_moved D m.counts_now refl w.same.0 (λ h0. keeps.kept_leaves D.honest D.moment D.crash_states_since D.unsynced i n.slots.journal.disk (w.any_moment h0)) w.honest ok.no_failure;
       called = compaction_goes.calls_of_step s.slots.step s.slots.may_open c.step.result (D.calls s.slots.journal.disk) (D.calls n.slots.journal.disk) c.in_default.ensures.called;
-      cause = ok.no_failure;
     })

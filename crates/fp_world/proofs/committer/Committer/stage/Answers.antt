@@ -10,7 +10,6 @@ use Rattle.fp_world.specs.Committer.{IsOut, KeptFrom, CommitterState, in_flight_
 use Rattle.fp_world.specs.declared.event.Answer.TheVariants as answer
 use Rattle.fp_world.specs.declared.committer.Held.{Held}
 use Rattle.fp_world.specs.declared.committer.Held.TheVariants as held
-use Rattle.fp_group_commit.proofs.Steps as moves
 use Rattle.fp_world.proofs.Goes as goes
 use Rattle.fp_world.proofs.Keeps as keeps
 use Rattle.fp_world.proofs.Sound as sound
@@ -19,11 +18,8 @@ use Rattle.fp_world.proofs.committer.Committer.stage.Goals as goal
 pub returns-then-failed-clause-steps : goal.returns-then-failed-clause-steps
 returns-then-failed-clause-steps g c = rw (← c.self.view_is) (goes.ill_by c.failed.result c.self.inside.store.slots.journal.phase c.failed.ensures c.if-failed.true, refl)
 
-pub returns-then-failed-clause-any_moment : goal.returns-then-failed-clause-any_moment
-returns-then-failed-clause-any_moment g c = let D = g.D.Disk in let m = g.met.D.Disk in rw (← c.self.view_is) (λ h. keeps.still D.honest D.moment D.crash_states_since D.unsynced c.self.invariant m.only_now h)
-
-pub returns-then-failed-clause-exit : goal.returns-then-failed-clause-exit
-returns-then-failed-clause-exit g c = let D = g.D.Disk in rw (← c.self.view_is) (λ h o out. keeps.kept_now D.honest D.moment D.crash_states_since D.unsynced c.self.invariant h o out)
+pub returns-then-failed-clause-kept : goal.returns-then-failed-clause-kept
+returns-then-failed-clause-kept g c = rw (← c.self.view_is) (keeps.told_still g.D.Disk g.met.D.Disk.only_now c.self.invariant refl refl)
 
 pub returns-in_default : goal.returns-in_default
 returns-in_default g c =
@@ -32,13 +28,8 @@ returns-in_default g c =
     let none : (group : Group) → h ≡ held.Drawn group → ⊥ = (λ group is. c.in_default.not-Drawn group (c.replace.ensures.value ∙ is)) in
     rw (← c.self.view_is) (record {
       steps = (goes.well_by c.failed.result s.slots.journal.phase c.failed.ensures c.if-failed.false, goes.none_held h s d told none, ap (λ (x : Held). goes.At x s d told) same);
-      told = refl;
-      same = (refl, refl, refl);
-      any_moment = λ h0. keeps.still D.honest D.moment D.crash_states_since D.unsynced i m.only_now h0;
-      exit = λ h0 o out. keeps.kept_now D.honest D.moment D.crash_states_since D.unsynced i h0 o out;
-      honest = (λ h0. h0, λ h0. h0);
+      kept = keeps.told_still D m.only_now c.self.invariant refl refl;
       called = refl;
-      cause = refl;
     })
 
 pub returns-then-not-has_room-clause-steps : goal.returns-then-not-has_room-clause-steps
@@ -51,11 +42,8 @@ returns-then-not-has_room-clause-steps g c =
     let none : HasRoom s.slots draw → ⊥ = (λ room. let yes = c.has_room.ensures.room.1 room in absurd (search rules)) in
     rw (← c.self.view_is, c.replace-then-not-has_room.ensures.after) (subst (λ (x : Held). Stages (goes.At x s d told) answer.NotNow (goes.At (held.Drawn draw) s d told)) (sym is) (well, goes.cannot_stage draw s d told (goes.quarter_of s d i.same c.has_room.ensures.quarter) o.2 o.3 none, refl))
 
-pub returns-then-not-has_room-clause-any_moment : goal.returns-then-not-has_room-clause-any_moment
-returns-then-not-has_room-clause-any_moment g c = let D = g.D.Disk in let m = g.met.D.Disk in rw (← c.self.view_is) (λ h. keeps.still D.honest D.moment D.crash_states_since D.unsynced c.self.invariant m.only_now h)
-
-pub returns-then-not-has_room-clause-exit : goal.returns-then-not-has_room-clause-exit
-returns-then-not-has_room-clause-exit g c = let D = g.D.Disk in λ h o out. keeps.kept_now D.honest D.moment D.crash_states_since D.unsynced c.self.invariant h o out
+pub returns-then-not-has_room-clause-kept : goal.returns-then-not-has_room-clause-kept
+returns-then-not-has_room-clause-kept g c = rw (← c.self.view_is) (keeps.told_still g.D.Disk g.met.D.Disk.only_now c.self.invariant refl refl)
 
 pub invariant_of-self-in_default-stage : goal.invariant_of-self-in_default-stage
 invariant_of-self-in_default-stage g c =
@@ -93,13 +81,8 @@ returns-in_default-stage g c =
     let room : HasRoom s.slots draw = c.has_room.ensures.room.0 (search rules) in
     rw (← c.self.view_is, c.replace.ensures.after) (record {
       steps = subst (λ (x : Held). Stages (goes.At x s d told) answer.Done (goes.At held.InFlight n d told)) (sym is) (goes.done D.faults CanStage batch_staged (held.Drawn draw) held.InFlight s n d told Staged ok w.same_room (goes.can_stage draw s d told (goes.quarter_of s d i.same c.has_room.ensures.quarter) o.2 room) (ap in_flight_at ok.step));
-      told = refl;
-      same = (refl, refl, w.same.0);
-      any_moment = leaves;
-      exit = moves.exit_has D m.counts_now s.slots.journal.disk n.slots.journal.disk _ _ (λ o p. p) w.honest.1 (λ h0. leaves h0);
-      honest = w.honest;
+      kept = keeps.told_moved D m.counts_now refl w.same.0 leaves w.honest ok.no_failure;
       called = c.in_default-stage.ensures.called;
-      cause = ok.no_failure;
     })
 
 pub returns : goal.returns
@@ -117,11 +100,6 @@ returns g c =
       steps = subst (λ (x : CommitterState g.row.D.Denot). Stages (commits_of x) (answer.Fault f) (goes.At c.replace-2.new.dest n d told)) c.self.view_is
           (subst (λ (x : Held). Stages (goes.At h s d told) (answer.Fault f) (goes.At x n d told)) (sym c.replace-2.ensures.after)
           (subst (λ (x : Held). Stages (goes.At x s d told) (answer.Fault f) (goes.At (held.Drawn c.in-Err.draw) n d told)) (sym is) (goes.refused_stage D.faults f draw c.in-Err.draw s n d told e.fault c.in_default-fault.not-Stranger (goes.can_stage draw s d told (goes.quarter_of s d i.same c.has_room.ensures.quarter) o.2 room))));
-      told = refl;
-      same = (refl, refl, w.same.0);
-      any_moment = leaves;
-      exit = moves.exit_has D m.counts_now s.slots.journal.disk n.slots.journal.disk _ _ (λ o p. p) w.honest.1 (λ h0. leaves h0);
-      honest = w.honest;
+      kept = keeps.told_moved D m.counts_now refl w.same.0 leaves w.honest (goes.rise_of_refusal D.faults f s n draw e.fault);
       called = goes.calls_of_refusal D.faults D.calls Write f s n draw e.fault e.called;
-      cause = goes.rise_of_refusal D.faults f s n draw e.fault;
     })

@@ -4,7 +4,6 @@ use Rattle.fp_journal.specs.declared.journal.Phase.TheVariants.{Idle, Staged, Bo
 use Rattle.fp_world.specs.Commits.{Advances, IsAt, batch_staged, body_synced}
 use Rattle.fp_world.specs.Committer.{CommitterState, in_flight_at, is_in_flight, commits_of, progress_of}
 use Rattle.fp_world.specs.declared.event.Answer.TheVariants as answer
-use Rattle.fp_group_commit.proofs.Steps as moves
 use Rattle.fp_world.proofs.Goes as goes
 use Rattle.fp_world.proofs.Keeps as keeps
 use Rattle.fp_world.proofs.Sound as sound
@@ -13,24 +12,16 @@ use Rattle.fp_world.proofs.committer.Committer.sync_body.Goals as goal
 pub returns-then-failed-clause-steps : goal.returns-then-failed-clause-steps
 returns-then-failed-clause-steps g c = rw (← c.self.view_is) (goes.ill_by c.failed.result c.self.inside.store.slots.journal.phase c.failed.ensures c.if-failed.true, refl)
 
-pub returns-then-failed-clause-any_moment : goal.returns-then-failed-clause-any_moment
-returns-then-failed-clause-any_moment g c = let D = g.D.Disk in let m = g.met.D.Disk in rw (← c.self.view_is) (λ h. keeps.still D.honest D.moment D.crash_states_since D.unsynced c.self.invariant m.only_now h)
-
-pub returns-then-failed-clause-exit : goal.returns-then-failed-clause-exit
-returns-then-failed-clause-exit g c = let D = g.D.Disk in rw (← c.self.view_is) (λ h o out. keeps.kept_now D.honest D.moment D.crash_states_since D.unsynced c.self.invariant h o out)
+pub returns-then-failed-clause-kept : goal.returns-then-failed-clause-kept
+returns-then-failed-clause-kept g c = rw (← c.self.view_is) (keeps.told_still g.D.Disk g.met.D.Disk.only_now c.self.invariant refl refl)
 
 pub returns-in_default : goal.returns-in_default
 returns-in_default g c =
     let D = g.D.Disk in let m = g.met.D.Disk in let s = c.self.inside.store in
     rw (← c.self.view_is) (record {
       steps = (goes.well_by c.failed.result s.slots.journal.phase c.failed.ensures c.if-failed.false, (λ at. c.in_default.not-Staged (c.phase.ensures.phase ∙ goes.when_staged s c.self.inside.desk c.self.inside.held c.self.invariant.out at)), refl);
-      told = refl;
-      same = (refl, refl, refl);
-      any_moment = λ h. keeps.still D.honest D.moment D.crash_states_since D.unsynced c.self.invariant m.only_now h;
-      exit = λ h o out. keeps.kept_now D.honest D.moment D.crash_states_since D.unsynced c.self.invariant h o out;
-      honest = (λ h. h, λ h. h);
+      kept = keeps.told_still D m.only_now c.self.invariant refl refl;
       called = refl;
-      cause = refl;
     })
 
 pub invariant_of-self : goal.invariant_of-self
@@ -63,13 +54,8 @@ returns-in_default-sync_body g c =
     let out = sound.out_moved s n d h i.out busy w.same.1 w.same.2 (ap is_in_flight on) in
     rw (← c.self.view_is) (record {
       steps = goes.done D.faults (IsAt batch_staged) body_synced h h s n d told BodySynced c.in_default-sync_body.ensures.ok w.same_room point (goes.in_air s d h i.out busy n.step ∙ ap in_flight_at on);
-      told = refl;
-      same = (refl, refl, w.same.0);
-      any_moment = λ h0. keeps.kept_leaves D.honest D.moment D.crash_states_since D.unsynced i n.slots.journal.disk (w.any_moment h0);
-      exit = moves.exit_has D m.counts_now s.slots.journal.disk n.slots.journal.disk _ _ (λ o p. p) w.honest.1 (λ h0. keeps.kept_leaves D.honest D.moment D.crash_states_since D.unsynced i n.slots.journal.disk (w.any_moment h0));
-      honest = w.honest;
+      kept = keeps.told_moved D m.counts_now refl w.same.0 (λ h0. keeps.kept_leaves D.honest D.moment D.crash_states_since D.unsynced i n.slots.journal.disk (w.any_moment h0)) w.honest (let moved = c.in_default-sync_body.ensures.ok in moved.no_failure);
       called = c.in_default-sync_body.ensures.called;
-      cause = (let moved = c.in_default-sync_body.ensures.ok in moved.no_failure);
     })
 
 pub returns : goal.returns
@@ -82,11 +68,6 @@ returns g c =
     let out = sound.out_moved s n d h i.out busy w.same.1 w.same.2 (ap is_in_flight on) in
     rw (← c.self.view_is) (record {
       steps = subst (λ (x : CommitterState g.row.D.Denot). Advances (IsAt batch_staged) body_synced (commits_of x) (answer.Fault c.in-Err.fault) (goes.At h n d told)) c.self.view_is (goes.fails D.faults (IsAt batch_staged) body_synced c.in-Err.fault h s n d told c.in-Err.ensures.fault c.in-Err.ensures.phase point);
-      told = refl;
-      same = (refl, refl, w.same.0);
-      any_moment = λ h0. keeps.kept_leaves D.honest D.moment D.crash_states_since D.unsynced i n.slots.journal.disk (w.any_moment h0);
-      exit = moves.exit_has D m.counts_now s.slots.journal.disk n.slots.journal.disk _ _ (λ o p. p) w.honest.1 (λ h0. keeps.kept_leaves D.honest D.moment D.crash_states_since D.unsynced i n.slots.journal.disk (w.any_moment h0));
-      honest = w.honest;
+      kept = keeps.told_moved D m.counts_now refl w.same.0 (λ h0. keeps.kept_leaves D.honest D.moment D.crash_states_since D.unsynced i n.slots.journal.disk (w.any_moment h0)) w.honest (goes.rise_of_fail D.faults c.in-Err.fault s n c.in-Err.ensures.fault);
       called = goes.calls_of_fail D.faults D.calls Sync c.in-Err.fault s n c.in-Err.ensures.fault c.in-Err.ensures.called;
-      cause = goes.rise_of_fail D.faults c.in-Err.fault s n c.in-Err.ensures.fault;
     })

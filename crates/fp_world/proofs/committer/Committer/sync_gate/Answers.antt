@@ -9,7 +9,6 @@ use Rattle.fp_disk.specs.Outcomes.{LeavesOnly}
 use Rattle.fp_world.specs.Committer.{KeptFrom, CommitterState, in_flight_at, is_in_flight, commits_of, progress_of}
 use Rattle.fp_world.specs.declared.event.Answer.TheVariants as answer
 use Rattle.fp_world.specs.declared.committer.Held.TheVariants as held
-use Rattle.fp_group_commit.proofs.Steps as moves
 use Rattle.fp_world.proofs.Goes as goes
 use Rattle.fp_world.proofs.Keeps as keeps
 use Rattle.fp_world.proofs.Sound as sound
@@ -18,24 +17,16 @@ use Rattle.fp_world.proofs.committer.Committer.sync_gate.Goals as goal
 pub returns-then-failed-clause-steps : goal.returns-then-failed-clause-steps
 returns-then-failed-clause-steps g c = rw (← c.self.view_is) (goes.ill_by c.failed.result c.self.inside.store.slots.journal.phase c.failed.ensures c.if-failed.true, refl)
 
-pub returns-then-failed-clause-any_moment : goal.returns-then-failed-clause-any_moment
-returns-then-failed-clause-any_moment g c = let D = g.D.Disk in let m = g.met.D.Disk in rw (← c.self.view_is) (λ h. keeps.still D.honest D.moment D.crash_states_since D.unsynced c.self.invariant m.only_now h)
-
-pub returns-then-failed-clause-exit : goal.returns-then-failed-clause-exit
-returns-then-failed-clause-exit g c = let D = g.D.Disk in rw (← c.self.view_is) (λ h o out. keeps.kept_now D.honest D.moment D.crash_states_since D.unsynced c.self.invariant h o out)
+pub returns-then-failed-clause-kept : goal.returns-then-failed-clause-kept
+returns-then-failed-clause-kept g c = rw (← c.self.view_is) (keeps.told_still g.D.Disk g.met.D.Disk.only_now c.self.invariant refl refl)
 
 pub returns-in_default : goal.returns-in_default
 returns-in_default g c =
     let D = g.D.Disk in let m = g.met.D.Disk in let s = c.self.inside.store in let d = c.self.inside.desk in let h = c.self.inside.held in let told = c.self.inside.told in let i = c.self.invariant in
     rw (← c.self.view_is) (record {
       steps = (goes.well_by c.failed.result s.slots.journal.phase c.failed.ensures c.if-failed.false, (λ at. c.in_default.not-GateOpened (c.phase.ensures.phase ∙ goes.when_opened s d h i.out at)), refl);
-      told = refl;
-      same = (refl, refl, refl);
-      any_moment = λ h0. keeps.still D.honest D.moment D.crash_states_since D.unsynced i m.only_now h0;
-      exit = λ h0 o out. keeps.kept_now D.honest D.moment D.crash_states_since D.unsynced i h0 o out;
-      honest = (λ h0. h0, λ h0. h0);
+      kept = keeps.told_still D m.only_now c.self.invariant refl refl;
       called = refl;
-      cause = refl;
     })
 
 pub invariant_of-self : goal.invariant_of-self
@@ -74,13 +65,8 @@ returns-in-Ok g c =
     let k = c.in-Ok.ensures in let f = keeps.in_flight s d h i.out at in let ok = k.ok in
     rw (← c.self.view_is, c.replace.ensures.after) (record {
       steps = goes.seals D.faults h c.in-Ok.receipt s n d told c.revision.result i.same ok k.takes_room k.store f.0 f.1 k.sealed point c.revision.ensures;
-      told = refl;
-      same = (refl, refl, k.store);
-      any_moment = leaves;
-      exit = moves.exit_has D m.counts_now s.slots.journal.disk n.slots.journal.disk _ _ (λ o p. p) w.honest.1 (λ h0. leaves h0);
-      honest = w.honest;
+      kept = keeps.told_moved D m.counts_now refl k.store leaves w.honest ok.no_failure;
       called = k.called;
-      cause = ok.no_failure;
     })
 
 pub returns-in-Err : goal.returns-in-Err
@@ -94,11 +80,6 @@ returns-in-Err g c =
     let e = c.in-Err.ensures in let f = c.in-Err.fault in
     rw (← c.self.view_is) (record {
       steps = subst (λ (x : CommitterState g.row.D.Denot). Seals (commits_of x) (answer.Fault f) (goes.At h n d told)) c.self.view_is (goes.seal_fails D.faults f h s n d told e.fault e.phase point);
-      told = refl;
-      same = (refl, refl, e.err.0);
-      any_moment = leaves;
-      exit = moves.exit_has D m.counts_now s.slots.journal.disk n.slots.journal.disk _ _ (λ o p. p) w.honest.1 (λ h0. leaves h0);
-      honest = w.honest;
+      kept = keeps.told_moved D m.counts_now refl e.err.0 leaves w.honest (goes.rise_of_fail D.faults f s n e.fault);
       called = goes.calls_of_fail D.faults D.calls Sync f s n e.fault e.called;
-      cause = goes.rise_of_fail D.faults f s n e.fault;
     })
