@@ -1,14 +1,12 @@
 //! A desk.
 
-ghost use Rattle.std.specs.Prelude.{◌≡◌, ◌≢◌, ◌⊎◌, ◌<◌, ◌≤◌, ◌+◌, ◌++◌, ◌↔◌, [], ◌∷◌, List, ℕ};
+ghost use Rattle.std.specs.Prelude.{◌≡◌, ◌≢◌, ◌<◌, ◌≤◌, ◌+◌, ◌++◌, ◌↔◌, []};
 ghost use Rattle.std.specs.Prelude.{length, true, false, IfOk, IfErr, IfSome, IfNone};
 ghost use Rattle.std.specs.Prelude.{IsTrue, OnOk, OnErr};
-ghost use mathlib.Core.List.{IsPrefix};
-ghost use Rattle.fp_edit.specs.Edits.{Change, proposal_of};
-ghost use Rattle.fp_edit.specs.Flags.{State};
+ghost use Rattle.fp_edit.specs.Edits.{proposal_of};
 ghost use Rattle.fp_edit.specs.Following.{change_of, changes_of};
 ghost use Rattle.fp_group_commit.specs.Tokens.{EndsWith};
-ghost use Rattle.fp_desk.specs.Desk.{head, log, unsettled_count, settled_front, settled_revision};
+ghost use Rattle.fp_desk.specs.Desk.{head, log, settled_front, settled_revision};
 ghost use Rattle.fp_desk.specs.Desk.{settled_set, most_of, FitsBehind, IsAccepted, IsDrawn, Draws};
 ghost use Rattle.fp_desk.specs.Desk.{Refuses, SettlesNot};
 

@@ -1,7 +1,7 @@
 //! What a disk promises.
 
 ghost use Rattle.std.specs.Prelude.{◌≡◌, ◌↔◌, ◌⊎◌, ◌≤◌, ◌<◌, ◌+◌, [], ◌∷◌, ◌++◌, List, ℕ, length};
-ghost use Rattle.std.specs.Prelude.{slice_range, IfOk, OnOk, IsOk, IsErr};
+ghost use Rattle.std.specs.Prelude.{slice_range, IfOk, OnOk, IsErr};
 ghost use Rattle.fp_disk.specs.declared.history.CallKind.{CallKind};
 ghost use Rattle.fp_disk.specs.Outcomes.{PendingState, IsOutcome, Written, ChangesWithin};
 ghost use Rattle.fp_disk.specs.Outcomes.{all_synced, with_write, Elapses, Answers};

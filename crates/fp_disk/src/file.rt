@@ -1,6 +1,6 @@
 //! A disk over a file.
 
-ghost use Rattle.std.specs.Prelude.{◌≡◌, ℕ, List, [], ◌∷◌, ◌++◌, IfOk};
+ghost use Rattle.std.specs.Prelude.{◌≡◌, [], ◌∷◌, ◌++◌, IfOk};
 ghost use Rattle.fp_disk.specs.Outcomes.{Answers, all_synced};
 
 use crate::disk::{Disk, DiskFault};

@@ -1,6 +1,6 @@
 //! A disk in memory.
 
-ghost use Rattle.std.specs.Prelude.{◌≡◌, ◌↔◌, ◌≤◌, ◌<◌, ◌+◌, ◌^◌, ◌-◌, ℕ, List, [], ◌∷◌, ◌++◌};
+ghost use Rattle.std.specs.Prelude.{◌≡◌, ◌≤◌, ◌<◌, ◌+◌, ◌^◌, ◌-◌, [], ◌∷◌, ◌++◌};
 ghost use Rattle.std.specs.Prelude.{length, slice_range, IfOk, OnOk, OnErr};
 ghost use Rattle.fp_disk.specs.Outcomes.{AreBytes, with_bytes_at};
 ghost use Rattle.fp_disk.specs.Memory.{Memory, Answered, HoldsBytes, Keeps, state, unsynced_of};

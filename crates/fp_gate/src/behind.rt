@@ -1,7 +1,7 @@
 //! Bytes behind a gate, in four calls.
 
 ghost use Rattle.fp_disk.specs.Crashes.{AtAnyMoment};
-ghost use Rattle.std.specs.Prelude.{◌≡◌, ◌≢◌, ◌⊎◌, ◌≤◌, ◌<◌, ◌+◌, ◌^◌, ℕ, List, [], ◌∷◌, length};
+ghost use Rattle.std.specs.Prelude.{◌≡◌, ◌≢◌, ◌⊎◌, ◌≤◌, ◌<◌, ◌+◌, ◌^◌, [], ◌∷◌, length};
 ghost use Rattle.std.specs.Prelude.{slice_index, IfOk, OnOk};
 ghost use Rattle.fp_disk.specs.Outcomes.{Written as HasWritten, all_synced};
 ghost use Rattle.fp_disk.specs.declared.history.CallKind.TheVariants.{Sync, Write};

@@ -1,7 +1,7 @@
 //! A gate: its place, its state as a type, and the two calls that open it.
 
 ghost use Rattle.fp_disk.specs.Crashes.{AtAnyMoment};
-ghost use Rattle.std.specs.Prelude.{◌≡◌, ◌⊎◌, ◌≤◌, ◌<◌, ℕ, length, slice_index, IfOk, OnOk};
+ghost use Rattle.std.specs.Prelude.{◌≡◌, ◌⊎◌, ◌≤◌, ◌<◌, length, slice_index, IfOk, OnOk};
 ghost use Rattle.fp_gate.specs.Calls.{WritesByte};
 ghost use Rattle.fp_gate.specs.Gates.{Gated, IsSyncOf, IsShut, IsOpen};
 ghost use Rattle.fp_gate.specs.Gates.{StaysAsRead, Guards, IsButFor};

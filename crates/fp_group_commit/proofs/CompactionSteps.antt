@@ -14,7 +14,7 @@ use Rattle.fp_journal.specs.declared.journal.Phase.{Phase}
 use Rattle.fp_journal.specs.declared.journal.Phase.TheVariants.{Idle, Failed}
 use Rattle.fp_journal.specs.declared.slot.Slot.{Slot}
 use Rattle.fp_journal.specs.Chain.{with_length, with_gate}
-use Rattle.fp_journal.specs.State.{IsOnWay, JournalState, SameSlot, room}
+use Rattle.fp_journal.specs.State.{IsOnWay, JournalState, room}
 use Rattle.fp_journal.specs.State as journal
 use Rattle.fp_layout.specs.Size.{other_side, slot_of}
 use Rattle.fp_recovery.specs.Stands.{TakesBatch, Spells}

@@ -1,7 +1,7 @@
 //! A batch on its way, by four calls with one call of the disk each.
 
 ghost use Rattle.fp_disk.specs.Crashes.{AtAnyMoment, EachCrash, SameHonesty};
-ghost use Rattle.std.specs.Prelude.{◌≡◌, ◌+◌, ◌++◌, [], ◌∷◌, List, ℕ, IfOk, IfErr, OnOk, OnErr};
+ghost use Rattle.std.specs.Prelude.{◌≡◌, ◌+◌, ◌++◌, [], ◌∷◌, IfOk, IfErr, OnOk, OnErr};
 ghost use Rattle.fp_disk.specs.History.{Makes};
 ghost use Rattle.fp_disk.specs.declared.history.CallKind.TheVariants.{Sync, Write};
 ghost use Rattle.fp_journal.specs.declared.journal.Phase.TheVariants.{Idle, Staged, BodySynced};

@@ -1,7 +1,7 @@
 //! Stores on new disks and on disks that kept edits before.
 
 ghost use Rattle.fp_disk.specs.Crashes.{AtAnyMoment, SameHonesty};
-ghost use Rattle.std.specs.Prelude.{◌≡◌, ◌≢◌, ◌⊎◌, ◌<◌, ◌++◌, [], ◌∷◌, List, ℕ, length, IfOk};
+ghost use Rattle.std.specs.Prelude.{◌≡◌, ◌≢◌, ◌⊎◌, ◌<◌, ◌++◌, [], ◌∷◌, IfOk};
 ghost use Rattle.std.specs.Prelude.{◌↔◌, IfErr, IsOk, IsTrue, MatchResult, false, slice_index};
 ghost use Rattle.fp_disk.specs.History.{MakesSome};
 ghost use Rattle.fp_disk.specs.Outcomes.{IsOutcome, LeavesOnly, all_synced};

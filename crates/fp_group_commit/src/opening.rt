@@ -15,7 +15,7 @@ pub struct Opening {
 
 impl Model for Opening {
     ghost use Rattle.std.specs.Coded.{codes};
-    ghost use Rattle.std.specs.Prelude.{◌≡◌, [], ◌∷◌};
+    ghost use Rattle.std.specs.Prelude.{◌≡◌, []};
     ghost use Rattle.fp_edit.specs.Flags.{coded_state};
     ghost use Rattle.fp_group_commit.specs.Tokens.{Identity};
 

@@ -1,6 +1,6 @@
 //! What of a store's edits is told.
 
-ghost use Rattle.std.specs.Prelude.{◌≡◌, ◌<◌, ◌+◌, ◌^◌, ◌++◌, [], length};
+ghost use Rattle.std.specs.Prelude.{◌≡◌, ◌<◌, ◌+◌, ◌++◌, []};
 ghost use Rattle.fp_edit.specs.Following.{changes_of};
 ghost use Rattle.fp_group_commit.specs.Tokens.{EndsWith, front_revision};
 

@@ -1,7 +1,7 @@
 //! A store of edits on a disk.
 
 ghost use Rattle.fp_disk.specs.Crashes.{EachCrash};
-ghost use Rattle.std.specs.Prelude.{◌≡◌, ◌≢◌, ◌<◌, ◌≤◌, ◌+◌, ◌-◌, ◌/◌, ◌^◌, ◌↔◌, List, ℕ, length};
+ghost use Rattle.std.specs.Prelude.{◌≡◌, ◌≢◌, ◌<◌, ◌+◌, ◌-◌, ◌/◌, ◌↔◌, ℕ, length};
 ghost use Rattle.std.specs.Prelude.{IsTrue};
 ghost use mathlib.Core.List.{IsPrefix};
 ghost use Rattle.fp_journal.specs.declared.journal.Phase.TheVariants.{Idle, Failed};

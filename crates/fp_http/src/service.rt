@@ -1,8 +1,6 @@
 //! The service that hyper asks: a request's reply once its body came.
 
-ghost use Rattle.std.specs.Prelude.{◌≡◌, ◌<◌, ◌^◌, ℕ, List, Option, IfOk, IfSome, IsSomeAnd};
-ghost use Rattle.std.specs.Prelude.{option_map, string_bytes};
-ghost use Rattle.std.specs.Option.{option_copied};
+ghost use Rattle.std.specs.Prelude.{◌<◌, ℕ, List, Option, IfOk, IfSome, IsSomeAnd};
 ghost use Rattle.http.specs.Request.{head_of};
 ghost use Rattle.http.specs.Response as reply;
 ghost use Rattle.fp_ofrep.specs.Seen.{body_seen, response_seen};

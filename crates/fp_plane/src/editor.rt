@@ -1,7 +1,7 @@
 //! An editor's connection.
 
 ghost use Rattle.std.specs.Prelude.{◌≡◌, ◌+◌, ◌++◌, ◌∷◌, [], ◌<◌, ◌≤◌, ℕ, List, Option, None};
-ghost use Rattle.std.specs.Prelude.{false, IfOk, IfErr, IfSome, IsSomeAnd, OnOk, MatchBool};
+ghost use Rattle.std.specs.Prelude.{false, IfOk, IfSome, IsSomeAnd, OnOk, MatchBool};
 ghost use Rattle.fp_group_commit.specs.Tokens.{Identity, front_revision};
 ghost use Rattle.fp_session.specs.Asks.{Ask, asked_by_input, asked_by_lines};
 ghost use Rattle.fp_session.specs.Progress.{AsksFor, line_up_to_limit};

@@ -4,7 +4,6 @@ ghost use Rattle.std.specs.Prelude.{◌≡◌, ◌≢◌, ◌<◌, ℕ, List, Op
 ghost use Rattle.std.specs.Prelude.{IfSome, MatchOption, OnOk};
 ghost use Rattle.fp_group_commit.specs.Tokens.{front_revision};
 ghost use Rattle.fp_publish.specs.Seats.{IsNews, had_by};
-ghost use Rattle.fp_stream.specs.Hellos.{Hears};
 ghost use Rattle.fp_stream.specs.declared.hello.Hello.{Hello};
 ghost use Rattle.fp_stream.specs.declared.hello.Hello.TheVariants.{Has};
 ghost use Rattle.fp_streams.specs.Failures.{CountsFailures};

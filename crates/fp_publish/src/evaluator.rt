@@ -2,7 +2,6 @@
 
 ghost use Rattle.std.specs.Prelude.{◌≡◌, Some, None, IfSome, MatchOption, OnOk, OnErr};
 ghost use Rattle.left_right.specs.Sides.{view};
-ghost use Rattle.fp_group_commit.specs.Tokens.{FrontState};
 ghost use Rattle.fp_publish.specs.Evaluator.{KnowsStore};
 ghost use Rattle.fp_publish.specs.Fronts.{Begins};
 

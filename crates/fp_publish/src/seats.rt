@@ -1,6 +1,6 @@
 //! Seats: what subscribers have, and the document that they are handed.
 
-ghost use Rattle.std.specs.Prelude.{◌≡◌, ◌<◌, ◌≤◌, ◌+◌, ◌-◌, None, IfOk, IfSome, OnErr};
+ghost use Rattle.std.specs.Prelude.{◌≡◌, ◌<◌, ◌≤◌, ◌+◌, ◌-◌, None, IfOk, OnErr};
 ghost use Rattle.std.specs.Prelude.{MatchOption, MatchResult};
 ghost use Rattle.fp_edit.specs.Document.{document};
 ghost use Rattle.fp_group_commit.specs.Tokens.{front_revision, front_set};

@@ -1,9 +1,7 @@
 //! Images: all flags of a set.
 
-ghost use Rattle.std.specs.Prelude.{◌≡◌, ◌+◌, ◌<◌, ◌≤◌, ◌++◌, ◌⊎◌, List, ℕ, [], length, map, IfOk};
+ghost use Rattle.std.specs.Prelude.{◌≡◌, ◌+◌, ◌<◌, ◌≤◌, ◌++◌, ◌⊎◌, List, ℕ, [], length, IfOk};
 ghost use Rattle.std.specs.Prelude.{OnOk, Ok, Err};
-ghost use Rattle.std.specs.List.{AllByRecursion};
-ghost use Rattle.std.specs.List.Sorted.{IsStrictlySortedBy};
 ghost use Rattle.std.specs.Ordering.{is_lt};
 ghost use Rattle.std.specs.FinMap.{entries as map_entries};
 ghost use Rattle.fp_base.specs.Answer.{Gives};
@@ -12,7 +10,7 @@ ghost use Rattle.fp_definition.specs.Key.{key_bytes};
 ghost use Rattle.fp_edit.specs.Entries.{entry_of, entries_of};
 ghost use Rattle.fp_edit.specs.declared.flags.Flag.{Flag};
 ghost use Rattle.fp_record.specs.declared.fault.RecordFault.TheVariants.{Memory};
-ghost use Rattle.fp_record.specs.Fields.{Tells, key_at};
+ghost use Rattle.fp_record.specs.Fields.{Tells};
 ghost use Rattle.fp_record.specs.WellFormed.{IsFlag, IsImage, IsOrdered};
 ghost use Rattle.fp_record.specs.Reading.{any_revision, changed_at, flag_at, flag_count, flags_at};
 ghost use Rattle.fp_record.specs.Reading.{image_at, image_in, key_above_at};

@@ -1,6 +1,6 @@
 //! Batches, read edit by edit onto a set.
 
-ghost use Rattle.std.specs.Prelude.{◌≡◌, ◌≤◌, ◌<◌, ◌+◌, length, IfErr, IfOk, OnOk};
+ghost use Rattle.std.specs.Prelude.{◌≤◌, ◌<◌, ◌+◌, length, IfErr, IfOk, OnOk};
 ghost use Rattle.fp_base.specs.Answer.{Gives};
 ghost use Rattle.fp_edit.specs.declared.edit.TheConstants.{REVISIONS_END};
 ghost use Rattle.fp_journal.specs.Reading.{IsWrong};

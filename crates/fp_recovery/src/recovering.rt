@@ -4,7 +4,6 @@ ghost use Rattle.fp_disk.specs.Crashes.{AtAnyMoment, SameHonesty};
 ghost use Rattle.std.specs.Prelude.{◌≡◌, ◌<◌, [], ◌∷◌, IfOk, IfErr, OnOk, IsErrOf};
 ghost use Rattle.fp_disk.specs.declared.history.CallKind.TheVariants.{Length};
 ghost use Rattle.fp_disk.specs.Outcomes.{IsOutcome};
-ghost use Rattle.fp_edit.specs.Flags.{State};
 ghost use Rattle.fp_journal.specs.Pieces.{MakesThenReads};
 ghost use Rattle.fp_layout.specs.declared.fault.OpenFault.TheVariants.{Device};
 ghost use Rattle.fp_recovery.specs.Refusals.{RefusesBytes};

@@ -1,6 +1,6 @@
 //! A plane's evaluator on loan to one connection.
 
-ghost use Rattle.std.specs.Prelude.{◌≡◌, ◌<◌, ◌^◌, IfOk, None};
+ghost use Rattle.std.specs.Prelude.{◌≡◌, ◌<◌, ◌^◌, IfOk};
 ghost use Rattle.std.specs.Coded.{codes};
 ghost use Rattle.std.specs.Option.{option_copied};
 ghost use Rattle.fp_edit.specs.Flags.{coded_state};

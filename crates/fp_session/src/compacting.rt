@@ -1,9 +1,7 @@
 //! Compactions: room for a batch, a step beside the batches, and the end of one.
 
-ghost use Rattle.std.specs.Prelude.{◌≡◌, ◌⊎◌, ◌<◌, ◌≤◌, ◌+◌, ◌^◌, length, IfErr, IfOk, OnErr, OnOk};
-ghost use Rattle.fp_disk.specs.Crashes.{AtAnyMoment, EachCrash, SameHonesty};
-ghost use Rattle.fp_disk.specs.History.{Makes};
-ghost use Rattle.fp_compaction.specs.Steps.{calls_of};
+ghost use Rattle.std.specs.Prelude.{◌≡◌, ◌⊎◌, ◌<◌, ◌≤◌, ◌+◌, ◌^◌, length, IfErr, OnOk};
+ghost use Rattle.fp_disk.specs.Crashes.{EachCrash};
 ghost use Rattle.fp_record.specs.declared.batch.TheConstants.{MOST_EDITS};
 ghost use Rattle.fp_recovery.specs.Room.{IsFullFor};
 ghost use Rattle.fp_recovery.specs.Stands.{StandsFor};
@@ -11,7 +9,7 @@ ghost use Rattle.fp_slots.specs.declared.slots.Step.TheVariants.{Begin};
 ghost use Rattle.fp_group_commit.specs.Calls.{Compacts};
 ghost use Rattle.fp_group_commit.specs.Changes.{HasRoom, batch_len};
 ghost use Rattle.fp_group_commit.specs.Store.{IsAtRest, MayCompact, sealed_set};
-ghost use Rattle.fp_session.specs.Session.{Halts, KeepsAll, Proceeds};
+ghost use Rattle.fp_session.specs.Session.{Halts, Proceeds};
 ghost use Rattle.fp_session.specs.declared.commit.CommitFault.TheVariants.{StoreFailed};
 
 use crate::CommitFault;

@@ -5,7 +5,6 @@ ghost use Rattle.std.specs.Prelude.{◌+◌, MatchResult, ◌<◌, ◌≤◌, na
 ghost use Rattle.std.specs.Prelude.{vec_len};
 ghost use Rattle.std.specs.Io.KnownBytes.{Appends};
 ghost use Rattle.fp_edit.specs.Edits.{Change, proposal_of};
-ghost use Rattle.fp_edit.specs.Flags.{State};
 ghost use Rattle.fp_edit.specs.Following.{change_of};
 ghost use Rattle.fp_session.specs.Asks.{Ask};
 ghost use Rattle.fp_session.specs.Progress.{AsksFor, IsAt, IsBroken, IsEnded, IsToldUpTo, Takes};

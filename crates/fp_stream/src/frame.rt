@@ -1,6 +1,6 @@
 //! What a frame carries, and how it is written.
 
-ghost use Rattle.std.specs.Prelude.{◌≡◌, ◌≤◌, ◌<◌, ◌^◌, length, IfErr, OnOk};
+ghost use Rattle.std.specs.Prelude.{◌≡◌, ◌≤◌, ◌<◌, length, IfErr, OnOk};
 ghost use Rattle.std.specs.Io.KnownBytes.{Appends};
 ghost use Rattle.fp_streams.specs.Failures.{CountsFailures};
 ghost use Rattle.fp_streams.specs.declared.counted.StreamFault.TheVariants.{Device};

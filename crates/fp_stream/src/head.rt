@@ -1,6 +1,6 @@
 //! The 16 bytes in front of a body.
 
-ghost use Rattle.std.specs.Prelude.{◌≡◌, ◌<◌, ◌≤◌, ◌+◌, ◌++◌, length, take, codes, slice_range};
+ghost use Rattle.std.specs.Prelude.{◌≡◌, ◌<◌, length, take, codes, slice_range};
 ghost use Rattle.std.specs.Prelude.{IfOk, IfErr, IsTrue, ◌↔◌};
 ghost use Rattle.std.specs.Int.{w32, w64, from_be_bytes};
 ghost use Rattle.fp_stream.specs.Heads.{head, IsHead, HasFault};

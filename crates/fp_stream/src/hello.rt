@@ -1,7 +1,7 @@
 //! What a subscriber has, and how it says so.
 
-ghost use Rattle.std.specs.Prelude.{◌≡◌, ◌≤◌, ◌↔◌, IsTrue, ◌<◌, ◌++◌, ◌∷◌, ℕ, List, length, take};
-ghost use Rattle.std.specs.Prelude.{Some, IfOk, IfErr, IfSome, OnOk};
+ghost use Rattle.std.specs.Prelude.{◌≡◌, ◌≤◌, ◌↔◌, IsTrue, ◌<◌, ◌++◌, ◌∷◌, ℕ, List, take};
+ghost use Rattle.std.specs.Prelude.{Some, IfOk, IfErr, OnOk};
 ghost use Rattle.std.specs.Int.{w64, to_be_bytes};
 ghost use Rattle.std.specs.Io.KnownBytes.{Appends, Consumes, IsAtEnd};
 ghost use Rattle.fp_streams.specs.Failures.{CountsFailures};

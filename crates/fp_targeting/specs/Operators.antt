@@ -32,6 +32,7 @@ use Rattle.fp_targeting.specs.declared.operator.BinaryOperator.TheVariants.{
 use Rattle.fp_targeting.specs.declared.operator.ChainOperator.{ChainOperator}
 use Rattle.fp_targeting.specs.declared.operator.ChainOperator.TheVariants.{Less, LessOrEqual}
 
+-- the operator that compares two data, by its name
 abbrev pub comparison_of : List ℕ → Option Operator
 comparison_of name =
     if bytes_eq name (codes "===") then Some (Binary StrictlyEqual) else
@@ -43,6 +44,7 @@ comparison_of name =
     if bytes_eq name (codes ">") then Some (Binary Greater) else
     if bytes_eq name (codes ">=") then Some (Binary GreaterOrEqual) else None
 
+-- the operator of this name
 abbrev pub operator_of : List ℕ → Option Operator
 operator_of name =
     if bytes_eq name (codes "var") then Some Var else

@@ -12,8 +12,8 @@ use std::cell::RefCell;
 use std::io;
 use std::io::{ErrorKind, Read};
 
-/// `input EDIT`, `last EDIT` for a line without its end, and `raw BYTES`; `turns`, of the streams of
-/// the last command.
+/// `input EDIT`, `last EDIT` for a line without its end, and `raw BYTES`; `turns`, of the last
+/// command's streams.
 pub fn on_input(trial: &mut Trial, word: &str, args: &mut Args<'_>) -> Answer {
     if word == "turns" {
         trial.text.put(&trial.turns);

@@ -51,7 +51,7 @@ fn key_of(course: Course, n: u64, key: &mut Text) {
     key.number(n);
 }
 
-// Makes the puts until one isn't told a revision: a line for each that is, its key and the revision.
+// Makes the puts until one isn't told a revision: for each that is, a line of its key and revision.
 fn told_of<R: Host>(rt: &R, at: SocketAddr, course: Course) -> String {
     let alloc = rt.alloc();
     let mut told = Text::new(alloc);

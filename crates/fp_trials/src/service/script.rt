@@ -105,8 +105,8 @@ impl<R: Host> ServiceScript<R> {
         port
     }
 
-    // `serve`, `serve failing CALL`, `hold behind COUNT`, `hold from PLACE`, `held`, `let-go`, `end`,
-    // `stop`, `left`, `pause MILLISECONDS`.
+    // `serve`, `serve failing CALL`, `hold behind COUNT`, `hold from PLACE`, `held`, `let-go`,
+    // `end`, `stop`, `left`, `pause MILLISECONDS`.
     fn on_service(&mut self, word: &str, args: &mut Args<'_>, out: &mut Text) {
         match word {
             "serve" => self.serve(args, out),
