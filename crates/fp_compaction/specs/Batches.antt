@@ -6,6 +6,7 @@ use Rattle.fp_edit.specs.Flags.{State}
 use Rattle.fp_gate.specs.declared.gate.TheConstants.{OPEN}
 use Rattle.fp_journal.specs.Chain.{with_length, with_gate}
 use Rattle.fp_journal.specs.State.{room}
+use Rattle.fp_journal.specs.declared.framed.TheConstants.{FRAME}
 use Rattle.fp_layout.specs.Size.{most_in}
 use Rattle.fp_recovery.specs.Stands.{StandsFor, TakesBatch}
 use Rattle.fp_slots.specs.State.{SlotsState, HasBegun, IsEarly, IsGrowing}
@@ -21,10 +22,10 @@ tail_of slots = length slots.text - slots.head
 -- with this body and a last gate it takes a quarter of a slot at most
 pub record HasRoomFor {D : Type 0} (slots : SlotsState D) (n : ℕ) : Type 0 where
   pub short : n ≤ slots.journal.slot.most
-  pub fits : n + 6 ≤ room slots.journal
+  pub fits : n + FRAME ≤ room slots.journal
   pub early : IsEarly slots.step
   pub tail : HasBegun slots.step
-      → tail_of slots + n + 6 ≤ (slots.other.stop - slots.other.start) / 4
+      → tail_of slots + n + FRAME ≤ (slots.other.stop - slots.other.start) / 4
 
 -- while a compaction can take it, the body is kept ready to join what the other slot is to hold
 abbrev pub IsReadyFor : {D : Type 0} → SlotsState D → List ℕ → Type 0

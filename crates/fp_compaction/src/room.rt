@@ -3,8 +3,10 @@
 ghost use Rattle.std.specs.Prelude.{◌<◌, ◌≤◌, ◌+◌, ◌/◌, ◌^◌, ◌↔◌, IsTrue};
 ghost use Rattle.fp_slots.specs.State.{HasBegun, IsEarly, IsGrowing};
 ghost use Rattle.fp_compaction.specs.Batches.{HasRoomFor};
+ghost use Rattle.fp_journal.specs.declared.framed.TheConstants.{FRAME};
 
 use fp_disk::Disk;
+use fp_journal::FRAME;
 use fp_slots::{Slots, Step};
 
 // Whether a compaction runs whose tail isn't written.
@@ -47,9 +49,9 @@ fn has_begun(step: Step) -> bool
 // leave the tail within a quarter of its slot.
 fn fits_tail(size: u64, tail: u64, len: u64) -> bool
     requires { len < 2 ^ 32 }
-    ensures { IsTrue result ↔ (tail + len + 6 ≤ size / 4) }
+    ensures { IsTrue result ↔ (tail + len + FRAME ≤ size / 4) }
 {
-    let (quarter, more) = (size / 4, len + 6);
+    let (quarter, more) = (size / 4, len + FRAME);
     more <= quarter && tail <= quarter - more
 }
 
@@ -61,7 +63,7 @@ pub fn has_room<D: Disk>(slots: &Slots<D>, len: u64) -> bool
     let step = slots.step();
     let (size, tail) = slots.beside();
     len <= u64::from(journal.slot().most)
-        && len + 6 <= journal.room()
+        && len + FRAME <= journal.room()
         && is_early(step)
         && (!has_begun(step) || fits_tail(size, tail, len))
 }

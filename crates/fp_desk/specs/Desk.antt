@@ -16,6 +16,7 @@ use Rattle.fp_desk.specs.declared.fault.SubmitFault.{SubmitFault}
 use Rattle.fp_desk.specs.declared.fault.SubmitFault.TheVariants as submit
 use Rattle.fp_desk.specs.declared.fault.SettleFault.{SettleFault}
 use Rattle.fp_desk.specs.declared.fault.SettleFault.TheVariants as settle
+use Rattle.fp_journal.specs.declared.framed.TheConstants.{FRAME}
 
 pub record DeskState : Type 0 where
   pub store : Identity
@@ -54,7 +55,7 @@ pub record TicketState : Type 0 where
 
 -- the most bytes of a batch's body, in a disk whose image takes this many bytes at most
 abbrev pub most_of : ℕ → ℕ
-most_of limit = limit / 4 - 6
+most_of limit = limit / 4 - FRAME
 
 -- the group with one change more
 abbrev pub and_more : Group → Change → Group

@@ -14,6 +14,7 @@ use crate::fault::{SettleFault, SubmitFault};
 use crate::queue::{copies_of_front, first_part, fits_behind, move_front, same_changes};
 use fp_edit::{Edit, EditFault, FlagSet};
 use fp_group_commit::{Draw, Opening, Receipt, Settled, Told};
+use fp_journal::FRAME;
 use std::alloc::{AllocError, Global};
 use std::collections::VecDeque;
 use std::marker::Model;
@@ -189,7 +190,7 @@ impl Desk {
     fn longest_body(&self) -> u64
         ensures { result ≡ most_of self.now.store.start.limit }
     {
-        (self.head.limit() / 4).saturating_sub(6)
+        (self.head.limit() / 4).saturating_sub(FRAME)
     }
 
     /// Draws the longest first part of what waits that makes a batch, where none is out.

@@ -1,9 +1,11 @@
 -- What the byte of a gate adds to what a crash may leave.
-use Rattle.std.proofs.Common.{◌≡◌, ◌⊎◌, ◌≤◌, ◌<◌, ◌+◌, ℕ, List, length, refl, arith, sym, ◌∙◌, ap, inl, inr, slice_index, slice_set}
+use Rattle.std.proofs.Common.{◌≡◌, ◌⊎◌, ◌≤◌, ◌<◌, ◌+◌, ℕ, List, length, refl, arith, sym, subst, ◌∙◌, ap, inl, inr, slice_index, slice_set}
 use Rattle.std.proofs.lemmas.Grind.{common_steps}
 use Rattle.std.proofs.lemmas.Bool.{cases_eq}
 use Rattle.std.proofs.lemmas.List.Elements.{All-get_or, All-set}
-use Rattle.fp_disk.specs.Outcomes.{PendingState, IsOutcome, IsByte, Elapses, LeavesOnly, Written, with_write}
+use Rattle.fp_disk.specs.declared.call.Progress.TheVariants.{Whole}
+use Rattle.fp_disk.specs.MemoryLaws.{written_changes}
+use Rattle.fp_disk.specs.Outcomes.{ChangesWithin, PendingState, IsOutcome, IsByte, Elapses, LeavesOnly, Written, with_write}
 use Rattle.fp_disk.specs.Writes.{overwritten_inside}
 use Rattle.fp_disk.specs.Moments.{leaves_call, leaves_map, leaves_then}
 use Rattle.fp_gate.specs.Gates.{Gated, IsShut, StaysAsRead, Guards, HasBehind, IsButFor}
@@ -74,3 +76,11 @@ module _ {D : Type 0} (honest : D → Type 0) (unsynced : D → PendingState) (m
 -- where the gate guards what was written, it stands behind the gate
 pub guards_behind : (gate at : ℕ) (old more bytes c : List ℕ) → Written old at more bytes → Guards (record { at = gate; from = at; to = at + length more }) bytes c → HasBehind gate at more c
 guards_behind gate at old more bytes c put behind = (behind.0, λ is_open k lt. let there = behind.1 is_open (at + k) (omega arith) (omega arith) in (there.0, there.1 ∙ (ap (λ (b : List ℕ). slice_index b (at + k)) put ∙ overwritten_inside old more at k lt)))
+
+-- ---- what a write changes
+pub written_within : (old more new : List ℕ) (at : ℕ) → Written old at more new → ChangesWithin old at (length more) new
+written_within old more new at is = subst (λ (b : List ℕ). ChangesWithin old at (length more) b) (sym is) (written_changes Whole old more at)
+
+-- and where nothing is changed behind it
+pub then_same : (old new now : List ℕ) (at n : ℕ) → ChangesWithin old at n new → now ≡ new → ChangesWithin old at n now
+then_same old new now at n within same = subst (λ (b : List ℕ). ChangesWithin old at n b) (sym same) within

@@ -1,9 +1,9 @@
 //! Bytes behind a gate, in four calls.
 
 ghost use Rattle.fp_disk.specs.Crashes.{AtAnyMoment};
-ghost use Rattle.std.specs.Prelude.{◌≡◌, ◌≢◌, ◌⊎◌, ◌≤◌, ◌<◌, ◌+◌, ◌^◌, [], ◌∷◌, length};
-ghost use Rattle.std.specs.Prelude.{slice_index, IfOk, OnOk};
-ghost use Rattle.fp_disk.specs.Outcomes.{Written as HasWritten, all_synced};
+ghost use Rattle.std.specs.Prelude.{◌≡◌, ◌≢◌, ◌⊎◌, ◌≤◌, ◌<◌, ◌+◌, ◌^◌, ℕ, List, [], ◌∷◌};
+ghost use Rattle.std.specs.Prelude.{length, slice_index, IfOk, OnOk};
+ghost use Rattle.fp_disk.specs.Outcomes.{ChangesWithin, Written as HasWritten, all_synced};
 ghost use Rattle.fp_disk.specs.declared.history.CallKind.TheVariants.{Sync, Write};
 ghost use Rattle.fp_gate.specs.Calls.{MakesCalls};
 ghost use Rattle.fp_gate.specs.Gates.{IsSyncOf, IsShut, IsOpen, StaysAsRead};
@@ -29,6 +29,8 @@ fn write_and_sync<D: Disk>(
         OnOk result (HasWritten (D.bytes disk.old.disk) at from.now (D.bytes disk.new.disk)) }
     ensures all_synced { D.honest disk.old.disk →
         OnOk result (D.unsynced disk.new.disk ≡ all_synced (D.bytes disk.new.disk)) }
+    ensures within { D.honest disk.old.disk →
+        ChangesWithin (D.bytes disk.old.disk) at (length from.now) (D.bytes disk.new.disk) }
     ensures calls { MakesCalls D.Disk (Write ∷ Sync ∷ []) disk.old disk.new result }
 {
     let _ = gate;
@@ -51,6 +53,8 @@ fn open_and_seal<D: Disk>(
         (Guards gate (D.bytes disk.old.disk)) }
     ensures open { D.honest disk.old.disk →
         OnOk result (IsOpen (D.unsynced disk.new.disk) gate.at) }
+    ensures within { D.honest disk.old.disk →
+        ChangesWithin (D.bytes disk.old.disk) gate.at 1 (D.bytes disk.new.disk) }
     ensures calls { MakesCalls D.Disk (Write ∷ Sync ∷ []) disk.old disk.new result }
 {
     let gate = gate.open(disk, synced)?;
@@ -75,6 +79,11 @@ pub fn write_behind<D: Disk>(
         (HasBehind gate.at at from.now) }
     ensures open { D.honest disk.old.disk →
         OnOk result (IsOpen (D.unsynced disk.new.disk) gate.at) }
+
+    // Whatever is answered, it changes these bytes and the gate's alone.
+    ensures within { D.honest disk.old.disk → (put : List ℕ)
+        × ChangesWithin (D.bytes disk.old.disk) at (length from.now) put
+        × ChangesWithin put gate.at 1 (D.bytes disk.new.disk) }
     ensures calls { MakesCalls D.Disk (Write ∷ Sync ∷ Write ∷ Sync ∷ []) disk.old disk.new result }
 {
     let synced = write_and_sync(disk, &gate, at, from)?;

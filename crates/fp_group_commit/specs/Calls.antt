@@ -9,6 +9,7 @@ use Rattle.fp_slots.specs.State.{IsGrowing}
 use Rattle.fp_slots.specs.declared.slots.Step.TheVariants.{Begin, SyncOpen}
 use Rattle.fp_journal.specs.declared.journal.Phase.{Phase}
 use Rattle.fp_journal.specs.declared.journal.Phase.TheVariants.{Failed}
+use Rattle.fp_journal.specs.declared.framed.TheConstants.{BODY_PLACE}
 use Rattle.fp_record.specs.Group.{Group}
 use Rattle.fp_group_commit.specs.Changes.{GoesOn, batch_len}
 use Rattle.fp_group_commit.specs.Store.{StoreState, sealed_set}
@@ -39,11 +40,11 @@ SameRoom old new = (new.slots.journal.slot.most ≡ old.slots.journal.slot.most)
 -- many joined the tail of a compaction that can take it
 abbrev pub TakesRoom : {D : Type 0} → StoreState D → StoreState D → Type 0
 TakesRoom old new = (new.slots.journal.slot.most ≡ old.slots.journal.slot.most)
-    × (room new.slots.journal + batch_len (record { first = 0; changes = old.staged }) + 5
+    × (room new.slots.journal + batch_len (record { first = 0; changes = old.staged }) + BODY_PLACE
     ≡ room old.slots.journal)
     × SameCourse old new
     × (IsGrowing old.slots.step → tail_of new.slots
-    ≡ tail_of old.slots + batch_len (record { first = 0; changes = old.staged }) + 5)
+    ≡ tail_of old.slots + batch_len (record { first = 0; changes = old.staged }) + BODY_PLACE)
     × ((IsGrowing old.slots.step → ⊥) → tail_of new.slots ≡ tail_of old.slots)
 
 -- the store goes on to this phase, and the device failed neither before nor in the call

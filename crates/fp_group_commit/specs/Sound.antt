@@ -9,6 +9,7 @@ use Rattle.fp_journal.specs.declared.journal.Phase.TheVariants.{Idle, Failed}
 use Rattle.fp_record.specs.WellFormed.{IsBatch}
 use Rattle.fp_recovery.specs.Stands.{TakesBatch}
 use Rattle.fp_journal.specs.State.{IsOnWay, room}
+use Rattle.fp_journal.specs.declared.framed.TheConstants.{FRAME}
 use Rattle.fp_slots.specs.State.{HasBegun, IsEarly}
 use Rattle.fp_slots.specs.declared.places.TheConstants.{IMAGE_PLACE}
 use Rattle.fp_compaction.specs.Batches.{FitsBeside, IsReadyFor}
@@ -29,7 +30,7 @@ pub record IsFlight {D : Type 0} (s : StoreState D) (first : ℕ)
   pub short : length s.slots.journal.staged ≤ s.slots.journal.slot.most
   pub takes : TakesBatch (sealed_set s) s.slots.journal.staged (coming s)
   pub len : length s.slots.journal.staged ≡ batch_len (record { first = first; changes = s.staged })
-  pub fits : length s.slots.journal.staged + 6 ≤ room s.slots.journal
+  pub fits : length s.slots.journal.staged + FRAME ≤ room s.slots.journal
   pub early : IsEarly s.slots.step
   pub ready : IsReadyFor s.slots s.slots.journal.staged
   pub beside : FitsBeside s.slots s.slots.journal.staged

@@ -9,7 +9,7 @@ ghost use Rattle.fp_disk.specs.declared.history.CallKind.TheVariants.{Length, Sy
 ghost use Rattle.fp_edit.specs.Flags.{State};
 ghost use Rattle.fp_gate.specs.declared.gate.TheConstants.{OPEN};
 ghost use Rattle.fp_journal.specs.Pieces.{ThenReads, ThenSomeReads};
-ghost use Rattle.fp_layout.specs.NewDisk.{IsNewDisk, format_calls};
+ghost use Rattle.fp_layout.specs.NewDisk.{IsNewDisk, StaysAsItWas, format_calls};
 ghost use Rattle.fp_layout.specs.Size.{IsSlotSize};
 ghost use Rattle.fp_layout.specs.declared.fault.OpenFault.TheVariants as opening;
 ghost use Rattle.fp_recovery.specs.Durable.{IsNewSetOrNone, IsDurable};
@@ -17,7 +17,7 @@ ghost use Rattle.fp_recovery.specs.Refusals.{IsUnlessWanting, RefusesBytes};
 ghost use Rattle.fp_recovery.specs.Stands.{StandsFor};
 ghost use Rattle.fp_group_commit.specs.Store.{IsFresh, new_set};
 ghost use Rattle.fp_group_commit.specs.declared.fault.CreateFault.TheVariants.{NotEmpty, BadSize};
-ghost use Rattle.fp_group_commit.specs.declared.fault.CreateFault.TheVariants.{Device, Memory};
+ghost use Rattle.fp_group_commit.specs.declared.fault.CreateFault.TheVariants.{Device};
 
 use crate::fault::CreateFault;
 use crate::opening::Opening;
@@ -31,9 +31,7 @@ use std::alloc::Global;
 fn refusal_of_size<D: Disk>(disk: &mut D) -> CreateFault
     ensures not_empty { D.honest disk.old → result ≡ NotEmpty → D.bytes disk.old ≢ [] }
     ensures bad_size { D.honest disk.old → result ≡ BadSize → D.bytes disk.old ≡ [] }
-    ensures same { D.honest disk.old → (D.bytes disk.new ≡ D.bytes disk.old)
-        × (D.unsynced disk.new ≡ D.unsynced disk.old) }
-    ensures any_moment { AtAnyMoment D.Disk disk.old disk.new (IsOutcome (D.unsynced disk.old)) }
+    ensures kept { D.honest disk.old → StaysAsItWas D.Disk disk.old disk.new }
     ensures honest { SameHonesty D.Disk disk.old disk.new }
     ensures called { D.calls disk.new ≡ D.calls disk.old ++ Length ∷ [] }
     ensures cause { result ≡ Device → D.faults disk.old < D.faults disk.new }
@@ -62,15 +60,16 @@ impl<D: Disk> Store<D> {
         ensures sure { D.honest disk →
             IfOk result (λ r. IsDurable (D.unsynced r.0.slots.journal.disk) (new_set size)) }
 
-        ensures not_empty { D.honest disk → IfErr result (λ e. e.0 ≡ NotEmpty →
-            (D.bytes disk ≢ []) × (D.bytes e.1 ≡ D.bytes disk)
-            × (D.unsynced e.1 ≡ D.unsynced disk)) }
-        ensures memory { D.honest disk → IfErr result (λ e. e.0 ≡ Memory →
-            (D.bytes e.1 ≡ D.bytes disk) × (D.unsynced e.1 ≡ D.unsynced disk)) }
-        ensures bad_size { D.honest disk → IfErr result (λ e. e.0 ≡ BadSize →
-            (D.bytes disk ≡ []) × (D.unsynced e.1 ≡ D.unsynced disk)) }
+        ensures not_empty { D.honest disk →
+            IfErr result (λ e. e.0 ≡ NotEmpty → D.bytes disk ≢ []) }
+        ensures bad_size { D.honest disk → IfErr result (λ e. e.0 ≡ BadSize → D.bytes disk ≡ []) }
         ensures no_size { IfErr result (λ e. e.0 ≡ BadSize → IsSlotSize size → ⊥) }
+        ensures no_failure { IfOk result (λ r. D.faults r.0.slots.journal.disk ≡ D.faults disk) }
         ensures cause { IfErr result (λ e. e.0 ≡ Device → D.faults disk < D.faults e.1) }
+
+        // Where it holds bytes it stays, whatever failed, and else where the device didn't fail.
+        ensures kept { D.honest disk → IfErr result (λ e. (D.bytes disk ≢ []) ⊎ (e.0 ≢ Device)
+            → StaysAsItWas D.Disk disk e.1) }
 
         // A crash at any moment leaves what opening calls no disk, or one that stands for no flags.
         ensures any_moment { D.honest disk → D.unsynced disk ≡ all_synced [] → MatchResult result

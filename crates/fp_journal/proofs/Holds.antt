@@ -4,8 +4,6 @@ use Rattle.std.specs.Prelude.{slice_index, slice_range}
 use Rattle.std.proofs.lemmas.Grind.{common_steps}
 use Rattle.std.proofs.lemmas.List.{ext_get_or, get_or-append_right, get_or-append-add, get_or_append_left, get_or-take, get_or-drop, get_or-replicate, length-take, length-drop, length-replicate}
 use Rattle.std.proofs.lemmas.Bool.{cases_lt}
-use Rattle.fp_disk.specs.declared.call.Progress.TheVariants.{Whole}
-use Rattle.fp_disk.specs.MemoryLaws.{written_changes}
 use Rattle.fp_disk.specs.Outcomes.{PendingState, IsOutcome, all_synced, with_write, ChangesWithin, Written}
 use Rattle.fp_journal.specs.Holds.{Holds, IsSynced, Apart}
 
@@ -104,9 +102,6 @@ holds_within old new text from n at is apart p = let a = p.long in let longer = 
   long = omega (arith, a, longer);
   same = λ k lt. is.outside (at + k) (omega (arith, a, lt)) (λ within. ⊎_elim (λ before. omega (arith, before, within.1)) (λ behind. omega (arith, behind, lt, within.0)) apart) ∙ p.same k lt;
 }
-
-pub written_within : (old more new : List ℕ) (at : ℕ) → Written old at more new → ChangesWithin old at (length more) new
-written_within old more new at is = subst (λ (b : List ℕ). ChangesWithin old at (length more) b) (sym is) (written_changes Whole old more at)
 
 -- ---- a crash
 -- what is firm is in every outcome

@@ -11,6 +11,7 @@ use Rattle.fp_journal.specs.declared.chain.ChainFault.TheVariants as chain_fault
 use Rattle.fp_journal.specs.Holds.{Holds}
 use Rattle.fp_journal.specs.Chain.{Ends, with_length, spell}
 use Rattle.fp_journal.specs.State.{AllShort}
+use Rattle.fp_journal.specs.declared.framed.TheConstants.{BODY_PLACE}
 use Rattle.fp_gate.specs.declared.gate.TheConstants.{OPEN}
 
 -- the bodies stand there, each behind an open gate and its length,
@@ -30,7 +31,7 @@ pub record IsClosed (at stop : ℕ) (c : List ℕ) : Type 0 where
 pub record IsNext (most at stop : ℕ) (body : List ℕ) (next : ℕ) (c : List ℕ) : Type 0 where
   pub holds : Holds c at (OPEN ∷ with_length body)
   pub short : length body ≤ most
-  pub place : next ≡ at + 5 + length body
+  pub place : next ≡ at + BODY_PLACE + length body
   pub within : next ≤ stop
 
 -- the number in the four bytes behind a gate
@@ -43,12 +44,13 @@ length_at c at = from_be_bytes w32
 -- does, or the length is above the most
 pub data BreaksBefore (most limit : ℕ) (c : List ℕ) (at k : ℕ) : Type 0 where
   no_gate : limit ≤ at → k ≡ at → BreaksBefore most limit c at k
-  no_length : slice_index c at ≡ OPEN → at < limit → limit < at + 5 → k ≡ at + 1 →
+  no_length : slice_index c at ≡ OPEN → at < limit → limit < at + BODY_PLACE → k ≡ at + 1 →
       BreaksBefore most limit c at k
-  too_long : slice_index c at ≡ OPEN → at + 5 ≤ limit → most < length_at c at → k ≡ at + 1 →
+  too_long : slice_index c at ≡ OPEN → at + BODY_PLACE ≤ limit → most < length_at c at
+      → k ≡ at + 1 → BreaksBefore most limit c at k
+  no_body : slice_index c at ≡ OPEN → at + BODY_PLACE ≤ limit → length_at c at ≤ most →
+      limit < at + BODY_PLACE + length_at c at → k ≡ at + BODY_PLACE →
       BreaksBefore most limit c at k
-  no_body : slice_index c at ≡ OPEN → at + 5 ≤ limit → length_at c at ≤ most →
-      limit < at + 5 + length_at c at → k ≡ at + 5 → BreaksBefore most limit c at k
 
 -- that is where the bytes or the slot end
 abbrev pub Breaks : ℕ → ℕ → List ℕ → (at k : ℕ) → Type 0
@@ -59,16 +61,16 @@ Breaks most stop c at k = BreaksBefore most (min stop (length c)) c at k
 pub record SpellsLink (bytes : List ℕ) (left most n : ℕ) : Type 0 where
   pub text : Holds bytes 0 (OPEN ∷ to_be_bytes w32 n)
   pub short : n ≤ most
-  pub within : 5 + n ≤ left
+  pub within : BODY_PLACE + n ≤ left
 
 -- neither, and k is the first byte to show it
 pub data BreaksLink (most : ℕ) (bytes : List ℕ) (left at k : ℕ) : Type 0 where
-  link_no_length : slice_index bytes 0 ≡ OPEN → left < 5 → k ≡ at + 1 →
+  link_no_length : slice_index bytes 0 ≡ OPEN → left < BODY_PLACE → k ≡ at + 1 →
       BreaksLink most bytes left at k
-  link_too_long : slice_index bytes 0 ≡ OPEN → 5 ≤ left → most < length_at bytes 0 → k ≡ at + 1 →
-      BreaksLink most bytes left at k
-  link_no_body : slice_index bytes 0 ≡ OPEN → 5 ≤ left → length_at bytes 0 ≤ most →
-      left < 5 + length_at bytes 0 → k ≡ at + 5 → BreaksLink most bytes left at k
+  link_too_long : slice_index bytes 0 ≡ OPEN → BODY_PLACE ≤ left → most < length_at bytes 0
+      → k ≡ at + 1 → BreaksLink most bytes left at k
+  link_no_body : slice_index bytes 0 ≡ OPEN → BODY_PLACE ≤ left → length_at bytes 0 ≤ most →
+      left < BODY_PLACE + length_at bytes 0 → k ≡ at + BODY_PLACE → BreaksLink most bytes left at k
 
 -- ---- a whole chain
 -- a reader takes the bodies in order, and is then that
@@ -115,7 +117,7 @@ pub record StopsAt {R : Type 0} (takes : R → List ℕ → R → Type 0)
   pub reads : Reads takes before bodies last
   pub fault : Breaks most stop c gate k
       ⊎ ((body : List ℕ) × (next : ℕ) × (offset : ℕ) × IsNext most gate stop body next c
-      × refuses last body offset × (k ≡ gate + 5 + offset))
+      × refuses last body offset × (k ≡ gate + BODY_PLACE + offset))
 
 -- ---- what the faults say
 abbrev pub IsWrong : ℕ → (ℕ → Type 0) → BodyFault → Type 0

@@ -12,6 +12,7 @@ use Rattle.fp_journal.specs.declared.journal.Phase.TheVariants.{Idle, Staged, Bo
 use Rattle.fp_journal.specs.declared.journal.Phase.TheVariants.{GateOpened, Failed}
 use Rattle.fp_journal.specs.Holds.{Holds, IsSynced}
 use Rattle.fp_journal.specs.Chain.{Ends, with_length, with_gate, spell}
+use Rattle.fp_journal.specs.declared.framed.TheConstants.{FRAME}
 use Rattle.fp_gate.specs.declared.gate.TheConstants.{OPEN}
 
 -- what a journal had sealed, and which one it was
@@ -150,7 +151,7 @@ IsAt Failed begun u b start stop text more next = IsLeft begun u start stop text
 pub record IsFrame (most left : ℕ) (body bytes : List ℕ) : Type 0 where
   pub shape : bytes ≡ with_gate body
   pub short : length body ≤ most
-  pub fits : length body + 6 ≤ left
+  pub fits : length body + FRAME ≤ left
 
 abbrev pub InFlight : Phase → ℕ → ℕ → List ℕ → List ℕ → Type 0
 InFlight Idle most left body bytes = Unit {0}

@@ -11,7 +11,9 @@ ghost use Rattle.fp_journal.specs.Reading.{BreaksBefore, BreaksLink, IsOnlyDamag
 ghost use Rattle.fp_journal.specs.Reading.{ReadsChain, Refuses, SpellsLink, TellsDamage};
 ghost use Rattle.fp_journal.specs.Reading.{fault_of_bytes};
 ghost use Rattle.fp_journal.specs.declared.chain.ChainFault.TheVariants.{Damaged, Device, Memory};
+ghost use Rattle.fp_journal.specs.declared.framed.TheConstants.{BODY_PLACE};
 
+use crate::framed::BODY_PLACE;
 use crate::pieces::BytesFault;
 use crate::slot::Slot;
 use crate::text::Text;
@@ -77,7 +79,7 @@ pub trait Reader {
 // How long the body behind the gate is that stands at the front of these bytes, or nothing where
 // the gate is closed. The gate's place is `at`, and so many bytes lie between it and the end.
 fn body_length(bytes: &[u8], at: u64, left: u64, most: u32) -> Result<Option<u32>, ChainFault>
-    requires there { (0 < left) × (min left 5 ≤ length bytes.now) }
+    requires there { (0 < left) × (min left BODY_PLACE ≤ length bytes.now) }
     requires fits { at + left < 2 ^ 64 }
     ensures found { IfOk result (λ o. MatchOption o (slice_index bytes.now 0 ≢ OPEN)
         (SpellsLink bytes.now left most)) }
@@ -86,15 +88,17 @@ fn body_length(bytes: &[u8], at: u64, left: u64, most: u32) -> Result<Option<u32
     if bytes[0] != OPEN {
         return Ok(None);
     }
-    if left < 5 {
+    if left < BODY_PLACE {
         return Err(ChainFault::Damaged { at: at + 1 });
     }
     let len = u32::from_be_bytes([bytes[1], bytes[2], bytes[3], bytes[4]]);
     if len > most {
         return Err(ChainFault::Damaged { at: at + 1 });
     }
-    if left - 5 < u64::from(len) {
-        return Err(ChainFault::Damaged { at: at + 5 });
+    if left - BODY_PLACE < u64::from(len) {
+        return Err(ChainFault::Damaged {
+            at: at + BODY_PLACE,
+        });
     }
     Ok(Some(len))
 }
@@ -113,8 +117,8 @@ fn next_body<D: Disk>(
     requires long { D.honest disk.old → limit ≤ length (D.bytes disk.old) }
     requires stands { D.honest disk.old → StandsIn window.old (D.bytes disk.old) }
     ensures found { IfOk result (λ o. MatchOption o (at < limit)
-        (λ b. (length b.items ≤ most) × (at + 5 + length b.items ≤ limit)
-        × IsWindowAt window.new (at + 5 + length b.items))) }
+        (λ b. (length b.items ≤ most) × (at + BODY_PLACE + length b.items ≤ limit)
+        × IsWindowAt window.new (at + BODY_PLACE + length b.items))) }
     ensures stands { D.honest disk.old → IfOk result (λ o. MatchOption o
         (slice_index (D.bytes disk.old) at ≢ OPEN)
         (λ b. Holds (D.bytes disk.old) at (OPEN ∷ with_length b.items)
@@ -130,12 +134,12 @@ fn next_body<D: Disk>(
         return Err(ChainFault::Damaged { at });
     }
     let left = limit - at;
-    window.reach(alloc, disk, at, left.min(5) as usize, limit)?;
+    window.reach(alloc, disk, at, left.min(BODY_PLACE) as usize, limit)?;
     let Some(len) = body_length(window.from(at), at, left, most)? else {
         return Ok(None);
     };
-    window.reach(alloc, disk, at, 5 + len as usize, limit)?;
-    let body = window.copy(alloc, at + 5, len as usize)?;
+    window.reach(alloc, disk, at, BODY_PLACE as usize + len as usize, limit)?;
+    let body = window.copy(alloc, at + BODY_PLACE, len as usize)?;
     Ok(Some(body))
 }
 
@@ -167,11 +171,11 @@ pub fn read_chain<D: Disk, R: Reader>(
         match reader.take(&body) {
             Ok(()) => {
                 text.push_body(&body);
-                place = place + 5 + body.len() as u64;
+                place = place + BODY_PLACE + body.len() as u64;
             }
             Err(BodyFault::BadBody { at: offset }) => {
                 return Err(ChainFault::Damaged {
-                    at: place + 5 + offset,
+                    at: place + BODY_PLACE + offset,
                 });
             }
             Err(BodyFault::Memory) => return Err(ChainFault::Memory),

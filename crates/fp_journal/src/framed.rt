@@ -2,9 +2,17 @@
 
 ghost use Rattle.std.specs.Prelude.{◌≡◌, ◌<◌, ◌+◌, ◌^◌, length, IfOk};
 ghost use Rattle.fp_journal.specs.Chain.{with_gate};
+ghost use Rattle.fp_journal.specs.declared.framed.TheConstants.{FRAME};
 
 use std::alloc::{AllocError, Global};
 use std::marker::Model;
+
+/// How far behind its gate's place a body begins: behind the gate and four bytes of its length.
+pub const BODY_PLACE: u64 = 5;
+
+/// What a body takes of a slot beside its own bytes: its gate, its length, and the closed gate
+/// behind it.
+pub const FRAME: u64 = BODY_PLACE + 1;
 
 /// A body behind its length and before a closed gate, as one write puts it down.
 #[derive(Drop)]
@@ -43,7 +51,7 @@ impl Framed {
     /// How many bytes of a slot the body takes, with its own gate in front
     /// of its length and the closed gate behind it.
     pub fn cost(&self) -> u64
-        ensures { result ≡ length self.now + 6 }
+        ensures { result ≡ length self.now + FRAME }
     {
         self.bytes.len() as u64 + 1
     }

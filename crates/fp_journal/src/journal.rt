@@ -14,6 +14,7 @@ ghost use Rattle.fp_journal.specs.State.{EndsClosed, IsOnWay, Outside, SameSlot,
 ghost use Rattle.fp_journal.specs.State.{has_begun, room};
 ghost use Rattle.fp_journal.specs.declared.journal.Phase.TheVariants.{Idle, Staged, BodySynced};
 ghost use Rattle.fp_journal.specs.declared.journal.Phase.TheVariants.{GateOpened, Failed};
+ghost use Rattle.fp_journal.specs.declared.framed.TheConstants.{FRAME};
 
 use crate::framed::Framed;
 use crate::held::Held;
@@ -214,7 +215,7 @@ impl<D: Disk> Journal<D> {
     pub fn stage(&mut self, framed: Framed) -> Result<(), DiskFault>
         requires idle { self.old.phase ≡ Idle }
         requires short { length framed ≤ self.old.slot.most }
-        requires room { length framed + 6 ≤ room self.old }
+        requires room { length framed + FRAME ≤ room self.old }
         ensures bodies { (self.new.sealed ≡ self.old.sealed) × (self.new.staged ≡ framed) }
         ensures phase { OnOk result (self.new.phase ≡ Staged)
             × OnErr result (self.new.phase ≡ Failed) }
@@ -336,7 +337,7 @@ impl<D: Disk> Journal<D> {
     pub fn seal(&mut self, framed: Framed) -> Result<Sealed, DiskFault>
         requires idle { self.old.phase ≡ Idle }
         requires short { length framed ≤ self.old.slot.most }
-        requires room { length framed + 6 ≤ room self.old }
+        requires room { length framed + FRAME ≤ room self.old }
         ensures ok { OnOk result ((self.new.sealed ≡ self.old.sealed ++ framed ∷ [])
             × (self.new.phase ≡ Idle)) }
         ensures token { IfOk result (λ t. (t.name ≡ self.new.name) × (t.bodies ≡ self.new.sealed)) }

@@ -12,16 +12,28 @@ use Rattle.fp_layout.specs.Size.{IsSlotSize, first, first_slot, second_slot}
 use Rattle.fp_disk.specs.Outcomes.{Elapses, IsOutcome, LeavesOnly, PendingState, Written, all_synced, with_write}
 use Rattle.fp_journal.specs.Holds.{Holds, IsSynced}
 use Rattle.fp_journal.proofs.Holds.{holds_append, holds_front, holds_back, holds_byte, byte_held, holds_written, holds_apart, written_after, written_gap, written_long, firm_outcome, firm_touched, firm_settled}
+use Rattle.fp_disk.specs.declared.disk.Disk.{Ghosts}
 use Rattle.fp_disk.specs.Moments.{leaves_call, leaves_then, leaves_map}
 use Rattle.fp_slots.specs.State as slots
 use Rattle.fp_layout.specs.Layout.{magic, IsFormatted, IsHeader, IsHead, IsActive}
 use Rattle.fp_slots.specs.Head.{slot_text}
-use Rattle.fp_layout.specs.NewDisk.{closed_bytes, header_text, empty_image, new_front, IsMade, IsNewDisk, IsNewOrNone}
+use Rattle.fp_layout.specs.NewDisk.{closed_bytes, header_text, empty_image, new_front, IsMade, IsNewDisk, IsNewOrNone, StaysAsItWas}
 use Rattle.fp_gate.specs.declared.gate.TheConstants.{OPEN}
 
 pub no_bytes : (c : List ℕ) → length c ≡ 0 → c ≡ []
 no_bytes [] is = refl
 no_bytes (x ∷ xs) is = absurd (omega (arith, is))
+
+module _ {D : Type 0} (disk : Ghosts D) (only_now : (d : D) (c : List ℕ) → disk.honest d → disk.crash_states_since d (disk.moment d) c → IsOutcome (disk.unsynced d) c) {old new : D} where
+  -- a call that changes nothing
+  pub stays : disk.honest old → (disk.bytes new ≡ disk.bytes old) × (disk.unsynced new ≡ disk.unsynced old)
+      → Elapses (disk.moment old) (disk.moment new) (disk.crash_states_since old) (disk.crash_states_since new) (IsOutcome (disk.unsynced old)) → StaysAsItWas disk old new
+  stays honest same time = record {
+    bytes = same.0;
+    unsynced = same.1;
+    any_moment = leaves_call disk.moment disk.crash_states_since old new (IsOutcome (disk.unsynced old)) (IsOutcome (disk.unsynced old)) (IsOutcome (disk.unsynced old)) time
+        (λ c left. only_now old c honest left) (λ c out. out) (λ c out. out);
+  }
 
 -- ---- none yet
 none_short : (c : List ℕ) → length c < 64 → IsFormatted c → ⊥

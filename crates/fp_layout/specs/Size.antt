@@ -2,6 +2,7 @@
 use Rattle.std.specs.Prelude.{◌≤◌, ◌+◌, ◌-◌, ◌/◌, ℕ, IsTrue}
 use Rattle.std.specs.Int.{is_power_of_two}
 use Rattle.fp_journal.specs.declared.slot.Slot.{Slot}
+use Rattle.fp_journal.specs.declared.framed.TheConstants.{FRAME}
 use Rattle.fp_layout.specs.declared.header.TheConstants.{HEADER}
 use Rattle.fp_layout.specs.declared.size.TheConstants.{LARGEST_SLOT, SMALLEST_SLOT}
 
@@ -13,7 +14,7 @@ pub record IsSlotSize (bytes : ℕ) : Type 0 where
 -- the longest body that a slot of so many bytes takes:
 -- a batch with its length and its two gates has an eighth of them at most
 abbrev pub most_in : ℕ → ℕ
-most_in bytes = bytes / 8 - 6
+most_in bytes = bytes / 8 - FRAME
 
 -- the slot behind the header
 abbrev pub first_slot : ℕ → Slot

@@ -11,10 +11,10 @@ ghost use Rattle.fp_journal.specs.declared.journal.Phase.TheVariants.{Idle};
 ghost use Rattle.fp_layout.specs.Size.{first_slot, second_slot};
 ghost use Rattle.fp_layout.specs.Layout.{IsHeader, IsHead, IsActive};
 ghost use Rattle.fp_layout.specs.NewDisk.{IsNewDisk, IsNewOrNone, closed_bytes, empty_image};
-ghost use Rattle.fp_layout.specs.NewDisk.{format_calls, new_front};
+ghost use Rattle.fp_layout.specs.NewDisk.{StaysAsItWas, format_calls, new_front};
 ghost use Rattle.fp_layout.specs.declared.header.TheConstants.{HEADER};
 ghost use Rattle.fp_slots.specs.declared.slots.Step.TheVariants.{Begin};
-ghost use Rattle.fp_layout.specs.declared.format.CreateFault.TheVariants.{NotEmpty, Device, Memory};
+ghost use Rattle.fp_layout.specs.declared.format.CreateFault.TheVariants.{NotEmpty, Device};
 
 use crate::header::{HEADER, ZEROS};
 use crate::size::SlotSize;
@@ -113,8 +113,7 @@ pub fn create<D: Disk>(
     ensures stands { D.honest disk → IfOk result (λ s. IsHeader (D.bytes s.journal.disk) size
         × IsActive (D.bytes s.journal.disk) size (first_slot size) (second_slot size)
         × IsHead (D.bytes s.journal.disk) HEADER size 1 0 empty_image) }
-    ensures not_empty { D.honest disk → IfErr result (λ e. e.0 ≡ NotEmpty
-        → (D.bytes disk ≢ []) × (D.bytes e.1 ≡ D.bytes disk) × (D.unsynced e.1 ≡ D.unsynced disk)) }
+    ensures not_empty { D.honest disk → IfErr result (λ e. e.0 ≡ NotEmpty → D.bytes disk ≢ []) }
     ensures empty { D.honest disk → IsOk result → D.bytes disk ≡ [] }
     ensures any_moment { D.honest disk → D.unsynced disk ≡ all_synced []
         → MatchResult result (λ s. LeavesOnly D.moment D.crash_states_since disk s.journal.disk
@@ -127,8 +126,11 @@ pub fn create<D: Disk>(
         (D.calls disk) (D.calls e.1)) }
     ensures untouched { IfErr result (λ e. (e.0 ≡ Device)
         ⊎ (D.calls e.1 ≡ D.calls disk ++ Length ∷ [])) }
-    ensures memory { D.honest disk → IfErr result (λ e. e.0 ≡ Memory
-        → (D.bytes e.1 ≡ D.bytes disk) × (D.unsynced e.1 ≡ D.unsynced disk)) }
+
+    // Where it holds bytes it stays, whatever failed, and else where the device didn't fail.
+    ensures kept { D.honest disk → IfErr result (λ e. (D.bytes disk ≢ []) ⊎ (e.0 ≢ Device)
+        → StaysAsItWas D.Disk disk e.1) }
+    ensures no_failure { IfOk result (λ s. D.faults s.journal.disk ≡ D.faults disk) }
     ensures cause { IfErr result (λ e. e.0 ≡ Device → D.faults disk < D.faults e.1) }
 {
     match disk.len() {

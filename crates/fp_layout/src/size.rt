@@ -5,7 +5,7 @@ ghost use Rattle.fp_layout.specs.Size.{IsSlotSize, first_slot, second_slot};
 ghost use Rattle.fp_layout.specs.declared.size.TheConstants.{STANDARD_SLOT};
 
 use crate::header::HEADER;
-use fp_journal::Slot;
+use fp_journal::{FRAME, Slot};
 use std::marker::Model;
 
 /// How many bytes a slot of a new disk has, as the program makes it.
@@ -77,7 +77,7 @@ impl SlotSize {
         Slot {
             start: HEADER as u64,
             stop: HEADER as u64 + self.bytes,
-            most: (self.bytes / 8 - 6) as u32,
+            most: (self.bytes / 8 - FRAME) as u32,
         }
     }
 

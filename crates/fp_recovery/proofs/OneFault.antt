@@ -363,9 +363,9 @@ one_fault c (Damaged j) Memory a b p q = absurd b
 one_fault c Device g a b p q = absurd a
 one_fault c Memory g a b p q = absurd a
 
-pub stands_or_fault : (c : List ℕ) (f : OpenFault) (s : State) → IsOfBytes f → RefusesBytes c f → StandsFor c s → ⊥
-stands_or_fault c Unformatted s a r h = unless_wanting c Unformatted r s h
-stands_or_fault c (UnknownVersion v) s a r h = unless_wanting c (UnknownVersion v) r s h
-stands_or_fault c (Damaged k) s a r h = unless_wanting c (Damaged k) r s h
-stands_or_fault c Device s a r h = a
-stands_or_fault c Memory s a r h = a
+pub standing_has_no_fault : (c : List ℕ) (f : OpenFault) (s : State) → IsOfBytes f → RefusesBytes c f → StandsFor c s → ⊥
+standing_has_no_fault c Unformatted s a r h = unless_wanting c Unformatted r s h
+standing_has_no_fault c (UnknownVersion v) s a r h = unless_wanting c (UnknownVersion v) r s h
+standing_has_no_fault c (Damaged k) s a r h = unless_wanting c (Damaged k) r s h
+standing_has_no_fault c Device s a r h = a
+standing_has_no_fault c Memory s a r h = a

@@ -22,8 +22,8 @@ HaveOneFault = (c : List ℕ) (f g : OpenFault) → IsOfBytes f → IsOfBytes g
     → RefusesBytes c f → RefusesBytes c g → f ≡ g
 
 -- bytes that stand for a set have none
-abbrev pub HaveFaultOrStand : Type 0
-HaveFaultOrStand = (c : List ℕ) (f : OpenFault) (s : State) → IsOfBytes f
+abbrev pub StandingHaveNoFault : Type 0
+StandingHaveNoFault = (c : List ℕ) (f : OpenFault) (s : State) → IsOfBytes f
     → RefusesBytes c f → StandsFor c s → ⊥
 
 -- the place of damage is one of the bytes', or their end where one is missing

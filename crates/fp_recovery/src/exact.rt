@@ -1,6 +1,6 @@
 //! Laws of what opening refuses: which fault bytes have, and where.
 
-ghost use Rattle.fp_recovery.specs.Exact.{HaveFaultOrStand, HaveFaultsWithin, HaveOneFault};
+ghost use Rattle.fp_recovery.specs.Exact.{HaveFaultsWithin, HaveOneFault, StandingHaveNoFault};
 
 /// No bytes have two faults, nor one at two places.
 pub fn bytes_have_one_fault()
@@ -8,8 +8,8 @@ pub fn bytes_have_one_fault()
 {}
 
 /// Bytes that stand for a set have no fault.
-pub fn bytes_stand_or_have_a_fault()
-    ensures { HaveFaultOrStand }
+pub fn standing_bytes_have_no_fault()
+    ensures { StandingHaveNoFault }
 {}
 
 /// A place of damage lies within the bytes, or at their end.

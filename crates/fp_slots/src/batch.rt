@@ -1,16 +1,14 @@
 //! A batch, which may be on its way beside a compaction until the tail is written.
 
-ghost use Rattle.fp_disk.specs.Crashes.{AtAnyMoment, SameHonesty};
-ghost use Rattle.fp_disk.specs.Outcomes.{Answers};
 ghost use Rattle.fp_disk.specs.declared.history.CallKind.TheVariants.{Sync, Write};
 ghost use Rattle.std.specs.Prelude.{◌≡◌, ◌≤◌, ◌+◌, [], ◌∷◌, ◌++◌, true, false, length, IfOk, OnOk};
 ghost use Rattle.std.specs.Prelude.{OnErr};
-ghost use Rattle.fp_journal.specs.Moments.{KeepsSynced};
 ghost use Rattle.fp_journal.specs.State.{room};
 ghost use Rattle.fp_journal.specs.declared.journal.Phase.TheVariants.{Idle, Staged, BodySynced};
 ghost use Rattle.fp_journal.specs.declared.journal.Phase.TheVariants.{GateOpened, Failed};
-ghost use Rattle.fp_slots.specs.State.{IsEarly, KeepsOrNext, KeepsSealed, OutsideBoth};
-ghost use Rattle.fp_slots.specs.State.{SameCompaction};
+ghost use Rattle.fp_journal.specs.declared.framed.TheConstants.{FRAME};
+ghost use Rattle.fp_slots.specs.Calls.{KeepsCompaction};
+ghost use Rattle.fp_slots.specs.State.{IsEarly, KeepsOrNext, KeepsSealed};
 
 use crate::slots::Slots;
 use fp_disk::{Disk, DiskFault};
@@ -22,22 +20,15 @@ impl<D: Disk> Slots<D> {
         requires early { IsEarly self.old.step }
         requires idle { self.old.journal.phase ≡ Idle }
         requires short { length framed ≤ self.old.journal.slot.most }
-        requires room { length framed + 6 ≤ room self.old.journal }
-        ensures same { SameCompaction self.old self.new }
+        requires room { length framed + FRAME ≤ room self.old.journal }
         ensures bodies { (self.new.journal.sealed ≡ self.old.journal.sealed)
             × (self.new.journal.staged ≡ framed) }
         ensures phase { OnOk result (self.new.journal.phase ≡ Staged)
             × OnErr result (self.new.journal.phase ≡ Failed) }
         ensures begun { self.new.journal.begun ≡ false }
-        ensures any_moment { AtAnyMoment D.Disk self.old.journal.disk self.new.journal.disk
-            (KeepsSealed self.old) }
-        ensures apart { KeepsSynced D.Disk self.old.journal.disk self.new.journal.disk
-            (OutsideBoth self.old) }
-        ensures honest { SameHonesty D.Disk self.old.journal.disk self.new.journal.disk }
+        ensures kept { KeepsCompaction D.Disk self.old self.new (KeepsSealed self.old) result }
         ensures called { D.calls self.new.journal.disk
             ≡ D.calls self.old.journal.disk ++ Write ∷ [] }
-        ensures cause { Answers (D.faults self.old.journal.disk)
-            (D.faults self.new.journal.disk) result }
     {
         self.journal.stage(framed)?;
         Ok(())
@@ -47,21 +38,14 @@ impl<D: Disk> Slots<D> {
     pub fn sync_staged(&mut self) -> Result<(), DiskFault>
         requires early { IsEarly self.old.step }
         requires staged { self.old.journal.phase ≡ Staged }
-        ensures same { SameCompaction self.old self.new }
         ensures bodies { (self.new.journal.sealed ≡ self.old.journal.sealed)
             × (self.new.journal.staged ≡ self.old.journal.staged) }
         ensures phase { OnOk result (self.new.journal.phase ≡ BodySynced)
             × OnErr result (self.new.journal.phase ≡ Failed) }
         ensures begun { self.new.journal.begun ≡ false }
-        ensures any_moment { AtAnyMoment D.Disk self.old.journal.disk self.new.journal.disk
-            (KeepsSealed self.old) }
-        ensures apart { KeepsSynced D.Disk self.old.journal.disk self.new.journal.disk
-            (OutsideBoth self.old) }
-        ensures honest { SameHonesty D.Disk self.old.journal.disk self.new.journal.disk }
+        ensures kept { KeepsCompaction D.Disk self.old self.new (KeepsSealed self.old) result }
         ensures called { D.calls self.new.journal.disk
             ≡ D.calls self.old.journal.disk ++ Sync ∷ [] }
-        ensures cause { Answers (D.faults self.old.journal.disk)
-            (D.faults self.new.journal.disk) result }
     {
         let synced = self.journal.sync()?;
         self.journal.body_synced(synced);
@@ -72,21 +56,15 @@ impl<D: Disk> Slots<D> {
     pub fn open_gate(&mut self) -> Result<(), DiskFault>
         requires early { IsEarly self.old.step }
         requires synced { self.old.journal.phase ≡ BodySynced }
-        ensures same { SameCompaction self.old self.new }
         ensures bodies { (self.new.journal.sealed ≡ self.old.journal.sealed)
             × (self.new.journal.staged ≡ self.old.journal.staged) }
         ensures phase { OnOk result (self.new.journal.phase ≡ GateOpened)
             × OnErr result (self.new.journal.phase ≡ Failed) }
         ensures begun { self.new.journal.begun ≡ true }
-        ensures any_moment { AtAnyMoment D.Disk self.old.journal.disk self.new.journal.disk
-            (KeepsOrNext self.old self.old.journal.staged) }
-        ensures apart { KeepsSynced D.Disk self.old.journal.disk self.new.journal.disk
-            (OutsideBoth self.old) }
-        ensures honest { SameHonesty D.Disk self.old.journal.disk self.new.journal.disk }
+        ensures kept { KeepsCompaction D.Disk self.old self.new
+            (KeepsOrNext self.old self.old.journal.staged) result }
         ensures called { D.calls self.new.journal.disk
             ≡ D.calls self.old.journal.disk ++ Write ∷ [] }
-        ensures cause { Answers (D.faults self.old.journal.disk)
-            (D.faults self.new.journal.disk) result }
     {
         self.journal.open_gate()?;
         Ok(())
@@ -96,7 +74,6 @@ impl<D: Disk> Slots<D> {
     pub fn sync_gate(&mut self) -> Result<Sealed, DiskFault>
         requires early { IsEarly self.old.step }
         requires opened { self.old.journal.phase ≡ GateOpened }
-        ensures same { SameCompaction self.old self.new }
         ensures ok { OnOk result
             ((self.new.journal.sealed ≡ self.old.journal.sealed ++ self.old.journal.staged ∷ [])
             × (self.new.journal.phase ≡ Idle)) }
@@ -107,15 +84,10 @@ impl<D: Disk> Slots<D> {
         ensures err { OnErr result ((self.new.journal.sealed ≡ self.old.journal.sealed)
             × (self.new.journal.staged ≡ self.old.journal.staged)
             × (self.new.journal.phase ≡ Failed)) }
-        ensures any_moment { AtAnyMoment D.Disk self.old.journal.disk self.new.journal.disk
-            (KeepsOrNext self.old self.old.journal.staged) }
-        ensures apart { KeepsSynced D.Disk self.old.journal.disk self.new.journal.disk
-            (OutsideBoth self.old) }
-        ensures honest { SameHonesty D.Disk self.old.journal.disk self.new.journal.disk }
+        ensures kept { KeepsCompaction D.Disk self.old self.new
+            (KeepsOrNext self.old self.old.journal.staged) result }
         ensures called { D.calls self.new.journal.disk
             ≡ D.calls self.old.journal.disk ++ Sync ∷ [] }
-        ensures cause { Answers (D.faults self.old.journal.disk)
-            (D.faults self.new.journal.disk) result }
     {
         let synced = self.journal.sync()?;
         Ok(self.journal.gate_synced(synced))

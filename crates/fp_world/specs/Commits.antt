@@ -22,6 +22,7 @@ use Rattle.fp_world.specs.declared.event.Answer.{Answer}
 use Rattle.fp_world.specs.declared.event.Answer.TheVariants as answer
 use Rattle.fp_world.specs.declared.event.Event.{Event}
 use Rattle.fp_world.specs.declared.event.Event.TheVariants as event
+use Rattle.fp_journal.specs.declared.framed.TheConstants.{BODY_PLACE, FRAME}
 
 -- how far the drawn edits are on their way
 pub data Progress : Type 0 where
@@ -68,10 +69,10 @@ pub record CanStage (m : Commits) : Type 0 where
   pub drawn : m.progress ≡ batch_drawn
   pub few : length m.desk.drawn ≤ MOST_EDITS
   pub short : batch_len (drawn_batch m.desk) ≤ m.most
-  pub room : batch_len (drawn_batch m.desk) + 6 ≤ m.room
+  pub room : batch_len (drawn_batch m.desk) + FRAME ≤ m.room
   pub early : IsEarly m.compaction.next
   pub tail : HasBegun m.compaction.next
-      → m.compaction.tail + batch_len (drawn_batch m.desk) + 6 ≤ m.desk.store.start.limit / 2
+      → m.compaction.tail + batch_len (drawn_batch m.desk) + FRAME ≤ m.desk.store.start.limit / 2
 
 -- what was drawn is settled
 abbrev pub all_settled : DeskState → DeskState
@@ -123,14 +124,14 @@ Stages old a new = Advances CanStage batch_staged old a new
 abbrev pub Joins : Commits → Commits → Type 0
 Joins old new =
     (IsGrowing old.compaction.next → new.compaction.tail
-    ≡ old.compaction.tail + batch_len (drawn_batch old.desk) + 5)
+    ≡ old.compaction.tail + batch_len (drawn_batch old.desk) + BODY_PLACE)
     × ((IsGrowing old.compaction.next → ⊥) → new.compaction.tail ≡ old.compaction.tail)
 
 -- all that is drawn is sealed. Its batch takes its bytes, a gate and its length
 abbrev pub Seals : Commits → Answer → Commits → Type 0
 Seals old (answer.Sealed revision) new = (old.failed ≡ false) × (old.progress ≡ gate_opened)
     × (revision ≡ settled_revision old.desk + length old.desk.drawn)
-    × (new.room + batch_len (drawn_batch old.desk) + 5 ≡ old.room)
+    × (new.room + batch_len (drawn_batch old.desk) + BODY_PLACE ≡ old.room)
     × Joins old new
     × (new ≡ record old {
       progress = batch_sealed;

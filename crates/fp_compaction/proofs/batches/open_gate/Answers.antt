@@ -7,9 +7,9 @@ use Rattle.fp_compaction.proofs.batches.open_gate.Goals as goal
 pub returns-clause-stands : goal.returns-clause-stands
 returns-clause-stands g c =
     let D = g.D.Disk in let old = c.args.slots.now in let w = c.open_gate.ensures in let new = c.open_gate.new.self in
-    λ h size s t k leads. kept.leaves_stands (D.unsynced old.journal.disk) old size k.0 s k.1 D.moment D.crash_states_since D.unsynced old.journal.disk new.journal.disk refl (w.apart h) (KeepsOrNext old old.journal.staged) (λ o. StandsFor o s ⊎ StandsFor o t) (kept.next_stands (D.unsynced old.journal.disk) old size k.0 s k.1 t leads) (w.any_moment h)
+    λ h size s t k leads. kept.leaves_stands (D.unsynced old.journal.disk) old size k.0 s k.1 D.moment D.crash_states_since D.unsynced old.journal.disk new.journal.disk refl (w.kept.apart h) (KeepsOrNext old old.journal.staged) (λ o. StandsFor o s ⊎ StandsFor o t) (kept.next_stands (D.unsynced old.journal.disk) old size k.0 s k.1 t leads) (w.kept.any_moment h)
 
 pub returns-clause-kept : goal.returns-clause-kept
 returns-clause-kept g c =
     let D = g.D.Disk in let old = c.args.slots.now in let w = c.open_gate.ensures in let new = c.open_gate.new.self in
-    λ h size s k. (k.0, kept.kept_beside (D.unsynced old.journal.disk) old size k.0 s k.1 D.moment D.crash_states_since D.unsynced old.journal.disk new.journal.disk refl (w.apart h) new w.same w.bodies.0)
+    λ h size s k. (k.0, kept.kept_beside (D.unsynced old.journal.disk) old size k.0 s k.1 D.moment D.crash_states_since D.unsynced old.journal.disk new.journal.disk refl (w.kept.apart h) new w.kept.same w.bodies.0)

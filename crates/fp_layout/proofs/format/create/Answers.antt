@@ -1,4 +1,4 @@
-use Rattle.std.proofs.Common.{rules, ◌≡◌, ◌+◌, ◌<◌, ℕ, List, [], ◌∷◌, inl, inr, refl, true, sym, ◌∙◌, ap, subst}
+use Rattle.std.proofs.Common.{rules, ◌≡◌, ◌+◌, ◌<◌, ℕ, List, [], ◌∷◌, inl, inr, ⊎_elim, refl, true, sym, ◌∙◌, ap, subst}
 use Rattle.fp_disk.specs.History.{MakesSome}
 use Rattle.fp_disk.specs.Outcomes.{PendingState, all_synced}
 use Rattle.fp_disk.specs.declared.history.CallKind.{CallKind}
@@ -144,8 +144,19 @@ returns-in_default-clause-untouched g c = inr c.len.ensures.called
 pub returns-in-Err-clause-cause : goal.returns-in-Err-clause-cause
 returns-in-Err-clause-cause g c = λ e. c.in-Err.ensures.cause.ill (refl {a = true})
 
-pub returns-in_default-clause-memory : goal.returns-in_default-clause-memory
-returns-in_default-clause-memory g c = λ h e. c.len.ensures.same h
+pub returns-in_default-clause-kept : goal.returns-in_default-clause-kept
+returns-in_default-clause-kept g c = λ h why. making.stays g.D.Disk g.met.D.Disk.only_now h (c.len.ensures.same h) (c.len.ensures.time h)
+
+pub returns-in-Ok-clause-kept : goal.returns-in-Ok-clause-kept
+returns-in-Ok-clause-kept g c = λ h why. making.stays g.D.Disk g.met.D.Disk.only_now h (c.len.ensures.same h) (c.len.ensures.time h)
+
+pub returns-in-Err-clause-kept : goal.returns-in-Err-clause-kept
+returns-in-Err-clause-kept g c = λ h why. making.stays g.D.Disk g.met.D.Disk.only_now h (c.len.ensures.same h) (c.len.ensures.time h)
+
+pub returns-in_default-format-clause-kept : goal.returns-in_default-format-clause-kept
+returns-in_default-format-clause-kept g c = λ h why.
+    let D = g.D.Disk in let empty = making.no_bytes (D.bytes c.args.disk) (sym (c.in-Ok-eq0.ensures.answer h) ∙ c.in-Ok-eq0.field-0-test) in
+    absurd (⊎_elim (λ bytes. bytes empty) (λ other. other refl) why)
 
 pub returns-in_default-format-clause-called : goal.returns-in_default-format-clause-called
 returns-in_default-format-clause-called g c =

@@ -8,7 +8,7 @@ use Rattle.fp_recovery.specs.Refusals.{BeginsWith, RefusesBytes}
 use Rattle.fp_recovery.specs.Stands.{TakesBatch}
 use Rattle.fp_recovery.proofs.Kept.{found_at, found_stands}
 use Rattle.fp_recovery.proofs.One.{stands_one}
-use Rattle.fp_recovery.proofs.OneFault.{stands_or_fault}
+use Rattle.fp_recovery.proofs.OneFault.{standing_has_no_fault}
 use Rattle.fp_recovery.proofs.Recovered.{told_one}
 use Rattle.fp_recovery.proofs.Refused.{only_wanting, unless_wanting}
 use Rattle.fp_recovery.proofs.recovering.recover.Goals as goal
@@ -45,4 +45,4 @@ pub returns-clause-found : goal.returns-clause-found
 returns-clause-found g c = λ h s stands. stands_one (g.D.Disk.bytes c.args.disk.now) c.into_set.result s (returns-clause-stands g c h).stands stands
 
 pub returns-clause-told : goal.returns-clause-told
-returns-clause-told g c = λ h f of its. stands_or_fault (g.D.Disk.bytes c.args.disk.now) f c.into_set.result of its (returns-clause-stands g c h).stands
+returns-clause-told g c = λ h f of its. standing_has_no_fault (g.D.Disk.bytes c.args.disk.now) f c.into_set.result of its (returns-clause-stands g c h).stands

@@ -3,7 +3,7 @@ use Rattle.std.specs.Result.{is_err}
 use Rattle.fp_gate.specs.Gates.{Gated, IsShut, StaysAsRead}
 use Rattle.fp_journal.specs.State.{JournalState, phase_of}
 use Rattle.fp_journal.specs.declared.journal.Phase.TheVariants.{BodySynced}
-use Rattle.fp_journal.proofs.Holds.{written_within}
+use Rattle.fp_gate.proofs.Opening.{written_within}
 use Rattle.fp_journal.proofs.Steps as steps
 use Rattle.fp_journal.proofs.journal.Journal.open_gate.Goals as goal
 use Rattle.fp_gate.specs.declared.gate.TheConstants.{OPEN}

@@ -2,7 +2,7 @@ use Rattle.std.proofs.Common.{rules, [], ◌∷◌, sym, subst, inr}
 use Rattle.fp_gate.specs.Gates.{StaysAsRead}
 use Rattle.fp_gate.specs.declared.gate.TheConstants.{OPEN}
 use Rattle.fp_journal.specs.State.{JournalState, Outside, begun_of}
-use Rattle.fp_journal.proofs.Holds.{written_within}
+use Rattle.fp_gate.proofs.Opening.{written_within}
 use Rattle.fp_journal.proofs.Steps as steps
 use Rattle.fp_journal.proofs.journal.Journal.open_outside.Goals as goal
 

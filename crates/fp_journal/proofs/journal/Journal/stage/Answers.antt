@@ -2,7 +2,7 @@ use Rattle.std.proofs.Common.{rules, ◌≡◌, ◌≤◌, ◌+◌, length, ap, 
 use Rattle.fp_journal.specs.Chain.{with_gate, body_of}
 use Rattle.fp_journal.specs.State.{JournalState, phase_of, room}
 use Rattle.fp_journal.specs.declared.journal.Phase.TheVariants.{Idle}
-use Rattle.fp_journal.proofs.Holds.{written_within}
+use Rattle.fp_gate.proofs.Opening.{written_within}
 use Rattle.fp_journal.proofs.Steps as steps
 use Rattle.fp_journal.proofs.journal.Journal.stage.Goals as goal
 

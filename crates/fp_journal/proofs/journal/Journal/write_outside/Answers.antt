@@ -1,6 +1,6 @@
 use Rattle.std.proofs.Common.{rules, length, sym, subst, inr}
 use Rattle.fp_journal.specs.State.{JournalState, Outside, begun_of}
-use Rattle.fp_journal.proofs.Holds.{written_within}
+use Rattle.fp_gate.proofs.Opening.{written_within}
 use Rattle.fp_journal.proofs.Steps as steps
 use Rattle.fp_journal.proofs.journal.Journal.write_outside.Goals as goal
 

@@ -24,15 +24,17 @@ returns-in_err-stage g c =
     let early = subst (λ (k : SlotsState g.row.D.Denot). IsEarly k.step) (sym c.self.view_is) c.requires.early in
     let p = err_from_is_err_and c.from_residual.result c.from_residual.ensures.1 in
     rw (p.1, ← c.self.view_is) (record {
-      same = (w.kept.same, refl, refl, refl, refl, refl, refl, refl, refl);
+      kept = record {
+        same = (w.kept.same, refl, refl, refl, refl, refl, refl, refl, refl);
+        any_moment = (early_steps.early_rules D.honest D.bytes D.unsynced D.moment D.crash_states_since m.counts_now c.self.invariant.0 alive j w.kept.same early (Outside s.journal.slot) (steps.within_other D.honest D.bytes D.unsynced D.moment D.crash_states_since m.counts_now c.self.invariant.0 alive j w.kept.same) (early_steps.Sealed D.honest D.bytes D.unsynced D.moment D.crash_states_since m.counts_now c.self.invariant.0 alive j w.kept.same) (early_steps.sealed_front D.honest D.bytes D.unsynced D.moment D.crash_states_since m.counts_now c.self.invariant.0 alive j w.kept.same) w.kept.any_moment w.kept.apart);
+        apart = (λ h. early_steps.slot_frame D.honest D.bytes D.unsynced D.moment D.crash_states_since m.counts_now c.self.invariant.0 alive j w.kept.same (w.kept.apart h));
+        honest = w.kept.honest;
+        cause = answers_err c.in_err-stage.ensures.kept.cause;
+      };
       bodies = w.bodies;
       phase = (tt, c.in_err-stage.ensures.phase.1);
       begun = w.begun;
-      any_moment = (early_steps.early_rules D.honest D.bytes D.unsynced D.moment D.crash_states_since m.counts_now c.self.invariant.0 alive j w.kept.same early (Outside s.journal.slot) (steps.within_other D.honest D.bytes D.unsynced D.moment D.crash_states_since m.counts_now c.self.invariant.0 alive j w.kept.same) (early_steps.Sealed D.honest D.bytes D.unsynced D.moment D.crash_states_since m.counts_now c.self.invariant.0 alive j w.kept.same) (early_steps.sealed_front D.honest D.bytes D.unsynced D.moment D.crash_states_since m.counts_now c.self.invariant.0 alive j w.kept.same) w.kept.any_moment w.kept.apart);
-      apart = (λ h. early_steps.slot_frame D.honest D.bytes D.unsynced D.moment D.crash_states_since m.counts_now c.self.invariant.0 alive j w.kept.same (w.kept.apart h));
-      honest = w.kept.honest;
       called = w.called;
-      cause = answers_err c.in_err-stage.ensures.kept.cause;
     })
 
 pub invariant_of-self-2 : goal.invariant_of-self-2
@@ -51,13 +53,15 @@ returns g c =
     let alive : s.journal.phase ≢ Failed = λ e. let no : Idle ≡ Failed = sym at ∙ e in absurd (cc no) in
     let early = subst (λ (k : SlotsState g.row.D.Denot). IsEarly k.step) (sym c.self.view_is) c.requires.early in
     rw (← c.self.view_is) (record {
-      same = (w.kept.same, refl, refl, refl, refl, refl, refl, refl, refl);
+      kept = record {
+        same = (w.kept.same, refl, refl, refl, refl, refl, refl, refl, refl);
+        any_moment = (early_steps.early_rules D.honest D.bytes D.unsynced D.moment D.crash_states_since m.counts_now c.self.invariant.0 alive j w.kept.same early (Outside s.journal.slot) (steps.within_other D.honest D.bytes D.unsynced D.moment D.crash_states_since m.counts_now c.self.invariant.0 alive j w.kept.same) (early_steps.Sealed D.honest D.bytes D.unsynced D.moment D.crash_states_since m.counts_now c.self.invariant.0 alive j w.kept.same) (early_steps.sealed_front D.honest D.bytes D.unsynced D.moment D.crash_states_since m.counts_now c.self.invariant.0 alive j w.kept.same) w.kept.any_moment w.kept.apart);
+        apart = (λ h. early_steps.slot_frame D.honest D.bytes D.unsynced D.moment D.crash_states_since m.counts_now c.self.invariant.0 alive j w.kept.same (w.kept.apart h));
+        honest = w.kept.honest;
+        cause = answers_ok c.in_ok-stage.ensures.kept.cause;
+      };
       bodies = w.bodies;
       phase = (c.in_ok-stage.ensures.phase.0, tt);
       begun = w.begun;
-      any_moment = (early_steps.early_rules D.honest D.bytes D.unsynced D.moment D.crash_states_since m.counts_now c.self.invariant.0 alive j w.kept.same early (Outside s.journal.slot) (steps.within_other D.honest D.bytes D.unsynced D.moment D.crash_states_since m.counts_now c.self.invariant.0 alive j w.kept.same) (early_steps.Sealed D.honest D.bytes D.unsynced D.moment D.crash_states_since m.counts_now c.self.invariant.0 alive j w.kept.same) (early_steps.sealed_front D.honest D.bytes D.unsynced D.moment D.crash_states_since m.counts_now c.self.invariant.0 alive j w.kept.same) w.kept.any_moment w.kept.apart);
-      apart = (λ h. early_steps.slot_frame D.honest D.bytes D.unsynced D.moment D.crash_states_since m.counts_now c.self.invariant.0 alive j w.kept.same (w.kept.apart h));
-      honest = w.kept.honest;
       called = w.called;
-      cause = answers_ok c.in_ok-stage.ensures.kept.cause;
     })

@@ -32,15 +32,17 @@ returns-in_err-synced g c =
     let begun : s.journal.begun ≡ false = sym c.self.invariant.0.told ∙ ap (λ (p : Phase). has_begun p s.journal.begun) at in
     let p = err_from_is_err_and c.from_residual.result c.from_residual.ensures.1 in
     rw (p.1, ← c.self.view_is) (record {
-      same = (w.kept.same, refl, refl, refl, refl, refl, refl, refl, refl);
+      kept = record {
+        same = (w.kept.same, refl, refl, refl, refl, refl, refl, refl, refl);
+        any_moment = (early_steps.early_rules D.honest D.bytes D.unsynced D.moment D.crash_states_since m.counts_now c.self.invariant.0 alive j w.kept.same early (steps.Always D.honest D.bytes D.unsynced D.moment D.crash_states_since m.counts_now c.self.invariant.0 alive j w.kept.same) (early_steps.always_inside D.honest D.bytes D.unsynced D.moment D.crash_states_since m.counts_now c.self.invariant.0 alive j w.kept.same) ((λ o. HasChain s.journal.slot s.journal.front s.journal.sealed o)) (early_steps.sealed_front D.honest D.bytes D.unsynced D.moment D.crash_states_since m.counts_now c.self.invariant.0 alive j w.kept.same) leave w.kept.apart);
+        apart = (λ h. steps.sync_frame D.honest D.bytes D.unsynced D.moment D.crash_states_since m.counts_now c.self.invariant.0 alive j w.kept.same (w.kept.apart h));
+        honest = w.kept.honest;
+        cause = answers_err c.in_err-synced.ensures.kept.cause;
+      };
       bodies = w.bodies;
       phase = (tt, c.in_err-synced.ensures.phase.1);
       begun = w.begun ∙ begun;
-      any_moment = (early_steps.early_rules D.honest D.bytes D.unsynced D.moment D.crash_states_since m.counts_now c.self.invariant.0 alive j w.kept.same early (steps.Always D.honest D.bytes D.unsynced D.moment D.crash_states_since m.counts_now c.self.invariant.0 alive j w.kept.same) (early_steps.always_inside D.honest D.bytes D.unsynced D.moment D.crash_states_since m.counts_now c.self.invariant.0 alive j w.kept.same) ((λ o. HasChain s.journal.slot s.journal.front s.journal.sealed o)) (early_steps.sealed_front D.honest D.bytes D.unsynced D.moment D.crash_states_since m.counts_now c.self.invariant.0 alive j w.kept.same) leave w.kept.apart);
-      apart = (λ h. steps.sync_frame D.honest D.bytes D.unsynced D.moment D.crash_states_since m.counts_now c.self.invariant.0 alive j w.kept.same (w.kept.apart h));
-      honest = w.kept.honest;
       called = w.called;
-      cause = answers_err c.in_err-synced.ensures.kept.cause;
     })
 
 pub invariant_of-self-2 : goal.invariant_of-self-2
@@ -68,15 +70,17 @@ returns g c =
     let leave2 : D.honest s.journal.disk → LeavesOnly D.moment D.crash_states_since s.journal.disk k.disk (λ o. HasChain s.journal.slot s.journal.front s.journal.sealed o) = λ h. subst (λ (d : g.row.D.Denot). LeavesOnly D.moment D.crash_states_since s.journal.disk d (λ o. HasChain s.journal.slot s.journal.front s.journal.sealed o)) (sym e) (leave h) in
     let frame2 : D.honest s.journal.disk → KeepsFirm D.moment D.crash_states_since D.unsynced s.journal.disk k.disk (λ from n. Unit {0}) = λ h. subst (λ (d : g.row.D.Denot). KeepsFirm D.moment D.crash_states_since D.unsynced s.journal.disk d (λ from n. Unit {0})) (sym e) (w.kept.apart h) in
     rw (← c.self.view_is) (record {
-      same = (same2, refl, refl, refl, refl, refl, refl, refl, refl);
+      kept = record {
+        same = (same2, refl, refl, refl, refl, refl, refl, refl, refl);
+        any_moment = (early_steps.early_rules D.honest D.bytes D.unsynced D.moment D.crash_states_since m.counts_now c.self.invariant.0 alive k same2 early (steps.Always D.honest D.bytes D.unsynced D.moment D.crash_states_since m.counts_now c.self.invariant.0 alive k same2) (early_steps.always_inside D.honest D.bytes D.unsynced D.moment D.crash_states_since m.counts_now c.self.invariant.0 alive k same2) ((λ o. HasChain s.journal.slot s.journal.front s.journal.sealed o)) (early_steps.sealed_front D.honest D.bytes D.unsynced D.moment D.crash_states_since m.counts_now c.self.invariant.0 alive j w.kept.same) leave2 frame2);
+        apart = (λ h. steps.sync_frame D.honest D.bytes D.unsynced D.moment D.crash_states_since m.counts_now c.self.invariant.0 alive k same2 (frame2 h));
+        honest = rw e w.kept.honest;
+        cause = rw e (answers_ok c.in_ok-synced.ensures.kept.cause);
+      };
       bodies = (v.bodies.0 ∙ w.bodies.0, v.bodies.1 ∙ w.bodies.1);
       phase = (v.phase.0, tt);
       begun = v.phase.1;
-      any_moment = (early_steps.early_rules D.honest D.bytes D.unsynced D.moment D.crash_states_since m.counts_now c.self.invariant.0 alive k same2 early (steps.Always D.honest D.bytes D.unsynced D.moment D.crash_states_since m.counts_now c.self.invariant.0 alive k same2) (early_steps.always_inside D.honest D.bytes D.unsynced D.moment D.crash_states_since m.counts_now c.self.invariant.0 alive k same2) ((λ o. HasChain s.journal.slot s.journal.front s.journal.sealed o)) (early_steps.sealed_front D.honest D.bytes D.unsynced D.moment D.crash_states_since m.counts_now c.self.invariant.0 alive j w.kept.same) leave2 frame2);
-      apart = (λ h. steps.sync_frame D.honest D.bytes D.unsynced D.moment D.crash_states_since m.counts_now c.self.invariant.0 alive k same2 (frame2 h));
-      honest = rw e w.kept.honest;
       called = rw e w.called;
-      cause = rw e (answers_ok c.in_ok-synced.ensures.kept.cause);
     })
 
 pub body_synced-requires : goal.body_synced-requires

@@ -1,5 +1,0 @@
-use Rattle.fp_recovery.proofs.OneFault.{stands_or_fault}
-use Rattle.fp_recovery.proofs.exact.bytes_stand_or_have_a_fault.Goals as goal
-
-pub returns : goal.returns
-returns c = stands_or_fault
