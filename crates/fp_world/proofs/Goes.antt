@@ -1,9 +1,14 @@
 -- A world as the plain commits_of, from call to call.
 use Rattle.std.proofs.Common.{◌≡◌, ◌≢◌, ◌⊎◌, ◌<◌, ◌≤◌, ◌+◌, ◌-◌, ◌/◌, ℕ, Bool, true, false, List, [], ◌∷◌, ◌++◌, length, refl, sym, ap, ◌∙◌, inl, inr, arith, length-append}
+use Rattle.fp_disk.specs.Crashes.{SameHonesty}
 use Rattle.fp_disk.specs.History.{MakesSome}
+use Rattle.fp_disk.specs.Outcomes.{IsOutcome, LeavesOnly}
+use Rattle.fp_disk.specs.declared.disk.Disk.{Ghosts}
 use Rattle.fp_disk.specs.declared.history.CallKind.{CallKind}
+use Rattle.fp_disk.specs.declared.history.CallKind.TheVariants.{Length, Sync}
 use Rattle.fp_edit.specs.Edits.{Change, Proposal}
 use Rattle.fp_edit.specs.Flags.{State}
+use Rattle.fp_journal.specs.Pieces.{ThenReads, ThenSomeReads}
 use Rattle.fp_journal.specs.State.{room}
 use Rattle.fp_journal.specs.declared.journal.Phase.{Phase}
 use Rattle.fp_journal.specs.declared.journal.Phase.TheVariants.{Idle, Staged, BodySynced, GateOpened, Failed}
@@ -21,7 +26,7 @@ use Rattle.fp_group_commit.specs.declared.fault.StoreFault.TheVariants as fault
 use Rattle.fp_desk.specs.Desk.{DeskState, Refuses}
 use Rattle.fp_desk.specs.declared.fault.SubmitFault.{SubmitFault}
 use Rattle.fp_desk.specs.declared.fault.SubmitFault.TheVariants as submit
-use Rattle.std.specs.Prelude.{Result, Ok, Err, IfOk, IfErr}
+use Rattle.std.specs.Prelude.{Result, Ok, Err, IfOk, IfErr, MatchResult}
 use Rattle.fp_layout.specs.declared.fault.OpenFault.{OpenFault}
 use Rattle.fp_layout.specs.declared.fault.OpenFault.TheVariants as opening
 use Rattle.fp_recovery.specs.Refusals.{IsUnlessWanting}
@@ -33,6 +38,7 @@ use Rattle.fp_world.specs.declared.committer.Held.TheVariants as held
 use Rattle.fp_world.specs.Commits.{Advances, CanStage, Commits, Compaction, IsAt, Progress, Seals, Stages, Submits, is_read, opened_set, told_after}
 use Rattle.fp_world.specs.Commits.{nothing_drawn, batch_drawn, batch_staged, body_synced, gate_opened, batch_sealed}
 use Rattle.fp_world.specs.Committer.{IsOut, MakesOne, RisesFor, compaction_of, in_flight_at, is_in_flight, progress_of}
+use Rattle.fp_world.specs.World.{Opens}
 
 -- machines are the same by their parts
 pub machine_is : (a b : Commits) → a.desk ≡ b.desk → a.progress ≡ b.progress → a.failed ≡ b.failed → a.most ≡ b.most → a.room ≡ b.room → a.told ≡ b.told → a.compaction ≡ b.compaction → a ≡ b
@@ -305,6 +311,17 @@ wanting c t (opening.UnknownVersion v) stands none = absurd (none t stands)
 wanting c t (opening.Damaged at) stands none = absurd (none t stands)
 wanting c t opening.Device stands none = inl refl
 wanting c t opening.Memory stands none = inr refl
+
+-- what opening leaves of a disk, by how it ended
+module _ {D : Type 0} (disk : Ghosts D) (old : D) where
+  abbrev Behind : (D → Type 0) → Result (StoreState D × Identity) (OpenFault × D) → Type 0
+  Behind P r = MatchResult r (λ x. P x.0.slots.journal.disk) (λ e. P e.1)
+
+  pub opens : (r : Result (StoreState D × Identity) (OpenFault × D)) → (disk.honest old → Behind (λ new. disk.bytes new ≡ disk.bytes old) r) → (disk.honest old → Behind (λ new. LeavesOnly disk.moment disk.crash_states_since old new (IsOutcome (disk.unsynced old))) r) → Behind (λ new. SameHonesty disk old new) r
+      → MatchResult r (λ x. ThenReads (Sync ∷ Length ∷ []) (disk.calls old) (disk.calls x.0.slots.journal.disk)) (λ e. ThenSomeReads (Sync ∷ Length ∷ []) (disk.calls old) (disk.calls e.1))
+      → IfOk r (λ x. disk.faults x.0.slots.journal.disk ≡ disk.faults old) → IfErr r (λ e. e.0 ≡ opening.Device → disk.faults old < disk.faults e.1) → Opens disk old r
+  opens (Ok x) same any_moment honest called no_failure cause = record { same = same; any_moment = any_moment; honest = honest; called = called; no_failure = no_failure; cause = cause }
+  opens (Err e) same any_moment honest called no_failure cause = record { same = same; any_moment = any_moment; honest = honest; called = called; no_failure = no_failure; cause = cause }
 
 -- what is told never falls
 pub told_rises : (told : ℕ) (a : Answer) → told ≤ told_after told a

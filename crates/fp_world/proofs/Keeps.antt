@@ -15,10 +15,11 @@ use Rattle.fp_group_commit.specs.Tokens.{Identity}
 use Rattle.fp_desk.specs.Desk.{DeskState, TicketState, log, settled_revision}
 use Rattle.fp_group_commit.proofs.Steps.{exit_has}
 use Rattle.fp_world.specs.Commits.{Progress, told_after}
-use Rattle.fp_world.specs.Committer.{IsOut, IsCommitter, KeepsTold, KeptFrom, CommitterState, RisesFor}
+use Rattle.fp_world.specs.Committer.{IsOut, IsCommitter, KeepsStore, KeepsTold, KeptFrom, CommitterState, RisesFor}
 use Rattle.fp_world.specs.declared.event.Answer.{Answer}
 use Rattle.fp_world.specs.declared.committer.Held.{Held}
 use Rattle.fp_world.specs.declared.committer.Held.TheVariants as held
+use Rattle.fp_world.proofs.Goes.{told_rises}
 
 -- a front of the log is kept
 pub front_kept : (d : DeskState) (xs rest : List Change) (low : ℕ) (c : List ℕ) → log d ≡ xs ++ rest → low ≤ d.store.start.revision + length xs → StandsFor c (after_all d.store.start xs) → KeptFrom d low c
@@ -113,6 +114,26 @@ module _ {D : Type 0} (honest : D → Type 0) (moment : D → ℕ) (crash_states
       (leaves_still moment crash_states_since old.store.slots.journal.disk (KeptFrom new.desk old.told) (λ c left.
       let k = exit (subst (λ (d : D). honest d) (sym disk) h) c (subst (λ (d : D). IsOutcome (unsynced d) c) (sym disk) (only_now old.store.slots.journal.disk c h left)) in
       let low = k.1 in (k.0, omega (arith, told, low), k.2, k.3)))
+
+module _ {D : Type 0} (disk : Ghosts D) (only_now : (d : D) (c : List ℕ) → disk.honest d → disk.crash_states_since d (disk.moment d) c → IsOutcome (disk.unsynced d) c) {old new : CommitterState D} {a : Answer} where
+  -- at each moment of an event of the desk
+  pub kept_store : KeepsStore disk old a new → AtAnyMoment disk old.store.slots.journal.disk new.store.slots.journal.disk (KeptFrom new.desk old.told)
+  kept_store k =
+      let told = k.told in let rises = told_rises old.told a in
+      rested disk.honest disk.moment disk.crash_states_since disk.unsynced only_now old new k.same.0 (omega (arith, told, rises)) k.exit
+
+module _ {D : Type 0} (disk : Ghosts D) {h : Held} {ts : List TicketState} {start : ℕ} {s : StoreState D} {d : DeskState} {told : ℕ} (w : IsCommitter disk.honest disk.unsynced h ts start s d told) {p q : Progress} {a : Answer} where
+  -- an event of the desk, behind which each crash keeps what it kept
+  pub desk_moved : (n : DeskState) → told ≡ told_after told a → n.store ≡ d.store → ((c : List ℕ) → KeptFrom d told c → KeptFrom n told c)
+      → KeepsStore disk (record { store = s; desk = d; progress = p; told = told }) a (record { store = s; desk = n; progress = q; told = told })
+  desk_moved n after same on = record {
+    told = after;
+    same = (refl, same);
+    exit = λ honest c out. on c (kept_now disk.honest disk.moment disk.crash_states_since disk.unsynced w honest c out);
+  }
+
+  pub desk_still : told ≡ told_after told a → KeepsStore disk (record { store = s; desk = d; progress = p; told = told }) a (record { store = s; desk = d; progress = q; told = told })
+  desk_still after = desk_moved d after refl (λ c kept. kept)
 
 module _ {D : Type 0} (disk : Ghosts D) (only_now : (d : D) (c : List ℕ) → disk.honest d → disk.crash_states_since d (disk.moment d) c → IsOutcome (disk.unsynced d) c) {h : Held} {ts : List TicketState} {start : ℕ} {s : StoreState D} {d : DeskState} {told : ℕ} (w : IsCommitter disk.honest disk.unsynced h ts start s d told) {p q : Progress} {a : Answer} where
   -- an event that does nothing

@@ -123,6 +123,14 @@ abbrev pub RisesFor : Answer → (before now : ℕ) → Type 0
 RisesFor (answer.Fault fault.Device) before now = before < now
 RisesFor _ before now = now ≡ before
 
+-- ---- what an event of the desk leaves
+-- the store as it was, and the desk over it; and each crash keeps what was told
+pub record KeepsStore {D : Type 0} (disk : Ghosts D) (old : CommitterState D) (answer : Answer)
+    (new : CommitterState D) : Type 0 where
+  pub told : new.told ≡ told_after old.told answer
+  pub same : (new.store ≡ old.store) × (new.desk.store ≡ old.desk.store)
+  pub exit : EachCrash disk new.store.slots.journal.disk (KeptFrom new.desk new.told)
+
 -- ---- what an event of the store leaves
 -- the desk, and what was told, stay; each crash in it and behind it keeps what was told; and the
 -- device failed exactly where that is answered

@@ -1,11 +1,16 @@
 -- A store, its desk, and what is published of it, over one list of events.
-use Rattle.std.specs.Prelude.{◌≡◌, ◌≤◌, ℕ, List, [], ◌∷◌, ◌++◌}
+use Rattle.std.specs.Prelude.{◌≡◌, ◌<◌, ◌≤◌, ℕ, List, [], ◌∷◌, ◌++◌, Result, Ok, Err, IfOk, IfErr}
 use Rattle.fp_disk.specs.Crashes.{AtAnyMoment, EachCrash, SameHonesty}
+use Rattle.fp_disk.specs.Outcomes.{IsOutcome}
 use Rattle.fp_disk.specs.declared.disk.Disk.{Ghosts}
+use Rattle.fp_disk.specs.declared.history.CallKind.TheVariants.{Length, Sync}
 use Rattle.fp_edit.specs.Flags.{State}
 use Rattle.fp_edit.specs.Log.{after}
+use Rattle.fp_journal.specs.Pieces.{MakesThenReads}
+use Rattle.fp_layout.specs.declared.fault.OpenFault.{OpenFault}
+use Rattle.fp_layout.specs.declared.fault.OpenFault.TheVariants.{Device}
 use Rattle.fp_group_commit.specs.Store.{StoreState}
-use Rattle.fp_group_commit.specs.Tokens.{front_revision}
+use Rattle.fp_group_commit.specs.Tokens.{Identity, front_revision}
 use Rattle.fp_desk.specs.Desk.{DeskState, log}
 use Rattle.fp_stream.specs.declared.hello.Hello.{Hello}
 use Rattle.fp_world.specs.Commits.{accepted_by, last_revision, told_after}
@@ -76,6 +81,26 @@ abbrev pub IsKept : DeskState → ℕ → State → Type 0
 IsKept d low set = (n : ℕ) × (low ≤ n) × (n ≤ last_revision d)
     × (set ≡ after d.store.start (log d) n)
 
+-- ---- opening a disk
+-- the disk then, in the store or beside the fault
+abbrev pub disk_after : {D : Type 0} → Result (StoreState D × Identity) (OpenFault × D) → D
+disk_after (Ok r) = r.0.slots.journal.disk
+disk_after (Err e) = e.1
+
+-- What it leaves of the disk. The bytes stay, and a crash leaves what one could leave before; its
+-- calls are a sync, the length, and reads; none failed where it opens, and one did where the fault
+-- is the device's
+pub record Opens {D : Type 0} (disk : Ghosts D) (old : D)
+    (result : Result (StoreState D × Identity) (OpenFault × D)) : Type 0 where
+  pub same : disk.honest old → disk.bytes (disk_after result) ≡ disk.bytes old
+  pub any_moment : AtAnyMoment disk old (disk_after result) (IsOutcome (disk.unsynced old))
+  pub honest : SameHonesty disk old (disk_after result)
+  pub called : MakesThenReads (Sync ∷ Length ∷ []) (disk.calls old)
+      (disk.calls (disk_after result)) result
+  pub no_failure : IfOk result (λ r. disk.faults r.0.slots.journal.disk ≡ disk.faults old)
+  pub cause : IfErr result (λ e. e.0 ≡ Device → disk.faults old < disk.faults e.1)
+
+-- ---- a world as it begins
 -- nothing is asked of it yet: the set that the store began with is published
 pub record IsNewWorld {D : Type 0} (s : StoreState D) (hellos : List Hello) (evaluators : ℕ)
     (w : WorldState D) : Type 0 where

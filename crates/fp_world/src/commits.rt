@@ -1,16 +1,16 @@
 //! The events of the edits, each as a method.
 
-ghost use Rattle.fp_disk.specs.Crashes.{EachCrash};
 ghost use Rattle.std.specs.Prelude.{◌≡◌, ◌++◌};
 ghost use mathlib.Core.List.{IsPrefix};
 ghost use Rattle.fp_disk.specs.declared.history.CallKind.TheVariants.{Sync, Write};
 ghost use Rattle.fp_edit.specs.Edits.{proposal_of};
 ghost use Rattle.fp_desk.specs.Desk.{log};
 ghost use Rattle.fp_world.specs.Commits.{Advances, DrawsNext, IsAt, Seals, Settles, Stages};
-ghost use Rattle.fp_world.specs.Commits.{StepsOn, Submits, Tells, accepted_by, told_after};
+ghost use Rattle.fp_world.specs.Commits.{StepsOn, Submits, Tells, accepted_by};
 ghost use Rattle.fp_world.specs.Commits.{batch_staged, body_synced, gate_opened};
 ghost use Rattle.fp_world.specs.declared.event.Event.TheVariants.{Compact, Submit};
-ghost use Rattle.fp_world.specs.Committer.{KeepsTold, KeptFrom, MakesItsCall, MakesOne, commits_of};
+ghost use Rattle.fp_world.specs.Committer.{KeepsStore, KeepsTold, MakesItsCall, MakesOne};
+ghost use Rattle.fp_world.specs.Committer.{commits_of};
 
 use crate::committer::{Committer, Held, end};
 use crate::event::Answer;
@@ -26,14 +26,10 @@ impl<D: Disk> Committer<D> {
     pub(crate) fn submit(&mut self, edit: &Edit) -> Answer
         ensures steps { Submits (proposal_of edit.now) (commits_of self.old) result
             (commits_of self.new) }
-        ensures told { self.new.told ≡ told_after self.old.told result }
         ensures log { log self.new.desk
             ≡ log self.old.desk ++ accepted_by (Submit edit.now) result }
         ensures settled { self.new.desk.settled ≡ self.old.desk.settled }
-        ensures same { (self.new.store ≡ self.old.store) × (self.new.told ≡ self.old.told)
-            × (self.new.desk.store ≡ self.old.desk.store) }
-        ensures exit { EachCrash D.Disk self.new.store.slots.journal.disk
-            (KeptFrom self.new.desk self.new.told) }
+        ensures kept { KeepsStore D.Disk self.old result self.new }
     {
         let _ = &self.told;
         let Ok(edit) = edit.try_copy() else {
@@ -87,13 +83,9 @@ impl<D: Disk> Committer<D> {
     // Draws a batch.
     pub(crate) fn draw(&mut self) -> Answer
         ensures steps { DrawsNext (commits_of self.old) result (commits_of self.new) }
-        ensures told { self.new.told ≡ told_after self.old.told result }
         ensures log { log self.new.desk ≡ log self.old.desk }
         ensures settled { self.new.desk.settled ≡ self.old.desk.settled }
-        ensures same { (self.new.store ≡ self.old.store) × (self.new.told ≡ self.old.told)
-            × (self.new.desk.store ≡ self.old.desk.store) }
-        ensures exit { EachCrash D.Disk self.new.store.slots.journal.disk
-            (KeptFrom self.new.desk self.new.told) }
+        ensures kept { KeepsStore D.Disk self.old result self.new }
     {
         let _ = &self.told;
         let Ok(drawn) = self.desk.draw() else {
@@ -195,13 +187,9 @@ impl<D: Disk> Committer<D> {
     // Settles what is sealed.
     pub(crate) fn settle(&mut self) -> Answer
         ensures steps { Settles (commits_of self.old) result (commits_of self.new) }
-        ensures told { self.new.told ≡ told_after self.old.told result }
         ensures log { log self.new.desk ≡ log self.old.desk }
         ensures settled { IsPrefix self.old.desk.settled self.new.desk.settled }
-        ensures same { (self.new.store ≡ self.old.store) × (self.new.told ≡ self.old.told)
-            × (self.new.desk.store ≡ self.old.desk.store) }
-        ensures exit { EachCrash D.Disk self.new.store.slots.journal.disk
-            (KeptFrom self.new.desk self.new.told) }
+        ensures kept { KeepsStore D.Disk self.old result self.new }
     {
         let _ = &self.told;
         match mem::replace(&mut self.held, Held::Nothing) {
@@ -226,10 +214,8 @@ impl<D: Disk> Committer<D> {
     // Tells whether the edit of this revision is settled, where its ticket was given.
     pub(crate) fn ack(&mut self, revision: u64) -> Answer
         ensures steps { Tells revision (commits_of self.old) result (commits_of self.new) }
-        ensures told { self.new.told ≡ told_after self.old.told result }
-        ensures same { (self.new.desk ≡ self.old.desk) × (self.new.store ≡ self.old.store) }
-        ensures exit { EachCrash D.Disk self.new.store.slots.journal.disk
-            (KeptFrom self.new.desk self.new.told) }
+        ensures same { self.new.desk ≡ self.old.desk }
+        ensures kept { KeepsStore D.Disk self.old result self.new }
     {
         let _ = &self.told;
         if revision <= self.start {

@@ -12,8 +12,8 @@ ghost use Rattle.fp_world.specs.declared.event.Event.TheVariants as asked;
 ghost use Rattle.fp_world.specs.Commits.{accepted_by, opened_set, told_after};
 ghost use Rattle.fp_world.specs.Committer.{KeptFrom, MakesItsCall, RisesFor};
 ghost use Rattle.fp_world.specs.Machine.{Run, Step, accepted_edits, told_by};
-ghost use Rattle.fp_world.specs.World.{Course, IsKept, IsNewWorld, IsOfEdits, StepsTo, desk_of};
-ghost use Rattle.fp_world.specs.World.{disk_of, machine, told_of};
+ghost use Rattle.fp_world.specs.World.{Course, IsKept, IsNewWorld, IsOfEdits, Opens, StepsTo};
+ghost use Rattle.fp_world.specs.World.{desk_of, disk_of, machine, told_of};
 
 use crate::committer::Committer;
 use crate::event::{Answer, Event};
@@ -228,6 +228,7 @@ impl<D: Disk> World<D> {
     }
 
     /// Opens the disk again, and gives the set that it then stands for.
+    /// It syncs before it reads, and writes nothing.
     pub fn reopen<R: Wait>(
         self,
         rt: &R,
@@ -235,6 +236,7 @@ impl<D: Disk> World<D> {
     ) -> Result<(Store<D>, Opening), (OpenFault, D)>
         ensures fresh { IfOk result (λ r. IsFresh r.0 r.0.store.start) }
         ensures opening { IfOk result (λ r. r.1 ≡ r.0.store) }
+        ensures opens { Opens D.Disk (disk_of self) result }
 
         // Where no call failed: what is sealed, and with it what is in flight
         // once its gate was opened.
@@ -249,10 +251,11 @@ impl<D: Disk> World<D> {
 
 /// Opens a disk that holds what a crash left of a world. Where that keeps the log from some
 /// revision on, as `World` promises of each crash, the set is the one after some first accepted
-/// edits, as many as that revision or more.
+/// edits, as many as that revision or more. It syncs before it reads, and writes nothing.
 pub fn recover<D: Disk>(alloc: Global, disk: D) -> Result<(Store<D>, Opening), (OpenFault, D)>
     ensures fresh { IfOk result (λ r. IsFresh r.0 r.0.store.start) }
     ensures opening { IfOk result (λ r. r.1 ≡ r.0.store) }
+    ensures opens { Opens D.Disk disk result }
     ensures kept { D.honest disk → (desk : DeskState) (told : ℕ) →
         KeptFrom desk told (D.bytes disk) → IfOk result (λ r. IsKept desk told r.0.store.start) }
     ensures refused { D.honest disk → (desk : DeskState) (told : ℕ) →

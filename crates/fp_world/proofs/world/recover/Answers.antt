@@ -4,6 +4,9 @@ use Rattle.fp_desk.specs.Desk.{log}
 use Rattle.fp_world.proofs.Goes as goes
 use Rattle.fp_world.proofs.world.recover.Goals as goal
 
+pub returns-clause-opens : goal.returns-clause-opens
+returns-clause-opens g c = let e = c.open.ensures in goes.opens g.D.Disk c.args.disk c.open.result e.same e.any_moment e.honest e.called e.no_failure e.cause
+
 pub returns-clause-kept : goal.returns-clause-kept
 returns-clause-kept g c = λ h desk told k.
     goes.ok_map c.open.result _ _ (c.open.ensures.only h) (λ r only. (k.0, k.1, k.2, sym (only (after desk.store.start (log desk) k.0) k.3)))

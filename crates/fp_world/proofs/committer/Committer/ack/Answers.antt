@@ -1,4 +1,4 @@
-use Rattle.std.proofs.Common.{rules, ◌≡◌, ◌≤◌, ◌<◌, ◌+◌, ◌-◌, ℕ, max, List, length, get_or, refl, ap, subst, ◌∙◌, inl, arith}
+use Rattle.std.proofs.Common.{rules, ◌≡◌, ◌≤◌, ◌<◌, ◌+◌, ◌-◌, ℕ, max, List, length, get_or, refl, sym, ap, subst, ◌∙◌, inl, arith}
 use Rattle.fp_desk.specs.Desk.{TicketState, settled_revision}
 use Rattle.fp_world.proofs.Goes as goes
 use Rattle.fp_world.proofs.Keeps as keeps
@@ -10,20 +10,24 @@ returns-then-revision-self-clause-steps g c =
     let D = g.D.Disk in let s = c.self.inside.store in let d = c.self.inside.desk in let h = c.self.inside.held in let told = c.self.inside.told in let i = c.self.invariant in let low = c.if-revision-self.true in let start = i.start_is in
     rw (← c.self.view_is) (inl (omega (arith, low, start)), refl)
 
-pub returns-then-revision-self-clause-exit : goal.returns-then-revision-self-clause-exit
-returns-then-revision-self-clause-exit g c = let D = g.D.Disk in let s = c.self.inside.store in let d = c.self.inside.desk in let h = c.self.inside.held in let told = c.self.inside.told in let i = c.self.invariant in rw (← c.self.view_is) (λ h0 o out. keeps.kept_now D.honest D.moment D.crash_states_since D.unsynced i h0 o out)
+pub returns-then-revision-self-clause-kept : goal.returns-then-revision-self-clause-kept
+returns-then-revision-self-clause-kept g c = rw (← c.self.view_is) (keeps.desk_still g.D.Disk c.self.invariant refl)
 
-pub returns-in_default-clause-exit : goal.returns-in_default-clause-exit
-returns-in_default-clause-exit g c = let D = g.D.Disk in let s = c.self.inside.store in let d = c.self.inside.desk in let h = c.self.inside.held in let told = c.self.inside.told in let i = c.self.invariant in rw (← c.self.view_is) (λ h0 o out. keeps.kept_now D.honest D.moment D.crash_states_since D.unsynced i h0 o out)
+pub returns-in_default-clause-kept : goal.returns-in_default-clause-kept
+returns-in_default-clause-kept g c = rw (← c.self.view_is) (keeps.desk_still g.D.Disk c.self.invariant refl)
 
-pub returns-in_default-ack-clause-exit : goal.returns-in_default-ack-clause-exit
-returns-in_default-ack-clause-exit g c = let D = g.D.Disk in let s = c.self.inside.store in let d = c.self.inside.desk in let h = c.self.inside.held in let told = c.self.inside.told in let i = c.self.invariant in rw (← c.self.view_is) (λ h0 o out. keeps.kept_now D.honest D.moment D.crash_states_since D.unsynced i h0 o out)
+pub returns-in_default-ack-clause-kept : goal.returns-in_default-ack-clause-kept
+returns-in_default-ack-clause-kept g c = rw (← c.self.view_is) (keeps.desk_still g.D.Disk c.self.invariant refl)
 
-pub returns-clause-exit : goal.returns-clause-exit
-returns-clause-exit g c = λ h0 o out.
-    let D = g.D.Disk in let s = c.self.inside.store in let d = c.self.inside.desk in let h = c.self.inside.held in let told = c.self.inside.told in let i = c.self.invariant in
+pub returns-clause-kept : goal.returns-clause-kept
+returns-clause-kept g c =
+    let s = c.self.inside.store in let d = c.self.inside.desk in let h = c.self.inside.held in let told = c.self.inside.told in let i = c.self.invariant in
     let low : c.max-self-inside.result ≤ settled_revision d = search rules in
-    keeps.leaves_kept s d i.same h i.out c.max-self-inside.result low o (i.now h0 o out)
+    rw (← c.self.view_is) (record {
+      told = c.max-self-inside.ensures ∙ ap (λ (n : ℕ). max told n) (c.revision.ensures ∙ sym c.revision-2.ensures);
+      same = (refl, refl);
+      exit = λ honest o out. keeps.leaves_kept s d i.same h i.out c.max-self-inside.result low o (i.now honest o out);
+    })
 
 pub returns-in_default-ack-clause-steps : goal.returns-in_default-ack-clause-steps
 returns-in_default-ack-clause-steps g c =

@@ -27,11 +27,10 @@ returns-in-Ok-clause-steps g c =
     let is_revision = c.settled_revision.ensures in let same = ap settled_revision new in let both = length-append d.settled d.drawn in
     rw (← c.self.view_is, c.replace.ensures.after) (ap (λ (x : Held). progress_of x s.step) is, omega (arith, is_revision, same, both), ap (λ (x : DeskState). goes.At held.Nothing s x told) new)
 
-pub returns-in-Ok-clause-exit : goal.returns-in-Ok-clause-exit
-returns-in-Ok-clause-exit g c = λ h0 o out.
-    let D = g.D.Disk in let s = c.self.inside.store in let d = c.self.inside.desk in let h = c.self.inside.held in let told = c.self.inside.told in let i = c.self.invariant in let new = c.in-Ok.ensures.settled in
-    keeps.kept_same_log d c.settle.new.self told o (ap (λ (x : DeskState). x.store) new) (ap log new ∙ append_assoc d.settled d.drawn d.waiting)
-    (keeps.kept_now D.honest D.moment D.crash_states_since D.unsynced i h0 o out)
+pub returns-in-Ok-clause-kept : goal.returns-in-Ok-clause-kept
+returns-in-Ok-clause-kept g c =
+    let d = c.self.inside.desk in let told = c.self.inside.told in let n = c.settle.new.self in let new = c.in-Ok.ensures.settled in let same = ap (λ (x : DeskState). x.store) new in
+    rw (← c.self.view_is) (keeps.desk_moved g.D.Disk c.self.invariant n refl same (λ o kept. keeps.kept_same_log d n told o same (ap log new ∙ append_assoc d.settled d.drawn d.waiting) kept))
 
 pub returns-in-Err-Memory-default-clause-steps : goal.returns-in-Err-Memory-default-clause-steps
 returns-in-Err-Memory-default-clause-steps g c =
@@ -43,10 +42,8 @@ returns-in-Err-Memory-default-clause-steps g c =
     let same = c.in-Err-Memory-default.ensures.unchanged in
     rw (← c.self.view_is, c.replace-in-Err-Memory-default.ensures.after, same) (point, ap (λ (x : Held). goes.At x s d told) (sym is))
 
-pub returns-in-Err-Memory-default-clause-exit : goal.returns-in-Err-Memory-default-clause-exit
-returns-in-Err-Memory-default-clause-exit g c = λ h0 o out.
-    let D = g.D.Disk in let s = c.self.inside.store in let d = c.self.inside.desk in let h = c.self.inside.held in let told = c.self.inside.told in let i = c.self.invariant in let same = c.in-Err-Memory-default.ensures.unchanged in
-    rw same (keeps.kept_now D.honest D.moment D.crash_states_since D.unsynced i h0 o out)
+pub returns-in-Err-Memory-default-clause-kept : goal.returns-in-Err-Memory-default-clause-kept
+returns-in-Err-Memory-default-clause-kept g c = rw (← c.self.view_is, c.in-Err-Memory-default.ensures.unchanged) (keeps.desk_still g.D.Disk c.self.invariant refl)
 
 pub returns-in_default : goal.returns-in_default
 returns-in_default g c =
@@ -54,11 +51,9 @@ returns-in_default g c =
     let same : c.replace-in_default.new.dest ≡ h = c.replace-in_default.ensures.after ∙ c.replace.ensures.value in
     rw (← c.self.view_is) (record {
       steps = (goes.not_sealed h s (λ receipt is. c.in_default.not-Sealed receipt (c.replace.ensures.value ∙ is)), ap (λ (x : Held). goes.At x s d told) same);
-      told = refl;
+      kept = keeps.desk_still g.D.Disk i refl;
       log = refl;
       settled = ([], append-nil _);
-      same = (refl, refl, refl);
-      exit = λ h0 o out. keeps.kept_now D.honest D.moment D.crash_states_since D.unsynced i h0 o out;
     })
 
 pub returns-in-Ok-clause-settled : goal.returns-in-Ok-clause-settled

@@ -13,14 +13,14 @@ use Rattle.fp_world.proofs.committer.Committer.submit.Goals as goal
 pub returns-in_default-clause-steps : goal.returns-in_default-clause-steps
 returns-in_default-clause-steps g c = rw (← c.self.view_is) refl
 
-pub returns-in_default-clause-exit : goal.returns-in_default-clause-exit
-returns-in_default-clause-exit g c = let D = g.D.Disk in let s = c.self.inside.store in let d = c.self.inside.desk in let h = c.self.inside.held in let told = c.self.inside.told in let i = c.self.invariant in rw (← c.self.view_is) (λ h0 o out. keeps.kept_now D.honest D.moment D.crash_states_since D.unsynced i h0 o out)
+pub returns-in_default-clause-kept : goal.returns-in_default-clause-kept
+returns-in_default-clause-kept g c = rw (← c.self.view_is) (keeps.desk_still g.D.Disk c.self.invariant refl)
 
 pub returns-then-is_err-clause-steps : goal.returns-then-is_err-clause-steps
 returns-then-is_err-clause-steps g c = rw (← c.self.view_is) refl
 
-pub returns-then-is_err-clause-exit : goal.returns-then-is_err-clause-exit
-returns-then-is_err-clause-exit g c = let D = g.D.Disk in let s = c.self.inside.store in let d = c.self.inside.desk in let h = c.self.inside.held in let told = c.self.inside.told in let i = c.self.invariant in λ h0 o out. keeps.kept_now D.honest D.moment D.crash_states_since D.unsynced i h0 o out
+pub returns-then-is_err-clause-kept : goal.returns-then-is_err-clause-kept
+returns-then-is_err-clause-kept g c = rw (← c.self.view_is) (keeps.desk_still g.D.Disk c.self.invariant refl)
 
 pub returns-in-Ok-submit-clause-steps : goal.returns-in-Ok-submit-clause-steps
 returns-in-Ok-submit-clause-steps g c =
@@ -41,10 +41,10 @@ returns-in-Ok-submit-clause-log g c =
     let d = c.self.inside.desk in let p = proposal_of c.in-Ok.edit in
     rw (← c.self.view_is) (ap log c.in-Ok-submit.ensures.accepted.new_is ∙ keeps.log_more d p.change ∙ ap (λ (q : Proposal). log d ++ q.change ∷ []) c.in-Ok.ensures)
 
-pub returns-in-Ok-submit-clause-exit : goal.returns-in-Ok-submit-clause-exit
-returns-in-Ok-submit-clause-exit g c = λ h0 o out.
-    let D = g.D.Disk in let s = c.self.inside.store in let d = c.self.inside.desk in let h = c.self.inside.held in let told = c.self.inside.told in let i = c.self.invariant in let x = (proposal_of c.in-Ok.edit).change in let new = c.in-Ok-submit.ensures.accepted.new_is in
-    keeps.kept_more d c.submit.new.self (x ∷ []) told o (ap (λ (n : DeskState). n.store) new) (ap log new ∙ keeps.log_more d x) (keeps.kept_now D.honest D.moment D.crash_states_since D.unsynced i h0 o out)
+pub returns-in-Ok-submit-clause-kept : goal.returns-in-Ok-submit-clause-kept
+returns-in-Ok-submit-clause-kept g c =
+    let d = c.self.inside.desk in let n = c.submit.new.self in let told = c.self.inside.told in let x = (proposal_of c.in-Ok.edit).change in let new = c.in-Ok-submit.ensures.accepted.new_is in let same = ap (λ (x : DeskState). x.store) new in
+    rw (← c.self.view_is) (keeps.desk_moved g.D.Disk c.self.invariant n refl same (λ o kept. keeps.kept_more d n (x ∷ []) told o same (ap log new ∙ keeps.log_more d x) kept))
 
 pub returns-clause-steps : goal.returns-clause-steps
 returns-clause-steps g c =
@@ -54,8 +54,8 @@ returns-clause-steps g c =
     (subst (λ (x : DeskState). Submits p (goes.At h s d told) (answer.Refused f) (goes.At h s x told)) (sym e.unchanged)
     (goes.refuses f p (goes.At h s d told) i.open_desk (subst (λ (q : Proposal). Refuses d q f) c.in-Ok.ensures e.refused)))
 
-pub returns-clause-exit : goal.returns-clause-exit
-returns-clause-exit g c = let D = g.D.Disk in let s = c.self.inside.store in let d = c.self.inside.desk in let h = c.self.inside.held in let told = c.self.inside.told in let i = c.self.invariant in λ h0 o out. rw c.in-Err.ensures.unchanged (keeps.kept_now D.honest D.moment D.crash_states_since D.unsynced i h0 o out)
+pub returns-clause-kept : goal.returns-clause-kept
+returns-clause-kept g c = rw (← c.self.view_is, c.in-Err.ensures.unchanged) (keeps.desk_still g.D.Disk c.self.invariant refl)
 
 pub invariant_of-self-in-Ok-submit : goal.invariant_of-self-in-Ok-submit
 invariant_of-self-in-Ok-submit g c =

@@ -1,8 +1,13 @@
 use Rattle.std.proofs.Common.{sym, subst}
 use Rattle.fp_world.specs.Commits.{opened_set}
-use Rattle.fp_world.specs.World.{machine}
+use Rattle.fp_world.specs.World.{Opens, machine}
 use Rattle.fp_world.proofs.Goes as goes
 use Rattle.fp_world.proofs.world.World.reopen.Goals as goal
+
+pub returns-clause-opens : goal.returns-clause-opens
+returns-clause-opens g c =
+    let e = c.open.ensures in
+    subst (λ (d : g.row.D.Denot). Opens g.D.Disk d c.open.result) c.into_disk.ensures.disk (goes.opens g.D.Disk c.into_disk.result c.open.result e.same e.any_moment e.honest e.called e.no_failure e.cause)
 
 pub returns-clause-set : goal.returns-clause-set
 returns-clause-set g c = λ h well.
