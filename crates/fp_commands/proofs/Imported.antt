@@ -4,6 +4,7 @@ use Rattle.std.specs.Prelude.{option_map}
 use Rattle.std.proofs.lemmas.Option.{IfSome_then}
 use Rattle.serde_json.specs.Data.{Data}
 use Rattle.fp_base.specs.Json.{json_of}
+use Rattle.fp_edit.specs.Flags.{State}
 use Rattle.fp_imports.specs.Document.{document}
 use Rattle.fp_imports.specs.Faults.{Tells}
 use Rattle.fp_imports.specs.declared.faults.ImportFault.{ImportFault}
@@ -13,6 +14,7 @@ use Rattle.fp_layout.specs.declared.fault.OpenFault.TheVariants as opening
 use Rattle.fp_session.specs.declared.fault.ApplyFault.{ApplyFault}
 use Rattle.fp_session.specs.declared.fault.ApplyFault.TheVariants as run
 use Rattle.fp_recovery.specs.Refusals.{RefusesBytes, IsUnlessWanting}
+use Rattle.fp_recovery.specs.Stands.{StandsFor}
 use Rattle.fp_commands.specs.declared.fault.CommandFault.{CommandFault}
 use Rattle.fp_commands.specs.declared.fault.CommandFault.TheVariants as command
 use Rattle.fp_commands.specs.Documents.{import_of, import_of_data, IsDocumentFault}
@@ -48,16 +50,16 @@ importing-run is_honest c left run.StoreFailed = tt
 importing-run is_honest c left run.Memory = tt
 importing-run is_honest c left run.CommitMemory = tt
 
-pub importing-document : (is_honest : Type 0) (c : List ℕ) (left : Option (List ℕ)) (f : CommandFault) → IsDocumentFault left f → IsImportingFault is_honest c left f
-importing-document is_honest c left command.NotDocument h = h
-importing-document is_honest c left (command.UnknownEvaluator name) h = h
-importing-document is_honest c left command.EvaluatorsTooDeep h = h
-importing-document is_honest c left command.BadKey h = h
-importing-document is_honest c left (command.Flag key fault) h = h
-importing-document is_honest c left command.Device h = tt
-importing-document is_honest c left command.Memory h = tt
-importing-document is_honest c left command.NotEmpty h = absurd h
-importing-document is_honest c left command.Unformatted h = absurd h
-importing-document is_honest c left (command.UnknownVersion v) h = absurd h
-importing-document is_honest c left (command.Damaged at) h = absurd h
-importing-document is_honest c left command.StoreFailed h = absurd h
+pub importing-document : (is_honest : Type 0) (c : List ℕ) (left : Option (List ℕ)) (f : CommandFault) → (is_honest → (s : State) × StandsFor c s) → IsDocumentFault left f → IsImportingFault is_honest c left f
+importing-document is_honest c left command.NotDocument stands h = (stands, h)
+importing-document is_honest c left (command.UnknownEvaluator name) stands h = (stands, h)
+importing-document is_honest c left command.EvaluatorsTooDeep stands h = (stands, h)
+importing-document is_honest c left command.BadKey stands h = (stands, h)
+importing-document is_honest c left (command.Flag key fault) stands h = (stands, h)
+importing-document is_honest c left command.Device stands h = tt
+importing-document is_honest c left command.Memory stands h = tt
+importing-document is_honest c left command.NotEmpty stands h = absurd h
+importing-document is_honest c left command.Unformatted stands h = absurd h
+importing-document is_honest c left (command.UnknownVersion v) stands h = absurd h
+importing-document is_honest c left (command.Damaged at) stands h = absurd h
+importing-document is_honest c left command.StoreFailed stands h = absurd h

@@ -72,14 +72,22 @@ abbrev pub IsApplyingFault : Type 0 → List ℕ → CommandFault → Type 0
 IsApplyingFault is_honest c StoreFailed = Unit {0}
 IsApplyingFault is_honest c f = IsShowingFault is_honest c f
 
+-- the document is refused for this fault, and the bytes stand for a set, since a file is opened
+-- before anything is read; of a disk that claims no honesty the latter isn't said
+abbrev pub IsInputRefusal : Type 0 → List ℕ → Option (List ℕ) → CommandFault → Type 0
+IsInputRefusal is_honest c left f = (is_honest → (s : State) × StandsFor c s)
+    × IsDocumentFault left f
+
 -- the same where a document is read as well
 abbrev pub IsImportingFault : Type 0 → List ℕ → Option (List ℕ) → CommandFault → Type 0
-IsImportingFault is_honest c left NotDocument = IsDocumentFault left NotDocument
-IsImportingFault is_honest c left (UnknownEvaluator name) = IsDocumentFault left
+IsImportingFault is_honest c left NotDocument = IsInputRefusal is_honest c left NotDocument
+IsImportingFault is_honest c left (UnknownEvaluator name) = IsInputRefusal is_honest c left
     (UnknownEvaluator name)
-IsImportingFault is_honest c left EvaluatorsTooDeep = IsDocumentFault left EvaluatorsTooDeep
-IsImportingFault is_honest c left BadKey = IsDocumentFault left BadKey
-IsImportingFault is_honest c left (Flag key fault) = IsDocumentFault left (Flag key fault)
+IsImportingFault is_honest c left EvaluatorsTooDeep = IsInputRefusal is_honest c left
+    EvaluatorsTooDeep
+IsImportingFault is_honest c left BadKey = IsInputRefusal is_honest c left BadKey
+IsImportingFault is_honest c left (Flag key fault) = IsInputRefusal is_honest c left
+    (Flag key fault)
 IsImportingFault is_honest c left f = IsApplyingFault is_honest c f
 
 -- this holds where the bytes or what was read is at fault,

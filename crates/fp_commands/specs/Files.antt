@@ -9,8 +9,9 @@ use Rattle.fp_disk.specs.declared.history.CallKind.TheVariants.{Length}
 use Rattle.fp_files.specs.Lending.{IsLentOnce, IsNotOpened, IsThere, IsThereOrNew}
 use Rattle.fp_files.specs.declared.files.DiskFiles.{Ghosts as FileGhosts}
 use Rattle.fp_layout.specs.declared.size.TheConstants.{STANDARD_SLOT}
-use Rattle.fp_layout.specs.NewDisk.{IsNewDisk, format_calls}
+use Rattle.fp_layout.specs.NewDisk.{IsNewDisk, StaysAsItWas, format_calls}
 use Rattle.fp_recovery.specs.Durable.{IsNewSetOrNone, IsDurable}
+use Rattle.fp_recovery.specs.Refusals.{StandsForNone}
 use Rattle.fp_edit.specs.Flags.{State}
 use Rattle.fp_session.specs.Asks.{Ask, asked_by_input}
 use Rattle.fp_session.specs.Run.{IsRunWritten, IsToldBy}
@@ -26,7 +27,7 @@ use Rattle.fp_commands.specs.Eval.{IsEvaluated}
 use Rattle.fp_commands.specs.Faults.{of_run}
 use Rattle.fp_commands.specs.Task.{no_flags}
 use Rattle.fp_commands.specs.declared.fault.CommandFault.{CommandFault}
-use Rattle.fp_commands.specs.declared.fault.CommandFault.TheVariants.{Device, Memory, NotEmpty}
+use Rattle.fp_commands.specs.declared.fault.CommandFault.TheVariants.{Device, NotEmpty}
 use Rattle.fp_commands.specs.declared.fault.CommandFault.TheVariants.{StoreFailed}
 use Rattle.fp_commands.specs.declared.program.Task.{Task}
 use Rattle.fp_commands.specs.declared.program.Task.TheVariants.{Apply, InitFile, ApplyFile}
@@ -68,16 +69,16 @@ pub record MakesDisk {F R W D : Type 0} (disk : DiskGhosts D) (old new : Outside
   pub made : disk.honest before → OnOk outcome (IsNewDisk STANDARD_SLOT (disk.bytes after))
   pub sure : disk.honest before → OnOk outcome (IsDurable (disk.unsynced after) no_flags)
   pub empty : disk.honest before → OnOk outcome (disk.bytes before ≡ [])
-  pub not_empty : disk.honest before → IfErr outcome (λ f. f ≡ NotEmpty
-      → (disk.bytes before ≢ []) × (disk.bytes after ≡ disk.bytes before))
-  pub memory : disk.honest before → IfErr outcome (λ f. f ≡ Memory
-      → (disk.bytes after ≡ disk.bytes before) × (disk.unsynced after ≡ disk.unsynced before))
+  pub not_empty : disk.honest before → IfErr outcome (λ f. f ≡ NotEmpty → disk.bytes before ≢ [])
+  pub kept : disk.honest before → IfErr outcome (λ f. (disk.bytes before ≢ []) ⊎ (f ≢ Device)
+      → StaysAsItWas disk before after)
   pub any_moment : disk.unsynced before ≡ all_synced []
       → AtAnyMoment disk before after (IsNewSetOrNone STANDARD_SLOT)
   pub called : Makes (Length ∷ format_calls) (disk.calls before) (disk.calls after) outcome
   pub untouched : IfErr outcome (λ f. (f ≡ Device) ⊎ (disk.calls after
       ≡ disk.calls before ++ Length ∷ []))
   pub fault : IfErr outcome IsMakingFault
+  pub no_failure : OnOk outcome (disk.faults after ≡ disk.faults before)
   pub cause : IfErr outcome (λ f. f ≡ Device → disk.faults before < disk.faults after)
   pub honest : SameHonesty disk before after
 
@@ -91,6 +92,10 @@ pub record ShowsDisk {F R W D : Type 0} (disk : DiskGhosts D) (contents : W → 
   pub only_read : IsOnlyRead disk before after
   pub fault : IfErr outcome (IsShowingFault (disk.honest before) (disk.bytes before))
   pub nothing_written : IfErr outcome (IfRefused (new.writer ≡ old.writer))
+  pub untold : IfErr outcome (λ _. new.writer.failures ≡ old.writer.failures
+      → new.writer ≡ old.writer)
+  pub nothing_stood : disk.honest before → StandsForNone (disk.bytes before)
+      → new.writer ≡ old.writer
   pub device : Blames (disk.faults before + old.writer.failures)
       (disk.faults after + new.writer.failures) outcome
   pub no_failure : OnOk outcome (disk.faults after ≡ disk.faults before)
@@ -120,6 +125,8 @@ pub record RunsOnDisk {F R W D : Type 0} (disk : DiskGhosts D) (remaining : R
   pub fault : IfErr outcome (MayEnd (disk.honest before) (disk.bytes before)
       (remaining old.reader.inner))
   pub nothing_written : IfErr outcome (IfRefused (new.writer ≡ old.writer))
+  pub nothing_stood : disk.honest before → StandsForNone (disk.bytes before)
+      → IsOnlyRead disk before after × (new.reader ≡ old.reader) × (new.writer ≡ old.writer)
   pub only_read : IfErr outcome (IfRefused (IsOnlyRead disk before after))
   pub unread : IfErr outcome (IfFileRefused (new.reader ≡ old.reader))
   pub cause : IfErr outcome (λ f. f ≡ StoreFailed → LacksRoom (disk.honest before)
@@ -156,6 +163,10 @@ pub record EvaluatesOnDisk {F R W D : Type 0} (disk : DiskGhosts D) (remaining :
   pub fault : IfErr outcome (IsShowingFault (disk.honest before) (disk.bytes before))
   pub unread : IfErr outcome (IfFileRefused (new.reader ≡ old.reader))
   pub nothing_written : IfErr outcome (IfRefused (new.writer ≡ old.writer))
+  pub untold : IfErr outcome (λ _. new.writer.failures ≡ old.writer.failures
+      → new.writer ≡ old.writer)
+  pub nothing_stood : disk.honest before → StandsForNone (disk.bytes before)
+      → (new.reader ≡ old.reader) × (new.writer ≡ old.writer)
   pub device : Blames (disk.faults before + failures old) (disk.faults after + failures new) outcome
   pub no_failure : OnOk outcome (disk.faults after ≡ disk.faults before)
   pub honest : SameHonesty disk before after

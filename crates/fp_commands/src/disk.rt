@@ -8,18 +8,19 @@ ghost use Rattle.fp_disk.specs.Outcomes.{IsOutcome, LeavesOnly, all_synced};
 ghost use Rattle.fp_disk.specs.declared.history.CallKind.TheVariants.{Length, Sync};
 ghost use Rattle.fp_journal.specs.Pieces.{ThenSomeReads};
 ghost use Rattle.fp_layout.specs.declared.size.TheConstants.{STANDARD_SLOT};
-ghost use Rattle.fp_layout.specs.NewDisk.{IsNewDisk, format_calls};
+ghost use Rattle.fp_layout.specs.NewDisk.{IsNewDisk, StaysAsItWas, format_calls};
 ghost use Rattle.fp_session.specs.Run.{show_line};
 ghost use Rattle.fp_session.specs.declared.replies.TheConstants.{MOST_WAITING};
 ghost use Rattle.fp_recovery.specs.Durable.{IsNewSetOrNone, IsDurable};
+ghost use Rattle.fp_recovery.specs.Refusals.{StandsForNone};
 ghost use Rattle.fp_commands.specs.Disks.{AskedByDocument, AskedByLines, Blames, CallsOfRun};
 ghost use Rattle.fp_commands.specs.Disks.{IfFileRefused, IfRefused, IsApplyingFault};
 ghost use Rattle.fp_commands.specs.Disks.{IsImportingFault, IsLeftOnDisk, IsMakingFault};
 ghost use Rattle.fp_commands.specs.Disks.{IsOnlyRead, IsRunOnDisk, IsShowingFault, IsShown};
 ghost use Rattle.fp_commands.specs.Disks.{IsStreamFault, IsToldOnDisk, IsUnbegun, LacksRoom};
 ghost use Rattle.fp_commands.specs.Task.{no_flags};
-ghost use Rattle.fp_commands.specs.declared.fault.CommandFault.TheVariants.{Device, Memory};
-ghost use Rattle.fp_commands.specs.declared.fault.CommandFault.TheVariants.{NotEmpty, StoreFailed};
+ghost use Rattle.fp_commands.specs.declared.fault.CommandFault.TheVariants.{Device, NotEmpty};
+ghost use Rattle.fp_commands.specs.declared.fault.CommandFault.TheVariants.{StoreFailed};
 
 use crate::document::read_document;
 use crate::fault::CommandFault;
@@ -37,10 +38,11 @@ pub fn init_disk<D: Disk>(alloc: Global, disk: D) -> (D, Result<(), CommandFault
     ensures made { D.honest disk → OnOk result.1 (IsNewDisk STANDARD_SLOT (D.bytes result.0)) }
     ensures sure { D.honest disk → OnOk result.1 (IsDurable (D.unsynced result.0) no_flags) }
     ensures empty { D.honest disk → OnOk result.1 (D.bytes disk ≡ []) }
-    ensures not_empty { D.honest disk → IfErr result.1 (λ f. f ≡ NotEmpty
-        → (D.bytes disk ≢ []) × (D.bytes result.0 ≡ D.bytes disk)) }
-    ensures memory { D.honest disk → IfErr result.1 (λ f. f ≡ Memory
-        → (D.bytes result.0 ≡ D.bytes disk) × (D.unsynced result.0 ≡ D.unsynced disk)) }
+    ensures not_empty { D.honest disk → IfErr result.1 (λ f. f ≡ NotEmpty → D.bytes disk ≢ []) }
+
+    // Where it holds bytes it stays, whatever failed, and else where the device didn't fail.
+    ensures kept { D.honest disk → IfErr result.1 (λ f. (D.bytes disk ≢ []) ⊎ (f ≢ Device)
+        → StaysAsItWas D.Disk disk result.0) }
 
     // A crash at any moment of it leaves what is no disk yet, or one of no flags.
     ensures any_moment { D.honest disk → D.unsynced disk ≡ all_synced []
@@ -49,6 +51,7 @@ pub fn init_disk<D: Disk>(alloc: Global, disk: D) -> (D, Result<(), CommandFault
     ensures untouched { IfErr result.1 (λ f. (f ≡ Device)
         ⊎ (D.calls result.0 ≡ D.calls disk ++ Length ∷ [])) }
     ensures fault { IfErr result.1 IsMakingFault }
+    ensures no_failure { OnOk result.1 (D.faults result.0 ≡ D.faults disk) }
     ensures cause { IfErr result.1 (λ f. f ≡ Device → D.faults disk < D.faults result.0) }
     ensures honest { SameHonesty D.Disk disk result.0 }
 {
@@ -73,6 +76,12 @@ pub fn show_disk<D: Disk, W: Write>(
     ensures called { ThenSomeReads (Sync ∷ Length ∷ []) (D.calls disk) (D.calls result.0) }
     ensures fault { IfErr result.1 (IsShowingFault (D.honest disk) (D.bytes disk)) }
     ensures nothing_written { IfErr result.1 (IfRefused (w.new ≡ w.old)) }
+
+    // At any fault nothing was written, unless the writer failed.
+    ensures untold { IfErr result.1 (λ _. w.new.failures ≡ w.old.failures → w.new ≡ w.old) }
+
+    // Where the bytes stand for nothing, the writer isn't used, whatever is answered.
+    ensures nothing_stood { D.honest disk → StandsForNone (D.bytes disk) → w.new ≡ w.old }
     ensures device { Blames (D.faults disk + w.old.failures) (D.faults result.0 + w.new.failures)
         result.1 }
     ensures no_failure { OnOk result.1 (D.faults result.0 ≡ D.faults disk) }
@@ -125,6 +134,11 @@ pub fn apply_disk<D: Disk, R: Read, W: Write>(
     ensures cause { IfErr result.1 (λ f. f ≡ StoreFailed
         → LacksRoom (D.honest disk) (D.bytes disk) (D.unsynced result.0)
         (R.remaining r.old.inner) AskedByLines ⊎ (D.faults disk < D.faults result.0)) }
+
+    // Where the bytes stand for nothing, the disk was only read and no stream was used,
+    // whatever is answered.
+    ensures nothing_stood { D.honest disk → StandsForNone (D.bytes disk)
+        → IsOnlyRead D.Disk disk result.0 × (r.new ≡ r.old) × (w.new ≡ w.old) }
 
     // Where the bytes or what was read is refused, the disk was only read,
     // and a file is refused before anything is read.
@@ -189,6 +203,11 @@ pub fn import_disk<D: Disk, R: Read, W: Write>(
         → LacksRoom (D.honest disk) (D.bytes disk) (D.unsynced result.0)
         (R.remaining r.old.inner) AskedByDocument ⊎ (D.faults disk < D.faults result.0)) }
 
+    // Where the bytes stand for nothing, the disk was only read and no stream was used,
+    // whatever is answered.
+    ensures nothing_stood { D.honest disk → StandsForNone (D.bytes disk)
+        → IsOnlyRead D.Disk disk result.0 × (r.new ≡ r.old) × (w.new ≡ w.old) }
+
     // Where the bytes or what was read is refused, the disk was only read,
     // and a file is refused before anything is read.
     ensures only_read { IfErr result.1 (IfRefused (IsOnlyRead D.Disk disk result.0)) }
@@ -226,6 +245,7 @@ fn show<W: Write>(
     ensures shown { OnOk result
         (Appends (W.contents w.old.inner) (W.contents w.new.inner) (show_line flags.now)) }
     ensures fault { IfErr result IsStreamFault }
+    ensures untold { IfErr result (λ _. w.new.failures ≡ w.old.failures → w.new ≡ w.old) }
     ensures device { Blames w.old.failures w.new.failures result }
 {
     let line = shown(alloc, flags)?;

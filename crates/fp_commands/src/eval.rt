@@ -6,6 +6,7 @@ ghost use Rattle.fp_disk.specs.Outcomes.{IsOutcome};
 ghost use Rattle.fp_disk.specs.declared.history.CallKind.TheVariants.{Length, Sync};
 ghost use Rattle.fp_journal.specs.Pieces.{ThenSomeReads};
 ghost use Rattle.fp_ofrep.specs.Seen.{response_seen};
+ghost use Rattle.fp_recovery.specs.Refusals.{StandsForNone};
 ghost use Rattle.fp_commands.specs.Disks.{Blames, IfFileRefused, IfRefused, IsShowingFault};
 ghost use Rattle.fp_commands.specs.Disks.{IsStreamFault};
 ghost use Rattle.fp_commands.specs.Eval.{IsAnswered, IsEvaluated, reply_line};
@@ -42,6 +43,13 @@ pub fn eval_disk<D: Disk, R: Read, W: Write>(
     // A disk is refused before anything is read or written.
     ensures unread { IfErr result.1 (IfFileRefused (r.new ≡ r.old)) }
     ensures nothing_written { IfErr result.1 (IfRefused (w.new ≡ w.old)) }
+
+    // At any fault nothing was written, unless the writer failed.
+    ensures untold { IfErr result.1 (λ _. w.new.failures ≡ w.old.failures → w.new ≡ w.old) }
+
+    // Where the bytes stand for nothing, no stream is used, whatever is answered.
+    ensures nothing_stood { D.honest disk → StandsForNone (D.bytes disk)
+        → (r.new ≡ r.old) × (w.new ≡ w.old) }
     ensures device { Blames (D.faults disk + (r.old.failures + w.old.failures))
         (D.faults result.0 + (r.new.failures + w.new.failures)) result.1 }
     ensures no_failure { OnOk result.1 (D.faults result.0 ≡ D.faults disk) }
@@ -69,6 +77,7 @@ fn eval<R: Read, W: Write>(
     ensures answered { OnOk result (IsAnswered opening.start key.now now
         (R.remaining r.old.inner) (W.contents w.old.inner) (W.contents w.new.inner)) }
     ensures fault { IfErr result IsStreamFault }
+    ensures untold { IfErr result (λ _. w.new.failures ≡ w.old.failures → w.new ≡ w.old) }
     ensures device { Blames (r.old.failures + w.old.failures)
         (r.new.failures + w.new.failures) result }
 {

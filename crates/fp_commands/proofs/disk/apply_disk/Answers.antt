@@ -64,6 +64,9 @@ returns-in-Ok-outcome-clause-run g c =
           (λ input both. (asked_by_input input, refl, both));
     }
 
+pub returns-in-Ok-outcome-clause-nothing_stood : goal.returns-in-Ok-outcome-clause-nothing_stood
+returns-in-Ok-outcome-clause-nothing_stood g c = λ h none. absurd (none (flags_of c.in-Ok.session) (c.in-Ok.ensures.stands h))
+
 pub returns-in-Ok-outcome-clause-left : goal.returns-in-Ok-outcome-clause-left
 returns-in-Ok-outcome-clause-left g c =
     let e = c.in-Ok.ensures in let s = c.in-Ok.session in let left = g.R.Read.remaining c.args.r.now.inner in
@@ -79,6 +82,9 @@ pub returns-in-Ok-outcome-clause-honest : goal.returns-in-Ok-outcome-clause-hone
 returns-in-Ok-outcome-clause-honest g c =
     let e = c.in-Ok.ensures in let s = c.in-Ok.session in let left = g.R.Read.remaining c.args.r.now.inner in
     ran-honest g.D.Disk c.args.disk c.into_disk-disk.result s c.apply_lines-kept.result.0 e.stands e.only e.any_moment e.honest c.into_disk-disk.ensures.disk (LedBy left (flags_of s)) c.apply_lines-kept.ensures.any_moment left AskedByLines (joins left (flags_of s))
+
+pub returns-in-Err-outcome-clause-nothing_stood : goal.returns-in-Err-outcome-clause-nothing_stood
+returns-in-Err-outcome-clause-nothing_stood g c = λ h none. absurd (none (flags_of c.in-Ok.session) (c.in-Ok.ensures.stands h))
 
 pub returns-in-Err-outcome-clause-left : goal.returns-in-Err-outcome-clause-left
 returns-in-Err-outcome-clause-left g c =

@@ -64,7 +64,11 @@ returns-in-Err-read_document-clause-any_moment g c = λ h.
 
 pub returns-in-Err-read_document-clause-fault : goal.returns-in-Err-read_document-clause-fault
 returns-in-Err-read_document-clause-fault g c =
-    importing-document (g.D.Disk.honest c.args.disk) (g.D.Disk.bytes c.args.disk) (g.R.Read.remaining c.args.r.now.inner) c.in-Err-read_document.fault c.in-Err-read_document.ensures.fault
+    importing-document (g.D.Disk.honest c.args.disk) (g.D.Disk.bytes c.args.disk) (g.R.Read.remaining c.args.r.now.inner) c.in-Err-read_document.fault
+    (λ h. (flags_of c.in-Ok.session, c.in-Ok.ensures.stands h)) c.in-Err-read_document.ensures.fault
+
+pub returns-in-Err-read_document-clause-nothing_stood : goal.returns-in-Err-read_document-clause-nothing_stood
+returns-in-Err-read_document-clause-nothing_stood g c = λ h none. absurd (none (flags_of c.in-Ok.session) (c.in-Ok.ensures.stands h))
 
 pub returns-in-Err-read_document-clause-cause : goal.returns-in-Err-read_document-clause-cause
 returns-in-Err-read_document-clause-cause g c = λ is.
@@ -116,6 +120,9 @@ returns-in-Ok-outcome-clause-run g c =
       ));
     }
 
+pub returns-in-Ok-outcome-clause-nothing_stood : goal.returns-in-Ok-outcome-clause-nothing_stood
+returns-in-Ok-outcome-clause-nothing_stood g c = λ h none. absurd (none (flags_of c.in-Ok.session) (c.in-Ok.ensures.stands h))
+
 pub returns-in-Ok-outcome-clause-left : goal.returns-in-Ok-outcome-clause-left
 returns-in-Ok-outcome-clause-left g c =
     let e = c.in-Ok.ensures in let s = c.in-Ok.session in let left = g.R.Read.remaining c.args.r.now.inner in
@@ -131,6 +138,9 @@ pub returns-in-Ok-outcome-clause-honest : goal.returns-in-Ok-outcome-clause-hone
 returns-in-Ok-outcome-clause-honest g c =
     let e = c.in-Ok.ensures in let s = c.in-Ok.session in let left = g.R.Read.remaining c.args.r.now.inner in
     ran-honest g.D.Disk c.args.disk c.into_disk-disk.result s c.import_flags-kept.result.0 e.stands e.only e.any_moment e.honest c.into_disk-disk.ensures.disk (LedBy (map flag_bytes c.in-Ok-read_document.flags.items) (flags_of s)) c.import_flags-kept.ensures.any_moment left AskedByDocument (joins left (map flag_bytes c.in-Ok-read_document.flags.items) c.in-Ok-read_document.ensures.flags (flags_of s))
+
+pub returns-in-Err-outcome-clause-nothing_stood : goal.returns-in-Err-outcome-clause-nothing_stood
+returns-in-Err-outcome-clause-nothing_stood g c = λ h none. absurd (none (flags_of c.in-Ok.session) (c.in-Ok.ensures.stands h))
 
 pub returns-in-Err-outcome-clause-left : goal.returns-in-Err-outcome-clause-left
 returns-in-Err-outcome-clause-left g c =

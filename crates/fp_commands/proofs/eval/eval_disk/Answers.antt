@@ -24,3 +24,6 @@ pub returns-in-Err-clause-fault : goal.returns-in-Err-clause-fault
 returns-in-Err-clause-fault g c =
     let honest = g.D.Disk.honest c.args.disk in let bytes = g.D.Disk.bytes c.args.disk in
     subst (λ (f : CommandFault). IsShowingFault honest bytes f) (sym c.into.ensures) (showing-open honest bytes c.in-Err.fault c.in-Err.ensures.fault c.in-Err.ensures.refused)
+
+pub returns-in-Ok-clause-nothing_stood : goal.returns-in-Ok-clause-nothing_stood
+returns-in-Ok-clause-nothing_stood g c = λ h none. absurd (none c.in-Ok.store.store.start (c.in-Ok.ensures.stands h))

@@ -32,6 +32,7 @@ returns-in_err-_told-clause-performs g c =
         called = did.called;
         fault = did.fault;
         nothing_written = did.nothing_written;
+        nothing_stood = did.nothing_stood;
         only_read = did.only_read;
         unread = did.unread;
         cause = did.cause;

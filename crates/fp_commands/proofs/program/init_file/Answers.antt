@@ -26,11 +26,12 @@ returns g c =
         sure = made.sure;
         empty = made.empty;
         not_empty = made.not_empty;
-        memory = made.memory;
+        kept = made.kept;
         any_moment = λ synced h. made.any_moment h synced;
         called = made.called;
         untouched = made.untouched;
         fault = made.fault;
+        no_failure = made.no_failure;
         cause = made.cause;
         honest = made.honest;
       };
