@@ -72,7 +72,7 @@ fn run(rt: &HostRuntime, words: &[String]) -> u8 {
 fn main(rt: HostRuntime) -> ExitCode {
     // A call whose bounds name sockets is only checked where these are named.
     let _sockets: Option<(TcpListener, TcpStream)> = None;
-    // Words that aren't text name no command, as no words don't.
+    // Words that aren't text name no command, just as if there were no words.
     let given = words(&rt);
     let words: &[String] = match &given {
         Some(words) => words.as_slice(),

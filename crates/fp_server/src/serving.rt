@@ -29,7 +29,7 @@ pub const MOST_EDITORS: usize = 32;
 // The last moment that a reply knows.
 const LAST_MOMENT: u64 = 0x7fff_ffff_ffff_ffff;
 
-// How many seconds a connection has to take its last replies, and then to end.
+// How many seconds the connections of a port have to take their last replies, and then to end.
 const GRACE: u64 = 2;
 
 /// The seconds since 1970, and 0 before it or without a clock.

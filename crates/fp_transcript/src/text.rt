@@ -35,25 +35,30 @@ impl Text {
         Text::new(self.alloc)
     }
 
+    /// Empties it, and forgets that memory was wanting.
     pub fn clear(&mut self) {
         self.text.clear();
         self.is_short = false;
     }
 
+    /// What stands in it.
     pub fn as_str(&self) -> &str {
         self.text.as_str()
     }
 
+    /// Whether nothing stands in it.
     pub fn is_empty(&self) -> bool {
         self.text.is_empty()
     }
 
+    /// A text behind what is there.
     pub fn push(&mut self, text: &str) {
         if self.text.push_str(text).is_err() {
             self.is_short = true;
         }
     }
 
+    /// A number in decimal.
     pub fn number(&mut self, number: u64) {
         self.shown(&number);
     }
