@@ -34,13 +34,13 @@ use Rattle.fp_commands.specs.declared.program.Task.TheVariants.{Apply, InitFile,
 use Rattle.fp_commands.specs.declared.program.Task.TheVariants.{ShowFile, ImportFile, EvalFile}
 
 -- what a command reads from, writes to and opens, at a moment
-pub record Outside (F R W : Type 0) : Type 0 where
+pub record Environment (F R W : Type 0) : Type 0 where
   pub files : F
   pub reader : Stream R
   pub writer : Stream W
 
 -- how often its streams have failed
-abbrev pub failures : {F R W : Type 0} → Outside F R W → ℕ
+abbrev pub failures : {F R W : Type 0} → Environment F R W → ℕ
 failures o = o.reader.failures + o.writer.failures
 
 -- over memory: what a run from no flags writes, or that memory ran out or a stream failed, and
@@ -62,7 +62,7 @@ AppliesInMemory remaining contents r0 r w0 w (Err f) = IsStreamFault f
 -- `apply_disk` and `import_disk` promise it
 
 -- a disk of no flags was made of an empty one
-pub record MakesDisk {F R W D : Type 0} (disk : DiskGhosts D) (old new : Outside F R W)
+pub record MakesDisk {F R W D : Type 0} (disk : DiskGhosts D) (old new : Environment F R W)
     (before after : D) (outcome : Result (Unit {0}) CommandFault) : Type 0 where
   pub unread : new.reader ≡ old.reader
   pub nothing_written : new.writer ≡ old.writer
@@ -84,7 +84,7 @@ pub record MakesDisk {F R W D : Type 0} (disk : DiskGhosts D) (old new : Outside
 
 -- the line of what the disk stands for was written, and nothing on the disk
 pub record ShowsDisk {F R W D : Type 0} (disk : DiskGhosts D) (contents : W → Option (List ℕ))
-    (old new : Outside F R W) (before after : D) (outcome : Result
+    (old new : Environment F R W) (before after : D) (outcome : Result
     (Unit {0}) CommandFault) : Type 0 where
   pub unread : new.reader ≡ old.reader
   pub shown : OnOk outcome (IsShown (disk.honest before) (disk.bytes before)
@@ -107,7 +107,8 @@ pub record RunsOnDisk {F R W D : Type 0} (disk : DiskGhosts D) (remaining : R
     → Option (List ℕ)) (contents : W → Option (List ℕ))
     (Reads : List ℕ → List Ask → Type 0) (most : ℕ) (MayEnd : Type 0 → List ℕ → Option (List ℕ)
     → CommandFault → Type 0)
-    (old new : Outside F R W) (before after : D) (outcome : Result Bool CommandFault) : Type 0 where
+    (old new : Environment F R W) (before after : D) (outcome : Result Bool CommandFault)
+    : Type 0 where
   pub run : IfOk outcome (λ told. IsRunOnDisk (disk.honest before) (disk.bytes before)
       (disk.unsynced after)
       (remaining old.reader.inner) Reads told (contents old.writer.inner)
@@ -140,14 +141,14 @@ pub record RunsOnDisk {F R W D : Type 0} (disk : DiskGhosts D) (remaining : R
 -- the lines that were read, and the puts of the document that was
 abbrev pub AppliesToDisk : {F R W D : Type 0} → DiskGhosts D → (R → Option (List ℕ)) → (W
     → Option (List ℕ))
-    → Outside F R W → Outside F R W → D → D → Result Bool CommandFault → Type 0
+    → Environment F R W → Environment F R W → D → D → Result Bool CommandFault → Type 0
 AppliesToDisk disk remaining contents old new before after outcome =
     RunsOnDisk disk remaining contents AskedByLines 1
     (λ is_honest c left. IsApplyingFault is_honest c) old new before after outcome
 
 abbrev pub ImportsToDisk : {F R W D : Type 0} → DiskGhosts D → (R → Option (List ℕ)) → (W
     → Option (List ℕ))
-    → Outside F R W → Outside F R W → D → D → Result Bool CommandFault → Type 0
+    → Environment F R W → Environment F R W → D → D → Result Bool CommandFault → Type 0
 ImportsToDisk disk remaining contents old new before after outcome =
     RunsOnDisk disk remaining contents AskedByDocument MOST_WAITING IsImportingFault old new before
     after outcome
@@ -155,7 +156,7 @@ ImportsToDisk disk remaining contents old new before after outcome =
 -- the reply for a flag of what the disk stands for was written, and nothing on the disk
 pub record EvaluatesOnDisk {F R W D : Type 0} (disk : DiskGhosts D) (remaining : R
     → Option (List ℕ))
-    (contents : W → Option (List ℕ)) (old new : Outside F R W) (key : List ℕ) (now : ℕ)
+    (contents : W → Option (List ℕ)) (old new : Environment F R W) (key : List ℕ) (now : ℕ)
     (before after : D) (outcome : Result (Unit {0}) CommandFault) : Type 0 where
   pub evaluated : OnOk outcome (IsEvaluated (disk.honest before) (disk.bytes before) key now
       (remaining old.reader.inner) (contents old.writer.inner) (contents new.writer.inner))
@@ -184,7 +185,7 @@ pub record OverFile {F D : Type 0} (files : FileGhosts F D) (disk : DiskGhosts D
   pub does : Does before after
 
 -- the file wasn't opened, for which a device is blamed, and nothing was read or written
-pub record FailsToOpen {F R W D : Type 0} (files : FileGhosts F D) (old new : Outside F R W)
+pub record FailsToOpen {F R W D : Type 0} (files : FileGhosts F D) (old new : Environment F R W)
     (path : List ℕ) (fault : CommandFault) : Type 0 where
   pub not_opened : IsNotOpened files old.files new.files path
   pub is_device : fault ≡ Device
@@ -192,8 +193,8 @@ pub record FailsToOpen {F R W D : Type 0} (files : FileGhosts F D) (old new : Ou
   pub nothing_written : new.writer ≡ old.writer
 
 -- what a task over the disk at a path comes to
-abbrev pub OnFile : {F R W D A : Type 0} → FileGhosts F D → DiskGhosts D → Outside F R W
-    → Outside F R W
+abbrev pub OnFile : {F R W D A : Type 0} → FileGhosts F D → DiskGhosts D → Environment F R W
+    → Environment F R W
     → List ℕ → (D → Type 0) → (D → D → Result A CommandFault → Type 0)
     → Result (Unit {0}) CommandFault → Type 0
 OnFile {A = A} files disk old new path Found Does (Ok x) =
@@ -205,7 +206,8 @@ OnFile files disk old new path Found Does (Err f) = FailsToOpen files old new pa
 -- what a task comes to: it is done, or this fault ended it. Over memory no file is opened
 abbrev pub Performs : {F R W D : Type 0} → FileGhosts F D → DiskGhosts D → (R → Option (List ℕ))
     → (W → Option (List ℕ))
-    → Outside F R W → Outside F R W → Task → List ℕ → List ℕ → ℕ → Result (Unit {0}) CommandFault
+    → Environment F R W → Environment F R W → Task → List ℕ → List ℕ → ℕ
+    → Result (Unit {0}) CommandFault
     → Type 0
 Performs files disk remaining contents old new Apply path key now outcome = (new.files ≡ old.files)
     × AppliesInMemory remaining contents old.reader new.reader old.writer new.writer outcome

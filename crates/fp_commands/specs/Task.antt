@@ -52,8 +52,8 @@ NoneFailed r0 r w0 w = r.failures + w.failures ≤ r0.failures + w0.failures
 -- ---- what is told on the error stream
 
 -- this line, unless the stream failed
-abbrev pub Tells : {E : Type 0} → (E → Option (List ℕ)) → Stream E → Stream E → List ℕ → Type 0
-Tells contents old new line = new.failures ≡ old.failures
+abbrev pub WritesLine : {E : Type 0} → (E → Option (List ℕ)) → Stream E → Stream E → List ℕ → Type 0
+WritesLine contents old new line = new.failures ≡ old.failures
     → AppendsLine (contents old.inner) (contents new.inner) line
 
 abbrev pub usage : List ℕ
@@ -64,4 +64,4 @@ usage = codes
 abbrev pub TellsFault : {E : Type 0} → (E → Option (List ℕ)) → Stream E → Stream E → (CommandFault
     → Type 0) → Type 0
 TellsFault contents old new MayEnd = (f : CommandFault) × MayEnd f
-    × Tells contents old new (codes "flagplane: " ++ fault_text f)
+    × WritesLine contents old new (codes "flagplane: " ++ fault_text f)

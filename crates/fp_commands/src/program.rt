@@ -3,7 +3,8 @@
 ghost use Rattle.std.specs.Prelude.{◌≡◌, ◌<◌, ◌≤◌, ◌^◌, ◌↔◌, [], Ok, Err, None, Some, IfSome, OnOk};
 ghost use Rattle.std.specs.Prelude.{MatchOption, map, string_bytes};
 ghost use Rattle.fp_commands.specs.Files.{AppliesInMemory, Performs};
-ghost use Rattle.fp_commands.specs.Task.{NoneFailed, Tells, TellsFault, task_of_words, of_flag};
+ghost use Rattle.fp_commands.specs.Task.{NoneFailed, TellsFault, WritesLine, of_flag};
+ghost use Rattle.fp_commands.specs.Task.{task_of_words};
 ghost use Rattle.fp_commands.specs.Task.{over_file};
 ghost use Rattle.fp_commands.specs.Task.{usage};
 ghost use Rattle.fp_commands.specs.declared.program.Task.TheVariants.{ApplyFile, EvalFile};
@@ -57,7 +58,7 @@ where
     E: Write,
     requires { now < 2 ^ 63 }
     ensures usage { (result ≡ 2) ↔ (task_of_words (map string_bytes words.now) ≡ None) }
-    ensures helps { result ≡ 2 → Tells E.contents e.old e.new usage }
+    ensures helps { result ≡ 2 → WritesLine E.contents e.old e.new usage }
     ensures untouched { result ≡ 2
         → (files.new ≡ files.old) × (r.new ≡ r.old) × (w.new ≡ w.old) }
     ensures done { result ≡ 0 → IfSome (task_of_words (map string_bytes words.now)) (λ task.

@@ -19,7 +19,7 @@ use Rattle.fp_layout.specs.Opening.{ReadsSlot}
 use Rattle.fp_layout.specs.Size.{IsSlotSize, Side, first, second, other_side, slot_of}
 use Rattle.fp_recovery.specs.Durable.{IsKept}
 use Rattle.fp_recovery.specs.Refusals.{BeginsWith}
-use Rattle.fp_slots.specs.Rules.{Rules, Tells}
+use Rattle.fp_slots.specs.Rules.{Rules, RulesWith}
 use Rattle.fp_slots.specs.State.{SlotsState, Keeps, KeepsEither, KeepsOrNext, IsFrontOf, KeepsSealed, OutsideBoth, SameCompaction, SameSlots, sealed_text}
 use Rattle.fp_edit.specs.Edits.{Change}
 use Rattle.fp_journal.specs.Reading.{Reads}
@@ -41,15 +41,15 @@ spelled_generation size n front rest s small f p =
     sym (from_be_bytes-to_be_bytes_8 p.generation p.numbered) ∙ ap (λ (l : List ℕ). from_be_bytes w64 l) same ∙ from_be_bytes-to_be_bytes_8 n small
 
 module _ {D : Type 0} (u : PendingState) (slots : SlotsState D) (size : ℕ) (side : Side) (s : State) (k : IsKeptOn u slots size side s) where
-  side_stands : (t : State) (x : Side) (text c : List ℕ) → Holds c 0 k.header → Spells size text t → Tells (slot_of size x) (slot_of size (other_side x)) text c → StandsFor c t
+  side_stands : (t : State) (x : Side) (text c : List ℕ) → Holds c 0 k.header → Spells size text t → RulesWith (slot_of size x) (slot_of size (other_side x)) text c → StandsFor c t
   side_stands t x text c h spells tells = record { size = size; side = x; text = text; header = k.is_header c h (side_long size x text c tells); tells = tells; spells = spells }
 
-  flipped : (x : Side) (text c : List ℕ) → Holds c 0 k.header → Spells size text s → Tells (slot_of size (other_side x)) (slot_of size x) text c → StandsFor c s
+  flipped : (x : Side) (text c : List ℕ) → Holds c 0 k.header → Spells size text s → RulesWith (slot_of size (other_side x)) (slot_of size x) text c → StandsFor c s
   flipped first text c h spells t = side_stands s second text c h spells t
   flipped second text c h spells t = side_stands s first text c h spells t
 
-  moved : (a b x y : Slot) (text c : List ℕ) → a ≡ x → b ≡ y → Tells a b text c → Tells x y text c
-  moved a b x y text c p q t = subst (λ (z : Slot). Tells z y text c) p (subst (λ (z : Slot). Tells a z text c) q t)
+  moved : (a b x y : Slot) (text c : List ℕ) → a ≡ x → b ≡ y → RulesWith a b text c → RulesWith x y text c
+  moved a b x y text c p q t = subst (λ (z : Slot). RulesWith z y text c) p (subst (λ (z : Slot). RulesWith a z text c) q t)
 
   -- the slot that rules, with a text that spells a set
   mine_stands : (t : State) (text c : List ℕ) → Holds c 0 k.header → Spells size text t → Rules slots.journal.slot.start slots.other.start c → Ends slots.journal.slot.start slots.journal.slot.stop text c → StandsFor c t

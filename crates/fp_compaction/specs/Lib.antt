@@ -1,3 +1,4 @@
 pub mod Sets
 pub mod Batches
+pub mod Calls
 pub mod Steps

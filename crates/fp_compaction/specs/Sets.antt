@@ -42,18 +42,18 @@ pub record IsPlaced {D : Type 0} (size : ℕ) (slots : SlotsState D) (limit : �
 
 -- ---- a batch on its way
 -- did a call begin to open its gate
-abbrev pub HasBegun : {D : Type 0} → JournalState D → Type 0
-HasBegun j = has_begun j.phase j.begun ≡ true
+abbrev pub IsOpening : {D : Type 0} → JournalState D → Type 0
+IsOpening j = has_begun j.phase j.begun ≡ true
 
 -- then it leads from this set to that one
 abbrev pub IsTaken : {D : Type 0} → JournalState D → ℕ → State → State → Type 0
 IsTaken j size s t =
-    HasBegun j → TakesBatch s j.staged t × (length j.staged ≤ most_in size)
+    IsOpening j → TakesBatch s j.staged t × (length j.staged ≤ most_in size)
 
 -- what a crash leaves: the set, and once a call began to open the gate of the batch on its way
 -- perhaps what that makes of it
 abbrev pub LeavesSet : {D : Type 0} → JournalState D → State → State → List ℕ → Type 0
-LeavesSet j s t c = StandsFor c s ⊎ (HasBegun j × StandsFor c t)
+LeavesSet j s t c = StandsFor c s ⊎ (IsOpening j × StandsFor c t)
 
 -- ---- what a call leaves
 -- at each moment of a call in which either slot may come to rule: both stand for one set

@@ -7,6 +7,7 @@ use Rattle.fp_disk.specs.declared.disk.Disk.{Ghosts}
 use Rattle.fp_disk.specs.declared.history.CallKind.{CallKind}
 use Rattle.fp_disk.specs.declared.history.CallKind.TheVariants.{Sync, Write}
 use Rattle.fp_edit.specs.Flags.{State}
+use Rattle.fp_edit.specs.declared.flags.TheConstants.{IMAGE_HEAD}
 use Rattle.fp_journal.specs.Chain.{with_gate}
 use Rattle.fp_journal.specs.State.{IsOnWay, has_begun, room}
 use Rattle.fp_journal.specs.declared.journal.Phase.TheVariants.{Idle, GateOpened, Failed}
@@ -72,8 +73,8 @@ pub record MayStep {D : Type 0} (slots : SlotsState D) : Type 0 where
   pub still : slots.step ≡ Tail → IsOnWay slots.journal.phase → ⊥
 
 -- the image of the set has room in the other slot
-pub record HasPlace {D : Type 0} (slots : SlotsState D) (s : State) : Type 0 where
-  pub least : 4 ≤ s.limit
+pub record HasImageRoom {D : Type 0} (slots : SlotsState D) (s : State) : Type 0 where
+  pub least : IMAGE_HEAD ≤ s.limit
   pub short : s.limit < 2 ^ 32
   pub wide : slots.other.start + IMAGE_PLACE + s.limit < slots.other.stop
 
@@ -108,7 +109,7 @@ pub record Stays {D : Type 0} (old new : SlotsState D) : Type 0 where
   pub phase : new.journal.phase ≡ old.journal.phase
 
 -- the other slot is to hold head and image, and a batch on its way is kept ready to go behind them
-pub record Begins {D : Type 0} (image limit : ℕ) (old new : SlotsState D) : Type 0 where
+pub record StartsImage {D : Type 0} (image limit : ℕ) (old new : SlotsState D) : Type 0 where
   pub journal : new.journal ≡ old.journal
   pub other : new.other ≡ old.other
   pub generation : new.generation ≡ old.generation

@@ -1,7 +1,5 @@
 //! Batches beside a compaction, by the sets that they lead from and to.
 
-ghost use Rattle.fp_disk.specs.Crashes.{SameHonesty};
-ghost use Rattle.fp_disk.specs.Outcomes.{Answers};
 ghost use Rattle.fp_disk.specs.declared.history.CallKind.TheVariants.{Sync, Write};
 ghost use Rattle.std.specs.Prelude.{◌≡◌, ◌≢◌, [], ◌∷◌, ◌++◌, true, false, length, IfOk, OnOk};
 ghost use Rattle.std.specs.Prelude.{OnErr};
@@ -15,6 +13,7 @@ ghost use Rattle.fp_compaction.specs.Sets.{GoesOnKept};
 ghost use Rattle.fp_compaction.specs.Steps.{IsFullNow, LeavesNow, ReadsNext};
 ghost use Rattle.fp_compaction.specs.Batches.{FitsBeside, HasRoomFor, IsReadyFor, KeepsNext};
 ghost use Rattle.fp_compaction.specs.Batches.{LeavesNext, LeavesSealed, PlansNext};
+ghost use Rattle.fp_compaction.specs.Calls.{MakesCall, MovesBatch};
 
 use crate::room::is_growing;
 use fp_disk::{Disk, DiskFault};
@@ -41,19 +40,9 @@ pub fn make_ready<D: Disk>(slots: &mut Slots<D>, framed: &Framed) -> Result<(), 
 pub fn stage<D: Disk>(slots: &mut Slots<D>, framed: Framed) -> Result<(), DiskFault>
     requires idle { slots.old.journal.phase ≡ Idle }
     requires room { HasRoomFor slots.old (length framed) }
+    ensures moves { MovesBatch D.Disk Write Staged false slots.old slots.new result }
     ensures stands { LeavesSealed D.Disk slots.old slots.new }
-    ensures kept { GoesOnKept D.Disk slots.old slots.new }
-    ensures same { SameCompaction slots.old slots.new }
-    ensures bodies { (slots.new.journal.sealed ≡ slots.old.journal.sealed)
-        × (slots.new.journal.staged ≡ framed) }
-    ensures phase { OnOk result (slots.new.journal.phase ≡ Staged)
-        × OnErr result (slots.new.journal.phase ≡ Failed) }
-    ensures begun { slots.new.journal.begun ≡ false }
-    ensures honest { SameHonesty D.Disk slots.old.journal.disk slots.new.journal.disk }
-    ensures called { D.calls slots.new.journal.disk
-        ≡ D.calls slots.old.journal.disk ++ Write ∷ [] }
-    ensures cause { Answers (D.faults slots.old.journal.disk)
-        (D.faults slots.new.journal.disk) result }
+    ensures staged { slots.new.journal.staged ≡ framed }
 {
     slots.stage(framed)
 }
@@ -62,19 +51,9 @@ pub fn stage<D: Disk>(slots: &mut Slots<D>, framed: Framed) -> Result<(), DiskFa
 pub fn sync_body<D: Disk>(slots: &mut Slots<D>) -> Result<(), DiskFault>
     requires early { IsEarly slots.old.step }
     requires staged { slots.old.journal.phase ≡ Staged }
+    ensures moves { MovesBatch D.Disk Sync BodySynced false slots.old slots.new result }
     ensures stands { LeavesSealed D.Disk slots.old slots.new }
-    ensures kept { GoesOnKept D.Disk slots.old slots.new }
-    ensures same { SameCompaction slots.old slots.new }
-    ensures bodies { (slots.new.journal.sealed ≡ slots.old.journal.sealed)
-        × (slots.new.journal.staged ≡ slots.old.journal.staged) }
-    ensures phase { OnOk result (slots.new.journal.phase ≡ BodySynced)
-        × OnErr result (slots.new.journal.phase ≡ Failed) }
-    ensures begun { slots.new.journal.begun ≡ false }
-    ensures honest { SameHonesty D.Disk slots.old.journal.disk slots.new.journal.disk }
-    ensures called { D.calls slots.new.journal.disk
-        ≡ D.calls slots.old.journal.disk ++ Sync ∷ [] }
-    ensures cause { Answers (D.faults slots.old.journal.disk)
-        (D.faults slots.new.journal.disk) result }
+    ensures staged { slots.new.journal.staged ≡ slots.old.journal.staged }
 {
     slots.sync_staged()
 }
@@ -83,19 +62,9 @@ pub fn sync_body<D: Disk>(slots: &mut Slots<D>) -> Result<(), DiskFault>
 pub fn open_gate<D: Disk>(slots: &mut Slots<D>) -> Result<(), DiskFault>
     requires early { IsEarly slots.old.step }
     requires synced { slots.old.journal.phase ≡ BodySynced }
+    ensures moves { MovesBatch D.Disk Write GateOpened true slots.old slots.new result }
     ensures stands { LeavesNext D.Disk slots.old slots.new }
-    ensures kept { GoesOnKept D.Disk slots.old slots.new }
-    ensures same { SameCompaction slots.old slots.new }
-    ensures bodies { (slots.new.journal.sealed ≡ slots.old.journal.sealed)
-        × (slots.new.journal.staged ≡ slots.old.journal.staged) }
-    ensures phase { OnOk result (slots.new.journal.phase ≡ GateOpened)
-        × OnErr result (slots.new.journal.phase ≡ Failed) }
-    ensures begun { slots.new.journal.begun ≡ true }
-    ensures honest { SameHonesty D.Disk slots.old.journal.disk slots.new.journal.disk }
-    ensures called { D.calls slots.new.journal.disk
-        ≡ D.calls slots.old.journal.disk ++ Write ∷ [] }
-    ensures cause { Answers (D.faults slots.old.journal.disk)
-        (D.faults slots.new.journal.disk) result }
+    ensures staged { slots.new.journal.staged ≡ slots.old.journal.staged }
 {
     slots.open_gate()
 }
@@ -149,11 +118,7 @@ pub fn sync_gate<D: Disk>(slots: &mut Slots<D>) -> Result<Sealed, DiskFault>
         × (slots.new.generation ≡ slots.old.generation) × (slots.new.step ≡ slots.old.step)
         × (slots.new.head ≡ slots.old.head) × (slots.new.left ≡ slots.old.left)
         × (slots.new.may_open ≡ slots.old.may_open) }
-    ensures honest { SameHonesty D.Disk slots.old.journal.disk slots.new.journal.disk }
-    ensures called { D.calls slots.new.journal.disk
-        ≡ D.calls slots.old.journal.disk ++ Sync ∷ [] }
-    ensures cause { Answers (D.faults slots.old.journal.disk)
-        (D.faults slots.new.journal.disk) result }
+    ensures call { MakesCall D.Disk Sync slots.old slots.new result }
 {
     let sealed = slots.sync_gate()?;
     grow(slots);

@@ -2,6 +2,7 @@
 
 ghost use Rattle.std.specs.Prelude.{◌≡◌, ◌≤◌, length, IfOk};
 ghost use Rattle.fp_edit.specs.Flags.{size as size_of};
+ghost use Rattle.fp_edit.specs.declared.flags.TheConstants.{IMAGE_HEAD};
 ghost use Rattle.fp_recovery.specs.Stands.{IsImageOf};
 
 use fp_edit::FlagSet;
@@ -10,7 +11,7 @@ use std::alloc::{AllocError, Global};
 
 /// The bytes of a set's image.
 pub fn image_of(alloc: Global, set: &FlagSet) -> Result<Vec<u8>, AllocError>
-    requires { 4 ≤ set.now.limit }
+    requires { IMAGE_HEAD ≤ set.now.limit }
     ensures image { IfOk result (λ bytes.
         IsImageOf set.now.revision set.now.limit bytes.items set.now) }
     ensures len { IfOk result (λ bytes. length bytes.items ≡ size_of set.now.flags) }

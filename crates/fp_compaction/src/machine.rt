@@ -5,8 +5,8 @@ ghost use Rattle.fp_journal.specs.declared.journal.Phase.TheVariants.{Failed};
 ghost use Rattle.fp_edit.specs.Flags.{size as size_of};
 ghost use Rattle.fp_slots.specs.declared.slots.Step.TheVariants.{Begin, SyncOpen};
 ghost use Rattle.fp_compaction.specs.Sets.{IsPlannedFor};
-ghost use Rattle.fp_compaction.specs.Steps.{Begins, BreaksOff, HasPlace, MayStep, Stays, TakesStep};
-ghost use Rattle.fp_compaction.specs.Steps.{Turns, next_left, next_step};
+ghost use Rattle.fp_compaction.specs.Steps.{BreaksOff, HasImageRoom, MayStep, StartsImage, Stays};
+ghost use Rattle.fp_compaction.specs.Steps.{TakesStep, Turns, next_left, next_step};
 ghost use Rattle.fp_compaction.specs.declared.machine.StepFault.TheVariants.{Device, Memory};
 
 use crate::steps::{begin, chunk, close, copy_tail, finish, open_other, seal, sync_close};
@@ -62,7 +62,7 @@ pub fn take_step<D: Disk>(
 ) -> Result<(), StepFault>
     requires live { slots.old.journal.phase ≢ Failed }
     requires may { MayStep slots.old }
-    requires place { slots.old.step ≡ Begin → HasPlace slots.old set.now }
+    requires place { slots.old.step ≡ Begin → HasImageRoom slots.old set.now }
     ensures taken { TakesStep D.Disk slots.old slots.new }
     ensures order { OnOk result (slots.new.step ≡ next_step slots.old.step slots.old.left)
         × OnErr result (slots.new.step ≡ slots.old.step) }
@@ -71,7 +71,7 @@ pub fn take_step<D: Disk>(
     ensures planned { OnOk result (slots.old.step ≡ Begin → (size : ℕ)
         → set.now.limit ≡ size / 2 → IsPlannedFor slots.new size set.now) }
     ensures begun { OnOk result (slots.old.step ≡ Begin →
-        Begins (size_of set.now.flags) set.now.limit slots.old slots.new) }
+        StartsImage (size_of set.now.flags) set.now.limit slots.old slots.new) }
     ensures stays { OnOk result (slots.old.step ≢ Begin → slots.old.step ≢ SyncOpen →
         Stays slots.old slots.new) }
     ensures turned { OnOk result (slots.old.step ≡ SyncOpen → Turns slots.old slots.new) }

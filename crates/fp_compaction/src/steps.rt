@@ -7,7 +7,8 @@ ghost use Rattle.fp_slots.specs.declared.places.TheConstants.{IMAGE_PLACE, PART}
 ghost use Rattle.fp_slots.specs.declared.slots.Step.TheVariants.{Begin, Close, SyncClose, Part};
 ghost use Rattle.fp_slots.specs.declared.slots.Step.TheVariants.{Tail, SyncBody, Open, SyncOpen};
 ghost use Rattle.fp_edit.specs.Flags.{size as size_of};
-ghost use Rattle.fp_compaction.specs.Steps.{Begins, BreaksOff, Stays, TakesStep, Turns};
+ghost use Rattle.fp_edit.specs.declared.flags.TheConstants.{IMAGE_HEAD};
+ghost use Rattle.fp_compaction.specs.Steps.{StartsImage, BreaksOff, Stays, TakesStep, Turns};
 ghost use Rattle.fp_compaction.specs.Sets.{GoesOnKept, IsPlannedFor, LeavesEither};
 
 use crate::image::image_of;
@@ -22,13 +23,14 @@ pub fn begin<D: Disk>(alloc: Global, slots: &mut Slots<D>, set: &FlagSet) -> Res
     requires step { slots.old.step ≡ Begin }
     requires live { slots.old.journal.phase ≢ Failed }
     requires next { slots.old.generation + 1 < 2 ^ 64 }
-    requires limit { (4 ≤ set.now.limit) × (set.now.limit < 2 ^ 32) }
+    requires limit { (IMAGE_HEAD ≤ set.now.limit) × (set.now.limit < 2 ^ 32) }
     requires wide { slots.old.other.start + IMAGE_PLACE + set.now.limit < slots.old.other.stop }
     ensures taken { TakesStep D.Disk slots.old slots.new }
     ensures step { OnOk result (slots.new.step ≡ Close) × OnErr result (slots.new.step ≡ Begin) }
     ensures planned { OnOk result ((size : ℕ) → set.now.limit ≡ size / 2
         → IsPlannedFor slots.new size set.now) }
-    ensures begun { OnOk result (Begins (size_of set.now.flags) set.now.limit slots.old slots.new) }
+    ensures begun { OnOk result
+        (StartsImage (size_of set.now.flags) set.now.limit slots.old slots.new) }
     ensures err { OnErr result (slots.new ≡ slots.old) }
 {
     // What a crash leaves now is known only where it is asked.

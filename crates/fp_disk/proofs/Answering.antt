@@ -6,11 +6,11 @@ use Rattle.fp_disk.specs.declared.call.Progress.{Progress}
 use Rattle.fp_disk.specs.declared.call.Progress.TheVariants.{Whole, Half, Nothing}
 use Rattle.fp_disk.specs.declared.call.Request.{Request}
 use Rattle.fp_disk.specs.declared.call.Request.TheVariants.{Write, Sync}
-use Rattle.fp_disk.specs.Outcomes.{PendingState, IsOutcome, Elapses, Answers, all_synced, with_write, Written, ChangesWithin}
+use Rattle.fp_disk.specs.Outcomes.{PendingState, IsOutcome, Elapses, CountsFaults, all_synced, with_write, Written, ChangesWithin}
 use Rattle.fp_disk.specs.Memory.{State, Memory, state, after_request, at_first, unsynced_of, LeftSince, after_failed_call, after_unrecorded_call, kind_of, Answered, BringsBytes, HoldsBytes}
 use Rattle.fp_disk.specs.MemoryLaws.{replay_more, holds_more, elapses_call, synced_fits, written_changes}
 
-pub answers_of : {T : Type 0} (old new : Memory) (request : Request) (p : Progress) (result : Result T DiskFault) → Answered old new request p result → Answers old.faults new.faults result
+pub answers_of : {T : Type 0} (old new : Memory) (request : Request) (p : Progress) (result : Result T DiskFault) → Answered old new request p result → CountsFaults old.faults new.faults result
 answers_of old new request p (Ok x) a = record { well = λ ok. ap (λ (m : Memory). m.faults) (a.ok.1); ill = λ err. absurd (cc err) }
 answers_of old new request p (Err e) a = record {
   well = λ ok. absurd (cc ok);

@@ -70,7 +70,7 @@ pub record Elapses (before now : ℕ) (past since : ℕ → List ℕ → Type 0)
   pub keeps : (t : ℕ) (c : List ℕ) → t ≤ before → past t c → since t c
 
 -- a fault is answered exactly where the count of failures rose
-pub record Answers {T : Type 0} (before now : ℕ) (result : Result T DiskFault) : Type 0 where
+pub record CountsFaults {T : Type 0} (before now : ℕ) (result : Result T DiskFault) : Type 0 where
   pub well : IsOk result → now ≡ before
   pub ill : IsErr result → before < now
 

@@ -2,7 +2,7 @@
 
 ghost use Rattle.std.specs.Prelude.{◌≡◌, ◌↔◌, ◌≤◌, ◌+◌, ◌⊎◌, [], ◌∷◌, ◌++◌, length, slice_range};
 ghost use Rattle.std.specs.Prelude.{IfOk, OnOk, IsErr};
-ghost use Rattle.fp_disk.specs.Outcomes.{Answers, ChangesWithin, Elapses, IsOutcome, Written};
+ghost use Rattle.fp_disk.specs.Outcomes.{CountsFaults, ChangesWithin, Elapses, IsOutcome, Written};
 ghost use Rattle.fp_disk.specs.Outcomes.{all_synced, with_write};
 
 use crate::disk::{Disk, DiskFault};
@@ -74,7 +74,7 @@ impl<D: Disk> Checked<D> {
             (D.crash_states_since self.old.disk)
             (D.crash_states_since self.new.disk) (IsOutcome (D.unsynced self.old.disk)) }
         ensures called { D.calls self.new.disk ≡ D.calls self.old.disk ++ CallKind.Length ∷ [] }
-        ensures cause { Answers (D.faults self.old.disk) (D.faults self.new.disk) result }
+        ensures cause { CountsFaults (D.faults self.old.disk) (D.faults self.new.disk) result }
     {
         self.disk.len()
     }
@@ -93,7 +93,7 @@ impl<D: Disk> Checked<D> {
             (D.crash_states_since self.old.disk)
             (D.crash_states_since self.new.disk) (IsOutcome (D.unsynced self.old.disk)) }
         ensures called { D.calls self.new.disk ≡ D.calls self.old.disk ++ CallKind.Read ∷ [] }
-        ensures cause { Answers (D.faults self.old.disk) (D.faults self.new.disk) result }
+        ensures cause { CountsFaults (D.faults self.old.disk) (D.faults self.new.disk) result }
     {
         self.disk.read_at(at, into)
     }
@@ -120,7 +120,7 @@ impl<D: Disk> Checked<D> {
             (D.crash_states_since self.new.disk)
             (IsOutcome (with_write (D.unsynced self.old.disk) at (length from.now))) }
         ensures called { D.calls self.new.disk ≡ D.calls self.old.disk ++ CallKind.Write ∷ [] }
-        ensures cause { Answers (D.faults self.old.disk) (D.faults self.new.disk) result }
+        ensures cause { CountsFaults (D.faults self.old.disk) (D.faults self.new.disk) result }
     {
         self.disk.write_at(at, from)
     }
@@ -141,7 +141,7 @@ impl<D: Disk> Checked<D> {
             (D.crash_states_since self.old.disk)
             (D.crash_states_since self.new.disk) (IsOutcome (D.unsynced self.old.disk)) }
         ensures called { D.calls self.new.disk ≡ D.calls self.old.disk ++ CallKind.Sync ∷ [] }
-        ensures cause { Answers (D.faults self.old.disk) (D.faults self.new.disk) result }
+        ensures cause { CountsFaults (D.faults self.old.disk) (D.faults self.new.disk) result }
     {
         self.disk.sync()?;
         Ok(Synced {

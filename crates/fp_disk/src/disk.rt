@@ -4,7 +4,7 @@ ghost use Rattle.std.specs.Prelude.{◌≡◌, ◌↔◌, ◌⊎◌, ◌≤◌, 
 ghost use Rattle.std.specs.Prelude.{slice_range, IfOk, OnOk, IsErr};
 ghost use Rattle.fp_disk.specs.declared.history.CallKind.{CallKind};
 ghost use Rattle.fp_disk.specs.Outcomes.{PendingState, IsOutcome, Written, ChangesWithin};
-ghost use Rattle.fp_disk.specs.Outcomes.{all_synced, with_write, Elapses, Answers};
+ghost use Rattle.fp_disk.specs.Outcomes.{all_synced, with_write, Elapses, CountsFaults};
 
 use crate::history::CallKind;
 
@@ -50,7 +50,7 @@ pub trait Disk {
             (crash_states_since self.new)
             (IsOutcome (unsynced self.old)) }
         ensures called { calls self.new ≡ calls self.old ++ CallKind.Length ∷ [] }
-        ensures cause { Answers (faults self.old) (faults self.new) result };
+        ensures cause { CountsFaults (faults self.old) (faults self.new) result };
 
     /// Reads the bytes from a place on.
     fn read_at(&mut self, at: u64, into: &mut [u8]) -> Result<(), DiskFault>
@@ -65,7 +65,7 @@ pub trait Disk {
             (crash_states_since self.new)
             (IsOutcome (unsynced self.old)) }
         ensures called { calls self.new ≡ calls self.old ++ CallKind.Read ∷ [] }
-        ensures cause { Answers (faults self.old) (faults self.new) result };
+        ensures cause { CountsFaults (faults self.old) (faults self.new) result };
 
     /// Puts these bytes at a place, over what is there and past the end. A gap reads as zeros.
     fn write_at(&mut self, at: u64, from: &[u8]) -> Result<(), DiskFault>
@@ -83,7 +83,7 @@ pub trait Disk {
             (crash_states_since self.new)
             (IsOutcome (with_write (unsynced self.old) at (length from.now))) }
         ensures called { calls self.new ≡ calls self.old ++ CallKind.Write ∷ [] }
-        ensures cause { Answers (faults self.old) (faults self.new) result };
+        ensures cause { CountsFaults (faults self.old) (faults self.new) result };
 
     /// After it, a crash leaves what a read gives.
     fn sync(&mut self) -> Result<(), DiskFault>
@@ -97,7 +97,7 @@ pub trait Disk {
             (crash_states_since self.new)
             (IsOutcome (unsynced self.old)) }
         ensures called { calls self.new ≡ calls self.old ++ CallKind.Sync ∷ [] }
-        ensures cause { Answers (faults self.old) (faults self.new) result };
+        ensures cause { CountsFaults (faults self.old) (faults self.new) result };
 
     /// The bytes are an outcome, and so each is a number from 0 to 255.
     ghost present: { (d : Self) → honest d → IsOutcome (unsynced d) (bytes d) };

@@ -1,7 +1,7 @@
 //! A disk over a file.
 
 ghost use Rattle.std.specs.Prelude.{◌≡◌, [], ◌∷◌, ◌++◌, IfOk};
-ghost use Rattle.fp_disk.specs.Outcomes.{Answers, all_synced};
+ghost use Rattle.fp_disk.specs.Outcomes.{CountsFaults, all_synced};
 
 use crate::disk::{Disk, DiskFault};
 use crate::history::{CallKind, History};
@@ -69,7 +69,7 @@ fn open_as<R: Files>(rt: &R, path: &str, may_create: bool) -> Result<FileDisk<R:
 // The answer of the system to such a call, noted.
 fn noted<T>(history: &mut History, kind: CallKind, done: io::Result<T>) -> Result<T, DiskFault>
     ensures made { history.new.made ≡ history.old.made ++ kind ∷ [] }
-    ensures cause { Answers history.old.faults history.new.faults result }
+    ensures cause { CountsFaults history.old.faults history.new.faults result }
 {
     history.add(kind);
     match done {

@@ -7,6 +7,7 @@ use Rattle.fp_base.specs.Bytes.{bytes_cmp}
 use Rattle.fp_edit.specs.declared.edit.TheConstants.{REVISIONS_END}
 use Rattle.fp_edit.specs.declared.flag_set.TheConstants.{MOST_FLAGS}
 use Rattle.fp_edit.specs.declared.flags.Flag.{Flag}
+use Rattle.fp_edit.specs.declared.flags.TheConstants.{FLAG_FRAME, IMAGE_HEAD}
 
 -- from the bytes of a key to its flag, whose definition is seen as its canonical text
 abbrev pub Flags : Type 0
@@ -14,7 +15,7 @@ Flags = map.FinMap bytes_cmp Flag
 
 -- what one flag takes in an image
 abbrev pub cost : List ℕ × Flag → ℕ
-cost e = 14 + length e.0 + length e.1.definition
+cost e = FLAG_FRAME + length e.0 + length e.1.definition
 
 abbrev pub total_cost : List (List ℕ × Flag) → ℕ
 total_cost [] = 0
@@ -22,7 +23,7 @@ total_cost (e ∷ es) = cost e + total_cost es
 
 -- what a set takes in an image
 abbrev pub size : Flags → ℕ
-size flags = 4 + total_cost (map.entries flags)
+size flags = IMAGE_HEAD + total_cost (map.entries flags)
 
 -- what is found at a key takes nothing where nothing is found
 abbrev pub cost_found : List ℕ → Option Flag → ℕ
@@ -38,11 +39,11 @@ abbrev pub IsChangedBy : ℕ → Flag → Type 0
 IsChangedBy revision f = (1 ≤ f.changed) × (f.changed ≤ revision)
 
 -- what stays true of a set and of the size that is kept of it
-pub record IsKept (flags : Flags) (revision limit kept : ℕ) : Type 0 where
+pub record IsTallied (flags : Flags) (revision limit kept : ℕ) : Type 0 where
   pub size : kept ≡ size flags
   pub few : map.len flags ≤ MOST_FLAGS
   pub numbered : revision < REVISIONS_END
-  pub within : 4 ≤ limit → kept ≤ limit
+  pub within : IMAGE_HEAD ≤ limit → kept ≤ limit
   pub changed : (k : List ℕ) (f : Flag) → map.get flags k ≡ Some f → IsChangedBy revision f
 
 -- a set at a revision, under a limit of its size

@@ -12,10 +12,13 @@ ghost use Rattle.fp_edit.specs.Entries.{entries_of};
 ghost use Rattle.fp_edit.specs.Edits.{put, delete, proposal_of};
 ghost use Rattle.fp_edit.specs.Flags.{IsChangedBy, cost_found, size as size_of};
 ghost use Rattle.fp_edit.specs.declared.flags.Flag.{Flag};
+ghost use Rattle.fp_edit.specs.declared.flags.TheConstants.{IMAGE_HEAD};
 
 use crate::document::document_of;
 use crate::edit::{Edit, EditFault, Expect, REVISIONS_END};
-use crate::flags::{Flag, copy_of, cost_at, cost_of, count, count_at, find, store, take};
+use crate::flags::{
+    Flag, IMAGE_HEAD, copy_of, cost_at, cost_of, count, count_at, find, store, take,
+};
 use fp_definition::{Definition, FlagKey};
 use std::alloc::{AllocError, Global};
 use std::collections::BTreeMap;
@@ -36,7 +39,7 @@ pub struct FlagSet {
 }
 
 impl Model for FlagSet {
-    ghost use Rattle.fp_edit.specs.Flags.{State, coded_state, IsKept, size as size_of};
+    ghost use Rattle.fp_edit.specs.Flags.{State, coded_state, IsTallied, size as size_of};
     ghost use Rattle.fp_edit.specs.Entries.{flags_of};
 
     ghost Value = { State };
@@ -50,7 +53,7 @@ impl Model for FlagSet {
     ghost use Rattle.fp_definition.specs.Key.{flag_cmp};
 
     ghost invariant = { λ a. IsOrdered flag_cmp a.flags
-        × IsKept (flags_of a.flags.entries) a.revision a.limit a.size };
+        × IsTallied (flags_of a.flags.entries) a.revision a.limit a.size };
 }
 
 impl FlagSet {
@@ -72,7 +75,7 @@ impl FlagSet {
             flags: BTreeMap::new(alloc),
             revision,
             limit,
-            size: 4,
+            size: IMAGE_HEAD,
             alloc,
         }
     }
@@ -95,7 +98,7 @@ impl FlagSet {
     /// The bytes of the image. It is kept as edits come, and costs nothing to ask for.
     pub fn size(&self) -> u64
         ensures size { result ≡ size_of self.now.flags }
-        ensures within { 4 ≤ self.now.limit → result ≤ self.now.limit }
+        ensures within { IMAGE_HEAD ≤ self.now.limit → result ≤ self.now.limit }
     {
         self.size
     }
@@ -108,6 +111,7 @@ impl FlagSet {
         count(&self.flags)
     }
 
+    /// Whether there is no flag.
     pub fn is_empty(&self) -> bool
         ensures { IsTrue result ↔ (map.len self.now.flags ≡ 0) }
     {

@@ -7,10 +7,18 @@ ghost use Rattle.std.specs.FinMap as map;
 ghost use Rattle.fp_definition.specs.Key.{key_bytes, flag_cmp};
 ghost use Rattle.fp_edit.specs.Entries.{flags_of};
 ghost use Rattle.fp_edit.specs.Flags.{cost, cost_found, one_found};
+ghost use Rattle.fp_edit.specs.declared.flags.TheConstants.{FLAG_FRAME};
 
 use fp_definition::{Definition, FlagKey};
 use std::alloc::{AllocError, AllocFailed, Global};
 use std::collections::BTreeMap;
+
+/// How many bytes an image takes beside its flags: those of their number.
+pub const IMAGE_HEAD: u64 = 4;
+
+/// How many bytes of an image a flag takes beside its key and its definition: those of their
+/// lengths, and of the revision that changed it last.
+pub const FLAG_FRAME: u128 = 14;
 
 /// A flag of a set.
 #[derive(Drop)]
@@ -62,10 +70,10 @@ pub(crate) fn count(flags: &BTreeMap<FlagKey, Flag>) -> usize
 
 /// The bytes of an image that a key and its definition take.
 pub(crate) fn cost_of(key: &FlagKey, definition: &Definition) -> u128
-    ensures cost { result ≡ 14 + length (key_bytes key.now) + length definition.now }
+    ensures cost { result ≡ FLAG_FRAME + length (key_bytes key.now) + length definition.now }
     ensures small { result < 2 ^ 66 }
 {
-    14 + key.as_str().len() as u128 + definition.text().len() as u128
+    FLAG_FRAME + key.as_str().len() as u128 + definition.text().len() as u128
 }
 
 /// The bytes of an image that a key's flag takes, 0 without one.

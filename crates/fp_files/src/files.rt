@@ -2,7 +2,7 @@
 
 ghost use Rattle.std.specs.Prelude.{◌≡◌, ◌⊎◌, [], ◌∷◌, ◌++◌, List, ℕ, Option, Some, None, IfOk};
 ghost use Rattle.std.specs.Prelude.{OnOk, OnErr};
-ghost use Rattle.fp_disk.specs.Outcomes.{Answers};
+ghost use Rattle.fp_disk.specs.Outcomes.{CountsFaults};
 ghost use Rattle.fp_files.specs.Openings.{KeepsAll, KeepsOthers};
 
 use fp_disk::{Disk, DiskFault};
@@ -31,7 +31,7 @@ pub trait DiskFiles {
         ensures others { KeepsOthers at self.old self.new path.now }
         ensures failed { OnErr result (KeepsAll at self.old self.new) }
         ensures asked { asked self.new ≡ asked self.old ++ path.now ∷ [] }
-        ensures cause { Answers (faults self.old) (faults self.new) result };
+        ensures cause { CountsFaults (faults self.old) (faults self.new) result };
 
     /// Lends the disk at this path. It is a fault where there is none.
     fn open(&mut self, path: &str) -> Result<Self::Disk, DiskFault>
@@ -40,7 +40,7 @@ pub trait DiskFiles {
         ensures others { KeepsOthers at self.old self.new path.now }
         ensures failed { OnErr result (KeepsAll at self.old self.new) }
         ensures asked { asked self.new ≡ asked self.old ++ path.now ∷ [] }
-        ensures cause { Answers (faults self.old) (faults self.new) result };
+        ensures cause { CountsFaults (faults self.old) (faults self.new) result };
 
     /// Takes back the disk of this path.
     fn close(&mut self, path: &str, disk: Self::Disk)

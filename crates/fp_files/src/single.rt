@@ -2,7 +2,7 @@
 
 ghost use Rattle.std.specs.Prelude.{◌≡◌, Some, None, [], ◌∷◌, ◌++◌, IfOk};
 ghost use Rattle.std.specs.Prelude.{OnOk, OnErr, string_bytes};
-ghost use Rattle.fp_disk.specs.Outcomes.{Answers};
+ghost use Rattle.fp_disk.specs.Outcomes.{CountsFaults};
 ghost use Rattle.fp_files.specs.Openings.{disk_at};
 
 use crate::files::DiskFiles;
@@ -64,7 +64,7 @@ impl<D: Drop> SingleFile<D> {
         ensures path { self.new.path ≡ self.old.path }
         ensures failed { OnErr result (self.new.disk ≡ self.old.disk) }
         ensures asked { self.new.openings.asked ≡ self.old.openings.asked ++ path.now ∷ [] }
-        ensures cause { Answers self.old.openings.faults self.new.openings.faults result }
+        ensures cause { CountsFaults self.old.openings.faults self.new.openings.faults result }
     {
         self.log.ask(path);
         if path != self.path.as_str() {

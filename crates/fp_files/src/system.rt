@@ -1,7 +1,7 @@
 //! The files of a runtime.
 
 ghost use Rattle.std.specs.Prelude.{◌≡◌, Some, [], ◌∷◌, ◌++◌, IfOk};
-ghost use Rattle.fp_disk.specs.Outcomes.{Answers};
+ghost use Rattle.fp_disk.specs.Outcomes.{CountsFaults};
 
 use crate::files::DiskFiles;
 use crate::openings::OpeningLog;
@@ -40,7 +40,7 @@ impl<R: Drop> SystemFiles<R> {
     fn noted<D: Drop>(&mut self, path: &str, opened: Result<D, DiskFault>) -> Result<D, DiskFault>
         ensures same { IfOk result (λ d. opened ≡ Ok d) }
         ensures asked { self.new.asked ≡ self.old.asked ++ path.now ∷ [] }
-        ensures cause { Answers self.old.faults self.new.faults result }
+        ensures cause { CountsFaults self.old.faults self.new.faults result }
     {
         self.log.ask(path);
         match opened {

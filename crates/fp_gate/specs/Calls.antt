@@ -3,7 +3,7 @@ use Rattle.std.specs.Prelude.{◌≡◌, ◌⊎◌, ℕ, List, [], ◌∷◌, �
 use Rattle.fp_disk.specs.Checked.{Named}
 use Rattle.fp_disk.specs.Crashes.{SameHonesty}
 use Rattle.fp_disk.specs.History.{Makes}
-use Rattle.fp_disk.specs.Outcomes.{Answers, ChangesWithin, Elapses, IsOutcome, Written, with_write}
+use Rattle.fp_disk.specs.Outcomes.{CountsFaults, ChangesWithin, Elapses, IsOutcome, Written, with_write}
 use Rattle.fp_disk.specs.declared.disk.Disk.{Ghosts}
 use Rattle.fp_disk.specs.declared.disk.DiskFault.{DiskFault}
 use Rattle.fp_disk.specs.declared.history.CallKind.{CallKind}
@@ -16,7 +16,7 @@ pub record MakesCalls {D T : Type 0} (disk : Ghosts D) (kinds : List CallKind)
   pub name : new.name ≡ old.name
   pub honest : SameHonesty disk old.disk new.disk
   pub called : Makes kinds (disk.calls old.disk) (disk.calls new.disk) result
-  pub cause : Answers (disk.faults old.disk) (disk.faults new.disk) result
+  pub cause : CountsFaults (disk.faults old.disk) (disk.faults new.disk) result
 
 -- A call writes this byte at a place, or fails and did so or nothing.
 -- A crash may show it from then on
@@ -37,4 +37,4 @@ pub record WritesByte {D T : Type 0} (disk : Ghosts D) (old new : Named D) (at b
       Elapses (disk.moment old.disk) (disk.moment new.disk) (disk.crash_states_since old.disk)
       (disk.crash_states_since new.disk) (IsOutcome (with_write (disk.unsynced old.disk) at 1))
   pub called : disk.calls new.disk ≡ disk.calls old.disk ++ Write ∷ []
-  pub cause : Answers (disk.faults old.disk) (disk.faults new.disk) result
+  pub cause : CountsFaults (disk.faults old.disk) (disk.faults new.disk) result

@@ -24,7 +24,7 @@ use Rattle.fp_slots.specs.declared.slots.Step.{Step}
 use Rattle.fp_slots.specs.declared.slots.Step.TheVariants.{Begin, Close, SyncOpen}
 use Rattle.fp_compaction.specs.Batches.{tail_of}
 use Rattle.fp_compaction.specs.Sets.{IsKeptIn, IsPlannedFor, LeavesSet}
-use Rattle.fp_compaction.specs.Steps.{Begins, BreaksOff, HasPlace, MayStep, Stays, TakesStep, Turns, next_left, next_step}
+use Rattle.fp_compaction.specs.Steps.{StartsImage, BreaksOff, HasImageRoom, MayStep, Stays, TakesStep, Turns, next_left, next_step}
 use Rattle.fp_group_commit.specs.Calls.{Breaks, Compacts, PlansImage}
 use Rattle.fp_group_commit.specs.Store.{MayCompact, StoreState, Leaves, sealed_set, coming}
 use Rattle.fp_group_commit.specs.Sound.{IsFlight, IsPlan, IsSound}
@@ -81,7 +81,7 @@ module _ {D : Type 0} (disk : Ghosts D) {s : StoreState D} {set : State} {first 
     still = λ tail way. subst (λ (p : Phase). IsOnWay p) (goes s.slots.journal.phase s.step well i.going ∙ may.still tail) way;
   }
 
-  pub has_place : set ≡ sealed_set s → HasPlace s.slots set
+  pub has_place : set ≡ sealed_set s → HasImageRoom s.slots set
   has_place is =
       let limit : set.limit ≡ s.store.start.limit = ap (λ (t : State). t.limit) is ∙ limit-after_all s.store.start s.sealed in
       let half = i.placed.half in let least = i.placed.allowed.least in let most = i.placed.allowed.greatest in let wide = wide_of i.size (other_side i.placed.side) s.slots.other i.placed.its in
@@ -140,7 +140,7 @@ module _ {D : Type 0} (disk : Ghosts D) {s : StoreState D} {set : State} {first 
       }
 
     -- as it begins
-    module _ (is : set ≡ sealed_set s) (b : Begins (flags.size set.flags) set.limit s.slots t) (next : t.step ≡ Close) (planned : (size : ℕ) → set.limit ≡ size / 2 → IsPlannedFor t size set) (well : s.slots.journal.phase ≢ Failed) where
+    module _ (is : set ≡ sealed_set s) (b : StartsImage (flags.size set.flags) set.limit s.slots t) (next : t.step ≡ Close) (planned : (size : ℕ) → set.limit ≡ size / 2 → IsPlannedFor t size set) (well : s.slots.journal.phase ≢ Failed) where
       half : set.limit ≡ i.size / 2
       half = ap (λ (x : State). x.limit) is ∙ limit-after_all s.store.start s.sealed ∙ i.placed.half
 
@@ -209,7 +209,7 @@ module _ {D : Type 0} (disk : Ghosts D) {s : StoreState D} {set : State} {first 
 
   -- ---- a step was taken, whichever it was
   module _ (t : SlotsState D) (taken_step : TakesStep disk s.slots t) (is : s.slots.step ≡ Begin → set ≡ sealed_set s) (may : MayCompact s) (well : s.slots.journal.phase ≢ Failed) (order : t.step ≡ next_step s.slots.step s.slots.left)
-      (begun : s.slots.step ≡ Begin → Begins (flags.size set.flags) set.limit s.slots t) (planned : s.slots.step ≡ Begin → (size : ℕ) → set.limit ≡ size / 2 → IsPlannedFor t size set)
+      (begun : s.slots.step ≡ Begin → StartsImage (flags.size set.flags) set.limit s.slots t) (planned : s.slots.step ≡ Begin → (size : ℕ) → set.limit ≡ size / 2 → IsPlannedFor t size set)
       (stays : s.slots.step ≢ Begin → s.slots.step ≢ SyncOpen → Stays s.slots t) (turned : s.slots.step ≡ SyncOpen → Turns s.slots t) where
     abbrev pub Then : StoreState D
     Then = Moved disk.honest disk.unsynced i s.step t

@@ -1,5 +1,6 @@
 -- A store from call to call.
 use Rattle.std.proofs.Common.{◌≡◌, ◌≢◌, ◌⊎◌, ◌<◌, ◌≤◌, ◌+◌, ◌-◌, ◌/◌, ◌^◌, ℕ, Bool, true, false, List, [], ◌∷◌, ◌++◌, length, refl, sym, ap, subst, ◌∙◌, inl, inr, ⊎_elim, if◌then◌else◌, arith, append_assoc, length-append}
+use Rattle.std.specs.Prelude.{Err}
 use Rattle.std.proofs.lemmas.List.{append-nil}
 use Rattle.fp_disk.specs.Outcomes.{PendingState, IsOutcome, LeavesOnly}
 use Rattle.fp_disk.specs.Moments.{leaves_still}
@@ -27,7 +28,7 @@ use Rattle.fp_slots.specs.declared.slots.Step.TheVariants.{Begin, Close, SyncClo
 use Rattle.fp_compaction.specs.Batches.{HasRoomFor, LeadsTo, LeavesNext, LeavesSealed, tail_of}
 use Rattle.fp_compaction.specs.Sets.{GoesOnKept, IsKeptIn, IsPlaced, IsPlannedFor, IsTaken, LeavesSet}
 use Rattle.fp_compaction.specs.Steps.{IsLate, LeavesNow, ReadsNext, next_step}
-use Rattle.fp_group_commit.specs.Calls.{Breaks, SameRoom}
+use Rattle.fp_group_commit.specs.Calls.{Breaks, CallsDisk, SameRoom}
 use Rattle.fp_group_commit.specs.Store.{IsAtRest, readable_set, reached_at, StoreState, Leaves, sealed_set, coming}
 use Rattle.fp_group_commit.specs.Sound.{IsFlight, IsSound}
 
@@ -197,6 +198,9 @@ module _ {D : Type 0} (disk : Ghosts D) {s : StoreState D} {set : State} {first 
   pub still : ((d : D) (c : List ℕ) → disk.honest d → disk.crash_states_since d (disk.moment d) c → IsOutcome (disk.unsynced d) c) → LeavesNow disk s.slots → disk.honest s.slots.journal.disk
       → LeavesOnly disk.moment disk.crash_states_since s.slots.journal.disk s.slots.journal.disk (Leaves s)
   still only_now leaves h = leaves_still disk.moment disk.crash_states_since s.slots.journal.disk (Leaves s) (λ c left. now leaves h c (only_now s.slots.journal.disk c h left))
+
+  pub calls_none : {T E : Type 0} {kinds : List CallKind} {e : E} → ((d : D) (c : List ℕ) → disk.honest d → disk.crash_states_since d (disk.moment d) c → IsOutcome (disk.unsynced d) c) → LeavesNow disk s.slots → CallsDisk {T = T} disk kinds s s (Leaves s) (Err e)
+  calls_none {kinds = kinds} only_now leaves = record { called = makes_none kinds (disk.calls s.slots.journal.disk); any_moment = λ h. still only_now leaves h; exit = now leaves; honest = (λ h. h, λ h. h) }
 
 -- what is left at the end is left at some moment
 pub exit_has : {D : Type 0} (disk : Ghosts D) → ((d : D) (t : ℕ) (c : List ℕ) → disk.honest d → t ≤ disk.moment d → IsOutcome (disk.unsynced d) c → disk.crash_states_since d t c) → (old new : D) (P Q : List ℕ → Type 0) → ((c : List ℕ) → P c → Q c) → (disk.honest new → disk.honest old)

@@ -1,5 +1,10 @@
 -- What a call of a store changes, and why it wasn't done.
-use Rattle.std.specs.Prelude.{◌≡◌, ◌≢◌, ◌<◌, ◌≤◌, ◌+◌, ◌-◌, ◌*◌, ◌^◌, ℕ, true, length}
+use Rattle.std.specs.Prelude.{◌≡◌, ◌≢◌, ◌<◌, ◌≤◌, ◌+◌, ◌-◌, ◌*◌, ◌^◌, ℕ, true, List, length}
+use Rattle.std.specs.Prelude.{Result, IfErr, OnOk, OnErr}
+use Rattle.fp_disk.specs.Crashes.{AtAnyMoment, EachCrash, SameHonesty}
+use Rattle.fp_disk.specs.History.{Makes}
+use Rattle.fp_disk.specs.declared.disk.Disk.{Ghosts}
+use Rattle.fp_disk.specs.declared.history.CallKind.{CallKind}
 use Rattle.fp_edit.specs.Flags.{State, size}
 use Rattle.fp_compaction.specs.Batches.{tail_of}
 use Rattle.fp_journal.specs.State.{room}
@@ -12,9 +17,20 @@ use Rattle.fp_journal.specs.declared.journal.Phase.TheVariants.{Failed}
 use Rattle.fp_journal.specs.declared.framed.TheConstants.{BODY_PLACE}
 use Rattle.fp_record.specs.Group.{Group}
 use Rattle.fp_group_commit.specs.Changes.{GoesOn, batch_len}
-use Rattle.fp_group_commit.specs.Store.{StoreState, sealed_set}
+use Rattle.fp_group_commit.specs.Store.{Leaves, StoreState, sealed_set}
 use Rattle.fp_group_commit.specs.declared.fault.StoreFault.{StoreFault}
 use Rattle.fp_group_commit.specs.declared.fault.StoreFault.TheVariants as fault
+
+-- These calls of the disk are made, or some first of them where the call fails. A crash at any
+-- moment of it leaves what has P, and one behind it what the store leaves now; and the disk keeps
+-- its word where it did before
+pub record CallsDisk {D T E : Type 0} (disk : Ghosts D) (calls : List CallKind)
+    (old new : StoreState D) (P : List ℕ → Type 0) (result : Result T E) : Type 0 where
+  pub called : Makes calls (disk.calls old.slots.journal.disk)
+      (disk.calls new.slots.journal.disk) result
+  pub any_moment : AtAnyMoment disk old.slots.journal.disk new.slots.journal.disk P
+  pub exit : EachCrash disk new.slots.journal.disk (Leaves new)
+  pub honest : SameHonesty disk old.slots.journal.disk new.slots.journal.disk
 
 abbrev pub SameStore : {D : Type 0} → StoreState D → StoreState D → Type 0
 SameStore old new = (new.store ≡ old.store) × (new.sealed ≡ old.sealed) × (new.staged ≡ old.staged)
@@ -69,6 +85,16 @@ FailsBy faults old new fault.Device = Breaks faults old new
 FailsBy faults old new fault.Failed = (old.slots.journal.phase ≡ Failed) × (new ≡ old)
 FailsBy faults old new fault.Memory = ⊥
 FailsBy faults old new fault.Stranger = ⊥
+
+-- The batch on its way goes on to this phase, or the call wasn't done and the store's phase is as
+-- before; either way nothing is sealed, and the room and a compaction stay
+pub record MovesOn {D T : Type 0} (faults : D → ℕ) (to : Phase) (old new : StoreState D)
+    (result : Result T StoreFault) : Type 0 where
+  pub same : SameStore old new
+  pub ok : OnOk result (MovesTo faults to old new)
+  pub phase : OnErr result (new.step ≡ old.step)
+  pub fault : IfErr result (FailsBy faults old new)
+  pub same_room : SameRoom old new
 
 -- why a batch wasn't staged
 abbrev pub RefusesBy : {D : Type 0} → (D → ℕ) → StoreState D → StoreState D →

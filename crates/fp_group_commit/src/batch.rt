@@ -1,13 +1,11 @@
 //! A batch on its way, by four calls with one call of the disk each.
 
-ghost use Rattle.fp_disk.specs.Crashes.{AtAnyMoment, EachCrash, SameHonesty};
 ghost use Rattle.std.specs.Prelude.{◌≡◌, ◌+◌, ◌++◌, [], ◌∷◌, IfOk, IfErr, OnOk, OnErr};
-ghost use Rattle.fp_disk.specs.History.{Makes};
 ghost use Rattle.fp_disk.specs.declared.history.CallKind.TheVariants.{Sync, Write};
 ghost use Rattle.fp_journal.specs.declared.journal.Phase.TheVariants.{Idle, Staged, BodySynced};
 ghost use Rattle.fp_journal.specs.declared.journal.Phase.TheVariants.{GateOpened};
-ghost use Rattle.fp_group_commit.specs.Calls.{FailsBy, MovesTo, RefusesBy, SameRoom, SameStore};
-ghost use Rattle.fp_group_commit.specs.Calls.{TakesRoom};
+ghost use Rattle.fp_group_commit.specs.Calls.{CallsDisk, FailsBy, MovesOn, MovesTo, RefusesBy};
+ghost use Rattle.fp_group_commit.specs.Calls.{SameRoom, SameStore, TakesRoom};
 ghost use Rattle.fp_group_commit.specs.Changes.{GoesOn, HasRoom};
 ghost use Rattle.fp_group_commit.specs.Store.{Leaves, sealed_set};
 
@@ -34,13 +32,7 @@ impl<D: Disk> Store<D> {
         ensures fault { IfErr result (λ e. RefusesBy D.faults self.old self.new draw e.0) }
         ensures given_back { IfErr result (λ e. e.1 ≡ draw) }
         ensures same_room { SameRoom self.old self.new }
-        ensures called { Makes (Write ∷ []) (D.calls self.old.slots.journal.disk)
-            (D.calls self.new.slots.journal.disk) result }
-        ensures any_moment { AtAnyMoment D.Disk self.old.slots.journal.disk
-            self.new.slots.journal.disk (Leaves self.old) }
-        ensures exit { EachCrash D.Disk self.new.slots.journal.disk (Leaves self.new) }
-        ensures honest { SameHonesty D.Disk self.old.slots.journal.disk
-            self.new.slots.journal.disk }
+        ensures disk { CallsDisk D.Disk (Write ∷ []) self.old self.new (Leaves self.old) result }
     {
         if let Phase::Failed = phase(&self.slots) {
             return Err((StoreFault::Failed, draw));
@@ -71,18 +63,8 @@ impl<D: Disk> Store<D> {
     /// Makes sure of the batch.
     pub fn sync_body(&mut self) -> Result<(), StoreFault>
         requires { self.old.step ≡ Staged }
-        ensures same { SameStore self.old self.new }
-        ensures ok { OnOk result (MovesTo D.faults BodySynced self.old self.new) }
-        ensures phase { OnErr result (self.new.step ≡ self.old.step) }
-        ensures fault { IfErr result (FailsBy D.faults self.old self.new) }
-        ensures same_room { SameRoom self.old self.new }
-        ensures called { Makes (Sync ∷ []) (D.calls self.old.slots.journal.disk)
-            (D.calls self.new.slots.journal.disk) result }
-        ensures any_moment { AtAnyMoment D.Disk self.old.slots.journal.disk
-            self.new.slots.journal.disk (Leaves self.old) }
-        ensures exit { EachCrash D.Disk self.new.slots.journal.disk (Leaves self.new) }
-        ensures honest { SameHonesty D.Disk self.old.slots.journal.disk
-            self.new.slots.journal.disk }
+        ensures moves { MovesOn D.faults BodySynced self.old self.new result }
+        ensures disk { CallsDisk D.Disk (Sync ∷ []) self.old self.new (Leaves self.old) result }
     {
         if let Phase::Failed = phase(&self.slots) {
             return Err(StoreFault::Failed);
@@ -97,19 +79,9 @@ impl<D: Disk> Store<D> {
     /// Opens the gate in front of the batch.
     pub fn open_gate(&mut self) -> Result<(), StoreFault>
         requires { self.old.step ≡ BodySynced }
-        ensures same { SameStore self.old self.new }
-        ensures ok { OnOk result (MovesTo D.faults GateOpened self.old self.new) }
-        ensures phase { OnErr result (self.new.step ≡ self.old.step) }
-        ensures fault { IfErr result (FailsBy D.faults self.old self.new) }
-        ensures same_room { SameRoom self.old self.new }
-        ensures called { Makes (Write ∷ []) (D.calls self.old.slots.journal.disk)
-            (D.calls self.new.slots.journal.disk) result }
+        ensures moves { MovesOn D.faults GateOpened self.old self.new result }
         // This call begins to open the gate, so what it leaves is said of the store after it.
-        ensures any_moment { AtAnyMoment D.Disk self.old.slots.journal.disk
-            self.new.slots.journal.disk (Leaves self.new) }
-        ensures exit { EachCrash D.Disk self.new.slots.journal.disk (Leaves self.new) }
-        ensures honest { SameHonesty D.Disk self.old.slots.journal.disk
-            self.new.slots.journal.disk }
+        ensures disk { CallsDisk D.Disk (Write ∷ []) self.old self.new (Leaves self.new) result }
     {
         if let Phase::Failed = phase(&self.slots) {
             return Err(StoreFault::Failed);
@@ -135,13 +107,7 @@ impl<D: Disk> Store<D> {
         ensures phase { OnErr result (self.new.step ≡ self.old.step) }
         ensures fault { IfErr result (FailsBy D.faults self.old self.new) }
         ensures takes_room { OnOk result (TakesRoom self.old self.new) }
-        ensures called { Makes (Sync ∷ []) (D.calls self.old.slots.journal.disk)
-            (D.calls self.new.slots.journal.disk) result }
-        ensures any_moment { AtAnyMoment D.Disk self.old.slots.journal.disk
-            self.new.slots.journal.disk (Leaves self.old) }
-        ensures exit { EachCrash D.Disk self.new.slots.journal.disk (Leaves self.new) }
-        ensures honest { SameHonesty D.Disk self.old.slots.journal.disk
-            self.new.slots.journal.disk }
+        ensures disk { CallsDisk D.Disk (Sync ∷ []) self.old self.new (Leaves self.old) result }
     {
         if let Phase::Failed = phase(&self.slots) {
             return Err(StoreFault::Failed);

@@ -1,14 +1,12 @@
 //! A step of a compaction, beside the batches.
 
-ghost use Rattle.fp_disk.specs.Crashes.{AtAnyMoment, EachCrash, SameHonesty};
-ghost use Rattle.fp_disk.specs.History.{Makes};
 ghost use Rattle.fp_edit.specs.Following.{Follows, changes_of};
 ghost use Rattle.fp_edit.specs.Log.{after_all};
 ghost use Rattle.fp_journal.specs.declared.journal.Phase.TheVariants.{Idle};
 ghost use Rattle.std.specs.Prelude.{◌≡◌, length, IfOk, IfErr, OnOk, OnErr};
 ghost use Rattle.fp_compaction.specs.Steps.{calls_of};
 ghost use Rattle.fp_slots.specs.declared.slots.Step.TheVariants.{Begin};
-ghost use Rattle.fp_group_commit.specs.Calls.{Compacts, SameStore, StopsBy};
+ghost use Rattle.fp_group_commit.specs.Calls.{CallsDisk, Compacts, SameStore, StopsBy};
 ghost use Rattle.fp_group_commit.specs.Store.{Leaves, MayCompact};
 
 use crate::fault::StoreFault;
@@ -57,13 +55,8 @@ impl<D: Disk> Store<D> {
         ensures ok { OnOk result (Compacts D.faults self.old self.new) }
         ensures next { IfOk result (λ next. next ≡ self.new.slots.step) }
         ensures fault { IfErr result (StopsBy D.faults self.old self.new) }
-        ensures called { Makes (calls_of self.old.slots.step self.old.slots.may_open)
-            (D.calls self.old.slots.journal.disk) (D.calls self.new.slots.journal.disk) result }
-        ensures any_moment { AtAnyMoment D.Disk self.old.slots.journal.disk
-            self.new.slots.journal.disk (Leaves self.old) }
-        ensures exit { EachCrash D.Disk self.new.slots.journal.disk (Leaves self.new) }
-        ensures honest { SameHonesty D.Disk self.old.slots.journal.disk
-            self.new.slots.journal.disk }
+        ensures disk { CallsDisk D.Disk (calls_of self.old.slots.step self.old.slots.may_open)
+            self.old self.new (Leaves self.old) result }
     {
         if let Phase::Failed = phase(&self.slots) {
             return Err(StoreFault::Failed);

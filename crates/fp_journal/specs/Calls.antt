@@ -1,7 +1,7 @@
 -- What each call of the disk that a journal makes keeps, however it ends.
 use Rattle.std.specs.Prelude.{ℕ, List, Result}
 use Rattle.fp_disk.specs.Crashes.{AtAnyMoment, SameHonesty}
-use Rattle.fp_disk.specs.Outcomes.{Answers}
+use Rattle.fp_disk.specs.Outcomes.{CountsFaults}
 use Rattle.fp_disk.specs.declared.disk.Disk.{Ghosts}
 use Rattle.fp_disk.specs.declared.disk.DiskFault.{DiskFault}
 use Rattle.fp_journal.specs.Moments.{KeepsSynced, KeepsRead}
@@ -16,4 +16,4 @@ pub record KeepsAround {D T : Type 0} (disk : Ghosts D) (old new : JournalState 
   pub apart : KeepsSynced disk old.disk new.disk Out
   pub beside : KeepsRead disk old.disk new.disk Out
   pub honest : SameHonesty disk old.disk new.disk
-  pub cause : Answers (disk.faults old.disk) (disk.faults new.disk) result
+  pub cause : CountsFaults (disk.faults old.disk) (disk.faults new.disk) result

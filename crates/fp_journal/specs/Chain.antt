@@ -3,6 +3,7 @@ use Rattle.std.specs.Prelude.{◌≢◌, ◌<◌, ◌+◌, ◌-◌, ℕ, List, [
 use Rattle.std.specs.Int.{w32, to_be_bytes}
 use Rattle.fp_journal.specs.Holds.{Holds}
 use Rattle.fp_gate.specs.declared.gate.TheConstants.{OPEN}
+use Rattle.fp_journal.specs.declared.framed.TheConstants.{LENGTH_FIELD}
 
 -- a body behind its length
 abbrev pub with_length : List ℕ → List ℕ
@@ -14,7 +15,7 @@ with_gate body = with_length body ++ 0 ∷ []
 
 -- the body in such bytes
 abbrev pub body_of : List ℕ → List ℕ
-body_of bytes = slice_range bytes 4 (length bytes - 1)
+body_of bytes = slice_range bytes LENGTH_FIELD (length bytes - 1)
 
 -- each body behind its length and an open gate
 abbrev pub spell : List (List ℕ) → List ℕ

@@ -7,8 +7,11 @@ ghost use Rattle.fp_journal.specs.declared.framed.TheConstants.{FRAME};
 use std::alloc::{AllocError, Global};
 use std::marker::Model;
 
-/// How far behind its gate's place a body begins: behind the gate and four bytes of its length.
-pub const BODY_PLACE: u64 = 5;
+/// How many bytes the length of a body takes.
+pub const LENGTH_FIELD: u64 = 4;
+
+/// How far behind its gate's place a body begins: behind the gate and its length.
+pub const BODY_PLACE: u64 = 1 + LENGTH_FIELD;
 
 /// What a body takes of a slot beside its own bytes: its gate, its length, and the closed gate
 /// behind it.

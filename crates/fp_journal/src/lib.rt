@@ -13,7 +13,7 @@ mod text;
 mod window;
 
 pub use chain::{BodyFault, ChainFault, Reader, read_chain};
-pub use framed::{BODY_PLACE, FRAME, Framed};
+pub use framed::{BODY_PLACE, FRAME, Framed, LENGTH_FIELD};
 pub use journal::{Journal, Phase};
 pub use opening::resume;
 pub use pieces::{BytesFault, PIECE, read_bytes, read_first};

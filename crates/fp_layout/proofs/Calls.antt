@@ -3,7 +3,7 @@ use Rattle.std.proofs.Common.{◌≡◌, inl, inr, false, true, ℕ, ◌<◌, Li
 use Rattle.std.specs.Prelude.{Result, Ok, Err, OnOk}
 use Rattle.std.proofs.lemmas.List.{append-nil}
 use Rattle.fp_disk.specs.History.{Makes, MakesSome}
-use Rattle.fp_disk.specs.Outcomes.{Answers}
+use Rattle.fp_disk.specs.Outcomes.{CountsFaults}
 use Rattle.fp_disk.specs.declared.disk.DiskFault.{DiskFault}
 use Rattle.fp_disk.specs.declared.history.CallKind.{CallKind}
 use Rattle.fp_journal.specs.Pieces.{ThenReads}
@@ -47,8 +47,8 @@ pub reads_after : (kind : CallKind) (kinds : List CallKind) (old middle new : Li
 reads_after kind kinds old middle new is reads = (reads.0, reads.1, calls_joined (kind ∷ []) (kinds ++ reads.0) old middle new is reads.2)
 
 -- ---- how often it failed
-pub answers_fault : {T : Type 0} (r : Result T DiskFault) (y : DiskFault) (before now : ℕ) → r ≡ Err y → before < now → Answers before now r
-answers_fault {T} r y before now is less = subst (λ (s : Result T DiskFault). Answers before now s) (sym is) (record { well = λ e. let no : false ≡ true = e in absurd (cc no); ill = λ e. less })
+pub answers_fault : {T : Type 0} (r : Result T DiskFault) (y : DiskFault) (before now : ℕ) → r ≡ Err y → before < now → CountsFaults before now r
+answers_fault {T} r y before now is less = subst (λ (s : Result T DiskFault). CountsFaults before now s) (sym is) (record { well = λ e. let no : false ≡ true = e in absurd (cc no); ill = λ e. less })
 
 pub ok_no_fault : {T E : Type 0} {x : T} {e : E} → Ok x ≡ Err e → ⊥
 ok_no_fault is = cc is

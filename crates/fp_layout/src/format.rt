@@ -5,7 +5,7 @@ ghost use Rattle.std.specs.Prelude.{◌≡◌, ◌≢◌, ◌⊎◌, ◌<◌, �
 ghost use Rattle.std.specs.Prelude.{false, IfErr, OnOk, IsOk, MatchResult};
 ghost use Rattle.fp_disk.specs.History.{Makes, MakesSome};
 ghost use Rattle.fp_disk.specs.declared.history.CallKind.TheVariants.{Length, Sync, Write};
-ghost use Rattle.fp_disk.specs.Outcomes.{Answers, IsOutcome, LeavesOnly, Written, all_synced};
+ghost use Rattle.fp_disk.specs.Outcomes.{CountsFaults, IsOutcome, LeavesOnly, Written, all_synced};
 ghost use Rattle.fp_disk.specs.Outcomes.{with_write};
 ghost use Rattle.fp_journal.specs.declared.journal.Phase.TheVariants.{Idle};
 ghost use Rattle.fp_layout.specs.Size.{first_slot, second_slot};
@@ -24,8 +24,11 @@ use fp_journal::Journal;
 use fp_slots::{IMAGE_PLACE, Slots, VERSION};
 use std::alloc::{AllocError, Global};
 
-/// The place of the first batch's gate on a new disk, behind an image of no flags, of four bytes.
-pub const FIRST_GATE: usize = HEADER + IMAGE_PLACE + 4;
+/// How many bytes an image of no flags has: those of their number.
+const EMPTY_IMAGE: usize = 4;
+
+/// The place of the first batch's gate on a new disk, behind an image of no flags.
+pub const FIRST_GATE: usize = HEADER + IMAGE_PLACE + EMPTY_IMAGE;
 
 /// Why a disk wasn't made.
 #[derive(Clone, Copy, Debug, PartialEq, Eq)]
@@ -69,7 +72,7 @@ fn write_synced<D: Disk>(disk: &mut D, at: u64, from: &[u8]) -> Result<(), DiskF
         (IsOutcome (with_write (D.unsynced disk.old) at (length from.now))) }
     ensures honest { SameHonesty D.Disk disk.old disk.new }
     ensures called { Makes (Write ∷ Sync ∷ []) (D.calls disk.old) (D.calls disk.new) result }
-    ensures cause { Answers (D.faults disk.old) (D.faults disk.new) result }
+    ensures cause { CountsFaults (D.faults disk.old) (D.faults disk.new) result }
 {
     disk.write_at(at, from)?;
     disk.sync()
@@ -87,7 +90,7 @@ fn format<D: Disk>(disk: &mut D, size: SlotSize, closed: &[u8]) -> Result<(), Di
         → LeavesOnly D.moment D.crash_states_since disk.old disk.new (IsNewOrNone size) }
     ensures honest { SameHonesty D.Disk disk.old disk.new }
     ensures called { Makes format_calls (D.calls disk.old) (D.calls disk.new) result }
-    ensures cause { Answers (D.faults disk.old) (D.faults disk.new) result }
+    ensures cause { CountsFaults (D.faults disk.old) (D.faults disk.new) result }
 {
     write_synced(disk, 0, &[0])?;
     disk.write_at(1, &closed[1..])?;

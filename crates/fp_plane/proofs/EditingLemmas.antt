@@ -5,8 +5,7 @@ use Rattle.std.specs.Io.KnownBytes.{Appends}
 use Rattle.fp_base.proofs.Known.{Appends-nil, Appends-more, IfSome-each}
 use Rattle.fp_group_commit.specs.Tokens.{FrontState, Identity, front_revision}
 use Rattle.fp_session.specs.Asks.{Ask, asked_by_input, asked_by_lines}
-use Rattle.fp_session.specs.Lines.{lines}
-use Rattle.fp_session.specs.Progress.{line_up_to_limit}
+use Rattle.fp_session.specs.Lines.{line_up_to_limit, lines}
 use Rattle.fp_session.proofs.Endings.{IsPartRead}
 use Rattle.fp_session.proofs.LineLemmas.{asked-append, lines-append}
 use Rattle.fp_plane.specs.Answers.{Answer, AreAnswersTo, IsAnswerTo, IsShownAs, IsWithin, revision_in, answer_text, texts_of, says_no_edit}

@@ -3,8 +3,7 @@ use Rattle.std.specs.Prelude.{◌≡◌, ◌≤◌, ℕ, List, [], ◌∷◌, �
 use Rattle.std.specs.Io.KnownBytes.{Appends}
 use Rattle.fp_group_commit.specs.Tokens.{FrontState, Identity, front_revision}
 use Rattle.fp_session.specs.Asks.{Ask, asked_by_lines}
-use Rattle.fp_session.specs.Lines.{lines}
-use Rattle.fp_session.specs.Progress.{line_up_to_limit}
+use Rattle.fp_session.specs.Lines.{line_up_to_limit, lines}
 use Rattle.fp_plane.specs.Answers.{Answer, AreAnswersTo, IsWithin, texts_of}
 
 -- Behind what a writer held stand the answers to what was asked, a line each, and no revision among

@@ -30,7 +30,7 @@ IsAtRest store e = (e.known.store ≡ store) × (e.lent ≡ None)
 
 -- What holds whenever the lock is free: all in it is of one store, what is shown begins what is
 -- settled, and a store that was left is at rest, unless sealing broke off
-pub record IsKept {D : Type 0} (store : Identity) (h : HallState D) : Type 0 where
+pub record IsOrderly {D : Type 0} (store : Identity) (h : HallState D) : Type 0 where
   pub ours : h.desk.store ≡ store
   pub shown : Begins h.shown (settled_front h.desk)
   pub idle : All (IsAtRest store) h.idle

@@ -4,7 +4,8 @@ ghost use Rattle.std.specs.Prelude.{◌≡◌, ◌+◌, ◌++◌, ◌∷◌, [],
 ghost use Rattle.std.specs.Prelude.{false, IfOk, IfSome, IsSomeAnd, OnOk, MatchBool};
 ghost use Rattle.fp_group_commit.specs.Tokens.{Identity, front_revision};
 ghost use Rattle.fp_session.specs.Asks.{Ask, asked_by_input, asked_by_lines};
-ghost use Rattle.fp_session.specs.Progress.{AsksFor, line_up_to_limit};
+ghost use Rattle.fp_session.specs.Lines.{line_up_to_limit};
+ghost use Rattle.fp_session.specs.Progress.{AsksFor};
 ghost use Rattle.fp_streams.specs.Failures.{CountsFailures};
 ghost use Rattle.fp_plane.specs.Answers.{IsAnswerTo, IsWithin, revision_in, says_no_edit};
 ghost use Rattle.fp_plane.specs.Answers.{answer_of_code};

@@ -56,7 +56,7 @@ impl<K: Naming, D: Disk + Drop, R: Wait + Drop> Model for Hall<K, D, R> {
     ghost use Rattle.fp_edit.specs.Flags.{coded_state};
     ghost use Rattle.fp_group_commit.specs.Changes.{coded_change};
     ghost use Rattle.fp_publish.specs.declared.board.TheConstants.{MOST_EVALUATORS};
-    ghost use Rattle.fp_plane.specs.Hall.{HallState, IsKept};
+    ghost use Rattle.fp_plane.specs.Hall.{HallState, IsOrderly};
 
     ghost Value = { HallState D };
 
@@ -74,7 +74,7 @@ impl<K: Naming, D: Disk + Drop, R: Wait + Drop> Model for Hall<K, D, R> {
       left = h.left;
     } };
 
-    ghost invariant = { λ h. IsKept K.store (record {
+    ghost invariant = { λ h. IsOrderly K.store (record {
       desk = h.desk;
       shown = h.board;
       idle = h.idle.items;

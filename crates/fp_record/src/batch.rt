@@ -28,9 +28,15 @@ pub const MOST_EDITS: usize = 64;
 /// How many bytes stand in front of a batch's edits: the first revision, and their number.
 pub const BATCH_HEAD: usize = 10;
 
-/// The most bytes that an edit takes in a batch: a kind, and a key and a definition behind their
+/// How many bytes a put takes in a batch beside its key and its definition: its kind, and their
 /// lengths.
-pub const LONGEST_EDIT: usize = 7 + LONGEST_KEY + LONGEST_DEFINITION;
+pub const PUT_FRAME: usize = 7;
+
+/// How many bytes a deletion takes in a batch beside its key: its kind, and the key's length.
+pub const DELETE_FRAME: usize = 3;
+
+/// The most bytes that an edit takes in a batch.
+pub const LONGEST_EDIT: usize = PUT_FRAME + LONGEST_KEY + LONGEST_DEFINITION;
 
 /// Edits that are written and read together. What their editors expected isn't part of it.
 #[derive(Drop)]
@@ -115,8 +121,8 @@ pub fn encoded_len(edit: &Edit) -> usize
     ensures small { result ≤ LONGEST_EDIT }
 {
     match edit {
-        Edit::Put { key, flag, .. } => 7 + key.as_str().len() + flag.text().len(),
-        Edit::Delete { key, .. } => 3 + key.as_str().len(),
+        Edit::Put { key, flag, .. } => PUT_FRAME + key.as_str().len() + flag.text().len(),
+        Edit::Delete { key, .. } => DELETE_FRAME + key.as_str().len(),
     }
 }
 

@@ -8,7 +8,10 @@ mod image;
 mod laws;
 mod writing;
 
-pub use batch::{BATCH_HEAD, Batch, LONGEST_EDIT, MOST_EDITS, count_from, edit_from, encoded_len};
+pub use batch::{
+    BATCH_HEAD, Batch, DELETE_FRAME, LONGEST_EDIT, MOST_EDITS, PUT_FRAME, count_from, edit_from,
+    encoded_len,
+};
 pub use fault::RecordFault;
 pub use fields::u64_at;
 pub use image::{FoundFlag, Image, flag_count_from, flag_from};

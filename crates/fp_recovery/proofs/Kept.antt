@@ -22,7 +22,7 @@ use Rattle.fp_layout.specs.Opening.{FoundDisk}
 use Rattle.fp_layout.proofs.Settled.{settled_one}
 use Rattle.fp_layout.proofs.Making.{new_header, new_active, new_head}
 use Rattle.fp_layout.proofs.Numbers.{number64_one}
-use Rattle.fp_slots.specs.Rules.{Rules, Tells}
+use Rattle.fp_slots.specs.Rules.{Rules, RulesWith}
 use Rattle.fp_slots.specs.State.{IsFrontOf}
 use Rattle.fp_slots.specs.declared.places.TheConstants.{VERSION}
 use Rattle.fp_slots.proofs.Ruling.{rules_shut, rules_older}
@@ -36,7 +36,7 @@ use Rattle.fp_recovery.proofs.Agreed.{agrees_range, header_agreed}
 use Rattle.fp_recovery.proofs.Texts.{IsReadFrom, most_of, read_ends, read_spells, read_stands, spells_on, text_long, text_read}
 
 -- a disk whose slot tells a text is as long as a header wants it
-pub side_long : (size : ℕ) (side : Side) (text c : List ℕ) → Tells (slot_of size side) (slot_of size (other_side side)) text c → 65 + size ≤ length c
+pub side_long : (size : ℕ) (side : Side) (text c : List ℕ) → RulesWith (slot_of size side) (slot_of size (other_side side)) text c → 65 + size ≤ length c
 side_long size first text c t = let there = t.rules.there in omega (arith, there)
 side_long size second text c t = let long = t.ends.holds.long in let len = length-append text (t.ends.gate ∷ []) in omega (arith, long, len)
 
@@ -46,8 +46,8 @@ module _ {D : Type 0} (u : PendingState) (set : State) (journal : JournalState D
   held_stands c head guard e =
       let text = journal.front ++ spell journal.sealed in
       let front : Holds c journal.slot.start journal.front = holds_front c journal.slot.start journal.front (spell journal.sealed) (holds_front c journal.slot.start text (e.gate ∷ []) e.holds) in
-      let told : Tells journal.slot (slot_of k.size (other_side k.side)) text c = record { rules = k.beats c front guard; ends = e } in
-      let tells : Tells (slot_of k.size k.side) (slot_of k.size (other_side k.side)) text c = subst (λ (x : Slot). Tells x (slot_of k.size (other_side k.side)) text c) k.slot_is told in record {
+      let told : RulesWith journal.slot (slot_of k.size (other_side k.side)) text c = record { rules = k.beats c front guard; ends = e } in
+      let tells : RulesWith (slot_of k.size k.side) (slot_of k.size (other_side k.side)) text c = subst (λ (x : Slot). RulesWith x (slot_of k.size (other_side k.side)) text c) k.slot_is told in record {
         size = k.size;
         side = k.side;
         text = text;

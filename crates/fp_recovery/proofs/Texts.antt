@@ -15,7 +15,7 @@ use Rattle.fp_layout.specs.Size.{Side, first, second, slot_of, other_side}
 use Rattle.fp_layout.specs.Layout.{IsHeader, IsHead, IsActive}
 use Rattle.fp_layout.proofs.Heads.{head_length, head_places, head_whole}
 use Rattle.fp_slots.specs.Head.{head_text}
-use Rattle.fp_slots.specs.Rules.{Tells}
+use Rattle.fp_slots.specs.Rules.{RulesWith}
 use Rattle.fp_recovery.specs.Stands.{IsImageOf, TakesBatch, Spells, StandsFor}
 
 -- ---- a batch more
@@ -120,11 +120,11 @@ module _ (c : List ℕ) (size : ℕ) (slot other : Slot) (s : State) (r : IsRead
 
   unfoldable pub read_stands : StandsFor c s
   read_stands =
-      let tells : Tells slot other text_read c = record { rules = r.active.rules; ends = read_ends } in record {
+      let tells : RulesWith slot other text_read c = record { rules = r.active.rules; ends = read_ends } in record {
         size = size;
         side = r.active.side;
         text = text_read;
         header = r.header;
-        tells = subst (λ (x : Slot). Tells x (slot_of size (other_side r.active.side)) text_read c) r.active.slot_is (subst (λ (x : Slot). Tells slot x text_read c) r.active.other_is tells);
+        tells = subst (λ (x : Slot). RulesWith x (slot_of size (other_side r.active.side)) text_read c) r.active.slot_is (subst (λ (x : Slot). RulesWith slot x text_read c) r.active.other_is tells);
         spells = read_spells;
       }

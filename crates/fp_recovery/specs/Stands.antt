@@ -4,6 +4,7 @@ use Rattle.std.specs.List.{AllByRecursion}
 use Rattle.std.specs.FinMap as map
 use Rattle.fp_edit.specs.Flags.{State, total_cost}
 use Rattle.fp_edit.specs.declared.flags.Flag.{Flag}
+use Rattle.fp_edit.specs.declared.flags.TheConstants.{IMAGE_HEAD}
 use Rattle.fp_edit.specs.Edits.{Change}
 use Rattle.fp_edit.specs.Admits.{Admits, accepted}
 use Rattle.fp_edit.specs.declared.edit.TheConstants.{REVISIONS_END}
@@ -14,7 +15,7 @@ use Rattle.fp_journal.specs.State.{AllShort}
 use Rattle.fp_layout.specs.Size.{Side, most_in, other_side, slot_of}
 use Rattle.fp_layout.specs.Layout.{IsHeader}
 use Rattle.fp_slots.specs.Head.{head_text}
-use Rattle.fp_slots.specs.Rules.{Tells}
+use Rattle.fp_slots.specs.Rules.{RulesWith}
 use Rattle.fp_record.specs.Group.{Group}
 use Rattle.fp_record.specs.WellFormed.{IsBatch, IsImage}
 use Rattle.fp_record.specs.Encoding.{encoding_of_batch, encoding_of_image}
@@ -24,7 +25,7 @@ use Rattle.fp_record.specs.Encoding.{encoding_of_batch, encoding_of_image}
 pub record IsImageAt (base limit : ℕ) (image : List (List ℕ × Flag)) : Type 0 where
   pub numbered : base < REVISIONS_END
   pub changed : AllByRecursion (λ f. f.1.changed ≤ base) image
-  pub within : 4 + total_cost image ≤ limit
+  pub within : IMAGE_HEAD + total_cost image ≤ limit
 
 -- the bytes are the image of the set, which is at this revision and has this limit
 pub record IsImageOf (base limit : ℕ) (bytes : List ℕ) (s : State) : Type 0 where
@@ -72,7 +73,7 @@ pub record StandsFor (c : List ℕ) (s : State) : Type 0 where
   pub side : Side
   pub text : List ℕ
   pub header : IsHeader c size
-  pub tells : Tells (slot_of size side) (slot_of size (other_side side)) text c
+  pub tells : RulesWith (slot_of size side) (slot_of size (other_side side)) text c
   pub spells : Spells size text s
 
 -- the place of the closed gate behind the text by which bytes stand for a set

@@ -12,7 +12,7 @@ use Rattle.fp_journal.specs.declared.slot.Slot.{Slot}
 use Rattle.fp_journal.proofs.Holds.{holds_front, holds_byte, byte_held, holds_append, held_range, holds_written, holds_apart, written_long, firm_outcome}
 use Rattle.fp_slots.specs.Head.{head_text}
 use Rattle.fp_slots.specs.declared.places.TheConstants.{IMAGE_PLACE, VERSION}
-use Rattle.fp_slots.specs.Rules.{Tells, HasGeneration}
+use Rattle.fp_slots.specs.Rules.{RulesWith, HasGeneration}
 use Rattle.fp_slots.specs.State.{IsShut, IsCopied, IsPart, IsPlan, IsFrontOf}
 use Rattle.fp_slots.proofs.Ruling.{front_there, front_generation, rules_shut}
 
@@ -95,7 +95,7 @@ module _ (slot : Slot) (generation : ℕ) (text bytes : List ℕ) (p : IsPlan sl
 
   -- whatever the gate is, one of the slots rules, and what it holds is known
   pub either_tells : (mine : Slot) (front sealed c : List ℕ) → IsFrontOf generation front → generation < 2 ^ 64 → Holds c mine.start front → Ends mine.start mine.stop sealed c → Holds c (slot.start + 1) (drop 1 bytes)
-      → Tells mine slot sealed c ⊎ Tells slot mine text c
+      → RulesWith mine slot sealed c ⊎ RulesWith slot mine text c
   either_tells mine front sealed c f small there e h = let long = h.long in elim (cases_eq (slice_index c slot.start) OPEN) [
     | inl opened ↦ inr (record {
       rules = record { there = front_there mine.start generation front c f there; opened = opened; over = inr (generation + 1, generation, opened_generation c h, front_generation mine.start generation front c f there small, omega arith) };

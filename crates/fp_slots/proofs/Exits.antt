@@ -1,13 +1,13 @@
 -- That a call fails exactly where the device did, from the call of the disk to the caller's answer.
 use Rattle.std.proofs.Common.{ℕ, Ok, Err, refl}
-use Rattle.fp_disk.specs.Outcomes.{Answers}
+use Rattle.fp_disk.specs.Outcomes.{CountsFaults}
 use Rattle.fp_disk.specs.declared.disk.DiskFault.{DiskFault}
 
-pub answers_still : {T : Type 0} {now : ℕ} {y : T} → Answers now now (Ok y)
+pub answers_still : {T : Type 0} {now : ℕ} {y : T} → CountsFaults now now (Ok y)
 answers_still = record { well = λ _. refl; ill = λ no. absurd (cc no) }
 
-pub answers_ok : {S T : Type 0} {before now : ℕ} {x : S} {y : T} → Answers before now (Ok x) → Answers before now (Ok y)
+pub answers_ok : {S T : Type 0} {before now : ℕ} {x : S} {y : T} → CountsFaults before now (Ok x) → CountsFaults before now (Ok y)
 answers_ok a = record { well = λ _. a.well refl; ill = λ no. absurd (cc no) }
 
-pub answers_err : {S T : Type 0} {before now : ℕ} {e f : DiskFault} → Answers {T = S} before now (Err e) → Answers {T = T} before now (Err f)
+pub answers_err : {S T : Type 0} {before now : ℕ} {e f : DiskFault} → CountsFaults {T = S} before now (Err e) → CountsFaults {T = T} before now (Err f)
 answers_err a = record { well = λ no. absurd (cc no); ill = λ _. a.ill refl }

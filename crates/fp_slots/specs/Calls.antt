@@ -1,7 +1,7 @@
 -- What each call of the disk keeps, however it ends.
 use Rattle.std.specs.Prelude.{◌≡◌, ℕ, List, Result, OnOk, OnErr}
 use Rattle.fp_disk.specs.Crashes.{AtAnyMoment, SameHonesty}
-use Rattle.fp_disk.specs.Outcomes.{Answers}
+use Rattle.fp_disk.specs.Outcomes.{CountsFaults}
 use Rattle.fp_disk.specs.declared.disk.Disk.{Ghosts}
 use Rattle.fp_disk.specs.declared.disk.DiskFault.{DiskFault}
 use Rattle.fp_journal.specs.Moments.{KeepsSynced}
@@ -20,7 +20,7 @@ pub record KeepsSlots {D T : Type 0} (disk : Ghosts D) (old new : SlotsState D)
   pub any_moment : AtAnyMoment disk old.journal.disk new.journal.disk P
   pub apart : KeepsSynced disk old.journal.disk new.journal.disk (OutsideBoth old)
   pub honest : SameHonesty disk old.journal.disk new.journal.disk
-  pub cause : Answers (disk.faults old.journal.disk) (disk.faults new.journal.disk) result
+  pub cause : CountsFaults (disk.faults old.journal.disk) (disk.faults new.journal.disk) result
 
 -- ---- of a batch
 -- The compaction beside it stays; a crash at any moment leaves what has P, and outside both slots
@@ -31,4 +31,4 @@ pub record KeepsCompaction {D T : Type 0} (disk : Ghosts D) (old new : SlotsStat
   pub any_moment : AtAnyMoment disk old.journal.disk new.journal.disk P
   pub apart : KeepsSynced disk old.journal.disk new.journal.disk (OutsideBoth old)
   pub honest : SameHonesty disk old.journal.disk new.journal.disk
-  pub cause : Answers (disk.faults old.journal.disk) (disk.faults new.journal.disk) result
+  pub cause : CountsFaults (disk.faults old.journal.disk) (disk.faults new.journal.disk) result

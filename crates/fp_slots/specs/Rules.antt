@@ -26,7 +26,7 @@ pub record Rules (slot other : ℕ) (c : List ℕ) : Type 0 where
       ⊎ ((mine its : ℕ) × HasGeneration slot mine c × HasGeneration other its c × (its < mine))
 
 -- the first of two slots rules, and holds this text in front of a closed gate
-pub record Tells (slot other : Slot) (text c : List ℕ) : Type 0 where
+pub record RulesWith (slot other : Slot) (text c : List ℕ) : Type 0 where
   pub rules : Rules slot.start other.start c
   pub ends : Ends slot.start slot.stop text c
 

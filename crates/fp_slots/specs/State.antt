@@ -19,7 +19,7 @@ use Rattle.fp_slots.specs.declared.places.TheConstants.{GENERATION_PLACE, VERSIO
 use Rattle.fp_slots.specs.declared.slots.Step.{Step}
 use Rattle.fp_slots.specs.declared.slots.Step.TheVariants.{Begin, Close, SyncClose, Part, Tail}
 use Rattle.fp_slots.specs.declared.slots.Step.TheVariants.{SyncBody, Open, SyncOpen}
-use Rattle.fp_slots.specs.Rules.{Rules, Tells}
+use Rattle.fp_slots.specs.Rules.{Rules, RulesWith}
 
 -- The journal's slot rules, of this generation. `other` is the other one, whose gate may be open or
 -- isn't (`may_open`); `step` is what a compaction does next, `text` what the other slot is to hold,
@@ -53,8 +53,8 @@ sealed_text j = j.front ++ spell j.sealed
 
 -- one of the slots rules, the journal's with what it sealed, or the other with the new text
 abbrev pub KeepsEither : {D : Type 0} → SlotsState D → List ℕ → Type 0
-KeepsEither s c = Tells s.journal.slot s.other (sealed_text s.journal) c
-    ⊎ Tells s.other s.journal.slot s.text c
+KeepsEither s c = RulesWith s.journal.slot s.other (sealed_text s.journal) c
+    ⊎ RulesWith s.other s.journal.slot s.text c
 
 -- what a crash leaves while the next step is this one, whatever failed
 abbrev pub Leaves : {D : Type 0} → Step → SlotsState D → List ℕ → Type 0

@@ -1,7 +1,7 @@
 //! A compaction: the other slot is closed, filled, and opened, by one call of the disk a step.
 
 ghost use Rattle.fp_disk.specs.Crashes.{AtAnyMoment, SameHonesty};
-ghost use Rattle.fp_disk.specs.Outcomes.{Answers};
+ghost use Rattle.fp_disk.specs.Outcomes.{CountsFaults};
 ghost use Rattle.fp_disk.specs.declared.history.CallKind.TheVariants.{Sync, Write};
 ghost use Rattle.std.specs.Prelude.{◌≡◌, ◌≢◌, ◌<◌, ◌≤◌, ◌+◌, ◌-◌, [], ◌∷◌, ◌++◌, if◌then◌else◌};
 ghost use Rattle.std.specs.Prelude.{true, false, OnOk, OnErr};
@@ -168,7 +168,7 @@ impl<D: Disk> Slots<D> {
         ensures honest { SameHonesty D.Disk self.old.journal.disk self.new.journal.disk }
         ensures called { D.calls self.new.journal.disk
             ≡ D.calls self.old.journal.disk ++ Sync ∷ [] }
-        ensures cause { Answers (D.faults self.old.journal.disk)
+        ensures cause { CountsFaults (D.faults self.old.journal.disk)
             (D.faults self.new.journal.disk) result }
     {
         let synced = self.journal.sync()?;

@@ -10,7 +10,7 @@ use Rattle.fp_stream.specs.declared.head.TheConstants.{HEAD}
 use Rattle.fp_stream.specs.Heads.{head, IsHead, HasFault}
 use Rattle.fp_stream.specs.Frames.{Snapshot, frame, stream_of, AreNews, has_after, snapshot_of, snapshots_of}
 use Rattle.fp_stream.specs.Reading.{Stops, Reads}
-use Rattle.fp_stream.specs.Decoding.{Reader, Leaves}
+use Rattle.fp_stream.specs.Decoding.{Reader, DecodesTo}
 use Rattle.fp_stream.specs.declared.head.Head.{Head}
 use Rattle.fp_stream.specs.Steps.{held_of, wanted_by, IsKnown, IsWhole, Adds, Passes}
 
@@ -37,7 +37,7 @@ Reads-more has bytes added rest more end fault news whole reads = record {
 }
 
 pub Leaves-more : (has : Hello) (bytes : List ℕ) (added : List Snapshot) (last : Hello) (rest : List ℕ) (more : List Snapshot) (after : Reader)
-    → AreNews has added → bytes ≡ stream_of added ++ rest → last ≡ has_after has added → Leaves last rest more after → Leaves has bytes (added ++ more) after
+    → AreNews has added → bytes ≡ stream_of added ++ rest → last ≡ has_after has added → DecodesTo last rest more after → DecodesTo has bytes (added ++ more) after
 Leaves-more has bytes added last rest more after news whole is_last l = record {
   rest = l.rest;
   reads = Reads-more has bytes added rest more l.rest after.owed news whole (subst (λ (h : Hello). Reads h rest more l.rest after.owed) is_last l.reads);
@@ -47,7 +47,7 @@ Leaves-more has bytes added last rest more after news whole is_last l = record {
 
 -- ---- no whole frame
 pub Leaves-fault : (has : Hello) (front behind : List ℕ) (fault : FrameFault) → length front ≡ HEAD → HasFault has front fault
-    → Leaves has (front ++ behind) [] (record { has = has; held = []; owed = Some fault })
+    → DecodesTo has (front ++ behind) [] (record { has = has; held = []; owed = Some fault })
 Leaves-fault has front behind fault long wrong = record {
   rest = front ++ behind;
   reads = record { whole = refl; news = tt; stops = record { front = front; behind = behind; is = refl; long = long; wrong = wrong } };
@@ -56,7 +56,7 @@ Leaves-fault has front behind fault long wrong = record {
 }
 
 pub Leaves-short : (has : Hello) (front behind : List ℕ) (revision size : ℕ) → front ≡ head revision size → IsHead has revision size → length behind < size
-    → Leaves has (front ++ behind) [] (record { has = has; held = head revision size ++ behind; owed = None })
+    → DecodesTo has (front ++ behind) [] (record { has = has; held = head revision size ++ behind; owed = None })
 Leaves-short has front behind revision size is lawful short = record {
   rest = front ++ behind;
   reads = record {
@@ -68,7 +68,7 @@ Leaves-short has front behind revision size is lawful short = record {
   last = refl;
 }
 
-pub Leaves-nothing : (has : Hello) (rest : List ℕ) → length rest < HEAD → Leaves has rest [] (record { has = has; held = rest; owed = None })
+pub Leaves-nothing : (has : Hello) (rest : List ℕ) → length rest < HEAD → DecodesTo has rest [] (record { has = has; held = rest; owed = None })
 Leaves-nothing has rest short = record {
   rest = rest;
   reads = record { whole = refl; news = tt; stops = inl short };
@@ -82,7 +82,7 @@ Passes-start has bytes frames = record { added = []; adds = sym (append-nil (sna
 
 -- frames that passed, and what stops behind them
 pub Adds-passed : (has : Hello) (bytes : List ℕ) (before now : List Frame) (last : Hello) (rest : List ℕ) (after : Reader)
-    → Passes has bytes before now last rest → Leaves last rest [] after → Adds has bytes before now after
+    → Passes has bytes before now last rest → DecodesTo last rest [] after → Adds has bytes before now after
 Adds-passed has bytes before now last rest after p l = record {
   added = p.added ++ [];
   adds = p.adds ∙ ap (λ (t : List Snapshot). snapshots_of before ++ t) (sym (append-nil p.added));
@@ -112,7 +112,7 @@ Passes-push has bytes before now last rest front behind f p split w =
 -- ---- the first frame of a piece
 -- it stands at the front, and then come others
 pub Leaves-first : (has : Hello) (bytes front behind : List ℕ) (s : Snapshot) (rest : List ℕ) (added : List Snapshot) (after : Reader)
-    → bytes ≡ front ++ behind → IsWhole has front behind s → rest ≡ drop (length s.document) behind → Leaves (Has s.revision) rest added after → Leaves has bytes (s ∷ added) after
+    → bytes ≡ front ++ behind → IsWhole has front behind s → rest ≡ drop (length s.document) behind → DecodesTo (Has s.revision) rest added after → DecodesTo has bytes (s ∷ added) after
 Leaves-first has bytes front behind s rest added after split w left l =
     let stands : bytes ≡ (frame s.revision s.document ++ []) ++ rest =
     split ∙ ap (λ (t : List ℕ). t ++ behind) w.front_is ∙ ap (λ (t : List ℕ). head s.revision (length s.document) ++ t) (w.behind_is ∙ ap (λ (t : List ℕ). s.document ++ t) (sym left))
@@ -123,8 +123,8 @@ Leaves-first has bytes front behind s rest added after split w left l =
 
 -- its body had come in part
 pub Leaves-finished : (has : Hello) (revision size : ℕ) (held piece front behind : List ℕ) (added : List Snapshot) (after : Reader)
-    → IsHead has revision size → length (held ++ front) ≡ size → piece ≡ front ++ behind → Leaves (Has revision) behind added after
-    → Leaves has ((head revision size ++ held) ++ piece) ((record { revision = revision; document = held ++ front }) ∷ added) after
+    → IsHead has revision size → length (held ++ front) ≡ size → piece ≡ front ++ behind → DecodesTo (Has revision) behind added after
+    → DecodesTo has ((head revision size ++ held) ++ piece) ((record { revision = revision; document = held ++ front }) ∷ added) after
 Leaves-finished has revision size held piece front behind added after lawful long split l =
     let whole : held ++ piece ≡ (held ++ front) ++ behind = ap (λ (t : List ℕ). held ++ t) split ∙ sym (append_assoc held front behind) in
     let rest : behind ≡ drop (length (held ++ front)) ((held ++ front) ++ behind) = sym (drop_at (held ++ front) behind (length (held ++ front)) refl) in
@@ -141,10 +141,10 @@ Leaves-finished has revision size held piece front behind added after lawful lon
 
 -- less than was wanted came
 pub Leaves-part : (has : Hello) (known : Option Head) (held piece : List ℕ) → length (held ++ piece) < wanted_by known → IsKnown has known
-    → Leaves has (held_of known held ++ piece) [] (record { has = has; held = held_of known (held ++ piece); owed = None })
+    → DecodesTo has (held_of known held ++ piece) [] (record { has = has; held = held_of known (held ++ piece); owed = None })
 Leaves-part has None held piece short lawful = Leaves-nothing has (held ++ piece) short
 Leaves-part has (Some h) held piece short lawful =
-    subst (λ (t : List ℕ). Leaves has t [] (record { has = has; held = head h.revision h.size ++ (held ++ piece); owed = None })) (sym (append_assoc (head h.revision h.size) held piece))
+    subst (λ (t : List ℕ). DecodesTo has t [] (record { has = has; held = head h.revision h.size ++ (held ++ piece); owed = None })) (sym (append_assoc (head h.revision h.size) held piece))
     (Leaves-short has (head h.revision h.size) (held ++ piece) h.revision h.size refl lawful short)
 
 -- the first of several frames gets its body
@@ -159,7 +159,7 @@ first_revision (x ∷ now) p added f e i =
 
 -- ---- the same, under other names
 pub Leaves-same : (has has2 : Hello) (bytes bytes2 : List ℕ) (frames frames2 : List Snapshot) (after after2 : Reader)
-    → has ≡ has2 → bytes ≡ bytes2 → frames ≡ frames2 → after ≡ after2 → Leaves has bytes frames after → Leaves has2 bytes2 frames2 after2
+    → has ≡ has2 → bytes ≡ bytes2 → frames ≡ frames2 → after ≡ after2 → DecodesTo has bytes frames after → DecodesTo has2 bytes2 frames2 after2
 Leaves-same has has2 bytes bytes2 frames frames2 after after2 h b f a l =
-    subst (λ (x : Hello). Leaves x bytes2 frames2 after2) h
-    (subst (λ (x : List ℕ). Leaves has x frames2 after2) b (subst (λ (x : List Snapshot). Leaves has bytes x after2) f (subst (λ (x : Reader). Leaves has bytes frames x) a l)))
+    subst (λ (x : Hello). DecodesTo x bytes2 frames2 after2) h
+    (subst (λ (x : List ℕ). DecodesTo has x frames2 after2) b (subst (λ (x : List Snapshot). DecodesTo has bytes x after2) f (subst (λ (x : Reader). DecodesTo has bytes frames x) a l)))

@@ -18,7 +18,7 @@ pub record Reader : Type 0 where
   pub owed : Option FrameFault
 
 -- of who has this, these bytes give these frames and leave the reader so
-pub record Leaves (has : Hello) (bytes : List ℕ) (frames : List Snapshot)
+pub record DecodesTo (has : Hello) (bytes : List ℕ) (frames : List Snapshot)
     (after : Reader) : Type 0 where
   pub rest : List ℕ
   pub reads : Reads has bytes frames rest after.owed
@@ -34,15 +34,15 @@ pub record Refuses (has : Hello) (bytes : List ℕ) (fault : FrameFault)
 
 -- frames that are answered: all that the bytes give; a fault behind them is owed, and none where
 -- there are no frames
-pub record Answers (has : Hello) (bytes : List ℕ) (frames : List Snapshot)
+pub record Decodes (has : Hello) (bytes : List ℕ) (frames : List Snapshot)
     (after : Reader) : Type 0 where
-  pub leaves : Leaves has bytes frames after
+  pub leaves : DecodesTo has bytes frames after
   pub turn : IsSome after.owed → frames ≢ []
 
 -- what a decoder that owes no fault answers to a piece
 abbrev pub Feeds : Reader → List ℕ → Result (Vec Frame) FrameFault → Reader → Type 0
 Feeds before piece (Ok frames) after =
-    Answers before.has (before.held ++ piece) (snapshots_of frames.items) after
+    Decodes before.has (before.held ++ piece) (snapshots_of frames.items) after
 Feeds before piece (Err BadMagic) after = Refuses before.has (before.held ++ piece) BadMagic after
 Feeds before piece (Err TooLong) after = Refuses before.has (before.held ++ piece) TooLong after
 Feeds before piece (Err NotRising) after = Refuses before.has (before.held ++ piece) NotRising after

@@ -6,7 +6,7 @@ use Rattle.fp_stream.specs.declared.head.Head.{Head}
 use Rattle.fp_stream.specs.declared.head.TheConstants.{HEAD}
 use Rattle.fp_stream.specs.Heads.{head, IsHead}
 use Rattle.fp_stream.specs.Frames.{Snapshot, stream_of, AreNews, has_after, snapshots_of}
-use Rattle.fp_stream.specs.Decoding.{Reader, Leaves}
+use Rattle.fp_stream.specs.Decoding.{Reader, DecodesTo}
 
 -- the bytes that came, of a head or of what is behind one that was read
 abbrev pub held_of : Option Head → List ℕ → List ℕ
@@ -40,7 +40,7 @@ pub record Adds (has : Hello) (bytes : List ℕ) (before now : List Frame)
     (after : Reader) : Type 0 where
   pub added : List Snapshot
   pub adds : snapshots_of now ≡ snapshots_of before ++ added
-  pub leaves : Leaves has bytes added after
+  pub leaves : DecodesTo has bytes added after
 
 -- frames were added, which stand before the rest
 pub record Passes (has : Hello) (bytes : List ℕ) (before now : List Frame) (last : Hello)

@@ -7,7 +7,7 @@ ghost use Rattle.fp_stream.specs.declared.hello.Hello.{Hello};
 ghost use Rattle.fp_stream.specs.declared.head.TheConstants.{HEAD};
 ghost use Rattle.fp_stream.specs.Heads.{head, IsHead};
 ghost use Rattle.fp_stream.specs.Frames.{Snapshot, snapshots_of};
-ghost use Rattle.fp_stream.specs.Decoding.{Leaves, Feeds, HasRead, bytes_taken, snapshots_given};
+ghost use Rattle.fp_stream.specs.Decoding.{DecodesTo, Feeds, HasRead, bytes_taken, snapshots_given};
 ghost use Rattle.fp_stream.specs.Steps.{wanted_by};
 
 use crate::fault::FrameFault;
@@ -102,7 +102,8 @@ impl Decoder {
     fn take(&mut self, alloc: Global, piece: &[u8]) -> Result<Vec<Frame>, AllocError>
         requires { self.old.owed ≡ None }
         ensures leaves { IfOk result (λ frames.
-            Leaves self.old.has (self.old.held ++ piece.now) (snapshots_of frames.items) self.new) }
+            DecodesTo self.old.has (self.old.held ++ piece.now) (snapshots_of frames.items)
+            self.new) }
         ensures err { OnErr result (self.new ≡ self.old) }
     {
         if piece.len() < wanted(self.head) - self.held.len() {
@@ -178,7 +179,7 @@ fn finish_head(
     requires part { length held.now < HEAD }
     requires ends { HEAD ≤ length held.now + length piece.now }
     ensures { IfOk result (λ out.
-        Leaves has (held.now ++ piece.now) (snapshots_of out.0.items) out.1) }
+        DecodesTo has (held.now ++ piece.now) (snapshots_of out.0.items) out.1) }
 {
     let (front, behind) = piece.split_at(HEAD - held.len());
     let head = joined(held, front);
@@ -205,7 +206,7 @@ fn finish_body(
     requires part { length held.old.items ≤ known.size }
     requires ends { known.size ≤ length held.old.items + length piece.now }
     ensures read { IfOk result (λ out. (has : Hello) → IsHead has known.revision known.size →
-        Leaves has ((head known.revision known.size ++ held.old.items) ++ piece.now)
+        DecodesTo has ((head known.revision known.size ++ held.old.items) ++ piece.now)
         (snapshots_of out.0.items) out.1) }
     ensures err { OnErr result (held.new.items ≡ held.old.items) }
 {

@@ -151,15 +151,15 @@ Settles old answer.NotNow new = (old.progress ≢ batch_sealed) × (new ≡ old)
 Settles old _ new = ⊥
 
 -- the editor of the edit that makes this revision hears whether it is settled
-abbrev pub Tells : ℕ → Commits → Answer → Commits → Type 0
-Tells revision old (answer.Acked told) new = (told ≡ revision)
+abbrev pub Acknowledges : ℕ → Commits → Answer → Commits → Type 0
+Acknowledges revision old (answer.Acked told) new = (told ≡ revision)
     × (old.desk.store.start.revision < revision) × (revision ≤ settled_revision old.desk)
     × (new ≡ record old { told = max old.told revision })
-Tells revision old answer.Waiting new =
+Acknowledges revision old answer.Waiting new =
     (settled_revision old.desk < revision) × (revision ≤ last_revision old.desk) × (new ≡ old)
-Tells revision old answer.NotNow new =
+Acknowledges revision old answer.NotNow new =
     ((revision ≤ old.desk.store.start.revision) ⊎ (last_revision old.desk < revision)) × (new ≡ old)
-Tells revision old _ new = ⊥
+Acknowledges revision old _ new = ⊥
 
 -- ---- a compaction
 -- the drawn edits are sealed
@@ -233,7 +233,7 @@ CommitStep old event.SyncBody a new = Advances (IsAt batch_staged) body_synced o
 CommitStep old event.OpenGate a new = Advances (IsAt body_synced) gate_opened old a new
 CommitStep old event.SyncGate a new = Seals old a new
 CommitStep old event.Settle a new = Settles old a new
-CommitStep old (event.Ack revision) a new = Tells revision old a new
+CommitStep old (event.Ack revision) a new = Acknowledges revision old a new
 CommitStep old event.Compact a new = StepsOn old a new
 CommitStep old event.Publish a new = (a ≡ answer.NotNow) × (new ≡ old)
 CommitStep old (event.Hand seat) a new = (a ≡ answer.NotNow) × (new ≡ old)

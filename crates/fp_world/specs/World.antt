@@ -77,8 +77,8 @@ IsOfEdits (event.Evaluate reader request now) = ⊥
 IsOfEdits e = Unit {0}
 
 -- the set is the one after some first n edits of the desk's log, n at least `low`
-abbrev pub IsKept : DeskState → ℕ → State → Type 0
-IsKept d low set = (n : ℕ) × (low ≤ n) × (n ≤ last_revision d)
+abbrev pub IsAfterFirst : DeskState → ℕ → State → Type 0
+IsAfterFirst d low set = (n : ℕ) × (low ≤ n) × (n ≤ last_revision d)
     × (set ≡ after d.store.start (log d) n)
 
 -- ---- opening a disk

@@ -6,7 +6,7 @@ ghost use Rattle.fp_disk.specs.declared.history.CallKind.TheVariants.{Sync, Writ
 ghost use Rattle.fp_edit.specs.Edits.{proposal_of};
 ghost use Rattle.fp_desk.specs.Desk.{log};
 ghost use Rattle.fp_world.specs.Commits.{Advances, DrawsNext, IsAt, Seals, Settles, Stages};
-ghost use Rattle.fp_world.specs.Commits.{StepsOn, Submits, Tells, accepted_by};
+ghost use Rattle.fp_world.specs.Commits.{StepsOn, Submits, Acknowledges, accepted_by};
 ghost use Rattle.fp_world.specs.Commits.{batch_staged, body_synced, gate_opened};
 ghost use Rattle.fp_world.specs.declared.event.Event.TheVariants.{Compact, Submit};
 ghost use Rattle.fp_world.specs.Committer.{KeepsStore, KeepsTold, MakesItsCall, MakesOne};
@@ -211,9 +211,9 @@ impl<D: Disk> Committer<D> {
         }
     }
 
-    // Tells whether the edit of this revision is settled, where its ticket was given.
+    // Acknowledges whether the edit of this revision is settled, where its ticket was given.
     pub(crate) fn ack(&mut self, revision: u64) -> Answer
-        ensures steps { Tells revision (commits_of self.old) result (commits_of self.new) }
+        ensures steps { Acknowledges revision (commits_of self.old) result (commits_of self.new) }
         ensures same { self.new.desk ≡ self.old.desk }
         ensures kept { KeepsStore D.Disk self.old result self.new }
     {

@@ -12,7 +12,7 @@ ghost use Rattle.fp_world.specs.declared.event.Event.TheVariants as asked;
 ghost use Rattle.fp_world.specs.Commits.{accepted_by, opened_set, told_after};
 ghost use Rattle.fp_world.specs.Committer.{KeptFrom, MakesItsCall, RisesFor};
 ghost use Rattle.fp_world.specs.Machine.{Run, Step, accepted_edits, told_by};
-ghost use Rattle.fp_world.specs.World.{Course, IsKept, IsNewWorld, IsOfEdits, Opens, StepsTo};
+ghost use Rattle.fp_world.specs.World.{Course, IsAfterFirst, IsNewWorld, IsOfEdits, Opens, StepsTo};
 ghost use Rattle.fp_world.specs.World.{desk_of, disk_of, machine, told_of};
 
 use crate::committer::Committer;
@@ -257,7 +257,8 @@ pub fn recover<D: Disk>(alloc: Global, disk: D) -> Result<(Store<D>, Opening), (
     ensures opening { IfOk result (λ r. r.1 ≡ r.0.store) }
     ensures opens { Opens D.Disk disk result }
     ensures kept { D.honest disk → (desk : DeskState) (told : ℕ) →
-        KeptFrom desk told (D.bytes disk) → IfOk result (λ r. IsKept desk told r.0.store.start) }
+        KeptFrom desk told (D.bytes disk)
+            → IfOk result (λ r. IsAfterFirst desk told r.0.store.start) }
     ensures refused { D.honest disk → (desk : DeskState) (told : ℕ) →
         KeptFrom desk told (D.bytes disk) → IfErr result (λ e. (e.0 ≡ Device) ⊎ (e.0 ≡ Memory)) }
 {

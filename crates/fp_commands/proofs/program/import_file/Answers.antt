@@ -1,7 +1,7 @@
 use Rattle.std.proofs.Common.{◌≡◌, ◌∙◌, Err, refl, rules, subst}
 use Rattle.fp_files.specs.Lending.{IsThere}
 use Rattle.fp_commands.proofs.Opened.{on_file_err}
-use Rattle.fp_commands.specs.Files.{Outside, ImportsToDisk}
+use Rattle.fp_commands.specs.Files.{Environment, ImportsToDisk}
 use Rattle.fp_commands.proofs.program.import_file.Goals as goal
 
 pub returns-in_err-_told-clause-performs : goal.returns-in_err-_told-clause-performs
@@ -10,8 +10,8 @@ returns-in_err-_told-clause-performs g c =
     let did = c.import_disk-disk.ensures in
     let back = c.close.ensures in
     let f = c.in_err-_told.field-0.0 in
-    let old : Outside g.row.F.Denot g.row.R.Denot g.row.W.Denot = record { files = c.args.files.now; reader = c.args.r.now; writer = c.args.w.now } in
-    let new : Outside g.row.F.Denot g.row.R.Denot g.row.W.Denot = record { files = c.close.new.self; reader = c.import_disk-disk.new.r; writer = c.import_disk-disk.new.w } in
+    let old : Environment g.row.F.Denot g.row.R.Denot g.row.W.Denot = record { files = c.args.files.now; reader = c.args.r.now; writer = c.args.w.now } in
+    let new : Environment g.row.F.Denot g.row.R.Denot g.row.W.Denot = record { files = c.close.new.self; reader = c.import_disk-disk.new.r; writer = c.import_disk-disk.new.w } in
     let ended : c.from_residual-in_err-_told.result ≡ Err f = search rules in
     let Does = ImportsToDisk g.F.Disk.Disk g.R.Read.remaining g.W.Write.contents old new in
     on_file_err g.F.DiskFiles g.F.Disk.Disk old new c.args.path.now (IsThere g.F.DiskFiles c.args.files.now c.args.path.now) Does f c.from_residual-in_err-_told.result ended (record {

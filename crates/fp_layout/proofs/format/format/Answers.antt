@@ -2,7 +2,7 @@ use Rattle.std.proofs.Common.{◌≤◌, ◌<◌, ◌+◌, ◌∙◌, ℕ, List,
 use Rattle.std.specs.Prelude.{slice_range}
 use Rattle.std.proofs.lemmas.List.{append-nil}
 use Rattle.std.proofs.lemmas.Result.{err_from_is_err_and, on_ok_weaker}
-use Rattle.fp_disk.specs.Outcomes.{Answers, Written}
+use Rattle.fp_disk.specs.Outcomes.{CountsFaults, Written}
 use Rattle.fp_disk.specs.declared.history.CallKind.TheVariants.{Sync, Write}
 use Rattle.fp_layout.specs.NewDisk.{IsMade}
 use Rattle.fp_layout.proofs.Calls.{answers_fault, breaks_off, calls_joined, makes_behind}
@@ -166,7 +166,7 @@ returns-clause-called g c =
 pub returns-clause-cause : goal.returns-clause-cause
 returns-clause-cause g c =
     let D = g.D.Disk in
-    subst (λ (k : ℕ). Answers k (D.faults c.write_synced-4.new.disk) c.write_synced-4.result) (c.in_ok-write_synced-3.ensures.cause.well (refl {a = true}) ∙ c.in_ok-write_synced-2.ensures.cause.well (refl {a = true}) ∙ c.in_ok-write_at.ensures.cause.well (refl {a = true}) ∙ c.in_ok-write_synced.ensures.cause.well (refl {a = true})) c.write_synced-4.ensures.cause
+    subst (λ (k : ℕ). CountsFaults k (D.faults c.write_synced-4.new.disk) c.write_synced-4.result) (c.in_ok-write_synced-3.ensures.cause.well (refl {a = true}) ∙ c.in_ok-write_synced-2.ensures.cause.well (refl {a = true}) ∙ c.in_ok-write_at.ensures.cause.well (refl {a = true}) ∙ c.in_ok-write_synced.ensures.cause.well (refl {a = true})) c.write_synced-4.ensures.cause
 
 pub returns-clause-honest : goal.returns-clause-honest
 returns-clause-honest g c =

@@ -1,6 +1,6 @@
 use Rattle.std.proofs.Common.{◌∙◌, ℕ, List, [], ◌∷◌, length, inl, inr, refl, true, ap, sym, subst}
 use Rattle.std.proofs.lemmas.Result.{err_from_is_err_and, on_ok_weaker}
-use Rattle.fp_disk.specs.Outcomes.{Answers, Written, all_synced}
+use Rattle.fp_disk.specs.Outcomes.{CountsFaults, Written, all_synced}
 use Rattle.fp_disk.specs.declared.history.CallKind.TheVariants.{Sync, Write}
 use Rattle.fp_layout.proofs.Calls.{all_makes, answers_fault, calls_joined, on_ok_always}
 use Rattle.fp_layout.proofs.Settled.{write_leaves, written_leaves}
@@ -41,7 +41,7 @@ returns-clause-called g c =
 pub returns-clause-cause : goal.returns-clause-cause
 returns-clause-cause g c =
     let D = g.D.Disk in
-    subst (λ (k : ℕ). Answers k (D.faults c.sync.new.self) c.sync.result) (c.in_ok-write_at.ensures.cause.well (refl {a = true})) c.sync.ensures.cause
+    subst (λ (k : ℕ). CountsFaults k (D.faults c.sync.new.self) c.sync.result) (c.in_ok-write_at.ensures.cause.well (refl {a = true})) c.sync.ensures.cause
 
 pub returns-clause-honest : goal.returns-clause-honest
 returns-clause-honest g c =

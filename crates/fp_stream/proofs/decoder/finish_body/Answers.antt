@@ -4,7 +4,7 @@ use Rattle.std.proofs.lemmas.List.{take-append-drop, length-append}
 use Rattle.fp_stream.specs.declared.frame.Frame.{Frame}
 use Rattle.fp_stream.specs.Heads.{head}
 use Rattle.fp_stream.specs.Frames.{Snapshot, snapshot_of, snapshots_of}
-use Rattle.fp_stream.specs.Decoding.{Leaves}
+use Rattle.fp_stream.specs.Decoding.{DecodesTo}
 use Rattle.fp_stream.proofs.Streams.{Leaves-finished, first_set, first_revision}
 use Rattle.fp_stream.proofs.decoder.finish_body.Goals as goal
 
@@ -30,5 +30,5 @@ returns-clause-read c has lawful =
     let set : snapshots_of (slice_set now 0 f) ≡ made known.revision (held ++ front) ∷ a.added =
     first_set now (snapshot_of place) a.added f adds ∙ ap₂ (λ (r : ℕ) (d : List ℕ). made r d ∷ a.added) rev body
     in
-    subst (λ (t : List Snapshot). Leaves has ((head known.revision known.size ++ held) ++ piece) t c.in_ok-next.next) (sym set)
+    subst (λ (t : List Snapshot). DecodesTo has ((head known.revision known.size ++ held) ++ piece) t c.in_ok-next.next) (sym set)
     (Leaves-finished has known.revision known.size held piece front behind a.added c.in_ok-next.next lawful long split a.leaves)

@@ -3,7 +3,7 @@ use Rattle.std.proofs.lemmas.List.{take-append-drop, take_all, length-drop}
 use Rattle.fp_stream.specs.declared.frame.Frame.{Frame}
 use Rattle.fp_stream.specs.declared.reading.Found.{Found}
 use Rattle.fp_stream.specs.Frames.{Snapshot, snapshot_of, snapshots_of}
-use Rattle.fp_stream.specs.Decoding.{Leaves}
+use Rattle.fp_stream.specs.Decoding.{DecodesTo}
 use Rattle.fp_stream.specs.Steps.{IsWhole}
 use Rattle.fp_stream.specs.Founds.{IsFound}
 use Rattle.fp_stream.proofs.Streams.{Leaves-first}
@@ -29,5 +29,5 @@ returns c =
     let adds : snapshots_of c.frames_of.new.frames.items ≡ snapshot_of frame ∷ a.added =
     a.adds ∙ ap (λ (t : List Frame). snapshots_of t ++ a.added) (c.in_ok-push.ensures.items ∙ ap (λ (t : List Frame). t ++ frame ∷ []) c.new-frames.ensures.items)
     in
-    subst (λ (t : List Snapshot). Leaves c.args.has (held ++ piece) t c.in_ok-next.next) (sym adds)
+    subst (λ (t : List Snapshot). DecodesTo c.args.has (held ++ piece) t c.in_ok-next.next) (sym adds)
     (Leaves-first c.args.has (held ++ piece) c.joined-head.result behind (snapshot_of frame) (take (length behind - c.len.result) (drop c.len.result behind)) a.added c.in_ok-next.next bytes whole left a.leaves)

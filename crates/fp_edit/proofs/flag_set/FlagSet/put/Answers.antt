@@ -4,7 +4,7 @@ use Rattle.fp_definition.specs.Key.{key_bytes}
 use Rattle.fp_edit.specs.Admits.{has_room, has_revision}
 use Rattle.fp_edit.specs.Edits.{put}
 use Rattle.fp_edit.specs.Entries.{flags_of}
-use Rattle.fp_edit.specs.Flags.{State, Flags, IsKept, size}
+use Rattle.fp_edit.specs.Flags.{State, Flags, IsTallied, size}
 use Rattle.fp_edit.specs.declared.flags.Flag.{Flag}
 use Rattle.fp_edit.proofs.Kept.{kept-put}
 use Rattle.fp_edit.proofs.flag_set.FlagSet.put.Goals as goal
@@ -20,6 +20,6 @@ invariant_of-self c =
     let stored : flags_of c.store.new.flags.entries ≡ fin.insert s.flags k f = c.in-Ok.ensures.stored ∙ ap (fin.insert s.flags k) made in
     let measured : c.size_with-size.result ≡ size (fin.insert s.flags k f) = subst (λ (t : State). c.size_with-size.result ≡ size (fin.insert t.flags k f)) (sym c.self.view_is) (c.size_with-size.ensures (s.revision + 1)) in (
       c.in-Ok.ensures.ordered,
-      subst (λ (m : Flags). IsKept m (s.revision + 1) s.limit c.size_with-size.result) (sym stored)
-          (subst (λ n. IsKept (fin.insert s.flags k f) (s.revision + 1) s.limit n) (sym measured) (kept-put s c.self.inside.size k c.args.flag c.self.invariant.1 more room)),
+      subst (λ (m : Flags). IsTallied m (s.revision + 1) s.limit c.size_with-size.result) (sym stored)
+          (subst (λ n. IsTallied (fin.insert s.flags k f) (s.revision + 1) s.limit n) (sym measured) (kept-put s c.self.inside.size k c.args.flag c.self.invariant.1 more room)),
     )

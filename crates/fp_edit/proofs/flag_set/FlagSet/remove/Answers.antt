@@ -4,7 +4,7 @@ use Rattle.fp_definition.specs.Key.{key_bytes}
 use Rattle.fp_edit.specs.Admits.{has_revision, flags_after}
 use Rattle.fp_edit.specs.Edits.{delete}
 use Rattle.fp_edit.specs.Entries.{flags_of}
-use Rattle.fp_edit.specs.Flags.{State, IsKept, size, cost_found}
+use Rattle.fp_edit.specs.Flags.{State, IsTallied, size, cost_found}
 use Rattle.fp_edit.proofs.Kept.{kept-delete}
 use Rattle.fp_edit.proofs.Sizes.{size-remove}
 use Rattle.fp_edit.proofs.flag_set.FlagSet.remove.Goals as goal
@@ -34,6 +34,6 @@ invariant_of-self c =
     let more : has_revision s ≡ true = subst (λ (t : State). has_revision t ≡ true) (sym c.self.view_is) c.requires in
     let kept = kept-delete s c.self.inside.size k c.self.invariant.1 more in (
       c.take.ensures.ordered,
-      subst (λ m. IsKept m (s.revision + 1) s.limit (c.self.inside.size - c.cost_at-gone.result)) (sym c.take.ensures.taken)
-          (subst (λ n. IsKept (flags_after s (delete k)) (s.revision + 1) s.limit (c.self.inside.size - n)) (sym c.cost_at-gone.ensures) kept),
+      subst (λ m. IsTallied m (s.revision + 1) s.limit (c.self.inside.size - c.cost_at-gone.result)) (sym c.take.ensures.taken)
+          (subst (λ n. IsTallied (flags_after s (delete k)) (s.revision + 1) s.limit (c.self.inside.size - n)) (sym c.cost_at-gone.ensures) kept),
     )

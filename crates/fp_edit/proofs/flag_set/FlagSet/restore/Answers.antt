@@ -3,7 +3,7 @@ use Rattle.std.specs.FinMap as fin
 use Rattle.fp_definition.specs.Key.{key_bytes}
 use Rattle.fp_edit.specs.Admits.{is_within}
 use Rattle.fp_edit.specs.Entries.{flags_of}
-use Rattle.fp_edit.specs.Flags.{State, Flags, IsChangedBy, IsKept, size}
+use Rattle.fp_edit.specs.Flags.{State, Flags, IsChangedBy, IsTallied, size}
 use Rattle.fp_edit.proofs.Kept.{kept-restore}
 use Rattle.fp_edit.proofs.flag_set.FlagSet.restore.Goals as goal
 
@@ -16,6 +16,6 @@ invariant_of-self-2 c =
     let room : is_within (fin.insert s.flags k f) s.limit ≡ true = subst (λ (t : State). is_within (fin.insert t.flags k f) t.limit ≡ true) (sym c.self.view_is) c.requires.room in
     let measured : c.size_with-size.result ≡ size (fin.insert s.flags k f) = subst (λ (t : State). c.size_with-size.result ≡ size (fin.insert t.flags k f)) (sym c.self.view_is) (c.size_with-size.ensures f.changed) in (
       c.in_ok-store.ensures.ordered,
-      subst (λ (m : Flags). IsKept m s.revision s.limit c.size_with-size.result) (sym c.in_ok-store.ensures.stored)
-          (subst (λ n. IsKept (fin.insert s.flags k f) s.revision s.limit n) (sym measured) (kept-restore s c.self.inside.size k f c.self.invariant.1 here room)),
+      subst (λ (m : Flags). IsTallied m s.revision s.limit c.size_with-size.result) (sym c.in_ok-store.ensures.stored)
+          (subst (λ n. IsTallied (fin.insert s.flags k f) s.revision s.limit n) (sym measured) (kept-restore s c.self.inside.size k f c.self.invariant.1 here room)),
     )

@@ -8,14 +8,8 @@ use Rattle.fp_group_commit.proofs.Steps as steps
 use Rattle.fp_group_commit.proofs.CompactionSteps as compaction_steps
 use Rattle.fp_group_commit.proofs.store.Store.compact_step.Goals as goal
 
-pub returns-in-Failed-clause-any_moment : goal.returns-in-Failed-clause-any_moment
-returns-in-Failed-clause-any_moment g c = rw (← c.self.view_is) (λ h. steps.still g.D.Disk c.self.invariant g.met.D.Disk.only_now c.phase.ensures.outcomes h)
-
-pub returns-in-Failed-clause-exit : goal.returns-in-Failed-clause-exit
-returns-in-Failed-clause-exit g c = rw (← c.self.view_is) (steps.now g.D.Disk c.self.invariant c.phase.ensures.outcomes)
-
-pub returns-in-Failed-clause-called : goal.returns-in-Failed-clause-called
-returns-in-Failed-clause-called g c = rw (← c.self.view_is) (steps.makes_none _ _)
+pub returns-in-Failed-clause-disk : goal.returns-in-Failed-clause-disk
+returns-in-Failed-clause-disk g c = rw (← c.self.view_is) (steps.calls_none g.D.Disk c.self.invariant g.met.D.Disk.only_now c.phase.ensures.outcomes)
 
 pub invariant_of-self : goal.invariant_of-self
 invariant_of-self g c =
@@ -32,10 +26,7 @@ returns-in_default-catch_up g c =
       ok = tt;
       next = tt;
       fault = (well, sym c.step-next.ensures.step ∙ c.in_default-catch_up.ensures.begins, refl);
-      called = steps.makes_none _ _;
-      any_moment = λ h. steps.still D i m.only_now c.phase.ensures.outcomes h;
-      exit = steps.now D i c.phase.ensures.outcomes;
-      honest = (λ h. h, λ h. h);
+      disk = steps.calls_none D i m.only_now c.phase.ensures.outcomes;
     })
 
 pub take_step-requires : goal.take_step-requires
@@ -76,10 +67,12 @@ returns-in_default-take_step g c =
       ok = compaction_steps.compacts D i1 t1 w.taken is may well o.order.0 o.begun o.planned o.stays o.turned D.faults o.no_failure o.left c.step.ensures.numbered;
       next = c.step.ensures.step;
       fault = tt;
-      called = w.taken.called;
-      any_moment = compaction_steps.step_leaves D i1 t1 w.taken;
-      exit = steps.exit_has D m.counts_now t.journal.disk t1.journal.disk _ _ (compaction_steps.leaves_then D i1 t1 w.taken is may well o.order.0 o.begun o.planned o.stays o.turned) w.taken.honest.1 (compaction_steps.step_leaves D i1 t1 w.taken);
-      honest = w.taken.honest;
+      disk = record {
+        called = w.taken.called;
+        any_moment = compaction_steps.step_leaves D i1 t1 w.taken;
+        exit = steps.exit_has D m.counts_now t.journal.disk t1.journal.disk _ _ (compaction_steps.leaves_then D i1 t1 w.taken is may well o.order.0 o.begun o.planned o.stays o.turned) w.taken.honest.1 (compaction_steps.step_leaves D i1 t1 w.taken);
+        honest = w.taken.honest;
+      };
     })
 
 pub invariant_of-self-in-Memory : goal.invariant_of-self-in-Memory
@@ -110,10 +103,7 @@ returns-in-Memory g c =
       ok = tt;
       next = tt;
       fault = (well, (e.memory c.in-Memory.is).0, ap (λ (x : SlotsState g.row.D.Denot). record { store = record { name = s.sealed.name; start = s.origin }; sealed = s.sealed.log; staged = s.batch.changes; step = s.step; slots = x }) same);
-      called = rw same (steps.makes_none _ _);
-      any_moment = rw same (λ h. steps.still D i m.only_now c.phase.ensures.outcomes h);
-      exit = rw same (steps.now D i c.phase.ensures.outcomes);
-      honest = w.taken.honest;
+      disk = rw same (steps.calls_none D i m.only_now c.phase.ensures.outcomes);
     })
 
 pub invariant_of-self-2 : goal.invariant_of-self-2
@@ -144,8 +134,10 @@ returns g c =
       ok = tt;
       next = tt;
       fault = compaction_steps.breaks_step D i1 t1 w.taken e.order.1 off off.left well;
-      called = steps.makes_all _ _ _ w.taken.called;
-      any_moment = compaction_steps.step_leaves D i1 t1 w.taken;
-      exit = steps.exit_has D m.counts_now t.journal.disk t1.journal.disk _ _ (compaction_steps.leaves_broken D i1 t1 w.taken e.order.1 off c.phase.ensures.begun) w.taken.honest.1 (compaction_steps.step_leaves D i1 t1 w.taken);
-      honest = w.taken.honest;
+      disk = record {
+        called = steps.makes_all _ _ _ w.taken.called;
+        any_moment = compaction_steps.step_leaves D i1 t1 w.taken;
+        exit = steps.exit_has D m.counts_now t.journal.disk t1.journal.disk _ _ (compaction_steps.leaves_broken D i1 t1 w.taken e.order.1 off c.phase.ensures.begun) w.taken.honest.1 (compaction_steps.step_leaves D i1 t1 w.taken);
+        honest = w.taken.honest;
+      };
     })

@@ -17,11 +17,8 @@ use Rattle.fp_group_commit.proofs.Steps as steps
 use Rattle.fp_group_commit.proofs.BatchSteps as batch_steps
 use Rattle.fp_group_commit.proofs.store.Store.stage.Goals as goal
 
-pub returns-in-Failed-clause-any_moment : goal.returns-in-Failed-clause-any_moment
-returns-in-Failed-clause-any_moment g c = rw (← c.self.view_is) (λ h. steps.still g.D.Disk c.self.invariant g.met.D.Disk.only_now c.phase.ensures.outcomes h)
-
-pub returns-in-Failed-clause-exit : goal.returns-in-Failed-clause-exit
-returns-in-Failed-clause-exit g c = rw (← c.self.view_is) (steps.now g.D.Disk c.self.invariant c.phase.ensures.outcomes)
+pub returns-in-Failed-clause-disk : goal.returns-in-Failed-clause-disk
+returns-in-Failed-clause-disk g c = rw (← c.self.view_is) (steps.calls_none g.D.Disk c.self.invariant g.met.D.Disk.only_now c.phase.ensures.outcomes)
 
 pub returns-in-Err : goal.returns-in-Err
 returns-in-Err g c =
@@ -35,10 +32,7 @@ returns-in-Err g c =
       fault = batch_steps.refuses D.honest D.unsynced i D.faults (λ e. c.in_default.not-Failed (c.phase.ensures.phase ∙ e)) c.args.draw c.in-Err.fault c.in-Err.ensures.fault;
       given_back = refl;
       same_room = (refl, refl, ((refl, refl, refl, refl, refl, refl), refl));
-      called = inl refl;
-      any_moment = λ h. steps.still D i m.only_now c.phase.ensures.outcomes h;
-      exit = steps.now D i c.phase.ensures.outcomes;
-      honest = (λ h. h, λ h. h);
+      disk = steps.calls_none D i m.only_now c.phase.ensures.outcomes;
     })
 
 pub returns-in_default-make_ready : goal.returns-in_default-make_ready
@@ -61,10 +55,7 @@ returns-in_default-make_ready g c =
       fault = (well, ap (λ (x : SlotsState g.row.D.Denot). record { store = record { name = s.sealed.name; start = s.origin }; sealed = s.sealed.log; staged = s.batch.changes; step = s.step; slots = x }) same);
       given_back = refl;
       same_room = (ap (λ (x : SlotsState g.row.D.Denot). x.journal.slot.most) same, ap (λ (x : SlotsState g.row.D.Denot). room x.journal) same, ((plan.4, plan.7, plan.1, plan.2, plan.6, plan.3), ap (λ (x : SlotsState g.row.D.Denot). tail_of x) same));
-      called = inl (ap (λ (x : SlotsState g.row.D.Denot). D.calls x.journal.disk) same);
-      any_moment = rw same (λ h. steps.still D i m.only_now c.phase.ensures.outcomes h);
-      exit = rw same (steps.now D i c.phase.ensures.outcomes);
-      honest = rw same (λ h. h, λ h. h);
+      disk = rw same (steps.calls_none D i m.only_now c.phase.ensures.outcomes);
     })
 
 pub stage-requires : goal.stage-requires
@@ -97,8 +88,8 @@ invariant_of-self-in_default-stage g c =
     let len = ap length c.in-Ok.ensures.spelled ∙ length-encoding_of_batch c.args.draw in
     let t1 = c.stage.new.slots in let w = c.stage.ensures in
     let leaves = steps.sealed_leaves D i2 t1 w.stands in
-    let on : steps.SameBeside t t1 = steps.beside_then t mid t1 plan w.same in let bodies = w.bodies.0 ∙ ap (λ (j : JournalState g.row.D.Denot). j.sealed) plan.0 in
-    rw (at) (batch_steps.sound_at_rest D.honest D.unsynced i2 Idle t1 (steps.beside_of mid t1 w.same) w.bodies.0 (steps.kept_on D i2 t1 w.kept w.honest.1) refl w.begun c.ready.new.set (changes_of c.ready.new.ahead.items) refl c.ready.ensures.follows (inr c.in_default-stage.ensures.phase.1))
+    let on : steps.SameBeside t t1 = steps.beside_then t mid t1 plan w.moves.same in let bodies = w.moves.sealed ∙ ap (λ (j : JournalState g.row.D.Denot). j.sealed) plan.0 in
+    rw (at) (batch_steps.sound_at_rest D.honest D.unsynced i2 Idle t1 (steps.beside_of mid t1 w.moves.same) w.moves.sealed (steps.kept_on D i2 t1 w.moves.kept w.moves.call.honest.1) refl w.moves.begun c.ready.new.set (changes_of c.ready.new.ahead.items) refl c.ready.ensures.follows (inr c.in_default-stage.ensures.moves.phase.1))
 
 pub returns-in_default-stage : goal.returns-in_default-stage
 returns-in_default-stage g c =
@@ -115,20 +106,22 @@ returns-in_default-stage g c =
     let len = ap length c.in-Ok.ensures.spelled ∙ length-encoding_of_batch c.args.draw in
     let t1 = c.stage.new.slots in let w = c.stage.ensures in
     let leaves = steps.sealed_leaves D i2 t1 w.stands in
-    let on : steps.SameBeside t t1 = steps.beside_then t mid t1 plan w.same in let bodies = w.bodies.0 ∙ ap (λ (j : JournalState g.row.D.Denot). j.sealed) plan.0 in
+    let on : steps.SameBeside t t1 = steps.beside_then t mid t1 plan w.moves.same in let bodies = w.moves.sealed ∙ ap (λ (j : JournalState g.row.D.Denot). j.sealed) plan.0 in
     rw (← c.self.view_is) (record {
       same = (refl, refl);
       ok = tt;
       staged = tt;
       goes_on = tt;
       phase = refl;
-      fault = (batch_steps.moved_breaks D.honest D.unsynced i s.step t1 on bodies D.faults well c.in_default-stage.ensures.phase.1 (search rules) refl, batch_steps.goes_kept D.honest D.unsynced i c.args.draw c.in-Ok.ensures.goes_on);
+      fault = (batch_steps.moved_breaks D.honest D.unsynced i s.step t1 on bodies D.faults well c.in_default-stage.ensures.moves.phase.1 (search rules) refl, batch_steps.goes_kept D.honest D.unsynced i c.args.draw c.in-Ok.ensures.goes_on);
       given_back = refl;
       same_room = batch_steps.moved_room D.honest D.unsynced i s.step t1 on bodies;
-      called = inr (w.called ∙ ap (λ (j : JournalState g.row.D.Denot). D.calls j.disk ++ Write ∷ []) plan.0);
-      any_moment = steps.from_plan D t mid t1 plan (λ h. leaves_map D.moment D.crash_states_since mid.journal.disk t1.journal.disk _ _ (λ o stands. inl stands) (leaves h));
-      exit = steps.exit_has D m.counts_now mid.journal.disk t1.journal.disk _ _ (λ o stands. inl stands) w.honest.1 leaves;
-      honest = steps.honest_plan D t mid t1 plan w.honest;
+      disk = record {
+        called = inr (w.moves.call.called ∙ ap (λ (j : JournalState g.row.D.Denot). D.calls j.disk ++ Write ∷ []) plan.0);
+        any_moment = steps.from_plan D t mid t1 plan (λ h. leaves_map D.moment D.crash_states_since mid.journal.disk t1.journal.disk _ _ (λ o stands. inl stands) (leaves h));
+        exit = steps.exit_has D m.counts_now mid.journal.disk t1.journal.disk _ _ (λ o stands. inl stands) w.moves.call.honest.1 leaves;
+        honest = steps.honest_plan D t mid t1 plan w.moves.call.honest;
+      };
     })
 
 pub invariant_of-self-2 : goal.invariant_of-self-2
@@ -146,11 +139,11 @@ invariant_of-self-2 g c =
     let len = ap length c.in-Ok.ensures.spelled ∙ length-encoding_of_batch c.args.draw in
     let t1 = c.stage.new.slots in let w = c.stage.ensures in
     let leaves = steps.sealed_leaves D i2 t1 w.stands in
-    let on : steps.SameBeside t t1 = steps.beside_then t mid t1 plan w.same in let bodies = w.bodies.0 ∙ ap (λ (j : JournalState g.row.D.Denot). j.sealed) plan.0 in
-    let body = ap length w.bodies.1 ∙ len in
-    batch_steps.sound_staged D.honest D.unsynced i2 Staged t1 (steps.beside_of mid t1 w.same) w.bodies.0 (steps.kept_on D i2 t1 w.kept w.honest.1) c.args.draw c.ready.new.set (changes_of c.ready.new.ahead.items) (changes_of c.in-Ok.ready.1.items) refl c.ready.ensures.follows (none_left c.ready.new.ahead.items c.in-Ok.ensures.done) c.in-Ok.ensures.copied
-    (subst (λ (x : State). GoesOn x c.args.draw) (sym c.ready.ensures.same) c.in-Ok.ensures.goes_on) c.in-Ok.ensures.lawful (w.bodies.1 ∙ c.in-Ok.ensures.spelled) body (steps.room_plan t mid plan room.room)
-    (λ growing. w.same.8 ∙ c.in-Ok-make_ready.ensures.ready (subst (λ (x : Step). IsGrowing x) w.same.4 growing) ∙ sym (ap with_gate w.bodies.1)) c.in-Ok-stage.ensures.phase.0
+    let on : steps.SameBeside t t1 = steps.beside_then t mid t1 plan w.moves.same in let bodies = w.moves.sealed ∙ ap (λ (j : JournalState g.row.D.Denot). j.sealed) plan.0 in
+    let body = ap length w.staged ∙ len in
+    batch_steps.sound_staged D.honest D.unsynced i2 Staged t1 (steps.beside_of mid t1 w.moves.same) w.moves.sealed (steps.kept_on D i2 t1 w.moves.kept w.moves.call.honest.1) c.args.draw c.ready.new.set (changes_of c.ready.new.ahead.items) (changes_of c.in-Ok.ready.1.items) refl c.ready.ensures.follows (none_left c.ready.new.ahead.items c.in-Ok.ensures.done) c.in-Ok.ensures.copied
+    (subst (λ (x : State). GoesOn x c.args.draw) (sym c.ready.ensures.same) c.in-Ok.ensures.goes_on) c.in-Ok.ensures.lawful (w.staged ∙ c.in-Ok.ensures.spelled) body (steps.room_plan t mid plan room.room)
+    (λ growing. w.moves.same.8 ∙ c.in-Ok-make_ready.ensures.ready (subst (λ (x : Step). IsGrowing x) w.moves.same.4 growing) ∙ sym (ap with_gate w.staged)) c.in-Ok-stage.ensures.moves.phase.0
 
 pub returns : goal.returns
 returns g c =
@@ -167,18 +160,20 @@ returns g c =
     let len = ap length c.in-Ok.ensures.spelled ∙ length-encoding_of_batch c.args.draw in
     let t1 = c.stage.new.slots in let w = c.stage.ensures in
     let leaves = steps.sealed_leaves D i2 t1 w.stands in
-    let on : steps.SameBeside t t1 = steps.beside_then t mid t1 plan w.same in let bodies = w.bodies.0 ∙ ap (λ (j : JournalState g.row.D.Denot). j.sealed) plan.0 in
+    let on : steps.SameBeside t t1 = steps.beside_then t mid t1 plan w.moves.same in let bodies = w.moves.sealed ∙ ap (λ (j : JournalState g.row.D.Denot). j.sealed) plan.0 in
     rw (← c.self.view_is) (record {
       same = (refl, refl);
-      ok = record { step = refl; well_before = well; well_now = (λ e. let both : Staged ≡ Failed = sym c.in-Ok-stage.ensures.phase.0 ∙ e in absurd (cc both)); no_failure = search rules };
+      ok = record { step = refl; well_before = well; well_now = (λ e. let both : Staged ≡ Failed = sym c.in-Ok-stage.ensures.moves.phase.0 ∙ e in absurd (cc both)); no_failure = search rules };
       staged = refl;
       goes_on = batch_steps.goes_kept D.honest D.unsynced i c.args.draw c.in-Ok.ensures.goes_on;
       phase = tt;
       fault = tt;
       given_back = tt;
       same_room = batch_steps.moved_room D.honest D.unsynced i Staged t1 on bodies;
-      called = w.called ∙ ap (λ (j : JournalState g.row.D.Denot). D.calls j.disk ++ Write ∷ []) plan.0;
-      any_moment = steps.from_plan D t mid t1 plan (λ h. leaves_map D.moment D.crash_states_since mid.journal.disk t1.journal.disk _ _ (λ o stands. inl stands) (leaves h));
-      exit = steps.exit_has D m.counts_now mid.journal.disk t1.journal.disk _ _ (λ o stands. inl stands) w.honest.1 leaves;
-      honest = steps.honest_plan D t mid t1 plan w.honest;
+      disk = record {
+        called = w.moves.call.called ∙ ap (λ (j : JournalState g.row.D.Denot). D.calls j.disk ++ Write ∷ []) plan.0;
+        any_moment = steps.from_plan D t mid t1 plan (λ h. leaves_map D.moment D.crash_states_since mid.journal.disk t1.journal.disk _ _ (λ o stands. inl stands) (leaves h));
+        exit = steps.exit_has D m.counts_now mid.journal.disk t1.journal.disk _ _ (λ o stands. inl stands) w.moves.call.honest.1 leaves;
+        honest = steps.honest_plan D t mid t1 plan w.moves.call.honest;
+      };
     })

@@ -10,11 +10,8 @@ use Rattle.fp_group_commit.proofs.Steps as steps
 use Rattle.fp_group_commit.proofs.BatchSteps as batch_steps
 use Rattle.fp_group_commit.proofs.store.Store.sync_gate.Goals as goal
 
-pub returns-in-Failed-clause-any_moment : goal.returns-in-Failed-clause-any_moment
-returns-in-Failed-clause-any_moment g c = rw (← c.self.view_is) (λ h. steps.still g.D.Disk c.self.invariant g.met.D.Disk.only_now c.phase.ensures.outcomes h)
-
-pub returns-in-Failed-clause-exit : goal.returns-in-Failed-clause-exit
-returns-in-Failed-clause-exit g c = rw (← c.self.view_is) (steps.now g.D.Disk c.self.invariant c.phase.ensures.outcomes)
+pub returns-in-Failed-clause-disk : goal.returns-in-Failed-clause-disk
+returns-in-Failed-clause-disk g c = rw (← c.self.view_is) (steps.calls_none g.D.Disk c.self.invariant g.met.D.Disk.only_now c.phase.ensures.outcomes)
 
 pub sync_gate-requires : goal.sync_gate-requires
 sync_gate-requires g c =
@@ -31,7 +28,7 @@ invariant_of-self g c =
     let at : s.step ≡ GateOpened = ap (λ (k : StoreState g.row.D.Denot). k.step) c.self.view_is ∙ c.requires in
     let f = steps.not_idle s.step GateOpened _ _ at (λ (e : GateOpened ≡ Idle). absurd (cc e)) i.flight in
     let t1 = c.sync_gate.new.slots in let w = c.sync_gate.ensures in let e = c.in_default-sync_gate.ensures in
-    batch_steps.sound_moved D.honest D.unsynced i s.step t1 (steps.beside_of s.slots t1 e.broken.3) e.bodies.0 (steps.kept_on D i t1 e.broken.2 w.honest.1) f f.on_way e.bodies.1 e.broken.3.8 (inr e.broken.0)
+    batch_steps.sound_moved D.honest D.unsynced i s.step t1 (steps.beside_of s.slots t1 e.broken.3) e.bodies.0 (steps.kept_on D i t1 e.broken.2 w.call.honest.1) f f.on_way e.bodies.1 e.broken.3.8 (inr e.broken.0)
 
 pub returns-in_default-sync_gate : goal.returns-in_default-sync_gate
 returns-in_default-sync_gate g c =
@@ -55,10 +52,12 @@ returns-in_default-sync_gate g c =
       phase = refl;
       fault = batch_steps.moved_breaks D.honest D.unsynced i s.step t1 (steps.beside_of s.slots t1 e.broken.3) e.bodies.0 D.faults well e.broken.0 (search rules) refl;
       takes_room = tt;
-      called = inr w.called;
-      any_moment = λ h. leaves_map D.moment D.crash_states_since t.journal.disk t1.journal.disk _ _ (steps.open_leaves (batch_steps.Moved D.honest D.unsynced i s.step t) off begun) (leaves h);
-      exit = steps.exit_has D m.counts_now t.journal.disk t1.journal.disk _ _ (steps.open_leaves (batch_steps.Moved D.honest D.unsynced i s.step t1) off begun_now) w.honest.1 leaves;
-      honest = w.honest;
+      disk = record {
+        called = inr w.call.called;
+        any_moment = λ h. leaves_map D.moment D.crash_states_since t.journal.disk t1.journal.disk _ _ (steps.open_leaves (batch_steps.Moved D.honest D.unsynced i s.step t) off begun) (leaves h);
+        exit = steps.exit_has D m.counts_now t.journal.disk t1.journal.disk _ _ (steps.open_leaves (batch_steps.Moved D.honest D.unsynced i s.step t1) off begun_now) w.call.honest.1 leaves;
+        honest = w.call.honest;
+      };
     })
 
 pub invariant_of-result : goal.invariant_of-result
@@ -82,7 +81,7 @@ invariant_of-self-2 g c =
     let store : ◌≡◌ {A = Identity} (record { name = c.lengthen-front.new.self.name; start = s.origin }) (record { name = s.sealed.name; start = s.origin }) = ap (λ (n : ℕ). record { name = n; start = s.origin }) l.0 in
     rw c.swap.ensures.x_after (batch_steps.sound_sealed D.honest D.unsynced i f
     (record { store = record { name = c.lengthen-front.new.self.name; start = s.origin }; sealed = c.lengthen-front.new.self.log; staged = c.replace-draw.new.dest.changes; step = Idle; slots = t1 }) store l.1 refl o.sealed.0 o.shut w.same_slot.1 b.0 b.2 b.3 o.grown
-    (λ h. let back = w.honest.1 h in o.next back i.size _ _ (i.kept_is back) (steps.leads D i f)) (λ growing. o.planned growing i.size _ _ (i.planned growing.0).spells (steps.leads D i f)) c.replace-draw.new.dest.first (changes_of c.swap.new.y.items))
+    (λ h. let back = w.call.honest.1 h in o.next back i.size _ _ (i.kept_is back) (steps.leads D i f)) (λ growing. o.planned growing i.size _ _ (i.planned growing.0).spells (steps.leads D i f)) c.replace-draw.new.dest.first (changes_of c.swap.new.y.items))
 
 pub returns : goal.returns
 returns g c =
@@ -99,7 +98,7 @@ returns g c =
     let start : c.again.result ≡ s.origin = c.again.ensures in
     let sound = batch_steps.sound_sealed D.honest D.unsynced i f
     (record { store = record { name = c.lengthen-front.new.self.name; start = s.origin }; sealed = c.lengthen-front.new.self.log; staged = c.replace-draw.new.dest.changes; step = Idle; slots = t1 }) store l.1 refl o.sealed.0 o.shut w.same_slot.1 b.0 b.2 b.3 o.grown
-    (λ h. let back = w.honest.1 h in o.next back i.size _ _ (i.kept_is back) (steps.leads D i f)) (λ growing. o.planned growing i.size _ _ (i.planned growing.0).spells (steps.leads D i f)) c.replace-draw.new.dest.first (changes_of c.swap.new.y.items) in
+    (λ h. let back = w.call.honest.1 h in o.next back i.size _ _ (i.kept_is back) (steps.leads D i f)) (λ growing. o.planned growing i.size _ _ (i.planned growing.0).spells (steps.leads D i f)) c.replace-draw.new.dest.first (changes_of c.swap.new.y.items) in
     rw (← c.self.view_is) (record {
       store = store;
       ok = record { step = refl; well_before = well; well_now = (λ e. let both : Idle ≡ Failed = sym o.sealed.0 ∙ e in absurd (cc both)); no_failure = search rules };
@@ -110,8 +109,10 @@ returns g c =
       phase = tt;
       fault = tt;
       takes_room = (ap (λ x. x.most) w.same_slot.1, batch_steps.takes_room D.honest D.unsynced i f t1.journal w.same_slot.1 w.same_slot.2 o.sealed.1, (b.2, b.4, b.0, b.1, b.3, b.5), batch_steps.tail_grows D.honest D.unsynced i f t1 b.3 o.grown, λ still. steps.tail_stays t t1 b.3 (o.still still));
-      called = w.called;
-      any_moment = λ h. leaves_map D.moment D.crash_states_since t.journal.disk t1.journal.disk _ _ (steps.open_leaves (batch_steps.Moved D.honest D.unsynced i s.step t) off begun) (leaves h);
-      exit = steps.now D sound c.phase-self-inside.ensures.outcomes;
-      honest = w.honest;
+      disk = record {
+        called = w.call.called;
+        any_moment = λ h. leaves_map D.moment D.crash_states_since t.journal.disk t1.journal.disk _ _ (steps.open_leaves (batch_steps.Moved D.honest D.unsynced i s.step t) off begun) (leaves h);
+        exit = steps.now D sound c.phase-self-inside.ensures.outcomes;
+        honest = w.call.honest;
+      };
     })

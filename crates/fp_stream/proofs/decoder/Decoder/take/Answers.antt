@@ -3,7 +3,7 @@ use Rattle.std.proofs.lemmas.List.{length-append}
 use Rattle.fp_stream.specs.declared.fault.FrameFault.{FrameFault}
 use Rattle.fp_stream.specs.declared.frame.Frame.{Frame}
 use Rattle.fp_stream.specs.Frames.{snapshots_of}
-use Rattle.fp_stream.specs.Decoding.{Reader, Leaves}
+use Rattle.fp_stream.specs.Decoding.{Reader, DecodesTo}
 use Rattle.fp_stream.specs.Steps.{held_of, wanted_by, IsKnown}
 use Rattle.fp_stream.specs.declared.head.Head.{Head}
 use Rattle.fp_stream.specs.Heads.{head}
@@ -24,9 +24,9 @@ returns-then-piece-wanted-clause-leaves c =
     let longer : c.extend_from_slice.new.self.items ≡ held ++ piece = c.in_ok-extend_from_slice.ensures.items in
     let made : List ℕ → Option FrameFault → Reader = λ h o. record { has = inside.has; held = held_of inside.head h; owed = o } in
     let left : made (held ++ piece) None ≡ made c.extend_from_slice.new.self.items inside.owed = ap₂ made (sym longer) (sym none) in
-    let one = subst (λ (x : Reader). Leaves inside.has (held_of inside.head held ++ piece) [] x) left l in
-    let two = subst (λ (s : Reader). Leaves s.has (s.held ++ piece) [] (made c.extend_from_slice.new.self.items inside.owed)) c.self.view_is one in
-    subst (λ (t : List Frame). Leaves c.args.self.now.has (c.args.self.now.held ++ piece) (snapshots_of t) (made c.extend_from_slice.new.self.items inside.owed)) (sym c.new.ensures.items) two
+    let one = subst (λ (x : Reader). DecodesTo inside.has (held_of inside.head held ++ piece) [] x) left l in
+    let two = subst (λ (s : Reader). DecodesTo s.has (s.held ++ piece) [] (made c.extend_from_slice.new.self.items inside.owed)) c.self.view_is one in
+    subst (λ (t : List Frame). DecodesTo c.args.self.now.has (c.args.self.now.held ++ piece) (snapshots_of t) (made c.extend_from_slice.new.self.items inside.owed)) (sym c.new.ensures.items) two
 
 pub returns-clause-leaves : goal.returns-clause-leaves
 returns-clause-leaves c =

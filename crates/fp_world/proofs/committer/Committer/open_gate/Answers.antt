@@ -31,8 +31,8 @@ invariant_of-self g c =
     let busy = goes.unless s.step BodySynced at (λ (e : BodySynced ≡ Idle). absurd cc) in
     let point : progress_of h s.step ≡ body_synced = goes.in_air s d h i.out busy s.step ∙ ap in_flight_at at in
     let on : n.step ≡ GateOpened = search rules in
-    let out = sound.out_moved s n d h i.out busy w.same.1 w.same.2 (ap is_in_flight on) in
-    sound.went D.honest D.unsynced i h n w.same.0 out w.exit
+    let out = sound.out_moved s n d h i.out busy w.moves.same.1 w.moves.same.2 (ap is_in_flight on) in
+    sound.went D.honest D.unsynced i h n w.moves.same.0 out w.disk.exit
 
 pub invariant_of-self-2 : goal.invariant_of-self-2
 invariant_of-self-2 g c =
@@ -41,8 +41,8 @@ invariant_of-self-2 g c =
     let busy = goes.unless s.step BodySynced at (λ (e : BodySynced ≡ Idle). absurd cc) in
     let point : progress_of h s.step ≡ body_synced = goes.in_air s d h i.out busy s.step ∙ ap in_flight_at at in
     let on : n.step ≡ BodySynced = search rules in
-    let out = sound.out_moved s n d h i.out busy w.same.1 w.same.2 (ap is_in_flight on) in
-    sound.went D.honest D.unsynced i h n w.same.0 out w.exit
+    let out = sound.out_moved s n d h i.out busy w.moves.same.1 w.moves.same.2 (ap is_in_flight on) in
+    sound.went D.honest D.unsynced i h n w.moves.same.0 out w.disk.exit
 
 pub returns-in_default-open_gate : goal.returns-in_default-open_gate
 returns-in_default-open_gate g c =
@@ -51,11 +51,11 @@ returns-in_default-open_gate g c =
     let busy = goes.unless s.step BodySynced at (λ (e : BodySynced ≡ Idle). absurd cc) in
     let point : progress_of h s.step ≡ body_synced = goes.in_air s d h i.out busy s.step ∙ ap in_flight_at at in
     let on : n.step ≡ GateOpened = search rules in
-    let out = sound.out_moved s n d h i.out busy w.same.1 w.same.2 (ap is_in_flight on) in
+    let out = sound.out_moved s n d h i.out busy w.moves.same.1 w.moves.same.2 (ap is_in_flight on) in
     rw (← c.self.view_is) (record {
-      steps = goes.done D.faults (IsAt body_synced) gate_opened h h s n d told GateOpened c.in_default-open_gate.ensures.ok w.same_room point (goes.in_air s d h i.out busy n.step ∙ ap in_flight_at on);
-      kept = keeps.told_moved D m.counts_now refl w.same.0 (λ h0. keeps.opened_leaves D.moment D.crash_states_since h n d told s.slots.journal.disk (i.same ∙ sym w.same.0) out i.low (w.any_moment h0)) w.honest (let moved = c.in_default-open_gate.ensures.ok in moved.no_failure);
-      called = c.in_default-open_gate.ensures.called;
+      steps = goes.done D.faults (IsAt body_synced) gate_opened h h s n d told GateOpened c.in_default-open_gate.ensures.moves.ok w.moves.same_room point (goes.in_air s d h i.out busy n.step ∙ ap in_flight_at on);
+      kept = keeps.told_moved D m.counts_now refl w.moves.same.0 (λ h0. keeps.opened_leaves D.moment D.crash_states_since h n d told s.slots.journal.disk (i.same ∙ sym w.moves.same.0) out i.low (w.disk.any_moment h0)) w.disk.honest (let moved = c.in_default-open_gate.ensures.moves.ok in moved.no_failure);
+      called = c.in_default-open_gate.ensures.disk.called;
     })
 
 pub returns : goal.returns
@@ -65,9 +65,9 @@ returns g c =
     let busy = goes.unless s.step BodySynced at (λ (e : BodySynced ≡ Idle). absurd cc) in
     let point : progress_of h s.step ≡ body_synced = goes.in_air s d h i.out busy s.step ∙ ap in_flight_at at in
     let on : n.step ≡ BodySynced = search rules in
-    let out = sound.out_moved s n d h i.out busy w.same.1 w.same.2 (ap is_in_flight on) in
+    let out = sound.out_moved s n d h i.out busy w.moves.same.1 w.moves.same.2 (ap is_in_flight on) in
     rw (← c.self.view_is) (record {
-      steps = subst (λ (x : CommitterState g.row.D.Denot). Advances (IsAt body_synced) gate_opened (commits_of x) (answer.Fault c.in-Err.fault) (goes.At h n d told)) c.self.view_is (goes.fails D.faults (IsAt body_synced) gate_opened c.in-Err.fault h s n d told c.in-Err.ensures.fault c.in-Err.ensures.phase point);
-      kept = keeps.told_moved D m.counts_now refl w.same.0 (λ h0. keeps.opened_leaves D.moment D.crash_states_since h n d told s.slots.journal.disk (i.same ∙ sym w.same.0) out i.low (w.any_moment h0)) w.honest (goes.rise_of_fail D.faults c.in-Err.fault s n c.in-Err.ensures.fault);
-      called = goes.calls_of_fail D.faults D.calls Write c.in-Err.fault s n c.in-Err.ensures.fault c.in-Err.ensures.called;
+      steps = subst (λ (x : CommitterState g.row.D.Denot). Advances (IsAt body_synced) gate_opened (commits_of x) (answer.Fault c.in-Err.fault) (goes.At h n d told)) c.self.view_is (goes.fails D.faults (IsAt body_synced) gate_opened c.in-Err.fault h s n d told c.in-Err.ensures.moves.fault c.in-Err.ensures.moves.phase point);
+      kept = keeps.told_moved D m.counts_now refl w.moves.same.0 (λ h0. keeps.opened_leaves D.moment D.crash_states_since h n d told s.slots.journal.disk (i.same ∙ sym w.moves.same.0) out i.low (w.disk.any_moment h0)) w.disk.honest (goes.rise_of_fail D.faults c.in-Err.fault s n c.in-Err.ensures.moves.fault);
+      called = goes.calls_of_fail D.faults D.calls Write c.in-Err.fault s n c.in-Err.ensures.moves.fault c.in-Err.ensures.disk.called;
     })

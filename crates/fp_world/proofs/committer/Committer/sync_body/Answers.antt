@@ -31,8 +31,8 @@ invariant_of-self g c =
     let busy = goes.unless s.step Staged at (λ (e : Staged ≡ Idle). absurd cc) in
     let point : progress_of h s.step ≡ batch_staged = goes.in_air s d h i.out busy s.step ∙ ap in_flight_at at in
     let on : n.step ≡ BodySynced = search rules in
-    let out = sound.out_moved s n d h i.out busy w.same.1 w.same.2 (ap is_in_flight on) in
-    sound.went D.honest D.unsynced i h n w.same.0 out w.exit
+    let out = sound.out_moved s n d h i.out busy w.moves.same.1 w.moves.same.2 (ap is_in_flight on) in
+    sound.went D.honest D.unsynced i h n w.moves.same.0 out w.disk.exit
 
 pub invariant_of-self-2 : goal.invariant_of-self-2
 invariant_of-self-2 g c =
@@ -41,8 +41,8 @@ invariant_of-self-2 g c =
     let busy = goes.unless s.step Staged at (λ (e : Staged ≡ Idle). absurd cc) in
     let point : progress_of h s.step ≡ batch_staged = goes.in_air s d h i.out busy s.step ∙ ap in_flight_at at in
     let on : n.step ≡ Staged = search rules in
-    let out = sound.out_moved s n d h i.out busy w.same.1 w.same.2 (ap is_in_flight on) in
-    sound.went D.honest D.unsynced i h n w.same.0 out w.exit
+    let out = sound.out_moved s n d h i.out busy w.moves.same.1 w.moves.same.2 (ap is_in_flight on) in
+    sound.went D.honest D.unsynced i h n w.moves.same.0 out w.disk.exit
 
 pub returns-in_default-sync_body : goal.returns-in_default-sync_body
 returns-in_default-sync_body g c =
@@ -51,11 +51,11 @@ returns-in_default-sync_body g c =
     let busy = goes.unless s.step Staged at (λ (e : Staged ≡ Idle). absurd cc) in
     let point : progress_of h s.step ≡ batch_staged = goes.in_air s d h i.out busy s.step ∙ ap in_flight_at at in
     let on : n.step ≡ BodySynced = search rules in
-    let out = sound.out_moved s n d h i.out busy w.same.1 w.same.2 (ap is_in_flight on) in
+    let out = sound.out_moved s n d h i.out busy w.moves.same.1 w.moves.same.2 (ap is_in_flight on) in
     rw (← c.self.view_is) (record {
-      steps = goes.done D.faults (IsAt batch_staged) body_synced h h s n d told BodySynced c.in_default-sync_body.ensures.ok w.same_room point (goes.in_air s d h i.out busy n.step ∙ ap in_flight_at on);
-      kept = keeps.told_moved D m.counts_now refl w.same.0 (λ h0. keeps.kept_leaves D.honest D.moment D.crash_states_since D.unsynced i n.slots.journal.disk (w.any_moment h0)) w.honest (let moved = c.in_default-sync_body.ensures.ok in moved.no_failure);
-      called = c.in_default-sync_body.ensures.called;
+      steps = goes.done D.faults (IsAt batch_staged) body_synced h h s n d told BodySynced c.in_default-sync_body.ensures.moves.ok w.moves.same_room point (goes.in_air s d h i.out busy n.step ∙ ap in_flight_at on);
+      kept = keeps.told_moved D m.counts_now refl w.moves.same.0 (λ h0. keeps.kept_leaves D.honest D.moment D.crash_states_since D.unsynced i n.slots.journal.disk (w.disk.any_moment h0)) w.disk.honest (let moved = c.in_default-sync_body.ensures.moves.ok in moved.no_failure);
+      called = c.in_default-sync_body.ensures.disk.called;
     })
 
 pub returns : goal.returns
@@ -65,9 +65,9 @@ returns g c =
     let busy = goes.unless s.step Staged at (λ (e : Staged ≡ Idle). absurd cc) in
     let point : progress_of h s.step ≡ batch_staged = goes.in_air s d h i.out busy s.step ∙ ap in_flight_at at in
     let on : n.step ≡ Staged = search rules in
-    let out = sound.out_moved s n d h i.out busy w.same.1 w.same.2 (ap is_in_flight on) in
+    let out = sound.out_moved s n d h i.out busy w.moves.same.1 w.moves.same.2 (ap is_in_flight on) in
     rw (← c.self.view_is) (record {
-      steps = subst (λ (x : CommitterState g.row.D.Denot). Advances (IsAt batch_staged) body_synced (commits_of x) (answer.Fault c.in-Err.fault) (goes.At h n d told)) c.self.view_is (goes.fails D.faults (IsAt batch_staged) body_synced c.in-Err.fault h s n d told c.in-Err.ensures.fault c.in-Err.ensures.phase point);
-      kept = keeps.told_moved D m.counts_now refl w.same.0 (λ h0. keeps.kept_leaves D.honest D.moment D.crash_states_since D.unsynced i n.slots.journal.disk (w.any_moment h0)) w.honest (goes.rise_of_fail D.faults c.in-Err.fault s n c.in-Err.ensures.fault);
-      called = goes.calls_of_fail D.faults D.calls Sync c.in-Err.fault s n c.in-Err.ensures.fault c.in-Err.ensures.called;
+      steps = subst (λ (x : CommitterState g.row.D.Denot). Advances (IsAt batch_staged) body_synced (commits_of x) (answer.Fault c.in-Err.fault) (goes.At h n d told)) c.self.view_is (goes.fails D.faults (IsAt batch_staged) body_synced c.in-Err.fault h s n d told c.in-Err.ensures.moves.fault c.in-Err.ensures.moves.phase point);
+      kept = keeps.told_moved D m.counts_now refl w.moves.same.0 (λ h0. keeps.kept_leaves D.honest D.moment D.crash_states_since D.unsynced i n.slots.journal.disk (w.disk.any_moment h0)) w.disk.honest (goes.rise_of_fail D.faults c.in-Err.fault s n c.in-Err.ensures.moves.fault);
+      called = goes.calls_of_fail D.faults D.calls Sync c.in-Err.fault s n c.in-Err.ensures.moves.fault c.in-Err.ensures.disk.called;
     })

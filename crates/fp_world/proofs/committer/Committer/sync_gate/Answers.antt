@@ -36,11 +36,11 @@ invariant_of-self g c =
     let at : s.step ≡ GateOpened = search rules in
     let busy = goes.unless s.step GateOpened at (λ (e : GateOpened ≡ Idle). absurd cc) in
     let point : progress_of h s.step ≡ gate_opened = goes.in_air s d h i.out busy s.step ∙ ap in_flight_at at in
-    let leaves : D.honest s.slots.journal.disk → LeavesOnly D.moment D.crash_states_since s.slots.journal.disk n.slots.journal.disk (KeptFrom d told) = (λ h0. keeps.kept_leaves D.honest D.moment D.crash_states_since D.unsynced i n.slots.journal.disk (w.any_moment h0)) in
+    let leaves : D.honest s.slots.journal.disk → LeavesOnly D.moment D.crash_states_since s.slots.journal.disk n.slots.journal.disk (KeptFrom d told) = (λ h0. keeps.kept_leaves D.honest D.moment D.crash_states_since D.unsynced i n.slots.journal.disk (w.disk.any_moment h0)) in
     let w = c.in-Ok.ensures in
     let f = keeps.in_flight s d h i.out at in
     let start = ap (λ (x : Identity). x.start.revision) i.same in let len = ap length f.0 in let place = w.batch.1 in let all = revision-after_all s.store.start s.sealed in
-    rw c.replace.ensures.after (sound.went D.honest D.unsynced i (held.Sealed c.in-Ok.receipt) n w.store (w.ok.step, w.sealed ∙ ap (λ (l : List Change). l ++ s.staged) f.0 ∙ ap (λ (l : List Change). d.settled ++ l) f.1, w.receipt.0, w.batch.0 ∙ f.1, omega (arith, place, start, len, all), f.2) w.exit)
+    rw c.replace.ensures.after (sound.went D.honest D.unsynced i (held.Sealed c.in-Ok.receipt) n w.store (w.ok.step, w.sealed ∙ ap (λ (l : List Change). l ++ s.staged) f.0 ∙ ap (λ (l : List Change). d.settled ++ l) f.1, w.receipt.0, w.batch.0 ∙ f.1, omega (arith, place, start, len, all), f.2) w.disk.exit)
 
 pub invariant_of-self-in-Err : goal.invariant_of-self-in-Err
 invariant_of-self-in-Err g c =
@@ -49,10 +49,10 @@ invariant_of-self-in-Err g c =
     let at : s.step ≡ GateOpened = search rules in
     let busy = goes.unless s.step GateOpened at (λ (e : GateOpened ≡ Idle). absurd cc) in
     let point : progress_of h s.step ≡ gate_opened = goes.in_air s d h i.out busy s.step ∙ ap in_flight_at at in
-    let leaves : D.honest s.slots.journal.disk → LeavesOnly D.moment D.crash_states_since s.slots.journal.disk n.slots.journal.disk (KeptFrom d told) = (λ h0. keeps.kept_leaves D.honest D.moment D.crash_states_since D.unsynced i n.slots.journal.disk (w.any_moment h0)) in
+    let leaves : D.honest s.slots.journal.disk → LeavesOnly D.moment D.crash_states_since s.slots.journal.disk n.slots.journal.disk (KeptFrom d told) = (λ h0. keeps.kept_leaves D.honest D.moment D.crash_states_since D.unsynced i n.slots.journal.disk (w.disk.any_moment h0)) in
     let e = c.in-Err.ensures in
     let on : n.step ≡ GateOpened = e.phase ∙ at in
-    sound.went D.honest D.unsynced i h n e.err.0 (sound.out_moved s n d h i.out busy e.err.1 e.err.2 (ap is_in_flight on)) e.exit
+    sound.went D.honest D.unsynced i h n e.err.0 (sound.out_moved s n d h i.out busy e.err.1 e.err.2 (ap is_in_flight on)) e.disk.exit
 
 pub returns-in-Ok : goal.returns-in-Ok
 returns-in-Ok g c =
@@ -61,12 +61,12 @@ returns-in-Ok g c =
     let at : s.step ≡ GateOpened = search rules in
     let busy = goes.unless s.step GateOpened at (λ (e : GateOpened ≡ Idle). absurd cc) in
     let point : progress_of h s.step ≡ gate_opened = goes.in_air s d h i.out busy s.step ∙ ap in_flight_at at in
-    let leaves : D.honest s.slots.journal.disk → LeavesOnly D.moment D.crash_states_since s.slots.journal.disk n.slots.journal.disk (KeptFrom d told) = (λ h0. keeps.kept_leaves D.honest D.moment D.crash_states_since D.unsynced i n.slots.journal.disk (w.any_moment h0)) in
+    let leaves : D.honest s.slots.journal.disk → LeavesOnly D.moment D.crash_states_since s.slots.journal.disk n.slots.journal.disk (KeptFrom d told) = (λ h0. keeps.kept_leaves D.honest D.moment D.crash_states_since D.unsynced i n.slots.journal.disk (w.disk.any_moment h0)) in
     let k = c.in-Ok.ensures in let f = keeps.in_flight s d h i.out at in let ok = k.ok in
     rw (← c.self.view_is, c.replace.ensures.after) (record {
       steps = goes.seals D.faults h c.in-Ok.receipt s n d told c.revision.result i.same ok k.takes_room k.store f.0 f.1 k.sealed point c.revision.ensures;
-      kept = keeps.told_moved D m.counts_now refl k.store leaves w.honest ok.no_failure;
-      called = k.called;
+      kept = keeps.told_moved D m.counts_now refl k.store leaves w.disk.honest ok.no_failure;
+      called = k.disk.called;
     })
 
 pub returns-in-Err : goal.returns-in-Err
@@ -76,10 +76,10 @@ returns-in-Err g c =
     let at : s.step ≡ GateOpened = search rules in
     let busy = goes.unless s.step GateOpened at (λ (e : GateOpened ≡ Idle). absurd cc) in
     let point : progress_of h s.step ≡ gate_opened = goes.in_air s d h i.out busy s.step ∙ ap in_flight_at at in
-    let leaves : D.honest s.slots.journal.disk → LeavesOnly D.moment D.crash_states_since s.slots.journal.disk n.slots.journal.disk (KeptFrom d told) = (λ h0. keeps.kept_leaves D.honest D.moment D.crash_states_since D.unsynced i n.slots.journal.disk (w.any_moment h0)) in
+    let leaves : D.honest s.slots.journal.disk → LeavesOnly D.moment D.crash_states_since s.slots.journal.disk n.slots.journal.disk (KeptFrom d told) = (λ h0. keeps.kept_leaves D.honest D.moment D.crash_states_since D.unsynced i n.slots.journal.disk (w.disk.any_moment h0)) in
     let e = c.in-Err.ensures in let f = c.in-Err.fault in
     rw (← c.self.view_is) (record {
       steps = subst (λ (x : CommitterState g.row.D.Denot). Seals (commits_of x) (answer.Fault f) (goes.At h n d told)) c.self.view_is (goes.seal_fails D.faults f h s n d told e.fault e.phase point);
-      kept = keeps.told_moved D m.counts_now refl e.err.0 leaves w.honest (goes.rise_of_fail D.faults f s n e.fault);
-      called = goes.calls_of_fail D.faults D.calls Sync f s n e.fault e.called;
+      kept = keeps.told_moved D m.counts_now refl e.err.0 leaves w.disk.honest (goes.rise_of_fail D.faults f s n e.fault);
+      called = goes.calls_of_fail D.faults D.calls Sync f s n e.fault e.disk.called;
     })
