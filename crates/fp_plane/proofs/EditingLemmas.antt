@@ -1,12 +1,11 @@
 -- The lines of an editor, and what they are answered.
-use Rattle.std.proofs.Common.{◌≡◌, ◌≤◌, ℕ, List, [], ◌∷◌, ◌++◌, All, Option, None, Some, Ok, Err, IfSome, IsSomeAnd, refl, sym, ap, subst, ◌∙◌, append_assoc, append-nil, inl, inr, slice_index_or, arith}
+use Rattle.std.proofs.Common.{◌≡◌, ◌≤◌, ℕ, List, [], ◌∷◌, ◌++◌, All, Option, None, Some, Ok, Err, IfSome, IsSomeAnd, refl, sym, ap, subst, ◌∙◌, append_assoc, append-nil, inl, inr, slice_index_or, arith, take}
 use Rattle.std.proofs.lemmas.List.Elements.{All-push}
-use Rattle.std.specs.Io.KnownBytes.{Appends}
-use Rattle.fp_base.proofs.Known.{Appends-nil, Appends-more, IfSome-each}
+use Rattle.std.specs.Io.KnownBytes.{Appends, Consumes, IsAtEnd}
+use Rattle.fp_base.proofs.Known.{Appends-nil, Appends-more, Consumes-some, IfSome-each}
 use Rattle.fp_group_commit.specs.Tokens.{FrontState, Identity, front_revision}
 use Rattle.fp_session.specs.Asks.{Ask, asked_by_input, asked_by_lines}
 use Rattle.fp_session.specs.Lines.{line_up_to_limit, lines}
-use Rattle.fp_session.proofs.Endings.{IsPartRead}
 use Rattle.fp_session.proofs.LineLemmas.{asked-append, lines-append}
 use Rattle.fp_plane.specs.Answers.{Answer, AreAnswersTo, IsAnswerTo, IsShownAs, IsWithin, revision_in, answer_text, texts_of, says_no_edit}
 use Rattle.fp_plane.specs.Editing.{IsNoLess, IsReading, IsServed}
@@ -116,6 +115,24 @@ reading-newline store told more seen kept then before held after i served empty 
 }
 
 -- ---- an input that is read
+
+-- what came in of an input, and what is left of it
+abbrev pub IsPartRead : (reads left : Option (List ℕ)) → List ℕ → Type 0
+IsPartRead reads left seen = (input : List ℕ) → reads ≡ Some input → (rest : List ℕ) × (left ≡ Some rest) × (seen ++ rest ≡ input)
+
+-- more of it came in
+pub part-more : (reads left now_left : Option (List ℕ)) (seen bytes : List ℕ) → Consumes left now_left bytes → IsPartRead reads left seen → IsPartRead reads now_left (seen ++ bytes)
+part-more reads left now_left seen bytes read p = λ input is.
+    let was = p input is in let step = Consumes-some left now_left was.0 bytes was.1 read in
+    (step.0, step.1, append_assoc seen bytes step.0 ∙ ap (λ l. seen ++ l) (sym step.2) ∙ was.2)
+
+-- it is at its end
+pub part-whole : (reads left now_left : Option (List ℕ)) (seen bytes : List ℕ) (n : ℕ) → Consumes left now_left (take n bytes) → n ≡ 0 → IsAtEnd now_left → IsPartRead reads left seen → (input : List ℕ) → reads ≡ Some input → seen ≡ input
+part-whole reads left now_left seen bytes n read zero end p = λ input is.
+    let was = p input is in let step = Consumes-some left now_left was.0 (take n bytes) was.1 read in
+    let ended : step.0 ≡ [] = subst IsAtEnd step.1 end in
+    let none : was.0 ≡ [] = step.2 ∙ ap (λ k. take k bytes ++ step.0) zero ∙ ended in
+    sym (append-nil seen) ∙ ap (λ l. seen ++ l) (sym none) ∙ was.2
 
 -- what was read of it so far, and how that was answered
 pub record IsUnderWay (store : Identity) (told : Option FrontState) (reads left : Option (List ℕ)) (kept : List ℕ) (before held : Option (List ℕ)) : Type 0 where

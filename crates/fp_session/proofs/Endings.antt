@@ -1,10 +1,9 @@
 -- How runs end, with what a writer then holds.
-use Rattle.std.proofs.Common.{◌≡◌, ◌<◌, ◌≤◌, ℕ, List, [], ◌∷◌, ◌++◌, length, map, take, Bool, true, Option, Some, None, IfSome, IfErr, IfOk, OnOk, MatchResult, Result, Ok, Err, refl, sym, ap, subst, ◌∙◌, append_assoc, append-nil, arith}
-use Rattle.std.specs.Io.KnownBytes.{Appends, Consumes, IsAtEnd}
-use Rattle.fp_base.proofs.Known.{Appends-more, Consumes-some}
+use Rattle.std.proofs.Common.{◌≡◌, ◌<◌, ◌≤◌, ℕ, List, [], ◌++◌, length, map, Bool, true, Option, Some, IfSome, IfErr, IfOk, OnOk, MatchResult, Result, Ok, Err, refl, sym, ap, subst, ◌∙◌, arith}
+use Rattle.std.specs.Io.KnownBytes.{Appends}
+use Rattle.fp_base.proofs.Known.{Appends-more, IfSome-each}
 use Rattle.fp_edit.specs.Flags.{State}
-use Rattle.fp_session.specs.Asks.{Ask, asked_by_input, asked_by_lines}
-use Rattle.fp_session.specs.Lines.{lines}
+use Rattle.fp_session.specs.Asks.{Ask}
 use Rattle.fp_session.specs.Progress.{Ends, EndsOver, IsAt, IsAtWith, IsBroken, IsBrokenWith, IsEnded, IsSentFurther, StopsAt}
 use Rattle.fp_session.specs.Reply.{Reply, reply_of_code}
 use Rattle.fp_session.specs.Run.{after, IsAfterPrefix, IsRun, IsRunWritten, IsToldBy, script}
@@ -13,32 +12,9 @@ use Rattle.fp_session.specs.declared.edit_store.EditStore.{Ghosts}
 use Rattle.fp_session.specs.declared.fault.ApplyFault.{ApplyFault}
 use Rattle.fp_session.specs.declared.fault.ApplyFault.TheVariants.{Device, StoreFailed, Memory, CommitMemory}
 use Rattle.fp_session.specs.declared.replies.Replies.{Replies}
-use Rattle.fp_session.proofs.LineLemmas.{asked-within}
 use Rattle.fp_session.specs.declared.reply.Reply as code
 use Rattle.fp_session.proofs.ProgressLemmas.{at-failed, broken-wider, is_at-broken, stops-more}
 use Rattle.fp_session.proofs.RunLemmas.{prefix-more, prefix-whole, told_by-more, written-flags, written-script}
-
-pub if_some : {A : Type 0} (o : Option A) (P : A → Type 0) → ((x : A) → o ≡ Some x → P x) → IfSome o P
-if_some None P f = tt
-if_some (Some x) P f = f x refl
-
--- what came in of an input, and what is left of it
-abbrev pub IsPartRead : (reads left : Option (List ℕ)) → List ℕ → Type 0
-IsPartRead reads left seen = (input : List ℕ) → reads ≡ Some input → (rest : List ℕ) × (left ≡ Some rest) × (seen ++ rest ≡ input)
-
--- more of it came in
-pub part-more : (reads left now_left : Option (List ℕ)) (seen bytes : List ℕ) → Consumes left now_left bytes → IsPartRead reads left seen → IsPartRead reads now_left (seen ++ bytes)
-part-more reads left now_left seen bytes read p = λ input is.
-    let was = p input is in let step = Consumes-some left now_left was.0 bytes was.1 read in
-    (step.0, step.1, append_assoc seen bytes step.0 ∙ ap (λ l. seen ++ l) (sym step.2) ∙ was.2)
-
--- it is at its end
-pub part-whole : (reads left now_left : Option (List ℕ)) (seen bytes : List ℕ) (n : ℕ) → Consumes left now_left (take n bytes) → n ≡ 0 → IsAtEnd now_left → IsPartRead reads left seen → (input : List ℕ) → reads ≡ Some input → seen ≡ input
-part-whole reads left now_left seen bytes n read zero end p = λ input is.
-    let was = p input is in let step = Consumes-some left now_left was.0 (take n bytes) was.1 read in
-    let ended : step.0 ≡ [] = subst IsAtEnd step.1 end in
-    let none : was.0 ≡ [] = step.2 ∙ ap (λ k. take k bytes ++ step.0) zero ∙ ended in
-    sym (append-nil seen) ∙ ap (λ l. seen ++ l) (sym none) ∙ was.2
 
 module _ {E : Type 0} (store : Ghosts E) (first now : E) where
   -- ---- what isn't the run's own fault
@@ -129,35 +105,6 @@ module _ {E : Type 0} (store : Ghosts E) (first now : E) where
     stops = record { left = prefix-whole (store.state first) (store.state now) asked e.replies e.run; course = e.led; leaves = e.leaves };
   })
 
-  -- ---- over an input
-  module _ (reads left : Option (List ℕ)) (before : Option (List ℕ)) where
-    -- it broke off after lines that ended in a beginning
-    pub ends-over : (front back : List ℕ) (done : List (List ℕ)) (line : List ℕ) (now_held : Option (List ℕ)) (f0 f : ℕ) (fault : ApplyFault) → lines front ≡ done ++ line ∷ [] → IsPartRead reads left (front ++ back)
-        → IsBrokenWith store 1 first now (asked_by_lines done) before now_held f0 f fault → EndsOver store first now reads before now_held f0 f (Err fault)
-    ends-over front back done line now_held f0 f fault split part broken = over reads part
-      where
-        over : (o : Option (List ℕ)) → ((input : List ℕ) → o ≡ Some input → (rest : List ℕ) × (left ≡ Some rest) × ((front ++ back) ++ rest ≡ input)) → EndsOver store first now o before now_held f0 f (Err fault)
-        over None p = record { asked = asked_by_lines done; later = []; parts = tt; whole = tt; ends = broken }
-        over (Some input) p =
-            let rest = p input refl in
-            let within = asked-within front (back ++ rest.0) input done line (sym (append_assoc front back rest.0) ∙ rest.2) split in
-            record { asked = asked_by_lines done; later = within.0; parts = within.1; whole = tt; ends = broken }
-
-    -- all of it was seen
-    pub ends-whole : (seen : List ℕ) (now_held : Option (List ℕ)) (f0 f : ℕ) (outcome : Result Bool ApplyFault) → ((input : List ℕ) → reads ≡ Some input → seen ≡ input) → Ends store 1 first now (asked_by_input seen) before now_held f0 f outcome
-        → EndsOver store first now reads before now_held f0 f outcome
-    ends-whole seen now_held f0 f outcome all ends = record {
-      asked = asked_by_input seen;
-      later = [];
-      parts = if_some reads (λ input. asked_by_input seen ++ [] ≡ asked_by_input input) (λ input is. append-nil (asked_by_input seen) ∙ ap asked_by_input (all input is));
-      whole = nothing outcome [] refl;
-      ends = ends;
-    }
-      where
-        nothing : (o : Result Bool ApplyFault) → (xs : List Ask) → xs ≡ [] → OnOk o (xs ≡ [])
-        nothing (Ok x) xs none = none
-        nothing (Err e) xs none = tt
-
   -- ---- what a run that ended comes to
   module _ (most : ℕ) (asked : List Ask) (before now_held : Option (List ℕ)) (f0 f : ℕ) where
     pub ends-script : (outcome : Result Bool ApplyFault) → Ends store most first now asked before now_held f0 f outcome → IfOk outcome (λ told. told ≡ true → Appends before now_held (script (store.state first) asked))
@@ -204,33 +151,28 @@ module _ {E : Type 0} (store : Ghosts E) (first now : E) where
         by_fault StoreFailed c = record { before = c.before; led = c.led; asked = λ u a. weaker u (c.asked u a); failed = c.failed }
         by_fault CommitMemory c = record { before = c.before; led = c.led; asked = λ u a. weaker u (c.asked u a); failed = c.failed }
 
-  -- ---- and of one over an input
-  module _ (reads before now_held : Option (List ℕ)) (f0 f : ℕ) where
-    pub over-all : (outcome : Result Bool ApplyFault) → EndsOver store first now reads before now_held f0 f outcome → (input : List ℕ) → reads ≡ Some input → Ends store 1 first now (asked_by_input input) before now_held f0 f outcome
-    over-all outcome e input is =
-        let parts : e.asked ++ e.later ≡ asked_by_input input = subst (λ (o : Option (List ℕ)). IfSome o (λ x. e.asked ++ e.later ≡ asked_by_input x)) is e.parts in
-        whole outcome e.asked e.later (asked_by_input input) parts e.whole e.ends
-      where
-        whole : (o : Result Bool ApplyFault) (xs ys all : List Ask) → xs ++ ys ≡ all → OnOk o (ys ≡ []) → Ends store 1 first now xs before now_held f0 f o → Ends store 1 first now all before now_held f0 f o
-        whole (Ok told) xs ys all parts none ends = subst (λ (l : List Ask). Ends store 1 first now l before now_held f0 f (Ok told)) (sym (append-nil xs) ∙ ap (λ (l : List Ask). xs ++ l) (sym none) ∙ parts) ends
-        whole (Err fault) xs ys all parts none ends = subst (λ (l : List Ask). IsBrokenWith store 1 first now l before now_held f0 f fault) parts (broken_with-more xs ys 1 before now_held f0 f fault ends)
+  -- ---- over a source
+  module _ (most : ℕ) (asks : List Ask → Type 0) (before now_held : Option (List ℕ)) (f0 f : ℕ) where
+    pub over-all : (outcome : Result Bool ApplyFault) → EndsOver store most first now asks before now_held f0 f outcome → (all : List Ask) → asks all → Ends store most first now all before now_held f0 f outcome
+    over-all (Ok told) e all is = subst (λ (l : List Ask). Ends store most first now l before now_held f0 f (Ok told)) (e.whole all is) e.ends
+    over-all (Err fault) e all is =
+        let p = e.part all is in
+        subst (λ (l : List Ask). IsBrokenWith store most first now l before now_held f0 f fault) p.1 (broken_with-more e.asked p.0 most before now_held f0 f fault e.ends)
 
-    pub over-prefix : (outcome : Result Bool ApplyFault) (e : EndsOver store first now reads before now_held f0 f outcome) (u : State) → IsAfterPrefix (store.state first) e.asked u → IfSome reads (λ input. IsAfterPrefix (store.state first) (asked_by_input input) u)
-    over-prefix outcome e u p = within reads e.parts
-      where
-        within : (o : Option (List ℕ)) → IfSome o (λ input. e.asked ++ e.later ≡ asked_by_input input) → IfSome o (λ input. IsAfterPrefix (store.state first) (asked_by_input input) u)
-        within None parts = tt
-        within (Some input) parts = subst (λ (xs : List Ask). IsAfterPrefix (store.state first) xs u) parts (prefix-more (store.state first) u e.asked e.later p)
-
-    -- it comes to this where what is known of its input is known of it
-    pub over-some : (P : List ℕ → Type 0) (outcome : Result Bool ApplyFault) → EndsOver store first now reads before now_held f0 f outcome → ((input : List ℕ) → Ends store 1 first now (asked_by_input input) before now_held f0 f outcome → P input) → IfSome reads P
-    over-some P outcome e f = if_some reads P (λ input is. f input (over-all outcome e input is))
+    pub over-prefix : (outcome : Result Bool ApplyFault) (e : EndsOver store most first now asks before now_held f0 f outcome) (u : State) → IsAfterPrefix (store.state first) e.asked u → (all : List Ask) → asks all → IsAfterPrefix (store.state first) all u
+    over-prefix outcome e u p all is =
+        let q = e.part all is in
+        subst (λ (xs : List Ask). IsAfterPrefix (store.state first) xs u) q.1 (prefix-more (store.state first) u e.asked q.0 p)
 
 -- what holds of an outcome wherever an input is known
 pub ok-some : {A B : Type 0} (r : Result A ApplyFault) (o : Option B) (C : A → Type 0) (P : A → B → Type 0) → ((x : B) → o ≡ Some x → IfOk r (λ a. C a → P a x)) → IfOk r (λ a. C a → IfSome o (P a))
-ok-some (Ok a) o C P h = λ c. if_some o (P a) (λ x is. h x is c)
+ok-some (Ok a) o C P h = λ c. IfSome-each o (P a) (λ x is. h x is c)
 ok-some (Err e) o C P h = tt
+
+pub ok-each : {A B : Type 0} (r : Result A ApplyFault) (o : Option B) (P : A → B → Type 0) → ((x : B) → o ≡ Some x → IfOk r (λ a. P a x)) → IfOk r (λ a. IfSome o (P a))
+ok-each (Ok a) o P h = IfSome-each o (P a) (λ x is. h x is)
+ok-each (Err e) o P h = tt
 
 pub err-some : {A B : Type 0} (r : Result A ApplyFault) (o : Option B) (C : Type 0) (D : State → Type 0) (P : ApplyFault → State → B → Type 0) → ((x : B) → o ≡ Some x → IfErr r (λ e. C → (u : State) → D u → P e u x)) → IfErr r (λ e. C → (u : State) → D u → IfSome o (P e u))
 err-some (Ok a) o C D P h = tt
-err-some (Err e) o C D P h = λ c u d. if_some o (P e u) (λ x is. h x is c u d)
+err-some (Err e) o C D P h = λ c u d. IfSome-each o (P e u) (λ x is. h x is c u d)

@@ -4,5 +4,6 @@ pub mod Sessions
 pub mod LineLemmas
 pub mod RunLemmas
 pub mod ProgressLemmas
+pub mod Sourcing
 pub mod Readings
 pub mod Endings

@@ -9,9 +9,8 @@ use Rattle.std.specs.List.{list_all, prefix_len}
 use Rattle.fp_edit.specs.Line as line
 use Rattle.fp_edit.specs.Line.{line_of}
 use Rattle.fp_edit.specs.declared.line.TheConstants.{LONGEST_LINE}
-use Rattle.fp_session.specs.Asks.{Ask, asked_by_input, asked_by_lines}
-use Rattle.fp_session.specs.Lines.{lines_with_reply, is_blank, is_space, lines, onto_first}
-use Rattle.fp_session.specs.Progress.{line_up_to_limit}
+use Rattle.fp_session.specs.Asks.{asked_by_lines}
+use Rattle.fp_session.specs.Lines.{line_up_to_limit, lines_with_reply, is_blank, is_space, lines, onto_first}
 
 abbrev Lists : Type 0
 Lists = List (List ℕ)
@@ -174,10 +173,3 @@ asked-blank l blank = ap (λ k. map line_of (cond (not k) (l ∷ []) [])) blank
 
 pub asked-line : (l : List ℕ) → is_blank l ≡ false → asked_by_lines (l ∷ []) ≡ line_of l ∷ []
 asked-line l blank = ap (λ k. map line_of (cond (not k) (l ∷ []) [])) blank
-
--- what the lines that ended ask is a beginning of what the input asks, however it goes on
-pub asked-within : (front back input : List ℕ) (done : Lists) (line : List ℕ) → front ++ back ≡ input → lines front ≡ done ++ line ∷ [] → (later : List Ask) × (asked_by_lines done ++ later ≡ asked_by_input input)
-asked-within front back input done line parts split =
-    let some = lines-some back in
-    let all : lines input ≡ done ++ (line ++ some.0) ∷ some.1 = sym (ap lines parts) ∙ lines-append front back some.0 some.1 some.2 done line split in
-    (asked_by_lines ((line ++ some.0) ∷ some.1), sym (ap asked_by_lines all ∙ asked-append done ((line ++ some.0) ∷ some.1)))

@@ -238,23 +238,6 @@ module _ {E : Type 0} (store : Ghosts E) where
         seal-broken first now asked sent r.text.items (map reply_of_code r.waiting.items) r.is_told i next r most f same ahead moment fails
         (sym (append-nil r.text.items) ∙ ap (λ (ws : List code.Reply). r.text.items ++ texts_of (map (told_if false) (map reply_of_code ws))) (sym none)) (omega (arith, zero, all))
 
-  -- ---- the texts were sent
-  pub at-sent : (first now : E) (asked : List Ask) (sent : List ℕ) (r q : Replies) → IsAt store first now asked sent r → q.text.items ≡ [] → q.waiting ≡ r.waiting → q.is_told ≡ r.is_told → IsAt store first now asked (sent ++ r.text.items) q
-  at-sent first now asked sent r q i none waiting told = record {
-    done = i.done;
-    batch = i.batch;
-    kept = i.kept;
-    replies = i.replies;
-    split = i.split;
-    run = i.run;
-    on = subst (λ (rs : List Reply). IsRun i.kept i.batch rs (store.state now)) (ap (λ v. map reply_of_code v.items) (sym waiting)) i.on;
-    ahead = i.ahead;
-    written = ap (λ (l : List ℕ). (sent ++ r.text.items) ++ l) none ∙ append-nil (sent ++ r.text.items) ∙ i.written;
-    told = told ∙ i.told;
-    led = i.led;
-    leaves = i.leaves;
-  }
-
   -- ---- the end, where nothing waits
   pub at-ended : (first now : E) (asked : List Ask) (sent text : List ℕ) (told : Bool) (q : Replies) → At store first now asked sent text [] told
       → q.text.items ≡ text ++ show_line (store.state now) → q.is_told ≡ told → store.rests now → IsEnded store first now asked sent q

@@ -1,4 +1,5 @@
 pub mod Lines
+pub mod Sources
 pub mod Asks
 pub mod Reply
 pub mod Run

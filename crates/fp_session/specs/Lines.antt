@@ -1,6 +1,6 @@
 -- The lines of an input, and those that are answered.
 use Rattle.std.specs.Prelude.{ℕ, List, [], ◌∷◌, length, Bool, ◌&&◌, ◌||◌, ◌==◌, not, nat_le}
-use Rattle.std.specs.Prelude.{if◌then◌else◌, filter}
+use Rattle.std.specs.Prelude.{if◌then◌else◌, filter, take, ◌+◌}
 use Rattle.std.specs.List.{list_all}
 use Rattle.fp_edit.specs.declared.line.TheConstants.{LONGEST_LINE}
 
@@ -23,3 +23,7 @@ is_blank line = nat_le (length line) LONGEST_LINE && list_all is_space line
 -- the lines that get a reply: all but the blank ones
 abbrev pub lines_with_reply : List (List ℕ) → List (List ℕ)
 lines_with_reply ls = filter (λ line. not (is_blank line)) ls
+
+-- a line, or one byte more of it than is looked at
+abbrev pub line_up_to_limit : List ℕ → List ℕ
+line_up_to_limit line = take (LONGEST_LINE + 1) line

@@ -1,6 +1,6 @@
 -- How far what is asked was answered.
-use Rattle.std.specs.Prelude.{◌≡◌, ◌⊎◌, ℕ, ◌+◌, List, [], ◌∷◌, ◌++◌, map, take, Bool, Option, Ok}
-use Rattle.std.specs.Prelude.{Err, Result, IfSome, OnOk}
+use Rattle.std.specs.Prelude.{◌≡◌, ◌⊎◌, ℕ, List, ◌++◌, map, take, Bool, Option, Ok}
+use Rattle.std.specs.Prelude.{Err, Result, OnOk}
 use Rattle.std.specs.List.{list_all}
 use Rattle.std.specs.Io.KnownBytes.{Appends}
 use Rattle.fp_edit.specs.Edits.{proposal_of}
@@ -8,9 +8,7 @@ use Rattle.fp_edit.specs.Flags.{State}
 use Rattle.fp_edit.specs.Spelled.{Tells}
 use Rattle.fp_edit.specs.declared.edit.Edit.{Edit}
 use Rattle.fp_edit.specs.declared.line.LineFault.{LineFault}
-use Rattle.fp_edit.specs.declared.line.TheConstants.{LONGEST_LINE}
-use Rattle.fp_session.specs.Asks.{Ask, asked_by_input, asked_by_lines}
-use Rattle.fp_session.specs.Lines.{lines}
+use Rattle.fp_session.specs.Asks.{Ask}
 use Rattle.fp_session.specs.Reply.{Reply, reply_of_code, texts_of, is_told, told_if}
 use Rattle.fp_session.specs.Run.{Answers, IsRun, IsAfterPrefix, IsRunWritten, IsTold, IsToldBy}
 use Rattle.fp_session.specs.Run.{show_line}
@@ -135,39 +133,14 @@ Ends store most first now asked before now_held f0 f (Ok told) =
 Ends store most first now asked before now_held f0 f (Err fault) =
     IsBrokenWith store most first now asked before now_held f0 f fault
 
--- ---- lines
+-- ---- over a source
 
--- a line, or one byte more of it than is looked at
-abbrev pub line_up_to_limit : List ℕ → List ℕ
-line_up_to_limit line = take (LONGEST_LINE + 1) line
-
--- each line that ended in `seen` was answered and is kept, and the last one hasn't ended
-pub record IsReading {E : Type 0} (store : Ghosts E) (first now : E) (seen sent : List ℕ)
-    (r : Replies) (l : List ℕ) : Type 0 where
-  pub done : List (List ℕ)
-  pub line : List ℕ
-  pub split : lines seen ≡ done ++ line ∷ []
-  pub held : l ≡ line_up_to_limit line
-  pub at : IsAt store first now (asked_by_lines done) sent r
-  pub none : r.waiting.items ≡ []
-
--- it broke off at a line that ended in `seen`, and so one line at most isn't known to be kept
-pub record IsBrokenWithin {E : Type 0} (store : Ghosts E) (first now : E) (seen sent : List ℕ)
-    (r : Replies) (fault : ApplyFault) : Type 0 where
-  pub front : List ℕ
-  pub back : List ℕ
-  pub done : List (List ℕ)
-  pub line : List ℕ
-  pub parts : front ++ back ≡ seen
-  pub split : lines front ≡ done ++ line ∷ []
-  pub broken : IsBroken store 1 first now (asked_by_lines done) sent r fault
-
--- how a run over what a reader gives ends:
--- over some first things that the input asks, and where it is done over all
-pub record EndsOver {E : Type 0} (store : Ghosts E) (first now : E) (reads : Option (List ℕ))
-    (before now_held : Option (List ℕ)) (f0 f : ℕ) (outcome : Result Bool ApplyFault) : Type 0 where
+-- how a run over a source of edits ends: over some first things of all that it asks, and where it
+-- is done over all
+pub record EndsOver {E : Type 0} (store : Ghosts E) (most : ℕ) (first now : E)
+    (asks : List Ask → Type 0) (before now_held : Option (List ℕ)) (f0 f : ℕ)
+    (outcome : Result Bool ApplyFault) : Type 0 where
   pub asked : List Ask
-  pub later : List Ask
-  pub parts : IfSome reads (λ input. asked ++ later ≡ asked_by_input input)
-  pub whole : OnOk outcome (later ≡ [])
-  pub ends : Ends store 1 first now asked before now_held f0 f outcome
+  pub part : (all : List Ask) → asks all → (later : List Ask) × (asked ++ later ≡ all)
+  pub whole : OnOk outcome ((all : List Ask) → asks all → asked ≡ all)
+  pub ends : Ends store most first now asked before now_held f0 f outcome

@@ -1,25 +1,76 @@
-//! Imports.
+//! Flags that are imported.
 
-ghost use Rattle.std.specs.Prelude.{◌≡◌, ◌<◌, ◌≤◌, length, ◌++◌, [], ◌∷◌, List, ℕ, Ok, Option};
-ghost use Rattle.std.specs.Prelude.{true, map, IfErr, IfOk, MatchResult, OnOk};
+ghost use Rattle.std.specs.Prelude.{◌≡◌, List, Ok, length};
+ghost use Rattle.std.specs.Prelude.{true, map, IfErr, IfOk, OnOk};
 ghost use Rattle.std.specs.Io.KnownBytes.{Appends};
-ghost use Rattle.fp_edit.specs.Edits.{proposal_of};
 ghost use Rattle.fp_edit.specs.Flags.{State};
-ghost use Rattle.fp_session.specs.Asks.{Ask, asked_by_flags, flag_bytes};
-ghost use Rattle.fp_session.specs.Progress.{Ends, IsAtWith, IsBrokenWith, IsSentFurther};
+ghost use Rattle.fp_session.specs.Asks.{asked_by_flags, flag_bytes};
 ghost use Rattle.fp_session.specs.Run.{IsAfterPrefix, IsRunWritten, IsToldBy, after, script};
 ghost use Rattle.fp_session.specs.StoreRun.{StoreRun};
 ghost use Rattle.fp_session.specs.Streams.{Blames};
-ghost use Rattle.fp_session.specs.declared.replies.TheConstants.{LONG, MOST_WAITING};
-ghost use Rattle.fp_session.specs.declared.fault.ApplyFault.TheVariants.{Device};
+ghost use Rattle.fp_session.specs.declared.replies.TheConstants.{MOST_WAITING};
 
-use crate::replies::{Replies, conclude, give_up, go_on};
+use crate::batching::Batching;
+use crate::run::answer_all;
+use crate::source::EditSource;
 use crate::{ApplyFault, EditStore};
 use fp_definition::{Definition, FlagKey};
-use fp_edit::{Edit, Expect};
-use fp_streams::FailureCounted;
-use std::alloc::Global;
+use fp_edit::{Edit, Expect, LineFault};
+use fp_streams::{FailureCounted, StreamFault};
+use std::alloc::{AllocError, Global};
 use std::io::Write;
+use std::marker::Model;
+use std::vec::IntoIter;
+
+/// Puts of flags, which are all at hand.
+#[derive(Drop)]
+pub struct FlagPuts {
+    flags: IntoIter<(FlagKey, Definition)>,
+}
+
+impl Model for FlagPuts {
+    ghost use Rattle.std.specs.Prelude.{◌≡◌, ℕ, List, length};
+    ghost use Rattle.std.specs.Vec.Iter.{into_iter_items, into_iter_len};
+    ghost use Rattle.fp_definition.specs.declared.key.FlagKey.{FlagKey};
+
+    ghost Value = { List (FlagKey × List ℕ) };
+
+    ghost view = { λ p. into_iter_items p.flags };
+
+    ghost invariant = { λ p. length (into_iter_items p.flags) ≡ into_iter_len p.flags };
+}
+
+impl FlagPuts {
+    fn new(flags: Vec<(FlagKey, Definition)>) -> FlagPuts
+        ensures { result ≡ flags.items }
+    {
+        FlagPuts {
+            flags: flags.into_iter(),
+        }
+    }
+}
+
+impl EditSource<()> for FlagPuts {
+    ghost asks = { λ p s all. all ≡ asked_by_flags (map flag_bytes p) };
+
+    ghost at_hand = { λ p. length p };
+
+    ghost left = { λ s. 0 };
+
+    ghost failures = { λ s. 0 };
+
+    fn next(&mut self, alloc: Global) -> Result<Option<Result<Edit, LineFault>>, AllocError> {
+        let Some((key, flag)) = self.flags.next() else {
+            return Ok(None);
+        };
+        let expect = Expect::Any;
+        Ok(Some(Ok(Edit::Put { key, flag, expect })))
+    }
+
+    fn refill(&mut self, stream: &mut ()) -> Result<bool, StreamFault> {
+        Ok(false)
+    }
+}
 
 /// Puts each flag, whatever stands at its key, answers each put by a reply line, and shows the
 /// flags behind the last reply. As many puts as may wait together are kept at once, and then
@@ -77,75 +128,8 @@ pub fn import_flags<W: Write, E: EditStore>(
     // `Device` comes only where the writer failed, and a run to the end only where it didn't.
     ensures device { Blames w.old.failures w.new.failures result.1 }
 {
+    let mut puts = FlagPuts::new(flags);
     let mut edits = edits;
-    let outcome = put_flags(alloc, w, &mut edits, flags);
+    let outcome = answer_all(alloc, &mut puts, &mut (), w, &mut edits, Batching::Full);
     (edits, outcome)
-}
-
-fn put_flags<W: Write, E: EditStore>(
-    alloc: Global,
-    w: &mut FailureCounted<W>,
-    edits: &mut E,
-    flags: Vec<(FlagKey, Definition)>,
-) -> Result<bool, ApplyFault>
-    requires fresh { (s : State) → E.may_stand edits.old s → s ≡ E.state edits.old }
-    ensures ends { Ends E.EditStore MOST_WAITING edits.old edits.new
-        (asked_by_flags (map flag_bytes flags.items)) (W.contents w.old.inner)
-        (W.contents w.new.inner)
-        w.old.failures w.new.failures result }
-    ensures device { Blames w.old.failures w.new.failures result }
-{
-    // What a crash leaves is known only where it is asked.
-    let _ = edits.flags();
-    let mut replies = Replies::new(alloc);
-    go_on(edits)?;
-    for (key, flag) in flags {
-        let expect = Expect::Any;
-        let put = Edit::Put { key, flag, expect };
-        put_flag(alloc, w, &mut replies, edits, put)?;
-    }
-    let ended = replies.end(alloc, edits);
-    conclude(w, &mut replies, ended)
-}
-
-// Puts a flag. The replies are sent where many wait, and before a fault is answered.
-fn put_flag<W: Write, E: EditStore>(
-    alloc: Global,
-    w: &mut FailureCounted<W>,
-    replies: &mut Replies,
-    edits: &mut E,
-    put: Edit,
-) -> Result<(), ApplyFault>
-    ensures put { (first : E) (asked : List Ask) (before : Option (List ℕ))
-        → length replies.old.waiting.items ≤ MOST_WAITING
-        → IsAtWith E.EditStore first edits.old asked before (W.contents w.old.inner) replies.old
-        → MatchResult result
-        (λ _. IsAtWith E.EditStore first edits.new (asked ++ Ok (proposal_of put) ∷ [])
-        before (W.contents w.new.inner) replies.new)
-        (IsBrokenWith E.EditStore MOST_WAITING first edits.new (asked ++ Ok (proposal_of put) ∷ [])
-        before (W.contents w.new.inner) w.old.failures w.new.failures) }
-    ensures bounded { OnOk result ((length replies.new.text.items ≤ LONG)
-        × (length replies.new.waiting.items ≤ MOST_WAITING)) }
-    ensures device { Blames w.old.failures w.new.failures result }
-{
-    match replies.ask(alloc, edits, Ok(put)) {
-        Ok(()) => send_long(w, replies),
-        Err(fault) => Err(give_up(w, replies, fault)),
-    }
-}
-
-// Sends the replies where many wait.
-fn send_long<W: Write>(w: &mut FailureCounted<W>, replies: &mut Replies) -> Result<(), ApplyFault>
-    ensures sent { (sent : List ℕ) (before : Option (List ℕ))
-        → Appends before (W.contents w.old.inner) sent → OnOk result
-        (IsSentFurther before (W.contents w.new.inner) sent replies.old replies.new) }
-    ensures bounded { OnOk result (length replies.new.text.items ≤ LONG) }
-    ensures waiting { replies.new.waiting ≡ replies.old.waiting }
-    ensures failed { IfErr result (λ f. (f ≡ Device) × (w.old.failures < w.new.failures)) }
-    ensures device { Blames w.old.failures w.new.failures result }
-{
-    if replies.is_long() {
-        replies.send(w)?;
-    }
-    Ok(())
 }

@@ -1,24 +1,108 @@
-//! A run over an input.
+//! The lines of an input.
 
-ghost use Rattle.std.specs.Prelude.{◌≡◌, ◌+◌, ◌++◌, [], ◌∷◌, ℕ, List, true, IfErr, IfOk};
-ghost use Rattle.std.specs.Prelude.{IfSome, MatchResult, OnOk};
+ghost use Rattle.std.specs.Prelude.{◌≡◌, ◌+◌, [], true, IfErr, IfOk};
+ghost use Rattle.std.specs.Prelude.{IfSome, MatchOption, Option, OnOk, length, ◌<◌, false};
 ghost use Rattle.std.specs.Io.KnownBytes.{Appends};
 ghost use Rattle.fp_edit.specs.Flags.{State};
-ghost use Rattle.fp_session.specs.Asks.{Ask, asked_by_input, asked_by_lines};
-ghost use Rattle.fp_session.specs.Progress.{EndsOver, IsAt, IsBroken, IsBrokenWithin, IsEnded};
-ghost use Rattle.fp_session.specs.Progress.{IsReading, line_up_to_limit};
+ghost use Rattle.fp_session.specs.Asks.{asked_by_input};
 ghost use Rattle.fp_session.specs.Run.{IsAfterPrefix, IsRunWritten, IsToldBy, after, script};
+ghost use Rattle.fp_session.specs.Sources.{AskLines, AsksNext, bytes_at_hand};
 ghost use Rattle.fp_session.specs.StoreRun.{StoreRun};
-ghost use Rattle.fp_session.specs.Streams.{Blames, IsFromWithin};
+ghost use Rattle.fp_session.specs.Streams.{Blames};
 
+use crate::batching::Batching;
+use crate::chunk::Chunk;
 use crate::line::{IncomingLine, newline_in};
-use crate::replies::{Replies, conclude, give_up, go_on};
+use crate::run::answer_all;
+use crate::source::EditSource;
 use crate::{ApplyFault, EditStore};
-use fp_streams::FailureCounted;
-use std::alloc::Global;
+use fp_edit::{Edit, LineFault};
+use fp_streams::{FailureCounted, StreamFault};
+use std::alloc::{AllocError, Global};
 use std::io::{Read, Write};
+use std::marker::Model;
 
-const CHUNK: usize = 65_536;
+/// The lines of an input, as they come in.
+#[derive(Drop)]
+pub struct InputLines {
+    line: IncomingLine,
+    chunk: Chunk,
+    is_ended: bool,
+}
+
+impl Model for InputLines {
+    ghost use Rattle.std.specs.Prelude.{◌≡◌, [], true};
+    ghost use Rattle.fp_session.specs.Sources.{LinesState};
+
+    ghost Value = { LinesState };
+
+    ghost view = { λ l. record { line = l.line; left = l.chunk; ended = l.is_ended } };
+
+    ghost invariant = { λ l. l.is_ended ≡ true → l.chunk ≡ [] };
+}
+
+impl InputLines {
+    // Nothing came in yet.
+    fn new(alloc: Global) -> InputLines
+        ensures { result ≡ record { line = []; left = []; ended = false } }
+    {
+        InputLines {
+            line: IncomingLine::new(alloc),
+            chunk: Chunk::new(),
+            is_ended: false,
+        }
+    }
+}
+
+impl<R: Read> EditSource<FailureCounted<R>> for InputLines {
+    ghost asks = { λ l s all. AskLines l (R.remaining s.inner) all };
+
+    ghost at_hand = { λ l. bytes_at_hand l };
+
+    ghost left = { λ s. s.reads_left };
+
+    ghost failures = { λ s. s.failures };
+
+    fn next(&mut self, alloc: Global) -> Result<Option<Result<Edit, LineFault>>, AllocError> {
+        if self.is_ended {
+            return Ok(self.line.end(alloc));
+        }
+        next_line(alloc, &mut self.line, &mut self.chunk)
+    }
+
+    fn refill(&mut self, reader: &mut FailureCounted<R>) -> Result<bool, StreamFault> {
+        if self.is_ended {
+            return Ok(false);
+        }
+        let is_more = self.chunk.fill(reader)?;
+        self.is_ended = !is_more;
+        Ok(true)
+    }
+}
+
+// What the next line asks that ends among the bytes that came in and isn't blank.
+fn next_line(
+    alloc: Global,
+    line: &mut IncomingLine,
+    chunk: &mut Chunk,
+) -> Result<Option<Result<Edit, LineFault>>, AllocError>
+    ensures next { IfOk result (AsksNext AskLines
+        (record { line = line.old; left = chunk.old; ended = false })
+        (record { line = line.new; left = chunk.new; ended = false })) }
+    ensures fewer { IfOk result (λ next. MatchOption next (chunk.new ≡ [])
+        (λ _. length chunk.new < length chunk.old)) }
+{
+    while let Some(at) = newline_in(chunk.as_slice()) {
+        line.extend(&chunk.as_slice()[..at])?;
+        chunk.skip(at + 1);
+        if let Some(edit) = line.end(alloc) {
+            return Ok(Some(edit));
+        }
+    }
+    line.extend(chunk.as_slice())?;
+    chunk.skip(chunk.as_slice().len());
+    Ok(None)
+}
 
 /// Answers each line of the reader in order, and shows the flags behind the last reply. Each edit
 /// is kept before it is answered.
@@ -78,105 +162,8 @@ pub fn apply_lines<R: Read, W: Write, E: EditStore>(
     ensures device { Blames (r.old.failures + w.old.failures) (r.new.failures + w.new.failures)
         result.1 }
 {
+    let mut lines = InputLines::new(alloc);
     let mut edits = edits;
-    let outcome = answer_input(alloc, r, w, &mut edits);
+    let outcome = answer_all(alloc, &mut lines, r, w, &mut edits, Batching::Single);
     (edits, outcome)
-}
-
-fn answer_input<R: Read, W: Write, E: EditStore>(
-    alloc: Global,
-    r: &mut FailureCounted<R>,
-    w: &mut FailureCounted<W>,
-    edits: &mut E,
-) -> Result<bool, ApplyFault>
-    requires fresh { (flags : State) → E.may_stand edits.old flags → flags ≡ E.state edits.old }
-    ensures ends { EndsOver E.EditStore edits.old edits.new (R.remaining r.old.inner)
-        (W.contents w.old.inner) (W.contents w.new.inner) w.old.failures w.new.failures result }
-    ensures device { Blames (r.old.failures + w.old.failures) (r.new.failures + w.new.failures)
-        result }
-{
-    // What a crash leaves is known only where it is asked.
-    let _ = edits.flags();
-    let mut line = IncomingLine::new(alloc);
-    let mut replies = Replies::new(alloc);
-    go_on(edits)?;
-    let mut chunk = [0; CHUNK];
-    loop {
-        let count = r.read(&mut chunk)?;
-        if count == 0 {
-            let ended = answer_end(alloc, edits, &mut replies, &mut line);
-            return conclude(w, &mut replies, ended);
-        }
-        match answer_bytes(alloc, edits, &mut replies, &mut line, &chunk[..count]) {
-            Ok(()) => replies.send(w)?,
-            Err(fault) => return Err(give_up(w, &mut replies, fault)),
-        }
-    }
-}
-
-// Takes the next bytes of the input, and answers each line that ends in them.
-fn answer_bytes<E: EditStore>(
-    alloc: Global,
-    edits: &mut E,
-    replies: &mut Replies,
-    line: &mut IncomingLine,
-    bytes: &[u8],
-) -> Result<(), ApplyFault>
-    ensures answered { (first : E) (seen sent : List ℕ)
-        → IsReading E.EditStore first edits.old seen sent replies.old line.old → MatchResult result
-        (λ _. IsReading E.EditStore first edits.new (seen ++ bytes.now) sent replies.new line.new)
-        (IsBrokenWithin E.EditStore first edits.new (seen ++ bytes.now) sent replies.new) }
-    ensures fault { IfErr result IsFromWithin }
-{
-    let mut rest = bytes;
-    while let Some(at) = newline_in(rest) {
-        line.extend(&rest[..at])?;
-        answer_line(alloc, edits, replies, line)?;
-        rest = &rest[at + 1..];
-    }
-    line.extend(rest)?;
-    Ok(())
-}
-
-// Answers the line that came in.
-fn answer_line<E: EditStore>(
-    alloc: Global,
-    edits: &mut E,
-    replies: &mut Replies,
-    line: &mut IncomingLine,
-) -> Result<(), ApplyFault>
-    ensures answered { (first : E) (asked : List Ask) (sent bytes : List ℕ)
-        → line.old ≡ line_up_to_limit bytes → replies.old.waiting.items ≡ []
-        → IsAt E.EditStore first edits.old asked sent replies.old → MatchResult result
-        (λ _. IsAt E.EditStore first edits.new
-        (asked ++ asked_by_lines (bytes ∷ [])) sent replies.new)
-        (IsBroken E.EditStore 1 first edits.new (asked ++ asked_by_lines (bytes ∷ [])) sent
-        replies.new) }
-    ensures none { replies.old.waiting.items ≡ [] → OnOk result (replies.new.waiting.items ≡ []) }
-    ensures ended { line.new ≡ [] }
-    ensures fault { IfErr result IsFromWithin }
-{
-    if let Some(edit) = line.end(alloc) {
-        replies.ask(alloc, edits, edit)?;
-        replies.seal(alloc, edits)?;
-    }
-    Ok(())
-}
-
-// Answers the last line, and shows the flags.
-fn answer_end<E: EditStore>(
-    alloc: Global,
-    edits: &mut E,
-    replies: &mut Replies,
-    line: &mut IncomingLine,
-) -> Result<(), ApplyFault>
-    ensures ended { (first : E) (seen sent : List ℕ)
-        → IsReading E.EditStore first edits.old seen sent replies.old line.old → MatchResult result
-        (λ _. IsEnded E.EditStore first edits.new (asked_by_input seen) sent replies.new)
-        (IsBroken E.EditStore 1 first edits.new (asked_by_input seen) sent replies.new) }
-    ensures fault { IfErr result IsFromWithin }
-{
-    answer_line(alloc, edits, replies, line)?;
-    replies.end(alloc, edits)?;
-    Ok(())
 }

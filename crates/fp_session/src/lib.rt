@@ -1,6 +1,8 @@
 //! Edits and where they go: the loop from what is asked to replies, over streams.
 #![tactic(auto)]
 
+mod batching;
+mod chunk;
 mod commit;
 mod compacting;
 mod disk_session;
@@ -12,7 +14,9 @@ mod laws;
 mod line;
 mod replies;
 mod reply;
+mod run;
 mod show;
+mod source;
 
 pub use commit::{CommitFault, seal_staged};
 pub use compacting::{go_on, make_room};

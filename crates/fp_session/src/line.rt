@@ -5,7 +5,8 @@ ghost use Rattle.std.specs.Prelude.{MatchOption, length, position, true, false};
 ghost use Rattle.std.specs.List.{list_all};
 ghost use Rattle.fp_edit.specs.Line.{line_of};
 ghost use Rattle.fp_session.specs.Lines as lines;
-ghost use Rattle.fp_session.specs.Progress.{AsksFor, line_up_to_limit};
+ghost use Rattle.fp_session.specs.Lines.{line_up_to_limit};
+ghost use Rattle.fp_session.specs.Progress.{AsksFor};
 
 use fp_edit::{Edit, LONGEST_LINE, LineFault, parse_line};
 use std::alloc::{AllocError, Global};
@@ -18,11 +19,14 @@ pub struct IncomingLine {
 }
 
 impl Model for IncomingLine {
-    ghost use Rattle.std.specs.Prelude.{ℕ, List};
+    ghost use Rattle.std.specs.Prelude.{◌≤◌, ◌+◌, ℕ, List, length};
+    ghost use Rattle.fp_edit.specs.declared.line.TheConstants.{LONGEST_LINE};
 
     ghost Value = { List ℕ };
 
     ghost view = { λ l. l.bytes.items };
+
+    ghost invariant = { λ l. length l.bytes.items ≤ LONGEST_LINE + 1 };
 }
 
 impl IncomingLine {
@@ -51,6 +55,8 @@ impl IncomingLine {
         ensures asks { (line : List ℕ) → self.old ≡ line_up_to_limit line
             → MatchOption result (lines.is_blank line ≡ true)
             (λ edit. (lines.is_blank line ≡ false) × AsksFor edit (line_of line)) }
+        // No more of it is held than is looked at.
+        ensures limited { line_up_to_limit self.old ≡ self.old }
         ensures ended { self.new ≡ [] }
     {
         let edit = asked_by(alloc, &self.bytes);

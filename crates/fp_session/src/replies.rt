@@ -6,6 +6,7 @@ ghost use Rattle.std.specs.Prelude.{vec_len};
 ghost use Rattle.std.specs.Io.KnownBytes.{Appends};
 ghost use Rattle.fp_edit.specs.Edits.{Change, proposal_of};
 ghost use Rattle.fp_edit.specs.Following.{change_of};
+ghost use Rattle.fp_edit.specs.Spelled.{Tells};
 ghost use Rattle.fp_session.specs.Asks.{Ask};
 ghost use Rattle.fp_session.specs.Progress.{AsksFor, IsAt, IsBroken, IsEnded, IsToldUpTo, Takes};
 ghost use Rattle.fp_session.specs.Reply.{is_told, reply_of_code, store_failed, texts_of, told_if};
@@ -66,17 +67,55 @@ impl Replies {
             (asked ++ x ∷ []) sent self.new) }
         ensures one { OnOk result (length self.new.waiting.items
             ≤ length self.old.waiting.items + 1) }
-        ensures bounded { IfOk edit (λ _. OnOk result
-            (length self.new.waiting.items ≤ MOST_WAITING)) }
+        ensures bounded { OnOk result (length self.new.waiting.items ≤ MOST_WAITING) }
         ensures fault { IfErr result IsFromWithin }
     {
         match edit {
             Ok(edit) => self.ask_edit(alloc, edits, edit),
-            Err(fault) => {
-                self.waiting.push(Reply::NoEdit(fault))?;
-                Ok(())
-            }
+            Err(fault) => self.refuse_line(alloc, edits, fault),
         }
+    }
+
+    // Answers a line that is no edit. What waits is kept first, where no reply more may wait.
+    fn refuse_line<E: EditStore>(
+        &mut self,
+        alloc: Global,
+        edits: &mut E,
+        fault: LineFault,
+    ) -> Result<(), ApplyFault>
+        ensures asked { (first : E) (asked : List Ask) (sent : List ℕ) (x : Ask)
+            → Tells fault (λ f. x ≡ Err f)
+            → IsAt E.EditStore first edits.old asked sent self.old → MatchResult result
+            (λ _. IsAt E.EditStore first edits.new (asked ++ x ∷ []) sent self.new)
+            (IsBroken E.EditStore (length self.old.waiting.items) first edits.new
+            (asked ++ x ∷ []) sent self.new) }
+        ensures one { OnOk result (length self.new.waiting.items
+            ≤ length self.old.waiting.items + 1) }
+        ensures bounded { OnOk result (length self.new.waiting.items ≤ MOST_WAITING) }
+        ensures fault { IfErr result IsFromWithin }
+    {
+        self.keep_full(alloc, edits)?;
+        self.waiting.push(Reply::NoEdit(fault))?;
+        Ok(())
+    }
+
+    // Has what waits kept, where no reply more may wait.
+    fn keep_full<E: EditStore>(&mut self, alloc: Global, edits: &mut E) -> Result<(), ApplyFault>
+        ensures room { OnOk result (length self.new.waiting.items < MOST_WAITING) }
+        ensures no_more { OnOk result (length self.new.waiting.items
+            ≤ length self.old.waiting.items) }
+        ensures asked { (first : E) (asked : List Ask) (sent : List ℕ)
+            → IsAt E.EditStore first edits.old asked sent self.old → MatchResult result
+            (λ _. IsAt E.EditStore first edits.new asked sent self.new)
+            (IsBroken E.EditStore (length self.old.waiting.items) first edits.new asked sent
+            self.new) }
+        ensures fault { IfErr result IsFromWithin }
+    {
+        if self.waiting.len() < MOST_WAITING {
+            return Ok(());
+        }
+        self.seal(alloc, edits)?;
+        Ok(())
     }
 
     // Puts an edit to the flags, once its reply has room.

@@ -258,7 +258,7 @@ pub fn recover<D: Disk>(alloc: Global, disk: D) -> Result<(Store<D>, Opening), (
     ensures opens { Opens D.Disk disk result }
     ensures kept { D.honest disk → (desk : DeskState) (told : ℕ) →
         KeptFrom desk told (D.bytes disk)
-            → IfOk result (λ r. IsAfterFirst desk told r.0.store.start) }
+        → IfOk result (λ r. IsAfterFirst desk told r.0.store.start) }
     ensures refused { D.honest disk → (desk : DeskState) (told : ℕ) →
         KeptFrom desk told (D.bytes disk) → IfErr result (λ e. (e.0 ≡ Device) ⊎ (e.0 ≡ Memory)) }
 {

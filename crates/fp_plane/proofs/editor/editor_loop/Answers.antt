@@ -1,7 +1,6 @@
 use Rattle.std.proofs.Common.{◌++◌, [], take, refl, ◌∙◌, arith}
 use Rattle.fp_session.specs.Asks.{asked_by_lines}
-use Rattle.fp_session.proofs.Endings.{part-more, part-whole}
-use Rattle.fp_plane.proofs.EditingLemmas.{reading-none, served-whole}
+use Rattle.fp_plane.proofs.EditingLemmas.{part-more, part-whole, reading-none, served-whole}
 use Rattle.fp_plane.proofs.editor.editor_loop.Goals as goal
 
 -- nothing was read yet

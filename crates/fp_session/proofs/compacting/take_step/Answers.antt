@@ -8,24 +8,24 @@ use Rattle.fp_session.proofs.compacting.take_step.Goals as goal
 pub returns-in-Ok-clause-proceeds : goal.returns-in-Ok-clause-proceeds
 returns-in-Ok-clause-proceeds g c =
     let D = g.D.Disk in let a = c.args.store.now in let b = c.compact_step.new.self in let w = c.compact_step.ensures in let ok = c.in-Ok.ensures.ok in record {
-      keeps = keeps_all D a b w.same.0 w.same.1 w.phase c.requires.rest.0 w.any_moment w.exit w.honest;
+      keeps = keeps_all D a b w.same.0 w.same.1 w.phase c.requires.rest.0 w.disk.any_moment w.disk.exit w.disk.honest;
       well = ok.well_now;
       no_failure = ok.no_failure;
-      works = works_step D a b ok.next c.in-Ok.ensures.called;
+      works = works_step D a b ok.next c.in-Ok.ensures.disk.called;
     }
 
 pub returns-in-Err-Device-clause-halts : goal.returns-in-Err-Device-clause-halts
 returns-in-Err-Device-clause-halts g c =
     let D = g.D.Disk in let a = c.args.store.now in let b = c.compact_step.new.self in let w = c.compact_step.ensures in record {
-      keeps = keeps_all D a b w.same.0 w.same.1 w.phase c.requires.rest.0 w.any_moment w.exit w.honest;
-      works = breaks_step D a b c.in-Err-Device.ensures.called;
+      keeps = keeps_all D a b w.same.0 w.same.1 w.phase c.requires.rest.0 w.disk.any_moment w.disk.exit w.disk.honest;
+      works = breaks_step D a b c.in-Err-Device.ensures.disk.called;
       cause = λ is. (let why : StopsBy D.faults a b fault.Device = subst (λ (f : StoreFault). StopsBy D.faults a b f) c.in-Err-Device.field-0-is c.in-Err-Device.ensures.fault in why.cause);
     }
 
 pub returns-in-Err-Memory-clause-halts : goal.returns-in-Err-Memory-clause-halts
 returns-in-Err-Memory-clause-halts g c =
     let D = g.D.Disk in let a = c.args.store.now in let b = c.compact_step.new.self in let w = c.compact_step.ensures in record {
-      keeps = keeps_all D a b w.same.0 w.same.1 w.phase c.requires.rest.0 w.any_moment w.exit w.honest;
-      works = breaks_step D a b c.in-Err-Memory.ensures.called;
+      keeps = keeps_all D a b w.same.0 w.same.1 w.phase c.requires.rest.0 w.disk.any_moment w.disk.exit w.disk.honest;
+      works = breaks_step D a b c.in-Err-Memory.ensures.disk.called;
       cause = λ is. absurd cc;
     }

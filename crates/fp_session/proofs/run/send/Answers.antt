@@ -1,9 +1,9 @@
 use Rattle.std.proofs.Common.{◌++◌, ℕ, List, ap, ◌∙◌, append-nil}
 use Rattle.fp_base.proofs.Known.{Appends-more}
-use Rattle.fp_session.proofs.import.send_long.Goals as goal
+use Rattle.fp_session.proofs.run.send.Goals as goal
 
-pub returns-in_ok-send-clause-sent : goal.returns-in_ok-send-clause-sent
-returns-in_ok-send-clause-sent g c = λ sent before was.
+pub returns-clause-sent : goal.returns-clause-sent
+returns-clause-sent g c = λ sent before was.
     let r = c.args.replies.now in record {
       all = sent ++ r.text.items;
       appended = Appends-more before (g.W.Write.contents c.args.w.now.inner) (g.W.Write.contents c.send.new.w.inner) sent r.text.items was c.in_ok-send.ensures.sent;
