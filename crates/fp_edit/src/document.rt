@@ -14,13 +14,15 @@ use fp_definition::{Definition, FlagKey};
 use std::alloc::{AllocError, Global};
 use std::collections::BTreeMap;
 
+// The document, begun with room for so many bytes.
 pub(crate) fn document_of(
     alloc: Global,
     flags: &BTreeMap<FlagKey, Flag>,
+    room: usize,
 ) -> Result<Vec<u8>, AllocError>
     ensures { IfOk result (λ text. text.items ≡ document (flags_of flags.now.entries)) }
 {
-    let mut out = Vec::new(alloc);
+    let mut out = Vec::with_capacity(alloc, room)?;
     out.extend_from_slice(b"{\"flags\":{")?;
     put_members(alloc, &mut out, flags)?;
     out.push(b'}')?;

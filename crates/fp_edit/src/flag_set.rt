@@ -139,7 +139,7 @@ impl FlagSet {
     pub fn document(&self) -> Result<Vec<u8>, AllocError>
         ensures { IfOk result (λ text. text.items ≡ document self.now.flags) }
     {
-        document_of(self.alloc, &self.flags)
+        document_of(self.alloc, &self.flags, self.size as usize)
     }
 
     /// An equal set, which shares the definitions.
@@ -208,8 +208,21 @@ impl FlagSet {
             (map.insert self.now.flags (key_bytes key.now)
             (record { definition = definition.now; changed = changed })) self.now.limit }
     {
+        // Mostly there is room whatever stands there now, and nothing is looked up.
+        if self.has_ample_room(key, definition) {
+            return true;
+        }
         self.count_with(key) <= MOST_FLAGS as u128
             && self.size_with(key, definition) <= self.limit as u128
+    }
+
+    fn has_ample_room(&self, key: &FlagKey, definition: &Definition) -> bool
+        ensures { result ≡ true → (changed : ℕ) → is_within
+            (map.insert self.now.flags (key_bytes key.now)
+            (record { definition = definition.now; changed = changed })) self.now.limit ≡ true }
+    {
+        self.len() < MOST_FLAGS
+            && self.size as u128 + cost_of(key, definition) <= self.limit as u128
     }
 
     /// What stands against an edit, if anything but want of memory does.
@@ -309,11 +322,11 @@ impl FlagSet {
         ensures unchanged { OnErr result (self.new ≡ self.old) }
         ensures given_back { IfErr result (λ p. p ≡ (key, flag)) }
     {
-        let size = self.size_with(&key, &flag);
+        let cost = cost_of(&key, &flag);
         let flag = self.next_flag(flag);
         match store(&mut self.flags, key, flag) {
-            Ok(()) => {
-                self.size = size as u64;
+            Ok(before) => {
+                self.size = (self.size as u128 + cost - before) as u64;
                 self.revision += 1;
                 Ok(())
             }

@@ -35,11 +35,14 @@ pub(crate) fn find<'a>(flags: &'a BTreeMap<FlagKey, Flag>, key: &FlagKey) -> Opt
     flags.get(key)
 }
 
+/// Stores a flag, and answers what the one before it took of an image, 0 without one.
 pub(crate) fn store(
     flags: &mut BTreeMap<FlagKey, Flag>,
     key: FlagKey,
     flag: Flag,
-) -> Result<(), AllocFailed<(FlagKey, Flag)>>
+) -> Result<u128, AllocFailed<(FlagKey, Flag)>>
+    ensures before { IfOk result (λ n. n ≡ cost_found (key_bytes key)
+        (map.get (flags_of flags.old.entries) (key_bytes key))) }
     ensures stored { OnOk result
         (flags_of flags.new.entries
         ≡ map.insert (flags_of flags.old.entries) (key_bytes key) flag) }
@@ -47,8 +50,10 @@ pub(crate) fn store(
     ensures unchanged { OnErr result (flags_of flags.new.entries ≡ flags_of flags.old.entries) }
     ensures ordered { IsOrdered flag_cmp flags.new }
 {
+    let len = key.as_str().len();
     match flags.insert(key, flag) {
-        Ok(_) => Ok(()),
+        Ok(Some(before)) => Ok(FLAG_FRAME + len as u128 + before.definition.text().len() as u128),
+        Ok(None) => Ok(0),
         Err(e) => Err(e),
     }
 }

@@ -10,7 +10,7 @@ pub returns : goal.returns
 unfolding serde_json_on_literals
 returns c =
     let es = c.args.flags.now.entries in
-    let start : c.extend_from_slice.new.self.items ≡ [] ++ codes "{\"flags\":{" = c.in_ok-extend_from_slice.ensures.items ∙ ap (λ l. l ++ codes "{\"flags\":{") c.new-out.ensures.items in
+    let start : c.extend_from_slice.new.self.items ≡ [] ++ codes "{\"flags\":{" = c.in_ok-extend_from_slice.ensures.items ∙ ap (λ l. l ++ codes "{\"flags\":{") c.in_ok-out.ensures.items in
     c.in_ok-push.ensures.items
     ∙ ap (λ l. l ++ 125 ∷ []) (c.in_ok-put_members.ensures.members
     ∙ ap (λ l. l ++ members_text false (members_of (entries_of es))) start
