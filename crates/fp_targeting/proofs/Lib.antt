@@ -5,3 +5,4 @@ pub mod WellFormed
 pub mod Counts
 pub mod MeaningLaws
 pub mod Members
+pub mod Constants

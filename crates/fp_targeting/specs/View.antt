@@ -1,7 +1,8 @@
 -- The rule that a compiled tree stands for.
 use Rattle.std.specs.Prelude.{List, [], ◌∷◌, map}
 use Rattle.fp_operators.specs.View.{view}
-use Rattle.fp_targeting.specs.Rule.{Rule, literal, list, apply, Rules, no_rules, rule}
+use Rattle.fp_targeting.specs.Constant.{constant}
+use Rattle.fp_targeting.specs.Rule.{Rule, list, apply, Rules, no_rules, rule}
 use Rattle.fp_targeting.specs.declared.tree.Tree.{Tree, fold-Tree}
 use Rattle.fp_targeting.specs.declared.tree.Tree.TheOpen.{Tree-F}
 
@@ -10,7 +11,7 @@ rules_of [] = no_rules
 rules_of (r ∷ rs) = rule r (rules_of rs)
 
 abbrev pub rule_view_step : Tree-F Rule → Rule
-rule_view_step (Tree-F.Literal d) = literal (view d)
+rule_view_step (Tree-F.Literal d) = constant (view d)
 rule_view_step (Tree-F.List v) = list (rules_of v.items)
 rule_view_step (Tree-F.Apply o v) = apply o (rules_of v.items)
 

@@ -9,6 +9,7 @@ ghost use Rattle.fp_targeting.specs.Answer.{TellsUnknown};
 ghost use Rattle.fp_targeting.specs.Compile.{first_unknown, items_unknown, where_counts_fit};
 ghost use Rattle.fp_targeting.specs.Compile.{where_all_counts_fit, rule_of, arguments_of};
 ghost use Rattle.fp_targeting.specs.Compile.{rules_from};
+ghost use Rattle.fp_targeting.specs.Constant.{all_scalar};
 
 use crate::operator::Operator;
 use crate::rule::RuleFault;
@@ -29,6 +30,10 @@ pub fn build(alloc: Global, value: &Value) -> Result<Tree, RuleFault>
 {
     match value {
         Value::Null | Value::Bool(_) | Value::Number(_) | Value::String(_) => {
+            Ok(Tree::Literal(Datum::from_value(alloc, value)?))
+        }
+        // A list of scalars is kept as one datum, which `evaluate` lends and doesn't make anew.
+        Value::Array(items) if are_scalars(items) => {
             Ok(Tree::Literal(Datum::from_value(alloc, value)?))
         }
         Value::Array(items) => Ok(Tree::List(build_all(alloc, items)?)),
@@ -75,6 +80,17 @@ fn build_all(alloc: Global, items: &Vec<Value>) -> Result<Vec<Tree>, RuleFault>
         found.push(build(alloc, item)?)?;
     }
     Ok(found)
+}
+
+fn are_scalars(items: &Vec<Value>) -> bool
+    ensures { result ≡ all_scalar (json_items items.now.items) }
+{
+    for item in items {
+        if matches!(item, Value::Array(_) | Value::Object(_)) {
+            return false;
+        }
+    }
+    true
 }
 
 fn operator_named(alloc: Global, name: &str) -> Result<Operator, RuleFault>

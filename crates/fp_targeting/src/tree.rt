@@ -7,7 +7,7 @@ ghost use Rattle.fp_targeting.specs.View.{rule_view, rules_view};
 use crate::operator::Operator;
 use fp_operators::Datum;
 
-/// A part of a compiled rule.
+/// A part of a compiled rule. A literal that is a list stands for the list of its items.
 #[derive(Drop)]
 pub enum Tree {
     Literal(Datum),

@@ -1,11 +1,15 @@
-use Rattle.std.proofs.Common.{◌≡◌, ◌+◌, [], ◌∷◌, ◌++◌, drop, map, string_bytes, sym, ap, ◌∙◌, arith, rules}
+use Rattle.std.proofs.Common.{◌≡◌, ◌+◌, [], ◌∷◌, ◌++◌, drop, map, string_bytes, true, Some, sym, ap, ◌∙◌, arith, rules}
 use Rattle.std.proofs.lemmas.List.{drop_more, drop_all, map-append}
-use Rattle.serde_json.specs.Data.{object, member, no_members}
+use Rattle.serde_json.specs.Data.{array, object, member, no_members}
 use Rattle.serde_json.specs.View.{view as json_view, items_view, members_view}
-use Rattle.serde_json.proofs.Views.{view-Object}
+use Rattle.serde_json.proofs.Views.{view-Array, view-Object}
+use Rattle.fp_operators.specs.FromJson.{data_of}
+use Rattle.fp_operators.specs.View.{view}
 use Rattle.fp_targeting.specs.View.{rule_view}
-use Rattle.fp_targeting.specs.Compile.{first_of, items_unknown, where_counts_fit, rule_of, operator_rule, arguments_of, one_more, rules_from}
+use Rattle.fp_targeting.specs.Compile.{first_of, first_unknown, items_unknown, where_counts_fit, rule_of, operator_rule, arguments_of, one_more, rules_from}
+use Rattle.fp_targeting.specs.Constant.{constant, all_scalar}
 use Rattle.fp_targeting.proofs.Arguments.{rule_of-operator}
+use Rattle.fp_targeting.proofs.Constants.{constant-fits, items_unknown-scalars, rule_of-scalars, rule_view-literal}
 use Rattle.fp_targeting.proofs.WellFormed.{before, before-more, before-none, rule_view-apply, formed-known}
 use Rattle.fp_targeting.proofs.build.+build.Goals as goal
 
@@ -22,6 +26,23 @@ build-returns-in_ok-build_arguments-in-Some-None-clause-rule t c =
     ∙ formed-known c.as_str.result.now o (map rule_view v.items) (c.in_ok-operator-in-Some-None.ensures.known)
     ∙ ap (operator_rule c.as_str.result.now) c.in_ok-build_arguments-in-Some-None.ensures.rules
     ∙ ap (λ n. operator_rule n (arguments_of (json_view d))) c.as_str.ensures.value ∙ sym (rule_of-operator (string_bytes k) (json_view d)) ∙ ap rule_of (sym shape)
+
+pub build-returns-in_ok-from_value-in-Array-clause-known : goal.build-returns-in_ok-from_value-in-Array-clause-known
+build-returns-in_ok-from_value-in-Array-clause-known t c =
+    let v = c.in-Array.items in
+    let scalars : all_scalar (items_view v.items) ≡ true = sym c.are_scalars.ensures ∙ c.if-are_scalars.true in
+    ap first_unknown (ap json_view c.in-Array.is ∙ view-Array v) ∙ items_unknown-scalars (items_view v.items) scalars
+
+pub build-returns-in_ok-from_value-in-Array-clause-rule : goal.build-returns-in_ok-from_value-in-Array-clause-rule
+build-returns-in_ok-from_value-in-Array-clause-rule t c =
+    let v = c.in-Array.items in
+    let d = c.in_ok-from_value-in-Array.field-0 in
+    let scalars : all_scalar (items_view v.items) ≡ true = sym c.are_scalars.ensures ∙ c.if-are_scalars.true in
+    let shape : json_view c.args.value.now ≡ array (items_view v.items) = ap json_view c.in-Array.is ∙ view-Array v in
+    ap where_counts_fit (rule_view-literal d) ∙ constant-fits (view d)
+    ∙ ap (λ x. Some (constant x)) c.in_ok-from_value-in-Array.ensures
+    ∙ ap (λ j. Some (constant (data_of j))) shape
+    ∙ sym (rule_of-scalars (items_view v.items) scalars) ∙ ap rule_of (sym shape)
 
 pub build_all-loop-item-preserved : goal.build_all-loop-item-preserved
 build_all-loop-item-preserved t c =

@@ -6,9 +6,16 @@ use Rattle.fp_operators.proofs.Variants.{view-Null}
 use Rattle.fp_operators.specs.Path.{variable_of}
 use Rattle.fp_targeting.specs.Operators.{result_of_few}
 use Rattle.fp_targeting.specs.Meaning.{meaning, meanings, or_null, value_behind_true}
+use Rattle.fp_targeting.proofs.Constants.{meaning-constant, rule_view-literal}
 use Rattle.fp_targeting.proofs.Counts.{length-meanings_view, at_most_two-more, few-other}
 use Rattle.fp_targeting.specs.View.{rule_view, rules_view}
 use Rattle.fp_targeting.proofs.evaluate.+evaluate.Goals as goal
+
+pub evaluate-returns-in-Literal : goal.evaluate-returns-in-Literal
+evaluate-returns-in-Literal t c =
+    let root = view c.args.root.now in
+    let d = c.in-Literal.datum in
+    sym (ap (λ r. meaning root (rule_view r)) c.in-Literal.is ∙ ap (meaning root) (rule_view-literal d) ∙ meaning-constant root (view d))
 
 pub evaluate_if-pairs-preserved : goal.evaluate_if-pairs-preserved
 evaluate_if-pairs-preserved t c =

@@ -1,8 +1,15 @@
 use Rattle.std.proofs.Common.{◌≡◌, ◌&&◌, length, true, false, sym, ap, ◌∙◌, rules}
 use Rattle.fp_targeting.specs.Operators.{takes, well_formed, all_well_formed}
 use Rattle.fp_targeting.specs.View.{rule_view, rules_view}
+use Rattle.fp_operators.specs.View.{view}
+use Rattle.fp_targeting.proofs.Constants.{constant-formed, rule_view-literal}
 use Rattle.fp_targeting.proofs.WellFormed.{well_formed-apply}
 use Rattle.fp_targeting.proofs.tree.+fits.Goals as goal
+
+pub counts_fit-returns-in-Literal : goal.counts_fit-returns-in-Literal
+counts_fit-returns-in-Literal t c =
+    let d = c.in-Literal.field-0 in
+    sym (ap (λ r. well_formed (rule_view r)) c.in-Literal.is ∙ ap well_formed (rule_view-literal d) ∙ constant-formed (view d))
 
 pub counts_fit-returns-then-takes : goal.counts_fit-returns-then-takes
 counts_fit-returns-then-takes t c =
