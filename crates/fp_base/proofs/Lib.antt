@@ -2,3 +2,9 @@ pub mod Known
 pub mod Reading
 pub mod TextLengths
 pub mod WholeData
+pub mod Numerals
+pub mod Pairs
+pub mod Owners
+pub mod Sorted
+pub mod Puts
+pub mod Lookups

@@ -7,3 +7,6 @@ pub mod Tests
 pub mod Text
 pub mod Weight
 pub mod Whole
+pub mod Numeral
+pub mod Owned
+pub mod Sorted

@@ -4,8 +4,12 @@
 mod members;
 mod sizes;
 mod texts;
+mod trees;
 mod walks;
+mod writing;
 
 pub use members::take_member;
 pub use texts::{canonical_text, canonical_text_within, put_quoted, read_json};
+pub use trees::{owned, read_tree, whole_number};
 pub use walks::{nests_within, values_left, whole_numbers};
+pub use writing::write_value;

@@ -3,3 +3,4 @@ pub mod Metadata
 pub mod OneOutcome
 pub mod Told
 pub mod Without
+pub mod Parts

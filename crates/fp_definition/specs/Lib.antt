@@ -6,3 +6,5 @@ pub mod Resolving
 pub mod Outcome
 pub mod Targeting
 pub mod Kept
+pub mod Parts
+pub mod Written

@@ -3,6 +3,8 @@
 ghost use Rattle.std.specs.Prelude.{◌≡◌, ◌≢◌, true, Some, None, IfOk, IfErr, IfSome};
 ghost use Rattle.std.specs.Prelude.{if◌then◌else◌};
 ghost use Rattle.std.specs.Prelude.{codes, option_map};
+ghost use Rattle.json.specs.Tree.{HasNumbers};
+ghost use Rattle.json.specs.Value.{value_view};
 ghost use Rattle.serde_json.specs.Find.{get};
 ghost use Rattle.serde_json.specs.View.{view};
 ghost use Rattle.serde_json.specs.Written.{compact_text};
@@ -10,15 +12,19 @@ ghost use Rattle.fp_base.specs.Answer.{IsFirst};
 ghost use Rattle.fp_base.specs.Json.{json_of};
 ghost use Rattle.fp_base.specs.Whole.{is_whole};
 ghost use Rattle.fp_definition.specs.Faults.{Tells};
+ghost use Rattle.fp_definition.specs.Parts.{AreParts};
 ghost use Rattle.fp_definition.specs.Resolving.{data_of};
 ghost use Rattle.fp_definition.specs.Targeting.{rule_in};
 ghost use Rattle.fp_definition.specs.Valid.{first_fault, IsValid, is_definition_text};
 ghost use Rattle.fp_definition.specs.Valid.{definition_in, is_text_of};
+ghost use Rattle.fp_definition.specs.Written.{WritesDefinition};
 
 use crate::faults::DefFault;
-use crate::members::{tested_members, without};
-use fp_base::{canonical_text_within, nests_within, read_json, whole_numbers};
+use crate::members::{meets_tests, tested_members, without};
+use crate::trees::definition_of;
+use fp_base::{canonical_text_within, nests_within, read_json, read_tree, whole_numbers};
 use fp_targeting::Rule;
+use json::Scratch;
 use serde_json::Value;
 use std::alloc::{AllocError, Global};
 use std::marker::Model;
@@ -72,10 +78,43 @@ impl Definition {
         Ok(Definition { share })
     }
 
+    /// The definition that a tree of JSON is. `None` says nothing of the tree: `from_value` says
+    /// what its value is.
+    pub fn from_tree(
+        alloc: Global,
+        tree: &json::Value<'_>,
+    ) -> Result<Option<Definition>, AllocError>
+        requires { HasNumbers (value_view tree.now) }
+        ensures { IfOk result (λ o. IfSome o (WritesDefinition (value_view tree.now))) }
+    {
+        definition_of(alloc, tree)
+    }
+
+    // The definition that has these parts, if it meets the tests of its members and isn't too long.
+    pub(crate) fn of_parts(
+        alloc: Global,
+        text: Vec<u8>,
+        rest: Value,
+        rule: Option<Rule>,
+    ) -> Result<Option<Definition>, AllocError>
+        requires { AreParts text.items (view rest) rule }
+        ensures { IfOk result (λ o. IfSome o (λ d. (d ≡ text.items)
+            × IsValid (data_of text.items))) }
+    {
+        if text.len() > LONGEST_DEFINITION || !meets_tests(&rest) {
+            return Ok(None);
+        }
+        let share = Arc::new(alloc, Kept { text, rest, rule })?;
+        Ok(Some(Definition { share }))
+    }
+
     /// The definition whose canonical text the bytes are, or `None` where they are no such text.
     pub fn from_text(alloc: Global, text: &[u8]) -> Result<Option<Definition>, AllocError>
         ensures { IfOk result (λ o. o ≡ definition_in text.now) }
     {
+        if let Some(definition) = from_canonical(alloc, text)? {
+            return Ok(Some(definition));
+        }
         match read_json(alloc, text)? {
             Some(value) => from_read(alloc, value, text),
             None => Ok(None),
@@ -122,6 +161,25 @@ impl Definition {
         let share = Arc::try_clone(&self.share)?;
         Ok(Definition { share })
     }
+}
+
+// The definition whose canonical text the bytes are, as nearly all that are read are. `None` says
+// nothing of them.
+#[tactic(auto, unfolding(crate::specs::Valid::is_text_of))]
+fn from_canonical(alloc: Global, text: &[u8]) -> Result<Option<Definition>, AllocError>
+    ensures { IfOk result (λ o. IfSome o (λ d. Some d ≡ definition_in text.now)) }
+{
+    let mut scratch = Scratch::new(alloc);
+    let Some(tree) = read_tree(alloc, text, &mut scratch)? else {
+        return Ok(None);
+    };
+    let Some(definition) = definition_of(alloc, &tree)? else {
+        return Ok(None);
+    };
+    if definition.text() != text {
+        return Ok(None);
+    }
+    Ok(Some(definition))
 }
 
 // The canonical text and the rule of a value that is a definition.

@@ -8,6 +8,7 @@ mod kind;
 mod members;
 mod resolving;
 mod rules;
+mod trees;
 
 pub use definition::{DEEPEST_DEFINITION, Definition, LONGEST_DEFINITION};
 pub use faults::{DefFault, KeyFault};

@@ -13,6 +13,7 @@ ghost use Rattle.fp_definition.specs.Targeting.{rule_in};
 ghost use Rattle.fp_definition.specs.Valid.{member_tests, is_state, are_variants, variant_members};
 ghost use Rattle.fp_definition.specs.Valid.{is_between, names_variant, is_metadata};
 ghost use Rattle.fp_definition.specs.Valid.{metadata_members};
+ghost use Rattle.fp_definition.specs.Parts.{MeetsTests};
 
 use crate::faults::DefFault;
 use crate::kind::{are_of_one_kind, are_scalars};
@@ -50,6 +51,13 @@ pub(crate) fn tested_members(alloc: Global, value: &Value) -> Result<Option<Rule
         return Err(DefFault::BadMetadata);
     }
     rule_of(alloc, value)
+}
+
+// Whether a value meets these tests, but for that of its `targeting`.
+pub(crate) fn meets_tests(value: &Value) -> bool
+    ensures { result ≡ true → MeetsTests (view value.now) }
+{
+    has_state(value) && has_variants(value) && has_default(value) && has_metadata(value)
 }
 
 fn has_state(value: &Value) -> bool

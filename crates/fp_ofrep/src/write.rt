@@ -13,9 +13,10 @@ ghost use Rattle.fp_ofrep.specs.Bodies.{failure as failure_data, success, reason
 ghost use Rattle.fp_ofrep.specs.Bodies.{said_members, with_key, with_metadata};
 
 use crate::failure::Failure;
+use fp_base::write_value;
 use fp_definition::{Reason, Resolved};
 use json::Writer;
-use serde_json::{Map, Value};
+use serde_json::Value;
 use std::alloc::{AllocError, Global};
 
 /// The text of a failure.
@@ -74,60 +75,6 @@ fn write_member(out: &mut Writer, name: &str, text: &str) -> Result<(), AllocErr
     out.key(name)?;
     out.string(text)?;
     Ok(())
-}
-
-/// Writes a value whose numbers are whole.
-#[cycle(writes)]
-pub(crate) fn write_value(out: &mut Writer, value: &Value) -> Result<(), AllocError>
-    requires { is_whole (view value.now) ≡ true }
-    ensures tokens { OnOk result (out.new.tokens
-        ≡ out.old.tokens ++ json_tokens (outline (view value.now))) }
-    ensures before { OnOk result (out.new.before ≡ out.old.before) }
-{
-    match value {
-        Value::Null => out.null(),
-        Value::Bool(b) => out.boolean(*b),
-        Value::Number(number) => match number.as_i64() {
-            Some(whole) => out.i64(whole),
-            None => Ok(()),
-        },
-        Value::String(text) => out.string(text.as_str()),
-        Value::Array(items) => {
-            out.begin_array()?;
-            write_items(out, items)
-        }
-        Value::Object(members) => {
-            out.begin_object()?;
-            write_members(out, members)
-        }
-    }
-}
-
-#[cycle(writes)]
-fn write_items(out: &mut Writer, items: &Vec<Value>) -> Result<(), AllocError>
-    requires { items_whole (items_view items.now.items) ≡ true }
-    ensures tokens { OnOk result (out.new.tokens
-        ≡ out.old.tokens ++ items_tokens (items_outline (items_view items.now.items))) }
-    ensures before { OnOk result (out.new.before ≡ out.old.before) }
-{
-    for item in items {
-        write_value(out, item)?;
-    }
-    out.end_array()
-}
-
-#[cycle(writes)]
-fn write_members(out: &mut Writer, members: &Map<String, Value>) -> Result<(), AllocError>
-    requires { members_whole (members_view members.now.entries) ≡ true }
-    ensures tokens { OnOk result (out.new.tokens ≡ out.old.tokens
-        ++ members_tokens (members_outline (members_view members.now.entries))) }
-    ensures before { OnOk result (out.new.before ≡ out.old.before) }
-{
-    for (name, member) in members.iter() {
-        out.key(name.as_str())?;
-        write_value(out, member)?;
-    }
-    out.end_object()
 }
 
 fn reason_word(reason: Reason) -> &'static str

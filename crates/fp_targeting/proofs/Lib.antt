@@ -6,3 +6,5 @@ pub mod Counts
 pub mod MeaningLaws
 pub mod Members
 pub mod Constants
+pub mod Parts
+pub mod TreeCounts

@@ -10,7 +10,7 @@ use Rattle.fp_targeting.specs.declared.operator.Operator.{Operator}
 use Rattle.fp_targeting.specs.declared.tree.Tree.{Tree, the_lemmas}
 use Rattle.fp_targeting.specs.declared.tree.Tree.TheVariants.{Apply}
 
-count_of-rules_of : (rs : List Rule) → count_of (rules_of rs) ≡ length rs
+pub count_of-rules_of : (rs : List Rule) → count_of (rules_of rs) ≡ length rs
 count_of-rules_of [] = refl
 count_of-rules_of (r ∷ rs) = let i = count_of-rules_of rs in omega arith
 

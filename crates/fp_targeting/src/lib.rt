@@ -4,6 +4,8 @@
 mod build;
 mod data;
 mod evaluate;
+mod json_count;
+mod json_tree;
 pub mod laws;
 mod operator;
 mod rule;

@@ -1,6 +1,7 @@
 //! Compiled rules.
 
-ghost use Rattle.std.specs.Prelude.{◌≡◌, ◌↔◌, IfOk};
+ghost use Rattle.std.specs.Prelude.{◌≡◌, ◌≤◌, ◌↔◌, IfOk, IfSome};
+ghost use Rattle.json.specs.Value.{value_view};
 ghost use Rattle.serde_json.specs.View.{view as json_view};
 ghost use Rattle.fp_operators.specs.View.{view};
 ghost use Rattle.fp_targeting.specs.Compile.{verdict};
@@ -8,11 +9,14 @@ ghost use Rattle.fp_base.specs.Answer.{Gives};
 ghost use Rattle.fp_targeting.specs.Answer.{Tells};
 ghost use Rattle.fp_operators.specs.Data as values;
 ghost use Rattle.fp_targeting.specs.Means.{Means};
+ghost use Rattle.fp_targeting.specs.Written.{WritesRule};
 ghost use Rattle.fp_targeting.specs.Meaning.{meaning};
 
 use crate::build::build;
 use crate::data::Data;
 use crate::evaluate::evaluate;
+use crate::json_count::tree_values_left;
+use crate::json_tree::operator_at;
 use crate::tree::{Tree, counts_fit};
 use fp_base::{nests_within, values_left, whole_numbers};
 use fp_operators::Datum;
@@ -101,6 +105,28 @@ impl Rule {
             return Err(RuleFault::BadRule);
         }
         Ok(Rule { tree })
+    }
+
+    /// The rule that a tree of JSON writes, which nests at most `limit` deep. `None` says nothing
+    /// of the tree: `compile` says what its value is.
+    pub fn from_tree(
+        alloc: Global,
+        tree: &json::Value<'_>,
+        limit: u32,
+    ) -> Result<Option<Rule>, AllocError>
+        requires { limit ≤ DEEPEST_RULE }
+        ensures { IfOk result (λ o. IfSome o (WritesRule limit (value_view tree.now))) }
+    {
+        let json::Value::Object(members) = tree else {
+            return Ok(None);
+        };
+        if tree_values_left(tree, MOST_RULE_VALUES).is_none() {
+            return Ok(None);
+        }
+        match operator_at(alloc, members, limit)? {
+            Some(tree) => Ok(Some(Rule { tree })),
+            None => Ok(None),
+        }
     }
 
     /// What the rule gives for the data.
