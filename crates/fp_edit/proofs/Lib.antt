@@ -3,6 +3,7 @@ pub mod Followed
 pub mod Tallying
 pub mod Kept
 pub mod Maps
+pub mod Parts
 pub mod Runs
 pub mod Sizes
 pub mod Texts

@@ -7,4 +7,5 @@ pub mod Following
 pub mod Laws
 pub mod Line
 pub mod Log
+pub mod Parts
 pub mod Spelled

@@ -9,6 +9,7 @@ mod flags;
 mod following;
 mod laws;
 mod line;
+mod line_tree;
 mod tally;
 
 pub use edit::{Edit, EditFault, Expect, REVISIONS_END};

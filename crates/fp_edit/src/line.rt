@@ -10,6 +10,7 @@ ghost use Rattle.fp_edit.specs.Line as says;
 ghost use Rattle.fp_edit.specs.Spelled.{Tells};
 
 use crate::edit::{Edit, Expect, REVISIONS_END};
+use crate::line_tree::shown_edit;
 use fp_base::{read_json, take_member};
 use fp_definition::{DefFault, Definition, FlagKey, KeyFault, LONGEST_KEY};
 use serde_json::{Map, Value};
@@ -63,7 +64,7 @@ impl From<AllocError> for LineFault {
 }
 
 #[derive(Debug, Clone, Copy)]
-enum Op {
+pub(crate) enum Op {
     Put,
     Delete,
 }
@@ -75,6 +76,11 @@ pub fn parse_line(alloc: Global, line: &[u8]) -> Result<Edit, LineFault>
 {
     if line.len() > LONGEST_LINE {
         return Err(LineFault::TooLong);
+    }
+    // The tree shows most edits, and is read sooner than the value. This decides of the other lines,
+    // and names the fault.
+    if let Some(edit) = shown_edit(alloc, line)? {
+        return Ok(edit);
     }
     match read_json(alloc, line)? {
         Some(value) => edit_in(alloc, value),
@@ -138,7 +144,7 @@ fn op_of(value: &Value) -> Result<Op, LineFault>
     }
 }
 
-fn op_by_name(text: &str) -> Result<Op, LineFault>
+pub(crate) fn op_by_name(text: &str) -> Result<Op, LineFault>
     ensures { Gives (λ op. op) Tells result (says.op_by_name text.now) }
 {
     if text == "put" {
@@ -175,7 +181,7 @@ fn expect_of(value: &Value) -> Result<Expect, LineFault>
     }
 }
 
-fn expect_by_name(text: &str) -> Result<Expect, LineFault>
+pub(crate) fn expect_by_name(text: &str) -> Result<Expect, LineFault>
     ensures { Gives (λ expect. expect) Tells result (says.expect_by_name text.now) }
 {
     if text == "any" {
@@ -187,7 +193,7 @@ fn expect_by_name(text: &str) -> Result<Expect, LineFault>
     }
 }
 
-fn expect_at(revision: Option<u64>) -> Result<Expect, LineFault>
+pub(crate) fn expect_at(revision: Option<u64>) -> Result<Expect, LineFault>
     ensures { Gives (λ expect. expect) Tells result (says.expect_at revision) }
 {
     match revision {
