@@ -13,6 +13,7 @@ ghost use Rattle.fp_definition.specs.Resolving.{Resolves, Said, Tells, TellsItse
 ghost use Rattle.fp_definition.specs.Resolving.{by_default, by_result, data_of, is_disabled};
 ghost use Rattle.fp_definition.specs.Resolving.{outcome_of_variant, said_or_none};
 ghost use Rattle.fp_operators.specs.Data as values;
+ghost use Rattle.fp_operators.specs.FromJson.{data_of as datum_of};
 ghost use Rattle.fp_operators.specs.View.{view as datum_view};
 ghost use Rattle.fp_targeting.specs.Meaning.{meaning};
 ghost use Rattle.fp_targeting.specs.Means.{Means};
@@ -95,6 +96,34 @@ impl Definition {
                 self.by_rule(alloc, rule, &data)
             }
         }
+    }
+
+    /// The same in a context that is given away as a datum. Its data are made where there is a rule.
+    #[tactic(auto, unfolding(crate::specs::Outcome::outcome_of))]
+    pub fn resolve_datum(
+        &self,
+        alloc: Global,
+        key: &FlagKey,
+        context: Datum,
+        now: u64,
+    ) -> Result<Resolved<'_>, EvalFault>
+        requires { now < 2 ^ 63 }
+        ensures resolves { (c : JsonData) → IsSome (as_object c) → is_whole c ≡ true
+            → datum_view context ≡ datum_of c
+            → Answers said_by Tells result (Resolves (data_of self.now) (key_bytes key.now) c now) }
+        ensures computed { (c : JsonData) → IsSome (as_object c) → is_whole c ≡ true
+            → datum_view context ≡ datum_of c
+            → Gives said_by Tells result (outcome_of (data_of self.now) (key_bytes key.now) c now) }
+        ensures printable { IfOk result (λ r. is_whole (view r.value.now) ≡ true) }
+    {
+        if self.is_disabled() {
+            return Err(EvalFault::Disabled);
+        }
+        let Some(rule) = self.rule() else {
+            return self.default_of(Reason::Static);
+        };
+        let data = Data::of_datum(alloc, context, key.as_str(), now)?;
+        self.by_rule(alloc, rule, &data)
     }
 
     /// The same over the data of a context at a moment, made once for all flags. Where there is a

@@ -1,3 +1,4 @@
+pub mod Contexts
 pub mod Faults
 pub mod LawLemmas
 pub mod Lists

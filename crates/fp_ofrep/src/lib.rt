@@ -3,6 +3,7 @@
 
 mod bulk;
 mod context;
+mod context_tree;
 mod failure;
 mod laws;
 mod reply;

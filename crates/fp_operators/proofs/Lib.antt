@@ -1,5 +1,6 @@
 pub mod Contained
 pub mod Equalities
+pub mod FromTrees
 pub mod Numbers
 pub mod Numerals
 pub mod Orders

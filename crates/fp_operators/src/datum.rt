@@ -1,11 +1,16 @@
 //! The data that rules compute with.
 
-ghost use Rattle.std.specs.Prelude.{◌≡◌, IfOk};
+ghost use Rattle.std.specs.Prelude.{◌≡◌, IfOk, IfSome};
+ghost use Rattle.json.specs.Value.{value_view, items_view as tree_items};
+ghost use Rattle.json.specs.Value.{members_view as tree_members};
 ghost use Rattle.serde_json.specs.View.{view as json_view, items_view as json_items};
 ghost use Rattle.serde_json.specs.View.{members_view as json_members};
 ghost use Rattle.fp_operators.specs.View.{view, items_view, members_view};
 ghost use Rattle.fp_operators.specs.FromJson.{data_of, items_from, members_from};
+ghost use Rattle.fp_operators.specs.FromTree.{IsDatumOf, AreItemsOf, AreMembersOf};
 
+use fp_base::whole_number;
+use json::Value as Tree;
 use serde_json::{Map, Value};
 use std::alloc::{AllocError, Global};
 use std::collections::BTreeMap;
@@ -41,6 +46,30 @@ impl Datum {
             Value::String(s) => Ok(Datum::Text(s.clone()?)),
             Value::Array(items) => Ok(Datum::List(from_items(alloc, items)?)),
             Value::Object(members) => Ok(Datum::Object(from_members(alloc, members)?)),
+        }
+    }
+
+    /// The datum that a tree of JSON writes, or `None` where a number in it isn't whole.
+    #[cycle(from_tree)]
+    pub fn from_tree(alloc: Global, tree: &Tree<'_>) -> Result<Option<Datum>, AllocError>
+        ensures { IfOk result (λ o. IfSome o (IsDatumOf (value_view tree.now))) }
+    {
+        match tree {
+            Tree::Null => Ok(Some(Datum::Null)),
+            Tree::Bool(b) => Ok(Some(Datum::Bool(*b))),
+            Tree::Number(text) => match whole_number(text) {
+                Some(number) => Ok(Some(Datum::Whole(number))),
+                None => Ok(None),
+            },
+            Tree::String(text) => Ok(Some(Datum::Text(String::from_str(alloc, text)?))),
+            Tree::Array(items) => match items_from_tree(alloc, items)? {
+                Some(items) => Ok(Some(Datum::List(items))),
+                None => Ok(None),
+            },
+            Tree::Object(members) => match members_from_tree(alloc, members)? {
+                Some(members) => Ok(Some(Datum::Object(members))),
+                None => Ok(None),
+            },
         }
     }
 
@@ -85,6 +114,40 @@ fn from_members(
         drop(found.insert(name, Datum::from_value(alloc, member)?)?);
     }
     Ok(found)
+}
+
+#[cycle(from_tree)]
+fn items_from_tree(alloc: Global, items: &Vec<Tree<'_>>) -> Result<Option<Vec<Datum>>, AllocError>
+    ensures { IfOk result (λ o. IfSome o (λ found.
+        AreItemsOf (tree_items items.now.items) found.items)) }
+{
+    let mut found = Vec::with_capacity(alloc, items.len())?;
+    for item in items {
+        let Some(datum) = Datum::from_tree(alloc, item)? else {
+            return Ok(None);
+        };
+        found.push(datum)?;
+    }
+    Ok(Some(found))
+}
+
+#[cycle(from_tree)]
+fn members_from_tree(
+    alloc: Global,
+    members: &Vec<(&str, Tree<'_>)>,
+) -> Result<Option<BTreeMap<String, Datum>>, AllocError>
+    ensures { IfOk result (λ o. IfSome o (λ found.
+        AreMembersOf (tree_members members.now.items) found.entries)) }
+{
+    let mut found = BTreeMap::new(alloc);
+    for member in members {
+        let Some(datum) = Datum::from_tree(alloc, &member.1)? else {
+            return Ok(None);
+        };
+        let name = String::from_str(alloc, member.0)?;
+        drop(found.insert(name, datum)?);
+    }
+    Ok(Some(found))
 }
 
 #[cycle(copy)]

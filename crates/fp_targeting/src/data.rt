@@ -1,10 +1,12 @@
 //! The data that a rule is evaluated on.
 
 ghost use Rattle.std.specs.Prelude.{◌≡◌, ◌<◌, ◌^◌, ℕ, List, true, IfOk, IsSome, OnOk, OnErr, codes};
+ghost use Rattle.serde_json.specs.Data.{Data as JsonData};
 ghost use Rattle.serde_json.specs.Find.{as_object};
 ghost use Rattle.serde_json.specs.View.{view as json_view};
 ghost use Rattle.fp_base.specs.Whole.{is_whole};
 ghost use Rattle.fp_operators.specs.Data.{Data as Fact, Members, object, put, text};
+ghost use Rattle.fp_operators.specs.FromJson.{data_of};
 ghost use Rattle.fp_operators.specs.View.{view, members_view};
 ghost use Rattle.fp_targeting.specs.RuleData.{TurnsTo, rule_data, flag_data, with_member};
 
@@ -44,6 +46,22 @@ impl Data {
     {
         let flag = flag_datum(alloc, flag_key, now)?;
         let datum = with(alloc, Datum::from_value(alloc, context)?, "$flagd", flag)?;
+        Ok(Data { datum })
+    }
+
+    /// The same of a context that is given away as a datum.
+    pub fn of_datum(
+        alloc: Global,
+        context: Datum,
+        flag_key: &str,
+        now: u64,
+    ) -> Result<Data, AllocError>
+        requires { now < 2 ^ 63 }
+        ensures { IfOk result (λ d. (c : JsonData) → IsSome (as_object c) → is_whole c ≡ true
+            → view context ≡ data_of c → d ≡ rule_data c flag_key.now now) }
+    {
+        let flag = flag_datum(alloc, flag_key, now)?;
+        let datum = with(alloc, context, "$flagd", flag)?;
         Ok(Data { datum })
     }
 
