@@ -8,3 +8,5 @@ pub mod Owners
 pub mod Sorted
 pub mod Puts
 pub mod Lookups
+pub mod Printed
+pub mod Taken

@@ -12,10 +12,10 @@ use Rattle.fp_base.specs.Sorted.{IsBelow, IsSorted, AreBack}
 abbrev cmp : List ℕ → List ℕ → Ordering
 cmp = slice_cmp nat_cmp
 
-turned : (k l : List ℕ) (o : Ordering) → cmp k l ≡ o → cmp l k ≡ ordering_reverse o
+pub turned : (k l : List ℕ) (o : Ordering) → cmp k l ≡ o → cmp l k ≡ ordering_reverse o
 turned k l o e = nat_list_cmp_total.antisymm l k ∙ ap ordering_reverse e
 
-below-trans : (k l : List ℕ) (ms : Members) → cmp k l ≡ Less → IsBelow l ms → IsBelow k ms
+pub below-trans : (k l : List ℕ) (ms : Members) → cmp k l ≡ Less → IsBelow l ms → IsBelow k ms
 below-trans k l no_members h p = tt
 below-trans k l (member m d ms) h p = (nat_list_cmp_total.trans k l m h p.0, below-trans k l ms h p.1)
 
@@ -52,23 +52,23 @@ back-put k d (member l e ms) h p =
     back-match (cmp k l) (member k d (member l e ms)) (member l d ms) (member l e (put k d ms)) (h, p) (h, p.1) (p.0, back-put k d ms h p.1)
 
 -- the name comes after each
-abbrev IsAfter : List ℕ → Members → Type 0
+abbrev pub IsAfter : List ℕ → Members → Type 0
 IsAfter k no_members = ⊤
 IsAfter k (member l d ms) = (cmp k l ≡ Greater) × IsAfter k ms
 
-abbrev AreAfter : Members → Members → Type 0
+abbrev pub AreAfter : Members → Members → Type 0
 AreAfter found no_members = ⊤
 AreAfter found (member k d ms) = IsAfter k found × AreAfter found ms
 
-abbrev append : Members → Members → Members
+abbrev pub append : Members → Members → Members
 append no_members more = more
 append (member k d ms) more = member k d (append ms more)
 
-append-one : (found : Members) (k : List ℕ) (d : Data) (ms : Members) → append (append found (member k d no_members)) ms ≡ append found (member k d ms)
+pub append-one : (found : Members) (k : List ℕ) (d : Data) (ms : Members) → append (append found (member k d no_members)) ms ≡ append found (member k d ms)
 append-one no_members k d ms = refl
 append-one (member l e found) k d ms = ap (member l e) (append-one found k d ms)
 
-put-after : (k : List ℕ) (d : Data) (found : Members) → IsAfter k found → put k d found ≡ append found (member k d no_members)
+pub put-after : (k : List ℕ) (d : Data) (found : Members) → IsAfter k found → put k d found ≡ append found (member k d no_members)
 put-after k d no_members h = refl
 put-after k d (member l e found) h =
     ap (λ o. match_ordering o (member k d (member l e found)) (member l d found) (member l e (put k d found))) h.0
@@ -78,20 +78,20 @@ after-append : (k : List ℕ) (found : Members) (l : List ℕ) (d : Data) → Is
 after-append k no_members l d p h = (h, tt)
 after-append k (member m e found) l d p h = (p.0, after-append k found l d p.1 h)
 
-all_after-append : (found ms : Members) (l : List ℕ) (d : Data) → AreAfter found ms → IsBelow l ms → AreAfter (append found (member l d no_members)) ms
+pub all_after-append : (found ms : Members) (l : List ℕ) (d : Data) → AreAfter found ms → IsBelow l ms → AreAfter (append found (member l d no_members)) ms
 all_after-append found no_members l d p h = tt
 all_after-append found (member k e ms) l d p h = (after-append k found l d p.0 (turned l k Less h.0), all_after-append found ms l d p.1 h.1)
 
-all_after-none : (ms : Members) → AreAfter no_members ms
+pub all_after-none : (ms : Members) → AreAfter no_members ms
 all_after-none no_members = tt
 all_after-none (member k d ms) = (tt, all_after-none ms)
 
+pub append-none : (found : Members) → append found no_members ≡ found
+append-none no_members = refl
+append-none (member k d ms) = ap (member k d) (append-none ms)
+
 read_back : (ms found : Members) → IsSorted ms → AreBack ms → AreAfter found ms → of_members (members_outline ms) found ≡ Some (append found ms)
 read_back no_members found p q r = ap Some (sym (append-none found))
-  where
-    append-none : (found : Members) → append found no_members ≡ found
-    append-none no_members = refl
-    append-none (member k d ms) = ap (member k d) (append-none ms)
 read_back (member k d ms) found p q r =
     rw q.0
     (ap (of_members (members_outline ms)) (put-after k d found r.0)

@@ -10,3 +10,4 @@ pub mod Whole
 pub mod Numeral
 pub mod Owned
 pub mod Sorted
+pub mod Printed

@@ -2,13 +2,15 @@
 #![tactic(auto)]
 
 mod members;
+mod printing;
 mod sizes;
 mod texts;
 mod trees;
 mod walks;
 mod writing;
 
-pub use members::take_member;
+pub use members::{take_from, take_member};
+pub use printing::write_tree;
 pub use texts::{canonical_text, canonical_text_within, put_quoted, read_json};
 pub use trees::{owned, read_tree, whole_number};
 pub use walks::{nests_within, values_left, whole_numbers};

@@ -1,6 +1,6 @@
 //! Members of a JSON object.
 
-ghost use Rattle.std.specs.Prelude.{◌≡◌, option_map};
+ghost use Rattle.std.specs.Prelude.{◌≡◌, ◌≢◌, ℕ, List, None, option_map};
 ghost use Rattle.serde_json.specs.Find.{get, get_member};
 ghost use Rattle.serde_json.specs.View.{view, members_view};
 
@@ -11,13 +11,18 @@ pub fn take_member(value: Value, name: &str) -> Option<Value>
     ensures { option_map view result ≡ get name.now (view value) }
 {
     match value {
-        Value::Object(mut members) => take(&mut members, name),
+        Value::Object(mut members) => take_from(&mut members, name),
         _ => None,
     }
 }
 
-fn take(members: &mut Map<String, Value>, name: &str) -> Option<Value>
-    ensures { option_map view result ≡ get_member name.now (members_view members.old.entries) }
+/// Takes a member out of an object's members.
+pub fn take_from(members: &mut Map<String, Value>, name: &str) -> Option<Value>
+    ensures taken { option_map view result ≡ get_member name.now (members_view members.old.entries) }
+    ensures gone { get_member name.now (members_view members.new.entries) ≡ None }
+    ensures others { (other : List ℕ) → other ≢ name.now
+        → get_member other (members_view members.new.entries)
+        ≡ get_member other (members_view members.old.entries) }
 {
     members.remove(name)
 }

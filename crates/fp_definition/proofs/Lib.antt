@@ -2,5 +2,4 @@ pub mod Canonical
 pub mod Metadata
 pub mod OneOutcome
 pub mod Told
-pub mod Without
 pub mod Parts

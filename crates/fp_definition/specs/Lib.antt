@@ -8,3 +8,4 @@ pub mod Targeting
 pub mod Kept
 pub mod Parts
 pub mod Written
+pub mod Choice

@@ -1,9 +1,8 @@
 //! A flag's definition.
 
-ghost use Rattle.std.specs.Prelude.{◌≡◌, ◌≢◌, true, Some, None, IfOk, IfErr, IfSome};
+ghost use Rattle.std.specs.Prelude.{◌≡◌, true, Some, None, IfOk, IfErr, IfSome};
 ghost use Rattle.std.specs.Prelude.{if◌then◌else◌};
 ghost use Rattle.std.specs.Prelude.{codes, option_map};
-ghost use Rattle.json.specs.Tree.{HasNumbers};
 ghost use Rattle.json.specs.Value.{value_view};
 ghost use Rattle.serde_json.specs.Find.{get};
 ghost use Rattle.serde_json.specs.View.{view};
@@ -11,6 +10,7 @@ ghost use Rattle.serde_json.specs.Written.{compact_text};
 ghost use Rattle.fp_base.specs.Answer.{IsFirst};
 ghost use Rattle.fp_base.specs.Json.{json_of};
 ghost use Rattle.fp_base.specs.Whole.{is_whole};
+ghost use Rattle.fp_definition.specs.Choice.{IsChoice};
 ghost use Rattle.fp_definition.specs.Faults.{Tells};
 ghost use Rattle.fp_definition.specs.Parts.{AreParts};
 ghost use Rattle.fp_definition.specs.Resolving.{data_of};
@@ -19,8 +19,9 @@ ghost use Rattle.fp_definition.specs.Valid.{first_fault, IsValid, is_definition_
 ghost use Rattle.fp_definition.specs.Valid.{definition_in, is_text_of};
 ghost use Rattle.fp_definition.specs.Written.{WritesDefinition};
 
+use crate::choice::{Choice, chosen};
 use crate::faults::DefFault;
-use crate::members::{meets_tests, tested_members, without};
+use crate::members::tested_members;
 use crate::trees::definition_of;
 use fp_base::{canonical_text_within, nests_within, read_json, read_tree, whole_numbers};
 use fp_targeting::Rule;
@@ -36,12 +37,15 @@ pub const DEEPEST_DEFINITION: u32 = 32;
 /// The most bytes that a definition's canonical text has.
 pub const LONGEST_DEFINITION: usize = 16_384;
 
-// What all shares have in common: the canonical text, the value that it spells but for its
-// `targeting`, and the rule that this is.
+// A definition's text is begun with this room where its length isn't known.
+const USUAL_ROOM: usize = 512;
+
+// What all shares have in common: the canonical text, what the definition chooses from, and the
+// rule of its `targeting`.
 #[derive(Drop)]
 struct Kept {
     text: Vec<u8>,
-    rest: Value,
+    choice: Choice,
     rule: Option<Rule>,
 }
 
@@ -73,8 +77,8 @@ impl Definition {
         ensures refused { IfErr result (IsFirst Tells (first_fault (view value))) }
     {
         let (text, rule) = tested_parts(alloc, &value)?;
-        let rest = without(value, "targeting");
-        let share = Arc::new(alloc, Kept { text, rest, rule })?;
+        let choice = chosen(value);
+        let share = Arc::new(alloc, Kept { text, choice, rule })?;
         Ok(Definition { share })
     }
 
@@ -84,27 +88,27 @@ impl Definition {
         alloc: Global,
         tree: &json::Value<'_>,
     ) -> Result<Option<Definition>, AllocError>
-        requires { HasNumbers (value_view tree.now) }
         ensures { IfOk result (λ o. IfSome o (WritesDefinition (value_view tree.now))) }
     {
-        definition_of(alloc, tree)
+        definition_of(alloc, tree, USUAL_ROOM)
     }
 
-    // The definition that has these parts, if it meets the tests of its members and isn't too long.
+    // The definition that a tree says by these parts, if its text isn't too long.
     pub(crate) fn of_parts(
         alloc: Global,
+        tree: &json::Value<'_>,
         text: Vec<u8>,
-        rest: Value,
+        choice: Choice,
         rule: Option<Rule>,
     ) -> Result<Option<Definition>, AllocError>
-        requires { AreParts text.items (view rest) rule }
-        ensures { IfOk result (λ o. IfSome o (λ d. (d ≡ text.items)
-            × IsValid (data_of text.items))) }
+        requires { AreParts (value_view tree.now) text.items choice rule }
+        ensures { IfOk result (λ o. IfSome o (WritesDefinition (value_view tree.now))) }
     {
-        if text.len() > LONGEST_DEFINITION || !meets_tests(&rest) {
+        let _ = tree;
+        if text.len() > LONGEST_DEFINITION {
             return Ok(None);
         }
-        let share = Arc::new(alloc, Kept { text, rest, rule })?;
+        let share = Arc::new(alloc, Kept { text, choice, rule })?;
         Ok(Some(Definition { share }))
     }
 
@@ -135,16 +139,15 @@ impl Definition {
             ≡ get (codes "metadata") (data_of self.now) }
         ensures whole { IfSome result (λ m. is_whole (view m.now) ≡ true) }
     {
-        self.member("metadata")
+        self.choice().metadata.as_ref()
     }
 
-    // The member of this name.
-    pub(crate) fn member(&self, name: &str) -> Option<&Value>
-        requires kept { name.now ≢ codes "targeting" }
-        ensures value { option_map (λ m. view m.now) result ≡ get name.now (data_of self.now) }
-        ensures whole { IfSome result (λ m. is_whole (view m.now) ≡ true) }
+    // What it chooses from.
+    pub(crate) fn choice(&self) -> &Choice
+        ensures choice { IsChoice (data_of self.now) result.now }
+        ensures whole { is_whole (data_of self.now) ≡ true }
     {
-        self.share.rest.get(name)
+        &self.share.choice
     }
 
     // The rule of the member `targeting`.
@@ -173,7 +176,7 @@ fn from_canonical(alloc: Global, text: &[u8]) -> Result<Option<Definition>, Allo
     let Some(tree) = read_tree(alloc, text, &mut scratch)? else {
         return Ok(None);
     };
-    let Some(definition) = definition_of(alloc, &tree)? else {
+    let Some(definition) = definition_of(alloc, &tree, text.len() + 2)? else {
         return Ok(None);
     };
     if definition.text() != text {

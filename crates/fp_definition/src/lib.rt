@@ -1,6 +1,7 @@
 //! One flag: its key, and its definition, tested and made canonical once and shared from then on.
 #![tactic(auto)]
 
+mod choice;
 mod definition;
 mod faults;
 mod key;

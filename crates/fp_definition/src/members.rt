@@ -1,19 +1,16 @@
 //! The tests that each member of a definition has to meet.
 
-ghost use Rattle.std.specs.Prelude.{◌≡◌, codes, true, None, IfOk, IfErr};
+ghost use Rattle.std.specs.Prelude.{◌≡◌, codes, Some, None, IfOk, IfErr};
 ghost use Rattle.serde_json.specs.Events.{members_len};
-ghost use Rattle.serde_json.specs.Find.{get, get_member};
+ghost use Rattle.serde_json.specs.Find.{get};
 ghost use Rattle.serde_json.specs.View.{view, members_view};
 ghost use Rattle.fp_base.specs.Answer.{IsFirst};
 ghost use Rattle.fp_base.specs.Tests.{first_failed};
-ghost use Rattle.fp_base.specs.Whole.{is_whole, members_whole};
 ghost use Rattle.fp_definition.specs.Faults.{Tells};
-ghost use Rattle.fp_definition.specs.Kept.{HasAllBut, HasAllMembersBut};
 ghost use Rattle.fp_definition.specs.Targeting.{rule_in};
 ghost use Rattle.fp_definition.specs.Valid.{member_tests, is_state, are_variants, variant_members};
 ghost use Rattle.fp_definition.specs.Valid.{is_between, names_variant, is_metadata};
 ghost use Rattle.fp_definition.specs.Valid.{metadata_members};
-ghost use Rattle.fp_definition.specs.Parts.{MeetsTests};
 
 use crate::faults::DefFault;
 use crate::kind::{are_of_one_kind, are_scalars};
@@ -53,13 +50,6 @@ pub(crate) fn tested_members(alloc: Global, value: &Value) -> Result<Option<Rule
     rule_of(alloc, value)
 }
 
-// Whether a value meets these tests, but for that of its `targeting`.
-pub(crate) fn meets_tests(value: &Value) -> bool
-    ensures { result ≡ true → MeetsTests (view value.now) }
-{
-    has_state(value) && has_variants(value) && has_default(value) && has_metadata(value)
-}
-
 fn has_state(value: &Value) -> bool
     ensures { result ≡ is_state (get (codes "state") (view value.now)) }
 {
@@ -80,7 +70,7 @@ fn has_variants(value: &Value) -> bool
 }
 
 #[tactic(auto, unfolding(crate::specs::Valid::variant_members))]
-fn are_variant_members(members: &Map<String, Value>) -> bool
+pub(crate) fn are_variant_members(members: &Map<String, Value>) -> bool
     ensures { result ≡ variant_members (members_view members.now.entries) }
 {
     count_is_within(members, 1, MOST_VARIANTS) && are_of_one_kind(members)
@@ -101,8 +91,16 @@ fn has_metadata(value: &Value) -> bool
 {
     match value.get("metadata") {
         None => true,
-        Some(Value::Object(members)) => are_metadata_members(members),
-        Some(_) => false,
+        Some(metadata) => is_metadata(metadata),
+    }
+}
+
+pub(crate) fn is_metadata(value: &Value) -> bool
+    ensures { result ≡ is_metadata (Some (view value.now)) }
+{
+    match value {
+        Value::Object(members) => are_metadata_members(members),
+        _ => false,
     }
 }
 
@@ -124,29 +122,4 @@ pub(crate) fn count_of(members: &Map<String, Value>) -> usize
     ensures { result ≡ members_len (members_view members.now.entries) }
 {
     members.len()
-}
-
-// The value without its member of this name.
-pub(crate) fn without(value: Value, name: &str) -> Value
-    ensures gone { get name.now (view result) ≡ None }
-    ensures others { HasAllBut name.now (view value) (view result) }
-    ensures whole { is_whole (view value) ≡ true → is_whole (view result) ≡ true }
-{
-    match value {
-        Value::Object(mut members) => {
-            leave_out(&mut members, name);
-            Value::Object(members)
-        }
-        other => other,
-    }
-}
-
-fn leave_out(members: &mut Map<String, Value>, name: &str)
-    ensures gone { get_member name.now (members_view members.new.entries) ≡ None }
-    ensures others { HasAllMembersBut name.now
-        (members_view members.old.entries) (members_view members.new.entries) }
-    ensures whole { members_whole (members_view members.old.entries) ≡ true
-        → members_whole (members_view members.new.entries) ≡ true }
-{
-    let _ = members.remove(name);
 }

@@ -168,10 +168,7 @@ impl Definition {
     fn is_disabled(&self) -> bool
         ensures { result ≡ is_disabled (get (codes "state") (data_of self.now)) }
     {
-        match self.member("state") {
-            Some(Value::String(text)) => text.as_str() == "DISABLED",
-            _ => false,
-        }
+        self.choice().is_disabled
     }
 
     fn by_rule(&self, alloc: Global, rule: &Rule, data: &Data) -> Result<Resolved<'_>, EvalFault>
@@ -206,10 +203,7 @@ impl Definition {
             (by_default reason (data_of self.now)) }
         ensures printable { IfOk result (λ r. is_whole (view r.value.now) ≡ true) }
     {
-        match self.member("defaultVariant") {
-            Some(Value::String(name)) => self.variant_named(name.as_str(), reason),
-            _ => Err(EvalFault::NoVariant),
-        }
+        self.variant_named(self.choice().default.as_str(), reason)
     }
 
     fn variant_named(&self, name: &str, reason: Reason) -> Result<Resolved<'_>, EvalFault>
@@ -217,10 +211,7 @@ impl Definition {
             (outcome_of_variant name.now reason (get (codes "variants") (data_of self.now))) }
         ensures printable { IfOk result (λ r. is_whole (view r.value.now) ≡ true) }
     {
-        match self.member("variants") {
-            Some(Value::Object(variants)) => variant_among(variants, name, reason),
-            _ => Err(EvalFault::NoVariant),
-        }
+        variant_among(&self.choice().variants, name, reason)
     }
 }
 

@@ -1,19 +1,23 @@
-use Rattle.std.proofs.Common.{◌≡◌, sym, ap, subst, ◌∙◌}
-use Rattle.std.specs.Prelude.{IfOk, IfSome}
-use Rattle.json.specs.Json as json
-use Rattle.json.specs.Value.{value_view, members_view as tree_members}
-use Rattle.json.proofs.Trees.{view-Object}
-use Rattle.fp_definition.specs.Written.{WritesDefinition}
+use Rattle.std.proofs.Common.{subst}
+use Rattle.std.specs.Prelude.{IfSome}
+use Rattle.json.specs.Value.{value_view}
+use Rattle.fp_base.specs.Printed.{HasData, said}
+use Rattle.fp_definition.specs.Choice.{IsChoice, MeetsTests}
+use Rattle.fp_definition.specs.Parts.{IsPrint, IsTargeting, seen}
+use Rattle.fp_definition.specs.declared.choice.Choice.{Choice}
+use Rattle.fp_definition.specs.declared.trees.Targeting.{Targeting}
+use Rattle.fp_definition.proofs.Parts.{seen-get}
 use Rattle.fp_definition.proofs.trees.definition_of.Goals as goal
 
-pub returns-then-at-len : goal.returns-then-at-len
-returns-then-at-len c =
-    let shape : json.object (tree_members c.deref-then-at-len.result.now) ≡ value_view c.args.tree.now =
-    ap (λ ms. json.object (tree_members ms)) c.deref-then-at-len.ensures.value ∙ sym (ap value_view c.in-Object.is ∙ view-Object c.in-Object.members) in
-    subst (λ j. IfOk c.with_rule.result (λ o. IfSome o (WritesDefinition j))) shape c.with_rule.ensures
-
-pub returns-else-at-len : goal.returns-else-at-len
-returns-else-at-len c =
-    let shape : json.object (tree_members c.deref-else-at-len.result.now) ≡ value_view c.args.tree.now =
-    ap (λ ms. json.object (tree_members ms)) c.deref-else-at-len.ensures.value ∙ sym (ap value_view c.in-Object.is ∙ view-Object c.in-Object.members) in
-    subst (λ j. IfOk c.without_rule.result (λ o. IfSome o (WritesDefinition j))) shape c.without_rule.ensures
+pub of_parts-requires : goal.of_parts-requires
+of_parts-requires c =
+    let j = value_view c.args.tree.now in
+    let print : IsPrint j c.in-Some-3.text.items = subst (λ o. IfSome o (λ t. IsPrint j t.items)) c.in-Some-3.is c.in_ok-text.ensures in
+    let chosen = (subst (λ o. IfSome o (λ (x : Choice). HasData 32 j → IsChoice (said j) x × MeetsTests (said j))) c.in-Some.is c.in_ok-choice.ensures) print.has in
+    let target : IsTargeting (seen c.get.result) c.in-Some-2.targeting.rule = subst (λ o. IfSome o (λ (x : Targeting). IsTargeting (seen c.get.result) x.rule)) c.in-Some-2.is c.in_ok-targeting.ensures in
+    record {
+      print = print;
+      choice = chosen.0;
+      meets = chosen.1;
+      targeting = subst (λ o. IsTargeting o c.in-Some-2.targeting.rule) (seen-get _ j c.get.result print.has c.get.ensures) target;
+    }

@@ -1,27 +1,14 @@
-use Rattle.std.proofs.Common.{◌≡◌, length, None, sym, ap, subst, ◌∙◌, rules, arith}
-use Rattle.std.proofs.lemmas.List.{nil_from_length}
-use Rattle.std.specs.Prelude.{IfSome}
-use Rattle.json.specs.Json as json
-use Rattle.json.specs.Value.{value_view, members_view as tree_members}
+use Rattle.std.proofs.Common.{◌≡◌, None, Some, sym, subst, rules}
 use Rattle.json.specs.declared.value.Value.{the_lemmas}
-use Rattle.json.proofs.Trees.{view-Object}
-use Rattle.fp_targeting.specs.Written.{WritesRule}
-use Rattle.fp_definition.specs.Parts.{IsTargeting}
-use Rattle.fp_definition.proofs.Parts.{targeting-null, targeting-empty, targeting-rule}
+use Rattle.serde_json.specs.Data.{null}
+use Rattle.fp_definition.specs.Parts.{IsTargeting, seen}
+use Rattle.fp_definition.proofs.Parts.{targeting-none, targeting-null}
 use Rattle.fp_definition.proofs.trees.targeting_of.Goals as goal
 
-pub returns-in-Null : goal.returns-in-Null
-returns-in-Null c =
-    let shape : value_view c.args.tree.now ≡ json.null = search (rules, the_lemmas) in
-    subst (λ j. IsTargeting j None) (sym shape) targeting-null
+pub returns-in-None : goal.returns-in-None
+returns-in-None c = subst (λ o. IsTargeting (seen o) None) (sym c.in-None.is) targeting-none
 
-pub returns-then-is_empty : goal.returns-then-is_empty
-returns-then-is_empty c =
-    let v = c.in-Object.members in
-    let len = v.ok in
-    let none : length v.items ≡ 0 = grind (arith, len, c.is_empty.ensures, c.if-is_empty.true) in
-    let shape : value_view c.args.tree.now ≡ json.object json.no_members = ap value_view c.in-Object.is ∙ view-Object v ∙ ap (λ ms. json.object (tree_members ms)) (nil_from_length v.items none) in
-    subst (λ j. IsTargeting j None) (sym shape) targeting-empty
-
-pub returns-in-Some : goal.returns-in-Some
-returns-in-Some c = targeting-rule (value_view c.args.tree.now) c.in-Some.rule (subst (λ o. IfSome o (WritesRule 31 (value_view c.args.tree.now))) c.in-Some.is c.in_ok-rule-in-Object.ensures)
+pub returns-in-Some-Null : goal.returns-in-Some-Null
+returns-in-Some-Null c =
+    let null_there : seen c.args.member ≡ Some null = search (rules, the_lemmas) in
+    subst (λ o. IsTargeting o None) (sym null_there) targeting-null

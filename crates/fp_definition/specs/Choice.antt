@@ -1,0 +1,23 @@
+-- What a definition chooses from.
+use Rattle.std.specs.Prelude.{◌≡◌, codes, true, Some, option_map, is_some, string_bytes}
+use Rattle.serde_json.specs.Data.{Data, object, string}
+use Rattle.serde_json.specs.Find.{as_object, get}
+use Rattle.serde_json.specs.View.{view, members_view}
+use Rattle.fp_definition.specs.Resolving.{is_disabled}
+use Rattle.fp_definition.specs.Valid.{is_state, are_variants, names_variant, is_metadata}
+use Rattle.fp_definition.specs.declared.choice.Choice.{Choice}
+
+-- whether it is disabled, its default, its variants and its metadata are those of the data
+pub record IsChoice (d : Data) (c : Choice) : Type 0 where
+  pub disabled : c.is_disabled ≡ is_disabled (get (codes "state") d)
+  pub default : get (codes "defaultVariant") d ≡ Some (string (string_bytes c.default))
+  pub variants : get (codes "variants") d ≡ Some (object (members_view c.variants.entries))
+  pub metadata : option_map view c.metadata ≡ get (codes "metadata") d
+
+-- the data meet the tests of their members, but for that of `targeting`
+pub record MeetsTests (d : Data) : Type 0 where
+  pub members : is_some (as_object d) ≡ true
+  pub state : is_state (get (codes "state") d) ≡ true
+  pub variants : are_variants (get (codes "variants") d) ≡ true
+  pub default : names_variant (get (codes "defaultVariant") d) (get (codes "variants") d) ≡ true
+  pub metadata : is_metadata (get (codes "metadata") d) ≡ true
