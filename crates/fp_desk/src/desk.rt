@@ -158,7 +158,7 @@ impl Desk {
             return Err((SubmitFault::Memory, edit));
         };
         let shown = Snapshot::of(&edit);
-        match self.head.admit(edit) {
+        match self.head.make(edit) {
             Ok(revision) => {
                 self.waiting.push_back_reserved(copy);
                 Ok(Ticket {
@@ -167,7 +167,7 @@ impl Desk {
                     settled: self.settled.tell(),
                 })
             }
-            Err((_, edit)) => Err((SubmitFault::Memory, edit)),
+            Err(edit) => Err((SubmitFault::Memory, edit)),
         }
     }
 

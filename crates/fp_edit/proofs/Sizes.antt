@@ -112,3 +112,8 @@ by_gone (Some f) (suc n) h = omega arith
 
 pub count-remove : (m : Flags) (k : List ℕ) → fin.len (fin.remove m k) + one_found (fin.get m k) ≡ fin.len m
 count-remove m k = ap (λ n. n + one_found (fin.get m k)) (fin.len-remove nat_list_cmp_total m k) ∙ by_gone (fin.get m k) (fin.len m) (none_there m k)
+
+-- the size of the flags with one more, from that of the one that it replaces
+pub resized : (m : Flags) (k : List ℕ) (f : Flag) (kept spent before : ℕ) → kept ≡ size m → spent ≡ cost (k, f) → before ≡ cost_found k (fin.get m k)
+    → (kept + spent ≡ size (fin.insert m k f) + before)
+resized m k f kept spent before p q r = let all = size-insert m k f in omega arith

@@ -9,7 +9,8 @@ ghost use Rattle.fp_edit.specs.Admits.{Admits, accepted, IsRefused, changed_at, 
 ghost use Rattle.fp_edit.specs.Admits.{has_room, is_met, is_within, next, refusal};
 ghost use Rattle.fp_edit.specs.Document.{document};
 ghost use Rattle.fp_edit.specs.Entries.{entries_of};
-ghost use Rattle.fp_edit.specs.Edits.{put, delete, proposal_of};
+ghost use Rattle.fp_edit.specs.Edits.{is_put, put, delete, proposal_of};
+ghost use Rattle.fp_edit.specs.Following.{change_of};
 ghost use Rattle.fp_edit.specs.Flags.{IsChangedBy, cost_found, size as size_of};
 ghost use Rattle.fp_edit.specs.declared.flags.Flag.{Flag};
 ghost use Rattle.fp_edit.specs.declared.flags.TheConstants.{IMAGE_HEAD};
@@ -168,10 +169,26 @@ impl FlagSet {
         if let Some(fault) = self.judge(&edit) {
             return Err((fault, edit));
         }
+        match self.make(edit) {
+            Ok(revision) => Ok(revision),
+            Err(edit) => Err((EditFault::Memory, edit)),
+        }
+    }
+
+    /// Makes an edit that nothing stands against, as `judge` tells, and answers the revision that it
+    /// made. Where memory is wanting the edit comes back.
+    pub fn make(&mut self, edit: Edit) -> Result<u64, Edit>
+        requires { refusal self.old (proposal_of edit) ≡ None }
+        ensures admitted { OnOk result (Admits self.old (proposal_of edit) (accepted self.new)) }
+        ensures revision { IfOk result (λ r. r ≡ self.new.revision) }
+        ensures put { OnErr result (is_put (change_of edit) ≡ true) }
+        ensures given_back { IfErr result (λ e. e ≡ edit) }
+        ensures unchanged { OnErr result (self.new ≡ self.old) }
+    {
         match edit {
             Edit::Put { key, flag, expect } => match self.put(key, flag) {
                 Ok(()) => Ok(self.revision),
-                Err((key, flag)) => Err((EditFault::Memory, Edit::Put { key, flag, expect })),
+                Err((key, flag)) => Err(Edit::Put { key, flag, expect }),
             },
             Edit::Delete { key, .. } => {
                 self.remove(&key);
@@ -194,9 +211,9 @@ impl FlagSet {
             }) }
         ensures unchanged { OnErr result (self.new ≡ self.old) }
     {
-        let size = self.size_with(&key, &flag.definition);
-        store(&mut self.flags, key, flag)?;
-        self.size = size as u64;
+        let cost = cost_of(&key, &flag.definition);
+        let before = store(&mut self.flags, key, flag)?;
+        self.size = (self.size as u128 + cost - before) as u64;
         Ok(())
     }
 
@@ -239,9 +256,12 @@ impl FlagSet {
         ensures { result ≡ refusal self.now
             (record { change = put (key_bytes key.now) flag.now; expect = expect }) }
     {
-        let current = self.changed(key);
-        if !meets(expect, current) {
-            return Some(EditFault::Conflict { current });
+        // Where anything may stand there, nothing is looked up.
+        if expect != Expect::Any {
+            let current = self.changed(key);
+            if !meets(expect, current) {
+                return Some(EditFault::Conflict { current });
+            }
         }
         if !self.has_room_for(key, flag) {
             return Some(EditFault::SetTooLarge);

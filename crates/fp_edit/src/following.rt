@@ -113,9 +113,9 @@ impl FlagSet {
         ensures done { OnOk result (length ahead.new.items ≡ 0) }
     {
         while let Some(edit) = ahead.pop_front() {
-            match self.admit(edit.unconditional()) {
+            match self.make(edit.unconditional()) {
                 Ok(_) => {}
-                Err((_, edit)) => {
+                Err(edit) => {
                     ahead.push_front_reserved(edit);
                     return Err(AllocError);
                 }

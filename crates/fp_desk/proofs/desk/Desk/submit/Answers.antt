@@ -80,8 +80,8 @@ returns-in-Err-clause-unchanged c =
     let before = unchanged (goal.at.returns-in-Err-clause-unchanged c).After-try_reserve in
     elim c.match-copy.branch [ in-Put-1 w ↦ w.self-is ∙ before | in-Delete-1 w ↦ w.self-is ∙ before ]
 
-pub returns-in-Ok-admit-clause-ticket : goal.returns-in-Ok-admit-clause-ticket
-returns-in-Ok-admit-clause-ticket c = (ap (λ (f : FrontState). f.store) c.tell.ensures, ap proposal_of c.of-shown.ensures)
+pub returns-in-Ok-make-clause-ticket : goal.returns-in-Ok-make-clause-ticket
+returns-in-Ok-make-clause-ticket c = (ap (λ (f : FrontState). f.store) c.tell.ensures, ap proposal_of c.of-shown.ensures)
 
 module _ (c : goal.After-tell) where
   room : length (changes_of c.self.inside.drawn.items) + length (changes_of c.self.inside.waiting.items) < MOST_QUEUED
@@ -98,26 +98,26 @@ module _ (c : goal.After-tell) where
   abbrev New : DeskState
   New = record { store = c.self.inside.settled.store; settled = c.self.inside.settled.edits; drawn = changes_of c.self.inside.drawn.items; waiting = changes_of c.push_back_reserved.new.self.items; stopped = c.self.inside.stopped }
 
-  sound : IsSound New c.admit.new.self c.self.inside.base (changes_of c.self.inside.lag.items)
-  sound = waiting_on _ _ _ _ c.self.invariant (proposal_of c.args.edit) c.admit.new.self c.in-Ok-admit.ensures.admitted room New refl refl refl waits
+  sound : IsSound New c.make.new.self c.self.inside.base (changes_of c.self.inside.lag.items)
+  sound = waiting_on _ _ _ _ c.self.invariant (proposal_of c.args.edit) c.make.new.self c.in-Ok-make.ensures.admitted room New refl refl refl waits
 
-pub invariant_of-self-in-Ok-admit : goal.invariant_of-self-in-Ok-admit
-invariant_of-self-in-Ok-admit c = sound c
+pub invariant_of-self-in-Ok-make : goal.invariant_of-self-in-Ok-make
+invariant_of-self-in-Ok-make c = sound c
 
-pub returns-in-Ok-admit-clause-accepted : goal.returns-in-Ok-admit-clause-accepted
-returns-in-Ok-admit-clause-accepted c =
+pub returns-in-Ok-make-clause-accepted : goal.returns-in-Ok-make-clause-accepted
+returns-in-Ok-make-clause-accepted c =
     let p = proposal_of c.args.edit in
     let old = c.self.invariant.head_is in let new = (sound c).head_is in
     rw (← c.self.view_is) (record {
       open_desk = c.if-self.false;
-      admitted = subst (λ (t : State). Admits t p (accepted (head (New c)))) old (subst (λ (t : State). Admits c.self.inside.head p (accepted t)) new c.in-Ok-admit.ensures.admitted);
+      admitted = subst (λ (t : State). Admits t p (accepted (head (New c)))) old (subst (λ (t : State). Admits c.self.inside.head p (accepted t)) new c.in-Ok-make.ensures.admitted);
       room = room c;
       new_is = ap (λ (w : List Change). record { store = c.self.inside.settled.store; settled = c.self.inside.settled.edits; drawn = changes_of c.self.inside.drawn.items; waiting = w; stopped = c.self.inside.stopped }) (waits c);
     })
 
-pub returns-in-Ok-admit-clause-revision : goal.returns-in-Ok-admit-clause-revision
-returns-in-Ok-admit-clause-revision c =
-    let revision = c.in-Ok-admit.ensures.revision in
+pub returns-in-Ok-make-clause-revision : goal.returns-in-Ok-make-clause-revision
+returns-in-Ok-make-clause-revision c =
+    let revision = c.in-Ok-make.ensures.revision in
     let head_is = ap (λ (t : State). t.revision) (sound c).head_is in
     let all = revision-after_all c.self.inside.settled.store.start (log (New c)) in
     omega (arith, revision, head_is, all)

@@ -1,19 +1,14 @@
-use Rattle.std.proofs.Common.{◌≡◌, ℕ, ◌+◌, ◌-◌, ◌≤◌, List, true, sym, ap, subst, ◌∙◌, arith}
+use Rattle.std.proofs.Common.{◌≡◌, ◌+◌, ◌-◌, ◌≤◌, true, sym, ap, subst, ◌∙◌, arith}
 use Rattle.std.specs.FinMap as fin
 use Rattle.fp_definition.specs.Key.{key_bytes}
 use Rattle.fp_edit.specs.Admits.{has_room, has_revision}
 use Rattle.fp_edit.specs.Edits.{put}
 use Rattle.fp_edit.specs.Entries.{flags_of}
-use Rattle.fp_edit.specs.Flags.{State, Flags, IsTallied, cost, cost_found, size}
+use Rattle.fp_edit.specs.Flags.{State, Flags, IsTallied, size}
 use Rattle.fp_edit.specs.declared.flags.Flag.{Flag}
 use Rattle.fp_edit.proofs.Kept.{kept-put}
-use Rattle.fp_edit.proofs.Sizes.{size-insert}
+use Rattle.fp_edit.proofs.Sizes.{resized}
 use Rattle.fp_edit.proofs.flag_set.FlagSet.put.Goals as goal
-
--- the size of the flags with one more, from that of the one that it replaces
-resized : (m : Flags) (k : List ℕ) (f : Flag) (kept spent before : ℕ) → kept ≡ size m → spent ≡ cost (k, f) → before ≡ cost_found k (fin.get m k)
-    → (kept + spent ≡ size (fin.insert m k f) + before)
-resized m k f kept spent before p q r = let all = size-insert m k f in omega arith
 
 pub overflow_sub-self : goal.overflow_sub-self
 overflow_sub-self c =
