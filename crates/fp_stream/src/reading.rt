@@ -36,7 +36,7 @@ pub(crate) fn frame_behind(
         Err(fault) => return Ok(Found::Stop(Decoder::owing(alloc, has, fault))),
     };
     if behind.len() < head.size {
-        let held = behind.to_vec(alloc)?;
+        let held = begun(alloc, behind, head.size)?;
         return Ok(Found::Stop(Decoder::behind_head(has, head, held)));
     }
     let body = behind[..head.size].to_vec(alloc)?;
@@ -44,6 +44,17 @@ pub(crate) fn frame_behind(
         revision: head.revision,
         body,
     }))
+}
+
+// What came of a body of this size. All of its room is taken, so that it isn't copied as more comes;
+// where so much is refused, less may do.
+fn begun(alloc: Global, behind: &[u8], size: usize) -> Result<Vec<u8>, AllocError>
+    ensures { IfOk result (λ held. held.items ≡ behind.now) }
+{
+    let mut held = Vec::new(alloc);
+    let _ = held.reserve(size);
+    held.extend_from_slice(behind)?;
+    Ok(held)
 }
 
 // Adds the frames that stand at the front of the bytes.
