@@ -1,3 +1,3 @@
 pub mod Flags
-pub mod Taken
 pub mod Walks
+pub mod Standing

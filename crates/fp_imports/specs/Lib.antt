@@ -1,3 +1,4 @@
 pub mod Document
 pub mod Faults
 pub mod References
+pub mod Refers

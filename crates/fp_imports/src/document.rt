@@ -1,8 +1,9 @@
 //! A flagd document as flags.
 
-ghost use Rattle.std.specs.Prelude.{◌≡◌, ℕ, List, map, option_map, codes, IfOk};
+ghost use Rattle.std.specs.Prelude.{◌≡◌, map, option_map, codes, true, IfOk, Ok};
 ghost use Rattle.std.specs.List.Sorted.{IsStrictlySortedBy};
 ghost use Rattle.std.specs.Map.{keys_of};
+ghost use Rattle.serde_json.specs.Data.{Members, object};
 ghost use Rattle.serde_json.specs.Find.{get, get_member, as_object};
 ghost use Rattle.serde_json.specs.View.{view, members_view};
 ghost use Rattle.fp_base.specs.Answer.{Gives};
@@ -13,7 +14,8 @@ ghost use Rattle.fp_imports.specs.Document.{flag_if_valid, flag_expansion, targe
 ghost use Rattle.fp_imports.specs.Faults.{Tells, TellsBroken, seen_flag};
 
 use crate::faults::{ImportFault, ReferenceFault};
-use crate::references::{expand, member_named};
+use crate::references::{expand, member_named, stands};
+use fp_base::take_from;
 use fp_definition::{DefFault, Definition, FlagKey, KeyFault};
 use serde_json::{Map, Value};
 use std::alloc::Global;
@@ -41,22 +43,12 @@ fn split(document: Value) -> (Option<Value>, Option<Value>)
 {
     match document {
         Value::Object(mut members) => {
-            let evaluators = take(&mut members, "$evaluators");
-            let flags = take(&mut members, "flags");
+            let evaluators = take_from(&mut members, "$evaluators");
+            let flags = take_from(&mut members, "flags");
             (evaluators, flags)
         }
         _ => (None, None),
     }
-}
-
-fn take(members: &mut Map<String, Value>, name: &str) -> Option<Value>
-    ensures taken { option_map view result
-        ≡ get_member name.now (members_view members.old.entries) }
-    ensures others { (other : List ℕ) → (other ≡ name.now → ⊥) →
-        get_member other (members_view members.new.entries)
-        ≡ get_member other (members_view members.old.entries) }
-{
-    members.remove(name)
 }
 
 fn evaluators_of(alloc: Global, found: Option<Value>) -> Option<Map<String, Value>>
@@ -157,6 +149,9 @@ fn expand_flag(
         Value::Object(members) => members,
         other => return Ok(other),
     };
+    if is_expanded(&members) {
+        return Ok(Value::Object(members));
+    }
     match expand_targeting(alloc, evaluators, &members) {
         Ok(Some(targeting)) => {
             drop(members.insert(String::from_str(alloc, "targeting")?, targeting)?);
@@ -164,6 +159,20 @@ fn expand_flag(
         }
         Ok(None) => Ok(Value::Object(members)),
         Err(fault) => Err(fault),
+    }
+}
+
+// Whether the members of a flag stay as they are, whatever evaluators there are.
+fn is_expanded(members: &Map<String, Value>) -> bool
+    ensures { result ≡ true → (evaluators : Members)
+        → flag_expansion evaluators (object (members_view members.now.entries))
+        ≡ Ok (object (members_view members.now.entries)) }
+{
+    // What is asked of the map tells that its members are in order.
+    let _ = members.len();
+    match member_named(members, "targeting") {
+        Some(targeting) => stands(targeting),
+        None => true,
     }
 }
 

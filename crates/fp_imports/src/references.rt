@@ -1,15 +1,19 @@
 //! References in a targeting, replaced by the evaluators that they name.
 
-ghost use Rattle.std.specs.Prelude.{◌≡◌, map, option_map, Ok};
+ghost use Rattle.std.specs.Prelude.{◌≡◌, ℕ, true, map, option_map, Ok};
+ghost use Rattle.serde_json.specs.Data.{Members};
 ghost use Rattle.serde_json.specs.Find.{get_member};
 ghost use Rattle.serde_json.specs.View.{view, items_view, members_view};
 ghost use Rattle.fp_base.specs.Answer.{Gives};
 ghost use Rattle.fp_imports.specs.References.{reference as reference_of, count_one, expansion};
 ghost use Rattle.fp_imports.specs.References.{items_expansion, members_expansion, replacement};
 ghost use Rattle.fp_imports.specs.References.{whole_expansion};
+ghost use Rattle.fp_imports.specs.Refers.{refers as refers_in, items_refer as items_refer_in};
+ghost use Rattle.fp_imports.specs.Refers.{members_refer as members_refer_in};
 ghost use Rattle.fp_imports.specs.Faults.{TellsBroken, with_rest};
 
 use crate::faults::ReferenceFault;
+use fp_base::values_left;
 use serde_json::{Map, Value};
 use std::alloc::Global;
 
@@ -150,6 +154,51 @@ fn expand_members(
         }
     }
     Ok((found, unused))
+}
+
+// Whether a reference stands in a value, or is it.
+#[cycle(refers)]
+fn refers(value: &Value) -> bool
+    ensures { result ≡ refers_in (view value.now) }
+{
+    match value {
+        Value::Null | Value::Bool(_) | Value::Number(_) | Value::String(_) => false,
+        Value::Array(items) => items_refer(items),
+        Value::Object(members) => reference(members).is_some() || members_refer(members),
+    }
+}
+
+#[cycle(refers)]
+fn items_refer(items: &Vec<Value>) -> bool
+    ensures { result ≡ items_refer_in (items_view items.now.items) }
+{
+    for item in items {
+        if refers(item) {
+            return true;
+        }
+    }
+    false
+}
+
+#[cycle(refers)]
+fn members_refer(members: &Map<String, Value>) -> bool
+    ensures { result ≡ members_refer_in (members_view members.now.entries) }
+{
+    for (_key, member) in members.iter() {
+        if refers(member) {
+            return true;
+        }
+    }
+    false
+}
+
+// Whether a targeting has no references to replace, and few enough values. It is its own expansion
+// then.
+pub(crate) fn stands(targeting: &Value) -> bool
+    ensures { result ≡ true → (evaluators : Members) → (rest : ℕ)
+        × (whole_expansion evaluators (view targeting.now) ≡ Ok (view targeting.now, rest)) }
+{
+    !refers(targeting) && values_left(targeting, MOST_EXPANDED_VALUES).is_some()
 }
 
 // A value that holds no others, if it may be counted.
