@@ -63,11 +63,13 @@ fn write_whole(out: &mut Writer, text: &str) -> Result<bool, AllocError>
         → Prints 0 (number text.now) out.old.tokens out.new.tokens) }
     ensures before { OnOk result (out.new.before ≡ out.old.before) }
 {
-    let Some(whole) = whole_number(text) else {
-        return Ok(false);
-    };
-    out.i64(whole)?;
-    Ok(true)
+    match whole_number(text) {
+        Some(_) => {
+            out.number(text)?;
+            Ok(true)
+        }
+        None => Ok(false),
+    }
 }
 
 #[cycle(prints)]

@@ -1,7 +1,7 @@
 //! JSON as a tree that borrows its texts. It is read in less than half the time that a `Value`
 //! takes, which owns its texts and keeps members in maps.
 
-ghost use Rattle.std.specs.Prelude.{◌≡◌, ◌≤◌, true, Some, IfOk, IfSome};
+ghost use Rattle.std.specs.Prelude.{◌≡◌, ◌≤◌, ◌<◌, ◌+◌, ◌^◌, true, Some, IfOk, IfSome, decimal};
 ghost use Rattle.json.specs.Tree.{HasNumbers};
 ghost use Rattle.json.specs.Value.{value_view, items_view as tree_items, members_view as tree_members};
 ghost use Rattle.serde_json.specs.Data.{depth, items_depth, members_depth, no_members};
@@ -20,6 +20,9 @@ use std::alloc::{AllocError, Global};
 
 // What `read_json` reads nests at most this deep.
 const DEEPEST_JSON: usize = 127;
+
+// From here on, one digit more may not fit an i64.
+const LEAST_FULL: u64 = 922_337_203_685_477_580;
 
 /// The tree of the value that the bytes spell, or `None` where they are no JSON.
 pub fn read_tree<'a>(
@@ -51,11 +54,41 @@ pub fn read_tree<'a>(
 pub fn whole_number(text: &str) -> Option<i64>
     ensures { IfSome result (λ z. IsNumeral z text.now) }
 {
+    if let Some(number) = plain_number(text.as_bytes()) {
+        return Some(number as i64);
+    }
     let number = text.parse::<i64>().ok()?;
     if !is_written(number, text) {
         return None;
     }
     Some(number)
+}
+
+// The number that digits alone write, where it is below `LEAST_FULL`. Most numbers are: one pass
+// reads them and sees that they are written so.
+fn plain_number(text: &[u8]) -> Option<u64>
+    ensures { IfSome result (λ n. (n < 2 ^ 63) × (text.now ≡ decimal n)) }
+{
+    let mut number = u64::from(digit(*text.first()?)?);
+    for i in 1..text.len() {
+        let next = digit(text[i])?;
+        if number == 0 || number >= LEAST_FULL {
+            return None;
+        }
+        number = number * 10 + u64::from(next);
+    }
+    Some(number)
+}
+
+// What a digit stands for.
+fn digit(byte: u8) -> Option<u8>
+    ensures { IfSome result (λ d. (d < 10) × (byte ≡ 48 + d)) }
+{
+    if byte.is_ascii_digit() {
+        Some(byte - b'0')
+    } else {
+        None
+    }
 }
 
 fn is_written(number: i64, text: &str) -> bool
