@@ -14,6 +14,7 @@ use Rattle.fp_targeting.specs.contracts.rule.Rule as rule
 use Rattle.fp_targeting.specs.contracts.rule.Rule.TheInside as rule_inside
 use Rattle.fp_targeting.specs.contracts.tree.Tree as tree
 use Rattle.fp_definition.proofs.key.FlagKey.TheSendSync as key
+use Rattle.fp_definition.specs.contracts.choice.Choice as choice
 use Rattle.fp_definition.specs.contracts.definition.Definition as definition
 use Rattle.fp_definition.specs.contracts.definition.Definition.TheInside as definition_inside
 use Rattle.fp_definition.specs.contracts.definition.Kept as kept
@@ -53,11 +54,17 @@ rule_sent = view_send _ _ _ _ _ (recorded_send _ _ _ (rule_inside.the_type).to_o
 rule_shared : IsSync rule.the_row
 rule_shared = view_sync _ _ _ _ _ (recorded_sync _ _ _ (rule_inside.the_type).to_one (struct_sync (shape rule_inside.the_type) (tree_shared, tt)))
 
+choice_sent : IsSend (choice.the_field).row
+choice_sent = struct_send (shape choice.the_type) (search sendable, (search (sendable, crosses) depth 20, (search (sendable, maps.BTreeMap-send, maps.String-send, value_sent) depth 5, (search (sendable, value_sent) depth 20, tt))))
+
+choice_shared : IsSync (choice.the_field).row
+choice_shared = struct_sync (shape choice.the_type) (search sendable, (search (sendable, crosses) depth 20, (search (sendable, maps.BTreeMap-sync, maps.String-sync, value_shared) depth 5, (search (sendable, value_shared) depth 20, tt))))
+
 kept_sent : IsSend kept.the_row
-kept_sent = recorded_send _ _ _ (kept.the_type).to_one (struct_send (shape kept.the_type) (search (sendable, crosses) depth 20, (value_sent, (search (sendable, rule_sent) depth 20, tt))))
+kept_sent = recorded_send _ _ _ (kept.the_type).to_one (struct_send (shape kept.the_type) (search (sendable, crosses) depth 20, (choice_sent, (search (sendable, rule_sent) depth 20, tt))))
 
 kept_shared : IsSync kept.the_row
-kept_shared = recorded_sync _ _ _ (kept.the_type).to_one (struct_sync (shape kept.the_type) (search (sendable, crosses) depth 20, (value_shared, (search (sendable, rule_shared) depth 20, tt))))
+kept_shared = recorded_sync _ _ _ (kept.the_type).to_one (struct_sync (shape kept.the_type) (search (sendable, crosses) depth 20, (choice_shared, (search (sendable, rule_shared) depth 20, tt))))
 
 pub definition_sent : IsSend definition.the_row
 definition_sent = view_send _ _ _ _ _ (recorded_send _ _ _ (definition_inside.the_type).to_one (struct_send (shape definition_inside.the_type) (Arc-send _ kept_sent kept_shared, tt)))
