@@ -10,3 +10,4 @@ pub mod Puts
 pub mod Lookups
 pub mod Printed
 pub mod Taken
+pub mod TreeData

@@ -1,5 +1,5 @@
 -- What a tree of JSON says, and what is printed of it.
-use Rattle.std.specs.Prelude.{◌≡◌, ◌≤◌, ◌++◌, ◌∷◌, [], ℕ, List, slice_get, true, Some, ⊤, unwrap_or, option_to_list}
+use Rattle.std.specs.Prelude.{◌≡◌, ◌≤◌, ◌++◌, ◌∷◌, [], ℕ, List, slice_get, true, Some, is_some, ⊤, unwrap_or, option_to_list}
 use Rattle.std.specs.Borrow.{Bor}
 use Rattle.std.specs.Ordering.{nat_cmp}
 use Rattle.std.specs.declared.alloc.Global.{Global}
@@ -10,7 +10,7 @@ use Rattle.json.specs.Token.{Token}
 use Rattle.json.specs.Tree.{json_tokens}
 use Rattle.json.specs.declared.value.Value as tree
 use Rattle.serde_json.specs.Data.{Data, null, depth, Items, no_items, item, Members, no_members, member, put}
-use Rattle.serde_json.specs.Read.{of_json}
+use Rattle.serde_json.specs.Read.{number_of, of_json}
 use Rattle.serde_json.specs.Written.{outline}
 use Rattle.fp_base.specs.Sorted.{IsSorted}
 use Rattle.fp_base.specs.Whole.{is_whole}
@@ -31,6 +31,24 @@ said_members (json.member k j ms) = member k (said j) (said_members ms)
 abbrev pub puts : json.Members → Members → Members
 puts json.no_members found = found
 puts (json.member k j ms) found = puts ms (put k (said j) found)
+
+-- each number in the tree is one, and so the tree has data
+abbrev mutual
+  pub IsReadable : json.Json → Type 0
+  IsReadable json.null = ⊤
+  IsReadable (json.boolean b) = ⊤
+  IsReadable (json.number s) = is_some (number_of s) ≡ true
+  IsReadable (json.string s) = ⊤
+  IsReadable (json.array js) = AreReadable js
+  IsReadable (json.object ms) = MembersAreReadable ms
+
+  pub AreReadable : json.Items → Type 0
+  AreReadable json.no_items = ⊤
+  AreReadable (json.item j js) = IsReadable j × AreReadable js
+
+  pub MembersAreReadable : json.Members → Type 0
+  MembersAreReadable json.no_members = ⊤
+  MembersAreReadable (json.member k j ms) = IsReadable j × MembersAreReadable ms
 
 -- the tree has data: their numbers are whole, they nest at most so deep, and what is printed of them
 -- reads as them

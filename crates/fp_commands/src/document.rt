@@ -6,11 +6,12 @@ ghost use Rattle.fp_commands.specs.Disks.{Blames};
 ghost use Rattle.fp_commands.specs.Documents.{import_of, IsDocumentFault};
 
 use crate::fault::CommandFault;
-use fp_base::read_json;
+use fp_base::{read_json, read_tree};
 use fp_definition::{Definition, FlagKey};
-use fp_imports::expand_document;
+use fp_imports::{expand_document, expand_tree};
 use fp_streams::FailureCounted;
-use std::alloc::Global;
+use json::Scratch;
+use std::alloc::{AllocError, Global};
 use std::io::Read;
 
 // The flags of the flagd document that the reader gives.
@@ -24,11 +25,29 @@ pub fn read_document<R: Read>(
     ensures device { Blames r.old.failures r.new.failures result }
 {
     let bytes = r.read_to_end(alloc)?;
+    if let Some(flags) = shown_flags(alloc, &bytes)? {
+        return Ok(flags);
+    }
     let Some(document) = read_json(alloc, &bytes)? else {
         return Err(CommandFault::NotDocument);
     };
     match expand_document(alloc, document) {
         Ok(flags) => Ok(flags),
         Err(fault) => Err(fault.into()),
+    }
+}
+
+// The flags of a flagd document, where its tree shows them.
+fn shown_flags(
+    alloc: Global,
+    bytes: &[u8],
+) -> Result<Option<Vec<(FlagKey, Definition)>>, AllocError>
+    ensures { IfOk result (λ o. IfSome o (λ flags.
+        import_of bytes.now ≡ Ok (map flag_bytes flags.items))) }
+{
+    let mut scratch = Scratch::new(alloc);
+    match read_tree(alloc, bytes, &mut scratch)? {
+        Some(tree) => expand_tree(alloc, tree),
+        None => Ok(None),
     }
 }

@@ -1,5 +1,5 @@
 -- Flags, member by member, and the order of their keys.
-use Rattle.std.proofs.Common.{◌≡◌, ℕ, List, [], ◌∷◌, ◌++◌, map, Ok, Err, Result, String, Global, Less, string_bytes, string_cmp, refl, sym, ap, ◌∙◌, append_assoc, rules}
+use Rattle.std.proofs.Common.{◌≡◌, ℕ, List, [], ◌∷◌, ◌++◌, map, Ok, Err, Result, Less, string_bytes, refl, sym, ap, ◌∙◌, append_assoc, rules}
 use Rattle.std.specs.List.{AllByRecursion}
 use Rattle.std.specs.List.Sorted.{IsStrictlySortedBy}
 use Rattle.std.specs.Map.{keys_of}
@@ -62,21 +62,22 @@ pub flag-named : (evaluators : Members) (k : List ℕ) (d : Data) (f : Flag) →
 flag-named evaluators k d f h =
     sym (ap (key_or k) h) ∙ key_or-if (is_key k) k (flag_of_data k (flag_expansion evaluators d)) (key_or-defined k (flag_expansion evaluators d))
 
-below_all : (k : FlagKey) (s : String Global) (ks : List FlagKey) (ss : List (String Global)) → key_bytes k ≡ string_bytes s → map key_bytes ks ≡ map string_bytes ss
-    → AllByRecursion (λ t. string_cmp s t ≡ Less) ss → AllByRecursion (λ l. flag_cmp k l ≡ Less) ks
-below_all k s [] ss first same h = tt
-below_all k s (l ∷ ks) [] first same h = absurd (search rules)
-below_all k s (l ∷ ks) (t ∷ ss) first same h =
-    let second : key_bytes l ≡ string_bytes t = cc in
-    let others : map key_bytes ks ≡ map string_bytes ss = cc in
-    (ap (λ x. bytes_cmp x (key_bytes l)) first ∙ ap (bytes_cmp (string_bytes s)) second ∙ h.0, below_all k s ks ss first others h.1)
+module _ {K : Type 0} (bytes : K → List ℕ) where
+  below_all : (k : FlagKey) (s : K) (ks : List FlagKey) (ss : List K) → key_bytes k ≡ bytes s → map key_bytes ks ≡ map bytes ss
+      → AllByRecursion (λ t. bytes_cmp (bytes s) (bytes t) ≡ Less) ss → AllByRecursion (λ l. flag_cmp k l ≡ Less) ks
+  below_all k s [] ss first same h = tt
+  below_all k s (l ∷ ks) [] first same h = absurd (search rules)
+  below_all k s (l ∷ ks) (t ∷ ss) first same h =
+      let second : key_bytes l ≡ bytes t = cc in
+      let others : map key_bytes ks ≡ map bytes ss = cc in
+      (ap (λ x. bytes_cmp x (key_bytes l)) first ∙ ap (bytes_cmp (bytes s)) second ∙ h.0, below_all k s ks ss first others h.1)
 
--- keys whose bytes are those of ascending names ascend
-pub ascending_keys : (ks : List FlagKey) (ss : List (String Global)) → map key_bytes ks ≡ map string_bytes ss → IsStrictlySortedBy string_cmp ss → IsStrictlySortedBy flag_cmp ks
-unfolding IsStrictlySortedBy
-ascending_keys [] ss same h = tt
-ascending_keys (k ∷ ks) [] same h = absurd (search rules)
-ascending_keys (k ∷ ks) (s ∷ ss) same h =
-    let first : key_bytes k ≡ string_bytes s = cc in
-    let others : map key_bytes ks ≡ map string_bytes ss = cc in
-    (below_all k s ks ss first others h.0, ascending_keys ks ss others h.1)
+  -- keys whose bytes are those of ascending names ascend
+  pub ascending_keys : (ks : List FlagKey) (ss : List K) → map key_bytes ks ≡ map bytes ss → IsStrictlySortedBy (λ s t. bytes_cmp (bytes s) (bytes t)) ss → IsStrictlySortedBy flag_cmp ks
+  unfolding IsStrictlySortedBy
+  ascending_keys [] ss same h = tt
+  ascending_keys (k ∷ ks) [] same h = absurd (search rules)
+  ascending_keys (k ∷ ks) (s ∷ ss) same h =
+      let first : key_bytes k ≡ bytes s = cc in
+      let others : map key_bytes ks ≡ map bytes ss = cc in
+      (below_all k s ks ss first others h.0, ascending_keys ks ss others h.1)

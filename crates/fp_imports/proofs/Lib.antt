@@ -1,3 +1,5 @@
 pub mod Flags
 pub mod Walks
 pub mod Standing
+mod TreeWalks
+mod TreeMembers

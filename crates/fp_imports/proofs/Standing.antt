@@ -6,6 +6,7 @@ use Rattle.serde_json.specs.Data.{Data, null, boolean, number, string, array, ob
 use Rattle.serde_json.specs.View.{items_of}
 use Rattle.fp_base.specs.Count.{count, items_count, members_count, spend}
 use Rattle.fp_imports.specs.References.{Walked, expansion, items_expansion, members_expansion, onward, reference}
+use Rattle.fp_imports.specs.Trees.{list_of}
 use Rattle.fp_imports.specs.Refers.{refers, items_refer, members_refer}
 use Rattle.std.specs.Cmp.Lexicographic.{slice_cmp}
 use Rattle.std.specs.List.{AllByRecursion}
@@ -28,12 +29,7 @@ no_name : (o : Option (List ℕ)) → is_some o ≡ false → o ≡ None
 no_name None h = refl
 no_name (Some n) h = absurd (true≢false h)
 
--- what a list of data is as items
-abbrev list_of : Items → List Data
-list_of no_items = []
-list_of (item d ds) = d ∷ list_of ds
-
-items_of-list_of : (ds : Items) → items_of (list_of ds) ≡ ds
+pub items_of-list_of : (ds : Items) → items_of (list_of ds) ≡ ds
 items_of-list_of no_items = refl
 items_of-list_of (item d ds) = ap (item d) (items_of-list_of ds)
 

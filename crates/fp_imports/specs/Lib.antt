@@ -2,3 +2,4 @@ pub mod Document
 pub mod Faults
 pub mod References
 pub mod Refers
+pub mod Trees

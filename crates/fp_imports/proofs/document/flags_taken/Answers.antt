@@ -41,4 +41,4 @@ returns-clause-ascending c =
     let done = l.invariant.0 in
     let over : l.name-iterator ≡ [] = search rules in
     let all : c.args.flags.entries ≡ done = l.invariant.1 ∙ ap (λ es. done ++ es) over ∙ append-nil done in
-    ascending_keys (keys_of l.found.items) (keys_of c.args.flags.entries) (l.invariant.2 ∙ ap (λ es. names (members_view es)) (sym all) ∙ names-keys c.args.flags.entries) c.into_iter-name-iterator.ensures.into_iter_gives.5
+    ascending_keys string_bytes (keys_of l.found.items) (keys_of c.args.flags.entries) (l.invariant.2 ∙ ap (λ es. names (members_view es)) (sym all) ∙ names-keys c.args.flags.entries) c.into_iter-name-iterator.ensures.into_iter_gives.5
