@@ -175,7 +175,18 @@ fn text_of(alloc: Global, tree: &Tree<'_>, room: usize) -> Result<Option<Vec<u8>
     if !write_tree(alloc, &mut out, tree, DEEPEST_DEFINITION)? {
         return Ok(None);
     }
-    Ok(Some(out.into_inner()))
+    Ok(Some(fitted(out.into_inner())))
+}
+
+// The same text in no more than twice its room, since it is kept.
+fn fitted(text: Vec<u8>) -> Vec<u8>
+    ensures { result.items ≡ text.items }
+{
+    let mut text = text;
+    if text.len() < text.capacity() / 2 {
+        text.shrink_to_fit();
+    }
+    text
 }
 
 // The definition that a tree is. Its text is begun with room for so many bytes.

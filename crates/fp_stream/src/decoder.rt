@@ -14,7 +14,7 @@ use crate::fault::FrameFault;
 use crate::frame::Frame;
 use crate::head::{HEAD, Head};
 use crate::hello::Hello;
-use crate::reading::{Found, frame_behind, frames_of, joined};
+use crate::reading::{Found, frame_behind, frames_of, joined, make_room};
 use std::alloc::{AllocError, Global};
 use std::marker::Model;
 use std::mem;
@@ -107,6 +107,7 @@ impl Decoder {
         ensures err { OnErr result (self.new ≡ self.old) }
     {
         if piece.len() < wanted(self.head) - self.held.len() {
+            make_room(&mut self.held, piece.len(), wanted(self.head));
             self.held.extend_from_slice(piece)?;
             return Ok(Vec::new(alloc));
         }

@@ -12,6 +12,9 @@ use crate::head::{HEAD, head_of};
 use crate::hello::Hello;
 use std::alloc::{AllocError, Global};
 
+// Room is taken for so many times the bytes that came.
+const MOST_AHEAD: usize = 8;
+
 // What stands at a head and behind it.
 #[derive(Drop)]
 pub(crate) enum Found {
@@ -46,15 +49,29 @@ pub(crate) fn frame_behind(
     }))
 }
 
-// What came of a body of this size. All of its room is taken, so that it isn't copied as more comes;
-// where so much is refused, less may do.
+// What came of a body of this size.
 fn begun(alloc: Global, behind: &[u8], size: usize) -> Result<Vec<u8>, AllocError>
     ensures { IfOk result (λ held. held.items ≡ behind.now) }
 {
     let mut held = Vec::new(alloc);
-    let _ = held.reserve(size);
+    make_room(&mut held, behind.len(), size);
     held.extend_from_slice(behind)?;
     Ok(held)
+}
+
+// Before what is held grows by so many bytes it gets room for eight times as many as came, up to
+// this size, so that it is seldom moved. Where so much is refused, less may do.
+pub(crate) fn make_room(held: &mut Vec<u8>, more: usize, size: usize)
+    ensures { held.new.items ≡ held.old.items }
+{
+    let len = held.len();
+    if held.capacity() - len < more {
+        let room = len
+            .saturating_add(more)
+            .saturating_mul(MOST_AHEAD)
+            .min(size);
+        let _ = held.reserve(room.saturating_sub(len));
+    }
 }
 
 // Adds the frames that stand at the front of the bytes.

@@ -15,7 +15,7 @@ returns c =
     let wrote = c.in_ok-write_tree.ensures.prints c.if-not-branch.false in
     let none : c.write_tree.new.out.before ≡ [] = c.in_ok-write_tree.ensures.before ∙ c.new-out.ensures.before ∙ c.in_ok-with_capacity.ensures.items in
     let written : c.write_tree.new.out.tokens ≡ json_tokens (outline d) = wrote.tokens ∙ ap (λ ts. ts ++ json_tokens (outline d)) c.new-out.ensures.tokens in
-    let text : c.into_inner.result.items ≡ print (json_tokens (outline d)) = c.into_inner.ensures.items ∙ ap₂ (λ b ts. b ++ print ts) none written in
+    let text : c.fitted.result.items ≡ print (json_tokens (outline d)) = c.fitted.ensures ∙ c.into_inner.ensures.items ∙ ap₂ (λ b ts. b ++ print ts) none written in
     record {
       has = wrote.has;
       canonical = text ∙ print-outline d;

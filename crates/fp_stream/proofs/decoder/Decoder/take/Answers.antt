@@ -21,7 +21,7 @@ returns-then-piece-wanted-clause-leaves c =
     let short : length (held ++ piece) < wanted_by inside.head = omega (arith, length-append held piece, inside.held.ok.0, c.wanted.ensures, c.if-piece-wanted.true, c.len.ensures) in
     let l = Leaves-part inside.has inside.head held piece short c.self.invariant.lawful in
     let none : inside.owed ≡ None = ap (λ (r : Reader). r.owed) c.self.view_is ∙ c.requires in
-    let longer : c.extend_from_slice.new.self.items ≡ held ++ piece = c.in_ok-extend_from_slice.ensures.items in
+    let longer : c.extend_from_slice.new.self.items ≡ held ++ piece = c.in_ok-extend_from_slice.ensures.items ∙ ap (λ h. h ++ piece) c.make_room.ensures in
     let made : List ℕ → Option FrameFault → Reader = λ h o. record { has = inside.has; held = held_of inside.head h; owed = o } in
     let left : made (held ++ piece) None ≡ made c.extend_from_slice.new.self.items inside.owed = ap₂ made (sym longer) (sym none) in
     let one = subst (λ (x : Reader). DecodesTo inside.has (held_of inside.head held ++ piece) [] x) left l in
