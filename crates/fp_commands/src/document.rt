@@ -1,6 +1,7 @@
 //! Flagd documents as they are read.
 
-ghost use Rattle.std.specs.Prelude.{◌≡◌, Ok, IfSome, IfOk, IfErr, map};
+ghost use Rattle.std.specs.Prelude.{◌≡◌, Ok, Err, IfSome, IfOk, IfErr, map};
+ghost use Rattle.fp_imports.specs.Faults.{Tells};
 ghost use Rattle.fp_session.specs.Asks.{flag_bytes};
 ghost use Rattle.fp_commands.specs.Disks.{Blames};
 ghost use Rattle.fp_commands.specs.Documents.{import_of, IsDocumentFault};
@@ -8,10 +9,10 @@ ghost use Rattle.fp_commands.specs.Documents.{import_of, IsDocumentFault};
 use crate::fault::CommandFault;
 use fp_base::{read_json, read_tree};
 use fp_definition::{Definition, FlagKey};
-use fp_imports::{expand_document, expand_tree};
+use fp_imports::{ImportFault, expand_document, expand_tree};
 use fp_streams::FailureCounted;
 use json::Scratch;
-use std::alloc::{AllocError, Global};
+use std::alloc::Global;
 use std::io::Read;
 
 // The flags of the flagd document that the reader gives.
@@ -37,13 +38,14 @@ pub fn read_document<R: Read>(
     }
 }
 
-// The flags of a flagd document, where its tree shows them.
+// The flags of a flagd document or its fault, where its tree shows them.
 fn shown_flags(
     alloc: Global,
     bytes: &[u8],
-) -> Result<Option<Vec<(FlagKey, Definition)>>, AllocError>
-    ensures { IfOk result (λ o. IfSome o (λ flags.
+) -> Result<Option<Vec<(FlagKey, Definition)>>, ImportFault>
+    ensures flags { IfOk result (λ o. IfSome o (λ flags.
         import_of bytes.now ≡ Ok (map flag_bytes flags.items))) }
+    ensures refused { IfErr result (λ f. Tells f (λ e. import_of bytes.now ≡ Err e)) }
 {
     let mut scratch = Scratch::new(alloc);
     match read_tree(alloc, bytes, &mut scratch)? {

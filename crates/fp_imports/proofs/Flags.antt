@@ -8,9 +8,13 @@ use Rattle.serde_json.specs.View.{members_view}
 use Rattle.serde_json.proofs.Views.{Entry}
 use Rattle.fp_definition.specs.Key.{key_bytes, flag_cmp, is_key}
 use Rattle.fp_definition.specs.declared.key.FlagKey.{FlagKey}
-use Rattle.fp_imports.specs.Document.{Flag, Refusal, bad_key, flag_unless, flag_of_data, flag_expansion, flag_of, flags_of, before, and_others}
+use Rattle.fp_definition.specs.Faults.{tells}
+use Rattle.fp_imports.specs.Faults.{Tells}
+use Rattle.fp_imports.specs.declared.faults.ImportFault.{ImportFault}
+use Rattle.fp_imports.specs.declared.faults.ImportFault.TheVariants as import
+use Rattle.fp_imports.specs.Document.{not_document, unknown_evaluator, nested_too_deep, bad_flag, Flag, Refusal, bad_key, flag_unless, flag_of_data, flag_expansion, flag_of, flags_of, before, and_others}
 use Rattle.fp_imports.proofs.Walks.{names}
-use Rattle.std.specs.Prelude.{Some, None, Option, Bool, true, false, if◌then◌else◌}
+use Rattle.std.specs.Prelude.{IsSomeAnd, string_bytes, Some, None, Option, Bool, true, false, if◌then◌else◌}
 use Rattle.fp_base.specs.Bytes.{bytes_cmp}
 use Rattle.fp_definition.specs.Valid.{Fault, first_fault}
 use Rattle.fp_imports.specs.References.{Broken}
@@ -81,3 +85,18 @@ module _ {K : Type 0} (bytes : K → List ℕ) where
       let first : key_bytes k ≡ bytes s = cc in
       let others : map key_bytes ks ≡ map bytes ss = cc in
       (below_all k s ks ss first others h.0, ascending_keys ks ss others h.1)
+
+-- ---- faults
+
+some-and : {A : Type 0} (o : Option A) (P Q : A → Type 0) → ((a : A) → P a → Q a) → IsSomeAnd o P → IsSomeAnd o Q
+some-and None P Q f h = h
+some-and (Some a) P Q f h = f a h
+
+-- what a fault tells tells what follows from it
+pub tells-weaker : (f : ImportFault) (P Q : Refusal → Type 0) → ((e : Refusal) → P e → Q e) → Tells f P → Tells f Q
+tells-weaker import.NotDocument P Q g h = g not_document h
+tells-weaker (import.RefUnknown name) P Q g h = g (unknown_evaluator (string_bytes name)) h
+tells-weaker import.RefTooDeep P Q g h = g nested_too_deep h
+tells-weaker (import.Flag key fault) P Q g h = some-and (tells fault) (λ f. P (bad_flag (key_bytes key) f)) (λ f. Q (bad_flag (key_bytes key) f)) (λ f. g (bad_flag (key_bytes key) f)) h
+tells-weaker (import.BadKey name) P Q g h = g (bad_key (string_bytes name)) h
+tells-weaker import.Memory P Q g h = tt

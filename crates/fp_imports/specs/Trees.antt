@@ -1,5 +1,5 @@
 -- Trees of JSON that are documents.
-use Rattle.std.specs.Prelude.{◌≡◌, ◌+◌, ℕ, List, [], ◌∷◌, ◌++◌, codes, drop, take, Option, None, Some, Ok}
+use Rattle.std.specs.Prelude.{◌≡◌, ◌+◌, ℕ, List, [], ◌∷◌, ◌++◌, codes, drop, take, Option, None, Some, Ok, Err}
 use Rattle.std.specs.Borrow.{Bor}
 use Rattle.std.specs.declared.alloc.Global.{Global}
 use Rattle.json.specs.Find as tree
@@ -9,7 +9,7 @@ use Rattle.json.specs.Json as json
 use Rattle.serde_json.specs.Data.{Data, Items, no_items, item, Members, no_members}
 use Rattle.serde_json.specs.Read.{of_json}
 use Rattle.fp_base.specs.Printed.{said, said_items, puts, IsReadable, AreReadable}
-use Rattle.fp_imports.specs.Document.{Flag, document}
+use Rattle.fp_imports.specs.Document.{Flag, Refusal, document}
 use Rattle.fp_imports.specs.References.{Walked}
 
 -- the tree has data, and these are the flags of the document that they are
@@ -17,6 +17,12 @@ pub record DefinesFlags (j : json.Json) (flags : List Flag) : Type 0 where
   pub written : Data
   pub reads : of_json j ≡ Some written
   pub defines : document written ≡ Ok flags
+
+-- the tree has data, and this is the first fault of the document that they are
+pub record Refuses (j : json.Json) (fault : Refusal) : Type 0 where
+  pub written : Data
+  pub reads : of_json j ≡ Some written
+  pub refuses : document written ≡ Err fault
 
 -- the members of an object's tree; other trees have none
 abbrev pub members_in : json.Json → Members

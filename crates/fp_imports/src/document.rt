@@ -122,7 +122,7 @@ fn flag_named(
 }
 
 // The flag of that key whose definition the value is.
-fn flag_defined(
+pub(crate) fn flag_defined(
     alloc: Global,
     key: FlagKey,
     flag: Value,

@@ -1,8 +1,8 @@
 //! A flagd document's flags off its tree, with no values between. `None` says nothing of the
 //! document, here and below: `expand_document` says what it is.
 
-ghost use Rattle.std.specs.Prelude.{◌≡◌, ◌<◌, true, Ok, Some, None, IfOk, IfSome, codes, length, map};
-ghost use Rattle.std.specs.Prelude.{option_map};
+ghost use Rattle.std.specs.Prelude.{◌≡◌, ◌<◌, true, Ok, Err, Some, None, IfOk, IfErr, IfSome, codes, length};
+ghost use Rattle.std.specs.Prelude.{map, option_map};
 ghost use Rattle.std.specs.List.Sorted.{IsStrictlySortedBy};
 ghost use Rattle.std.specs.Map.{keys_of};
 ghost use Rattle.json.specs.Find.{get_member as tree_member};
@@ -11,14 +11,16 @@ ghost use Rattle.json.specs.Value.{value_view, members_view as tree_members};
 ghost use Rattle.serde_json.specs.Data.{no_members};
 ghost use Rattle.serde_json.specs.Find.{get};
 ghost use Rattle.fp_base.specs.Printed.{said, said_members, puts, IsReadable, MembersAreReadable};
-ghost use Rattle.fp_definition.specs.Key.{flag_cmp};
-ghost use Rattle.fp_imports.specs.Document.{evaluators_in, flags_in, flag_expansion};
+ghost use Rattle.fp_definition.specs.Key.{flag_cmp, key_bytes};
+ghost use Rattle.fp_imports.specs.Document.{evaluators_in, flags_in, flag_expansion, flag_if_valid};
 ghost use Rattle.fp_imports.specs.Document.{flags_of as every_flag, flag_of as one_flag};
-ghost use Rattle.fp_imports.specs.Faults.{seen_flag};
-ghost use Rattle.fp_imports.specs.Trees.{AreEvaluators, DefinesFlags, IsLastAt, PutsTargeting, members_in};
+ghost use Rattle.fp_imports.specs.Faults.{Tells, seen_flag};
+ghost use Rattle.fp_imports.specs.Trees.{AreEvaluators, DefinesFlags, Refuses, IsLastAt, PutsTargeting, members_in};
 
+use crate::document::flag_defined;
+use crate::faults::ImportFault;
 use crate::tree_references::{replaced, stays};
-use fp_base::is_readable;
+use fp_base::{is_readable, owned};
 use fp_definition::{Definition, FlagKey, KeyFault};
 use json::Value as Tree;
 use std::alloc::{AllocError, Global};
@@ -27,6 +29,9 @@ use std::collections::BTreeMap;
 // A name is looked up among so many evaluators at most, one by one.
 const MOST_EVALUATORS: usize = 64;
 
+// No flag's tree nests so deep.
+const DEEPEST_FLAG: u32 = 128;
+
 // `$evaluators` of a document, an object, and the members of its `flags`.
 #[derive(Drop)]
 struct Parts<'a> {
@@ -34,14 +39,15 @@ struct Parts<'a> {
     flags: Vec<(&'a str, Tree<'a>)>,
 }
 
-/// The flags of a flagd document that a tree spells, in ascending order of their keys, as
-/// `expand_document` gives them. `None` says nothing of the tree.
+/// The flags of a flagd document that a tree spells, in ascending order of their keys, or the first
+/// fault, as `expand_document` gives them. `None` says nothing of the tree.
 pub fn expand_tree(
     alloc: Global,
     document: Tree<'_>,
-) -> Result<Option<Vec<(FlagKey, Definition)>>, AllocError>
+) -> Result<Option<Vec<(FlagKey, Definition)>>, ImportFault>
     ensures flags { IfOk result (λ o. IfSome o (λ v.
         DefinesFlags (value_view document.entry) (map seen_flag v.items))) }
+    ensures refused { IfErr result (λ f. Tells f (Refuses (value_view document.entry))) }
     ensures ascending { IfOk result (λ o. IfSome o (λ v.
         IsStrictlySortedBy flag_cmp (keys_of v.items))) }
 {
@@ -149,12 +155,15 @@ fn flags_taken<'a>(
     alloc: Global,
     evaluators: &Tree<'a>,
     flags: BTreeMap<&'a str, Tree<'a>>,
-) -> Result<Option<Vec<(FlagKey, Definition)>>, AllocError>
+) -> Result<Option<Vec<(FlagKey, Definition)>>, ImportFault>
     requires evaluators { IsReadable (value_view evaluators.now) }
     requires flags { MembersAreReadable (tree_members flags.entries) }
     ensures flags { IfOk result (λ o. IfSome o (λ v.
         every_flag (members_in (value_view evaluators.now))
         (said_members (tree_members flags.entry.entries)) ≡ Ok (map seen_flag v.items))) }
+    ensures refused { IfErr result (λ f. Tells f (λ e.
+        every_flag (members_in (value_view evaluators.now))
+        (said_members (tree_members flags.entry.entries)) ≡ Err e)) }
     ensures ascending { IfOk result (λ o. IfSome o (λ v.
         IsStrictlySortedBy flag_cmp (keys_of v.items))) }
 {
@@ -173,24 +182,48 @@ fn flag_named<'a>(
     evaluators: &Tree<'a>,
     name: &str,
     flag: Tree<'a>,
-) -> Result<Option<(FlagKey, Definition)>, AllocError>
+) -> Result<Option<(FlagKey, Definition)>, ImportFault>
     requires evaluators { IsReadable (value_view evaluators.now) }
     requires flag { IsReadable (value_view flag) }
-    ensures { IfOk result (λ o. IfSome o (λ f.
+    ensures made { IfOk result (λ o. IfSome o (λ f.
         one_flag (members_in (value_view evaluators.now)) name.now (said (value_view flag.entry))
         ≡ Ok (seen_flag f))) }
+    ensures refused { IfErr result (λ f. Tells f (λ e.
+        one_flag (members_in (value_view evaluators.now)) name.now (said (value_view flag.entry))
+        ≡ Err e)) }
 {
     let key = match FlagKey::new(alloc, name) {
         Ok(key) => key,
-        Err(KeyFault::BadKey) => return Ok(None),
-        Err(KeyFault::Memory) => return Err(AllocError),
+        Err(KeyFault::BadKey) => return Err(ImportFault::BadKey(String::from_str(alloc, name)?)),
+        Err(KeyFault::Memory) => return Err(ImportFault::Memory),
     };
-    let Some(flag) = expanded_flag(alloc, evaluators, flag)? else {
+    match expanded_flag(alloc, evaluators, flag)? {
+        Some(flag) => flag_in_tree(alloc, key, &flag),
+        None => Ok(None),
+    }
+}
+
+// The flag of that key whose definition a tree spells, or its fault. What a tree doesn't tell, its
+// value does.
+fn flag_in_tree(
+    alloc: Global,
+    key: FlagKey,
+    flag: &Tree<'_>,
+) -> Result<Option<(FlagKey, Definition)>, ImportFault>
+    ensures made { IfOk result (λ o. IfSome o (λ f.
+        flag_if_valid (key_bytes key) (said (value_view flag.now)) ≡ Ok (seen_flag f))) }
+    ensures refused { IfErr result (λ f. Tells f (λ e.
+        flag_if_valid (key_bytes key) (said (value_view flag.now)) ≡ Err e)) }
+{
+    if let Some(definition) = Definition::from_tree(alloc, flag)? {
+        return Ok(Some((key, definition)));
+    }
+    let Some(value) = owned(alloc, flag, DEEPEST_FLAG)? else {
         return Ok(None);
     };
-    match Definition::from_tree(alloc, &flag)? {
-        Some(definition) => Ok(Some((key, definition))),
-        None => Ok(None),
+    match flag_defined(alloc, key, value) {
+        Ok(made) => Ok(Some(made)),
+        Err(fault) => Err(fault),
     }
 }
 

@@ -26,7 +26,7 @@ loop-name-preserved c =
     let others = flags_of evaluators (said_members (tree_members left)) in
     let all : c.args.flags.entries ≡ done ++ e ∷ left = l.invariant.1 ∙ ap (λ es. done ++ es) c.in-Some.ensures.steps in
     let can = subst (λ es. MembersAreReadable (tree_members es)) c.in-Some.ensures.steps l.invariant.3 in
-    let one : flag_of evaluators k d ≡ Ok f = subst (λ o. IfSome o (λ x. flag_of evaluators k d ≡ Ok (seen_flag x))) c.in-Some-2.is c.in_ok-made.ensures in
+    let one : flag_of evaluators k d ≡ Ok f = subst (λ o. IfSome o (λ x. flag_of evaluators k d ≡ Ok (seen_flag x))) c.in-Some-2.is c.in_ok-made.ensures.made in
     let items = c.in_ok-push.ensures.items in (
       done ++ e ∷ [],
       all ∙ sym (append_assoc done (e ∷ []) left),
