@@ -1,6 +1,6 @@
 -- The members of an edit in a tree: which of them there are, and what they say together.
 use Rattle.std.proofs.Common.{◌≡◌, ◌⊎◌, inl, inr, ℕ, ◌+◌, ◌≤◌, List, [], ◌∷◌, length, Bor, Bool, true, false, cond, ◌&&◌, codes, Option, Some, None, option_map, Ok, Ordering, Less, Equal, Greater, bytes_eq, true≢false, add-one, refl, sym, ap, subst, ◌∙◌, arith}
-use Rattle.std.specs.Prelude.{option_and_then, is_some}
+use Rattle.std.specs.Prelude.{option_and_then, is_some, IsSomeAnd, Result, Err}
 use Rattle.std.specs.Ordering.{match_ordering, nat_cmp}
 use Rattle.std.specs.Cmp.Lexicographic.{slice_cmp}
 use Rattle.std.proofs.lemmas.Option.{same_Some}
@@ -15,12 +15,17 @@ use Rattle.serde_json.specs.Find.{get}
 use Rattle.serde_json.specs.Read.{of_json, of_members}
 use Rattle.fp_base.proofs.Lookups.{get-of_json}
 use Rattle.fp_base.proofs.Owners.{of_members-owned}
+use Rattle.fp_definition.specs.Faults.{tells}
+use Rattle.fp_definition.specs.Valid as valid
 use Rattle.fp_definition.specs.Written.{WritesDefinition}
 use Rattle.fp_edit.specs.Edits as edits
 use Rattle.fp_edit.specs.Edits.{Proposal}
-use Rattle.fp_edit.specs.Line.{is_known, all_known, op_of, key_of, expect_of, flag_of, parts_of}
+use Rattle.fp_edit.specs.Line.{Fault, bad_flag, is_known, all_known, op_of, key_of, expect_of, flag_of, parts_of}
 use Rattle.fp_edit.specs.Parts.{data_of, said, edit_of, SayEdit, SpellsEdit}
+use Rattle.fp_edit.specs.Spelled.{Tells}
 use Rattle.fp_edit.specs.declared.edit.Expect.{Expect}
+use Rattle.fp_edit.specs.declared.line.LineFault.{LineFault}
+use Rattle.fp_edit.specs.declared.line.LineFault.TheVariants.{TooLong, NotJson, NotObject, BadMember, BadOp, BadKey, BadIf, BadFlag, Memory}
 use Rattle.fp_edit.specs.declared.line.Op.TheVariants.{Put, Delete}
 
 -- ---- what one member says
@@ -29,6 +34,25 @@ use Rattle.fp_edit.specs.declared.line.Op.TheVariants.{Put, Delete}
 pub flag_said : (j : Json) (text : List ℕ) → WritesDefinition j text → said flag_of (Some j) ≡ Some (Ok text)
 unfolding flag_of
 flag_said j text w = rw (w.reads, w.valid, ← w.canonical) refl
+
+-- what the data of a tree say, the tree says
+pub value_said : (j : Json) (d : Data) (r : Result (List ℕ) Fault) → of_json j ≡ Some d → flag_of (Some d) ≡ r → said flag_of (Some j) ≡ Some r
+value_said j d r reads is = ap (λ o. option_map flag_of (option_map Some o)) reads ∙ ap Some is
+
+pub tells-weaker : (f : LineFault) (P Q : Fault → Type 0) → ((e : Fault) → P e → Q e) → Tells f P → Tells f Q
+tells-weaker TooLong P Q h t = h _ t
+tells-weaker NotJson P Q h t = h _ t
+tells-weaker NotObject P Q h t = h _ t
+tells-weaker BadMember P Q h t = h _ t
+tells-weaker BadOp P Q h t = h _ t
+tells-weaker BadKey P Q h t = h _ t
+tells-weaker BadIf P Q h t = h _ t
+tells-weaker (BadFlag e) P Q h t = some_weaker (tells e) t
+  where
+    some_weaker : (o : Option valid.Fault) → IsSomeAnd o (λ f. P (bad_flag f)) → IsSomeAnd o (λ f. Q (bad_flag f))
+    some_weaker None t = t
+    some_weaker (Some f) t = h _ t
+tells-weaker Memory P Q h t = tt
 
 mapped : {A B : Type 0} (f : A → B) (o : Option A) (b : B) → option_map f o ≡ Some b → (a : A) × (o ≡ Some a) × (f a ≡ b)
 mapped f None b h = absurd (cc)
@@ -40,7 +64,7 @@ not_there f (Some a) h = absurd (true≢false h)
 
 pub put_says : (flag expect key op : Option Json) (k text : List ℕ) (x : Expect)
     → said flag_of flag ≡ Some (Ok text) → said expect_of expect ≡ Some (Ok x) → said key_of key ≡ Some (Ok k) → said op_of op ≡ Some (Ok Put)
-    → SayEdit flag expect key op (record { change = edits.put k text; expect = x })
+    → SayEdit flag expect key op (Ok (record { change = edits.put k text; expect = x }))
 put_says flag expect key op k text x f e h o =
     let fs = mapped flag_of (data_of flag) (Ok text) f in
     let es = mapped expect_of (data_of expect) (Ok x) e in
@@ -58,9 +82,30 @@ put_says flag expect key op k text x f e h o =
       says = rw (os.2, ks.2, es.2, fs.2) refl;
     }
 
+-- a definition's fault is the fault of a put whose other members are right
+pub refused_says : (flag expect key op : Option Json) (f : Fault) (k : List ℕ) (x : Expect)
+    → said flag_of flag ≡ Some (Err f) → said expect_of expect ≡ Some (Ok x) → said key_of key ≡ Some (Ok k) → said op_of op ≡ Some (Ok Put)
+    → SayEdit flag expect key op (Err f)
+refused_says flag expect key op f k x r e h o =
+    let fs = mapped flag_of (data_of flag) (Err f) r in
+    let es = mapped expect_of (data_of expect) (Ok x) e in
+    let ks = mapped key_of (data_of key) (Ok k) h in
+    let os = mapped op_of (data_of op) (Ok Put) o in
+    record {
+      flag_data = fs.0;
+      expect_data = es.0;
+      key_data = ks.0;
+      op_data = os.0;
+      flag_has = fs.1;
+      expect_has = es.1;
+      key_has = ks.1;
+      op_has = os.1;
+      says = rw (os.2, ks.2, es.2, fs.2) refl;
+    }
+
 pub delete_says : (flag expect key op : Option Json) (k : List ℕ) (x : Expect)
     → flag ≡ None → said expect_of expect ≡ Some (Ok x) → said key_of key ≡ Some (Ok k) → said op_of op ≡ Some (Ok Delete)
-    → SayEdit flag expect key op (record { change = edits.delete k; expect = x })
+    → SayEdit flag expect key op (Ok (record { change = edits.delete k; expect = x }))
 delete_says flag expect key op k x f e h o =
     let es = mapped expect_of (data_of expect) (Ok x) e in
     let ks = mapped key_of (data_of key) (Ok k) h in
@@ -232,7 +277,7 @@ all_read (json.member k j ms) before e each known =
 
 -- ---- the edit of all
 
-each_has : (ms : json.Members) (p : Proposal) → SayEdit (tree.get_member (codes "flag") ms) (tree.get_member (codes "if") ms) (tree.get_member (codes "key") ms) (tree.get_member (codes "op") ms) p → Each ms
+each_has : (ms : json.Members) (p : Result Proposal Fault) → SayEdit (tree.get_member (codes "flag") ms) (tree.get_member (codes "if") ms) (tree.get_member (codes "key") ms) (tree.get_member (codes "op") ms) p → Each ms
 each_has ms p s name known =
     let P : List ℕ → Type 0 = λ n. HasData (tree.get_member n ms) in
     elim (which name) [
@@ -257,7 +302,7 @@ parts-edit : (d : Data) (f e k o : Option Data) → get (codes "flag") d ≡ f �
 unfolding parts_of
 parts-edit d f e k o p q r s = rw (p, q, r, s) refl
 
-members_spell : (ms : json.Members) (p : Proposal) → found ms ≡ members_len ms
+members_spell : (ms : json.Members) (p : Result Proposal Fault) → found ms ≡ members_len ms
     → SayEdit (tree.get_member (codes "flag") ms) (tree.get_member (codes "if") ms) (tree.get_member (codes "key") ms) (tree.get_member (codes "op") ms) p
     → SpellsEdit (of_json (json.object ms)) p
 members_spell ms p e s =
@@ -276,7 +321,7 @@ members_spell ms p e s =
     }
 
 -- the same of a tree that is an object, with what was found in it
-pub tree_spells : (j : Json) (ms : json.Members) (flag expect key op : Option Json) (p : Proposal) → j ≡ json.object ms
+pub tree_spells : (j : Json) (ms : json.Members) (flag expect key op : Option Json) (p : Result Proposal Fault) → j ≡ json.object ms
     → flag ≡ tree.get (codes "flag") j → expect ≡ tree.get (codes "if") j → key ≡ tree.get (codes "key") j → op ≡ tree.get (codes "op") j
     → one flag + one expect + one key + one op ≡ members_len ms → SayEdit flag expect key op p → SpellsEdit (of_json j) p
 tree_spells j ms flag expect key op p is f e k o all s =

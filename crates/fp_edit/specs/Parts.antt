@@ -1,5 +1,5 @@
 -- The members of an edit as a tree has them, each of them there or not, and the edit that they say.
-use Rattle.std.specs.Prelude.{◌≡◌, Option, Some, None, option_map, Result, Ok}
+use Rattle.std.specs.Prelude.{◌≡◌, Option, Some, None, option_map, Result}
 use Rattle.std.specs.Borrow.{Bor}
 use Rattle.std.specs.declared.alloc.Global.{Global}
 use Rattle.json.specs.Json.{Json}
@@ -29,8 +29,8 @@ abbrev pub edit_of : Option Data → Option Data → Option Data → Option Data
 edit_of flag expect key op =
     op_of op >>= λ o. key_of key >>= λ k. expect_of expect >>= λ e. edit_with o k e flag
 
--- each of the four members has data, and these are an edit
-pub record SayEdit (flag expect key op : Option Json) (p : Proposal) : Type 0 where
+-- each of the four members has data, and this is what these are: an edit, or a fault
+pub record SayEdit (flag expect key op : Option Json) (r : Result Proposal Fault) : Type 0 where
   pub flag_data : Option Data
   pub expect_data : Option Data
   pub key_data : Option Data
@@ -39,10 +39,10 @@ pub record SayEdit (flag expect key op : Option Json) (p : Proposal) : Type 0 wh
   pub expect_has : data_of expect ≡ Some expect_data
   pub key_has : data_of key ≡ Some key_data
   pub op_has : data_of op ≡ Some op_data
-  pub says : edit_of flag_data expect_data key_data op_data ≡ Ok p
+  pub says : edit_of flag_data expect_data key_data op_data ≡ r
 
--- what was read are data, and these are an edit
-pub record SpellsEdit (read : Option Data) (p : Proposal) : Type 0 where
+-- what was read are data, and this is what these are: an edit, or a fault
+pub record SpellsEdit (read : Option Data) (r : Result Proposal Fault) : Type 0 where
   pub spelled : Data
   pub reads : read ≡ Some spelled
-  pub says : edit_in spelled ≡ Ok p
+  pub says : edit_in spelled ≡ r

@@ -1,6 +1,6 @@
 //! Lines that spell edits.
 
-ghost use Rattle.std.specs.Prelude.{◌≡◌, codes};
+ghost use Rattle.std.specs.Prelude.{◌≡◌, Some, codes};
 ghost use Rattle.serde_json.specs.View.{view, members_view};
 ghost use Rattle.serde_json.specs.Find.{get};
 ghost use Rattle.fp_base.specs.Answer.{Gives};
@@ -77,8 +77,7 @@ pub fn parse_line(alloc: Global, line: &[u8]) -> Result<Edit, LineFault>
     if line.len() > LONGEST_LINE {
         return Err(LineFault::TooLong);
     }
-    // The tree shows most edits, and is read sooner than the value. This decides of the other lines,
-    // and names the fault.
+    // The tree shows most edits, and is read sooner than the value. This decides of the other lines.
     if let Some(edit) = shown_edit(alloc, line)? {
         return Ok(edit);
     }
@@ -209,10 +208,18 @@ fn flag_of(alloc: Global, value: Value) -> Result<Definition, LineFault>
 {
     match take_member(value, "flag") {
         None => Err(LineFault::BadFlag(DefFault::NotObject)),
-        Some(flag) => match Definition::from_value(alloc, flag) {
-            Ok(definition) => Ok(definition),
-            Err(DefFault::Memory) => Err(LineFault::Memory),
-            Err(fault) => Err(LineFault::BadFlag(fault)),
-        },
+        Some(flag) => definition_in(alloc, flag),
+    }
+}
+
+/// The definition that the value of a `flag` is.
+#[tactic(auto, unfolding(crate::specs::Line::flag_of))]
+pub(crate) fn definition_in(alloc: Global, flag: Value) -> Result<Definition, LineFault>
+    ensures { Gives (λ definition. definition) Tells result (says.flag_of (Some (view flag))) }
+{
+    match Definition::from_value(alloc, flag) {
+        Ok(definition) => Ok(definition),
+        Err(DefFault::Memory) => Err(LineFault::Memory),
+        Err(fault) => Err(LineFault::BadFlag(fault)),
     }
 }

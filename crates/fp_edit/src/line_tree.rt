@@ -1,9 +1,9 @@
-//! Edits that are read off the tree of a line. It borrows the line's texts, so that only what the
-//! edit keeps is copied. `None` says nothing of the line, here and below: its value decides then.
+//! Edits, and the faults of their definitions, that are read off the tree of a line. It borrows the
+//! line's texts, so that only what the edit keeps is copied. `None` says nothing of the line, here
+//! and below: its value decides then.
 
-ghost use Rattle.std.specs.Prelude.{◌≡◌, Some, Ok, IfOk, IfSome, is_some};
+ghost use Rattle.std.specs.Prelude.{◌≡◌, Some, Ok, Err, IfOk, IfErr, IfSome, is_some};
 ghost use Rattle.std.specs.Prelude.{if◌then◌else◌, option_map};
-ghost use Rattle.json.specs.Tree.{HasNumbers};
 ghost use Rattle.json.specs.Value.{value_view};
 ghost use Rattle.serde_json.specs.Find.{as_u64};
 ghost use Rattle.serde_json.specs.Read.{number_of, of_json};
@@ -13,17 +13,23 @@ ghost use Rattle.fp_edit.specs.Edits.{proposal_of};
 ghost use Rattle.fp_edit.specs.Line as says;
 ghost use Rattle.fp_edit.specs.Line.{op_of, key_of, expect_of, flag_of};
 ghost use Rattle.fp_edit.specs.Parts.{said, seen, SayEdit, SpellsEdit};
+ghost use Rattle.fp_edit.specs.Spelled.{Tells};
 
 use crate::edit::{Edit, Expect};
-use crate::line::{Op, expect_at, expect_by_name, op_by_name};
-use fp_base::{read_tree, whole_number};
+use crate::line::{LineFault, Op, definition_in, expect_at, expect_by_name, op_by_name};
+use fp_base::{owned, read_tree, whole_number};
 use fp_definition::{Definition, FlagKey, KeyFault};
 use json::{Scratch, Value as Tree};
 use std::alloc::{AllocError, Global};
 
-/// The edit that a line spells, where its tree shows it.
-pub(crate) fn shown_edit(alloc: Global, line: &[u8]) -> Result<Option<Edit>, AllocError>
-    ensures { IfOk result (λ o. IfSome o (λ e. SpellsEdit (json_of line.now) (proposal_of e))) }
+// No definition's tree nests so deep.
+const DEEPEST_FLAG: u32 = 128;
+
+/// The edit that a line spells, or the fault of its definition, where its tree shows it.
+pub(crate) fn shown_edit(alloc: Global, line: &[u8]) -> Result<Option<Edit>, LineFault>
+    ensures edit { IfOk result (λ o. IfSome o (λ e.
+        SpellsEdit (json_of line.now) (Ok (proposal_of e)))) }
+    ensures refused { IfErr result (λ f. Tells f (λ e. SpellsEdit (json_of line.now) (Err e))) }
 {
     let mut scratch = Scratch::new(alloc);
     match read_tree(alloc, line, &mut scratch)? {
@@ -33,10 +39,11 @@ pub(crate) fn shown_edit(alloc: Global, line: &[u8]) -> Result<Option<Edit>, All
 }
 
 // The edit that a tree spells, as far as it shows.
-fn edit_of_tree(alloc: Global, tree: &Tree<'_>) -> Result<Option<Edit>, AllocError>
-    requires { HasNumbers (value_view tree.now) }
-    ensures { IfOk result (λ o. IfSome o (λ e.
-        SpellsEdit (of_json (value_view tree.now)) (proposal_of e))) }
+fn edit_of_tree(alloc: Global, tree: &Tree<'_>) -> Result<Option<Edit>, LineFault>
+    ensures edit { IfOk result (λ o. IfSome o (λ e.
+        SpellsEdit (of_json (value_view tree.now)) (Ok (proposal_of e)))) }
+    ensures refused { IfErr result (λ f. Tells f (λ e.
+        SpellsEdit (of_json (value_view tree.now)) (Err e))) }
 {
     let Tree::Object(members) = tree else {
         return Ok(None);
@@ -66,10 +73,11 @@ fn edit_of_parts(
     expect: Option<&Tree<'_>>,
     key: Option<&Tree<'_>>,
     op: Option<&Tree<'_>>,
-) -> Result<Option<Edit>, AllocError>
-    requires { IfSome flag (λ t. HasNumbers (value_view t.now)) }
-    ensures { IfOk result (λ o. IfSome o (λ e. SayEdit (seen flag.entry) (seen expect.entry)
-        (seen key.entry) (seen op.entry) (proposal_of e))) }
+) -> Result<Option<Edit>, LineFault>
+    ensures edit { IfOk result (λ o. IfSome o (λ e. SayEdit (seen flag.entry) (seen expect.entry)
+        (seen key.entry) (seen op.entry) (Ok (proposal_of e)))) }
+    ensures refused { IfErr result (λ f. Tells f (λ e. SayEdit (seen flag.entry)
+        (seen expect.entry) (seen key.entry) (seen op.entry) (Err e))) }
 {
     let Some(op) = op_in(op) else {
         return Ok(None);
@@ -141,13 +149,33 @@ fn key_in(alloc: Global, member: Option<&Tree<'_>>) -> Result<Option<FlagKey>, A
     }
 }
 
-fn flag_in(alloc: Global, member: Option<&Tree<'_>>) -> Result<Option<Definition>, AllocError>
-    requires { IfSome member (λ t. HasNumbers (value_view t.now)) }
-    ensures { IfOk result (λ o. IfSome o (λ flag.
+fn flag_in(alloc: Global, member: Option<&Tree<'_>>) -> Result<Option<Definition>, LineFault>
+    ensures made { IfOk result (λ o. IfSome o (λ flag.
         said flag_of (seen member.entry) ≡ Some (Ok flag))) }
+    ensures refused { IfErr result (λ f. Tells f (λ e.
+        said flag_of (seen member.entry) ≡ Some (Err e))) }
 {
     match member {
-        Some(tree) => Definition::from_tree(alloc, tree),
+        Some(tree) => definition_in_tree(alloc, tree),
         None => Ok(None),
+    }
+}
+
+// The definition that a tree spells, or its fault. What a tree doesn't tell, its value does.
+fn definition_in_tree(alloc: Global, tree: &Tree<'_>) -> Result<Option<Definition>, LineFault>
+    ensures made { IfOk result (λ o. IfSome o (λ flag.
+        said flag_of (Some (value_view tree.now)) ≡ Some (Ok flag))) }
+    ensures refused { IfErr result (λ f. Tells f (λ e.
+        said flag_of (Some (value_view tree.now)) ≡ Some (Err e))) }
+{
+    if let Some(definition) = Definition::from_tree(alloc, tree)? {
+        return Ok(Some(definition));
+    }
+    let Some(value) = owned(alloc, tree, DEEPEST_FLAG)? else {
+        return Ok(None);
+    };
+    match definition_in(alloc, value) {
+        Ok(definition) => Ok(Some(definition)),
+        Err(fault) => Err(fault),
     }
 }
