@@ -3,7 +3,10 @@ pub mod Followed
 pub mod Tallying
 pub mod Kept
 pub mod Maps
+pub mod Outlined
 pub mod Parts
+pub mod Patched
 pub mod Runs
+pub mod Since
 pub mod Sizes
 pub mod Texts

@@ -71,23 +71,32 @@ back false x f h = refl
 at_key : (m : Flags) (k q : List ℕ) → eq_by_cmp bytes_cmp q k ≡ true → fin.get m q ≡ fin.get m k
 at_key m k q e = sym (fin.get_tied nat_list_cmp_total m q k ((Equal-is (bytes_cmp q k)).0 e))
 
+-- a removal of nothing
+pub removed_none : (m : Flags) (k : List ℕ) → fin.get m k ≡ None → fin.remove m k ≡ m
+removed_none m k none = fin.same_map nat_list_cmp_total exact_bytes (fin.remove m k) m (λ q.
+    fin.get-remove nat_list_cmp_total m k q ∙ stays _ _ (λ e. at_key m k q e ∙ none))
+
+-- a removal of a flag: nothing is there then, and an insert of the flag undoes it
+pub removed_some : (m : Flags) (k : List ℕ) (f : Flag) → fin.get m k ≡ Some f
+    → (fin.get (fin.remove m k) k ≡ None) × (fin.insert (fin.remove m k) k f ≡ m)
+removed_some m k f some = (
+  fin.get-remove nat_list_cmp_total m k k ∙ ap (λ r. cond (is_eq r) None (fin.get m k)) (tied_itself nat_list_cmp_total k),
+  fin.same_map nat_list_cmp_total exact_bytes (fin.insert (fin.remove m k) k f) m (λ q.
+      fin.get-insert nat_list_cmp_total (fin.remove m k) k f q
+      ∙ ap (cond (eq_by_cmp bytes_cmp q k) (Some f)) (fin.get-remove nat_list_cmp_total m k q)
+      ∙ back _ _ f (λ e. at_key m k q e ∙ some)),
+)
+
 -- a removal takes the cost of what was there
 pub size-remove : (m : Flags) (k : List ℕ) → size (fin.remove m k) + cost_found k (fin.get m k) ≡ size m
 size-remove m k =
     elim (fin.get m k) as (λ o. fin.get m k ≡ o → size (fin.remove m k) + cost_found k o ≡ size m) [
-      | None ↦ λ none.
-          let same : fin.remove m k ≡ m = fin.same_map nat_list_cmp_total exact_bytes (fin.remove m k) m (λ q.
-          fin.get-remove nat_list_cmp_total m k q ∙ stays _ _ (λ e. at_key m k q e ∙ none)) in
-          let sizes : size (fin.remove m k) ≡ size m = ap size same in omega arith
+      | None ↦ λ none. let sizes : size (fin.remove m k) ≡ size m = ap size (removed_none m k none) in omega arith
       | Some f ↦ λ some.
-          let same : fin.insert (fin.remove m k) k f ≡ m = fin.same_map nat_list_cmp_total exact_bytes (fin.insert (fin.remove m k) k f) m (λ q.
-          fin.get-insert nat_list_cmp_total (fin.remove m k) k f q
-          ∙ ap (cond (eq_by_cmp bytes_cmp q k) (Some f)) (fin.get-remove nat_list_cmp_total m k q)
-          ∙ back _ _ f (λ e. at_key m k q e ∙ some)) in
-          let sizes : size (fin.insert (fin.remove m k) k f) ≡ size m = ap size same in
-          let gone : fin.get (fin.remove m k) k ≡ None = fin.get-remove nat_list_cmp_total m k k ∙ ap (λ r. cond (is_eq r) None (fin.get m k)) (tied_itself nat_list_cmp_total k) in
+          let gone = removed_some m k f some in
+          let sizes : size (fin.insert (fin.remove m k) k f) ≡ size m = ap size gone.1 in
           let all = size-insert (fin.remove m k) k f in
-          let none : cost_found k (fin.get (fin.remove m k) k) ≡ 0 = ap (cost_found k) gone in omega arith
+          let none : cost_found k (fin.get (fin.remove m k) k) ≡ 0 = ap (cost_found k) gone.0 in omega arith
     ] refl
 
 -- ---- counts

@@ -7,5 +7,6 @@ pub mod Following
 pub mod Laws
 pub mod Line
 pub mod Log
+pub mod Outline
 pub mod Parts
 pub mod Spelled

@@ -1,12 +1,15 @@
 //! Documents that show a set of flags.
 
-ghost use Rattle.std.specs.Prelude.{◌≡◌, ◌∷◌, ◌++◌, false, IfOk, OnOk};
+ghost use Rattle.std.specs.Prelude.{◌≡◌, ◌++◌, ℕ, List, false, IfOk, OnOk, IsTrue, length};
 ghost use Rattle.std.specs.BTreeMap.{IsOrdered};
-ghost use Rattle.json.specs.Print.{quoted};
-ghost use Rattle.serde_json.specs.Written.{comma_if, compact_text, members_text};
+ghost use Rattle.serde_json.specs.Written.{compact_text, members_text};
 ghost use Rattle.fp_definition.specs.Key.{flag_cmp, key_bytes};
 ghost use Rattle.fp_edit.specs.Document.{data_of, document, members_of};
 ghost use Rattle.fp_edit.specs.Entries.{entries_of, flags_of};
+ghost use Rattle.fp_edit.specs.Flags.{State};
+ghost use Rattle.fp_edit.specs.declared.flags.Flag.{Flag};
+ghost use Rattle.fp_edit.specs.Outline.{part, part_lengths, changed_after, SameButChanged};
+ghost use Rattle.fp_edit.specs.Outline.{Outlines, IsDocumentOf};
 
 use crate::flags::Flag;
 use fp_base::put_quoted;
@@ -14,62 +17,175 @@ use fp_definition::{Definition, FlagKey};
 use std::alloc::{AllocError, Global};
 use std::collections::BTreeMap;
 
-// The document, begun with room for so many bytes.
+const HEAD: &[u8] = b"{\"flags\":{";
+
+/// A set as canonical JSON: an object whose one member, `flags`, has each definition under its
+/// key. A later set's document is made of it, as far as the flags are the same.
+#[derive(Drop)]
+pub struct Document {
+    text: Vec<u8>,
+    // How long each flag's part is: by these a later document finds what it copies.
+    lengths: Vec<usize>,
+    revision: u64,
+}
+
+impl Document {
+    /// Its text.
+    pub fn text(&self) -> &[u8]
+        ensures { (s : State) → IsDocumentOf self.now s → result.now ≡ document s.flags }
+    {
+        self.text.as_slice()
+    }
+
+    pub(crate) fn into_text(self) -> Vec<u8>
+        ensures { (s : State) → IsDocumentOf self s → result.items ≡ document s.flags }
+    {
+        self.text
+    }
+
+    pub(crate) fn count(&self) -> usize
+        ensures { result ≡ length self.now.lengths.items }
+    {
+        self.lengths.len()
+    }
+
+    pub(crate) fn revision(&self) -> u64
+        ensures { result ≡ self.now.revision }
+    {
+        self.revision
+    }
+}
+
+/// The document of flags at a revision, begun with room for so many bytes.
 pub(crate) fn document_of(
     alloc: Global,
     flags: &BTreeMap<FlagKey, Flag>,
+    revision: u64,
     room: usize,
-) -> Result<Vec<u8>, AllocError>
-    ensures { IfOk result (λ text. text.items ≡ document (flags_of flags.now.entries)) }
+) -> Result<Document, AllocError>
+    ensures { IfOk result (λ d. Outlines d (entries_of flags.now.entries)
+        × (d.revision ≡ revision)) }
 {
-    let mut out = Vec::with_capacity(alloc, room)?;
-    out.extend_from_slice(b"{\"flags\":{")?;
-    put_members(alloc, &mut out, flags)?;
-    out.push(b'}')?;
-    Ok(out)
+    let mut text = Vec::with_capacity(alloc, room)?;
+    let mut lengths = Vec::with_capacity(alloc, flags.len())?;
+    text.extend_from_slice(HEAD)?;
+    put_members(alloc, &mut text, &mut lengths, flags)?;
+    text.push(b'}')?;
+    Ok(Document {
+        text,
+        lengths,
+        revision,
+    })
 }
 
 fn put_members(
     alloc: Global,
     out: &mut Vec<u8>,
+    lengths: &mut Vec<usize>,
     flags: &BTreeMap<FlagKey, Flag>,
 ) -> Result<(), AllocError>
     ensures members { OnOk result
         (out.new.items
         ≡ out.old.items ++ members_text false (members_of (entries_of flags.now.entries))) }
-    ensures ordered { IsOrdered flag_cmp flags.now }
+    ensures lengths { OnOk result
+        (lengths.new.items
+        ≡ lengths.old.items ++ part_lengths false (entries_of flags.now.entries)) }
 {
     let mut later = false;
     for (key, flag) in flags.iter() {
-        put_member(alloc, out, later, key, &flag.definition)?;
+        let len = put_member(alloc, out, later, key, &flag.definition)?;
+        lengths.push(len)?;
         later = true;
     }
     out.push(b'}')?;
     Ok(())
 }
 
+// Puts a flag's part, and answers how long it is.
 fn put_member(
     alloc: Global,
     out: &mut Vec<u8>,
     later: bool,
     key: &FlagKey,
     definition: &Definition,
-) -> Result<(), AllocError>
-    ensures { OnOk result (out.new.items ≡ out.old.items
-        ++ (comma_if later
-        ++ (quoted (key_bytes key.now) ++ 58 ∷ compact_text (data_of definition.now)))) }
+) -> Result<usize, AllocError>
+    ensures part { (changed : ℕ) → OnOk result (out.new.items ≡ out.old.items
+        ++ part later (key_bytes key.now, record { definition = definition.now; changed = changed })) }
+    ensures length { (changed : ℕ) → IfOk result (λ n. n ≡ length
+        (part later (key_bytes key.now, record { definition = definition.now; changed = changed }))) }
 {
+    let start = out.len();
     if later {
         out.push(b',')?;
     }
     put_quoted(alloc, out, key.as_str())?;
     out.push(b':')?;
     out.extend_from_slice(text_of(definition))?;
-    Ok(())
+    Ok(out.len() - start)
 }
 
 fn text_of(definition: &Definition) -> &[u8]
     ensures { result.now ≡ compact_text (data_of definition.now) }
 {
     definition.text()
+}
+
+/// Whether so many flags were changed after a revision.
+pub(crate) fn are_changed_after(flags: &BTreeMap<FlagKey, Flag>, revision: u64, count: u64) -> bool
+    ensures { IsTrue result → changed_after revision (entries_of flags.now.entries) ≡ count }
+{
+    let mut left = count;
+    for (_key, flag) in flags.iter() {
+        if flag.changed > revision {
+            if left == 0 {
+                return false;
+            }
+            left -= 1;
+        }
+    }
+    left == 0
+}
+
+/// The document of flags that are those of an earlier document, but for the ones that were changed
+/// since. What stands between these is copied.
+pub(crate) fn document_after(
+    alloc: Global,
+    flags: &BTreeMap<FlagKey, Flag>,
+    revision: u64,
+    room: usize,
+    before: &Document,
+) -> Result<Document, AllocError>
+    requires { (es : List (List ℕ × Flag)) × Outlines before.now es
+        × SameButChanged before.now.revision es (entries_of flags.now.entries) }
+    ensures { IfOk result (λ d. Outlines d (entries_of flags.now.entries)
+        × (d.revision ≡ revision)) }
+{
+    let mut text = Vec::with_capacity(alloc, room)?;
+    let mut lengths = Vec::with_capacity(alloc, flags.len())?;
+    let mut left = before.lengths.as_slice();
+    // The earlier text is taken over, or replaced, up to `from`; its next part begins at `at`.
+    let mut from = 0;
+    let mut at = HEAD.len();
+    let mut later = false;
+    for (key, flag) in flags.iter() {
+        let Some((len, rest)) = left.split_first() else {
+            unreachable!();
+        };
+        left = rest;
+        if flag.changed > before.revision {
+            text.extend_from_slice(&before.text[from..at])?;
+            lengths.push(put_member(alloc, &mut text, later, key, &flag.definition)?)?;
+            from = at + *len;
+        } else {
+            lengths.push(*len)?;
+        }
+        at += *len;
+        later = true;
+    }
+    text.extend_from_slice(&before.text[from..])?;
+    Ok(Document {
+        text,
+        lengths,
+        revision,
+    })
 }

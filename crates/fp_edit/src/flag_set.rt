@@ -9,13 +9,14 @@ ghost use Rattle.fp_edit.specs.Admits.{Admits, accepted, IsRefused, changed_at, 
 ghost use Rattle.fp_edit.specs.Admits.{has_room, is_met, is_within, next, refusal};
 ghost use Rattle.fp_edit.specs.Document.{document};
 ghost use Rattle.fp_edit.specs.Entries.{entries_of};
+ghost use Rattle.fp_edit.specs.Outline.{IsDocumentOf, LeadsTo};
 ghost use Rattle.fp_edit.specs.Edits.{is_put, put, delete, proposal_of};
 ghost use Rattle.fp_edit.specs.Following.{change_of};
-ghost use Rattle.fp_edit.specs.Flags.{IsChangedBy, cost_found, size as size_of};
+ghost use Rattle.fp_edit.specs.Flags.{State, IsChangedBy, cost_found, size as size_of};
 ghost use Rattle.fp_edit.specs.declared.flags.Flag.{Flag};
 ghost use Rattle.fp_edit.specs.declared.flags.TheConstants.{IMAGE_HEAD};
 
-use crate::document::document_of;
+use crate::document::{Document, are_changed_after, document_after, document_of};
 use crate::edit::{Edit, EditFault, Expect, REVISIONS_END};
 use crate::flags::{
     Flag, IMAGE_HEAD, copy_of, cost_at, cost_of, count, count_at, find, store, take,
@@ -140,7 +141,30 @@ impl FlagSet {
     pub fn document(&self) -> Result<Vec<u8>, AllocError>
         ensures { IfOk result (λ text. text.items ≡ document self.now.flags) }
     {
-        document_of(self.alloc, &self.flags, self.size as usize)
+        Ok(self.outlined()?.into_text())
+    }
+
+    /// The same with the places of the flags in it, so that a later document is made of it.
+    pub fn outlined(&self) -> Result<Document, AllocError>
+        ensures { IfOk result (λ d. IsDocumentOf d self.now) }
+    {
+        document_of(self.alloc, &self.flags, self.revision, self.size as usize)
+    }
+
+    /// The same, made of the document of an earlier set, from which edits lead to this one. Where
+    /// they put flags in place of flags, each another one, what stands between these is copied.
+    pub fn outlined_after(&self, before: &Document) -> Result<Document, AllocError>
+        requires { (s : State) × IsDocumentOf before.now s × LeadsTo s self.now }
+        ensures { IfOk result (λ d. IsDocumentOf d self.now) }
+    {
+        let edits = self.revision.saturating_sub(before.revision());
+        if before.count() == self.len()
+            && are_changed_after(&self.flags, before.revision(), edits)
+        {
+            let room = self.size as usize;
+            return document_after(self.alloc, &self.flags, self.revision, room, before);
+        }
+        self.outlined()
     }
 
     /// An equal set, which shares the definitions.

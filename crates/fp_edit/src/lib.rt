@@ -12,6 +12,7 @@ mod line;
 mod line_tree;
 mod tally;
 
+pub use document::Document;
 pub use edit::{Edit, EditFault, Expect, REVISIONS_END};
 pub use flag_set::{FlagSet, MOST_FLAGS};
 pub use flags::{FLAG_FRAME, Flag, IMAGE_HEAD};

@@ -10,6 +10,7 @@ ghost use Rattle.fp_publish.specs.declared.seats.TheConstants.{MOST_SEATS};
 
 use crate::published::View;
 use crate::shown::Shown;
+use fp_edit::Document;
 use fp_stream::Hello;
 use std::alloc::{AllocError, Global};
 use std::marker::Model;
@@ -23,15 +24,15 @@ pub const MOST_SEATS: usize = 32;
 #[derive(Drop)]
 pub struct Handed {
     shown: Shown,
-    text: Arc<Vec<u8>, Global>,
+    made: Arc<Document, Global>,
 }
 
 impl Model for Handed {
     ghost use Rattle.std.specs.Arc.{arc_value};
     ghost use Rattle.std.specs.Coded.{codes};
     ghost use Rattle.std.specs.Prelude.{◌≡◌};
-    ghost use Rattle.fp_edit.specs.Document.{document};
     ghost use Rattle.fp_edit.specs.Flags.{coded_state};
+    ghost use Rattle.fp_edit.specs.Outline.{IsDocumentOf};
     ghost use Rattle.fp_group_commit.specs.Changes.{coded_change};
     ghost use Rattle.fp_group_commit.specs.Tokens.{FrontState, front_set};
 
@@ -41,7 +42,7 @@ impl Model for Handed {
 
     ghost view = { λ h. h.shown };
 
-    ghost invariant = { λ h. (arc_value h.text).items ≡ document (front_set h.shown).flags };
+    ghost invariant = { λ h. IsDocumentOf (arc_value h.made) (front_set h.shown) };
 }
 
 impl Handed {
@@ -49,11 +50,24 @@ impl Handed {
     fn of(alloc: Global, view: &View<'_>) -> Result<Handed, AllocError>
         ensures { IfOk result (λ h. h ≡ view.now) }
     {
-        let text = Arc::new(alloc, view.set().document()?)?;
+        let made = Arc::new(alloc, view.set().outlined()?)?;
         Ok(Handed {
             shown: view.shown(),
-            text,
+            made,
         })
+    }
+
+    // Makes it of the document that this has, where what is lent goes on from this.
+    fn next(&self, alloc: Global, view: &View<'_>) -> Result<Handed, AllocError>
+        requires { self.now.store ≡ view.now.store }
+        ensures { IfOk result (λ h. h ≡ view.now) }
+    {
+        let shown = view.shown();
+        if !self.shown.is_behind(&shown) {
+            return Handed::of(alloc, view);
+        }
+        let made = Arc::new(alloc, view.set().outlined_after(&self.made)?)?;
+        Ok(Handed { shown, made })
     }
 
     /// The document.
@@ -61,14 +75,14 @@ impl Handed {
         ensures { result.now ≡ document (front_set self.now).flags }
     {
         let _ = &self.shown;
-        self.text.as_slice()
+        self.made.text()
     }
 
     /// The revision of its set.
     pub fn revision(&self) -> u64
         ensures { result ≡ front_revision self.now }
     {
-        let _ = &self.text;
+        let _ = &self.made;
         self.shown.revision()
     }
 
@@ -78,7 +92,7 @@ impl Handed {
     {
         Ok(Handed {
             shown: self.shown.again(),
-            text: Arc::try_clone(&self.text)?,
+            made: Arc::try_clone(&self.made)?,
         })
     }
 }
@@ -167,12 +181,15 @@ impl Seats {
         ensures store { IsOfStore self.new.last view.now }
         ensures taken { self.new.taken ≡ self.old.taken }
     {
-        if let Some(last) = &self.last {
-            if last.shown.is_same(&view.shown()) {
-                return last.try_copy();
+        let handed = match &self.last {
+            None => Handed::of(alloc, view)?,
+            Some(last) => {
+                if last.shown.is_same(&view.shown()) {
+                    return last.try_copy();
+                }
+                last.next(alloc, view)?
             }
-        }
-        let handed = Handed::of(alloc, view)?;
+        };
         self.last = Some(handed.try_copy()?);
         Ok(handed)
     }

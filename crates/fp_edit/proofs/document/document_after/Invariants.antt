@@ -1,0 +1,7 @@
+use Rattle.fp_edit.specs.Entries.{entries_of}
+use Rattle.fp_edit.proofs.Patched.{Underway}
+use Rattle.fp_edit.proofs.document.document_after.Given as goal
+
+-- the flags that are left are still to be written
+abbrev pub invariant-loop-key : goal.invariant-loop-key
+invariant-loop-key l = Underway l.before.revision l.before.text.items l.left l.from l.at l.later l.text.items l.lengths.items (entries_of l.key-iterator) (entries_of l.flags.entries)

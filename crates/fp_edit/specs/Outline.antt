@@ -1,0 +1,59 @@
+-- The parts of a set's document, and flags that are others with some of them put anew.
+use Rattle.std.specs.Prelude.{◌≡◌, ℕ, ◌+◌, ◌≤◌, Bool, false, true, List, [], ◌∷◌, ◌++◌, length, nat_lt}
+use Rattle.std.specs.Prelude.{codes, if◌then◌else◌}
+use Rattle.std.specs.FinMap as map
+use Rattle.json.specs.Print.{quoted}
+use Rattle.serde_json.specs.Written.{comma_if, compact_text, members_text}
+use Rattle.fp_edit.specs.Document.{data_of, document, members_of}
+use Rattle.fp_edit.specs.Edits.{Change}
+use Rattle.fp_edit.specs.Flags.{State}
+use Rattle.fp_edit.specs.Log.{after_all}
+use Rattle.fp_edit.specs.declared.document.Document.{Document}
+use Rattle.fp_edit.specs.declared.flags.Flag.{Flag}
+
+-- a flag's part of a document, with a comma in front unless it is the first
+abbrev pub part : Bool → List ℕ × Flag → List ℕ
+part later e = comma_if later ++ (quoted e.0 ++ 58 ∷ compact_text (data_of e.1.definition))
+
+-- how long the parts of flags are
+abbrev pub part_lengths : Bool → List (List ℕ × Flag) → List ℕ
+part_lengths later [] = []
+part_lengths later (e ∷ es) = length (part later e) ∷ part_lengths true es
+
+-- the text of these flags, from the first of them to the document's end
+abbrev pub rest_text : Bool → List (List ℕ × Flag) → List ℕ
+rest_text later es = members_text later (members_of es) ++ 125 ∷ []
+
+-- the document of these flags
+abbrev pub whole_text : List (List ℕ × Flag) → List ℕ
+whole_text es = codes "{\"flags\":{" ++ rest_text false es
+
+-- how many flags were changed after a revision
+abbrev pub changed_after : ℕ → List (List ℕ × Flag) → ℕ
+changed_after revision [] = 0
+changed_after revision (e ∷ es) =
+    (if nat_lt revision e.1.changed then 1 else 0) + changed_after revision es
+
+-- the same keys, and at each the same flag, but for those that were changed after a revision
+abbrev pub SameButChanged : ℕ → List (List ℕ × Flag) → List (List ℕ × Flag) → Type 0
+SameButChanged revision [] [] = Unit {0}
+SameButChanged revision [] (f ∷ fs) = ⊥
+SameButChanged revision (e ∷ es) [] = ⊥
+SameButChanged revision (e ∷ es) (f ∷ fs) =
+    (e.0 ≡ f.0) × (f.1.changed ≤ revision → e ≡ f) × SameButChanged revision es fs
+
+-- the document of these flags, and how long their parts of it are
+pub record Outlines (d : Document) (es : List (List ℕ × Flag)) : Type 0 where
+  pub text : d.text.items ≡ whole_text es
+  pub lengths : d.lengths.items ≡ part_lengths false es
+
+-- the document of a set, in which no flag was changed after the set's revision
+pub record IsDocumentOf (d : Document) (s : State) : Type 0 where
+  pub outlines : Outlines d (map.entries s.flags)
+  pub shows : d.text.items ≡ document s.flags
+  pub revision : d.revision ≡ s.revision
+  pub changed : changed_after s.revision (map.entries s.flags) ≡ 0
+
+-- edits lead from one set to another
+abbrev pub LeadsTo : State → State → Type 0
+LeadsTo s t = (log : List Change) × (t ≡ after_all s log)
