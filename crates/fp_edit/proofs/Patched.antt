@@ -1,6 +1,7 @@
 -- The document of flags, made of that of others: what is left to write while its parts are walked over.
-use Rattle.std.proofs.Common.{◌≡◌, ℕ, ◌+◌, ◌-◌, ◌≤◌, Bool, true, false, List, [], ◌∷◌, ◌++◌, length, take, drop, codes, length-append, append_assoc, suc, refl, sym, ap, subst, ◌∙◌, arith}
-use Rattle.std.proofs.lemmas.List.{take_at, drop_at, drop-drop, length-drop, append-nil}
+use Rattle.std.proofs.Common.{◌≡◌, ℕ, ◌+◌, ◌-◌, ◌≤◌, ◌<◌, Bool, true, false, List, [], ◌∷◌, ◌++◌, length, take, drop, set, get_or, codes, length-append, append_assoc, suc, refl, sym, ap, subst, ◌∙◌, arith}
+use Rattle.std.specs.List.{splice}
+use Rattle.std.proofs.lemmas.List.{take_at, drop_at, set_at, get_or_at, drop-drop, length-drop, append-nil}
 use Rattle.serde_json.specs.Written.{comma_if, compact_text, members_text}
 use Rattle.json.specs.Print.{quoted}
 use Rattle.fp_edit.specs.Document.{data_of, members_of}
@@ -173,3 +174,149 @@ module _ {since : ℕ} {text left : List ℕ} {from at : ℕ} {later : Bool} {ou
   -- nothing is left
   pub ended : Underway since text left from at later out lengths [] all → (out ++ drop from text ≡ whole_text all) × (lengths ≡ part_lengths false all)
   ended u = ended_of u u.olds refl
+
+-- ---- in its own place
+
+-- flags of which these are left have their parts in the text, with what is left of the earlier flags behind them
+pub record Replacing (since : ℕ) (text lengths : List ℕ) (at index : ℕ) (later : Bool) (news all : List Entry) : Type 0 where
+  pub olds : List Entry
+  pub done : List ℕ
+  pub dones : List ℕ
+  pub same : SameButChanged since olds news
+  pub here : text ≡ done ++ rest_text later olds
+  pub reach : length done ≡ at
+  pub lens : lengths ≡ dones ++ part_lengths later olds
+  pub count : length dones ≡ index
+  pub told : done ++ rest_text later news ≡ whole_text all
+  pub measured : dones ++ part_lengths later news ≡ part_lengths false all
+
+pub replacing : (since : ℕ) (d : Document) (es news : List Entry) → Outlines d es → SameButChanged since es news → Replacing since d.text.items d.lengths.items 10 0 false news news
+replacing since d es news o same = record {
+  olds = es;
+  done = codes "{\"flags\":{";
+  dones = [];
+  same = same;
+  here = o.text;
+  reach = refl;
+  lens = o.lengths;
+  count = refl;
+  told = refl;
+  measured = refl;
+}
+
+-- what the first flag that is left had
+pub record Had (since : ℕ) (text lengths : List ℕ) (at index : ℕ) (later : Bool) (f : Entry) (fs all : List Entry) : Type 0 where
+  pub old : Entry
+  pub olds : List Entry
+  pub done : List ℕ
+  pub dones : List ℕ
+  pub kept : f.1.changed ≤ since → old ≡ f
+  pub same : SameButChanged since olds fs
+  pub here : text ≡ done ++ (part later old ++ rest_text true olds)
+  pub reach : length done ≡ at
+  pub lens : lengths ≡ dones ++ length (part later old) ∷ part_lengths true olds
+  pub count : length dones ≡ index
+  pub told : done ++ (part later f ++ rest_text true fs) ≡ whole_text all
+  pub measured : dones ++ length (part later f) ∷ part_lengths true fs ≡ part_lengths false all
+
+module _ {since : ℕ} {text lengths : List ℕ} {at index : ℕ} {later : Bool} {f : Entry} {fs all : List Entry} where
+  had_of : (u : Replacing since text lengths at index later (f ∷ fs) all) (olds : List Entry) → u.olds ≡ olds → Had since text lengths at index later f fs all
+  had_of u [] is = absurd (subst (λ es. SameButChanged since es (f ∷ fs)) is u.same)
+  had_of u (e ∷ es) is =
+      let same = subst (λ es. SameButChanged since es (f ∷ fs)) is u.same in record {
+        old = e;
+        olds = es;
+        done = u.done;
+        dones = u.dones;
+        kept = same.1;
+        same = same.2;
+        here = u.here ∙ ap (λ es. u.done ++ rest_text later es) is ∙ ap (λ l. u.done ++ l) (first_part later e es);
+        reach = u.reach;
+        lens = u.lens ∙ ap (λ es. u.dones ++ part_lengths later es) is;
+        count = u.count;
+        told = ap (λ l. u.done ++ l) (sym (first_part later f fs)) ∙ u.told;
+        measured = u.measured;
+      }
+
+  pub had : Replacing since text lengths at index later (f ∷ fs) all → Had since text lengths at index later f fs all
+  had u = had_of u u.olds refl
+
+  pub within : (h : Had since text lengths at index later f fs all) → at + length (part later h.old) ≤ length text
+  within h =
+      let all = ap length h.here ∙ length-append h.done (part later h.old ++ rest_text true h.olds) ∙ ap (λ n. length h.done + n) (length-append (part later h.old) (rest_text true h.olds)) in
+      let reach = h.reach in omega arith
+
+  pub counted : Had since text lengths at index later f fs all → index < length lengths
+  counted h =
+      let all = ap length h.lens ∙ length-append h.dones (length (part later h.old) ∷ part_lengths true h.olds) in
+      let count = h.count in omega arith
+
+  pub length_is : (h : Had since text lengths at index later f fs all) (d : ℕ) → get_or lengths index d ≡ length (part later h.old)
+  length_is h d = ap (λ l. get_or l index d) h.lens ∙ get_or_at h.dones (length (part later h.old)) (part_lengths true h.olds) d index h.count
+
+  -- a flag that wasn't changed has its part already
+  pub stands : (h : Had since text lengths at index later f fs all) → f.1.changed ≤ since → Replacing since text lengths (at + length (part later h.old)) (index + 1) true fs all
+  stands h early =
+      let is : part later h.old ≡ part later f = ap (part later) (h.kept early) in
+      let reach = h.reach in
+      let count = h.count in record {
+        olds = h.olds;
+        done = h.done ++ part later f;
+        dones = h.dones ++ length (part later f) ∷ [];
+        same = h.same;
+        here = h.here ∙ ap (λ l. h.done ++ (l ++ rest_text true h.olds)) is ∙ sym (append_assoc h.done (part later f) (rest_text true h.olds));
+        reach = let all = length-append h.done (part later f) in let len = ap length is in omega arith;
+        lens = h.lens ∙ ap (λ l. h.dones ++ length l ∷ part_lengths true h.olds) is ∙ sym (append_assoc h.dones (length (part later f) ∷ []) (part_lengths true h.olds));
+        count = let all = length-append h.dones (length (part later f) ∷ []) in omega arith;
+        told = append_assoc h.done (part later f) (rest_text true fs) ∙ h.told;
+        measured = append_assoc h.dones (length (part later f) ∷ []) (part_lengths true fs) ∙ h.measured;
+      }
+
+  -- one that was changed gets it
+  pub replaced : (h : Had since text lengths at index later f fs all) → Replacing since (splice text at (at + length (part later h.old)) (part later f)) (set lengths index (length (part later f)))
+      (at + length (part later f)) (index + 1) true fs all
+  replaced h =
+      let reach = h.reach in
+      let count = h.count in
+      let front : take at text ≡ h.done = ap (take at) h.here ∙ take_at h.done (part later h.old ++ rest_text true h.olds) at reach in
+      let back : drop (at + length (part later h.old)) text ≡ rest_text true h.olds =
+      past text at (part later h.old) (rest_text true h.olds) (ap (drop at) h.here ∙ drop_at h.done (part later h.old ++ rest_text true h.olds) at reach) in record {
+        olds = h.olds;
+        done = h.done ++ part later f;
+        dones = h.dones ++ length (part later f) ∷ [];
+        same = h.same;
+        here =
+            ap (λ l. l ++ (part later f ++ drop (at + length (part later h.old)) text)) front
+            ∙ ap (λ l. h.done ++ (part later f ++ l)) back
+            ∙ sym (append_assoc h.done (part later f) (rest_text true h.olds));
+        reach = let all = length-append h.done (part later f) in omega arith;
+        lens =
+            ap (λ l. set l index (length (part later f))) h.lens
+            ∙ set_at h.dones (length (part later h.old)) (part_lengths true h.olds) (length (part later f)) index count
+            ∙ sym (append_assoc h.dones (length (part later f) ∷ []) (part_lengths true h.olds));
+        count = let all = length-append h.dones (length (part later f) ∷ []) in omega arith;
+        told = append_assoc h.done (part later f) (rest_text true fs) ∙ h.told;
+        measured = append_assoc h.dones (length (part later f) ∷ []) (part_lengths true fs) ∙ h.measured;
+      }
+
+module _ {since : ℕ} {text lengths : List ℕ} {at index : ℕ} {later : Bool} {all : List Entry} where
+  all_of : (u : Replacing since text lengths at index later [] all) (olds : List Entry) → u.olds ≡ olds → (text ≡ whole_text all) × (lengths ≡ part_lengths false all)
+  all_of u (e ∷ es) is = absurd (subst (λ es. SameButChanged since es []) is u.same)
+  all_of u [] is = (
+    u.here ∙ ap (λ es. u.done ++ rest_text later es) is ∙ u.told,
+    u.lens ∙ ap (λ es. u.dones ++ part_lengths later es) is ∙ u.measured,
+  )
+
+  -- nothing is left
+  pub all_replaced : Replacing since text lengths at index later [] all → (text ≡ whole_text all) × (lengths ≡ part_lengths false all)
+  all_replaced u = all_of u u.olds refl
+
+pub reaches : {since : ℕ} {text lengths : List ℕ} {at index : ℕ} {later : Bool} {news all : List Entry} → Replacing since text lengths at index later news all → at ≤ length text
+reaches u =
+    let len = ap length u.here ∙ length-append u.done (rest_text _ u.olds) in
+    let reach = u.reach in omega arith
+
+module _ {since : ℕ} {text lengths : List ℕ} {at index : ℕ} {later : Bool} {news all : List Entry} where
+  -- what the first flag had, where it is known what is left
+  pub goes_on : Replacing since text lengths at index later news all → (f : Entry) (fs : List Entry) → news ≡ f ∷ fs → Had since text lengths at index later f fs all
+  goes_on u f fs is = had (subst (λ l. Replacing since text lengths at index later l all) is u)

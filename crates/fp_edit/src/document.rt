@@ -1,7 +1,8 @@
 //! Documents that show a set of flags.
 
-ghost use Rattle.std.specs.Prelude.{◌≡◌, ◌++◌, ℕ, List, false, IfOk, OnOk, IsTrue, length};
+ghost use Rattle.std.specs.Prelude.{◌≡◌, ◌≤◌, ◌++◌, ℕ, List, false, IfOk, OnOk, IsTrue, length};
 ghost use Rattle.std.specs.BTreeMap.{IsOrdered};
+ghost use Rattle.std.specs.List.{splice};
 ghost use Rattle.serde_json.specs.Written.{compact_text, members_text};
 ghost use Rattle.fp_definition.specs.Key.{flag_cmp, key_bytes};
 ghost use Rattle.fp_edit.specs.Document.{data_of, document, members_of};
@@ -41,6 +42,11 @@ impl Document {
         ensures { (s : State) → IsDocumentOf self s → result.items ≡ document s.flags }
     {
         self.text
+    }
+
+    // How many bytes its text has room for.
+    pub(crate) fn room(&self) -> usize {
+        self.text.capacity()
     }
 
     pub(crate) fn count(&self) -> usize
@@ -188,4 +194,52 @@ pub(crate) fn document_after(
         lengths,
         revision,
     })
+}
+
+/// The same, where the earlier document is given away: the new parts take the places of the old
+/// ones in it. Each moves what stands behind it.
+pub(crate) fn document_with(
+    alloc: Global,
+    flags: &BTreeMap<FlagKey, Flag>,
+    revision: u64,
+    before: Document,
+) -> Result<Document, AllocError>
+    requires { (es : List (List ℕ × Flag)) × Outlines before es
+        × SameButChanged before.revision es (entries_of flags.now.entries) }
+    ensures { IfOk result (λ d. Outlines d (entries_of flags.now.entries)
+        × (d.revision ≡ revision)) }
+{
+    let since = before.revision;
+    let mut text = before.text;
+    let mut lengths = before.lengths;
+    let mut at = HEAD.len();
+    let mut index = 0;
+    let mut later = false;
+    for (key, flag) in flags.iter() {
+        let mut len = lengths[index];
+        if flag.changed > since {
+            let mut part = Vec::with_capacity(alloc, len)?;
+            let new = put_member(alloc, &mut part, later, key, &flag.definition)?;
+            replace(&mut text, at, at + len, part)?;
+            lengths[index] = new;
+            len = new;
+        }
+        at += len;
+        index += 1;
+        later = true;
+    }
+    Ok(Document {
+        text,
+        lengths,
+        revision,
+    })
+}
+
+fn replace(text: &mut Vec<u8>, from: usize, to: usize, part: Vec<u8>) -> Result<(), AllocError>
+    requires order { from ≤ to }
+    requires within { to ≤ length text.old.items }
+    ensures { OnOk result (text.new.items ≡ splice text.old.items from to part.items) }
+{
+    drop(text.splice(from..to, part)?);
+    Ok(())
 }

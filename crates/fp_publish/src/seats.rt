@@ -57,16 +57,21 @@ impl Handed {
         })
     }
 
-    // Makes it of the document that this has, where what is lent goes on from this.
-    fn next(&self, alloc: Global, view: &View<'_>) -> Result<Handed, AllocError>
-        requires { self.now.store ≡ view.now.store }
+    // Makes it of the document that this has, where what is lent goes on from this. Where nobody
+    // else holds that document, it is given away.
+    fn next(self, alloc: Global, view: &View<'_>) -> Result<Handed, AllocError>
+        requires { self.store ≡ view.now.store }
         ensures { IfOk result (λ h. h ≡ view.now) }
     {
         let shown = view.shown();
         if !self.shown.is_behind(&shown) {
             return Handed::of(alloc, view);
         }
-        let made = Arc::new(alloc, view.set().outlined_after(&self.made)?)?;
+        let made = match Arc::try_unwrap(self.made) {
+            Ok(made) => view.set().outlined_from(made)?,
+            Err(made) => view.set().outlined_after(&made)?,
+        };
+        let made = Arc::new(alloc, made)?;
         Ok(Handed { shown, made })
     }
 
@@ -181,11 +186,13 @@ impl Seats {
         ensures store { IsOfStore self.new.last view.now }
         ensures taken { self.new.taken ≡ self.old.taken }
     {
-        let handed = match &self.last {
+        let handed = match self.last.take() {
             None => Handed::of(alloc, view)?,
             Some(last) => {
                 if last.shown.is_same(&view.shown()) {
-                    return last.try_copy();
+                    let handed = last.try_copy();
+                    self.last = Some(last);
+                    return handed;
                 }
                 last.next(alloc, view)?
             }
