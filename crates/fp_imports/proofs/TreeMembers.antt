@@ -29,10 +29,6 @@ use Rattle.fp_imports.specs.Trees.{AreEvaluators, Entry, PutsTargeting, members_
 
 -- ---- looked up
 
-pub later-assoc : (a b e : Option json.Json) → tree.later_or (tree.later_or a b) e ≡ tree.later_or a (tree.later_or b e)
-later-assoc None b e = refl
-later-assoc (Some j) b e = refl
-
 -- the last of a name, with none behind it
 pub last-found : (name : List ℕ) (front : List Entry) (m : Entry) (behind : List Entry) → m.0.now ≡ name → tree.get_member name (tree_members behind) ≡ None
     → tree.get_member name (tree_members (front ++ m ∷ behind)) ≡ Some (value_view m.1)
@@ -152,7 +148,7 @@ readable-insert (e ∷ es) k v h p = readable-order (entry_cmp k e.0) _ _ _ (h, 
 
 -- ---- the parts of a document
 
-if_readable : (o : Option json.Json) (e : json.Json) → o ≡ Some e → IfReadable o → IsReadable e
+pub if_readable : (o : Option json.Json) (e : json.Json) → o ≡ Some e → IfReadable o → IsReadable e
 if_readable o e p h = subst IfReadable p h
 
 -- a member's data are those of its tree

@@ -16,6 +16,7 @@ use Rattle.fp_base.proofs.TreeData.{IfReadable, found-readable, reads, reads-mem
 use Rattle.fp_imports.specs.References.{Walked, expansion, items_expansion, onward, reference}
 use Rattle.fp_imports.specs.Trees.{list_of, members_in}
 use Rattle.fp_imports.proofs.Standing.{items_of-list_of}
+use Rattle.fp_imports.proofs.TreeMembers.{if_readable}
 use Rattle.fp_imports.proofs.Walks.{at_array, at_object, members_ok}
 
 abbrev Entry : Type 0
@@ -55,9 +56,6 @@ only-made at k d left n rest made e plain h w =
 
 -- ---- what an evaluator is
 
-if_readable : (o : Option json.Json) (e : json.Json) → o ≡ Some e → IfReadable o → IsReadable e
-if_readable o e p h = subst IfReadable p h
-
 pub found-in : (name : List ℕ) (j e : json.Json) → IsReadable j → tree.get name j ≡ Some e → IsReadable e × (get_member name (members_in j) ≡ Some (said e))
 found-in name json.null e h p = absurd (cc)
 found-in name (json.boolean b) e h p = absurd (cc)
@@ -78,26 +76,14 @@ tree_item_depth (v ∷ vs) zero d h = omega arith
 tree_item_depth (v ∷ vs) (suc i) d h = let rest = tree_item_depth vs i d (omega arith) in omega arith
 
 -- the measure, whose parts are what the replacements count for and how deep the data are
-pub to_object : (a d t : ℕ) → t ≡ 3 * (a + d) + 2 → 3 * (a + d) + 1 < t
-to_object a d t h = omega arith
-
 pub to_array : (a i d t : ℕ) → t ≡ 3 * (a + d) + 2 → d ≡ suc i → 3 * (a + i) + 4 < t
 to_array a i d t h k = omega arith
-
-pub to_items : (a i t : ℕ) → t ≡ 3 * (a + i) + 4 → 3 * (a + i) + 3 < t
-to_items a i t h = omega arith
 
 pub to_item : (a d i t : ℕ) → t ≡ 3 * (a + i) + 3 → d ≤ i → 3 * (a + d) + 2 < t
 to_item a d i t h k = omega arith
 
 pub to_only : (a d o t : ℕ) → t ≡ 3 * (a + o) + 1 → o ≡ suc d → 3 * (a + d) + 3 < t
 to_only a d o t h k = omega arith
-
-pub to_reference : (a d o t : ℕ) → t ≡ 3 * (a + o) + 1 → o ≡ suc d → 3 * a + 1 < t
-to_reference a d o t h k = omega arith
-
-pub to_value : (a d t : ℕ) → t ≡ 3 * (a + d) + 3 → 3 * (a + d) + 2 < t
-to_value a d t h = omega arith
 
 pub to_evaluator : (m n top d t : ℕ) → m ≡ n + 1 → t ≡ 3 * (m * suc top) + 1 → d ≤ top → 3 * (n * suc top + d) + 2 < t
 to_evaluator m n top d t h k l =
