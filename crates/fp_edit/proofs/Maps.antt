@@ -19,6 +19,7 @@ use Rattle.fp_definition.specs.declared.key.FlagKey.{FlagKey}
 use Rattle.fp_edit.specs.Entries.{entry_of, flags_of}
 use Rattle.fp_edit.specs.Flags.{Flags}
 use Rattle.fp_edit.specs.declared.flags.Flag.{Flag}
+use Rattle.fp_edit.proofs.Sizes.{first, second, less}
 
 abbrev Entry : Type 0
 Entry = FlagKey × Flag
@@ -116,19 +117,6 @@ pub len-flags_of : (es : List Entry) → IsStrictlySortedBy flag_cmp (keys_of es
 len-flags_of es h = fin.len-entries (flags_of es) ∙ ap length (entries-flags_of es h) ∙ length-map es entry_of
 
 -- ---- a copy, made in order
-
-first : (a b : Bool) → T (a && b) → T a
-first true b p = tt
-first false b p = p
-
-second : (a b : Bool) → T (a && b) → T b
-second true b p = p
-second false b p = absurd p
-
-less : (o : Ordering) → T (is_lt o) → o ≡ Less
-less Less p = refl
-less Equal p = absurd p
-less Greater p = absurd p
 
 below_inside : (x : List ℕ) (es : List (List ℕ × Flag)) (k : List ℕ) (f : Flag) (rest : List (List ℕ × Flag)) → T (below_all bytes_cmp x (es ++ (k, f) ∷ rest)) → bytes_cmp x k ≡ Less
 below_inside x [] k f rest h = less _ (first _ _ h)

@@ -1,11 +1,13 @@
 -- The document of flags, made of that of others: what is left to write while its parts are walked over.
 use Rattle.std.proofs.Common.{◌≡◌, ℕ, ◌+◌, ◌-◌, ◌≤◌, ◌<◌, Bool, true, false, List, [], ◌∷◌, ◌++◌, length, take, drop, set, get_or, codes, length-append, append_assoc, suc, refl, sym, ap, subst, ◌∙◌, arith}
+use Rattle.std.specs.Prelude.{if◌then◌else◌, nat_lt}
 use Rattle.std.specs.List.{splice}
+use Rattle.std.proofs.lemmas.Bool.{ltb-false, lt-ltb}
 use Rattle.std.proofs.lemmas.List.{take_at, drop_at, set_at, get_or_at, drop-drop, length-drop, append-nil}
 use Rattle.serde_json.specs.Written.{comma_if, compact_text, members_text}
 use Rattle.json.specs.Print.{quoted}
 use Rattle.fp_edit.specs.Document.{data_of, members_of}
-use Rattle.fp_edit.specs.Outline.{part, part_lengths, rest_text, whole_text, SameButChanged, Outlines}
+use Rattle.fp_edit.specs.Outline.{part, part_lengths, rest_text, whole_text, changed_after, SameButChanged, Outlines}
 use Rattle.fp_edit.specs.declared.document.Document.{Document}
 use Rattle.fp_edit.specs.declared.flags.Flag.{Flag}
 
@@ -177,7 +179,7 @@ module _ {since : ℕ} {text left : List ℕ} {from at : ℕ} {later : Bool} {ou
 
 -- ---- in its own place
 
--- flags of which these are left have their parts in the text, with what is left of the earlier flags behind them
+-- flags of which these are left have their parts in the text, with what is left of the earlier flags behind these
 pub record Replacing (since : ℕ) (text lengths : List ℕ) (at index : ℕ) (later : Bool) (news all : List Entry) : Type 0 where
   pub olds : List Entry
   pub done : List ℕ
@@ -203,6 +205,23 @@ replacing since d es news o same = record {
   told = refl;
   measured = refl;
 }
+
+-- the first of the flags that are left
+early : (since : ℕ) (f : Entry) (fs : List Entry) → changed_after since (f ∷ fs) ≡ 0 → f.1.changed ≤ since
+early since f fs none =
+    elim (nat_lt since f.1.changed) as (λ b. nat_lt since f.1.changed ≡ b → (if b then 1 else 0) + changed_after since fs ≡ 0 → f.1.changed ≤ since) [
+      | true ↦ λ is. λ n. absurd (omega (arith, n))
+      | false ↦ λ is. λ n. ltb-false since f.1.changed is
+    ] refl none
+
+pub fewer_than : (since : ℕ) (f : Entry) (fs : List Entry) {n : ℕ} → changed_after since (f ∷ fs) ≤ n → changed_after since fs ≤ n
+fewer_than since f fs most = omega (arith, most)
+
+-- where it was changed, and one at most was, the others weren't
+pub others : (since : ℕ) (f : Entry) (fs : List Entry) → changed_after since (f ∷ fs) ≤ 1 → since < f.1.changed → changed_after since fs ≡ 0
+others since f fs one late =
+    let is : nat_lt since f.1.changed ≡ true = lt-ltb since f.1.changed late in
+    let all : 1 + changed_after since fs ≤ 1 = subst (λ b. (if b then 1 else 0) + changed_after since fs ≤ 1) is one in omega (arith, all)
 
 -- what the first flag that is left had
 pub record Had (since : ℕ) (text lengths : List ℕ) (at index : ℕ) (later : Bool) (f : Entry) (fs all : List Entry) : Type 0 where
@@ -299,22 +318,23 @@ module _ {since : ℕ} {text lengths : List ℕ} {at index : ℕ} {later : Bool}
         measured = append_assoc h.dones (length (part later f) ∷ []) (part_lengths true fs) ∙ h.measured;
       }
 
-module _ {since : ℕ} {text lengths : List ℕ} {at index : ℕ} {later : Bool} {all : List Entry} where
-  all_of : (u : Replacing since text lengths at index later [] all) (olds : List Entry) → u.olds ≡ olds → (text ≡ whole_text all) × (lengths ≡ part_lengths false all)
-  all_of u (e ∷ es) is = absurd (subst (λ es. SameButChanged since es []) is u.same)
-  all_of u [] is = (
-    u.here ∙ ap (λ es. u.done ++ rest_text later es) is ∙ u.told,
-    u.lens ∙ ap (λ es. u.dones ++ part_lengths later es) is ∙ u.measured,
-  )
+-- where none was changed, all are the same
+all_same : (since : ℕ) (es fs : List Entry) → SameButChanged since es fs → changed_after since fs ≡ 0 → es ≡ fs
+all_same since [] [] same none = refl
+all_same since [] (f ∷ fs) same none = absurd same
+all_same since (e ∷ es) [] same none = absurd same
+all_same since (e ∷ es) (f ∷ fs) same none =
+    let here : e ≡ f = same.1 (early since f fs none) in
+    let rest = all_same since es fs same.2 (omega (arith, none)) in cc (here, rest)
 
-  -- nothing is left
-  pub all_replaced : Replacing since text lengths at index later [] all → (text ≡ whole_text all) × (lengths ≡ part_lengths false all)
-  all_replaced u = all_of u u.olds refl
-
-pub reaches : {since : ℕ} {text lengths : List ℕ} {at index : ℕ} {later : Bool} {news all : List Entry} → Replacing since text lengths at index later news all → at ≤ length text
-reaches u =
-    let len = ap length u.here ∙ length-append u.done (rest_text _ u.olds) in
-    let reach = u.reach in omega arith
+module _ {since : ℕ} {text lengths : List ℕ} {at index : ℕ} {later : Bool} {news all : List Entry} where
+  -- where none of those that are left was changed, all have their parts
+  pub all_replaced : (u : Replacing since text lengths at index later news all) → changed_after since news ≡ 0 → (text ≡ whole_text all) × (lengths ≡ part_lengths false all)
+  all_replaced u none =
+      let same = all_same since u.olds news u.same none in (
+        u.here ∙ ap (λ es. u.done ++ rest_text later es) same ∙ u.told,
+        u.lens ∙ ap (λ es. u.dones ++ part_lengths later es) same ∙ u.measured,
+      )
 
 module _ {since : ℕ} {text lengths : List ℕ} {at index : ℕ} {later : Bool} {news all : List Entry} where
   -- what the first flag had, where it is known what is left

@@ -1,7 +1,6 @@
 -- How many flags were changed after a revision, and which flags stay, where edits lead from one set to another.
-use Rattle.std.proofs.Common.{◌≡◌, ℕ, ◌+◌, ◌-◌, ◌≤◌, ◌<◌, T, ◌&&◌, List, [], ◌∷◌, length, Ordering, Less, Equal, Greater, Some, None, cond, is_some, is_eq, Bool, true, false, true≢false, refl, sym, ap, subst, ◌∙◌, arith}
+use Rattle.std.proofs.Common.{◌≡◌, ℕ, ◌+◌, ◌-◌, ◌≤◌, ◌<◌, T, List, [], ◌∷◌, length, Ordering, Less, Equal, Greater, Some, None, cond, is_some, is_eq, Bool, true, false, true≢false, refl, sym, ap, subst, ◌∙◌, arith}
 use Rattle.std.specs.Prelude.{if◌then◌else◌, nat_lt}
-use Rattle.std.specs.Ordering.{is_lt}
 use Rattle.std.proofs.lemmas.Bool.{ltb-true}
 use Rattle.std.proofs.lemmas.Cmp.{nat_list_cmp_total, tied_itself}
 use Rattle.std.proofs.lemmas.Map.Lookups.{exact_bytes}
@@ -17,7 +16,7 @@ use Rattle.fp_edit.specs.Outline.{changed_after, SameButChanged}
 use Rattle.fp_edit.specs.declared.flags.Flag.{Flag}
 use Rattle.fp_edit.proofs.Changed.{AreChangedBy}
 use Rattle.fp_edit.proofs.Runs.{revision-after_all}
-use Rattle.fp_edit.proofs.Sizes.{removed_none, removed_some}
+use Rattle.fp_edit.proofs.Sizes.{first, second, less, removed_none, removed_some}
 
 abbrev Entry : Type 0
 Entry = List ℕ × Flag
@@ -28,19 +27,6 @@ one_if b = if b then 1 else 0
 one_at_most : (b : Bool) → one_if b ≤ 1
 one_at_most true = omega arith
 one_at_most false = omega arith
-
-first : (a b : Bool) → T (a && b) → T a
-first true b p = tt
-first false b p = p
-
-second : (a b : Bool) → T (a && b) → T b
-second true b p = p
-second false b p = absurd p
-
-less : (o : Ordering) → T (is_lt o) → o ≡ Less
-less Less p = refl
-less Equal p = absurd p
-less Greater p = absurd p
 
 not_none : {A : Type 0} (a : A) → Some a ≡ None → ⊥
 not_none a e = true≢false (ap is_some e)
@@ -112,6 +98,12 @@ stay-put r k f (e ∷ es) late h =
       | Greater ↦ λ p. (refl, λ _. refl, stay-put r k f es late (omega (arith, p)))
     ] h
 
+stay-insert : (r : ℕ) (m : Flags) (k : List ℕ) (f : Flag) → r < f.changed → fin.len (fin.insert m k f) ≡ fin.len m → SameButChanged r (fin.entries m) (fin.entries (fin.insert m k f))
+stay-insert r m k f late len =
+    let es = fin.entries-insert nat_list_cmp_total m k f in
+    let length_is = sym (ap length es) ∙ sym (fin.len-entries (fin.insert m k f)) ∙ len ∙ fin.len-entries m in
+    subst (SameButChanged r (fin.entries m)) (sym es) (stay-put r k f (fin.entries m) late length_is)
+
 -- ---- edits one after another
 
 abbrev count : ℕ → State → ℕ
@@ -151,12 +143,8 @@ stays r s (edits.put k text ∷ log) h all =
     let later = rest.more in record {
       more = omega arith;
       same = λ e.
-          let here : fin.len (fin.insert s.flags k f) ≡ fin.len s.flags = omega (arith, e) in
-          let es = fin.entries-insert nat_list_cmp_total s.flags k f in
-          let length_is = sym (ap length es) ∙ sym (fin.len-entries (fin.insert s.flags k f)) ∙ here ∙ fin.len-entries s.flags in
-          let put_stays = stay-put r k f (fin.entries s.flags) (omega (arith, h)) length_is in
           stay_on r (fin.entries s.flags) (fin.entries (fin.insert s.flags k f)) (fin.entries (after_all (next s (edits.put k text)) log).flags)
-          (subst (SameButChanged r (fin.entries s.flags)) (sym es) put_stays) (rest.same (omega (arith, e)));
+          (stay-insert r s.flags k f (omega (arith, h)) (omega (arith, e))) (rest.same (omega (arith, e)));
     }
 
 -- where as many flags were changed since as there were edits, and there are as many flags as before
@@ -167,6 +155,51 @@ stays_but_changed s t log leads none some len =
     let end : t.revision ≡ s.revision + length log = ap (λ x. x.revision) leads ∙ revision-after_all s log in
     let all : count s.revision (after_all s log) ≡ count s.revision s + length log = rw (← leads) (omega (arith, none, some, end)) in
     rw leads ((stays s.revision s log (omega arith) all).same (rw leads at len))
+
+-- ---- one edit
+
+-- a put where nothing was makes more flags
+longer-put : (k : List ℕ) (f : Flag) (es : List Entry) → find bytes_cmp k es ≡ None → length (put bytes_cmp k f es) ≡ length es + 1
+longer-put k f [] none = refl
+longer-put k f (e ∷ es) none =
+    elim (bytes_cmp k e.0) as (λ o. cond (is_eq o) (Some e.1) (find bytes_cmp k es) ≡ None → length (by_order o ((k, f) ∷ e ∷ es) ((e.0, f) ∷ es) (e ∷ put bytes_cmp k f es)) ≡ length (e ∷ es) + 1) [
+      | Less ↦ λ p. omega arith
+      | Equal ↦ λ p. absurd (not_none e.1 p)
+      | Greater ↦ λ p. let rest = longer-put k f es p in omega arith
+    ] none
+
+entries-remove : (m : Flags) (k : List ℕ) → fin.len (fin.remove m k) ≡ fin.len m → fin.remove m k ≡ m
+entries-remove m k len =
+    elim (fin.get m k) as (λ o. fin.get m k ≡ o → fin.remove m k ≡ m) [
+      | None ↦ λ none. removed_none m k none
+      | Some f ↦ λ some.
+          let back = removed_some m k f some in
+          let more = longer-put k f (fin.entries (fin.remove m k)) (sym (fin.get-entries (fin.remove m k) k) ∙ back.0) in
+          let all : length (put bytes_cmp k f (fin.entries (fin.remove m k))) ≡ length (fin.entries m) =
+          ap length (sym (fin.entries-insert nat_list_cmp_total (fin.remove m k) k f) ∙ ap fin.entries back.1) in
+          let left = fin.len-entries (fin.remove m k) in
+          let full = fin.len-entries m in absurd (omega (arith, more, all, left, full, len))
+    ] refl
+
+-- where one edit leaves as many flags as there were, one of them at most is another
+one_stays : (s : State) (log : List Change) → length log ≡ 1 → fin.len (after_all s log).flags ≡ fin.len s.flags → SameButChanged s.revision (fin.entries s.flags) (fin.entries (after_all s log).flags)
+one_stays s [] one len = absurd (omega (arith, one))
+one_stays s (c ∷ d ∷ log) one len = absurd (omega (arith, one))
+one_stays s (edits.delete k ∷ []) one len = subst (λ m. SameButChanged s.revision (fin.entries s.flags) (fin.entries m)) (sym (entries-remove s.flags k len)) (stay s.revision (fin.entries s.flags))
+one_stays s (edits.put k text ∷ []) one len =
+    let f : Flag = record { definition = text; changed = s.revision + 1 } in
+    stay-insert s.revision s.flags k f (omega arith) len
+
+pub stays_but_one : (s t : State) (log : List Change) → t ≡ after_all s log → changed_after s.revision (fin.entries s.flags) ≡ 0
+    → t.revision - s.revision ≡ 1 → fin.len t.flags ≡ fin.len s.flags
+    → SameButChanged s.revision (fin.entries s.flags) (fin.entries t.flags) × (changed_after s.revision (fin.entries t.flags) ≤ 1)
+stays_but_one s t log leads none one len =
+    let end : t.revision ≡ s.revision + length log = ap (λ x. x.revision) leads ∙ revision-after_all s log in
+    let single : length log ≡ 1 = omega (arith, one, end) in
+    let most = at_most s.revision s log in (
+      rw leads (one_stays s log single (rw leads at len)),
+      rw leads (omega (arith, most, none, single)),
+    )
 
 -- ---- none after a set's own revision
 

@@ -10,15 +10,16 @@ use Rattle.fp_base.specs.Bytes.{bytes_cmp}
 use Rattle.fp_edit.specs.Flags.{Flags, cost, total_cost, cost_found, one_found, size}
 use Rattle.fp_edit.specs.declared.flags.Flag.{Flag}
 
-first : (a b : Bool) → T (a && b) → T a
+-- both parts, and a key in front of another
+pub first : (a b : Bool) → T (a && b) → T a
 first true b p = tt
 first false b p = p
 
-second : (a b : Bool) → T (a && b) → T b
+pub second : (a b : Bool) → T (a && b) → T b
 second true b p = p
 second false b p = absurd p
 
-less : (o : Ordering) → T (is_lt o) → o ≡ Less
+pub less : (o : Ordering) → T (is_lt o) → o ≡ Less
 less Less p = refl
 less Equal p = absurd p
 less Greater p = absurd p

@@ -1,14 +1,17 @@
 -- The parts of a set's document, and flags that are others with some of them put anew.
-use Rattle.std.specs.Prelude.{◌≡◌, ℕ, ◌+◌, ◌≤◌, Bool, false, true, List, [], ◌∷◌, ◌++◌, length, nat_lt}
+use Rattle.std.specs.Prelude.{◌≡◌, ℕ, ◌+◌, ◌<◌, ◌≤◌, Bool, false, true, List, [], ◌∷◌, ◌++◌, length, nat_lt, slice_set}
 use Rattle.std.specs.Prelude.{codes, if◌then◌else◌}
 use Rattle.std.specs.FinMap as map
+use Rattle.std.specs.List.{splice}
 use Rattle.json.specs.Print.{quoted}
 use Rattle.serde_json.specs.Written.{comma_if, compact_text, members_text}
+use Rattle.fp_definition.specs.Key.{key_bytes}
 use Rattle.fp_edit.specs.Document.{data_of, document, members_of}
 use Rattle.fp_edit.specs.Edits.{Change}
 use Rattle.fp_edit.specs.Flags.{State}
 use Rattle.fp_edit.specs.Log.{after_all}
 use Rattle.fp_edit.specs.declared.document.Document.{Document}
+use Rattle.fp_edit.specs.declared.document.Place.{Place}
 use Rattle.fp_edit.specs.declared.flags.Flag.{Flag}
 
 -- a flag's part of a document, with a comma in front unless it is the first
@@ -53,6 +56,17 @@ pub record IsDocumentOf (d : Document) (s : State) : Type 0 where
   pub shows : d.text.items ≡ document s.flags
   pub revision : d.revision ≡ s.revision
   pub changed : changed_after s.revision (map.entries s.flags) ≡ 0
+
+-- the same text and the same parts, at the same revision
+abbrev pub IsAlike : Document → Document → Type 0
+IsAlike d e = (e.text.items ≡ d.text.items) × (e.lengths.items ≡ d.lengths.items) × (e.revision ≡ d.revision)
+
+-- a document becomes that of these flags where a flag's new part takes this place in it
+pub record IsPlaceOf (p : Place) (d : Document) (es : List (List ℕ × Flag)) : Type 0 where
+  pub within : p.at + p.len ≤ length d.text.items
+  pub counted : p.index < length d.lengths.items
+  pub outlines : (e : Document) (new : List ℕ) → new ≡ part p.later (key_bytes p.key.now, p.flag.now)
+      → e.text.items ≡ splice d.text.items p.at (p.at + p.len) new → e.lengths.items ≡ slice_set d.lengths.items p.index (length new) → Outlines e es
 
 -- edits lead from one set to another
 abbrev pub LeadsTo : State → State → Type 0

@@ -1,6 +1,7 @@
 //! Documents that show a set of flags.
 
-ghost use Rattle.std.specs.Prelude.{◌≡◌, ◌≤◌, ◌++◌, ℕ, List, false, IfOk, OnOk, IsTrue, length};
+ghost use Rattle.std.specs.Prelude.{◌≡◌, ◌≤◌, ◌↔◌, ◌++◌, ℕ, List, false, IfOk, OnOk, OnErr, IsTrue};
+ghost use Rattle.std.specs.Prelude.{MatchOption, length};
 ghost use Rattle.std.specs.BTreeMap.{IsOrdered};
 ghost use Rattle.std.specs.List.{splice};
 ghost use Rattle.serde_json.specs.Written.{compact_text, members_text};
@@ -10,7 +11,7 @@ ghost use Rattle.fp_edit.specs.Entries.{entries_of, flags_of};
 ghost use Rattle.fp_edit.specs.Flags.{State};
 ghost use Rattle.fp_edit.specs.declared.flags.Flag.{Flag};
 ghost use Rattle.fp_edit.specs.Outline.{part, part_lengths, changed_after, SameButChanged};
-ghost use Rattle.fp_edit.specs.Outline.{Outlines, IsDocumentOf};
+ghost use Rattle.fp_edit.specs.Outline.{Outlines, IsDocumentOf, IsAlike, IsPlaceOf};
 
 use crate::flags::Flag;
 use fp_base::put_quoted;
@@ -59,6 +60,32 @@ impl Document {
         ensures { result ≡ self.now.revision }
     {
         self.revision
+    }
+
+    /// Makes the document of flags out of that of others, of which one at most was changed since:
+    /// its new part takes the place of the old one, and moves what stands behind it.
+    pub(crate) fn put_changed(
+        &mut self,
+        alloc: Global,
+        flags: &BTreeMap<FlagKey, Flag>,
+        revision: u64,
+    ) -> Result<(), AllocError>
+        requires { (es : List (List ℕ × Flag)) × Outlines self.old es
+            × SameButChanged self.old.revision es (entries_of flags.now.entries)
+            × changed_after self.old.revision (entries_of flags.now.entries) ≤ 1 }
+        ensures put { OnOk result (Outlines self.new (entries_of flags.now.entries)
+            × (self.new.revision ≡ revision)) }
+        ensures unchanged { OnErr result (IsAlike self.old self.new) }
+    {
+        if let Some(place) = first_changed(flags, self) {
+            let mut part = Vec::with_capacity(alloc, place.len)?;
+            let definition = &place.flag.definition;
+            let len = put_member(alloc, &mut part, place.later, place.key, definition)?;
+            replace(&mut self.text, place.at, place.at + place.len, part)?;
+            self.lengths[place.index] = len;
+        }
+        self.revision = revision;
+        Ok(())
     }
 }
 
@@ -138,7 +165,7 @@ fn text_of(definition: &Definition) -> &[u8]
 
 /// Whether so many flags were changed after a revision.
 pub(crate) fn are_changed_after(flags: &BTreeMap<FlagKey, Flag>, revision: u64, count: u64) -> bool
-    ensures { IsTrue result → changed_after revision (entries_of flags.now.entries) ≡ count }
+    ensures { IsTrue result ↔ (changed_after revision (entries_of flags.now.entries) ≡ count) }
 {
     let mut left = count;
     for (_key, flag) in flags.iter() {
@@ -196,49 +223,51 @@ pub(crate) fn document_after(
     })
 }
 
-/// The same, where the earlier document is given away: the new parts take the places of the old
-/// ones in it. Each moves what stands behind it.
-pub(crate) fn document_with(
-    alloc: Global,
-    flags: &BTreeMap<FlagKey, Flag>,
-    revision: u64,
-    before: Document,
-) -> Result<Document, AllocError>
-    requires { (es : List (List ℕ × Flag)) × Outlines before es
-        × SameButChanged before.revision es (entries_of flags.now.entries) }
-    ensures { IfOk result (λ d. Outlines d (entries_of flags.now.entries)
-        × (d.revision ≡ revision)) }
+// Where a document has a flag's part, and the flag that is there now.
+#[derive(Drop)]
+struct Place<'a> {
+    key: &'a FlagKey,
+    flag: &'a Flag,
+    later: bool,
+    index: usize,
+    at: usize,
+    len: usize,
+}
+
+fn first_changed<'a>(flags: &'a BTreeMap<FlagKey, Flag>, document: &Document) -> Option<Place<'a>>
+    requires { (es : List (List ℕ × Flag)) × Outlines document.now es
+        × SameButChanged document.now.revision es (entries_of flags.now.entries)
+        × changed_after document.now.revision (entries_of flags.now.entries) ≤ 1 }
+    ensures { MatchOption result (Outlines document.now (entries_of flags.now.entries))
+        (λ p. IsPlaceOf p document.now (entries_of flags.now.entries)) }
 {
-    let since = before.revision;
-    let mut text = before.text;
-    let mut lengths = before.lengths;
     let mut at = HEAD.len();
     let mut index = 0;
     let mut later = false;
     for (key, flag) in flags.iter() {
-        let mut len = lengths[index];
-        if flag.changed > since {
-            let mut part = Vec::with_capacity(alloc, len)?;
-            let new = put_member(alloc, &mut part, later, key, &flag.definition)?;
-            replace(&mut text, at, at + len, part)?;
-            lengths[index] = new;
-            len = new;
+        let len = document.lengths[index];
+        if flag.changed > document.revision {
+            return Some(Place {
+                key,
+                flag,
+                later,
+                index,
+                at,
+                len,
+            });
         }
         at += len;
         index += 1;
         later = true;
     }
-    Ok(Document {
-        text,
-        lengths,
-        revision,
-    })
+    None
 }
 
 fn replace(text: &mut Vec<u8>, from: usize, to: usize, part: Vec<u8>) -> Result<(), AllocError>
     requires order { from ≤ to }
     requires within { to ≤ length text.old.items }
-    ensures { OnOk result (text.new.items ≡ splice text.old.items from to part.items) }
+    ensures replaced { OnOk result (text.new.items ≡ splice text.old.items from to part.items) }
+    ensures unchanged { OnErr result (text.new.items ≡ text.old.items) }
 {
     drop(text.splice(from..to, part)?);
     Ok(())

@@ -9,14 +9,14 @@ ghost use Rattle.fp_edit.specs.Admits.{Admits, accepted, IsRefused, changed_at, 
 ghost use Rattle.fp_edit.specs.Admits.{has_room, is_met, is_within, next, refusal};
 ghost use Rattle.fp_edit.specs.Document.{document};
 ghost use Rattle.fp_edit.specs.Entries.{entries_of};
-ghost use Rattle.fp_edit.specs.Outline.{IsDocumentOf, LeadsTo, Outlines, SameButChanged};
+ghost use Rattle.fp_edit.specs.Outline.{IsDocumentOf, LeadsTo, Outlines, SameButChanged, changed_after};
 ghost use Rattle.fp_edit.specs.Edits.{is_put, put, delete, proposal_of};
 ghost use Rattle.fp_edit.specs.Following.{change_of};
 ghost use Rattle.fp_edit.specs.Flags.{State, IsChangedBy, cost_found, size as size_of};
 ghost use Rattle.fp_edit.specs.declared.flags.Flag.{Flag};
 ghost use Rattle.fp_edit.specs.declared.flags.TheConstants.{IMAGE_HEAD};
 
-use crate::document::{Document, are_changed_after, document_after, document_of, document_with};
+use crate::document::{Document, are_changed_after, document_after, document_of};
 use crate::edit::{Edit, EditFault, Expect, REVISIONS_END};
 use crate::flags::{
     Flag, IMAGE_HEAD, copy_of, cost_at, cost_of, count, count_at, find, store, take,
@@ -29,10 +29,6 @@ use std::marker::Model;
 
 /// The most flags that a set has.
 pub const MOST_FLAGS: usize = 4_096;
-
-// Each flag that takes its place in an earlier document moves what stands behind it, half of the
-// document mostly, where a copy moves all of it once.
-const MOST_IN_PLACE: u64 = 2;
 
 /// Flags by their keys, the revision that they are at, and the limit of the image that they take.
 #[derive(Drop)]
@@ -168,21 +164,32 @@ impl FlagSet {
         self.outlined()
     }
 
-    /// The same, where the earlier document is given away. Of few such edits the flags take the
-    /// places of the old ones in it.
-    pub fn outlined_from(&self, before: Document) -> Result<Document, AllocError>
-        requires { (s : State) × IsDocumentOf before s × LeadsTo s self.now }
-        ensures { IfOk result (λ d. IsDocumentOf d self.now) }
+    /// Makes the document of an earlier set, from which edits lead to this one, the document of
+    /// this one. Where one edit put a flag in place of another, its part alone is written. An
+    /// `Err` leaves the document as it was.
+    pub fn outline_into(&self, document: &mut Document) -> Result<(), AllocError>
+        requires { (s : State) × IsDocumentOf document.old s × LeadsTo s self.now }
+        ensures made { OnOk result (IsDocumentOf document.new self.now) }
+        ensures unchanged { OnErr result
+            ((s : State) → IsDocumentOf document.old s → IsDocumentOf document.new s) }
     {
-        let edits = self.revision.saturating_sub(before.revision());
         // A text in twice the room that it needs isn't kept.
-        if edits > MOST_IN_PLACE || before.room() / 2 > self.size as usize {
-            return self.outlined_after(&before);
+        if self.replaces_one_of(document) && document.room() / 2 <= self.size as usize {
+            return document.put_changed(self.alloc, &self.flags, self.revision);
         }
-        if self.replaces_flags_of(&before) {
-            return document_with(self.alloc, &self.flags, self.revision, before);
-        }
-        self.outlined()
+        *document = self.outlined_after(document)?;
+        Ok(())
+    }
+
+    // Whether it is seen that one edit was made since that document, and put no new flag and took
+    // none away.
+    fn replaces_one_of(&self, before: &Document) -> bool
+        requires { (s : State) × IsDocumentOf before.now s × LeadsTo s self.now }
+        ensures { result ≡ true → (es : List (List ℕ × Flag)) × Outlines before.now es
+            × SameButChanged before.now.revision es (map.entries self.now.flags)
+            × changed_after before.now.revision (map.entries self.now.flags) ≤ 1 }
+    {
+        before.count() == self.len() && self.revision.saturating_sub(before.revision()) == 1
     }
 
     // Whether it is seen that the edits since that document put flags in place of flags, each

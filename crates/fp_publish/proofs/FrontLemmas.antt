@@ -1,11 +1,13 @@
 -- Two fronts of one list.
-use Rattle.std.proofs.Common.{◌≡◌, ◌<◌, ◌≤◌, ◌+◌, ℕ, Bool, true, false, nat_lt, List, [], ◌∷◌, length, refl, sym, ap, ◌∙◌, arith}
+use Rattle.std.proofs.Common.{◌≡◌, ◌<◌, ◌≤◌, ◌+◌, ℕ, Bool, true, false, nat_lt, List, [], ◌∷◌, length, refl, sym, ap, subst, ◌∙◌, arith}
 use Rattle.std.specs.Prelude.{MatchBool}
 use Rattle.std.proofs.lemmas.Bool.{ltb-true, ltb-false}
 use mathlib.Core.List.{IsPrefix}
 use Rattle.fp_edit.specs.Edits.{Change}
 use Rattle.fp_edit.specs.Log.{after_all}
-use Rattle.fp_edit.specs.Outline.{LeadsTo}
+use Rattle.fp_edit.specs.Flags.{State}
+use Rattle.fp_edit.specs.Outline.{IsDocumentOf, LeadsTo}
+use Rattle.fp_edit.specs.declared.document.Document.{Document}
 use Rattle.fp_edit.proofs.Followed.{after-append}
 use Rattle.fp_group_commit.specs.Tokens.{FrontState, Identity, front_set}
 
@@ -28,3 +30,10 @@ compared false start m n xs ys w is p q left right = let le : n ≤ m = ltb-fals
 pub leads_to : (f g : FrontState) → f.store ≡ g.store → IsPrefix f.edits g.edits → LeadsTo (front_set f) (front_set g)
 leads_to f g store p =
     (p.0, ap (after_all g.store.start) (sym p.1) ∙ after-append g.store.start f.edits p.0 ∙ ap (λ (x : Identity). after_all (after_all x.start f.edits) p.0) (sym store))
+
+-- the document of a front is that of a set from which edits lead to what is shown, where this goes on from that front
+pub goes_on : (d : Document) (last old shown now : FrontState) (t : State) → IsDocumentOf d (front_set last) → last ≡ old → old.store ≡ now.store → shown ≡ now → IsPrefix last.edits shown.edits
+    → t ≡ front_set now → (s : State) × IsDocumentOf d s × LeadsTo s t
+goes_on d last old shown now t is same store shows begins lends =
+    let leads = leads_to last now (ap (λ (x : FrontState). x.store) same ∙ store) (subst (λ (x : FrontState). IsPrefix last.edits x.edits) shows begins) in
+    (front_set last, is, (leads.0, lends ∙ leads.1))

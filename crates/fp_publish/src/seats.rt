@@ -1,6 +1,6 @@
 //! Seats: what subscribers have, and the document that they are handed.
 
-ghost use Rattle.std.specs.Prelude.{◌≡◌, ◌<◌, ◌≤◌, ◌+◌, ◌-◌, None, IfOk, OnErr};
+ghost use Rattle.std.specs.Prelude.{◌≡◌, ◌<◌, ◌≤◌, ◌+◌, ◌-◌, ◌⊎◌, None, Some, IfOk, OnOk, OnErr};
 ghost use Rattle.std.specs.Prelude.{MatchOption, MatchResult};
 ghost use Rattle.fp_edit.specs.Document.{document};
 ghost use Rattle.fp_group_commit.specs.Tokens.{front_revision, front_set};
@@ -57,22 +57,27 @@ impl Handed {
         })
     }
 
-    // Makes it of the document that this has, where what is lent goes on from this. Where nobody
-    // else holds that document, it is given away.
-    fn next(self, alloc: Global, view: &View<'_>) -> Result<Handed, AllocError>
-        requires { self.store ≡ view.now.store }
-        ensures { IfOk result (λ h. h ≡ view.now) }
+    // Makes it what is lent, of the document that it has, where what is lent goes on from it. Where
+    // nobody else holds that document, it is changed in its place.
+    fn renew(&mut self, alloc: Global, view: &View<'_>) -> Result<(), AllocError>
+        requires { self.old.store ≡ view.now.store }
+        ensures renewed { OnOk result (self.new ≡ view.now) }
+        ensures unchanged { OnErr result (self.new ≡ self.old) }
     {
         let shown = view.shown();
-        if !self.shown.is_behind(&shown) {
-            return Handed::of(alloc, view);
+        if self.shown.is_same(&shown) {
+            return Ok(());
         }
-        let made = match Arc::try_unwrap(self.made) {
-            Ok(made) => view.set().outlined_from(made)?,
-            Err(made) => view.set().outlined_after(&made)?,
-        };
-        let made = Arc::new(alloc, made)?;
-        Ok(Handed { shown, made })
+        if !self.shown.is_behind(&shown) {
+            *self = Handed::of(alloc, view)?;
+            return Ok(());
+        }
+        match Arc::get_mut(&mut self.made) {
+            Some(made) => view.set().outline_into(made)?,
+            None => self.made = Arc::new(alloc, view.set().outlined_after(&self.made)?)?,
+        }
+        self.shown = shown;
+        Ok(())
     }
 
     /// The document.
@@ -168,6 +173,8 @@ impl Seats {
             (λ h. IsNews (had_by seat.old) view.now × (h ≡ view.now)
             × (had_by seat.new ≡ Has (front_revision view.now)))) }
         ensures unchanged { OnErr result (seat.new ≡ seat.old) }
+        ensures last { OnErr result ((self.new.last ≡ self.old.last)
+            ⊎ (self.new.last ≡ Some view.now)) }
         ensures store { IsOfStore self.new.last view.now }
         ensures taken { self.new.taken ≡ self.old.taken }
     {
@@ -183,20 +190,16 @@ impl Seats {
     fn made(&mut self, alloc: Global, view: &View<'_>) -> Result<Handed, AllocError>
         requires store { IsOfStore self.old.last view.now }
         ensures handed { IfOk result (λ h. h ≡ view.now) }
+        ensures last { OnErr result ((self.new.last ≡ self.old.last)
+            ⊎ (self.new.last ≡ Some view.now)) }
         ensures store { IsOfStore self.new.last view.now }
         ensures taken { self.new.taken ≡ self.old.taken }
     {
-        let handed = match self.last.take() {
-            None => Handed::of(alloc, view)?,
-            Some(last) => {
-                if last.shown.is_same(&view.shown()) {
-                    let handed = last.try_copy();
-                    self.last = Some(last);
-                    return handed;
-                }
-                last.next(alloc, view)?
-            }
-        };
+        if let Some(last) = &mut self.last {
+            last.renew(alloc, view)?;
+            return last.try_copy();
+        }
+        let handed = Handed::of(alloc, view)?;
         self.last = Some(handed.try_copy()?);
         Ok(handed)
     }

@@ -17,7 +17,7 @@ returns c seen =
     let is : fin.entries t.flags ≡ fs = ap (λ (x : State). fin.entries x.flags) (sym c.self.view_is) ∙ entries-flags_of set.flags.entries c.self.invariant.0 in
     let some : changed_after before.revision fs ≡ t.revision - before.revision =
     ap (λ r. changed_after r fs) (sym c.revision-2.ensures)
-    ∙ c.are_changed_after.ensures seen
+    ∙ c.are_changed_after.ensures.0 seen
     ∙ c.saturating_sub-edits.ensures
     ∙ ap (λ r. set.revision - r) c.revision.ensures
     ∙ ap (λ (x : State). x.revision - before.revision) c.self.view_is in
