@@ -1,5 +1,5 @@
 -- Walks over trees, step by step.
-use Rattle.std.proofs.Common.{◌≡◌, ℕ, zero, suc, ◌+◌, ◌*◌, ◌<◌, ◌≤◌, List, [], ◌∷◌, ◌++◌, length, get_or, true, Option, Some, None, Ok, refl, sym, ap, subst, ◌∙◌, arith}
+use Rattle.std.proofs.Common.{◌≡◌, ℕ, zero, suc, ◌+◌, ◌*◌, ◌<◌, ◌≤◌, List, [], ◌∷◌, ◌++◌, length, get_or, true, Option, Some, None, Ok, refl, sym, ap, ◌∙◌, arith}
 use Rattle.std.specs.Prelude.{is_some, IfSome}
 use Rattle.std.specs.Borrow.{Bor}
 use Rattle.std.specs.declared.alloc.Global.{Global}
@@ -12,7 +12,7 @@ use Rattle.serde_json.specs.Find.{get_member}
 use Rattle.serde_json.specs.View.{items_of}
 use Rattle.fp_base.specs.Printed.{said, said_items, puts, IsReadable, AreReadable}
 use Rattle.fp_base.proofs.Lookups.{found_or, get_member-of_members}
-use Rattle.fp_base.proofs.TreeData.{IfReadable, found-readable, reads, reads-members, said-array, said-object}
+use Rattle.fp_base.proofs.TreeData.{found-readable, reads, reads-members, said-array, said-object}
 use Rattle.fp_imports.specs.References.{Walked, expansion, items_expansion, onward, reference}
 use Rattle.fp_imports.specs.Trees.{list_of, members_in}
 use Rattle.fp_imports.proofs.Standing.{items_of-list_of}
