@@ -7,7 +7,8 @@ pub mod Tests
 pub mod Text
 pub mod Weight
 pub mod Whole
-pub mod Numeral
-pub mod Owned
 pub mod Sorted
-pub mod Printed
+pub mod TreeView
+pub mod Ordered
+pub mod Places
+pub mod Gathered

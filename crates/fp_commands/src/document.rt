@@ -7,9 +7,9 @@ ghost use Rattle.fp_commands.specs.Disks.{Blames};
 ghost use Rattle.fp_commands.specs.Documents.{import_of, IsDocumentFault};
 
 use crate::fault::CommandFault;
-use fp_base::{read_json, read_tree};
+use fp_base::read_tree;
 use fp_definition::{Definition, FlagKey};
-use fp_imports::{ImportFault, expand_document, expand_tree};
+use fp_imports::{ImportFault, expand_tree};
 use fp_streams::FailureCounted;
 use json::Scratch;
 use std::alloc::Global;
@@ -26,30 +26,18 @@ pub fn read_document<R: Read>(
     ensures device { Blames r.old.failures r.new.failures result }
 {
     let bytes = r.read_to_end(alloc)?;
-    if let Some(flags) = shown_flags(alloc, &bytes)? {
-        return Ok(flags);
-    }
-    let Some(document) = read_json(alloc, &bytes)? else {
-        return Err(CommandFault::NotDocument);
-    };
-    match expand_document(alloc, document) {
-        Ok(flags) => Ok(flags),
-        Err(fault) => Err(fault.into()),
-    }
+    let flags = flags_of(alloc, &bytes)?;
+    Ok(flags)
 }
 
-// The flags of a flagd document or its fault, where its tree shows them.
-fn shown_flags(
-    alloc: Global,
-    bytes: &[u8],
-) -> Result<Option<Vec<(FlagKey, Definition)>>, ImportFault>
-    ensures flags { IfOk result (λ o. IfSome o (λ flags.
-        import_of bytes.now ≡ Ok (map flag_bytes flags.items))) }
+// The flags of the flagd document that bytes spell.
+fn flags_of(alloc: Global, bytes: &[u8]) -> Result<Vec<(FlagKey, Definition)>, ImportFault>
+    ensures flags { IfOk result (λ flags. import_of bytes.now ≡ Ok (map flag_bytes flags.items)) }
     ensures refused { IfErr result (λ f. Tells f (λ e. import_of bytes.now ≡ Err e)) }
 {
     let mut scratch = Scratch::new(alloc);
     match read_tree(alloc, bytes, &mut scratch)? {
-        Some(tree) => expand_tree(alloc, tree),
-        None => Ok(None),
+        Some(document) => expand_tree(alloc, document),
+        None => Err(ImportFault::NotDocument),
     }
 }

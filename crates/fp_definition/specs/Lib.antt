@@ -6,6 +6,4 @@ pub mod Resolving
 pub mod Outcome
 pub mod Targeting
 pub mod Kept
-pub mod Parts
-pub mod Written
 pub mod Choice

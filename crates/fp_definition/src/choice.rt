@@ -1,15 +1,18 @@
 //! What a definition chooses from, kept as an evaluation asks for it.
 
-ghost use Rattle.std.specs.Prelude.{◌≡◌, ◌<◌, true, IfOk, IfSome, codes, option_map, string_bytes};
-ghost use Rattle.std.specs.Prelude.{option_and_then};
+ghost use Rattle.std.specs.Prelude.{◌≡◌, true, Some, IfOk, codes, option_map, string_bytes};
 ghost use Rattle.serde_json.specs.Data.{object, string};
-ghost use Rattle.serde_json.specs.Find.{as_object, as_str, get, get_member};
+ghost use Rattle.serde_json.specs.Find.{get};
 ghost use Rattle.serde_json.specs.View.{view, members_view};
+ghost use Rattle.fp_base.specs.Ordered.{IsOrdered};
+ghost use Rattle.fp_base.specs.TreeView.{tree_view};
 ghost use Rattle.fp_definition.specs.Choice.{IsChoice, MeetsTests};
 ghost use Rattle.fp_definition.specs.Resolving.{is_disabled};
+ghost use Rattle.fp_definition.specs.Valid.{are_variants, names_variant};
 
-use fp_base::take_from;
+use fp_base::Tree;
 use serde_json::{Map, Value};
+use std::alloc::{AllocError, Global};
 
 // Whether a definition is disabled, the name of its default variant, its variants and metadata. What
 // else it has is in its text and its rule alone.
@@ -21,63 +24,64 @@ pub(crate) struct Choice {
     pub(crate) metadata: Option<Value>,
 }
 
-// The choice of a value that meets the tests of its members.
-pub(crate) fn chosen(value: Value) -> Choice
-    requires { MeetsTests (view value) }
-    ensures { IsChoice (view value) result }
+// The choice of a tree that meets the tests of its members.
+pub(crate) fn chosen(alloc: Global, tree: &Tree<'_>) -> Result<Choice, AllocError>
+    requires tested { MeetsTests (tree_view tree.now) }
+    requires ordered { IsOrdered (tree_view tree.now) }
+    ensures { IfOk result (IsChoice (tree_view tree.now)) }
 {
-    let Value::Object(members) = value else {
-        unreachable!()
-    };
-    chosen_from(members)
+    Ok(Choice {
+        is_disabled: says_disabled(tree),
+        default: default_of(alloc, tree)?,
+        variants: variants_of(alloc, tree)?,
+        metadata: metadata_of(alloc, tree)?,
+    })
 }
 
-fn chosen_from(members: Map<String, Value>) -> Choice
-    requires { MeetsTests (object (members_view members.entries)) }
-    ensures { IsChoice (object (members_view members.entries)) result }
+fn says_disabled(tree: &Tree<'_>) -> bool
+    ensures { result ≡ is_disabled (get (codes "state") (tree_view tree.now)) }
 {
-    let mut members = members;
-    let is_disabled = says_disabled(take_from(&mut members, "state"));
-    let metadata = take_from(&mut members, "metadata");
-    let Some(default) = text_in(take_from(&mut members, "defaultVariant")) else {
-        unreachable!()
-    };
-    let Some(variants) = object_in(take_from(&mut members, "variants")) else {
-        unreachable!()
-    };
-    Choice {
-        is_disabled,
-        default,
-        variants,
-        metadata,
-    }
-}
-
-fn says_disabled(state: Option<Value>) -> bool
-    ensures { result ≡ is_disabled (option_map view state) }
-{
-    match state {
-        Some(Value::String(text)) => text.as_str() == "DISABLED",
+    match tree.get("state") {
+        Some(Tree::String(text)) => *text == "DISABLED",
         _ => false,
     }
 }
 
-fn text_in(member: Option<Value>) -> Option<String>
-    ensures { option_map (λ s. string_bytes s) result
-        ≡ option_and_then as_str (option_map view member) }
+fn default_of(alloc: Global, tree: &Tree<'_>) -> Result<String, AllocError>
+    requires { names_variant (get (codes "defaultVariant") (tree_view tree.now))
+        (get (codes "variants") (tree_view tree.now)) ≡ true }
+    ensures { IfOk result (λ s. get (codes "defaultVariant") (tree_view tree.now)
+        ≡ Some (string (string_bytes s))) }
 {
-    match member {
-        Some(Value::String(text)) => Some(text),
-        _ => None,
-    }
+    let Some(Tree::String(name)) = tree.get("defaultVariant") else {
+        unreachable!()
+    };
+    String::from_str(alloc, name)
 }
 
-pub(crate) fn object_in(member: Option<Value>) -> Option<Map<String, Value>>
-    ensures { option_map (λ m. members_view m.entries) result
-        ≡ option_and_then as_object (option_map view member) }
+#[tactic(auto, using(fp_base::proofs::Inside::ordered_get))]
+fn variants_of(alloc: Global, tree: &Tree<'_>) -> Result<Map<String, Value>, AllocError>
+    requires tested { are_variants (get (codes "variants") (tree_view tree.now)) ≡ true }
+    requires ordered { IsOrdered (tree_view tree.now) }
+    ensures { IfOk result (λ m. get (codes "variants") (tree_view tree.now)
+        ≡ Some (object (members_view m.entries))) }
 {
-    match member {
-        Some(Value::Object(members)) => Some(members),
-        _ => None,
+    let Some(variants) = tree.get("variants") else {
+        unreachable!()
+    };
+    let Value::Object(members) = variants.to_value(alloc)? else {
+        unreachable!()
+    };
+    Ok(members)
+}
+
+#[tactic(auto, using(fp_base::proofs::Inside::ordered_get))]
+fn metadata_of(alloc: Global, tree: &Tree<'_>) -> Result<Option<Value>, AllocError>
+    requires { IsOrdered (tree_view tree.now) }
+    ensures { IfOk result (λ m. option_map view m ≡ get (codes "metadata") (tree_view tree.now)) }
+{
+    match tree.get("metadata") {
+        Some(metadata) => Ok(Some(metadata.to_value(alloc)?)),
+        None => Ok(None),
     }
 }

@@ -3,27 +3,26 @@
 ghost use Rattle.std.specs.Prelude.{◌≡◌, true, Some, None, IfOk, IfErr, IfSome};
 ghost use Rattle.std.specs.Prelude.{if◌then◌else◌};
 ghost use Rattle.std.specs.Prelude.{codes, option_map};
-ghost use Rattle.json.specs.Value.{value_view};
 ghost use Rattle.serde_json.specs.Find.{get};
 ghost use Rattle.serde_json.specs.View.{view};
 ghost use Rattle.serde_json.specs.Written.{compact_text};
 ghost use Rattle.fp_base.specs.Answer.{IsFirst};
 ghost use Rattle.fp_base.specs.Json.{json_of};
+ghost use Rattle.fp_base.specs.Ordered.{IsOrdered};
+ghost use Rattle.fp_base.specs.TreeView.{tree_view};
 ghost use Rattle.fp_base.specs.Whole.{is_whole};
 ghost use Rattle.fp_definition.specs.Choice.{IsChoice};
 ghost use Rattle.fp_definition.specs.Faults.{Tells};
-ghost use Rattle.fp_definition.specs.Parts.{AreParts};
 ghost use Rattle.fp_definition.specs.Resolving.{data_of};
 ghost use Rattle.fp_definition.specs.Targeting.{rule_in};
 ghost use Rattle.fp_definition.specs.Valid.{first_fault, IsValid, is_definition_text};
 ghost use Rattle.fp_definition.specs.Valid.{definition_in, is_text_of};
-ghost use Rattle.fp_definition.specs.Written.{WritesDefinition};
 
 use crate::choice::{Choice, chosen};
 use crate::faults::DefFault;
 use crate::members::tested_members;
-use crate::trees::definition_of;
-use fp_base::{canonical_text_within, nests_within, read_json, read_tree, whole_numbers};
+use crate::text::{fitted, text_of};
+use fp_base::{Tree, read_tree};
 use fp_targeting::Rule;
 use json::Scratch;
 use serde_json::Value;
@@ -76,51 +75,28 @@ impl Definition {
         ensures reads { IfOk result (λ d. json_of d ≡ Some (view value)) }
         ensures refused { IfErr result (IsFirst Tells (first_fault (view value))) }
     {
-        let (text, rule) = tested_parts(alloc, &value)?;
-        let choice = chosen(value);
-        let share = Arc::new(alloc, Kept { text, choice, rule })?;
-        Ok(Definition { share })
+        let tree = Tree::of_value(alloc, &value)?;
+        made(alloc, &tree, USUAL_ROOM)
     }
 
-    /// The definition that a tree of JSON is. `None` says nothing of the tree: `from_value` says
-    /// what its value is.
-    pub fn from_tree(
-        alloc: Global,
-        tree: &json::Value<'_>,
-    ) -> Result<Option<Definition>, AllocError>
-        ensures { IfOk result (λ o. IfSome o (WritesDefinition (value_view tree.now))) }
+    /// The definition that a tree of JSON is.
+    pub fn from_tree(alloc: Global, tree: &Tree<'_>) -> Result<Definition, DefFault>
+        requires { IsOrdered (tree_view tree.now) }
+        ensures valid { IfOk result (λ _. IsValid (tree_view tree.now)) }
+        ensures text { IfOk result (λ d. d ≡ compact_text (tree_view tree.now)) }
+        ensures reads { IfOk result (λ d. json_of d ≡ Some (tree_view tree.now)) }
+        ensures refused { IfErr result (IsFirst Tells (first_fault (tree_view tree.now))) }
     {
-        definition_of(alloc, tree, USUAL_ROOM)
-    }
-
-    // The definition that a tree says by these parts, if its text isn't too long.
-    pub(crate) fn of_parts(
-        alloc: Global,
-        tree: &json::Value<'_>,
-        text: Vec<u8>,
-        choice: Choice,
-        rule: Option<Rule>,
-    ) -> Result<Option<Definition>, AllocError>
-        requires { AreParts (value_view tree.now) text.items choice rule }
-        ensures { IfOk result (λ o. IfSome o (WritesDefinition (value_view tree.now))) }
-    {
-        let _ = tree;
-        if text.len() > LONGEST_DEFINITION {
-            return Ok(None);
-        }
-        let share = Arc::new(alloc, Kept { text, choice, rule })?;
-        Ok(Some(Definition { share }))
+        made(alloc, tree, USUAL_ROOM)
     }
 
     /// The definition whose canonical text the bytes are, or `None` where they are no such text.
     pub fn from_text(alloc: Global, text: &[u8]) -> Result<Option<Definition>, AllocError>
         ensures { IfOk result (λ o. o ≡ definition_in text.now) }
     {
-        if let Some(definition) = from_canonical(alloc, text)? {
-            return Ok(Some(definition));
-        }
-        match read_json(alloc, text)? {
-            Some(value) => from_read(alloc, value, text),
+        let mut scratch = Scratch::new(alloc);
+        match read_tree(alloc, text, &mut scratch)? {
+            Some(tree) => spelled(alloc, &tree, text),
             None => Ok(None),
         }
     }
@@ -166,53 +142,31 @@ impl Definition {
     }
 }
 
-// The definition whose canonical text the bytes are, as nearly all that are read are. `None` says
-// nothing of them.
-#[tactic(auto, unfolding(crate::specs::Valid::is_text_of))]
-fn from_canonical(alloc: Global, text: &[u8]) -> Result<Option<Definition>, AllocError>
-    ensures { IfOk result (λ o. IfSome o (λ d. Some d ≡ definition_in text.now)) }
+// The definition that a tree is. Its text is begun with room for so many bytes.
+fn made(alloc: Global, tree: &Tree<'_>, room: usize) -> Result<Definition, DefFault>
+    requires { IsOrdered (tree_view tree.now) }
+    ensures valid { IfOk result (λ _. IsValid (tree_view tree.now)) }
+    ensures text { IfOk result (λ d. d ≡ compact_text (tree_view tree.now)) }
+    ensures reads { IfOk result (λ d. json_of d ≡ Some (tree_view tree.now)) }
+    ensures refused { IfErr result (IsFirst Tells (first_fault (tree_view tree.now))) }
 {
-    let mut scratch = Scratch::new(alloc);
-    let Some(tree) = read_tree(alloc, text, &mut scratch)? else {
-        return Ok(None);
-    };
-    let Some(definition) = definition_of(alloc, &tree, text.len() + 2)? else {
-        return Ok(None);
-    };
-    if definition.text() != text {
-        return Ok(None);
-    }
-    Ok(Some(definition))
+    let text = text_of(alloc, tree, room)?;
+    let rule = tested_members(alloc, tree)?;
+    let choice = chosen(alloc, tree)?;
+    let text = fitted(text);
+    let share = Arc::new(alloc, Kept { text, choice, rule })?;
+    Ok(Definition { share })
 }
 
-// The canonical text and the rule of a value that is a definition.
-fn tested_parts(alloc: Global, value: &Value) -> Result<(Vec<u8>, Option<Rule>), DefFault>
-    ensures valid { IfOk result (λ _. IsValid (view value.now)) }
-    ensures text { IfOk result (λ p. p.0.items ≡ compact_text (view value.now)) }
-    ensures reads { IfOk result (λ p. json_of p.0.items ≡ Some (view value.now)) }
-    ensures rule { IfOk result (λ p. p.1 ≡ rule_in (get (codes "targeting") (view value.now))) }
-    ensures refused { IfErr result (IsFirst Tells (first_fault (view value.now))) }
-{
-    if !nests_within(value, DEEPEST_DEFINITION) {
-        return Err(DefFault::TooDeep);
-    }
-    if !whole_numbers(value) {
-        return Err(DefFault::WholeNumbersOnly);
-    }
-    let Some(text) = canonical_text_within(alloc, value, LONGEST_DEFINITION)? else {
-        return Err(DefFault::TooLarge);
-    };
-    let rule = tested_members(alloc, value)?;
-    Ok((text, rule))
-}
-
-// The definition that a value is, where the text that it was read from is its canonical one.
+// The definition that a tree is, where the text that it was read from is its canonical one.
 #[tactic(auto, unfolding(crate::specs::Valid::is_text_of))]
-fn from_read(alloc: Global, value: Value, text: &[u8]) -> Result<Option<Definition>, AllocError>
+fn spelled(alloc: Global, tree: &Tree<'_>, text: &[u8]) -> Result<Option<Definition>, AllocError>
+    requires { IsOrdered (tree_view tree.now) }
     ensures { IfOk result (λ o.
-        o ≡ (if is_text_of text.now (view value) then Some text.now else None)) }
+        o ≡ (if is_text_of text.now (tree_view tree.now) then Some text.now else None)) }
 {
-    match Definition::from_value(alloc, value) {
+    // The printer asks for a little more room than it takes.
+    match made(alloc, tree, text.len() + 2) {
         Err(DefFault::Memory) => Err(AllocError),
         Err(_) => Ok(None),
         Ok(definition) => {

@@ -1,10 +1,11 @@
-//! Kinds of JSON values, and members that are of one kind.
+//! Kinds of JSON, and members that are of one kind.
 
 ghost use Rattle.std.specs.Prelude.{◌≡◌};
-ghost use Rattle.serde_json.specs.View.{view, members_view};
-ghost use Rattle.fp_definition.specs.Kinds.{is_kind, all_kind, one_kind, all_scalars};
+ghost use Rattle.fp_base.specs.TreeView.{tree_view, tree_members};
+ghost use Rattle.fp_definition.specs.Kinds.{is_kind, is_scalar, all_kind, one_kind};
+ghost use Rattle.fp_definition.specs.Kinds.{all_scalars};
 
-use serde_json::{Map, Value};
+use fp_base::Tree;
 
 /// The kinds of value that a flag can have.
 #[derive(Debug, Clone, Copy)]
@@ -15,31 +16,31 @@ pub(crate) enum Kind {
     Object,
 }
 
-fn is_of(value: &Value, kind: Kind) -> bool
-    ensures { result ≡ is_kind kind (view value.now) }
+fn is_of(tree: &Tree<'_>, kind: Kind) -> bool
+    ensures { result ≡ is_kind kind (tree_view tree.now) }
 {
-    match (value, kind) {
-        (Value::Bool(_), Kind::Boolean) => true,
-        (Value::String(_), Kind::Text) => true,
-        (Value::Number(_), Kind::Number) => true,
-        (Value::Object(_), Kind::Object) => true,
+    match (tree, kind) {
+        (Tree::Bool(_), Kind::Boolean) => true,
+        (Tree::String(_), Kind::Text) => true,
+        (Tree::Number(_), Kind::Number) => true,
+        (Tree::Object(_), Kind::Object) => true,
         _ => false,
     }
 }
 
-fn are_all_of(members: &Map<String, Value>, kind: Kind) -> bool
-    ensures { result ≡ all_kind kind (members_view members.now.entries) }
+fn are_all_of(members: &[(&str, Tree<'_>)], kind: Kind) -> bool
+    ensures { result ≡ all_kind kind (tree_members members.now) }
 {
-    for (_name, member) in members.iter() {
-        if !is_of(member, kind) {
+    for member in members {
+        if !is_of(&member.1, kind) {
             return false;
         }
     }
     true
 }
 
-pub(crate) fn are_of_one_kind(members: &Map<String, Value>) -> bool
-    ensures { result ≡ one_kind (members_view members.now.entries) }
+pub(crate) fn are_of_one_kind(members: &[(&str, Tree<'_>)]) -> bool
+    ensures { result ≡ one_kind (tree_members members.now) }
 {
     are_all_of(members, Kind::Boolean)
         || are_all_of(members, Kind::Text)
@@ -47,14 +48,17 @@ pub(crate) fn are_of_one_kind(members: &Map<String, Value>) -> bool
         || are_all_of(members, Kind::Object)
 }
 
-pub(crate) fn are_scalars(members: &Map<String, Value>) -> bool
-    ensures { result ≡ all_scalars (members_view members.now.entries) }
+fn is_scalar(tree: &Tree<'_>) -> bool
+    ensures { result ≡ is_scalar (tree_view tree.now) }
 {
-    for (_name, member) in members.iter() {
-        if !(is_of(member, Kind::Boolean)
-            || is_of(member, Kind::Text)
-            || is_of(member, Kind::Number))
-        {
+    is_of(tree, Kind::Boolean) || is_of(tree, Kind::Text) || is_of(tree, Kind::Number)
+}
+
+pub(crate) fn are_scalars(members: &[(&str, Tree<'_>)]) -> bool
+    ensures { result ≡ all_scalars (tree_members members.now) }
+{
+    for member in members {
+        if !is_scalar(&member.1) {
             return false;
         }
     }

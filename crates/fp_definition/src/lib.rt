@@ -9,7 +9,7 @@ mod kind;
 mod members;
 mod resolving;
 mod rules;
-mod trees;
+mod text;
 
 pub use definition::{DEEPEST_DEFINITION, Definition, LONGEST_DEFINITION};
 pub use faults::{DefFault, KeyFault};

@@ -6,6 +6,8 @@ ghost use Rattle.serde_json.specs.Data.{Data as JsonData};
 ghost use Rattle.serde_json.specs.Find.{as_object, get, get_member};
 ghost use Rattle.serde_json.specs.View.{view, members_view};
 ghost use Rattle.fp_base.specs.Answer.{Answers, Gives};
+ghost use Rattle.fp_base.specs.Ordered.{IsOrdered};
+ghost use Rattle.fp_base.specs.TreeView.{tree_view};
 ghost use Rattle.fp_base.specs.Whole.{is_whole, members_whole};
 ghost use Rattle.fp_definition.specs.Key.{key_bytes};
 ghost use Rattle.fp_definition.specs.Outcome.{outcome_of};
@@ -13,7 +15,6 @@ ghost use Rattle.fp_definition.specs.Resolving.{Resolves, Said, Tells, TellsItse
 ghost use Rattle.fp_definition.specs.Resolving.{by_default, by_result, data_of, is_disabled};
 ghost use Rattle.fp_definition.specs.Resolving.{outcome_of_variant, said_or_none};
 ghost use Rattle.fp_operators.specs.Data as values;
-ghost use Rattle.fp_operators.specs.FromJson.{data_of as datum_of};
 ghost use Rattle.fp_operators.specs.View.{view as datum_view};
 ghost use Rattle.fp_targeting.specs.Meaning.{meaning};
 ghost use Rattle.fp_targeting.specs.Means.{Means};
@@ -21,6 +22,7 @@ ghost use Rattle.fp_targeting.specs.RuleData.{IsOfContext};
 
 use crate::definition::Definition;
 use crate::key::FlagKey;
+use fp_base::Tree;
 use fp_operators::Datum;
 use fp_targeting::{Data, Rule};
 use serde_json::{Map, Value};
@@ -98,22 +100,23 @@ impl Definition {
         }
     }
 
-    /// The same in a context that is given away as a datum. Its data are made where there is a rule.
+    /// The same in a context that is a tree. Its data are made where there is a rule.
     #[tactic(auto, unfolding(crate::specs::Outcome::outcome_of))]
-    pub fn resolve_datum(
+    pub fn resolve_tree(
         &self,
         alloc: Global,
         key: &FlagKey,
-        context: Datum,
+        context: &Tree<'_>,
         now: u64,
     ) -> Result<Resolved<'_>, EvalFault>
-        requires { now < 2 ^ 63 }
-        ensures resolves { (c : JsonData) → IsSome (as_object c) → is_whole c ≡ true
-            → datum_view context ≡ datum_of c
-            → Answers said_by Tells result (Resolves (data_of self.now) (key_bytes key.now) c now) }
-        ensures computed { (c : JsonData) → IsSome (as_object c) → is_whole c ≡ true
-            → datum_view context ≡ datum_of c
-            → Gives said_by Tells result (outcome_of (data_of self.now) (key_bytes key.now) c now) }
+        requires object { IsSome (as_object (tree_view context.now)) }
+        requires whole { is_whole (tree_view context.now) ≡ true }
+        requires ordered { IsOrdered (tree_view context.now) }
+        requires moment { now < 2 ^ 63 }
+        ensures resolves { Answers said_by Tells result
+            (Resolves (data_of self.now) (key_bytes key.now) (tree_view context.now) now) }
+        ensures computed { Gives said_by Tells result
+            (outcome_of (data_of self.now) (key_bytes key.now) (tree_view context.now) now) }
         ensures printable { IfOk result (λ r. is_whole (view r.value.now) ≡ true) }
     {
         if self.is_disabled() {
@@ -122,7 +125,7 @@ impl Definition {
         let Some(rule) = self.rule() else {
             return self.default_of(Reason::Static);
         };
-        let data = Data::of_datum(alloc, context, key.as_str(), now)?;
+        let data = Data::of_tree(alloc, context, key.as_str(), now)?;
         self.by_rule(alloc, rule, &data)
     }
 

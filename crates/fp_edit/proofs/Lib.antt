@@ -4,7 +4,6 @@ pub mod Tallying
 pub mod Kept
 pub mod Maps
 pub mod Outlined
-pub mod Parts
 pub mod Patched
 pub mod Runs
 pub mod Since

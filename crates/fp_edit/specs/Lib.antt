@@ -8,5 +8,4 @@ pub mod Laws
 pub mod Line
 pub mod Log
 pub mod Outline
-pub mod Parts
 pub mod Spelled

@@ -9,7 +9,6 @@ mod flags;
 mod following;
 mod laws;
 mod line;
-mod line_tree;
 mod tally;
 
 pub use document::Document;

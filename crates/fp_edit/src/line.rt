@@ -1,19 +1,19 @@
 //! Lines that spell edits.
 
 ghost use Rattle.std.specs.Prelude.{◌≡◌, Some, codes};
-ghost use Rattle.serde_json.specs.View.{view, members_view};
 ghost use Rattle.serde_json.specs.Find.{get};
 ghost use Rattle.fp_base.specs.Answer.{Gives};
+ghost use Rattle.fp_base.specs.Ordered.{IsOrdered};
+ghost use Rattle.fp_base.specs.TreeView.{tree_view, tree_members};
 ghost use Rattle.fp_definition.specs.Key.{key_bytes};
 ghost use Rattle.fp_edit.specs.Edits.{proposal_of};
 ghost use Rattle.fp_edit.specs.Line as says;
 ghost use Rattle.fp_edit.specs.Spelled.{Tells};
 
 use crate::edit::{Edit, Expect, REVISIONS_END};
-use crate::line_tree::shown_edit;
-use fp_base::{read_json, take_member};
+use fp_base::{Tree, read_tree};
 use fp_definition::{DefFault, Definition, FlagKey, KeyFault, LONGEST_KEY};
-use serde_json::{Map, Value};
+use json::Scratch;
 use std::alloc::{AllocError, Global};
 use thiserror::Error;
 
@@ -64,7 +64,7 @@ impl From<AllocError> for LineFault {
 }
 
 #[derive(Debug, Clone, Copy)]
-pub(crate) enum Op {
+enum Op {
     Put,
     Delete,
 }
@@ -77,35 +77,31 @@ pub fn parse_line(alloc: Global, line: &[u8]) -> Result<Edit, LineFault>
     if line.len() > LONGEST_LINE {
         return Err(LineFault::TooLong);
     }
-    // The tree shows most edits, and is read sooner than the value. This decides of the other lines.
-    if let Some(edit) = shown_edit(alloc, line)? {
-        return Ok(edit);
-    }
-    match read_json(alloc, line)? {
-        Some(value) => edit_in(alloc, value),
+    let mut scratch = Scratch::new(alloc);
+    match read_tree(alloc, line, &mut scratch)? {
+        Some(tree) => edit_in(alloc, &tree),
         None => Err(LineFault::NotJson),
     }
 }
 
-fn edit_in(alloc: Global, value: Value) -> Result<Edit, LineFault>
-    ensures { Gives proposal_of Tells result (says.edit_in (view value)) }
+fn edit_in(alloc: Global, tree: &Tree<'_>) -> Result<Edit, LineFault>
+    requires { IsOrdered (tree_view tree.now) }
+    ensures { Gives proposal_of Tells result (says.edit_in (tree_view tree.now)) }
 {
-    match &value {
-        Value::Object(members) => {
-            if !all_known(members) {
-                return Err(LineFault::BadMember);
-            }
-        }
-        _ => return Err(LineFault::NotObject),
+    let Tree::Object(members) = tree else {
+        return Err(LineFault::NotObject);
+    };
+    if !all_known(members) {
+        return Err(LineFault::BadMember);
     }
-    edit_of_members(alloc, value)
+    edit_of_members(alloc, tree)
 }
 
-fn all_known(members: &Map<String, Value>) -> bool
-    ensures { result ≡ says.all_known (members_view members.now.entries) }
+fn all_known(members: &[(&str, Tree<'_>)]) -> bool
+    ensures { result ≡ says.all_known (tree_members members.now) }
 {
-    for (name, _member) in members.iter() {
-        if !is_known(name.as_str()) {
+    for member in members {
+        if !is_known(member.0) {
             return false;
         }
     }
@@ -119,31 +115,32 @@ fn is_known(name: &str) -> bool
 }
 
 #[tactic(auto, unfolding(crate::specs::Line::parts_of))]
-fn edit_of_members(alloc: Global, value: Value) -> Result<Edit, LineFault>
-    ensures { Gives proposal_of Tells result (says.parts_of (view value)) }
+fn edit_of_members(alloc: Global, tree: &Tree<'_>) -> Result<Edit, LineFault>
+    requires { IsOrdered (tree_view tree.now) }
+    ensures { Gives proposal_of Tells result (says.parts_of (tree_view tree.now)) }
 {
-    let op = op_of(&value)?;
-    let key = key_of(alloc, &value)?;
-    let expect = expect_of(&value)?;
+    let op = op_of(tree)?;
+    let key = key_of(alloc, tree)?;
+    let expect = expect_of(tree)?;
     match op {
         Op::Delete => Ok(Edit::Delete { key, expect }),
         Op::Put => {
-            let flag = flag_of(alloc, value)?;
+            let flag = flag_of(alloc, tree)?;
             Ok(Edit::Put { key, flag, expect })
         }
     }
 }
 
-fn op_of(value: &Value) -> Result<Op, LineFault>
-    ensures { Gives (λ op. op) Tells result (says.op_of (get (codes "op") (view value.now))) }
+fn op_of(tree: &Tree<'_>) -> Result<Op, LineFault>
+    ensures { Gives (λ op. op) Tells result (says.op_of (get (codes "op") (tree_view tree.now))) }
 {
-    match value.get("op") {
-        Some(Value::String(text)) => op_by_name(text.as_str()),
+    match tree.get("op") {
+        Some(Tree::String(text)) => op_by_name(text),
         _ => Err(LineFault::BadOp),
     }
 }
 
-pub(crate) fn op_by_name(text: &str) -> Result<Op, LineFault>
+fn op_by_name(text: &str) -> Result<Op, LineFault>
     ensures { Gives (λ op. op) Tells result (says.op_by_name text.now) }
 {
     if text == "put" {
@@ -155,11 +152,11 @@ pub(crate) fn op_by_name(text: &str) -> Result<Op, LineFault>
     }
 }
 
-fn key_of(alloc: Global, value: &Value) -> Result<FlagKey, LineFault>
-    ensures { Gives key_bytes Tells result (says.key_of (get (codes "key") (view value.now))) }
+fn key_of(alloc: Global, tree: &Tree<'_>) -> Result<FlagKey, LineFault>
+    ensures { Gives key_bytes Tells result (says.key_of (get (codes "key") (tree_view tree.now))) }
 {
-    match value.get("key") {
-        Some(Value::String(text)) => match FlagKey::new(alloc, text.as_str()) {
+    match tree.get("key") {
+        Some(Tree::String(text)) => match FlagKey::new(alloc, text) {
             Ok(key) => Ok(key),
             Err(KeyFault::BadKey) => Err(LineFault::BadKey),
             Err(KeyFault::Memory) => Err(LineFault::Memory),
@@ -168,19 +165,19 @@ fn key_of(alloc: Global, value: &Value) -> Result<FlagKey, LineFault>
     }
 }
 
-fn expect_of(value: &Value) -> Result<Expect, LineFault>
+fn expect_of(tree: &Tree<'_>) -> Result<Expect, LineFault>
     ensures { Gives (λ expect. expect) Tells result
-        (says.expect_of (get (codes "if") (view value.now))) }
+        (says.expect_of (get (codes "if") (tree_view tree.now))) }
 {
-    match value.get("if") {
-        None | Some(Value::Null) => Ok(Expect::Any),
-        Some(Value::String(text)) => expect_by_name(text.as_str()),
-        Some(Value::Number(number)) => expect_at(number.as_u64()),
+    match tree.get("if") {
+        None | Some(Tree::Null) => Ok(Expect::Any),
+        Some(Tree::String(text)) => expect_by_name(text),
+        Some(Tree::Number(number)) => expect_at(number.as_u64()),
         Some(_) => Err(LineFault::BadIf),
     }
 }
 
-pub(crate) fn expect_by_name(text: &str) -> Result<Expect, LineFault>
+fn expect_by_name(text: &str) -> Result<Expect, LineFault>
     ensures { Gives (λ expect. expect) Tells result (says.expect_by_name text.now) }
 {
     if text == "any" {
@@ -192,7 +189,7 @@ pub(crate) fn expect_by_name(text: &str) -> Result<Expect, LineFault>
     }
 }
 
-pub(crate) fn expect_at(revision: Option<u64>) -> Result<Expect, LineFault>
+fn expect_at(revision: Option<u64>) -> Result<Expect, LineFault>
     ensures { Gives (λ expect. expect) Tells result (says.expect_at revision) }
 {
     match revision {
@@ -202,22 +199,25 @@ pub(crate) fn expect_at(revision: Option<u64>) -> Result<Expect, LineFault>
 }
 
 #[tactic(auto, unfolding(crate::specs::Line::flag_of))]
-fn flag_of(alloc: Global, value: Value) -> Result<Definition, LineFault>
+fn flag_of(alloc: Global, tree: &Tree<'_>) -> Result<Definition, LineFault>
+    requires { IsOrdered (tree_view tree.now) }
     ensures { Gives (λ definition. definition) Tells result
-        (says.flag_of (get (codes "flag") (view value))) }
+        (says.flag_of (get (codes "flag") (tree_view tree.now))) }
 {
-    match take_member(value, "flag") {
+    match tree.get("flag") {
         None => Err(LineFault::BadFlag(DefFault::NotObject)),
         Some(flag) => definition_in(alloc, flag),
     }
 }
 
-/// The definition that the value of a `flag` is.
+// The definition that the member `flag` is.
 #[tactic(auto, unfolding(crate::specs::Line::flag_of))]
-pub(crate) fn definition_in(alloc: Global, flag: Value) -> Result<Definition, LineFault>
-    ensures { Gives (λ definition. definition) Tells result (says.flag_of (Some (view flag))) }
+fn definition_in(alloc: Global, flag: &Tree<'_>) -> Result<Definition, LineFault>
+    requires { IsOrdered (tree_view flag.now) }
+    ensures { Gives (λ definition. definition) Tells result
+        (says.flag_of (Some (tree_view flag.now))) }
 {
-    match Definition::from_value(alloc, flag) {
+    match Definition::from_tree(alloc, flag) {
         Ok(definition) => Ok(definition),
         Err(DefFault::Memory) => Err(LineFault::Memory),
         Err(fault) => Err(LineFault::BadFlag(fault)),

@@ -1,5 +1,6 @@
 pub mod Flags
+pub mod Orders
+pub mod Places
+pub mod Targetings
 pub mod Walks
 pub mod Standing
-mod TreeWalks
-mod TreeMembers

@@ -1,66 +1,52 @@
 -- Walks, step by step.
-use Rattle.std.proofs.Common.{◌≡◌, ℕ, zero, suc, ◌+◌, ◌*◌, max, rules, Option, Some, None, Ordering, Equal, ◌<◌, ◌≤◌, List, [], ◌∷◌, ◌++◌, length, get_or, Result, Ok, Err, Greater, Less, string_bytes, string_cmp, nat_cmp, refl, ap, ◌∙◌, append_assoc, arith}
-use Rattle.std.specs.List.{AllByRecursion}
-use Rattle.std.specs.List.Sorted.{IsStrictlySortedBy}
-use Rattle.std.specs.Map.{keys_of}
-use Rattle.std.specs.Ordering.{match_ordering, ordering_reverse}
+use Rattle.std.proofs.Common.{◌≡◌, Vec, Global, sym, ℕ, zero, suc, ◌+◌, ◌*◌, max, Option, Some, None, Ordering, Equal, ◌<◌, ◌≤◌, List, [], ◌∷◌, ◌++◌, length, get_or, Result, Ok, Err, Greater, Less, string_bytes, nat_cmp, refl, ap, ◌∙◌, append_assoc, arith, rules}
+use Rattle.std.specs.Ordering.{match_ordering}
 use Rattle.std.specs.Cmp.Lexicographic.{slice_cmp}
-use Rattle.std.proofs.lemmas.Cmp.{nat_list_cmp_total}
-use Rattle.serde_json.specs.Data.{Data, array, object, Items, item, depth, items_depth, members_depth, Members, no_members, member, put}
-use Rattle.serde_json.specs.View.{view, items_of, items_view, members_view}
+use Rattle.serde_json.specs.Data.{Data, null, boolean, number, string, array, object, Items, item, depth, items_depth, members_depth, Members, no_members, member}
+use Rattle.serde_json.specs.View.{items_of}
 use Rattle.serde_json.specs.Find.{get_member}
-use Rattle.serde_json.specs.declared.value.Value.{Value}
-use Rattle.serde_json.proofs.Views.{Entry}
 use Rattle.fp_base.specs.Answer.{Gives}
+use Rattle.fp_base.specs.TreeView.{Entry, tree_view, tree_items, tree_members}
+use Rattle.fp_base.specs.declared.tree.Tree.{Tree, the_lemmas}
+use Rattle.fp_base.specs.declared.tree.Tree.TheVariants.{Array, Object}
+use Rattle.fp_base.proofs.Sorted.{append, append-one}
 use Rattle.fp_imports.specs.References.{Walked, Broken, unknown, too_deep, too_large, onward, count_one, reference, reference_or, expansion, items_expansion, members_expansion, put_in, replacement}
 use Rattle.fp_imports.specs.Faults.{TellsBroken}
 use Rattle.fp_imports.specs.declared.faults.ReferenceFault.{ReferenceFault}
 use Rattle.fp_imports.specs.declared.faults.ReferenceFault.TheVariants.{Unknown, TooDeep, TooLarge, Memory}
 
--- one member behind others
-abbrev pub append : Members → Members → Members
-append no_members ns = ns
-append (member k d ms) ns = member k d (append ms ns)
+-- a list and an object as data
+pub only-member : (ms : List Entry) (m : Entry) → length ms ≡ 1 → m ≡ get_or ms 0 m → tree_members ms ≡ member m.0.now (tree_view m.1) no_members
+only-member [] m h e = absurd (omega arith)
+only-member (x ∷ []) m h e = ap (λ y. tree_members (y ∷ [])) (sym e)
+only-member (x ∷ y ∷ ms) m h e = absurd (omega arith)
 
-pub append-nil : (ms : Members) → append ms no_members ≡ ms
-append-nil no_members = refl
-append-nil (member k d ms) = ap (member k d) (append-nil ms)
+several : (k l : List ℕ) (d e : Data) (ms : Members) → reference (member k d (member l e ms)) ≡ None
+several k l null e ms = refl
+several k l (boolean b) e ms = refl
+several k l (number n) e ms = refl
+several k l (string s) e ms = refl
+several k l (array ds) e ms = refl
+several k l (object ns) e ms = refl
 
-pub append_one : (ms : Members) (k : List ℕ) (d : Data) (ns : Members) → append (append ms (member k d no_members)) ns ≡ append ms (member k d ns)
-append_one no_members k d ns = refl
-append_one (member l e ms) k d ns = ap (member l e) (append_one ms k d ns)
+-- a reference is the only member of its object
+pub not-one : (ms : List Entry) → (length ms ≡ 1 → ⊥) → reference (tree_members ms) ≡ None
+not-one [] h = refl
+not-one (x ∷ []) h = absurd (h refl)
+not-one (x ∷ y ∷ ms) h = several x.0.now y.0.now (tree_view x.1) (tree_view y.1) (tree_members ms)
 
 abbrev pub names : Members → List (List ℕ)
 names no_members = []
 names (member k d ms) = k ∷ names ms
 
-pub names-append_one : (ms : Members) (k : List ℕ) (d : Data) → names (append ms (member k d no_members)) ≡ names ms ++ k ∷ []
-names-append_one no_members k d = refl
-names-append_one (member l e ms) k d = ap (λ ns. l ∷ ns) (names-append_one ms k d)
+pub names-one : (ms : List Entry) (m : Entry) → names (tree_members (ms ++ m ∷ [])) ≡ names (tree_members ms) ++ m.0.now ∷ []
+names-one [] m = refl
+names-one (x ∷ ms) m = ap (λ ns. x.0.now ∷ ns) (names-one ms m)
 
-pub names-view_one : (es : List Entry) (e : Entry) → names (members_view (es ++ e ∷ [])) ≡ names (members_view es) ++ string_bytes e.0 ∷ []
-names-view_one [] e = refl
-names-view_one (x ∷ es) e = ap (λ ns. string_bytes x.0 ∷ ns) (names-view_one es e)
-
--- a name that is above others
-abbrev pub Above : List ℕ → List (List ℕ) → Type 0
-Above k [] = Unit {0}
-Above k (l ∷ ls) = (slice_cmp nat_cmp k l ≡ Greater) × Above k ls
-
-pub put_above : (k : List ℕ) (d : Data) (ms : Members) → Above k (names ms) → put k d ms ≡ append ms (member k d no_members)
-put_above k d no_members h = refl
-put_above k d (member l e ms) h = rw h.0 (ap (member l e) (put_above k d ms h.1))
-
-below_middle : (first : Entry) (es : List Entry) (e : Entry) (more : List Entry) → AllByRecursion (λ y. string_cmp first.0 y ≡ Less) (keys_of (es ++ e ∷ more)) → string_cmp first.0 e.0 ≡ Less
-below_middle first [] e more h = h.0
-below_middle first (x ∷ es) e more h = below_middle first es e more h.1
-
--- a key is above those that stand before it
-pub above_those : (done : List Entry) (e : Entry) (more : List Entry) → IsStrictlySortedBy string_cmp (keys_of (done ++ e ∷ more)) → Above (string_bytes e.0) (names (members_view done))
-unfolding IsStrictlySortedBy
-above_those [] e more h = tt
-above_those (first ∷ done) e more h =
-    (nat_list_cmp_total.antisymm (string_bytes e.0) (string_bytes first.0) ∙ ap ordering_reverse (below_middle first done e more h.0), above_those done e more h.1)
+-- a member more, behind others
+pub members-one : (ms : List Entry) (m : Entry) → tree_members (ms ++ m ∷ []) ≡ append (tree_members ms) (member m.0.now (tree_view m.1) no_members)
+members-one [] m = refl
+members-one (x ∷ ms) m = ap (member x.0.now (tree_view x.1)) (members-one ms m)
 
 -- those that were walked stand before those that are walked next
 abbrev pub after_items : List Data → Walked (List Data) → Walked (List Data)
@@ -74,7 +60,7 @@ after_items-one xs e (Ok p) = ap (λ (ys : List Data). Ok (ys, p.1)) (append_ass
 after_items-one xs e (Err x) = refl
 
 pub after_members-one : (ms : Members) (k : List ℕ) (e : Data) (w : Walked Members) → after_members (append ms (member k e no_members)) w ≡ after_members ms (onward w (λ es m. Ok (member k e es, m)))
-after_members-one ms k e (Ok p) = ap (λ (ys : Members). Ok (ys, p.1)) (append_one ms k e p.0)
+after_members-one ms k e (Ok p) = ap (λ (ys : Members). Ok (ys, p.1)) (append-one ms k e p.0)
 after_members-one ms k e (Err x) = refl
 
 -- a fault is the same fault of what holds the faulty part
@@ -85,18 +71,16 @@ gives_err f g TooDeep w u h k = k too_deep h
 gives_err f g TooLarge w u h k = k too_large h
 gives_err f g Memory w u h k = tt
 
-pub onward_err : {A B : Type 0} (w : Walked A) (f : A → ℕ → Walked B) (x : Broken) → w ≡ Err x → onward w f ≡ Err x
-onward_err w f x h = ap (λ r. onward r f) h
-
 -- how deep parts are
-pub item_depth : (vs : List Value) (i : ℕ) (d : Value) → i < length vs → depth (view (get_or vs i d)) ≤ items_depth (items_view vs)
+pub item_depth : (ts : List Tree) (i : ℕ) (d : Tree) → i < length ts → depth (tree_view (get_or ts i d)) ≤ items_depth (tree_items ts)
 item_depth [] i d h = absurd (omega arith)
-item_depth (v ∷ vs) zero d h = omega arith
-item_depth (v ∷ vs) (suc i) d h = let rest = item_depth vs i d (omega arith) in omega arith
+item_depth (t ∷ ts) zero d h = omega arith
+item_depth (t ∷ ts) (suc i) d h = let rest = item_depth ts i d (omega arith) in omega arith
 
-pub member_depth : (done : List Entry) (e : Entry) (more : List Entry) → depth (view e.1) ≤ members_depth (members_view (done ++ e ∷ more))
-member_depth [] e more = omega arith
-member_depth (x ∷ done) e more = let rest = member_depth done e more in omega arith
+pub member_depth : (ms : List Entry) (i : ℕ) (m : Entry) → i < length ms → depth (tree_view (get_or ms i m).1) ≤ members_depth (tree_members ms)
+member_depth [] i m h = absurd (omega arith)
+member_depth (x ∷ ms) zero m h = omega arith
+member_depth (x ∷ ms) (suc i) m h = let rest = member_depth ms i m (omega arith) in omega arith
 
 depth_or : Option Data → ℕ
 depth_or None = 0
@@ -141,6 +125,9 @@ pub at_object : (at : List ℕ → ℕ → Walked Data) (ms : Members) (left n :
 at_object at ms left n h k =
     ap (expansion at (object ms)) k ∙ ap (λ r. reference_or (λ name. at name (suc n)) r (onward (members_expansion at ms n) (λ es m. Ok (object es, m)))) h
 
+pub at_full : (at : List ℕ → ℕ → Walked Data) (ms : Members) (left : ℕ) → reference ms ≡ None → left ≡ 0 → expansion at (object ms) left ≡ Err too_large
+at_full at ms left h k = ap (expansion at (object ms)) k ∙ ap (λ r. reference_or (λ name. at name 0) r (Err too_large)) h
+
 -- the walk of one more part
 pub items_err : (at : List ℕ → ℕ → Walked Data) (d : Data) (ds : Items) (left : ℕ) (x : Broken) → expansion at d left ≡ Err x → items_expansion at (item d ds) left ≡ Err x
 items_err at d ds left x h = ap (λ r. onward r (λ e n. onward (items_expansion at ds n) (λ es m. Ok (e ∷ es, m)))) h
@@ -152,3 +139,6 @@ items_ok at d ds left e n h = ap (λ r. onward r (λ f p. onward (items_expansio
 pub members_ok : (at : List ℕ → ℕ → Walked Data) (k : List ℕ) (d : Data) (ds : Members) (left : ℕ) (e : Data) (n : ℕ) → expansion at d left ≡ Ok (e, n)
     → members_expansion at (member k d ds) left ≡ onward (members_expansion at ds n) (λ es m. Ok (member k e es, m))
 members_ok at k d ds left e n h = ap (λ r. onward r (λ f p. onward (members_expansion at ds p) (λ es m. Ok (member k f es, m)))) h
+
+pub members_err : (at : List ℕ → ℕ → Walked Data) (k : List ℕ) (d : Data) (ds : Members) (left : ℕ) (x : Broken) → expansion at d left ≡ Err x → members_expansion at (member k d ds) left ≡ Err x
+members_err at k d ds left x h = ap (λ r. onward r (λ e n. onward (members_expansion at ds n) (λ es m. Ok (member k e es, m)))) h

@@ -1,5 +1,5 @@
 pub mod Document
 pub mod Faults
+pub mod Places
 pub mod References
 pub mod Refers
-pub mod Trees

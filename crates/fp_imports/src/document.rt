@@ -1,24 +1,28 @@
 //! A flagd document as flags.
 
-ghost use Rattle.std.specs.Prelude.{◌≡◌, map, option_map, codes, true, IfOk, Ok};
+ghost use Rattle.std.specs.Prelude.{◌≡◌, None, map, option_map, codes, IfOk, IfSome};
 ghost use Rattle.std.specs.List.Sorted.{IsStrictlySortedBy};
 ghost use Rattle.std.specs.Map.{keys_of};
-ghost use Rattle.serde_json.specs.Data.{Members, object};
-ghost use Rattle.serde_json.specs.Find.{get, get_member, as_object};
-ghost use Rattle.serde_json.specs.View.{view, members_view};
+ghost use Rattle.serde_json.specs.Data.{object};
+ghost use Rattle.serde_json.specs.Find.{get_member};
+ghost use Rattle.serde_json.specs.View.{view};
 ghost use Rattle.fp_base.specs.Answer.{Gives};
+ghost use Rattle.fp_base.specs.Ordered.{IsOrdered};
+ghost use Rattle.fp_base.specs.TreeView.{tree_view, tree_members};
 ghost use Rattle.fp_definition.specs.Key.{flag_cmp, key_bytes};
-ghost use Rattle.fp_imports.specs.Document.{document as document_of, evaluators_in, flags_in};
+ghost use Rattle.fp_imports.specs.Document.{document as document_of, flags_in};
 ghost use Rattle.fp_imports.specs.Document.{flags_of as every_flag, flag_of as one_flag};
-ghost use Rattle.fp_imports.specs.Document.{flag_if_valid, flag_expansion, targeting_expansion};
+ghost use Rattle.fp_imports.specs.Document.{flag_if_valid, flag_expansion};
 ghost use Rattle.fp_imports.specs.Faults.{Tells, TellsBroken, seen_flag};
+ghost use Rattle.fp_imports.specs.Places.{IsPlaceOf};
 
 use crate::faults::{ImportFault, ReferenceFault};
-use crate::references::{expand, member_named, stands};
-use fp_base::take_from;
+use crate::references::{expand, stands};
+use fp_base::{Tree, member_in_order};
 use fp_definition::{DefFault, Definition, FlagKey, KeyFault};
-use serde_json::{Map, Value};
+use serde_json::Value;
 use std::alloc::Global;
+use std::mem;
 
 /// The flags of a flagd document, in ascending order of their keys. The references in their
 /// targeting are replaced; what the document has beside `flags` and `$evaluators` is dropped.
@@ -29,68 +33,63 @@ pub fn expand_document(
     ensures flags { Gives (λ v. map seen_flag v.items) Tells result (document_of (view document)) }
     ensures ascending { IfOk result (λ v. IsStrictlySortedBy flag_cmp (keys_of v.items)) }
 {
-    let (evaluators, flags) = split(document);
-    match (evaluators_of(alloc, evaluators), flags_of(flags)) {
-        (Some(evaluators), Some(flags)) => flags_taken(alloc, &evaluators, flags),
-        _ => Err(ImportFault::NotDocument),
+    expand_tree(alloc, Tree::of_value(alloc, &document)?)
+}
+
+/// The flags of a flagd document that was read as a tree, as `expand_document` gives them.
+pub fn expand_tree(
+    alloc: Global,
+    document: Tree<'_>,
+) -> Result<Vec<(FlagKey, Definition)>, ImportFault>
+    requires { IsOrdered (tree_view document) }
+    ensures flags { Gives (λ v. map seen_flag v.items) Tells result
+        (document_of (tree_view document.entry)) }
+    ensures ascending { IfOk result (λ v. IsStrictlySortedBy flag_cmp (keys_of v.items)) }
+{
+    let Tree::Object(mut members) = document else {
+        return Err(ImportFault::NotDocument);
+    };
+    let Some(flags) = take_flags(&mut members) else {
+        return Err(ImportFault::NotDocument);
+    };
+    match member_in_order(&members, "$evaluators") {
+        None => flags_taken(alloc, &[], flags),
+        Some(Tree::Object(evaluators)) => flags_taken(alloc, evaluators, flags),
+        Some(_) => Err(ImportFault::NotDocument),
     }
 }
 
-// `$evaluators` and `flags` of a document. Values that are no object have neither.
-fn split(document: Value) -> (Option<Value>, Option<Value>)
-    ensures evaluators { option_map view result.0 ≡ get (codes "$evaluators") (view document) }
-    ensures flags { option_map view result.1 ≡ get (codes "flags") (view document) }
+// The members of `flags`, if it is an object. Another value stands in its place then.
+fn take_flags<'a>(members: &mut Vec<(&'a str, Tree<'a>)>) -> Option<Vec<(&'a str, Tree<'a>)>>
+    requires { IsOrdered (object (tree_members members.now.items)) }
+    ensures flags { option_map (λ v. tree_members v.items) result
+        ≡ flags_in (get_member (codes "flags") (tree_members members.old.items)) }
+    ensures ordered { IfSome result (λ v. IsOrdered (object (tree_members v.items))) }
+    ensures kept { IsOrdered (object (tree_members members.new.items)) }
+    ensures others { get_member (codes "$evaluators") (tree_members members.new.items)
+        ≡ get_member (codes "$evaluators") (tree_members members.old.items) }
 {
-    match document {
-        Value::Object(mut members) => {
-            let evaluators = take_from(&mut members, "$evaluators");
-            let flags = take_from(&mut members, "flags");
-            (evaluators, flags)
-        }
-        _ => (None, None),
-    }
-}
-
-fn evaluators_of(alloc: Global, found: Option<Value>) -> Option<Map<String, Value>>
-    ensures { option_map (λ m. members_view m.entries) result
-        ≡ evaluators_in (option_map view found) }
-{
-    match found {
-        None => Some(Map::new(alloc)),
-        Some(value) => members_of(value),
-    }
-}
-
-fn flags_of(found: Option<Value>) -> Option<Map<String, Value>>
-    ensures { option_map (λ m. members_view m.entries) result ≡ flags_in (option_map view found) }
-{
-    match found {
-        None => None,
-        Some(value) => members_of(value),
-    }
-}
-
-fn members_of(value: Value) -> Option<Map<String, Value>>
-    ensures { option_map (λ m. members_view m.entries) result ≡ as_object (view value) }
-{
-    match value {
-        Value::Object(members) => Some(members),
+    let at = place_of(members, "flags")?;
+    match mem::replace(&mut members[at].1, Tree::Null) {
+        Tree::Object(flags) => Some(flags),
         _ => None,
     }
 }
 
-fn flags_taken(
+fn flags_taken<'a>(
     alloc: Global,
-    evaluators: &Map<String, Value>,
-    flags: Map<String, Value>,
+    evaluators: &[(&'a str, Tree<'a>)],
+    flags: Vec<(&'a str, Tree<'a>)>,
 ) -> Result<Vec<(FlagKey, Definition)>, ImportFault>
+    requires evaluators { IsOrdered (object (tree_members evaluators.now)) }
+    requires flags { IsOrdered (object (tree_members flags.items)) }
     ensures flags { Gives (λ v. map seen_flag v.items) Tells result
-        (every_flag (members_view evaluators.now.entries) (members_view flags.entries)) }
+        (every_flag (tree_members evaluators.now) (tree_members flags.entry.items)) }
     ensures ascending { IfOk result (λ v. IsStrictlySortedBy flag_cmp (keys_of v.items)) }
 {
     let mut found = Vec::with_capacity(alloc, flags.len())?;
     for (name, flag) in flags {
-        match flag_named(alloc, evaluators, &name, flag) {
+        match flag_named(alloc, evaluators, name, flag) {
             Ok(made) => found.push(made)?,
             Err(fault) => return Err(fault),
         }
@@ -98,14 +97,16 @@ fn flags_taken(
     Ok(found)
 }
 
-fn flag_named(
+fn flag_named<'a>(
     alloc: Global,
-    evaluators: &Map<String, Value>,
+    evaluators: &[(&'a str, Tree<'a>)],
     name: &str,
-    flag: Value,
+    flag: Tree<'a>,
 ) -> Result<(FlagKey, Definition), ImportFault>
+    requires evaluators { IsOrdered (object (tree_members evaluators.now)) }
+    requires flag { IsOrdered (tree_view flag) }
     ensures { Gives seen_flag Tells result
-        (one_flag (members_view evaluators.now.entries) name.now (view flag)) }
+        (one_flag (tree_members evaluators.now) name.now (tree_view flag.entry)) }
 {
     let key = match FlagKey::new(alloc, name) {
         Ok(key) => key,
@@ -113,7 +114,7 @@ fn flag_named(
         Err(KeyFault::Memory) => return Err(ImportFault::Memory),
     };
     match expand_flag(alloc, evaluators, flag) {
-        Ok(flag) => flag_defined(alloc, key, flag),
+        Ok(flag) => flag_defined(alloc, key, &flag),
         Err(ReferenceFault::Unknown(name)) => Err(ImportFault::RefUnknown(name)),
         Err(ReferenceFault::TooDeep) => Err(ImportFault::RefTooDeep),
         Err(ReferenceFault::TooLarge) => Err(ImportFault::Flag(key, DefFault::TooLarge)),
@@ -121,75 +122,62 @@ fn flag_named(
     }
 }
 
-// The flag of that key whose definition the value is.
-pub(crate) fn flag_defined(
+// The flag of that key whose definition the tree is.
+fn flag_defined(
     alloc: Global,
     key: FlagKey,
-    flag: Value,
+    flag: &Tree<'_>,
 ) -> Result<(FlagKey, Definition), ImportFault>
-    ensures { Gives seen_flag Tells result (flag_if_valid (key_bytes key) (view flag)) }
+    requires { IsOrdered (tree_view flag.now) }
+    ensures { Gives seen_flag Tells result (flag_if_valid (key_bytes key) (tree_view flag.now)) }
 {
-    match Definition::from_value(alloc, flag) {
+    match Definition::from_tree(alloc, flag) {
         Ok(definition) => Ok((key, definition)),
         Err(DefFault::Memory) => Err(ImportFault::Memory),
         Err(fault) => Err(ImportFault::Flag(key, fault)),
     }
 }
 
-// A flag's value with the references in its targeting replaced.
-fn expand_flag(
+// A flag with the references in its targeting replaced. All else stays where it is.
+fn expand_flag<'a>(
     alloc: Global,
-    evaluators: &Map<String, Value>,
-    flag: Value,
-) -> Result<Value, ReferenceFault>
-    ensures { Gives view TellsBroken result
-        (flag_expansion (members_view evaluators.now.entries) (view flag)) }
+    evaluators: &[(&'a str, Tree<'a>)],
+    flag: Tree<'a>,
+) -> Result<Tree<'a>, ReferenceFault>
+    requires evaluators { IsOrdered (object (tree_members evaluators.now)) }
+    requires flag { IsOrdered (tree_view flag) }
+    ensures made { Gives tree_view TellsBroken result
+        (flag_expansion (tree_members evaluators.now) (tree_view flag.entry)) }
+    ensures ordered { IfOk result (λ t. IsOrdered (tree_view t)) }
 {
     let mut members = match flag {
-        Value::Object(members) => members,
+        Tree::Object(members) => members,
         other => return Ok(other),
     };
-    if is_expanded(&members) {
-        return Ok(Value::Object(members));
+    let Some(at) = place_of(&members, "targeting") else {
+        return Ok(Tree::Object(members));
+    };
+    if stands(&members[at].1) {
+        return Ok(Tree::Object(members));
     }
-    match expand_targeting(alloc, evaluators, &members) {
-        Ok(Some(targeting)) => {
-            drop(members.insert(String::from_str(alloc, "targeting")?, targeting)?);
-            Ok(Value::Object(members))
+    match expand(alloc, evaluators, &members[at].1) {
+        Ok((targeting, _)) => {
+            members[at].1 = targeting;
+            Ok(Tree::Object(members))
         }
-        Ok(None) => Ok(Value::Object(members)),
         Err(fault) => Err(fault),
     }
 }
 
-// Whether the members of a flag stay as they are, whatever evaluators there are.
-fn is_expanded(members: &Map<String, Value>) -> bool
-    ensures { result ≡ true → (evaluators : Members)
-        → flag_expansion evaluators (object (members_view members.now.entries))
-        ≡ Ok (object (members_view members.now.entries)) }
+// Where the member of that name stands.
+fn place_of(members: &[(&str, Tree<'_>)], name: &str) -> Option<usize>
+    ensures found { IfSome result (IsPlaceOf name.now members.now) }
+    ensures none { result ≡ None → get_member name.now (tree_members members.now) ≡ None }
 {
-    // What is asked of the map tells that its members are in order.
-    let _ = members.len();
-    match member_named(members, "targeting") {
-        Some(targeting) => stands(targeting),
-        None => true,
+    for at in 0..members.len() {
+        if members[at].0 == name {
+            return Some(at);
+        }
     }
-}
-
-fn expand_targeting(
-    alloc: Global,
-    evaluators: &Map<String, Value>,
-    members: &Map<String, Value>,
-) -> Result<Option<Value>, ReferenceFault>
-    ensures { Gives (option_map view) TellsBroken result
-        (targeting_expansion (members_view evaluators.now.entries)
-        (get_member (codes "targeting") (members_view members.now.entries))) }
-{
-    match member_named(members, "targeting") {
-        Some(targeting) => match expand(alloc, evaluators, targeting) {
-            Ok((expanded, _)) => Ok(Some(expanded)),
-            Err(fault) => Err(fault),
-        },
-        None => Ok(None),
-    }
+    None
 }

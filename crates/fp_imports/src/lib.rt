@@ -2,12 +2,9 @@
 #![tactic(auto)]
 
 mod document;
-mod document_tree;
 mod faults;
 mod references;
-mod tree_references;
 
-pub use document::expand_document;
-pub use document_tree::expand_tree;
+pub use document::{expand_document, expand_tree};
 pub use faults::ImportFault;
 pub use references::{MOST_EXPANDED_VALUES, MOST_REPLACEMENTS};

@@ -1,20 +1,21 @@
 //! References in a targeting, replaced by the evaluators that they name.
 
-ghost use Rattle.std.specs.Prelude.{◌≡◌, ℕ, true, map, option_map, Ok};
-ghost use Rattle.serde_json.specs.Data.{Members};
-ghost use Rattle.serde_json.specs.Find.{get_member};
-ghost use Rattle.serde_json.specs.View.{view, items_view, members_view};
+ghost use Rattle.std.specs.Prelude.{◌≡◌, ◌+◌, ℕ, true, false, map, option_map};
+ghost use Rattle.std.specs.Prelude.{IfOk, IfSome, Ok};
+ghost use Rattle.serde_json.specs.Data.{Members, object};
 ghost use Rattle.fp_base.specs.Answer.{Gives};
+ghost use Rattle.fp_base.specs.Count.{count, items_count, members_count};
+ghost use Rattle.fp_base.specs.Ordered.{IsOrdered};
+ghost use Rattle.fp_base.specs.Sorted.{IsSorted};
+ghost use Rattle.fp_base.specs.TreeView.{tree_view, tree_items, tree_members};
 ghost use Rattle.fp_imports.specs.References.{reference as reference_of, count_one, expansion};
 ghost use Rattle.fp_imports.specs.References.{items_expansion, members_expansion, replacement};
 ghost use Rattle.fp_imports.specs.References.{whole_expansion};
-ghost use Rattle.fp_imports.specs.Refers.{refers as refers_in, items_refer as items_refer_in};
-ghost use Rattle.fp_imports.specs.Refers.{members_refer as members_refer_in};
+ghost use Rattle.fp_imports.specs.Refers.{refers, items_refer, members_refer};
 ghost use Rattle.fp_imports.specs.Faults.{TellsBroken, with_rest};
 
 use crate::faults::ReferenceFault;
-use fp_base::values_left;
-use serde_json::{Map, Value};
+use fp_base::{Tree, member_in_order};
 use std::alloc::Global;
 
 /// References that a targeting may replace inside one another.
@@ -24,13 +25,16 @@ pub const MOST_REPLACEMENTS: u32 = 8;
 pub const MOST_EXPANDED_VALUES: usize = 16_384;
 
 // A targeting with its references replaced, and how many more values it might have had.
-pub(crate) fn expand(
+pub(crate) fn expand<'a>(
     alloc: Global,
-    evaluators: &Map<String, Value>,
-    targeting: &Value,
-) -> Result<(Value, usize), ReferenceFault>
-    ensures { Gives (with_rest view) TellsBroken result
-        (whole_expansion (members_view evaluators.now.entries) (view targeting.now)) }
+    evaluators: &[(&'a str, Tree<'a>)],
+    targeting: &Tree<'a>,
+) -> Result<(Tree<'a>, usize), ReferenceFault>
+    requires evaluators { IsOrdered (object (tree_members evaluators.now)) }
+    requires targeting { IsOrdered (tree_view targeting.now) }
+    ensures made { Gives (with_rest tree_view) TellsBroken result
+        (whole_expansion (tree_members evaluators.now) (tree_view targeting.now)) }
+    ensures ordered { IfOk result (λ p. IsOrdered (tree_view p.0)) }
 {
     expand_value(
         alloc,
@@ -43,77 +47,80 @@ pub(crate) fn expand(
 
 // `more` replacements may still stand in one another, and `left` values may still be counted.
 #[cycle(expands)]
-fn expand_value(
+fn expand_value<'a>(
     alloc: Global,
-    evaluators: &Map<String, Value>,
-    value: &Value,
+    evaluators: &[(&'a str, Tree<'a>)],
+    value: &Tree<'a>,
     more: u32,
     left: usize,
-) -> Result<(Value, usize), ReferenceFault>
-    ensures { Gives (with_rest view) TellsBroken result
-        (expansion (replacement (members_view evaluators.now.entries) more) (view value.now) left) }
+) -> Result<(Tree<'a>, usize), ReferenceFault>
+    requires { IsSorted (tree_members evaluators.now) }
+    ensures { Gives (with_rest tree_view) TellsBroken result
+        (expansion (replacement (tree_members evaluators.now) more) (tree_view value.now) left) }
 {
     match value {
-        Value::Object(members) => match reference(members) {
+        Tree::Object(members) => match reference(members) {
             Some(name) => expand_reference(alloc, evaluators, name, more, left),
             None => {
                 if left == 0 {
                     return Err(ReferenceFault::TooLarge);
                 }
                 match expand_members(alloc, evaluators, members, more, left - 1) {
-                    Ok((found, rest)) => Ok((Value::Object(found), rest)),
+                    Ok((found, rest)) => Ok((Tree::Object(found), rest)),
                     Err(fault) => Err(fault),
                 }
             }
         },
-        Value::Array(items) => {
+        Tree::Array(items) => {
             if left == 0 {
                 return Err(ReferenceFault::TooLarge);
             }
             match expand_items(alloc, evaluators, items, more, left - 1) {
-                Ok((found, rest)) => Ok((Value::Array(found), rest)),
+                Ok((found, rest)) => Ok((Tree::Array(found), rest)),
                 Err(fault) => Err(fault),
             }
         }
-        Value::Null => counted_alone(Value::Null, left),
-        Value::Bool(truth) => counted_alone(Value::Bool(*truth), left),
-        Value::Number(number) => counted_alone(Value::Number(*number), left),
-        Value::String(text) => counted_alone(Value::String(text.clone()?), left),
+        Tree::Null => counted_alone(Tree::Null, left),
+        Tree::Bool(truth) => counted_alone(Tree::Bool(*truth), left),
+        Tree::Number(number) => counted_alone(Tree::Number(*number), left),
+        Tree::String(text) => counted_alone(Tree::String(*text), left),
     }
 }
 
 // What stands for a name.
 #[cycle(expands)]
-fn expand_reference(
+fn expand_reference<'a>(
     alloc: Global,
-    evaluators: &Map<String, Value>,
+    evaluators: &[(&'a str, Tree<'a>)],
     name: &str,
     more: u32,
     left: usize,
-) -> Result<(Value, usize), ReferenceFault>
-    ensures { Gives (with_rest view) TellsBroken result
-        (replacement (members_view evaluators.now.entries) more name.now left) }
+) -> Result<(Tree<'a>, usize), ReferenceFault>
+    requires { IsSorted (tree_members evaluators.now) }
+    ensures { Gives (with_rest tree_view) TellsBroken result
+        (replacement (tree_members evaluators.now) more name.now left) }
 {
     if more == 0 {
         return Err(ReferenceFault::TooDeep);
     }
-    match member_named(evaluators, name) {
+    match member_in_order(evaluators, name) {
         Some(evaluator) => expand_value(alloc, evaluators, evaluator, more - 1, left),
         None => Err(ReferenceFault::Unknown(String::from_str(alloc, name)?)),
     }
 }
 
 #[cycle(expands)]
-fn expand_items(
+fn expand_items<'a>(
     alloc: Global,
-    evaluators: &Map<String, Value>,
-    items: &Vec<Value>,
+    evaluators: &[(&'a str, Tree<'a>)],
+    items: &Vec<Tree<'a>>,
     more: u32,
     left: usize,
-) -> Result<(Vec<Value>, usize), ReferenceFault>
-    ensures { Gives (with_rest (λ v. map view v.items)) TellsBroken result
-        (items_expansion (replacement (members_view evaluators.now.entries) more)
-        (items_view items.now.items) left) }
+) -> Result<(Vec<Tree<'a>>, usize), ReferenceFault>
+    requires { IsSorted (tree_members evaluators.now) }
+    ensures { Gives (with_rest (λ v. map tree_view v.items)) TellsBroken result
+        (items_expansion (replacement (tree_members evaluators.now) more)
+        (tree_items items.now.items) left) }
 {
     let mut found = Vec::with_capacity(alloc, items.len())?;
     let mut unused = left;
@@ -130,24 +137,24 @@ fn expand_items(
 }
 
 #[cycle(expands)]
-fn expand_members(
+fn expand_members<'a>(
     alloc: Global,
-    evaluators: &Map<String, Value>,
-    members: &Map<String, Value>,
+    evaluators: &[(&'a str, Tree<'a>)],
+    members: &Vec<(&'a str, Tree<'a>)>,
     more: u32,
     left: usize,
-) -> Result<(Map<String, Value>, usize), ReferenceFault>
-    ensures { Gives (with_rest (λ m. members_view m.entries)) TellsBroken result
-        (members_expansion (replacement (members_view evaluators.now.entries) more)
-        (members_view members.now.entries) left) }
+) -> Result<(Vec<(&'a str, Tree<'a>)>, usize), ReferenceFault>
+    requires { IsSorted (tree_members evaluators.now) }
+    ensures { Gives (with_rest (λ v. tree_members v.items)) TellsBroken result
+        (members_expansion (replacement (tree_members evaluators.now) more)
+        (tree_members members.now.items) left) }
 {
-    let mut found = Map::new(alloc);
+    let mut found = Vec::with_capacity(alloc, members.len())?;
     let mut unused = left;
-    for (key, member) in members.iter() {
-        let name = key.clone()?;
-        match expand_value(alloc, evaluators, member, more, unused) {
+    for member in members {
+        match expand_value(alloc, evaluators, &member.1, more, unused) {
             Ok((made, rest)) => {
-                drop(found.insert(name, made)?);
+                found.push((member.0, made))?;
                 unused = rest;
             }
             Err(fault) => return Err(fault),
@@ -156,82 +163,85 @@ fn expand_members(
     Ok((found, unused))
 }
 
-// Whether a reference stands in a value, or is it.
-#[cycle(refers)]
-fn refers(value: &Value) -> bool
-    ensures { result ≡ refers_in (view value.now) }
-{
-    match value {
-        Value::Null | Value::Bool(_) | Value::Number(_) | Value::String(_) => false,
-        Value::Array(items) => items_refer(items),
-        Value::Object(members) => reference(members).is_some() || members_refer(members),
-    }
-}
-
-#[cycle(refers)]
-fn items_refer(items: &Vec<Value>) -> bool
-    ensures { result ≡ items_refer_in (items_view items.now.items) }
-{
-    for item in items {
-        if refers(item) {
-            return true;
-        }
-    }
-    false
-}
-
-#[cycle(refers)]
-fn members_refer(members: &Map<String, Value>) -> bool
-    ensures { result ≡ members_refer_in (members_view members.now.entries) }
-{
-    for (_key, member) in members.iter() {
-        if refers(member) {
-            return true;
-        }
-    }
-    false
-}
-
 // Whether a targeting has no references to replace, and few enough values. It is its own expansion
 // then.
-pub(crate) fn stands(targeting: &Value) -> bool
+pub(crate) fn stands(targeting: &Tree<'_>) -> bool
     ensures { result ≡ true → (evaluators : Members) → (rest : ℕ)
-        × (whole_expansion evaluators (view targeting.now) ≡ Ok (view targeting.now, rest)) }
+        × (whole_expansion evaluators (tree_view targeting.now)
+        ≡ Ok (tree_view targeting.now, rest)) }
 {
-    !refers(targeting) && values_left(targeting, MOST_EXPANDED_VALUES).is_some()
+    uncounted(targeting, MOST_EXPANDED_VALUES).is_some()
 }
 
-// A value that holds no others, if it may be counted.
-fn counted_alone(value: Value, left: usize) -> Result<(Value, usize), ReferenceFault>
-    ensures { Gives (with_rest view) TellsBroken result (count_one left (λ n. Ok (view value, n))) }
+// How many values may still be counted after those of a tree in which no reference stands.
+#[cycle(stands)]
+fn uncounted(tree: &Tree<'_>, left: usize) -> Option<usize>
+    ensures { IfSome result (λ rest. (refers (tree_view tree.now) ≡ false)
+        × (left ≡ count (tree_view tree.now) + rest)) }
+{
+    let after = left.checked_sub(1)?;
+    match tree {
+        Tree::Null | Tree::Bool(_) | Tree::Number(_) | Tree::String(_) => Some(after),
+        Tree::Array(items) => uncounted_items(items, after),
+        Tree::Object(members) => match reference(members) {
+            Some(_) => None,
+            None => uncounted_members(members, after),
+        },
+    }
+}
+
+#[cycle(stands)]
+fn uncounted_items(items: &Vec<Tree<'_>>, left: usize) -> Option<usize>
+    ensures { IfSome result (λ rest. (items_refer (tree_items items.now.items) ≡ false)
+        × (left ≡ items_count (tree_items items.now.items) + rest)) }
+{
+    let mut unused = left;
+    for item in items {
+        unused = uncounted(item, unused)?;
+    }
+    Some(unused)
+}
+
+#[cycle(stands)]
+fn uncounted_members(members: &Vec<(&str, Tree<'_>)>, left: usize) -> Option<usize>
+    ensures { IfSome result (λ rest. (members_refer (tree_members members.now.items) ≡ false)
+        × (left ≡ members_count (tree_members members.now.items) + rest)) }
+{
+    let mut unused = left;
+    for member in members {
+        unused = uncounted(&member.1, unused)?;
+    }
+    Some(unused)
+}
+
+// A tree that holds no others, if it may be counted.
+fn counted_alone<'a>(tree: Tree<'a>, left: usize) -> Result<(Tree<'a>, usize), ReferenceFault>
+    ensures { Gives (with_rest tree_view) TellsBroken result
+        (count_one left (λ n. Ok (tree_view tree.entry, n))) }
 {
     if left == 0 {
         Err(ReferenceFault::TooLarge)
     } else {
-        Ok((value, left - 1))
+        Ok((tree, left - 1))
     }
 }
 
 // The name that an object refers to, if it is a reference.
-fn reference(members: &Map<String, Value>) -> Option<&str>
-    ensures { option_map (λ s. s.now) result ≡ reference_of (members_view members.now.entries) }
+fn reference<'a>(members: &[(&str, Tree<'a>)]) -> Option<&'a str>
+    ensures { option_map (λ s. s.now) result ≡ reference_of (tree_members members.now) }
 {
-    let mut pairs = members.iter();
-    match (pairs.next(), pairs.next()) {
-        (Some((key, Value::String(name))), None) => {
-            if key.as_str() == "$ref" {
-                Some(name.as_str())
+    if members.len() != 1 {
+        return None;
+    }
+    let member = &members[0];
+    match &member.1 {
+        Tree::String(name) => {
+            if member.0 == "$ref" {
+                Some(*name)
             } else {
                 None
             }
         }
         _ => None,
     }
-}
-
-pub(crate) fn member_named<'m>(members: &'m Map<String, Value>, name: &str) -> Option<&'m Value>
-    ensures { option_map (λ v. view v.now) result
-        ≡ get_member name.now (members_view members.now.entries) }
-{
-    members.get(name)
 }

@@ -1,4 +1,3 @@
-pub mod Contexts
 pub mod Faults
 pub mod LawLemmas
 pub mod Lists

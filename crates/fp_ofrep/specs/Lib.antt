@@ -1,7 +1,6 @@
 pub mod Bodies
 pub mod Bulk
 pub mod Context
-pub mod ContextDatum
 pub mod Failures
 pub mod Laws
 pub mod Reply

@@ -6,11 +6,11 @@ ghost use Rattle.json.specs.Tree.{items_tokens, json_tokens};
 ghost use Rattle.serde_json.specs.Data.{Data as JsonData, Items};
 ghost use Rattle.serde_json.specs.Find.{as_object};
 ghost use Rattle.serde_json.specs.Written.{compact_text, items_outline, outline};
+ghost use Rattle.fp_base.specs.Ordered.{IsOrdered};
+ghost use Rattle.fp_base.specs.TreeView.{tree_view};
 ghost use Rattle.fp_base.specs.Whole.{is_whole};
 ghost use Rattle.fp_definition.specs.Key.{key_bytes};
 ghost use Rattle.fp_definition.specs.Resolving.{data_of};
-ghost use Rattle.fp_operators.specs.FromJson.{data_of as datum_of};
-ghost use Rattle.fp_operators.specs.View.{view};
 ghost use Rattle.fp_targeting.specs.RuleData.{IsOfContext};
 ghost use Rattle.fp_ofrep.specs.Bulk.{bulk_data, bulk_reply, flag_items, with_flag_item};
 ghost use Rattle.std.specs.Option.{option_copied};
@@ -18,17 +18,17 @@ ghost use Rattle.fp_ofrep.specs.Seen.{response_seen};
 ghost use Rattle.fp_ofrep.specs.Tag.{response_with_tag};
 ghost use Rattle.fp_ofrep.specs.Single.{evaluation_of};
 
-use crate::context_tree::datum_of_context;
+use crate::context::read_context;
 use crate::failure::Failure;
 use crate::reply::{Headers, Reply, failed};
 use crate::tag::{entity_tag, is_known};
 use crate::write::{write_failure, write_success};
+use fp_base::Tree;
 use fp_definition::{Definition, EvalFault, FlagKey};
 use fp_edit::FlagSet;
-use fp_operators::Datum;
 use fp_targeting::Data;
 use http::StatusCode;
-use json::Writer;
+use json::{Scratch, Writer};
 use std::alloc::{AllocError, Global};
 
 // A body is begun with room for so many bytes a flag, which suffices for a short key and value.
@@ -48,9 +48,10 @@ pub(crate) fn evaluate_bulk(
     ensures { IfOk result (λ r. response_seen r
         ≡ bulk_reply set.now (option_copied if_none_match.entry) body.now now) }
 {
-    match datum_of_context(alloc, body)? {
+    let mut scratch = Scratch::new(alloc);
+    match read_context(alloc, body, &mut scratch)? {
         Ok(context) => {
-            let text = bulk_text(alloc, set, context, now)?;
+            let text = bulk_text(alloc, set, &context, now)?;
             tagged_reply(alloc, set.revision(), if_none_match, text)
         }
         Err(failure) => failed(alloc, failure, None),
@@ -93,10 +94,18 @@ fn tagged_reply(
 }
 
 // The body for all flags.
-fn bulk_text(alloc: Global, set: &FlagSet, context: Datum, now: u64) -> Result<Vec<u8>, AllocError>
-    requires { now < 2 ^ 63 }
-    ensures { (c : JsonData) → IsSome (as_object c) → is_whole c ≡ true → view context ≡ datum_of c
-        → IfOk result (λ t. t.items ≡ compact_text (bulk_data set.now.flags c now)) }
+fn bulk_text(
+    alloc: Global,
+    set: &FlagSet,
+    context: &Tree<'_>,
+    now: u64,
+) -> Result<Vec<u8>, AllocError>
+    requires object { IsSome (as_object (tree_view context.now)) }
+    requires whole { is_whole (tree_view context.now) ≡ true }
+    requires ordered { IsOrdered (tree_view context.now) }
+    requires moment { now < 2 ^ 63 }
+    ensures { IfOk result (λ t. t.items
+        ≡ compact_text (bulk_data set.now.flags (tree_view context.now) now)) }
 {
     let room = ROOM_ROUND_FLAGS + set.len() * ROOM_FOR_A_FLAG;
     let mut out = Writer::new(Vec::with_capacity(alloc, room)?);
@@ -109,19 +118,21 @@ fn write_bulk(
     alloc: Global,
     out: &mut Writer,
     set: &FlagSet,
-    context: Datum,
+    context: &Tree<'_>,
     now: u64,
 ) -> Result<(), AllocError>
-    requires { now < 2 ^ 63 }
-    ensures tokens { OnOk result ((c : JsonData) → IsSome (as_object c) → is_whole c ≡ true
-        → view context ≡ datum_of c → out.new.tokens ≡ out.old.tokens
-        ++ json_tokens (outline (bulk_data set.now.flags c now))) }
+    requires object { IsSome (as_object (tree_view context.now)) }
+    requires whole { is_whole (tree_view context.now) ≡ true }
+    requires ordered { IsOrdered (tree_view context.now) }
+    requires moment { now < 2 ^ 63 }
+    ensures tokens { OnOk result (out.new.tokens ≡ out.old.tokens
+        ++ json_tokens (outline (bulk_data set.now.flags (tree_view context.now) now))) }
     ensures before { OnOk result (out.new.before ≡ out.old.before) }
 {
     out.begin_object()?;
     out.key("flags")?;
     out.begin_array()?;
-    let mut data = Data::of_datum(alloc, context, "", now)?;
+    let mut data = Data::of_tree(alloc, context, "", now)?;
     write_flags(alloc, out, set, &mut data)?;
     out.end_object()?;
     Ok(())

@@ -1,77 +1,108 @@
 //! The evaluation context in a request's body.
 
-ghost use Rattle.std.specs.Prelude.{◌≡◌, true, Some, IfOk, IsSome, codes};
-ghost use Rattle.serde_json.specs.Find.{as_object, get};
-ghost use Rattle.serde_json.specs.View.{view};
+ghost use Rattle.std.specs.Prelude.{◌≡◌, true, Some, IfOk, IsSome, is_some, codes, option_map};
+ghost use Rattle.serde_json.specs.Find.{as_object, get, get_member};
+ghost use Rattle.fp_base.specs.Ordered.{IsOrdered};
+ghost use Rattle.fp_base.specs.Tests.{first_failed};
+ghost use Rattle.fp_base.specs.TreeView.{tree_view, tree_members};
 ghost use Rattle.fp_base.specs.Whole.{is_whole};
 ghost use Rattle.fp_ofrep.specs.Context.{context_of, context_of_data, context_tests, no_context};
 ghost use Rattle.fp_ofrep.specs.Context.{text_or_none, unless};
 ghost use Rattle.fp_ofrep.specs.Seen.{result_map};
-ghost use Rattle.fp_base.specs.Tests.{first_failed};
 
 use crate::failure::Failure;
-use fp_base::{read_json, take_member, whole_numbers};
-use serde_json::{Map, Value};
+use fp_base::{Tree, read_tree};
+use json::Scratch;
 use std::alloc::{AllocError, Global};
 
-/// The context in a body, or its first fault.
-pub(crate) fn read_context(alloc: Global, body: &[u8]) -> Result<Result<Value, Failure>, AllocError>
-    ensures context { IfOk result (λ r. result_map view r ≡ context_of body.now) }
-    ensures object { IfOk result (λ r. IfOk r (λ v. IsSome (as_object (view v)))) }
-    ensures whole { IfOk result (λ r. IfOk r (λ v. is_whole (view v) ≡ true)) }
+/// The context in a body, or its first fault. It lends the body's texts.
+pub(crate) fn read_context<'a>(
+    alloc: Global,
+    body: &'a [u8],
+    scratch: &'a mut Scratch,
+) -> Result<Result<Tree<'a>, Failure>, AllocError>
+    ensures context { IfOk result (λ r. result_map tree_view r ≡ context_of body.now) }
+    ensures object { IfOk result (λ r. IfOk r (λ t. IsSome (as_object (tree_view t)))) }
+    ensures whole { IfOk result (λ r. IfOk r (λ t. is_whole (tree_view t) ≡ true)) }
+    ensures ordered { IfOk result (λ r. IfOk r (λ t. IsOrdered (tree_view t))) }
 {
     if body.is_empty() {
         return Ok(Ok(empty(alloc)));
     }
-    match read_json(alloc, body)? {
-        Some(value) => Ok(context_of_value(alloc, value)),
+    match read_tree(alloc, body, scratch)? {
+        Some(tree) => Ok(context_of_tree(alloc, tree)),
         None => Ok(Err(Failure::NotJson)),
     }
 }
 
-fn empty(alloc: Global) -> Value
-    ensures { view result ≡ no_context }
+fn empty<'a>(alloc: Global) -> Tree<'a>
+    ensures { tree_view result ≡ no_context }
 {
-    Value::Object(Map::new(alloc))
+    Tree::Object(Vec::new(alloc))
 }
 
-fn context_of_value(alloc: Global, body: Value) -> Result<Value, Failure>
-    ensures context { result_map view result ≡ context_of_data (Some (view body)) }
-    ensures object { IfOk result (λ v. IsSome (as_object (view v))) }
-    ensures whole { IfOk result (λ v. is_whole (view v) ≡ true) }
+fn context_of_tree<'a>(alloc: Global, body: Tree<'a>) -> Result<Tree<'a>, Failure>
+    requires { IsOrdered (tree_view body) }
+    ensures context { result_map tree_view result
+        ≡ context_of_data (Some (tree_view body.entry)) }
+    ensures object { IfOk result (λ t. IsSome (as_object (tree_view t))) }
+    ensures whole { IfOk result (λ t. is_whole (tree_view t) ≡ true) }
+    ensures ordered { IfOk result (λ t. IsOrdered (tree_view t)) }
 {
-    if !body.is_object() {
+    let Tree::Object(members) = body else {
         return Err(Failure::NotObject);
-    }
-    match take_member(body, "context") {
-        None | Some(Value::Null) => Ok(empty(alloc)),
+    };
+    match member_of(members, "context") {
+        None | Some(Tree::Null) => Ok(empty(alloc)),
         Some(context) => tested(context),
     }
 }
 
-fn tested(context: Value) -> Result<Value, Failure>
-    ensures context { result_map view result
-        ≡ unless (first_failed (context_tests (view context))) (view context) }
-    ensures object { IfOk result (λ v. IsSome (as_object (view v))) }
-    ensures whole { IfOk result (λ v. is_whole (view v) ≡ true) }
+// The member of that name, by value; the rest is dropped.
+fn member_of<'a>(members: Vec<(&'a str, Tree<'a>)>, name: &str) -> Option<Tree<'a>>
+    ensures { option_map tree_view result
+        ≡ get_member name.now (tree_members members.entry.items) }
 {
-    if !context.is_object() {
+    for (own_name, member) in members {
+        if own_name == name {
+            return Some(member);
+        }
+    }
+    None
+}
+
+fn tested<'a>(context: Tree<'a>) -> Result<Tree<'a>, Failure>
+    requires { IsOrdered (tree_view context) }
+    ensures context { result_map tree_view result
+        ≡ unless (first_failed (context_tests (tree_view context.entry)))
+        (tree_view context.entry) }
+    ensures object { IfOk result (λ t. IsSome (as_object (tree_view t))) }
+    ensures whole { IfOk result (λ t. is_whole (tree_view t) ≡ true) }
+    ensures ordered { IfOk result (λ t. IsOrdered (tree_view t)) }
+{
+    if !is_object(&context) {
         return Err(Failure::ContextNotObject);
     }
     if !has_text_or_none(&context) {
         return Err(Failure::KeyNotText);
     }
-    if !whole_numbers(&context) {
+    if !context.has_whole_numbers() {
         return Err(Failure::NotWhole);
     }
     Ok(context)
 }
 
-fn has_text_or_none(context: &Value) -> bool
-    ensures { result ≡ text_or_none (get (codes "targetingKey") (view context.now)) }
+fn is_object(tree: &Tree<'_>) -> bool
+    ensures { result ≡ is_some (as_object (tree_view tree.now)) }
+{
+    matches!(tree, Tree::Object(_))
+}
+
+fn has_text_or_none(context: &Tree<'_>) -> bool
+    ensures { result ≡ text_or_none (get (codes "targetingKey") (tree_view context.now)) }
 {
     match context.get("targetingKey") {
-        None | Some(Value::String(_)) => true,
+        None | Some(Tree::String(_)) => true,
         Some(_) => false,
     }
 }

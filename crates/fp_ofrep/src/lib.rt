@@ -3,7 +3,6 @@
 
 mod bulk;
 mod context;
-mod context_tree;
 mod failure;
 mod laws;
 mod reply;

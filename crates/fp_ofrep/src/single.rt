@@ -8,11 +8,10 @@ ghost use Rattle.fp_ofrep.specs.Response.{success_response};
 ghost use Rattle.serde_json.specs.Find.{as_object, get};
 ghost use Rattle.std.specs.Str.Lossy.{utf8_lossy};
 ghost use Rattle.fp_edit.specs.Flags.{State};
-ghost use Rattle.serde_json.specs.Data.{Data as JsonData};
-ghost use Rattle.serde_json.specs.View.{view as json_view};
+ghost use Rattle.serde_json.specs.View.{view};
+ghost use Rattle.fp_base.specs.Ordered.{IsOrdered};
+ghost use Rattle.fp_base.specs.TreeView.{tree_view};
 ghost use Rattle.fp_base.specs.Whole.{is_whole};
-ghost use Rattle.fp_operators.specs.FromJson.{data_of as datum_of};
-ghost use Rattle.fp_operators.specs.View.{view};
 ghost use Rattle.fp_ofrep.specs.Context.{context_of};
 ghost use Rattle.fp_ofrep.specs.Seen.{response_seen};
 ghost use Rattle.fp_ofrep.specs.Single.{after_body, reply_for_invalid_utf8, reply_for_decoded_key};
@@ -21,14 +20,14 @@ ghost use Rattle.fp_ofrep.specs.Single.{flag_at, reply_with_key, response_of, si
 ghost use Rattle.fp_definition.specs.Resolving.{data_of, said_by};
 
 use crate::context::read_context;
-use crate::context_tree::datum_of_context;
 use crate::failure::Failure;
 use crate::reply::{Headers, Reply, failed};
 use crate::write::success_text;
+use fp_base::Tree;
 use fp_definition::{Definition, EvalFault, FlagKey, KeyFault, Resolved};
 use fp_edit::{Flag, FlagSet};
-use fp_operators::Datum;
 use http::StatusCode;
+use json::Scratch;
 use percent_encoding::percent_decode;
 use std::alloc::{AllocError, Global};
 
@@ -79,7 +78,8 @@ fn body_failure(alloc: Global, body: &[u8]) -> Result<Failure, AllocError>
     ensures { IfOk result (λ f. (shown : List ℕ) (now : ℕ)
         → after_body shown None (context_of body.now) now ≡ Err f) }
 {
-    match read_context(alloc, body)? {
+    let mut scratch = Scratch::new(alloc);
+    match read_context(alloc, body, &mut scratch)? {
         Ok(_) => Ok(Failure::NotFound),
         Err(failure) => Ok(failure),
     }
@@ -96,8 +96,9 @@ pub(crate) fn evaluate_key(
     requires { now < 2 ^ 63 }
     ensures { IfOk result (λ r. response_seen r ≡ reply_with_key set.now text.now body.now now) }
 {
-    match datum_of_context(alloc, body)? {
-        Ok(context) => found_reply(alloc, set, text, context, now),
+    let mut scratch = Scratch::new(alloc);
+    match read_context(alloc, body, &mut scratch)? {
+        Ok(context) => found_reply(alloc, set, text, &context, now),
         Err(failure) => failed(alloc, failure, Some(text)),
     }
 }
@@ -106,13 +107,15 @@ fn found_reply(
     alloc: Global,
     set: &FlagSet,
     text: &str,
-    context: Datum,
+    context: &Tree<'_>,
     now: u64,
 ) -> Result<Reply, AllocError>
-    requires { now < 2 ^ 63 }
-    ensures { (c : JsonData) → IsSome (as_object c) → is_whole c ≡ true → view context ≡ datum_of c
-        → IfOk result (λ r. response_seen r ≡ response_of set.now.revision text.now
-        (evaluation_at text.now (flag_at set.now.flags text.now) c now)) }
+    requires object { IsSome (as_object (tree_view context.now)) }
+    requires whole { is_whole (tree_view context.now) ≡ true }
+    requires ordered { IsOrdered (tree_view context.now) }
+    requires moment { now < 2 ^ 63 }
+    ensures { IfOk result (λ r. response_seen r ≡ response_of set.now.revision text.now
+        (evaluation_at text.now (flag_at set.now.flags text.now) (tree_view context.now) now)) }
 {
     match FlagKey::new(alloc, text) {
         Ok(key) => match set.get(&key) {
@@ -136,15 +139,17 @@ fn resolved_reply(
     revision: u64,
     key: &FlagKey,
     definition: &Definition,
-    context: Datum,
+    context: &Tree<'_>,
     now: u64,
 ) -> Result<Reply, AllocError>
-    requires { now < 2 ^ 63 }
-    ensures { (c : JsonData) → IsSome (as_object c) → is_whole c ≡ true → view context ≡ datum_of c
-        → IfOk result (λ r. response_seen r ≡ response_of revision (key_bytes key.now)
-        (evaluation_of (key_bytes key.now) (data_of definition.now) c now)) }
+    requires object { IsSome (as_object (tree_view context.now)) }
+    requires whole { is_whole (tree_view context.now) ≡ true }
+    requires ordered { IsOrdered (tree_view context.now) }
+    requires moment { now < 2 ^ 63 }
+    ensures { IfOk result (λ r. response_seen r ≡ response_of revision (key_bytes key.now)
+        (evaluation_of (key_bytes key.now) (data_of definition.now) (tree_view context.now) now)) }
 {
-    match definition.resolve_datum(alloc, key, context, now) {
+    match definition.resolve_tree(alloc, key, context, now) {
         Ok(said) => said_reply(alloc, revision, key, definition, &said),
         Err(EvalFault::Disabled) => failed(alloc, Failure::FlagDisabled, Some(key.as_str())),
         Err(EvalFault::NoVariant) => failed(alloc, Failure::NamesNoVariant, Some(key.as_str())),
@@ -159,7 +164,7 @@ fn said_reply(
     definition: &Definition,
     said: &Resolved<'_>,
 ) -> Result<Reply, AllocError>
-    requires { is_whole (json_view said.now.value.now) ≡ true }
+    requires { is_whole (view said.now.value.now) ≡ true }
     ensures { IfOk result (λ r. response_seen r
         ≡ success_response revision None (compact_text (success (key_bytes key.now)
         (get (codes "metadata") (data_of definition.now)) (said_by said.now)))) }

@@ -1,6 +1,5 @@
 pub mod Contained
 pub mod Equalities
-pub mod FromTrees
 pub mod Numbers
 pub mod Numerals
 pub mod Orders

@@ -1,5 +1,5 @@
 -- A map of data beside the members that it stands for.
-use Rattle.std.proofs.Common.{◌≡◌, ℕ, List, [], ◌∷◌, ◌++◌, map, String, Global, Ordering, Less, Equal, Greater, string_bytes, string_cmp, nat_cmp, refl, ap, ◌∙◌}
+use Rattle.std.proofs.Common.{◌≡◌, ℕ, List, [], ◌∷◌, ◌++◌, map, String, Global, Ordering, Less, Equal, Greater, string_bytes, string_cmp, nat_cmp, refl, sym, ap, ◌∙◌}
 use Rattle.std.specs.Ordering.{match_ordering}
 use Rattle.std.specs.BTreeMap.{insert_entry}
 use Rattle.std.specs.Cmp.Lexicographic.{slice_cmp}
@@ -9,9 +9,11 @@ use Rattle.std.specs.List.Sorted.{IsStrictlySortedBy}
 use Rattle.std.specs.Map.{keys_of}
 use Rattle.std.proofs.lemmas.Cmp.{nat_list_cmp_total}
 use Rattle.serde_json.specs.Data as json
-use Rattle.serde_json.specs.View.{view as json_view, items_view as json_items}
-use Rattle.serde_json.specs.declared.value.Value.{Value}
-use Rattle.fp_operators.specs.Data.{item, member, put}
+use Rattle.fp_base.specs.Sorted.{IsSorted}
+use Rattle.fp_base.specs.TreeView.{tree_view, tree_items}
+use Rattle.fp_base.specs.declared.tree.Tree.{Tree}
+use Rattle.fp_base.proofs.Sorted.{AreAfter, append, append-one, append-none, put-after, all_after-append, all_after-none}
+use Rattle.fp_operators.specs.Data.{item, Members, no_members, member, put}
 use Rattle.fp_operators.specs.View.{view, items_of, members_view}
 use Rattle.fp_operators.specs.FromJson.{data_of, items_from, members_from}
 use Rattle.fp_operators.specs.declared.datum.Datum.{Datum}
@@ -40,9 +42,34 @@ members_from-put k d (json.member l e ms) =
     ∙ rw (members_from-put k d ms)
 
 -- the items of a list, one by one
-pub items_from-items_view : (vs : List Value) → items_of (map (λ v. data_of (json_view v)) vs) ≡ items_from (json_items vs)
-items_from-items_view [] = refl
-items_from-items_view (v ∷ vs) = ap (item (data_of (json_view v))) (items_from-items_view vs)
+pub items_from-tree_items : (ts : List Tree) → items_of (map (λ t. data_of (tree_view t)) ts) ≡ items_from (tree_items ts)
+items_from-tree_items [] = refl
+items_from-tree_items (t ∷ ts) = ap (item (data_of (tree_view t))) (items_from-tree_items ts)
+
+-- what a map has, where members were put into it in their order: all of them but those that are left
+pub record IsFilledTo (found : Members) (left all : json.Members) : Type 0 where
+  pub done : json.Members
+  pub is : found ≡ members_from done
+  pub split : append done left ≡ all
+  pub after : AreAfter done left
+  pub sorted : IsSorted left
+
+pub filled-none : (all : json.Members) → IsSorted all → IsFilledTo no_members all all
+filled-none all s = record { done = json.no_members; is = refl; split = refl; after = all_after-none all; sorted = s }
+
+-- one member more is put behind those that it has
+pub filled-more : (found : Members) (k : List ℕ) (d : json.Data) (left all : json.Members) → IsFilledTo found (json.member k d left) all
+    → IsFilledTo (put k (data_of d) found) left all
+filled-more found k d left all f = record {
+  done = append f.done (json.member k d json.no_members);
+  is = ap (put k (data_of d)) f.is ∙ sym (members_from-put k d f.done) ∙ ap members_from (put-after k d f.done f.after.0);
+  split = append-one f.done k d left ∙ f.split;
+  after = all_after-append f.done left k d f.after.1 f.sorted.0;
+  sorted = f.sorted.1;
+}
+
+pub filled-whole : (found : Members) (all : json.Members) → IsFilledTo found json.no_members all → found ≡ members_from all
+filled-whole found all f = f.is ∙ ap members_from (sym (append-none f.done) ∙ f.split)
 
 below_middle : (first : Entry) (es : List Entry) (e : Entry) (more : List Entry) → AllByRecursion (λ y. string_cmp first.0 y ≡ Less) (keys_of (es ++ e ∷ more)) → string_cmp first.0 e.0 ≡ Less
 below_middle first [] e more h = h.0

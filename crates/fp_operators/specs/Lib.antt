@@ -1,7 +1,6 @@
 pub mod Data
 pub mod View
 pub mod FromJson
-pub mod FromTree
 pub mod Truth
 pub mod Numeral
 pub mod Equality

@@ -1,17 +1,15 @@
 //! The data that rules compute with.
 
-ghost use Rattle.std.specs.Prelude.{◌≡◌, IfOk, IfSome};
-ghost use Rattle.json.specs.Value.{value_view, items_view as tree_items};
-ghost use Rattle.json.specs.Value.{members_view as tree_members};
-ghost use Rattle.serde_json.specs.View.{view as json_view, items_view as json_items};
-ghost use Rattle.serde_json.specs.View.{members_view as json_members};
+ghost use Rattle.std.specs.Prelude.{◌≡◌, IfOk};
+ghost use Rattle.fp_base.specs.Ordered.{IsOrdered, AreOrdered, MembersAreOrdered};
+ghost use Rattle.fp_base.specs.Sorted.{IsSorted};
+ghost use Rattle.fp_base.specs.TreeView.{tree_view, tree_items, tree_members};
+ghost use Rattle.serde_json.specs.View.{view as json_view};
 ghost use Rattle.fp_operators.specs.View.{view, items_view, members_view};
 ghost use Rattle.fp_operators.specs.FromJson.{data_of, items_from, members_from};
-ghost use Rattle.fp_operators.specs.FromTree.{IsDatumOf, AreItemsOf, AreMembersOf};
 
-use fp_base::whole_number;
-use json::Value as Tree;
-use serde_json::{Map, Value};
+use fp_base::Tree;
+use serde_json::Value;
 use std::alloc::{AllocError, Global};
 use std::collections::BTreeMap;
 
@@ -32,44 +30,30 @@ pub enum Datum {
 impl Datum {
     /// The datum that a JSON value writes. A number that isn't whole becomes null, so callers
     /// refuse such a value.
-    #[cycle(from_value)]
     pub fn from_value(alloc: Global, value: &Value) -> Result<Datum, AllocError>
         ensures { IfOk result (λ d. view d ≡ data_of (json_view value.now)) }
     {
-        match value {
-            Value::Null => Ok(Datum::Null),
-            Value::Bool(b) => Ok(Datum::Bool(*b)),
-            Value::Number(n) => match n.as_i64() {
+        let tree = Tree::of_value(alloc, value)?;
+        Datum::from_tree(alloc, &tree)
+    }
+
+    /// The datum that a tree of JSON writes. A number that isn't whole becomes null, so callers
+    /// refuse such a tree.
+    #[cycle(from_tree)]
+    pub fn from_tree(alloc: Global, tree: &Tree<'_>) -> Result<Datum, AllocError>
+        requires { IsOrdered (tree_view tree.now) }
+        ensures { IfOk result (λ d. view d ≡ data_of (tree_view tree.now)) }
+    {
+        match tree {
+            Tree::Null => Ok(Datum::Null),
+            Tree::Bool(b) => Ok(Datum::Bool(*b)),
+            Tree::Number(n) => match n.as_i64() {
                 Some(z) => Ok(Datum::Whole(z)),
                 None => Ok(Datum::Null),
             },
-            Value::String(s) => Ok(Datum::Text(s.clone()?)),
-            Value::Array(items) => Ok(Datum::List(from_items(alloc, items)?)),
-            Value::Object(members) => Ok(Datum::Object(from_members(alloc, members)?)),
-        }
-    }
-
-    /// The datum that a tree of JSON writes, or `None` where a number in it isn't whole.
-    #[cycle(from_tree)]
-    pub fn from_tree(alloc: Global, tree: &Tree<'_>) -> Result<Option<Datum>, AllocError>
-        ensures { IfOk result (λ o. IfSome o (IsDatumOf (value_view tree.now))) }
-    {
-        match tree {
-            Tree::Null => Ok(Some(Datum::Null)),
-            Tree::Bool(b) => Ok(Some(Datum::Bool(*b))),
-            Tree::Number(text) => match whole_number(text) {
-                Some(number) => Ok(Some(Datum::Whole(number))),
-                None => Ok(None),
-            },
-            Tree::String(text) => Ok(Some(Datum::Text(String::from_str(alloc, text)?))),
-            Tree::Array(items) => match items_from_tree(alloc, items)? {
-                Some(items) => Ok(Some(Datum::List(items))),
-                None => Ok(None),
-            },
-            Tree::Object(members) => match members_from_tree(alloc, members)? {
-                Some(members) => Ok(Some(Datum::Object(members))),
-                None => Ok(None),
-            },
+            Tree::String(s) => Ok(Datum::Text(String::from_str(alloc, s)?)),
+            Tree::Array(items) => Ok(Datum::List(from_items(alloc, items)?)),
+            Tree::Object(members) => Ok(Datum::Object(from_members(alloc, members)?)),
         }
     }
 
@@ -89,65 +73,34 @@ impl Datum {
     }
 }
 
-#[cycle(from_value)]
-fn from_items(alloc: Global, items: &Vec<Value>) -> Result<Vec<Datum>, AllocError>
-    ensures { IfOk result (λ v. items_view v.items ≡ items_from (json_items items.now.items)) }
+#[cycle(from_tree)]
+fn from_items(alloc: Global, items: &Vec<Tree<'_>>) -> Result<Vec<Datum>, AllocError>
+    requires { AreOrdered (tree_items items.now.items) }
+    ensures { IfOk result (λ v. items_view v.items ≡ items_from (tree_items items.now.items)) }
 {
     let mut found = Vec::with_capacity(alloc, items.len())?;
     for item in items {
-        found.push(Datum::from_value(alloc, item)?)?;
+        found.push(Datum::from_tree(alloc, item)?)?;
     }
     Ok(found)
 }
 
-#[cycle(from_value)]
+#[cycle(from_tree)]
 fn from_members(
     alloc: Global,
-    members: &Map<String, Value>,
-) -> Result<BTreeMap<String, Datum>, AllocError>
-    ensures { IfOk result
-        (λ m. members_view m.entries ≡ members_from (json_members members.now.entries)) }
-{
-    let mut found = BTreeMap::new(alloc);
-    for (key, member) in members.iter() {
-        let name = key.clone()?;
-        drop(found.insert(name, Datum::from_value(alloc, member)?)?);
-    }
-    Ok(found)
-}
-
-#[cycle(from_tree)]
-fn items_from_tree(alloc: Global, items: &Vec<Tree<'_>>) -> Result<Option<Vec<Datum>>, AllocError>
-    ensures { IfOk result (λ o. IfSome o (λ found.
-        AreItemsOf (tree_items items.now.items) found.items)) }
-{
-    let mut found = Vec::with_capacity(alloc, items.len())?;
-    for item in items {
-        let Some(datum) = Datum::from_tree(alloc, item)? else {
-            return Ok(None);
-        };
-        found.push(datum)?;
-    }
-    Ok(Some(found))
-}
-
-#[cycle(from_tree)]
-fn members_from_tree(
-    alloc: Global,
     members: &Vec<(&str, Tree<'_>)>,
-) -> Result<Option<BTreeMap<String, Datum>>, AllocError>
-    ensures { IfOk result (λ o. IfSome o (λ found.
-        AreMembersOf (tree_members members.now.items) found.entries)) }
+) -> Result<BTreeMap<String, Datum>, AllocError>
+    requires sorted { IsSorted (tree_members members.now.items) }
+    requires ordered { MembersAreOrdered (tree_members members.now.items) }
+    ensures { IfOk result
+        (λ m. members_view m.entries ≡ members_from (tree_members members.now.items)) }
 {
     let mut found = BTreeMap::new(alloc);
     for member in members {
-        let Some(datum) = Datum::from_tree(alloc, &member.1)? else {
-            return Ok(None);
-        };
         let name = String::from_str(alloc, member.0)?;
-        drop(found.insert(name, datum)?);
+        drop(found.insert(name, Datum::from_tree(alloc, &member.1)?)?);
     }
-    Ok(Some(found))
+    Ok(found)
 }
 
 #[cycle(copy)]

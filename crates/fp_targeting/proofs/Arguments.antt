@@ -10,5 +10,3 @@ rule_of-operator k (number n) = refl
 rule_of-operator k (string s) = refl
 rule_of-operator k (array ds) = refl
 rule_of-operator k (object ms) = refl
-
-pub ruleset operators = (rule_of-operator)

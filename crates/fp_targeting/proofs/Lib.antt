@@ -1,10 +1,9 @@
 pub mod Arguments
 pub mod OneResult
+pub mod Trees
 pub mod Turning
 pub mod WellFormed
 pub mod Counts
 pub mod MeaningLaws
 pub mod Members
 pub mod Constants
-pub mod Parts
-pub mod TreeCounts

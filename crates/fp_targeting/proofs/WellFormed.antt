@@ -1,5 +1,5 @@
 -- Rules whose operators have as many arguments as they take, put together from such parts.
-use Rattle.std.proofs.Common.{◌≡◌, ℕ, Vec, Global, map, rules, List, [], ◌∷◌, ◌++◌, length, Bool, true, false, ◌&&◌, Option, Some, None, option_map, option_and_then, refl, sym, ap, ◌∙◌, arith, if◌then◌else◌}
+use Rattle.std.proofs.Common.{◌≡◌, ℕ, Vec, Global, map, rules, List, [], ◌∷◌, ◌++◌, length, Bool, true, false, ◌&&◌, Option, Some, None, option_and_then, refl, sym, ap, ◌∙◌, arith, if◌then◌else◌}
 use Rattle.std.proofs.lemmas.List.{length-map}
 use Rattle.fp_targeting.specs.Rule as tree
 use Rattle.fp_targeting.specs.Rule.{Rule}
@@ -13,14 +13,6 @@ use Rattle.fp_targeting.specs.declared.tree.Tree.TheVariants.{Apply}
 pub count_of-rules_of : (rs : List Rule) → count_of (rules_of rs) ≡ length rs
 count_of-rules_of [] = refl
 count_of-rules_of (r ∷ rs) = let i = count_of-rules_of rs in omega arith
-
-list_if : (b : Bool) (rs : List Rule) → option_map (λ ys. tree.list (rules_of ys)) (if b then Some rs else None) ≡ (if b then Some (tree.list (rules_of rs)) else None)
-list_if true rs = refl
-list_if false rs = refl
-
--- a list
-pub counts_fit-list : (rs : List Rule) → option_map (λ ys. tree.list (rules_of ys)) (where_all_counts_fit rs) ≡ where_counts_fit (tree.list (rules_of rs))
-counts_fit-list rs = list_if (all_well_formed (rules_of rs)) rs
 
 apply_if : (t b : Bool) (o : Operator) (rs : List Rule) → takes o (length rs) ≡ t
     → option_and_then (λ ys. if takes o (length ys) then Some (tree.apply o (rules_of ys)) else None) (if b then Some rs else None)

@@ -5,11 +5,8 @@ pub mod View
 pub mod Compile
 pub mod Answer
 pub mod Means
-pub mod Written
 pub mod Meaning
 pub mod Found
 pub mod RuleData
 pub mod Codes
 pub mod Laws
-pub mod Parts
-pub mod TreeCount

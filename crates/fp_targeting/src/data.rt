@@ -1,15 +1,17 @@
 //! The data that a rule is evaluated on.
 
 ghost use Rattle.std.specs.Prelude.{◌≡◌, ◌<◌, ◌^◌, ℕ, List, true, IfOk, IsSome, OnOk, OnErr, codes};
-ghost use Rattle.serde_json.specs.Data.{Data as JsonData};
 ghost use Rattle.serde_json.specs.Find.{as_object};
 ghost use Rattle.serde_json.specs.View.{view as json_view};
+ghost use Rattle.fp_base.specs.Ordered.{IsOrdered};
+ghost use Rattle.fp_base.specs.TreeView.{tree_view};
 ghost use Rattle.fp_base.specs.Whole.{is_whole};
 ghost use Rattle.fp_operators.specs.Data.{Data as Fact, Members, object, put, text};
 ghost use Rattle.fp_operators.specs.FromJson.{data_of};
 ghost use Rattle.fp_operators.specs.View.{view, members_view};
 ghost use Rattle.fp_targeting.specs.RuleData.{TurnsTo, rule_data, flag_data, with_member};
 
+use fp_base::Tree;
 use fp_operators::Datum;
 use serde_json::Value;
 use std::alloc::{AllocError, Global};
@@ -44,24 +46,25 @@ impl Data {
         requires moment { now < 2 ^ 63 }
         ensures { IfOk result (λ d. d ≡ rule_data (json_view context.now) flag_key.now now) }
     {
-        let flag = flag_datum(alloc, flag_key, now)?;
-        let datum = with(alloc, Datum::from_value(alloc, context)?, "$flagd", flag)?;
-        Ok(Data { datum })
+        let tree = Tree::of_value(alloc, context)?;
+        Data::of_tree(alloc, &tree, flag_key, now)
     }
 
-    /// The same of a context that is given away as a datum.
-    pub fn of_datum(
+    /// The same of a tree.
+    pub fn of_tree(
         alloc: Global,
-        context: Datum,
+        context: &Tree<'_>,
         flag_key: &str,
         now: u64,
     ) -> Result<Data, AllocError>
-        requires { now < 2 ^ 63 }
-        ensures { IfOk result (λ d. (c : JsonData) → IsSome (as_object c) → is_whole c ≡ true
-            → view context ≡ data_of c → d ≡ rule_data c flag_key.now now) }
+        requires object { IsSome (as_object (tree_view context.now)) }
+        requires whole { is_whole (tree_view context.now) ≡ true }
+        requires ordered { IsOrdered (tree_view context.now) }
+        requires moment { now < 2 ^ 63 }
+        ensures { IfOk result (λ d. d ≡ rule_data (tree_view context.now) flag_key.now now) }
     {
         let flag = flag_datum(alloc, flag_key, now)?;
-        let datum = with(alloc, context, "$flagd", flag)?;
+        let datum = with(alloc, Datum::from_tree(alloc, context)?, "$flagd", flag)?;
         Ok(Data { datum })
     }
 

@@ -4,8 +4,6 @@
 mod build;
 mod data;
 mod evaluate;
-mod json_count;
-mod json_tree;
 pub mod laws;
 mod operator;
 mod rule;

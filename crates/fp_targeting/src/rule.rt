@@ -1,24 +1,24 @@
 //! Compiled rules.
 
-ghost use Rattle.std.specs.Prelude.{◌≡◌, ◌≤◌, ◌↔◌, IfOk, IfSome};
-ghost use Rattle.json.specs.Value.{value_view};
+ghost use Rattle.std.specs.Prelude.{◌≡◌, ◌≤◌, ◌↔◌, true, IfOk};
+ghost use Rattle.serde_json.specs.Data.{depth};
 ghost use Rattle.serde_json.specs.View.{view as json_view};
 ghost use Rattle.fp_operators.specs.View.{view};
 ghost use Rattle.fp_targeting.specs.Compile.{verdict};
 ghost use Rattle.fp_base.specs.Answer.{Gives};
+ghost use Rattle.fp_base.specs.Ordered.{IsOrdered};
+ghost use Rattle.fp_base.specs.TreeView.{tree_view};
+ghost use Rattle.fp_base.specs.Whole.{is_whole};
 ghost use Rattle.fp_targeting.specs.Answer.{Tells};
 ghost use Rattle.fp_operators.specs.Data as values;
 ghost use Rattle.fp_targeting.specs.Means.{Means};
-ghost use Rattle.fp_targeting.specs.Written.{WritesRule};
 ghost use Rattle.fp_targeting.specs.Meaning.{meaning};
 
 use crate::build::build;
 use crate::data::Data;
 use crate::evaluate::evaluate;
-use crate::json_count::tree_values_left;
-use crate::json_tree::operator_at;
 use crate::tree::{Tree, counts_fit};
-use fp_base::{nests_within, values_left, whole_numbers};
+use fp_base::{Tree as Json, nests_within};
 use fp_operators::Datum;
 use serde_json::Value;
 use std::alloc::{AllocError, AllocFailed, Global};
@@ -95,38 +95,30 @@ impl Rule {
         if !nests_within(value, DEEPEST_RULE) {
             return Err(RuleFault::TooDeep);
         }
-        // Operators are looked up while the tree is made, and a name that is none's comes before
-        // all that is wrong with numbers.
-        let tree = build(alloc, value)?;
-        if values_left(value, MOST_RULE_VALUES).is_none()
-            || !whole_numbers(value)
-            || !counts_fit(&tree)
-        {
+        let json = Json::of_value(alloc, value)?;
+        if !json.has_whole_numbers() {
+            // A name that is no operator's comes before all that is wrong with numbers.
+            drop(build(alloc, &json)?);
             return Err(RuleFault::BadRule);
         }
-        Ok(Rule { tree })
+        Rule::from_tree(alloc, &json)
     }
 
-    /// The rule that a tree of JSON writes, which nests at most `limit` deep. `None` says nothing
-    /// of the tree: `compile` says what its value is.
-    pub fn from_tree(
-        alloc: Global,
-        tree: &json::Value<'_>,
-        limit: u32,
-    ) -> Result<Option<Rule>, AllocError>
-        requires { limit ≤ DEEPEST_RULE }
-        ensures { IfOk result (λ o. IfSome o (WritesRule limit (value_view tree.now))) }
+    /// The rule that a tree of JSON writes, whose numbers are whole and which nests within the
+    /// limit. Neither is tested again.
+    pub fn from_tree(alloc: Global, tree: &Json<'_>) -> Result<Rule, RuleFault>
+        requires whole { is_whole (tree_view tree.now) ≡ true }
+        requires flat { depth (tree_view tree.now) ≤ DEEPEST_RULE }
+        requires ordered { IsOrdered (tree_view tree.now) }
+        ensures { Gives (λ rule. rule) Tells result (verdict (tree_view tree.now)) }
     {
-        let json::Value::Object(members) = tree else {
-            return Ok(None);
-        };
-        if tree_values_left(tree, MOST_RULE_VALUES).is_none() {
-            return Ok(None);
+        // Operators are looked up while the rule is made, and a name that is none's comes before
+        // all that is counted.
+        let rule = build(alloc, tree)?;
+        if tree.values_left(MOST_RULE_VALUES).is_none() || !counts_fit(&rule) {
+            return Err(RuleFault::BadRule);
         }
-        match operator_at(alloc, members, limit)? {
-            Some(tree) => Ok(Some(Rule { tree })),
-            None => Ok(None),
-        }
+        Ok(Rule { tree: rule })
     }
 
     /// What the rule gives for the data.

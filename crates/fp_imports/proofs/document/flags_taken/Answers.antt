@@ -1,44 +1,54 @@
-use Rattle.std.proofs.Common.{◌≡◌, [], ◌∷◌, ◌++◌, map, Ok, string_bytes, sym, ap, ◌∙◌, subst, append_assoc, append-nil, rules}
-use Rattle.std.proofs.lemmas.List.{map-append}
+use Rattle.std.proofs.Common.{◌≡◌, [], ◌∷◌, ◌++◌, length, map, Ok, sym, ap, ◌∙◌, subst, append_assoc, append-nil, arith}
+use Rattle.std.proofs.lemmas.List.{drop_all, map-append}
 use Rattle.std.specs.Map.{keys_of}
-use Rattle.serde_json.specs.View.{view, members_view}
-use Rattle.serde_json.proofs.Views.{Entry}
+use Rattle.std.specs.Vec.Iter.{into_iter_items}
+use Rattle.fp_base.specs.Answer.{Gives}
+use Rattle.fp_base.specs.Ordered.{MembersAreOrdered}
+use Rattle.fp_base.specs.TreeView.{Entry, tree_view, tree_members}
 use Rattle.fp_definition.specs.Key.{key_bytes}
 use Rattle.fp_imports.specs.Document.{flag_of, flags_of}
-use Rattle.fp_base.specs.Answer.{Gives}
 use Rattle.fp_imports.specs.Faults.{Tells, seen_flag}
-use Rattle.fp_imports.proofs.Flags.{after_flags, after_flags-one, flags-ok, keys-one, flag-named, names-keys, ascending_keys}
-use Rattle.fp_imports.proofs.Walks.{names, names-view_one}
+use Rattle.fp_imports.proofs.Flags.{after_flags, after_flags-one, flags-ok, keys-one, flag-named, ascending_keys}
+use Rattle.fp_imports.proofs.Walks.{names, names-one}
 use Rattle.fp_imports.proofs.document.flags_taken.Goals as goal
 
 pub loop-name-preserved : goal.loop-name-preserved
 loop-name-preserved c =
-    let evaluators = members_view c.args.evaluators.now.entries in
+    let evaluators = tree_members c.args.evaluators.now in
     let l = c.loop-name in
     let done = l.invariant.0 in
     let e : Entry = (c.in-Some.name, c.in-Some.flag) in
-    let left = c.next.new.self in
-    let k = string_bytes e.0 in
+    let left = into_iter_items c.next.new.self in
+    let k = e.0.now in
+    let d = tree_view e.1 in
     let f = seen_flag c.in-Ok.made in
-    let others = flags_of evaluators (members_view left) in
-    let all : c.args.flags.entries ≡ done ++ e ∷ left = l.invariant.1 ∙ ap (λ es. done ++ es) c.in-Some.ensures.steps in
-    let one : flag_of evaluators k (view e.1) ≡ Ok f =
-    subst (λ n. flag_of evaluators n (view e.1) ≡ Ok f) c.deref.ensures (subst (λ r. Gives seen_flag Tells r (flag_of evaluators c.deref.result.now (view e.1))) c.in-Ok.is c.flag_named.ensures) in
+    let others = flags_of evaluators (tree_members left) in
+    let steps = c.in-Some.ensures.steps in
+    let here : into_iter_items l.name-iterator ≡ e ∷ left = steps.0 in
+    let gone = steps.1 in
+    let short = ap length here in
+    let was = l.invariant.1 in
+    let can = subst (λ es. MembersAreOrdered (tree_members es)) here l.invariant.4 in
+    let one : flag_of evaluators k d ≡ Ok f = subst (λ r. Gives seen_flag Tells r (flag_of evaluators k d)) c.in-Ok.is c.flag_named.ensures in
     let items = c.in_ok-push-in-Ok.ensures.items in (
       done ++ e ∷ [],
-      all ∙ sym (append_assoc done (e ∷ []) left),
+      omega arith,
+      l.invariant.2 ∙ ap (λ es. done ++ es) here ∙ sym (append_assoc done (e ∷ []) left),
       ap (λ fs. map key_bytes (keys_of fs)) items ∙ keys-one l.found.items c.in-Ok.made
-          ∙ ap (λ ns. ns ++ f.0 ∷ []) l.invariant.2 ∙ ap (λ n. names (members_view done) ++ n ∷ []) (flag-named evaluators k (view e.1) f one) ∙ sym (names-view_one done e),
+          ∙ ap (λ ns. ns ++ f.0 ∷ []) l.invariant.3 ∙ ap (λ n. names (tree_members done) ++ n ∷ []) (flag-named evaluators k d f one) ∙ sym (names-one done e),
+      can.1,
       ap (λ fs. after_flags fs others) (ap (map seen_flag) items ∙ map-append seen_flag l.found.items (c.in-Ok.made ∷ []))
           ∙ after_flags-one (map seen_flag l.found.items) f others
-          ∙ ap (after_flags (map seen_flag l.found.items)) (sym (ap (λ es. flags_of evaluators (members_view es)) c.in-Some.ensures.steps ∙ flags-ok evaluators k (view e.1) (members_view left) f one))
-          ∙ l.invariant.3,
+          ∙ ap (after_flags (map seen_flag l.found.items)) (sym (ap (λ es. flags_of evaluators (tree_members es)) here ∙ flags-ok evaluators k d (tree_members left) f one))
+          ∙ l.invariant.5,
     )
 
 pub returns-clause-ascending : goal.returns-clause-ascending
 returns-clause-ascending c =
     let l = c.loop-name in
     let done = l.invariant.0 in
-    let over : l.name-iterator ≡ [] = search rules in
-    let all : c.args.flags.entries ≡ done = l.invariant.1 ∙ ap (λ es. done ++ es) over ∙ append-nil done in
-    ascending_keys string_bytes (keys_of l.found.items) (keys_of c.args.flags.entries) (l.invariant.2 ∙ ap (λ es. names (members_view es)) (sym all) ∙ names-keys c.args.flags.entries) c.into_iter-name-iterator.ensures.into_iter_gives.5
+    let none = c.in-None.ensures.steps.0 in
+    let was = l.invariant.1 in
+    let over : into_iter_items l.name-iterator ≡ [] = drop_all 0 (into_iter_items l.name-iterator) (omega arith) in
+    let all : c.args.flags.items ≡ done = l.invariant.2 ∙ ap (λ es. done ++ es) over ∙ append-nil done in
+    ascending_keys (keys_of l.found.items) (tree_members c.args.flags.items) (l.invariant.3 ∙ ap (λ es. names (tree_members es)) (sym all)) c.requires.flags.0

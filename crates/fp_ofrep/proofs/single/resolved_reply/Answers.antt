@@ -1,4 +1,5 @@
 use Rattle.std.proofs.Common.{IfOk, Some, subst, sym, ◌≡◌}
+use Rattle.fp_base.specs.TreeView.{tree_view}
 use Rattle.fp_definition.specs.Key.{key_bytes}
 use Rattle.fp_definition.specs.Outcome.{outcome_of}
 use Rattle.fp_definition.specs.Resolving.{data_of}
@@ -10,21 +11,21 @@ use Rattle.fp_ofrep.proofs.Faults.{disabled, no_variant}
 use Rattle.fp_ofrep.proofs.single.resolved_reply.Goals as goal
 
 pub returns-in-Ok : goal.returns-in-Ok
-returns-in-Ok c = λ context members whole same.
+returns-in-Ok c =
     let key = key_bytes c.args.key.now in let d = data_of c.args.definition.now in
     subst (λ o. IfOk c.said_reply.result (λ r. response_seen r ≡ response_of c.args.revision key (value_or_failure key d o)))
-    (sym (c.in-Ok.ensures.computed context members whole same)) c.said_reply.ensures
+    (sym c.in-Ok.ensures.computed) c.said_reply.ensures
 
 pub returns-in-Err-Disabled : goal.returns-in-Err-Disabled
-returns-in-Err-Disabled c = λ context members whole same.
+returns-in-Err-Disabled c =
     let key = key_bytes c.args.key.now in let d = data_of c.args.definition.now in
     subst (λ o. IfOk c.failed.result (λ r. response_seen r ≡ response_of c.args.revision key (value_or_failure key d o)))
-    (sym (disabled (outcome_of d key context c.args.now) _ c.in-Err-Disabled.field-0-is (c.in-Err-Disabled.ensures.computed context members whole same)))
+    (sym (disabled (outcome_of d key (tree_view c.args.context.now) c.args.now) _ c.in-Err-Disabled.field-0-is c.in-Err-Disabled.ensures.computed))
     (subst (λ k. IfOk c.failed.result (λ r. response_seen r ≡ failure_response FlagDisabled (Some k))) c.as_str.ensures c.failed.ensures)
 
 pub returns-in-Err-NoVariant : goal.returns-in-Err-NoVariant
-returns-in-Err-NoVariant c = λ context members whole same.
+returns-in-Err-NoVariant c =
     let key = key_bytes c.args.key.now in let d = data_of c.args.definition.now in
     subst (λ o. IfOk c.failed-in-Err-NoVariant.result (λ r. response_seen r ≡ response_of c.args.revision key (value_or_failure key d o)))
-    (sym (no_variant (outcome_of d key context c.args.now) _ c.in-Err-NoVariant.field-0-is (c.in-Err-NoVariant.ensures.computed context members whole same)))
+    (sym (no_variant (outcome_of d key (tree_view c.args.context.now) c.args.now) _ c.in-Err-NoVariant.field-0-is c.in-Err-NoVariant.ensures.computed))
     (subst (λ k. IfOk c.failed-in-Err-NoVariant.result (λ r. response_seen r ≡ failure_response NamesNoVariant (Some k))) c.as_str-in-Err-NoVariant.ensures c.failed-in-Err-NoVariant.ensures)

@@ -1,19 +1,19 @@
-use Rattle.std.proofs.Common.{◌≡◌, true, take, drop}
-use Rattle.json.specs.Value.{members_view as tree_members}
-use Rattle.serde_json.specs.Data.{Members, no_members}
-use Rattle.serde_json.specs.Read.{of_members}
-use Rattle.fp_base.specs.Whole.{members_whole}
-use Rattle.fp_base.proofs.Pairs.{Pairwise}
-use Rattle.fp_operators.specs.FromJson.{members_from}
-use Rattle.fp_operators.specs.View.{members_view}
-use Rattle.fp_operators.proofs.FromTrees.{Writes}
+use Rattle.std.proofs.Common.{◌≡◌, take, drop, map}
+use Rattle.fp_base.specs.Ordered.{AreOrdered, MembersAreOrdered}
+use Rattle.fp_base.specs.TreeView.{tree_view, tree_items, tree_members}
+use Rattle.fp_operators.specs.View.{view, members_view}
+use Rattle.fp_operators.specs.FromJson.{data_of}
+use Rattle.fp_operators.proofs.Views.{IsFilledTo}
 use Rattle.fp_operators.proofs.datum.+from_tree.Given as goal
 
-abbrev pub invariant-items_from_tree-loop-item : goal.invariant-items_from_tree-loop-item
-invariant-items_from_tree-loop-item l = Pairwise Writes (take l.item-index l.item-items) l.found.items
+-- what is found is the data of the items before this one, and what is left is ordered
+abbrev pub invariant-from_items-loop-item : goal.invariant-from_items-loop-item
+invariant-from_items-loop-item l =
+    (map view l.found.items ≡ map (λ t. data_of (tree_view t)) (take l.item-index l.item-items))
+    × AreOrdered (tree_items (drop l.item-index l.item-items))
 
--- what is left, behind what was written, is all
-abbrev pub invariant-members_from_tree-loop-member : goal.invariant-members_from_tree-loop-member
-invariant-members_from_tree-loop-member l =
-    (written : Members) × (of_members (tree_members (drop l.member-index l.member-items)) written ≡ of_members (tree_members l.member-items) no_members)
-    × (members_whole written ≡ true) × (members_view l.found.entries ≡ members_from written)
+-- the map has what is before this member, and what is left goes behind it and is ordered
+abbrev pub invariant-from_members-loop-member : goal.invariant-from_members-loop-member
+invariant-from_members-loop-member l =
+    IsFilledTo (members_view l.found.entries) (tree_members (drop l.member-index l.member-items)) (tree_members l.member-items)
+    × MembersAreOrdered (tree_members (drop l.member-index l.member-items))

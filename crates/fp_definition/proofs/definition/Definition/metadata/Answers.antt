@@ -1,8 +1,7 @@
 use Rattle.std.proofs.Common.{ap, ◌∙◌, option_map, codes}
 use Rattle.serde_json.specs.View.{view}
 use Rattle.fp_definition.specs.Resolving.{data_of}
-use Rattle.fp_definition.proofs.Metadata.{member_whole}
-use Rattle.fp_definition.proofs.Parts.{copied-view}
+use Rattle.fp_definition.proofs.Metadata.{copied-view, member_whole}
 use Rattle.fp_definition.proofs.definition.Definition.metadata.Goals as goal
 
 pub returns-clause-whole : goal.returns-clause-whole

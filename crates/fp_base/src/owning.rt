@@ -1,0 +1,122 @@
+//! From a tree to a value that owns its texts, and from a value to a tree that borrows them.
+
+ghost use Rattle.std.specs.Prelude.{◌≡◌, IfOk};
+ghost use Rattle.serde_json.specs.View.{view, items_view, members_view};
+ghost use Rattle.fp_base.specs.Ordered.{IsOrdered, AreOrdered, MembersAreOrdered};
+ghost use Rattle.fp_base.specs.Sorted.{IsSorted};
+ghost use Rattle.fp_base.specs.TreeView.{tree_view, tree_items, tree_members};
+
+use crate::numbers::number_tree;
+use crate::tree::Tree;
+use serde_json::{Map, Value};
+use std::alloc::{AllocError, Global};
+
+impl<'a> Tree<'a> {
+    /// The value of the same data.
+    pub fn to_value(&self, alloc: Global) -> Result<Value, AllocError>
+        requires { IsOrdered (tree_view self.now) }
+        ensures { IfOk result (λ v. view v ≡ tree_view self.now) }
+    {
+        owned(alloc, self)
+    }
+
+    /// The tree of the same data, which borrows the value's texts.
+    pub fn of_value(alloc: Global, value: &'a Value) -> Result<Tree<'a>, AllocError>
+        ensures same { IfOk result (λ t. tree_view t ≡ view value.now) }
+        ensures ordered { IfOk result (λ t. IsOrdered (tree_view t)) }
+    {
+        lent(alloc, value)
+    }
+}
+
+#[cycle(owns)]
+fn owned(alloc: Global, tree: &Tree<'_>) -> Result<Value, AllocError>
+    ensures { IsOrdered (tree_view tree.now) → IfOk result (λ v. view v ≡ tree_view tree.now) }
+{
+    match tree {
+        Tree::Null => Ok(Value::Null),
+        Tree::Bool(b) => Ok(Value::Bool(*b)),
+        Tree::Number(number) => Ok(Value::Number(*number)),
+        Tree::String(text) => Ok(Value::String(String::from_str(alloc, text)?)),
+        Tree::Array(items) => Ok(Value::Array(owned_items(alloc, items)?)),
+        Tree::Object(members) => Ok(Value::Object(owned_members(alloc, members)?)),
+    }
+}
+
+#[cycle(owns)]
+fn owned_items(alloc: Global, items: &Vec<Tree<'_>>) -> Result<Vec<Value>, AllocError>
+    ensures { AreOrdered (tree_items items.now.items)
+        → IfOk result (λ found. items_view found.items ≡ tree_items items.now.items) }
+{
+    let mut found = Vec::with_capacity(alloc, items.len())?;
+    for item in items {
+        found.push(owned(alloc, item)?)?;
+    }
+    Ok(found)
+}
+
+#[cycle(owns)]
+fn owned_members(
+    alloc: Global,
+    members: &Vec<(&str, Tree<'_>)>,
+) -> Result<Map<String, Value>, AllocError>
+    ensures { IsSorted (tree_members members.now.items)
+        → MembersAreOrdered (tree_members members.now.items)
+        → IfOk result (λ found. members_view found.entries ≡ tree_members members.now.items) }
+{
+    let mut found = Map::new(alloc);
+    // From the last one on: a map sees at its first name that one belongs in front of all.
+    let mut left = members.len();
+    while left > 0 {
+        left -= 1;
+        let member = &members[left];
+        let value = owned(alloc, &member.1)?;
+        let name = String::from_str(alloc, member.0)?;
+        drop(found.insert(name, value)?);
+    }
+    Ok(found)
+}
+
+#[cycle(lends)]
+fn lent<'a>(alloc: Global, value: &'a Value) -> Result<Tree<'a>, AllocError>
+    ensures same { IfOk result (λ t. tree_view t ≡ view value.now) }
+    ensures ordered { IfOk result (λ t. IsOrdered (tree_view t)) }
+{
+    match value {
+        Value::Null => Ok(Tree::Null),
+        Value::Bool(b) => Ok(Tree::Bool(*b)),
+        Value::Number(number) => Ok(number_tree(number)),
+        Value::String(text) => Ok(Tree::String(text.as_str())),
+        Value::Array(items) => Ok(Tree::Array(lent_items(alloc, items)?)),
+        Value::Object(members) => Ok(Tree::Object(lent_members(alloc, members)?)),
+    }
+}
+
+#[cycle(lends)]
+fn lent_items<'a>(alloc: Global, items: &'a Vec<Value>) -> Result<Vec<Tree<'a>>, AllocError>
+    ensures same { IfOk result (λ found. tree_items found.items ≡ items_view items.now.items) }
+    ensures ordered { IfOk result (λ found. AreOrdered (tree_items found.items)) }
+{
+    let mut found = Vec::with_capacity(alloc, items.len())?;
+    for item in items {
+        found.push(lent(alloc, item)?)?;
+    }
+    Ok(found)
+}
+
+#[cycle(lends)]
+fn lent_members<'a>(
+    alloc: Global,
+    members: &'a Map<String, Value>,
+) -> Result<Vec<(&'a str, Tree<'a>)>, AllocError>
+    ensures same { IfOk result (λ found.
+        tree_members found.items ≡ members_view members.now.entries) }
+    ensures sorted { IfOk result (λ found. IsSorted (tree_members found.items)) }
+    ensures ordered { IfOk result (λ found. MembersAreOrdered (tree_members found.items)) }
+{
+    let mut found = Vec::with_capacity(alloc, members.len())?;
+    for (name, member) in members.iter() {
+        found.push((name.as_str(), lent(alloc, member)?))?;
+    }
+    Ok(found)
+}

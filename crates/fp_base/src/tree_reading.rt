@@ -1,0 +1,164 @@
+//! From bytes to a tree. The members of an object are put in ascending order of their names as they
+//! are read, the last of repeated ones alone, and reading ends where the bytes are no JSON.
+
+ghost use Rattle.std.specs.Prelude.{◌≡◌, ◌<◌, ◌≢◌, length, None, Some, Err, IfOk, IfSome, OnOk, option_map};
+ghost use Rattle.json.specs.Json.{value, items, members};
+ghost use Rattle.serde_json.specs.Data.{no_members};
+ghost use Rattle.serde_json.specs.Read.{of_json, of_items, of_members, converted};
+ghost use Rattle.fp_base.specs.Json.{json_of};
+ghost use Rattle.fp_base.specs.Ordered.{IsOrdered, AreOrdered, MembersAreOrdered};
+ghost use Rattle.fp_base.specs.Sorted.{IsSorted};
+ghost use Rattle.fp_base.specs.TreeView.{tree_view, tree_items, tree_members};
+
+use crate::gathering::Gathered;
+use crate::numbers::{number_in, number_tree};
+use crate::tree::Tree;
+use json::{Invalid, Reader, Scratch, Token};
+use std::alloc::{AllocError, AllocFailed, Global};
+
+// What `read_json` reads nests at most this deep.
+const DEEPEST_JSON: usize = 127;
+
+// Why there is no tree.
+#[derive(Drop)]
+enum Stop {
+    NotJson,
+    Memory,
+}
+
+impl From<Invalid> for Stop {
+    ghost use Rattle.fp_base.specs.declared.tree_reading.Stop.TheVariants.{NotJson};
+
+    ghost from_gives = { λ _ e. e ≡ NotJson };
+
+    fn from(_: Invalid) -> Stop {
+        Stop::NotJson
+    }
+}
+
+impl From<AllocError> for Stop {
+    ghost use Rattle.fp_base.specs.declared.tree_reading.Stop.TheVariants.{Memory};
+
+    ghost from_gives = { λ _ e. e ≡ Memory };
+
+    fn from(_: AllocError) -> Stop {
+        Stop::Memory
+    }
+}
+
+impl<T: Drop> From<AllocFailed<T>> for Stop {
+    ghost use Rattle.fp_base.specs.declared.tree_reading.Stop.TheVariants.{Memory};
+
+    ghost from_gives = { λ _ e. e ≡ Memory };
+
+    fn from(_: AllocFailed<T>) -> Stop {
+        Stop::Memory
+    }
+}
+
+/// The tree of what the bytes spell, `None` where they are no JSON.
+pub fn read_tree<'a>(
+    alloc: Global,
+    bytes: &'a [u8],
+    scratch: &'a mut Scratch,
+) -> Result<Option<Tree<'a>>, AllocError>
+    ensures value { IfOk result (λ o. option_map tree_view o ≡ json_of bytes.now) }
+    ensures ordered { IfOk result (λ o. IfSome o (λ tree. IsOrdered (tree_view tree))) }
+{
+    let Ok(text) = simdutf8::compat::from_utf8(bytes) else {
+        return Ok(None);
+    };
+    let mut reader = Reader::new(text, scratch)?;
+    match read(alloc, &mut reader, DEEPEST_JSON) {
+        Ok(tree) => {
+            if reader.next().is_some() {
+                return Ok(None);
+            }
+            Ok(Some(tree))
+        }
+        Err(Stop::NotJson) => Ok(None),
+        Err(Stop::Memory) => Err(AllocError),
+    }
+}
+
+// The next value of the reader. Lists and objects may nest `depth` deep.
+#[cycle(read)]
+fn read<'a>(alloc: Global, reader: &mut Reader<'a>, depth: usize) -> Result<Tree<'a>, Stop>
+    ensures ok { IfOk result (λ t.
+        converted of_json (value depth reader.old) ≡ Some (tree_view t, reader.new)) }
+    ensures ordered { IfOk result (λ t. IsOrdered (tree_view t)) }
+    ensures shorter { OnOk result (length reader.new < length reader.old) }
+    ensures refused { result ≡ Err Stop.NotJson
+        → converted of_json (value depth reader.old) ≡ None }
+{
+    let token = reader.next().ok_or(Invalid)?;
+    match token {
+        Token::String(text) => Ok(Tree::String(text)),
+        Token::Number(text) => match number_in(text) {
+            Some(number) => Ok(number_tree(&number)),
+            None => Err(Stop::NotJson),
+        },
+        Token::Bool(b) => Ok(Tree::Bool(b)),
+        Token::Null => Ok(Tree::Null),
+        Token::EndObject | Token::EndArray | Token::Key(_) | Token::Bad => Err(Stop::NotJson),
+        Token::BeginArray => {
+            if depth == 0 {
+                return Err(Stop::NotJson);
+            }
+            Ok(Tree::Array(read_items(alloc, reader, depth - 1)?))
+        }
+        Token::BeginObject => {
+            if depth == 0 {
+                return Err(Stop::NotJson);
+            }
+            Ok(Tree::Object(read_members(alloc, reader, depth - 1)?))
+        }
+    }
+}
+
+#[cycle(read)]
+fn read_items<'a>(
+    alloc: Global,
+    reader: &mut Reader<'a>,
+    depth: usize,
+) -> Result<Vec<Tree<'a>>, Stop>
+    ensures ok { IfOk result (λ v.
+        converted of_items (items (value depth) (length reader.old) reader.old)
+        ≡ Some (tree_items v.items, reader.new)) }
+    ensures ordered { IfOk result (λ v. AreOrdered (tree_items v.items)) }
+    ensures shorter { OnOk result (length reader.new < length reader.old) }
+    ensures refused { result ≡ Err Stop.NotJson
+        → converted of_items (items (value depth) (length reader.old) reader.old) ≡ None }
+{
+    let mut found = Vec::new(alloc);
+    'items: while !reader.take_end_array() {
+        let item = read(alloc, reader, depth)?;
+        found.push(item)?;
+    }
+    Ok(found)
+}
+
+#[cycle(read)]
+fn read_members<'a>(
+    alloc: Global,
+    reader: &mut Reader<'a>,
+    depth: usize,
+) -> Result<Vec<(&'a str, Tree<'a>)>, Stop>
+    ensures ok { IfOk result (λ v.
+        converted (λ ms. of_members ms no_members)
+        (members (value depth) (length reader.old) reader.old)
+        ≡ Some (tree_members v.items, reader.new)) }
+    ensures sorted { IfOk result (λ v. IsSorted (tree_members v.items)) }
+    ensures ordered { IfOk result (λ v. MembersAreOrdered (tree_members v.items)) }
+    ensures shorter { OnOk result (length reader.new < length reader.old) }
+    ensures refused { result ≡ Err Stop.NotJson
+        → converted (λ ms. of_members ms no_members)
+        (members (value depth) (length reader.old) reader.old) ≡ None }
+{
+    let mut found = Gathered::new(alloc);
+    'members: while let Some(name) = reader.next_key()? {
+        let member = read(alloc, reader, depth)?;
+        found.put(alloc, name, member)?;
+    }
+    Ok(found.into_members(alloc)?)
+}
