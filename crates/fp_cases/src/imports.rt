@@ -2,13 +2,12 @@
 
 use crate::values::SHOWN;
 use fp_definition::{Definition, FlagKey};
-use fp_imports::{ImportFault, expand_document};
+use fp_imports::ImportFault;
 use fp_transcript::Text;
-use serde_json::Value;
 
-/// The flags of a document.
-pub fn imported(document: Value, out: &mut Text) {
-    match expand_document(out.alloc, document) {
+/// The flags of a document, or its fault.
+pub fn imported(made: Result<Vec<(FlagKey, Definition)>, ImportFault>, out: &mut Text) {
+    match made {
         Ok(flags) => put_flags(&flags, out),
         Err(fault) => put_fault(&fault, out),
     }

@@ -1,15 +1,21 @@
 //! What the commands of a file share, and the commands by their words.
 
+ghost use Rattle.fp_base.specs.Ordered.{IsOrdered};
+ghost use Rattle.fp_base.specs.TreeView.{tree_view};
+
 use crate::data::put_datum;
 use crate::requests::Asking;
 use crate::streams::Subscriber;
 use crate::{definitions, edits, imports, operators, records, rules, values};
-use fp_base::read_json;
-use fp_definition::{FlagKey, KeyFault};
+use fp_base::{Tree, read_json, read_tree};
+use fp_definition::{DefFault, Definition, FlagKey, KeyFault};
 use fp_edit::FlagSet;
+use fp_imports::{expand_document, expand_tree};
 use fp_ofrep::Body;
 use fp_operators::Datum;
+use fp_targeting::{Rule, RuleFault};
 use fp_transcript::{Answers, Text, Texts, expanded};
+use json::Scratch;
 use serde_json::Value;
 use std::alloc::{AllocError, Global};
 use std::collections::BTreeMap;
@@ -41,7 +47,7 @@ const TAKE_JSON: [&str; 13] = [
     "resolve", "import", "data",
 ];
 
-// The words of `run_json`, which takes its JSON; the others only read it.
+// The words of `run_value`, which takes its JSON; the others only read it.
 const TAKE_OVER: [&str; 5] = ["member", "flag", "resolve", "import", "data"];
 
 // The words of `tell_bytes`.
@@ -136,10 +142,7 @@ impl Session {
         if word == "let" {
             self.name_text(first, operand, out);
         } else if TAKE_JSON.contains(&word) {
-            match out.got(read_json(out.alloc, &operand)) {
-                Some(Some(value)) => self.run_json(word, first, value, out),
-                _ => out.push("no JSON"),
-            }
+            self.run_json(word, first, &operand, out);
         } else if OF_BYTES.contains(&word) {
             tell_bytes(word, number_in(first), &operand, out);
         } else if ON_SET.contains(&word) {
@@ -160,31 +163,92 @@ impl Session {
         }
     }
 
-    fn run_json(&mut self, word: &str, first: &str, value: Value, out: &mut Text) {
-        if !TAKE_OVER.contains(&word) {
-            return self.run_shown_json(word, first, &value, out);
+    // Commands on JSON, by both of its readers: one makes a tree, and one a value. Where these have
+    // different answers that of the tree stands behind the other.
+    fn run_json(&mut self, word: &str, first: &str, operand: &[u8], out: &mut Text) {
+        let mut of_tree = out.another();
+        self.run_read_tree(word, first, operand, &mut of_tree);
+        match out.got(read_json(out.alloc, operand)) {
+            Some(Some(value)) => self.run_value(word, first, value, out),
+            _ => out.push("no JSON"),
         }
+        if of_tree.text != out.text {
+            out.push(" BUT ITS TREE: ");
+            out.put(&of_tree);
+        }
+        out.is_short = out.is_short || of_tree.is_short;
+    }
+
+    fn run_read_tree(&self, word: &str, first: &str, operand: &[u8], out: &mut Text) {
+        let mut scratch = Scratch::new(out.alloc);
+        match read_tree(out.alloc, operand, &mut scratch) {
+            Ok(Some(tree)) => self.run_tree(word, first, tree, out),
+            Ok(None) => out.push("no JSON"),
+            Err(_) => out.is_short = true,
+        }
+    }
+
+    fn run_tree(&self, word: &str, first: &str, tree: Tree<'_>, out: &mut Text)
+        requires { IsOrdered (tree_view tree) }
+    {
+        if word == "import" {
+            return imports::imported(expand_tree(out.alloc, tree), out);
+        }
+        self.run_shown_tree(word, first, &tree, out)
+    }
+
+    // Commands that only read their tree.
+    fn run_shown_tree(&self, word: &str, first: &str, tree: &Tree<'_>, out: &mut Text)
+        requires { IsOrdered (tree_view tree.now) }
+    {
+        let alloc = out.alloc;
+        match word {
+            "flag" => definitions::canonical(Definition::from_tree(alloc, tree), out),
+            "resolve" => self.resolve(Definition::from_tree(alloc, tree), out),
+            "compile" => rules::compiled(rules::of_tree(alloc, tree), out),
+            "rule" => self.evaluate(rules::of_tree(alloc, tree), out),
+            "op" => operators::applied(&self.data, first, Datum::from_tree(alloc, tree), out),
+            "versions" => operators::compared(first, Datum::from_tree(alloc, tree), out),
+            "data" => put_copy(Datum::from_tree(alloc, tree), out),
+            _ => values::of_tree(word, first, number_in(first), tree, out),
+        }
+    }
+
+    fn resolve(&self, made: Result<Definition, DefFault>, out: &mut Text) {
+        definitions::resolved(&self.data, &self.key, self.now, made, out);
+    }
+
+    fn evaluate(&self, made: Result<Rule, RuleFault>, out: &mut Text) {
+        rules::evaluated(&self.data, self.key.as_str(), self.now, made, out);
+    }
+
+    fn run_value(&mut self, word: &str, first: &str, value: Value, out: &mut Text) {
+        if !TAKE_OVER.contains(&word) {
+            return self.run_shown_value(word, first, &value, out);
+        }
+        let alloc = out.alloc;
         match word {
             "member" => values::member(first, value, out),
-            "flag" => definitions::canonical(value, out),
-            "resolve" => definitions::resolved(&self.data, &self.key, self.now, value, out),
-            "import" => imports::imported(value, out),
+            "flag" => definitions::canonical(Definition::from_value(alloc, value), out),
+            "resolve" => self.resolve(Definition::from_value(alloc, value), out),
+            "import" => imports::imported(expand_document(alloc, value), out),
             _ => self.set_data(value, out),
         }
     }
 
-    // Commands that only read their JSON.
-    fn run_shown_json(&self, word: &str, first: &str, value: &Value, out: &mut Text) {
+    // Commands that only read their value.
+    fn run_shown_value(&self, word: &str, first: &str, value: &Value, out: &mut Text) {
+        let alloc = out.alloc;
         let number = number_in(first);
         match word {
             "json" => values::put_canonical(value, out),
             "fits" => values::fits(number, value, out),
             "nests" => values::nests(number, value, out),
             "budget" => values::budget(number, value, out),
-            "op" => operators::applied(&self.data, first, value, out),
-            "versions" => operators::compared(first, value, out),
-            "compile" => rules::compiled(value, out),
-            _ => rules::evaluated(&self.data, self.key.as_str(), self.now, value, out),
+            "op" => operators::applied(&self.data, first, Datum::from_value(alloc, value), out),
+            "versions" => operators::compared(first, Datum::from_value(alloc, value), out),
+            "compile" => rules::compiled(Rule::compile(alloc, value), out),
+            _ => self.evaluate(Rule::compile(alloc, value), out),
         }
     }
 
@@ -247,7 +311,7 @@ impl Session {
 
     // The data of operators and rules, shown as they are copied.
     fn set_data(&mut self, value: Value, out: &mut Text) {
-        put_copy(&value, out);
+        put_copy(Datum::from_value(out.alloc, &value), out);
         self.data = value;
     }
 
@@ -285,8 +349,8 @@ fn put_document(set: &FlagSet, out: &mut Text) {
     }
 }
 
-fn put_copy(value: &Value, out: &mut Text) {
-    if let Some(datum) = out.got(Datum::from_value(out.alloc, value)) {
+fn put_copy(made: Result<Datum, AllocError>, out: &mut Text) {
+    if let Some(datum) = out.got(made) {
         if let Some(copy) = out.got(datum.try_copy(out.alloc)) {
             put_datum(&copy, out);
         }
