@@ -3,7 +3,7 @@
 use crate::job::Job;
 use crate::pool::Pool;
 use crate::text::Text;
-use fp_disk::FileDisk;
+use fp_disk::{Disk, FileDisk};
 use std::fs::{Metadata, OpenFile};
 use std::io;
 use std::io::{Cursor, ErrorKind, Read, Seek, SeekFrom, Write};
@@ -100,6 +100,27 @@ pub fn disk_of(job: &mut Job, pool: &mut Pool, round: u64, contents: Contents) -
     }
     let bytes = Cursor::new(disk.into_bytes());
     FileDisk::over(MemoryFile { bytes })
+}
+
+// What is read of a disk at once.
+const PIECE: u64 = 4_096;
+
+/// All bytes that a disk holds at the end, which are answers too. The last piece reaches to its end.
+pub fn left(job: &mut Job, disk: PlainDisk) {
+    let mut disk = disk;
+    let piece = vec![in job.alloc; 0u8; PIECE as usize];
+    let (Ok(end), Ok(mut piece)) = (disk.len(), piece) else {
+        job.digest.fail();
+        return;
+    };
+    job.digest.number(end);
+    for n in 0..=end / PIECE {
+        let at = n.saturating_mul(PIECE).min(end.saturating_sub(PIECE));
+        match disk.read_at(at, &mut piece) {
+            Ok(()) => job.digest.bytes(&piece),
+            Err(_) => job.digest.fail(),
+        }
+    }
 }
 
 // The length of these bytes, and the bytes.

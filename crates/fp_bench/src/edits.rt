@@ -1,7 +1,7 @@
 //! Lines as editors and their scripts write them, over a disk of some flags.
 
 use crate::commands::applied;
-use crate::disk::{Contents, disk_of};
+use crate::disk::{Contents, disk_of, left};
 use crate::flags::Rules;
 use crate::job::Job;
 use crate::pool::{Pool, Sample};
@@ -140,6 +140,7 @@ pub fn edits(job: &mut Job) {
         };
         let disk = disk_of(job, &mut kept, round, contents);
         let text = lines(job, &mut pool, round, contents.flags);
-        let _disk = applied(job, text.bytes(), disk);
+        let disk = applied(job, text.bytes(), disk);
+        left(job, disk);
     }
 }

@@ -1,7 +1,7 @@
 //! Documents of flagd, as files that people edit, each imported to a disk of no flags.
 
 use crate::commands::imported;
-use crate::disk::{Contents, disk_of};
+use crate::disk::{Contents, disk_of, left};
 use crate::flags::{EVALUATORS, REFERENCE, condition};
 use crate::job::Job;
 use crate::pool::{Pool, Sample};
@@ -55,6 +55,7 @@ pub fn importing(job: &mut Job) {
     for round in 0..job.rounds {
         let disk = disk_of(job, &mut pool, round, Contents::of_no_flags(1 << 21));
         let text = document(job, &mut pool, round, job.count(800));
-        let _disk = imported(job, text.bytes(), disk);
+        let disk = imported(job, text.bytes(), disk);
+        left(job, disk);
     }
 }

@@ -1,7 +1,7 @@
 //! Edits one by one, each published, and handed to subscribers as a document of all flags.
 
 use crate::digest::Digest;
-use crate::disk::{Contents, disk_of};
+use crate::disk::{Contents, disk_of, left};
 use crate::flags::Rules;
 use crate::job::Job;
 use crate::pool::Pool;
@@ -139,7 +139,7 @@ pub fn snapshots<R: Wait>(rt: &R, job: &mut Job) {
         Some(plane) => {
             let mut plane = plane;
             edits(rt, &mut plane, job, &mut pool, count, contents.flags);
-            let _disk = plane.into_disk(rt);
+            left(job, plane.into_disk(rt));
         }
         None => job.digest.fail(),
     }
