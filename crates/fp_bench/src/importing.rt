@@ -7,8 +7,8 @@ use crate::job::Job;
 use crate::pool::{Pool, Sample};
 use crate::text::{Spelling, Text};
 
-// Each but the first three refers to the one that stands three before it.
-fn evaluators(text: &mut Text) {
+/// Each but the first three refers to the one that stands three before it.
+pub fn evaluators(text: &mut Text) {
     text.tenants = 12;
     for n in 0..EVALUATORS {
         if n > 0 {

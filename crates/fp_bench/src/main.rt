@@ -1,4 +1,4 @@
-//! Runs one of six workloads through the product's calls, over disks in memory, and prints a digest
+//! Runs one of seven workloads through the product's calls, over disks in memory, and prints a digest
 //! of all that they answered.
 #![tactic(auto)]
 
@@ -16,6 +16,7 @@ mod pool;
 mod random;
 mod snapshots;
 mod text;
+mod uncommon;
 mod workload;
 mod world;
 

@@ -217,6 +217,7 @@ impl Text {
             b'k' => self.key(),
             b'n' => self.random_below(40),
             b'N' => self.random_below(10_000),
+            b'l' => self.long(),
             b't' => self.tenant(),
             b'T' => self.list(),
             b'u' => {
@@ -244,6 +245,14 @@ impl Text {
 
     fn random_below(&mut self, end: u64) {
         let number = self.random.below(end);
+        self.decimal(number);
+    }
+
+    // A number of 19 digits.
+    fn long(&mut self) {
+        let number = self
+            .random
+            .from(1_000_000_000_000_000_000, 8_000_000_000_000_000_000);
         self.decimal(number);
     }
 

@@ -7,6 +7,7 @@ use crate::importing::importing;
 use crate::job::Job;
 use crate::opening::opening;
 use crate::snapshots::snapshots;
+use crate::uncommon::uncommon;
 use std::sync::Wait;
 
 /// What is timed.
@@ -18,16 +19,18 @@ pub enum Workload {
     Evaluations,
     Snapshots,
     Awkward,
+    Uncommon,
 }
 
 /// Each of them.
-pub const WORKLOADS: [Workload; 6] = [
+pub const WORKLOADS: [Workload; 7] = [
     Workload::Opening,
     Workload::Edits,
     Workload::Import,
     Workload::Evaluations,
     Workload::Snapshots,
     Workload::Awkward,
+    Workload::Uncommon,
 ];
 
 impl Workload {
@@ -40,6 +43,7 @@ impl Workload {
             Workload::Evaluations => "evaluations",
             Workload::Snapshots => "snapshots",
             Workload::Awkward => "awkward",
+            Workload::Uncommon => "uncommon",
         }
     }
 
@@ -52,6 +56,7 @@ impl Workload {
             Workload::Evaluations => evaluations(rt, job),
             Workload::Snapshots => snapshots(rt, job),
             Workload::Awkward => awkward(rt, job),
+            Workload::Uncommon => uncommon(rt, job),
         }
     }
 }
