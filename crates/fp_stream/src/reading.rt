@@ -1,6 +1,7 @@
 //! Frames in a slice of bytes.
 
-ghost use Rattle.std.specs.Prelude.{◌≡◌, ◌+◌, ◌++◌, length, IfOk};
+ghost use Rattle.std.specs.Prelude.{◌≡◌, ◌+◌, ◌++◌, [], length, IfOk};
+ghost use Rattle.std.specs.Vec.{vec_capacity};
 ghost use Rattle.fp_stream.specs.declared.head.TheConstants.{HEAD};
 ghost use Rattle.fp_stream.specs.Steps.{Adds};
 ghost use Rattle.fp_stream.specs.Founds.{IsFound};
@@ -49,18 +50,23 @@ pub(crate) fn frame_behind(
     }))
 }
 
-// What came of a body of this size.
+// What came of a body of this size. A head alone takes no room, whatever size it tells.
 fn begun(alloc: Global, behind: &[u8], size: usize) -> Result<Vec<u8>, AllocError>
-    ensures { IfOk result (λ held. held.items ≡ behind.now) }
+    ensures came { IfOk result (λ held. held.items ≡ behind.now) }
+    ensures alone { behind.now ≡ [] → IfOk result (λ held. vec_capacity held ≡ 0) }
 {
+    if behind.is_empty() {
+        return Ok(Vec::new(alloc));
+    }
     let mut held = Vec::new(alloc);
     make_room(&mut held, behind.len(), size);
     held.extend_from_slice(behind)?;
     Ok(held)
 }
 
-// Before what is held grows by so many bytes it gets room for eight times as many as came, up to
-// this size, so that it is seldom moved. Where so much is refused, less may do.
+// Before what is held grows by so many bytes room is asked for eight times as many as came, up to
+// this size, so that it is seldom moved. A `Vec` that grows may take twice what is asked for. Where
+// so much is refused, less may do.
 pub(crate) fn make_room(held: &mut Vec<u8>, more: usize, size: usize)
     ensures { held.new.items ≡ held.old.items }
 {
