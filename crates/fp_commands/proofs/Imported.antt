@@ -1,11 +1,7 @@
 -- Documents that are imported, and what is wrong with them.
-use Rattle.std.proofs.Common.{◌≡◌, ◌∙◌, ℕ, List, Option, Some, Err, IfSome, string_bytes, sym, ap}
-use Rattle.std.specs.Prelude.{option_map}
+use Rattle.std.proofs.Common.{◌≡◌, ℕ, List, Option, Err, IfSome, string_bytes}
 use Rattle.std.proofs.lemmas.Option.{IfSome_then}
-use Rattle.serde_json.specs.Data.{Data}
-use Rattle.fp_base.specs.Json.{json_of}
 use Rattle.fp_edit.specs.Flags.{State}
-use Rattle.fp_imports.specs.Document.{document}
 use Rattle.fp_imports.specs.Faults.{Tells}
 use Rattle.fp_imports.specs.declared.faults.ImportFault.{ImportFault}
 use Rattle.fp_imports.specs.declared.faults.ImportFault.TheVariants as import
@@ -17,15 +13,11 @@ use Rattle.fp_recovery.specs.Refusals.{RefusesBytes, IsUnlessWanting}
 use Rattle.fp_recovery.specs.Stands.{StandsFor}
 use Rattle.fp_commands.specs.declared.fault.CommandFault.{CommandFault}
 use Rattle.fp_commands.specs.declared.fault.CommandFault.TheVariants as command
-use Rattle.fp_commands.specs.Documents.{import_of, import_of_data, IsDocumentFault}
+use Rattle.fp_commands.specs.Documents.{import_of, IsDocumentFault}
 use Rattle.fp_commands.specs.Disks.{IsImportingFault}
 use Rattle.fp_commands.specs.Faults.{of_import, of_open, of_run}
 
 -- ---- what was read
-
--- the bytes are these data
-pub import-known : {D : Type 0} (view : D → Data) (input items : List ℕ) (o : Option D) (d : D) → items ≡ input → option_map view o ≡ json_of items → o ≡ Some d → import_of input ≡ document (view d)
-import-known view input items o d is read some = ap import_of_data (ap json_of (sym is) ∙ sym read ∙ ap (option_map view) some)
 
 pub document-fault : (left : Option (List ℕ)) (fault : ImportFault) → IfSome left (λ input. Tells fault (λ f. import_of input ≡ Err f)) → IsDocumentFault left (of_import fault)
 document-fault left import.NotDocument h = h

@@ -1,12 +1,9 @@
-use Rattle.std.proofs.Common.{◌≡◌, ◌∙◌, List, Result, Err, IfSome, sym, subst}
+use Rattle.std.proofs.Common.{◌≡◌, ◌∙◌, Err, IfSome, subst}
 use Rattle.std.proofs.lemmas.Option.{IfSome_then}
 use Rattle.std.proofs.lemmas.Result.{err_from_is_err_and}
-use Rattle.serde_json.specs.View.{view}
-use Rattle.fp_imports.specs.Document.{Flag, Refusal}
 use Rattle.fp_imports.specs.Faults.{Tells}
-use Rattle.fp_commands.specs.declared.fault.CommandFault.{CommandFault}
-use Rattle.fp_commands.specs.Documents.{import_of, IsDocumentFault}
-use Rattle.fp_commands.proofs.Imported.{import-known, document-fault}
+use Rattle.fp_commands.specs.Documents.{import_of}
+use Rattle.fp_commands.proofs.Imported.{document-fault}
 use Rattle.fp_commands.proofs.document.read_document.Goals as goal
 
 pub returns-in_err-flags-clause-fault : goal.returns-in_err-flags-clause-fault
