@@ -12,10 +12,9 @@ use Rattle.serde_json.specs.Read.{of_json, of_items}
 use Rattle.serde_json.specs.Written.{outline, items_outline, members_outline}
 use Rattle.fp_base.specs.Json.{json_of}
 use Rattle.fp_base.specs.Ordered.{IsOrdered, AreOrdered, MembersAreOrdered}
-use Rattle.fp_base.specs.Sorted.{AreBack}
 use Rattle.fp_base.specs.Whole.{is_whole, items_whole, members_whole}
 use Rattle.fp_base.proofs.Reading.{json_of-read}
-use Rattle.fp_base.proofs.Sorted.{members-read_back}
+use Rattle.fp_base.proofs.Sorted.{AreBack, members-read_back}
 
 both : (a b : Bool) → (a && b) ≡ true → (a ≡ true) × (b ≡ true)
 both true b h = (refl, h)

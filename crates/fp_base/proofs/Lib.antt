@@ -10,6 +10,7 @@ pub mod Back
 pub mod Entries
 pub mod Halves
 pub mod Gatherings
+pub mod Collected
 pub mod Read
 pub mod Parsed
 pub mod Numerals

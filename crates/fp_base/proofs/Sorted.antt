@@ -7,7 +7,7 @@ use Rattle.std.proofs.lemmas.Cmp.{nat_list_cmp_total}
 use Rattle.serde_json.specs.Data.{Data, Members, no_members, member, put}
 use Rattle.serde_json.specs.Read.{of_json, of_members}
 use Rattle.serde_json.specs.Written.{outline, members_outline}
-use Rattle.fp_base.specs.Sorted.{IsBelow, IsSorted, AreBack}
+use Rattle.fp_base.specs.Sorted.{IsBelow, IsSorted}
 
 abbrev cmp : List ℕ → List ℕ → Ordering
 cmp = slice_cmp nat_cmp
@@ -40,6 +40,11 @@ sorted-put k d no_members p = (tt, tt)
 sorted-put k d (member l e ms) p = sorted-match k l d e ms (cmp k l) refl p (sorted-put k d ms p.1)
 
 -- ---- what is printed of each is read back
+
+-- what is printed of each member reads as it
+abbrev pub AreBack : Members → Type 0
+AreBack no_members = ⊤
+AreBack (member k d ms) = (of_json (outline d) ≡ Some d) × AreBack ms
 
 back-match : (o : Ordering) (a b c : Members) → AreBack a → AreBack b → AreBack c → AreBack (match_ordering o a b c)
 back-match Less a b c p q r = p

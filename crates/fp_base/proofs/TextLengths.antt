@@ -1,11 +1,13 @@
 -- How short a canonical text can be.
-use Rattle.std.proofs.Common.{◌≡◌, ℕ, ◌+◌, ◌≤◌, ◌<◌, List, [], ◌∷◌, ◌++◌, length, Bool, true, false, arith, rules, length-append}
+use Rattle.std.proofs.Common.{◌≡◌, ℕ, ◌+◌, ◌≤◌, ◌<◌, sym, ap, ◌∙◌, List, [], ◌∷◌, ◌++◌, length, Bool, true, false, arith, rules, length-append}
 use Rattle.json.specs.Print.{escape, escape_byte, quoted}
-use Rattle.serde_json.specs.Data.{Data, null, boolean, number, string, array, object, Items, no_items, item, Members, no_members, member}
+use Rattle.serde_json.specs.Data.{Data, depth, null, boolean, number, string, array, object, Items, no_items, item, Members, no_members, member}
 use Rattle.serde_json.specs.Written.{compact_text, items_text, members_text, comma_if}
 use Rattle.std.specs.Prelude.{nat_le, is_some}
 use Rattle.fp_base.specs.Count.{spend}
+use Rattle.fp_base.specs.Plain.{plain_left}
 use Rattle.fp_base.specs.Weight.{weight, items_weight, members_weight}
+use Rattle.fp_base.specs.Whole.{is_whole}
 
 some_bytes : (b : ℕ) → 0 < length (escape_byte b)
 unfolding escape_byte
@@ -60,3 +62,11 @@ no_room limit w n more h = grind arith
 -- where a limit doesn't cover the weight, the text is longer
 pub too_heavy : (d : Data) (limit : ℕ) → is_some (spend limit (weight d)) ≡ false → nat_le (length (compact_text d)) limit ≡ false
 too_heavy d limit h = no_room limit (weight d) (length (compact_text d)) (weight-text d) h
+
+weighed : (limit bytes : ℕ) (d : Data) → is_whole d ≡ true → depth d ≤ limit → plain_left limit bytes d ≡ spend bytes (weight d)
+weighed limit bytes d whole flat = grind arith
+
+-- where whole data that nest within the limit aren't plain, the text is longer
+pub not_plain : (d : Data) (limit bytes : ℕ) → is_some (plain_left limit bytes d) ≡ false → is_whole d ≡ true → depth d ≤ limit
+    → nat_le (length (compact_text d)) bytes ≡ false
+not_plain d limit bytes h whole flat = too_heavy d bytes (ap is_some (sym (weighed limit bytes d whole flat)) ∙ h)

@@ -1,11 +1,9 @@
--- Members in ascending order of their names, and members that read as they are printed.
-use Rattle.std.specs.Prelude.{◌≡◌, ℕ, List, Some, ⊤}
+-- Members in ascending order of their names.
+use Rattle.std.specs.Prelude.{◌≡◌, ℕ, List, ⊤}
 use Rattle.std.specs.Ordering.{nat_cmp}
 use Rattle.std.specs.declared.cmp.Ordering.TheVariants.{Less}
 use Rattle.std.specs.Cmp.Lexicographic.{slice_cmp}
 use Rattle.serde_json.specs.Data.{Members, no_members, member}
-use Rattle.serde_json.specs.Read.{of_json}
-use Rattle.serde_json.specs.Written.{outline}
 
 -- the name comes before each
 abbrev pub IsBelow : List ℕ → Members → Type 0
@@ -15,8 +13,3 @@ IsBelow k (member l d ms) = (slice_cmp nat_cmp k l ≡ Less) × IsBelow k ms
 abbrev pub IsSorted : Members → Type 0
 IsSorted no_members = ⊤
 IsSorted (member k d ms) = IsBelow k ms × IsSorted ms
-
--- what is printed of each member reads as it
-abbrev pub AreBack : Members → Type 0
-AreBack no_members = ⊤
-AreBack (member k d ms) = (of_json (outline d) ≡ Some d) × AreBack ms

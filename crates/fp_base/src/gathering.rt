@@ -2,7 +2,7 @@
 
 ghost use Rattle.std.specs.Prelude.{◌≡◌, true, IfOk, OnOk};
 ghost use Rattle.serde_json.specs.Data.{no_members, put};
-ghost use Rattle.fp_base.specs.Gathered.{gathered};
+ghost use Rattle.fp_base.specs.Gathered.{laid, gathered};
 ghost use Rattle.fp_base.specs.Places.{AreBefore};
 ghost use Rattle.fp_base.specs.Sorted.{IsSorted};
 ghost use Rattle.fp_base.specs.TreeView.{tree_view, tree_members};
@@ -13,25 +13,29 @@ use std::alloc::{AllocError, Global};
 use std::collections::BTreeMap;
 use std::mem::replace;
 
-// Among so many members one that comes out of order is put in its place; beside more a map finds
-// its own.
+// Among so many members one that comes out of order is put in its place; beside more it waits.
 const MOST_MOVED: usize = 64;
 
-// Members in ascending order of their names: in a list, or in a map once they were many and one
-// came out of order. While the map is empty they are in the list.
+// At least so many wait, and as many as are in order, before all are put in order while reading
+// goes on: repeats of a name are dropped then.
+const MOST_WAITING: usize = 1024;
+
+// Members in ascending order of their names, and behind them as they came those that wait to be put
+// in order among them.
 #[derive(Drop)]
 pub(crate) struct Gathered<'a> {
-    pub(crate) few: Vec<(&'a str, Tree<'a>)>,
-    pub(crate) many: BTreeMap<&'a str, Tree<'a>>,
+    pub(crate) ordered: Vec<(&'a str, Tree<'a>)>,
+    pub(crate) waiting: Vec<(&'a str, Tree<'a>)>,
 }
 
 impl<'a> Gathered<'a> {
     pub(crate) fn new(alloc: Global) -> Gathered<'a>
-        ensures { gathered result ≡ no_members }
+        ensures none { gathered result ≡ no_members }
+        ensures sorted { IsSorted (tree_members result.ordered.items) }
     {
         Gathered {
-            few: Vec::new(alloc),
-            many: BTreeMap::new(alloc),
+            ordered: Vec::new(alloc),
+            waiting: Vec::new(alloc),
         }
     }
 
@@ -43,13 +47,14 @@ impl<'a> Gathered<'a> {
         name: &'a str,
         tree: Tree<'a>,
     ) -> Result<(), AllocError>
-        requires { IsSorted (gathered self.old) }
-        ensures { OnOk result (gathered self.new
+        requires { IsSorted (tree_members self.old.ordered.items) }
+        ensures members { OnOk result (gathered self.new
             ≡ put name.now (tree_view tree.entry) (gathered self.old)) }
+        ensures sorted { OnOk result (IsSorted (tree_members self.new.ordered.items)) }
     {
-        if self.many.is_empty() {
-            if comes_last(&self.few, name) {
-                self.few.push((name, tree))?;
+        if self.waiting.is_empty() {
+            if comes_last(&self.ordered, name) {
+                self.ordered.push((name, tree))?;
                 return Ok(());
             }
         }
@@ -64,33 +69,38 @@ impl<'a> Gathered<'a> {
         name: &'a str,
         tree: Tree<'a>,
     ) -> Result<(), AllocError>
-        requires { IsSorted (gathered self.old) }
-        ensures { OnOk result (gathered self.new
+        requires { IsSorted (tree_members self.old.ordered.items) }
+        ensures members { OnOk result (gathered self.new
             ≡ put name.now (tree_view tree.entry) (gathered self.old)) }
+        ensures sorted { OnOk result (IsSorted (tree_members self.new.ordered.items)) }
     {
-        if !self.many.is_empty() {
-            drop(self.many.insert(name, tree)?);
+        if self.waiting.is_empty() {
+            if self.ordered.len() <= MOST_MOVED {
+                put_in_order(&mut self.ordered, name, tree)?;
+                return Ok(());
+            }
+        }
+        self.waiting.push((name, tree))?;
+        let waiting = self.waiting.len();
+        if waiting < MOST_WAITING || waiting < self.ordered.len() {
             return Ok(());
         }
-        if self.few.len() <= MOST_MOVED {
-            put_in_order(&mut self.few, name, tree)?;
-            return Ok(());
-        }
-        let few = replace(&mut self.few, Vec::new(alloc));
-        self.many = as_map(alloc, few)?;
-        drop(self.many.insert(name, tree)?);
+        let ordered = replace(&mut self.ordered, Vec::new(alloc));
+        let waiting = replace(&mut self.waiting, Vec::new(alloc));
+        self.ordered = in_order(alloc, ordered, waiting)?;
         Ok(())
     }
 
     #[inline(always)]
     pub(crate) fn into_members(self, alloc: Global) -> Result<Vec<(&'a str, Tree<'a>)>, AllocError>
+        requires { IsSorted (tree_members self.ordered.items) }
         ensures { IfOk result (λ v. tree_members v.items ≡ gathered self.entry) }
     {
-        let Gathered { few, many } = self;
-        if many.is_empty() {
-            return Ok(few);
+        let Gathered { ordered, waiting } = self;
+        if waiting.is_empty() {
+            return Ok(ordered);
         }
-        as_list(alloc, many)
+        in_order(alloc, ordered, waiting)
     }
 }
 
@@ -106,20 +116,23 @@ fn comes_last(members: &[(&str, Tree<'_>)], name: &str) -> bool
     }
 }
 
-fn as_map<'a>(
+// All members, each that waits put among the others in turn.
+#[inline(never)]
+fn in_order<'a>(
     alloc: Global,
-    members: Vec<(&'a str, Tree<'a>)>,
-) -> Result<BTreeMap<&'a str, Tree<'a>>, AllocError>
-    requires { IsSorted (tree_members members.items) }
-    ensures { IfOk result (λ m. tree_members m.entries ≡ tree_members members.entry.items) }
+    ordered: Vec<(&'a str, Tree<'a>)>,
+    waiting: Vec<(&'a str, Tree<'a>)>,
+) -> Result<Vec<(&'a str, Tree<'a>)>, AllocError>
+    requires { IsSorted (tree_members ordered.items) }
+    ensures { IfOk result (λ v. tree_members v.items
+        ≡ laid (tree_members ordered.entry.items) waiting.entry.items) }
 {
-    let mut found = BTreeMap::new(alloc);
-    let mut members = members;
-    // From the last one on: a map sees at its first name that one belongs in front of all.
-    while let Some((name, tree)) = members.pop() {
-        drop(found.insert(name, tree)?);
-    }
-    Ok(found)
+    let mut all = ordered;
+    let mut waiting = waiting;
+    all.append(&mut waiting)?;
+    // A map made at once is sorted: cheaper than a look-up for each member.
+    let found: BTreeMap<&'a str, Tree<'a>> = all.into_iter().collect(alloc)?;
+    as_list(alloc, found)
 }
 
 fn as_list<'a>(

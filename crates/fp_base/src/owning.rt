@@ -64,17 +64,12 @@ fn owned_members(
         → MembersAreOrdered (tree_members members.now.items)
         → IfOk result (λ found. members_view found.entries ≡ tree_members members.now.items) }
 {
-    let mut found = Map::new(alloc);
-    // From the last one on: a map sees at its first name that one belongs in front of all.
-    let mut left = members.len();
-    while left > 0 {
-        left -= 1;
-        let member = &members[left];
-        let value = owned(alloc, &member.1)?;
+    let mut found = Vec::with_capacity(alloc, members.len())?;
+    for member in members {
         let name = String::from_str(alloc, member.0)?;
-        drop(found.insert(name, value)?);
+        found.push((name, owned(alloc, &member.1)?))?;
     }
-    Ok(found)
+    Ok(found.into_iter().collect(alloc)?)
 }
 
 #[cycle(lends)]

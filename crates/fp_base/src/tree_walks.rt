@@ -1,9 +1,10 @@
 //! Walks over a tree that stop as soon as the answer is known.
 
-ghost use Rattle.std.specs.Prelude.{◌≡◌, ◌≤◌, nat_le, true, false, length, IfSome};
+ghost use Rattle.std.specs.Prelude.{◌≡◌, ◌≤◌, nat_le, true, false, not, length, is_some};
 ghost use Rattle.serde_json.specs.Data.{depth, items_depth, members_depth};
 ghost use Rattle.serde_json.specs.Written.{compact_text};
 ghost use Rattle.fp_base.specs.Count.{spend, count, items_count, members_count};
+ghost use Rattle.fp_base.specs.Plain.{plain_left, items_plain_left, members_plain_left};
 ghost use Rattle.fp_base.specs.TreeView.{tree_view, tree_items, tree_members};
 ghost use Rattle.fp_base.specs.Weight.{weight, items_weight, members_weight};
 ghost use Rattle.fp_base.specs.Whole.{is_whole, items_whole, members_whole};
@@ -33,20 +34,25 @@ impl<'a> Tree<'a> {
         values_left(self, budget)
     }
 
-    /// Whether the canonical text is surely longer than the limit, found without printing any of
-    /// it.
+    /// Whether the texts, names, items and members alone make the canonical text longer than the
+    /// limit, found without printing any of it.
     pub fn is_longer(&self, limit: usize) -> bool
-        ensures { result ≡ true
+        ensures weighed { result ≡ not (nat_le (weight (tree_view self.now)) limit) }
+        ensures longer { result ≡ true
             → nat_le (length (compact_text (tree_view self.now))) limit ≡ false }
     {
         bytes_left(self, limit).is_none()
     }
 
     /// Whether all numbers are whole, the tree nests at most `limit` deep, and its canonical text
-    /// isn't surely longer than `bytes`: three walks in one. `false` says nothing of the tree.
+    /// isn't longer than `bytes` by its texts, names, items and members alone: three walks in one.
     pub fn is_plain(&self, limit: u32, bytes: usize) -> bool
+        ensures plain { result ≡ is_some (plain_left limit bytes (tree_view self.now)) }
         ensures whole { result ≡ true → is_whole (tree_view self.now) ≡ true }
         ensures flat { result ≡ true → depth (tree_view self.now) ≤ limit }
+        ensures refused { result ≡ false → is_whole (tree_view self.now) ≡ true
+            → depth (tree_view self.now) ≤ limit
+            → nat_le (length (compact_text (tree_view self.now))) bytes ≡ false }
     {
         plain_left(self, limit, bytes).is_some()
     }
@@ -201,8 +207,7 @@ fn members_bytes_left(members: &Vec<(&str, Tree<'_>)>, budget: usize) -> Option<
 // limit.
 #[cycle(tree_plain)]
 fn plain_left(tree: &Tree<'_>, limit: u32, bytes: usize) -> Option<usize>
-    ensures { IfSome result (λ _. (is_whole (tree_view tree.now) ≡ true)
-        × (depth (tree_view tree.now) ≤ limit)) }
+    ensures { result ≡ plain_left limit bytes (tree_view tree.now) }
 {
     match tree {
         Tree::Null | Tree::Bool(_) => Some(bytes),
@@ -225,8 +230,7 @@ fn plain_left(tree: &Tree<'_>, limit: u32, bytes: usize) -> Option<usize>
 
 #[cycle(tree_plain)]
 fn items_plain_left(items: &Vec<Tree<'_>>, limit: u32, bytes: usize) -> Option<usize>
-    ensures { IfSome result (λ _. (items_whole (tree_items items.now.items) ≡ true)
-        × (items_depth (tree_items items.now.items) ≤ limit)) }
+    ensures { result ≡ items_plain_left limit bytes (tree_items items.now.items) }
 {
     let mut left = bytes;
     for item in items {
@@ -238,8 +242,7 @@ fn items_plain_left(items: &Vec<Tree<'_>>, limit: u32, bytes: usize) -> Option<u
 
 #[cycle(tree_plain)]
 fn members_plain_left(members: &Vec<(&str, Tree<'_>)>, limit: u32, bytes: usize) -> Option<usize>
-    ensures { IfSome result (λ _. (members_whole (tree_members members.now.items) ≡ true)
-        × (members_depth (tree_members members.now.items) ≤ limit)) }
+    ensures { result ≡ members_plain_left limit bytes (tree_members members.now.items) }
 {
     let mut left = bytes;
     for member in members {

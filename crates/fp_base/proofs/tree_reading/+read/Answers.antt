@@ -144,8 +144,8 @@ read_items-returns-clause-ok t c =
 pub read_members-members-init : goal.read_members-members-init
 read_members-members-init t c =
     let all = members (value c.args.depth) (length c.args.reader.now) c.args.reader.now in
-    let none = sym c.new-found.ensures in
-    (length c.args.reader.now, omega arith, ap (λ found. converted (λ ms. of_members ms found) all) none, omega arith, subst IsSorted none tt, subst MembersAreOrdered none tt)
+    let none = sym c.new-found.ensures.none in
+    (length c.args.reader.now, omega arith, ap (λ found. converted (λ ms. of_members ms found) all) none, omega arith, subst IsSorted none tt, subst MembersAreOrdered none tt, c.new-found.ensures.sorted)
 
 pub read_members-returns-in_err-name-clause-refused : goal.read_members-returns-in_err-name-clause-refused
 read_members-returns-in_err-name-clause-refused t c refused =
@@ -182,6 +182,7 @@ read_members-members-preserved t c =
       omega (arith, l.invariant.3),
       subst IsSorted (sym placed) (sorted-put k (tree_view v) old l.invariant.4),
       subst MembersAreOrdered (sym placed) (ordered-put k (tree_view v) old done.ordered l.invariant.5),
+      c.in_ok-put.ensures.sorted,
     )
 
 pub read_members-returns-clause-ok : goal.read_members-returns-clause-ok

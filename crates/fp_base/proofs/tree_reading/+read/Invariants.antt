@@ -5,7 +5,7 @@ use Rattle.serde_json.specs.Read.{of_items, of_members, converted}
 use Rattle.fp_base.specs.Gathered.{gathered}
 use Rattle.fp_base.specs.Ordered.{AreOrdered, MembersAreOrdered}
 use Rattle.fp_base.specs.Sorted.{IsSorted}
-use Rattle.fp_base.specs.TreeView.{tree_items}
+use Rattle.fp_base.specs.TreeView.{tree_items, tree_members}
 use Rattle.fp_base.proofs.Read.{items_before}
 use Rattle.fp_base.proofs.tree_reading.+read.Given as goal
 
@@ -36,6 +36,7 @@ invariant-read_members-members l =
     × (length l.reader ≤ length l.initial.reader)
     × IsSorted (gathered l.found)
     × MembersAreOrdered (gathered l.found)
+    × IsSorted (tree_members l.found.ordered.items)
 
 abbrev pub decreases-read_members-members : goal.decreases-read_members-members
 decreases-read_members-members l = length l.reader

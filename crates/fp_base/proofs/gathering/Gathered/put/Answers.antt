@@ -1,12 +1,25 @@
-use Rattle.std.proofs.Common.{◌≡◌, length, subst, arith}
+use Rattle.std.proofs.Common.{◌≡◌, length, sym, ap, subst, ◌∙◌, arith}
+use Rattle.serde_json.specs.Data.{put}
 use Rattle.fp_base.specs.Places.{AreBefore}
-use Rattle.fp_base.specs.TreeView.{Entry}
-use Rattle.fp_base.proofs.Gatherings.{put-last_of_few}
+use Rattle.fp_base.specs.Sorted.{IsSorted}
+use Rattle.fp_base.specs.TreeView.{Entry, tree_view, tree_members}
+use Rattle.fp_base.proofs.Gatherings.{none-waits, put-at_end}
+use Rattle.fp_base.proofs.Sorted.{sorted-put}
 use Rattle.fp_base.proofs.gathering.Gathered.put.Goals as goal
 
-pub returns-then-comes_last : goal.returns-then-comes_last
-returns-then-comes_last c =
-    let none : length c.args.self.now.many.entries ≡ 0 = grind arith in
+pub returns-then-comes_last-clause-members : goal.returns-then-comes_last-clause-members
+returns-then-comes_last-clause-members c =
     let m : Entry = (c.args.name, c.args.tree) in
-    put-last_of_few c.args.self.now.few.items c.push.new.self.items c.args.self.now.many.entries m none
-    (subst (AreBefore c.args.name.now) c.deref.ensures.value (c.comes_last.ensures c.if-comes_last.true)) c.in_ok-push.ensures.items
+    let ms = c.args.self.now.ordered.items in
+    let waiting = c.args.self.now.waiting.items in
+    let none : length waiting ≡ 0 = grind arith in
+    let placed = put-at_end ms c.push.new.self.items m (subst (AreBefore c.args.name.now) c.deref.ensures.value (c.comes_last.ensures c.if-comes_last.true)) c.in_ok-push.ensures.items in
+    none-waits (tree_members c.push.new.self.items) waiting none ∙ placed
+    ∙ ap (put m.0.now (tree_view m.1)) (sym (none-waits (tree_members ms) waiting none))
+
+pub returns-then-comes_last-clause-sorted : goal.returns-then-comes_last-clause-sorted
+returns-then-comes_last-clause-sorted c =
+    let m : Entry = (c.args.name, c.args.tree) in
+    let ms = c.args.self.now.ordered.items in
+    let placed = put-at_end ms c.push.new.self.items m (subst (AreBefore c.args.name.now) c.deref.ensures.value (c.comes_last.ensures c.if-comes_last.true)) c.in_ok-push.ensures.items in
+    subst IsSorted (sym placed) (sorted-put m.0.now (tree_view m.1) (tree_members ms) c.requires)

@@ -1,15 +1,29 @@
-use Rattle.std.proofs.Common.{◌≡◌, length, ap, ◌∙◌, arith}
-use Rattle.fp_base.specs.TreeView.{tree_members}
-use Rattle.fp_base.proofs.Gatherings.{put-many, put-spread}
+use Rattle.std.proofs.Common.{◌≡◌, [], sym, ap, subst, ◌∙◌, rules}
+use Rattle.fp_base.specs.Gathered.{laid}
+use Rattle.fp_base.specs.Sorted.{IsSorted}
+use Rattle.fp_base.specs.TreeView.{tree_view, tree_members}
+use Rattle.fp_base.proofs.Gatherings.{laid-last, sorted-laid}
+use Rattle.fp_base.proofs.Sorted.{sorted-put}
 use Rattle.fp_base.proofs.gathering.Gathered.put_in_place.Goals as goal
 
-pub returns-then-not-is_empty : goal.returns-then-not-is_empty
-returns-then-not-is_empty c =
-    let some : length c.args.self.now.many.entries ≡ 0 → ⊥ = λ h. grind (arith, h) in
-    put-many c.args.self.now.few.items c.args.self.now.many.entries c.insert.new.self.entries c.args.name c.args.tree some c.in_ok-insert.ensures.entries
+pub returns-then-len-le-MOST_MOVED-clause-sorted : goal.returns-then-len-le-MOST_MOVED-clause-sorted
+returns-then-len-le-MOST_MOVED-clause-sorted c =
+    subst IsSorted (sym c.in_ok-put_in_order.ensures) (sorted-put c.args.name.now (tree_view c.args.tree) (tree_members c.args.self.now.ordered.items) c.requires)
 
-pub returns : goal.returns
-returns c =
-    let none : length c.args.self.now.many.entries ≡ 0 = grind arith in
-    put-spread c.args.self.now.few.items c.replace-few.new.dest.items c.args.self.now.many.entries c.in_ok-self.field-0.entries c.insert-2.new.self.entries c.args.name c.args.tree none
-    (c.in_ok-self.ensures ∙ ap (λ v. tree_members v.items) c.replace-few.ensures.value) c.in_ok-insert-2.ensures.entries
+pub returns-then-waiting-lt-MOST_WAITING-clause-members : goal.returns-then-waiting-lt-MOST_WAITING-clause-members
+returns-then-waiting-lt-MOST_WAITING-clause-members c =
+    laid-last (tree_members c.args.self.now.ordered.items) c.args.self.now.waiting.items c.push.new.self.items (c.args.name, c.args.tree) c.in_ok-push.ensures.items
+
+pub returns-clause-members : goal.returns-clause-members
+returns-clause-members c =
+    let ms = tree_members c.args.self.now.ordered.items in
+    let none : c.replace-waiting.new.dest.items ≡ [] = search rules in
+    let settled : tree_members c.in_ok-self.field-0.items ≡ laid ms c.push.new.self.items = search rules in
+    ap (laid (tree_members c.in_ok-self.field-0.items)) none ∙ settled
+    ∙ laid-last ms c.args.self.now.waiting.items c.push.new.self.items (c.args.name, c.args.tree) c.in_ok-push.ensures.items
+
+pub returns-clause-sorted : goal.returns-clause-sorted
+returns-clause-sorted c =
+    let ms = tree_members c.args.self.now.ordered.items in
+    let settled : tree_members c.in_ok-self.field-0.items ≡ laid ms c.push.new.self.items = search rules in
+    subst IsSorted (sym settled) (sorted-laid ms c.push.new.self.items c.requires)
