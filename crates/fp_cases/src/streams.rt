@@ -182,6 +182,8 @@ fn watched(hello: Hello, bytes: &[u8], out: &mut Text) {
         Err(WatchFault::BadFrame(fault)) => {
             out.push("\n");
             put_fault(fault, out);
+            out.push(", told as ");
+            out.shown(&WatchFault::BadFrame(fault));
         }
         Err(WatchFault::Device | WatchFault::Memory) => out.is_short = true,
     }

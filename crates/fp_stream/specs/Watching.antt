@@ -1,5 +1,5 @@
 -- What a subscriber is shown of a stream.
-use Rattle.std.specs.Prelude.{◌≡◌, ◌<◌, ℕ, List, [], ◌∷◌, ◌++◌, decimal, Option, Some, None, OnOk}
+use Rattle.std.specs.Prelude.{◌≡◌, ◌<◌, ℕ, List, [], ◌∷◌, ◌++◌, codes, decimal, Option, Some, None, OnOk}
 use Rattle.std.specs.Prelude.{Result, Ok, Err}
 use Rattle.std.specs.Io.KnownBytes.{Appends, Consumes, IsAtEnd}
 use Rattle.fp_streams.specs.declared.counted.StreamFault.{StreamFault}
@@ -33,6 +33,12 @@ of_frame frame.TooLong = BadFrame frame.TooLong
 of_frame frame.NotRising = BadFrame frame.NotRising
 of_frame frame.Memory = Memory
 of_frame frame.Failed = BadFrame frame.Failed
+
+-- what the program prints of one. Each fault of a frame has the same text
+abbrev pub text_of : WatchFault → List ℕ
+text_of Device = codes "device fault"
+text_of Memory = codes "out of memory"
+text_of (BadFrame fault) = codes "bad stream"
 
 -- by the failures of the reader and the writer before and after: `Device` comes
 -- exactly where one failed

@@ -14,24 +14,39 @@ use crate::hello::Hello;
 use fp_streams::{FailureCounted, StreamFault};
 use itoa::Buffer;
 use std::alloc::Global;
+use std::error::Error;
+use std::fmt;
 use std::io::{Read, Write};
-use thiserror::Error;
 
 const CHUNK: usize = 65_536;
 
 /// Why a subscriber is shown nothing more.
-#[derive(Debug, Drop, Clone, Copy, PartialEq, Eq, Error)]
+#[derive(Debug, Drop, Clone, Copy, PartialEq, Eq)]
 pub enum WatchFault {
     /// The reader or the writer failed.
-    #[error("device fault")]
     Device,
     /// There was no memory.
-    #[error("out of memory")]
     Memory,
     /// What came is no frame.
-    #[error("{0}")]
     BadFrame(FrameFault),
 }
+
+impl fmt::Display for WatchFault {
+    ghost use Rattle.std.specs.Prelude.{Some};
+    ghost use Rattle.fp_stream.specs.Watching.{text_of};
+
+    ghost output = { λ fault. Some (text_of fault) };
+
+    fn fmt<W: fmt::Write>(&self, f: &mut fmt::Formatter<W>) -> fmt::Result {
+        f.write_str(match self {
+            WatchFault::Device => "device fault",
+            WatchFault::Memory => "out of memory",
+            WatchFault::BadFrame(_) => "bad stream",
+        })
+    }
+}
+
+impl Error for WatchFault {}
 
 impl From<StreamFault> for WatchFault {
     ghost use Rattle.fp_stream.specs.Watching.{of_stream};
