@@ -8,6 +8,7 @@ use Rattle.fp_journal.specs.State.{JournalState, has_begun}
 use Rattle.fp_layout.specs.Layout.{IsHeader}
 use Rattle.fp_layout.specs.declared.header.TheConstants.{HEADER}
 use Rattle.fp_layout.specs.Size.{IsSlotSize, Side, most_in, other_side, slot_of}
+use Rattle.fp_layout.specs.declared.opening.Place.{Place}
 use Rattle.fp_recovery.specs.Stands.{Spells, StandsFor, TakesBatch}
 use Rattle.fp_slots.specs.State.{SlotsState, sealed_text}
 
@@ -39,6 +40,10 @@ pub record IsPlaced {D : Type 0} (size : ℕ) (slots : SlotsState D) (limit : �
   pub mine : slots.journal.slot ≡ slot_of size side
   pub its : slots.other ≡ slot_of size (other_side side)
   pub half : limit ≡ size / 2
+
+-- where a journal goes on: its slot, and the closed gate behind what is sealed
+abbrev pub place_of : {D : Type 0} → JournalState D → Place
+place_of j = record { slot = j.slot; gate = j.slot.start + length (sealed_text j) }
 
 -- ---- a batch on its way
 -- did a call begin to open its gate

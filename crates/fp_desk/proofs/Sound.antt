@@ -14,12 +14,13 @@ use Rattle.fp_edit.proofs.Followed.{after-append, follows_join, follows_behind, 
 use Rattle.fp_desk.specs.declared.desk.TheConstants.{MOST_QUEUED}
 use Rattle.fp_desk.specs.Desk.{DeskState, IsSound, head, log, settled_set, settled_revision, unsettled_count}
 
-pub with_settled : (waiting : List Change) (stopped : Bool) (s t : Identity) (xs ys ds es : List Change) → s ≡ t → xs ≡ ys → ds ≡ es
-    → ◌≡◌ {A = DeskState} (record { store = s; settled = xs; drawn = ds; waiting = waiting; stopped = stopped }) (record { store = t; settled = ys; drawn = es; waiting = waiting; stopped = stopped })
-with_settled waiting stopped s t xs ys ds es store settled drawn =
-    ap (λ (x : Identity). record { store = x; settled = xs; drawn = ds; waiting = waiting; stopped = stopped }) store
-    ∙ ap (λ (l : List Change). record { store = t; settled = l; drawn = ds; waiting = waiting; stopped = stopped }) settled
-    ∙ ap (λ (l : List Change). record { store = t; settled = ys; drawn = l; waiting = waiting; stopped = stopped }) drawn
+pub with_settled : (waiting : List Change) (stopped : Bool) (s t : Identity) (xs ys ds es last now : List Change) → s ≡ t → xs ≡ ys → ds ≡ es → last ≡ now
+    → ◌≡◌ {A = DeskState} (record { store = s; settled = xs; drawn = ds; waiting = waiting; stopped = stopped; last = last }) (record { store = t; settled = ys; drawn = es; waiting = waiting; stopped = stopped; last = now })
+with_settled waiting stopped s t xs ys ds es last now store settled drawn came =
+    ap (λ (x : Identity). record { store = x; settled = xs; drawn = ds; waiting = waiting; stopped = stopped; last = last }) store
+    ∙ ap (λ (l : List Change). record { store = t; settled = l; drawn = ds; waiting = waiting; stopped = stopped; last = last }) settled
+    ∙ ap (λ (l : List Change). record { store = t; settled = ys; drawn = l; waiting = waiting; stopped = stopped; last = last }) drawn
+    ∙ ap (λ (l : List Change). record { store = t; settled = ys; drawn = es; waiting = waiting; stopped = stopped; last = l }) came
 
 module _ (d : DeskState) (h base : State) (lag : List Change) (i : IsSound d h base lag) where
   -- the numbers
@@ -35,9 +36,9 @@ module _ (d : DeskState) (h base : State) (lag : List Change) (i : IsSound d h b
   pub full : (n : ℕ) → unsettled_count d ≡ n → MOST_QUEUED ≤ n → unsettled_count d ≡ MOST_QUEUED
   full n count most = let few = i.few in omega (arith, few, count, most)
 
-  pub still : (h2 : State) (waiting : List Change) → h2 ≡ h → waiting ≡ d.waiting → IsSound (record { store = d.store; settled = d.settled; drawn = d.drawn; waiting = waiting; stopped = d.stopped }) h2 base lag
+  pub still : (h2 : State) (waiting : List Change) → h2 ≡ h → waiting ≡ d.waiting → IsSound (record { store = d.store; settled = d.settled; drawn = d.drawn; waiting = waiting; stopped = d.stopped; last = d.last }) h2 base lag
   still h2 waiting same waits =
-      subst (λ (l : List Change). IsSound (record { store = d.store; settled = d.settled; drawn = d.drawn; waiting = l; stopped = d.stopped }) h2 base lag) (sym waits)
+      subst (λ (l : List Change). IsSound (record { store = d.store; settled = d.settled; drawn = d.drawn; waiting = l; stopped = d.stopped; last = d.last }) h2 base lag) (sym waits)
       (subst (λ (t : State). IsSound d t base lag) (sym same) i)
 
   pub behind : (base1 : State) (left : List Change) → after_all base1 left ≡ after_all base lag → Follows base1 left → IsSound d h base1 left

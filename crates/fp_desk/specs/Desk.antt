@@ -18,12 +18,15 @@ use Rattle.fp_desk.specs.declared.fault.SettleFault.{SettleFault}
 use Rattle.fp_desk.specs.declared.fault.SettleFault.TheVariants as settle
 use Rattle.fp_journal.specs.declared.framed.TheConstants.{FRAME}
 
+-- What is settled, drawn and waits, in commit order; whether no edit is taken any more; and the batch
+-- that was settled last
 pub record DeskState : Type 0 where
   pub store : Identity
   pub settled : List Change
   pub drawn : List Change
   pub waiting : List Change
   pub stopped : Bool
+  pub last : List Change
 
 -- all edits that were accepted, in commit order
 abbrev pub log : DeskState → List Change

@@ -89,6 +89,7 @@ impl Model for Desk {
       drawn = changes_of d.drawn.items;
       waiting = changes_of d.waiting.items;
       stopped = d.stopped;
+      last = d.settled.last;
     } };
 
     ghost invariant = { λ d. IsSound (record {
@@ -97,6 +98,7 @@ impl Model for Desk {
       drawn = changes_of d.drawn.items;
       waiting = changes_of d.waiting.items;
       stopped = d.stopped;
+      last = d.settled.last;
     })
         d.head d.base (changes_of d.lag.items) };
 }
@@ -110,6 +112,7 @@ impl Desk {
           drawn = [];
           waiting = [];
           stopped = false;
+          last = [];
         }) }
         ensures given_back { IfErr result (λ e. e.1 ≡ opening) }
     {
@@ -215,7 +218,11 @@ impl Desk {
         requires { receipt.store ≡ self.old.store }
         ensures drawn { OnOk result (IsDrawn self.old receipt) }
         ensures settled { OnOk result (self.new
-            ≡ record self.old { settled = self.old.settled ++ self.old.drawn; drawn = [] }) }
+            ≡ record self.old {
+              settled = self.old.settled ++ self.old.drawn;
+              drawn = [];
+              last = self.old.drawn;
+            }) }
         ensures all { OnOk result (self.new.settled ≡ receipt.edits) }
         ensures refused { IfErr result (λ e. SettlesNot self.old receipt e.0) }
         ensures given_back { IfErr result (λ e. e.1 ≡ receipt) }
@@ -275,7 +282,8 @@ impl Desk {
 
     /// The edits of the batch that was settled last.
     pub fn last_batch(&self) -> &[Edit]
-        ensures { EndsWith self.now.settled (changes_of result.now) }
+        ensures last { changes_of result.now ≡ self.now.last }
+        ensures ends { EndsWith self.now.settled (changes_of result.now) }
     {
         self.settled.last_batch()
     }

@@ -6,6 +6,7 @@ use Rattle.fp_edit.specs.Edits.{Change, Proposal, proposal_of}
 use Rattle.fp_edit.specs.Flags.{State, size}
 use Rattle.fp_edit.specs.declared.edit.Edit.{Edit}
 use Rattle.fp_edit.specs.declared.edit.Expect.TheVariants.{Any}
+use Rattle.fp_edit.specs.declared.tally.Tally.{Tally}
 
 -- edits without what their editors expected
 abbrev pub change_of : Edit → Change
@@ -29,3 +30,6 @@ pub record Tallies (limit revision count bytes : ℕ) (s : State) : Type 0 where
   pub revision_is : revision ≡ s.revision
   pub count_is : count ≡ fin.len s.flags
   pub size_is : bytes ≡ size s.flags
+
+abbrev pub IsTallyOf : Tally → State → Type 0
+IsTallyOf t s = Tallies t.limit t.revision t.count t.size s

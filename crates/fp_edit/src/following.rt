@@ -1,16 +1,17 @@
 //! Edits that follow one another, whatever their editors expected.
 
-ghost use Rattle.std.specs.Prelude.{◌≡◌, ◌↔◌, length, vec_len, IfOk, OnOk, IsTrue};
+ghost use Rattle.std.specs.Prelude.{◌≡◌, ◌↔◌, length, vec_len, IfOk, IfSome, IfNone, OnOk, IsTrue};
 ghost use Rattle.std.specs.FinMap as map;
 ghost use Rattle.fp_definition.specs.Key.{key_bytes};
 ghost use Rattle.fp_edit.specs.Edits.{changed_key, proposal_of};
-ghost use Rattle.fp_edit.specs.Flags.{cost_found};
-ghost use Rattle.fp_edit.specs.Following.{Follows, change_of, changes_of, unconditional};
+ghost use Rattle.fp_edit.specs.Flags.{State, cost_found};
+ghost use Rattle.fp_edit.specs.Following.{Follows, IsTallyOf, change_of, changes_of};
+ghost use Rattle.fp_edit.specs.Following.{unconditional};
 ghost use Rattle.fp_edit.specs.Log.{after_all};
 
 use crate::edit::{Edit, Expect};
 use crate::flag_set::FlagSet;
-use crate::tally::{judged, key_cost};
+use crate::tally::{Tally, judged, key_cost};
 use fp_definition::FlagKey;
 use std::alloc::{AllocError, Global};
 use std::collections::VecDeque;
@@ -67,12 +68,15 @@ pub fn copies_of(alloc: Global, edits: &[Edit]) -> Result<Vec<Edit>, AllocError>
     Ok(copies)
 }
 
-// What a key's flag takes in the image after these edits, 0 without one.
-fn cost_after(set: &FlagSet, edits: &[Edit], key: &FlagKey) -> u128
-    ensures { result ≡ cost_found (key_bytes key.now)
-        (map.get (after_all set.now (changes_of edits.now)).flags (key_bytes key.now)) }
+// What a key's flag takes in the image after these edits, where it takes that much before them; 0
+// without one.
+fn cost_after(edits: &[Edit], key: &FlagKey, before: u128) -> u128
+    ensures { (s : State) → before ≡ cost_found (key_bytes key.now)
+        (map.get s.flags (key_bytes key.now))
+        → result ≡ cost_found (key_bytes key.now)
+        (map.get (after_all s (changes_of edits.now)).flags (key_bytes key.now)) }
 {
-    let mut cost = set.cost_at(key);
+    let mut cost = before;
     for edit in edits {
         cost = key_cost(edit, key, cost);
     }
@@ -85,22 +89,62 @@ impl FlagSet {
     pub fn accepts(&self, edits: &[Edit]) -> bool
         ensures { IsTrue result ↔ Follows self.now (changes_of edits.now) }
     {
-        let limit = self.limit();
-        let mut revision = self.revision();
-        let mut count = self.len();
-        let mut size = self.size();
+        self.tally_behind(&[], self.tally(), edits).is_some()
+    }
+
+    /// Whether the set accepts the edits behind those that are ahead of it. It takes no memory.
+    pub fn accepts_behind(&self, ahead: &[Edit], edits: &[Edit]) -> bool
+        requires { Follows self.now (changes_of ahead.now) }
+        ensures { IsTrue result
+            ↔ Follows (after_all self.now (changes_of ahead.now)) (changes_of edits.now) }
+    {
+        let Some(tally) = self.tally_behind(&[], self.tally(), ahead) else {
+            return false;
+        };
+        self.tally_behind(ahead, tally, edits).is_some()
+    }
+
+    fn tally(&self) -> Tally
+        ensures { IsTallyOf result self.now }
+    {
+        Tally {
+            limit: self.limit(),
+            revision: self.revision(),
+            count: self.len(),
+            size: self.size(),
+        }
+    }
+
+    // The numbers behind the edits, where the set accepts them behind those of `ahead`, which lead
+    // to the numbers given.
+    fn tally_behind(&self, ahead: &[Edit], tally: Tally, edits: &[Edit]) -> Option<Tally>
+        requires { IsTallyOf tally (after_all self.now (changes_of ahead.now)) }
+        ensures accepted { IfSome result (λ t.
+            Follows (after_all self.now (changes_of ahead.now)) (changes_of edits.now)
+            × IsTallyOf t (after_all (after_all self.now (changes_of ahead.now))
+            (changes_of edits.now))) }
+        ensures refused { IfNone result
+            (Follows (after_all self.now (changes_of ahead.now)) (changes_of edits.now) → ⊥) }
+    {
+        let limit = tally.limit;
+        let mut revision = tally.revision;
+        let mut count = tally.count;
+        let mut size = tally.size;
         for i in 0..edits.len() {
             let edit = &edits[i];
-            let found = cost_after(self, &edits[..i], edit.key());
-            let Some((count_then, size_then)) = judged(limit, revision, count, size, found, edit)
-            else {
-                return false;
-            };
+            let key = edit.key();
+            let found = cost_after(&edits[..i], key, cost_after(ahead, key, self.cost_at(key)));
+            let (count_then, size_then) = judged(limit, revision, count, size, found, edit)?;
             revision += 1;
             count = count_then;
             size = size_then;
         }
-        true
+        Some(Tally {
+            limit,
+            revision,
+            count,
+            size,
+        })
     }
 
     /// Takes into the set the edits that are ahead of it. Where memory is wanting it

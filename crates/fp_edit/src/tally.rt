@@ -14,6 +14,15 @@ use crate::flag_set::MOST_FLAGS;
 use crate::flags::cost_of;
 use fp_definition::FlagKey;
 
+// These numbers.
+#[derive(Clone, Copy)]
+pub(crate) struct Tally {
+    pub(crate) limit: u64,
+    pub(crate) revision: u64,
+    pub(crate) count: usize,
+    pub(crate) size: u64,
+}
+
 // Whether it is the key of the edit.
 fn is_key_of(edit: &Edit, key: &FlagKey) -> bool
     ensures { IsTrue result ↔ (changed_key (change_of edit.now) ≡ key_bytes key.now) }

@@ -145,7 +145,7 @@ module _ {D : Type 0} (honest : D → Type 0) (unsynced : D → PendingState) {s
   pub refuses : (faults : D → ℕ) → s.slots.journal.phase ≢ Failed → (group : Group) (e : StoreFault) → IsStrange (after_all set ahead) group e → RefusesBy faults s s group e
   refuses faults going group fault.Device h = absurd h
   refuses faults going group fault.Failed h = absurd h
-  refuses faults going group fault.Memory h = (going, refl)
+  refuses faults going group fault.Memory h = (going, refl, subst (λ (t : State). GoesOn t group) i.set_is h)
   refuses faults going group fault.Stranger h = (going, refl, λ on. h (subst (λ (t : State). GoesOn t group) (sym i.set_is) on))
 
   -- ---- the batch is sealed

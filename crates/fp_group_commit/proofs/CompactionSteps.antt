@@ -1,5 +1,5 @@
 -- A step of a compaction, in each of its kinds.
-use Rattle.std.proofs.Common.{◌≡◌, ◌≢◌, ◌⊎◌, ◌<◌, ◌≤◌, ◌+◌, ◌-◌, ◌*◌, ◌/◌, ◌^◌, ℕ, true, false, List, [], ◌∷◌, ◌++◌, length, refl, sym, ap, subst, ◌∙◌, inl, inr, arith}
+use Rattle.std.proofs.Common.{◌≡◌, ◌≢◌, ◌⊎◌, ◌<◌, ◌≤◌, ◌+◌, ◌-◌, ◌*◌, ◌/◌, ◌^◌, ℕ, false, List, [], ◌∷◌, ◌++◌, length, refl, sym, ap, subst, ◌∙◌, inl, inr, arith}
 use Rattle.fp_disk.specs.Outcomes.{LeavesOnly}
 use Rattle.fp_disk.specs.Moments.{leaves_map}
 use Rattle.fp_disk.specs.declared.disk.Disk.{Ghosts}
@@ -254,15 +254,15 @@ module _ {D : Type 0} (disk : Ghosts D) {s : StoreState D} {set : State} {first 
         (λ off on. let same = (stays off on).slots in room_same s.slots.journal t.journal same.0.1 same.0.2 same.1)
         (λ at. absurd (on at))
 
-    begun_now : journal.has_begun s.slots.journal.phase s.slots.journal.begun ≡ true → journal.has_begun t.journal.phase t.journal.begun ≡ true
-    begun_now b = by_place s.slots.step _
-        (λ at. subst (λ (j : JournalState D). journal.has_begun j.phase j.begun ≡ true) (sym (begun at).journal) b)
-        (λ off on. ap (λ (p : Phase). journal.has_begun p t.journal.begun) (stays off on).phase ∙ ap (journal.has_begun s.slots.journal.phase) (stays off on).slots.9 ∙ b)
-        (λ at. let none : false ≡ true = sym (ap (λ (p : Phase). journal.has_begun p s.slots.journal.begun) (turned at).still) ∙ b in absurd (cc none))
+    pub begun_now : journal.has_begun t.journal.phase t.journal.begun ≡ journal.has_begun s.slots.journal.phase s.slots.journal.begun
+    begun_now = by_place s.slots.step _
+        (λ at. ap (λ (j : JournalState D). journal.has_begun j.phase j.begun) (begun at).journal)
+        (λ off on. ap (λ (p : Phase). journal.has_begun p t.journal.begun) (stays off on).phase ∙ ap (journal.has_begun s.slots.journal.phase) (stays off on).slots.9)
+        (λ at. let turn = turned at in ap (λ (p : Phase). journal.has_begun p t.journal.begun) turn.phase ∙ sym (ap (λ (p : Phase). journal.has_begun p s.slots.journal.begun) turn.still))
 
     pub leaves_then : (c : List ℕ) → Leaves s c → Leaves Then c
     leaves_then c (inl stands) = inl stands
-    leaves_then c (inr both) = inr (both.0, begun_now both.1, both.2)
+    leaves_then c (inr both) = inr (both.0, begun_now ∙ both.1, both.2)
 
     slots_now : s.slots.step ≢ SyncOpen → (t.other ≡ s.slots.other) × (t.generation ≡ s.slots.generation) × (t.may_open ≡ s.slots.may_open)
     slots_now on = by_place s.slots.step _
@@ -319,9 +319,12 @@ module _ {D : Type 0} (disk : Ghosts D) {s : StoreState D} {set : State} {first 
     pub sound_broken : IsSound disk.honest disk.unsynced (Moved disk.honest disk.unsynced i s.step t) set first ahead copies
     sound_broken = sound_same t taken_step off.slots (inr off.failed) (λ runs. subst (λ (x : Step). HasBegun x) order runs) (λ f. subst (λ (x : Step). IsEarly x) (sym order) f.early)
 
+    pub begun_broken : journal.has_begun s.slots.journal.phase s.slots.journal.begun ≡ s.slots.journal.begun → journal.has_begun t.journal.phase t.journal.begun ≡ journal.has_begun s.slots.journal.phase s.slots.journal.begun
+    begun_broken told = begun_stays s.slots.journal.phase t.journal.phase s.slots.journal.begun t.journal.begun told off.slots.9 off.failed
+
     pub leaves_broken : journal.has_begun s.slots.journal.phase s.slots.journal.begun ≡ s.slots.journal.begun → (c : List ℕ) → Leaves s c → Leaves (Moved disk.honest disk.unsynced i s.step t) c
     leaves_broken told c (inl stands) = inl stands
-    leaves_broken told c (inr both) = inr (both.0, begun_stays s.slots.journal.phase t.journal.phase s.slots.journal.begun t.journal.begun told off.slots.9 (inr off.failed) both.1, both.2)
+    leaves_broken told c (inr both) = inr (both.0, begun_broken told ∙ both.1, both.2)
 
     pub breaks_step : (left : t.left ≡ s.slots.left) → s.slots.journal.phase ≢ Failed → Breaks disk.faults s (Moved disk.honest disk.unsynced i s.step t)
     breaks_step left well = breaks disk.faults s (Moved disk.honest disk.unsynced i s.step t) well off.failed off.cause refl

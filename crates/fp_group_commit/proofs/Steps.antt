@@ -56,10 +56,33 @@ pub begun_opened : (p : Phase) (b : Bool) → (p ≡ GateOpened) ⊎ ((p ≡ Fai
 begun_opened p b (inl e) = subst (λ (x : Phase). journal.has_begun x b ≡ true) (sym e) refl
 begun_opened p b (inr e) = subst (λ (x : Phase). journal.has_begun x b ≡ true) (sym e.0) e.1
 
--- what began to open stays so
-pub begun_stays : (p q : Phase) (b b2 : Bool) → journal.has_begun p b ≡ b → b2 ≡ b → (q ≡ p) ⊎ (q ≡ Failed) → journal.has_begun p b ≡ true → journal.has_begun q b2 ≡ true
-begun_stays p q b b2 told same (inl e) begun = ap (λ (x : Phase). journal.has_begun x b2) e ∙ ap (journal.has_begun p) same ∙ begun
-begun_stays p q b b2 told same (inr e) begun = ap (λ (x : Phase). journal.has_begun x b2) e ∙ same ∙ sym told ∙ begun
+-- no call has begun to open it
+pub begun_shut : (p q : Phase) (b : Bool) → q ≢ GateOpened → b ≡ false → (p ≡ q) ⊎ (p ≡ Failed) → journal.has_begun p b ≡ false
+begun_shut p q b off none (inl e) = ap (λ (x : Phase). journal.has_begun x b) e ∙ shut_at q b off none
+  where
+    shut_at : (q : Phase) (b : Bool) → q ≢ GateOpened → b ≡ false → journal.has_begun q b ≡ false
+    shut_at Idle b off none = refl
+    shut_at Staged b off none = refl
+    shut_at BodySynced b off none = refl
+    shut_at GateOpened b off none = absurd (off refl)
+    shut_at Failed b off none = none
+begun_shut p q b off none (inr e) = ap (λ (x : Phase). journal.has_begun x b) e ∙ none
+
+-- where no call failed, the phase tells it
+pub begun_at : (p q : Phase) (b : Bool) → p ≢ Failed → (p ≡ q) ⊎ (p ≡ Failed) → journal.has_begun p b ≡ journal.has_begun q false
+begun_at p q b well (inl e) = by_phase p b well ∙ ap (λ (x : Phase). journal.has_begun x false) e
+  where
+    by_phase : (p : Phase) (b : Bool) → p ≢ Failed → journal.has_begun p b ≡ journal.has_begun p false
+    by_phase Idle b well = refl
+    by_phase Staged b well = refl
+    by_phase BodySynced b well = refl
+    by_phase GateOpened b well = refl
+    by_phase Failed b well = absurd (well refl)
+begun_at p q b well (inr e) = absurd (well e)
+
+-- it stays so where the device fails
+pub begun_stays : (p q : Phase) (b b2 : Bool) → journal.has_begun p b ≡ b → b2 ≡ b → q ≡ Failed → journal.has_begun q b2 ≡ journal.has_begun p b
+begun_stays p q b b2 told same e = ap (λ (x : Phase). journal.has_begun x b2) e ∙ same ∙ sym told
 
 -- ---- steps
 late_begun : (p : Step) → IsLate p → HasBegun p

@@ -101,15 +101,16 @@ abbrev pub RefusesBy : {D : Type 0} → (D → ℕ) → StoreState D → StoreSt
     Group → StoreFault → Type 0
 RefusesBy faults old new group fault.Device = Breaks faults old new × GoesOn (sealed_set old) group
 RefusesBy faults old new group fault.Failed = (old.slots.journal.phase ≡ Failed) × (new ≡ old)
-RefusesBy faults old new group fault.Memory = (old.slots.journal.phase ≢ Failed) × (new ≡ old)
+RefusesBy faults old new group fault.Memory =
+    (old.slots.journal.phase ≢ Failed) × (new ≡ old) × GoesOn (sealed_set old) group
 RefusesBy faults old new group fault.Stranger =
     (old.slots.journal.phase ≢ Failed) × (new ≡ old) × (GoesOn (sealed_set old) group → ⊥)
 
--- what stands against a group before anything is written
+-- what stands against a group before anything is written: want of memory only where it isn't strange
 abbrev pub IsStrange : State → Group → StoreFault → Type 0
 IsStrange s group fault.Device = ⊥
 IsStrange s group fault.Failed = ⊥
-IsStrange s group fault.Memory = Unit {0}
+IsStrange s group fault.Memory = GoesOn s group
 IsStrange s group fault.Stranger = GoesOn s group → ⊥
 
 -- ---- a step of a compaction

@@ -24,6 +24,15 @@ front_revision f = f.store.start.revision + length f.edits
 abbrev pub front_set : FrontState → State
 front_set f = after_all f.store.start f.edits
 
+-- such a beginning, which batches came to one after another, and the last of them
+pub record SettledState : Type 0 where
+  pub store : Identity
+  pub edits : List Change
+  pub last : List Change
+
+abbrev pub front_of : SettledState → FrontState
+front_of s = record { store = s.store; edits = s.edits }
+
 -- some edits, and then these
 abbrev pub EndsWith : List Change → List Change → Type 0
 EndsWith edits last = (before : List Change) × (edits ≡ before ++ last)

@@ -1,13 +1,15 @@
 //! A batch on its way, by four calls with one call of the disk each.
 
-ghost use Rattle.std.specs.Prelude.{◌≡◌, ◌+◌, ◌++◌, [], ◌∷◌, IfOk, IfErr, OnOk, OnErr};
+ghost use Rattle.std.specs.Prelude.{◌≡◌, ◌+◌, ◌++◌, [], ◌∷◌, true, false, IfOk, IfErr, OnOk};
+ghost use Rattle.std.specs.Prelude.{OnErr};
 ghost use Rattle.fp_disk.specs.declared.history.CallKind.TheVariants.{Sync, Write};
 ghost use Rattle.fp_journal.specs.declared.journal.Phase.TheVariants.{Idle, Staged, BodySynced};
 ghost use Rattle.fp_journal.specs.declared.journal.Phase.TheVariants.{GateOpened};
 ghost use Rattle.fp_group_commit.specs.Calls.{CallsDisk, FailsBy, MovesOn, MovesTo, RefusesBy};
 ghost use Rattle.fp_group_commit.specs.Calls.{SameRoom, SameStore, TakesRoom};
 ghost use Rattle.fp_group_commit.specs.Changes.{GoesOn, HasRoom};
-ghost use Rattle.fp_group_commit.specs.Store.{Leaves, sealed_set};
+ghost use Rattle.fp_group_commit.specs.Store.{Leaves, has_begun, sealed_set};
+ghost use Rattle.fp_group_commit.specs.declared.fault.StoreFault.TheVariants.{Device};
 
 use crate::draw::{Draw, InDraw, ready};
 use crate::fault::StoreFault;
@@ -32,6 +34,7 @@ impl<D: Disk> Store<D> {
         ensures fault { IfErr result (λ e. RefusesBy D.faults self.old self.new draw e.0) }
         ensures given_back { IfErr result (λ e. e.1 ≡ draw) }
         ensures same_room { SameRoom self.old self.new }
+        ensures begun { has_begun self.new ≡ false }
         ensures disk { CallsDisk D.Disk (Write ∷ []) self.old self.new (Leaves self.old) result }
     {
         if let Phase::Failed = phase(&self.slots) {
@@ -64,6 +67,7 @@ impl<D: Disk> Store<D> {
     pub fn sync_body(&mut self) -> Result<(), StoreFault>
         requires { self.old.step ≡ Staged }
         ensures moves { MovesOn D.faults BodySynced self.old self.new result }
+        ensures begun { has_begun self.old ≡ false → has_begun self.new ≡ false }
         ensures disk { CallsDisk D.Disk (Sync ∷ []) self.old self.new (Leaves self.old) result }
     {
         if let Phase::Failed = phase(&self.slots) {
@@ -81,6 +85,8 @@ impl<D: Disk> Store<D> {
         requires { self.old.step ≡ BodySynced }
         ensures moves { MovesOn D.faults GateOpened self.old self.new result }
         // This call begins to open the gate, so what it leaves is said of the store after it.
+        ensures begun { OnOk result (has_begun self.new ≡ true)
+            × IfErr result (λ e. e ≡ Device → has_begun self.new ≡ true) }
         ensures disk { CallsDisk D.Disk (Write ∷ []) self.old self.new (Leaves self.new) result }
     {
         if let Phase::Failed = phase(&self.slots) {
@@ -107,6 +113,8 @@ impl<D: Disk> Store<D> {
         ensures phase { OnErr result (self.new.step ≡ self.old.step) }
         ensures fault { IfErr result (FailsBy D.faults self.old self.new) }
         ensures takes_room { OnOk result (TakesRoom self.old self.new) }
+        ensures begun { OnOk result (has_begun self.new ≡ false)
+            × OnErr result (has_begun self.old ≡ true → has_begun self.new ≡ true) }
         ensures disk { CallsDisk D.Disk (Sync ∷ []) self.old self.new (Leaves self.old) result }
     {
         if let Phase::Failed = phase(&self.slots) {

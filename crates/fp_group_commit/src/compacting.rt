@@ -7,7 +7,7 @@ ghost use Rattle.std.specs.Prelude.{◌≡◌, length, IfOk, IfErr, OnOk, OnErr}
 ghost use Rattle.fp_compaction.specs.Steps.{calls_of};
 ghost use Rattle.fp_slots.specs.declared.slots.Step.TheVariants.{Begin};
 ghost use Rattle.fp_group_commit.specs.Calls.{CallsDisk, Compacts, SameStore, StopsBy};
-ghost use Rattle.fp_group_commit.specs.Store.{Leaves, MayCompact};
+ghost use Rattle.fp_group_commit.specs.Store.{Leaves, MayCompact, has_begun};
 
 use crate::fault::StoreFault;
 use crate::store::Store;
@@ -52,6 +52,7 @@ impl<D: Disk> Store<D> {
         requires { MayCompact self.old }
         ensures same { SameStore self.old self.new }
         ensures phase { self.new.step ≡ self.old.step }
+        ensures begun { has_begun self.new ≡ has_begun self.old }
         ensures ok { OnOk result (Compacts D.faults self.old self.new) }
         ensures next { IfOk result (λ next. next ≡ self.new.slots.step) }
         ensures fault { IfErr result (StopsBy D.faults self.old self.new) }

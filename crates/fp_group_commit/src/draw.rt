@@ -115,6 +115,20 @@ fn framed(alloc: Global, most: u32, draw: &Draw) -> Result<(Framed, VecDeque<Edi
     Ok((framed, VecDeque::from(batch.into_edits())))
 }
 
+// Why a draw isn't staged, where there is no memory to take into the set what is ahead of it.
+fn refusal_behind(set: &FlagSet, ahead: &[Edit], draw: &Draw) -> StoreFault
+    requires { Follows set.now (changes_of ahead.now) }
+    ensures { IsStrange (after_all set.now (changes_of ahead.now)) draw.now result }
+{
+    if draw.first != set.revision() + ahead.len() as u64 + 1 {
+        return StoreFault::Stranger;
+    }
+    if !set.accepts_behind(ahead, &draw.edits) {
+        return StoreFault::Stranger;
+    }
+    StoreFault::Memory
+}
+
 // Takes into the set what is ahead of it, and all memory of the draw, where it goes on from there.
 pub(crate) fn ready(
     alloc: Global,
@@ -140,7 +154,7 @@ pub(crate) fn ready(
         (IsStrange (after_all set.old (changes_of ahead.old.items)) draw.now) }
 {
     if set.catch_up(ahead).is_err() {
-        return Err(StoreFault::Memory);
+        return Err(refusal_behind(set, ahead.make_contiguous(), draw));
     }
     if draw.first != set.revision() + 1 {
         return Err(StoreFault::Stranger);

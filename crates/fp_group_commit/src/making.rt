@@ -10,14 +10,18 @@ ghost use Rattle.fp_edit.specs.Flags.{State};
 ghost use Rattle.fp_gate.specs.declared.gate.TheConstants.{OPEN};
 ghost use Rattle.fp_journal.specs.Pieces.{ThenReads, ThenSomeReads};
 ghost use Rattle.fp_layout.specs.NewDisk.{IsNewDisk, StaysAsItWas, format_calls};
-ghost use Rattle.fp_layout.specs.Size.{IsSlotSize};
+ghost use Rattle.fp_layout.specs.Layout.{HasSlots};
+ghost use Rattle.fp_layout.specs.Size.{IsSlotSize, first_slot, second_slot};
 ghost use Rattle.fp_layout.specs.declared.fault.OpenFault.TheVariants as opening;
+ghost use Rattle.fp_layout.specs.declared.format.TheConstants.{FIRST_GATE};
+ghost use Rattle.fp_compaction.specs.Sets.{place_of};
 ghost use Rattle.fp_recovery.specs.Durable.{IsNewSetOrNone, IsDurable};
+ghost use Rattle.fp_recovery.specs.Recovered.{StandsAt};
 ghost use Rattle.fp_recovery.specs.Refusals.{IsUnlessWanting, RefusesBytes};
 ghost use Rattle.fp_recovery.specs.Stands.{StandsFor};
 ghost use Rattle.fp_group_commit.specs.Store.{IsFresh, new_set};
 ghost use Rattle.fp_group_commit.specs.declared.fault.CreateFault.TheVariants.{NotEmpty, BadSize};
-ghost use Rattle.fp_group_commit.specs.declared.fault.CreateFault.TheVariants.{Device};
+ghost use Rattle.fp_group_commit.specs.declared.fault.CreateFault.TheVariants.{Device, Memory};
 
 use crate::fault::CreateFault;
 use crate::opening::Opening;
@@ -35,6 +39,8 @@ fn refusal_of_size<D: Disk>(disk: &mut D) -> CreateFault
     ensures honest { SameHonesty D.Disk disk.old disk.new }
     ensures called { D.calls disk.new ≡ D.calls disk.old ++ Length ∷ [] }
     ensures cause { result ≡ Device → D.faults disk.old < D.faults disk.new }
+    ensures unfailed { result ≢ Device → D.faults disk.new ≡ D.faults disk.old }
+    ensures no_memory { result ≢ Memory }
 {
     match disk.len() {
         Ok(0) => CreateFault::BadSize,
@@ -54,6 +60,9 @@ impl<D: Disk> Store<D> {
         ensures empty { D.honest disk → IsOk result → D.bytes disk ≡ [] }
         ensures fresh { IfOk result (λ r. IsFresh r.0 (new_set size)) }
         ensures opening { IfOk result (λ r. r.1 ≡ r.0.store) }
+        ensures slots { IfOk result (λ r. (r.0.slots.journal.slot ≡ first_slot size)
+            × (r.0.slots.other ≡ second_slot size)) }
+        ensures gate { IfOk result (λ r. (place_of r.0.slots.journal).gate ≡ FIRST_GATE) }
         ensures other_gate { IfOk result (λ r. r.0.slots.may_open ≡ false) }
         ensures made { D.honest disk →
             IfOk result (λ r. IsNewDisk size (D.bytes r.0.slots.journal.disk)) }
@@ -66,6 +75,9 @@ impl<D: Disk> Store<D> {
         ensures no_size { IfErr result (λ e. e.0 ≡ BadSize → IsSlotSize size → ⊥) }
         ensures no_failure { IfOk result (λ r. D.faults r.0.slots.journal.disk ≡ D.faults disk) }
         ensures cause { IfErr result (λ e. e.0 ≡ Device → D.faults disk < D.faults e.1) }
+        ensures unfailed { IfErr result (λ e. e.0 ≢ Device → D.faults e.1 ≡ D.faults disk) }
+        // Memory is taken only for a disk of a size that may be.
+        ensures memory { IfErr result (λ e. e.0 ≡ Memory → IsSlotSize size) }
 
         // Where it holds bytes it stays, whatever failed, and else where the device didn't fail.
         ensures kept { D.honest disk → IfErr result (λ e. (D.bytes disk ≢ []) ⊎ (e.0 ≢ Device)
@@ -102,6 +114,11 @@ impl<D: Disk> Store<D> {
     pub fn open(alloc: Global, disk: D) -> Result<(Store<D>, Opening), (OpenFault, D)>
         ensures stands { D.honest disk →
             IfOk result (λ r. StandsFor (D.bytes disk) r.0.store.start) }
+        // What a batch may take and what is left are those of the disk's slot, behind what it holds.
+        ensures place { D.honest disk → IfOk result (λ r.
+            StandsAt (D.bytes disk) r.0.store.start (place_of r.0.slots.journal)) }
+        ensures slots { D.honest disk → IfOk result (λ r. HasSlots (D.bytes disk)
+            r.0.slots.journal.slot r.0.slots.other r.0.slots.generation) }
         ensures only { D.honest disk → IfOk result (λ r. (other : State) →
             StandsFor (D.bytes disk) other → other ≡ r.0.store.start) }
         ensures fresh { IfOk result (λ r. IsFresh r.0 r.0.store.start) }
@@ -117,6 +134,7 @@ impl<D: Disk> Store<D> {
         ensures refused { D.honest disk → IfErr result (λ e. IsUnlessWanting (D.bytes disk) e.0) }
         ensures no_failure { IfOk result (λ r. D.faults r.0.slots.journal.disk ≡ D.faults disk) }
         ensures cause { IfErr result (λ e. e.0 ≡ opening.Device → D.faults disk < D.faults e.1) }
+        ensures memory { IfErr result (λ e. e.0 ≡ opening.Memory → D.faults e.1 ≡ D.faults disk) }
         ensures called { MatchResult result
             (λ r. ThenReads (Sync ∷ Length ∷ []) (D.calls disk) (D.calls r.0.slots.journal.disk))
             (λ e. ThenSomeReads (Sync ∷ Length ∷ []) (D.calls disk) (D.calls e.1)) }

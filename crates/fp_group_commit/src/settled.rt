@@ -2,7 +2,7 @@
 
 ghost use Rattle.std.specs.Prelude.{◌≡◌, ◌<◌, ◌+◌, ◌++◌, []};
 ghost use Rattle.fp_edit.specs.Following.{changes_of};
-ghost use Rattle.fp_group_commit.specs.Tokens.{EndsWith, front_revision};
+ghost use Rattle.fp_group_commit.specs.Tokens.{EndsWith, front_of, front_revision};
 
 use crate::opening::Opening;
 use crate::part::Part;
@@ -25,13 +25,17 @@ impl Model for Settled {
     ghost use Rattle.fp_edit.specs.Flags.{coded_state};
     ghost use Rattle.fp_edit.specs.Following.{changes_of};
     ghost use Rattle.fp_group_commit.specs.Changes.{coded_change};
-    ghost use Rattle.fp_group_commit.specs.Tokens.{EndsWith, FrontState, front_revision};
+    ghost use Rattle.fp_group_commit.specs.Tokens.{EndsWith, SettledState, front_revision};
 
-    ghost Value = { FrontState };
+    ghost Value = { SettledState };
 
     ghost coded = { Prim.hlevel (codes, coded_state, coded_change) };
 
-    ghost view = { λ s. s.part };
+    ghost view = { λ s. record {
+      store = s.part.store;
+      edits = s.part.edits;
+      last = changes_of s.last.items;
+    } };
 
     ghost invariant = { λ s. (s.revision ≡ front_revision s.part)
         × EndsWith s.part.edits (changes_of s.last.items) };
@@ -81,7 +85,8 @@ impl Settled {
     /// Nothing is settled yet.
     pub fn of(alloc: Global, opening: Opening) -> (FlagSet, Settled)
         ensures set { result.0 ≡ opening.start }
-        ensures settled { (result.1.store ≡ opening) × (result.1.edits ≡ []) }
+        ensures settled { (result.1.store ≡ opening) × (result.1.edits ≡ [])
+            × (result.1.last ≡ []) }
     {
         let Opening { set, part } = opening;
         let settled = Settled {
@@ -103,7 +108,7 @@ impl Settled {
 
     /// The last revision that is settled.
     pub fn revision(&self) -> u64
-        ensures { result ≡ front_revision self.now }
+        ensures { result ≡ front_revision (front_of self.now) }
     {
         let _ = &self.part;
         self.revision
@@ -112,10 +117,11 @@ impl Settled {
     /// Spends a receipt for the batch that comes next, and keeps its edits.
     pub fn advance(&mut self, receipt: Receipt)
         requires store { receipt.store ≡ self.old.store }
-        requires next { receipt.batch.first ≡ front_revision self.old + 1 }
+        requires next { receipt.batch.first ≡ front_revision (front_of self.old) + 1 }
         ensures store { self.new.store ≡ self.old.store }
         ensures edits { self.new.edits ≡ self.old.edits ++ receipt.batch.changes }
         ensures all { self.new.edits ≡ receipt.edits }
+        ensures last { self.new.last ≡ receipt.batch.changes }
     {
         let Receipt { draw, part } = receipt;
         self.part.meets(&part);
@@ -126,7 +132,8 @@ impl Settled {
 
     /// The edits of the batch that came last.
     pub fn last_batch(&self) -> &[Edit]
-        ensures { EndsWith self.now.edits (changes_of result.now) }
+        ensures last { changes_of result.now ≡ self.now.last }
+        ensures ends { EndsWith self.now.edits (changes_of result.now) }
     {
         let _ = &self.part;
         &self.last
@@ -134,7 +141,7 @@ impl Settled {
 
     /// Tells what is settled.
     pub fn tell(&self) -> Told
-        ensures { result ≡ self.now }
+        ensures { result ≡ front_of self.now }
     {
         Told {
             revision: self.revision,

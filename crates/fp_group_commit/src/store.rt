@@ -2,17 +2,17 @@
 
 ghost use Rattle.fp_disk.specs.Crashes.{EachCrash};
 ghost use Rattle.std.specs.Prelude.{◌≡◌, ◌≢◌, ◌<◌, ◌+◌, ◌-◌, ◌/◌, ◌↔◌, ℕ, length};
-ghost use Rattle.std.specs.Prelude.{IsTrue};
+ghost use Rattle.std.specs.Prelude.{IsTrue, false};
 ghost use mathlib.Core.List.{IsPrefix};
 ghost use Rattle.fp_journal.specs.declared.journal.Phase.TheVariants.{Idle, Failed};
-ghost use Rattle.fp_journal.specs.State.{room};
+ghost use Rattle.fp_journal.specs.State.{has_begun as begins_at, room};
 ghost use Rattle.fp_compaction.specs.Sets.{IsKeptIn, IsPlaced};
 ghost use Rattle.fp_recovery.specs.Stands.{StandsFor};
 ghost use Rattle.fp_slots.specs.declared.slots.Step.TheVariants.{Begin};
 ghost use Rattle.fp_recovery.specs.Room.{HasNoRoom, IsFullFor};
 ghost use Rattle.fp_group_commit.specs.Changes.{HasRoom, batch_len};
 ghost use Rattle.fp_group_commit.specs.Store.{IsAtRest, IsFresh, Leaves, MayCompact, sealed_set};
-ghost use Rattle.fp_group_commit.specs.Store.{readable_set};
+ghost use Rattle.fp_group_commit.specs.Store.{has_begun, readable_set};
 
 use crate::draw::{Draw, has_room};
 use crate::opening::Opening;
@@ -117,6 +117,9 @@ impl<D: Disk> Store<D> {
     /// A call that the device refuses leaves it.
     pub fn phase(&self) -> Phase
         ensures phase { result ≡ self.now.step }
+        // Where no call of the device failed, opening the gate has begun exactly where it is open.
+        ensures begun { self.now.slots.journal.phase ≢ Failed →
+            has_begun self.now ≡ begins_at result false }
         ensures outcomes { EachCrash D.Disk self.now.slots.journal.disk (Leaves self.now) }
     {
         let _ = phase(&self.slots);

@@ -128,6 +128,7 @@ fn next_body<D: Disk>(
     ensures kept { OnlyReads D.Disk disk.old disk.new }
     ensures no_failure { OnOk result (D.faults disk.new ≡ D.faults disk.old) }
     ensures cause { IsErrOf result Device → D.faults disk.old < D.faults disk.new }
+    ensures memory { IsErrOf result Memory → D.faults disk.new ≡ D.faults disk.old }
     ensures small { most < 2 ^ 32 }
 {
     if at >= limit {
@@ -163,6 +164,7 @@ pub fn read_chain<D: Disk, R: Reader>(
     ensures kept { OnlyReads D.Disk disk.old disk.new }
     ensures no_failure { OnOk result (D.faults disk.new ≡ D.faults disk.old) }
     ensures cause { IsErrOf result Device → D.faults disk.old < D.faults disk.new }
+    ensures memory { IsErrOf result Memory → D.faults disk.new ≡ D.faults disk.old }
 {
     let limit = slot.stop.min(len);
     let mut window = Window::new(alloc, at);

@@ -6,7 +6,7 @@ ghost use Rattle.fp_disk.specs.Outcomes.{all_synced};
 ghost use Rattle.fp_journal.specs.Holds.{Holds};
 ghost use Rattle.fp_journal.specs.Pieces.{OnlyReads};
 ghost use Rattle.fp_journal.specs.Reading.{ReadsChain, Refuses};
-ghost use Rattle.fp_journal.specs.declared.chain.ChainFault.TheVariants.{Device};
+ghost use Rattle.fp_journal.specs.declared.chain.ChainFault.TheVariants.{Device, Memory};
 ghost use Rattle.fp_journal.specs.declared.journal.Phase.TheVariants.{Idle};
 
 use crate::chain::{ChainFault, Reader, read_chain};
@@ -39,6 +39,7 @@ pub fn resume<D: Disk, R: Reader>(
         (λ e. OnlyReads D.Disk disk e.1) }
     ensures no_failure { IfOk result (λ j. D.faults j.disk ≡ D.faults disk) }
     ensures cause { IfErr result (λ e. e.0 ≡ Device → D.faults disk < D.faults e.1) }
+    ensures memory { IfErr result (λ e. e.0 ≡ Memory → D.faults e.1 ≡ D.faults disk) }
 {
     match read_chain(alloc, &mut disk, at, slot, len, reader, &mut text) {
         Ok(end) => Ok(Journal::go_on(alloc, disk, slot, text, end)),

@@ -54,6 +54,7 @@ fn read_piece<D: Disk>(
     ensures kept { OnlyReads D.Disk disk.old disk.new }
     ensures no_failure { OnOk result (D.faults disk.new ≡ D.faults disk.old) }
     ensures cause { IsErrOf result Device → D.faults disk.old < D.faults disk.new }
+    ensures memory { IsErrOf result Memory → D.faults disk.new ≡ D.faults disk.old }
 {
     let mut piece = Vec::new(alloc);
     piece.resize(count, 0)?;
@@ -80,6 +81,7 @@ fn put_piece<D: Disk>(
     ensures kept { OnlyReads D.Disk disk.old disk.new }
     ensures no_failure { OnOk result (D.faults disk.new ≡ D.faults disk.old) }
     ensures cause { IsErrOf result Device → D.faults disk.old < D.faults disk.new }
+    ensures memory { IsErrOf result Memory → D.faults disk.new ≡ D.faults disk.old }
 {
     let piece = read_piece(alloc, disk, first + bytes.len() as u64, count)?;
     bytes.extend_from_slice(&piece)?;
@@ -104,6 +106,7 @@ pub(crate) fn read_on<D: Disk>(
     ensures kept { OnlyReads D.Disk disk.old disk.new }
     ensures no_failure { OnOk result (D.faults disk.new ≡ D.faults disk.old) }
     ensures cause { IsErrOf result Device → D.faults disk.old < D.faults disk.new }
+    ensures memory { IsErrOf result Memory → D.faults disk.new ≡ D.faults disk.old }
 {
     let stop = bytes.len() + count;
     while bytes.len() < stop {
@@ -127,6 +130,7 @@ pub fn read_bytes<D: Disk>(
     ensures kept { OnlyReads D.Disk disk.old disk.new }
     ensures no_failure { OnOk result (D.faults disk.new ≡ D.faults disk.old) }
     ensures cause { IsErrOf result Device → D.faults disk.old < D.faults disk.new }
+    ensures memory { IsErrOf result Memory → D.faults disk.new ≡ D.faults disk.old }
 {
     let mut bytes = Vec::with_capacity(alloc, count)?;
     read_on(alloc, disk, at, count, &mut bytes)?;
@@ -149,6 +153,7 @@ pub fn read_first<D: Disk>(
     ensures kept { OnlyReads D.Disk disk.old disk.new }
     ensures no_failure { OnOk result (D.faults disk.new ≡ D.faults disk.old) }
     ensures cause { IsErrOf result Device → D.faults disk.old < D.faults disk.new }
+    ensures memory { IsErrOf result Memory → D.faults disk.new ≡ D.faults disk.old }
 {
     let there = (len - at).min(count as u64) as usize;
     let bytes = read_bytes(alloc, disk, at, there)?;

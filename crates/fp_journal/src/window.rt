@@ -5,7 +5,7 @@ ghost use Rattle.std.specs.Prelude.{IsErrOf};
 ghost use Rattle.fp_journal.specs.Holds.{Holds};
 ghost use Rattle.fp_journal.specs.Pieces.{OnlyReads};
 ghost use Rattle.fp_journal.specs.Windows.{IsWindowAt, StandsIn};
-ghost use Rattle.fp_journal.specs.declared.pieces.BytesFault.TheVariants.{Device};
+ghost use Rattle.fp_journal.specs.declared.pieces.BytesFault.TheVariants.{Device, Memory};
 
 use crate::pieces::{BytesFault, PIECE, read_on};
 use fp_disk::Disk;
@@ -68,6 +68,7 @@ impl Window {
         ensures kept { OnlyReads D.Disk disk.old disk.new }
         ensures no_failure { OnOk result (D.faults disk.new ≡ D.faults disk.old) }
         ensures cause { IsErrOf result Device → D.faults disk.old < D.faults disk.new }
+        ensures memory { IsErrOf result Memory → D.faults disk.new ≡ D.faults disk.old }
     {
         let first = (at - self.at) as usize;
         let there = self.bytes.len() - first;
@@ -98,6 +99,7 @@ fn read_from<D: Disk>(
     ensures kept { OnlyReads D.Disk disk.old disk.new }
     ensures no_failure { OnOk result (D.faults disk.new ≡ D.faults disk.old) }
     ensures cause { IsErrOf result Device → D.faults disk.old < D.faults disk.new }
+    ensures memory { IsErrOf result Memory → D.faults disk.new ≡ D.faults disk.old }
 {
     let mut bytes = Vec::from_slice(alloc, front)?;
     let from = at + front.len() as u64;

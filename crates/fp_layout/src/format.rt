@@ -135,6 +135,7 @@ pub fn create<D: Disk>(
         → StaysAsItWas D.Disk disk e.1) }
     ensures no_failure { IfOk result (λ s. D.faults s.journal.disk ≡ D.faults disk) }
     ensures cause { IfErr result (λ e. e.0 ≡ Device → D.faults disk < D.faults e.1) }
+    ensures unfailed { IfErr result (λ e. e.0 ≢ Device → D.faults e.1 ≡ D.faults disk) }
 {
     match disk.len() {
         Ok(0) => {}

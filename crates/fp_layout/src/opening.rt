@@ -19,7 +19,7 @@ ghost use Rattle.fp_layout.specs.Fronts.{FoundIn, IsFrontOn, IsHeadOn, StandsIn}
 ghost use Rattle.fp_layout.specs.Layout.{HasSlots, IsHeader};
 ghost use Rattle.fp_layout.specs.Opening.{BreaksRuling, FoundDisk, ReadsSlot};
 ghost use Rattle.fp_layout.specs.Opening.{RefusesFront, RefusesDisk};
-ghost use Rattle.fp_layout.specs.declared.fault.OpenFault.TheVariants.{Device};
+ghost use Rattle.fp_layout.specs.declared.fault.OpenFault.TheVariants.{Device, Memory};
 ghost use Rattle.fp_layout.specs.declared.header.TheConstants.{HEADER};
 
 use crate::fault::OpenFault;
@@ -109,6 +109,7 @@ fn read_ruling<D: Disk>(
     ensures kept { OnlyReads D.Disk disk.old disk.new }
     ensures no_failure { OnOk result (D.faults disk.new ≡ D.faults disk.old) }
     ensures cause { IsErrOf result Device → D.faults disk.old < D.faults disk.new }
+    ensures memory { IsErrOf result Memory → D.faults disk.new ≡ D.faults disk.old }
 {
     let first = size.first_slot().start;
     let second = size.second_slot().start;
@@ -129,6 +130,7 @@ fn read_size<D: Disk>(alloc: Global, disk: &mut D, len: u64) -> Result<SlotSize,
     ensures kept { OnlyReads D.Disk disk.old disk.new }
     ensures no_failure { OnOk result (D.faults disk.new ≡ D.faults disk.old) }
     ensures cause { IsErrOf result Device → D.faults disk.old < D.faults disk.new }
+    ensures memory { IsErrOf result Memory → D.faults disk.new ≡ D.faults disk.old }
 {
     let bytes = read_first(alloc, disk, 0, HEADER, len)?;
     let size = read_header(&bytes, len)?;
@@ -156,6 +158,7 @@ fn read_image<D: Disk, R: SlotReader>(
     ensures kept { OnlyReads D.Disk disk.old disk.new }
     ensures no_failure { OnOk result (D.faults disk.new ≡ D.faults disk.old) }
     ensures cause { IsErrOf result Device → D.faults disk.old < D.faults disk.new }
+    ensures memory { IsErrOf result Memory → D.faults disk.new ≡ D.faults disk.old }
 {
     let Ruling {
         slot,
@@ -200,6 +203,7 @@ fn read_fronts<D: Disk, R: SlotReader>(
     ensures kept { OnlyReads D.Disk disk.old disk.new }
     ensures no_failure { OnOk result (D.faults disk.new ≡ D.faults disk.old) }
     ensures cause { IsErrOf result Device → D.faults disk.old < D.faults disk.new }
+    ensures memory { IsErrOf result Memory → D.faults disk.new ≡ D.faults disk.old }
 {
     let size = read_size(alloc, disk, len)?;
     let ruling = read_ruling(alloc, disk, size, len)?;
@@ -225,6 +229,7 @@ fn read_front<D: Disk, R: SlotReader>(
     ensures called { MakesThenReads (Length ∷ []) (D.calls disk.old) (D.calls disk.new) result }
     ensures no_failure { OnOk result (D.faults disk.new ≡ D.faults disk.old) }
     ensures cause { IsErrOf result Device → D.faults disk.old < D.faults disk.new }
+    ensures memory { IsErrOf result Memory → D.faults disk.new ≡ D.faults disk.old }
 {
     let len = disk.len()?;
     let front = read_fronts(alloc, disk, len, reader)?;
@@ -252,6 +257,7 @@ fn sync_front<D: Disk, R: SlotReader>(
         (D.calls disk.new) result }
     ensures no_failure { OnOk result (D.faults disk.new ≡ D.faults disk.old) }
     ensures cause { IsErrOf result Device → D.faults disk.old < D.faults disk.new }
+    ensures memory { IsErrOf result Memory → D.faults disk.new ≡ D.faults disk.old }
 {
     disk.sync()?;
     let front = read_front(alloc, disk, reader)?;
@@ -287,6 +293,7 @@ pub fn read_disk<D: Disk, R: SlotReader>(
     ensures called { MakesThenReads (Length ∷ []) (D.calls disk.old) (D.calls disk.new) result }
     ensures no_failure { OnOk result (D.faults disk.new ≡ D.faults disk.old) }
     ensures cause { IsErrOf result Device → D.faults disk.old < D.faults disk.new }
+    ensures memory { IsErrOf result Memory → D.faults disk.new ≡ D.faults disk.old }
 {
     let Front {
         slot,
@@ -336,6 +343,7 @@ pub fn open<D: Disk, R: SlotReader>(
         (λ e. ThenSomeReads (Sync ∷ Length ∷ []) (D.calls disk) (D.calls e.1)) }
     ensures no_failure { IfOk result (λ s. D.faults s.journal.disk ≡ D.faults disk) }
     ensures cause { IfErr result (λ e. e.0 ≡ Device → D.faults disk < D.faults e.1) }
+    ensures memory { IfErr result (λ e. e.0 ≡ Memory → D.faults e.1 ≡ D.faults disk) }
 {
     let front = match sync_front(alloc, &mut disk, reader) {
         Ok(front) => front,

@@ -1,7 +1,7 @@
 //! Batches: edits under consecutive revisions.
 
 ghost use Rattle.std.specs.Prelude.{◌≡◌, ◌+◌, ◌<◌, ◌≤◌, ◌++◌, ◌⊎◌, length, vec_len, IfOk};
-ghost use Rattle.std.specs.Prelude.{OnOk, Ok, Err};
+ghost use Rattle.std.specs.Prelude.{◌≢◌, IfErr, OnOk, Ok, Err};
 ghost use Rattle.std.specs.List.{AllByRecursion};
 ghost use Rattle.fp_base.specs.Answer.{Gives};
 ghost use Rattle.fp_edit.specs.Edits.{proposal_of};
@@ -232,6 +232,7 @@ pub fn count_from(bytes: &[u8], first: u64, at: usize) -> Result<(u16, usize), R
     ensures within { IfOk result (λ x. x.1 ≤ length bytes.now) }
     ensures some { IfOk result (λ x. (0 < x.0) × (x.0 ≤ MOST_EDITS)
         × (first + x.0 ≤ REVISIONS_END)) }
+    ensures no_memory { IfErr result (λ e. e ≢ Memory) }
 {
     let (count, next) = u16_at(bytes, at)?;
     if count == 0 || count as usize > MOST_EDITS || first > REVISIONS_END - count as u64 {

@@ -1,6 +1,6 @@
 //! Fields from an offset on, each with the offset behind it.
 
-ghost use Rattle.std.specs.Prelude.{◌≡◌, ◌≤◌, ◌<◌, ◌+◌, length, IfOk, IfErr, is_some, IfSome};
+ghost use Rattle.std.specs.Prelude.{◌≡◌, ◌≢◌, ◌≤◌, ◌<◌, ◌+◌, length, IfOk, IfErr, is_some, IfSome};
 ghost use Rattle.std.specs.Int.{w8, w16, w32, w64};
 ghost use Rattle.std.specs.Str.{is_utf8};
 ghost use Rattle.fp_base.specs.Answer.{Gives};
@@ -16,6 +16,7 @@ pub fn u8_at(bytes: &[u8], at: usize) -> Result<(u8, usize), RecordFault>
     requires { at ≤ length bytes.now }
     ensures value { Gives (λ x. x) Tells result (number_at w8 bytes.now at) }
     ensures within { IfOk result (λ x. x.1 ≤ length bytes.now) }
+    ensures no_memory { IfErr result (λ e. e ≢ Memory) }
 {
     if bytes.len() - at < 1 {
         return Err(RecordFault::BadRecord { at });
@@ -27,6 +28,7 @@ pub fn u16_at(bytes: &[u8], at: usize) -> Result<(u16, usize), RecordFault>
     requires { at ≤ length bytes.now }
     ensures value { Gives (λ x. x) Tells result (number_at w16 bytes.now at) }
     ensures within { IfOk result (λ x. x.1 ≤ length bytes.now) }
+    ensures no_memory { IfErr result (λ e. e ≢ Memory) }
 {
     if bytes.len() - at < 2 {
         return Err(RecordFault::BadRecord { at });
@@ -38,6 +40,7 @@ pub fn u32_at(bytes: &[u8], at: usize) -> Result<(u32, usize), RecordFault>
     requires { at ≤ length bytes.now }
     ensures value { Gives (λ x. x) Tells result (number_at w32 bytes.now at) }
     ensures within { IfOk result (λ x. x.1 ≤ length bytes.now) }
+    ensures no_memory { IfErr result (λ e. e ≢ Memory) }
 {
     if bytes.len() - at < 4 {
         return Err(RecordFault::BadRecord { at });
@@ -51,6 +54,7 @@ pub fn u64_at(bytes: &[u8], at: usize) -> Result<(u64, usize), RecordFault>
     requires { at ≤ length bytes.now }
     ensures value { Gives (λ x. x) Tells result (number_at w64 bytes.now at) }
     ensures within { IfOk result (λ x. x.1 ≤ length bytes.now) }
+    ensures no_memory { IfErr result (λ e. e ≢ Memory) }
 {
     if bytes.len() - at < 8 {
         return Err(RecordFault::BadRecord { at });
@@ -72,6 +76,7 @@ fn part_at(bytes: &[u8], len: usize, at: usize) -> Result<(&[u8], usize), Record
     requires { at ≤ length bytes.now }
     ensures value { Gives (λ x. (x.0.now, x.1)) Tells result (bytes_at len bytes.now at) }
     ensures within { IfOk result (λ x. x.1 ≤ length bytes.now) }
+    ensures no_memory { IfErr result (λ e. e ≢ Memory) }
 {
     if bytes.len() - at < len {
         return Err(RecordFault::BadRecord { at });
@@ -94,6 +99,7 @@ pub fn key_text_at(bytes: &[u8], at: usize) -> Result<(&str, usize), RecordFault
     ensures within { IfOk result (λ x. x.1 ≤ length bytes.now) }
     ensures short { IfOk result (λ x. (0 < length x.0.now) × (length x.0.now ≤ LONGEST_KEY)) }
     ensures ends { IfOk result (λ x. x.1 ≡ at + 2 + length x.0.now) }
+    ensures no_memory { IfErr result (λ e. e ≢ Memory) }
 {
     let (len, from) = u16_at(bytes, at)?;
     if len == 0 || len as usize > LONGEST_KEY {

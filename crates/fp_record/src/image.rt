@@ -1,7 +1,7 @@
 //! Images: all flags of a set.
 
 ghost use Rattle.std.specs.Prelude.{◌≡◌, ◌+◌, ◌<◌, ◌≤◌, ◌++◌, ◌⊎◌, List, ℕ, [], length, IfOk};
-ghost use Rattle.std.specs.Prelude.{OnOk, Ok, Err};
+ghost use Rattle.std.specs.Prelude.{◌≢◌, IfErr, OnOk, Ok, Err};
 ghost use Rattle.std.specs.Ordering.{is_lt};
 ghost use Rattle.std.specs.FinMap.{entries as map_entries};
 ghost use Rattle.fp_base.specs.Answer.{Gives};
@@ -165,6 +165,7 @@ fn key_text_above<'a>(
         (key_above_at before.now bytes.now at) }
     ensures within { IfOk result (λ x. x.1 ≤ length bytes.now) }
     ensures short { IfOk result (λ x. (0 < length x.0.now) × (length x.0.now ≤ LONGEST_KEY)) }
+    ensures no_memory { IfErr result (λ e. e ≢ Memory) }
 {
     let (text, next) = key_text_at(bytes, at)?;
     if !is_above(text, before) {
@@ -178,6 +179,7 @@ fn changed_from(bytes: &[u8], newest: u64, at: usize) -> Result<(u64, usize), Re
     requires { at ≤ length bytes.now }
     ensures value { Gives (λ x. x) Tells result (changed_at newest bytes.now at) }
     ensures within { IfOk result (λ x. x.1 ≤ length bytes.now) }
+    ensures no_memory { IfErr result (λ e. e ≢ Memory) }
 {
     let (changed, next) = u64_at(bytes, at)?;
     if changed == 0 || changed > newest {
@@ -254,6 +256,7 @@ pub fn flag_count_from(bytes: &[u8]) -> Result<(u32, usize), RecordFault>
     ensures value { Gives (λ x. x) Tells result (flag_count bytes.now) }
     ensures within { IfOk result (λ x. x.1 ≤ length bytes.now) }
     ensures few { IfOk result (λ x. x.0 ≤ MOST_FLAGS) }
+    ensures no_memory { IfErr result (λ e. e ≢ Memory) }
 {
     let (count, next) = u32_at(bytes, 0)?;
     if count as usize > MOST_FLAGS {

@@ -1,10 +1,11 @@
 //! Batches, read edit by edit onto a set.
 
-ghost use Rattle.std.specs.Prelude.{◌≤◌, ◌<◌, ◌+◌, length, IfErr, IfOk, OnOk};
+ghost use Rattle.std.specs.Prelude.{◌≢◌, ◌≤◌, ◌<◌, ◌+◌, length, IfErr, IfOk, OnOk};
 ghost use Rattle.fp_base.specs.Answer.{Gives};
 ghost use Rattle.fp_edit.specs.declared.edit.TheConstants.{REVISIONS_END};
 ghost use Rattle.fp_journal.specs.Reading.{IsWrong};
 ghost use Rattle.fp_record.specs.Fields.{Tells};
+ghost use Rattle.fp_record.specs.declared.fault.RecordFault.TheVariants.{Memory};
 ghost use Rattle.fp_recovery.specs.Reading.{batch_onto, edit_onto, edits_onto, front_behind};
 ghost use Rattle.fp_recovery.specs.Refusals.{RefusesBatch};
 ghost use Rattle.fp_recovery.specs.Stands.{TakesBatch};
@@ -21,6 +22,7 @@ fn front_from(bytes: &[u8], revision: u64) -> Result<(u16, usize), RecordFault>
     requires { revision < REVISIONS_END }
     ensures front { Gives (λ x. x) Tells result (front_behind revision bytes.now) }
     ensures within { IfOk result (λ x. x.1 ≤ length bytes.now) }
+    ensures no_memory { IfErr result (λ e. e ≢ Memory) }
 {
     let (first, at) = u64_at(bytes, 0)?;
     if first != revision + 1 {

@@ -5,7 +5,7 @@ ghost use Rattle.std.specs.Prelude.{◌≡◌, ◌<◌, [], ◌∷◌, IfOk, IfE
 ghost use Rattle.fp_disk.specs.declared.history.CallKind.TheVariants.{Length};
 ghost use Rattle.fp_disk.specs.Outcomes.{IsOutcome};
 ghost use Rattle.fp_journal.specs.Pieces.{MakesThenReads};
-ghost use Rattle.fp_layout.specs.declared.fault.OpenFault.TheVariants.{Device};
+ghost use Rattle.fp_layout.specs.declared.fault.OpenFault.TheVariants.{Device, Memory};
 ghost use Rattle.fp_recovery.specs.Refusals.{RefusesBytes};
 ghost use Rattle.fp_recovery.specs.Recovered.{FindsEach, StandsAt, TellsEach};
 
@@ -33,6 +33,7 @@ pub fn recover<D: Disk>(alloc: Global, disk: &mut D) -> Result<(FlagSet, Place),
     ensures called { MakesThenReads (Length ∷ []) (D.calls disk.old) (D.calls disk.new) result }
     ensures no_failure { OnOk result (D.faults disk.new ≡ D.faults disk.old) }
     ensures cause { IsErrOf result Device → D.faults disk.old < D.faults disk.new }
+    ensures memory { IsErrOf result Memory → D.faults disk.new ≡ D.faults disk.old }
 {
     let mut restoring = Replayer::new(alloc);
     let place = read_disk(alloc, disk, &mut restoring)?;

@@ -1,12 +1,13 @@
 -- What each call of the disk keeps, however it ends.
-use Rattle.std.specs.Prelude.{◌≡◌, ℕ, List, Result, OnOk, OnErr}
+use Rattle.std.specs.Prelude.{◌≡◌, ◌+◌, ◌-◌, ℕ, List, Result, OnOk, OnErr, min, slice_range}
 use Rattle.fp_disk.specs.Crashes.{AtAnyMoment, SameHonesty}
-use Rattle.fp_disk.specs.Outcomes.{CountsFaults}
+use Rattle.fp_disk.specs.Outcomes.{CountsFaults, PendingState, Written, with_write}
 use Rattle.fp_disk.specs.declared.disk.Disk.{Ghosts}
 use Rattle.fp_disk.specs.declared.disk.DiskFault.{DiskFault}
 use Rattle.fp_journal.specs.Moments.{KeepsSynced}
 use Rattle.fp_journal.specs.declared.journal.Phase.TheVariants.{Failed}
 use Rattle.fp_slots.specs.State.{OutsideBoth, SameCompaction, SameSlots, SlotsState}
+use Rattle.fp_slots.specs.declared.places.TheConstants.{PART}
 
 -- ---- of a compaction
 -- The slots stay, and so does the journal's phase unless the device failed; a crash at any moment
@@ -21,6 +22,26 @@ pub record KeepsSlots {D T : Type 0} (disk : Ghosts D) (old new : SlotsState D)
   pub apart : KeepsSynced disk old.journal.disk new.journal.disk (OutsideBoth old)
   pub honest : SameHonesty disk old.journal.disk new.journal.disk
   pub cause : CountsFaults (disk.faults old.journal.disk) (disk.faults new.journal.disk) result
+
+-- ---- of a part of the image
+-- where the next part begins in the text, and its bytes: no more than a part has, and no more than
+-- is left
+abbrev pub part_place : {D : Type 0} → SlotsState D → ℕ
+part_place s = s.head - s.left
+
+abbrev pub part_bytes : {D : Type 0} → SlotsState D → List ℕ
+part_bytes s = slice_range s.text (part_place s) (part_place s + min s.left PART)
+
+-- these bytes, of which there are so many, were written at a place, and nothing else was
+pub record IsPartWritten {D : Type 0} (bytes : D → List ℕ) (unsynced : D → PendingState)
+    (old new : D) (at : ℕ) (part : List ℕ) (count : ℕ) : Type 0 where
+  pub text : Written (bytes old) at part (bytes new)
+  pub pending : unsynced new ≡ with_write (unsynced old) at count
+
+-- the next part was, where it stands in the other slot
+abbrev pub WritesPart : {D : Type 0} → Ghosts D → (old new : SlotsState D) → Type 0
+WritesPart disk old new = IsPartWritten disk.bytes disk.unsynced old.journal.disk new.journal.disk
+    (old.other.start + part_place old) (part_bytes old) (min old.left PART)
 
 -- ---- of a batch
 -- The compaction beside it stays; a crash at any moment leaves what has P, and outside both slots

@@ -7,7 +7,7 @@ ghost use Rattle.std.specs.Prelude.{◌≡◌, ◌≢◌, ◌<◌, ◌≤◌, �
 ghost use Rattle.std.specs.Prelude.{true, false, OnOk, OnErr};
 ghost use Rattle.fp_journal.specs.Moments.{KeepsSynced};
 ghost use Rattle.fp_journal.specs.declared.journal.Phase.TheVariants.{Idle, Failed};
-ghost use Rattle.fp_slots.specs.Calls.{KeepsSlots};
+ghost use Rattle.fp_slots.specs.Calls.{KeepsSlots, WritesPart};
 ghost use Rattle.fp_slots.specs.State.{Keeps, KeepsEither, OutsideBoth, SameSlots};
 ghost use Rattle.fp_slots.specs.declared.places.TheConstants.{PART};
 ghost use Rattle.fp_slots.specs.declared.slots.Step.TheVariants.{Begin, Close, SyncClose, Part};
@@ -66,6 +66,8 @@ impl<D: Disk> Slots<D> {
             × (self.old.left ≤ PART → self.new.step ≡ Tail))
             × OnErr result (self.new.step ≡ Part) }
         ensures less { OnOk result (self.new.left ≡ self.old.left - PART) }
+        ensures written { D.honest self.old.journal.disk →
+            OnOk result (WritesPart D.Disk self.old self.new) }
         ensures left { OnErr result (self.new.left ≡ self.old.left) }
         ensures kept { KeepsSlots D.Disk self.old self.new (Keeps self.old) result }
         ensures called { D.calls self.new.journal.disk

@@ -76,7 +76,7 @@ pub record CanStage (m : Commits) : Type 0 where
 
 -- what was drawn is settled
 abbrev pub all_settled : DeskState → DeskState
-all_settled d = record d { settled = d.settled ++ d.drawn; drawn = [] }
+all_settled d = record d { settled = d.settled ++ d.drawn; drawn = []; last = d.drawn }
 
 -- ---- from old, the machine may give this answer to an event and go on to new
 -- the edit stands at the end of the log, or the first reason against it is told

@@ -8,7 +8,7 @@ use Rattle.fp_edit.specs.Flags.{State}
 use Rattle.fp_edit.specs.Log.{after}
 use Rattle.fp_journal.specs.Pieces.{MakesThenReads}
 use Rattle.fp_layout.specs.declared.fault.OpenFault.{OpenFault}
-use Rattle.fp_layout.specs.declared.fault.OpenFault.TheVariants.{Device}
+use Rattle.fp_layout.specs.declared.fault.OpenFault.TheVariants.{Device, Memory}
 use Rattle.fp_group_commit.specs.Store.{StoreState}
 use Rattle.fp_group_commit.specs.Tokens.{Identity, front_revision}
 use Rattle.fp_desk.specs.Desk.{DeskState, log}
@@ -88,8 +88,8 @@ disk_after (Ok r) = r.0.slots.journal.disk
 disk_after (Err e) = e.1
 
 -- What it leaves of the disk. The bytes stay, and a crash leaves what one could leave before; its
--- calls are a sync, the length, and reads; none failed where it opens, and one did where the fault
--- is the device's
+-- calls are a sync, the length, and reads; none failed where it opens or memory is wanting, and one
+-- did where the fault is the device's
 pub record Opens {D : Type 0} (disk : Ghosts D) (old : D)
     (result : Result (StoreState D × Identity) (OpenFault × D)) : Type 0 where
   pub same : disk.honest old → disk.bytes (disk_after result) ≡ disk.bytes old
@@ -99,6 +99,7 @@ pub record Opens {D : Type 0} (disk : Ghosts D) (old : D)
       (disk.calls (disk_after result)) result
   pub no_failure : IfOk result (λ r. disk.faults r.0.slots.journal.disk ≡ disk.faults old)
   pub cause : IfErr result (λ e. e.0 ≡ Device → disk.faults old < disk.faults e.1)
+  pub memory : IfErr result (λ e. e.0 ≡ Memory → disk.faults e.1 ≡ disk.faults old)
 
 -- ---- a world as it begins
 -- nothing is asked of it yet: the set that the store began with is published

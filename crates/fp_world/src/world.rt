@@ -238,11 +238,15 @@ impl<D: Disk> World<D> {
         ensures opening { IfOk result (λ r. r.1 ≡ r.0.store) }
         ensures opens { Opens D.Disk (disk_of self) result }
 
+        // Whatever failed: the set after some first accepted edits, as many as were told or more.
+        ensures kept { D.honest (disk_of self) →
+            IfOk result (λ r. IsAfterFirst (desk_of self) (told_of self) r.0.store.start) }
+
         // Where no call failed: what is sealed, and with it what is in flight
         // once its gate was opened.
         ensures set { D.honest (disk_of self) → (machine self).commits.failed ≡ false →
             IfOk result (λ r. r.0.store.start ≡ opened_set (machine self).commits) }
-        ensures refused { D.honest (disk_of self) → (machine self).commits.failed ≡ false →
+        ensures refused { D.honest (disk_of self) →
             IfErr result (λ e. (e.0 ≡ Device) ⊎ (e.0 ≡ Memory)) }
     {
         Store::open(alloc, self.into_disk(rt))

@@ -1,9 +1,13 @@
-use Rattle.std.proofs.Common.{refl, sym, subst}
+use Rattle.std.proofs.Common.{◌≡◌, ◌+◌, ◌++◌, ℕ, List, length, refl, sym, ap, subst, ◌∙◌}
 use Rattle.fp_edit.specs.Flags.{State}
 use Rattle.fp_recovery.specs.Durable.{IsKept}
 use Rattle.fp_recovery.specs.Stands.{StandsFor}
-use Rattle.fp_recovery.proofs.Kept.{found_kept, found_stands}
-use Rattle.fp_compaction.specs.Sets.{IsPlaced}
+use Rattle.std.proofs.lemmas.List.{append-nil}
+use Rattle.fp_journal.specs.Chain.{spell}
+use Rattle.fp_slots.specs.State.{sealed_text}
+use Rattle.fp_recovery.specs.Recovered.{StandsAt}
+use Rattle.fp_recovery.proofs.Kept.{found_at, found_kept, found_stands}
+use Rattle.fp_compaction.specs.Sets.{IsPlaced, place_of}
 use Rattle.fp_compaction.proofs.Kept.{kept_in_of, placed}
 use Rattle.fp_compaction.proofs.opening.open.Goals as goal
 
@@ -11,6 +15,19 @@ pub returns-clause-stands : goal.returns-clause-stands
 returns-clause-stands g c = λ h.
     let D = g.D.Disk in let e = c.in_ok-slots.ensures in let j = c.in_ok-slots.slots.journal in
     subst (λ (s : State). StandsFor (D.bytes c.args.disk) s) (sym c.into_set-set.ensures) (found_stands (D.bytes c.args.disk) c.new-restoring.result c.open.new.reader j.slot j.front (e.found h))
+
+pub returns-clause-place : goal.returns-clause-place
+returns-clause-place g c = λ h.
+    let D = g.D.Disk in let e = c.in_ok-slots.ensures in let j = c.in_ok-slots.slots.journal in
+    let b = D.bytes c.args.disk in let before = c.new-restoring.result in let after = c.open.new.reader in
+    let found = e.found h in let at = found_at b before after j.slot j.front found in
+    let text : sealed_text j ≡ j.front = ap (λ (bodies : List (List ℕ)). j.front ++ spell bodies) e.begins.0 ∙ append-nil j.front in
+    let here : StandsAt b after (place_of j) = record {
+      stands = found_stands b before after j.slot j.front found;
+      slot_is = at.0;
+      gate_is = ap (λ (t : List ℕ). j.slot.start + length t) text ∙ at.1;
+    } in
+    subst (λ (s : State). StandsAt b s (place_of j)) (sym c.into_set-set.ensures) here
 
 pub returns-clause-kept : goal.returns-clause-kept
 returns-clause-kept g c =

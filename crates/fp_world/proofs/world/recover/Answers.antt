@@ -5,7 +5,7 @@ use Rattle.fp_world.proofs.Goes as goes
 use Rattle.fp_world.proofs.world.recover.Goals as goal
 
 pub returns-clause-opens : goal.returns-clause-opens
-returns-clause-opens g c = let e = c.open.ensures in goes.opens g.D.Disk c.args.disk c.open.result e.same e.any_moment e.honest e.called e.no_failure e.cause
+returns-clause-opens g c = let e = c.open.ensures in goes.opens g.D.Disk c.args.disk c.open.result e.same e.any_moment e.honest e.called e.no_failure e.cause e.memory
 
 pub returns-clause-kept : goal.returns-clause-kept
 returns-clause-kept g c = λ h desk told k.

@@ -52,13 +52,13 @@ pub move_front-requires-clause-room : goal.move_front-requires-clause-room
 move_front-requires-clause-room c = c.in_ok-try_reserve.ensures.ok
 
 module _ (c : goal.After-try_reserve) where
-  sound : IsSound (record { store = c.self.inside.settled.store; settled = c.self.inside.settled.edits; drawn = changes_of c.try_reserve.new.self.items; waiting = changes_of c.self.inside.waiting.items; stopped = c.self.inside.stopped })
+  sound : IsSound (record { store = c.self.inside.settled.store; settled = c.self.inside.settled.edits; drawn = changes_of c.try_reserve.new.self.items; waiting = changes_of c.self.inside.waiting.items; stopped = c.self.inside.stopped; last = c.self.inside.settled.last })
       c.self.inside.head c.self.inside.base (changes_of c.self.inside.lag.items)
   sound = drawn_on _ _ _ _ c.self.invariant _ refl refl (ap (λ (l : List Edit). changes_of l ++ changes_of c.self.inside.waiting.items) c.try_reserve.ensures.items)
 
-  unchanged : (record { store = c.self.inside.settled.store; settled = c.self.inside.settled.edits; drawn = changes_of c.try_reserve.new.self.items; waiting = changes_of c.self.inside.waiting.items; stopped = c.self.inside.stopped }) ≡ c.args.self.now
+  unchanged : (record { store = c.self.inside.settled.store; settled = c.self.inside.settled.edits; drawn = changes_of c.try_reserve.new.self.items; waiting = changes_of c.self.inside.waiting.items; stopped = c.self.inside.stopped; last = c.self.inside.settled.last }) ≡ c.args.self.now
   unchanged =
-      ap (λ (l : List Edit). record { store = c.self.inside.settled.store; settled = c.self.inside.settled.edits; drawn = changes_of l; waiting = changes_of c.self.inside.waiting.items; stopped = c.self.inside.stopped }) c.try_reserve.ensures.items ∙ c.self.view_is
+      ap (λ (l : List Edit). record { store = c.self.inside.settled.store; settled = c.self.inside.settled.edits; drawn = changes_of l; waiting = changes_of c.self.inside.waiting.items; stopped = c.self.inside.stopped; last = c.self.inside.settled.last }) c.try_reserve.ensures.items ∙ c.self.view_is
 
 pub invariant_of-self : goal.invariant_of-self
 invariant_of-self c = sound (goal.at.invariant_of-self c).After-try_reserve
@@ -95,7 +95,7 @@ module _ (c : goal.After-new) where
   rest = sym (map-append change_of c.move_front.new.drawn.items c.move_front.new.waiting.items) ∙ ap changes_of parts.2 ∙ ap (λ (l : List Change). l ++ changes_of Waits) (sym (nil_of c.self.inside.drawn.items none))
 
 pub invariant_of-self-2 : goal.invariant_of-self-2
-invariant_of-self-2 c = drawn_on _ _ _ _ c.self.invariant (record { store = c.self.inside.settled.store; settled = c.self.inside.settled.edits; drawn = changes_of c.move_front.new.drawn.items; waiting = changes_of c.move_front.new.waiting.items; stopped = c.self.inside.stopped }) refl refl (rest c)
+invariant_of-self-2 c = drawn_on _ _ _ _ c.self.invariant (record { store = c.self.inside.settled.store; settled = c.self.inside.settled.edits; drawn = changes_of c.move_front.new.drawn.items; waiting = changes_of c.move_front.new.waiting.items; stopped = c.self.inside.stopped; last = c.self.inside.settled.last }) refl refl (rest c)
 
 pub returns-clause-drawn : goal.returns-clause-drawn
 returns-clause-drawn c =
@@ -118,5 +118,5 @@ returns-clause-drawn c =
       none_out = nil_of c.self.inside.drawn.items (none c);
       goes_on = goes;
       longest = longest;
-      new_is = ap (λ (l : List Change). record { store = c.self.inside.settled.store; settled = c.self.inside.settled.edits; drawn = l; waiting = changes_of c.move_front.new.waiting.items; stopped = c.self.inside.stopped }) drawn;
+      new_is = ap (λ (l : List Change). record { store = c.self.inside.settled.store; settled = c.self.inside.settled.edits; drawn = l; waiting = changes_of c.move_front.new.waiting.items; stopped = c.self.inside.stopped; last = c.self.inside.settled.last }) drawn;
     })

@@ -2,7 +2,7 @@ use Rattle.std.proofs.Common.{◌≡◌, ◌+◌, ◌++◌, ℕ, List, [], lengt
 use Rattle.fp_edit.specs.Edits.{Change}
 use Rattle.fp_edit.specs.Following.{changes_of}
 use Rattle.fp_record.specs.Group.{Group}
-use Rattle.fp_group_commit.specs.Tokens.{front_revision}
+use Rattle.fp_group_commit.specs.Tokens.{front_of, front_revision}
 use Rattle.fp_desk.specs.Desk.{DeskState, IsDrawn}
 use Rattle.fp_desk.proofs.Sound.{behind, drawn_follows, revisions, settled_on, with_settled}
 use Rattle.fp_desk.proofs.Queues.{held, nil_of, some_changes, some_items}
@@ -16,7 +16,7 @@ module _ (c : goal.After-catch_up) where
   same : changes_of c.self.inside.drawn.items ≡ c.args.receipt.batch.changes
   same = c.same_changes.ensures.0 c.if-not-same_changes.false ∙ c.edits.ensures ∙ ap (λ (b : Group). b.changes) c.batch-else-first-revision.ensures
 
-  first : c.args.receipt.batch.first ≡ front_revision c.self.inside.settled + 1
+  first : c.args.receipt.batch.first ≡ front_revision (front_of c.self.inside.settled) + 1
   first = ap (λ (b : Group). b.first) (sym c.batch.ensures) ∙ sym c.first.ensures ∙ c.if-first-revision.false ∙ ap (λ (n : ℕ). n + 1) c.revision.ensures
 
   drawn : IsDrawn c.args.self.now c.args.receipt
@@ -64,8 +64,8 @@ returns-clause-drawn c = drawn (goal.at.returns-clause-drawn c).After-catch_up
 pub returns-clause-settled : goal.returns-clause-settled
 returns-clause-settled c =
     let caught = none (goal.at.returns-clause-settled c).Else-is_err in let batch = same (goal.at.returns-clause-settled c).After-catch_up in
-    subst (λ (d : DeskState). ◌≡◌ {A = DeskState} (record { store = c.advance.new.self.store; settled = c.advance.new.self.edits; drawn = changes_of c.swap.new.y.items; waiting = changes_of c.self.inside.waiting.items; stopped = c.self.inside.stopped }) (record { store = d.store; settled = d.settled ++ d.drawn; drawn = []; waiting = d.waiting; stopped = d.stopped })) c.self.view_is
-    (with_settled (changes_of c.self.inside.waiting.items) c.self.inside.stopped _ _ _ _ _ _ c.advance.ensures.store (c.advance.ensures.edits ∙ ap (λ (l : List Change). c.self.inside.settled.edits ++ l) (sym batch)) (rw c.swap.ensures.y_after caught))
+    subst (λ (d : DeskState). ◌≡◌ {A = DeskState} (record { store = c.advance.new.self.store; settled = c.advance.new.self.edits; drawn = changes_of c.swap.new.y.items; waiting = changes_of c.self.inside.waiting.items; stopped = c.self.inside.stopped; last = c.advance.new.self.last }) (record { store = d.store; settled = d.settled ++ d.drawn; drawn = []; waiting = d.waiting; stopped = d.stopped; last = d.drawn })) c.self.view_is
+    (with_settled (changes_of c.self.inside.waiting.items) c.self.inside.stopped _ _ _ _ _ _ _ _ c.advance.ensures.store (c.advance.ensures.edits ∙ ap (λ (l : List Change). c.self.inside.settled.edits ++ l) (sym batch)) (rw c.swap.ensures.y_after caught) (c.advance.ensures.last ∙ sym batch))
 
 pub returns-clause-all : goal.returns-clause-all
 returns-clause-all c = c.advance.ensures.all

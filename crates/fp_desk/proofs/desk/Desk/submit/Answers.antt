@@ -17,7 +17,7 @@ use Rattle.fp_desk.proofs.desk.Desk.submit.Goals.{After-len-2, After-try_reserve
 
 module _ (c : goal.After-len-2) where
   abbrev Old : DeskState
-  Old = record { store = c.self.inside.settled.store; settled = c.self.inside.settled.edits; drawn = changes_of c.self.inside.drawn.items; waiting = changes_of c.self.inside.waiting.items; stopped = c.self.inside.stopped }
+  Old = record { store = c.self.inside.settled.store; settled = c.self.inside.settled.edits; drawn = changes_of c.self.inside.drawn.items; waiting = changes_of c.self.inside.waiting.items; stopped = c.self.inside.stopped; last = c.self.inside.settled.last }
 
   admitted : refusal (head Old) (proposal_of c.args.edit) ≡ None
   admitted = judged Old _ _ _ c.self.invariant (proposal_of c.args.edit) _ _ c.judge.ensures c.in_default.is
@@ -29,9 +29,9 @@ module _ (c : goal.After-len-2) where
   memory low = subst (λ (d : DeskState). Refuses d (proposal_of c.args.edit) Memory) c.self.view_is (c.if-self.false, admitted, subst (λ (n : ℕ). n < MOST_QUEUED) (sym unsettled) low)
 
 module _ (c : goal.After-try_reserve) where
-  unchanged : (record { store = c.self.inside.settled.store; settled = c.self.inside.settled.edits; drawn = changes_of c.self.inside.drawn.items; waiting = changes_of c.try_reserve.new.self.items; stopped = c.self.inside.stopped }) ≡ c.args.self.now
+  unchanged : (record { store = c.self.inside.settled.store; settled = c.self.inside.settled.edits; drawn = changes_of c.self.inside.drawn.items; waiting = changes_of c.try_reserve.new.self.items; stopped = c.self.inside.stopped; last = c.self.inside.settled.last }) ≡ c.args.self.now
   unchanged =
-      ap (λ (l : List Edit). record { store = c.self.inside.settled.store; settled = c.self.inside.settled.edits; drawn = changes_of c.self.inside.drawn.items; waiting = changes_of l; stopped = c.self.inside.stopped }) c.try_reserve.ensures.items ∙ c.self.view_is
+      ap (λ (l : List Edit). record { store = c.self.inside.settled.store; settled = c.self.inside.settled.edits; drawn = changes_of c.self.inside.drawn.items; waiting = changes_of l; stopped = c.self.inside.stopped; last = c.self.inside.settled.last }) c.try_reserve.ensures.items ∙ c.self.view_is
 
 pub overflow_add-len : goal.overflow_add-len
 overflow_add-len c = fits_both _ _ _ _ _ _ c.len.ensures c.len-2.ensures c.self.inside.drawn.small c.self.inside.waiting.small
@@ -96,7 +96,7 @@ module _ (c : goal.After-tell) where
       ∙ map-append change_of c.self.inside.waiting.items (c.in-Ok.copy ∷ []) ∙ ap (λ (p : Proposal). changes_of c.self.inside.waiting.items ++ p.change ∷ []) c.in-Ok.ensures
 
   abbrev New : DeskState
-  New = record { store = c.self.inside.settled.store; settled = c.self.inside.settled.edits; drawn = changes_of c.self.inside.drawn.items; waiting = changes_of c.push_back_reserved.new.self.items; stopped = c.self.inside.stopped }
+  New = record { store = c.self.inside.settled.store; settled = c.self.inside.settled.edits; drawn = changes_of c.self.inside.drawn.items; waiting = changes_of c.push_back_reserved.new.self.items; stopped = c.self.inside.stopped; last = c.self.inside.settled.last }
 
   sound : IsSound New c.make.new.self c.self.inside.base (changes_of c.self.inside.lag.items)
   sound = waiting_on _ _ _ _ c.self.invariant (proposal_of c.args.edit) c.make.new.self c.in-Ok-make.ensures.admitted room New refl refl refl waits
@@ -112,7 +112,7 @@ returns-in-Ok-make-clause-accepted c =
       open_desk = c.if-self.false;
       admitted = subst (λ (t : State). Admits t p (accepted (head (New c)))) old (subst (λ (t : State). Admits c.self.inside.head p (accepted t)) new c.in-Ok-make.ensures.admitted);
       room = room c;
-      new_is = ap (λ (w : List Change). record { store = c.self.inside.settled.store; settled = c.self.inside.settled.edits; drawn = changes_of c.self.inside.drawn.items; waiting = w; stopped = c.self.inside.stopped }) (waits c);
+      new_is = ap (λ (w : List Change). record { store = c.self.inside.settled.store; settled = c.self.inside.settled.edits; drawn = changes_of c.self.inside.drawn.items; waiting = w; stopped = c.self.inside.stopped; last = c.self.inside.settled.last }) (waits c);
     })
 
 pub returns-in-Ok-make-clause-revision : goal.returns-in-Ok-make-clause-revision

@@ -1,6 +1,7 @@
 use Rattle.std.proofs.Common.{◌≢◌, refl, sym, ap, subst, ◌∙◌}
 use Rattle.fp_edit.specs.Following.{changes_of}
 use Rattle.fp_edit.proofs.Followed.{none_left}
+use Rattle.fp_journal.specs.State.{has_begun}
 use Rattle.fp_journal.specs.declared.journal.Phase.TheVariants.{Failed}
 use Rattle.fp_slots.specs.State.{SlotsState}
 use Rattle.fp_group_commit.specs.Store.{MayCompact, StoreState}
@@ -23,6 +24,7 @@ returns-in_default-catch_up g c =
     rw (← c.self.view_is) (record {
       same = (refl, refl, refl);
       phase = refl;
+      begun = refl;
       ok = tt;
       next = tt;
       fault = (well, sym c.step-next.ensures.step ∙ c.in_default-catch_up.ensures.begins, refl);
@@ -64,6 +66,7 @@ returns-in_default-take_step g c =
     rw (← c.self.view_is) (record {
       same = (refl, refl, refl);
       phase = refl;
+      begun = compaction_steps.begun_now D i1 t1 w.taken is may well o.order.0 o.begun o.planned o.stays o.turned;
       ok = compaction_steps.compacts D i1 t1 w.taken is may well o.order.0 o.begun o.planned o.stays o.turned D.faults o.no_failure o.left c.step.ensures.numbered;
       next = c.step.ensures.step;
       fault = tt;
@@ -100,6 +103,7 @@ returns-in-Memory g c =
     rw (← c.self.view_is) (record {
       same = (refl, refl, refl);
       phase = refl;
+      begun = ap (λ (x : SlotsState g.row.D.Denot). has_begun x.journal.phase x.journal.begun) same;
       ok = tt;
       next = tt;
       fault = (well, (e.memory c.in-Memory.is).0, ap (λ (x : SlotsState g.row.D.Denot). record { store = record { name = s.sealed.name; start = s.origin }; sealed = s.sealed.log; staged = s.batch.changes; step = s.step; slots = x }) same);
@@ -131,6 +135,7 @@ returns g c =
     rw (← c.self.view_is) (record {
       same = (refl, refl, refl);
       phase = refl;
+      begun = compaction_steps.begun_broken D i1 t1 w.taken e.order.1 off c.phase.ensures.begun;
       ok = tt;
       next = tt;
       fault = compaction_steps.breaks_step D i1 t1 w.taken e.order.1 off off.left well;

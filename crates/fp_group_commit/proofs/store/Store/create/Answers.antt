@@ -45,6 +45,16 @@ adopt-requires-clause-kept g c =
           kept_in (D.unsynced j.disk) t c.new-set.result (D.bytes j.disk) size allowed active kept,
     )
 
+pub returns-clause-slots : goal.returns-clause-slots
+returns-clause-slots g c =
+    let e = c.in-Ok.ensures in
+    rw (c.adopt.ensures.slots, ← c.in-Some.ensures.value) (e.journal.0, e.beside.0)
+
+pub returns-clause-gate : goal.returns-clause-gate
+returns-clause-gate g c =
+    let e = c.in-Ok.ensures in
+    rw (c.adopt.ensures.slots, e.journal.0, e.journal.1, e.journal.2) refl
+
 pub returns-clause-sure : goal.returns-clause-sure
 returns-clause-sure g c = λ h0.
     let D = g.D.Disk in let e = c.in-Ok.ensures in let j = c.in-Ok.slots.journal in let size = c.in-Some.size in let stands = e.stands h0 in

@@ -14,6 +14,14 @@ returns-in-Err-clause-refused g c = λ h. unless_wanting (g.D.Disk.bytes c.args.
 pub returns-clause-stands : goal.returns-clause-stands
 returns-clause-stands g c = λ h. subst (λ (s : State). StandsFor (g.D.Disk.bytes c.args.disk) s) (sym c.adopt.ensures.fresh.start) (c.in-Ok.ensures.stands h)
 
+pub returns-clause-place : goal.returns-clause-place
+returns-clause-place g c = λ h.
+    let b = g.D.Disk.bytes c.args.disk in
+    rw (c.adopt.ensures.fresh.start, c.adopt.ensures.slots) (c.in-Ok.ensures.place h)
+
+pub returns-clause-slots : goal.returns-clause-slots
+returns-clause-slots g c = λ h. rw (c.adopt.ensures.slots) (c.in-Ok.ensures.slots h)
+
 pub returns-clause-only : goal.returns-clause-only
 returns-clause-only g c = λ h other stands. stands_one (g.D.Disk.bytes c.args.disk) other _ stands (c.in-Ok.ensures.stands h) ∙ sym c.adopt.ensures.fresh.start
 

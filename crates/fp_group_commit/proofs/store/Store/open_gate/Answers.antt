@@ -47,6 +47,7 @@ returns-in_default-open_gate g c =
         fault = batch_steps.moved_breaks D.honest D.unsynced i s.step t1 (steps.beside_of t t1 w.moves.same) w.moves.sealed D.faults well c.in_default-open_gate.ensures.moves.phase.1 (search rules) refl;
         same_room = batch_steps.moved_room D.honest D.unsynced i s.step t1 (steps.beside_of t t1 w.moves.same) w.moves.sealed;
       };
+      begun = (tt, λ is. begun);
       disk = record {
         called = inr w.moves.call.called;
         any_moment = λ h. leaves_map D.moment D.crash_states_since t.journal.disk t1.journal.disk _ _ (steps.open_leaves (batch_steps.Moved D.honest D.unsynced i s.step t1) off begun) (leaves h);
@@ -84,6 +85,7 @@ returns g c =
         fault = tt;
         same_room = batch_steps.moved_room D.honest D.unsynced i GateOpened t1 (steps.beside_of t t1 w.moves.same) w.moves.sealed;
       };
+      begun = (begun, tt);
       disk = record {
         called = w.moves.call.called;
         any_moment = λ h. leaves_map D.moment D.crash_states_since t.journal.disk t1.journal.disk _ _ (steps.open_leaves (batch_steps.Moved D.honest D.unsynced i GateOpened t1) off begun) (leaves h);

@@ -7,7 +7,7 @@ use Rattle.fp_disk.specs.declared.history.CallKind.TheVariants.{Write}
 use Rattle.fp_edit.specs.Flags.{State}
 use Rattle.fp_journal.specs.State.{JournalState, room}
 use Rattle.fp_slots.specs.declared.slots.Step.{Step}
-use Rattle.fp_journal.specs.declared.journal.Phase.TheVariants.{Idle, Staged, Failed}
+use Rattle.fp_journal.specs.declared.journal.Phase.TheVariants.{Idle, Staged, GateOpened, Failed}
 use Rattle.fp_record.proofs.Lengths.{length-encoding_of_batch}
 use Rattle.fp_slots.specs.State.{IsGrowing, SlotsState}
 use Rattle.fp_compaction.specs.Batches.{HasRoomFor, tail_of}
@@ -20,9 +20,18 @@ use Rattle.fp_group_commit.proofs.store.Store.stage.Goals as goal
 pub returns-in-Failed-clause-disk : goal.returns-in-Failed-clause-disk
 returns-in-Failed-clause-disk g c = rw (← c.self.view_is) (steps.calls_none g.D.Disk c.self.invariant g.met.D.Disk.only_now c.phase.ensures.outcomes)
 
+pub returns-in-Failed-clause-begun : goal.returns-in-Failed-clause-begun
+returns-in-Failed-clause-begun g c =
+    let s = c.self.inside in let i = c.self.invariant in
+    let at : s.step ≡ Idle = ap (λ (k : StoreState g.row.D.Denot). k.step) c.self.view_is ∙ c.requires.idle in
+    let none = steps.idle_or s.step _ _ at (λ f. f.on_way) i.flight in
+    rw (← c.self.view_is) (steps.begun_shut s.slots.journal.phase s.step s.slots.journal.begun (λ (e : s.step ≡ GateOpened). let both : Idle ≡ GateOpened = sym at ∙ e in absurd (cc both)) none.1 i.going)
+
 pub returns-in-Err : goal.returns-in-Err
 returns-in-Err g c =
-    let D = g.D.Disk in let m = g.met.D.Disk in let i = c.self.invariant in
+    let D = g.D.Disk in let m = g.met.D.Disk in let i = c.self.invariant in let s = c.self.inside in
+    let at : s.step ≡ Idle = ap (λ (k : StoreState g.row.D.Denot). k.step) c.self.view_is ∙ c.requires.idle in
+    let none = steps.idle_or s.step _ _ at (λ f. f.on_way) i.flight in
     rw (← c.self.view_is) (record {
       same = (refl, refl);
       ok = tt;
@@ -32,6 +41,7 @@ returns-in-Err g c =
       fault = batch_steps.refuses D.honest D.unsynced i D.faults (λ e. c.in_default.not-Failed (c.phase.ensures.phase ∙ e)) c.args.draw c.in-Err.fault c.in-Err.ensures.fault;
       given_back = refl;
       same_room = (refl, refl, ((refl, refl, refl, refl, refl, refl), refl));
+      begun = steps.begun_shut s.slots.journal.phase s.step s.slots.journal.begun (λ (e : s.step ≡ GateOpened). let both : Idle ≡ GateOpened = sym at ∙ e in absurd (cc both)) none.1 i.going;
       disk = steps.calls_none D i m.only_now c.phase.ensures.outcomes;
     })
 
@@ -52,9 +62,10 @@ returns-in_default-make_ready g c =
       staged = tt;
       goes_on = tt;
       phase = refl;
-      fault = (well, ap (λ (x : SlotsState g.row.D.Denot). record { store = record { name = s.sealed.name; start = s.origin }; sealed = s.sealed.log; staged = s.batch.changes; step = s.step; slots = x }) same);
+      fault = (well, ap (λ (x : SlotsState g.row.D.Denot). record { store = record { name = s.sealed.name; start = s.origin }; sealed = s.sealed.log; staged = s.batch.changes; step = s.step; slots = x }) same, batch_steps.goes_kept D.honest D.unsynced i c.args.draw c.in-Ok.ensures.goes_on);
       given_back = refl;
       same_room = (ap (λ (x : SlotsState g.row.D.Denot). x.journal.slot.most) same, ap (λ (x : SlotsState g.row.D.Denot). room x.journal) same, ((plan.4, plan.7, plan.1, plan.2, plan.6, plan.3), ap (λ (x : SlotsState g.row.D.Denot). tail_of x) same));
+      begun = steps.begun_shut mid.journal.phase Idle mid.journal.begun (λ (e : Idle ≡ GateOpened). absurd (cc e)) begun (inl going);
       disk = rw same (steps.calls_none D i m.only_now c.phase.ensures.outcomes);
     })
 
@@ -116,6 +127,7 @@ returns-in_default-stage g c =
       fault = (batch_steps.moved_breaks D.honest D.unsynced i s.step t1 on bodies D.faults well c.in_default-stage.ensures.moves.phase.1 (search rules) refl, batch_steps.goes_kept D.honest D.unsynced i c.args.draw c.in-Ok.ensures.goes_on);
       given_back = refl;
       same_room = batch_steps.moved_room D.honest D.unsynced i s.step t1 on bodies;
+      begun = steps.begun_shut t1.journal.phase Idle t1.journal.begun (λ (e : Idle ≡ GateOpened). absurd (cc e)) w.moves.begun (inr c.in_default-stage.ensures.moves.phase.1);
       disk = record {
         called = inr (w.moves.call.called ∙ ap (λ (j : JournalState g.row.D.Denot). D.calls j.disk ++ Write ∷ []) plan.0);
         any_moment = steps.from_plan D t mid t1 plan (λ h. leaves_map D.moment D.crash_states_since mid.journal.disk t1.journal.disk _ _ (λ o stands. inl stands) (leaves h));
@@ -170,6 +182,7 @@ returns g c =
       fault = tt;
       given_back = tt;
       same_room = batch_steps.moved_room D.honest D.unsynced i Staged t1 on bodies;
+      begun = steps.begun_shut t1.journal.phase Staged t1.journal.begun (λ (e : Staged ≡ GateOpened). absurd (cc e)) w.moves.begun (inl c.in-Ok-stage.ensures.moves.phase.0);
       disk = record {
         called = w.moves.call.called ∙ ap (λ (j : JournalState g.row.D.Denot). D.calls j.disk ++ Write ∷ []) plan.0;
         any_moment = steps.from_plan D t mid t1 plan (λ h. leaves_map D.moment D.crash_states_since mid.journal.disk t1.journal.disk _ _ (λ o stands. inl stands) (leaves h));

@@ -1,6 +1,6 @@
 use Rattle.std.proofs.Common.{rules, ◌≡◌, ◌≢◌, refl, ap, sym, ◌∙◌, inl, inr}
 use Rattle.fp_disk.specs.Moments.{leaves_map}
-use Rattle.fp_journal.specs.declared.journal.Phase.TheVariants.{Idle, Staged, BodySynced, Failed}
+use Rattle.fp_journal.specs.declared.journal.Phase.TheVariants.{Idle, Staged, BodySynced, GateOpened, Failed}
 use Rattle.fp_group_commit.specs.Store.{StoreState}
 use Rattle.fp_group_commit.proofs.Steps as steps
 use Rattle.fp_group_commit.proofs.BatchSteps as batch_steps
@@ -45,6 +45,7 @@ returns-in_default-sync_body g c =
         fault = batch_steps.moved_breaks D.honest D.unsynced i s.step t1 (steps.beside_of t t1 w.moves.same) w.moves.sealed D.faults well c.in_default-sync_body.ensures.moves.phase.1 (search rules) refl;
         same_room = batch_steps.moved_room D.honest D.unsynced i s.step t1 (steps.beside_of t t1 w.moves.same) w.moves.sealed;
       };
+      begun = λ before. steps.begun_shut t1.journal.phase Staged t1.journal.begun (λ (e : Staged ≡ GateOpened). absurd (cc e)) w.moves.begun (inr c.in_default-sync_body.ensures.moves.phase.1);
       disk = record {
         called = inr w.moves.call.called;
         any_moment = λ h. leaves_map D.moment D.crash_states_since t.journal.disk t1.journal.disk _ _ (λ o stands. inl stands) (leaves h);
@@ -80,6 +81,7 @@ returns g c =
         fault = tt;
         same_room = batch_steps.moved_room D.honest D.unsynced i BodySynced t1 (steps.beside_of t t1 w.moves.same) w.moves.sealed;
       };
+      begun = λ before. steps.begun_shut t1.journal.phase BodySynced t1.journal.begun (λ (e : BodySynced ≡ GateOpened). absurd (cc e)) w.moves.begun (inl c.in-Ok.ensures.moves.phase.0);
       disk = record {
         called = w.moves.call.called;
         any_moment = λ h. leaves_map D.moment D.crash_states_since t.journal.disk t1.journal.disk _ _ (λ o stands. inl stands) (leaves h);

@@ -1,16 +1,29 @@
 use Rattle.std.proofs.Common.{refl, ◌≡◌, ◌≢◌, inl, inr, ℕ, ◌+◌, ◌-◌, ◌<◌, ◌≤◌, List, ap, sym, ◌∙◌, subst, arith, length}
 use Rattle.std.proofs.lemmas.Result.{err_from_is_err_and}
 use Rattle.fp_journal.specs.declared.journal.Phase.TheVariants.{Failed}
-use Rattle.std.specs.Prelude.{slice_range}
-use Rattle.fp_disk.specs.Outcomes.{Written}
+use Rattle.std.specs.Prelude.{slice_range, min as least}
+use Rattle.fp_disk.specs.Outcomes.{PendingState, Written, with_write}
 use Rattle.fp_journal.specs.State.{Outside}
+use Rattle.fp_slots.specs.Calls.{IsPartWritten}
 use Rattle.fp_slots.specs.State.{step_of, SlotsState}
+use Rattle.fp_slots.specs.declared.places.TheConstants.{PART}
 use Rattle.fp_slots.specs.declared.slots.Step.TheVariants.{Part, Tail, Open}
 use Rattle.fp_slots.proofs.Beside.{plan_within}
 use Rattle.fp_slots.proofs.Fronts.{there_is, front_long, range_of_front}
 use Rattle.fp_slots.proofs.Exits.{answers_err, answers_ok}
 use Rattle.fp_slots.proofs.Steps as steps
 use Rattle.fp_slots.proofs.slots.Slots.write_part.Goals as goal
+
+-- what was written is the next part, at its place
+part_written : {D : Type 0} (bytes : D → List ℕ) (unsynced : D → PendingState) (old new : D) (slot : ℕ) (planned : List ℕ) (ended head done n : ℕ) (piece : List ℕ)
+    → done ≤ head → done + n ≤ ended → ended ≤ length planned → n ≡ least (head - done) PART → piece ≡ slice_range planned done (done + n) → length piece ≡ done + n - done
+    → Written (bytes old) (slot + done) piece (bytes new) × (unsynced new ≡ with_write (unsynced old) (slot + done) (length piece))
+    → IsPartWritten bytes unsynced old new (slot + (head - (head - done))) (slice_range (slice_range planned 0 ended) (head - (head - done)) (head - (head - done) + least (head - done) PART)) (least (head - done) PART)
+part_written bytes unsynced old new slot planned ended head done n piece past within there n_is piece_is len_is both =
+    let back : head - (head - done) ≡ done = omega (arith, past) in
+    let len : length piece ≡ n = omega (arith, len_is) in
+    let range : slice_range (slice_range planned 0 ended) done (done + n) ≡ piece = range_of_front planned done (done + n) ended (omega arith) within there ∙ sym piece_is in
+    rw (back, ← n_is, range, ← len) (record { text = both.0; pending = both.1 })
 
 pub invariant_of-self : goal.invariant_of-self
 invariant_of-self g c =
@@ -46,6 +59,7 @@ returns-in_err-write_outside g c =
     rw (p.1, ← c.self.view_is) (record {
       step = (tt, is);
       less = tt;
+      written = λ h. tt;
       left = refl;
       kept = record {
         same = (w.kept.same, w.bodies.0, w.bodies.1, refl, refl, refl, refl, refl, refl, w.begun);
@@ -91,6 +105,7 @@ returns g c =
     rw (← c.self.view_is) (record {
       step = ((λ more. absurd (omega (arith, min, more, c.if-to-self.false)), λ all. refl), tt);
       less = omega (arith, min);
+      written = λ h. part_written D.bytes D.unsynced q.journal.disk j.disk q.other.start q.planned.items q.ended q.head q.done c.min.result c.piece.result.now past (omega (arith, to_head, image)) z.there c.min.ensures c.piece.ensures.bytes c.piece.ensures.len (c.in_ok-write_outside.ensures.written h);
       left = tt;
       kept = record {
         same = (w.kept.same, w.bodies.0, w.bodies.1, refl, refl, refl, refl, refl, refl, w.begun);
@@ -136,6 +151,7 @@ returns-then-to-self g c =
     rw (← c.self.view_is) (record {
       step = ((λ more. is, λ all. absurd (omega (arith, min, all, c.if-to-self.true))), tt);
       less = omega (arith, min);
+      written = λ h. part_written D.bytes D.unsynced q.journal.disk j.disk q.other.start q.planned.items q.ended q.head q.done c.min.result c.piece.result.now past (omega (arith, to_head, image)) z.there c.min.ensures c.piece.ensures.bytes c.piece.ensures.len (c.in_ok-write_outside.ensures.written h);
       left = tt;
       kept = record {
         same = (w.kept.same, w.bodies.0, w.bodies.1, refl, refl, refl, refl, refl, refl, w.begun);
