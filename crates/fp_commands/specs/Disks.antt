@@ -222,8 +222,15 @@ CallsOfRun old new (Err f) = ThenSomeReads (Sync ∷ Length ∷ []) old new ⊎ 
 -- ---- what failed
 
 -- by the count of failures of the disk and the streams, before and after: `Device` comes only where
--- one of them failed, and a good end only where none did
+-- one of them failed, and a good end or want of memory only where none did
 abbrev pub Blames : {A : Type 0} → ℕ → ℕ → Result A CommandFault → Type 0
 Blames before after (Ok x) = after ≡ before
 Blames before after (Err Device) = before < after
+Blames before after (Err Memory) = after ≡ before
 Blames before after (Err f) = Unit {0}
+
+-- the same of a run, which sends the replies that it has where memory is wanting: that may fail
+abbrev pub BlamesRun : {A : Type 0} → ℕ → ℕ → Result A CommandFault → Type 0
+BlamesRun before after (Ok x) = after ≡ before
+BlamesRun before after (Err Device) = before < after
+BlamesRun before after (Err f) = Unit {0}

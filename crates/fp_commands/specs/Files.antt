@@ -18,7 +18,7 @@ use Rattle.fp_session.specs.Run.{IsRunWritten, IsToldBy}
 use Rattle.fp_session.specs.declared.fault.ApplyFault.{ApplyFault}
 use Rattle.fp_session.specs.declared.replies.TheConstants.{MOST_WAITING}
 use Rattle.fp_streams.specs.Failures.{Stream}
-use Rattle.fp_commands.specs.Disks.{AskedByDocument, AskedByLines, Blames, CallsOfRun}
+use Rattle.fp_commands.specs.Disks.{AskedByDocument, AskedByLines, Blames, BlamesRun, CallsOfRun}
 use Rattle.fp_commands.specs.Disks.{IfFileRefused, IfRefused, IsApplyingFault, IsImportingFault}
 use Rattle.fp_commands.specs.Disks.{IsLeftOnDisk, IsMakingFault, IsOnlyRead, IsRunOnDisk}
 use Rattle.fp_commands.specs.Disks.{IsShowingFault, IsShown, IsStreamFault, IsToldOnDisk, IsUnbegun}
@@ -52,7 +52,7 @@ AppliesInMemory remaining contents r0 r w0 w (Ok x) = IfSome (remaining r0.inner
     (told : Bool) × (flags : State) × IsRunWritten no_flags (asked_by_input input) told
     (contents w0.inner) (contents w.inner) flags)
 AppliesInMemory remaining contents r0 r w0 w (Err f) = IsStreamFault f
-    × Blames {A = Unit {0}} (r0.failures + w0.failures) (r.failures + w.failures) (Err f)
+    × BlamesRun {A = Unit {0}} (r0.failures + w0.failures) (r.failures + w.failures) (Err f)
     × (w.failures ≡ w0.failures → IfSome (remaining r0.inner) (λ input.
     (ended : ApplyFault) × (flags : State) × (f ≡ of_run ended)
     × IsToldBy no_flags (asked_by_input input) 1 ended (contents w0.inner) (contents w.inner)
@@ -134,7 +134,9 @@ pub record RunsOnDisk {F R W D : Type 0} (disk : DiskGhosts D) (remaining : R
       (disk.bytes before)
       (disk.unsynced after) (remaining old.reader.inner) Reads
       ⊎ (disk.faults before < disk.faults after))
-  pub device : Blames (disk.faults before + failures old) (disk.faults after + failures new) outcome
+  pub device : BlamesRun (disk.faults before + failures old) (disk.faults after + failures new)
+      outcome
+  pub read : IfErr outcome (λ f. f ≢ Device → new.reader.failures ≡ old.reader.failures)
   pub no_failure : OnOk outcome (disk.faults after ≡ disk.faults before)
   pub honest : SameHonesty disk before after
 

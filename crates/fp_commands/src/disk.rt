@@ -13,7 +13,7 @@ ghost use Rattle.fp_session.specs.Run.{show_line};
 ghost use Rattle.fp_session.specs.declared.replies.TheConstants.{MOST_WAITING};
 ghost use Rattle.fp_recovery.specs.Durable.{IsNewSetOrNone, IsDurable};
 ghost use Rattle.fp_recovery.specs.Refusals.{StandsForNone};
-ghost use Rattle.fp_commands.specs.Disks.{AskedByDocument, AskedByLines, Blames, CallsOfRun};
+ghost use Rattle.fp_commands.specs.Disks.{AskedByDocument, AskedByLines, Blames, BlamesRun, CallsOfRun};
 ghost use Rattle.fp_commands.specs.Disks.{IfFileRefused, IfRefused, IsApplyingFault};
 ghost use Rattle.fp_commands.specs.Disks.{IsImportingFault, IsLeftOnDisk, IsMakingFault};
 ghost use Rattle.fp_commands.specs.Disks.{IsOnlyRead, IsRunOnDisk, IsShowingFault, IsShown};
@@ -147,8 +147,11 @@ pub fn apply_disk<D: Disk, R: Read, W: Write>(
 
     // `Device` comes only where the disk, the reader or the writer failed,
     // and a good end only where none did.
-    ensures device { Blames (D.faults disk + (r.old.failures + w.old.failures))
+    ensures device { BlamesRun (D.faults disk + (r.old.failures + w.old.failures))
         (D.faults result.0 + (r.new.failures + w.new.failures)) result.1 }
+
+    // No other fault is told in place of a reader's.
+    ensures read { IfErr result.1 (λ f. f ≢ Device → r.new.failures ≡ r.old.failures) }
     ensures no_failure { OnOk result.1 (D.faults result.0 ≡ D.faults disk) }
     ensures honest { SameHonesty D.Disk disk result.0 }
 {
@@ -215,8 +218,11 @@ pub fn import_disk<D: Disk, R: Read, W: Write>(
 
     // `Device` comes only where the disk, the reader or the writer failed,
     // and a good end only where none did.
-    ensures device { Blames (D.faults disk + (r.old.failures + w.old.failures))
+    ensures device { BlamesRun (D.faults disk + (r.old.failures + w.old.failures))
         (D.faults result.0 + (r.new.failures + w.new.failures)) result.1 }
+
+    // No other fault is told in place of a reader's.
+    ensures read { IfErr result.1 (λ f. f ≢ Device → r.new.failures ≡ r.old.failures) }
     ensures no_failure { OnOk result.1 (D.faults result.0 ≡ D.faults disk) }
     ensures honest { SameHonesty D.Disk disk result.0 }
 {

@@ -1,10 +1,11 @@
 //! Flagd documents as they are read.
 
-ghost use Rattle.std.specs.Prelude.{◌≡◌, Ok, Err, IfSome, IfOk, IfErr, map};
+ghost use Rattle.std.specs.Prelude.{◌≡◌, ◌≢◌, Ok, Err, IfSome, IfOk, IfErr, map};
 ghost use Rattle.fp_imports.specs.Faults.{Tells};
 ghost use Rattle.fp_session.specs.Asks.{flag_bytes};
 ghost use Rattle.fp_commands.specs.Disks.{Blames};
 ghost use Rattle.fp_commands.specs.Documents.{import_of, IsDocumentFault};
+ghost use Rattle.fp_commands.specs.declared.fault.CommandFault.TheVariants.{Device};
 
 use crate::fault::CommandFault;
 use fp_base::read_tree;
@@ -24,6 +25,8 @@ pub fn read_document<R: Read>(
         IfOk result (λ flags. import_of input ≡ Ok (map flag_bytes flags.items))) }
     ensures fault { IfErr result (IsDocumentFault (R.remaining r.old.inner)) }
     ensures device { Blames r.old.failures r.new.failures result }
+    // No other fault is told in place of the reader's.
+    ensures read { IfErr result (λ f. f ≢ Device → r.new.failures ≡ r.old.failures) }
 {
     let bytes = r.read_to_end(alloc)?;
     let flags = flags_of(alloc, &bytes)?;

@@ -201,12 +201,12 @@ module _ {D : Type 0} (disk : Ghosts D) (s m t : StoreState D) (d mid : DeskStat
     ap log (is ∙ draw.new_is) ∙ ap (λ (l : List Change). d.settled ++ l) (sym draw.longest.parts) ∙ ap (λ (l : List Change). d.settled ++ (l ++ d.waiting)) (sym draw.none_out),
   )
 
-  settled_is : (e : DeskState) → e ≡ record mid { settled = mid.settled ++ mid.drawn; drawn = [] } → e ≡ record d { settled = d.settled ++ group.changes; waiting = mid.waiting }
-  settled_is e is = is ∙ ap (λ (x : DeskState). record x { settled = x.settled ++ x.drawn; drawn = [] }) draw.new_is
-      ∙ ap (λ (l : List Change). record { store = d.store; settled = d.settled ++ group.changes; drawn = l; waiting = mid.waiting; stopped = d.stopped }) (sym draw.none_out)
+  settled_is : (e : DeskState) → e ≡ record mid { settled = mid.settled ++ mid.drawn; drawn = []; last = mid.drawn } → e ≡ record d { settled = d.settled ++ group.changes; waiting = mid.waiting; last = group.changes }
+  settled_is e is = is ∙ ap (λ (x : DeskState). record x { settled = x.settled ++ x.drawn; drawn = []; last = x.drawn }) draw.new_is
+      ∙ ap (λ (l : List Change). record { store = d.store; settled = d.settled ++ group.changes; drawn = l; waiting = mid.waiting; stopped = d.stopped; last = group.changes }) (sym draw.none_out)
 
   -- or settled
-  pub same_log : (e : DeskState) → e ≡ record mid { settled = mid.settled ++ mid.drawn; drawn = [] } → (e.store ≡ d.store) × (log e ≡ log d)
+  pub same_log : (e : DeskState) → e ≡ record mid { settled = mid.settled ++ mid.drawn; drawn = []; last = mid.drawn } → (e.store ≡ d.store) × (log e ≡ log d)
   same_log e is =
       let now = settled_is e is in (
         ap (λ (x : DeskState). x.store) now,
@@ -218,7 +218,7 @@ module _ {D : Type 0} (disk : Ghosts D) (s m t : StoreState D) (d mid : DeskStat
     pub works_sealed : Works disk s t
     works_sealed = works_on disk s m t p.works (record { works = whole_batch ∷ []; lead = (sealed.early, sealed.course); calls = calls })
 
-    pub committed : EachCrash disk t.slots.journal.disk (λ c. StandsFor c (sealed_set t)) → (e : DeskState) → e ≡ record mid { settled = mid.settled ++ mid.drawn; drawn = [] } → Commits disk s t d e
+    pub committed : EachCrash disk t.slots.journal.disk (λ c. StandsFor c (sealed_set t)) → (e : DeskState) → e ≡ record mid { settled = mid.settled ++ mid.drawn; drawn = []; last = mid.drawn } → Commits disk s t d e
     committed keeps e is =
         let now = settled_is e is in record {
           batch = group.changes;

@@ -164,7 +164,7 @@ refused_known s p fault.Memory h =
 
 -- ---- at first
 pub new_in_step : {D : Type 0} (disk : Ghosts D) (s : StoreState D) (opening : Identity) (d : DeskState) → opening ≡ s.store → IsFresh s s.store.start → EachCrash disk s.slots.journal.disk (Leaves s)
-    → d ≡ record { store = opening; settled = []; drawn = []; waiting = []; stopped = false } → IsInStep disk s d
+    → d ≡ record { store = opening; settled = []; drawn = []; waiting = []; stopped = false; last = [] } → IsInStep disk s d
 new_in_step disk s opening d same fresh leaves made = record {
   same = ap (λ (x : DeskState). x.store) made ∙ same;
   rest = (fresh.step, λ failed. let both : Idle ≡ Failed = sym fresh.phase ∙ failed in absurd cc);

@@ -122,7 +122,7 @@ pub record Commits {D : Type 0} (disk : Ghosts D) (s t : StoreState D)
   pub rest : List Change
   pub parts : d.waiting ≡ batch ++ rest
   pub some : 0 < length batch
-  pub desk : e ≡ record d { settled = d.settled ++ batch; waiting = rest }
+  pub desk : e ≡ record d { settled = d.settled ++ batch; waiting = rest; last = batch }
   pub in_step : IsInStep disk t e
   pub works : Works disk s t
   pub no_failure : disk.faults t.slots.journal.disk ≡ disk.faults s.slots.journal.disk

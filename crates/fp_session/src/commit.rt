@@ -123,7 +123,11 @@ fn settle(desk: &mut Desk, receipt: Receipt) -> Result<(), CommitFault>
     requires store { receipt.store ≡ desk.old.store }
     requires drawn { IsDrawn desk.old receipt }
     ensures settled { OnOk result (desk.new
-        ≡ record desk.old { settled = desk.old.settled ++ desk.old.drawn; drawn = [] }) }
+        ≡ record desk.old {
+          settled = desk.old.settled ++ desk.old.drawn;
+          drawn = [];
+          last = desk.old.drawn;
+        }) }
     ensures unchanged { OnErr result (desk.new ≡ desk.old) }
     ensures fault { IfErr result (λ f. f ≡ Memory) }
 {

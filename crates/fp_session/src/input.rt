@@ -1,6 +1,6 @@
 //! The lines of an input.
 
-ghost use Rattle.std.specs.Prelude.{◌≡◌, ◌+◌, [], true, IfErr, IfOk};
+ghost use Rattle.std.specs.Prelude.{◌≡◌, ◌≢◌, ◌+◌, [], true, IfErr, IfOk};
 ghost use Rattle.std.specs.Prelude.{IfSome, MatchOption, Option, OnOk, length, ◌<◌, false};
 ghost use Rattle.std.specs.Io.KnownBytes.{Appends};
 ghost use Rattle.fp_edit.specs.Flags.{State};
@@ -9,6 +9,7 @@ ghost use Rattle.fp_session.specs.Run.{IsAfterPrefix, IsRunWritten, IsToldBy, af
 ghost use Rattle.fp_session.specs.Sources.{AskLines, AsksNext, bytes_at_hand};
 ghost use Rattle.fp_session.specs.StoreRun.{StoreRun};
 ghost use Rattle.fp_session.specs.Streams.{Blames};
+ghost use Rattle.fp_session.specs.declared.fault.ApplyFault.TheVariants.{Device};
 
 use crate::batching::Batching;
 use crate::chunk::Chunk;
@@ -42,8 +43,8 @@ impl Model for InputLines {
 }
 
 impl InputLines {
-    // Nothing came in yet.
-    fn new(alloc: Global) -> InputLines
+    /// Nothing came in yet.
+    pub fn new(alloc: Global) -> InputLines
         ensures { result ≡ record { line = []; left = []; ended = false } }
     {
         InputLines {
@@ -161,6 +162,9 @@ pub fn apply_lines<R: Read, W: Write, E: EditStore>(
     // and a run to the end only where neither did.
     ensures device { Blames (r.old.failures + w.old.failures) (r.new.failures + w.new.failures)
         result.1 }
+
+    // No other fault is told in place of a reader's.
+    ensures read { IfErr result.1 (λ f. f ≢ Device → r.new.failures ≡ r.old.failures) }
 {
     let mut lines = InputLines::new(alloc);
     let mut edits = edits;

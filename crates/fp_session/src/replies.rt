@@ -2,7 +2,7 @@
 
 ghost use Rattle.std.specs.Prelude.{◌≡◌, ◌++◌, ◌&&◌, [], ◌∷◌, ℕ, List, Ok, Err, IfErr, IfOk, OnOk};
 ghost use Rattle.std.specs.Prelude.{◌+◌, MatchResult, ◌<◌, ◌≤◌, nat_lt, length, true, vec_capacity};
-ghost use Rattle.std.specs.Prelude.{vec_len};
+ghost use Rattle.std.specs.Prelude.{vec_len, ◌↔◌, IsTrue};
 ghost use Rattle.std.specs.Io.KnownBytes.{Appends};
 ghost use Rattle.fp_edit.specs.Edits.{Change, proposal_of};
 ghost use Rattle.fp_edit.specs.Following.{change_of};
@@ -228,7 +228,14 @@ impl Replies {
         self.text.len() > LONG
     }
 
-    /// Sends the texts.
+    /// Whether nothing waits to be sent.
+    pub fn is_sent(&self) -> bool
+        ensures { IsTrue result ↔ (self.now.text.items ≡ []) }
+    {
+        self.text.is_empty()
+    }
+
+    /// Sends the texts, where there are any.
     pub fn send<W: Write>(&mut self, w: &mut FailureCounted<W>) -> Result<(), StreamFault>
         ensures sent { OnOk result
             (Appends (W.contents w.old.inner) (W.contents w.new.inner) self.old.text.items) }
@@ -238,6 +245,9 @@ impl Replies {
         ensures fault { IfErr result (λ f. f ≡ Device) }
         ensures counted { CountsFailures w.old.failures w.new.failures result }
     {
+        if self.is_sent() {
+            return Ok(());
+        }
         w.send(&self.text)?;
         self.text.clear();
         Ok(())

@@ -1,6 +1,6 @@
 //! The loop from what is asked to replies.
 
-ghost use Rattle.std.specs.Prelude.{◌≡◌, ◌≤◌, ◌<◌, ◌+◌, ◌++◌, [], ◌∷◌, ℕ, List, length, Option};
+ghost use Rattle.std.specs.Prelude.{◌≡◌, ◌≢◌, ◌≤◌, ◌<◌, ◌+◌, ◌++◌, [], ◌∷◌, ℕ, List, length, Option};
 ghost use Rattle.std.specs.Prelude.{IfErr, OnOk, MatchResult, Ok};
 ghost use Rattle.std.specs.Io.KnownBytes.{Appends};
 ghost use Rattle.fp_edit.specs.Flags.{State};
@@ -42,6 +42,7 @@ pub fn answer_all<S, A: EditSource<S>, W: Write, E: EditStore>(
         w.old.failures w.new.failures result }
     ensures device { Blames (A.failures stream.old + w.old.failures)
         (A.failures stream.new + w.new.failures) result }
+    ensures read { IfErr result (λ f. f ≢ Device → A.failures stream.new ≡ A.failures stream.old) }
 {
     // What a crash leaves is known only where it is asked.
     let _ = edits.flags();

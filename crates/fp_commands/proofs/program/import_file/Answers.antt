@@ -37,6 +37,7 @@ returns-in_err-_told-clause-performs g c =
         unread = did.unread;
         cause = did.cause;
         device = did.device;
+        read = did.read;
         no_failure = did.no_failure;
         honest = did.honest;
       });

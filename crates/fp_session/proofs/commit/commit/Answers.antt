@@ -49,14 +49,14 @@ pub returns-in-Ok-seal-clause-committed : goal.returns-in-Ok-seal-clause-committ
 returns-in-Ok-seal-clause-committed g c =
     let s = c.args.store.now in let m = c.make_room.new.store in let t = c.seal.new.store in let d = c.args.desk.now in let mid = c.draw.new.self in let e = c.settle.new.desk in
     let draw : IsNewDraw d mid c.in-Some.draw = rw c.in-Some.is at c.in-Ok.ensures.drawn in
-    ok_more c.settle.result (e ≡ record mid { settled = mid.settled ++ mid.drawn; drawn = [] }) (Commits g.D.Disk s t d e)
+    ok_more c.settle.result (e ≡ record mid { settled = mid.settled ++ mid.drawn; drawn = []; last = mid.drawn }) (Commits g.D.Disk s t d e)
     (committed g.D.Disk s m t d mid c.requires.in_step c.in_ok-make_room.ensures.proceeds c.in-Some.draw draw c.in-Ok-seal.ensures.sealed c.seal.ensures.same c.in-Ok-seal.ensures.called c.in-Ok-seal.ensures.keeps e) c.settle.ensures.settled
 
 pub returns-in-Ok-seal-clause-log : goal.returns-in-Ok-seal-clause-log
 returns-in-Ok-seal-clause-log g c =
     let s = c.args.store.now in let m = c.make_room.new.store in let t = c.seal.new.store in let d = c.args.desk.now in let mid = c.draw.new.self in let e = c.settle.new.desk in
     let draw : IsNewDraw d mid c.in-Some.draw = rw c.in-Some.is at c.in-Ok.ensures.drawn in
-    ok_or_err c.settle.result (e ≡ record mid { settled = mid.settled ++ mid.drawn; drawn = [] }) (e ≡ mid) ((e.store ≡ d.store) × (log e ≡ log d)) c.settle.ensures.settled c.settle.ensures.unchanged
+    ok_or_err c.settle.result (e ≡ record mid { settled = mid.settled ++ mid.drawn; drawn = []; last = mid.drawn }) (e ≡ mid) ((e.store ≡ d.store) × (log e ≡ log d)) c.settle.ensures.settled c.settle.ensures.unchanged
     (same_log g.D.Disk s m t d mid c.requires.in_step c.in_ok-make_room.ensures.proceeds c.in-Some.draw draw e)
     (same_log_drawn g.D.Disk s m t d mid c.requires.in_step c.in_ok-make_room.ensures.proceeds c.in-Some.draw draw e)
 

@@ -36,4 +36,5 @@ returns g c =
       rests = ends-rests st first now 1 over.asked old new f0 f a.result over.ends;
       course = ends-course st first now 1 over.asked old new f0 f (λ (u : State). IfSome reads (λ input. IsAfterPrefix (st.state first) (asked_by_input input) u)) within a.result over.ends;
       device = a.ensures.device;
+      read = a.ensures.read;
     }
