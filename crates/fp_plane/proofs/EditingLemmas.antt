@@ -1,14 +1,13 @@
 -- The lines of an editor, and what they are answered.
-use Rattle.std.proofs.Common.{◌≡◌, ◌≤◌, ℕ, List, [], ◌∷◌, ◌++◌, All, Option, None, Some, Ok, Err, IfSome, IsSomeAnd, refl, sym, ap, subst, ◌∙◌, append_assoc, append-nil, inl, inr, slice_index_or, arith, take}
+use Rattle.std.proofs.Common.{◌≡◌, ◌≤◌, ℕ, List, [], ◌∷◌, ◌++◌, All, Option, None, Some, Ok, Err, IfSome, IsSomeAnd, sym, ap, subst, ◌∙◌, append_assoc, append-nil, inl, inr, slice_index_or, arith}
 use Rattle.std.proofs.lemmas.List.Elements.{All-push}
-use Rattle.std.specs.Io.KnownBytes.{Appends, Consumes, IsAtEnd}
-use Rattle.fp_base.proofs.Known.{Appends-nil, Appends-more, Consumes-some, IfSome-each}
+use Rattle.std.specs.Io.KnownBytes.{Appends}
+use Rattle.fp_base.proofs.Known.{Appends-nil, Appends-more}
 use Rattle.fp_group_commit.specs.Tokens.{FrontState, Identity, front_revision}
-use Rattle.fp_session.specs.Asks.{Ask, asked_by_input, asked_by_lines}
-use Rattle.fp_session.specs.Lines.{line_up_to_limit, lines}
-use Rattle.fp_session.proofs.LineLemmas.{asked-append, lines-append}
+use Rattle.fp_session.specs.Asks.{Ask}
+use Rattle.fp_session.specs.Sources.{HasAsked}
 use Rattle.fp_plane.specs.Answers.{Answer, AreAnswersTo, IsAnswerTo, IsShownAs, IsWithin, revision_in, answer_text, texts_of, says_no_edit}
-use Rattle.fp_plane.specs.Editing.{IsNoLess, IsReading, IsServed}
+use Rattle.fp_plane.specs.Editing.{IsNoLess, IsServed, IsServedFirst}
 
 -- ---- answers, one behind the other
 
@@ -72,78 +71,21 @@ served-more store told more asked before held then x a served less answers withi
   ours = ours;
 }
 
--- ---- bytes that came in
+-- ---- a source that was asked
 
--- what the lines of an input ask, the last one apart
-pub asked-last : (seen : List ℕ) (done : List (List ℕ)) (line : List ℕ) → lines seen ≡ done ++ line ∷ [] → asked_by_lines done ++ asked_by_lines (line ∷ []) ≡ asked_by_input seen
-asked-last seen done line split = sym (ap asked_by_lines split ∙ asked-append done (line ∷ []))
+-- what it was asked so far, and how that was answered
+pub record IsUnderWay {A S : Type 0} (asks : A → S → List Ask → Type 0) (first : A) (at_first : S) (source : A) (stream : S) (store : Identity) (told : Option FrontState) (before held : Option (List ℕ)) : Type 0 where
+  pub asked : List Ask
+  pub came : HasAsked asks first at_first source stream asked
+  pub served : IsServed store told asked before held
 
--- a newline ends the line
-newline : (seen line : List ℕ) (done : List (List ℕ)) → lines seen ≡ done ++ line ∷ [] → lines (seen ++ 10 ∷ []) ≡ (done ++ line ∷ []) ++ [] ∷ []
-newline seen line done split =
-    lines-append seen (10 ∷ []) [] ([] ∷ []) refl done line split ∙ ap (λ l. done ++ l ∷ [] ∷ []) (append-nil line) ∙ sym (append_assoc done (line ∷ []) ([] ∷ []))
+module _ {A S : Type 0} (asks : A → S → List Ask → Type 0) (first : A) (at_first : S) (source : A) (stream : S) (store : Identity) (told : Option FrontState) (before held : Option (List ℕ)) (u : IsUnderWay asks first at_first source stream store told before held) where
+  -- it broke off there
+  pub cut-off : (all : List Ask) → asks first at_first all → IsServedFirst store told all before held
+  cut-off all a = let h = u.came all a in record { asked = u.asked; later = h.0; part = h.1; served = u.served }
 
-pub reading-none : (store : Identity) (kept : List ℕ) (held : Option (List ℕ)) → kept ≡ [] → IsReading store None [] kept held held
-reading-none store kept held none = record {
-  done = [];
-  line = [];
-  split = refl;
-  kept_is = none;
-  served = served-none store held;
-}
-
--- a piece without a newline lengthens the line
-pub reading-more : (store : Identity) (told : Option FrontState) (seen piece kept then : List ℕ) (before held : Option (List ℕ)) (i : IsReading store told seen kept before held) → lines piece ≡ piece ∷ [] → then ≡ line_up_to_limit (i.line ++ piece)
-    → IsReading store told (seen ++ piece) then before held
-reading-more store told seen piece kept then before held i one is = record {
-  done = i.done;
-  line = i.line ++ piece;
-  split = lines-append seen piece piece [] one i.done i.line i.split;
-  kept_is = is;
-  served = i.served;
-}
-
--- the line ended, and was answered
-pub reading-newline : (store : Identity) (told more : Option FrontState) (seen kept then : List ℕ) (before held after : Option (List ℕ)) (i : IsReading store told seen kept before held)
-    → IsServed store more (asked_by_lines i.done ++ asked_by_lines (i.line ∷ [])) before after → then ≡ [] → IsReading store more (seen ++ 10 ∷ []) then before after
-reading-newline store told more seen kept then before held after i served empty = record {
-  done = i.done ++ i.line ∷ [];
-  line = [];
-  split = newline seen i.line i.done i.split;
-  kept_is = empty;
-  served = subst (λ (xs : List Ask). IsServed store more xs before after) (sym (asked-append i.done (i.line ∷ []))) served;
-}
-
--- ---- an input that is read
-
--- what came in of an input, and what is left of it
-abbrev pub IsPartRead : (reads left : Option (List ℕ)) → List ℕ → Type 0
-IsPartRead reads left seen = (input : List ℕ) → reads ≡ Some input → (rest : List ℕ) × (left ≡ Some rest) × (seen ++ rest ≡ input)
-
--- more of it came in
-pub part-more : (reads left now_left : Option (List ℕ)) (seen bytes : List ℕ) → Consumes left now_left bytes → IsPartRead reads left seen → IsPartRead reads now_left (seen ++ bytes)
-part-more reads left now_left seen bytes read p = λ input is.
-    let was = p input is in let step = Consumes-some left now_left was.0 bytes was.1 read in
-    (step.0, step.1, append_assoc seen bytes step.0 ∙ ap (λ l. seen ++ l) (sym step.2) ∙ was.2)
-
--- it is at its end
-pub part-whole : (reads left now_left : Option (List ℕ)) (seen bytes : List ℕ) (n : ℕ) → Consumes left now_left (take n bytes) → n ≡ 0 → IsAtEnd now_left → IsPartRead reads left seen → (input : List ℕ) → reads ≡ Some input → seen ≡ input
-part-whole reads left now_left seen bytes n read zero end p = λ input is.
-    let was = p input is in let step = Consumes-some left now_left was.0 (take n bytes) was.1 read in
-    let ended : step.0 ≡ [] = subst IsAtEnd step.1 end in
-    let none : was.0 ≡ [] = step.2 ∙ ap (λ k. take k bytes ++ step.0) zero ∙ ended in
-    sym (append-nil seen) ∙ ap (λ l. seen ++ l) (sym none) ∙ was.2
-
--- what was read of it so far, and how that was answered
-pub record IsUnderWay (store : Identity) (told : Option FrontState) (reads left : Option (List ℕ)) (kept : List ℕ) (before held : Option (List ℕ)) : Type 0 where
-  pub seen : List ℕ
-  pub part : IsPartRead reads left seen
-  pub reading : IsReading store told seen kept before held
-
--- at its end all of it was answered, with the last line
-pub served-whole : (store : Identity) (told more : Option FrontState) (reads left : Option (List ℕ)) (kept : List ℕ) (before held then : Option (List ℕ)) (u : IsUnderWay store told reads left kept before held) → ((input : List ℕ) → reads ≡ Some input → u.seen ≡ input)
-    → IsServed store more (asked_by_lines u.reading.done ++ asked_by_lines (u.reading.line ∷ [])) before then → IfSome reads (λ input. IsServed store more (asked_by_input input) before then)
-served-whole store told more reads left kept before held then u whole served =
-    IfSome-each reads (λ input. IsServed store more (asked_by_input input) before then) (λ input is.
-    subst (λ (xs : List ℕ). IsServed store more (asked_by_input xs) before then) (whole input is)
-    (subst (λ (xs : List Ask). IsServed store more xs before then) (asked-last u.seen u.reading.done u.reading.line u.reading.split) served))
+  -- it asks nothing more
+  pub served-whole : ((all : List Ask) → asks source stream all → all ≡ []) → (all : List Ask) → asks first at_first all → IsServed store told all before held
+  served-whole none all a =
+      let h = u.came all a in
+      subst (λ (xs : List Ask). IsServed store told xs before held) (sym (append-nil u.asked) ∙ ap (λ (xs : List Ask). u.asked ++ xs) (sym (none h.0 h.2)) ∙ h.1) u.served

@@ -6,6 +6,8 @@ use Rattle.fp_streams.specs.Said.{AppendsLine}
 use Rattle.fp_session.specs.Asks.{Ask}
 use Rattle.fp_session.specs.Reply as flags
 use Rattle.fp_session.specs.Reply.{Reply, error_text, reply_of_code}
+use Rattle.fp_desk.specs.declared.fault.SubmitFault.{SubmitFault}
+use Rattle.fp_desk.specs.declared.fault.SubmitFault.TheVariants as submit
 use Rattle.fp_plane.specs.declared.answer.Answer as code
 use Rattle.fp_plane.specs.declared.answer.Answer.TheVariants.{Flags, QueueFull, Stopped}
 
@@ -69,6 +71,18 @@ AreAnswersTo [] [] = Unit {0}
 AreAnswersTo [] (a ∷ bs) = ⊥
 AreAnswersTo (x ∷ xs) [] = ⊥
 AreAnswersTo (x ∷ xs) (a ∷ bs) = IsAnswerTo x a × AreAnswersTo xs bs
+
+-- what an edit that was taken under this revision is answered: the revision, or that it isn't known
+-- to be kept
+abbrev pub IsAnswerToTaken : ℕ → Answer → Type 0
+IsAnswerToTaken n a = (a ≡ reply (flags.revision n)) ⊎ (a ≡ reply flags.store_failed)
+
+-- what an edit that wasn't taken is answered: why
+abbrev pub answer_to_refusal : SubmitFault → Answer
+answer_to_refusal submit.Stopped = stopped
+answer_to_refusal submit.QueueFull = queue_full
+answer_to_refusal (submit.Edit fault) = reply (flags.refusal_of fault)
+answer_to_refusal submit.Memory = reply flags.out_of_memory
 
 -- a revision that is answered is no greater than what was told
 abbrev pub IsWithin : Option FrontState → Answer → Type 0

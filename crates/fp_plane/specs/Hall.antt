@@ -40,8 +40,14 @@ pub record IsOrderly {D : Type 0} (store : Identity) (h : HallState D) : Type 0 
 
 -- a hall in which nothing was done yet, with so many evaluators
 pub record IsNew {D : Type 0} (store : Identity) (h : HallState D) : Type 0 where
-  pub desk : h.desk
-      ≡ record { store = store; settled = []; drawn = []; waiting = []; stopped = false }
+  pub desk : h.desk ≡ record {
+    store = store;
+    settled = [];
+    drawn = [];
+    waiting = [];
+    stopped = false;
+    last = [];
+  }
   pub shown : h.shown ≡ record { store = store; edits = [] }
   pub taken : h.taken ≡ 0
   pub handed : h.handed ≡ None

@@ -1,42 +1,41 @@
 //! An editor's connection.
 
 ghost use Rattle.std.specs.Prelude.{◌≡◌, ◌+◌, ◌++◌, ◌∷◌, [], ◌<◌, ◌≤◌, ℕ, List, Option, None};
-ghost use Rattle.std.specs.Prelude.{false, IfOk, IfSome, IsSomeAnd, OnOk, MatchBool};
+ghost use Rattle.std.specs.Prelude.{false, IfErr, IfOk, IfSome, IsSomeAnd, OnErr, OnOk, MatchBool};
+ghost use Rattle.std.specs.Result.{result_map_both};
 ghost use Rattle.fp_group_commit.specs.Tokens.{Identity, front_revision};
-ghost use Rattle.fp_session.specs.Asks.{Ask, asked_by_input, asked_by_lines};
-ghost use Rattle.fp_session.specs.Lines.{line_up_to_limit};
+ghost use Rattle.fp_session.specs.Asks.{Ask, asked_by_input};
 ghost use Rattle.fp_session.specs.Progress.{AsksFor};
 ghost use Rattle.fp_streams.specs.Failures.{CountsFailures};
-ghost use Rattle.fp_plane.specs.Answers.{IsAnswerTo, IsWithin, revision_in, says_no_edit};
-ghost use Rattle.fp_plane.specs.Answers.{answer_of_code};
-ghost use Rattle.fp_plane.specs.Editing.{IsNoLess, IsReading, IsServed};
+ghost use Rattle.fp_streams.specs.declared.counted.StreamFault.TheVariants.{Device};
+ghost use Rattle.fp_plane.specs.Answers.{IsAnswerTo, IsAnswerToTaken, IsWithin, revision_in};
+ghost use Rattle.fp_plane.specs.Answers.{answer_of_code, answer_to_refusal, says_no_edit};
+ghost use Rattle.fp_plane.specs.Editing.{IsNoLess, IsServed, IsServedFirst};
 
 use crate::answer::{Answer, send_answer};
 use crate::naming::Naming;
 use crate::plane::Plane;
-use fp_desk::SubmitFault;
+use fp_desk::{SubmitFault, Ticket};
 use fp_disk::Disk;
 use fp_edit::{Edit, EditFault, LineFault};
 use fp_group_commit::Told;
-use fp_session::{IncomingLine, Reply, newline_in};
+use fp_session::{EditSource, InputLines, Reply};
 use fp_streams::{FailureCounted, StreamFault};
 use std::alloc::Global;
 use std::io::{Read, Write};
 use std::sync::Wait;
 
-const CHUNK: usize = 65_536;
-
 /// Answers each line of an editor, before the next one is looked at, and each edit once it is
 /// sealed, settled and shown.
 ///
-/// What it answers is the most that was told: no revision that it wrote is greater. Want of memory
-/// ends it where a line comes in; of an edit that was taken it always tells.
+/// With the end, or the fault, comes the most that was told: no revision that it wrote is greater.
+/// Want of memory ends it where a line comes in; of an edit that was taken it always tells.
 pub fn editor_loop<K, D, R, I, O>(
     plane: &Plane<K, D, R>,
     alloc: Global,
     r: &mut FailureCounted<I>,
     w: &mut FailureCounted<O>,
-) -> Result<Option<Told>, StreamFault>
+) -> Result<Option<Told>, (StreamFault, Option<Told>)>
 where
     K: Naming,
     D: Disk + Drop,
@@ -47,61 +46,70 @@ where
     ensures served { IfOk result (λ told. IfSome (I.remaining r.old.inner) (λ input.
         IsServed K.store told (asked_by_input input)
         (O.contents w.old.inner) (O.contents w.new.inner))) }
+
+    // The same of some first lines where the writer didn't fail.
+    ensures broken { IfErr result (λ e. w.new.failures ≡ w.old.failures →
+        IfSome (I.remaining r.old.inner) (λ input.
+        IsServedFirst K.store e.1 (asked_by_input input)
+        (O.contents w.old.inner) (O.contents w.new.inner))) }
+    ensures ours { IfErr result (λ e. IfSome e.1 (λ t. t.store ≡ K.store)) }
     ensures device { CountsFailures (r.old.failures + w.old.failures)
-        (r.new.failures + w.new.failures) result }
+        (r.new.failures + w.new.failures) (result_map_both (λ t. t) (λ e. e.0) result) }
 {
-    let mut line = IncomingLine::new(alloc);
     let mut told = None;
-    let mut chunk = [0; CHUNK];
+    match answer_all(plane, alloc, &mut InputLines::new(alloc), r, w, &mut told) {
+        Ok(()) => Ok(told),
+        Err(fault) => Err((fault, told)),
+    }
+}
+
+// Answers all that a source asks, in order, and keeps the most that was told.
+fn answer_all<K, D, R, S, A, O>(
+    plane: &Plane<K, D, R>,
+    alloc: Global,
+    source: &mut A,
+    stream: &mut S,
+    w: &mut FailureCounted<O>,
+    told: &mut Option<Told>,
+) -> Result<(), StreamFault>
+where
+    K: Naming,
+    D: Disk + Drop,
+    R: Wait + Drop,
+    A: EditSource<S>,
+    O: Write,
+    requires none { told.old ≡ None }
+    ensures served { OnOk result ((all : List Ask) → A.asks source.old stream.old all
+        → IsServed K.store told.new all (O.contents w.old.inner) (O.contents w.new.inner)) }
+    ensures broken { OnErr result (w.new.failures ≡ w.old.failures
+        → (all : List Ask) → A.asks source.old stream.old all
+        → IsServedFirst K.store told.new all (O.contents w.old.inner) (O.contents w.new.inner)) }
+    ensures ours { IfSome told.new (λ t. t.store ≡ K.store) }
+    ensures device { CountsFailures (A.failures stream.old + w.old.failures)
+        (A.failures stream.new + w.new.failures) result }
+{
     loop {
-        let count = r.read(&mut chunk)?;
-        if count == 0 {
-            answer_line(plane, alloc, &mut line, &mut told, w)?;
-            return Ok(told);
+        loop {
+            let Ok(next) = source.next(alloc) else {
+                return Err(StreamFault::Memory);
+            };
+            let Some(asked) = next else {
+                break;
+            };
+            answer(plane, alloc, asked, told, w)?;
         }
-        answer_bytes(plane, alloc, &mut line, &mut told, &chunk[..count], w)?;
+        let more = source.refill(stream)?;
+        if !more {
+            return Ok(());
+        }
     }
 }
 
-// Takes the next bytes that came in, and answers each line that ends in them.
-fn answer_bytes<K, D, R, O>(
+// Answers what a line asks.
+fn answer<K, D, R, O>(
     plane: &Plane<K, D, R>,
     alloc: Global,
-    line: &mut IncomingLine,
-    told: &mut Option<Told>,
-    bytes: &[u8],
-    w: &mut FailureCounted<O>,
-) -> Result<(), StreamFault>
-where
-    K: Naming,
-    D: Disk + Drop,
-    R: Wait + Drop,
-    O: Write,
-    ensures answered { OnOk result ((seen : List ℕ) (before : Option (List ℕ))
-        → IsReading K.store told.old seen line.old before (O.contents w.old.inner)
-        → IsReading K.store told.new (seen ++ bytes.now) line.new before
-        (O.contents w.new.inner)) }
-    ensures counted { CountsFailures w.old.failures w.new.failures result }
-{
-    let mut rest = bytes;
-    while let Some(at) = newline_in(rest) {
-        let Ok(()) = line.extend(&rest[..at]) else {
-            return Err(StreamFault::Memory);
-        };
-        answer_line(plane, alloc, line, told, w)?;
-        rest = &rest[at + 1..];
-    }
-    let Ok(()) = line.extend(rest) else {
-        return Err(StreamFault::Memory);
-    };
-    Ok(())
-}
-
-// Answers the line that came in.
-fn answer_line<K, D, R, O>(
-    plane: &Plane<K, D, R>,
-    alloc: Global,
-    line: &mut IncomingLine,
+    asked: Result<Edit, LineFault>,
     told: &mut Option<Told>,
     w: &mut FailureCounted<O>,
 ) -> Result<(), StreamFault>
@@ -110,17 +118,14 @@ where
     D: Disk + Drop,
     R: Wait + Drop,
     O: Write,
-    ensures answered { OnOk result ((asked : List Ask) (bytes : List ℕ) (before : Option (List ℕ))
-        → line.old ≡ line_up_to_limit bytes
-        → IsServed K.store told.old asked before (O.contents w.old.inner)
-        → IsServed K.store told.new (asked ++ asked_by_lines (bytes ∷ [])) before
-        (O.contents w.new.inner)) }
-    ensures ended { line.new ≡ [] }
+    ensures answered { OnOk result ((x : Ask) (all : List Ask) (before : Option (List ℕ))
+        → AsksFor asked x → IsServed K.store told.old all before (O.contents w.old.inner)
+        → IsServed K.store told.new (all ++ x ∷ []) before (O.contents w.new.inner)) }
+    ensures ours { IfSome told.old (λ t. t.store ≡ K.store)
+        → IfSome told.new (λ t. t.store ≡ K.store) }
+    ensures fault { IfErr result (λ f. f ≡ Device) }
     ensures counted { CountsFailures w.old.failures w.new.failures result }
 {
-    let Some(asked) = line.end(alloc) else {
-        return Ok(());
-    };
     let (answer, more) = answer_to(plane, asked);
     keep_greater(told, more);
     send_answer(alloc, w, &answer)?;
@@ -156,10 +161,22 @@ where
     ensures within { IsWithin result.1 (answer_of_code result.0) }
     ensures ours { IfSome result.1 (λ t. t.store ≡ K.store) }
 {
-    let ticket = match plane.submit(edit) {
-        Ok(ticket) => ticket,
-        Err((fault, _)) => return (answer_to_refused(fault), None),
-    };
+    match plane.submit(edit) {
+        Ok(ticket) => answer_to_taken(plane, ticket),
+        Err((fault, _)) => (answer_to_refused(fault), None),
+    }
+}
+
+// The answer to an edit that was taken, once it is settled and shown: its own revision.
+fn answer_to_taken<K, D, R>(plane: &Plane<K, D, R>, ticket: Ticket) -> (Answer, Option<Told>)
+where
+    K: Naming,
+    D: Disk + Drop,
+    R: Wait + Drop,
+    ensures answer { IsAnswerToTaken ticket.revision (answer_of_code result.0) }
+    ensures within { IsWithin result.1 (answer_of_code result.0) }
+    ensures ours { IfSome result.1 (λ t. t.store ≡ K.store) }
+{
     let revision = ticket.revision();
     match plane.wait(ticket) {
         Some((told, _)) => (Answer::Flags(Reply::Revision(revision)), Some(told)),
@@ -167,8 +184,9 @@ where
     }
 }
 
-// The answer to an edit that wasn't taken.
+// The answer to an edit that wasn't taken: why.
 fn answer_to_refused(fault: SubmitFault) -> Answer
+    ensures same { answer_of_code result ≡ answer_to_refusal fault }
     ensures answer { says_no_edit (answer_of_code result) ≡ false }
     ensures none { revision_in (answer_of_code result) ≡ None }
 {

@@ -206,6 +206,7 @@ impl<K: Naming, D: Disk + Drop, R: Wait + Drop> Hall<K, D, R> {
         ensures settled { OnOk result (self.new.desk ≡ record self.old.desk {
           settled = self.old.desk.settled ++ self.old.desk.drawn;
           drawn = [];
+          last = self.old.desk.drawn;
         }) }
         ensures refused { IfErr result (λ e. SettlesNot self.old.desk receipt e.0) }
         ensures given_back { IfErr result (λ e. e.1 ≡ receipt) }

@@ -1,6 +1,6 @@
 //! The plane: what threads share.
 
-ghost use Rattle.std.specs.Prelude.{◌≡◌, ◌≤◌, None, IfOk, IfErr, IfSome, MatchResult};
+ghost use Rattle.std.specs.Prelude.{◌≡◌, ◌≤◌, true, None, IfOk, IfErr, IfSome, MatchResult};
 ghost use Rattle.fp_edit.specs.Edits.{proposal_of};
 ghost use Rattle.fp_group_commit.specs.Store as stores;
 ghost use Rattle.fp_group_commit.specs.Tokens.{front_revision};
@@ -18,7 +18,7 @@ use fp_group_commit::{Opening, Store, Told};
 use fp_publish::{Evaluator, Seat, SeatsUsed, Shown};
 use fp_stream::Hello;
 use std::alloc::{AllocError, Global};
-use std::sync::{Arc, Condvar, Mutex, Wait};
+use std::sync::{Arc, Condvar, Mutex, MutexGuard, Wait};
 
 // What the handles of a plane share.
 #[derive(Drop)]
@@ -141,15 +141,32 @@ impl<K: Naming, D: Disk + Drop, R: Wait + Drop> Plane<K, D, R> {
 
     // ---- the end
 
+    /// No edit is taken any more. What was taken goes on.
+    pub fn close(&self) {
+        self.shared.hall.lock(&self.shared.rt).close();
+        self.shared.work.notify_all();
+    }
+
     /// No edit is taken any more. Waits until what was taken is settled and the flusher has ended,
     /// and gives its store back.
     pub fn stop(self) -> Stopped<D>
         ensures ours { MatchResult result (λ s. s.store ≡ K.store) (λ e. e.1.store ≡ K.store) }
         ensures rest { IfOk result stores.IsAtRest }
     {
-        let shared = &self.shared;
-        let mut hall = shared.hall.lock(&shared.rt);
+        let mut hall = self.shared.hall.lock(&self.shared.rt);
         hall.close();
+        self.store_left(hall)
+    }
+
+    // Waits for the flusher's end under the lock that was closed, and takes its store.
+    fn store_left(&self, hall: MutexGuard<'_, Hall<K, D, R>>) -> Stopped<D>
+        requires stopped { hall.value.desk.stopped ≡ true }
+        requires closing { hall.value.closing ≡ true }
+        ensures ours { MatchResult result (λ s. s.store ≡ K.store) (λ e. e.1.store ≡ K.store) }
+        ensures rest { IfOk result stores.IsAtRest }
+    {
+        let shared = &self.shared;
+        let mut hall = hall;
         shared.work.notify_all();
         for _ in shared.rt.forever() {
             if let Some(store) = hall.take_store() {

@@ -3,6 +3,7 @@ use Rattle.std.proofs.Common.{◌≡◌, ◌⊎◌, ◌+◌, ℕ, List, ◌++◌
 use Rattle.std.specs.Prelude.{Option, Some, codes, decimal}
 use Rattle.std.specs.Net.Text.{socket_text}
 use Rattle.std.specs.declared.net.socket_addr.SocketAddr.{SocketAddr}
+use Rattle.std.specs.Io.KnownBytes.{Appends}
 use Rattle.fp_base.proofs.Known.{Appends-more}
 use Rattle.fp_commands.specs.declared.fault.CommandFault.{CommandFault}
 use Rattle.fp_disk.specs.Crashes.{EachCrash}
@@ -14,19 +15,14 @@ use Rattle.fp_group_commit.specs.Tokens.{Identity}
 use Rattle.fp_journal.specs.declared.journal.Phase.TheVariants.{Idle}
 use Rattle.fp_recovery.specs.Stands.{StandsFor}
 use Rattle.fp_streams.specs.Said.{AppendsLine}
-use Rattle.fp_server.specs.Ends.{BreaksOff, EndsBadly, EndsWell, IsBack, SaysAll, SaysWhere, broken_off, line, where_text}
+use Rattle.fp_server.specs.Ends.{BreaksOff, EndsBadly, EndsWell, IsBack, IsServingFault, SaysAll, SaysWhere, broken_off, line, where_text}
 
-pub says_where : (a b c d : Option (List ℕ)) (x y z : SocketAddr) → AppendsLine a b (codes "ofrep " ++ socket_text x) → AppendsLine b c (codes "edit " ++ socket_text y) → AppendsLine c d (codes "stream " ++ socket_text z) → SaysWhere a d
+pub says_where : (a b c d : Option (List ℕ)) (x y z : SocketAddr) → AppendsLine a b (codes "ofrep " ++ socket_text x) → AppendsLine b c (codes "edit " ++ socket_text y) → AppendsLine c d (codes "stream " ++ socket_text z) → Appends a d (where_text x y z)
 says_where a b c d x y z p q r =
     let first = line (codes "ofrep " ++ socket_text x) in
     let second = line (codes "edit " ++ socket_text y) in
     let third = line (codes "stream " ++ socket_text z) in
-    record {
-      ofrep = x;
-      edit = y;
-      stream = z;
-      text = Appends-more a c d (first ++ second) third (Appends-more a b c first second p q) r;
-    }
+    Appends-more a c d (first ++ second) third (Appends-more a b c first second p q) r
 
 pub says_all : (revision : ℕ) (before held after : Option (List ℕ)) → SaysWhere before held → AppendsLine held after (codes "stopped at revision " ++ decimal revision) → SaysAll revision before after
 says_all revision before held after p q = record {
@@ -76,5 +72,5 @@ module _ {F D : Type 0} (files : FileGhosts F D) (disk : DiskGhosts D) (old new 
     keeps = λ h c o. subst (λ (i : Identity). StandsFor c (after_all i.start s.sealed) ⊎ StandsFor c (after_all i.start (s.sealed ++ s.staged))) same (either s c (leaves h c o));
   }
 
-  pub ends_broken : (f : CommandFault) → EndsBadly files disk old new path f
-  ends_broken f = broken_off breaks_off
+  pub ends_broken : (f : CommandFault) → IsServingFault f → EndsBadly files disk old new path f
+  ends_broken f is = broken_off is breaks_off

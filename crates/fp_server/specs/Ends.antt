@@ -10,7 +10,8 @@ use Rattle.fp_edit.specs.Edits.{Change}
 use Rattle.fp_edit.specs.Flags.{State}
 use Rattle.fp_edit.specs.Log.{after_all}
 use Rattle.fp_commands.specs.declared.fault.CommandFault.{CommandFault}
-use Rattle.fp_commands.specs.declared.fault.CommandFault.TheVariants.{Memory}
+use Rattle.fp_commands.specs.declared.fault.CommandFault.TheVariants.{Device, StoreFailed, Memory}
+use Rattle.fp_commands.specs.Disks.{IsOnlyRead, IsShowingFault}
 use Rattle.fp_files.specs.Openings.{KeepsAll}
 use Rattle.fp_files.specs.declared.files.DiskFiles.{Ghosts as FileGhosts}
 use Rattle.fp_recovery.specs.Stands.{StandsFor}
@@ -76,19 +77,28 @@ pub record BreaksOff {F D : Type 0} (files : FileGhosts F D) (disk : DiskGhosts 
   pub keeps : EachCrash disk after (λ c. StandsFor c (after_all start edits)
       ⊎ StandsFor c (after_all start (edits ++ last)))
 
--- the disk at the path wasn't one to serve, and has the bytes that it had
+-- the disk at the path wasn't one to serve for this fault, and was only read
 pub record IsUnserved {F D : Type 0} (files : FileGhosts F D) (disk : DiskGhosts D) (old new : F)
-    (path : List ℕ) : Type 0 where
+    (path : List ℕ) (f : CommandFault) : Type 0 where
   pub before : D
   pub after : D
   pub found : files.at old path ≡ Some before
   pub back : IsBack files disk new path after
-  pub same : disk.honest before → disk.bytes after ≡ disk.bytes before
+  pub read : IsOnlyRead disk before after
+  pub fault : IsShowingFault (disk.honest before) (disk.bytes before) f
 
--- it ended by a fault; the disk is lost only where memory was wanting for a thread
+-- the faults of letting connections in, and of waiting for the end
+abbrev pub IsAttendingFault : CommandFault → Type 0
+IsAttendingFault f = (f ≡ Device) ⊎ (f ≡ Memory)
+
+-- and those of a store that is served
+abbrev pub IsServingFault : CommandFault → Type 0
+IsServingFault f = IsAttendingFault f ⊎ (f ≡ StoreFailed)
+
+-- it ended by a fault
 pub data EndsBadly {F D : Type 0} (files : FileGhosts F D) (disk : DiskGhosts D) (old new : F)
     (path : List ℕ) (f : CommandFault) : Type 0 where
-  not_opened : KeepsAll files.at old new → EndsBadly files disk old new path f
-  unserved : IsUnserved files disk old new path → EndsBadly files disk old new path f
-  broken_off : BreaksOff files disk old new path → EndsBadly files disk old new path f
-  lost : f ≡ Memory → EndsBadly files disk old new path f
+  not_opened : f ≡ Device → KeepsAll files.at old new → EndsBadly files disk old new path f
+  unserved : IsUnserved files disk old new path f → EndsBadly files disk old new path f
+  broken_off : IsServingFault f → BreaksOff files disk old new path
+      → EndsBadly files disk old new path f

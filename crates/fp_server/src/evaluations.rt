@@ -1,11 +1,12 @@
 //! A plane's evaluator on loan to one connection.
 
-ghost use Rattle.std.specs.Prelude.{◌≡◌, ◌<◌, ◌^◌, IfOk};
+ghost use Rattle.std.specs.Prelude.{◌≡◌, ◌<◌, ◌^◌, None, IfOk};
 ghost use Rattle.std.specs.Coded.{codes};
 ghost use Rattle.std.specs.Option.{option_copied};
 ghost use Rattle.fp_edit.specs.Flags.{coded_state};
 ghost use Rattle.fp_group_commit.specs.Tokens.{FrontState, front_set};
 ghost use Rattle.fp_ofrep.specs.Reply.{reply};
+ghost use Rattle.fp_publish.specs.Fronts.{Begins};
 ghost use Rattle.fp_ofrep.specs.Seen.{body_seen, response_seen};
 
 use fp_disk::Disk;
@@ -76,10 +77,17 @@ impl<K: Naming, D: Disk + Drop, R: Wait + Copy + Drop> Answers for LentEvaluator
         now: u64,
     ) -> Result<Reply, NoReply>
         requires { now < 2 ^ 63 }
-        ensures { IfOk result
+        ensures replies { IfOk result
             (λ r. (front : FrontState) × (front.store ≡ K.store) × (response_seen r
             ≡ reply (front_set front) method.now target.now (option_copied if_none_match.entry)
             (body_seen body.entry) now)) }
+
+        // Over no less than it took or learnt before, and then it holds nothing back.
+        ensures goes_on { Begins self.old.evaluator.known self.new.evaluator.known }
+        ensures over { IfOk result (λ r. response_seen r
+            ≡ reply (front_set self.new.evaluator.known) method.now target.now
+            (option_copied if_none_match.entry) (body_seen body.entry) now) }
+        ensures rested { self.new.evaluator.lent ≡ None }
     {
         self.evaluator
             .answer(alloc, method, target, if_none_match, body, now)

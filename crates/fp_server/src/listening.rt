@@ -1,5 +1,7 @@
 //! One listener and its connections.
 
+ghost use Rattle.std.specs.Prelude.{◌≡◌};
+
 use crate::connections::Connections;
 use crate::host::Host;
 use crate::roles::{Role, converse};
@@ -14,7 +16,7 @@ use std::{io, thread};
 #[derive(Drop)]
 pub struct Listening<R: Drop> {
     rt: R,
-    bound: SocketAddr,
+    pub(crate) bound: SocketAddr,
     connections: Connections<R>,
 }
 
@@ -49,7 +51,9 @@ impl<R: Host> Listening<R> {
     }
 
     /// Where it was bound.
-    pub fn bound(&self) -> SocketAddr {
+    pub fn bound(&self) -> SocketAddr
+        ensures { result ≡ self.now.bound }
+    {
         self.bound
     }
 

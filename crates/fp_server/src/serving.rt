@@ -1,11 +1,13 @@
 //! A store over sockets, from its opening to its end.
 
-ghost use Rattle.std.specs.Prelude.{◌≡◌, ◌<◌, ◌^◌, ◌++◌, ◌∷◌, []};
-ghost use Rattle.std.specs.Prelude.{IfOk, IfErr, IfSome, OnOk, None};
-ghost use Rattle.fp_commands.specs.declared.fault.CommandFault.TheVariants.{Memory};
+ghost use Rattle.std.specs.Prelude.{◌≡◌, ◌+◌, ◌<◌, ◌^◌, ◌++◌, ◌∷◌, [], IfOk, IfErr, OnOk};
+ghost use Rattle.std.specs.Io.KnownBytes.{Appends};
+ghost use Rattle.fp_commands.specs.declared.fault.CommandFault.TheVariants.{StoreFailed};
 ghost use Rattle.fp_files.specs.Openings.{KeepsOthers};
 ghost use Rattle.fp_group_commit.specs.Store.{IsAtRest};
-ghost use Rattle.fp_server.specs.Ends.{EndsBadly, EndsWell, SaysWhere};
+ghost use Rattle.fp_streams.specs.Failures.{CountsFailures};
+ghost use Rattle.fp_server.specs.Ends.{EndsBadly, EndsWell, IsAttendingFault, IsServingFault};
+ghost use Rattle.fp_server.specs.Ends.{SaysWhere, where_text};
 
 use crate::host::Host;
 use crate::listening::Listening;
@@ -17,7 +19,7 @@ use fp_group_commit::{Opening, Store};
 use fp_plane::{Naming, OwnStore, Plane, flusher};
 use fp_publish::{MOST_EVALUATORS, MOST_SEATS};
 use fp_streams::{FailureCounted, StreamFault};
-use std::io::{Read, Write};
+use std::io::{ErrorKind, Read, Write};
 use std::marker::Brand;
 use std::net::{Shutdown, SocketAddrV4, TcpListener};
 use std::time::{Clock, Duration, SystemTime, UNIX_EPOCH};
@@ -118,9 +120,12 @@ impl<R: Host> Services<R> {
         I: Read,
         O: Write,
         ensures said { OnOk result (SaysWhere (O.contents w.old.inner) (O.contents w.new.inner)) }
+        ensures fault { IfErr result IsAttendingFault }
+        ensures calm { OnOk result (r.new.failures + w.new.failures
+            ≡ r.old.failures + w.old.failures) }
     {
-        if self.start(listeners, plane).is_err() {
-            return Err(CommandFault::Device);
+        if let Err(fault) = self.start(listeners, plane) {
+            return Err(fault_of(&fault));
         }
         self.say_where(w)?;
         await_end(r)?;
@@ -129,7 +134,9 @@ impl<R: Host> Services<R> {
 
     // Says where connections are let in.
     fn say_where<O: Write>(&self, w: &mut FailureCounted<O>) -> Result<(), StreamFault>
-        ensures said { OnOk result (SaysWhere (O.contents w.old.inner) (O.contents w.new.inner)) }
+        ensures said { OnOk result (Appends (O.contents w.old.inner) (O.contents w.new.inner)
+            (where_text self.now.ofrep.bound self.now.edit.bound self.now.stream.bound)) }
+        ensures counted { CountsFailures w.old.failures w.new.failures result }
     {
         w.say(&format_args!("ofrep {}", self.ofrep.bound()))?;
         w.say(&format_args!("edit {}", self.edit.bound()))?;
@@ -153,7 +160,9 @@ impl<R: Host> Services<R> {
 }
 
 // Reads an input to its end.
-fn await_end<I: Read>(r: &mut FailureCounted<I>) -> Result<(), StreamFault> {
+fn await_end<I: Read>(r: &mut FailureCounted<I>) -> Result<(), StreamFault>
+    ensures counted { CountsFailures r.old.failures r.new.failures result }
+{
     let mut bytes = [0; 512];
     for _ in 0..u64::MAX {
         if r.read(&mut bytes)? == 0 {
@@ -183,6 +192,9 @@ where
     ensures ok { OnOk result (EndsWell F.DiskFiles F.Disk.Disk files.old files.new path.now
         (O.contents w.old.inner) (O.contents w.new.inner)) }
     ensures err { IfErr result (EndsBadly F.DiskFiles F.Disk.Disk files.old files.new path.now) }
+    // A store that failed is told only where neither the reader nor the writer did.
+    ensures calm { IfErr result (λ f. f ≡ StoreFailed → r.new.failures + w.new.failures
+        ≡ r.old.failures + w.old.failures) }
     ensures asked { F.asked files.new ≡ F.asked files.old ++ path.now ∷ [] }
     ensures others { KeepsOthers F.at files.old files.new path.now }
 {
@@ -194,9 +206,12 @@ where
             return Err(fault.into());
         }
     };
-    let Ok(listeners) = Listeners::bind(rt, addresses) else {
-        files.close(path, store.into_disk());
-        return Err(CommandFault::Device);
+    let listeners = match Listeners::bind(rt, addresses) {
+        Ok(listeners) => listeners,
+        Err(fault) => {
+            files.close(path, store.into_disk());
+            return Err(fault_of(&fault));
+        }
     };
     match serve_store(rt, store, opening, listeners, r, w) {
         Ok(store) => {
@@ -206,17 +221,24 @@ where
             Ok(())
         }
         Err((fault, store)) => {
-            if let Some(store) = store {
-                files.close(path, store.into_disk());
-            }
+            files.close(path, store.into_disk());
             Err(fault)
         }
     }
 }
 
-/// A store that isn't served any more, and why; none where it was lost with a
-/// thread that couldn't be had.
-type Given<D> = Result<Store<D>, (CommandFault, Option<Store<D>>)>;
+// A fault of the system, as the program tells it.
+fn fault_of(fault: &io::Error) -> CommandFault
+    ensures { IsAttendingFault result }
+{
+    match fault.kind() {
+        ErrorKind::OutOfMemory => CommandFault::Memory,
+        _ => CommandFault::Device,
+    }
+}
+
+/// A store that isn't served any more, and why where that was by a fault.
+type Given<D> = Result<Store<D>, (CommandFault, Store<D>)>;
 
 // Names the store, and serves it.
 fn serve_store<D, R, I, O>(
@@ -236,9 +258,11 @@ where
     requires rest { IsAtRest store }
     ensures same { IfOk result (λ s. s.store ≡ store.store) }
     ensures rest { IfOk result IsAtRest }
-    ensures given_back { IfErr result (λ e. IfSome e.1 (λ s. s.store ≡ store.store)) }
-    ensures lost { IfErr result (λ e. e.1 ≡ None → e.0 ≡ Memory) }
+    ensures given_back { IfErr result (λ e. e.1.store ≡ store.store) }
+    ensures fault { IfErr result (λ e. IsServingFault e.0) }
     ensures said { OnOk result (SaysWhere (O.contents w.old.inner) (O.contents w.new.inner)) }
+    ensures calm { IfErr result (λ e. e.0 ≡ StoreFailed → r.new.failures + w.new.failures
+        ≡ r.old.failures + w.old.failures) }
 {
     serve_named::<Brand, D, R, I, O>(rt, store, opening, listeners, r, w)
 }
@@ -263,35 +287,34 @@ where
     requires rest { IsAtRest store }
     ensures same { IfOk result (λ s. s.store ≡ K.store) }
     ensures rest { IfOk result IsAtRest }
-    ensures given_back { IfErr result (λ e. IfSome e.1 (λ s. s.store ≡ K.store)) }
-    ensures lost { IfErr result (λ e. e.1 ≡ None → e.0 ≡ Memory) }
+    ensures given_back { IfErr result (λ e. e.1.store ≡ K.store) }
+    ensures fault { IfErr result (λ e. IsServingFault e.0) }
     ensures said { OnOk result (SaysWhere (O.contents w.old.inner) (O.contents w.new.inner)) }
+    ensures calm { IfErr result (λ e. e.0 ≡ StoreFailed → r.new.failures + w.new.failures
+        ≡ r.old.failures + w.old.failures) }
 {
     let plane: Plane<K, D, R> = match Plane::new(*rt, rt.alloc(), opening) {
         Ok(plane) => plane,
-        Err(fault) => return Err((fault.into(), Some(store))),
+        Err(fault) => return Err((fault.into(), store)),
     };
     let (Ok(flushed), Ok(last)) = (plane.try_copy(), plane.try_copy()) else {
-        return Err((CommandFault::Memory, Some(store)));
+        return Err((CommandFault::Memory, store));
     };
-    if begin_flusher(rt, flushed, store).is_err() {
-        return Err((CommandFault::Memory, None));
-    }
-    serve_plane(rt, &plane, last, listeners, r, w)
-}
-
-// Begins the thread that seals.
-fn begin_flusher<K, D, R>(rt: &R, plane: Plane<K, D, R>, store: Store<D>) -> io::Result<()>
-where
-    K: Naming + Send + Sync + 'static,
-    D: Disk + Drop + Send + 'static,
-    R: Host,
-    requires ours { store.store ≡ K.store }
-    requires rest { IsAtRest store }
-{
     let own = OwnStore::new(store);
-    let _thread = thread::spawn(rt, move || flusher(&plane, own))?;
-    Ok(())
+    let flush = move || {
+        let own = own;
+        flusher(&flushed, own);
+    };
+    match thread::spawn(rt, flush) {
+        Ok(_thread) => serve_plane(rt, &plane, last, listeners, r, w),
+        Err(refused) => {
+            // What the thread was to do is done here: with nothing to seal it leaves the store.
+            plane.close();
+            let flush = refused.value;
+            flush();
+            Err((CommandFault::Device, stopped(last)))
+        }
+    }
 }
 
 // Serves a plane, whose flusher runs, until the input ends. `last` is a handle to stop it by.
@@ -311,12 +334,15 @@ where
     O: Write,
     ensures same { IfOk result (λ s. s.store ≡ K.store) }
     ensures rest { IfOk result IsAtRest }
-    ensures given_back { IfErr result (λ e. IfSome e.1 (λ s. s.store ≡ K.store)) }
-    ensures lost { IfErr result (λ e. e.1 ≡ None → e.0 ≡ Memory) }
+    ensures given_back { IfErr result (λ e. e.1.store ≡ K.store) }
+    ensures fault { IfErr result (λ e. IsServingFault e.0) }
     ensures said { OnOk result (SaysWhere (O.contents w.old.inner) (O.contents w.new.inner)) }
+    ensures calm { IfErr result (λ e. e.0 ≡ StoreFailed → r.new.failures + w.new.failures
+        ≡ r.old.failures + w.old.failures) }
 {
-    let Ok(services) = Services::of(rt, &listeners) else {
-        return Err((CommandFault::Device, Some(stopped(last))));
+    let services = match Services::of(rt, &listeners) {
+        Ok(services) => services,
+        Err(fault) => return Err((fault_of(&fault), stopped(last))),
     };
     let attended = services.attend(listeners, plane, r, w);
     services.edit.close(Shutdown::Read);
@@ -324,9 +350,9 @@ where
     services.end();
     match (attended, store) {
         (Ok(()), Ok(store)) => Ok(store),
-        (Ok(()), Err((_, store))) => Err((CommandFault::StoreFailed, Some(store))),
-        (Err(fault), Ok(store)) => Err((fault, Some(store))),
-        (Err(fault), Err((_, store))) => Err((fault, Some(store))),
+        (Ok(()), Err((_, store))) => Err((CommandFault::StoreFailed, store)),
+        (Err(fault), Ok(store)) => Err((fault, store)),
+        (Err(fault), Err((_, store))) => Err((fault, store)),
     }
 }
 

@@ -1,9 +1,16 @@
 //! A subscriber of a service elsewhere.
 
+ghost use Rattle.std.specs.Prelude.{◌≡◌, ◌+◌};
+ghost use Rattle.std.specs.Io.KnownBytes.{Appends};
+ghost use Rattle.fp_stream.specs.Hellos.{hello_bytes};
+ghost use Rattle.fp_stream.specs.Watching.{BlamesStreams, Watches};
+ghost use Rattle.fp_stream.specs.declared.hello.Hello.TheVariants.{Nothing};
+
 use crate::host::Host;
 use fp_stream::{Hello, WatchFault, watch_loop, write_hello};
 use fp_streams::FailureCounted;
-use std::io::Write;
+use std::alloc::Global;
+use std::io::{Read, Write};
 use std::net::{SocketAddrV4, TcpStream};
 
 /// Says hello with nothing to the service at this address, and shows each snapshot that it sends,
@@ -20,11 +27,36 @@ where
     let Ok(stream) = TcpStream::connect(rt, address) else {
         return Err(WatchFault::Device);
     };
-    write_hello(&mut FailureCounted::new(&stream), Hello::Nothing)?;
-    watch_loop(
+    show_service(
         rt.alloc(),
         &mut FailureCounted::new(&stream),
+        &mut FailureCounted::new(&stream),
         w,
-        Hello::Nothing,
     )
+}
+
+// Says hello with nothing to a service, and shows each snapshot that it sends.
+fn show_service<S, I, O>(
+    alloc: Global,
+    service: &mut FailureCounted<S>,
+    r: &mut FailureCounted<I>,
+    w: &mut FailureCounted<O>,
+) -> Result<(), WatchFault>
+where
+    S: Write,
+    I: Read,
+    O: Write,
+    ensures greeted { service.new.failures ≡ service.old.failures
+        → Appends (S.contents service.old.inner) (S.contents service.new.inner)
+        (hello_bytes Nothing) }
+    ensures watched { service.new.failures ≡ service.old.failures
+        → w.new.failures ≡ w.old.failures
+        → Watches Nothing (I.remaining r.old.inner) (I.remaining r.new.inner)
+        (O.contents w.old.inner) (O.contents w.new.inner) result }
+    ensures device { BlamesStreams
+        (service.old.failures + (r.old.failures + w.old.failures))
+        (service.new.failures + (r.new.failures + w.new.failures)) result }
+{
+    write_hello(service, Hello::Nothing)?;
+    watch_loop(alloc, r, w, Hello::Nothing)
 }

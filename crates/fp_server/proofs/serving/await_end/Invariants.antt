@@ -1,0 +1,6 @@
+use Rattle.std.proofs.Common.{◌≡◌}
+use Rattle.fp_server.proofs.serving.await_end.Given as goal
+
+-- no read failed
+abbrev pub invariant-loop : goal.invariant-loop
+invariant-loop g l = l.r.failures ≡ l.initial.r.failures
