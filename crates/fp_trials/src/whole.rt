@@ -23,7 +23,7 @@ use std::sync::Wait;
 pub type Whole = World<MemoryDisk>;
 
 // The words that open and end one.
-const OF_WORLD: [&str; 2] = ["world", "end-world"];
+const OF_WORLD: [&str; 3] = ["world", "end-world", "reopen"];
 
 // The words of events that aren't the committer's.
 const ON_VIEWS: [&str; 4] = ["submit", "publish", "hand", "evaluate"];
@@ -34,7 +34,7 @@ pub fn is_of_world(word: &str, world: &Option<Whole>) -> bool {
         || world.is_some() && (ON_EVENTS.contains(&word) || ON_VIEWS.contains(&word))
 }
 
-/// `world READERS HELLO ..`, `end-world`, and each event of the one that is open.
+/// `world READERS HELLO ..`, `end-world`, `reopen`, and each event of the one that is open.
 pub fn on_whole<R: Wait>(
     rt: &R,
     trial: &mut Trial,
@@ -62,6 +62,9 @@ fn on_open<R: Wait>(
         trial.put_disk(open.into_disk(rt));
         return Answer::Done;
     }
+    if word == "reopen" {
+        return reopened(rt, trial, open);
+    }
     let answer = match asked(trial, word, args) {
         Some(event) => answered(rt, trial, &mut open, &event),
         None => Answer::NotUnderstood,
@@ -70,13 +73,28 @@ fn on_open<R: Wait>(
     answer
 }
 
+// Ends a world by opening its disk again, and tells the revision that it then has.
+fn reopened<R: Wait>(rt: &R, trial: &mut Trial, open: Whole) -> Answer {
+    match open.reopen(rt, trial.alloc) {
+        Ok((store, _opening)) => {
+            let revision = store.revision();
+            trial.put_disk(store.into_disk());
+            Answer::Revision(revision)
+        }
+        Err((fault, disk)) => {
+            trial.put_disk(disk);
+            trial.fault(fault.into())
+        }
+    }
+}
+
 fn put_world<R: Wait>(rt: &R, world: &mut Option<Whole>, open: Whole) {
     if let Some(before) = world.replace(open) {
         let _disk = before.into_disk(rt);
     }
 }
 
-// The disk is lent to a world until `end-world`.
+// The disk is lent to a world until `end-world` or `reopen`.
 fn begin<R: Wait>(
     rt: &R,
     trial: &mut Trial,
