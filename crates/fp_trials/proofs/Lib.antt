@@ -1,2 +1,1 @@
-pub mod DiskCrossing
 pub mod Fresh

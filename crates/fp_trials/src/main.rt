@@ -1,6 +1,5 @@
-//! Runs trials over disks and of the service, which are written as text, and says whether each file
-//! of them is answered as it is written. With no file named, standard input is written out again
-//! with the answers.
+//! Runs trials over disks, which are written as text, and says whether each file of them is answered
+//! as it is written. With no file named, standard input is written out again with the answers.
 #![tactic(auto)]
 
 mod commands;
@@ -11,12 +10,10 @@ mod event;
 mod journal;
 mod noted;
 mod parts;
-mod replay;
 mod run;
 mod script;
 mod seeded;
 mod seeds;
-mod service;
 mod sweep;
 mod text;
 mod told;
@@ -24,25 +21,24 @@ mod trial;
 mod whole;
 mod world;
 
-use crate::replay::answered;
-use fp_transcript::{report, transcript};
-use std::alloc::AllocGlobal;
-use std::net::{TcpListener, TcpStream};
-use std::{env, fs, io};
+use crate::script::Script;
+use fp_transcript::{report, rewrite};
+use std::{env, io};
 
 fn main(rt: HostRuntime) -> io::Result<()> {
-    let _sockets: Option<(TcpListener, TcpStream)> = None;
     let mut is_named = false;
     for name in env::args(&rt)?.skip(1) {
         is_named = true;
-        let file = fs::read_to_string(&rt, name.as_str())?;
-        report(&rt, name.as_str(), &mut answered(&rt, file.as_str())?)?;
+        let mut script = Script::new(&rt);
+        let said = report(&rt, name.as_str(), &mut script);
+        script.end();
+        said?;
     }
     if is_named {
         return Ok(());
     }
-    let file = io::read_to_string(rt.alloc(), rt.reader())?;
-    let mut answers = answered(&rt, file.as_str())?;
-    let text = transcript(rt.alloc(), file.as_str(), &mut answers)?;
-    print!(rt; "{text}")
+    let mut script = Script::new(&rt);
+    let said = rewrite(&rt, &mut script);
+    script.end();
+    said
 }

@@ -10,7 +10,7 @@ use crate::whole::{Whole, is_of_world, on_whole};
 use fp_commands::command;
 use fp_files::SystemFiles;
 use fp_streams::FailureCounted;
-use fp_transcript::{Args, Text, first_word};
+use fp_transcript::{Answers, Args, Text, first_word};
 use std::alloc::AllocGlobal;
 use std::rt::Files;
 use std::sync::Wait;
@@ -65,10 +65,10 @@ fn end_world<R: Wait>(rt: &R, world: Option<Whole>) {
     }
 }
 
-impl<'a, R: Files + AllocGlobal + Wait> Script<'a, R> {
+impl<'a, R: Files + AllocGlobal + Wait> Answers for Script<'a, R> {
     /// Appends the answer to a line. Those between one that ends in `{` and a `}` are a block, for
     /// which the latter answers.
-    pub fn answer(&mut self, line: &str, out: &mut Text) {
+    fn answer(&mut self, line: &str, out: &mut Text) {
         if line == "}" {
             run_block(&mut self.trial, &mut self.block, out);
         } else if !self.block.head.is_empty() {

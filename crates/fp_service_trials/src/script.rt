@@ -1,15 +1,13 @@
 //! The commands of a file of trials of the service.
 
-use crate::service::clients::{
-    bytes_of, connect, end, is_closed, is_quiet, line_of, put_often, say,
-};
-use crate::service::courses::{
+use crate::clients::{bytes_of, connect, end, is_closed, is_quiet, line_of, put_often, say};
+use crate::courses::{
     Course, Courses, revisions_in, seen, shown, start_editors, start_evaluators, start_subscribers,
     told,
 };
-use crate::service::crowd::{comes_in, enter, found, is_refused, see};
-use crate::service::held::Hold;
-use crate::service::running::{Ended, Running};
+use crate::crowd::{comes_in, enter, found, is_refused, see};
+use crate::held::Hold;
+use crate::running::{Ended, Running};
 use fp_server::Host;
 use fp_transcript::{Args, Text, Texts, expanded};
 use std::alloc::AllocGlobal;
@@ -21,7 +19,7 @@ use std::time::Duration;
 /// What answers the lines of a file: the texts that are named, the service that runs and what the
 /// last one left, and who is connected to it.
 #[derive(Drop)]
-pub struct ServiceScript<R: Host> {
+pub struct Script<R: Host> {
     rt: R,
     texts: Texts,
     service: Option<Running<R>>,
@@ -31,11 +29,11 @@ pub struct ServiceScript<R: Host> {
     courses: Courses,
 }
 
-impl<R: Host> ServiceScript<R> {
+impl<R: Host> Script<R> {
     /// No service, and nobody.
-    pub fn new(rt: R) -> ServiceScript<R> {
+    pub fn new(rt: R) -> Script<R> {
         let alloc = rt.alloc();
-        ServiceScript {
+        Script {
             rt,
             texts: BTreeMap::new(alloc),
             service: None,
@@ -48,14 +46,14 @@ impl<R: Host> ServiceScript<R> {
 
     /// Ends the service that still runs.
     pub fn end(self) {
-        let ServiceScript { rt, service, .. } = self;
+        let Script { rt, service, .. } = self;
         if let Some(service) = service {
             let _ended = service.end(&rt);
         }
     }
 }
 
-impl<R: Host> ServiceScript<R> {
+impl<R: Host> Script<R> {
     /// Appends the answer to a command.
     pub fn answer(&mut self, command: &str, out: &mut Text) {
         let mut args = Args::of(out.alloc, command);
@@ -82,7 +80,7 @@ const OF_CROWD: [&str; 5] = ["enter", "refused", "comes-in", "one-leaves", "all-
 // The words of `on_course`.
 const OF_COURSE: [&str; 5] = ["editors", "evaluators", "subscribers", "see", "finds"];
 
-impl<R: Host> ServiceScript<R> {
+impl<R: Host> Script<R> {
     fn run(&mut self, word: &str, args: &mut Args<'_>, out: &mut Text) {
         if OF_SERVICE.contains(&word) {
             self.on_service(word, args, out);

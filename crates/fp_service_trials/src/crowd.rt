@@ -1,8 +1,6 @@
 //! Many connections at once.
 
-use crate::service::clients::{
-    Response, byte_of, connect, evaluated, is_closed, say, say_put, told_next,
-};
+use crate::clients::{Response, byte_of, connect, evaluated, is_closed, say, say_put, told_next};
 use fp_server::Host;
 use fp_transcript::Text;
 use std::net::{SocketAddr, TcpStream};

@@ -1,6 +1,5 @@
 //! Connections to the service, and what is said on them.
 
-use crate::text::ON;
 use fp_server::Host;
 use fp_transcript::Text;
 use std::alloc::Global;
@@ -8,6 +7,9 @@ use std::io;
 use std::io::{Read, Write};
 use std::net::{Shutdown, SocketAddr, TcpStream};
 use std::time::Duration;
+
+// A flag that is on.
+const ON: &str = r#"{"defaultVariant":"on","state":"ENABLED","variants":{"on":true}}"#;
 
 /// A connection whose reads give up after ten seconds.
 pub fn connect<R: Host>(rt: &R, at: SocketAddr) -> io::Result<TcpStream> {

@@ -1,6 +1,6 @@
 //! Editors, evaluators and subscribers in threads of their own, and what they came to.
 
-use crate::service::clients::{connect, evaluated, say_put, told_next};
+use crate::clients::{connect, evaluated, say_put, told_next};
 use fp_server::Host;
 use fp_stream::{Hello, watch_loop, write_hello};
 use fp_streams::FailureCounted;

@@ -1,7 +1,7 @@
 //! A service that runs over a disk in memory, and what becomes of it.
 
-use crate::service::clients::line_of;
-use crate::service::held::{Gate, HeldDisk};
+use crate::clients::line_of;
+use crate::held::{Gate, HeldDisk};
 use fp_commands::CommandFault;
 use fp_disk::{Disk, FailedWrite, Failing, MemoryDisk};
 use fp_files::SingleFile;

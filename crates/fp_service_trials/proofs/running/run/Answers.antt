@@ -2,9 +2,9 @@ use denote.Exit.{no}
 use denote.Param.{copied}
 use denote.Param.Send.{arg_send, param_send}
 use Rattle.fp_disk.specs.contracts.memory.MemoryDisk as memory
-use Rattle.fp_trials.proofs.DiskCrossing.{memory_sent}
-use Rattle.fp_trials.proofs.service.held.HeldDisk.TheSendSync as held
-use Rattle.fp_trials.proofs.service.running.run.Goals as goal
+use Rattle.fp_service_trials.proofs.DiskCrossing.{memory_sent}
+use Rattle.fp_service_trials.proofs.held.HeldDisk.TheSendSync as held
+use Rattle.fp_service_trials.proofs.running.run.Goals as goal
 
 pub served-requires-send-D : goal.served-requires-send-D
 served-requires-send-D g c κs within =

@@ -2,12 +2,10 @@
 //! thread rests on bounds of a function, and in a method of a trait none holds in another thread.
 
 use crate::script::Script;
-use crate::service::ServiceScript;
 use fp_server::Host;
 use fp_transcript::{Answers, Text, transcript};
 use std::alloc::{AllocError, AllocGlobal};
 use std::collections::VecDeque;
-use std::rt::Files;
 
 // The commands of a file, in order.
 #[derive(Drop)]
@@ -39,7 +37,7 @@ impl Answers for Given {
 }
 
 /// The answers to the commands of a file.
-pub fn answered<R: Host + Files>(rt: &R, file: &str) -> Result<Given, AllocError> {
+pub fn answered<R: Host>(rt: &R, file: &str) -> Result<Given, AllocError> {
     let alloc = rt.alloc();
     let lines = Vec::new(alloc);
     let mut commands = Commands { lines };
@@ -52,23 +50,15 @@ pub fn answered<R: Host + Files>(rt: &R, file: &str) -> Result<Given, AllocError
     }
 }
 
-// The answers, as many as there was memory for. Those behind the command `service` are a service's.
-fn run<R: Host + Files>(rt: &R, commands: &[String]) -> VecDeque<Text> {
+// The answers, as many as there was memory for.
+fn run<R: Host>(rt: &R, commands: &[String]) -> VecDeque<Text> {
     let mut answers = VecDeque::new(rt.alloc());
-    let mut script = Script::new(rt);
-    let mut service: Option<ServiceScript<R>> = None;
+    let mut script = Script::new(*rt);
     for command in commands {
         let mut answer = Text::new(rt.alloc());
-        match &mut service {
-            Some(service) => service.answer(command.as_str(), &mut answer),
-            None if command.as_str() == "service" => service = Some(ServiceScript::new(*rt)),
-            None => script.answer(command.as_str(), &mut answer),
-        }
+        script.answer(command.as_str(), &mut answer);
         let _ = answers.push_back(answer);
     }
     script.end();
-    if let Some(service) = service {
-        service.end();
-    }
     answers
 }
