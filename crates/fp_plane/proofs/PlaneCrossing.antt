@@ -44,7 +44,7 @@ module _ (K D R : RattleType) (k : naming.Ghosts K.Denot) (d : disk.Ghosts D.Den
               seats_sent,
               (
                 option.the_field_send _ own,
-                (search sendable, (search sendable, (search sendable, (heap.the_field_send, (phantom.the_field_send K, tt))))),
+                (search sendable, (search sendable, (search sendable, (search sendable, (heap.the_field_send, (phantom.the_field_send K, tt)))))),
               ),
             ),
           ),

@@ -45,6 +45,7 @@ pub struct Hall<K: Naming, D: Disk + Drop, R: Wait + Drop> {
     has_failed: bool,
     is_closing: bool,
     has_ended: bool,
+    looks: u64,
     alloc: Global,
     of: PhantomData<K>,
 }
@@ -135,6 +136,7 @@ impl<K: Naming, D: Disk + Drop, R: Wait + Drop> Hall<K, D, R> {
             has_failed: false,
             is_closing: false,
             has_ended: false,
+            looks: 0,
             alloc,
             of: PhantomData,
         })
@@ -339,6 +341,18 @@ impl<K: Naming, D: Disk + Drop, R: Wait + Drop> Hall<K, D, R> {
     {
         let view = self.board.view();
         self.seats.hand(self.alloc, &view, seat)
+    }
+
+    /// How often it was looked who has left, up to an overflow.
+    pub fn looks(&self) -> u64 {
+        self.looks
+    }
+
+    /// Looks who has left.
+    pub fn look(&mut self)
+        ensures { self.new ≡ self.old }
+    {
+        self.looks = self.looks.wrapping_add(1);
     }
 
     /// Whether nothing more is shown, and subscribers are to go.

@@ -139,6 +139,13 @@ impl<K: Naming, D: Disk + Drop, R: Wait + Drop> Plane<K, D, R> {
         self.shared.hall.lock(&self.shared.rt).unseat(seat)
     }
 
+    /// Looks who has left of the subscribers to whom nothing new is shown: their seats are free at
+    /// once, and not within a second.
+    pub fn look_who_left(&self) {
+        self.shared.hall.lock(&self.shared.rt).look();
+        self.shared.news.notify_all();
+    }
+
     // ---- the end
 
     /// No edit is taken any more. What was taken goes on.

@@ -19,6 +19,7 @@ use fp_publish::{Handed, Seat};
 use fp_stream::{HelloFault, MOST_BODY, read_hello, write_frame};
 use fp_streams::{FailureCounted, StreamFault};
 use std::io::{Read, Write};
+use std::mem;
 use std::sync::{CondvarTimeouts, Wait};
 use std::time::{Clock, Duration};
 
@@ -35,7 +36,8 @@ pub enum SubscriberFault {
 
 /// Reads a subscriber's hello, and sends it each document that is shown and that it hasn't got,
 /// until the plane is stopped, the writer fails, or it has left, which is asked each second in
-/// which nothing new is shown. One that is slow gets the newest.
+/// which nothing new is shown, and where the plane looks who has left. One that is slow gets the
+/// newest.
 pub fn subscriber_loop<K, D, R, I, O, G>(
     plane: &Plane<K, D, R>,
     r: &mut FailureCounted<I>,
@@ -112,6 +114,7 @@ impl<K: Naming, D: Disk + Drop, R: Wait + Clock + Drop> Plane<K, D, R> {
     {
         let shared = &self.shared;
         let mut hall = shared.hall.lock(&shared.rt);
+        let mut looks = hall.looks();
         for _ in shared.rt.forever() {
             match hall.hand(seat) {
                 Ok(Some(handed)) => return Some(handed),
@@ -120,7 +123,8 @@ impl<K: Naming, D: Disk + Drop, R: Wait + Clock + Drop> Plane<K, D, R> {
                     let quiet = Duration::from_secs(1);
                     let (held, waited) = shared.news.wait_timeout(&shared.rt, hall, quiet);
                     hall = held;
-                    if waited.timed_out() {
+                    let before = mem::replace(&mut looks, hall.looks());
+                    if waited.timed_out() || looks != before {
                         drop(hall);
                         if has_left() {
                             return None;

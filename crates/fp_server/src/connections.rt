@@ -47,6 +47,11 @@ impl Streams {
         self.places.iter().all(|place| place.is_none())
     }
 
+    // Whether one that is let in has to wait for a place.
+    fn is_full(&self) -> bool {
+        !self.is_closed && self.places.iter().all(|place| place.is_some())
+    }
+
     // Lets no stream in any more, and ends what waits on these.
     fn close(&mut self, how: Shutdown) {
         self.is_closed = true;
@@ -97,9 +102,23 @@ impl<R: Wait + Clock + Drop> Connections<R> {
         Some(Place { connections, at })
     }
 
+    /// A place as `admit` gives one, which is waited for while all are taken, for no longer than
+    /// this.
+    pub fn admit_within(&self, stream: &TcpStream, most: Duration) -> Option<Place<R>> {
+        let connections = self.try_copy().ok()?;
+        let shared = &self.shared;
+        let streams = shared.streams.lock(&shared.rt);
+        let (mut streams, _waited) = shared
+            .left
+            .wait_timeout_while(&shared.rt, streams, most, |streams| streams.is_full());
+        let at = streams.admit(stream)?;
+        Some(Place { connections, at })
+    }
+
     /// Lets no stream in any more, and ends reads or writes that wait on those that are open.
     pub fn close(&self, how: Shutdown) {
         self.shared.streams.lock(&self.shared.rt).close(how);
+        self.shared.left.notify_all();
     }
 
     /// Whether no stream is let in any more.

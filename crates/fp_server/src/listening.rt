@@ -2,7 +2,7 @@
 
 ghost use Rattle.std.specs.Prelude.{◌≡◌};
 
-use crate::connections::Connections;
+use crate::connections::{Connections, Place};
 use crate::host::Host;
 use crate::roles::{Role, converse};
 use fp_disk::Disk;
@@ -108,6 +108,31 @@ where
     }
 }
 
+// How many milliseconds a connection waits for a place, where all are taken: for one whose peer has
+// left, and that hasn't seen it yet.
+const PATIENCE: u64 = 250;
+
+// A place for a connection, which one that was left makes free.
+fn place_for<K, D, R>(
+    stream: &TcpStream,
+    role: Role,
+    connections: &Connections<R>,
+    plane: &Plane<K, D, R>,
+) -> Option<Place<R>>
+where
+    K: Naming,
+    D: Disk + Drop,
+    R: Host,
+{
+    if let Some(place) = connections.admit(stream) {
+        return Some(place);
+    }
+    if role == Role::Snapshots {
+        plane.look_who_left();
+    }
+    connections.admit_within(stream, Duration::from_millis(PATIENCE))
+}
+
 // Serves a connection in a thread of its own. Where there is no place for it, it is closed.
 fn begin<K, D, R>(
     rt: &R,
@@ -121,7 +146,7 @@ where
     D: Disk + Drop + Send + 'static,
     R: Host,
 {
-    let Some(place) = connections.admit(&stream) else {
+    let Some(place) = place_for(&stream, role, connections, plane) else {
         return Ok(());
     };
     let plane = plane.try_copy()?;
