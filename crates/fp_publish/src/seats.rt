@@ -173,8 +173,7 @@ impl Seats {
             (λ h. IsNews (had_by seat.old) view.now × (h ≡ view.now)
             × (had_by seat.new ≡ Has (front_revision view.now)))) }
         ensures unchanged { OnErr result (seat.new ≡ seat.old) }
-        ensures last { OnErr result ((self.new.last ≡ self.old.last)
-            ⊎ (self.new.last ≡ Some view.now)) }
+        ensures last { (self.new.last ≡ self.old.last) ⊎ (self.new.last ≡ Some view.now) }
         ensures store { IsOfStore self.new.last view.now }
         ensures taken { self.new.taken ≡ self.old.taken }
     {
@@ -190,8 +189,7 @@ impl Seats {
     fn made(&mut self, alloc: Global, view: &View<'_>) -> Result<Handed, AllocError>
         requires store { IsOfStore self.old.last view.now }
         ensures handed { IfOk result (λ h. h ≡ view.now) }
-        ensures last { OnErr result ((self.new.last ≡ self.old.last)
-            ⊎ (self.new.last ≡ Some view.now)) }
+        ensures last { (self.new.last ≡ self.old.last) ⊎ (self.new.last ≡ Some view.now) }
         ensures store { IsOfStore self.new.last view.now }
         ensures taken { self.new.taken ≡ self.old.taken }
     {
