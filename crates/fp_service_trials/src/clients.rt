@@ -92,13 +92,33 @@ pub fn told_next(alloc: Global, mut stream: &TcpStream) -> Option<u64> {
 
 /// Says a put of a flag that is on.
 pub fn say_put(alloc: Global, stream: &TcpStream, key: &str) -> bool {
+    say_flag(alloc, stream, key, ON)
+}
+
+// Says a put of a flag of this definition.
+fn say_flag(alloc: Global, stream: &TcpStream, key: &str, flag: &str) -> bool {
     let mut line = Text::new(alloc);
     line.push("{\"flag\":");
-    line.push(ON);
+    line.push(flag);
     line.push(",\"key\":\"");
     line.push(key);
     line.push("\",\"op\":\"put\"}\n");
     say(stream, line.as_str().as_bytes())
+}
+
+/// Puts so many flags of this definition, each once the one before was told, and gives the revision
+/// that was told last, where each was one more than the one before.
+pub fn fill(alloc: Global, stream: &TcpStream, count: u64, flag: &str) -> Option<u64> {
+    let mut last = None;
+    let mut key = Text::new(alloc);
+    for n in 0..count {
+        key.clear();
+        key.push("flag-");
+        key.number(n);
+        let _ = say_flag(alloc, stream, key.as_str(), flag);
+        last = Some(next_in_turn(alloc, stream, last)?);
+    }
+    last
 }
 
 /// Puts a flag so often, each time once the one before was told, and gives the revision that was
@@ -107,13 +127,18 @@ pub fn put_often(alloc: Global, stream: &TcpStream, key: &str, count: u64) -> Op
     let mut last = None;
     for _ in 0..count {
         let _ = say_put(alloc, stream, key);
-        let told = told_next(alloc, stream)?;
-        if last.is_some_and(|last: u64| last.checked_add(1) != Some(told)) {
-            return None;
-        }
-        last = Some(told);
+        last = Some(next_in_turn(alloc, stream, last)?);
     }
     last
+}
+
+// The revision that the next reply tells, where it is one more than the last.
+fn next_in_turn(alloc: Global, stream: &TcpStream, last: Option<u64>) -> Option<u64> {
+    let told = told_next(alloc, stream)?;
+    match last {
+        Some(last) if last.checked_add(1) != Some(told) => None,
+        _ => Some(told),
+    }
 }
 
 /// Says a request to evaluate a flag.

@@ -17,8 +17,8 @@ use std::sync::Arc;
 use std::thread;
 use std::thread::JoinHandle;
 
-// How large a slot is.
-const SLOT: u64 = 262_144;
+/// The least size of a slot.
+pub const LEAST_SLOT: u64 = 262_144;
 
 // The path that the disk is at.
 const PATH: &str = "flags";
@@ -99,11 +99,18 @@ pub struct Ended {
     pub left: String,
 }
 
-// A disk in memory with no flags on it, of which the calls from this one on fail, if one is named.
-fn new_disk(alloc: Global, failing: Option<u64>) -> Option<MemoryDisk> {
-    let (store, _) = Store::create(alloc, MemoryDisk::new(alloc), SLOT).ok()?;
+/// How large the slots of a new disk are, and the call from which on its calls fail, if one is named.
+#[derive(Drop, Clone, Copy)]
+pub struct DiskPlan {
+    pub slot: u64,
+    pub failing: Option<u64>,
+}
+
+// A disk in memory with no flags on it.
+fn new_disk(alloc: Global, plan: DiskPlan) -> Option<MemoryDisk> {
+    let (store, _) = Store::create(alloc, MemoryDisk::new(alloc), plan.slot).ok()?;
     let mut disk = store.into_disk();
-    if let Some(call) = failing {
+    if let Some(call) = plan.failing {
         disk.set_failing(Failing::From(call), FailedWrite::Nothing);
     }
     Some(disk)
@@ -131,11 +138,11 @@ fn left_on<D: Disk + Drop>(alloc: Global, disk: D) -> String {
 }
 
 // Serves a new disk, and opens it again.
-fn run<R: Host>(rt: &R, gate: SharedGate<R>, failing: Option<u64>, pipes: Pipes) -> Ended {
+fn run<R: Host>(rt: &R, gate: SharedGate<R>, plan: DiskPlan, pipes: Pipes) -> Ended {
     let alloc = rt.alloc();
     let mut said = Text::new(alloc);
     let mut left = String::new(alloc);
-    if let (Some(disk), Ok(path)) = (new_disk(alloc, failing), String::from_str(alloc, PATH)) {
+    if let (Some(disk), Ok(path)) = (new_disk(alloc, plan), String::from_str(alloc, PATH)) {
         let mut files = SingleFile::new(path, HeldDisk::new(disk, gate));
         served(rt, &mut files, pipes, &mut said);
         if let Some(disk) = files.into_disk() {
@@ -178,23 +185,23 @@ where
 fn spawned<R: Host>(
     rt: &R,
     gate: SharedGate<R>,
-    failing: Option<u64>,
+    plan: DiskPlan,
     pipes: Pipes,
 ) -> Option<JoinHandle<Ended>> {
     let own = *rt;
-    match thread::spawn(rt, move || run(&own, gate, failing, pipes)) {
+    match thread::spawn(rt, move || run(&own, gate, plan, pipes)) {
         Ok(thread) => Some(thread),
         Err(_) => None,
     }
 }
 
 impl<R: Host> Running<R> {
-    /// Starts a service over a new disk with no flags on it, of which the calls from this one on
-    /// fail, if one is named, and waits until it tells where it is reached.
-    pub fn start(rt: &R, failing: Option<u64>) -> Option<Running<R>> {
+    /// Starts a service over a new disk with no flags on it, and waits until it tells where it is
+    /// reached.
+    pub fn start(rt: &R, plan: DiskPlan) -> Option<Running<R>> {
         let (mut own, theirs) = both_ends(rt)?;
         let gate = Arc::new(rt.alloc(), Gate::new(*rt)).ok()?;
-        let thread = spawned(rt, Arc::try_clone(&gate).ok()?, failing, theirs)?;
+        let thread = spawned(rt, Arc::try_clone(&gate).ok()?, plan, theirs)?;
         let ports = Ports::heard(rt.alloc(), &mut own.output)?;
         Some(Running {
             ports,

@@ -1,13 +1,13 @@
 //! The commands of a file of trials of the service.
 
-use crate::clients::{bytes_of, connect, end, is_closed, is_quiet, line_of, put_often, say};
+use crate::clients::{bytes_of, connect, end, fill, is_closed, is_quiet, line_of, put_often, say};
 use crate::courses::{
     Course, Courses, revisions_in, seen, shown, start_editors, start_evaluators, start_subscribers,
     told,
 };
 use crate::crowd::{comes_in, enter, found, is_refused, see};
 use crate::held::Hold;
-use crate::running::{Ended, Running};
+use crate::running::{DiskPlan, Ended, LEAST_SLOT, Running};
 use fp_server::Host;
 use fp_transcript::{Args, Text, Texts, expanded};
 use std::alloc::AllocGlobal;
@@ -72,7 +72,7 @@ const OF_SERVICE: [&str; 8] = [
 ];
 
 // The words of `on_peer`.
-const OF_PEER: [&str; 6] = ["say", "line", "hear", "puts", "quiet", "closed"];
+const OF_PEER: [&str; 7] = ["say", "line", "hear", "puts", "fills", "quiet", "closed"];
 
 // The words of `on_crowd`.
 const OF_CROWD: [&str; 5] = ["enter", "refused", "comes-in", "one-leaves", "all-leave"];
@@ -103,8 +103,8 @@ impl<R: Host> Script<R> {
         port
     }
 
-    // `serve`, `serve failing CALL`, `hold behind COUNT`, `hold from PLACE`, `held`, `let-go`,
-    // `end`, `stop`, `left`, `pause MILLISECONDS`.
+    // `serve`, `serve failing CALL`, `serve slots SIZE`, `hold behind COUNT`, `hold from PLACE`,
+    // `held`, `let-go`, `end`, `stop`, `left`, `pause MILLISECONDS`.
     fn on_service(&mut self, word: &str, args: &mut Args<'_>, out: &mut Text) {
         match word {
             "serve" => self.serve(args, out),
@@ -123,11 +123,16 @@ impl<R: Host> Script<R> {
     }
 
     fn serve(&mut self, args: &mut Args<'_>, out: &mut Text) {
-        let failing = match args.word() {
-            "failing" => Some(args.number()),
-            _ => None,
+        let mut plan = DiskPlan {
+            slot: LEAST_SLOT,
+            failing: None,
         };
-        self.service = Running::start(&self.rt, failing);
+        match args.word() {
+            "failing" => plan.failing = Some(args.number()),
+            "slots" => plan.slot = args.number(),
+            _ => (),
+        }
+        self.service = Running::start(&self.rt, plan);
         if self.service.is_none() {
             out.push("no service");
         }
@@ -158,8 +163,8 @@ impl<R: Host> Script<R> {
         }
     }
 
-    // `say NAME BYTES`, `line NAME`, `hear NAME COUNT`, `puts NAME KEY COUNT`, `quiet NAME`,
-    // `closed NAME`.
+    // `say NAME BYTES`, `line NAME`, `hear NAME COUNT`, `puts NAME KEY COUNT`,
+    // `fills NAME COUNT BYTES`, `quiet NAME`, `closed NAME`.
     fn on_peer(&mut self, word: &str, args: &mut Args<'_>, out: &mut Text) {
         let alloc = args.alloc;
         let Some(mut peer) = self.peers.get(args.word()) else {
@@ -173,6 +178,7 @@ impl<R: Host> Script<R> {
             "line" => out.written(&line_of(alloc, &mut peer)),
             "hear" => out.written(&bytes_of(alloc, &mut peer, args.number())),
             "puts" => say_last(put_often(alloc, peer, args.word(), args.number()), out),
+            "fills" => say_last(filled(peer, &self.texts, args), out),
             "quiet" => out.yes(is_quiet(peer)),
             _ => out.yes(is_closed(peer)),
         }
@@ -317,6 +323,13 @@ fn bytes(texts: &Texts, args: &mut Args<'_>) -> Vec<u8> {
             Vec::new(args.alloc)
         }
     }
+}
+
+// Puts so many flags of the definition that the words say.
+fn filled(peer: &TcpStream, texts: &Texts, args: &mut Args<'_>) -> Option<u64> {
+    let count = args.number();
+    let flag = bytes(texts, args);
+    fill(args.alloc, peer, count, str::from_utf8(&flag).ok()?)
 }
 
 // The revision that was told last, if all were in order.

@@ -10,7 +10,7 @@ use std::mem;
 
 /// `flips FROM TO`: each byte from the first place up to the second is each
 /// other byte, one at a time.
-/// `seeds COUNT FROM TO`: one byte there is another one, by so many seeds.
+/// `seeds COUNT FROM TO [BYTES]`: one byte there, or so many, is another one, by so many seeds.
 pub fn on_damage(trial: &mut Trial, word: &str, args: &mut Args<'_>) -> Answer {
     let Some(bytes) = trial.bytes() else {
         return Answer::NoMemory;
@@ -28,7 +28,7 @@ enum Found {
     Revision(u64),
     NoDisk,
     UnknownVersion,
-    // Damage at the byte that was changed.
+    // Damage at a byte that was changed.
     Here,
     Damaged(u64),
     NoMemory,
@@ -47,33 +47,40 @@ fn tell_found(found: Found, out: &mut Text) {
 
 // What these bytes are opened as, with this byte at this place.
 fn found_with(alloc: Global, bytes: &[u8], at: u64, byte: u8) -> Found {
-    let Ok(mut copy) = bytes.to_vec(alloc) else {
-        return Found::NoMemory;
-    };
-    if let Some(place) = copy.get_mut(at as usize) {
-        *place = byte;
-    }
-    match MemoryDisk::holding(alloc, copy) {
-        Ok(disk) => opened_as(alloc, disk, at),
+    match bytes.to_vec(alloc) {
+        Ok(mut copy) => {
+            put(&mut copy, at, byte);
+            opened_as(alloc, copy, &[at])
+        }
         Err(_) => Found::NoMemory,
     }
 }
 
-fn opened_as(alloc: Global, disk: MemoryDisk, at: u64) -> Found {
+fn put(bytes: &mut [u8], at: u64, byte: u8) {
+    if let Some(place) = bytes.get_mut(at as usize) {
+        *place = byte;
+    }
+}
+
+// What these bytes are opened as, of which those at these places were changed.
+fn opened_as(alloc: Global, bytes: Vec<u8>, changed: &[u64]) -> Found {
+    let Ok(disk) = MemoryDisk::holding(alloc, bytes) else {
+        return Found::NoMemory;
+    };
     match found(alloc, disk) {
         Ok((store, opening)) => {
             let _disk = store.into_disk();
             Found::Revision(opening.revision())
         }
-        Err((fault, _disk)) => found_fault(fault, at),
+        Err((fault, _disk)) => found_fault(fault, changed),
     }
 }
 
-fn found_fault(fault: Fault, at: u64) -> Found {
+fn found_fault(fault: Fault, changed: &[u64]) -> Found {
     match fault {
         Fault::Unformatted => Found::NoDisk,
         Fault::UnknownVersion(_) => Found::UnknownVersion,
-        Fault::Damaged(place) if place == at => Found::Here,
+        Fault::Damaged(place) if changed.contains(&place) => Found::Here,
         Fault::Damaged(place) => Found::Damaged(place),
         _ => Found::NoMemory,
     }
@@ -152,17 +159,55 @@ fn flip(alloc: Global, bytes: &[u8], at: u64, row: &mut Text) {
 fn seeds(bytes: &[u8], args: &mut Args<'_>, out: &mut Text) -> Answer {
     let mut tallies = Vec::new(args.alloc);
     let count = args.number();
-    let from = args.number();
-    let length = args.number().saturating_sub(from).max(1);
+    let range = range_in(args);
     let mut seed = FIRST_SEED;
     for _ in 0..count {
-        seed = next_seed(seed);
-        let at = from.saturating_add(seed % length);
-        let found = found_with(args.alloc, bytes, at, changed(bytes, at, seed));
+        let found = found_by_seed(args.alloc, bytes, range, &mut seed);
         add(&mut tallies, found, out);
     }
     tell_tallies(&tallies, "\n", out);
     Answer::Text
+}
+
+// Where bytes are changed, and how many of one disk.
+#[derive(Clone, Copy)]
+struct Range {
+    from: u64,
+    length: u64,
+    places: u64,
+}
+
+fn range_in(args: &mut Args<'_>) -> Range {
+    let from = args.number();
+    let length = args.number().saturating_sub(from);
+    let places = if args.rest.is_empty() {
+        1
+    } else {
+        args.number()
+    };
+    Range {
+        from,
+        length,
+        places,
+    }
+}
+
+// What these bytes are opened as once so many of the range are other ones, by the numbers behind the seed.
+fn found_by_seed(alloc: Global, bytes: &[u8], range: Range, seed: &mut u64) -> Found {
+    let Ok(mut copy) = bytes.to_vec(alloc) else {
+        return Found::NoMemory;
+    };
+    let mut places = Vec::new(alloc);
+    for _ in 0..range.places {
+        *seed = next_seed(*seed);
+        let at = range.from.saturating_add(*seed % range.length.max(1));
+        let byte = changed(&copy, at, *seed);
+        put(&mut copy, at, byte);
+        if places.push(at).is_err() {
+            return Found::NoMemory;
+        }
+    }
+    opened_as(alloc, copy, &places)
 }
 
 // Another byte than the one at this place.
