@@ -2,6 +2,7 @@ pub mod Answer
 pub mod Bytes
 pub mod Count
 pub mod Json
+pub mod Level
 pub mod Plain
 pub mod Steps
 pub mod Tests

@@ -2,16 +2,14 @@
 #![tactic(auto)]
 
 mod gathering;
+mod levels;
 mod members;
 mod numbers;
 mod owning;
 mod places;
-mod sizes;
 mod texts;
 mod tree;
 mod tree_reading;
-mod tree_walks;
-mod tree_writing;
 mod walks;
 mod writing;
 

@@ -10,7 +10,7 @@ ghost use Rattle.fp_base.specs.Json.{json_of};
 ghost use Rattle.fp_base.specs.Text.{text_within};
 ghost use Rattle.fp_base.specs.Whole.{is_whole};
 
-use crate::sizes::is_longer;
+use crate::walks::is_longer;
 use serde_json::Value;
 use std::alloc::{AllocError, Global};
 

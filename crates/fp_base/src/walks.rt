@@ -1,120 +1,231 @@
-//! Walks over a JSON value that stop as soon as the answer is known.
+//! Walks over JSON that stop as soon as the answer is known, and allocate nothing.
 
-ghost use Rattle.std.specs.Prelude.{◌≡◌, nat_le};
-ghost use Rattle.serde_json.specs.Data.{depth, items_depth, members_depth};
-ghost use Rattle.serde_json.specs.View.{view, items_view, members_view};
-ghost use Rattle.fp_base.specs.Whole.{is_whole, items_whole, members_whole};
-ghost use Rattle.fp_base.specs.Count.{spend, count, items_count, members_count};
+ghost use Rattle.std.specs.Prelude.{◌≡◌, ◌≤◌, nat_le, true, false, not, length, is_some};
+ghost use Rattle.serde_json.specs.Data.{depth};
+ghost use Rattle.serde_json.specs.View.{view};
+ghost use Rattle.serde_json.specs.Written.{compact_text};
+ghost use Rattle.fp_base.specs.Count.{spend, count};
+ghost use Rattle.fp_base.specs.Plain.{plain_left};
+ghost use Rattle.fp_base.specs.TreeView.{tree_view};
+ghost use Rattle.fp_base.specs.Weight.{weight};
+ghost use Rattle.fp_base.specs.Whole.{is_whole};
 
-use serde_json::{Map, Value};
+use crate::levels::{Json, Level};
+use crate::tree::Tree;
+use serde_json::Value;
 
 /// Whether no number in the value has a fraction, an exponent or more than 64 signed bits.
 /// `-0` counts as a fraction.
-#[cycle(whole)]
 pub fn whole_numbers(value: &Value) -> bool
     ensures { result ≡ is_whole (view value.now) }
 {
-    match value {
-        Value::Null | Value::Bool(_) | Value::String(_) => true,
-        Value::Number(number) => number.is_i64(),
-        Value::Array(items) => whole_items(items),
-        Value::Object(members) => whole_members(members),
-    }
-}
-
-#[cycle(whole)]
-fn whole_items(items: &Vec<Value>) -> bool
-    ensures { result ≡ items_whole (items_view items.now.items) }
-{
-    for item in items {
-        if !whole_numbers(item) {
-            return false;
-        }
-    }
-    true
-}
-
-#[cycle(whole)]
-fn whole_members(members: &Map<String, Value>) -> bool
-    ensures { result ≡ members_whole (members_view members.now.entries) }
-{
-    for (_key, member) in members.iter() {
-        if !whole_numbers(member) {
-            return false;
-        }
-    }
-    true
+    is_whole(value)
 }
 
 /// Whether the value's lists and objects stand in one another at most `limit` deep.
-#[cycle(nests)]
 pub fn nests_within(value: &Value, limit: u32) -> bool
     ensures { result ≡ nat_le (depth (view value.now)) limit }
 {
-    match value {
-        Value::Null | Value::Bool(_) | Value::String(_) | Value::Number(_) => true,
-        Value::Array(items) => limit > 0 && items_nest(items, limit - 1),
-        Value::Object(members) => limit > 0 && members_nest(members, limit - 1),
-    }
-}
-
-#[cycle(nests)]
-fn items_nest(items: &Vec<Value>, limit: u32) -> bool
-    ensures { result ≡ nat_le (items_depth (items_view items.now.items)) limit }
-{
-    for item in items {
-        if !nests_within(item, limit) {
-            return false;
-        }
-    }
-    true
-}
-
-#[cycle(nests)]
-fn members_nest(members: &Map<String, Value>, limit: u32) -> bool
-    ensures { result ≡ nat_le (members_depth (members_view members.now.entries)) limit }
-{
-    for (_key, member) in members.iter() {
-        if !nests_within(member, limit) {
-            return false;
-        }
-    }
-    true
+    nests(value, limit)
 }
 
 /// What remains of a budget of values once this value and all in it are paid for.
-#[cycle(spends)]
 pub fn values_left(value: &Value, budget: usize) -> Option<usize>
     ensures { result ≡ spend budget (count (view value.now)) }
 {
-    if budget == 0 {
-        return None;
+    count_left(value, budget)
+}
+
+impl<'a> Tree<'a> {
+    /// Whether no number in the tree has a fraction, an exponent or more than 64 signed bits.
+    /// `-0` counts as a fraction.
+    pub fn has_whole_numbers(&self) -> bool
+        ensures { result ≡ is_whole (tree_view self.now) }
+    {
+        is_whole(self)
     }
-    match value {
-        Value::Null | Value::Bool(_) | Value::String(_) | Value::Number(_) => Some(budget - 1),
-        Value::Array(items) => items_left(items, budget - 1),
-        Value::Object(members) => members_left(members, budget - 1),
+
+    /// Whether the tree's lists and objects stand in one another at most `limit` deep.
+    pub fn nests_within(&self, limit: u32) -> bool
+        ensures { result ≡ nat_le (depth (tree_view self.now)) limit }
+    {
+        nests(self, limit)
+    }
+
+    /// What remains of a budget of values once this one and all in it are paid for.
+    pub fn values_left(&self, budget: usize) -> Option<usize>
+        ensures { result ≡ spend budget (count (tree_view self.now)) }
+    {
+        count_left(self, budget)
+    }
+
+    /// Whether the texts, names, items and members alone make the canonical text longer than the
+    /// limit, found without printing any of it.
+    pub fn is_longer(&self, limit: usize) -> bool
+        ensures weighed { result ≡ not (nat_le (weight (tree_view self.now)) limit) }
+        ensures longer { result ≡ true
+            → nat_le (length (compact_text (tree_view self.now))) limit ≡ false }
+    {
+        is_longer(self, limit)
+    }
+
+    /// Whether all numbers are whole, the tree nests at most `limit` deep, and its canonical text
+    /// isn't longer than `bytes` by its texts, names, items and members alone: three walks in one.
+    pub fn is_plain(&self, limit: u32, bytes: usize) -> bool
+        ensures plain { result ≡ is_some (plain_left limit bytes (tree_view self.now)) }
+        ensures whole { result ≡ true → is_whole (tree_view self.now) ≡ true }
+        ensures flat { result ≡ true → depth (tree_view self.now) ≤ limit }
+        ensures refused { result ≡ false → is_whole (tree_view self.now) ≡ true
+            → depth (tree_view self.now) ≤ limit
+            → nat_le (length (compact_text (tree_view self.now))) bytes ≡ false }
+    {
+        plain_left(self, limit, bytes).is_some()
     }
 }
 
-#[cycle(spends)]
-fn items_left(items: &Vec<Value>, budget: usize) -> Option<usize>
-    ensures { result ≡ spend budget (items_count (items_view items.now.items)) }
+fn is_whole<J: Json>(json: J) -> bool
+    ensures { result ≡ is_whole (J.seen json) }
 {
-    let mut left = budget;
-    for item in items {
-        left = values_left(item, left)?;
+    match json.level() {
+        Level::Null | Level::Bool(_) | Level::String(_) => true,
+        Level::Number(number) => number.is_i64(),
+        Level::Array(mut items) => {
+            while let Some(item) = J::next_item(&mut items) {
+                if !is_whole(item) {
+                    return false;
+                }
+            }
+            true
+        }
+        Level::Object(mut members) => {
+            while let Some((_name, member)) = J::next_member(&mut members) {
+                if !is_whole(member) {
+                    return false;
+                }
+            }
+            true
+        }
     }
-    Some(left)
 }
 
-#[cycle(spends)]
-fn members_left(members: &Map<String, Value>, budget: usize) -> Option<usize>
-    ensures { result ≡ spend budget (members_count (members_view members.now.entries)) }
+fn nests<J: Json>(json: J, limit: u32) -> bool
+    ensures { result ≡ nat_le (depth (J.seen json)) limit }
 {
-    let mut left = budget;
-    for (_key, member) in members.iter() {
-        left = values_left(member, left)?;
+    match json.level() {
+        Level::Null | Level::Bool(_) | Level::String(_) | Level::Number(_) => true,
+        Level::Array(mut items) => {
+            if limit == 0 {
+                return false;
+            }
+            while let Some(item) = J::next_item(&mut items) {
+                if !nests(item, limit - 1) {
+                    return false;
+                }
+            }
+            true
+        }
+        Level::Object(mut members) => {
+            if limit == 0 {
+                return false;
+            }
+            while let Some((_name, member)) = J::next_member(&mut members) {
+                if !nests(member, limit - 1) {
+                    return false;
+                }
+            }
+            true
+        }
     }
-    Some(left)
+}
+
+#[tactic(auto, using(crate::proofs::Counted::count_some))]
+fn count_left<J: Json>(json: J, budget: usize) -> Option<usize>
+    ensures { result ≡ spend budget (count (J.seen json)) }
+{
+    let mut left = budget.checked_sub(1)?;
+    match json.level() {
+        Level::Null | Level::Bool(_) | Level::String(_) | Level::Number(_) => Some(left),
+        Level::Array(mut items) => {
+            while let Some(item) = J::next_item(&mut items) {
+                left = count_left(item, left)?;
+            }
+            Some(left)
+        }
+        Level::Object(mut members) => {
+            while let Some((_name, member)) = J::next_member(&mut members) {
+                left = count_left(member, left)?;
+            }
+            Some(left)
+        }
+    }
+}
+
+// Whether the text is surely longer than the limit.
+#[tactic(auto, using(crate::proofs::TextLengths::too_heavy))]
+pub(crate) fn is_longer<J: Json>(json: J, limit: usize) -> bool
+    ensures weighed { result ≡ not (nat_le (weight (J.seen json)) limit) }
+    ensures longer { result ≡ true → nat_le (length (compact_text (J.seen json))) limit ≡ false }
+{
+    bytes_left(json, limit).is_none()
+}
+
+// What remains of a budget of bytes after those that the canonical text takes at least.
+fn bytes_left<J: Json>(json: J, budget: usize) -> Option<usize>
+    ensures { result ≡ spend budget (weight (J.seen json)) }
+{
+    match json.level() {
+        Level::Null | Level::Bool(_) | Level::Number(_) => Some(budget),
+        Level::String(text) => budget.checked_sub(text.len()),
+        Level::Array(mut items) => {
+            let mut left = budget;
+            while let Some(item) = J::next_item(&mut items) {
+                left = left.checked_sub(1)?;
+                left = bytes_left(item, left)?;
+            }
+            Some(left)
+        }
+        Level::Object(mut members) => {
+            let mut left = budget;
+            while let Some((name, member)) = J::next_member(&mut members) {
+                left = left.checked_sub(1)?;
+                left = left.checked_sub(J::name(&name).len())?;
+                left = bytes_left(member, left)?;
+            }
+            Some(left)
+        }
+    }
+}
+
+// What remains of the budget of bytes where all numbers are whole and it nests within the limit.
+fn plain_left<J: Json>(json: J, limit: u32, bytes: usize) -> Option<usize>
+    ensures { result ≡ plain_left limit bytes (J.seen json) }
+{
+    match json.level() {
+        Level::Null | Level::Bool(_) => Some(bytes),
+        Level::Number(number) => { if number.is_i64() { Some(bytes) } else { None } }
+        Level::String(text) => bytes.checked_sub(text.len()),
+        Level::Array(mut items) => {
+            if limit == 0 {
+                return None;
+            }
+            let mut left = bytes;
+            while let Some(item) = J::next_item(&mut items) {
+                left = left.checked_sub(1)?;
+                left = plain_left(item, limit - 1, left)?;
+            }
+            Some(left)
+        }
+        Level::Object(mut members) => {
+            if limit == 0 {
+                return None;
+            }
+            let mut left = bytes;
+            while let Some((name, member)) = J::next_member(&mut members) {
+                left = left.checked_sub(1)?;
+                left = left.checked_sub(J::name(&name).len())?;
+                left = plain_left(member, limit - 1, left)?;
+            }
+            Some(left)
+        }
+    }
 }

@@ -1,65 +1,76 @@
-//! Values, written straight as JSON behind what a writer has.
+//! JSON, written straight behind what a writer has.
 
-ghost use Rattle.std.specs.Prelude.{◌≡◌, ◌++◌, true, OnOk};
-ghost use Rattle.json.specs.Tree.{json_tokens, items_tokens, members_tokens};
-ghost use Rattle.serde_json.specs.View.{view, items_view, members_view};
-ghost use Rattle.serde_json.specs.Written.{outline, items_outline, members_outline};
-ghost use Rattle.fp_base.specs.Whole.{is_whole, items_whole, members_whole};
+ghost use Rattle.std.specs.Prelude.{◌≡◌, ◌≤◌, ◌++◌, true, Some, IfOk, OnOk};
+ghost use Rattle.json.specs.Tree.{json_tokens};
+ghost use Rattle.serde_json.specs.Data.{depth};
+ghost use Rattle.serde_json.specs.Read.{max_depth};
+ghost use Rattle.serde_json.specs.View.{view};
+ghost use Rattle.serde_json.specs.Written.{compact_text, outline};
+ghost use Rattle.fp_base.specs.Json.{json_of};
+ghost use Rattle.fp_base.specs.Ordered.{IsOrdered};
+ghost use Rattle.fp_base.specs.TreeView.{tree_view};
+ghost use Rattle.fp_base.specs.Whole.{is_whole};
 
+use crate::levels::{Json, Level};
+use crate::tree::Tree;
 use json::Writer;
-use serde_json::{Map, Value};
-use std::alloc::AllocError;
+use serde_json::Value;
+use std::alloc::{AllocError, Global};
 
 /// Writes a value whose numbers are whole.
-#[cycle(writes)]
 pub fn write_value(out: &mut Writer, value: &Value) -> Result<(), AllocError>
     requires { is_whole (view value.now) ≡ true }
     ensures tokens { OnOk result (out.new.tokens
         ≡ out.old.tokens ++ json_tokens (outline (view value.now))) }
     ensures before { OnOk result (out.new.before ≡ out.old.before) }
 {
-    match value {
-        Value::Null => out.null(),
-        Value::Bool(b) => out.boolean(*b),
-        Value::Number(number) => match number.as_i64() {
+    write_json(out, value)
+}
+
+impl<'a> Tree<'a> {
+    /// The text without spaces, begun with room for so many bytes.
+    pub fn to_text(&self, alloc: Global, room: usize) -> Result<Vec<u8>, AllocError>
+        requires whole { is_whole (tree_view self.now) ≡ true }
+        requires flat { depth (tree_view self.now) ≤ max_depth }
+        requires ordered { IsOrdered (tree_view self.now) }
+        ensures text { IfOk result (λ t. t.items ≡ compact_text (tree_view self.now)) }
+        ensures reads { IfOk result (λ t. json_of t.items ≡ Some (tree_view self.now)) }
+    {
+        let mut out = Writer::new(Vec::with_capacity(alloc, room)?);
+        write_json(&mut out, self)?;
+        Ok(out.into_inner())
+    }
+}
+
+// Writes JSON whose numbers are whole.
+fn write_json<J: Json>(out: &mut Writer, json: J) -> Result<(), AllocError>
+    requires { is_whole (J.seen json) ≡ true }
+    ensures tokens { OnOk result (out.new.tokens
+        ≡ out.old.tokens ++ json_tokens (outline (J.seen json))) }
+    ensures before { OnOk result (out.new.before ≡ out.old.before) }
+{
+    match json.level() {
+        Level::Null => out.null(),
+        Level::Bool(b) => out.boolean(b),
+        Level::Number(number) => match number.as_i64() {
             Some(whole) => out.i64(whole),
             None => Ok(()),
         },
-        Value::String(text) => out.string(text.as_str()),
-        Value::Array(items) => {
+        Level::String(text) => out.string(text),
+        Level::Array(mut items) => {
             out.begin_array()?;
-            write_items(out, items)
+            while let Some(item) = J::next_item(&mut items) {
+                write_json(out, item)?;
+            }
+            out.end_array()
         }
-        Value::Object(members) => {
+        Level::Object(mut members) => {
             out.begin_object()?;
-            write_members(out, members)
+            while let Some((name, member)) = J::next_member(&mut members) {
+                out.key(J::name(&name))?;
+                write_json(out, member)?;
+            }
+            out.end_object()
         }
     }
-}
-
-#[cycle(writes)]
-fn write_items(out: &mut Writer, items: &Vec<Value>) -> Result<(), AllocError>
-    requires { items_whole (items_view items.now.items) ≡ true }
-    ensures tokens { OnOk result (out.new.tokens
-        ≡ out.old.tokens ++ items_tokens (items_outline (items_view items.now.items))) }
-    ensures before { OnOk result (out.new.before ≡ out.old.before) }
-{
-    for item in items {
-        write_value(out, item)?;
-    }
-    out.end_array()
-}
-
-#[cycle(writes)]
-fn write_members(out: &mut Writer, members: &Map<String, Value>) -> Result<(), AllocError>
-    requires { members_whole (members_view members.now.entries) ≡ true }
-    ensures tokens { OnOk result (out.new.tokens ≡ out.old.tokens
-        ++ members_tokens (members_outline (members_view members.now.entries))) }
-    ensures before { OnOk result (out.new.before ≡ out.old.before) }
-{
-    for (name, member) in members.iter() {
-        out.key(name.as_str())?;
-        write_value(out, member)?;
-    }
-    out.end_object()
 }

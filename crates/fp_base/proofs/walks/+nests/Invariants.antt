@@ -1,14 +1,26 @@
-use Rattle.std.proofs.Common.{◌≡◌, drop}
+use Rattle.std.proofs.Common.{◌≡◌, ◌<◌, suc}
+use Rattle.serde_json.specs.Events.{items_len, members_len}
 use Rattle.std.specs.Prelude.{nat_le}
-use Rattle.serde_json.specs.Data.{items_depth, members_depth}
-use Rattle.serde_json.specs.View.{items_view, members_view}
+use Rattle.serde_json.specs.Data.{depth, items_depth, members_depth}
+use Rattle.fp_base.specs.Count.{count, items_count, members_count}
 use Rattle.fp_base.proofs.walks.+nests.Given as goal
 
--- what is left decides for all
-abbrev pub invariant-items_nest-loop-item : goal.invariant-items_nest-loop-item
-invariant-items_nest-loop-item l =
-    nat_le (items_depth (items_view (drop l.item-index l.item-items))) l.limit ≡ nat_le (items_depth (items_view l.item-items)) l.limit
+abbrev pub decreases-nests : goal.decreases-nests
+decreases-nests g l = count (g.J.Json.seen l.json)
 
-abbrev pub invariant-members_nest-loop-key : goal.invariant-members_nest-loop-key
-invariant-members_nest-loop-key l =
-    nat_le (members_depth (members_view l._key-iterator)) l.limit ≡ nat_le (members_depth (members_view l.members.entries)) l.limit
+-- what is left decides for all
+abbrev pub invariant-loop-item : goal.invariant-loop-item
+invariant-loop-item g l =
+    (items_count (g.J.Json.listed l.items) < count (g.J.Json.seen l.fn.json))
+    × (nat_le (suc (items_depth (g.J.Json.listed l.items))) l.fn.limit ≡ nat_le (depth (g.J.Json.seen l.fn.json)) l.fn.limit)
+
+abbrev pub decreases-loop-item : goal.decreases-loop-item
+decreases-loop-item g l = items_len (g.J.Json.listed l.items)
+
+abbrev pub invariant-loop-name : goal.invariant-loop-name
+invariant-loop-name g l =
+    (members_count (g.J.Json.named l.members) < count (g.J.Json.seen l.fn.json))
+    × (nat_le (suc (members_depth (g.J.Json.named l.members))) l.fn.limit ≡ nat_le (depth (g.J.Json.seen l.fn.json)) l.fn.limit)
+
+abbrev pub decreases-loop-name : goal.decreases-loop-name
+decreases-loop-name g l = members_len (g.J.Json.named l.members)

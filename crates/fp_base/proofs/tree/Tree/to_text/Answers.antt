@@ -12,15 +12,14 @@ use Rattle.fp_base.proofs.tree.Tree.to_text.Goals as goal
 pub returns-clause-text : goal.returns-clause-text
 returns-clause-text c =
     let d = tree_view c.args.self.now in
-    let none : c.write_tree.new.out.before ≡ [] = c.in_ok-write_tree.ensures.before ∙ c.new-out.ensures.before ∙ c.in_ok-with_capacity.ensures.items in
-    let written : c.write_tree.new.out.tokens ≡ json_tokens (outline d) = c.in_ok-write_tree.ensures.tokens ∙ ap (λ ts. ts ++ json_tokens (outline d)) c.new-out.ensures.tokens in
+    let none : c.write_json.new.out.before ≡ [] = c.in_ok-write_json.ensures.before ∙ c.new-out.ensures.before ∙ c.in_ok-with_capacity.ensures.items in
+    let written : c.write_json.new.out.tokens ≡ json_tokens (outline d) = c.in_ok-write_json.ensures.tokens ∙ ap (λ ts. ts ++ json_tokens (outline d)) c.new-out.ensures.tokens in
     c.into_inner.ensures.items ∙ ap₂ (λ b ts. b ++ print ts) none written ∙ print-outline d
 
 pub returns-clause-reads : goal.returns-clause-reads
 returns-clause-reads c =
     let d = tree_view c.args.self.now in
-    let none : c.write_tree.new.out.before ≡ [] = c.in_ok-write_tree.ensures.before ∙ c.new-out.ensures.before ∙ c.in_ok-with_capacity.ensures.items in
-    let written : c.write_tree.new.out.tokens ≡ json_tokens (outline d) = c.in_ok-write_tree.ensures.tokens ∙ ap (λ ts. ts ++ json_tokens (outline d)) c.new-out.ensures.tokens in
-    let text : c.into_inner.result.items ≡ print (json_tokens (outline d)) = c.into_inner.ensures.items ∙ ap₂ (λ b ts. b ++ print ts) none written in
+    let written : c.write_json.new.out.tokens ≡ json_tokens (outline d) = c.in_ok-write_json.ensures.tokens ∙ ap (λ ts. ts ++ json_tokens (outline d)) c.new-out.ensures.tokens in
+    let text = returns-clause-text c ∙ sym (print-outline d) in
     print-reads c.into_inner.result.items d (ap tokens (text ∙ sym (ap print written)) ∙ c.into_inner.ensures.reads_back ∙ written)
     (subst IsUtf8 (ap print written ∙ sym text) c.into_inner.ensures.utf8) c.requires.ordered c.requires.whole c.requires.flat

@@ -1,8 +1,0 @@
-use Rattle.std.proofs.Common.{ap, sym, ◌∙◌}
-use Rattle.std.specs.Prelude.{is_some, not}
-use Rattle.serde_json.specs.View.{view}
-use Rattle.fp_base.proofs.TextLengths.{too_heavy}
-use Rattle.fp_base.proofs.sizes.is_longer.Goals as goal
-
-pub returns : goal.returns
-returns c = λ h. too_heavy (view c.args.value.now) c.args.limit (ap is_some (sym c.bytes_left.ensures) ∙ c.is_none.ensures ∙ ap not h)
