@@ -1,5 +1,6 @@
 -- What is printed of data as they are read, whose numbers are whole, is read as them.
-use Rattle.std.proofs.Common.{◌≡◌, ◌≤◌, ℕ, suc, max, List, [], Bool, true, false, ◌&&◌, Some, refl, sym, ap, ap₂, ◌∙◌, arith, true≢false, append-nil}
+use Rattle.std.proofs.Common.{◌≡◌, ◌≤◌, ℕ, suc, max, List, [], true, Some, refl, sym, ap, ap₂, ◌∙◌, arith, append-nil}
+use Rattle.std.proofs.lemmas.Bool.{and_parts}
 use Rattle.std.specs.Prelude.{option_map, option_and_then}
 use Rattle.std.specs.Str.{IsUtf8}
 use Rattle.json.specs.Json as json
@@ -13,12 +14,8 @@ use Rattle.serde_json.specs.Written.{outline, items_outline, members_outline}
 use Rattle.fp_base.specs.Json.{json_of}
 use Rattle.fp_base.specs.Ordered.{IsOrdered, AreOrdered, MembersAreOrdered}
 use Rattle.fp_base.specs.Whole.{is_whole, items_whole, members_whole}
-use Rattle.fp_base.proofs.Reading.{json_of-read}
+use Rattle.fp_base.proofs.Reading.{json_of_read}
 use Rattle.fp_base.proofs.Sorted.{AreBack, members-read_back}
-
-both : (a b : Bool) → (a && b) ≡ true → (a ≡ true) × (b ≡ true)
-both true b h = (refl, h)
-both false b h = absurd (true≢false (sym h))
 
 mutual
   pub read_back : (d : Data) → IsOrdered d → is_whole d ≡ true → of_json (outline d) ≡ Some d
@@ -32,12 +29,12 @@ mutual
   items-read_back : (ds : Items) → AreOrdered ds → items_whole ds ≡ true → of_items (items_outline ds) ≡ Some ds
   items-read_back no_items o w = refl
   items-read_back (item d ds) o w =
-      let parts = both (is_whole d) (items_whole ds) w in rw (read_back d o.0 parts.0, items-read_back ds o.1 parts.1) refl
+      let parts = and_parts (is_whole d) (items_whole ds) w in rw (read_back d o.0 parts.0, items-read_back ds o.1 parts.1) refl
 
   are_back : (ms : Members) → MembersAreOrdered ms → members_whole ms ≡ true → AreBack ms
   are_back no_members o w = tt
   are_back (member k d ms) o w =
-      let parts = both (is_whole d) (members_whole ms) w in (read_back d o.0 parts.0, are_back ms o.1 parts.1)
+      let parts = and_parts (is_whole d) (members_whole ms) w in (read_back d o.0 parts.0, are_back ms o.1 parts.1)
 
 mutual
   depth-outline : (d : Data) → tree.depth (outline d) ≡ depth d
@@ -61,4 +58,4 @@ pub print-reads : (text : List ℕ) (d : Data) → tokens text ≡ json_tokens (
 print-reads text d spelt utf8 o w flat =
     let whole : json.value 127 (tokens text) ≡ Some (outline d, []) =
     ap (json.value 127) (spelt ∙ sym (append-nil (json_tokens (outline d)))) ∙ value-json_tokens (outline d) 127 [] (omega (arith, depth-outline d)) in
-    json_of-read text d utf8 (ap (λ r. option_and_then of_json (option_and_then (λ q. json.if_last q.0 q.1) r)) whole ∙ read_back d o w)
+    json_of_read text d utf8 (ap (λ r. option_and_then of_json (option_and_then (λ q. json.if_last q.0 q.1) r)) whole ∙ read_back d o w)

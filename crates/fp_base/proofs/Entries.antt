@@ -1,5 +1,5 @@
 -- Lists of members, in ascending order of their names.
-use Rattle.std.proofs.Common.{◌≡◌, ℕ, zero, suc, List, [], ◌∷◌, ◌++◌, drop, Ordering, Less, Equal, Greater, nat_cmp, string_bytes, refl, sym, ap, ◌∙◌}
+use Rattle.std.proofs.Common.{◌≡◌, ℕ, List, [], ◌∷◌, ◌++◌, Ordering, Less, Equal, Greater, nat_cmp, string_bytes, refl, sym, ap, ◌∙◌}
 use Rattle.std.specs.Ordering.{match_ordering}
 use Rattle.std.specs.Borrow.{Bor}
 use Rattle.std.specs.BTreeMap.{insert_entry}
@@ -29,22 +29,6 @@ put-last (x ∷ done) e more h =
     ap (λ o. match_ordering o (member e.0.now (tree_view e.1) (tree_members (x ∷ done))) (member x.0.now (tree_view e.1) (tree_members done)) (member x.0.now (tree_view x.1) (put e.0.now (tree_view e.1) (tree_members done))))
     (turned x.0.now e.0.now Less (below-middle x.0.now done e more h.0))
     ∙ ap (member x.0.now (tree_view x.1)) (put-last done e more h.1)
-
--- a member whose name comes before those behind it goes first
-pub put-front : (m : Entry) (behind : List Entry) → IsSorted (tree_members (m ∷ behind)) → put m.0.now (tree_view m.1) (tree_members behind) ≡ tree_members (m ∷ behind)
-put-front m [] h = refl
-put-front m (n ∷ behind) h =
-    ap (λ o. match_ordering o (member m.0.now (tree_view m.1) (tree_members (n ∷ behind))) (member n.0.now (tree_view m.1) (tree_members behind)) (member n.0.now (tree_view n.1) (put m.0.now (tree_view m.1) (tree_members behind)))) h.0.0
-
-pub sorted-drop : (i : ℕ) (ms : List Entry) → IsSorted (tree_members ms) → IsSorted (tree_members (drop i ms))
-sorted-drop zero ms h = h
-sorted-drop (suc i) [] h = tt
-sorted-drop (suc i) (m ∷ ms) h = sorted-drop i ms h.1
-
-pub ordered-drop : (i : ℕ) (ms : List Entry) → MembersAreOrdered (tree_members ms) → MembersAreOrdered (tree_members (drop i ms))
-ordered-drop zero ms h = h
-ordered-drop (suc i) [] h = tt
-ordered-drop (suc i) (m ∷ ms) h = ordered-drop i ms h.1
 
 -- ---- one more at the end
 

@@ -49,9 +49,9 @@ members-inserted es [] = refl
 members-inserted es (x ∷ xs) = members-inserted (insert_entry entry_cmp es x.0 x.1) xs ∙ ap (λ ms. laid ms xs) (members-insert es x.0 x.1)
 
 -- a tree's members, from those in order and those that came behind them
-pub gathered-collected : (ordered waiting : List Entry) (n : BTreeMap (Bor (List ℕ)) Tree) → IsSorted (tree_members ordered) → IsFromIterResult entry_cmp (ordered ++ waiting) n
+pub gathered_collected : (ordered waiting : List Entry) (n : BTreeMap (Bor (List ℕ)) Tree) → IsSorted (tree_members ordered) → IsFromIterResult entry_cmp (ordered ++ waiting) n
     → tree_members n.entries ≡ laid (tree_members ordered) waiting
-gathered-collected ordered waiting n sorted made =
+gathered_collected ordered waiting n sorted made =
     let all = ordered ++ waiting in
     let es = inserted names_total [] all in
     let laid-all : tree_members es ≡ laid no_members all = members-inserted [] all in

@@ -11,7 +11,7 @@ use Rattle.fp_base.specs.Sorted.{IsBelow, IsSorted}
 use Rattle.fp_base.specs.TreeView.{Entry, tree_view, tree_members}
 use Rattle.fp_base.specs.declared.tree.Tree.{Tree}
 use Rattle.fp_base.proofs.Entries.{below-middle}
-use Rattle.fp_base.proofs.Named.{cmp-same, same-cmp}
+use Rattle.fp_base.proofs.Named.{cmp-same, later-by, same-cmp}
 use Rattle.fp_base.proofs.Sorted.{below-trans, turned}
 
 abbrev cmp : List ℕ → List ℕ → Ordering
@@ -41,11 +41,6 @@ named-within name (m ∷ ms) zero h = omega arith
 named-within name (m ∷ ms) (suc at) h = let rest = named-within name ms at h in omega arith
 
 -- ---- looked up
-
-later-by : (o : Ordering) (rest : Option Data) (d : Data) → (o ≡ Equal → ⊥) → match_ordering o rest (Some d) rest ≡ rest
-later-by Less rest d h = refl
-later-by Equal rest d h = absurd (h refl)
-later-by Greater rest d h = refl
 
 apart : {o : Ordering} → o ≡ Greater → o ≡ Equal → ⊥
 apart p q = cc

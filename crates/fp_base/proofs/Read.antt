@@ -1,13 +1,13 @@
 -- Trees that are read, one after another.
-use Rattle.std.proofs.Common.{◌≡◌, ℕ, List, [], ◌∷◌, ◌++◌, Option, Some, None, Ordering, Less, Equal, Greater, nat_cmp, refl, ap}
+use Rattle.std.proofs.Common.{◌≡◌, ℕ, List, [], ◌∷◌, ◌++◌, Option, Some, None, nat_cmp, refl, ap}
 use Rattle.std.specs.Cmp.Lexicographic.{slice_cmp}
-use Rattle.std.specs.Ordering.{match_ordering}
 use Rattle.json.specs.Json.{parse_map}
 use Rattle.json.specs.Token.{Token}
 use Rattle.serde_json.specs.Data.{Data, Items, no_items, item, Members, no_members, member, put}
 use Rattle.fp_base.specs.Ordered.{IsOrdered, MembersAreOrdered}
 use Rattle.fp_base.specs.TreeView.{tree_view, tree_items}
 use Rattle.fp_base.specs.declared.tree.Tree.{Tree}
+use Rattle.fp_base.proofs.Sorted.{by-order}
 
 -- ---- items
 
@@ -33,12 +33,7 @@ none_before (Some p) = refl
 
 -- ---- members that are put among others
 
-by-order : (o : Ordering) (a b c : Members) → MembersAreOrdered a → MembersAreOrdered b → MembersAreOrdered c → MembersAreOrdered (match_ordering o a b c)
-by-order Less a b c p q r = p
-by-order Equal a b c p q r = q
-by-order Greater a b c p q r = r
-
 pub ordered-put : (k : List ℕ) (d : Data) (ms : Members) → IsOrdered d → MembersAreOrdered ms → MembersAreOrdered (put k d ms)
 ordered-put k d no_members o h = (o, tt)
 ordered-put k d (member l e ms) o h =
-    by-order (slice_cmp nat_cmp k l) (member k d (member l e ms)) (member l d ms) (member l e (put k d ms)) (o, h) (o, h.1) (h.0, ordered-put k d ms o h.1)
+    by-order MembersAreOrdered (slice_cmp nat_cmp k l) (member k d (member l e ms)) (member l d ms) (member l e (put k d ms)) (o, h) (o, h.1) (h.0, ordered-put k d ms o h.1)

@@ -19,15 +19,16 @@ pub below-trans : (k l : List ℕ) (ms : Members) → cmp k l ≡ Less → IsBel
 below-trans k l no_members h p = tt
 below-trans k l (member m d ms) h p = (nat_list_cmp_total.trans k l m h p.0, below-trans k l ms h p.1)
 
-below-match : (k : List ℕ) (o : Ordering) (a b c : Members) → IsBelow k a → IsBelow k b → IsBelow k c → IsBelow k (match_ordering o a b c)
-below-match k Less a b c p q r = p
-below-match k Equal a b c p q r = q
-below-match k Greater a b c p q r = r
+-- what is so of three is so of the one that an order picks
+pub by-order : (P : Members → Type 0) (o : Ordering) (a b c : Members) → P a → P b → P c → P (match_ordering o a b c)
+by-order P Less a b c p q r = p
+by-order P Equal a b c p q r = q
+by-order P Greater a b c p q r = r
 
 below-put : (k l : List ℕ) (d : Data) (ms : Members) → cmp k l ≡ Less → IsBelow k ms → IsBelow k (put l d ms)
 below-put k l d no_members h p = (h, tt)
 below-put k l d (member m e ms) h p =
-    below-match k (cmp l m) (member l d (member m e ms)) (member m d ms) (member m e (put l d ms)) (h, p) p (p.0, below-put k l d ms h p.1)
+    by-order (IsBelow k) (cmp l m) (member l d (member m e ms)) (member m d ms) (member m e (put l d ms)) (h, p) p (p.0, below-put k l d ms h p.1)
 
 sorted-match : (k l : List ℕ) (d e : Data) (ms : Members) (o : Ordering) → cmp k l ≡ o → IsSorted (member l e ms) → IsSorted (put k d ms)
     → IsSorted (match_ordering o (member k d (member l e ms)) (member l d ms) (member l e (put k d ms)))
@@ -45,16 +46,6 @@ sorted-put k d (member l e ms) p = sorted-match k l d e ms (cmp k l) refl p (sor
 abbrev pub AreBack : Members → Type 0
 AreBack no_members = ⊤
 AreBack (member k d ms) = (of_json (outline d) ≡ Some d) × AreBack ms
-
-back-match : (o : Ordering) (a b c : Members) → AreBack a → AreBack b → AreBack c → AreBack (match_ordering o a b c)
-back-match Less a b c p q r = p
-back-match Equal a b c p q r = q
-back-match Greater a b c p q r = r
-
-pub back-put : (k : List ℕ) (d : Data) (ms : Members) → of_json (outline d) ≡ Some d → AreBack ms → AreBack (put k d ms)
-back-put k d no_members h p = (h, tt)
-back-put k d (member l e ms) h p =
-    back-match (cmp k l) (member k d (member l e ms)) (member l d ms) (member l e (put k d ms)) (h, p) (h, p.1) (p.0, back-put k d ms h p.1)
 
 -- the name comes after each
 abbrev pub IsAfter : List ℕ → Members → Type 0

@@ -118,6 +118,7 @@ fn comes_last(members: &[(&str, Tree<'_>)], name: &str) -> bool
 
 // All members, each that waits put among the others in turn.
 #[inline(never)]
+#[tactic(auto, using(crate::proofs::Gatherings::gathered_collected))]
 fn in_order<'a>(
     alloc: Global,
     ordered: Vec<(&'a str, Tree<'a>)>,
@@ -132,7 +133,7 @@ fn in_order<'a>(
     all.append(&mut waiting)?;
     // A map made at once is sorted: cheaper than a look-up for each member.
     let found: BTreeMap<&'a str, Tree<'a>> = all.into_iter().collect(alloc)?;
-    as_list(alloc, found)
+    Ok(as_list(alloc, found)?)
 }
 
 fn as_list<'a>(
@@ -141,9 +142,5 @@ fn as_list<'a>(
 ) -> Result<Vec<(&'a str, Tree<'a>)>, AllocError>
     ensures { IfOk result (λ v. tree_members v.items ≡ tree_members members.entry.entries) }
 {
-    let mut found = Vec::with_capacity(alloc, members.len())?;
-    for (name, tree) in members {
-        found.push((name, tree))?;
-    }
-    Ok(found)
+    Ok(members.into_iter().collect(alloc)?)
 }

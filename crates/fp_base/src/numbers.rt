@@ -24,6 +24,7 @@ pub(crate) fn number_tree<'a>(value: &Number) -> Tree<'a>
     Tree::Number(*value)
 }
 
+#[tactic(auto, using(crate::proofs::Numerals::written))]
 fn reads_as_written(number: &Number) -> bool
     ensures { IsWritten (number_view number.now) }
 {

@@ -15,13 +15,14 @@ use serde_json::Value;
 use std::alloc::{AllocError, Global};
 
 /// The value's text without spaces, its members in ascending order of their names' bytes.
+#[tactic(auto, using(crate::proofs::WholeData::has_float_whole, crate::proofs::Reading::json_of_read))]
 pub fn canonical_text(alloc: Global, value: &Value) -> Result<Vec<u8>, AllocError>
     requires whole { is_whole (view value.now) ≡ true }
     requires flat { depth (view value.now) ≤ max_depth }
     ensures text { IfOk result (λ t. t.items ≡ compact_text (view value.now)) }
     ensures reads { IfOk result (λ t. json_of t.items ≡ Some (view value.now)) }
 {
-    value.to_vec(alloc)
+    Ok(value.to_vec(alloc)?)
 }
 
 /// The canonical text, where it has at most `limit` bytes. Of a longer one no more is ever
@@ -98,6 +99,7 @@ fn put_escaped(alloc: Global, out: &mut Vec<u8>, text: &str) -> Result<(), Alloc
 }
 
 /// The value that the bytes spell, or `None` where they are no JSON.
+#[tactic(auto, using(crate::proofs::Reading::json_of_read, crate::proofs::Reading::json_of_refused))]
 pub fn read_json(alloc: Global, bytes: &[u8]) -> Result<Option<Value>, AllocError>
     ensures { IfOk result (λ o. option_map view o ≡ json_of bytes.now) }
 {

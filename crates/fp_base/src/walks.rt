@@ -71,6 +71,7 @@ impl<'a> Tree<'a> {
 
     /// Whether all numbers are whole, the tree nests at most `limit` deep, and its canonical text
     /// isn't longer than `bytes` by its texts, names, items and members alone: three walks in one.
+    #[tactic(auto, using(crate::proofs::TextLengths::not_plain))]
     pub fn is_plain(&self, limit: u32, bytes: usize) -> bool
         ensures plain { result ≡ is_some (plain_left limit bytes (tree_view self.now)) }
         ensures whole { result ≡ true → is_whole (tree_view self.now) ≡ true }
