@@ -1,5 +1,5 @@
 -- How many values data have, and how many members a tree's object.
-use Rattle.std.proofs.Common.{◌≡◌, ℕ, ◌<◌, List, [], ◌∷◌, suc, length, refl, ap, arith}
+use Rattle.std.proofs.Common.{◌≡◌, ◌<◌, List, [], ◌∷◌, suc, length, refl, ap, arith}
 use Rattle.serde_json.specs.Data.{Data, null, boolean, number, string, array, object}
 use Rattle.serde_json.specs.Events.{members_len}
 use Rattle.fp_base.specs.Count.{count}

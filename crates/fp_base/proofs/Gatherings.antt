@@ -79,3 +79,6 @@ put-at_end ms new m before is =
 pub none-waits : (ms : Members) (es : List Entry) → length es ≡ 0 → laid ms es ≡ ms
 none-waits ms [] h = refl
 none-waits ms (e ∷ es) h = absurd (omega arith)
+
+-- what stays in order
+pub ruleset still_sorted = (sorted-laid, sorted-put)

@@ -1,5 +1,5 @@
 -- A name's place among members in ascending order of their names.
-use Rattle.std.proofs.Common.{◌≡◌, ◌<◌, ℕ, zero, suc, List, [], ◌∷◌, ◌++◌, length, drop, true, false, Option, None, Some, Ordering, Less, Equal, Greater, nat_cmp, bytes_eq, true≢false, refl, sym, ap, ◌∙◌, arith}
+use Rattle.std.proofs.Common.{◌≡◌, ◌<◌, ℕ, zero, suc, List, [], ◌∷◌, ◌++◌, length, drop, true, false, None, Ordering, Less, Equal, Greater, nat_cmp, bytes_eq, true≢false, refl, sym, ap, ◌∙◌, arith}
 use Rattle.std.specs.Ordering.{is_lt, match_ordering}
 use Rattle.std.specs.Cmp.Lexicographic.{slice_cmp}
 use Rattle.std.proofs.lemmas.Cmp.{nat_list_cmp_total}

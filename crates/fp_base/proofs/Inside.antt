@@ -1,5 +1,5 @@
 -- What is so of all members is so of the one that is looked up: of ordered data it is ordered, and it nests no deeper.
-use Rattle.std.proofs.Common.{◌≡◌, ◌≤◌, ◌+◌, ℕ, List, Option, Some, unwrap_or, Ordering, Less, Equal, Greater, refl, ap, subst, arith}
+use Rattle.std.proofs.Common.{◌≡◌, ◌≤◌, ℕ, List, Option, Some, unwrap_or, Ordering, Less, Equal, Greater, refl, ap, subst, arith}
 use Rattle.std.proofs.lemmas.Option.{none-some}
 use Rattle.std.specs.Ordering.{match_ordering, nat_cmp}
 use Rattle.std.specs.Cmp.Lexicographic.{slice_cmp}

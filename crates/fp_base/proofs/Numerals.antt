@@ -31,3 +31,5 @@ written (NegInt (negsuc n)) z valid is fits =
     some_same : (y z : ℤ) → Some y ≡ Some z → y ≡ z
     some_same y z h = cc
 written (Float x) z valid is fits = absurd (cc)
+
+pub ruleset decimals = (number_of-decimal)

@@ -124,3 +124,7 @@ no-text o h =
       | inl none ↦ ap text-data none
       | inr q ↦ ap text-data q.1 ∙ no-end q.0.0 q.0.1 q.2
     ]
+
+pub ruleset whole_texts = (no-text, text-with_more, whole-text)
+
+pub ruleset item_turns = (no-item, end-of-items)

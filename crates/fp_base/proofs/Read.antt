@@ -37,3 +37,5 @@ pub ordered-put : (k : List ℕ) (d : Data) (ms : Members) → IsOrdered d → M
 ordered-put k d no_members o h = (o, tt)
 ordered-put k d (member l e ms) o h =
     by-order MembersAreOrdered (slice_cmp nat_cmp k l) (member k d (member l e ms)) (member l d ms) (member l e (put k d ms)) (o, h) (o, h.1) (h.0, ordered-put k d ms o h.1)
+
+pub ruleset items_read = (none_before, items_before-no_items)

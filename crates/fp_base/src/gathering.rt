@@ -63,6 +63,7 @@ impl<'a> Gathered<'a> {
 
     // The same of a member that may come out of order.
     #[inline(never)]
+    #[tactic(auto, using(crate::proofs::Gatherings::still_sorted))]
     fn put_in_place(
         &mut self,
         alloc: Global,

@@ -35,6 +35,7 @@ fn reads_as_written(number: &Number) -> bool
 }
 
 /// The number that a text of JSON writes, `None` where it is out of range.
+#[tactic(auto, using(crate::proofs::Numerals::decimals))]
 pub(crate) fn number_in(text: &str) -> Option<Number>
     ensures { option_map number_view result ≡ number_of text.now }
 {
@@ -73,6 +74,7 @@ fn digit(byte: u8) -> Option<u8>
 
 // The number that a text writes in whatever way. A whole one of 64 bits is kept as it is, and
 // any other one as the nearest double, if there is one.
+#[tactic(auto, unfolding(serde_json::specs::Read::number_of))]
 fn any_number(text: &str) -> Option<Number>
     ensures { option_map number_view result ≡ number_of text.now }
 {

@@ -57,6 +57,7 @@ impl<T: Drop> From<AllocFailed<T>> for Stop {
 }
 
 /// The tree of what the bytes spell, `None` where they are no JSON.
+#[tactic(auto, using(crate::proofs::Parsed::whole_texts, crate::proofs::Reading::json_of_refused))]
 pub fn read_tree<'a>(
     alloc: Global,
     bytes: &'a [u8],
@@ -83,6 +84,7 @@ pub fn read_tree<'a>(
 
 // The next value of the reader. Lists and objects may nest `depth` deep.
 #[cycle(read)]
+#[tactic(auto, using(crate::proofs::Views::scalars))]
 fn read<'a>(alloc: Global, reader: &mut Reader<'a>, depth: usize) -> Result<Tree<'a>, Stop>
     ensures ok { IfOk result (λ t.
         converted of_json (value depth reader.old) ≡ Some (tree_view t, reader.new)) }
@@ -117,6 +119,7 @@ fn read<'a>(alloc: Global, reader: &mut Reader<'a>, depth: usize) -> Result<Tree
 }
 
 #[cycle(read)]
+#[tactic(auto, using(crate::proofs::Parsed::item_turns, crate::proofs::Read::items_read))]
 fn read_items<'a>(
     alloc: Global,
     reader: &mut Reader<'a>,

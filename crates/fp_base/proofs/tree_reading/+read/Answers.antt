@@ -1,40 +1,19 @@
-use Rattle.std.proofs.Common.{◌≡◌, ◌-◌, ◌<◌, [], ◌∷◌, length, Some, None, sym, ap, ap₂, subst, ◌∙◌, arith, rules}
-use Rattle.json.specs.Token.{Token}
+use Rattle.std.proofs.Common.{◌≡◌, ◌-◌, ◌<◌, ◌∷◌, length, Some, None, sym, ap, subst, ◌∙◌, arith, rules}
 use Rattle.json.specs.Json.{parse_map, after_end_array, read_key, items, members, value}
 use Rattle.json.specs.Reads.{token_of}
-use Rattle.json.proofs.Grammar.{value_is, value-begin_array, value-begin_object, read_key-shorter}
-use Rattle.serde_json.specs.Data.{null, boolean, string, array, object, put}
+use Rattle.json.proofs.Grammar.{value-begin_array, value-begin_object, read_key-shorter}
+use Rattle.serde_json.specs.Data.{array, object, put}
 use Rattle.serde_json.specs.Read.{of_json, of_items, of_members, converted}
 use Rattle.fp_base.specs.Gathered.{gathered}
 use Rattle.fp_base.specs.Ordered.{AreOrdered, MembersAreOrdered}
 use Rattle.fp_base.specs.Sorted.{IsSorted}
 use Rattle.fp_base.specs.TreeView.{tree_view, tree_items}
-use Rattle.fp_base.specs.declared.tree.Tree.{String, Bool, Null, the_lemmas}
 use Rattle.fp_base.proofs.Entries.{items_ordered-more}
-use Rattle.fp_base.proofs.Parsed.{array-parsed, end-of-items, end-of-members, no-item, no-member, no-name, object-parsed, one-item, one-member}
-use Rattle.fp_base.proofs.Read.{none_before, items_before, items_before-no_items, one_more_item, ordered-put}
+use Rattle.fp_base.proofs.Parsed.{array-parsed, end-of-members, no-member, no-name, object-parsed, one-item, one-member}
+use Rattle.fp_base.proofs.Read.{items_before, one_more_item, ordered-put}
 use Rattle.fp_base.proofs.Sorted.{sorted-put}
 use Rattle.fp_base.proofs.Views.{view-Array, view-Object}
 use Rattle.fp_base.proofs.tree_reading.+read.Goals as goal
-
-pub read-returns-in_err-token-clause-refused : goal.read-returns-in_err-token-clause-refused
-read-returns-in_err-token-clause-refused t c refused =
-    let empty : c.args.reader.now ≡ [] = grind arith in
-    ap (converted of_json) (ap (value c.args.depth) empty ∙ value_is c.args.depth [])
-
-pub read-returns-then-depth-eq0-clause-refused : goal.read-returns-then-depth-eq0-clause-refused
-unfolding value
-read-returns-then-depth-eq0-clause-refused t c never =
-    let first : c.args.reader.now ≡ token_of c.in_ok-token.token ∷ c.next.new.self = grind arith in
-    let none : c.args.depth ≡ 0 = omega arith in
-    ap (converted of_json) (ap₂ value none (first ∙ ap (λ k. token_of k ∷ c.next.new.self) c.in-BeginArray.is))
-
-pub read-returns-then-depth-eq0-2-clause-refused : goal.read-returns-then-depth-eq0-2-clause-refused
-unfolding value
-read-returns-then-depth-eq0-2-clause-refused t c never =
-    let first : c.args.reader.now ≡ token_of c.in_ok-token.token ∷ c.next.new.self = grind arith in
-    let none : c.args.depth ≡ 0 = omega arith in
-    ap (converted of_json) (ap₂ value none (first ∙ ap (λ k. token_of k ∷ c.next.new.self) c.in-BeginObject.is))
 
 pub read-returns-in_err-read_items-in-BeginArray-clause-refused : goal.read-returns-in_err-read_items-in-BeginArray-clause-refused
 read-returns-in_err-read_items-in-BeginArray-clause-refused t c refused =
@@ -47,45 +26,6 @@ read-returns-in_err-read_members-in-BeginObject-clause-refused t c refused =
     let first : c.args.reader.now ≡ token_of c.in_ok-token.token ∷ c.next.new.self = grind arith in
     let opened = ap (converted of_json) (ap (value c.args.depth) (first ∙ ap (λ k. token_of k ∷ c.next.new.self) c.in-BeginObject.is) ∙ value-begin_object c.args.depth c.next.new.self (omega arith)) ∙ object-parsed (members (value (c.args.depth - 1)) (length c.next.new.self) c.next.new.self) in
     opened ∙ ap (parse_map object) (c.read_members.ensures.refused (grind arith))
-
-pub read-returns-in-String-clause-ok : goal.read-returns-in-String-clause-ok
-read-returns-in-String-clause-ok t c =
-    let first : c.args.reader.now ≡ token_of c.in_ok-token.token ∷ c.next.new.self = grind arith in
-    let is : c.args.reader.now ≡ Token.string c.in-String.text.now ∷ c.next.new.self = grind (arith, first) in
-    let seen : tree_view (String c.in-String.text) ≡ string c.in-String.text.now = search (rules, the_lemmas) in
-    ap (converted of_json) (ap (value c.args.depth) is ∙ value_is c.args.depth _) ∙ ap (λ d. Some (d, c.next.new.self)) (sym seen)
-
-pub read-returns-in-Bool-clause-ok : goal.read-returns-in-Bool-clause-ok
-read-returns-in-Bool-clause-ok t c =
-    let first : c.args.reader.now ≡ token_of c.in_ok-token.token ∷ c.next.new.self = grind arith in
-    let is : c.args.reader.now ≡ Token.boolean c.in-Bool.b ∷ c.next.new.self = grind (arith, first) in
-    let seen : tree_view (Bool c.in-Bool.b) ≡ boolean c.in-Bool.b = search (rules, the_lemmas) in
-    ap (converted of_json) (ap (value c.args.depth) is ∙ value_is c.args.depth _) ∙ ap (λ d. Some (d, c.next.new.self)) (sym seen)
-
-pub read-returns-in-Null-clause-ok : goal.read-returns-in-Null-clause-ok
-read-returns-in-Null-clause-ok t c =
-    let first : c.args.reader.now ≡ token_of c.in_ok-token.token ∷ c.next.new.self = grind arith in
-    let is : c.args.reader.now ≡ Token.null ∷ c.next.new.self = grind (arith, first) in
-    let seen : tree_view Null ≡ null = search (rules, the_lemmas) in
-    ap (converted of_json) (ap (value c.args.depth) is ∙ value_is c.args.depth _) ∙ ap (λ d. Some (d, c.next.new.self)) (sym seen)
-
-pub read-returns-in-Some-clause-ok : goal.read-returns-in-Some-clause-ok
-read-returns-in-Some-clause-ok t c =
-    let first : c.args.reader.now ≡ token_of c.in_ok-token.token ∷ c.next.new.self = grind arith in
-    let is : c.args.reader.now ≡ Token.number c.in-Number.text.now ∷ c.next.new.self = grind (arith, first) in
-    ap (converted of_json) (ap (value c.args.depth) is ∙ value_is c.args.depth _) ∙ rw (← c.in-Some.ensures, c.number_tree.ensures.same)
-
-pub read-returns-in-None-clause-refused : goal.read-returns-in-None-clause-refused
-read-returns-in-None-clause-refused t c refused =
-    let first : c.args.reader.now ≡ token_of c.in_ok-token.token ∷ c.next.new.self = grind arith in
-    let is : c.args.reader.now ≡ Token.number c.in-Number.text.now ∷ c.next.new.self = grind (arith, first) in
-    ap (converted of_json) (ap (value c.args.depth) is ∙ value_is c.args.depth _) ∙ rw (← c.in-None.ensures)
-
-pub read-returns-in-EndObject-clause-refused : goal.read-returns-in-EndObject-clause-refused
-read-returns-in-EndObject-clause-refused t c refused =
-    let first : c.args.reader.now ≡ token_of c.in_ok-token.token ∷ c.next.new.self = grind arith in
-    let none : value c.args.depth c.args.reader.now ≡ None = rw (value_is c.args.depth c.args.reader.now, first) (grind arith) in
-    ap (converted of_json) none
 
 pub read-returns-in_ok-read_items-in-BeginArray-clause-ok : goal.read-returns-in_ok-read_items-in-BeginArray-clause-ok
 read-returns-in_ok-read_items-in-BeginArray-clause-ok t c =
@@ -100,19 +40,6 @@ read-returns-in_ok-read_members-in-BeginObject-clause-ok t c =
     let opened = ap (converted of_json) (ap (value c.args.depth) (first ∙ ap (λ k. token_of k ∷ c.next.new.self) c.in-BeginObject.is) ∙ value-begin_object c.args.depth c.next.new.self (omega arith)) ∙ object-parsed (members (value (c.args.depth - 1)) (length c.next.new.self) c.next.new.self) in
     let found = c.in_ok-read_members-in-BeginObject in
     opened ∙ ap (parse_map object) found.ensures.ok ∙ ap (λ d. Some (d, c.read_members.new.reader)) (sym (view-Object found.field-0))
-
-pub read_items-items-init : goal.read_items-items-init
-read_items-items-init t c =
-    let all = converted of_items (items (value c.args.depth) (length c.args.reader.now) c.args.reader.now) in
-    (length c.args.reader.now, omega arith, none_before all ∙ ap (λ ts. parse_map (items_before ts) all) (sym c.new-found.ensures.items), omega arith, subst (λ ts. AreOrdered (tree_items ts)) (sym c.new-found.ensures.items) tt)
-
-pub read_items-returns-in_err-item-clause-refused : goal.read_items-returns-in_err-item-clause-refused
-read_items-returns-in_err-item-clause-refused t c refused =
-    let p = value c.args.depth in
-    let l = c.items in
-    let n = l.invariant.0 in
-    let going : (after_end_array l.reader ≡ None) × (c.take_end_array.new.self ≡ l.reader) = grind arith in
-    l.invariant.2 ∙ ap (parse_map (items_before l.found.items)) (no-item p n l.reader going.0 (rw (← going.1) (c.read.ensures.refused (grind arith))))
 
 pub read_items-items-preserved : goal.read_items-items-preserved
 read_items-items-preserved t c =
@@ -132,20 +59,6 @@ read_items-items-preserved t c =
       omega (arith, l.invariant.3),
       subst (λ ts. AreOrdered (tree_items ts)) (sym c.in_ok-push.ensures.items) (items_ordered-more l.found.items v l.invariant.4 done.ordered),
     )
-
-pub read_items-returns-clause-ok : goal.read_items-returns-clause-ok
-read_items-returns-clause-ok t c =
-    let p = value c.args.depth in
-    let l = c.items in
-    let n = l.invariant.0 in
-    let r = c.take_end_array.new.self in
-    l.invariant.2 ∙ ap (parse_map (items_before l.found.items)) (end-of-items p n l.reader r l.invariant.1 (grind arith)) ∙ ap (λ ds. Some (ds, r)) (items_before-no_items l.found.items)
-
-pub read_members-members-init : goal.read_members-members-init
-read_members-members-init t c =
-    let all = members (value c.args.depth) (length c.args.reader.now) c.args.reader.now in
-    let none = sym c.new-found.ensures.none in
-    (length c.args.reader.now, omega arith, ap (λ found. converted (λ ms. of_members ms found) all) none, omega arith, subst IsSorted none tt, subst MembersAreOrdered none tt, c.new-found.ensures.sorted)
 
 pub read_members-returns-in_err-name-clause-refused : goal.read_members-returns-in_err-name-clause-refused
 read_members-returns-in_err-name-clause-refused t c refused =

@@ -1,14 +1,8 @@
-use Rattle.std.proofs.Common.{◌≡◌, [], sym, ap, subst, ◌∙◌, rules}
+use Rattle.std.proofs.Common.{◌≡◌, [], ap, ◌∙◌, rules}
 use Rattle.fp_base.specs.Gathered.{laid}
-use Rattle.fp_base.specs.Sorted.{IsSorted}
-use Rattle.fp_base.specs.TreeView.{tree_view, tree_members}
-use Rattle.fp_base.proofs.Gatherings.{laid-last, sorted-laid}
-use Rattle.fp_base.proofs.Sorted.{sorted-put}
+use Rattle.fp_base.specs.TreeView.{tree_members}
+use Rattle.fp_base.proofs.Gatherings.{laid-last}
 use Rattle.fp_base.proofs.gathering.Gathered.put_in_place.Goals as goal
-
-pub returns-then-len-le-MOST_MOVED-clause-sorted : goal.returns-then-len-le-MOST_MOVED-clause-sorted
-returns-then-len-le-MOST_MOVED-clause-sorted c =
-    subst IsSorted (sym c.in_ok-put_in_order.ensures) (sorted-put c.args.name.now (tree_view c.args.tree) (tree_members c.args.self.now.ordered.items) c.requires)
 
 pub returns-then-waiting-lt-MOST_WAITING-clause-members : goal.returns-then-waiting-lt-MOST_WAITING-clause-members
 returns-then-waiting-lt-MOST_WAITING-clause-members c =
@@ -21,9 +15,3 @@ returns-clause-members c =
     let settled : tree_members c.in_ok-self.field-0.items ≡ laid ms c.push.new.self.items = search rules in
     ap (laid (tree_members c.in_ok-self.field-0.items)) none ∙ settled
     ∙ laid-last ms c.args.self.now.waiting.items c.push.new.self.items (c.args.name, c.args.tree) c.in_ok-push.ensures.items
-
-pub returns-clause-sorted : goal.returns-clause-sorted
-returns-clause-sorted c =
-    let ms = tree_members c.args.self.now.ordered.items in
-    let settled : tree_members c.in_ok-self.field-0.items ≡ laid ms c.push.new.self.items = search rules in
-    subst IsSorted (sym settled) (sorted-laid ms c.push.new.self.items c.requires)
