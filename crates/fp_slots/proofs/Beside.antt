@@ -17,12 +17,9 @@ use Rattle.fp_slots.specs.State.{IsShut, IsCopied, IsPart, IsPlan, IsFrontOf}
 use Rattle.fp_slots.proofs.Ruling.{front_there, front_generation, rules_shut}
 
 -- ---- parts
-shut_long : (slot : ℕ) (u : PendingState) (b : List ℕ) → IsShut slot u → IsOutcome u b → slot + 1 ≤ length b
-shut_long slot u b x o = (firm_outcome u slot (x.gate ∷ []) b x.firm o).long
-
 -- at first nothing is copied
 pub copied_none : (slot : ℕ) (bytes b : List ℕ) (u : PendingState) → IsShut slot u → IsOutcome u b → IsCopied slot bytes 1 b
-copied_none slot bytes b u x o = record { long = shut_long slot u b x o; same = λ k le lt. absurd (omega (arith, le, lt)) }
+copied_none slot bytes b u x o = record { long = (firm_outcome u slot (x.gate ∷ []) b x.firm o).long; same = λ k le lt. absurd (omega (arith, le, lt)) }
 
 module _ (slot : ℕ) (bytes old new : List ℕ) (done to : ℕ) (le : done ≤ to) (within : to ≤ length bytes) (c : IsCopied slot bytes done old) (w : Written old (slot + done) (slice_range bytes done to) new) where
   n : ℕ

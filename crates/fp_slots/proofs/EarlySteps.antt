@@ -1,189 +1,112 @@
 -- A batch on its way beside a compaction that is early, and a compaction that begins.
-use Rattle.std.proofs.Common.{◌≡◌, ◌≢◌, inl, inr, ⊎_elim, ℕ, ◌+◌, ◌-◌, ◌<◌, ◌≤◌, List, [], ◌∷◌, ◌++◌, refl, ◌∙◌, subst, arith}
-use Rattle.std.specs.Prelude.{Bool, true, false, slice_index}
-use Rattle.std.specs.Int.{w64, to_be_bytes}
-use Rattle.fp_disk.specs.Outcomes.{IsOutcome, PendingState}
-use Rattle.fp_disk.specs.Moments.{leaves_both, leaves_map}
+use Rattle.std.proofs.Common.{◌≡◌, ◌≢◌, inl, inr, ⊎_elim, ℕ, ◌+◌, ◌-◌, ◌<◌, ◌≤◌, List, [], ◌∷◌, ◌++◌, refl, sym, ap, ◌∙◌, subst, arith}
+use Rattle.std.specs.Prelude.{Bool, true, false, Result, slice_index}
+use Rattle.fp_disk.specs.Crashes.{AtAnyMoment}
+use Rattle.fp_disk.specs.Outcomes.{CountsFaults}
+use Rattle.fp_disk.specs.declared.disk.Disk.{Ghosts}
+use Rattle.fp_disk.specs.declared.disk.DiskFault.{DiskFault}
+use Rattle.fp_journal.specs.Calls.{KeepsAround}
 use Rattle.fp_journal.specs.Holds.{Holds}
-use Rattle.fp_journal.specs.Moments.{KeepsHeld}
-use Rattle.fp_journal.specs.State.{JournalState, HasAmong, HasChain, HasChainOrNext, Outside, SameSlot, has_begun}
+use Rattle.fp_journal.specs.State.{JournalState, ClaimsAt, CrashStates, HasAmong, HasChain, HasChainOrNext, Outside, SameSlot, has_begun}
+use Rattle.fp_journal.specs.declared.journal.Phase.{Phase}
 use Rattle.fp_journal.specs.declared.journal.Phase.TheVariants.{Idle, Failed}
 use Rattle.fp_journal.proofs.Holds.{byte_held, holds_byte}
-use Rattle.fp_slots.specs.declared.slots.Step.{Step}
-use Rattle.fp_slots.specs.declared.slots.Step.TheVariants.{Begin, Close, SyncClose, Part, Tail, SyncBody, Open, SyncOpen}
+use Rattle.fp_slots.specs.Calls.{KeepsCompaction}
+use Rattle.fp_slots.specs.declared.slots.Step.TheVariants.{Begin, Close}
 use Rattle.fp_slots.specs.Rules.{Rules}
-use Rattle.fp_slots.specs.State.{SlotsState, Keeps, Leaves, IsShut, IsOlder, IsBeaten, IsCopied, IsPlan, IsPart, OutsideBoth, IsPlanned, IsBeside, IsStill, IsEarly, IsKept}
-use Rattle.fp_slots.proofs.Ruling.{claims_front, rules_shut, rules_older}
+use Rattle.fp_slots.specs.State.{SlotsState, Keeps, Leaves, IsBeaten, IsBeside, IsCopied, IsPart, IsPlan, IsPlanned, IsStill}
+use Rattle.fp_slots.proofs.Ruling.{claims_front}
 use Rattle.fp_slots.proofs.Beside.{plan_within}
-use Rattle.fp_slots.proofs.Steps as steps
+use Rattle.fp_slots.proofs.Steps.{Always, AtEarly, AtStep, Kept, Leave, beside_is, by_early, moved, older_on, older_rules, shut_on, shut_rules, within_other}
 
-module _ {D : Type 0} (honest : D → Type 0) (bytes : D → List ℕ) (unsynced : D → PendingState) (moment : D → ℕ) (crash_states_since : D → ℕ → List ℕ → Type 0)
-    (counts_now : (d : D) (t : ℕ) (c : List ℕ) → honest d → t ≤ moment d → IsOutcome (unsynced d) c → crash_states_since d t c)
-    {s : SlotsState D} {may_open : Bool} {planned : List ℕ} {done : ℕ} (kept : IsKept honest bytes unsynced s may_open planned done) (alive : s.journal.phase ≢ Failed) (j : JournalState D) (same : SameSlot s.journal j) where
-  abbrev Leave : (List ℕ → Type 0) → Type 0
-  Leave = steps.Leave honest bytes unsynced moment crash_states_since counts_now kept alive j same
+-- a sync reaches nothing, and leaves what the phase claims
+pub synced : {D S : Type 0} {disk : Ghosts D} {old new : JournalState D} {r : Result S DiskFault} {q : Phase} → KeepsAround disk old new (CrashStates old) Always r → old.phase ≡ q → KeepsAround disk old new (ClaimsAt q old.begun old.slot old.front old.sealed old.staged) (Outside old.slot) r
+synced {disk = disk} {old = old} {new = new} w at = record {
+  same = w.same;
+  any_moment = subst (λ (p : Phase). AtAnyMoment disk old.disk new.disk (ClaimsAt p old.begun old.slot old.front old.sealed old.staged)) at w.any_moment;
+  apart = λ h from text out firm. w.apart h from text tt firm;
+  beside = λ h from text out there. w.beside h from text tt there;
+  honest = w.honest;
+  cause = w.cause;
+}
 
-  abbrev Frame : (ℕ → ℕ → Type 0) → Type 0
-  Frame = steps.Frame honest bytes unsynced moment crash_states_since counts_now kept alive j same
+chain_front : {D : Type 0} (s : SlotsState D) (bs : List (List ℕ)) (c : List ℕ) → HasChain s.journal.slot s.journal.front bs c → Holds c s.journal.slot.start s.journal.front
+chain_front s bs c e = claims_front Idle false s.journal.slot s.journal.front bs [] c e
 
-  abbrev Always : ℕ → ℕ → Type 0
-  Always = steps.Always honest bytes unsynced moment crash_states_since counts_now kept alive j same
+module _ {D : Type 0} {disk : Ghosts D} {s : SlotsState D} {may_open : Bool} {planned : List ℕ} {done : ℕ} {q : Phase} (a : AtEarly disk s may_open planned done q) where
+  pub sealed_front : (c : List ℕ) → HasChain s.journal.slot s.journal.front s.journal.sealed c → Holds c s.journal.slot.start s.journal.front
+  sealed_front = chain_front s s.journal.sealed
 
-  -- ---- a batch on its way
-  -- at each moment the journal's slot rules, whatever else is left of it
-  module _ (p : Step) (early : IsEarly p) (at : honest s.journal.disk → IsBeside p s.other.start s.generation may_open planned done (unsynced s.journal.disk) (bytes s.journal.disk)) where
-    module _ (Out : ℕ → ℕ → Type 0) (gate : Out s.other.start 1) (generation : Out (s.other.start + 1) 8) (P : List ℕ → Type 0) (there : (c : List ℕ) → P c → Holds c s.journal.slot.start s.journal.front) (leave : Leave P) (frame : Frame Out) where
-      shut_rules : IsShut s.other.start (unsynced s.journal.disk) → Leave (λ c. Rules s.journal.slot.start s.other.start c × P c)
-      shut_rules x =
-          let Gate : List ℕ → Type 0 = λ c. Holds c s.other.start (x.gate ∷ []) in
-          leaves_map moment crash_states_since s.journal.disk j.disk (λ c. P c × Gate c) (λ c. Rules s.journal.slot.start s.other.start c × P c) (λ c p. (rules_shut s.journal.slot.start s.generation s.journal.front c kept.front (there c p.0) s.other.start x.gate x.shut p.1, p.0))
-          (leaves_both moment crash_states_since s.journal.disk j.disk P Gate leave (frame s.other.start (x.gate ∷ []) gate x.firm).1)
+  pub next_front : (c : List ℕ) → HasChainOrNext s.journal.slot s.journal.front s.journal.sealed s.journal.staged c → Holds c s.journal.slot.start s.journal.front
+  next_front c p = ⊎_elim (chain_front s s.journal.sealed c) (chain_front s (s.journal.sealed ++ s.journal.staged ∷ []) c) p
 
-      older_rules : IsOlder s.other.start s.generation (unsynced s.journal.disk) → Leave (λ c. Rules s.journal.slot.start s.other.start c × P c)
-      older_rules x =
-          let Text : List ℕ → Type 0 = λ c. Holds c (s.other.start + 1) (to_be_bytes w64 x.its) in
-          leaves_map moment crash_states_since s.journal.disk j.disk (λ c. P c × Text c) (λ c. Rules s.journal.slot.start s.other.start c × P c) (λ c p. (rules_older s.journal.slot.start s.generation s.journal.front c kept.front (there c p.0) s.other.start x.its kept.small x.small x.less p.1, p.0))
-          (leaves_both moment crash_states_since s.journal.disk j.disk P Text leave (frame (s.other.start + 1) (to_be_bytes w64 x.its) generation x.firm).1)
+  -- the phase alone tells whether the gate began to open
+  pub begun_is : s.journal.begun ≡ has_begun q s.journal.begun
+  begun_is = sym a.at.kept.told ∙ ap (λ (p : Phase). has_begun p s.journal.begun) a.phase
 
-      beaten_rules : (b : Bool) → IsBeaten b s.other.start s.generation (unsynced s.journal.disk) → Leave (λ c. Rules s.journal.slot.start s.other.start c × P c)
-      beaten_rules true x = older_rules x
-      beaten_rules false x = shut_rules x
+-- ---- a call of the journal, which leaves P in its slot at each moment
+module _ {D S : Type 0} {disk : Ghosts D} {s : SlotsState D} {may_open : Bool} {planned : List ℕ} {done : ℕ} {q : Phase} (a : AtEarly disk s may_open planned done q) {j : JournalState D} {P : List ℕ → Type 0} {r : Result S DiskFault} (w : KeepsAround disk s.journal j P (Outside s.journal.slot) r)
+    (there : (c : List ℕ) → P c → Holds c s.journal.slot.start s.journal.front) where
+  inside : (at n : ℕ) → s.other.start ≤ at → at + n ≤ s.other.stop → Outside s.journal.slot at n
+  inside = within_other a.at
 
-      rules_at : (q : Step) → IsEarly q → IsBeside q s.other.start s.generation may_open planned done (unsynced s.journal.disk) (bytes s.journal.disk) → Leave (λ c. Rules s.journal.slot.start s.other.start c × P c)
-      rules_at Begin e x = beaten_rules may_open x
-      rules_at Close e x = beaten_rules may_open x
-      rules_at SyncClose e x = ⊎_elim shut_rules (λ y. older_rules y.0) x
-      rules_at Part e x = shut_rules x.0
-      rules_at Tail e x = shut_rules x.0
-      rules_at SyncBody e x = absurd e
-      rules_at Open e x = absurd e
-      rules_at SyncOpen e x = absurd e
+  gate : Outside s.journal.slot s.other.start 1
+  gate = let wide = a.at.kept.wide in inside s.other.start 1 (omega arith) (omega (arith, wide))
 
-      pub rules_leaves : honest s.journal.disk → Leave (λ c. Rules s.journal.slot.start s.other.start c × P c)
-      rules_leaves h = rules_at p early (at h)
+  generation : Outside s.journal.slot (s.other.start + 1) 8
+  generation = let wide = a.at.kept.wide in inside (s.other.start + 1) 8 (omega arith) (omega (arith, wide))
 
-  -- ---- the invariant after a call on its way
-  early_still : (q : Step) → IsEarly q → IsStill q j.phase
-  early_still Begin e = tt
-  early_still Close e = tt
-  early_still SyncClose e = tt
-  early_still Part e = tt
-  early_still Tail e = tt
-  early_still SyncBody e = absurd e
-  early_still Open e = absurd e
-  early_still SyncOpen e = absurd e
+  -- the journal's slot rules all the time
+  abbrev Ruling : List ℕ → Type 0
+  Ruling c = Rules s.journal.slot.start s.other.start c × P c
 
-  module _ (Out : ℕ → ℕ → Type 0) (inside : (from n : ℕ) → s.other.start ≤ from → from + n ≤ s.other.stop → Out from n) (frame : Frame Out) (held : KeepsHeld bytes s.journal.disk j.disk Out) where
-    gate_inside : Out s.other.start 1
-    gate_inside = let w = kept.wide in inside s.other.start 1 (omega arith) (omega (arith, w))
+  module _ (h : disk.honest s.journal.disk) where
+    beaten_rules : (b : Bool) → IsBeaten b s.other.start s.generation (disk.unsynced s.journal.disk) → Leave a.at j w.same Ruling
+    beaten_rules true x = older_rules a.at j w.same (Outside s.journal.slot) (w.apart h) P there (w.any_moment h) generation x
+    beaten_rules false x = shut_rules a.at j w.same (Outside s.journal.slot) (w.apart h) P there (w.any_moment h) gate x
 
-    shut_on : IsShut s.other.start (unsynced s.journal.disk) → IsShut s.other.start (unsynced j.disk)
-    shut_on x = record { gate = x.gate; shut = x.shut; firm = (frame s.other.start (x.gate ∷ []) gate_inside x.firm).0 }
+    rules : Leave a.at j w.same Ruling
+    rules = by_early (λ p. IsBeside p s.other.start s.generation may_open planned done (disk.unsynced s.journal.disk) (disk.bytes s.journal.disk) → Leave a.at j w.same Ruling)
+        (beaten_rules may_open) (beaten_rules may_open) (λ x. ⊎_elim (beaten_rules false) (λ y. beaten_rules true y.0) x) (λ x. beaten_rules false x.0) (λ x. beaten_rules false x.0) s.step a.early (beside_is a.at h)
 
-    older_on : IsOlder s.other.start s.generation (unsynced s.journal.disk) → IsOlder s.other.start s.generation (unsynced j.disk)
-    older_on x = let w = kept.wide in record { its = x.its; small = x.small; less = x.less; firm = (frame (s.other.start + 1) (to_be_bytes w64 x.its) (inside (s.other.start + 1) 8 (omega arith) (omega (arith, w))) x.firm).0 }
+    beaten_on : (b : Bool) → IsBeaten b s.other.start s.generation (disk.unsynced s.journal.disk) → IsBeaten b s.other.start s.generation (disk.unsynced j.disk)
+    beaten_on true x = older_on a.at j w.same (Outside s.journal.slot) (w.apart h) generation x
+    beaten_on false x = shut_on a.at j w.same (Outside s.journal.slot) (w.apart h) gate x
 
-    beaten_on : (b : Bool) → IsBeaten b s.other.start s.generation (unsynced s.journal.disk) → IsBeaten b s.other.start s.generation (unsynced j.disk)
-    beaten_on true x = older_on x
-    beaten_on false x = shut_on x
-
-    copied_on : IsPlan s.other s.generation s.text planned × IsPart planned done → IsCopied s.other.start planned done (bytes s.journal.disk) → IsCopied s.other.start planned done (bytes j.disk)
+    copied_on : IsPlan s.other s.generation s.text planned × IsPart planned done → IsCopied s.other.start planned done (disk.bytes s.journal.disk) → IsCopied s.other.start planned done (disk.bytes j.disk)
     copied_on plan x =
-        let long = x.long in let some = plan.1.some in let part = plan.1.part in let w = plan_within s.other s.generation s.text planned plan.0 s.other.start refl in
-        let byte : (k : ℕ) → k < done → Holds (bytes j.disk) (s.other.start + k) (slice_index (bytes s.journal.disk) (s.other.start + k) ∷ []) = λ k lt.
-        held (s.other.start + k) (slice_index (bytes s.journal.disk) (s.other.start + k) ∷ []) (inside (s.other.start + k) 1 (omega arith) (omega (arith, w, part, lt))) (holds_byte (bytes s.journal.disk) (s.other.start + k) (omega (arith, long, lt))) in
+        let long = x.long in let some = plan.1.some in let part = plan.1.part in let fits = plan_within s.other s.generation s.text planned plan.0 s.other.start refl in let b : List ℕ = disk.bytes s.journal.disk in
+        let byte : (k : ℕ) → k < done → Holds (disk.bytes j.disk) (s.other.start + k) (slice_index b (s.other.start + k) ∷ []) = λ k lt.
+        w.beside h (s.other.start + k) (slice_index b (s.other.start + k) ∷ []) (inside (s.other.start + k) 1 (omega arith) (omega (arith, fits, part, lt))) (holds_byte b (s.other.start + k) (omega (arith, long, lt))) in
         record {
           long = (let last = (byte (done - 1) (omega (arith, some))).long in omega (arith, last, some));
-          same = λ k low lt. byte_held (bytes j.disk) (s.other.start + k) (slice_index (bytes s.journal.disk) (s.other.start + k)) [] (byte k lt) ∙ x.same k low lt;
+          same = λ k low lt. byte_held (disk.bytes j.disk) (s.other.start + k) (slice_index b (s.other.start + k)) [] (byte k lt) ∙ x.same k low lt;
         }
 
-    beside_on : (q : Step) → IsEarly q → IsPlanned q s.other s.generation s.text planned done → IsBeside q s.other.start s.generation may_open planned done (unsynced s.journal.disk) (bytes s.journal.disk) → IsBeside q s.other.start s.generation may_open planned done (unsynced j.disk) (bytes j.disk)
-    beside_on Begin e plan x = beaten_on may_open x
-    beside_on Close e plan x = beaten_on may_open x
-    beside_on SyncClose e plan x = ⊎_elim (λ y. inl (shut_on y)) (λ y. inr (older_on y.0, held s.other.start (0 ∷ []) gate_inside y.1)) x
-    beside_on Part e plan x = (shut_on x.0, copied_on plan x.1)
-    beside_on Tail e plan x = (shut_on x.0, copied_on plan x.1)
-    beside_on SyncBody e plan x = absurd e
-    beside_on Open e plan x = absurd e
-    beside_on SyncOpen e plan x = absurd e
+    beside_on : IsBeside s.step s.other.start s.generation may_open planned done (disk.unsynced j.disk) (disk.bytes j.disk)
+    beside_on = by_early (λ p. IsPlanned p s.other s.generation s.text planned done → IsBeside p s.other.start s.generation may_open planned done (disk.unsynced s.journal.disk) (disk.bytes s.journal.disk) → IsBeside p s.other.start s.generation may_open planned done (disk.unsynced j.disk) (disk.bytes j.disk))
+        (λ plan x. beaten_on may_open x) (λ plan x. beaten_on may_open x) (λ plan x. ⊎_elim (λ y. inl (beaten_on false y)) (λ y. inr (beaten_on true y.0, w.beside h s.other.start (0 ∷ []) gate y.1)) x)
+        (λ plan x. (beaten_on false x.0, copied_on plan x.1)) (λ plan x. (beaten_on false x.0, copied_on plan x.1)) s.step a.early a.at.kept.plan (beside_is a.at h)
 
-  -- a call that succeeded
-  pub early_done : IsEarly s.step → j.phase ≢ Failed → has_begun j.phase j.begun ≡ j.begun → (honest j.disk → honest s.journal.disk) → (Out : ℕ → ℕ → Type 0) → ((from n : ℕ) → s.other.start ≤ from → from + n ≤ s.other.stop → Out from n) → (honest s.journal.disk → Frame Out)
-      → (honest s.journal.disk → KeepsHeld bytes s.journal.disk j.disk Out) → IsKept honest bytes unsynced (record s { journal = j }) may_open planned done
-  early_done early fine told back Out inside frame held = steps.goes_on honest bytes unsynced moment crash_states_since counts_now kept alive j same fine told s.step done s.left (early_still s.step early) kept.plan (λ h. let h0 = back h in beside_on Out inside (frame h0) (held h0) s.step early kept.plan (kept.live h0 alive))
+  on : (k : JournalState D) → SameSlot j k → SameSlot s.journal k
+  on k same = (same.0 ∙ w.same.0, same.1 ∙ w.same.1, same.2 ∙ w.same.2, same.3 ∙ w.same.3)
 
-  -- and one that failed
-  module _ (P : List ℕ → Type 0) (shows : (c : List ℕ) → P c → HasAmong j.begun s.journal.slot s.journal.front j.sealed j.staged c) (phase : j.phase ≡ Failed) where
-    early_leaves : (q : Step) → IsEarly q → (c : List ℕ) → Rules s.journal.slot.start s.other.start c × P c → Leaves q (record s { journal = j }) c
-    early_leaves q e c p = at q e
-      where
-        one : Keeps (record s { journal = j }) c
-        one = rw (same.1, same.2, phase) (p.0, shows c p.1)
+  still : (p : Phase) → IsStill s.step p
+  still p = by_early (λ t. IsStill t p) tt tt tt tt tt s.step a.early
 
-        at : (q : Step) → IsEarly q → Leaves q (record s { journal = j }) c
-        at Begin e = one
-        at Close e = one
-        at SyncClose e = one
-        at Part e = one
-        at Tail e = one
-        at SyncBody e = absurd e
-        at Open e = absurd e
-        at SyncOpen e = absurd e
+  -- the invariant after a call that succeeded, and what follows it without a call of the disk
+  pub early_done : (k : JournalState D) → SameSlot j k → k.disk ≡ j.disk → {t : Phase} → k.phase ≡ t → t ≢ Failed → {b : Bool} → k.begun ≡ b → has_begun t b ≡ b → Kept disk (record s { journal = k }) may_open planned done
+  early_done k same e phase fine begun told = moved a.at k (on k same) (rw (phase, begun) told) s.step done s.left (still k.phase) a.at.kept.plan (λ h _. rw e (beside_on (w.honest.1 (subst disk.honest e h)))) (λ h is. absurd (fine (sym phase ∙ is)))
 
-    pub early_broke : IsEarly s.step → (honest j.disk → honest s.journal.disk) → (honest s.journal.disk → Leave (λ c. Rules s.journal.slot.start s.other.start c × P c)) → IsKept honest bytes unsynced (record s { journal = j }) may_open planned done
-    early_broke early back leaves = record {
-      apart = rw same.1 kept.apart;
-      wide = kept.wide;
-      wide_too = rw same.1 kept.wide_too;
-      front = rw same.2 kept.front;
-      small = kept.small;
-      told = steps.told_broken honest bytes unsynced moment crash_states_since counts_now kept alive j same phase;
-      plan = kept.plan;
-      still = early_still s.step early;
-      live = λ h no. absurd (no phase);
-      failed = λ h no c o. let l = leaves (back h) in early_leaves s.step early c (l.each c (counts_now j.disk (moment s.journal.disk) c h l.later o));
-    }
+  -- and after one that failed
+  pub early_broke : ((c : List ℕ) → P c → HasAmong j.begun s.journal.slot s.journal.front j.sealed j.staged c) → j.phase ≡ Failed → Kept disk (record s { journal = j }) may_open planned done
+  early_broke shows phase = moved a.at j w.same (rw phase refl) s.step done s.left (still j.phase) a.at.kept.plan (λ h no. absurd (no phase)) (λ h no c o. let l = rules (w.honest.1 h) in let x = l.each c (a.at.counts_now j.disk (disk.moment s.journal.disk) c h l.later o) in
+      let one : Keeps (record s { journal = j }) c = rw (w.same.1, w.same.2, phase) (x.0, shows c x.1) in by_early (λ p. Leaves p (record s { journal = j }) c) one one one one one s.step a.early)
 
-  -- ---- what each call leaves at each moment
-  chain_front : (bs : List (List ℕ)) (c : List ℕ) → HasChain s.journal.slot s.journal.front bs c → Holds c s.journal.slot.start s.journal.front
-  chain_front bs c e = claims_front Idle false s.journal.slot s.journal.front bs [] c e
-
-  pub early_rules : IsEarly s.step → (Out : ℕ → ℕ → Type 0) → ((from n : ℕ) → s.other.start ≤ from → from + n ≤ s.other.stop → Out from n) → (P : List ℕ → Type 0) → ((c : List ℕ) → P c → Holds c s.journal.slot.start s.journal.front)
-      → (honest s.journal.disk → Leave P) → (honest s.journal.disk → Frame Out) → honest s.journal.disk → Leave (λ c. Rules s.journal.slot.start s.other.start c × P c)
-  early_rules early Out inside P there leave frame h = let w = kept.wide in
-      rules_leaves s.step early (λ h. kept.live h alive) Out (inside s.other.start 1 (omega arith) (omega (arith, w))) (inside (s.other.start + 1) 8 (omega arith) (omega (arith, w))) P there (leave h) (frame h) h
-
-  abbrev pub Sealed : List ℕ → Type 0
-  Sealed c = HasChain s.journal.slot s.journal.front s.journal.sealed c
-
-  abbrev pub OrNext : List ℕ → List ℕ → Type 0
-  OrNext body c = HasChainOrNext s.journal.slot s.journal.front s.journal.sealed body c
-
-  pub sealed_front : (c : List ℕ) → Sealed c → Holds c s.journal.slot.start s.journal.front
-  sealed_front c e = chain_front s.journal.sealed c e
-
-  pub next_front : (body c : List ℕ) → OrNext body c → Holds c s.journal.slot.start s.journal.front
-  next_front body c p = ⊎_elim (λ e. chain_front s.journal.sealed c e) (λ e. chain_front (s.journal.sealed ++ body ∷ []) c e) p
-
-  -- the journal's calls reach nothing outside its slot
-  pub slot_frame : Frame (Outside s.journal.slot) → Frame (OutsideBoth s)
-  slot_frame f = λ at t out firm. f at t out.0 firm
-
-  pub always_inside : (from n : ℕ) → s.other.start ≤ from → from + n ≤ s.other.stop → Always from n
-  always_inside from n low high = tt
+  -- what it keeps, however it ended
+  pub keeps_batch : {T : Type 0} {x : Result T DiskFault} (k : JournalState D) → SameSlot j k → k.disk ≡ j.disk → CountsFaults (disk.faults s.journal.disk) (disk.faults j.disk) x → KeepsCompaction disk s (record s { journal = k }) (λ c. Rules s.journal.slot.start s.other.start c × P c) x
+  keeps_batch k same e cause = record { same = (on k same, refl, refl, refl, refl, refl, refl, refl, refl); any_moment = rw e rules; apart = rw e (λ h at text out firm. w.apart h at text out.0 firm); honest = rw e w.honest; cause = rw e cause }
 
 -- ---- a compaction that begins
-module _ {D : Type 0} (honest : D → Type 0) (bytes : D → List ℕ) (unsynced : D → PendingState) {s : SlotsState D} {may_open : Bool} {planned : List ℕ} {done : ℕ} (kept : IsKept honest bytes unsynced s may_open planned done) where
-  pub begins : s.step ≡ Begin → s.journal.phase ≢ Failed → (text next coming : List ℕ) (head left : ℕ) → IsPlan s.other s.generation text next → IsKept honest bytes unsynced (record s { step = Close; text = text; head = head; left = left; coming = coming }) may_open next 1
-  begins is alive text next coming head left plan = record {
-    apart = kept.apart;
-    wide = kept.wide;
-    wide_too = kept.wide_too;
-    front = kept.front;
-    small = kept.small;
-    told = kept.told;
-    plan = (plan, refl);
-    still = tt;
-    live = λ h fine. subst (λ (q : Step). IsBeside q s.other.start s.generation may_open planned done (unsynced s.journal.disk) (bytes s.journal.disk)) is (kept.live h fine);
-    failed = λ h no. absurd (alive no);
-  }
+pub begins : {D : Type 0} {disk : Ghosts D} {s : SlotsState D} {may_open : Bool} {planned : List ℕ} {done : ℕ} → AtStep disk s may_open planned done Begin → (text next coming : List ℕ) (head left : ℕ) → IsPlan s.other s.generation text next → Kept disk (record s { step = Close; text = text; head = head; left = left; coming = coming }) may_open next 1
+begins a text next coming head left plan = record { apart = a.kept.apart; wide = a.kept.wide; wide_too = a.kept.wide_too; front = a.kept.front; small = a.kept.small; told = a.kept.told; plan = (plan, refl); still = tt; live = λ h fine. beside_is a h; failed = λ h no. absurd (a.alive no) }

@@ -1,12 +1,15 @@
 -- What each call does to the invariant, and what it leaves at each moment.
 use Rattle.std.proofs.Common.{◌≡◌, ◌≢◌, ◌⊎◌, inl, inr, ⊎_elim, ℕ, ◌+◌, ◌-◌, ◌<◌, ◌≤◌, ◌^◌, List, [], ◌∷◌, ◌++◌, length, drop, refl, sym, ◌∙◌, ap, subst, arith}
-use Rattle.std.specs.Prelude.{Bool, true, false, slice_index, slice_range}
+use Rattle.std.specs.Prelude.{Bool, true, false, Result, Ok, Err, OnOk, OnErr, slice_index, slice_range}
 use Rattle.std.specs.Int.{w64, to_be_bytes}
+use Rattle.fp_disk.specs.Crashes.{EachCrash}
 use Rattle.fp_disk.specs.Outcomes.{IsOutcome, LeavesOnly, PendingState, Written, all_synced}
 use Rattle.fp_disk.specs.Moments.{leaves_both, leaves_map, leaves_still}
+use Rattle.fp_disk.specs.declared.disk.Disk.{Ghosts}
+use Rattle.fp_disk.specs.declared.disk.DiskFault.{DiskFault}
+use Rattle.fp_journal.specs.Calls.{KeepsAround}
 use Rattle.fp_journal.specs.Holds.{Holds, IsSynced, Apart}
-use Rattle.fp_journal.specs.Chain.{Ends}
-use Rattle.fp_journal.specs.Moments.{KeepsFirm}
+use Rattle.fp_journal.specs.Moments.{KeepsFirm, KeepsSynced}
 use Rattle.fp_journal.specs.State.{JournalState, ClaimsAt, CrashStates, HasAmong, Outside, EndsClosed, SameSlot, has_begun}
 use Rattle.fp_journal.specs.declared.slot.Slot.{Slot}
 use Rattle.fp_journal.specs.declared.journal.Phase.{Phase}
@@ -14,34 +17,45 @@ use Rattle.fp_journal.specs.declared.journal.Phase.TheVariants.{Idle, Staged, Bo
 use Rattle.fp_journal.proofs.Holds.{byte_held, holds_written, firm_outcome, firm_settled}
 use Rattle.fp_gate.specs.Gates as gates
 use Rattle.fp_gate.specs.declared.gate.TheConstants.{OPEN}
+use Rattle.fp_slots.specs.Calls.{KeepsSlots}
+use Rattle.fp_slots.specs.Rules.{Rules}
 use Rattle.fp_slots.specs.declared.held.Held.{Held}
 use Rattle.fp_slots.specs.declared.held.Held.TheVariants as held
 use Rattle.fp_slots.specs.declared.slots.Step.{Step}
 use Rattle.fp_slots.specs.declared.slots.Step.TheVariants.{Begin, Close, SyncClose, Part, Tail, SyncBody, Open, SyncOpen}
-use Rattle.fp_slots.specs.State.{SlotsState, Keeps, KeepsEither, Leaves, IsShut, IsOlder, IsBeaten, IsCopied, IsPlan, IsPart, OutsideBoth, sealed_text, IsPlanned, IsBeside, IsFrontOf, IsStill, IsEarly, IsHeld, IsKept, step_of}
+use Rattle.fp_slots.specs.State.{SlotsState, Keeps, KeepsEither, Leaves, IsShut, IsOlder, IsBeaten, IsCopied, IsPlan, IsPart, OutsideBoth, sealed_text, IsPlanned, IsBeside, IsFrontOf, IsStill, IsEarly, HasBegun, IsGrowing, IsHeld, IsKept, step_of}
+use Rattle.fp_slots.proofs.Exits.{answers_err, answers_ok, answers_still}
 use Rattle.fp_slots.proofs.Ruling.{claims_front, front_generation, rules_shut, rules_older}
 use Rattle.fp_slots.proofs.Beside.{copied_none, copied_more, copied_all, plan_long, plan_within, either_tells, opened_ends}
 
--- a claim at a phase that says of the gate what `begun` does, as one of a failed journal
-claims_failed : (p : Phase) (b j : Bool) (slot : Slot) (front : List ℕ) (bodies : List (List ℕ)) (body c : List ℕ) → has_begun p b ≡ b → j ≡ b → ClaimsAt p b slot front bodies body c → HasAmong j slot front bodies body c
-claims_failed p b j slot front bodies body c told is claims = subst (λ (x : Bool). HasAmong x slot front bodies body c) (told ∙ sym is) claims
+-- ---- a fact of each step, of each that is early, and of each while the plan can grow
+pub by_step : (P : Step → Type 0) → P Begin → P Close → P SyncClose → P Part → P Tail → P SyncBody → P Open → P SyncOpen → (p : Step) → P p
+by_step P a b c d e f g h Begin = a
+by_step P a b c d e f g h Close = b
+by_step P a b c d e f g h SyncClose = c
+by_step P a b c d e f g h Part = d
+by_step P a b c d e f g h Tail = e
+by_step P a b c d e f g h SyncBody = f
+by_step P a b c d e f g h Open = g
+by_step P a b c d e f g h SyncOpen = h
 
+pub by_early : (P : Step → Type 0) → P Begin → P Close → P SyncClose → P Part → P Tail → (p : Step) → IsEarly p → P p
+by_early P a b c d e = by_step (λ p. IsEarly p → P p) (λ _. a) (λ _. b) (λ _. c) (λ _. d) (λ _. e) (λ no. absurd no) (λ no. absurd no) (λ no. absurd no)
+
+pub by_growing : (P : Step → Type 0) → P Close → P SyncClose → P Part → P Tail → (p : Step) → IsGrowing p → P p
+by_growing P b c d e p g = by_early (λ q. HasBegun q → P q) (λ no. absurd no) (λ _. b) (λ _. c) (λ _. d) (λ _. e) p g.1 g.0
+
+-- ---- where a call failed
+-- a claim at a phase that says of the gate what `begun` does is one of a failed journal
 module _ {D : Type 0} (s : SlotsState D) (j : JournalState D) (same : SameSlot s.journal j) (bodies : (j.sealed ≡ s.journal.sealed) × (j.staged ≡ s.journal.staged)) (told : has_begun s.journal.phase s.journal.begun ≡ s.journal.begun) (begun : j.begun ≡ s.journal.begun) (broken : j.phase ≡ Failed) (c : List ℕ) where
   keeps_broken : Keeps s c → Keeps (record s { journal = j }) c
-  keeps_broken p = rw (same.1, same.2, bodies.0, bodies.1, broken) (p.0, claims_failed s.journal.phase s.journal.begun j.begun s.journal.slot s.journal.front s.journal.sealed s.journal.staged c told begun p.1)
+  keeps_broken p = rw (same.1, same.2, bodies.0, bodies.1, broken) (p.0, subst (λ (x : Bool). HasAmong x s.journal.slot s.journal.front s.journal.sealed s.journal.staged c) (told ∙ sym begun) p.1)
 
   either_broken : KeepsEither s c → KeepsEither (record s { journal = j }) c
   either_broken p = rw (same.1, same.2, bodies.0) p
 
-  pub leaves_broken : (step : Step) → Leaves step s c → Leaves step (record s { journal = j }) c
-  leaves_broken Begin p = keeps_broken p
-  leaves_broken Close p = keeps_broken p
-  leaves_broken SyncClose p = keeps_broken p
-  leaves_broken Part p = keeps_broken p
-  leaves_broken Tail p = keeps_broken p
-  leaves_broken SyncBody p = keeps_broken p
-  leaves_broken Open p = either_broken p
-  leaves_broken SyncOpen p = either_broken p
+  leaves_broken : (step : Step) → Leaves step s c → Leaves step (record s { journal = j }) c
+  leaves_broken = by_step (λ q. Leaves q s c → Leaves q (record s { journal = j }) c) keeps_broken keeps_broken keeps_broken keeps_broken keeps_broken keeps_broken either_broken either_broken
 
 pub same_slot : {D : Type 0} (j : JournalState D) → SameSlot j j
 same_slot j = (refl, refl, refl, refl)
@@ -59,26 +73,19 @@ firm_stays u b at to text f p is = λ c o k low high.
     (omega (arith, long, high, is), ap (λ (n : ℕ). slice_index c n) (sym there) ∙ h.same (k - at) lt ∙ sym (q.same (k - at) lt) ∙ ap (λ (n : ℕ). slice_index b n) there)
 
 -- ---- what is kept for the next call
-pub held_on : {D : Type 0} (honest : D → Type 0) (moment : D → ℕ) (old new : JournalState D) (slot : ℕ) (held : Held D) → (step_of held ≡ Open → ⊥) → IsHeld honest moment old slot held → IsHeld honest moment new slot held
-held_on honest moment old new slot held.Begin never is = tt
-held_on honest moment old new slot held.Close never is = tt
-held_on honest moment old new slot held.SyncClose never is = tt
-held_on honest moment old new slot held.Part never is = tt
-held_on honest moment old new slot held.Tail never is = tt
-held_on honest moment old new slot held.SyncBody never is = tt
-held_on honest moment old new slot (held.Open synced) never is = absurd (never refl)
-held_on honest moment old new slot held.Opening never is = absurd (never refl)
-held_on honest moment old new slot (held.SyncOpen gate) never is = is
+pub held_on : {D : Type 0} (disk : Ghosts D) (old new : JournalState D) (slot : ℕ) (held : Held D) → (step_of held ≡ Open → ⊥) → IsHeld disk.honest disk.moment old slot held → IsHeld disk.honest disk.moment new slot held
+held_on disk old new slot held.Begin never is = tt
+held_on disk old new slot held.Close never is = tt
+held_on disk old new slot held.SyncClose never is = tt
+held_on disk old new slot held.Part never is = tt
+held_on disk old new slot held.Tail never is = tt
+held_on disk old new slot held.SyncBody never is = tt
+held_on disk old new slot (held.Open synced) never is = absurd (never refl)
+held_on disk old new slot held.Opening never is = absurd (never refl)
+held_on disk old new slot (held.SyncOpen gate) never is = is
 
 pub early_not_open : (p : Step) → IsEarly p → p ≡ Open → ⊥
-early_not_open Begin e is = absurd (cc is)
-early_not_open Close e is = absurd (cc is)
-early_not_open SyncClose e is = absurd (cc is)
-early_not_open Part e is = absurd (cc is)
-early_not_open Tail e is = absurd (cc is)
-early_not_open SyncBody e is = absurd e
-early_not_open Open e is = absurd e
-early_not_open SyncOpen e is = absurd e
+early_not_open = by_early (λ p. p ≡ Open → ⊥) (λ is. absurd (cc is)) (λ is. absurd (cc is)) (λ is. absurd (cc is)) (λ is. absurd (cc is)) (λ is. absurd (cc is))
 
 -- ---- what a crash leaves now
 phase_cases : (p : Phase) → (p ≡ Failed) ⊎ (p ≢ Failed)
@@ -110,290 +117,325 @@ module _ {D : Type 0} (s : SlotsState D) (front : IsFrontOf s.generation s.journ
     idle_now : (s.journal.phase ≡ Idle) ⊎ (s.journal.phase ≡ Failed) → s.journal.phase ≡ Idle
     idle_now x = ⊎_elim (λ idle. idle) (λ no. absurd (alive no)) x
 
-    pub leaves_now : (p : Step) → IsPlanned p s.other s.generation s.text planned done → IsStill p s.journal.phase → IsBeside p s.other.start s.generation may_open planned done u b → Leaves p s c
-    leaves_now Begin plan still x = beaten_now may_open x
-    leaves_now Close plan still x = beaten_now may_open x
-    leaves_now SyncClose plan still x = ⊎_elim shut_now (λ y. older_now y.0) x
-    leaves_now Part plan still x = shut_now x.0
-    leaves_now Tail plan still x = shut_now x.0
-    leaves_now SyncBody plan still x = shut_now x.0
-    leaves_now Open plan still x = either_now planned plan (idle_now still) x.1
-    leaves_now SyncOpen plan still x = either_now planned plan (idle_now still) x.0
+    leaves_now : (p : Step) → IsPlanned p s.other s.generation s.text planned done → IsStill p s.journal.phase → IsBeside p s.other.start s.generation may_open planned done u b → Leaves p s c
+    leaves_now = by_step (λ p. IsPlanned p s.other s.generation s.text planned done → IsStill p s.journal.phase → IsBeside p s.other.start s.generation may_open planned done u b → Leaves p s c)
+        (λ _ _ x. beaten_now may_open x) (λ _ _ x. beaten_now may_open x) (λ _ _ x. ⊎_elim shut_now (λ y. older_now y.0) x) (λ _ _ x. shut_now x.0) (λ _ _ x. shut_now x.0) (λ _ _ x. shut_now x.0)
+        (λ plan still x. either_now planned plan (idle_now still) x.1) (λ plan still x. either_now planned plan (idle_now still) x.0)
 
-pub kept_now : {D : Type 0} (honest : D → Type 0) (bytes : D → List ℕ) (unsynced : D → PendingState) {s : SlotsState D} {may_open : Bool} {planned : List ℕ} {done : ℕ} (kept : IsKept honest bytes unsynced s may_open planned done)
-    → ((c : List ℕ) → honest s.journal.disk → IsOutcome (unsynced s.journal.disk) c → CrashStates s.journal c) → honest s.journal.disk → (c : List ℕ) → IsOutcome (unsynced s.journal.disk) c → Leaves s.step s c
-kept_now honest bytes unsynced {s} {may_open} {planned} {done} kept says h c o = ⊎_elim (λ failed. kept.failed h failed c o)
-    (λ alive. leaves_now s kept.front kept.small c (says c h o) (unsynced s.journal.disk) o may_open planned done (bytes s.journal.disk) alive s.step kept.plan kept.still (kept.live h alive)) (phase_cases s.journal.phase)
+abbrev pub Kept : {D : Type 0} → Ghosts D → SlotsState D → Bool → List ℕ → ℕ → Type 0
+Kept disk s may_open planned done = IsKept disk.honest disk.bytes disk.unsynced s may_open planned done
 
-module _ {D : Type 0} (honest : D → Type 0) (bytes : D → List ℕ) (unsynced : D → PendingState) (moment : D → ℕ) (crash_states_since : D → ℕ → List ℕ → Type 0)
-    (counts_now : (d : D) (t : ℕ) (c : List ℕ) → honest d → t ≤ moment d → IsOutcome (unsynced d) c → crash_states_since d t c)
-    {s : SlotsState D} {may_open : Bool} {planned : List ℕ} {done : ℕ} (kept : IsKept honest bytes unsynced s may_open planned done) (alive : s.journal.phase ≢ Failed) (j : JournalState D) (same : SameSlot s.journal j) where
-  -- ---- the invariant after a call
-  still_broken : (p : Step) → j.phase ≡ Failed → IsStill p j.phase
-  still_broken Begin is = tt
-  still_broken Close is = tt
-  still_broken SyncClose is = tt
-  still_broken Part is = tt
-  still_broken Tail is = tt
-  still_broken SyncBody is = inr is
-  still_broken Open is = inr is
-  still_broken SyncOpen is = inr is
+pub kept_now : {D : Type 0} (disk : Ghosts D) {s : SlotsState D} {may_open : Bool} {planned : List ℕ} {done : ℕ} → Kept disk s may_open planned done → EachCrash disk s.journal.disk (CrashStates s.journal) → EachCrash disk s.journal.disk (Leaves s.step s)
+kept_now disk {s} {may_open} {planned} {done} kept says h c o = ⊎_elim (λ failed. kept.failed h failed c o)
+    (λ alive. leaves_now s kept.front kept.small c (says h c o) (disk.unsynced s.journal.disk) o may_open planned done (disk.bytes s.journal.disk) alive s.step kept.plan kept.still (kept.live h alive)) (phase_cases s.journal.phase)
+
+-- ---- in front of a call
+-- this step is next, and no call failed
+pub record AtStep {D : Type 0} (disk : Ghosts D) (s : SlotsState D) (may_open : Bool) (planned : List ℕ) (done : ℕ) (p : Step) : Type 0 where
+  pub kept : IsKept disk.honest disk.bytes disk.unsynced s may_open planned done
+  pub alive : s.journal.phase ≢ Failed
+  pub is : s.step ≡ p
+  pub counts_now : (d : D) (t : ℕ) (c : List ℕ) → disk.honest d → t ≤ disk.moment d → IsOutcome (disk.unsynced d) c → disk.crash_states_since d t c
+  pub present : (d : D) → disk.honest d → IsOutcome (disk.unsynced d) (disk.bytes d)
+
+-- the same where a batch may be on its way, which is at this phase
+pub record AtEarly {D : Type 0} (disk : Ghosts D) (s : SlotsState D) (may_open : Bool) (planned : List ℕ) (done : ℕ) (q : Phase) : Type 0 where
+  pub at : AtStep disk s may_open planned done s.step
+  pub early : IsEarly s.step
+  pub phase : s.journal.phase ≡ q
+
+module _ {D : Type 0} (disk : Ghosts D) (counts_now : (d : D) (t : ℕ) (c : List ℕ) → disk.honest d → t ≤ disk.moment d → IsOutcome (disk.unsynced d) c → disk.crash_states_since d t c) (present : (d : D) → disk.honest d → IsOutcome (disk.unsynced d) (disk.bytes d))
+    {s v : SlotsState D} {may_open : Bool} {planned : List ℕ} {done : ℕ} (seen : s ≡ v) (kept : IsKept disk.honest disk.bytes disk.unsynced s may_open planned done) where
+  pub at_step : {p : Step} → v.journal.phase ≢ Failed → v.step ≡ p → AtStep disk s may_open planned done p
+  at_step alive is = record { kept = kept; alive = λ e. alive (sym (ap (λ (k : SlotsState D). k.journal.phase) seen) ∙ e); is = ap (λ (k : SlotsState D). k.step) seen ∙ is; counts_now = counts_now; present = present }
+
+  pub at_early : {q : Phase} → q ≢ Failed → IsEarly v.step → v.journal.phase ≡ q → AtEarly disk s may_open planned done q
+  at_early fine early is = record { at = at_step (λ e. fine (sym is ∙ e)) (sym (ap (λ (k : SlotsState D). k.step) seen)); early = subst (λ (k : SlotsState D). IsEarly k.step) (sym seen) early; phase = ap (λ (k : SlotsState D). k.journal.phase) seen ∙ is }
+
+module _ {D : Type 0} {disk : Ghosts D} {s : SlotsState D} {may_open : Bool} {planned : List ℕ} {done : ℕ} {p : Step} (a : AtStep disk s may_open planned done p) where
+  pub beside_is : disk.honest s.journal.disk → IsBeside p s.other.start s.generation may_open planned done (disk.unsynced s.journal.disk) (disk.bytes s.journal.disk)
+  beside_is h = subst (λ (q : Step). IsBeside q s.other.start s.generation may_open planned done (disk.unsynced s.journal.disk) (disk.bytes s.journal.disk)) a.is (a.kept.live h a.alive)
+
+  pub plan_is : IsPlanned p s.other s.generation s.text planned done
+  plan_is = subst (λ (q : Step). IsPlanned q s.other s.generation s.text planned done) a.is a.kept.plan
 
   -- no batch is on its way
-  pub idle_is : (p : Step) → s.step ≡ p → (IsStill p s.journal.phase → (s.journal.phase ≡ Idle) ⊎ (s.journal.phase ≡ Failed)) → s.journal.phase ≡ Idle
-  idle_is p is from = ⊎_elim (λ idle. idle) (λ no. absurd (alive no)) (from (subst (λ (q : Step). IsStill q s.journal.phase) is kept.still))
+  idle_is : (IsStill p s.journal.phase → (s.journal.phase ≡ Idle) ⊎ (s.journal.phase ≡ Failed)) → s.journal.phase ≡ Idle
+  idle_is from = ⊎_elim (λ idle. idle) (λ no. absurd (a.alive no)) (from (subst (λ (q : Step). IsStill q s.journal.phase) a.is a.kept.still))
 
-  pub goes_on : j.phase ≢ Failed → has_begun j.phase j.begun ≡ j.begun → (step : Step) (to left : ℕ) → IsStill step j.phase → IsPlanned step s.other s.generation s.text planned to
-      → (honest j.disk → IsBeside step s.other.start s.generation may_open planned to (unsynced j.disk) (bytes j.disk)) → IsKept honest bytes unsynced (record s { journal = j; step = step; left = left }) may_open planned to
-  goes_on fine told step to left still plan beside = record {
-    apart = rw same.1 kept.apart;
-    wide = kept.wide;
-    wide_too = rw same.1 kept.wide_too;
-    front = rw same.2 kept.front;
-    small = kept.small;
-    told = told;
-    plan = plan;
-    still = still;
-    live = λ h alive. beside h;
-    failed = λ h is. absurd (fine is);
-  }
+  pub not_open : (p ≡ Open → ⊥) → s.step ≡ Open → ⊥
+  not_open never is = never (sym a.is ∙ is)
 
-  told_on : j.phase ≡ s.journal.phase → j.begun ≡ s.journal.begun → has_begun j.phase j.begun ≡ j.begun
-  told_on phase begun = rw (phase, begun) kept.told
+  pub front_of : (c : List ℕ) → CrashStates s.journal c → Holds c s.journal.slot.start s.journal.front
+  front_of c x = claims_front s.journal.phase s.journal.begun s.journal.slot s.journal.front s.journal.sealed s.journal.staged c x
 
-  pub told_broken : j.phase ≡ Failed → has_begun j.phase j.begun ≡ j.begun
-  told_broken phase = rw phase refl
-
-  pub went : j.phase ≡ s.journal.phase → j.begun ≡ s.journal.begun → (step : Step) (to left : ℕ) → (j.phase ≡ s.journal.phase → IsStill step j.phase) → IsPlanned step s.other s.generation s.text planned to
-      → (honest j.disk → IsBeside step s.other.start s.generation may_open planned to (unsynced j.disk) (bytes j.disk)) → IsKept honest bytes unsynced (record s { journal = j; step = step; left = left }) may_open planned to
-  went phase begun step to left still plan beside = goes_on (λ is. alive (sym phase ∙ is)) (told_on phase begun) step to left (still phase) plan beside
-
-  pub broke : (j.sealed ≡ s.journal.sealed) × (j.staged ≡ s.journal.staged) → j.begun ≡ s.journal.begun → j.phase ≡ Failed → (honest j.disk → honest s.journal.disk) → (p : Step) → s.step ≡ p → (honest s.journal.disk → LeavesOnly moment crash_states_since s.journal.disk j.disk (Leaves p s))
-      → IsKept honest bytes unsynced (record s { journal = j }) may_open planned done
-  broke bodies begun phase back p is leaves = record {
-    apart = rw same.1 kept.apart;
-    wide = kept.wide;
-    wide_too = rw same.1 kept.wide_too;
-    front = rw same.2 kept.front;
-    small = kept.small;
-    told = told_broken phase;
-    plan = kept.plan;
-    still = still_broken s.step phase;
-    live = λ h no. absurd (no phase);
-    failed = λ h no c o. let l = leaves (back h) in subst (λ (q : Step). Leaves q (record s { journal = j }) c) (sym is) (leaves_broken s j same bodies kept.told begun phase c p (l.each c (counts_now j.disk (moment s.journal.disk) c h l.later o)));
-  }
-
-  pub broke_at : (j.sealed ≡ s.journal.sealed) × (j.staged ≡ s.journal.staged) → j.begun ≡ s.journal.begun → j.phase ≡ Failed → (honest j.disk → honest s.journal.disk) → (p : Step) → s.step ≡ p → (honest s.journal.disk → LeavesOnly moment crash_states_since s.journal.disk j.disk (Leaves p s))
-      → IsKept honest bytes unsynced (record s { journal = j; step = p }) may_open planned done
-  broke_at bodies begun phase back p is leaves = subst (λ (q : Step). IsKept honest bytes unsynced (record s { journal = j; step = q }) may_open planned done) is (broke bodies begun phase back p is leaves)
-
-  -- ---- what is left at each moment
-  abbrev Says : List ℕ → Type 0
-  Says c = CrashStates s.journal c
-
-  abbrev pub Leave : (List ℕ → Type 0) → Type 0
-  Leave P = LeavesOnly moment crash_states_since s.journal.disk j.disk P
-
-  front_of : (c : List ℕ) → Says c → Holds c s.journal.slot.start s.journal.front
-  front_of c p = claims_front s.journal.phase s.journal.begun s.journal.slot s.journal.front s.journal.sealed s.journal.staged c p
-
-  abbrev pub Frame : (ℕ → ℕ → Type 0) → Type 0
-  Frame Out = KeepsFirm moment crash_states_since unsynced s.journal.disk j.disk Out
-
-  module _ (Out : ℕ → ℕ → Type 0) (says : Leave Says) (frame : Frame Out) where
-    -- the other's gate is closed all the time
-    pub shut_leaves : Out s.other.start 1 → IsShut s.other.start (unsynced s.journal.disk) → Leave (Keeps s) × IsShut s.other.start (unsynced j.disk)
-    shut_leaves out x =
-        let Gate : List ℕ → Type 0 = λ c. Holds c s.other.start (x.gate ∷ []) in let f = frame s.other.start (x.gate ∷ []) out x.firm in (
-          leaves_map moment crash_states_since s.journal.disk j.disk (λ c. Says c × Gate c) (Keeps s) (λ c p. (rules_shut s.journal.slot.start s.generation s.journal.front c kept.front (front_of c p.0) s.other.start x.gate x.shut p.1, p.0))
-              (leaves_both moment crash_states_since s.journal.disk j.disk Says Gate says f.1),
-          record { gate = x.gate; shut = x.shut; firm = f.0 },
-        )
-
-    -- or its generation stands there
-    pub older_leaves : Out (s.other.start + 1) 8 → IsOlder s.other.start s.generation (unsynced s.journal.disk) → Leave (Keeps s) × IsOlder s.other.start s.generation (unsynced j.disk)
-    older_leaves out x =
-        let Text : List ℕ → Type 0 = λ c. Holds c (s.other.start + 1) (to_be_bytes w64 x.its) in let f = frame (s.other.start + 1) (to_be_bytes w64 x.its) out x.firm in (
-          leaves_map moment crash_states_since s.journal.disk j.disk (λ c. Says c × Text c) (Keeps s) (λ c p. (rules_older s.journal.slot.start s.generation s.journal.front c kept.front (front_of c p.0) s.other.start x.its kept.small x.small x.less p.1, p.0))
-              (leaves_both moment crash_states_since s.journal.disk j.disk Says Text says f.1),
-          record { its = x.its; small = x.small; less = x.less; firm = f.0 },
-        )
-
-    -- all behind the gate stands there all the time, and no batch is on its way
-    pub open_leaves : s.journal.phase ≡ Idle → IsPlan s.other s.generation s.text planned → Out (s.other.start + 1) (length (drop 1 planned)) → IsSynced (unsynced s.journal.disk) (s.other.start + 1) (drop 1 planned) → Leave (KeepsEither s)
-    open_leaves idle plan out x =
-        let Text : List ℕ → Type 0 = λ c. Holds c (s.other.start + 1) (drop 1 planned) in let f = frame (s.other.start + 1) (drop 1 planned) out x in
-        leaves_map moment crash_states_since s.journal.disk j.disk (λ c. Says c × Text c) (KeepsEither s)
-        (λ c p. either_tells s.other s.generation s.text planned plan s.journal.slot s.journal.front (sealed_text s.journal) c kept.front kept.small (front_of c p.0)
-        (subst (λ (q : Phase). ClaimsAt q s.journal.begun s.journal.slot s.journal.front s.journal.sealed s.journal.staged c) idle p.0) p.1)
-        (leaves_both moment crash_states_since s.journal.disk j.disk Says Text says f.1)
-
-  -- ---- the state before
-  pub beside_is : (p : Step) → s.step ≡ p → honest s.journal.disk → IsBeside p s.other.start s.generation may_open planned done (unsynced s.journal.disk) (bytes s.journal.disk)
-  beside_is p is h = subst (λ (q : Step). IsBeside q s.other.start s.generation may_open planned done (unsynced s.journal.disk) (bytes s.journal.disk)) is (kept.live h alive)
-
-  pub plan_is : (p : Step) → s.step ≡ p → IsPlanned p s.other s.generation s.text planned done
-  plan_is p is = subst (λ (q : Step). IsPlanned q s.other s.generation s.text planned done) is kept.plan
-
-  abbrev pub Always : ℕ → ℕ → Type 0
-  Always at n = Unit {0}
-
-  -- ---- what a sync leaves, and makes sure of
-  module _ (says : honest s.journal.disk → Leave Says) (frame : honest s.journal.disk → Frame Always) where
-    pub shutting_leaves : s.step ≡ SyncClose → honest s.journal.disk → Leave (Keeps s)
-    shutting_leaves is h = ⊎_elim (λ shut. (shut_leaves Always (says h) (frame h) tt shut).0) (λ older. (older_leaves Always (says h) (frame h) tt older.0).0) (beside_is SyncClose is h)
-
-    pub body_leaves : s.step ≡ SyncBody → honest s.journal.disk → Leave (Keeps s)
-    body_leaves is h = (shut_leaves Always (says h) (frame h) tt (beside_is SyncBody is h).0).0
-
-    pub opened_leaves : s.step ≡ SyncOpen → honest s.journal.disk → Leave (KeepsEither s)
-    opened_leaves is h = open_leaves Always (says h) (frame h) (idle_is SyncOpen is (λ x. x)) (plan_is SyncOpen is) tt (beside_is SyncOpen is h).0
-
-    module _ (present : (d : D) → honest d → IsOutcome (unsynced d) (bytes d)) (back : honest j.disk → honest s.journal.disk) (durable : honest s.journal.disk → (bytes j.disk ≡ bytes s.journal.disk) × (unsynced j.disk ≡ all_synced (bytes s.journal.disk))) (phase : j.phase ≡ s.journal.phase) (begun : j.begun ≡ s.journal.begun) where
-      sure : honest s.journal.disk → (at : ℕ) (text : List ℕ) → Holds (bytes s.journal.disk) at text → IsSynced (unsynced j.disk) at text
-      sure h at text there = subst (λ (u : PendingState). IsSynced u at text) (sym (durable h).1) (firm_settled (bytes s.journal.disk) at text there)
-
-      pub close_synced : s.step ≡ SyncClose → IsKept honest bytes unsynced (record s { journal = j; step = Part }) may_open planned done
-      close_synced is = let planned_is = plan_is SyncClose is in let plan = planned_is.0 in let one = planned_is.1 in let l = plan_long s.other s.generation s.text planned plan in
-          went phase begun Part done s.left (λ _. tt) (plan, record { some = omega (arith, one); part = (let a = l.0 in let b = l.1 in omega (arith, a, b, one)) }) (λ h.
-          let h0 = back h in
-          let shut : IsShut s.other.start (unsynced j.disk) = ⊎_elim (λ x. (shut_leaves Always (says h0) (frame h0) tt x).1) (λ x. record { gate = 0; shut = λ e. omega (arith, e); firm = sure h0 s.other.start (0 ∷ []) x.1 }) (beside_is SyncClose is h0) in
-          (shut, subst (λ (k : ℕ). IsCopied s.other.start planned k (bytes j.disk)) (sym one) (copied_none s.other.start planned (bytes j.disk) (unsynced j.disk) shut (present j.disk h))))
-
-      pub body_synced : s.step ≡ SyncBody → IsKept honest bytes unsynced (record s { journal = j; step = Open }) may_open planned done
-      body_synced is = went phase begun Open done s.left (λ e. inl (e ∙ idle_is SyncBody is (λ x. x))) (plan_is SyncBody is) (λ h. let h0 = back h in let x = beside_is SyncBody is h0 in
-          ((shut_leaves Always (says h0) (frame h0) tt x.0).1, sure h0 (s.other.start + 1) (drop 1 planned) x.1))
-
-      -- the new slot is quiet, and the old one older
-      module _ (is : s.step ≡ SyncOpen) where
-        now_open : honest s.journal.disk → Ends s.other.start s.other.stop s.text (bytes s.journal.disk)
-        now_open h = let x = beside_is SyncOpen is h in opened_ends s.other s.generation s.text planned (plan_is SyncOpen is) (bytes s.journal.disk) (byte_held (bytes s.journal.disk) s.other.start OPEN [] x.1)
-            (firm_outcome (unsynced s.journal.disk) (s.other.start + 1) (drop 1 planned) (bytes s.journal.disk) x.0 (present s.journal.disk h))
-
-        pub new_quiet : honest j.disk → EndsClosed s.other.start s.other.stop s.text (unsynced j.disk)
-        new_quiet h = let h0 = back h in let e = now_open h0 in record { gate = e.gate; shut = e.shut; firm = sure h0 s.other.start (s.text ++ e.gate ∷ []) e.holds; within = e.within }
-
-        pub gate_sure : honest j.disk → IsSynced (unsynced j.disk) s.other.start (OPEN ∷ [])
-        gate_sure h = let h0 = back h in sure h0 s.other.start (OPEN ∷ []) (beside_is SyncOpen is h0).1
-
-        old_older : honest j.disk → IsOlder s.journal.slot.start (s.generation + 1) (unsynced j.disk)
-        old_older h =
-            let h0 = back h in let l = says h0 in
-            let p = l.each (bytes j.disk) (counts_now j.disk (moment s.journal.disk) (bytes j.disk) h l.later (present j.disk h)) in
-            let there = (front_generation s.journal.slot.start s.generation s.journal.front (bytes j.disk) kept.front (front_of (bytes j.disk) p) kept.small).text in
-            record { its = s.generation; small = kept.small; less = omega arith; firm = sure h0 (s.journal.slot.start + 1) (to_be_bytes w64 s.generation) (subst (λ (b : List ℕ). Holds b (s.journal.slot.start + 1) (to_be_bytes w64 s.generation)) (durable h0).0 there) }
-
-        pub switched : (k : JournalState D) (other : Slot) → other ≡ s.journal.slot → k.slot ≡ s.other → k.front ≡ s.text → (k.phase ≡ Idle) × (k.begun ≡ false) → k.disk ≡ j.disk
-            → IsKept honest bytes unsynced (record { journal = k; other = other; generation = s.generation + 1; may_open = true; step = Begin; text = s.text; head = s.head; left = s.left; coming = s.coming }) true planned done
-        switched k other other_is slot_is front_is idle disk_is = let plan = plan_is SyncOpen is in record {
-          apart = rw (other_is, slot_is) (⊎_elim (λ before. inr before) (λ behind. inl behind) kept.apart);
-          wide = rw other_is kept.wide_too;
-          wide_too = rw slot_is kept.wide;
-          front = rw front_is (record { rest = plan.rest; front_is = plan.text_is });
-          small = plan.next;
-          told = rw (idle.0, idle.1) refl;
-          plan = tt;
-          still = tt;
-          live = λ h alive. rw (other_is, disk_is) (old_older (subst honest disk_is h));
-          failed = λ h no. absurd (let e : Idle ≡ Failed = sym idle.0 ∙ no in cc e);
-        }
-
-  -- ---- what a write leaves, and does
   pub within_other : (from n : ℕ) → s.other.start ≤ from → from + n ≤ s.other.stop → Outside s.journal.slot from n
-  within_other from n low high = ⊎_elim (λ behind. inr (omega (arith, behind, low))) (λ before. inl (omega (arith, before, high))) kept.apart
+  within_other from n low high = ⊎_elim (λ behind. inr (omega (arith, behind, low))) (λ before. inl (omega (arith, before, high))) a.kept.apart
 
   pub gate_outside : Outside s.journal.slot s.other.start 1
-  gate_outside = let w = kept.wide in within_other s.other.start 1 (omega arith) (omega (arith, w))
+  gate_outside = let w = a.kept.wide in within_other s.other.start 1 (omega arith) (omega (arith, w))
 
-  pub part_outside : (p : Step) → s.step ≡ p → (IsPlanned p s.other s.generation s.text planned done → IsPlan s.other s.generation s.text planned × IsPart planned done) → (to : ℕ) → done ≤ to → to ≤ length planned → Outside s.journal.slot (s.other.start + done) (to - done)
-  part_outside p is part to le within = let q = part (plan_is p is) in let w = plan_within s.other s.generation s.text planned q.0 s.other.start refl in within_other (s.other.start + done) (to - done) (omega arith) (omega (arith, w, le, within))
+  module _ (j : JournalState D) (same : SameSlot s.journal j) where
+    abbrev pub Leave : (List ℕ → Type 0) → Type 0
+    Leave P = LeavesOnly disk.moment disk.crash_states_since s.journal.disk j.disk P
 
-  -- the write of the gate, closed
-  module _ (is : s.step ≡ Close) (may : may_open ≡ true) (says : honest s.journal.disk → Leave Says) (frame : honest s.journal.disk → Frame (Apart s.other.start 1)) where
-    older : honest s.journal.disk → IsOlder s.other.start s.generation (unsynced s.journal.disk)
-    older h = subst (λ (b : Bool). IsBeaten b s.other.start s.generation (unsynced s.journal.disk)) may (beside_is Close is h)
+    abbrev pub Frame : (ℕ → ℕ → Type 0) → Type 0
+    Frame Out = KeepsFirm disk.moment disk.crash_states_since disk.unsynced s.journal.disk j.disk Out
 
-    pub close_leaves : honest s.journal.disk → Leave (Keeps s)
-    close_leaves h = (older_leaves (Apart s.other.start 1) (says h) (frame h) (inl (omega arith)) (older h)).0
+    -- the invariant over what the journal became
+    pub moved : has_begun j.phase j.begun ≡ j.begun → (step : Step) (to left : ℕ) → IsStill step j.phase → IsPlanned step s.other s.generation s.text planned to
+        → (disk.honest j.disk → j.phase ≢ Failed → IsBeside step s.other.start s.generation may_open planned to (disk.unsynced j.disk) (disk.bytes j.disk))
+        → (disk.honest j.disk → j.phase ≡ Failed → (c : List ℕ) → IsOutcome (disk.unsynced j.disk) c → Leaves step (record s { journal = j; step = step; left = left }) c)
+        → Kept disk (record s { journal = j; step = step; left = left }) may_open planned to
+    moved told step to left still plan live failed = record {
+      apart = rw same.1 a.kept.apart;
+      wide = a.kept.wide;
+      wide_too = rw same.1 a.kept.wide_too;
+      front = rw same.2 a.kept.front;
+      small = a.kept.small;
+      told = told;
+      plan = plan;
+      still = still;
+      live = live;
+      failed = failed;
+    }
 
-    pub closed : j.phase ≡ s.journal.phase → j.begun ≡ s.journal.begun → (honest j.disk → honest s.journal.disk) → (honest s.journal.disk → Written (bytes s.journal.disk) s.other.start (0 ∷ []) (bytes j.disk)) → IsKept honest bytes unsynced (record s { journal = j; step = SyncClose }) may_open planned done
-    closed phase begun back written = went phase begun SyncClose done s.left (λ _. tt) (plan_is Close is) (λ h. let h0 = back h in
-        inr ((older_leaves (Apart s.other.start 1) (says h0) (frame h0) (inl (omega arith)) (older h0)).1, holds_written (bytes s.journal.disk) (0 ∷ []) (bytes j.disk) s.other.start (written h0)))
+    -- what is firm stays so where the call doesn't reach it
+    module _ (Out : ℕ → ℕ → Type 0) (frame : Frame Out) where
+      pub shut_on : Out s.other.start 1 → IsShut s.other.start (disk.unsynced s.journal.disk) → IsShut s.other.start (disk.unsynced j.disk)
+      shut_on out x = record { gate = x.gate; shut = x.shut; firm = (frame s.other.start (x.gate ∷ []) out x.firm).0 }
+
+      pub older_on : Out (s.other.start + 1) 8 → IsOlder s.other.start s.generation (disk.unsynced s.journal.disk) → IsOlder s.other.start s.generation (disk.unsynced j.disk)
+      older_on out x = record { its = x.its; small = x.small; less = x.less; firm = (frame (s.other.start + 1) (to_be_bytes w64 x.its) out x.firm).0 }
+
+      -- and so the journal's slot rules at each moment, whatever else is left of it
+      module _ (P : List ℕ → Type 0) (there : (c : List ℕ) → P c → Holds c s.journal.slot.start s.journal.front) (leave : Leave P) where
+        pub shut_rules : Out s.other.start 1 → IsShut s.other.start (disk.unsynced s.journal.disk) → Leave (λ c. Rules s.journal.slot.start s.other.start c × P c)
+        shut_rules out x =
+            let Gate : List ℕ → Type 0 = λ c. Holds c s.other.start (x.gate ∷ []) in
+            leaves_map disk.moment disk.crash_states_since s.journal.disk j.disk (λ c. P c × Gate c) (λ c. Rules s.journal.slot.start s.other.start c × P c) (λ c q. (rules_shut s.journal.slot.start s.generation s.journal.front c a.kept.front (there c q.0) s.other.start x.gate x.shut q.1, q.0))
+            (leaves_both disk.moment disk.crash_states_since s.journal.disk j.disk P Gate leave (frame s.other.start (x.gate ∷ []) out x.firm).1)
+
+        pub older_rules : Out (s.other.start + 1) 8 → IsOlder s.other.start s.generation (disk.unsynced s.journal.disk) → Leave (λ c. Rules s.journal.slot.start s.other.start c × P c)
+        older_rules out x =
+            let Text : List ℕ → Type 0 = λ c. Holds c (s.other.start + 1) (to_be_bytes w64 x.its) in
+            leaves_map disk.moment disk.crash_states_since s.journal.disk j.disk (λ c. P c × Text c) (λ c. Rules s.journal.slot.start s.other.start c × P c) (λ c q. (rules_older s.journal.slot.start s.generation s.journal.front c a.kept.front (there c q.0) s.other.start x.its a.kept.small x.small x.less q.1, q.0))
+            (leaves_both disk.moment disk.crash_states_since s.journal.disk j.disk P Text leave (frame (s.other.start + 1) (to_be_bytes w64 x.its) out x.firm).1)
+
+-- ---- a call beside a compaction
+-- what the journal's call keeps of it, and how it ended
+pub record Called {D S : Type 0} (disk : Ghosts D) (s : SlotsState D) (may_open : Bool) (planned : List ℕ) (done : ℕ) (p : Step) (j : JournalState D) (Out : ℕ → ℕ → Type 0) (result : Result S DiskFault) : Type 0 where
+  pub at : AtStep disk s may_open planned done p
+  pub kept : KeepsAround disk s.journal j (CrashStates s.journal) Out result
+  pub bodies : (j.sealed ≡ s.journal.sealed) × (j.staged ≡ s.journal.staged)
+  pub phase : OnOk result (j.phase ≡ s.journal.phase) × OnErr result (j.phase ≡ Failed)
+  pub begun : j.begun ≡ s.journal.begun
+
+-- what a crash leaves at each moment of it, and that text outside both slots stays firm
+pub record Moves {D : Type 0} (disk : Ghosts D) (s : SlotsState D) (j : JournalState D) (P : List ℕ → Type 0) : Type 0 where
+  pub leaves : disk.honest s.journal.disk → LeavesOnly disk.moment disk.crash_states_since s.journal.disk j.disk P
+  pub frame : KeepsSynced disk s.journal.disk j.disk (OutsideBoth s)
+
+abbrev pub Always : ℕ → ℕ → Type 0
+Always at n = Unit {0}
+
+-- where no call is made
+pub still : {D : Type 0} {disk : Ghosts D} {s : SlotsState D} {may_open : Bool} {planned : List ℕ} {done : ℕ} {p : Step} → AtStep disk s may_open planned done p → ((d : D) (c : List ℕ) → disk.honest d → disk.crash_states_since d (disk.moment d) c → IsOutcome (disk.unsynced d) c) → EachCrash disk s.journal.disk (CrashStates s.journal) → Called {S = ℕ} disk s may_open planned done p s.journal Always (Ok 0)
+still {disk = disk} {s = s} at only_now now = record {
+  at = at;
+  kept = record {
+    same = same_slot s.journal;
+    any_moment = λ h. leaves_still disk.moment disk.crash_states_since s.journal.disk (CrashStates s.journal) (λ c left. now h c (only_now s.journal.disk c h left));
+    apart = λ h at t out firm. (firm, leaves_still disk.moment disk.crash_states_since s.journal.disk (λ c. Holds c at t) (λ c left. firm_outcome (disk.unsynced s.journal.disk) at t c firm (only_now s.journal.disk c h left)));
+    beside = λ h at t out there. there;
+    honest = (λ h. h, λ h. h);
+    cause = answers_still;
+  };
+  bodies = (refl, refl);
+  phase = (refl, tt);
+  begun = refl;
+}
+
+module _ {D S : Type 0} {disk : Ghosts D} {s : SlotsState D} {may_open : Bool} {planned : List ℕ} {done : ℕ} {p : Step} where
+  pub called : AtStep disk s may_open planned done p → {j : JournalState D} {Out : ℕ → ℕ → Type 0} {r : Result S DiskFault} → KeepsAround disk s.journal j (CrashStates s.journal) Out r → (j.sealed ≡ s.journal.sealed) × (j.staged ≡ s.journal.staged)
+      → OnOk r (j.phase ≡ s.journal.phase) × OnErr r (j.phase ≡ Failed) → j.begun ≡ s.journal.begun → Called disk s may_open planned done p j Out r
+  called at kept bodies phase begun = record { at = at; kept = kept; bodies = bodies; phase = phase; begun = begun }
+
+  -- one that reaches the gate at this place alone
+  pub opening_call : AtStep disk s may_open planned done p → (at : ℕ) → at ≡ s.other.start → {j : JournalState D} {r : Result S DiskFault} → KeepsAround disk s.journal j (CrashStates s.journal) (Apart at 1) r → (j.sealed ≡ s.journal.sealed) × (j.staged ≡ s.journal.staged)
+      → OnOk r (j.phase ≡ s.journal.phase) × OnErr r (j.phase ≡ Failed) → j.begun ≡ s.journal.begun → Called disk s may_open planned done p j (Apart s.other.start 1) r
+  opening_call a at is {j} {r} kept bodies phase begun = called a (subst (λ (k : ℕ). KeepsAround disk s.journal j (CrashStates s.journal) (Apart k 1) r) is kept) bodies phase begun
+
+  module _ {j : JournalState D} {Out : ℕ → ℕ → Type 0} where
+    -- one that failed
+    module _ {e : DiskFault} (t : Called {S = S} disk s may_open planned done p j Out (Err e)) where
+      pub broke : Moves disk s j (Leaves p s) → Kept disk (record s { journal = j }) may_open planned done
+      broke m = moved t.at j t.kept.same (let failed = t.phase.1 in rw failed refl) s.step done s.left (by_step (λ q. IsStill q j.phase) tt tt tt tt tt (inr t.phase.1) (inr t.phase.1) (inr t.phase.1) s.step) t.at.kept.plan (λ h no. absurd (no t.phase.1))
+          (λ h no c o. let l = m.leaves (t.kept.honest.1 h) in subst (λ (q : Step). Leaves q (record s { journal = j }) c) (sym t.at.is)
+          (leaves_broken s j t.kept.same t.bodies t.at.kept.told t.begun t.phase.1 c p (l.each c (t.at.counts_now j.disk (disk.moment s.journal.disk) c h l.later o))))
+
+      pub broke_at : Moves disk s j (Leaves p s) → Kept disk (record s { journal = j; step = p }) may_open planned done
+      broke_at m = subst (λ (q : Step). Kept disk (record s { journal = j; step = q }) may_open planned done) t.at.is (broke m)
+
+      pub kept_err : {T : Type 0} {f : DiskFault} {P : List ℕ → Type 0} {step : Step} → Moves disk s j P → KeepsSlots {T = T} disk s (record s { journal = j; step = step }) P (Err f)
+      kept_err m = record { same = (t.kept.same, t.bodies.0, t.bodies.1, refl, refl, refl, refl, refl, refl, t.begun); phase = (tt, t.phase.1); any_moment = m.leaves; apart = m.frame; honest = t.kept.honest; cause = answers_err t.kept.cause }
+
+    -- one that succeeded
+    module _ {x : S} (t : Called {S = S} disk s may_open planned done p j Out (Ok x)) where
+      went : (step : Step) (to left : ℕ) → (j.phase ≡ s.journal.phase → IsStill step j.phase) → IsPlanned step s.other s.generation s.text planned to
+          → (disk.honest j.disk → IsBeside step s.other.start s.generation may_open planned to (disk.unsynced j.disk) (disk.bytes j.disk)) → Kept disk (record s { journal = j; step = step; left = left }) may_open planned to
+      went step to left fits plan beside = moved t.at j t.kept.same (let ok = t.phase.0 in let begun = t.begun in rw (ok, begun) t.at.kept.told) step to left (fits t.phase.0) plan (λ h _. beside h) (λ h is. absurd (t.at.alive (sym t.phase.0 ∙ is)))
+
+      pub kept_ok : {T : Type 0} {y : T} {P : List ℕ → Type 0} {step : Step} {left : ℕ} → Moves disk s j P → KeepsSlots {T = T} disk s (record s { journal = j; step = step; left = left }) P (Ok y)
+      kept_ok m = record { same = (t.kept.same, t.bodies.0, t.bodies.1, refl, refl, refl, refl, refl, refl, t.begun); phase = (t.phase.0, tt); any_moment = m.leaves; apart = m.frame; honest = t.kept.honest; cause = answers_ok t.kept.cause }
+
+-- ---- what each step leaves at each moment
+module _ {D S : Type 0} {disk : Ghosts D} {s : SlotsState D} {may_open : Bool} {planned : List ℕ} {done : ℕ} {j : JournalState D} {r : Result S DiskFault} where
+  -- the other's gate is closed all the time, or its generation stands there
+  module _ {p : Step} {Out : ℕ → ℕ → Type 0} (t : Called disk s may_open planned done p j Out r) where
+    shut_leaves : Out s.other.start 1 → (disk.honest s.journal.disk → IsShut s.other.start (disk.unsynced s.journal.disk)) → disk.honest s.journal.disk → Leave t.at j t.kept.same (Keeps s)
+    shut_leaves out x h = shut_rules t.at j t.kept.same Out (t.kept.apart h) (CrashStates s.journal) (front_of t.at) (t.kept.any_moment h) out (x h)
+
+    older_leaves : Out (s.other.start + 1) 8 → (disk.honest s.journal.disk → IsOlder s.other.start s.generation (disk.unsynced s.journal.disk)) → disk.honest s.journal.disk → Leave t.at j t.kept.same (Keeps s)
+    older_leaves out x h = older_rules t.at j t.kept.same Out (t.kept.apart h) (CrashStates s.journal) (front_of t.at) (t.kept.any_moment h) out (x h)
+
+    -- all behind the gate stands there all the time, and no batch is on its way
+    open_leaves : s.journal.phase ≡ Idle → IsPlan s.other s.generation s.text planned → Out (s.other.start + 1) (length (drop 1 planned)) → (disk.honest s.journal.disk → IsSynced (disk.unsynced s.journal.disk) (s.other.start + 1) (drop 1 planned)) → disk.honest s.journal.disk → Leave t.at j t.kept.same (KeepsEither s)
+    open_leaves idle plan out x h =
+        let Text : List ℕ → Type 0 = λ c. Holds c (s.other.start + 1) (drop 1 planned) in let f = t.kept.apart h (s.other.start + 1) (drop 1 planned) out (x h) in
+        leaves_map disk.moment disk.crash_states_since s.journal.disk j.disk (λ c. CrashStates s.journal c × Text c) (KeepsEither s)
+        (λ c q. either_tells s.other s.generation s.text planned plan s.journal.slot s.journal.front (sealed_text s.journal) c t.at.kept.front t.at.kept.small (front_of t.at c q.0)
+        (subst (λ (w : Phase). ClaimsAt w s.journal.begun s.journal.slot s.journal.front s.journal.sealed s.journal.staged c) idle q.0) q.1)
+        (leaves_both disk.moment disk.crash_states_since s.journal.disk j.disk (CrashStates s.journal) Text (t.kept.any_moment h) f.1)
+
+  -- a sync
+  sync_frame : {p : Step} → Called disk s may_open planned done p j Always r → KeepsSynced disk s.journal.disk j.disk (OutsideBoth s)
+  sync_frame t h at text out firm = t.kept.apart h at text tt firm
+
+  pub shutting : Called disk s may_open planned done SyncClose j Always r → Moves disk s j (Keeps s)
+  shutting t = record { leaves = λ h. ⊎_elim (λ shut. shut_leaves t tt (λ _. shut) h) (λ older. older_leaves t tt (λ _. older.0) h) (beside_is t.at h); frame = sync_frame t }
+
+  pub filled : Called disk s may_open planned done SyncBody j Always r → Moves disk s j (Keeps s)
+  filled t = record { leaves = shut_leaves t tt (λ h. (beside_is t.at h).0); frame = sync_frame t }
+
+  pub switching : Called disk s may_open planned done SyncOpen j Always r → Moves disk s j (KeepsEither s)
+  switching t = record { leaves = open_leaves t (idle_is t.at (λ x. x)) (plan_is t.at) tt (λ h. (beside_is t.at h).0); frame = sync_frame t }
+
+  -- the write of the gate, closed or open
+  gate_frame : {p : Step} → Called disk s may_open planned done p j (Apart s.other.start 1) r → KeepsSynced disk s.journal.disk j.disk (OutsideBoth s)
+  gate_frame t h at text out firm = let w = t.at.kept.wide in t.kept.apart h at text (⊎_elim (λ before. inr (omega (arith, before))) (λ behind. inl (omega (arith, behind, w))) out.1) firm
+
+  older : {Out : ℕ → ℕ → Type 0} → Called disk s may_open planned done Close j Out r → may_open ≡ true → disk.honest s.journal.disk → IsOlder s.other.start s.generation (disk.unsynced s.journal.disk)
+  older t may h = subst (λ (b : Bool). IsBeaten b s.other.start s.generation (disk.unsynced s.journal.disk)) may (beside_is t.at h)
+
+  pub closing : Called disk s may_open planned done Close j (Apart s.other.start 1) r → may_open ≡ true → Moves disk s j (Keeps s)
+  closing t may = record { leaves = older_leaves t (inl (omega arith)) (older t may); frame = gate_frame t }
+
+  pub opening : Called disk s may_open planned done Open j (Apart s.other.start 1) r → Moves disk s j (KeepsEither s)
+  opening t = record { leaves = open_leaves t (idle_is t.at (λ x. x)) (plan_is t.at) (inl (omega arith)) (λ h. (beside_is t.at h).1); frame = gate_frame t }
 
   -- a gate that is closed already, where nothing is done
-  pub still_shut : s.step ≡ Close → may_open ≡ false → honest s.journal.disk → IsShut s.other.start (unsynced s.journal.disk)
-  still_shut is not h = subst (λ (b : Bool). IsBeaten b s.other.start s.generation (unsynced s.journal.disk)) not (beside_is Close is h)
+  still_shut : {Out : ℕ → ℕ → Type 0} → Called disk s may_open planned done Close j Out r → may_open ≡ false → disk.honest s.journal.disk → IsShut s.other.start (disk.unsynced s.journal.disk)
+  still_shut t not h = subst (λ (b : Bool). IsBeaten b s.other.start s.generation (disk.unsynced s.journal.disk)) not (beside_is t.at h)
 
-  pub still_closed : s.step ≡ Close → may_open ≡ false → j ≡ s.journal → IsKept honest bytes unsynced (record s { step = SyncClose }) may_open planned done
-  still_closed is not at = subst (λ (k : JournalState D). IsKept honest bytes unsynced (record s { journal = k; step = SyncClose }) may_open planned done) at (went (ap (λ (k : JournalState D). k.phase) at) (ap (λ (k : JournalState D). k.begun) at) SyncClose done s.left (λ _. tt) (plan_is Close is) (λ h. inl (subst (λ (k : JournalState D). IsShut s.other.start (unsynced k.disk)) (sym at) (still_shut is not (subst (λ (k : JournalState D). honest k.disk) at h)))))
+  pub resting : Called disk s may_open planned done Close j Always r → may_open ≡ false → Moves disk s j (Keeps s)
+  resting t not = record { leaves = shut_leaves t tt (still_shut t not); frame = sync_frame t }
 
-  pub still_leaves : ((d : D) (c : List ℕ) → honest d → crash_states_since d (moment d) c → IsOutcome (unsynced d) c) → ((c : List ℕ) → honest s.journal.disk → IsOutcome (unsynced s.journal.disk) c → Says c) → honest s.journal.disk
-      → IsShut s.other.start (unsynced s.journal.disk) → LeavesOnly moment crash_states_since s.journal.disk s.journal.disk (Keeps s)
-  still_leaves only_now now h x = leaves_still moment crash_states_since s.journal.disk (Keeps s) (λ c left. let o = only_now s.journal.disk c h left in let p = now c h o in
-      (rules_shut s.journal.slot.start s.generation s.journal.front c kept.front (front_of c p) s.other.start x.gate x.shut (firm_outcome (unsynced s.journal.disk) s.other.start (x.gate ∷ []) c x.firm o), p))
-
-  -- text outside of both slots
-  pub gate_frame : Frame (Apart s.other.start 1) → Frame (OutsideBoth s)
-  gate_frame f = let w = kept.wide in λ at t out firm. f at t (⊎_elim (λ before. inr (omega (arith, before))) (λ behind. inl (omega (arith, behind, w))) out.1) firm
-
-  pub part_frame : (from n : ℕ) → s.other.start ≤ from → from + n ≤ s.other.stop → Frame (Apart from n) → Frame (OutsideBoth s)
-  part_frame from n low high f = λ at t out firm. f at t (⊎_elim (λ before. inr (omega (arith, before, low))) (λ behind. inl (omega (arith, behind, high))) out.1) firm
-
-  pub sync_frame : Frame Always → Frame (OutsideBoth s)
-  sync_frame f = λ at t out firm. f at t tt firm
-
-  pub still_frame : ((at : ℕ) (text c : List ℕ) → IsSynced (unsynced s.journal.disk) at text → honest s.journal.disk → crash_states_since s.journal.disk (moment s.journal.disk) c → Holds c at text) → honest s.journal.disk → KeepsFirm moment crash_states_since unsynced s.journal.disk s.journal.disk (OutsideBoth s)
-  still_frame now h = λ at t out firm. (firm, leaves_still moment crash_states_since s.journal.disk (λ c. Holds c at t) (λ c left. now at t c firm h left))
-
-  -- a part
-  module _ (p : Step) (is : s.step ≡ p) (part : IsPlanned p s.other s.generation s.text planned done → IsPlan s.other s.generation s.text planned × IsPart planned done)
-      (at : honest s.journal.disk → IsShut s.other.start (unsynced s.journal.disk) × IsCopied s.other.start planned done (bytes s.journal.disk))
-      (to : ℕ) (le : done ≤ to) (within : to ≤ length planned) (n : ℕ) (says : honest s.journal.disk → Leave Says) (frame : honest s.journal.disk → Frame (Apart (s.other.start + done) n)) where
+  -- ---- a part, or the last one
+  module _ {p : Step} (n : ℕ) (t : Called disk s may_open planned done p j (Apart (s.other.start + done) n) r) (plan : IsPlan s.other s.generation s.text planned × IsPart planned done)
+      (now : disk.honest s.journal.disk → IsShut s.other.start (disk.unsynced s.journal.disk) × IsCopied s.other.start planned done (disk.bytes s.journal.disk)) where
     apart_gate : Apart (s.other.start + done) n s.other.start 1
-    apart_gate = let some = (part (plan_is p is)).1.some in inr (omega (arith, some))
+    apart_gate = let some = plan.1.some in inr (omega (arith, some))
 
-    pub part_leaves : honest s.journal.disk → Leave (Keeps s)
-    part_leaves h = (shut_leaves (Apart (s.other.start + done) n) (says h) (frame h) apart_gate (at h).0).0
+    part : n + done ≤ length planned → Moves disk s j (Keeps s)
+    part within = let w = plan_within s.other s.generation s.text planned plan.0 s.other.start refl in record {
+      leaves = shut_leaves t apart_gate (λ h. (now h).0);
+      frame = λ h at text out firm. t.kept.apart h at text (⊎_elim (λ before. inr (omega (arith, before))) (λ behind. inl (omega (arith, behind, within, w))) out.1) firm;
+    }
 
-    pub part_written : (honest s.journal.disk → Written (bytes s.journal.disk) (s.other.start + done) (slice_range planned done to) (bytes j.disk)) → honest s.journal.disk → IsShut s.other.start (unsynced j.disk) × IsCopied s.other.start planned to (bytes j.disk)
-    part_written written h = ((shut_leaves (Apart (s.other.start + done) n) (says h) (frame h) apart_gate (at h).0).1, copied_more s.other.start planned (bytes s.journal.disk) (bytes j.disk) done to le within (at h).1 (written h))
+    part_done : (to : ℕ) → done ≤ to → to ≤ length planned → (disk.honest s.journal.disk → Written (disk.bytes s.journal.disk) (s.other.start + done) (slice_range planned done to) (disk.bytes j.disk)) → disk.honest j.disk → IsShut s.other.start (disk.unsynced j.disk) × IsCopied s.other.start planned to (disk.bytes j.disk)
+    part_done to le within written h1 = let h = t.kept.honest.1 h1 in (shut_on t.at j t.kept.same (Apart (s.other.start + done) n) (t.kept.apart h) apart_gate (now h).0, copied_more s.other.start planned (disk.bytes s.journal.disk) (disk.bytes j.disk) done to le within (now h).1 (written h))
 
-  -- the next part, and the last one
-  part_of : IsPlan s.other s.generation s.text planned × IsPart planned done → IsPlan s.other s.generation s.text planned × IsPart planned done
-  part_of x = x
+  pub next_part : (n : ℕ) → Called disk s may_open planned done Part j (Apart (s.other.start + done) n) r → n + done ≤ length planned → Moves disk s j (Keeps s)
+  next_part n t = part n t (plan_is t.at) (beside_is t.at)
 
-  module _ (to n : ℕ) (le : done ≤ to) (within : to ≤ length planned) (says : honest s.journal.disk → Leave Says) (frame : honest s.journal.disk → Frame (Apart (s.other.start + done) n)) where
-    module _ (is : s.step ≡ Part) where
-      pub next_leaves : honest s.journal.disk → Leave (Keeps s)
-      next_leaves = part_leaves Part is part_of (beside_is Part is) to le within n says frame
+  pub tail : (n : ℕ) → Called disk s may_open planned done Tail j (Apart (s.other.start + done) n) r → n + done ≤ length planned → Moves disk s j (Keeps s)
+  tail n t = part n t (plan_is t.at) (beside_is t.at)
 
-      pub next_written : (step : Step) (left : ℕ) → (step ≡ Part) ⊎ (step ≡ Tail) → to < length planned → j.phase ≡ s.journal.phase → j.begun ≡ s.journal.begun → (honest j.disk → honest s.journal.disk)
-          → (honest s.journal.disk → Written (bytes s.journal.disk) (s.other.start + done) (slice_range planned done to) (bytes j.disk)) → IsKept honest bytes unsynced (record s { journal = j; step = step; left = left }) may_open planned to
-      next_written step left either short phase begun back written =
-          let plan = plan_is Part is in let some = plan.1.some in let part : IsPart planned to = record { some = omega (arith, some, le); part = short } in
-          let at : honest j.disk → IsShut s.other.start (unsynced j.disk) × IsCopied s.other.start planned to (bytes j.disk) = λ h. part_written Part is part_of (beside_is Part is) to le within n says frame written (back h) in
-          ⊎_elim (λ e. subst (λ (q : Step). IsKept honest bytes unsynced (record s { journal = j; step = q; left = left }) may_open planned to) (sym e) (went phase begun Part to left (λ _. tt) (plan.0, part) at))
-          (λ e. subst (λ (q : Step). IsKept honest bytes unsynced (record s { journal = j; step = q; left = left }) may_open planned to) (sym e) (went phase begun Tail to left (λ _. tt) (plan.0, part) at)) either
+pub part_outside : {D : Type 0} {disk : Ghosts D} {s : SlotsState D} {may_open : Bool} {planned : List ℕ} {done : ℕ} {p : Step} → AtStep disk s may_open planned done p → IsPlan s.other s.generation s.text planned → (n : ℕ) → n + done ≤ length planned → Outside s.journal.slot (s.other.start + done) n
+part_outside {s = s} {planned = planned} {done = done} a plan n within = let w = plan_within s.other s.generation s.text planned plan s.other.start refl in within_other a (s.other.start + done) n (omega arith) (omega (arith, w, within))
 
-    module _ (is : s.step ≡ Tail) where
-      pub tail_leaves : honest s.journal.disk → Leave (Keeps s)
-      tail_leaves = part_leaves Tail is part_of (beside_is Tail is) to le within n says frame
+-- ---- the invariant after each step
+module _ {D S : Type 0} {disk : Ghosts D} {s : SlotsState D} {may_open : Bool} {planned : List ℕ} {done : ℕ} {j : JournalState D} {x : S} where
+  pub closed : (t : Called disk s may_open planned done Close j (Apart s.other.start 1) (Ok x)) → may_open ≡ true → (disk.honest s.journal.disk → Written (disk.bytes s.journal.disk) s.other.start (0 ∷ []) (disk.bytes j.disk)) → Kept disk (record s { journal = j; step = SyncClose }) may_open planned done
+  closed t may written = went t SyncClose done s.left (λ _. tt) (plan_is t.at) (λ h1. let h = t.kept.honest.1 h1 in
+      inr (older_on t.at j t.kept.same (Apart s.other.start 1) (t.kept.apart h) (inl (omega arith)) (older t may h), holds_written (disk.bytes s.journal.disk) (0 ∷ []) (disk.bytes j.disk) s.other.start (written h)))
 
-      pub tail_written : to ≡ length planned → s.journal.phase ≡ Idle → j.phase ≡ s.journal.phase → j.begun ≡ s.journal.begun → (honest j.disk → honest s.journal.disk)
-          → (honest s.journal.disk → Written (bytes s.journal.disk) (s.other.start + done) (slice_range planned done to) (bytes j.disk)) → IsKept honest bytes unsynced (record s { journal = j; step = SyncBody }) may_open planned done
-      tail_written all idle phase begun back written =
-          let plan = plan_is Tail is in let part = plan.1.part in went phase begun SyncBody done s.left (λ e. inl (e ∙ idle)) plan.0 (λ h.
-          let x = part_written Tail is part_of (beside_is Tail is) to le within n says frame written (back h) in
-          (x.0, copied_all s.other.start planned (bytes j.disk) (omega (arith, part)) (subst (λ (k : ℕ). IsCopied s.other.start planned k (bytes j.disk)) all x.1)))
+  pub rested : (t : Called disk s may_open planned done Close j Always (Ok x)) → may_open ≡ false → Kept disk (record s { journal = j; step = SyncClose }) may_open planned done
+  rested t not = went t SyncClose done s.left (λ _. tt) (plan_is t.at) (λ h1. let h = t.kept.honest.1 h1 in inl (shut_on t.at j t.kept.same Always (t.kept.apart h) tt (still_shut t not h)))
 
   -- the write of the gate, open
-  module _ (is : s.step ≡ Open) (says : honest s.journal.disk → Leave Says) (frame : honest s.journal.disk → Frame (Apart s.other.start 1)) where
-    idle : s.journal.phase ≡ Idle
-    idle = idle_is Open is (λ x. x)
+  pub opened : (t : Called disk s may_open planned done Open j (Apart s.other.start 1) (Ok x)) → (disk.honest s.journal.disk → Written (disk.bytes s.journal.disk) s.other.start (OPEN ∷ []) (disk.bytes j.disk)) → Kept disk (record s { journal = j; step = SyncOpen }) may_open planned done
+  opened t written = went t SyncOpen done s.left (λ e. inl (e ∙ idle_is t.at (λ x. x))) (plan_is t.at) (λ h1. let h = t.kept.honest.1 h1 in
+      ((t.kept.apart h (s.other.start + 1) (drop 1 planned) (inl (omega arith)) (beside_is t.at h).1).0, holds_written (disk.bytes s.journal.disk) (OPEN ∷ []) (disk.bytes j.disk) s.other.start (written h)))
 
-    pub opening_leaves : honest s.journal.disk → Leave (KeepsEither s)
-    opening_leaves h = open_leaves (Apart s.other.start 1) (says h) (frame h) idle (plan_is Open is) (inl (omega arith)) (beside_is Open is h).1
+  -- a part, and the last one
+  module _ (n to : ℕ) (le : done ≤ to) (within : to ≤ length planned) (written : disk.honest s.journal.disk → Written (disk.bytes s.journal.disk) (s.other.start + done) (slice_range planned done to) (disk.bytes j.disk)) where
+    pub next_written : Called disk s may_open planned done Part j (Apart (s.other.start + done) n) (Ok x) → (step : Step) (left : ℕ) → (step ≡ Part) ⊎ (step ≡ Tail) → to < length planned → Kept disk (record s { journal = j; step = step; left = left }) may_open planned to
+    next_written t step left either short =
+        let plan = plan_is t.at in let some = plan.1.some in let more : IsPart planned to = record { some = omega (arith, some, le); part = short } in let at = part_done n t plan (beside_is t.at) to le within written in
+        ⊎_elim (λ e. subst (λ (q : Step). Kept disk (record s { journal = j; step = q; left = left }) may_open planned to) (sym e) (went t Part to left (λ _. tt) (plan.0, more) at))
+        (λ e. subst (λ (q : Step). Kept disk (record s { journal = j; step = q; left = left }) may_open planned to) (sym e) (went t Tail to left (λ _. tt) (plan.0, more) at)) either
 
-    pub opened : j.phase ≡ s.journal.phase → j.begun ≡ s.journal.begun → (honest j.disk → honest s.journal.disk) → (honest s.journal.disk → Written (bytes s.journal.disk) s.other.start (OPEN ∷ []) (bytes j.disk)) → IsKept honest bytes unsynced (record s { journal = j; step = SyncOpen }) may_open planned done
-    opened phase begun back written = went phase begun SyncOpen done s.left (λ e. inl (e ∙ idle)) (plan_is Open is) (λ h. let h0 = back h in
-        ((frame h0 (s.other.start + 1) (drop 1 planned) (inl (omega arith)) (beside_is Open is h0).1).0, holds_written (bytes s.journal.disk) (OPEN ∷ []) (bytes j.disk) s.other.start (written h0)))
+    pub tail_written : Called disk s may_open planned done Tail j (Apart (s.other.start + done) n) (Ok x) → to ≡ length planned → s.journal.phase ≡ Idle → Kept disk (record s { journal = j; step = SyncBody }) may_open planned done
+    tail_written t all idle =
+        let plan = plan_is t.at in let few = plan.1.part in went t SyncBody done s.left (λ e. inl (e ∙ idle)) plan.0 (λ h. let y = part_done n t plan (beside_is t.at) to le within written h in
+        (y.0, copied_all s.other.start planned (disk.bytes j.disk) (omega (arith, few)) (subst (λ (k : ℕ). IsCopied s.other.start planned k (disk.bytes j.disk)) all y.1)))
+
+  -- what a sync makes sure of
+  module _ {p : Step} (t : Called disk s may_open planned done p j Always (Ok x)) (durable : disk.honest s.journal.disk → (disk.bytes j.disk ≡ disk.bytes s.journal.disk) × (disk.unsynced j.disk ≡ all_synced (disk.bytes s.journal.disk))) where
+    sure : disk.honest s.journal.disk → (at : ℕ) (text : List ℕ) → Holds (disk.bytes s.journal.disk) at text → IsSynced (disk.unsynced j.disk) at text
+    sure h at text held = subst (λ (u : PendingState). IsSynced u at text) (sym (durable h).1) (firm_settled (disk.bytes s.journal.disk) at text held)
+
+  pub close_synced : (t : Called disk s may_open planned done SyncClose j Always (Ok x)) → (disk.honest s.journal.disk → (disk.bytes j.disk ≡ disk.bytes s.journal.disk) × (disk.unsynced j.disk ≡ all_synced (disk.bytes s.journal.disk))) → Kept disk (record s { journal = j; step = Part }) may_open planned done
+  close_synced t durable = let plan = (plan_is t.at).0 in let one = (plan_is t.at).1 in let l = plan_long s.other s.generation s.text planned plan in let more = l.0 in let some = l.1 in
+      went t Part done s.left (λ _. tt) (plan, record { some = omega (arith, one); part = omega (arith, more, some, one) }) (λ h1. let h = t.kept.honest.1 h1 in
+      let shut : IsShut s.other.start (disk.unsynced j.disk) = ⊎_elim (shut_on t.at j t.kept.same Always (t.kept.apart h) tt) (λ y. record { gate = 0; shut = λ e. omega (arith, e); firm = sure t durable h s.other.start (0 ∷ []) y.1 }) (beside_is t.at h) in
+      (shut, subst (λ (k : ℕ). IsCopied s.other.start planned k (disk.bytes j.disk)) (sym one) (copied_none s.other.start planned (disk.bytes j.disk) (disk.unsynced j.disk) shut (t.at.present j.disk h1))))
+
+  pub body_synced : (t : Called disk s may_open planned done SyncBody j Always (Ok x)) → (disk.honest s.journal.disk → (disk.bytes j.disk ≡ disk.bytes s.journal.disk) × (disk.unsynced j.disk ≡ all_synced (disk.bytes s.journal.disk))) → Kept disk (record s { journal = j; step = Open }) may_open planned done
+  body_synced t durable = went t Open done s.left (λ e. inl (e ∙ idle_is t.at (λ x. x))) (plan_is t.at) (λ h1. let h = t.kept.honest.1 h1 in let y = beside_is t.at h in
+      (shut_on t.at j t.kept.same Always (t.kept.apart h) tt y.0, sure t durable h (s.other.start + 1) (drop 1 planned) y.1))
+
+  -- the new slot is quiet, and the old one older
+  module _ (t : Called disk s may_open planned done SyncOpen j Always (Ok x)) (durable : disk.honest s.journal.disk → (disk.bytes j.disk ≡ disk.bytes s.journal.disk) × (disk.unsynced j.disk ≡ all_synced (disk.bytes s.journal.disk))) where
+    pub new_quiet : disk.honest j.disk → EndsClosed s.other.start s.other.stop s.text (disk.unsynced j.disk)
+    new_quiet h1 =
+        let h = t.kept.honest.1 h1 in let y = beside_is t.at h in let b : List ℕ = disk.bytes s.journal.disk in
+        let e = opened_ends s.other s.generation s.text planned (plan_is t.at) b (byte_held b s.other.start OPEN [] y.1) (firm_outcome (disk.unsynced s.journal.disk) (s.other.start + 1) (drop 1 planned) b y.0 (t.at.present s.journal.disk h)) in
+        record { gate = e.gate; shut = e.shut; firm = sure t durable h s.other.start (s.text ++ e.gate ∷ []) e.holds; within = e.within }
+
+    pub gate_sure : disk.honest j.disk → IsSynced (disk.unsynced j.disk) s.other.start (OPEN ∷ [])
+    gate_sure h1 = let h = t.kept.honest.1 h1 in sure t durable h s.other.start (OPEN ∷ []) (beside_is t.at h).1
+
+    old_older : disk.honest j.disk → IsOlder s.journal.slot.start (s.generation + 1) (disk.unsynced j.disk)
+    old_older h1 =
+        let h = t.kept.honest.1 h1 in let l = t.kept.any_moment h in
+        let says = l.each (disk.bytes j.disk) (t.at.counts_now j.disk (disk.moment s.journal.disk) (disk.bytes j.disk) h1 l.later (t.at.present j.disk h1)) in
+        let there = (front_generation s.journal.slot.start s.generation s.journal.front (disk.bytes j.disk) t.at.kept.front (front_of t.at (disk.bytes j.disk) says) t.at.kept.small).text in
+        record { its = s.generation; small = t.at.kept.small; less = omega arith; firm = sure t durable h (s.journal.slot.start + 1) (to_be_bytes w64 s.generation) (subst (λ (b : List ℕ). Holds b (s.journal.slot.start + 1) (to_be_bytes w64 s.generation)) (durable h).0 there) }
+
+    pub switched : (k : JournalState D) (other : Slot) → other ≡ s.journal.slot → k.slot ≡ s.other → k.front ≡ s.text → (k.phase ≡ Idle) × (k.begun ≡ false) → k.disk ≡ j.disk
+        → Kept disk (record { journal = k; other = other; generation = s.generation + 1; may_open = true; step = Begin; text = s.text; head = s.head; left = s.left; coming = s.coming }) true planned done
+    switched k other other_is slot_is front_is idle disk_is = let plan = plan_is t.at in record {
+      apart = rw (other_is, slot_is) (⊎_elim (λ before. inr before) (λ behind. inl behind) t.at.kept.apart);
+      wide = rw other_is t.at.kept.wide_too;
+      wide_too = rw slot_is t.at.kept.wide;
+      front = rw front_is (record { rest = plan.rest; front_is = plan.text_is });
+      small = plan.next;
+      told = rw (idle.0, idle.1) refl;
+      plan = tt;
+      still = tt;
+      live = λ h alive. rw (other_is, disk_is) (old_older (subst disk.honest disk_is h));
+      failed = λ h no. absurd (let e : Idle ≡ Failed = sym idle.0 ∙ no in cc e);
+    }

@@ -1,8 +1,6 @@
-use Rattle.std.proofs.Common.{rules, refl, ◌≡◌, ◌≢◌, ap, sym, ◌∙◌, subst}
+use Rattle.std.proofs.Common.{refl}
 use Rattle.std.proofs.lemmas.Result.{err_from_is_err_and}
-use Rattle.fp_journal.specs.State.{Outside, has_begun}
-use Rattle.fp_journal.specs.declared.journal.Phase.TheVariants.{Idle, Staged, Failed}
-use Rattle.fp_slots.specs.State.{step_of, SlotsState, IsEarly}
+use Rattle.fp_slots.specs.State.{step_of}
 use Rattle.fp_slots.proofs.Exits.{answers_err, answers_ok}
 use Rattle.fp_slots.proofs.Steps as steps
 use Rattle.fp_slots.proofs.EarlySteps as early_steps
@@ -10,58 +8,21 @@ use Rattle.fp_slots.proofs.slots.Slots.stage.Goals as goal
 
 pub invariant_of-self : goal.invariant_of-self
 invariant_of-self g c =
-    let D = g.D.Disk in let m = g.met.D.Disk in let s = c.self.inside in let w = c.stage.ensures in let j = c.stage.new.self in
-    let at : s.journal.phase ≡ Idle = ap (λ (k : SlotsState g.row.D.Denot). k.journal.phase) c.self.view_is ∙ c.requires.idle in
-    let alive : s.journal.phase ≢ Failed = λ e. let no : Idle ≡ Failed = sym at ∙ e in absurd (cc no) in
-    let early = subst (λ (k : SlotsState g.row.D.Denot). IsEarly k.step) (sym c.self.view_is) c.requires.early in
-    (early_steps.early_broke D.honest D.bytes D.unsynced D.moment D.crash_states_since m.counts_now c.self.invariant.0 alive j w.kept.same (early_steps.Sealed D.honest D.bytes D.unsynced D.moment D.crash_states_since m.counts_now c.self.invariant.0 alive j w.kept.same) (λ o e. rw (w.begun, w.bodies.0) e) c.in_err-stage.ensures.phase.1 early w.kept.honest.1 (early_steps.early_rules D.honest D.bytes D.unsynced D.moment D.crash_states_since m.counts_now c.self.invariant.0 alive j w.kept.same early (Outside s.journal.slot) (steps.within_other D.honest D.bytes D.unsynced D.moment D.crash_states_since m.counts_now c.self.invariant.0 alive j w.kept.same) (early_steps.Sealed D.honest D.bytes D.unsynced D.moment D.crash_states_since m.counts_now c.self.invariant.0 alive j w.kept.same) (early_steps.sealed_front D.honest D.bytes D.unsynced D.moment D.crash_states_since m.counts_now c.self.invariant.0 alive j w.kept.same) w.kept.any_moment w.kept.apart), steps.held_on D.honest D.moment c.self.inside.journal j c.self.inside.other.start c.self.inside.held (steps.early_not_open (step_of c.self.inside.held) early) c.self.invariant.1, c.self.invariant.2)
+    let D = g.D.Disk in let m = g.met.D.Disk in let s = c.self.inside in let w = c.in_err-stage.ensures in let a = steps.at_early D m.counts_now m.present c.self.view_is c.self.invariant.0 (λ e. absurd (cc e)) c.requires.early c.requires.idle in
+    (early_steps.early_broke a w.kept (early_steps.sealed_front a) (λ o e. rw (w.begun, w.bodies.0) e) w.phase.1, steps.held_on D s.journal c.stage.new.self s.other.start s.held (steps.early_not_open (step_of s.held) a.early) c.self.invariant.1, c.self.invariant.2)
 
 pub returns-in_err-stage : goal.returns-in_err-stage
 returns-in_err-stage g c =
-    let D = g.D.Disk in let m = g.met.D.Disk in let s = c.self.inside in let w = c.stage.ensures in let j = c.stage.new.self in
-    let at : s.journal.phase ≡ Idle = ap (λ (k : SlotsState g.row.D.Denot). k.journal.phase) c.self.view_is ∙ c.requires.idle in
-    let alive : s.journal.phase ≢ Failed = λ e. let no : Idle ≡ Failed = sym at ∙ e in absurd (cc no) in
-    let early = subst (λ (k : SlotsState g.row.D.Denot). IsEarly k.step) (sym c.self.view_is) c.requires.early in
+    let D = g.D.Disk in let m = g.met.D.Disk in let w = c.in_err-stage.ensures in let a = steps.at_early D m.counts_now m.present c.self.view_is c.self.invariant.0 (λ e. absurd (cc e)) c.requires.early c.requires.idle in
     let p = err_from_is_err_and c.from_residual.result c.from_residual.ensures.1 in
-    rw (p.1, ← c.self.view_is) (record {
-      kept = record {
-        same = (w.kept.same, refl, refl, refl, refl, refl, refl, refl, refl);
-        any_moment = (early_steps.early_rules D.honest D.bytes D.unsynced D.moment D.crash_states_since m.counts_now c.self.invariant.0 alive j w.kept.same early (Outside s.journal.slot) (steps.within_other D.honest D.bytes D.unsynced D.moment D.crash_states_since m.counts_now c.self.invariant.0 alive j w.kept.same) (early_steps.Sealed D.honest D.bytes D.unsynced D.moment D.crash_states_since m.counts_now c.self.invariant.0 alive j w.kept.same) (early_steps.sealed_front D.honest D.bytes D.unsynced D.moment D.crash_states_since m.counts_now c.self.invariant.0 alive j w.kept.same) w.kept.any_moment w.kept.apart);
-        apart = (λ h. early_steps.slot_frame D.honest D.bytes D.unsynced D.moment D.crash_states_since m.counts_now c.self.invariant.0 alive j w.kept.same (w.kept.apart h));
-        honest = w.kept.honest;
-        cause = answers_err c.in_err-stage.ensures.kept.cause;
-      };
-      bodies = w.bodies;
-      phase = (tt, c.in_err-stage.ensures.phase.1);
-      begun = w.begun;
-      called = w.called;
-    })
+    rw (p.1, ← c.self.view_is) (record { kept = early_steps.keeps_batch a w.kept (early_steps.sealed_front a) c.stage.new.self (steps.same_slot c.stage.new.self) refl (answers_err w.kept.cause); bodies = w.bodies; phase = (tt, w.phase.1); begun = w.begun; called = w.called })
 
 pub invariant_of-self-2 : goal.invariant_of-self-2
 invariant_of-self-2 g c =
-    let D = g.D.Disk in let m = g.met.D.Disk in let s = c.self.inside in let w = c.stage.ensures in let j = c.stage.new.self in
-    let at : s.journal.phase ≡ Idle = ap (λ (k : SlotsState g.row.D.Denot). k.journal.phase) c.self.view_is ∙ c.requires.idle in
-    let alive : s.journal.phase ≢ Failed = λ e. let no : Idle ≡ Failed = sym at ∙ e in absurd (cc no) in
-    let early = subst (λ (k : SlotsState g.row.D.Denot). IsEarly k.step) (sym c.self.view_is) c.requires.early in
-    let ok : j.phase ≡ Staged = search rules in let told : has_begun j.phase j.begun ≡ j.begun = rw (ok, w.begun) refl in
-    (early_steps.early_done D.honest D.bytes D.unsynced D.moment D.crash_states_since m.counts_now c.self.invariant.0 alive j w.kept.same early (λ e. let no : Staged ≡ Failed = sym ok ∙ e in absurd (cc no)) told w.kept.honest.1 (Outside s.journal.slot) (steps.within_other D.honest D.bytes D.unsynced D.moment D.crash_states_since m.counts_now c.self.invariant.0 alive j w.kept.same) w.kept.apart w.kept.beside, steps.held_on D.honest D.moment c.self.inside.journal j c.self.inside.other.start c.self.inside.held (steps.early_not_open (step_of c.self.inside.held) early) c.self.invariant.1, c.self.invariant.2)
+    let D = g.D.Disk in let m = g.met.D.Disk in let s = c.self.inside in let w = c.in_ok-stage.ensures in let a = steps.at_early D m.counts_now m.present c.self.view_is c.self.invariant.0 (λ e. absurd (cc e)) c.requires.early c.requires.idle in
+    (early_steps.early_done a w.kept (early_steps.sealed_front a) c.stage.new.self (steps.same_slot c.stage.new.self) refl w.phase.0 (λ e. absurd (cc e)) w.begun refl, steps.held_on D s.journal c.stage.new.self s.other.start s.held (steps.early_not_open (step_of s.held) a.early) c.self.invariant.1, c.self.invariant.2)
 
 pub returns : goal.returns
 returns g c =
-    let D = g.D.Disk in let m = g.met.D.Disk in let s = c.self.inside in let w = c.stage.ensures in let j = c.stage.new.self in
-    let at : s.journal.phase ≡ Idle = ap (λ (k : SlotsState g.row.D.Denot). k.journal.phase) c.self.view_is ∙ c.requires.idle in
-    let alive : s.journal.phase ≢ Failed = λ e. let no : Idle ≡ Failed = sym at ∙ e in absurd (cc no) in
-    let early = subst (λ (k : SlotsState g.row.D.Denot). IsEarly k.step) (sym c.self.view_is) c.requires.early in
-    rw (← c.self.view_is) (record {
-      kept = record {
-        same = (w.kept.same, refl, refl, refl, refl, refl, refl, refl, refl);
-        any_moment = (early_steps.early_rules D.honest D.bytes D.unsynced D.moment D.crash_states_since m.counts_now c.self.invariant.0 alive j w.kept.same early (Outside s.journal.slot) (steps.within_other D.honest D.bytes D.unsynced D.moment D.crash_states_since m.counts_now c.self.invariant.0 alive j w.kept.same) (early_steps.Sealed D.honest D.bytes D.unsynced D.moment D.crash_states_since m.counts_now c.self.invariant.0 alive j w.kept.same) (early_steps.sealed_front D.honest D.bytes D.unsynced D.moment D.crash_states_since m.counts_now c.self.invariant.0 alive j w.kept.same) w.kept.any_moment w.kept.apart);
-        apart = (λ h. early_steps.slot_frame D.honest D.bytes D.unsynced D.moment D.crash_states_since m.counts_now c.self.invariant.0 alive j w.kept.same (w.kept.apart h));
-        honest = w.kept.honest;
-        cause = answers_ok c.in_ok-stage.ensures.kept.cause;
-      };
-      bodies = w.bodies;
-      phase = (c.in_ok-stage.ensures.phase.0, tt);
-      begun = w.begun;
-      called = w.called;
-    })
+    let D = g.D.Disk in let m = g.met.D.Disk in let w = c.in_ok-stage.ensures in let a = steps.at_early D m.counts_now m.present c.self.view_is c.self.invariant.0 (λ e. absurd (cc e)) c.requires.early c.requires.idle in
+    rw (← c.self.view_is) (record { kept = early_steps.keeps_batch a w.kept (early_steps.sealed_front a) c.stage.new.self (steps.same_slot c.stage.new.self) refl (answers_ok w.kept.cause); bodies = w.bodies; phase = (w.phase.0, tt); begun = w.begun; called = w.called })

@@ -1,12 +1,9 @@
-use Rattle.std.proofs.Common.{refl, true, ◌≡◌, ◌≢◌, ℕ, List, ap, sym, ◌∙◌, subst, arith}
+use Rattle.std.proofs.Common.{refl, true, ◌≡◌, ◌∙◌, subst, arith}
 use Rattle.std.proofs.lemmas.Result.{err_from_is_err_and}
-use Rattle.fp_journal.specs.State.{ClaimsAt, HasChainOrNext, SameSlot, SecuresAt, has_begun}
-use Rattle.fp_disk.specs.Outcomes.{LeavesOnly}
-use Rattle.fp_journal.specs.Holds.{Holds}
-use Rattle.fp_journal.specs.Moments.{KeepsFirm, KeepsHeld}
+use Rattle.fp_journal.specs.State.{SecuresAt}
 use Rattle.fp_journal.specs.declared.journal.Phase.{Phase}
-use Rattle.fp_journal.specs.declared.journal.Phase.TheVariants.{Idle, GateOpened, Failed}
-use Rattle.fp_slots.specs.State.{step_of, SlotsState, IsEarly}
+use Rattle.fp_journal.specs.declared.journal.Phase.TheVariants.{GateOpened}
+use Rattle.fp_slots.specs.State.{step_of}
 use Rattle.fp_slots.proofs.Exits.{answers_err, answers_ok}
 use Rattle.fp_slots.proofs.Steps as steps
 use Rattle.fp_slots.proofs.EarlySteps as early_steps
@@ -14,82 +11,31 @@ use Rattle.fp_slots.proofs.slots.Slots.sync_gate.Goals as goal
 
 pub invariant_of-self : goal.invariant_of-self
 invariant_of-self g c =
-    let D = g.D.Disk in let m = g.met.D.Disk in let s = c.self.inside in let w = c.sync.ensures in let j = c.sync.new.self in
-    let at : s.journal.phase ≡ GateOpened = ap (λ (k : SlotsState g.row.D.Denot). k.journal.phase) c.self.view_is ∙ c.requires.opened in
-    let alive : s.journal.phase ≢ Failed = λ e. let no : GateOpened ≡ Failed = sym at ∙ e in absurd (cc no) in
-    let early = subst (λ (k : SlotsState g.row.D.Denot). IsEarly k.step) (sym c.self.view_is) c.requires.early in
-    let leave : D.honest s.journal.disk → LeavesOnly D.moment D.crash_states_since s.journal.disk j.disk (λ o. HasChainOrNext s.journal.slot s.journal.front s.journal.sealed s.journal.staged o) = λ h. subst (λ (p : Phase). LeavesOnly D.moment D.crash_states_since s.journal.disk j.disk (λ o. ClaimsAt p s.journal.begun s.journal.slot s.journal.front s.journal.sealed s.journal.staged o)) at (w.kept.any_moment h) in
-    let begun : s.journal.begun ≡ true = sym c.self.invariant.0.told ∙ ap (λ (p : Phase). has_begun p s.journal.begun) at in
-    (early_steps.early_broke D.honest D.bytes D.unsynced D.moment D.crash_states_since m.counts_now c.self.invariant.0 alive j w.kept.same ((λ o. HasChainOrNext s.journal.slot s.journal.front s.journal.sealed s.journal.staged o)) (λ o e. rw (w.begun ∙ begun, w.bodies.0, w.bodies.1) e) c.in_err-synced.ensures.phase.1 early w.kept.honest.1 (early_steps.early_rules D.honest D.bytes D.unsynced D.moment D.crash_states_since m.counts_now c.self.invariant.0 alive j w.kept.same early (steps.Always D.honest D.bytes D.unsynced D.moment D.crash_states_since m.counts_now c.self.invariant.0 alive j w.kept.same) (early_steps.always_inside D.honest D.bytes D.unsynced D.moment D.crash_states_since m.counts_now c.self.invariant.0 alive j w.kept.same) ((λ o. HasChainOrNext s.journal.slot s.journal.front s.journal.sealed s.journal.staged o)) (early_steps.next_front D.honest D.bytes D.unsynced D.moment D.crash_states_since m.counts_now c.self.invariant.0 alive j w.kept.same s.journal.staged) leave w.kept.apart), steps.held_on D.honest D.moment c.self.inside.journal j c.self.inside.other.start c.self.inside.held (steps.early_not_open (step_of c.self.inside.held) early) c.self.invariant.1, c.self.invariant.2)
+    let D = g.D.Disk in let m = g.met.D.Disk in let s = c.self.inside in let w = c.in_err-synced.ensures in let a = steps.at_early D m.counts_now m.present c.self.view_is c.self.invariant.0 (λ e. absurd (cc e)) c.requires.early c.requires.opened in
+    let begun : s.journal.begun ≡ true = early_steps.begun_is a in
+    (early_steps.early_broke a (early_steps.synced w.kept a.phase) (early_steps.next_front a) (λ o e. rw (w.begun ∙ begun, w.bodies.0, w.bodies.1) e) w.phase.1, steps.held_on D s.journal c.sync.new.self s.other.start s.held (steps.early_not_open (step_of s.held) a.early) c.self.invariant.1, c.self.invariant.2)
 
 pub returns-in_err-synced : goal.returns-in_err-synced
 returns-in_err-synced g c =
-    let D = g.D.Disk in let m = g.met.D.Disk in let s = c.self.inside in let w = c.sync.ensures in let j = c.sync.new.self in
-    let at : s.journal.phase ≡ GateOpened = ap (λ (k : SlotsState g.row.D.Denot). k.journal.phase) c.self.view_is ∙ c.requires.opened in
-    let alive : s.journal.phase ≢ Failed = λ e. let no : GateOpened ≡ Failed = sym at ∙ e in absurd (cc no) in
-    let early = subst (λ (k : SlotsState g.row.D.Denot). IsEarly k.step) (sym c.self.view_is) c.requires.early in
-    let leave : D.honest s.journal.disk → LeavesOnly D.moment D.crash_states_since s.journal.disk j.disk (λ o. HasChainOrNext s.journal.slot s.journal.front s.journal.sealed s.journal.staged o) = λ h. subst (λ (p : Phase). LeavesOnly D.moment D.crash_states_since s.journal.disk j.disk (λ o. ClaimsAt p s.journal.begun s.journal.slot s.journal.front s.journal.sealed s.journal.staged o)) at (w.kept.any_moment h) in
-    let begun : s.journal.begun ≡ true = sym c.self.invariant.0.told ∙ ap (λ (p : Phase). has_begun p s.journal.begun) at in
-    let p = err_from_is_err_and c.from_residual.result c.from_residual.ensures.1 in
-    rw (p.1, ← c.self.view_is) (record {
-      kept = record {
-        same = (w.kept.same, refl, refl, refl, refl, refl, refl, refl, refl);
-        any_moment = (early_steps.early_rules D.honest D.bytes D.unsynced D.moment D.crash_states_since m.counts_now c.self.invariant.0 alive j w.kept.same early (steps.Always D.honest D.bytes D.unsynced D.moment D.crash_states_since m.counts_now c.self.invariant.0 alive j w.kept.same) (early_steps.always_inside D.honest D.bytes D.unsynced D.moment D.crash_states_since m.counts_now c.self.invariant.0 alive j w.kept.same) ((λ o. HasChainOrNext s.journal.slot s.journal.front s.journal.sealed s.journal.staged o)) (early_steps.next_front D.honest D.bytes D.unsynced D.moment D.crash_states_since m.counts_now c.self.invariant.0 alive j w.kept.same s.journal.staged) leave w.kept.apart);
-        apart = (λ h. steps.sync_frame D.honest D.bytes D.unsynced D.moment D.crash_states_since m.counts_now c.self.invariant.0 alive j w.kept.same (w.kept.apart h));
-        honest = w.kept.honest;
-        cause = answers_err c.in_err-synced.ensures.kept.cause;
-      };
-      ok = tt;
-      token = tt;
-      begun = (tt, w.begun ∙ begun);
-      err = (w.bodies.0, w.bodies.1, c.in_err-synced.ensures.phase.1);
-      called = w.called;
-    })
+    let D = g.D.Disk in let m = g.met.D.Disk in let w = c.in_err-synced.ensures in let a = steps.at_early D m.counts_now m.present c.self.view_is c.self.invariant.0 (λ e. absurd (cc e)) c.requires.early c.requires.opened in
+    let p = err_from_is_err_and c.from_residual.result c.from_residual.ensures.1 in let begun : c.self.inside.journal.begun ≡ true = early_steps.begun_is a in
+    rw (p.1, ← c.self.view_is) (record { kept = early_steps.keeps_batch a (early_steps.synced w.kept a.phase) (early_steps.next_front a) c.sync.new.self (steps.same_slot c.sync.new.self) refl (answers_err w.kept.cause); ok = tt; token = tt; begun = (tt, w.begun ∙ begun); err = (w.bodies.0, w.bodies.1, w.phase.1); called = w.called })
 
 pub invariant_of-self-2 : goal.invariant_of-self-2
 invariant_of-self-2 g c =
-    let D = g.D.Disk in let m = g.met.D.Disk in let s = c.self.inside in let w = c.sync.ensures in let at : s.journal.phase ≡ GateOpened = ap (λ (k : SlotsState g.row.D.Denot). k.journal.phase) c.self.view_is ∙ c.requires.opened in
-    let alive : s.journal.phase ≢ Failed = λ e. let no : GateOpened ≡ Failed = sym at ∙ e in absurd (cc no) in
-    let early = subst (λ (k : SlotsState g.row.D.Denot). IsEarly k.step) (sym c.self.view_is) c.requires.early in
-    let k = c.gate_synced.new.self in let v = c.gate_synced.ensures in let e = v.disk in
-    let same2 : SameSlot s.journal k = (v.same.0 ∙ w.kept.same.0, v.same.1 ∙ w.kept.same.1, v.same.2 ∙ w.kept.same.2, v.same.3 ∙ w.kept.same.3) in
-    let frame2 : D.honest s.journal.disk → KeepsFirm D.moment D.crash_states_since D.unsynced s.journal.disk k.disk (λ from n. Unit {0}) = λ h. subst (λ (d : g.row.D.Denot). KeepsFirm D.moment D.crash_states_since D.unsynced s.journal.disk d (λ from n. Unit {0})) (sym e) (w.kept.apart h) in
-    let held2 : D.honest s.journal.disk → KeepsHeld D.bytes s.journal.disk k.disk (λ from n. Unit {0}) = λ h from t out p. subst (λ (d : g.row.D.Denot). Holds (D.bytes d) from t) (sym e) (subst (λ (b : List ℕ). Holds b from t) (sym (w.same_bytes h)) p) in
-    let back : D.honest k.disk → D.honest s.journal.disk = λ h. w.kept.honest.1 (subst D.honest e h) in
-    let told : has_begun k.phase k.begun ≡ k.begun = rw (v.sealed.1, v.begun) refl in
-    (early_steps.early_done D.honest D.bytes D.unsynced D.moment D.crash_states_since m.counts_now c.self.invariant.0 alive k same2 early (λ x. let no : Idle ≡ Failed = sym v.sealed.1 ∙ x in absurd (cc no)) told back (λ from n. Unit {0}) (λ from n low high. tt) frame2 held2, steps.held_on D.honest D.moment c.self.inside.journal k c.self.inside.other.start c.self.inside.held (steps.early_not_open (step_of c.self.inside.held) early) c.self.invariant.1, c.self.invariant.2)
+    let D = g.D.Disk in let m = g.met.D.Disk in let s = c.self.inside in let w = c.in_ok-synced.ensures in let v = c.gate_synced.ensures in let a = steps.at_early D m.counts_now m.present c.self.view_is c.self.invariant.0 (λ e. absurd (cc e)) c.requires.early c.requires.opened in
+    (early_steps.early_done a (early_steps.synced w.kept a.phase) (early_steps.next_front a) c.gate_synced.new.self v.same v.disk v.sealed.1 (λ e. absurd (cc e)) v.begun refl, steps.held_on D s.journal c.gate_synced.new.self s.other.start s.held (steps.early_not_open (step_of s.held) a.early) c.self.invariant.1, c.self.invariant.2)
 
 pub returns : goal.returns
 returns g c =
-    let D = g.D.Disk in let m = g.met.D.Disk in let s = c.self.inside in let w = c.sync.ensures in let j = c.sync.new.self in
-    let at : s.journal.phase ≡ GateOpened = ap (λ (k : SlotsState g.row.D.Denot). k.journal.phase) c.self.view_is ∙ c.requires.opened in
-    let alive : s.journal.phase ≢ Failed = λ e. let no : GateOpened ≡ Failed = sym at ∙ e in absurd (cc no) in
-    let early = subst (λ (k : SlotsState g.row.D.Denot). IsEarly k.step) (sym c.self.view_is) c.requires.early in
-    let leave : D.honest s.journal.disk → LeavesOnly D.moment D.crash_states_since s.journal.disk j.disk (λ o. HasChainOrNext s.journal.slot s.journal.front s.journal.sealed s.journal.staged o) = λ h. subst (λ (p : Phase). LeavesOnly D.moment D.crash_states_since s.journal.disk j.disk (λ o. ClaimsAt p s.journal.begun s.journal.slot s.journal.front s.journal.sealed s.journal.staged o)) at (w.kept.any_moment h) in
-    let k = c.gate_synced.new.self in let v = c.gate_synced.ensures in let e = v.disk in
-    let same2 : SameSlot s.journal k = (v.same.0 ∙ w.kept.same.0, v.same.1 ∙ w.kept.same.1, v.same.2 ∙ w.kept.same.2, v.same.3 ∙ w.kept.same.3) in
-    let leave2 : D.honest s.journal.disk → LeavesOnly D.moment D.crash_states_since s.journal.disk k.disk (λ o. HasChainOrNext s.journal.slot s.journal.front s.journal.sealed s.journal.staged o) = λ h. subst (λ (d : g.row.D.Denot). LeavesOnly D.moment D.crash_states_since s.journal.disk d (λ o. HasChainOrNext s.journal.slot s.journal.front s.journal.sealed s.journal.staged o)) (sym e) (leave h) in
-    let frame2 : D.honest s.journal.disk → KeepsFirm D.moment D.crash_states_since D.unsynced s.journal.disk k.disk (λ from n. Unit {0}) = λ h. subst (λ (d : g.row.D.Denot). KeepsFirm D.moment D.crash_states_since D.unsynced s.journal.disk d (λ from n. Unit {0})) (sym e) (w.kept.apart h) in
-    rw (← c.self.view_is) (record {
-      kept = record {
-        same = (same2, refl, refl, refl, refl, refl, refl, refl, refl);
-        any_moment = (early_steps.early_rules D.honest D.bytes D.unsynced D.moment D.crash_states_since m.counts_now c.self.invariant.0 alive k same2 early (steps.Always D.honest D.bytes D.unsynced D.moment D.crash_states_since m.counts_now c.self.invariant.0 alive k same2) (early_steps.always_inside D.honest D.bytes D.unsynced D.moment D.crash_states_since m.counts_now c.self.invariant.0 alive k same2) ((λ o. HasChainOrNext s.journal.slot s.journal.front s.journal.sealed s.journal.staged o)) (early_steps.next_front D.honest D.bytes D.unsynced D.moment D.crash_states_since m.counts_now c.self.invariant.0 alive j w.kept.same s.journal.staged) leave2 frame2);
-        apart = (λ h. steps.sync_frame D.honest D.bytes D.unsynced D.moment D.crash_states_since m.counts_now c.self.invariant.0 alive k same2 (frame2 h));
-        honest = rw e w.kept.honest;
-        cause = rw e (answers_ok c.in_ok-synced.ensures.kept.cause);
-      };
-      ok = (rw (v.sealed.0, w.bodies.0, w.bodies.1) refl, v.sealed.1);
-      token = v.token;
-      begun = (v.begun, tt);
-      err = tt;
-      called = rw e w.called;
-    })
+    let D = g.D.Disk in let m = g.met.D.Disk in let w = c.in_ok-synced.ensures in let v = c.gate_synced.ensures in let a = steps.at_early D m.counts_now m.present c.self.view_is c.self.invariant.0 (λ e. absurd (cc e)) c.requires.early c.requires.opened in
+    let k = early_steps.keeps_batch a (early_steps.synced w.kept a.phase) (early_steps.next_front a) c.gate_synced.new.self v.same v.disk (answers_ok w.kept.cause) in
+    rw (← c.self.view_is) (record { kept = k; ok = (rw (v.sealed.0, w.bodies.0, w.bodies.1) refl, v.sealed.1); token = v.token; begun = (v.begun, tt); err = tt; called = rw v.disk w.called })
 
 pub gate_synced-requires : goal.gate_synced-requires
 gate_synced-requires g c =
-    let j = c.sync.new.self in let w = c.in_ok-synced.ensures in
-    let at : c.self.inside.journal.phase ≡ GateOpened = ap (λ (k : SlotsState g.row.D.Denot). k.journal.phase) c.self.view_is ∙ c.requires.opened in
-    let now : j.phase ≡ GateOpened = w.phase.0 ∙ at in
+    let D = g.D.Disk in let m = g.met.D.Disk in let j = c.sync.new.self in let w = c.in_ok-synced.ensures in let a = steps.at_early D m.counts_now m.present c.self.view_is c.self.invariant.0 (λ e. absurd (cc e)) c.requires.early c.requires.opened in
+    let now : j.phase ≡ GateOpened = w.phase.0 ∙ a.phase in
     record {
       opened = now;
       token = (w.token.0, λ h. let e = w.token.1 in omega (arith, e));

@@ -1,61 +1,27 @@
-use Rattle.std.proofs.Common.{rules, ◌≡◌, ◌≢◌, ap, sym, ◌∙◌, subst, refl}
+use Rattle.std.proofs.Common.{rules, refl}
 use Rattle.std.proofs.lemmas.Result.{err_from_is_err_and}
-use Rattle.fp_journal.specs.declared.journal.Phase.TheVariants.{Failed}
-use Rattle.fp_slots.specs.State.{step_of, SlotsState}
-use Rattle.fp_slots.specs.declared.slots.Step.TheVariants.{SyncBody, Open}
-use Rattle.fp_slots.proofs.Exits.{answers_err, answers_ok}
 use Rattle.fp_slots.proofs.Steps as steps
 use Rattle.fp_slots.proofs.slots.Slots.sync_parts.Goals as goal
 
 pub invariant_of-self : goal.invariant_of-self
 invariant_of-self g c =
-    let D = g.D.Disk in let m = g.met.D.Disk in let w = c.sync.ensures in let j = c.sync.new.self in
-    let alive = subst (λ (k : SlotsState g.row.D.Denot). k.journal.phase ≢ Failed) (sym c.self.view_is) c.requires.live in
-    let is : step_of c.self.inside.held ≡ SyncBody = ap (λ (k : SlotsState g.row.D.Denot). k.step) c.self.view_is ∙ c.requires.step in
-    (steps.broke D.honest D.bytes D.unsynced D.moment D.crash_states_since m.counts_now c.self.invariant.0 alive j w.kept.same w.bodies w.begun c.in_err-synced.ensures.phase.1 w.kept.honest.1 SyncBody is (steps.body_leaves D.honest D.bytes D.unsynced D.moment D.crash_states_since m.counts_now c.self.invariant.0 alive j w.kept.same w.kept.any_moment w.kept.apart is), steps.held_on D.honest D.moment c.self.inside.journal j c.self.inside.other.start c.self.inside.held (λ e. let no : SyncBody ≡ Open = sym is ∙ e in absurd (cc no)) c.self.invariant.1, c.self.invariant.2)
+    let D = g.D.Disk in let m = g.met.D.Disk in let s = c.self.inside in let w = c.in_err-synced.ensures in let a = steps.at_step D m.counts_now m.present c.self.view_is c.self.invariant.0 c.requires.live c.requires.step in
+    let t = steps.called a w.kept w.bodies w.phase w.begun in
+    (steps.broke t (steps.filled t), steps.held_on D s.journal c.sync.new.self s.other.start s.held (steps.not_open a (λ e. absurd (cc e))) c.self.invariant.1, c.self.invariant.2)
 
 pub returns-in_err-synced : goal.returns-in_err-synced
 returns-in_err-synced g c =
-    let D = g.D.Disk in let m = g.met.D.Disk in let w = c.sync.ensures in let j = c.sync.new.self in
-    let alive = subst (λ (k : SlotsState g.row.D.Denot). k.journal.phase ≢ Failed) (sym c.self.view_is) c.requires.live in
-    let is : step_of c.self.inside.held ≡ SyncBody = ap (λ (k : SlotsState g.row.D.Denot). k.step) c.self.view_is ∙ c.requires.step in
-    let p = err_from_is_err_and c.from_residual.result c.from_residual.ensures.1 in
-    rw (p.1, ← c.self.view_is) (record {
-      step = (tt, is);
-      left = refl;
-      kept = record {
-        same = (w.kept.same, w.bodies.0, w.bodies.1, refl, refl, refl, refl, refl, refl, w.begun);
-        phase = (tt, c.in_err-synced.ensures.phase.1);
-        any_moment = (steps.body_leaves D.honest D.bytes D.unsynced D.moment D.crash_states_since m.counts_now c.self.invariant.0 alive j w.kept.same w.kept.any_moment w.kept.apart is);
-        apart = (λ h. steps.sync_frame D.honest D.bytes D.unsynced D.moment D.crash_states_since m.counts_now c.self.invariant.0 alive j w.kept.same (w.kept.apart h));
-        honest = w.kept.honest;
-        cause = answers_err c.in_err-synced.ensures.kept.cause;
-      };
-      called = w.called;
-    })
+    let D = g.D.Disk in let m = g.met.D.Disk in let w = c.in_err-synced.ensures in let a = steps.at_step D m.counts_now m.present c.self.view_is c.self.invariant.0 c.requires.live c.requires.step in
+    let t = steps.called a w.kept w.bodies w.phase w.begun in let p = err_from_is_err_and c.from_residual.result c.from_residual.ensures.1 in
+    rw (p.1, ← c.self.view_is) (record { step = (tt, a.is); left = refl; kept = steps.kept_err t (steps.filled t); called = w.called })
 
 pub invariant_of-self-2 : goal.invariant_of-self-2
 invariant_of-self-2 g c =
-    let D = g.D.Disk in let m = g.met.D.Disk in let w = c.sync.ensures in let j = c.sync.new.self in
-    let alive = subst (λ (k : SlotsState g.row.D.Denot). k.journal.phase ≢ Failed) (sym c.self.view_is) c.requires.live in
-    let is : step_of c.self.inside.held ≡ SyncBody = ap (λ (k : SlotsState g.row.D.Denot). k.step) c.self.view_is ∙ c.requires.step in
-    (steps.body_synced D.honest D.bytes D.unsynced D.moment D.crash_states_since m.counts_now c.self.invariant.0 alive j w.kept.same w.kept.any_moment w.kept.apart m.present w.kept.honest.1 (λ h. (w.same_bytes h, c.in_ok-synced.ensures.durable h)) c.in_ok-synced.ensures.phase.0 w.begun is, search rules, c.self.invariant.2)
+    let D = g.D.Disk in let m = g.met.D.Disk in let w = c.in_ok-synced.ensures in let a = steps.at_step D m.counts_now m.present c.self.view_is c.self.invariant.0 c.requires.live c.requires.step in
+    (steps.body_synced (steps.called a w.kept w.bodies w.phase w.begun) (λ h. (w.same_bytes h, w.durable h)), search rules, c.self.invariant.2)
 
 pub returns : goal.returns
 returns g c =
-    let D = g.D.Disk in let m = g.met.D.Disk in let w = c.sync.ensures in let j = c.sync.new.self in
-    let alive = subst (λ (k : SlotsState g.row.D.Denot). k.journal.phase ≢ Failed) (sym c.self.view_is) c.requires.live in
-    let is : step_of c.self.inside.held ≡ SyncBody = ap (λ (k : SlotsState g.row.D.Denot). k.step) c.self.view_is ∙ c.requires.step in
-    rw (← c.self.view_is) (record {
-      step = (refl, tt);
-      left = refl;
-      kept = record {
-        same = (w.kept.same, w.bodies.0, w.bodies.1, refl, refl, refl, refl, refl, refl, w.begun);
-        phase = (c.in_ok-synced.ensures.phase.0, tt);
-        any_moment = (steps.body_leaves D.honest D.bytes D.unsynced D.moment D.crash_states_since m.counts_now c.self.invariant.0 alive j w.kept.same w.kept.any_moment w.kept.apart is);
-        apart = (λ h. steps.sync_frame D.honest D.bytes D.unsynced D.moment D.crash_states_since m.counts_now c.self.invariant.0 alive j w.kept.same (w.kept.apart h));
-        honest = w.kept.honest;
-        cause = answers_ok c.in_ok-synced.ensures.kept.cause;
-      };
-      called = w.called;
-    })
+    let D = g.D.Disk in let m = g.met.D.Disk in let w = c.in_ok-synced.ensures in let a = steps.at_step D m.counts_now m.present c.self.view_is c.self.invariant.0 c.requires.live c.requires.step in
+    let t = steps.called a w.kept w.bodies w.phase w.begun in
+    rw (← c.self.view_is) (record { step = (refl, tt); left = refl; kept = steps.kept_ok t (steps.filled t); called = w.called })
