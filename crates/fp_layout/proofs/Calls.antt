@@ -1,12 +1,11 @@
 -- The calls of a disk that a function makes, by those of the functions that it calls in turn.
-use Rattle.std.proofs.Common.{◌≡◌, inl, inr, false, true, ℕ, ◌<◌, List, [], ◌∷◌, ◌++◌, sym, ◌∙◌, ap, subst, append_assoc}
+use Rattle.std.proofs.Common.{◌≡◌, inl, inr, ⊎_elim, List, [], ◌∷◌, ◌++◌, sym, ◌∙◌, ap, subst, append_assoc}
 use Rattle.std.specs.Prelude.{Result, Ok, Err, OnOk}
 use Rattle.std.proofs.lemmas.List.{append-nil}
 use Rattle.fp_disk.specs.History.{Makes, MakesSome}
-use Rattle.fp_disk.specs.Outcomes.{CountsFaults}
 use Rattle.fp_disk.specs.declared.disk.DiskFault.{DiskFault}
 use Rattle.fp_disk.specs.declared.history.CallKind.{CallKind}
-use Rattle.fp_journal.specs.Pieces.{ThenReads}
+use Rattle.fp_journal.specs.Pieces.{ThenReads, ThenSomeReads}
 
 -- ---- some first ones of a list
 none_made : (kinds : List CallKind) (old new : List CallKind) → new ≡ old → MakesSome kinds old new
@@ -46,10 +45,10 @@ all_makes (Err e) kinds old new is = all_some kinds old new is
 pub reads_after : (kind : CallKind) (kinds : List CallKind) (old middle new : List CallKind) → middle ≡ old ++ kind ∷ [] → ThenReads kinds middle new → ThenReads (kind ∷ kinds) old new
 reads_after kind kinds old middle new is reads = (reads.0, reads.1, calls_joined (kind ∷ []) (kinds ++ reads.0) old middle new is reads.2)
 
--- ---- how often it failed
-pub answers_fault : {T : Type 0} (r : Result T DiskFault) (y : DiskFault) (before now : ℕ) → r ≡ Err y → before < now → CountsFaults before now r
-answers_fault {T} r y before now is less = subst (λ (s : Result T DiskFault). CountsFaults before now s) (sym is) (record { well = λ e. let no : false ≡ true = e in absurd (cc no); ill = λ e. less })
+pub some_reads_after : (kind : CallKind) (kinds : List CallKind) (old middle new : List CallKind) → middle ≡ old ++ kind ∷ [] → ThenSomeReads kinds middle new → ThenSomeReads (kind ∷ kinds) old new
+some_reads_after kind kinds old middle new is = ⊎_elim (λ some. inl (inr (subst (λ (l : List CallKind). MakesSome kinds l new) is some))) (λ reads. inr (reads_after kind kinds old middle new is reads))
 
+-- ---- how it ended
 pub ok_no_fault : {T E : Type 0} {x : T} {e : E} → Ok x ≡ Err e → ⊥
 ok_no_fault is = cc is
 

@@ -68,9 +68,6 @@ head_whole at generation base image c size open_is h =
 
 -- ---- by the first bytes
 module _ (c : List ℕ) (at : ℕ) (bytes : List ℕ) (lead : IsLead c at bytes) where
-  pub version_in : HasVersion c at → HasVersion bytes 0
-  version_in v = let many = lead.many in let long = v.long in record { long = omega (arith, many, long); is = sym (first_at c at 22 bytes 9 lead (omega (arith, many, long))) ∙ v.is }
-
   pub version_from : HasVersion bytes 0 → HasVersion c at
   version_from v = let there = lead.there.long in let long = v.long in record { long = omega (arith, there, long); is = first_at c at 22 bytes 9 lead (omega (arith, long)) ∙ v.is }
 

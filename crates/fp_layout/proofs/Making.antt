@@ -1,6 +1,6 @@
 -- A disk in the making: until the header's gate is open it is none, and then it is whole.
 use Rattle.std.proofs.Common.{◌≡◌, inl, inr, ⊎_elim, ℕ, ◌+◌, ◌-◌, ◌<◌, ◌≤◌, List, [], ◌∷◌, ◌++◌, length, set, refl, sym, ◌∙◌, ap, subst, arith, replicate, lit<, lit≤}
-use Rattle.std.specs.Prelude.{slice_index, slice_range}
+use Rattle.std.specs.Prelude.{Result, Ok, slice_index, slice_range}
 use Rattle.std.proofs.lemmas.Bool.{cases_eq}
 use Rattle.std.specs.Int.{w32, w64, to_be_bytes}
 use Rattle.std.proofs.lemmas.List.{get_or-replicate}
@@ -9,7 +9,12 @@ use Rattle.fp_journal.specs.declared.journal.Phase.{Phase}
 use Rattle.fp_journal.specs.declared.journal.Phase.TheVariants.{Failed, Idle}
 use Rattle.fp_journal.specs.declared.slot.Slot.{Slot}
 use Rattle.fp_layout.specs.Size.{IsSlotSize, first, first_slot, second_slot}
-use Rattle.fp_disk.specs.Outcomes.{Elapses, IsOutcome, LeavesOnly, PendingState, Written, all_synced, with_write}
+use Rattle.fp_disk.specs.Crashes.{AtAnyMoment, SameHonesty}
+use Rattle.fp_disk.specs.declared.disk.DiskFault.{DiskFault}
+use Rattle.fp_disk.specs.declared.history.CallKind.{CallKind}
+use Rattle.fp_disk.specs.declared.history.CallKind.TheVariants.{Sync, Write}
+use Rattle.fp_layout.proofs.Calls.{calls_joined}
+use Rattle.fp_disk.specs.Outcomes.{CountsFaults, Elapses, IsOutcome, LeavesOnly, PendingState, Written, all_synced, with_write}
 use Rattle.fp_journal.specs.Holds.{Holds, IsSynced}
 use Rattle.fp_journal.proofs.Holds.{holds_append, holds_front, holds_back, holds_byte, byte_held, holds_written, holds_apart, written_after, written_gap, written_long, firm_outcome, firm_touched, firm_settled}
 use Rattle.fp_disk.specs.declared.disk.Disk.{Ghosts}
@@ -117,69 +122,86 @@ new_written size b new m w = let n = written_long b (OPEN ∷ []) new 0 w in let
 }
 
 -- ---- the calls in turn
-module _ {D : Type 0} (honest : D → Type 0) (bytes : D → List ℕ) (unsynced : D → PendingState) (moment : D → ℕ) (crash_states_since : D → ℕ → List ℕ → Type 0)
-    (present : (d : D) → honest d → IsOutcome (unsynced d) (bytes d))
-    (only_now : (d : D) (c : List ℕ) → honest d → crash_states_since d (moment d) c → IsOutcome (unsynced d) c)
-    (size : ℕ) (start : D) where
-  abbrev Leaves : D → D → (List ℕ → Type 0) → Type 0
-  Leaves d e P = LeavesOnly moment crash_states_since d e P
+module _ {D : Type 0} (disk : Ghosts D) (present : (d : D) → disk.honest d → IsOutcome (disk.unsynced d) (disk.bytes d)) (only_now : (d : D) (c : List ℕ) → disk.honest d → disk.crash_states_since d (disk.moment d) c → IsOutcome (disk.unsynced d) c) (size : ℕ) (start : D) where
+  -- since the start a crash left none or a new disk
+  abbrev pub LeavesNone : D → Type 0
+  LeavesNone d = disk.honest start → disk.unsynced start ≡ all_synced [] → LeavesOnly disk.moment disk.crash_states_since start d (IsNewOrNone size)
 
-  -- since the start a crash left none or a new disk, and now the header's gate is closed for sure
-  pub record IsShut (d : D) : Type 0 where
-    pub leaves : Leaves start d (IsNewOrNone size)
-    pub firm : IsSynced (unsynced d) 0 (0 ∷ [])
-    pub honest_now : honest d
+  -- none of these calls failed, and now the header's gate is closed for sure
+  pub record SoFar (d : D) (done : List CallKind) : Type 0 where
+    pub honest : SameHonesty disk start d
+    pub called : disk.calls d ≡ disk.calls start ++ done
+    pub faults : disk.faults d ≡ disk.faults start
+    pub leaves : LeavesNone d
+    pub firm : disk.honest start → IsSynced (disk.unsynced d) 0 (0 ∷ [])
 
-  pub empty_bytes : honest start → unsynced start ≡ all_synced [] → bytes start ≡ []
-  empty_bytes h is = let o : IsOutcome (all_synced []) (bytes start) = subst (λ (u : PendingState). IsOutcome u (bytes start)) is (present start h) in let high = o.no_longer in no_bytes (bytes start) (omega (arith, high))
+  pub empty_bytes : disk.honest start → disk.unsynced start ≡ all_synced [] → disk.bytes start ≡ []
+  empty_bytes h is = let o : IsOutcome (all_synced []) (disk.bytes start) = subst (λ (u : PendingState). IsOutcome u (disk.bytes start)) is (present start h) in let high = o.no_longer in no_bytes (disk.bytes start) (omega (arith, high))
 
-  pub first_leaves : (d : D) → unsynced start ≡ all_synced [] → Leaves start d (IsOutcome (with_write (unsynced start) 0 1)) → Leaves start d (IsNewOrNone size)
-  first_leaves d is l = leaves_map moment crash_states_since start d (IsOutcome (with_write (unsynced start) 0 1)) (IsNewOrNone size) (λ c o. first_none size c (subst (λ (u : PendingState). IsOutcome (with_write u 0 1) c) is o)) l
-
-  pub first_shut : (d : D) → unsynced start ≡ all_synced [] → Leaves start d (IsOutcome (with_write (unsynced start) 0 1)) → honest d → Written (bytes start) 0 (0 ∷ []) (bytes d) → unsynced d ≡ all_synced (bytes d) → IsShut d
-  first_shut d is l h w sure = record {
-    leaves = first_leaves d is l;
-    firm = subst (λ (u : PendingState). IsSynced u 0 (0 ∷ [])) (sym sure) (firm_settled (bytes d) 0 (0 ∷ []) (holds_written (bytes start) (0 ∷ []) (bytes d) 0 w));
-    honest_now = h;
-  }
-
-  module _ (d e : D) (s : IsShut d) (from n : ℕ) (behind : 1 ≤ from) where
-    all_none : (c : List ℕ) → IsOutcome (with_write (unsynced d) from n) c → IsNewOrNone size c
-    all_none c o = shut_none size (unsynced d) from n c behind s.firm o
-
-    now_none : (c : List ℕ) → IsOutcome (unsynced d) c → IsNewOrNone size c
-    now_none c o = inl (none_shut c (firm_outcome (unsynced d) 0 (0 ∷ []) c s.firm o))
-
-    abbrev Time : Type 0
-    Time = Elapses (moment d) (moment e) (crash_states_since d) (crash_states_since e) (IsOutcome (with_write (unsynced d) from n))
-
-    pub write_leaves : Time → Leaves start e (IsNewOrNone size)
-    write_leaves time = leaves_then moment crash_states_since start d e (IsNewOrNone size) s.leaves
-        (leaves_call moment crash_states_since d e (IsOutcome (unsynced d)) (IsOutcome (with_write (unsynced d) from n)) (IsNewOrNone size) time (λ c left. only_now d c s.honest_now left) now_none all_none)
-
-    pub write_shut : Time → honest e → unsynced e ≡ with_write (unsynced d) from n → IsShut e
-    write_shut time h touch = record { leaves = write_leaves time; firm = subst (λ (u : PendingState). IsSynced u 0 (0 ∷ [])) (sym touch) (firm_touched (unsynced d) 0 from n (0 ∷ []) (inr (omega (arith, behind))) s.firm); honest_now = h }
-
-    module _ (l : Leaves d e (IsOutcome (with_write (unsynced d) from n))) where
-      pub sync_leaves : Leaves start e (IsNewOrNone size)
-      sync_leaves = leaves_then moment crash_states_since start d e (IsNewOrNone size) s.leaves (leaves_map moment crash_states_since d e (IsOutcome (with_write (unsynced d) from n)) (IsNewOrNone size) all_none l)
-
-      pub sync_shut : (piece : List ℕ) → honest e → Written (bytes d) from piece (bytes e) → unsynced e ≡ all_synced (bytes e) → IsShut e
-      sync_shut piece h w sure = record {
-        leaves = sync_leaves;
-        firm = subst (λ (u : PendingState). IsSynced u 0 (0 ∷ [])) (sym sure) (firm_settled (bytes e) 0 (0 ∷ []) (holds_apart (bytes d) piece (bytes e) (0 ∷ []) from 0 w (inr (omega (arith, behind))) (firm_outcome (unsynced d) 0 (0 ∷ []) (bytes d) s.firm (present d s.honest_now))));
-        honest_now = h;
-      }
-
-  pub last_leaves : (d e : D) → IsShut d → IsMade size (bytes d) → unsynced d ≡ all_synced (bytes d) → Leaves d e (IsOutcome (with_write (unsynced d) 0 1)) → Leaves start e (IsNewOrNone size)
-  last_leaves d e s m sure l = leaves_then moment crash_states_since start d e (IsNewOrNone size) s.leaves
-      (leaves_map moment crash_states_since d e (IsOutcome (with_write (unsynced d) 0 1)) (IsNewOrNone size) (λ c o. last_new size (bytes d) c m (subst (λ (u : PendingState). IsOutcome (with_write u 0 1) c) sure o)) l)
-
-  pub empty_leaves : (d : D) → honest start → unsynced start ≡ all_synced [] → Elapses (moment start) (moment d) (crash_states_since start) (crash_states_since d) (IsOutcome (unsynced start)) → Leaves start d (IsNewOrNone size)
-  empty_leaves d h is time = leaves_call moment crash_states_since start d (IsOutcome (unsynced start)) (IsOutcome (unsynced start)) (IsNewOrNone size) time (λ c left. only_now start c h left) none none
+  pub empty_leaves : (d : D) → disk.honest start → disk.unsynced start ≡ all_synced [] → Elapses (disk.moment start) (disk.moment d) (disk.crash_states_since start) (disk.crash_states_since d) (IsOutcome (disk.unsynced start)) → LeavesOnly disk.moment disk.crash_states_since start d (IsNewOrNone size)
+  empty_leaves d h is time = leaves_call disk.moment disk.crash_states_since start d (IsOutcome (disk.unsynced start)) (IsOutcome (disk.unsynced start)) (IsNewOrNone size) time (λ c left. only_now start c h left) none none
     where
-      none : (c : List ℕ) → IsOutcome (unsynced start) c → IsNewOrNone size c
+      none : (c : List ℕ) → IsOutcome (disk.unsynced start) c → IsNewOrNone size c
       none c o = let p : IsOutcome (all_synced []) c = subst (λ (u : PendingState). IsOutcome u c) is o in let high = p.no_longer in inl (none_short c (omega (arith, high)))
+
+  module _ (d : D) (moments : AtAnyMoment disk start d (IsOutcome (with_write (disk.unsynced start) 0 1))) where
+    pub first_leaves : LeavesNone d
+    first_leaves h is = leaves_map disk.moment disk.crash_states_since start d (IsOutcome (with_write (disk.unsynced start) 0 1)) (IsNewOrNone size) (λ c o. first_none size c (subst (λ (u : PendingState). IsOutcome (with_write u 0 1) c) is o)) (moments h)
+
+    pub first_step : {S : Type 0} {x : S} → SameHonesty disk start d → disk.calls d ≡ disk.calls start ++ Write ∷ Sync ∷ [] → CountsFaults (disk.faults start) (disk.faults d) (Ok x) → (disk.honest start → Written (disk.bytes start) 0 (0 ∷ []) (disk.bytes d)) → (disk.honest start → disk.unsynced d ≡ all_synced (disk.bytes d)) → SoFar d (Write ∷ Sync ∷ [])
+    first_step honest called cause written sure = record {
+      honest = honest;
+      called = called;
+      faults = cause.well refl;
+      leaves = first_leaves;
+      firm = λ h. subst (λ (u : PendingState). IsSynced u 0 (0 ∷ [])) (sym (sure h)) (firm_settled (disk.bytes d) 0 (0 ∷ []) (holds_written (disk.bytes start) (0 ∷ []) (disk.bytes d) 0 (written h)));
+    }
+
+  module _ (d e : D) {done : List CallKind} (s : SoFar d done) (honest : SameHonesty disk d e) where
+    pub honest_on : SameHonesty disk start e
+    honest_on = (λ h. honest.0 (s.honest.0 h), λ h. s.honest.1 (honest.1 h))
+
+    pub cause_on : {r : Result Unit DiskFault} → CountsFaults (disk.faults d) (disk.faults e) r → CountsFaults (disk.faults start) (disk.faults e) r
+    cause_on {r} cause = subst (λ (k : ℕ). CountsFaults k (disk.faults e) r) s.faults cause
+
+    -- a write behind the closed gate of the header
+    module _ (from n : ℕ) (behind : 1 ≤ from) where
+      all_none : disk.honest start → (c : List ℕ) → IsOutcome (with_write (disk.unsynced d) from n) c → IsNewOrNone size c
+      all_none h c o = shut_none size (disk.unsynced d) from n c behind (s.firm h) o
+
+      module _ (time : disk.honest d → Elapses (disk.moment d) (disk.moment e) (disk.crash_states_since d) (disk.crash_states_since e) (IsOutcome (with_write (disk.unsynced d) from n))) where
+        pub write_leaves : LeavesNone e
+        write_leaves h is = leaves_then disk.moment disk.crash_states_since start d e (IsNewOrNone size) (s.leaves h is) (leaves_call disk.moment disk.crash_states_since d e (IsOutcome (disk.unsynced d)) (IsOutcome (with_write (disk.unsynced d) from n)) (IsNewOrNone size) (time (s.honest.0 h))
+            (λ c left. only_now d c (s.honest.0 h) left) (λ c o. inl (none_shut c (firm_outcome (disk.unsynced d) 0 (0 ∷ []) c (s.firm h) o))) (all_none h))
+
+        pub write_step : disk.calls e ≡ disk.calls d ++ Write ∷ [] → {S : Type 0} {x : S} → CountsFaults (disk.faults d) (disk.faults e) (Ok x) → (disk.honest d → disk.unsynced e ≡ with_write (disk.unsynced d) from n) → SoFar e (done ++ Write ∷ [])
+        write_step called cause touch = record {
+          honest = honest_on;
+          called = calls_joined done (Write ∷ []) (disk.calls start) (disk.calls d) (disk.calls e) s.called called;
+          faults = cause.well refl ∙ s.faults;
+          leaves = write_leaves;
+          firm = λ h. subst (λ (u : PendingState). IsSynced u 0 (0 ∷ [])) (sym (touch (s.honest.0 h))) (firm_touched (disk.unsynced d) 0 from n (0 ∷ []) (inr (omega (arith, behind))) (s.firm h));
+        }
+
+      -- and a sync
+      module _ (moments : AtAnyMoment disk d e (IsOutcome (with_write (disk.unsynced d) from n))) where
+        pub sync_leaves : LeavesNone e
+        sync_leaves h is = leaves_then disk.moment disk.crash_states_since start d e (IsNewOrNone size) (s.leaves h is) (leaves_map disk.moment disk.crash_states_since d e (IsOutcome (with_write (disk.unsynced d) from n)) (IsNewOrNone size) (all_none h) (moments (s.honest.0 h)))
+
+        pub sync_step : disk.calls e ≡ disk.calls d ++ Write ∷ Sync ∷ [] → {S : Type 0} {x : S} → CountsFaults (disk.faults d) (disk.faults e) (Ok x) → (piece : List ℕ) → (disk.honest d → Written (disk.bytes d) from piece (disk.bytes e)) → (disk.honest d → disk.unsynced e ≡ all_synced (disk.bytes e)) → SoFar e (done ++ Write ∷ Sync ∷ [])
+        sync_step called cause piece written sure = record {
+          honest = honest_on;
+          called = calls_joined done (Write ∷ Sync ∷ []) (disk.calls start) (disk.calls d) (disk.calls e) s.called called;
+          faults = cause.well refl ∙ s.faults;
+          leaves = sync_leaves;
+          firm = λ h. let h1 = s.honest.0 h in subst (λ (u : PendingState). IsSynced u 0 (0 ∷ [])) (sym (sure h1))
+              (firm_settled (disk.bytes e) 0 (0 ∷ []) (holds_apart (disk.bytes d) piece (disk.bytes e) (0 ∷ []) from 0 (written h1) (inr (omega (arith, behind))) (firm_outcome (disk.unsynced d) 0 (0 ∷ []) (disk.bytes d) (s.firm h) (present d h1))));
+        }
+
+    -- the last one
+    pub last_leaves : (disk.honest start → disk.bytes start ≡ [] → IsMade size (disk.bytes d)) → (disk.honest start → disk.unsynced d ≡ all_synced (disk.bytes d)) → AtAnyMoment disk d e (IsOutcome (with_write (disk.unsynced d) 0 1)) → LeavesNone e
+    last_leaves made sure moments h is = leaves_then disk.moment disk.crash_states_since start d e (IsNewOrNone size) (s.leaves h is)
+        (leaves_map disk.moment disk.crash_states_since d e (IsOutcome (with_write (disk.unsynced d) 0 1)) (IsNewOrNone size) (λ c o. last_new size (disk.bytes d) c (made h (empty_bytes h is)) (subst (λ (u : PendingState). IsOutcome (with_write u 0 1) c) (sure h) o)) (moments (s.honest.0 h)))
 
 -- ---- what a new disk stands for
 module _ (size : ℕ) (c : List ℕ) (allowed : IsSlotSize size) (n : IsNewDisk size c) where

@@ -13,8 +13,8 @@ use Rattle.fp_slots.specs.declared.choosing.SlotFault.{SlotFault}
 use Rattle.fp_slots.specs.declared.choosing.SlotFault.TheVariants as slot_fault
 use Rattle.fp_layout.specs.Size.{first_slot, second_slot}
 use Rattle.fp_layout.specs.Layout.{IsHeader, IsActive}
-use Rattle.fp_layout.specs.Faults.{RefusesHeader, BreaksHead, IsDamage, UnlessWanting, fault_of_bytes, fault_of_chain, fault_of_slots}
-use Rattle.fp_layout.specs.Opening.{BreaksRuling, in_neither, in_one, FoundFront, BreaksFront, in_header, in_slots, in_head, RefusesFront, in_front, in_chain, RefusesDisk}
+use Rattle.fp_layout.specs.Faults.{BreaksHead, IsDamage, UnlessWanting, fault_of_bytes, fault_of_chain, fault_of_slots}
+use Rattle.fp_layout.specs.Opening.{BreaksRuling, in_neither, in_one, FoundFront, BreaksFront, in_slots, in_head, RefusesFront, in_front, in_chain, RefusesDisk}
 
 -- what a fault says it says unless the device or memory was wanting
 pub unless_wanting : (P : OpenFault → Type 0) (f : OpenFault) → P f → UnlessWanting P f
@@ -41,13 +41,6 @@ head_refuses c size slot other Device a r = absurd r
 head_refuses c size slot other Memory a r = absurd r
 
 module _ {R : Type 0} (rejects : R → ℕ → ℕ → List ℕ → ℕ → Type 0) (c : List ℕ) (before : R) where
-  pub header_refuses : (f : OpenFault) → UnlessWanting (RefusesHeader c) f → RefusesFront rejects c before f
-  header_refuses Unformatted r = r
-  header_refuses (UnknownVersion v) r = r
-  header_refuses (Damaged at) r = in_header r
-  header_refuses Device r = tt
-  header_refuses Memory r = tt
-
   pub bytes_refuse : (f : BytesFault) → RefusesFront rejects c before (fault_of_bytes f)
   bytes_refuse bytes_fault.Device = tt
   bytes_refuse bytes_fault.Memory = tt

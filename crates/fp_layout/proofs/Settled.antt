@@ -15,6 +15,12 @@ settled_one b c o =
 pub settled_outcome : (u v : PendingState) (b c : List ℕ) → v ≡ all_synced b → IsOutcome u b → IsOutcome v c → IsOutcome u c
 settled_outcome u v b c sure now o = subst (λ (x : List ℕ). IsOutcome u x) (sym (settled_one b c (subst (λ (w : PendingState). IsOutcome w c) sure o))) now
 
+-- what is done once all is synced leaves nothing else
+pub synced_leaves : {D : Type 0} (disk : Ghosts D) (old middle new : D) → disk.honest old → LeavesOnly disk.moment disk.crash_states_since old middle (IsOutcome (disk.unsynced old)) → LeavesOnly disk.moment disk.crash_states_since middle new (IsOutcome (disk.unsynced middle))
+    → IsOutcome (disk.unsynced old) (disk.bytes old) → disk.unsynced middle ≡ all_synced (disk.bytes old) → LeavesOnly disk.moment disk.crash_states_since old new (IsOutcome (disk.unsynced old))
+synced_leaves disk old middle new h first then now sure = leaves_then disk.moment disk.crash_states_since old middle new (IsOutcome (disk.unsynced old)) first
+    (leaves_map disk.moment disk.crash_states_since middle new (IsOutcome (disk.unsynced middle)) (IsOutcome (disk.unsynced old)) (λ c out. settled_outcome (disk.unsynced old) (disk.unsynced middle) (disk.bytes old) c sure now out) then)
+
 -- ---- a call that writes nothing, and what is done then
 module _ {D : Type 0} (disk : Ghosts D) (only_now : (d : D) (c : List ℕ) → disk.honest d → disk.crash_states_since d (disk.moment d) c → IsOutcome (disk.unsynced d) c)
     (old middle : D) (h : disk.honest old) (time : Elapses (disk.moment old) (disk.moment middle) (disk.crash_states_since old) (disk.crash_states_since middle) (IsOutcome (disk.unsynced old))) where
@@ -31,8 +37,7 @@ module _ {D : Type 0} (disk : Ghosts D) (only_now : (d : D) (c : List ℕ) → d
 
     -- it was one
     pub settled_leaves : IsOutcome (disk.unsynced old) (disk.bytes old) → disk.unsynced middle ≡ all_synced (disk.bytes old) → LeavesOnly disk.moment disk.crash_states_since old new Before
-    settled_leaves now sure = leaves_then disk.moment disk.crash_states_since old middle new Before call_leaves
-        (leaves_map disk.moment disk.crash_states_since middle new (IsOutcome (disk.unsynced middle)) Before (λ c out. settled_outcome (disk.unsynced old) (disk.unsynced middle) (disk.bytes old) c sure now out) leaves)
+    settled_leaves = synced_leaves disk old middle new h call_leaves leaves
 
 -- ---- a write, and a sync
 touched_outcome : (u : PendingState) (at n : ℕ) (c : List ℕ) → IsOutcome u c → IsOutcome (with_write u at n) c

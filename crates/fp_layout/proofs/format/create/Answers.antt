@@ -11,6 +11,35 @@ use Rattle.fp_layout.proofs.Calls.{calls_joined}
 use Rattle.fp_layout.proofs.Making as making
 use Rattle.fp_layout.proofs.format.create.Goals as goal
 
+pub returns : goal.returns
+returns g c =
+    let D = g.D.Disk in let m = g.met.D.Disk in let s = c.args.size in let d0 = c.args.disk in let d1 = c.len.new.self in let d2 = c.format.new.disk in let allowed = c.first_slot.ensures.allowed in
+    let x = c.len.ensures in let y = c.in-Ok-format.ensures in let j = c.adopt-journal.ensures in let same = c.new.ensures.same in
+    let empty : D.honest d0 → D.bytes d0 ≡ [] = λ h. making.no_bytes (D.bytes d0) (sym (c.in-Ok-eq0.ensures.answer h) ∙ c.in-Ok-eq0.field-0-test) in
+    let new : D.honest d0 → IsNewDisk s (D.bytes d2) = λ h. y.made (x.honest.0 h) ((x.same h).0 ∙ empty h) in
+    rw (ap (λ (k : JournalState g.row.D.Denot). k.disk) same.0 ∙ j.disk) (record {
+      journal = (
+        ap (λ (k : JournalState g.row.D.Denot). k.slot) same.0 ∙ j.slot.0 ∙ c.first_slot.ensures.slot,
+        ap (λ (k : JournalState g.row.D.Denot). k.front) same.0 ∙ j.slot.1 ∙ making.opened_front s c.first_slot.result c.first_slot.ensures.slot c.in-Ok-closed.bytes.items c.in-Ok-closed.ensures,
+        ap (λ (k : JournalState g.row.D.Denot). k.sealed) same.0 ∙ j.begins.0,
+        ap (λ (k : JournalState g.row.D.Denot). k.phase) same.0 ∙ j.begins.1,
+      );
+      beside = (same.1 ∙ c.second_slot.ensures.slot, same.2, same.4, same.3);
+      made = new;
+      all_synced = λ h. y.all_synced (x.honest.0 h);
+      stands = λ h. (making.new_header s (D.bytes d2) allowed (new h), making.new_active s (D.bytes d2) allowed (new h), making.new_head s (D.bytes d2) allowed (new h));
+      not_empty = λ h. tt;
+      empty = λ h ok. empty h;
+      any_moment = λ h is. leaves_then D.moment D.crash_states_since d0 d1 d2 (IsNewOrNone s) (making.empty_leaves D m.present m.only_now s d0 d1 h is (x.time h)) (y.any_moment (x.honest.0 h) ((x.same h).1 ∙ is));
+      honest = (λ h. y.honest.0 (x.honest.0 h), λ h. x.honest.1 (y.honest.1 h));
+      called = calls_joined (Length ∷ []) format_calls (D.calls d0) (D.calls d1) (D.calls d2) x.called y.called;
+      untouched = tt;
+      kept = λ h. tt;
+      no_failure = y.cause.well (refl {a = true}) ∙ c.in-Ok-eq0.ensures.cause.well (refl {a = true});
+      cause = tt;
+      unfailed = tt;
+    })
+
 pub adopt-journal-requires-clause-quiet : goal.adopt-journal-requires-clause-quiet
 adopt-journal-requires-clause-quiet g c =
     let D = g.D.Disk in let s = c.args.size in let d = c.format.new.disk in
@@ -19,24 +48,11 @@ adopt-journal-requires-clause-quiet g c =
     let sure : D.honest d → D.unsynced d ≡ all_synced (D.bytes d) = search rules in
     rw (c.first_slot.ensures.slot, items) (λ h. subst (λ (u : PendingState). EndsClosed 64 (64 + s) new_front u) (sym (sure h)) (quiet_settled 64 (64 + s) new_front (D.bytes d) (making.new_ends s (D.bytes d) c.first_slot.ensures.allowed (new h))))
 
-pub returns-clause-stands : goal.returns-clause-stands
-returns-clause-stands g c =
-    let D = g.D.Disk in let s = c.args.size in let d = c.format.new.disk in let allowed = c.first_slot.ensures.allowed in
-    λ h. let h1 = c.len.ensures.honest.0 h in
-    let new : IsNewDisk s (D.bytes d) = c.in-Ok-format.ensures.made h1 ((c.len.ensures.same h).0 ∙ making.no_bytes (D.bytes c.args.disk) (sym (c.in-Ok-eq0.ensures.answer h) ∙ c.in-Ok-eq0.field-0-test)) in
-    rw (ap (λ (j : JournalState g.row.D.Denot). j.disk) c.new.ensures.same.0 ∙ c.adopt-journal.ensures.disk) (making.new_header s (D.bytes d) allowed new, making.new_active s (D.bytes d) allowed new, making.new_head s (D.bytes d) allowed new)
-
-pub returns-clause-any_moment : goal.returns-clause-any_moment
-returns-clause-any_moment g c =
-    let D = g.D.Disk in let m = g.met.D.Disk in let s = c.args.size in let d0 = c.args.disk in let d1 = c.len.new.self in let d2 = c.format.new.disk in
-    λ h is. let same : D.unsynced d1 ≡ all_synced [] = (c.len.ensures.same h).1 ∙ is in
-    rw (ap (λ (j : JournalState g.row.D.Denot). j.disk) c.new.ensures.same.0 ∙ c.adopt-journal.ensures.disk) (leaves_then D.moment D.crash_states_since d0 d1 d2 (IsNewOrNone s) (making.empty_leaves D.honest D.bytes D.unsynced D.moment D.crash_states_since m.present m.only_now s d0 d1 h is (c.len.ensures.time h)) (c.format.ensures.any_moment (c.len.ensures.honest.0 h) same))
-
 pub returns-in_default-format-clause-any_moment : goal.returns-in_default-format-clause-any_moment
 returns-in_default-format-clause-any_moment g c =
     let D = g.D.Disk in let m = g.met.D.Disk in let s = c.args.size in let d0 = c.args.disk in let d1 = c.len.new.self in let d2 = c.format.new.disk in
     λ h is. let same : D.unsynced d1 ≡ all_synced [] = (c.len.ensures.same h).1 ∙ is in
-    leaves_then D.moment D.crash_states_since d0 d1 d2 (IsNewOrNone s) (making.empty_leaves D.honest D.bytes D.unsynced D.moment D.crash_states_since m.present m.only_now s d0 d1 h is (c.len.ensures.time h)) (c.format.ensures.any_moment (c.len.ensures.honest.0 h) same)
+    leaves_then D.moment D.crash_states_since d0 d1 d2 (IsNewOrNone s) (making.empty_leaves D m.present m.only_now s d0 d1 h is (c.len.ensures.time h)) (c.format.ensures.any_moment (c.len.ensures.honest.0 h) same)
 
 pub new-requires-clause-beaten : goal.new-requires-clause-beaten
 new-requires-clause-beaten g c =
@@ -67,45 +83,8 @@ new-requires-clause-front g c =
 pub new-requires-clause-live : goal.new-requires-clause-live
 new-requires-clause-live g c = making.idle_lives c.adopt-journal.result.phase c.adopt-journal.ensures.begins.1
 
-pub returns-clause-journal : goal.returns-clause-journal
-returns-clause-journal g c =
-    let j = c.adopt-journal.ensures in let same = c.new.ensures.same.0 in
-    let front = making.opened_front c.args.size c.first_slot.result c.first_slot.ensures.slot c.in-Ok-closed.bytes.items c.in-Ok-closed.ensures in (
-      ap (λ (k : JournalState g.row.D.Denot). k.slot) same ∙ j.slot.0 ∙ c.first_slot.ensures.slot,
-      ap (λ (k : JournalState g.row.D.Denot). k.front) same ∙ j.slot.1 ∙ front,
-      ap (λ (k : JournalState g.row.D.Denot). k.sealed) same ∙ j.begins.0,
-      ap (λ (k : JournalState g.row.D.Denot). k.phase) same ∙ j.begins.1,
-    )
-
-pub returns-clause-beside : goal.returns-clause-beside
-returns-clause-beside g c = let same = c.new.ensures.same in (same.1 ∙ c.second_slot.ensures.slot, same.2, same.4, same.3)
-
-pub returns-clause-made : goal.returns-clause-made
-returns-clause-made g c = λ h.
-    let D = g.D.Disk in let empty = making.no_bytes (D.bytes c.args.disk) (sym (c.in-Ok-eq0.ensures.answer h) ∙ c.in-Ok-eq0.field-0-test) in
-    rw (ap (λ (j : JournalState g.row.D.Denot). j.disk) c.new.ensures.same.0 ∙ c.adopt-journal.ensures.disk) (c.in-Ok-format.ensures.made (c.len.ensures.honest.0 h) ((c.len.ensures.same h).0 ∙ empty))
-
-pub returns-clause-all_synced : goal.returns-clause-all_synced
-returns-clause-all_synced g c = λ h.
-    rw (ap (λ (j : JournalState g.row.D.Denot). j.disk) c.new.ensures.same.0 ∙ c.adopt-journal.ensures.disk) (c.in-Ok-format.ensures.all_synced (c.len.ensures.honest.0 h))
-
-pub returns-clause-empty : goal.returns-clause-empty
-returns-clause-empty g c = λ h ok. let D = g.D.Disk in making.no_bytes (D.bytes c.args.disk) (sym (c.in-Ok-eq0.ensures.answer h) ∙ c.in-Ok-eq0.field-0-test)
-
-pub returns-clause-honest : goal.returns-clause-honest
-returns-clause-honest g c =
-    let x = c.len.ensures.honest in let y = c.format.ensures.honest in
-    rw (ap (λ (j : JournalState g.row.D.Denot). j.disk) c.new.ensures.same.0 ∙ c.adopt-journal.ensures.disk) (λ h. y.0 (x.0 h), λ h. x.1 (y.1 h))
-
-pub returns-clause-called : goal.returns-clause-called
-returns-clause-called g c =
-    let D = g.D.Disk in
-    rw (ap (λ (j : JournalState g.row.D.Denot). j.disk) c.new.ensures.same.0 ∙ c.adopt-journal.ensures.disk) (calls_joined (Length ∷ []) format_calls (D.calls c.args.disk) (D.calls c.len.new.self) (D.calls c.format.new.disk) c.len.ensures.called c.in-Ok-format.ensures.called)
-
 pub returns-in-Ok-clause-any_moment : goal.returns-in-Ok-clause-any_moment
-returns-in-Ok-clause-any_moment g c = λ h is.
-    let D = g.D.Disk in let m = g.met.D.Disk in
-    making.empty_leaves D.honest D.bytes D.unsynced D.moment D.crash_states_since m.present m.only_now c.args.size c.args.disk c.len.new.self h is (c.len.ensures.time h)
+returns-in-Ok-clause-any_moment g c = λ h is. making.empty_leaves g.D.Disk g.met.D.Disk.present g.met.D.Disk.only_now c.args.size c.args.disk c.len.new.self h is (c.len.ensures.time h)
 
 pub returns-in-Ok-clause-called : goal.returns-in-Ok-clause-called
 returns-in-Ok-clause-called g c = inr (inl c.len.ensures.called)
@@ -114,9 +93,7 @@ pub returns-in-Ok-clause-honest : goal.returns-in-Ok-clause-honest
 returns-in-Ok-clause-honest g c = c.len.ensures.honest
 
 pub returns-in-Err-clause-any_moment : goal.returns-in-Err-clause-any_moment
-returns-in-Err-clause-any_moment g c = λ h is.
-    let D = g.D.Disk in let m = g.met.D.Disk in
-    making.empty_leaves D.honest D.bytes D.unsynced D.moment D.crash_states_since m.present m.only_now c.args.size c.args.disk c.len.new.self h is (c.len.ensures.time h)
+returns-in-Err-clause-any_moment g c = λ h is. making.empty_leaves g.D.Disk g.met.D.Disk.present g.met.D.Disk.only_now c.args.size c.args.disk c.len.new.self h is (c.len.ensures.time h)
 
 pub returns-in-Err-clause-called : goal.returns-in-Err-clause-called
 returns-in-Err-clause-called g c = inr (inl c.len.ensures.called)
@@ -125,9 +102,7 @@ pub returns-in-Err-clause-honest : goal.returns-in-Err-clause-honest
 returns-in-Err-clause-honest g c = c.len.ensures.honest
 
 pub returns-in_default-clause-any_moment : goal.returns-in_default-clause-any_moment
-returns-in_default-clause-any_moment g c = λ h is.
-    let D = g.D.Disk in let m = g.met.D.Disk in
-    making.empty_leaves D.honest D.bytes D.unsynced D.moment D.crash_states_since m.present m.only_now c.args.size c.args.disk c.len.new.self h is (c.len.ensures.time h)
+returns-in_default-clause-any_moment g c = λ h is. making.empty_leaves g.D.Disk g.met.D.Disk.present g.met.D.Disk.only_now c.args.size c.args.disk c.len.new.self h is (c.len.ensures.time h)
 
 pub returns-in_default-clause-called : goal.returns-in_default-clause-called
 returns-in_default-clause-called g c = inr (inl c.len.ensures.called)

@@ -1,191 +1,85 @@
-use Rattle.std.proofs.Common.{◌≤◌, ◌<◌, ◌+◌, ◌∙◌, ℕ, List, [], ◌∷◌, length, inr, refl, sym, true, subst, arith}
+use Rattle.std.proofs.Common.{◌≡◌, ◌≤◌, ◌+◌, ℕ, List, [], ◌∷◌, length, inr, sym, subst, arith}
 use Rattle.std.specs.Prelude.{slice_range}
 use Rattle.std.proofs.lemmas.List.{append-nil}
 use Rattle.std.proofs.lemmas.Result.{err_from_is_err_and, on_ok_weaker}
-use Rattle.fp_disk.specs.Outcomes.{CountsFaults, Written}
+use Rattle.fp_disk.specs.Outcomes.{Written}
 use Rattle.fp_disk.specs.declared.history.CallKind.TheVariants.{Sync, Write}
+use Rattle.fp_slots.proofs.Exits.{answers_err}
 use Rattle.fp_layout.specs.NewDisk.{IsMade}
-use Rattle.fp_layout.proofs.Calls.{answers_fault, breaks_off, calls_joined, makes_behind}
+use Rattle.fp_layout.proofs.Calls.{breaks_off, makes_behind}
 use Rattle.fp_layout.proofs.Making as making
 use Rattle.fp_layout.proofs.format.format.Goals as goal
 use Rattle.fp_gate.specs.declared.gate.TheConstants.{OPEN}
 
-pub returns-in_err-write_synced-2-clause-any_moment : goal.returns-in_err-write_synced-2-clause-any_moment
-returns-in_err-write_synced-2-clause-any_moment g c = λ h is.
-    let D = g.D.Disk in let m = g.met.D.Disk in let d0 = c.args.disk.now in let d1 = c.write_synced.new.disk in let d2 = c.write_at.new.self in let d3 = c.write_synced-2.new.disk in
-    let h1 = c.write_synced.ensures.honest.0 h in let h2 = c.write_at.ensures.honest.0 h1 in let n = length (slice_range c.args.closed.now 1 (length c.args.closed.now)) in
-    let s1 = making.first_shut D.honest D.bytes D.unsynced D.moment D.crash_states_since m.present m.only_now c.args.size d0 d1 is (c.write_synced.ensures.any_moment h) h1 (c.in_ok-write_synced.ensures.written h) (c.in_ok-write_synced.ensures.all_synced h) in
-    let s2 = making.write_shut D.honest D.bytes D.unsynced D.moment D.crash_states_since m.present m.only_now c.args.size d0 d1 d2 s1 1 n (omega arith) (c.write_at.ensures.time h1) h2 (c.in_ok-write_at.ensures.unsynced h1) in
-    making.sync_leaves D.honest D.bytes D.unsynced D.moment D.crash_states_since m.present m.only_now c.args.size d0 d2 d3 s2 (64 + c.bytes.result) 1 (omega arith) (c.write_synced-2.ensures.any_moment h2)
+pub returns-in_err-write_synced : goal.returns-in_err-write_synced
+returns-in_err-write_synced g c =
+    let D = g.D.Disk in let m = g.met.D.Disk in let d0 = c.args.disk.now in let d1 = c.write_synced.new.disk in let w = c.in_err-write_synced.ensures in let p = err_from_is_err_and c.from_residual.result c.from_residual.ensures.1 in
+    rw p.1 (record {
+      made = λ h is. tt;
+      all_synced = λ h. tt;
+      any_moment = making.first_leaves D m.present m.only_now c.args.size d0 d1 w.any_moment;
+      honest = w.honest;
+      called = breaks_off [] (Write ∷ Sync ∷ []) (Write ∷ Write ∷ Sync ∷ Write ∷ Sync ∷ Write ∷ Sync ∷ []) (D.calls d0) (D.calls d0) (D.calls d1) (sym (append-nil (D.calls d0))) w.called;
+      cause = answers_err w.cause;
+    })
 
-pub returns-in_err-write_synced-3-clause-any_moment : goal.returns-in_err-write_synced-3-clause-any_moment
-returns-in_err-write_synced-3-clause-any_moment g c = λ h is.
-    let D = g.D.Disk in let m = g.met.D.Disk in let d0 = c.args.disk.now in let d1 = c.write_synced.new.disk in let d2 = c.write_at.new.self in let d3 = c.write_synced-2.new.disk in
-    let h1 = c.write_synced.ensures.honest.0 h in let h2 = c.write_at.ensures.honest.0 h1 in let n = length (slice_range c.args.closed.now 1 (length c.args.closed.now)) in
-    let s1 = making.first_shut D.honest D.bytes D.unsynced D.moment D.crash_states_since m.present m.only_now c.args.size d0 d1 is (c.write_synced.ensures.any_moment h) h1 (c.in_ok-write_synced.ensures.written h) (c.in_ok-write_synced.ensures.all_synced h) in
-    let s2 = making.write_shut D.honest D.bytes D.unsynced D.moment D.crash_states_since m.present m.only_now c.args.size d0 d1 d2 s1 1 n (omega arith) (c.write_at.ensures.time h1) h2 (c.in_ok-write_at.ensures.unsynced h1) in
-    let h3 = c.write_synced-2.ensures.honest.0 h2 in let d4 = c.write_synced-3.new.disk in
-    let s3 = making.sync_shut D.honest D.bytes D.unsynced D.moment D.crash_states_since m.present m.only_now c.args.size d0 d2 d3 s2 (64 + c.bytes.result) 1 (omega arith) (c.write_synced-2.ensures.any_moment h2) (0 ∷ []) h3 (c.in_ok-write_synced-2.ensures.written h2) (c.in_ok-write_synced-2.ensures.all_synced h2) in
-    making.sync_leaves D.honest D.bytes D.unsynced D.moment D.crash_states_since m.present m.only_now c.args.size d0 d3 d4 s3 64 1 (omega arith) (c.write_synced-3.ensures.any_moment h3)
+pub returns-in_err-write_at : goal.returns-in_err-write_at
+returns-in_err-write_at g c =
+    let D = g.D.Disk in let m = g.met.D.Disk in let d0 = c.args.disk.now in let new = c.write_at.new.self in let w = c.in_err-write_at.ensures in let p = err_from_is_err_and c.from_residual-in_err-write_at.result c.from_residual-in_err-write_at.ensures.1 in
+    let d1 = c.write_synced.new.disk in let w1 = c.in_ok-write_synced.ensures in let s1 = making.first_step D m.present m.only_now c.args.size d0 d1 w1.any_moment w1.honest w1.called w1.cause w1.written w1.all_synced in
+    rw p.1 (record {
+      made = λ h is. tt;
+      all_synced = λ h. tt;
+      any_moment = making.write_leaves D m.present m.only_now c.args.size d0 d1 new s1 w.honest 1 (length (slice_range c.args.closed.now 1 (length c.args.closed.now))) (omega arith) w.time;
+      honest = making.honest_on D m.present m.only_now c.args.size d0 d1 new s1 w.honest;
+      called = breaks_off (Write ∷ Sync ∷ []) (Write ∷ []) (Write ∷ Sync ∷ Write ∷ Sync ∷ Write ∷ Sync ∷ []) (D.calls d0) (D.calls d1) (D.calls new) s1.called (inr w.called);
+      cause = answers_err (making.cause_on D m.present m.only_now c.args.size d0 d1 new s1 w.honest w.cause);
+    })
 
-pub returns-clause-made : goal.returns-clause-made
-returns-clause-made g c = λ h is.
-    let D = g.D.Disk in let m = g.met.D.Disk in let d0 = c.args.disk.now in let d1 = c.write_synced.new.disk in let d2 = c.write_at.new.self in let d3 = c.write_synced-2.new.disk in
-    let h1 = c.write_synced.ensures.honest.0 h in let h2 = c.write_at.ensures.honest.0 h1 in let n = length (slice_range c.args.closed.now 1 (length c.args.closed.now)) in
-    let h3 = c.write_synced-2.ensures.honest.0 h2 in let d4 = c.write_synced-3.new.disk in
-    let h4 = c.write_synced-3.ensures.honest.0 h3 in let d5 = c.write_synced-4.new.disk in
-    let w2 = subst (λ (t : List ℕ). Written (D.bytes d1) 1 (slice_range t 1 (length t)) (D.bytes d2)) c.requires (c.in_ok-write_at.ensures.written h1) in
-    let w3 = subst (λ (k : ℕ). Written (D.bytes d2) (64 + k) (0 ∷ []) (D.bytes d3)) c.bytes.ensures.bytes (c.in_ok-write_synced-2.ensures.written h2) in
+pub returns-in_err-write_synced-2 : goal.returns-in_err-write_synced-2
+returns-in_err-write_synced-2 g c =
+    let D = g.D.Disk in let m = g.met.D.Disk in let d0 = c.args.disk.now in let new = c.write_synced-2.new.disk in let w = c.in_err-write_synced-2.ensures in let p = err_from_is_err_and c.from_residual-in_err-write_synced-2.result c.from_residual-in_err-write_synced-2.ensures.1 in
+    let d1 = c.write_synced.new.disk in let w1 = c.in_ok-write_synced.ensures in let s1 = making.first_step D m.present m.only_now c.args.size d0 d1 w1.any_moment w1.honest w1.called w1.cause w1.written w1.all_synced in
+    let d2 = c.write_at.new.self in let w2 = c.in_ok-write_at.ensures in let s2 = making.write_step D m.present m.only_now c.args.size d0 d1 d2 s1 w2.honest 1 (length (slice_range c.args.closed.now 1 (length c.args.closed.now))) (omega arith) w2.time w2.called w2.cause w2.unsynced in
+    rw p.1 (record {
+      made = λ h is. tt;
+      all_synced = λ h. tt;
+      any_moment = making.sync_leaves D m.present m.only_now c.args.size d0 d2 new s2 w.honest (64 + c.bytes.result) 1 (omega arith) w.any_moment;
+      honest = making.honest_on D m.present m.only_now c.args.size d0 d2 new s2 w.honest;
+      called = breaks_off (Write ∷ Sync ∷ Write ∷ []) (Write ∷ Sync ∷ []) (Write ∷ Sync ∷ Write ∷ Sync ∷ []) (D.calls d0) (D.calls d2) (D.calls new) s2.called w.called;
+      cause = answers_err (making.cause_on D m.present m.only_now c.args.size d0 d2 new s2 w.honest w.cause);
+    })
+
+pub returns-in_err-write_synced-3 : goal.returns-in_err-write_synced-3
+returns-in_err-write_synced-3 g c =
+    let D = g.D.Disk in let m = g.met.D.Disk in let d0 = c.args.disk.now in let new = c.write_synced-3.new.disk in let w = c.in_err-write_synced-3.ensures in let p = err_from_is_err_and c.from_residual-in_err-write_synced-3.result c.from_residual-in_err-write_synced-3.ensures.1 in
+    let d1 = c.write_synced.new.disk in let w1 = c.in_ok-write_synced.ensures in let s1 = making.first_step D m.present m.only_now c.args.size d0 d1 w1.any_moment w1.honest w1.called w1.cause w1.written w1.all_synced in
+    let d2 = c.write_at.new.self in let w2 = c.in_ok-write_at.ensures in let s2 = making.write_step D m.present m.only_now c.args.size d0 d1 d2 s1 w2.honest 1 (length (slice_range c.args.closed.now 1 (length c.args.closed.now))) (omega arith) w2.time w2.called w2.cause w2.unsynced in
+    let d3 = c.write_synced-2.new.disk in let w3 = c.in_ok-write_synced-2.ensures in let s3 = making.sync_step D m.present m.only_now c.args.size d0 d2 d3 s2 w3.honest (64 + c.bytes.result) 1 (omega arith) w3.any_moment w3.called w3.cause (0 ∷ []) w3.written w3.all_synced in
+    rw p.1 (record {
+      made = λ h is. tt;
+      all_synced = λ h. tt;
+      any_moment = making.sync_leaves D m.present m.only_now c.args.size d0 d3 new s3 w.honest 64 1 (omega arith) w.any_moment;
+      honest = making.honest_on D m.present m.only_now c.args.size d0 d3 new s3 w.honest;
+      called = breaks_off (Write ∷ Sync ∷ Write ∷ Write ∷ Sync ∷ []) (Write ∷ Sync ∷ []) (Write ∷ Sync ∷ []) (D.calls d0) (D.calls d3) (D.calls new) s3.called w.called;
+      cause = answers_err (making.cause_on D m.present m.only_now c.args.size d0 d3 new s3 w.honest w.cause);
+    })
+
+pub returns : goal.returns
+returns g c =
+    let D = g.D.Disk in let m = g.met.D.Disk in let d0 = c.args.disk.now in let new = c.write_synced-4.new.disk in let w = c.write_synced-4.ensures in
+    let d1 = c.write_synced.new.disk in let w1 = c.in_ok-write_synced.ensures in let s1 = making.first_step D m.present m.only_now c.args.size d0 d1 w1.any_moment w1.honest w1.called w1.cause w1.written w1.all_synced in
+    let d2 = c.write_at.new.self in let w2 = c.in_ok-write_at.ensures in let s2 = making.write_step D m.present m.only_now c.args.size d0 d1 d2 s1 w2.honest 1 (length (slice_range c.args.closed.now 1 (length c.args.closed.now))) (omega arith) w2.time w2.called w2.cause w2.unsynced in
+    let d3 = c.write_synced-2.new.disk in let w3 = c.in_ok-write_synced-2.ensures in let s3 = making.sync_step D m.present m.only_now c.args.size d0 d2 d3 s2 w3.honest (64 + c.bytes.result) 1 (omega arith) w3.any_moment w3.called w3.cause (0 ∷ []) w3.written w3.all_synced in
+    let d4 = c.write_synced-3.new.disk in let w4 = c.in_ok-write_synced-3.ensures in let s4 = making.sync_step D m.present m.only_now c.args.size d0 d3 d4 s3 w4.honest 64 1 (omega arith) w4.any_moment w4.called w4.cause (OPEN ∷ []) w4.written w4.all_synced in
     let large : 64 ≤ c.args.size = let e = c.bytes.ensures.bytes in let l = c.bytes.ensures.allowed.least in omega (arith, e, l) in
-    let w1 = subst (λ (b : List ℕ). Written b 0 (0 ∷ []) (D.bytes d1)) is (c.in_ok-write_synced.ensures.written h) in
-    let all : IsMade c.args.size (D.bytes d4) = making.made c.args.size (D.bytes d1) (D.bytes d2) (D.bytes d3) (D.bytes d4) large w1 w2 w3 (c.in_ok-write_synced-3.ensures.written h3) in
-    on_ok_weaker c.write_synced-4.result (making.new_written c.args.size (D.bytes d4) (D.bytes d5) all) (c.write_synced-4.ensures.written h4)
-
-pub returns-clause-any_moment : goal.returns-clause-any_moment
-returns-clause-any_moment g c = λ h is.
-    let D = g.D.Disk in let m = g.met.D.Disk in let d0 = c.args.disk.now in let d1 = c.write_synced.new.disk in let d2 = c.write_at.new.self in let d3 = c.write_synced-2.new.disk in
-    let h1 = c.write_synced.ensures.honest.0 h in let h2 = c.write_at.ensures.honest.0 h1 in let n = length (slice_range c.args.closed.now 1 (length c.args.closed.now)) in
-    let s1 = making.first_shut D.honest D.bytes D.unsynced D.moment D.crash_states_since m.present m.only_now c.args.size d0 d1 is (c.write_synced.ensures.any_moment h) h1 (c.in_ok-write_synced.ensures.written h) (c.in_ok-write_synced.ensures.all_synced h) in
-    let s2 = making.write_shut D.honest D.bytes D.unsynced D.moment D.crash_states_since m.present m.only_now c.args.size d0 d1 d2 s1 1 n (omega arith) (c.write_at.ensures.time h1) h2 (c.in_ok-write_at.ensures.unsynced h1) in
-    let h3 = c.write_synced-2.ensures.honest.0 h2 in let d4 = c.write_synced-3.new.disk in
-    let s3 = making.sync_shut D.honest D.bytes D.unsynced D.moment D.crash_states_since m.present m.only_now c.args.size d0 d2 d3 s2 (64 + c.bytes.result) 1 (omega arith) (c.write_synced-2.ensures.any_moment h2) (0 ∷ []) h3 (c.in_ok-write_synced-2.ensures.written h2) (c.in_ok-write_synced-2.ensures.all_synced h2) in
-    let h4 = c.write_synced-3.ensures.honest.0 h3 in let d5 = c.write_synced-4.new.disk in
-    let w2 = subst (λ (t : List ℕ). Written (D.bytes d1) 1 (slice_range t 1 (length t)) (D.bytes d2)) c.requires (c.in_ok-write_at.ensures.written h1) in
-    let w3 = subst (λ (k : ℕ). Written (D.bytes d2) (64 + k) (0 ∷ []) (D.bytes d3)) c.bytes.ensures.bytes (c.in_ok-write_synced-2.ensures.written h2) in
-    let large : 64 ≤ c.args.size = let e = c.bytes.ensures.bytes in let l = c.bytes.ensures.allowed.least in omega (arith, e, l) in
-    let w1 = subst (λ (b : List ℕ). Written b 0 (0 ∷ []) (D.bytes d1)) (making.empty_bytes D.honest D.bytes D.unsynced D.moment D.crash_states_since m.present m.only_now c.args.size d0 h is) (c.in_ok-write_synced.ensures.written h) in
-    let all : IsMade c.args.size (D.bytes d4) = making.made c.args.size (D.bytes d1) (D.bytes d2) (D.bytes d3) (D.bytes d4) large w1 w2 w3 (c.in_ok-write_synced-3.ensures.written h3) in
-    let s4 = making.sync_shut D.honest D.bytes D.unsynced D.moment D.crash_states_since m.present m.only_now c.args.size d0 d3 d4 s3 64 1 (omega arith) (c.write_synced-3.ensures.any_moment h3) (OPEN ∷ []) h4 (c.in_ok-write_synced-3.ensures.written h3) (c.in_ok-write_synced-3.ensures.all_synced h3) in
-    making.last_leaves D.honest D.bytes D.unsynced D.moment D.crash_states_since m.present m.only_now c.args.size d0 d4 d5 s4 all (c.in_ok-write_synced-3.ensures.all_synced h3) (c.write_synced-4.ensures.any_moment h4)
-
-pub returns-in_err-write_synced-clause-made : goal.returns-in_err-write_synced-clause-made
-returns-in_err-write_synced-clause-made g c = λ h is.
-    let p = err_from_is_err_and c.from_residual.result c.from_residual.ensures.1 in rw p.1 tt
-
-pub returns-in_err-write_synced-clause-all_synced : goal.returns-in_err-write_synced-clause-all_synced
-returns-in_err-write_synced-clause-all_synced g c = λ h.
-    let p = err_from_is_err_and c.from_residual.result c.from_residual.ensures.1 in rw p.1 tt
-
-pub returns-in_err-write_synced-clause-honest : goal.returns-in_err-write_synced-clause-honest
-returns-in_err-write_synced-clause-honest g c = c.write_synced.ensures.honest
-
-pub returns-in_err-write_synced-clause-cause : goal.returns-in_err-write_synced-clause-cause
-returns-in_err-write_synced-clause-cause g c =
-    let p = err_from_is_err_and c.from_residual.result c.from_residual.ensures.1 in
-    let D = g.D.Disk in answers_fault c.from_residual.result p.0 (D.faults c.args.disk.now) (D.faults c.write_synced.new.disk) p.1 (c.in_err-write_synced.ensures.cause.ill (refl {a = true}))
-
-pub returns-in_err-write_synced-clause-called : goal.returns-in_err-write_synced-clause-called
-returns-in_err-write_synced-clause-called g c =
-    let p = err_from_is_err_and c.from_residual.result c.from_residual.ensures.1 in
-    let D = g.D.Disk in let d0 = c.args.disk.now in let d1 = c.write_synced.new.disk in
-    rw p.1 (breaks_off [] (Write ∷ Sync ∷ []) (Write ∷ Write ∷ Sync ∷ Write ∷ Sync ∷ Write ∷ Sync ∷ []) (D.calls d0) (D.calls d0) (D.calls d1) (sym (append-nil (D.calls d0))) c.in_err-write_synced.ensures.called)
-
-pub returns-in_err-write_at-clause-made : goal.returns-in_err-write_at-clause-made
-returns-in_err-write_at-clause-made g c = λ h is.
-    let p = err_from_is_err_and c.from_residual-in_err-write_at.result c.from_residual-in_err-write_at.ensures.1 in rw p.1 tt
-
-pub returns-in_err-write_at-clause-all_synced : goal.returns-in_err-write_at-clause-all_synced
-returns-in_err-write_at-clause-all_synced g c = λ h.
-    let p = err_from_is_err_and c.from_residual-in_err-write_at.result c.from_residual-in_err-write_at.ensures.1 in rw p.1 tt
-
-pub returns-in_err-write_at-clause-honest : goal.returns-in_err-write_at-clause-honest
-returns-in_err-write_at-clause-honest g c =
-    let h1 = c.write_synced.ensures.honest in let h2 = c.write_at.ensures.honest in (λ h. h2.0 (h1.0 h), λ h. h1.1 (h2.1 h))
-
-pub returns-in_err-write_at-clause-cause : goal.returns-in_err-write_at-clause-cause
-returns-in_err-write_at-clause-cause g c =
-    let p = err_from_is_err_and c.from_residual-in_err-write_at.result c.from_residual-in_err-write_at.ensures.1 in
-    let D = g.D.Disk in answers_fault c.from_residual-in_err-write_at.result p.0 (D.faults c.args.disk.now) (D.faults c.write_at.new.self) p.1 (subst (λ (k : ℕ). k < D.faults c.write_at.new.self) (c.in_ok-write_synced.ensures.cause.well (refl {a = true})) (c.in_err-write_at.ensures.cause.ill (refl {a = true})))
-
-pub returns-in_err-write_at-clause-called : goal.returns-in_err-write_at-clause-called
-returns-in_err-write_at-clause-called g c =
-    let p = err_from_is_err_and c.from_residual-in_err-write_at.result c.from_residual-in_err-write_at.ensures.1 in
-    let D = g.D.Disk in let d0 = c.args.disk.now in let d1 = c.write_synced.new.disk in let d2 = c.write_at.new.self in
-    rw p.1 (breaks_off (Write ∷ Sync ∷ []) (Write ∷ []) (Write ∷ Sync ∷ Write ∷ Sync ∷ Write ∷ Sync ∷ []) (D.calls d0) (D.calls d1) (D.calls d2) c.in_ok-write_synced.ensures.called (inr c.write_at.ensures.called))
-
-pub returns-in_err-write_synced-2-clause-made : goal.returns-in_err-write_synced-2-clause-made
-returns-in_err-write_synced-2-clause-made g c = λ h is.
-    let p = err_from_is_err_and c.from_residual-in_err-write_synced-2.result c.from_residual-in_err-write_synced-2.ensures.1 in rw p.1 tt
-
-pub returns-in_err-write_synced-2-clause-all_synced : goal.returns-in_err-write_synced-2-clause-all_synced
-returns-in_err-write_synced-2-clause-all_synced g c = λ h.
-    let p = err_from_is_err_and c.from_residual-in_err-write_synced-2.result c.from_residual-in_err-write_synced-2.ensures.1 in rw p.1 tt
-
-pub returns-in_err-write_synced-2-clause-honest : goal.returns-in_err-write_synced-2-clause-honest
-returns-in_err-write_synced-2-clause-honest g c =
-    let h1 = c.write_synced.ensures.honest in let h2 = c.write_at.ensures.honest in let h3 = c.write_synced-2.ensures.honest in (λ h. h3.0 (h2.0 (h1.0 h)), λ h. h1.1 (h2.1 (h3.1 h)))
-
-pub returns-in_err-write_synced-2-clause-cause : goal.returns-in_err-write_synced-2-clause-cause
-returns-in_err-write_synced-2-clause-cause g c =
-    let p = err_from_is_err_and c.from_residual-in_err-write_synced-2.result c.from_residual-in_err-write_synced-2.ensures.1 in
-    let D = g.D.Disk in answers_fault c.from_residual-in_err-write_synced-2.result p.0 (D.faults c.args.disk.now) (D.faults c.write_synced-2.new.disk) p.1 (subst (λ (k : ℕ). k < D.faults c.write_synced-2.new.disk) (c.in_ok-write_at.ensures.cause.well (refl {a = true}) ∙ c.in_ok-write_synced.ensures.cause.well (refl {a = true})) (c.in_err-write_synced-2.ensures.cause.ill (refl {a = true})))
-
-pub returns-in_err-write_synced-2-clause-called : goal.returns-in_err-write_synced-2-clause-called
-returns-in_err-write_synced-2-clause-called g c =
-    let p = err_from_is_err_and c.from_residual-in_err-write_synced-2.result c.from_residual-in_err-write_synced-2.ensures.1 in
-    let D = g.D.Disk in let d0 = c.args.disk.now in let d1 = c.write_synced.new.disk in let d2 = c.write_at.new.self in let d3 = c.write_synced-2.new.disk in
-    let e1 = c.in_ok-write_synced.ensures.called in
-    let e2 = calls_joined (Write ∷ Sync ∷ []) (Write ∷ []) (D.calls d0) (D.calls d1) (D.calls d2) e1 c.write_at.ensures.called in
-    rw p.1 (breaks_off (Write ∷ Sync ∷ Write ∷ []) (Write ∷ Sync ∷ []) (Write ∷ Sync ∷ Write ∷ Sync ∷ []) (D.calls d0) (D.calls d2) (D.calls d3) e2 c.in_err-write_synced-2.ensures.called)
-
-pub returns-in_err-write_synced-3-clause-made : goal.returns-in_err-write_synced-3-clause-made
-returns-in_err-write_synced-3-clause-made g c = λ h is.
-    let p = err_from_is_err_and c.from_residual-in_err-write_synced-3.result c.from_residual-in_err-write_synced-3.ensures.1 in rw p.1 tt
-
-pub returns-in_err-write_synced-3-clause-all_synced : goal.returns-in_err-write_synced-3-clause-all_synced
-returns-in_err-write_synced-3-clause-all_synced g c = λ h.
-    let p = err_from_is_err_and c.from_residual-in_err-write_synced-3.result c.from_residual-in_err-write_synced-3.ensures.1 in rw p.1 tt
-
-pub returns-in_err-write_synced-3-clause-honest : goal.returns-in_err-write_synced-3-clause-honest
-returns-in_err-write_synced-3-clause-honest g c =
-    let h1 = c.write_synced.ensures.honest in let h2 = c.write_at.ensures.honest in let h3 = c.write_synced-2.ensures.honest in let h4 = c.write_synced-3.ensures.honest in (λ h. h4.0 (h3.0 (h2.0 (h1.0 h))), λ h. h1.1 (h2.1 (h3.1 (h4.1 h))))
-
-pub returns-in_err-write_synced-3-clause-cause : goal.returns-in_err-write_synced-3-clause-cause
-returns-in_err-write_synced-3-clause-cause g c =
-    let p = err_from_is_err_and c.from_residual-in_err-write_synced-3.result c.from_residual-in_err-write_synced-3.ensures.1 in
-    let D = g.D.Disk in answers_fault c.from_residual-in_err-write_synced-3.result p.0 (D.faults c.args.disk.now) (D.faults c.write_synced-3.new.disk) p.1 (subst (λ (k : ℕ). k < D.faults c.write_synced-3.new.disk) (c.in_ok-write_synced-2.ensures.cause.well (refl {a = true}) ∙ c.in_ok-write_at.ensures.cause.well (refl {a = true}) ∙ c.in_ok-write_synced.ensures.cause.well (refl {a = true})) (c.in_err-write_synced-3.ensures.cause.ill (refl {a = true})))
-
-pub returns-in_err-write_synced-3-clause-called : goal.returns-in_err-write_synced-3-clause-called
-returns-in_err-write_synced-3-clause-called g c =
-    let p = err_from_is_err_and c.from_residual-in_err-write_synced-3.result c.from_residual-in_err-write_synced-3.ensures.1 in
-    let D = g.D.Disk in let d0 = c.args.disk.now in let d1 = c.write_synced.new.disk in let d2 = c.write_at.new.self in let d3 = c.write_synced-2.new.disk in let d4 = c.write_synced-3.new.disk in
-    let e1 = c.in_ok-write_synced.ensures.called in
-    let e2 = calls_joined (Write ∷ Sync ∷ []) (Write ∷ []) (D.calls d0) (D.calls d1) (D.calls d2) e1 c.write_at.ensures.called in
-    let e3 = calls_joined (Write ∷ Sync ∷ Write ∷ []) (Write ∷ Sync ∷ []) (D.calls d0) (D.calls d2) (D.calls d3) e2 c.in_ok-write_synced-2.ensures.called in
-    rw p.1 (breaks_off (Write ∷ Sync ∷ Write ∷ Write ∷ Sync ∷ []) (Write ∷ Sync ∷ []) (Write ∷ Sync ∷ []) (D.calls d0) (D.calls d3) (D.calls d4) e3 c.in_err-write_synced-3.ensures.called)
-
-pub returns-clause-called : goal.returns-clause-called
-returns-clause-called g c =
-    let D = g.D.Disk in let d0 = c.args.disk.now in let d1 = c.write_synced.new.disk in let d2 = c.write_at.new.self in let d3 = c.write_synced-2.new.disk in let d4 = c.write_synced-3.new.disk in let d5 = c.write_synced-4.new.disk in
-    let e1 = c.in_ok-write_synced.ensures.called in
-    let e2 = calls_joined (Write ∷ Sync ∷ []) (Write ∷ []) (D.calls d0) (D.calls d1) (D.calls d2) e1 c.write_at.ensures.called in
-    let e3 = calls_joined (Write ∷ Sync ∷ Write ∷ []) (Write ∷ Sync ∷ []) (D.calls d0) (D.calls d2) (D.calls d3) e2 c.in_ok-write_synced-2.ensures.called in
-    let e4 = calls_joined (Write ∷ Sync ∷ Write ∷ Write ∷ Sync ∷ []) (Write ∷ Sync ∷ []) (D.calls d0) (D.calls d3) (D.calls d4) e3 c.in_ok-write_synced-3.ensures.called in
-    makes_behind c.write_synced-4.result (Write ∷ Sync ∷ Write ∷ Write ∷ Sync ∷ Write ∷ Sync ∷ []) (Write ∷ Sync ∷ []) (D.calls d0) (D.calls d4) (D.calls d5) e4 c.write_synced-4.ensures.called
-
-pub returns-clause-cause : goal.returns-clause-cause
-returns-clause-cause g c =
-    let D = g.D.Disk in
-    subst (λ (k : ℕ). CountsFaults k (D.faults c.write_synced-4.new.disk) c.write_synced-4.result) (c.in_ok-write_synced-3.ensures.cause.well (refl {a = true}) ∙ c.in_ok-write_synced-2.ensures.cause.well (refl {a = true}) ∙ c.in_ok-write_at.ensures.cause.well (refl {a = true}) ∙ c.in_ok-write_synced.ensures.cause.well (refl {a = true})) c.write_synced-4.ensures.cause
-
-pub returns-clause-honest : goal.returns-clause-honest
-returns-clause-honest g c =
-    let h1 = c.write_synced.ensures.honest in let h2 = c.write_at.ensures.honest in let h3 = c.write_synced-2.ensures.honest in let h4 = c.write_synced-3.ensures.honest in let h5 = c.write_synced-4.ensures.honest in
-    (λ h. h5.0 (h4.0 (h3.0 (h2.0 (h1.0 h)))), λ h. h1.1 (h2.1 (h3.1 (h4.1 (h5.1 h)))))
-
-pub returns-clause-all_synced : goal.returns-clause-all_synced
-returns-clause-all_synced g c = λ h.
-    let h1 = c.write_synced.ensures.honest.0 h in let h2 = c.write_at.ensures.honest.0 h1 in let h3 = c.write_synced-2.ensures.honest.0 h2 in let h4 = c.write_synced-3.ensures.honest.0 h3 in
-    c.write_synced-4.ensures.all_synced h4
-
-pub returns-in_err-write_synced-clause-any_moment : goal.returns-in_err-write_synced-clause-any_moment
-returns-in_err-write_synced-clause-any_moment g c = λ h is.
-    let D = g.D.Disk in let m = g.met.D.Disk in
-    making.first_leaves D.honest D.bytes D.unsynced D.moment D.crash_states_since m.present m.only_now c.args.size c.args.disk.now c.write_synced.new.disk is (c.write_synced.ensures.any_moment h)
-
-pub returns-in_err-write_at-clause-any_moment : goal.returns-in_err-write_at-clause-any_moment
-returns-in_err-write_at-clause-any_moment g c = λ h is.
-    let D = g.D.Disk in let m = g.met.D.Disk in let d0 = c.args.disk.now in let d1 = c.write_synced.new.disk in let d2 = c.write_at.new.self in
-    let h1 = c.write_synced.ensures.honest.0 h in let n = length (slice_range c.args.closed.now 1 (length c.args.closed.now)) in
-    let s1 = making.first_shut D.honest D.bytes D.unsynced D.moment D.crash_states_since m.present m.only_now c.args.size d0 d1 is (c.write_synced.ensures.any_moment h) h1 (c.in_ok-write_synced.ensures.written h) (c.in_ok-write_synced.ensures.all_synced h) in
-    making.write_leaves D.honest D.bytes D.unsynced D.moment D.crash_states_since m.present m.only_now c.args.size d0 d1 d2 s1 1 n (omega arith) (c.write_at.ensures.time h1)
+    let all : D.honest d0 → D.bytes d0 ≡ [] → IsMade c.args.size (D.bytes d4) = λ h is. making.made c.args.size (D.bytes d1) (D.bytes d2) (D.bytes d3) (D.bytes d4) large (subst (λ (b : List ℕ). Written b 0 (0 ∷ []) (D.bytes d1)) is (w1.written h)) (subst (λ (t : List ℕ). Written (D.bytes d1) 1 (slice_range t 1 (length t)) (D.bytes d2)) c.requires (w2.written (s1.honest.0 h)))
+    (subst (λ (k : ℕ). Written (D.bytes d2) (64 + k) (0 ∷ []) (D.bytes d3)) c.bytes.ensures.bytes (w3.written (s2.honest.0 h))) (w4.written (s3.honest.0 h)) in
+    record {
+      made = λ h is. on_ok_weaker c.write_synced-4.result (making.new_written c.args.size (D.bytes d4) (D.bytes new) (all h is)) (w.written (s4.honest.0 h));
+      all_synced = λ h. w.all_synced (s4.honest.0 h);
+      any_moment = making.last_leaves D m.present m.only_now c.args.size d0 d4 new s4 w.honest all (λ h. w4.all_synced (s3.honest.0 h)) w.any_moment;
+      honest = making.honest_on D m.present m.only_now c.args.size d0 d4 new s4 w.honest;
+      called = makes_behind c.write_synced-4.result (Write ∷ Sync ∷ Write ∷ Write ∷ Sync ∷ Write ∷ Sync ∷ []) (Write ∷ Sync ∷ []) (D.calls d0) (D.calls d4) (D.calls new) s4.called w.called;
+      cause = making.cause_on D m.present m.only_now c.args.size d0 d4 new s4 w.honest w.cause;
+    }
