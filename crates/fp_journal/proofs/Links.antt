@@ -153,32 +153,6 @@ module _ {R : Type 0} (takes : R → List ℕ → R → Type 0) where
   reads_more before middle after [] b is one = (after, subst (λ (r : R). takes r b after) (sym is) one, refl)
   reads_more before middle after (x ∷ xs) b all one = (all.0, all.1, reads_more all.0 middle after xs b all.2 one)
 
--- a reader has taken what was read
-pub record IsReading {R : Type 0} (takes : R → List ℕ → R → Type 0) (most from stop : ℕ) (c : List ℕ) (before : R) (at : ℕ) (now : R) : Type 0 where
-  pub bodies : List (List ℕ)
-  pub read : HasRead most from stop c bodies at
-  pub reads : Reads takes before bodies now
-
-module _ {R : Type 0} (takes : R → List ℕ → R → Type 0) (refuses : R → List ℕ → ℕ → Type 0) (most from stop : ℕ) (c : List ℕ) (small : most < 2 ^ 32) (before : R) where
-  pub reading_more : (at next : ℕ) (now then : R) (b : List ℕ) → IsReading takes most from stop c before at now → IsNext most at stop b next c → takes now b then → IsReading takes most from stop c before next then
-  reading_more at next now then b r n one = record {
-    bodies = r.bodies ++ b ∷ [];
-    read = read_more most from stop c small r.bodies at next b r.read n;
-    reads = reads_more takes before now then r.bodies b r.reads one;
-  }
-
-  pub reading_all : (at : ℕ) (now : R) → IsReading takes most from stop c before at now → IsClosed at stop c → FoundChain takes most from stop c before now at
-  reading_all at now r shut = let all = read_all most from stop c small r.bodies at r.read shut in record { bodies = r.bodies; chain = all.0; only = all.1; place = r.read.place; reads = r.reads }
-
-  stops : (at : ℕ) (now : R) (k : ℕ) → IsReading takes most from stop c before at now → Breaks most stop c at k ⊎ ((body : List ℕ) × (next : ℕ) × (offset : ℕ) × IsNext most at stop body next c × refuses now body offset × (k ≡ at + 5 + offset)) → StopsAt takes refuses most from stop c before k
-  stops at now k r fault = record { bodies = r.bodies; gate = at; last = now; holds = r.read.holds; short = r.read.short; place = r.read.place; within = r.read.within; reads = r.reads; fault = fault }
-
-  pub reading_breaks : (at : ℕ) (now : R) (k : ℕ) → IsReading takes most from stop c before at now → Breaks most stop c at k → StopsAt takes refuses most from stop c before k
-  reading_breaks at now k r broken = stops at now k r (inl broken)
-
-  pub reading_refused : (at next : ℕ) (now : R) (b : List ℕ) (offset : ℕ) → IsReading takes most from stop c before at now → IsNext most at stop b next c → refuses now b offset → StopsAt takes refuses most from stop c before (at + 5 + offset)
-  reading_refused at next now b offset r n bad = stops at now (at + 5 + offset) r (inr (b, next, offset, n, bad, refl))
-
 -- ---- as it is read of a disk
 -- a reader has taken what was read, and its text is behind the one that was there
 pub record IsReadTo {R : Type 0} (honest : Type 0) (takes : R → List ℕ → R → Type 0) (most from stop : ℕ) (c : List ℕ) (before now : R) (old text : List ℕ) (at : ℕ) : Type 0 where
@@ -212,19 +186,19 @@ module _ {R : Type 0} (honest : Type 0) (takes : R → List ℕ → R → Type 0
       let all : honest → IsChain most from stop r.bodies c × ((bs : List (List ℕ)) → IsChain most from stop bs c → bs ≡ r.bodies) = λ h. read_all most from stop c small r.bodies at (r.read h) (record { within = within; long = long h; shut = shut h }) in
       record { bodies = r.bodies; reads = r.reads; short = r.short; text = r.text_is; place = r.place; within = within; chain = λ h. (all h).0; only = λ h. (all h).1 }
 
-  reading_of : (at : ℕ) (now : R) (text : List ℕ) → honest → IsReadTo honest takes most from stop c before now old text at → IsReading takes most from stop c before at now
-  reading_of at now text h r = record { bodies = r.bodies; read = r.read h; reads = r.reads }
+  -- it breaks off there
+  stops : (refuses : R → List ℕ → ℕ → Type 0) (at k : ℕ) (now : R) (text : List ℕ) → honest → IsReadTo honest takes most from stop c before now old text at → Breaks most stop c at k ⊎ ((body : List ℕ) × (next : ℕ) × (offset : ℕ) × IsNext most at stop body next c × refuses now body offset × (k ≡ at + 5 + offset)) → StopsAt takes refuses most from stop c before k
+  stops refuses at k now text h r fault = let read = r.read h in record { bodies = r.bodies; gate = at; last = now; holds = read.holds; short = r.short; place = r.place; within = read.within; reads = r.reads; fault = fault }
 
   pub to_broken : (refuses : R → List ℕ → ℕ → Type 0) (at limit : ℕ) (now : R) (text : List ℕ) (f : ChainFault) → honest → IsReadTo honest takes most from stop c before now old text at → limit ≡ min stop (length c) → TellsDamage (BreaksBefore most limit c at) f
       → Refuses takes refuses most from stop c before f
-  to_broken refuses at limit now text (Damaged k) h r is broken = reading_breaks takes refuses most from stop c small before at now k (reading_of at now text h r) (subst (λ (n : ℕ). BreaksBefore most n c at k) is broken)
+  to_broken refuses at limit now text (Damaged k) h r is broken = stops refuses at k now text h r (inl (subst (λ (n : ℕ). BreaksBefore most n c at k) is broken))
   to_broken refuses at limit now text Device h r is broken = tt
   to_broken refuses at limit now text Memory h r is broken = tt
 
   pub to_refused : (refuses : R → List ℕ → ℕ → Type 0) (at offset : ℕ) (now : R) (text b : List ℕ) → honest → IsReadTo honest takes most from stop c before now old text at → length b ≤ most → at + 5 + length b ≤ stop → Holds c at (OPEN ∷ with_length b) → refuses now b offset → (k : ℕ) → k ≡ at + 5 + offset
       → StopsAt takes refuses most from stop c before k
-  to_refused refuses at offset now text b h r short within holds bad k is =
-      subst (λ (n : ℕ). StopsAt takes refuses most from stop c before n) (sym is) (reading_refused takes refuses most from stop c small before at (at + 5 + length b) now b offset (reading_of at now text h r) (record { holds = holds; short = short; place = refl; within = within }) bad)
+  to_refused refuses at offset now text b h r short within holds bad k is = stops refuses at k now text h r (inr (b, at + 5 + length b, offset, record { holds = holds; short = short; place = refl; within = within }, bad, is))
 
 -- what was read of an honest disk is its one chain
 pub found_of : {R : Type 0} (honest : Type 0) (takes : R → List ℕ → R → Type 0) (most at stop : ℕ) (c : List ℕ) (before after : R) (old new : List ℕ) (end : ℕ) → honest → ReadsChain honest takes most at stop c before after old new end → FoundChain takes most at stop c before after end

@@ -1,10 +1,12 @@
 -- What each call of a journal does to its invariant, and what it leaves at each moment.
 use Rattle.std.proofs.Common.{◌≡◌, ◌⊎◌, ◌≤◌, ◌<◌, ◌+◌, ◌-◌, inl, inr, ⊎_elim, ℕ, Bool, true, false, List, [], ◌∷◌, ◌++◌, length, refl, arith, sym, ◌∙◌, ap, subst, length-append}
 use Rattle.std.specs.List.{AllByRecursion}
-use Rattle.std.specs.Prelude.{slice_index}
+use Rattle.std.specs.Prelude.{Result, slice_index}
 use Rattle.std.proofs.lemmas.List.{append_assoc, take_at}
-use Rattle.fp_disk.specs.Outcomes.{ChangesWithin, Elapses, IsOutcome, LeavesOnly, PendingState, Written, all_synced, with_write}
-use Rattle.fp_disk.specs.Crashes.{SameHonesty}
+use Rattle.fp_disk.specs.Outcomes.{ChangesWithin, CountsFaults, Elapses, IsOutcome, LeavesOnly, PendingState, Written, all_synced, with_write}
+use Rattle.fp_disk.specs.Crashes.{AtAnyMoment, SameHonesty}
+use Rattle.fp_disk.specs.declared.disk.DiskFault.{DiskFault}
+use Rattle.fp_journal.specs.Calls.{KeepsAround}
 use Rattle.fp_disk.specs.Moments.{leaves_map, leaves_then}
 use Rattle.fp_disk.specs.declared.disk.Disk.{Ghosts}
 use Rattle.fp_journal.specs.declared.slot.Slot.{Slot}
@@ -13,7 +15,7 @@ use Rattle.fp_journal.specs.declared.journal.Phase.TheVariants.{Idle, Staged, Bo
 use Rattle.fp_journal.specs.Holds.{Apart, Holds}
 use Rattle.fp_gate.specs.Gates.{IsOpen, IsShut, StaysAsRead}
 use Rattle.fp_journal.specs.Chain.{Ends, with_length, with_gate, body_of, spell}
-use Rattle.fp_journal.specs.Moments.{KeepsFirm, KeepsHeld}
+use Rattle.fp_journal.specs.Moments.{KeepsFirm, KeepsRead, KeepsSynced}
 use Rattle.fp_journal.specs.declared.held.Held.{Held}
 use Rattle.fp_journal.specs.declared.held.Held.TheVariants as held
 use Rattle.fp_journal.specs.State.{JournalState, HasAmong, HasChain, HasChainOrNext, HasNext, CrashStates, StatesAfterSync, Outside, EndsClosed, IsAt, IsFrame, IsOnWay, InFlight, AllShort, IsHeld, IsKept, IsLeft, SameSlot, begun_of, has_begun, phase_of, room}
@@ -38,10 +40,8 @@ All-push P (y ∷ ys) x all p = (all.0, All-push P ys x all.1 p)
 longer_text : (t b : List ℕ) → length (t ++ OPEN ∷ with_length b) ≡ length t + 5 + length b
 longer_text t b = let e = length-append t (OPEN ∷ with_length b) in omega (arith, e)
 
-module _ {D : Type 0} (honest : D → Type 0) (bytes : D → List ℕ) (unsynced : D → PendingState) (moment : D → ℕ) (crash_states_since : D → ℕ → List ℕ → Type 0)
-    (present : (d : D) → honest d → IsOutcome (unsynced d) (bytes d))
-    (only_now : (d : D) (c : List ℕ) → honest d → crash_states_since d (moment d) c → IsOutcome (unsynced d) c)
-    {k : JournalState D} {end : ℕ} {in_flight : List ℕ} (kept : IsKept honest bytes unsynced k end in_flight) where
+module _ {D : Type 0} (disk : Ghosts D) (present : (d : D) → disk.honest d → IsOutcome (disk.unsynced d) (disk.bytes d)) (only_now : (d : D) (c : List ℕ) → disk.honest d → disk.crash_states_since d (disk.moment d) c → IsOutcome (disk.unsynced d) c)
+    {k : JournalState D} {end : ℕ} {in_flight : List ℕ} (kept : IsKept disk.honest disk.bytes disk.unsynced k end in_flight) where
   abbrev text : List ℕ
   text = k.front ++ spell k.sealed
 
@@ -49,26 +49,26 @@ module _ {D : Type 0} (honest : D → Type 0) (bytes : D → List ℕ) (unsynced
   next body = k.front ++ spell (k.sealed ++ body ∷ [])
 
   abbrev State : Phase → Bool → List ℕ → D → Type 0
-  State p begun body d = IsAt p begun (unsynced d) (bytes d) k.slot.start k.slot.stop text (with_length body) (next body)
+  State p begun body d = IsAt p begun (disk.unsynced d) (disk.bytes d) k.slot.start k.slot.stop text (with_length body) (next body)
 
   abbrev Kept : D → List ℕ → Phase → Bool → List ℕ → Type 0
-  Kept d body p begun written = IsKept honest bytes unsynced (record k { disk = d; staged = body; phase = p; begun = begun }) end written
+  Kept d body p begun written = IsKept disk.honest disk.bytes disk.unsynced (record k { disk = d; staged = body; phase = p; begun = begun }) end written
 
   abbrev Time : D → PendingState → Type 0
-  Time new u = Elapses (moment k.disk) (moment new) (crash_states_since k.disk) (crash_states_since new) (IsOutcome u)
+  Time new u = Elapses (disk.moment k.disk) (disk.moment new) (disk.crash_states_since k.disk) (disk.crash_states_since new) (IsOutcome u)
 
   abbrev Leaves : D → (List ℕ → Type 0) → Type 0
-  Leaves new P = LeavesOnly moment crash_states_since k.disk new P
+  Leaves new P = LeavesOnly disk.moment disk.crash_states_since k.disk new P
 
   -- the outcomes now
-  pub outcomes : honest k.disk → (c : List ℕ) → IsOutcome (unsynced k.disk) c → CrashStates k c
-  outcomes h c o = stays.at_claims k.slot k.front k.sealed k.staged k.phase k.begun (bytes k.disk) (unsynced k.disk) c (kept.state h) o
+  pub outcomes : disk.honest k.disk → (c : List ℕ) → IsOutcome (disk.unsynced k.disk) c → CrashStates k c
+  outcomes h c o = stays.at_claims k.slot k.front k.sealed k.staged k.phase k.begun (disk.bytes k.disk) (disk.unsynced k.disk) c (kept.state h) o
 
-  state_is : (p : Phase) → k.phase ≡ p → honest k.disk → State p k.begun k.staged k.disk
+  state_is : (p : Phase) → k.phase ≡ p → disk.honest k.disk → State p k.begun k.staged k.disk
   state_is p is h = subst (λ (q : Phase). State q k.begun k.staged k.disk) is (kept.state h)
 
   -- what a read gives once the gate is open
-  pub reads_opened : honest k.disk → k.phase ≡ GateOpened → HasChain k.slot k.front (k.sealed ++ k.staged ∷ []) (bytes k.disk)
+  pub reads_opened : disk.honest k.disk → k.phase ≡ GateOpened → HasChain k.slot k.front (k.sealed ++ k.staged ∷ []) (disk.bytes k.disk)
   reads_opened h opened = (state_is GateOpened opened h).0
 
   flight_is : (p : Phase) → k.phase ≡ p → InFlight p k.slot.most (k.slot.stop - end) k.staged in_flight
@@ -85,42 +85,39 @@ module _ {D : Type 0} (honest : D → Type 0) (bytes : D → List ℕ) (unsynced
   pub frame_on_way : IsOnWay k.phase → IsFrame k.slot.most (k.slot.stop - end) k.staged in_flight
   frame_on_way on = frame_at k.phase on kept.flight
 
-  goes_on : (d : D) (body : List ℕ) (p : Phase) (begun : Bool) (written : List ℕ) → InFlight p k.slot.most (k.slot.stop - end) body written → (honest d → State p begun body d) → Kept d body p begun written
+  goes_on : (d : D) (body : List ℕ) (p : Phase) (begun : Bool) (written : List ℕ) → InFlight p k.slot.most (k.slot.stop - end) body written → (disk.honest d → State p begun body d) → Kept d body p begun written
   goes_on d body p begun written flight state = record { place = kept.place; within = kept.within; short = kept.short; flight = flight; state = state }
 
   -- ---- body_synced
-  pub body_done : k.phase ≡ Staged → (honest k.disk → (c : List ℕ) → IsOutcome (unsynced k.disk) c → HasNext k.slot k.front k.sealed k.staged c) → Kept k.disk k.staged BodySynced false in_flight
+  pub body_done : k.phase ≡ Staged → (disk.honest k.disk → (c : List ℕ) → IsOutcome (disk.unsynced k.disk) c → HasNext k.slot k.front k.sealed k.staged c) → Kept k.disk k.staged BodySynced false in_flight
   body_done staged all = goes_on k.disk k.staged BodySynced false in_flight (flight_is Staged staged) (λ h.
-      let q = firm.ends_firm (unsynced k.disk) (bytes k.disk) (present k.disk h) (k.slot.start + length text + 1) k.slot.stop (with_length k.staged) (λ c o. (all h c o).next) in
+      let q = firm.ends_firm (disk.unsynced k.disk) (disk.bytes k.disk) (present k.disk h) (k.slot.start + length text + 1) k.slot.stop (with_length k.staged) (λ c o. (all h c o).next) in
       ((state_is Staged staged h).0, record { gate = q.gate; shut = q.shut; firm = q.firm; within = q.within }))
 
   -- ---- the gate of a body that is synced
   module _ (synced : k.phase ≡ BodySynced) where
-    pub gate_shut : honest k.disk → IsShut (unsynced k.disk) end
-    gate_shut h = subst (λ (at : ℕ). IsShut (unsynced k.disk) at) (sym kept.place) (firm.quiet_shut k.slot.start k.slot.stop text (unsynced k.disk) (state_is BodySynced synced h).0)
+    pub gate_shut : disk.honest k.disk → IsShut (disk.unsynced k.disk) end
+    gate_shut h = subst (λ (at : ℕ). IsShut (disk.unsynced k.disk) at) (sym kept.place) (firm.quiet_shut k.slot.start k.slot.stop text (disk.unsynced k.disk) (state_is BodySynced synced h).0)
 
-    pub frame_long : length in_flight ≡ length k.staged + 5
+    frame_long : length in_flight ≡ length k.staged + 5
     frame_long = let f : IsFrame k.slot.most (k.slot.stop - end) k.staged in_flight = flight_is BodySynced synced in ap length f.shape ∙ length_with_gate k.staged
 
-    pub frame_fits : end + 1 + length in_flight ≤ k.slot.stop
-    frame_fits = let f : IsFrame k.slot.most (k.slot.stop - end) k.staged in_flight = flight_is BodySynced synced in let size = frame_long in let fits = f.fits in let w = kept.within in omega (arith, size, fits, w)
-
-    pub body_stays : honest k.disk → StaysAsRead (unsynced k.disk) (bytes k.disk) (end + 1) (end + 1 + length in_flight)
+    pub body_stays : disk.honest k.disk → StaysAsRead (disk.unsynced k.disk) (disk.bytes k.disk) (end + 1) (end + 1 + length in_flight)
     body_stays h = let size = frame_long in let place = kept.place in
         let from : end + 1 ≡ k.slot.start + length text + 1 = omega (arith, place) in
         let to : end + 1 + length in_flight ≡ k.slot.start + length text + 1 + (length (with_length k.staged) + 1) = omega (arith, place, size) in
-        subst (λ (j : ℕ). StaysAsRead (unsynced k.disk) (bytes k.disk) j (end + 1 + length in_flight)) (sym from)
-        (subst (λ (j : ℕ). StaysAsRead (unsynced k.disk) (bytes k.disk) (k.slot.start + length text + 1) j) (sym to)
-        (firm.sure_stays k.slot.start k.slot.stop text (unsynced k.disk) (with_length k.staged) (bytes k.disk) (state_is BodySynced synced h).1 (present k.disk h)))
+        subst (λ (j : ℕ). StaysAsRead (disk.unsynced k.disk) (disk.bytes k.disk) j (end + 1 + length in_flight)) (sym from)
+        (subst (λ (j : ℕ). StaysAsRead (disk.unsynced k.disk) (disk.bytes k.disk) (k.slot.start + length text + 1) j) (sym to)
+        (firm.sure_stays k.slot.start k.slot.stop text (disk.unsynced k.disk) (with_length k.staged) (disk.bytes k.disk) (state_is BodySynced synced h).1 (present k.disk h)))
 
   -- ---- gate_synced
-  module _ (opened : k.phase ≡ GateOpened) (all : honest k.disk → (c : List ℕ) → IsOutcome (unsynced k.disk) c → HasChain k.slot k.front (k.sealed ++ k.staged ∷ []) c) where
-    pub gate_open : honest k.disk → IsOpen (unsynced k.disk) end
+  module _ (opened : k.phase ≡ GateOpened) (all : disk.honest k.disk → (c : List ℕ) → IsOutcome (disk.unsynced k.disk) c → HasChain k.slot k.front (k.sealed ++ k.staged ∷ []) c) where
+    pub gate_open : disk.honest k.disk → IsOpen (disk.unsynced k.disk) end
     gate_open h = λ c o. subst (λ (at : ℕ). (at < length c) × (slice_index c at ≡ OPEN)) (sym kept.place)
         (firm.ends_open k.slot.start k.slot.stop text (with_length k.staged) c (subst (λ (t : List ℕ). Ends k.slot.start k.slot.stop t c) (text-more k.front k.sealed k.staged) (all h c o)))
 
     pub sealed_done : (name : ℕ) (sealed : List (List ℕ)) (n : ℕ) → sealed ≡ k.sealed ++ k.staged ∷ [] → n ≡ length in_flight
-        → IsKept honest bytes unsynced (record k { name = name; sealed = sealed; phase = Idle; begun = false }) (end + n) in_flight
+        → IsKept disk.honest disk.bytes disk.unsynced (record k { name = name; sealed = sealed; phase = Idle; begun = false }) (end + n) in_flight
     sealed_done name sealed n is len =
         let f : IsFrame k.slot.most (k.slot.stop - end) k.staged in_flight = flight_is GateOpened opened in let place = kept.place in let fits = f.fits in let w = kept.within in
         let size : length in_flight ≡ length k.staged + 5 = ap length f.shape ∙ length_with_gate k.staged in
@@ -130,117 +127,120 @@ module _ {D : Type 0} (honest : D → Type 0) (bytes : D → List ℕ) (unsynced
           within = omega (arith, len, size, fits, w);
           short = subst (λ (bs : List (List ℕ)). AllShort k.slot.most bs) (sym is) (All-push (λ (b : List ℕ). length b ≤ k.slot.most) k.sealed k.staged kept.short f.short);
           flight = tt;
-          state = λ h. subst (λ (bs : List (List ℕ)). EndsClosed k.slot.start k.slot.stop (k.front ++ spell bs) (unsynced k.disk)) (sym is)
-              (firm.ends_firm (unsynced k.disk) (bytes k.disk) (present k.disk h) k.slot.start k.slot.stop (next k.staged) (all h));
+          state = λ h. subst (λ (bs : List (List ℕ)). EndsClosed k.slot.start k.slot.stop (k.front ++ spell bs) (disk.unsynced k.disk)) (sym is)
+              (firm.ends_firm (disk.unsynced k.disk) (disk.bytes k.disk) (present k.disk h) k.slot.start k.slot.stop (next k.staged) (all h));
         }
 
   module _ (new : D) where
     -- ---- stage
     module _ (idle : k.phase ≡ Idle) where
-      quiet : honest k.disk → EndsClosed k.slot.start k.slot.stop text (unsynced k.disk)
+      quiet : disk.honest k.disk → EndsClosed k.slot.start k.slot.stop text (disk.unsynced k.disk)
       quiet h = state_is Idle idle h
 
       behind : k.slot.start + length text < end + 1
       behind = let p = kept.place in omega (arith, p)
 
-      pub stage_leaves : (n : ℕ) → (honest k.disk → Time new (with_write (unsynced k.disk) (end + 1) n)) → honest k.disk → Leaves new (HasChain k.slot k.front k.sealed)
-      stage_leaves n time h = calls.stage_leaves honest bytes unsynced moment crash_states_since present only_now k.disk new h k.slot.start k.slot.stop text [] (text ++ OPEN ∷ []) refl (quiet h) (end + 1) n behind (time h)
+      pub stage_leaves : (n : ℕ) → (disk.honest k.disk → Time new (with_write (disk.unsynced k.disk) (end + 1) n)) → disk.honest k.disk → Leaves new (HasChain k.slot k.front k.sealed)
+      stage_leaves n time h = calls.stage_leaves disk.honest disk.bytes disk.unsynced disk.moment disk.crash_states_since present only_now k.disk new h k.slot.start k.slot.stop text [] (text ++ OPEN ∷ []) refl (quiet h) (end + 1) n behind (time h)
 
-      pub stage_failed : (body written : List ℕ) (n : ℕ) → (honest new → honest k.disk) → (honest k.disk → (unsynced new ≡ unsynced k.disk) ⊎ (unsynced new ≡ with_write (unsynced k.disk) (end + 1) n)) → Kept new body Failed false written
+      pub stage_failed : (body written : List ℕ) (n : ℕ) → (disk.honest new → disk.honest k.disk) → (disk.honest k.disk → (disk.unsynced new ≡ disk.unsynced k.disk) ⊎ (disk.unsynced new ≡ with_write (disk.unsynced k.disk) (end + 1) n)) → Kept new body Failed false written
       stage_failed body written n back failed = goes_on new body Failed false written tt
-          (λ h. let h0 = back h in calls.stage_failed honest bytes unsynced moment crash_states_since present only_now k.disk new h0 k.slot.start k.slot.stop text (with_length body) (next body) (text-more k.front k.sealed body) (quiet h0) (end + 1) n behind (failed h0))
+          (λ h. let h0 = back h in calls.stage_failed disk.honest disk.bytes disk.unsynced disk.moment disk.crash_states_since present only_now k.disk new h0 k.slot.start k.slot.stop text (with_length body) (next body) (text-more k.front k.sealed body) (quiet h0) (end + 1) n behind (failed h0))
 
       -- the body lies in the frame's bytes, of which the piece is what was written
       module _ (body written piece : List ℕ) (frame : written ≡ with_gate body) (shape : piece ≡ with_gate body) (fits : length body + 6 ≤ room k) where
-        pub stage_done : length body ≤ k.slot.most → (honest new → honest k.disk)
-            → (honest k.disk → Written (bytes k.disk) (end + 1) piece (bytes new)) → (honest k.disk → unsynced new ≡ with_write (unsynced k.disk) (end + 1) (length piece)) → Kept new (body_of written) Staged false written
+        pub stage_done : length body ≤ k.slot.most → (disk.honest new → disk.honest k.disk)
+            → (disk.honest k.disk → Written (disk.bytes k.disk) (end + 1) piece (disk.bytes new)) → (disk.honest k.disk → disk.unsynced new ≡ with_write (disk.unsynced k.disk) (end + 1) (length piece)) → Kept new (body_of written) Staged false written
         stage_done short back wrote touch =
             let place = kept.place in let within = kept.within in
             let is : body_of written ≡ body = ap body_of frame ∙ body_of-with_gate body in
             subst (λ (b : List ℕ). Kept new b Staged false written) (sym is) (goes_on new body Staged false written (record { shape = frame; short = short; fits = omega (arith, fits, place) }) (λ h. let h0 = back h in (
-              calls.stage_quiet honest bytes unsynced moment crash_states_since present only_now k.disk new h0 k.slot.start k.slot.stop text (with_length body) (next body) (text-more k.front k.sealed body) (quiet h0) (end + 1) (length piece) behind (touch h0),
-              ready_written k.slot.start k.slot.stop text (with_length body) (bytes k.disk) (bytes new) (end + 1) (omega (arith, place)) (omega (arith, place, fits, within)) (subst (λ (t : List ℕ). Written (bytes k.disk) (end + 1) t (bytes new)) shape (wrote h0)),
+              calls.stage_quiet disk.honest disk.bytes disk.unsynced disk.moment disk.crash_states_since present only_now k.disk new h0 k.slot.start k.slot.stop text (with_length body) (next body) (text-more k.front k.sealed body) (quiet h0) (end + 1) (length piece) behind (touch h0),
+              ready_written k.slot.start k.slot.stop text (with_length body) (disk.bytes k.disk) (disk.bytes new) (end + 1) (omega (arith, place)) (omega (arith, place, fits, within)) (subst (λ (t : List ℕ). Written (disk.bytes k.disk) (end + 1) t (disk.bytes new)) shape (wrote h0)),
             )))
-
-        pub stage_apart : (honest k.disk → Time new (with_write (unsynced k.disk) (end + 1) (length piece)))
-            → (honest k.disk → (unsynced new ≡ unsynced k.disk) ⊎ (unsynced new ≡ with_write (unsynced k.disk) (end + 1) (length piece))) → honest k.disk → KeepsFirm moment crash_states_since unsynced k.disk new (Outside k.slot)
-        stage_apart time failed h =
-            let place = kept.place in let size : length piece ≡ length body + 5 = ap length shape ∙ length_with_gate body in
-            calls.frame_write honest bytes unsynced moment crash_states_since present only_now k.disk new h (end + 1) (length piece) (Outside k.slot)
-            (λ at m out. ⊎_elim (λ before. inr (omega (arith, before, place))) (λ after. inl (omega (arith, after, place, size, fits))) out) (time h) (failed h)
-
-        pub stage_beside : honest k.disk → ChangesWithin (bytes k.disk) (end + 1) (length piece) (bytes new) → KeepsHeld bytes k.disk new (Outside k.slot)
-        stage_beside h changes =
-            let place = kept.place in let size : length piece ≡ length body + 5 = ap length shape ∙ length_with_gate body in
-            λ at t out p. holds_within (bytes k.disk) (bytes new) t (end + 1) (length piece) at changes (⊎_elim (λ before. inr (omega (arith, before, place))) (λ after. inl (omega (arith, after, place, size, fits))) out) p
 
     -- ---- open_gate
     module _ (synced : k.phase ≡ BodySynced) (place : ℕ) (is : place ≡ end) where
-      pub gate_leaves : (honest k.disk → Time new (with_write (unsynced k.disk) place 1)) → honest k.disk → Leaves new (HasChainOrNext k.slot k.front k.sealed k.staged)
-      gate_leaves time h = calls.gate_leaves honest bytes unsynced moment crash_states_since present only_now k.disk new h k.slot.start k.slot.stop text (with_length k.staged) (next k.staged) (text-more k.front k.sealed k.staged) (state_is BodySynced synced h) place (is ∙ kept.place) (time h)
+      pub gate_leaves : (disk.honest k.disk → Time new (with_write (disk.unsynced k.disk) place 1)) → disk.honest k.disk → Leaves new (HasChainOrNext k.slot k.front k.sealed k.staged)
+      gate_leaves time h = calls.gate_leaves disk.honest disk.bytes disk.unsynced disk.moment disk.crash_states_since present only_now k.disk new h k.slot.start k.slot.stop text (with_length k.staged) (next k.staged) (text-more k.front k.sealed k.staged) (state_is BodySynced synced h) place (is ∙ kept.place) (time h)
 
-      pub gate_failed : (honest new → honest k.disk) → (honest k.disk → (unsynced new ≡ unsynced k.disk) ⊎ (unsynced new ≡ with_write (unsynced k.disk) place 1)) → Kept new k.staged Failed true in_flight
+      pub gate_failed : (disk.honest new → disk.honest k.disk) → (disk.honest k.disk → (disk.unsynced new ≡ disk.unsynced k.disk) ⊎ (disk.unsynced new ≡ with_write (disk.unsynced k.disk) place 1)) → Kept new k.staged Failed true in_flight
       gate_failed back failed = goes_on new k.staged Failed true in_flight tt
-          (λ h. let h0 = back h in calls.gate_failed honest bytes unsynced moment crash_states_since present only_now k.disk new h0 k.slot.start k.slot.stop text (with_length k.staged) (next k.staged) (text-more k.front k.sealed k.staged) (state_is BodySynced synced h0) place (is ∙ kept.place) (failed h0))
+          (λ h. let h0 = back h in calls.gate_failed disk.honest disk.bytes disk.unsynced disk.moment disk.crash_states_since present only_now k.disk new h0 k.slot.start k.slot.stop text (with_length k.staged) (next k.staged) (text-more k.front k.sealed k.staged) (state_is BodySynced synced h0) place (is ∙ kept.place) (failed h0))
 
-      pub gate_done : (honest new → honest k.disk) → (honest k.disk → Written (bytes k.disk) place (OPEN ∷ []) (bytes new)) → (honest k.disk → unsynced new ≡ with_write (unsynced k.disk) place 1) → Kept new k.staged GateOpened true in_flight
+      pub gate_done : (disk.honest new → disk.honest k.disk) → (disk.honest k.disk → Written (disk.bytes k.disk) place (OPEN ∷ []) (disk.bytes new)) → (disk.honest k.disk → disk.unsynced new ≡ with_write (disk.unsynced k.disk) place 1) → Kept new k.staged GateOpened true in_flight
       gate_done back wrote touch = goes_on new k.staged GateOpened true in_flight (flight_is BodySynced synced)
-          (λ h. let h0 = back h in calls.gate_open honest bytes unsynced moment crash_states_since present only_now k.disk new h0 k.slot.start k.slot.stop text (with_length k.staged) (next k.staged) (text-more k.front k.sealed k.staged) (state_is BodySynced synced h0) place (is ∙ kept.place) (wrote h0) (touch h0))
+          (λ h. let h0 = back h in calls.gate_open disk.honest disk.bytes disk.unsynced disk.moment disk.crash_states_since present only_now k.disk new h0 k.slot.start k.slot.stop text (with_length k.staged) (next k.staged) (text-more k.front k.sealed k.staged) (state_is BodySynced synced h0) place (is ∙ kept.place) (wrote h0) (touch h0))
 
-      pub gate_apart : (honest k.disk → Time new (with_write (unsynced k.disk) place 1)) → (honest k.disk → (unsynced new ≡ unsynced k.disk) ⊎ (unsynced new ≡ with_write (unsynced k.disk) place 1)) → honest k.disk → KeepsFirm moment crash_states_since unsynced k.disk new (Outside k.slot)
-      gate_apart time failed h = let ends = kept.place in let within = kept.within in
-          calls.frame_write honest bytes unsynced moment crash_states_since present only_now k.disk new h place 1 (Outside k.slot)
-          (λ at m out. ⊎_elim (λ before. inr (omega (arith, before, ends, is))) (λ after. inl (omega (arith, after, within, is))) out) (time h) (failed h)
-
-      pub gate_beside : honest k.disk → ChangesWithin (bytes k.disk) place 1 (bytes new) → KeepsHeld bytes k.disk new (Outside k.slot)
-      gate_beside h changes = let ends = kept.place in let within = kept.within in
-          λ at t out p. holds_within (bytes k.disk) (bytes new) t place 1 at changes (⊎_elim (λ before. inr (omega (arith, before, ends, is))) (λ after. inl (omega (arith, after, within, is))) out) p
-
-      pub gate_reads : (honest k.disk → Written (bytes k.disk) place (OPEN ∷ []) (bytes new)) → (honest k.disk → unsynced new ≡ with_write (unsynced k.disk) place 1) → honest k.disk → HasChain k.slot k.front (k.sealed ++ k.staged ∷ []) (bytes new)
-      gate_reads wrote touch h = (calls.gate_open honest bytes unsynced moment crash_states_since present only_now k.disk new h k.slot.start k.slot.stop text (with_length k.staged) (next k.staged) (text-more k.front k.sealed k.staged) (state_is BodySynced synced h) place (is ∙ kept.place) (wrote h) (touch h)).0
+      pub gate_reads : (disk.honest k.disk → Written (disk.bytes k.disk) place (OPEN ∷ []) (disk.bytes new)) → (disk.honest k.disk → disk.unsynced new ≡ with_write (disk.unsynced k.disk) place 1) → disk.honest k.disk → HasChain k.slot k.front (k.sealed ++ k.staged ∷ []) (disk.bytes new)
+      gate_reads wrote touch h = (calls.gate_open disk.honest disk.bytes disk.unsynced disk.moment disk.crash_states_since present only_now k.disk new h k.slot.start k.slot.stop text (with_length k.staged) (next k.staged) (text-more k.front k.sealed k.staged) (state_is BodySynced synced h) place (is ∙ kept.place) (wrote h) (touch h)).0
 
     -- ---- syncs
-    pub sync_apart : (Out : ℕ → ℕ → Type 0) → (honest k.disk → Time new (unsynced k.disk)) → (honest k.disk → (unsynced new ≡ unsynced k.disk) ⊎ (unsynced new ≡ all_synced (bytes k.disk))) → honest k.disk → KeepsFirm moment crash_states_since unsynced k.disk new Out
-    sync_apart Out time is h = calls.frame_sync honest bytes unsynced moment crash_states_since present only_now k.disk new h Out (time h) (is h)
+    pub sync_apart : (Out : ℕ → ℕ → Type 0) → (disk.honest k.disk → Time new (disk.unsynced k.disk)) → (disk.honest k.disk → (disk.unsynced new ≡ disk.unsynced k.disk) ⊎ (disk.unsynced new ≡ all_synced (disk.bytes k.disk))) → disk.honest k.disk → KeepsFirm disk.moment disk.crash_states_since disk.unsynced k.disk new Out
+    sync_apart Out time is h = calls.frame_sync disk.honest disk.bytes disk.unsynced disk.moment disk.crash_states_since present only_now k.disk new h Out (time h) (is h)
 
-    pub sync_leaves : (honest k.disk → Time new (unsynced k.disk)) → honest k.disk → Leaves new (CrashStates k)
-    sync_leaves time h = calls.goes honest bytes unsynced moment crash_states_since present only_now k.disk new h (unsynced k.disk) (CrashStates k) (time h) (outcomes h) (outcomes h)
+    pub sync_leaves : (disk.honest k.disk → Time new (disk.unsynced k.disk)) → disk.honest k.disk → Leaves new (CrashStates k)
+    sync_leaves time h = calls.goes disk.honest disk.bytes disk.unsynced disk.moment disk.crash_states_since present only_now k.disk new h (disk.unsynced k.disk) (CrashStates k) (time h) (outcomes h) (outcomes h)
 
-    pub sync_failed : (begun : Bool) → has_begun k.phase k.begun ≡ begun → (honest new → honest k.disk) → (honest k.disk → unsynced new ≡ unsynced k.disk) → Kept new k.staged Failed begun in_flight
+    pub sync_failed : (begun : Bool) → has_begun k.phase k.begun ≡ begun → (disk.honest new → disk.honest k.disk) → (disk.honest k.disk → disk.unsynced new ≡ disk.unsynced k.disk) → Kept new k.staged Failed begun in_flight
     sync_failed begun is back same = subst (λ (b : Bool). Kept new k.staged Failed b in_flight) is (goes_on new k.staged Failed (has_begun k.phase k.begun) in_flight tt
-        (λ h. let h0 = back h in subst (λ (u : PendingState). IsLeft (has_begun k.phase k.begun) u k.slot.start k.slot.stop text (with_length k.staged)) (sym (same h0)) (stays.left_at k.slot.start k.slot.stop text (with_length k.staged) (next k.staged) (bytes k.disk) (unsynced k.disk) k.phase k.begun (kept.state h0))))
+        (λ h. let h0 = back h in subst (λ (u : PendingState). IsLeft (has_begun k.phase k.begun) u k.slot.start k.slot.stop text (with_length k.staged)) (sym (same h0)) (stays.left_at k.slot.start k.slot.stop text (with_length k.staged) (next k.staged) (disk.bytes k.disk) (disk.unsynced k.disk) k.phase k.begun (kept.state h0))))
 
-    pub sync_done : (honest new → honest k.disk) → (honest k.disk → bytes new ≡ bytes k.disk) → (honest k.disk → unsynced new ≡ all_synced (bytes k.disk)) → Kept new k.staged k.phase k.begun in_flight
+    pub sync_done : (disk.honest new → disk.honest k.disk) → (disk.honest k.disk → disk.bytes new ≡ disk.bytes k.disk) → (disk.honest k.disk → disk.unsynced new ≡ all_synced (disk.bytes k.disk)) → Kept new k.staged k.phase k.begun in_flight
     sync_done back same sure = goes_on new k.staged k.phase k.begun in_flight kept.flight
-        (λ h. let h0 = back h in subst (λ (b : List ℕ). IsAt k.phase k.begun (unsynced new) b k.slot.start k.slot.stop text (with_length k.staged) (next k.staged)) (sym (same h0))
-        (subst (λ (u : PendingState). IsAt k.phase k.begun u (bytes k.disk) k.slot.start k.slot.stop text (with_length k.staged) (next k.staged)) (sym (sure h0)) (stays.at_synced k.slot.start k.slot.stop text (with_length k.staged) (next k.staged) (bytes k.disk) (unsynced k.disk) (present k.disk h0) k.phase k.begun (kept.state h0))))
+        (λ h. let h0 = back h in subst (λ (b : List ℕ). IsAt k.phase k.begun (disk.unsynced new) b k.slot.start k.slot.stop text (with_length k.staged) (next k.staged)) (sym (same h0))
+        (subst (λ (u : PendingState). IsAt k.phase k.begun u (disk.bytes k.disk) k.slot.start k.slot.stop text (with_length k.staged) (next k.staged)) (sym (sure h0)) (stays.at_synced k.slot.start k.slot.stop text (with_length k.staged) (next k.staged) (disk.bytes k.disk) (disk.unsynced k.disk) (present k.disk h0) k.phase k.begun (kept.state h0))))
 
-    pub sync_secures : (honest new → honest k.disk) → (honest k.disk → unsynced new ≡ all_synced (bytes k.disk)) → honest new → (c : List ℕ) → IsOutcome (unsynced new) c → StatesAfterSync k c
-    sync_secures back sure h c o = let h0 = back h in stays.at_secures k.slot k.front k.sealed k.staged k.phase k.begun (bytes k.disk) (unsynced k.disk) c (present k.disk h0) (kept.state h0) (subst (λ (u : PendingState). IsOutcome u c) (sure h0) o)
+    pub sync_secures : (disk.honest new → disk.honest k.disk) → (disk.honest k.disk → disk.unsynced new ≡ all_synced (disk.bytes k.disk)) → disk.honest new → (c : List ℕ) → IsOutcome (disk.unsynced new) c → StatesAfterSync k c
+    sync_secures back sure h c o = let h0 = back h in stays.at_secures k.slot k.front k.sealed k.staged k.phase k.begun (disk.bytes k.disk) (disk.unsynced k.disk) c (present k.disk h0) (kept.state h0) (subst (λ (u : PendingState). IsOutcome u c) (sure h0) o)
 
     -- ---- write_outside
     module _ (from : ℕ) (piece : List ℕ) (out : Outside k.slot from (length piece)) where
       abbrev Tried : PendingState
-      Tried = with_write (unsynced k.disk) from (length piece)
+      Tried = with_write (disk.unsynced k.disk) from (length piece)
 
-      pub outside_leaves : (honest k.disk → Time new Tried) → honest k.disk → Leaves new (CrashStates k)
-      outside_leaves time h = calls.goes honest bytes unsynced moment crash_states_since present only_now k.disk new h Tried (CrashStates k) (time h) (outcomes h)
-          (λ c o. stays.outside_claims k.slot k.front k.sealed k.staged from (length piece) out k.phase k.begun (bytes k.disk) (unsynced k.disk) c (kept.state h) o)
+      pub outside_leaves : (disk.honest k.disk → Time new Tried) → disk.honest k.disk → Leaves new (CrashStates k)
+      outside_leaves time h = calls.goes disk.honest disk.bytes disk.unsynced disk.moment disk.crash_states_since present only_now k.disk new h Tried (CrashStates k) (time h) (outcomes h)
+          (λ c o. stays.outside_claims k.slot k.front k.sealed k.staged from (length piece) out k.phase k.begun (disk.bytes k.disk) (disk.unsynced k.disk) c (kept.state h) o)
 
-      pub outside_apart : (honest k.disk → Time new Tried) → (honest k.disk → (unsynced new ≡ unsynced k.disk) ⊎ (unsynced new ≡ Tried)) → honest k.disk → KeepsFirm moment crash_states_since unsynced k.disk new (Apart from (length piece))
-      outside_apart time is h = calls.frame_write honest bytes unsynced moment crash_states_since present only_now k.disk new h from (length piece) (Apart from (length piece)) (λ at m apart. apart) (time h) (is h)
-
-      pub outside_beside : ChangesWithin (bytes k.disk) from (length piece) (bytes new) → KeepsHeld bytes k.disk new (Apart from (length piece))
-      outside_beside changes = λ at t apart p. holds_within (bytes k.disk) (bytes new) t from (length piece) at changes apart p
-
-      pub outside_failed : (begun : Bool) → has_begun k.phase k.begun ≡ begun → (honest new → honest k.disk) → (honest k.disk → (unsynced new ≡ unsynced k.disk) ⊎ (unsynced new ≡ Tried)) → Kept new k.staged Failed begun in_flight
+      pub outside_failed : (begun : Bool) → has_begun k.phase k.begun ≡ begun → (disk.honest new → disk.honest k.disk) → (disk.honest k.disk → (disk.unsynced new ≡ disk.unsynced k.disk) ⊎ (disk.unsynced new ≡ Tried)) → Kept new k.staged Failed begun in_flight
       outside_failed begun is back failed = subst (λ (b : Bool). Kept new k.staged Failed b in_flight) is (goes_on new k.staged Failed (has_begun k.phase k.begun) in_flight tt (λ h. let h0 = back h in ⊎_elim
-          (λ same. subst (λ (u : PendingState). IsLeft (has_begun k.phase k.begun) u k.slot.start k.slot.stop text (with_length k.staged)) (sym same) (stays.left_at k.slot.start k.slot.stop text (with_length k.staged) (next k.staged) (bytes k.disk) (unsynced k.disk) k.phase k.begun (kept.state h0)))
-          (λ touch. subst (λ (u : PendingState). IsLeft (has_begun k.phase k.begun) u k.slot.start k.slot.stop text (with_length k.staged)) (sym touch) (stays.left_outside k.slot.start k.slot.stop text (with_length k.staged) (next k.staged) from (length piece) out k.phase k.begun (bytes k.disk) (unsynced k.disk) (kept.state h0))) (failed h0)))
+          (λ same. subst (λ (u : PendingState). IsLeft (has_begun k.phase k.begun) u k.slot.start k.slot.stop text (with_length k.staged)) (sym same) (stays.left_at k.slot.start k.slot.stop text (with_length k.staged) (next k.staged) (disk.bytes k.disk) (disk.unsynced k.disk) k.phase k.begun (kept.state h0)))
+          (λ touch. subst (λ (u : PendingState). IsLeft (has_begun k.phase k.begun) u k.slot.start k.slot.stop text (with_length k.staged)) (sym touch) (stays.left_outside k.slot.start k.slot.stop text (with_length k.staged) (next k.staged) from (length piece) out k.phase k.begun (disk.bytes k.disk) (disk.unsynced k.disk) (kept.state h0))) (failed h0)))
 
-      pub outside_done : (honest new → honest k.disk) → (honest k.disk → Written (bytes k.disk) from piece (bytes new)) → (honest k.disk → unsynced new ≡ Tried) → Kept new k.staged k.phase k.begun in_flight
+      pub outside_done : (disk.honest new → disk.honest k.disk) → (disk.honest k.disk → Written (disk.bytes k.disk) from piece (disk.bytes new)) → (disk.honest k.disk → disk.unsynced new ≡ Tried) → Kept new k.staged k.phase k.begun in_flight
       outside_done back wrote touch = goes_on new k.staged k.phase k.begun in_flight kept.flight
-          (λ h. let h0 = back h in subst (λ (u : PendingState). IsAt k.phase k.begun u (bytes new) k.slot.start k.slot.stop text (with_length k.staged) (next k.staged)) (sym (touch h0)) (stays.at_outside k.slot.start k.slot.stop text (with_length k.staged) (next k.staged) from (length piece) out (bytes k.disk) (bytes new) piece refl (wrote h0) k.phase k.begun (unsynced k.disk) (kept.state h0)))
+          (λ h. let h0 = back h in subst (λ (u : PendingState). IsAt k.phase k.begun u (disk.bytes new) k.slot.start k.slot.stop text (with_length k.staged) (next k.staged)) (sym (touch h0)) (stays.at_outside k.slot.start k.slot.stop text (with_length k.staged) (next k.staged) from (length piece) out (disk.bytes k.disk) (disk.bytes new) piece refl (wrote h0) k.phase k.begun (disk.unsynced k.disk) (kept.state h0)))
+
+  -- ---- what a call keeps, however it ended
+  module _ {S : Type 0} {l : JournalState D} {r : Result S DiskFault} (same : SameSlot k l) (back : SameHonesty disk k.disk l.disk) (cause : CountsFaults (disk.faults k.disk) (disk.faults l.disk) r) where
+    pub sync_kept : (disk.honest k.disk → Time l.disk (disk.unsynced k.disk)) → (disk.honest k.disk → (disk.unsynced l.disk ≡ disk.unsynced k.disk) ⊎ (disk.unsynced l.disk ≡ all_synced (disk.bytes k.disk))) → (disk.honest k.disk → disk.bytes l.disk ≡ disk.bytes k.disk) → KeepsAround disk k l (CrashStates k) (λ at n. Unit {0}) r
+    sync_kept time is read = record { same = same; any_moment = sync_leaves l.disk time; apart = sync_apart l.disk (λ at n. Unit {0}) time is; beside = λ h at t out p. subst (λ (b : List ℕ). Holds b at t) (sym (read h)) p; honest = back; cause = cause }
+
+    module _ (from : ℕ) (piece : List ℕ) (time : disk.honest k.disk → Time l.disk (with_write (disk.unsynced k.disk) from (length piece))) (failed : disk.honest k.disk → (disk.unsynced l.disk ≡ disk.unsynced k.disk) ⊎ (disk.unsynced l.disk ≡ with_write (disk.unsynced k.disk) from (length piece)))
+        (changes : disk.honest k.disk → ChangesWithin (disk.bytes k.disk) from (length piece) (disk.bytes l.disk)) where
+      written_kept : (P : List ℕ → Type 0) (Out : ℕ → ℕ → Type 0) → (disk.honest k.disk → Leaves l.disk P) → ((at m : ℕ) → Out at m → Apart from (length piece) at m) → KeepsAround disk k l P Out r
+      written_kept P Out leaves apart = record {
+        same = same;
+        any_moment = leaves;
+        apart = λ h. calls.frame_write disk.honest disk.bytes disk.unsynced disk.moment disk.crash_states_since present only_now k.disk l.disk h from (length piece) Out apart (time h) (failed h);
+        beside = λ h at t out p. holds_within (disk.bytes k.disk) (disk.bytes l.disk) t from (length piece) at (changes h) (apart at (length t) out) p;
+        honest = back;
+        cause = cause;
+      }
+
+      pub outside_kept : Outside k.slot from (length piece) → KeepsAround disk k l (CrashStates k) (Apart from (length piece)) r
+      outside_kept out = written_kept (CrashStates k) (Apart from (length piece)) (outside_leaves l.disk from piece out time) (λ at m apart. apart)
+
+      pub gate_kept : k.phase ≡ BodySynced → from ≡ end → length piece ≡ 1 → KeepsAround disk k l (HasChainOrNext k.slot k.front k.sealed k.staged) (Outside k.slot) r
+      gate_kept synced is one = let ends = kept.place in let within = kept.within in written_kept (HasChainOrNext k.slot k.front k.sealed k.staged) (Outside k.slot)
+          (gate_leaves l.disk synced from is (λ h. subst (λ (n : ℕ). Time l.disk (with_write (disk.unsynced k.disk) from n)) one (time h)))
+          (λ at m out. ⊎_elim (λ before. inr (omega (arith, before, ends, is))) (λ after. inl (omega (arith, after, within, is, one))) out)
+
+      pub stage_kept : k.phase ≡ Idle → from ≡ end + 1 → (body : List ℕ) → piece ≡ with_gate body → length body + 6 ≤ room k → KeepsAround disk k l (HasChain k.slot k.front k.sealed) (Outside k.slot) r
+      stage_kept idle is body shape fits = let place = kept.place in let size : length piece ≡ length body + 5 = ap length shape ∙ length_with_gate body in written_kept (HasChain k.slot k.front k.sealed) (Outside k.slot)
+          (stage_leaves l.disk idle (length piece) (λ h. subst (λ (n : ℕ). Time l.disk (with_write (disk.unsynced k.disk) n (length piece))) is (time h)))
+          (λ at m out. ⊎_elim (λ before. inr (omega (arith, before, place, is))) (λ after. inl (omega (arith, after, place, size, fits, is))) out)
 
 -- ---- what is kept for the next call
 pub begun_is : {D : Type 0} (held : Held D) → has_begun (phase_of held) (begun_of held) ≡ begun_of held
@@ -263,72 +263,65 @@ held_stays honest moment old new name end (held.Failed begun) back later is = tt
 pub calls_more : {K : Type 0} (old middle new kinds : List K) (kind : K) → middle ≡ old ++ kinds → new ≡ middle ++ kind ∷ [] → new ≡ old ++ (kinds ++ kind ∷ [])
 calls_more {K} old middle new kinds kind before now = now ∙ ap (λ (l : List K). l ++ kind ∷ []) before ∙ append_assoc old kinds (kind ∷ [])
 
--- and honesty over them
-pub honest_then : {D : Type 0} (disk : Ghosts D) (a b c : D) → SameHonesty disk a b → SameHonesty disk b c → SameHonesty disk a c
-honest_then disk a b c p q = (λ h. q.0 (p.0 h), λ h. p.1 (q.1 h))
+-- a journal with this body on its way, and what was kept since the first call
+pub record IsSealing {D : Type 0} (disk : Ghosts D) (first : JournalState D) (body : List ℕ) (k : JournalState D) : Type 0 where
+  pub same : SameSlot first k
+  pub sealed : k.sealed ≡ first.sealed
+  pub staged : k.staged ≡ body
+  pub any_moment : AtAnyMoment disk first.disk k.disk (HasChainOrNext first.slot first.front first.sealed body)
+  pub apart : KeepsSynced disk first.disk k.disk (Outside first.slot)
+  pub beside : KeepsRead disk first.disk k.disk (Outside first.slot)
+  pub honest : SameHonesty disk first.disk k.disk
 
-pub honest_still : {D : Type 0} (disk : Ghosts D) (a b c : D) → c ≡ b → SameHonesty disk a b → SameHonesty disk a c
-honest_still {D} disk a b c same p = subst (λ (d : D). SameHonesty disk a d) (sym same) p
+among_next : (begun : Bool) (slot : Slot) (front : List ℕ) (bodies : List (List ℕ)) (b c : List ℕ) → HasAmong begun slot front bodies b c → HasChainOrNext slot front bodies b c
+among_next false slot front bodies b c is = inl is
+among_next true slot front bodies b c is = is
 
-module _ {D : Type 0} (moment : D → ℕ) (crash_states_since : D → ℕ → List ℕ → Type 0) (first : JournalState D) (body : List ℕ) where
+pub sealing_first : {D S : Type 0} {disk : Ghosts D} {first k : JournalState D} {body : List ℕ} {r : Result S DiskFault} → KeepsAround disk first k (HasChain first.slot first.front first.sealed) (Outside first.slot) r → (k.sealed ≡ first.sealed) × (k.staged ≡ body) → IsSealing disk first body k
+sealing_first {disk = disk} {first = first} {k = k} {body = body} w bodies = record {
+  same = w.same;
+  sealed = bodies.0;
+  staged = bodies.1;
+  any_moment = λ h. leaves_map disk.moment disk.crash_states_since first.disk k.disk (HasChain first.slot first.front first.sealed) (HasChainOrNext first.slot first.front first.sealed body) (λ c p. inl p) (w.any_moment h);
+  apart = w.apart;
+  beside = w.beside;
+  honest = w.honest;
+}
+
+module _ {D : Type 0} {disk : Ghosts D} {first : JournalState D} {body : List ℕ} {k : JournalState D} (s : IsSealing disk first body k) where
   abbrev Sealing : List ℕ → Type 0
   Sealing c = HasChainOrNext first.slot first.front first.sealed body c
 
-  -- a journal with this body on its way
-  pub record IsSealing (k : JournalState D) : Type 0 where
-    pub same : SameSlot first k
-    pub sealed : k.sealed ≡ first.sealed
-    pub staged : k.staged ≡ body
-
-  pub sealing_on : (k l : JournalState D) → IsSealing k → SameSlot k l → (l.sealed ≡ k.sealed) × (l.staged ≡ k.staged) → IsSealing l
-  sealing_on k l s same bodies = record { same = (same.0 ∙ s.same.0, same.1 ∙ s.same.1, same.2 ∙ s.same.2, same.3 ∙ s.same.3); sealed = bodies.0 ∙ s.sealed; staged = bodies.1 ∙ s.staged }
-
-  claim : (k : JournalState D) (c : List ℕ) → IsSealing k → HasChainOrNext k.slot k.front k.sealed k.staged c → Sealing c
-  claim k c s p = subst (λ (x : Slot). HasChainOrNext x first.front first.sealed body c) s.same.1 (subst (λ (x : List ℕ). HasChainOrNext k.slot x first.sealed body c) s.same.2
+  claim : (c : List ℕ) → HasChainOrNext k.slot k.front k.sealed k.staged c → Sealing c
+  claim c p = subst (λ (x : Slot). HasChainOrNext x first.front first.sealed body c) s.same.1 (subst (λ (x : List ℕ). HasChainOrNext k.slot x first.sealed body c) s.same.2
       (subst (λ (x : List (List ℕ)). HasChainOrNext k.slot k.front x body c) s.sealed (subst (λ (x : List ℕ). HasChainOrNext k.slot k.front k.sealed x c) s.staged p)))
 
-  pub sealing_more : (k : JournalState D) (new : D) → IsSealing k → LeavesOnly moment crash_states_since first.disk k.disk Sealing
-      → LeavesOnly moment crash_states_since k.disk new (HasChainOrNext k.slot k.front k.sealed k.staged) → LeavesOnly moment crash_states_since first.disk new Sealing
-  sealing_more k new s before now = leaves_then moment crash_states_since first.disk k.disk new Sealing before (leaves_map moment crash_states_since k.disk new (HasChainOrNext k.slot k.front k.sealed k.staged) Sealing (λ c p. claim k c s p) now)
+  same_on : (l : JournalState D) → SameSlot k l → SameSlot first l
+  same_on l same = (same.0 ∙ s.same.0, same.1 ∙ s.same.1, same.2 ∙ s.same.2, same.3 ∙ s.same.3)
 
-  pub sealing_first : (new : D) → LeavesOnly moment crash_states_since first.disk new (HasChain first.slot first.front first.sealed) → LeavesOnly moment crash_states_since first.disk new Sealing
-  sealing_first new l = leaves_map moment crash_states_since first.disk new (HasChain first.slot first.front first.sealed) Sealing (λ c p. inl p) l
+  -- one call more, and a step that makes none
+  module _ (l : JournalState D) (bodies : (l.sealed ≡ k.sealed) × (l.staged ≡ k.staged)) where
+    sealing_more : {S : Type 0} {r : Result S DiskFault} (P : List ℕ → Type 0) (Out : ℕ → ℕ → Type 0) → ((c : List ℕ) → P c → HasChainOrNext k.slot k.front k.sealed k.staged c) → ((at n : ℕ) → Outside k.slot at n → Out at n) → KeepsAround disk k l P Out r → IsSealing disk first body l
+    sealing_more P Out claims reach w = record {
+      same = same_on l w.same;
+      sealed = bodies.0 ∙ s.sealed;
+      staged = bodies.1 ∙ s.staged;
+      any_moment = λ h. leaves_then disk.moment disk.crash_states_since first.disk k.disk l.disk Sealing (s.any_moment h) (leaves_map disk.moment disk.crash_states_since k.disk l.disk P Sealing (λ c p. claim c (claims c p)) (w.any_moment (s.honest.0 h)));
+      apart = λ h at text out f. let a = s.apart h at text out f in let b = w.apart (s.honest.0 h) at text (reach at (length text) (subst (λ (x : Slot). Outside x at (length text)) (sym s.same.1) out)) a.0 in
+          (b.0, leaves_then disk.moment disk.crash_states_since first.disk k.disk l.disk (λ c. Holds c at text) a.1 b.1);
+      beside = λ h at text out p. w.beside (s.honest.0 h) at text (reach at (length text) (subst (λ (x : Slot). Outside x at (length text)) (sym s.same.1) out)) (s.beside h at text out p);
+      honest = (λ h. w.honest.0 (s.honest.0 h), λ h. s.honest.1 (w.honest.1 h));
+    }
 
-  among_next : (begun : Bool) (slot : Slot) (front : List ℕ) (bodies : List (List ℕ)) (b c : List ℕ) → HasAmong begun slot front bodies b c → HasChainOrNext slot front bodies b c
-  among_next false slot front bodies b c is = inl is
-  among_next true slot front bodies b c is = is
+    pub sealing_sync : {S : Type 0} {r : Result S DiskFault} → KeepsAround disk k l (CrashStates k) (λ at n. Unit {0}) r → IsSealing disk first body l
+    sealing_sync w = sealing_more (CrashStates k) (λ at n. Unit {0}) (λ c p. among_next (has_begun k.phase k.begun) k.slot k.front k.sealed k.staged c p) (λ at n out. tt) w
 
-  -- a sync on the way
-  pub sealing_sync : (k : JournalState D) (new : D) → IsSealing k → LeavesOnly moment crash_states_since first.disk k.disk Sealing → LeavesOnly moment crash_states_since k.disk new (CrashStates k) → LeavesOnly moment crash_states_since first.disk new Sealing
-  sealing_sync k new s before now = sealing_more k new s before (leaves_map moment crash_states_since k.disk new (CrashStates k) (HasChainOrNext k.slot k.front k.sealed k.staged) (λ c p. among_next (has_begun k.phase k.begun) k.slot k.front k.sealed k.staged c p) now)
+    pub sealing_gate : {S : Type 0} {r : Result S DiskFault} → KeepsAround disk k l (HasChainOrNext k.slot k.front k.sealed k.staged) (Outside k.slot) r → IsSealing disk first body l
+    sealing_gate w = sealing_more (HasChainOrNext k.slot k.front k.sealed k.staged) (Outside k.slot) (λ c p. p) (λ at n out. out) w
 
-  -- and a step that makes no call of the disk
-  pub sealing_still : (old new : D) → new ≡ old → LeavesOnly moment crash_states_since first.disk old Sealing → LeavesOnly moment crash_states_since first.disk new Sealing
-  sealing_still old new same leaves = subst (λ (d : D). LeavesOnly moment crash_states_since first.disk d Sealing) (sym same) leaves
+    pub sealing_still : SameSlot k l → l.disk ≡ k.disk → IsSealing disk first body l
+    sealing_still same e = record { same = same_on l same; sealed = bodies.0 ∙ s.sealed; staged = bodies.1 ∙ s.staged; any_moment = rw e s.any_moment; apart = rw e s.apart; beside = rw e s.beside; honest = rw e s.honest }
 
-  -- ---- text outside the slot over the calls
-  module _ (unsynced : D → PendingState) where
-    abbrev Apart-on : D → Type 0
-    Apart-on new = KeepsFirm moment crash_states_since unsynced first.disk new (Outside first.slot)
-
-    pub apart_more : (k : JournalState D) (new : D) → IsSealing k → Apart-on k.disk → KeepsFirm moment crash_states_since unsynced k.disk new (Outside k.slot) → Apart-on new
-    apart_more k new s before now = λ at text out f.
-        let a = before at text out f in let b = now at text (subst (λ (x : Slot). Outside x at (length text)) (sym s.same.1) out) a.0 in
-        (b.0, leaves_then moment crash_states_since first.disk k.disk new (λ c. Holds c at text) a.1 b.1)
-
-    pub apart_sync : (k : JournalState D) (new : D) → IsSealing k → Apart-on k.disk → KeepsFirm moment crash_states_since unsynced k.disk new (λ at n. Unit {0}) → Apart-on new
-    apart_sync k new s before now = apart_more k new s before (λ at text out f. now at text tt f)
-
-    pub apart_still : (old new : D) → new ≡ old → Apart-on old → Apart-on new
-    apart_still old new same apart = subst Apart-on (sym same) apart
-
-  -- ---- and what a read gives there
-  module _ (bytes : D → List ℕ) where
-    abbrev Beside-on : D → Type 0
-    Beside-on new = KeepsHeld bytes first.disk new (Outside first.slot)
-
-    pub beside_more : (k : JournalState D) (new : D) → IsSealing k → Beside-on k.disk → KeepsHeld bytes k.disk new (Outside k.slot) → Beside-on new
-    beside_more k new s before now = λ at text out p. now at text (subst (λ (x : Slot). Outside x at (length text)) (sym s.same.1) out) (before at text out p)
-
-    pub beside_same : (old new : D) → bytes new ≡ bytes old → Beside-on old → Beside-on new
-    beside_same old new same before = λ at text out p. subst (λ (b : List ℕ). Holds b at text) (sym same) (before at text out p)
+  -- what was kept, however it ends
+  pub sealing_kept : (l : JournalState D) → SameSlot k l → l.disk ≡ k.disk → {T : Type 0} {x : Result T DiskFault} → CountsFaults (disk.faults first.disk) (disk.faults l.disk) x → KeepsAround disk first l (HasChainOrNext first.slot first.front first.sealed body) (Outside first.slot) x
+  sealing_kept l same e cause = record { same = same_on l same; any_moment = rw e s.any_moment; apart = rw e s.apart; beside = rw e s.beside; honest = rw e s.honest; cause = cause }

@@ -14,7 +14,7 @@ seal-gate-requires-clause-open g c = λ h.
     let firm = subst (λ (k : JournalState g.row.D.Denot). D.honest k.disk → (c : List ℕ) → IsOutcome (D.unsynced k.disk) c → HasChain k.slot k.front (k.sealed ++ k.staged ∷ []) c) (sym c.self.view_is) q.firm in
     let held = sym c.replace.ensures.value ∙ c.in-GateOpened.is in
     let at : c.in-GateOpened.gate.at ≡ c.self.inside.end = subst (λ (k : Held g.row.D.Denot). IsHeld D.honest D.moment c.self.inside.disk.disk c.self.inside.disk.name c.self.inside.end k) held c.self.invariant.1 in
-    subst (λ (k : ℕ). IsOpen (D.unsynced c.self.inside.disk.disk) k) (sym at) (steps.gate_open D.honest D.bytes D.unsynced D.moment D.crash_states_since m.present m.only_now c.self.invariant.0 is firm h)
+    subst (λ (k : ℕ). IsOpen (D.unsynced c.self.inside.disk.disk) k) (sym at) (steps.gate_open D m.present m.only_now c.self.invariant.0 is firm h)
 
 pub invariant_of-self : goal.invariant_of-self
 invariant_of-self g c =
@@ -22,4 +22,4 @@ invariant_of-self g c =
     let is = ap (λ (k : JournalState g.row.D.Denot). k.phase) c.self.view_is ∙ q.opened in
     let firm = subst (λ (k : JournalState g.row.D.Denot). D.honest k.disk → (c : List ℕ) → IsOutcome (D.unsynced k.disk) c → HasChain k.slot k.front (k.sealed ++ k.staged ∷ []) c) (sym c.self.view_is) q.firm in
     let all : c.lengthen.new.self.log ≡ c.self.inside.sealed.log ++ body_of c.self.inside.in_flight.items ∷ [] = search rules in
-    rw c.replace.ensures.after (steps.sealed_done D.honest D.bytes D.unsynced D.moment D.crash_states_since m.present m.only_now c.self.invariant.0 is firm c.lengthen.new.self.name c.lengthen.new.self.log c.len.result all (search rules), tt)
+    rw c.replace.ensures.after (steps.sealed_done D m.present m.only_now c.self.invariant.0 is firm c.lengthen.new.self.name c.lengthen.new.self.log c.len.result all (search rules), tt)

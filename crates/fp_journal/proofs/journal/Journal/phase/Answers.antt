@@ -4,7 +4,7 @@ use Rattle.fp_journal.proofs.journal.Journal.phase.Goals as goal
 pub returns-clause-outcomes : goal.returns-clause-outcomes
 returns-clause-outcomes g c =
     let D = g.D.Disk in let m = g.met.D.Disk in
-    rw (← c.self.view_is) (steps.outcomes D.honest D.bytes D.unsynced D.moment D.crash_states_since m.present m.only_now c.self.invariant.0)
+    rw (← c.self.view_is) (steps.outcomes D m.present m.only_now c.self.invariant.0)
 
 pub returns-clause-begun : goal.returns-clause-begun
 returns-clause-begun g c = rw (← c.self.view_is) (steps.begun_is c.self.inside.held)
@@ -12,4 +12,4 @@ returns-clause-begun g c = rw (← c.self.view_is) (steps.begun_is c.self.inside
 pub returns-clause-reads : goal.returns-clause-reads
 returns-clause-reads g c =
     let D = g.D.Disk in let m = g.met.D.Disk in
-    rw (← c.self.view_is) (λ h opened. steps.reads_opened D.honest D.bytes D.unsynced D.moment D.crash_states_since m.present m.only_now c.self.invariant.0 h opened)
+    rw (← c.self.view_is) (λ h opened. steps.reads_opened D m.present m.only_now c.self.invariant.0 h opened)
