@@ -10,6 +10,14 @@ use Rattle.fp_journal.specs.State.{ClaimsAt, SecuresAt, HasAmong, HasChainOrNext
 use Rattle.fp_journal.proofs.Holds.{holds_apart, firm_touched, firm_outcome, firm_settled, settled_outcome}
 use Rattle.fp_journal.proofs.Gates.{quiet_outcome, quiet_touched, quiet_settled, sure_touched, between_outcome, text-more}
 
+-- a fact of each phase
+pub by_phase : (P : Phase → Type 0) → P Idle → P Staged → P BodySynced → P GateOpened → P Failed → (p : Phase) → P p
+by_phase P a b c d e Idle = a
+by_phase P a b c d e Staged = b
+by_phase P a b c d e BodySynced = c
+by_phase P a b c d e GateOpened = d
+by_phase P a b c d e Failed = e
+
 module _ (start stop : ℕ) (text more next : List ℕ) (from n : ℕ) (out : (from + n ≤ start) ⊎ (stop ≤ from)) where
   apart : (at m : ℕ) → start ≤ at → at + m ≤ stop → Apart from n at m
   apart at m low high = ⊎_elim (λ before. inl (omega (arith, before, low))) (λ behind. inr (omega (arith, behind, high))) out
@@ -29,11 +37,7 @@ module _ (start stop : ℕ) (text more next : List ℕ) (from n : ℕ) (out : (f
   left_stays true u s = ⊎_elim (λ q. inl (quiet_stays u q)) (λ i. inr (between_stays u i)) s
 
   pub left_outside : (p : Phase) (begun : Bool) (b : List ℕ) (u : PendingState) → IsAt p begun u b start stop text more next → IsLeft (has_begun p begun) (with_write u from n) start stop text more
-  left_outside Idle begun b u q = quiet_stays u q
-  left_outside Staged begun b u s = quiet_stays u s.0
-  left_outside BodySynced begun b u s = quiet_stays u s.0
-  left_outside GateOpened begun b u s = inr (between_stays u s.1)
-  left_outside Failed begun b u s = left_stays begun u s
+  left_outside p begun b u = by_phase (λ p. IsAt p begun u b start stop text more next → IsLeft (has_begun p begun) (with_write u from n) start stop text more) (quiet_stays u) (λ s. quiet_stays u s.0) (λ s. quiet_stays u s.0) (λ s. inr (between_stays u s.1)) (left_stays begun u) p
 
   module _ (b new piece : List ℕ) (is : n ≡ length piece) (wrote : Written b from piece new) where
     ends_stays : (t : List ℕ) → Ends start stop t b → Ends start stop t new
@@ -45,20 +49,12 @@ module _ (start stop : ℕ) (text more next : List ℕ) (from n : ℕ) (out : (f
         record { gate = r.gate; shut = r.shut; holds = holds_apart b piece new (more ++ r.gate ∷ []) from (start + length text + 1) wrote (⊎_elim (λ before. inl (omega (arith, before, is))) (λ behind. inr (omega (arith, behind, w, len))) out) r.holds; within = r.within }
 
     pub at_outside : (p : Phase) (begun : Bool) (u : PendingState) → IsAt p begun u b start stop text more next → IsAt p begun (with_write u from n) new start stop text more next
-    at_outside Idle begun u q = quiet_stays u q
-    at_outside Staged begun u s = (quiet_stays u s.0, ready_stays s.1)
-    at_outside BodySynced begun u s = (quiet_stays u s.0, sure_stays u s.1)
-    at_outside GateOpened begun u s = (ends_stays next s.0, between_stays u s.1)
-    at_outside Failed begun u s = left_stays begun u s
+    at_outside p begun u = by_phase (λ p. IsAt p begun u b start stop text more next → IsAt p begun (with_write u from n) new start stop text more next) (quiet_stays u) (λ s. (quiet_stays u s.0, ready_stays s.1)) (λ s. (quiet_stays u s.0, sure_stays u s.1)) (λ s. (ends_stays next s.0, between_stays u s.1)) (left_stays begun u) p
 
 module _ (start stop : ℕ) (text more next b : List ℕ) (u : PendingState) where
   -- a call that failed and wrote nothing
   pub left_at : (p : Phase) (begun : Bool) → IsAt p begun u b start stop text more next → IsLeft (has_begun p begun) u start stop text more
-  left_at Idle begun q = q
-  left_at Staged begun s = s.0
-  left_at BodySynced begun s = s.0
-  left_at GateOpened begun s = inr s.1
-  left_at Failed begun s = s
+  left_at p begun = by_phase (λ p. IsAt p begun u b start stop text more next → IsLeft (has_begun p begun) u start stop text more) (λ q. q) (λ s. s.0) (λ s. s.0) (λ s. inr s.1) (λ s. s) p
 
   module _ (o : IsOutcome u b) where
     quiet_synced : EndsClosed start stop text u → EndsClosed start stop text (all_synced b)
@@ -75,11 +71,7 @@ module _ (start stop : ℕ) (text more next b : List ℕ) (u : PendingState) whe
     left_synced true s = ⊎_elim (λ q. inl (quiet_synced q)) (λ i. inr (between_synced i)) s
 
     pub at_synced : (p : Phase) (begun : Bool) → IsAt p begun u b start stop text more next → IsAt p begun (all_synced b) b start stop text more next
-    at_synced Idle begun q = quiet_synced q
-    at_synced Staged begun s = (quiet_synced s.0, s.1)
-    at_synced BodySynced begun s = (quiet_synced s.0, sure_synced s.1)
-    at_synced GateOpened begun s = (s.0, between_synced s.1)
-    at_synced Failed begun s = left_synced begun s
+    at_synced p begun = by_phase (λ p. IsAt p begun u b start stop text more next → IsAt p begun (all_synced b) b start stop text more next) quiet_synced (λ s. (quiet_synced s.0, s.1)) (λ s. (quiet_synced s.0, sure_synced s.1)) (λ s. (s.0, between_synced s.1)) (left_synced begun) p
 
 -- ---- what the outcomes are
 module _ (slot : Slot) (front : List ℕ) (bodies : List (List ℕ)) (body : List ℕ) where

@@ -75,15 +75,8 @@ module _ {D : Type 0} (disk : Ghosts D) (present : (d : D) → disk.honest d →
   flight_is p is = subst (λ (q : Phase). InFlight q k.slot.most (k.slot.stop - end) k.staged in_flight) is kept.flight
 
   -- the bytes of a body on its way
-  frame_at : (p : Phase) → IsOnWay p → InFlight p k.slot.most (k.slot.stop - end) k.staged in_flight → IsFrame k.slot.most (k.slot.stop - end) k.staged in_flight
-  frame_at Idle on f = absurd on
-  frame_at Staged on f = f
-  frame_at BodySynced on f = f
-  frame_at GateOpened on f = f
-  frame_at Failed on f = absurd on
-
   pub frame_on_way : IsOnWay k.phase → IsFrame k.slot.most (k.slot.stop - end) k.staged in_flight
-  frame_on_way on = frame_at k.phase on kept.flight
+  frame_on_way on = stays.by_phase (λ p. IsOnWay p → InFlight p k.slot.most (k.slot.stop - end) k.staged in_flight → IsFrame k.slot.most (k.slot.stop - end) k.staged in_flight) (λ on f. absurd on) (λ on f. f) (λ on f. f) (λ on f. f) (λ on f. absurd on) k.phase on kept.flight
 
   goes_on : (d : D) (body : List ℕ) (p : Phase) (begun : Bool) (written : List ℕ) → InFlight p k.slot.most (k.slot.stop - end) body written → (disk.honest d → State p begun body d) → Kept d body p begun written
   goes_on d body p begun written flight state = record { place = kept.place; within = kept.within; short = kept.short; flight = flight; state = state }

@@ -1,11 +1,13 @@
 -- The header of a disk, by its first bytes.
-use Rattle.std.proofs.Common.{◌≡◌, ◌<◌, ◌≤◌, ◌+◌, ℕ, List, length, sym, ◌∙◌, ap, arith}
+use Rattle.std.proofs.Common.{◌≡◌, ◌<◌, ◌≤◌, ◌+◌, ◌^◌, ℕ, List, length, sym, ◌∙◌, ap, arith}
 use Rattle.std.specs.Prelude.{slice_index}
 use Rattle.std.specs.Int.{w64, to_be_bytes}
 use Rattle.fp_journal.specs.Holds.{Holds}
 use Rattle.fp_journal.specs.Firsts.{AreFirst}
 use Rattle.fp_journal.proofs.Firsts.{first_at, held_from, held_in}
+use Rattle.fp_layout.specs.Faults.{BreaksHeader, RefusesHeader}
 use Rattle.fp_layout.specs.Layout.{IsFormatted, AreZeros, IsFirstOther, magic}
+use Rattle.fp_layout.specs.declared.fault.OpenFault.TheVariants.{Damaged}
 
 module _ (c bytes : List ℕ) (first : AreFirst c 0 64 bytes) (whole : 64 ≤ length bytes) where
   pub byte_from : (k : ℕ) → k < 64 → slice_index c k ≡ slice_index bytes k
@@ -39,3 +41,8 @@ formatted_in c bytes first f = let long = f.long in let many = first.many in let
   gate = sym (byte_from c bytes first whole 0 (omega arith)) ∙ f.gate;
   magic_text = held_in c 0 64 1 bytes magic first (omega arith) f.magic_text;
 }
+
+-- a header that is damaged
+pub refuses_from : (c bytes : List ℕ) → AreFirst c 0 64 bytes → IsFormatted bytes → slice_index bytes 9 ≡ 1 → (n : ℕ) → n < 2 ^ 64 → Holds bytes 10 (to_be_bytes w64 n) → (k : ℕ) → BreaksHeader c n k → RefusesHeader c (Damaged k)
+refuses_from c bytes first formatted version n fits holds k broken = let whole = formatted.long in
+    (formatted_from c bytes first whole formatted, byte_from c bytes first whole 9 (omega arith) ∙ version, (n, fits, size_from c bytes first whole n holds, broken))

@@ -13,8 +13,9 @@ use Rattle.fp_journal.specs.Moments.{KeepsFirm, KeepsSynced}
 use Rattle.fp_journal.specs.State.{JournalState, ClaimsAt, CrashStates, HasAmong, Outside, EndsClosed, SameSlot, has_begun}
 use Rattle.fp_journal.specs.declared.slot.Slot.{Slot}
 use Rattle.fp_journal.specs.declared.journal.Phase.{Phase}
-use Rattle.fp_journal.specs.declared.journal.Phase.TheVariants.{Idle, Staged, BodySynced, GateOpened, Failed}
+use Rattle.fp_journal.specs.declared.journal.Phase.TheVariants.{Idle, Failed}
 use Rattle.fp_journal.proofs.Holds.{byte_held, holds_written, firm_outcome, firm_settled}
+use Rattle.fp_journal.proofs.Stays.{by_phase}
 use Rattle.fp_gate.specs.Gates as gates
 use Rattle.fp_gate.specs.declared.gate.TheConstants.{OPEN}
 use Rattle.fp_slots.specs.Calls.{KeepsSlots}
@@ -89,11 +90,7 @@ early_not_open = by_early (λ p. p ≡ Open → ⊥) (λ is. absurd (cc is)) (λ
 
 -- ---- what a crash leaves now
 phase_cases : (p : Phase) → (p ≡ Failed) ⊎ (p ≢ Failed)
-phase_cases Idle = inr (λ e. absurd (cc e))
-phase_cases Staged = inr (λ e. absurd (cc e))
-phase_cases BodySynced = inr (λ e. absurd (cc e))
-phase_cases GateOpened = inr (λ e. absurd (cc e))
-phase_cases Failed = inl refl
+phase_cases = by_phase (λ p. (p ≡ Failed) ⊎ (p ≢ Failed)) (inr (λ e. absurd (cc e))) (inr (λ e. absurd (cc e))) (inr (λ e. absurd (cc e))) (inr (λ e. absurd (cc e))) (inl refl)
 
 module _ {D : Type 0} (s : SlotsState D) (front : IsFrontOf s.generation s.journal.front) (small : s.generation < 2 ^ 64) (c : List ℕ) (says : CrashStates s.journal c) (u : PendingState) (o : IsOutcome u c) where
   there : Holds c s.journal.slot.start s.journal.front
