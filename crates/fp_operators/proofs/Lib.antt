@@ -1,3 +1,4 @@
+pub mod Blocks
 pub mod Contained
 pub mod Equalities
 pub mod Numbers

@@ -9,4 +9,6 @@ pub mod Arithmetic
 pub mod Text
 pub mod Path
 pub mod Version
+pub mod Murmur
+pub mod Share
 pub mod Laws

@@ -72,7 +72,7 @@ fn at_path<'d>(root: &'d Datum, path: &str) -> Option<&'d Datum>
 }
 
 /// What one part of a path names.
-fn step<'d>(target: &'d Datum, part: &str) -> Option<&'d Datum>
+pub fn step<'d>(target: &'d Datum, part: &str) -> Option<&'d Datum>
     ensures { option_map (λ d. view d.now) result ≡ step_to part.now (view target.now) }
 {
     match target {
