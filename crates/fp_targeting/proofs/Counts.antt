@@ -6,7 +6,7 @@ use Rattle.fp_targeting.specs.Operators.{at_most_two, one, two, three, neighbour
 use Rattle.fp_targeting.specs.Meaning.{meanings, or_null}
 use Rattle.fp_targeting.specs.View.{rules_view}
 use Rattle.fp_targeting.specs.declared.operator.Operator.{Operator}
-use Rattle.fp_targeting.specs.declared.operator.Operator.TheVariants.{If, And, Or, Var, Cat, SemVer, Unary, Binary, Chain}
+use Rattle.fp_targeting.specs.declared.operator.Operator.TheVariants.{If, And, Or, Var, Cat, SemVer, Fractional, Unary, Binary, Chain}
 use Rattle.fp_targeting.specs.declared.tree.Tree.{Tree}
 
 pub length-meanings_view : (d : Data) (ts : List Tree) → length (meanings d (rules_view ts)) ≡ length ts
@@ -54,3 +54,4 @@ few-other And xs g h i = refl
 few-other Or xs g h i = refl
 few-other Var xs g h i = refl
 few-other Cat xs g h i = refl
+few-other Fractional xs g h i = refl

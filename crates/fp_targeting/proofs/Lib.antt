@@ -7,3 +7,4 @@ pub mod Counts
 pub mod MeaningLaws
 pub mod Members
 pub mod Constants
+pub mod Totals

@@ -70,6 +70,7 @@ mutual
   Means-anywhere e (is.or_true {r = r} {rs = rs} m t) h = is.or_true (Means-anywhere e m (both (names_nothing r) (all_name_nothing rs) h).0) t
   Means-anywhere e (is.or_false {r = r} {s = s} {rs = rs} m t n) h =
       let parts = both (names_nothing r) (all_name_nothing (rule s rs)) h in is.or_false (Means-anywhere e m parts.0) t (Means-anywhere e n parts.1)
+  Means-anywhere e (is.fractional_means ms) h = absurd (cc)
 
   AllMean-anywhere : {rs : Rules} {d : Data} {xs : List Data} (e : Data) → AllMean rs d xs → all_name_nothing rs ≡ true → AllMean rs e xs
   AllMean-anywhere e is.none_mean h = is.none_mean

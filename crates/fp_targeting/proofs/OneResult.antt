@@ -8,12 +8,13 @@ use Rattle.fp_operators.specs.Truth.{truth}
 use Rattle.fp_operators.specs.Version.{comparison}
 use Rattle.fp_operators.specs.View.{items_of}
 use Rattle.fp_targeting.specs.Rule.{Rule, Rules, literal, list, apply, no_rules, rule}
-use Rattle.fp_targeting.specs.Operators.{takes, count_of, well_formed, all_well_formed, unary, binary, ascending, at_most_two, one, two, three, neighbours, result_of}
+use Rattle.fp_targeting.specs.Operators.{takes, allows, count_of, well_formed, all_well_formed, unary, binary, ascending, at_most_two, one, two, three, neighbours, result_of}
 use Rattle.fp_targeting.specs.Means as is
 use Rattle.fp_targeting.specs.Means.{Means, AllMean}
-use Rattle.fp_targeting.specs.Meaning.{meaning, meanings, or_null, value_of_operator, value_behind_true, first_false, first_true}
+use Rattle.fp_targeting.specs.Meaning.{meaning, meanings, or_null, value_at, value_behind_true, first_false, first_true}
+use Rattle.fp_targeting.specs.Split.{split_value}
 use Rattle.fp_targeting.specs.declared.operator.Operator.{Operator}
-use Rattle.fp_targeting.specs.declared.operator.Operator.TheVariants.{If, And, Or, Var, Cat, SemVer, Unary, Binary, Chain}
+use Rattle.fp_targeting.specs.declared.operator.Operator.TheVariants.{If, And, Or, Var, Cat, SemVer, Fractional, Unary, Binary, Chain}
 
 -- which branch of a choice is taken is the same where both are alike
 either_way : (b : Bool) (x : Data) → x ≡ if b then x else x
@@ -21,18 +22,19 @@ either_way true x = refl
 either_way false x = refl
 
 -- an operator that doesn't choose gives the same in both
-gives_result : (o : Operator) (d x : Data) (xs : List Data) → result_of o d xs ≡ Some x → x ≡ value_of_operator o d xs
-gives_result If d x xs e = absurd (cc)
-gives_result And d x xs e = absurd (cc)
-gives_result Or d x xs e = absurd (cc)
-gives_result o d x xs e = ap or_null (sym e)
+gives_result : (o : Operator) (d x : Data) (rs : Rules) (xs : List Data) → result_of o d xs ≡ Some x → x ≡ value_at o d rs xs
+gives_result If d x rs xs e = absurd (cc)
+gives_result And d x rs xs e = absurd (cc)
+gives_result Or d x rs xs e = absurd (cc)
+gives_result Fractional d x rs xs e = absurd (cc)
+gives_result o d x rs xs e = ap or_null (sym e)
 
 mutual
   -- a result is the one that is computed
   pub Means-unique : {r : Rule} {d x : Data} → Means r d x → x ≡ meaning d r
   Means-unique is.literal_means = refl
   Means-unique (is.list_means rs) = ap (λ xs. values.list (items_of xs)) (AllMean-unique rs)
-  Means-unique (is.operator_means {o = o} {d = d} rs e) = gives_result o d _ _ e ∙ ap (value_of_operator o d) (AllMean-unique rs)
+  Means-unique (is.operator_means {o = o} {rs = rs} {d = d} ms e) = gives_result o d _ rs _ e ∙ ap (value_at o d rs) (AllMean-unique ms)
   Means-unique is.if_none = refl
   Means-unique (is.if_last m) = Means-unique m
   Means-unique (is.if_true c e m) = rw (sym (ap truth (Means-unique c)) ∙ e) (Means-unique m)
@@ -43,6 +45,7 @@ mutual
   Means-unique (is.or_last m) = Means-unique m ∙ either_way _ _
   Means-unique (is.or_true m e) = let i = Means-unique m in rw (sym (ap truth i) ∙ e) i
   Means-unique (is.or_false c e m) = rw (sym (ap truth (Means-unique c)) ∙ e) (Means-unique m)
+  Means-unique (is.fractional_means {rs = rs} {d = d} ms) = ap (split_value d rs) (AllMean-unique ms)
 
   AllMean-unique : {rs : Rules} {d : Data} {xs : List Data} → AllMean rs d xs → xs ≡ meanings d rs
   AllMean-unique is.none_mean = refl
@@ -112,19 +115,23 @@ pub both : (a b : Bool) → (a && b) ≡ true → (a ≡ true) × (b ≡ true)
 both true b h = (refl, h)
 both false b h = absurd (cc)
 
+takes-meanings : (o : Operator) (d : Data) (rs : Rules) → takes o (count_of rs) ≡ true → takes o (length (meanings d rs)) ≡ true
+takes-meanings o d rs h = ap (takes o) (length-meanings d rs) ∙ h
+
 -- an operator at arguments that have their results
-operator_has : (o : Operator) (d : Data) (rs : Rules) → takes o (length (meanings d rs)) ≡ true → AllMean rs d (meanings d rs) → Means (apply o rs) d (value_of_operator o d (meanings d rs))
+operator_has : (o : Operator) (d : Data) (rs : Rules) → allows o rs ≡ true → AllMean rs d (meanings d rs) → Means (apply o rs) d (value_at o d rs (meanings d rs))
 operator_has If d rs h all = if_means all
 operator_has And d no_rules h all = absurd (grind (arith, h))
 operator_has And d (rule r rs) h (is.next_means m ms) = and_means null m ms
 operator_has Or d no_rules h all = absurd (grind (arith, h))
 operator_has Or d (rule r rs) h (is.next_means m ms) = or_means null m ms
-operator_has Var d rs h all = is.operator_means all (at_most_two-takes (variable_of d) (meanings d rs) h)
+operator_has Var d rs h all = is.operator_means all (at_most_two-takes (variable_of d) (meanings d rs) (takes-meanings Var d rs h))
 operator_has Cat d rs h all = is.operator_means all refl
-operator_has SemVer d rs h all = is.operator_means all (three-takes (λ a b c. boolean (comparison a b c)) (meanings d rs) h)
-operator_has (Unary o) d rs h all = is.operator_means all (one-takes (unary o) (meanings d rs) h)
-operator_has (Binary o) d rs h all = is.operator_means all (two-takes (binary o) (meanings d rs) h)
-operator_has (Chain o) d rs h all = is.operator_means all (neighbours-takes (ascending o) (meanings d rs) h)
+operator_has SemVer d rs h all = is.operator_means all (three-takes (λ a b c. boolean (comparison a b c)) (meanings d rs) (takes-meanings SemVer d rs h))
+operator_has Fractional d rs h all = is.fractional_means all
+operator_has (Unary o) d rs h all = is.operator_means all (one-takes (unary o) (meanings d rs) (takes-meanings (Unary o) d rs h))
+operator_has (Binary o) d rs h all = is.operator_means all (two-takes (binary o) (meanings d rs) (takes-meanings (Binary o) d rs h))
+operator_has (Chain o) d rs h all = is.operator_means all (neighbours-takes (ascending o) (meanings d rs) (takes-meanings (Chain o) d rs h))
 
 mutual
   -- what is computed is a result
@@ -132,9 +139,8 @@ mutual
   Means-exists d (literal x) h = is.literal_means
   Means-exists d (list rs) h = is.list_means (AllMean-exists d rs h)
   Means-exists d (apply o rs) h =
-      let all = both (takes o (count_of rs)) (all_well_formed rs) h in
-      let enough : takes o (length (meanings d rs)) ≡ true = ap (takes o) (length-meanings d rs) ∙ all.0 in
-      operator_has o d rs enough (AllMean-exists d rs all.1)
+      let all = both (allows o rs) (all_well_formed rs) h in
+      operator_has o d rs all.0 (AllMean-exists d rs all.1)
 
   AllMean-exists : (d : Data) (rs : Rules) → all_well_formed rs ≡ true → AllMean rs d (meanings d rs)
   AllMean-exists d no_rules h = is.none_mean

@@ -1,9 +1,8 @@
 -- The rule of an object, by how many members it has.
-use Rattle.std.proofs.Common.{◌≡◌, ◌≢◌, ℕ, List, [], ◌∷◌, Vec, Global, Option, None, Some, is_some, length, get_or, refl, sym, ap, ◌∙◌, arith, rules, if◌then◌else◌}
-use Rattle.serde_json.specs.Data.{Data, array, object, member, no_members}
-use Rattle.fp_base.specs.TreeView.{Entry, tree_view, tree_items, tree_members}
-use Rattle.fp_base.specs.declared.tree.Tree.{Tree, the_lemmas}
-use Rattle.fp_base.specs.declared.tree.Tree.TheVariants.{Array, Object}
+use Rattle.std.proofs.Common.{◌≡◌, ◌≢◌, ℕ, List, [], ◌∷◌, Vec, Global, Option, None, Some, is_some, length, get_or, refl, sym, ap, ◌∙◌, arith, if◌then◌else◌}
+use Rattle.serde_json.specs.Data.{Data, object, member, no_members}
+use Rattle.fp_base.specs.TreeView.{Entry, tree_view, tree_members}
+use Rattle.fp_base.specs.declared.tree.Tree.TheVariants.{Object}
 use Rattle.fp_base.proofs.Views.{view-Object}
 use Rattle.fp_operators.specs.FromJson.{data_of}
 use Rattle.fp_targeting.specs.Compile.{first_unknown, rule_of}

@@ -1,5 +1,5 @@
 -- What compiling a JSON value answers.
-use Rattle.std.specs.Prelude.{ℕ, List, [], ◌∷◌, length, ◌&&◌, Option, Some, None, option_map}
+use Rattle.std.specs.Prelude.{ℕ, List, [], ◌∷◌, ◌&&◌, Option, Some, None, option_map}
 use Rattle.std.specs.Prelude.{option_and_then, is_some, nat_le, Result, Ok, Err, if◌then◌else◌}
 use Rattle.serde_json.specs.Data.{Data, null, boolean, number, string, array, object, Items}
 use Rattle.serde_json.specs.Data.{no_items, item, no_members, member, depth}
@@ -8,7 +8,7 @@ use Rattle.fp_base.specs.Whole.{is_whole}
 use Rattle.fp_operators.specs.FromJson.{data_of}
 use Rattle.fp_targeting.specs.Rule as tree
 use Rattle.fp_targeting.specs.Rule.{Rule}
-use Rattle.fp_targeting.specs.Operators.{operator_of, takes, well_formed, all_well_formed}
+use Rattle.fp_targeting.specs.Operators.{operator_of, allows, well_formed, all_well_formed}
 use Rattle.fp_targeting.specs.View.{rules_of}
 use Rattle.fp_targeting.specs.declared.rule.TheConstants.{DEEPEST_RULE, MOST_RULE_VALUES}
 
@@ -36,12 +36,12 @@ abbrev mutual
 abbrev pub one_more : Option Rule → Option (List Rule) → Option (List Rule)
 one_more first others = option_and_then (λ r. option_map (λ rs. r ∷ rs) others) first
 
--- the operator of a name at its arguments, if it takes that many
+-- the operator of a name at its arguments, if it takes them
 abbrev pub operator_rule : List ℕ → Option (List Rule) → Option Rule
 operator_rule name arguments =
     option_and_then
     (λ o. option_and_then
-    (λ rs. if takes o (length rs) then Some (tree.apply o (rules_of rs)) else None) arguments)
+    (λ rs. if allows o (rules_of rs) then Some (tree.apply o (rules_of rs)) else None) arguments)
     (operator_of name)
 
 -- the rule that a value writes: an object of one member is an operator, with a list of arguments or

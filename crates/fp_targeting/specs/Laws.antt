@@ -5,7 +5,7 @@ use Rattle.fp_operators.specs.Truth.{truth}
 use Rattle.fp_targeting.specs.Rule.{Rule, Rules, literal, list, apply, no_rules, rule}
 use Rattle.fp_targeting.specs.Means.{Means}
 use Rattle.fp_targeting.specs.declared.operator.Operator.{Operator}
-use Rattle.fp_targeting.specs.declared.operator.Operator.TheVariants.{Var, Unary}
+use Rattle.fp_targeting.specs.declared.operator.Operator.TheVariants.{Var, Unary, Fractional}
 use Rattle.fp_targeting.specs.declared.operator.UnaryOperator.TheVariants.{Not, Truth}
 
 -- `{"!!":[r]}`
@@ -28,9 +28,10 @@ NotTwiceIsTruth =
 
 abbrev pub looks_at_nothing : Operator → Bool
 looks_at_nothing Var = false
+looks_at_nothing Fractional = false
 looks_at_nothing o = true
 
--- no `var` stands in the rule
+-- no `var` and no `fractional` stands in the rule
 abbrev mutual
   pub names_nothing : Rule → Bool
   names_nothing (literal d) = true

@@ -1,5 +1,6 @@
 pub mod Operators
 pub mod Rule
+pub mod Split
 pub mod Constant
 pub mod View
 pub mod Compile

@@ -6,8 +6,10 @@ use Rattle.fp_operators.specs.Truth.{truth}
 use Rattle.fp_operators.specs.View.{items_of}
 use Rattle.fp_targeting.specs.Rule.{Rule, Rules, literal, list, apply, no_rules, rule}
 use Rattle.fp_targeting.specs.Operators.{result_of}
+use Rattle.fp_targeting.specs.Split.{split_value}
 use Rattle.fp_targeting.specs.declared.operator.Operator.{Operator}
 use Rattle.fp_targeting.specs.declared.operator.Operator.TheVariants.{If, And, Or}
+use Rattle.fp_targeting.specs.declared.operator.Operator.TheVariants.{Fractional}
 
 -- what stands behind the first true condition, else the odd last one, else null
 abbrev pub value_behind_true : List Data → Data
@@ -34,11 +36,16 @@ value_of_operator And root ds = first_false null ds
 value_of_operator Or root ds = first_true null ds
 value_of_operator o root ds = or_null (result_of o root ds)
 
+-- at its arguments and their results
+abbrev pub value_at : Operator → Data → Rules → List Data → Data
+value_at Fractional root rs ds = split_value root rs ds
+value_at o root rs ds = value_of_operator o root ds
+
 abbrev mutual
   pub meaning : Data → Rule → Data
   meaning root (literal x) = x
   meaning root (list rs) = values.list (items_of (meanings root rs))
-  meaning root (apply o rs) = value_of_operator o root (meanings root rs)
+  meaning root (apply o rs) = value_at o root rs (meanings root rs)
 
   pub meanings : Data → Rules → List Data
   meanings root no_rules = []

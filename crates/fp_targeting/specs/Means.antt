@@ -6,8 +6,10 @@ use Rattle.fp_operators.specs.Truth.{truth}
 use Rattle.fp_operators.specs.View.{items_of}
 use Rattle.fp_targeting.specs.Rule.{Rule, Rules, literal, list, apply, no_rules, rule}
 use Rattle.fp_targeting.specs.Operators.{result_of}
+use Rattle.fp_targeting.specs.Split.{split_value}
 use Rattle.fp_targeting.specs.declared.operator.Operator.{Operator}
 use Rattle.fp_targeting.specs.declared.operator.Operator.TheVariants.{If, And, Or}
+use Rattle.fp_targeting.specs.declared.operator.Operator.TheVariants.{Fractional}
 
 mutual
   -- the rule, on the data, gives the result
@@ -38,6 +40,9 @@ mutual
         → Means (apply Or (rule r rs)) d x
     or_false : {r s : Rule} {rs : Rules} {d t x : Data} → Means r d t → truth t ≡ false
         → Means (apply Or (rule s rs)) d x → Means (apply Or (rule r (rule s rs))) d x
+    -- `fractional`: the name whose share the key falls to; null where there is no key or no share
+    fractional_means : {rs : Rules} {d : Data} {xs : List Data} → AllMean rs d xs
+        → Means (apply Fractional rs) d (split_value d rs xs)
 
   -- each rule of a list gives its result
   pub data AllMean : Rules → Data → List Data → Type 0 where

@@ -11,8 +11,10 @@ use Rattle.fp_operators.specs.Path.{variable_of}
 use Rattle.fp_operators.specs.Version.{comparison}
 use Rattle.fp_targeting.specs.Rule as tree
 use Rattle.fp_targeting.specs.Rule.{Rule, Rules, no_rules, rule}
+use Rattle.fp_targeting.specs.Split.{is_split}
 use Rattle.fp_targeting.specs.declared.operator.Operator.{Operator}
 use Rattle.fp_targeting.specs.declared.operator.Operator.TheVariants.{If, And, Or, Var, Cat, SemVer}
+use Rattle.fp_targeting.specs.declared.operator.Operator.TheVariants.{Fractional}
 use Rattle.fp_targeting.specs.declared.operator.Operator.TheVariants.{Unary, Binary, Chain}
 use Rattle.fp_targeting.specs.declared.operator.UnaryOperator.{UnaryOperator}
 use Rattle.fp_targeting.specs.declared.operator.UnaryOperator.TheVariants.{Not, Truth}
@@ -58,7 +60,8 @@ operator_of name =
     if bytes_eq name (codes "%") then Some (Binary Remainder) else
     if bytes_eq name (codes "starts_with") then Some (Binary StartsWith) else
     if bytes_eq name (codes "ends_with") then Some (Binary EndsWith) else
-    if bytes_eq name (codes "sem_ver") then Some SemVer else comparison_of name
+    if bytes_eq name (codes "sem_ver") then Some SemVer else
+    if bytes_eq name (codes "fractional") then Some Fractional else comparison_of name
 
 -- how many arguments an operator takes
 abbrev pub takes : Operator → ℕ → Bool
@@ -68,6 +71,7 @@ takes Or n = nat_le 1 n
 takes Var n = nat_le n 2
 takes Cat n = true
 takes SemVer n = n == 3
+takes Fractional n = nat_le 1 n
 takes (Unary o) n = n == 1
 takes (Binary o) n = n == 2
 takes (Chain o) n = n == 2 || n == 3
@@ -76,12 +80,17 @@ abbrev pub count_of : Rules → ℕ
 count_of no_rules = 0
 count_of (rule r rs) = 1 + count_of rs
 
--- each operator in a rule has as many arguments as it takes
+-- the operator has as many arguments as it takes; those of `fractional` are pairs, too
+abbrev pub allows : Operator → Rules → Bool
+allows Fractional rs = is_split rs
+allows o rs = takes o (count_of rs)
+
+-- each operator in a rule has arguments that it takes
 abbrev mutual
   pub well_formed : Rule → Bool
   well_formed (tree.literal d) = true
   well_formed (tree.list rs) = all_well_formed rs
-  well_formed (tree.apply o rs) = takes o (count_of rs) && all_well_formed rs
+  well_formed (tree.apply o rs) = allows o rs && all_well_formed rs
 
   pub all_well_formed : Rules → Bool
   all_well_formed no_rules = true

@@ -3,6 +3,8 @@ use Rattle.std.specs.Prelude.{List, [], ◌∷◌, map}
 use Rattle.fp_operators.specs.View.{view}
 use Rattle.fp_targeting.specs.Constant.{constant}
 use Rattle.fp_targeting.specs.Rule.{Rule, list, apply, Rules, no_rules, rule}
+use Rattle.fp_targeting.specs.Split as split
+use Rattle.fp_targeting.specs.declared.split.Share.{Share}
 use Rattle.fp_targeting.specs.declared.tree.Tree.{Tree, fold-Tree}
 use Rattle.fp_targeting.specs.declared.tree.Tree.TheOpen.{Tree-F}
 
@@ -20,3 +22,7 @@ rule_view = fold-Tree Rule rule_view_step
 
 abbrev pub rules_view : List Tree → Rules
 rules_view ts = rules_of (map rule_view ts)
+
+-- a pair that was read
+abbrev pub share_view : Share → split.Share
+share_view s = (view s.name.now, s.weight)

@@ -2,16 +2,18 @@
 
 ghost use Rattle.std.specs.Prelude.{◌≡◌, ◌∷◌, [], ◌&&◌, IfOk, drop, map, option_map};
 ghost use Rattle.fp_operators.specs.Data.{null};
-ghost use Rattle.fp_operators.specs.Path.{named_by};
+ghost use Rattle.fp_operators.specs.Path.{found_or, named_by};
 ghost use Rattle.fp_operators.specs.View.{view};
 ghost use Rattle.fp_targeting.specs.Operators.{ascending, binary, result_of_few};
-ghost use Rattle.fp_targeting.specs.Meaning.{meaning, meanings, value_of_operator};
+ghost use Rattle.fp_targeting.specs.Split.{split_value};
+ghost use Rattle.fp_targeting.specs.Meaning.{meaning, meanings, value_of_operator, value_at};
 ghost use Rattle.fp_targeting.specs.Meaning.{or_null, value_behind_true};
 ghost use Rattle.fp_targeting.specs.Meaning.{first_false, first_true};
 ghost use Rattle.fp_targeting.specs.View.{rule_view, rules_view};
 ghost use Rattle.fp_targeting.specs.Found.{found_view};
 
 use crate::operator::{BinaryOperator, ChainOperator, Operator, UnaryOperator};
+use crate::split::{chosen_by, chosen_by_own_key, is_list, pairs_of};
 use crate::tree::Tree;
 use fp_operators::{
     Datum, append_text, between_exclusive, between_inclusive, ends_with, greater, greater_or_equal,
@@ -80,7 +82,7 @@ fn apply<'d>(
     root: &'d Datum,
 ) -> Result<Found<'d>, AllocError>
     ensures { IfOk result (λ x.
-        found_view x ≡ value_of_operator operator (view root.now)
+        found_view x ≡ value_at operator (view root.now) (rules_view arguments.now.items)
         (meanings (view root.now) (rules_view arguments.now.items))) }
 {
     match operator {
@@ -89,6 +91,7 @@ fn apply<'d>(
         Operator::Or => evaluate_or(alloc, arguments, root),
         Operator::Var => evaluate_var(alloc, arguments, root),
         Operator::Cat => Ok(Found::Made(evaluate_cat(alloc, arguments, root)?)),
+        Operator::Fractional => evaluate_fractional(alloc, arguments, root),
         Operator::SemVer | Operator::Unary(_) | Operator::Binary(_) | Operator::Chain(_) => {
             Ok(Found::Made(evaluate_few(alloc, operator, arguments, root)?))
         }
@@ -207,6 +210,38 @@ fn evaluate_cat(alloc: Global, arguments: &Vec<Tree>, root: &Datum) -> Result<Da
         }
     }
     Ok(Datum::Text(text))
+}
+
+#[cycle(evaluate)]
+fn evaluate_fractional<'d>(
+    alloc: Global,
+    arguments: &'d Vec<Tree>,
+    root: &'d Datum,
+) -> Result<Found<'d>, AllocError>
+    ensures { IfOk result (λ x.
+        found_view x ≡ split_value (view root.now) (rules_view arguments.now.items)
+        (meanings (view root.now) (rules_view arguments.now.items))) }
+{
+    match arguments.as_slice() {
+        [] => Ok(Found::Made(Datum::Null)),
+        [first, ..] => {
+            let pairs = pairs_of(arguments.as_slice());
+            if is_list(first) {
+                return Ok(lent_or_null(chosen_by_own_key(pairs, root)));
+            }
+            let key = evaluate(alloc, first, root)?;
+            Ok(lent_or_null(chosen_by(pairs, key.datum())))
+        }
+    }
+}
+
+fn lent_or_null(datum: Option<&Datum>) -> Found<'_>
+    ensures { found_view result ≡ found_or null (option_map (λ d. view d.now) datum.entry) }
+{
+    match datum {
+        Some(datum) => Found::Lent(datum),
+        None => Found::Made(Datum::Null),
+    }
 }
 
 // What an operator of one to three arguments gives: it looks at the results of all of them.

@@ -12,6 +12,7 @@ pub enum Operator {
     Var,
     Cat,
     SemVer,
+    Fractional,
     Unary(UnaryOperator),
     Binary(BinaryOperator),
     Chain(ChainOperator),
@@ -64,6 +65,7 @@ impl Operator {
             "starts_with" => Some(Operator::Binary(BinaryOperator::StartsWith)),
             "ends_with" => Some(Operator::Binary(BinaryOperator::EndsWith)),
             "sem_ver" => Some(Operator::SemVer),
+            "fractional" => Some(Operator::Fractional),
             _ => comparison_named(name),
         }
     }
@@ -74,7 +76,7 @@ impl Operator {
     {
         match self {
             Operator::If | Operator::Cat => true,
-            Operator::And | Operator::Or => count >= 1,
+            Operator::And | Operator::Or | Operator::Fractional => count >= 1,
             Operator::Var => count <= 2,
             Operator::SemVer => count == 3,
             Operator::Unary(_) => count == 1,
