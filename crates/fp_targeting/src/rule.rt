@@ -60,8 +60,9 @@ pub enum RuleFault {
     TooDeep,
     /// There is no operator of this name: the first such in reading order.
     UnsupportedOperator(String),
-    /// An operator has another number of arguments than it takes, the rule has too many values,
-    /// or a number in it isn't whole.
+    /// An operator has another number of arguments than it takes, `fractional` others than pairs
+    /// whose weights are within the limit, the rule has too many values, or a number in it isn't
+    /// whole.
     BadRule,
     /// Memory ran out.
     Memory,
