@@ -1,5 +1,5 @@
 -- The revisions that changed a set's flags, after an insert and a removal.
-use Rattle.std.proofs.Common.{◌≡◌, ℕ, ◌+◌, List, Option, Some, None, cond, Bool, true, false, unwrap_or, is_some, sym, ap, subst, ◌∙◌, true≢false, arith}
+use Rattle.std.proofs.Common.{◌≡◌, ℕ, ◌+◌, ◌≤◌, List, Option, Some, None, cond, Bool, true, false, unwrap_or, is_some, sym, ap, subst, ◌∙◌, true≢false, arith}
 use Rattle.std.specs.Ordering.{eq_by_cmp}
 use Rattle.std.proofs.lemmas.Cmp.{nat_list_cmp_total}
 use Rattle.std.specs.FinMap as fin
@@ -10,22 +10,16 @@ use Rattle.fp_edit.specs.declared.flags.Flag.{Flag}
 abbrev pub AreChangedBy : ℕ → Flags → Type 0
 AreChangedBy r m = (k : List ℕ) (f : Flag) → fin.get m k ≡ Some f → IsChangedBy r f
 
-later : (r : ℕ) (f : Flag) → IsChangedBy r f → IsChangedBy (r + 1) f
-later r f h = (h.0, omega arith)
-
 after_insert : (b : Bool) (o : Option Flag) (r : ℕ) (v f : Flag) → (o ≡ Some f → IsChangedBy r f) → IsChangedBy r v → cond b (Some v) o ≡ Some f → IsChangedBy r f
 after_insert true o r v f was now e = let same : v ≡ f = ap (λ x. unwrap_or x v) e in subst (IsChangedBy r) same now
 after_insert false o r v f was now e = was e
 
 after_remove : (b : Bool) (o : Option Flag) (r : ℕ) (f : Flag) → (o ≡ Some f → IsChangedBy r f) → cond b None o ≡ Some f → IsChangedBy (r + 1) f
 after_remove true o r f was e = absurd (true≢false (sym (ap is_some e)))
-after_remove false o r f was e = later r f (was e)
+after_remove false o r f was e = let h = was e in (h.0, omega arith)
 
-pub changed-restore : (r : ℕ) (m : Flags) (k : List ℕ) (v : Flag) → AreChangedBy r m → IsChangedBy r v → AreChangedBy r (fin.insert m k v)
-changed-restore r m k v was now q f e = after_insert (eq_by_cmp bytes_cmp q k) (fin.get m q) r v f (was q f) now (sym (fin.get-insert nat_list_cmp_total m k v q) ∙ e)
-
-pub changed-insert : (r : ℕ) (m : Flags) (k : List ℕ) (v : Flag) → AreChangedBy r m → IsChangedBy (r + 1) v → AreChangedBy (r + 1) (fin.insert m k v)
-changed-insert r m k v was now = changed-restore (r + 1) m k v (λ q f e. later r f (was q f e)) now
+pub changed-insert : (r s : ℕ) (m : Flags) (k : List ℕ) (v : Flag) → AreChangedBy r m → r ≤ s → IsChangedBy s v → AreChangedBy s (fin.insert m k v)
+changed-insert r s m k v was later now q f e = after_insert (eq_by_cmp bytes_cmp q k) (fin.get m q) s v f (λ p. let h = was q f p in (h.0, omega arith)) now (sym (fin.get-insert nat_list_cmp_total m k v q) ∙ e)
 
 pub changed-remove : (r : ℕ) (m : Flags) (k : List ℕ) → AreChangedBy r m → AreChangedBy (r + 1) (fin.remove m k)
 changed-remove r m k was q f e = after_remove (eq_by_cmp bytes_cmp q k) (fin.get m q) r f (was q f) (sym (fin.get-remove nat_list_cmp_total m k q) ∙ e)

@@ -1,12 +1,11 @@
 -- Changes that follow one another, and edits taken one by one.
-use Rattle.std.proofs.Common.{◌≡◌, ◌<◌, ◌+◌, ◌^◌, ◌&&◌, ℕ, Bool, true, false, List, [], ◌∷◌, ◌++◌, length, take, drop, suc, add-one, get_or, Option, None, Some, refl, sym, ap, subst, ◌∙◌, arith}
-use Rattle.std.specs.Prelude.{if◌then◌else◌}
-use Rattle.std.proofs.lemmas.Bool.{ltb-true}
-use Rattle.std.proofs.lemmas.List.{take-append-drop, map-append}
+use Rattle.std.proofs.Common.{◌≡◌, ◌<◌, ◌+◌, ◌^◌, ◌&&◌, ℕ, Bool, true, false, List, [], ◌∷◌, ◌++◌, length, take, drop, suc, add-one, get_or, None, refl, sym, ap, subst, ◌∙◌, arith}
+use Rattle.std.proofs.lemmas.Bool.{and_from, and_parts, ltb-true}
+use Rattle.std.proofs.lemmas.List.{nil_from_length, take-append-drop, map-append}
 use Rattle.std.proofs.Math.Seq.{take-suc}
 use Rattle.fp_base.specs.Tests.{first_failed}
-use Rattle.fp_edit.specs.Admits.{refusal, next, can_change, changed_at, is_met, has_room, has_revision}
-use Rattle.fp_edit.specs.Edits.{Change, Proposal, changed_key}
+use Rattle.fp_edit.specs.Admits.{refusal, next, can_change, present, is_met, has_room, has_revision}
+use Rattle.fp_edit.specs.Edits.{Change, Proposal}
 use Rattle.fp_edit.specs.Flags.{State}
 use Rattle.fp_edit.specs.Following.{Follows, change_of, changes_of, unconditional}
 use Rattle.fp_edit.specs.Log.{after_all}
@@ -36,29 +35,29 @@ follows_front s [] ys f = tt
 follows_front s (x ∷ xs) ys f = (f.0, follows_front (next s x) xs ys f.1)
 
 -- ---- what is accepted
-passed : (b : Bool) (e : EditFault) (rest : Option EditFault) → (if b then rest else Some e) ≡ None → (b ≡ true) × (rest ≡ None)
-passed true e rest h = (refl, h)
-passed false e rest h = absurd cc
+all_met : (a b c : Bool) (e f g : EditFault) → first_failed ((a, e) ∷ (b, f) ∷ (c, g) ∷ []) ≡ None → (a ≡ true) × (b ≡ true) × (c ≡ true)
+all_met true true true e f g h = (refl, refl, refl)
+all_met true true false e f g h = absurd cc
+all_met true false c e f g h = absurd cc
+all_met false b c e f g h = absurd cc
 
-by_tests : (can met : Bool) (e : EditFault) (rest : Option EditFault) → (if can && met then rest else Some e) ≡ None → (if can && true then rest else Some e) ≡ None
-by_tests true true e rest h = h
-by_tests true false e rest h = absurd cc
-by_tests false met e rest h = absurd cc
+module _ (s : State) (p : Proposal) where
+  abbrev CanBe : Bool
+  CanBe = can_change p.change (present s p) && is_met p.expect (present s p)
+
+  pub met : refusal s p ≡ None → (CanBe ≡ true) × (has_room s p.change ≡ true) × (has_revision s ≡ true)
+  met h = all_met CanBe (has_room s p.change) (has_revision s) (Conflict (present s p)) SetTooLarge RevisionsUsed h
+
+  pub passes : CanBe ≡ true → has_room s p.change ≡ true → has_revision s ≡ true → refusal s p ≡ None
+  passes a b c = rw (a, b, c) refl
+
+  -- there is a revision for it
+  pub has_next : refusal s p ≡ None → s.revision + 1 < 2 ^ 63
+  has_next h = ltb-true _ _ (met h).2
 
 -- what is accepted with an expectation is accepted without
 pub freely : (s : State) (p : Proposal) → refusal s p ≡ None → refusal s (unconditional p.change) ≡ None
-freely s p h =
-    let current = changed_at s (changed_key p.change) in
-    by_tests (can_change p.change current) (is_met p.expect current) (Conflict current) (first_failed ((has_room s p.change, SetTooLarge) ∷ (has_revision s, RevisionsUsed) ∷ [])) h
-
--- and there is a revision for it
-pub has_next : (s : State) (p : Proposal) → refusal s p ≡ None → s.revision + 1 < 2 ^ 63
-has_next s p h =
-    let current = changed_at s (changed_key p.change) in
-    let first = passed (can_change p.change current && is_met p.expect current) (Conflict current) (first_failed ((has_room s p.change, SetTooLarge) ∷ (has_revision s, RevisionsUsed) ∷ [])) h in
-    let second = passed (has_room s p.change) SetTooLarge (first_failed ((has_revision s, RevisionsUsed) ∷ [])) first.1 in
-    let third = passed (has_revision s) RevisionsUsed None second.1 in
-    ltb-true _ _ third.0
+freely s p h = let all = met s p h in passes s (unconditional p.change) (and_from _ _ (and_parts _ _ all.0).0 refl) all.1 all.2
 
 -- there are revisions for all of them
 pub follows_small : (s : State) (xs : List Change) → s.revision < 2 ^ 63 → Follows s xs → s.revision + length xs < 2 ^ 63
@@ -77,8 +76,7 @@ pub all_taken : (xs : List Edit) (n : ℕ) → changes_of xs ≡ changes_of (tak
 all_taken xs n = ap changes_of (sym (take-append-drop n xs)) ∙ map-append change_of (take n xs) (drop n xs)
 
 pub none_left : (xs : List Edit) → length xs ≡ 0 → changes_of xs ≡ []
-none_left [] h = refl
-none_left (x ∷ xs) h = absurd (omega (arith, h))
+none_left xs h = ap changes_of (nil_from_length xs h)
 
 module _ (s : State) (xs : List Edit) (i : ℕ) (e : Edit) (lt : i < length xs) (is : e ≡ get_or xs i e) where
   pub one_after : after_all s (changes_of (take (i + 1) xs)) ≡ next (after_all s (changes_of (take i xs))) (change_of e)

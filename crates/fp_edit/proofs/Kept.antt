@@ -1,30 +1,25 @@
--- What stays true of a set, through a put and a delete.
-use Rattle.std.proofs.Common.{◌≡◌, ℕ, ◌+◌, ◌-◌, List, Bool, true, false, ◌&&◌, refl, sym, true≢false, arith}
-use Rattle.std.proofs.lemmas.Bool.{leb-true, ltb-true}
+-- What stays true of a set, through an insert and a delete.
+use Rattle.std.proofs.Common.{◌≡◌, ℕ, ◌+◌, ◌-◌, ◌<◌, ◌≤◌, List, true, refl, sym, arith}
+use Rattle.std.proofs.lemmas.Bool.{and_parts, leb-true, ltb-true}
 use Rattle.std.specs.FinMap as fin
-use Rattle.fp_edit.specs.Admits.{flags_after, has_revision, has_room, is_within}
-use Rattle.fp_edit.specs.Edits.{put, delete}
-use Rattle.fp_edit.specs.Flags.{State, IsChangedBy, IsTallied, cost_found, size}
+use Rattle.fp_base.specs.Bytes.{bytes_cmp}
+use Rattle.fp_edit.specs.Admits.{flags_after, has_revision, is_within}
+use Rattle.fp_edit.specs.Edits.{delete}
+use Rattle.fp_edit.specs.Flags.{Flags, State, IsChangedBy, IsTallied, cost_found, size}
+use Rattle.fp_edit.specs.declared.edit.TheConstants.{REVISIONS_END}
 use Rattle.fp_edit.specs.declared.flags.Flag.{Flag}
-use Rattle.fp_edit.proofs.Changed.{changed-insert, changed-remove, changed-restore}
-use Rattle.fp_edit.proofs.Sizes.{size-remove, count-remove}
+use Rattle.fp_edit.specs.declared.flags.TheConstants.{IMAGE_HEAD}
+use Rattle.fp_edit.proofs.Changed.{changed-empty, changed-insert, changed-remove}
+use Rattle.fp_edit.proofs.Sizes.{size-empty, size-remove, count-remove}
 
-left : (a b : Bool) → (a && b) ≡ true → a ≡ true
-left true b h = refl
-left false b h = h
-
-right : (a b : Bool) → (a && b) ≡ true → b ≡ true
-right true b h = h
-right false b h = absurd (true≢false (sym h))
-
-pub kept-put : (s : State) (kept : ℕ) (k text : List ℕ) → IsTallied s.flags s.revision s.limit kept → has_revision s ≡ true → has_room s (put k text) ≡ true
-    → IsTallied (flags_after s (put k text)) (s.revision + 1) s.limit (size (flags_after s (put k text)))
-kept-put s kept k text was more room = record {
+pub kept-insert : (m : Flags) (r s limit kept : ℕ) (k : List ℕ) (f : Flag) → IsTallied m r limit kept → r ≤ s → s < REVISIONS_END → IsChangedBy s f → is_within (fin.insert m k f) limit ≡ true
+    → IsTallied (fin.insert m k f) s limit (size (fin.insert m k f))
+kept-insert m r s limit kept k f was later some here room = record {
   size = refl;
-  few = leb-true _ _ (left _ _ room);
-  numbered = ltb-true _ _ more;
-  within = λ _. leb-true _ _ (right _ _ room);
-  changed = changed-insert s.revision s.flags k (record { definition = text; changed = s.revision + 1 }) was.changed (omega arith, omega arith);
+  few = leb-true _ _ (and_parts _ _ room).0;
+  numbered = some;
+  within = λ _. leb-true _ _ (and_parts _ _ room).1;
+  changed = changed-insert r s m k f was.changed later here;
 }
 
 pub kept-delete : (s : State) (kept : ℕ) (k : List ℕ) → IsTallied s.flags s.revision s.limit kept → has_revision s ≡ true
@@ -41,12 +36,11 @@ kept-delete s kept k was more =
       changed = changed-remove s.revision s.flags k was.changed;
     }
 
-pub kept-restore : (s : State) (kept : ℕ) (k : List ℕ) (f : Flag) → IsTallied s.flags s.revision s.limit kept → IsChangedBy s.revision f → is_within (fin.insert s.flags k f) s.limit ≡ true
-    → IsTallied (fin.insert s.flags k f) s.revision s.limit (size (fin.insert s.flags k f))
-kept-restore s kept k f was here room = record {
-  size = refl;
-  few = leb-true _ _ (left _ _ room);
-  numbered = was.numbered;
-  within = λ _. leb-true _ _ (right _ _ room);
-  changed = changed-restore s.revision s.flags k f was.changed here;
+pub kept-empty : (revision limit : ℕ) → revision < REVISIONS_END → IsTallied fin.empty revision limit IMAGE_HEAD
+kept-empty revision limit some = record {
+  size = sym size-empty;
+  few = let none = fin.len-empty bytes_cmp Flag in omega (arith, none);
+  numbered = some;
+  within = λ h. h;
+  changed = changed-empty revision;
 }

@@ -66,30 +66,6 @@ find_is_lookup : (es : List (List ℕ × Flag)) (q : List ℕ) → find bytes_cm
 find_is_lookup [] q = refl
 find_is_lookup (e ∷ es) q = ap (cond (eq_by_cmp bytes_cmp q e.0) (Some e.1)) (find_is_lookup es q)
 
-sorted_bytes : (es : List Entry) → IsStrictlySortedBy flag_cmp (keys_of es) → IsStrictlySortedBy bytes_cmp (keys_of (map entry_of es))
-unfolding IsStrictlySortedBy
-sorted_bytes [] h = tt
-sorted_bytes (e ∷ es) h = (all_above e es h.0, sorted_bytes es h.1)
-  where
-    all_above : (e : Entry) (es : List Entry) → AllByRecursion (λ y. flag_cmp e.0 y ≡ Less) (keys_of es) → AllByRecursion (λ y. bytes_cmp (key_bytes e.0) y ≡ Less) (keys_of (map entry_of es))
-    all_above e [] h = tt
-    all_above e (x ∷ es) h = (h.0, all_above e es h.1)
-
-one_key : (k x y : List ℕ) → is_at (bytes_cmp k) x ≡ true → is_at (bytes_cmp k) y ≡ eq_by_cmp bytes_cmp x y
-one_key k x y h = ap (λ z. is_eq (bytes_cmp z y)) (exact_bytes k x ((Equal-is (bytes_cmp k x)).0 h))
-
--- after a removal
-pub flags_of-remove : (es : List Entry) (k : FlagKey) → IsStrictlySortedBy flag_cmp (keys_of es)
-    → flags_of (remove_entry (is_at (flag_cmp k)) es) ≡ fin.remove (flags_of es) (key_bytes k)
-flags_of-remove es k h = fin.same_map nat_list_cmp_total exact_bytes _ _ (λ q.
-    fin.get-from_entries nat_list_cmp_total (map entry_of (remove_entry (is_at (flag_cmp k)) es)) q
-    ∙ ap (find bytes_cmp q) (mapped_remove es (key_bytes k))
-    ∙ find_is_lookup (remove_entry (is_at (bytes_cmp (key_bytes k))) (map entry_of es)) q
-    ∙ lookup-remove_entry (eq_by_cmp_equiv nat_list_cmp_total) (is_at (bytes_cmp (key_bytes k))) (one_key (key_bytes k)) q (map entry_of es) (IsDistinct-from_sorted bytes_cmp _ (sorted_bytes es h))
-    ∙ sym (fin.get-remove nat_list_cmp_total (flags_of es) (key_bytes k) q
-    ∙ ap (λ b. cond b None (fin.get (flags_of es) q)) ((eq_by_cmp_equiv nat_list_cmp_total).symm q (key_bytes k))
-    ∙ ap (cond (eq_by_cmp bytes_cmp (key_bytes k) q) None) (fin.get-from_entries nat_list_cmp_total (map entry_of es) q ∙ find_is_lookup (map entry_of es) q)))
-
 -- ---- in order
 
 both : (a b : Bool) → T a → T b → T (a && b)
@@ -104,6 +80,34 @@ pub is_sorted-mapped : (es : List Entry) → IsStrictlySortedBy flag_cmp (keys_o
 unfolding IsStrictlySortedBy
 is_sorted-mapped [] h = tt
 is_sorted-mapped (e ∷ es) h = both _ _ (below e es h.0) (is_sorted-mapped es h.1)
+
+below_keys : (k : List ℕ) (es : List (List ℕ × Flag)) → T (below_all bytes_cmp k es) → AllByRecursion (λ y. bytes_cmp k y ≡ Less) (keys_of es)
+below_keys k [] h = tt
+below_keys k (e ∷ es) h = (less _ (first _ _ h), below_keys k es (second _ _ h))
+
+pub sorted_keys : (es : List (List ℕ × Flag)) → T (is_sorted bytes_cmp es) → IsStrictlySortedBy bytes_cmp (keys_of es)
+unfolding IsStrictlySortedBy
+sorted_keys [] h = tt
+sorted_keys (e ∷ es) h = (below_keys e.0 es (first _ _ h), sorted_keys es (second _ _ h))
+
+-- ---- a removal
+
+one_key : (k x y : List ℕ) → is_at (bytes_cmp k) x ≡ true → is_at (bytes_cmp k) y ≡ eq_by_cmp bytes_cmp x y
+one_key k x y h = ap (λ z. is_eq (bytes_cmp z y)) (exact_bytes k x ((Equal-is (bytes_cmp k x)).0 h))
+
+-- after a removal
+pub flags_of-remove : (es : List Entry) (k : FlagKey) → IsStrictlySortedBy flag_cmp (keys_of es)
+    → flags_of (remove_entry (is_at (flag_cmp k)) es) ≡ fin.remove (flags_of es) (key_bytes k)
+flags_of-remove es k h = fin.same_map nat_list_cmp_total exact_bytes _ _ (λ q.
+    fin.get-from_entries nat_list_cmp_total (map entry_of (remove_entry (is_at (flag_cmp k)) es)) q
+    ∙ ap (find bytes_cmp q) (mapped_remove es (key_bytes k))
+    ∙ find_is_lookup (remove_entry (is_at (bytes_cmp (key_bytes k))) (map entry_of es)) q
+    ∙ lookup-remove_entry (eq_by_cmp_equiv nat_list_cmp_total) (is_at (bytes_cmp (key_bytes k))) (one_key (key_bytes k)) q (map entry_of es) (IsDistinct-from_sorted bytes_cmp _ (sorted_keys _ (is_sorted-mapped es h)))
+    ∙ sym (fin.get-remove nat_list_cmp_total (flags_of es) (key_bytes k) q
+    ∙ ap (λ b. cond b None (fin.get (flags_of es) q)) ((eq_by_cmp_equiv nat_list_cmp_total).symm q (key_bytes k))
+    ∙ ap (cond (eq_by_cmp bytes_cmp (key_bytes k) q) None) (fin.get-from_entries nat_list_cmp_total (map entry_of es) q ∙ find_is_lookup (map entry_of es) q)))
+
+-- ---- the entries
 
 -- the set's entries are the map's
 pub entries-flags_of : (es : List Entry) → IsStrictlySortedBy flag_cmp (keys_of es) → fin.entries (flags_of es) ≡ map entry_of es

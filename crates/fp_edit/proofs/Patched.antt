@@ -3,7 +3,8 @@ use Rattle.std.proofs.Common.{◌≡◌, ℕ, ◌+◌, ◌-◌, ◌≤◌, ◌<�
 use Rattle.std.specs.Prelude.{if◌then◌else◌, nat_lt}
 use Rattle.std.specs.List.{splice}
 use Rattle.std.proofs.lemmas.Bool.{ltb-false, lt-ltb}
-use Rattle.std.proofs.lemmas.List.{take_at, drop_at, set_at, get_or_at, drop-drop, length-drop, append-nil}
+use Rattle.std.proofs.lemmas.List.{take_at, drop_at, take_more, drop_more, drop-drop, length-drop}
+use Rattle.fp_base.proofs.Turns.{set-here}
 use Rattle.serde_json.specs.Written.{comma_if, compact_text, members_text}
 use Rattle.json.specs.Print.{quoted}
 use Rattle.fp_edit.specs.Document.{data_of, members_of}
@@ -68,26 +69,38 @@ begun since d es news o same =
       measured = refl;
     }
 
--- the first flag of those that are left
-record First (since : ℕ) (text left : List ℕ) (at : ℕ) (later : Bool) (f : Entry) (fs : List Entry) : Type 0 where
+-- the first flag of those that are left, where its old part is so long
+record First (since : ℕ) (text : List ℕ) (n : ℕ) (left : List ℕ) (at : ℕ) (later : Bool) (f : Entry) (fs : List Entry) : Type 0 where
   old : Entry
   olds : List Entry
   kept : f.1.changed ≤ since → old ≡ f
   same : SameButChanged since olds fs
   here : drop at text ≡ part later old ++ rest_text true olds
-  left_is : left ≡ length (part later old) ∷ part_lengths true olds
+  len : n ≡ length (part later old)
+  rest : left ≡ part_lengths true olds
+  next : drop (at + n) text ≡ rest_text true olds
+  within : at + n ≤ length text
 
-first_of : (since : ℕ) (text left : List ℕ) (at : ℕ) (later : Bool) (f : Entry) (fs olds : List Entry)
-    → SameButChanged since olds (f ∷ fs) → drop at text ≡ rest_text later olds → left ≡ part_lengths later olds → First since text left at later f fs
-first_of since text left at later f fs [] same here left_is = absurd same
-first_of since text left at later f fs (e ∷ es) same here left_is = record {
-  old = e;
-  olds = es;
-  kept = same.1;
-  same = same.2;
-  here = here ∙ first_part later e es;
-  left_is = left_is;
-}
+first_of : (since : ℕ) (text : List ℕ) (n : ℕ) (left : List ℕ) (at : ℕ) (later : Bool) (f : Entry) (fs olds : List Entry) → SameButChanged since olds (f ∷ fs)
+    → drop at text ≡ rest_text later olds → at ≤ length text → n ∷ left ≡ part_lengths later olds → First since text n left at later f fs
+first_of since text n left at later f fs [] same here within left_is = absurd same
+first_of since text n left at later f fs (e ∷ es) same here within left_is =
+    let whole = here ∙ first_part later e es in
+    let len : n ≡ length (part later e) = cc left_is in record {
+      old = e;
+      olds = es;
+      kept = same.1;
+      same = same.2;
+      here = whole;
+      len = len;
+      rest = cc left_is;
+      next = ap (λ k. drop (at + k) text) len ∙ past text at (part later e) (rest_text true es) whole;
+      within = rw len (inside text at (part later e) (rest_text true es) whole within);
+    }
+
+some_old : (since : ℕ) (olds : List Entry) (f : Entry) (fs : List Entry) → SameButChanged since olds (f ∷ fs) → 0 < length olds
+some_old since [] f fs same = absurd same
+some_old since (e ∷ es) f fs same = omega arith
 
 module _ {since : ℕ} {text left : List ℕ} {from at : ℕ} {later : Bool} {out lengths : List ℕ} {news all : List Entry} where
   -- the same, where it is known what is left
@@ -106,36 +119,34 @@ module _ {since : ℕ} {text left : List ℕ} {from at : ℕ} {later : Bool} {ou
   -- where a flag is left, so is a length
   pub some_left : Underway since text left from at later out lengths (f ∷ fs) all → length left ≡ 0 → ⊥
   some_left u none =
-      let x = first_of since text left at later f fs u.olds u.same u.here u.left_is in
-      let some = ap length x.left_is in omega (arith, none, some)
+      let some = some_old since u.olds f fs u.same in
+      let len = ap length u.left_is ∙ length-part_lengths later u.olds in omega (arith, none, some, len)
 
 module _ {since : ℕ} {text left : List ℕ} {n from at : ℕ} {later : Bool} {out lengths : List ℕ} {f : Entry} {fs all : List Entry} where
+  first : Underway since text (n ∷ left) from at later out lengths (f ∷ fs) all → First since text n left at later f fs
+  first u = first_of since text n left at later f fs u.olds u.same u.here u.within u.left_is
+
   -- the flag's old part ends within the earlier text
   pub ends_within : Underway since text (n ∷ left) from at later out lengths (f ∷ fs) all → at + n ≤ length text
-  ends_within u =
-      let x = first_of since text (n ∷ left) at later f fs u.olds u.same u.here u.left_is in
-      let len : n ≡ length (part later x.old) = cc (x.left_is) in
-      rw len (inside text at (part later x.old) (rest_text true x.olds) x.here u.within)
+  ends_within u = (first u).within
 
   -- a flag that wasn't changed is left where it is
   pub left_there : Underway since text (n ∷ left) from at later out lengths (f ∷ fs) all → f.1.changed ≤ since
       → Underway since text left from (at + n) true out (lengths ++ n ∷ []) fs all
   left_there u early =
-      let x = first_of since text (n ∷ left) at later f fs u.olds u.same u.here u.left_is in
+      let x = first u in
       let is : x.old ≡ f = x.kept early in
-      let len : n ≡ length (part later f) = cc (x.left_is, is) in
-      let rest : left ≡ part_lengths true x.olds = cc (x.left_is) in
+      let len : n ≡ length (part later f) = x.len ∙ ap (λ e. length (part later e)) is in
       let here : drop at text ≡ part later f ++ rest_text true x.olds = x.here ∙ ap (λ e. part later e ++ rest_text true x.olds) is in
-      let next : drop (at + n) text ≡ rest_text true x.olds = ap (λ k. drop (at + k) text) len ∙ past text at (part later f) (rest_text true x.olds) here in
       let reach = u.reach in record {
         olds = x.olds;
         gap = u.gap ++ part later f;
         same = x.same;
-        here = next;
-        between = u.between ∙ ap (λ l. u.gap ++ l) (here ∙ ap (λ l. part later f ++ l) (sym next)) ∙ sym (append_assoc u.gap (part later f) (drop (at + n) text));
+        here = x.next;
+        between = u.between ∙ ap (λ l. u.gap ++ l) (here ∙ ap (λ l. part later f ++ l) (sym x.next)) ∙ sym (append_assoc u.gap (part later f) (drop (at + n) text));
         reach = let all = length-append u.gap (part later f) in omega arith;
-        within = rw len (inside text at (part later f) (rest_text true x.olds) here u.within);
-        left_is = rest;
+        within = x.within;
+        left_is = x.rest;
         told = ap (λ l. out ++ l) (append_assoc u.gap (part later f) (rest_text true fs) ∙ ap (λ l. u.gap ++ l) (sym (first_part later f fs))) ∙ u.told;
         measured = append_assoc lengths (n ∷ []) (part_lengths true fs) ∙ ap (λ k. lengths ++ k ∷ part_lengths true fs) len ∙ u.measured;
       }
@@ -144,17 +155,15 @@ module _ {since : ℕ} {text left : List ℕ} {n from at : ℕ} {later : Bool} {
   pub put_anew : (u : Underway since text (n ∷ left) from at later out lengths (f ∷ fs) all) (written lens : List ℕ) → written ≡ (out ++ u.gap) ++ part later f
       → lens ≡ lengths ++ length (part later f) ∷ [] → Underway since text left (at + n) (at + n) true written lens fs all
   put_anew u written lens is lens_are =
-      let x = first_of since text (n ∷ left) at later f fs u.olds u.same u.here u.left_is in
-      let len : n ≡ length (part later x.old) = cc (x.left_is) in
-      let rest : left ≡ part_lengths true x.olds = cc (x.left_is) in record {
+      let x = first u in record {
         olds = x.olds;
         gap = [];
         same = x.same;
-        here = ap (λ k. drop (at + k) text) len ∙ past text at (part later x.old) (rest_text true x.olds) x.here;
+        here = x.next;
         between = refl;
         reach = omega arith;
-        within = rw len (inside text at (part later x.old) (rest_text true x.olds) x.here u.within);
-        left_is = rest;
+        within = x.within;
+        left_is = x.rest;
         told =
             ap (λ l. l ++ rest_text true fs) is
             ∙ append_assoc (out ++ u.gap) (part later f) (rest_text true fs)
@@ -164,49 +173,8 @@ module _ {since : ℕ} {text left : List ℕ} {n from at : ℕ} {later : Bool} {
         measured = ap (λ l. l ++ part_lengths true fs) lens_are ∙ append_assoc lengths (length (part later f) ∷ []) (part_lengths true fs) ∙ u.measured;
       }
 
-module _ {since : ℕ} {text left : List ℕ} {from at : ℕ} {later : Bool} {out lengths : List ℕ} {all : List Entry} where
-  ended_of : (u : Underway since text left from at later out lengths [] all) (olds : List Entry) → u.olds ≡ olds
-      → (out ++ drop from text ≡ whole_text all) × (lengths ≡ part_lengths false all)
-  ended_of u (e ∷ es) is = absurd (subst (λ olds. SameButChanged since olds []) is u.same)
-  ended_of u [] is = (
-    ap (λ l. out ++ l) (u.between ∙ ap (λ l. u.gap ++ l) (u.here ∙ ap (rest_text later) is)) ∙ u.told,
-    sym (append-nil lengths) ∙ u.measured,
-  )
+-- ---- what is left wasn't changed
 
-  -- nothing is left
-  pub ended : Underway since text left from at later out lengths [] all → (out ++ drop from text ≡ whole_text all) × (lengths ≡ part_lengths false all)
-  ended u = ended_of u u.olds refl
-
--- ---- in its own place
-
--- flags of which these are left have their parts in the text, with what is left of the earlier flags behind these
-pub record Replacing (since : ℕ) (text lengths : List ℕ) (at index : ℕ) (later : Bool) (news all : List Entry) : Type 0 where
-  pub olds : List Entry
-  pub done : List ℕ
-  pub dones : List ℕ
-  pub same : SameButChanged since olds news
-  pub here : text ≡ done ++ rest_text later olds
-  pub reach : length done ≡ at
-  pub lens : lengths ≡ dones ++ part_lengths later olds
-  pub count : length dones ≡ index
-  pub told : done ++ rest_text later news ≡ whole_text all
-  pub measured : dones ++ part_lengths later news ≡ part_lengths false all
-
-pub replacing : (since : ℕ) (d : Document) (es news : List Entry) → Outlines d es → SameButChanged since es news → Replacing since d.text.items d.lengths.items 10 0 false news news
-replacing since d es news o same = record {
-  olds = es;
-  done = codes "{\"flags\":{";
-  dones = [];
-  same = same;
-  here = o.text;
-  reach = refl;
-  lens = o.lengths;
-  count = refl;
-  told = refl;
-  measured = refl;
-}
-
--- the first of the flags that are left
 early : (since : ℕ) (f : Entry) (fs : List Entry) → changed_after since (f ∷ fs) ≡ 0 → f.1.changed ≤ since
 early since f fs none =
     elim (nat_lt since f.1.changed) as (λ b. nat_lt since f.1.changed ≡ b → (if b then 1 else 0) + changed_after since fs ≡ 0 → f.1.changed ≤ since) [
@@ -214,111 +182,6 @@ early since f fs none =
       | false ↦ λ is. λ n. ltb-false since f.1.changed is
     ] refl none
 
-pub fewer_than : (since : ℕ) (f : Entry) (fs : List Entry) {n : ℕ} → changed_after since (f ∷ fs) ≤ n → changed_after since fs ≤ n
-fewer_than since f fs most = omega (arith, most)
-
--- where it was changed, and one at most was, the others weren't
-pub others : (since : ℕ) (f : Entry) (fs : List Entry) → changed_after since (f ∷ fs) ≤ 1 → since < f.1.changed → changed_after since fs ≡ 0
-others since f fs one late =
-    let is : nat_lt since f.1.changed ≡ true = lt-ltb since f.1.changed late in
-    let all : 1 + changed_after since fs ≤ 1 = subst (λ b. (if b then 1 else 0) + changed_after since fs ≤ 1) is one in omega (arith, all)
-
--- what the first flag that is left had
-pub record Had (since : ℕ) (text lengths : List ℕ) (at index : ℕ) (later : Bool) (f : Entry) (fs all : List Entry) : Type 0 where
-  pub old : Entry
-  pub olds : List Entry
-  pub done : List ℕ
-  pub dones : List ℕ
-  pub kept : f.1.changed ≤ since → old ≡ f
-  pub same : SameButChanged since olds fs
-  pub here : text ≡ done ++ (part later old ++ rest_text true olds)
-  pub reach : length done ≡ at
-  pub lens : lengths ≡ dones ++ length (part later old) ∷ part_lengths true olds
-  pub count : length dones ≡ index
-  pub told : done ++ (part later f ++ rest_text true fs) ≡ whole_text all
-  pub measured : dones ++ length (part later f) ∷ part_lengths true fs ≡ part_lengths false all
-
-module _ {since : ℕ} {text lengths : List ℕ} {at index : ℕ} {later : Bool} {f : Entry} {fs all : List Entry} where
-  had_of : (u : Replacing since text lengths at index later (f ∷ fs) all) (olds : List Entry) → u.olds ≡ olds → Had since text lengths at index later f fs all
-  had_of u [] is = absurd (subst (λ es. SameButChanged since es (f ∷ fs)) is u.same)
-  had_of u (e ∷ es) is =
-      let same = subst (λ es. SameButChanged since es (f ∷ fs)) is u.same in record {
-        old = e;
-        olds = es;
-        done = u.done;
-        dones = u.dones;
-        kept = same.1;
-        same = same.2;
-        here = u.here ∙ ap (λ es. u.done ++ rest_text later es) is ∙ ap (λ l. u.done ++ l) (first_part later e es);
-        reach = u.reach;
-        lens = u.lens ∙ ap (λ es. u.dones ++ part_lengths later es) is;
-        count = u.count;
-        told = ap (λ l. u.done ++ l) (sym (first_part later f fs)) ∙ u.told;
-        measured = u.measured;
-      }
-
-  pub had : Replacing since text lengths at index later (f ∷ fs) all → Had since text lengths at index later f fs all
-  had u = had_of u u.olds refl
-
-  pub within : (h : Had since text lengths at index later f fs all) → at + length (part later h.old) ≤ length text
-  within h =
-      let all = ap length h.here ∙ length-append h.done (part later h.old ++ rest_text true h.olds) ∙ ap (λ n. length h.done + n) (length-append (part later h.old) (rest_text true h.olds)) in
-      let reach = h.reach in omega arith
-
-  pub counted : Had since text lengths at index later f fs all → index < length lengths
-  counted h =
-      let all = ap length h.lens ∙ length-append h.dones (length (part later h.old) ∷ part_lengths true h.olds) in
-      let count = h.count in omega arith
-
-  pub length_is : (h : Had since text lengths at index later f fs all) (d : ℕ) → get_or lengths index d ≡ length (part later h.old)
-  length_is h d = ap (λ l. get_or l index d) h.lens ∙ get_or_at h.dones (length (part later h.old)) (part_lengths true h.olds) d index h.count
-
-  -- a flag that wasn't changed has its part already
-  pub stands : (h : Had since text lengths at index later f fs all) → f.1.changed ≤ since → Replacing since text lengths (at + length (part later h.old)) (index + 1) true fs all
-  stands h early =
-      let is : part later h.old ≡ part later f = ap (part later) (h.kept early) in
-      let reach = h.reach in
-      let count = h.count in record {
-        olds = h.olds;
-        done = h.done ++ part later f;
-        dones = h.dones ++ length (part later f) ∷ [];
-        same = h.same;
-        here = h.here ∙ ap (λ l. h.done ++ (l ++ rest_text true h.olds)) is ∙ sym (append_assoc h.done (part later f) (rest_text true h.olds));
-        reach = let all = length-append h.done (part later f) in let len = ap length is in omega arith;
-        lens = h.lens ∙ ap (λ l. h.dones ++ length l ∷ part_lengths true h.olds) is ∙ sym (append_assoc h.dones (length (part later f) ∷ []) (part_lengths true h.olds));
-        count = let all = length-append h.dones (length (part later f) ∷ []) in omega arith;
-        told = append_assoc h.done (part later f) (rest_text true fs) ∙ h.told;
-        measured = append_assoc h.dones (length (part later f) ∷ []) (part_lengths true fs) ∙ h.measured;
-      }
-
-  -- one that was changed gets it
-  pub replaced : (h : Had since text lengths at index later f fs all) → Replacing since (splice text at (at + length (part later h.old)) (part later f)) (set lengths index (length (part later f)))
-      (at + length (part later f)) (index + 1) true fs all
-  replaced h =
-      let reach = h.reach in
-      let count = h.count in
-      let front : take at text ≡ h.done = ap (take at) h.here ∙ take_at h.done (part later h.old ++ rest_text true h.olds) at reach in
-      let back : drop (at + length (part later h.old)) text ≡ rest_text true h.olds =
-      past text at (part later h.old) (rest_text true h.olds) (ap (drop at) h.here ∙ drop_at h.done (part later h.old ++ rest_text true h.olds) at reach) in record {
-        olds = h.olds;
-        done = h.done ++ part later f;
-        dones = h.dones ++ length (part later f) ∷ [];
-        same = h.same;
-        here =
-            ap (λ l. l ++ (part later f ++ drop (at + length (part later h.old)) text)) front
-            ∙ ap (λ l. h.done ++ (part later f ++ l)) back
-            ∙ sym (append_assoc h.done (part later f) (rest_text true h.olds));
-        reach = let all = length-append h.done (part later f) in omega arith;
-        lens =
-            ap (λ l. set l index (length (part later f))) h.lens
-            ∙ set_at h.dones (length (part later h.old)) (part_lengths true h.olds) (length (part later f)) index count
-            ∙ sym (append_assoc h.dones (length (part later f) ∷ []) (part_lengths true h.olds));
-        count = let all = length-append h.dones (length (part later f) ∷ []) in omega arith;
-        told = append_assoc h.done (part later f) (rest_text true fs) ∙ h.told;
-        measured = append_assoc h.dones (length (part later f) ∷ []) (part_lengths true fs) ∙ h.measured;
-      }
-
--- where none was changed, all are the same
 all_same : (since : ℕ) (es fs : List Entry) → SameButChanged since es fs → changed_after since fs ≡ 0 → es ≡ fs
 all_same since [] [] same none = refl
 all_same since [] (f ∷ fs) same none = absurd same
@@ -327,16 +190,51 @@ all_same since (e ∷ es) (f ∷ fs) same none =
     let here : e ≡ f = same.1 (early since f fs none) in
     let rest = all_same since es fs same.2 (omega (arith, none)) in cc (here, rest)
 
-module _ {since : ℕ} {text lengths : List ℕ} {at index : ℕ} {later : Bool} {news all : List Entry} where
-  -- where none of those that are left was changed, all have their parts
-  pub all_replaced : (u : Replacing since text lengths at index later news all) → changed_after since news ≡ 0 → (text ≡ whole_text all) × (lengths ≡ part_lengths false all)
-  all_replaced u none =
+module _ {since : ℕ} {text left : List ℕ} {from at : ℕ} {later : Bool} {out lengths : List ℕ} {news all : List Entry} where
+  pub ended : Underway since text left from at later out lengths news all → changed_after since news ≡ 0 → (out ++ drop from text ≡ whole_text all) × (lengths ++ left ≡ part_lengths false all)
+  ended u none =
       let same = all_same since u.olds news u.same none in (
-        u.here ∙ ap (λ es. u.done ++ rest_text later es) same ∙ u.told,
-        u.lens ∙ ap (λ es. u.dones ++ part_lengths later es) same ∙ u.measured,
+        ap (λ l. out ++ l) (u.between ∙ ap (λ l. u.gap ++ l) (u.here ∙ ap (rest_text later) same)) ∙ u.told,
+        ap (λ l. lengths ++ l) (u.left_is ∙ ap (part_lengths later) same) ∙ u.measured,
       )
 
-module _ {since : ℕ} {text lengths : List ℕ} {at index : ℕ} {later : Bool} {news all : List Entry} where
-  -- what the first flag had, where it is known what is left
-  pub goes_on : Replacing since text lengths at index later news all → (f : Entry) (fs : List Entry) → news ≡ f ∷ fs → Had since text lengths at index later f fs all
-  goes_on u f fs is = had (subst (λ l. Replacing since text lengths at index later l all) is u)
+-- ---- in its own place
+
+-- where it was changed, and one at most was, the others weren't
+pub others : (since : ℕ) (f : Entry) (fs : List Entry) → changed_after since (f ∷ fs) ≤ 1 → since < f.1.changed → changed_after since fs ≡ 0
+others since f fs one late =
+    let is : nat_lt since f.1.changed ≡ true = lt-ltb since f.1.changed late in
+    let all : 1 + changed_after since fs ≤ 1 = subst (λ b. (if b then 1 else 0) + changed_after since fs ≤ 1) is one in omega (arith, all)
+
+-- nothing is written, and so many flags have their parts already
+pub record Standing (since : ℕ) (text lengths : List ℕ) (at index : ℕ) (later : Bool) (news all : List Entry) : Type 0 where
+  pub underway : Underway since text (drop index lengths) 0 at later [] (take index lengths) news all
+
+module _ {since : ℕ} {text lengths : List ℕ} {at index : ℕ} {later : Bool} {news all : List Entry} (u : Standing since text lengths at index later news all) (f : Entry) (fs : List Entry) (is : news ≡ f ∷ fs) where
+  pub counted : index < length lengths
+  counted =
+      let some = some_left (subst (λ l. Underway since text (drop index lengths) 0 at later [] (take index lengths) l all) is u.underway) in
+      let all = length-drop index lengths in omega (arith, some, all)
+
+  -- the first of those that are left, whose old part is so long
+  module _ (n d : ℕ) (len : n ≡ get_or lengths index d) where
+    pub goes_on : Underway since text (n ∷ drop (index + 1) lengths) 0 at later [] (take index lengths) (f ∷ fs) all
+    goes_on = stepped u.underway (drop_more lengths index d counted ∙ ap (λ k. k ∷ drop (index + 1) lengths) (sym len)) is
+
+    -- one that wasn't changed has its part already
+    pub stands : f.1.changed ≤ since → Standing since text lengths (at + n) (index + 1) true fs all
+    stands unchanged = record {
+      underway =
+          subst (λ l. Underway since text (drop (index + 1) lengths) 0 (at + n) true [] l fs all) (ap (λ k. take index lengths ++ k ∷ []) len ∙ sym (take_more lengths index d counted))
+          (left_there goes_on unchanged);
+    }
+
+    -- one that was changed gets it, and the others weren't
+    pub replaced : changed_after since fs ≡ 0 → (splice text at (at + n) (part later f) ≡ whole_text all) × (set lengths index (length (part later f)) ≡ part_lengths false all)
+    replaced none =
+        let end = ended (put_anew goes_on _ _ refl refl) none in
+        let reach = goes_on.reach in
+        let front : take at text ≡ goes_on.gap = ap (take at) goes_on.between ∙ take_at goes_on.gap (drop at text) at (omega arith) in (
+          ap (λ l. l ++ (part later f ++ drop (at + n) text)) front ∙ sym (append_assoc goes_on.gap (part later f) (drop (at + n) text)) ∙ end.0,
+          set-here lengths index (length (part later f)) counted ∙ sym (append_assoc (take index lengths) (length (part later f) ∷ []) (drop (index + 1) lengths)) ∙ end.1,
+        )

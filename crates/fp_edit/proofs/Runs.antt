@@ -1,14 +1,13 @@
 -- Sets after one and after many edits.
-use Rattle.std.proofs.Common.{◌≡◌, ◌+◌, ◌≤◌, Bool, true, false, ◌&&◌, List, [], ◌∷◌, length, Option, Some, None, refl, sym, ap, true≢false, arith}
+use Rattle.std.proofs.Common.{◌≡◌, ◌+◌, ◌≤◌, true, false, List, [], ◌∷◌, length, Option, Some, None, refl, ap, arith}
 use Rattle.std.specs.Prelude.{if◌then◌else◌, is_none}
-use Rattle.std.proofs.lemmas.Bool.{leb-true}
-use Rattle.fp_base.specs.Tests.{first_failed}
-use Rattle.fp_edit.specs.Admits.{Outcome, accepted, refused, Admits, refusal, next, flags_after, has_room, has_revision, can_change, changed_at, is_met}
-use Rattle.fp_edit.specs.Edits.{Change, put, delete, changed_key, Proposal}
+use Rattle.std.proofs.lemmas.Bool.{and_parts, leb-true}
+use Rattle.fp_edit.specs.Admits.{Outcome, accepted, refused, Admits, refusal, next, flags_after, has_room}
+use Rattle.fp_edit.specs.Edits.{Change, put, delete, Proposal}
 use Rattle.fp_edit.specs.Flags.{State, size}
 use Rattle.fp_edit.specs.Log.{after_all, after_edits, log_of}
 use Rattle.fp_edit.specs.declared.edit.EditFault.{EditFault}
-use Rattle.fp_edit.specs.declared.edit.EditFault.TheVariants.{Conflict, SetTooLarge, RevisionsUsed}
+use Rattle.fp_edit.proofs.Followed.{met}
 use Rattle.fp_edit.proofs.Sizes.{size-remove}
 
 abbrev Decides : State → Proposal → Option EditFault → Type 0
@@ -42,32 +41,18 @@ after_edits-log_of s (p ∷ ps) =
       | false ↦ after_edits-log_of s ps
     ]
 
-none_of : (o : Option EditFault) → is_none o ≡ true → o ≡ None
-none_of None h = refl
-none_of (Some e) h = absurd (true≢false (sym h))
-
-passed : (b : Bool) (e : EditFault) (rest : Option EditFault) → (if b then rest else Some e) ≡ None → (b ≡ true) × (rest ≡ None)
-passed true e rest h = (refl, h)
-passed false e rest h = absurd (true≢false (sym (ap is_none h)))
-
-right : (a b : Bool) → (a && b) ≡ true → b ≡ true
-right true b h = h
-right false b h = absurd (true≢false (sym h))
-
 -- an edit that is admitted leads to no larger set than the limit allows
 within-next : (s : State) (p : Proposal) → refusal s p ≡ None → size s.flags ≤ s.limit → size (next s p.change).flags ≤ s.limit
-within-next s p h within = by_change p.change h
+within-next s p h within = by_change p.change (met s p h).1
   where
-    by_change : (c : Change) → first_failed ((can_change c (changed_at s (changed_key c)) && is_met p.expect (changed_at s (changed_key c)), Conflict (changed_at s (changed_key c))) ∷ (has_room s c, SetTooLarge) ∷ (has_revision s, RevisionsUsed) ∷ []) ≡ None → size (flags_after s c) ≤ s.limit
-    by_change (put k text) h =
-        let room = (passed _ _ _ (passed _ _ _ h).1).0 in
-        leb-true _ _ (right _ _ room)
-    by_change (delete k) h = let sizes = size-remove s.flags k in omega arith
+    by_change : (c : Change) → has_room s c ≡ true → size (flags_after s c) ≤ s.limit
+    by_change (put k text) room = leb-true _ _ (and_parts _ _ room).1
+    by_change (delete k) room = let sizes = size-remove s.flags k in omega arith
 
 pub within-after_edits : (s : State) (ps : List Proposal) → size s.flags ≤ s.limit → size (after_edits s ps).flags ≤ (after_edits s ps).limit
 within-after_edits s [] within = within
 within-after_edits s (p ∷ ps) within =
-    elim (is_none (refusal s p)) as (λ b. is_none (refusal s p) ≡ b → size (after_edits (if b then next s p.change else s) ps).flags ≤ (after_edits (if b then next s p.change else s) ps).limit) [
-      | true ↦ λ e. within-after_edits (next s p.change) ps (within-next s p (none_of _ e) within)
-      | false ↦ λ e. within-after_edits s ps within
+    elim (refusal s p) as (λ o. refusal s p ≡ o → size (after_edits (if is_none o then next s p.change else s) ps).flags ≤ (after_edits (if is_none o then next s p.change else s) ps).limit) [
+      | None ↦ λ e. within-after_edits (next s p.change) ps (within-next s p e within)
+      | Some f ↦ λ e. within-after_edits s ps within
     ] refl

@@ -1,7 +1,7 @@
 -- How many flags were changed after a revision, and which flags stay, where edits lead from one set to another.
-use Rattle.std.proofs.Common.{◌≡◌, ℕ, ◌+◌, ◌-◌, ◌≤◌, ◌<◌, T, List, [], ◌∷◌, length, Ordering, Less, Equal, Greater, Some, None, cond, is_some, is_eq, Bool, true, false, true≢false, refl, sym, ap, subst, ◌∙◌, arith}
+use Rattle.std.proofs.Common.{◌≡◌, ℕ, ◌+◌, ◌-◌, ◌≤◌, ◌<◌, T, List, [], ◌∷◌, length, Ordering, Less, Equal, Greater, Option, Some, None, cond, is_some, is_eq, Bool, true, false, true≢false, refl, sym, ap, subst, ◌∙◌, arith}
 use Rattle.std.specs.Prelude.{if◌then◌else◌, nat_lt}
-use Rattle.std.proofs.lemmas.Bool.{ltb-true}
+use Rattle.std.proofs.lemmas.Bool.{le-ltb}
 use Rattle.std.proofs.lemmas.Cmp.{nat_list_cmp_total, tied_itself}
 use Rattle.std.proofs.lemmas.Map.Lookups.{exact_bytes}
 use Rattle.std.specs.FinMap as fin
@@ -10,13 +10,13 @@ use Rattle.fp_base.specs.Bytes.{bytes_cmp}
 use Rattle.fp_edit.specs.Admits.{next}
 use Rattle.fp_edit.specs.Edits as edits
 use Rattle.fp_edit.specs.Edits.{Change}
-use Rattle.fp_edit.specs.Flags.{Flags, State}
+use Rattle.fp_edit.specs.Flags.{Flags, State, one_found}
 use Rattle.fp_edit.specs.Log.{after_all}
 use Rattle.fp_edit.specs.Outline.{changed_after, SameButChanged}
 use Rattle.fp_edit.specs.declared.flags.Flag.{Flag}
 use Rattle.fp_edit.proofs.Changed.{AreChangedBy}
 use Rattle.fp_edit.proofs.Runs.{revision-after_all}
-use Rattle.fp_edit.proofs.Sizes.{first, second, less, removed_none, removed_some}
+use Rattle.fp_edit.proofs.Sizes.{first, second, less, removed_none, sum-insert, sum-remove, count-remove}
 
 abbrev Entry : Type 0
 Entry = List ℕ × Flag
@@ -28,47 +28,21 @@ one_at_most : (b : Bool) → one_if b ≤ 1
 one_at_most true = omega arith
 one_at_most false = omega arith
 
-not_none : {A : Type 0} (a : A) → Some a ≡ None → ⊥
-not_none a e = true≢false (ap is_some e)
-
 -- ---- how many
 
--- a put changes one flag at most
-changed-put : (r : ℕ) (k : List ℕ) (f : Flag) (es : List Entry) → changed_after r (put bytes_cmp k f es) ≤ changed_after r es + 1
-changed-put r k f [] = let one = one_at_most (nat_lt r f.changed) in omega arith
-changed-put r k f (e ∷ es) =
-    let one = one_at_most (nat_lt r f.changed) in
-    let rest = changed-put r k f es in
-    elim (bytes_cmp k e.0) as (λ o. changed_after r (by_order o ((k, f) ∷ e ∷ es) ((e.0, f) ∷ es) (e ∷ put bytes_cmp k f es)) ≤ changed_after r (e ∷ es) + 1) [
-      | Less ↦ omega arith
-      | Equal ↦ omega arith
-      | Greater ↦ omega arith
-    ]
+abbrev late_found : ℕ → Option Flag → ℕ
+late_found r None = 0
+late_found r (Some f) = one_if (nat_lt r f.changed)
 
--- and where nothing was there, none less than before
-changed-more : (r : ℕ) (k : List ℕ) (f : Flag) (es : List Entry) → find bytes_cmp k es ≡ None → changed_after r es ≤ changed_after r (put bytes_cmp k f es)
-changed-more r k f [] none = omega arith
-changed-more r k f (e ∷ es) none =
-    elim (bytes_cmp k e.0) as (λ o. cond (is_eq o) (Some e.1) (find bytes_cmp k es) ≡ None → changed_after r (e ∷ es) ≤ changed_after r (by_order o ((k, f) ∷ e ∷ es) ((e.0, f) ∷ es) (e ∷ put bytes_cmp k f es))) [
-      | Less ↦ λ p. omega arith
-      | Equal ↦ λ p. absurd (not_none e.1 p)
-      | Greater ↦ λ p. let rest = changed-more r k f es p in omega arith
-    ] none
-
+-- an insert changes one flag at most
 changed-insert : (r : ℕ) (m : Flags) (k : List ℕ) (f : Flag) → changed_after r (fin.entries (fin.insert m k f)) ≤ changed_after r (fin.entries m) + 1
-changed-insert r m k f = rw (fin.entries-insert nat_list_cmp_total m k f) (changed-put r k f (fin.entries m))
+changed-insert r m k f =
+    let all = sum-insert (λ e. one_if (nat_lt r e.1.changed)) (changed_after r) (λ e es. refl) (λ _. late_found r) (λ k. refl) (λ k f. refl) m k f in
+    let one = one_at_most (nat_lt r f.changed) in omega arith
 
 changed-remove : (r : ℕ) (m : Flags) (k : List ℕ) → changed_after r (fin.entries (fin.remove m k)) ≤ changed_after r (fin.entries m)
 changed-remove r m k =
-    elim (fin.get m k) as (λ o. fin.get m k ≡ o → changed_after r (fin.entries (fin.remove m k)) ≤ changed_after r (fin.entries m)) [
-      | None ↦ λ none. rw (removed_none m k none) (omega arith)
-      | Some f ↦ λ some.
-          let back = removed_some m k f some in
-          let more = changed-more r k f (fin.entries (fin.remove m k)) (sym (fin.get-entries (fin.remove m k) k) ∙ back.0) in
-          let all : changed_after r (put bytes_cmp k f (fin.entries (fin.remove m k))) ≡ changed_after r (fin.entries m) =
-          ap (changed_after r) (sym (fin.entries-insert nat_list_cmp_total (fin.remove m k) k f) ∙ ap fin.entries back.1) in
-          omega arith
-    ] refl
+    let all = sum-remove (λ e. one_if (nat_lt r e.1.changed)) (changed_after r) (λ e es. refl) (λ _. late_found r) (λ k. refl) (λ k f. refl) m k in omega arith
 
 -- ---- which stay
 
@@ -158,28 +132,12 @@ stays_but_changed s t log leads none some len =
 
 -- ---- one edit
 
--- a put where nothing was makes more flags
-longer-put : (k : List ℕ) (f : Flag) (es : List Entry) → find bytes_cmp k es ≡ None → length (put bytes_cmp k f es) ≡ length es + 1
-longer-put k f [] none = refl
-longer-put k f (e ∷ es) none =
-    elim (bytes_cmp k e.0) as (λ o. cond (is_eq o) (Some e.1) (find bytes_cmp k es) ≡ None → length (by_order o ((k, f) ∷ e ∷ es) ((e.0, f) ∷ es) (e ∷ put bytes_cmp k f es)) ≡ length (e ∷ es) + 1) [
-      | Less ↦ λ p. omega arith
-      | Equal ↦ λ p. absurd (not_none e.1 p)
-      | Greater ↦ λ p. let rest = longer-put k f es p in omega arith
-    ] none
+none_found : (o : Option Flag) → one_found o ≡ 0 → o ≡ None
+none_found None h = refl
+none_found (Some f) h = absurd (omega (arith, h))
 
 entries-remove : (m : Flags) (k : List ℕ) → fin.len (fin.remove m k) ≡ fin.len m → fin.remove m k ≡ m
-entries-remove m k len =
-    elim (fin.get m k) as (λ o. fin.get m k ≡ o → fin.remove m k ≡ m) [
-      | None ↦ λ none. removed_none m k none
-      | Some f ↦ λ some.
-          let back = removed_some m k f some in
-          let more = longer-put k f (fin.entries (fin.remove m k)) (sym (fin.get-entries (fin.remove m k) k) ∙ back.0) in
-          let all : length (put bytes_cmp k f (fin.entries (fin.remove m k))) ≡ length (fin.entries m) =
-          ap length (sym (fin.entries-insert nat_list_cmp_total (fin.remove m k) k f) ∙ ap fin.entries back.1) in
-          let left = fin.len-entries (fin.remove m k) in
-          let full = fin.len-entries m in absurd (omega (arith, more, all, left, full, len))
-    ] refl
+entries-remove m k len = let all = count-remove m k in removed_none m k (none_found (fin.get m k) (omega (arith, all, len)))
 
 -- where one edit leaves as many flags as there were, one of them at most is another
 one_stays : (s : State) (log : List Change) → length log ≡ 1 → fin.len (after_all s log).flags ≡ fin.len s.flags → SameButChanged s.revision (fin.entries s.flags) (fin.entries (after_all s log).flags)
@@ -207,23 +165,16 @@ find_above : (x : List ℕ) (es : List Entry) → T (below_all bytes_cmp x es) �
 find_above x [] h = refl
 find_above x (e ∷ es) h = ap (λ o. cond (is_eq o) (Some e.1) (find bytes_cmp x es)) (less _ (first _ _ h)) ∙ find_above x es (second _ _ h)
 
-not_late : (r n : ℕ) → n ≤ r → nat_lt r n ≡ false
-not_late r n h =
-    elim (nat_lt r n) as (λ b. nat_lt r n ≡ b → b ≡ false) [
-      | true ↦ λ e. let late = ltb-true r n e in absurd (omega (arith, late, h))
-      | false ↦ λ _. refl
-    ] refl
-
 none_late : (r : ℕ) (es : List Entry) → T (is_sorted bytes_cmp es) → ((k : List ℕ) (f : Flag) → find bytes_cmp k es ≡ Some f → f.changed ≤ r) → changed_after r es ≡ 0
 none_late r [] sorted h = refl
 none_late r (e ∷ es) sorted h =
-    let early = not_late r e.1.changed (h e.0 e.1 (ap (λ o. cond (is_eq o) (Some e.1) (find bytes_cmp e.0 es)) (tied_itself nat_list_cmp_total e.0))) in
+    let early = le-ltb r e.1.changed (h e.0 e.1 (ap (λ o. cond (is_eq o) (Some e.1) (find bytes_cmp e.0 es)) (tied_itself nat_list_cmp_total e.0))) in
     let other : (k : List ℕ) (f : Flag) → find bytes_cmp k es ≡ Some f → (o : Ordering) → bytes_cmp k e.0 ≡ o → cond (is_eq o) (Some e.1) (find bytes_cmp k es) ≡ Some f = λ k f p o. elim o as (λ o. bytes_cmp k e.0 ≡ o → cond (is_eq o) (Some e.1) (find bytes_cmp k es) ≡ Some f) [
       | Less ↦ λ _. p
-      | Equal ↦ λ q. absurd (not_none f (sym p ∙ ap (λ x. find bytes_cmp x es) (exact_bytes k e.0 q) ∙ find_above e.0 es (first _ _ sorted)))
+      | Equal ↦ λ q. absurd (true≢false (ap is_some (sym p ∙ ap (λ x. find bytes_cmp x es) (exact_bytes k e.0 q) ∙ find_above e.0 es (first _ _ sorted))))
       | Greater ↦ λ _. p
     ] in
-    let rest = none_late r es (second _ _ sorted) (λ k f p. h k f (other k f p (bytes_cmp k e.0) refl)) in
+    let rest = none_late r es (second (below_all bytes_cmp e.0 es) (is_sorted bytes_cmp es) sorted) (λ k f p. h k f (other k f p (bytes_cmp k e.0) refl)) in
     rw early (omega (arith, rest))
 
 pub none_after : (r : ℕ) (m : Flags) → AreChangedBy r m → changed_after r (fin.entries m) ≡ 0

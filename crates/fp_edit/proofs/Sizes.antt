@@ -1,8 +1,9 @@
 -- The size and the count of a set after an insert and a removal.
-use Rattle.std.proofs.Common.{◌≡◌, ◌-◌, zero, suc, is_some, rules, T, ◌&&◌, ℕ, ◌+◌, List, [], ◌∷◌, length, Ordering, Less, Equal, Greater, Option, Some, None, cond, Bool, true, false, is_eq, refl, sym, ap, ◌∙◌, arith}
+use Rattle.std.proofs.Common.{◌≡◌, T, ◌&&◌, ℕ, ◌+◌, List, [], ◌∷◌, length, Ordering, Less, Equal, Greater, Option, Some, None, cond, Bool, true, false, is_eq, refl, sym, ap, ◌∙◌, arith}
 use Rattle.std.specs.Ordering.{eq_by_cmp, is_lt}
 use Rattle.std.specs.Cmp.{Equal-is}
 use Rattle.std.proofs.lemmas.Cmp.{nat_list_cmp_total, tied_itself}
+use Rattle.std.proofs.lemmas.List.{nil_from_length}
 use Rattle.std.proofs.lemmas.Map.Lookups.{exact_bytes}
 use Rattle.std.specs.FinMap as fin
 use Rattle.std.specs.FinMap.Entries.{by_order, put, find, below_all, is_sorted}
@@ -31,36 +32,6 @@ find_below k x (e ∷ es) p h =
     let here : bytes_cmp k e.0 ≡ Less = nat_list_cmp_total.trans k x e.0 p (less _ (first _ _ h)) in
     ap (λ r. cond (is_eq r) (Some e.1) (find bytes_cmp k es)) here ∙ find_below k x es p (second _ _ h)
 
-pub sum-put : (k : List ℕ) (f : Flag) (es : List (List ℕ × Flag)) → T (is_sorted bytes_cmp es)
-    → total_cost (put bytes_cmp k f es) + cost_found k (find bytes_cmp k es) ≡ total_cost es + cost (k, f)
-sum-put k f [] h = omega arith
-sum-put k f (e ∷ es) h =
-    elim (bytes_cmp k e.0) as (λ r. bytes_cmp k e.0 ≡ r → total_cost (by_order r ((k, f) ∷ e ∷ es) ((e.0, f) ∷ es) (e ∷ put bytes_cmp k f es)) + cost_found k (cond (is_eq r) (Some e.1) (find bytes_cmp k es)) ≡ total_cost (e ∷ es) + cost (k, f)) [
-      | Less ↦ λ p. let none = find_below k e.0 es p (first _ _ h) in rw none (omega arith)
-      | Equal ↦ λ p. let same : length k ≡ length e.0 = ap length (exact_bytes k e.0 p) in omega arith
-      | Greater ↦ λ p.
-          let rest : total_cost (put bytes_cmp k f es) + cost_found k (find bytes_cmp k es) ≡ total_cost es + cost (k, f) = sum-put k f es (second (below_all bytes_cmp e.0 es) (is_sorted bytes_cmp es) h) in
-          omega arith
-    ] refl
-
--- an insert takes the cost of what was there, and adds that of what is
-pub size-insert : (m : Flags) (k : List ℕ) (f : Flag) → size (fin.insert m k f) + cost_found k (fin.get m k) ≡ size m + cost (k, f)
-size-insert m k f =
-    let all = sum-put k f (fin.entries m) (fin.entries_sorted m) in
-    rw (fin.entries-insert nat_list_cmp_total m k f, fin.get-entries m k) (omega arith)
-
-total-none : (es : List (List ℕ × Flag)) → length es ≡ 0 → total_cost es ≡ 0
-total-none [] h = refl
-total-none (e ∷ es) h = absurd (omega arith)
-
-abbrev no_flags : Flags
-no_flags = fin.empty
-
-pub size-empty : size no_flags ≡ 4
-size-empty =
-    let none : length (fin.entries no_flags) ≡ 0 = sym (fin.len-entries no_flags) ∙ fin.len-empty bytes_cmp Flag in
-    ap (λ n. 4 + n) (total-none (fin.entries no_flags) none)
-
 stays : (b : Bool) (x : Option Flag) → (b ≡ true → x ≡ None) → cond b None x ≡ x
 stays true x h = sym (h refl)
 stays false x h = refl
@@ -88,42 +59,69 @@ removed_some m k f some = (
       ∙ back _ _ f (λ e. at_key m k q e ∙ some)),
 )
 
--- a removal takes the cost of what was there
+-- a sum over entries, after an insert: what was there goes out of it, and what is comes into it
+module _ (w : List ℕ × Flag → ℕ) (sum : List (List ℕ × Flag) → ℕ) (step : (e : List ℕ × Flag) (es : List (List ℕ × Flag)) → sum (e ∷ es) ≡ w e + sum es)
+    (found : List ℕ → Option Flag → ℕ) (none : (k : List ℕ) → found k None ≡ 0) (some : (k : List ℕ) (f : Flag) → found k (Some f) ≡ w (k, f)) where
+  sum-put : (k : List ℕ) (f : Flag) (es : List (List ℕ × Flag)) → T (is_sorted bytes_cmp es) → sum (put bytes_cmp k f es) + found k (find bytes_cmp k es) ≡ sum es + w (k, f)
+  sum-put k f [] h = let one = step (k, f) [] in let gone = none k in omega arith
+  sum-put k f (e ∷ es) h =
+      let here = step e es in
+      elim (bytes_cmp k e.0) as (λ r. bytes_cmp k e.0 ≡ r → sum (by_order r ((k, f) ∷ e ∷ es) ((e.0, f) ∷ es) (e ∷ put bytes_cmp k f es)) + found k (cond (is_eq r) (Some e.1) (find bytes_cmp k es)) ≡ sum (e ∷ es) + w (k, f)) [
+        | Less ↦ λ p. let gone = none k in let more = step (k, f) (e ∷ es) in rw (find_below k e.0 es p (first _ _ h)) (omega arith)
+        | Equal ↦ λ p.
+            let is : e.0 ≡ k = sym (exact_bytes k e.0 p) in
+            let old : w e ≡ w (k, e.1) = ap (λ q. w (q, e.1)) is in
+            let new : w (e.0, f) ≡ w (k, f) = ap (λ q. w (q, f)) is in
+            let more = step (e.0, f) es in
+            let was = some k e.1 in omega arith
+        | Greater ↦ λ p. let rest = sum-put k f es (second (below_all bytes_cmp e.0 es) (is_sorted bytes_cmp es) h) in let more = step e (put bytes_cmp k f es) in omega arith
+      ] refl
+
+  pub sum-insert : (m : Flags) (k : List ℕ) (f : Flag) → sum (fin.entries (fin.insert m k f)) + found k (fin.get m k) ≡ sum (fin.entries m) + w (k, f)
+  sum-insert m k f = rw (fin.entries-insert nat_list_cmp_total m k f, fin.get-entries m k) (sum-put k f (fin.entries m) (fin.entries_sorted m))
+
+  -- a removal takes what was there
+  pub sum-remove : (m : Flags) (k : List ℕ) → sum (fin.entries (fin.remove m k)) + found k (fin.get m k) ≡ sum (fin.entries m)
+  sum-remove m k =
+      elim (fin.get m k) as (λ o. fin.get m k ≡ o → sum (fin.entries (fin.remove m k)) + found k o ≡ sum (fin.entries m)) [
+        | None ↦ λ gone. let same = ap (λ n. sum (fin.entries n)) (removed_none m k gone) in let nothing = none k in omega arith
+        | Some f ↦ λ is.
+            let back = removed_some m k f is in
+            let same = ap (λ n. sum (fin.entries n)) back.1 in
+            let all = sum-insert (fin.remove m k) k f in
+            let nothing = ap (found k) back.0 ∙ none k in
+            let was = some k f in omega arith
+      ] refl
+
+-- ---- sizes
+
+pub size-insert : (m : Flags) (k : List ℕ) (f : Flag) → size (fin.insert m k f) + cost_found k (fin.get m k) ≡ size m + cost (k, f)
+size-insert m k f = let all = sum-insert cost total_cost (λ e es. refl) cost_found (λ k. refl) (λ k f. refl) m k f in omega arith
+
 pub size-remove : (m : Flags) (k : List ℕ) → size (fin.remove m k) + cost_found k (fin.get m k) ≡ size m
-size-remove m k =
-    elim (fin.get m k) as (λ o. fin.get m k ≡ o → size (fin.remove m k) + cost_found k o ≡ size m) [
-      | None ↦ λ none. let sizes : size (fin.remove m k) ≡ size m = ap size (removed_none m k none) in omega arith
-      | Some f ↦ λ some.
-          let gone = removed_some m k f some in
-          let sizes : size (fin.insert (fin.remove m k) k f) ≡ size m = ap size gone.1 in
-          let all = size-insert (fin.remove m k) k f in
-          let none : cost_found k (fin.get (fin.remove m k) k) ≡ 0 = ap (cost_found k) gone.0 in omega arith
-    ] refl
+size-remove m k = let all = sum-remove cost total_cost (λ e es. refl) cost_found (λ k. refl) (λ k f. refl) m k in omega arith
 
--- ---- counts
+abbrev no_flags : Flags
+no_flags = fin.empty
 
-by_found : (o : Option Flag) (n : ℕ) → cond (is_some o) n (n + 1) + one_found o ≡ n + 1
-by_found None n = omega arith
-by_found (Some f) n = omega arith
-
-pub count-insert : (m : Flags) (k : List ℕ) (f : Flag) → fin.len (fin.insert m k f) + one_found (fin.get m k) ≡ fin.len m + 1
-count-insert m k f = ap (λ n. n + one_found (fin.get m k)) (fin.len-insert nat_list_cmp_total m k f) ∙ by_found (fin.get m k) (fin.len m)
-
-none_there : (m : Flags) (k : List ℕ) → fin.len m ≡ 0 → fin.get m k ≡ None
-none_there m k h = ap (λ n. fin.get n k) (fin.empty_of_len m h) ∙ fin.get-empty bytes_cmp k
-
-by_gone : (o : Option Flag) (n : ℕ) → (n ≡ 0 → o ≡ None) → cond (is_some o) (n - 1) n + one_found o ≡ n
-by_gone None n h = omega arith
-by_gone (Some f) zero h = absurd (some_none (h refl))
-  where
-    some_none : Some f ≡ None → ⊥
-    some_none e = search (rules, e)
-by_gone (Some f) (suc n) h = omega arith
-
-pub count-remove : (m : Flags) (k : List ℕ) → fin.len (fin.remove m k) + one_found (fin.get m k) ≡ fin.len m
-count-remove m k = ap (λ n. n + one_found (fin.get m k)) (fin.len-remove nat_list_cmp_total m k) ∙ by_gone (fin.get m k) (fin.len m) (none_there m k)
+pub size-empty : size no_flags ≡ 4
+size-empty = ap (λ es. 4 + total_cost es) (nil_from_length (fin.entries no_flags) (sym (fin.len-entries no_flags) ∙ fin.len-empty bytes_cmp Flag))
 
 -- the size of the flags with one more, from that of the one that it replaces
 pub resized : (m : Flags) (k : List ℕ) (f : Flag) (kept spent before : ℕ) → kept ≡ size m → spent ≡ cost (k, f) → before ≡ cost_found k (fin.get m k)
     → (kept + spent ≡ size (fin.insert m k f) + before)
 resized m k f kept spent before p q r = let all = size-insert m k f in omega arith
+
+-- ---- counts
+
+pub count-insert : (m : Flags) (k : List ℕ) (f : Flag) → fin.len (fin.insert m k f) + one_found (fin.get m k) ≡ fin.len m + 1
+count-insert m k f =
+    let all = sum-insert (λ _. 1) length (λ e es. omega arith) (λ _. one_found) (λ k. refl) (λ k f. refl) m k f in
+    let old = fin.len-entries m in
+    let new = fin.len-entries (fin.insert m k f) in omega arith
+
+pub count-remove : (m : Flags) (k : List ℕ) → fin.len (fin.remove m k) + one_found (fin.get m k) ≡ fin.len m
+count-remove m k =
+    let all = sum-remove (λ _. 1) length (λ e es. omega arith) (λ _. one_found) (λ k. refl) (λ k f. refl) m k in
+    let old = fin.len-entries m in
+    let new = fin.len-entries (fin.remove m k) in omega arith

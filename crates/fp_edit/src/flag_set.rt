@@ -5,8 +5,8 @@ ghost use Rattle.std.specs.Prelude.{IsTrue, All, IfSome, IfOk, OnOk, OnErr, IfEr
 ghost use Rattle.std.specs.Option.{option_copied};
 ghost use Rattle.std.specs.FinMap as map;
 ghost use Rattle.fp_definition.specs.Key.{key_bytes};
-ghost use Rattle.fp_edit.specs.Admits.{Admits, accepted, IsRefused, changed_at, has_revision};
-ghost use Rattle.fp_edit.specs.Admits.{has_room, is_met, is_within, next, refusal};
+ghost use Rattle.fp_edit.specs.Admits.{Admits, accepted, IsRefused, has_revision, has_room};
+ghost use Rattle.fp_edit.specs.Admits.{is_within, next, refusal};
 ghost use Rattle.fp_edit.specs.Document.{document};
 ghost use Rattle.fp_edit.specs.Entries.{entries_of};
 ghost use Rattle.fp_edit.specs.Outline.{IsDocumentOf, LeadsTo, Outlines, SameButChanged, changed_after};
@@ -17,12 +17,10 @@ ghost use Rattle.fp_edit.specs.declared.flags.Flag.{Flag};
 ghost use Rattle.fp_edit.specs.declared.flags.TheConstants.{IMAGE_HEAD};
 
 use crate::document::{Document, are_changed_after, document_after, document_of};
-use crate::edit::{Edit, EditFault, Expect, REVISIONS_END};
-use crate::flags::{
-    Flag, IMAGE_HEAD, copy_of, cost_at, cost_of, count, count_at, find, store, take,
-};
+use crate::edit::{Edit, EditFault, REVISIONS_END};
+use crate::flags::{Flag, IMAGE_HEAD, copy_of, cost_at, cost_of, count, find, store, take};
 use fp_definition::{Definition, FlagKey};
-use std::alloc::{AllocError, Global};
+use std::alloc::{AllocError, AllocFailed, Global};
 use std::collections::BTreeMap;
 use std::collections::btree_map::Iter;
 use std::marker::Model;
@@ -274,79 +272,9 @@ impl FlagSet {
             }) }
         ensures unchanged { OnErr result (self.new ≡ self.old) }
     {
-        let cost = cost_of(&key, &flag.definition);
-        let before = store(&mut self.flags, key, flag)?;
-        self.size = (self.size as u128 + cost - before) as u64;
+        let revision = self.revision;
+        self.store_at(key, flag, revision)?;
         Ok(())
-    }
-
-    /// Whether the set keeps within its limits with a definition under a key, whatever is there
-    /// now.
-    pub fn has_room_for(&self, key: &FlagKey, definition: &Definition) -> bool
-        ensures { (changed : ℕ)
-            → result ≡ is_within
-            (map.insert self.now.flags (key_bytes key.now)
-            (record { definition = definition.now; changed = changed })) self.now.limit }
-    {
-        // Mostly there is room whatever stands there now, and nothing is looked up.
-        if self.has_ample_room(key, definition) {
-            return true;
-        }
-        self.count_with(key) <= MOST_FLAGS as u128
-            && self.size_with(key, definition) <= self.limit as u128
-    }
-
-    fn has_ample_room(&self, key: &FlagKey, definition: &Definition) -> bool
-        ensures { result ≡ true → (changed : ℕ) → is_within
-            (map.insert self.now.flags (key_bytes key.now)
-            (record { definition = definition.now; changed = changed })) self.now.limit ≡ true }
-    {
-        self.len() < MOST_FLAGS
-            && self.size as u128 + cost_of(key, definition) <= self.limit as u128
-    }
-
-    /// What stands against an edit, if anything but want of memory does.
-    pub fn judge(&self, edit: &Edit) -> Option<EditFault>
-        ensures { result ≡ refusal self.now (proposal_of edit.now) }
-    {
-        match edit {
-            Edit::Put { key, flag, expect } => self.judge_put(key, flag, *expect),
-            Edit::Delete { key, expect } => self.judge_delete(key, *expect),
-        }
-    }
-
-    fn judge_put(&self, key: &FlagKey, flag: &Definition, expect: Expect) -> Option<EditFault>
-        ensures { result ≡ refusal self.now
-            (record { change = put (key_bytes key.now) flag.now; expect = expect }) }
-    {
-        // Where anything may stand there, nothing is looked up.
-        if expect != Expect::Any {
-            let current = self.changed(key);
-            if !meets(expect, current) {
-                return Some(EditFault::Conflict { current });
-            }
-        }
-        if !self.has_room_for(key, flag) {
-            return Some(EditFault::SetTooLarge);
-        }
-        if !self.has_revision() {
-            return Some(EditFault::RevisionsUsed);
-        }
-        None
-    }
-
-    fn judge_delete(&self, key: &FlagKey, expect: Expect) -> Option<EditFault>
-        ensures { result
-            ≡ refusal self.now (record { change = delete (key_bytes key.now); expect = expect }) }
-    {
-        let current = self.changed(key);
-        if !(current.is_some() && meets(expect, current)) {
-            return Some(EditFault::Conflict { current });
-        }
-        if !self.has_revision() {
-            return Some(EditFault::RevisionsUsed);
-        }
-        None
     }
 
     // What the key's flag takes in the image, 0 without one.
@@ -355,37 +283,6 @@ impl FlagSet {
             (map.get self.now.flags (key_bytes key.now)) }
     {
         cost_at(&self.flags, key)
-    }
-
-    fn changed(&self, key: &FlagKey) -> Option<u64>
-        ensures { result ≡ changed_at self.now (key_bytes key.now) }
-    {
-        match self.get(key) {
-            Some(flag) => Some(flag.changed),
-            None => None,
-        }
-    }
-
-    fn has_revision(&self) -> bool
-        ensures { result ≡ has_revision self.now }
-    {
-        self.revision < REVISIONS_END - 1
-    }
-
-    fn count_with(&self, key: &FlagKey) -> u128
-        ensures { (flag : Flag)
-            → result ≡ map.len (map.insert self.now.flags (key_bytes key.now) flag) }
-    {
-        self.len() as u128 + 1 - count_at(&self.flags, key)
-    }
-
-    fn size_with(&self, key: &FlagKey, definition: &Definition) -> u128
-        ensures { (changed : ℕ)
-            → result ≡ size_of
-            (map.insert self.now.flags (key_bytes key.now)
-            (record { definition = definition.now; changed = changed })) }
-    {
-        self.size as u128 + cost_of(key, definition) - cost_at(&self.flags, key)
     }
 
     fn next_flag(&self, definition: Definition) -> Flag
@@ -405,19 +302,42 @@ impl FlagSet {
         ensures unchanged { OnErr result (self.new ≡ self.old) }
         ensures given_back { IfErr result (λ p. p ≡ (key, flag)) }
     {
-        let cost = cost_of(&key, &flag);
         let flag = self.next_flag(flag);
-        match store(&mut self.flags, key, flag) {
-            Ok(before) => {
-                self.size = (self.size as u128 + cost - before) as u64;
-                self.revision += 1;
-                Ok(())
-            }
+        let revision = flag.changed;
+        match self.store_at(key, flag, revision) {
+            Ok(()) => Ok(()),
             Err(e) => {
                 let (key, flag) = e.value;
                 Err((key, flag.definition))
             }
         }
+    }
+
+    // Stores a flag, and is at this revision then.
+    fn store_at(
+        &mut self,
+        key: FlagKey,
+        flag: Flag,
+        revision: u64,
+    ) -> Result<(), AllocFailed<(FlagKey, Flag)>>
+        requires revision { (self.old.revision ≤ revision) × (revision < REVISIONS_END) }
+        requires changed { IsChangedBy revision flag }
+        requires room { is_within (map.insert self.old.flags (key_bytes key) flag) self.old.limit
+            ≡ true }
+        ensures stored { OnOk result
+            (self.new ≡ record {
+              flags = map.insert self.old.flags (key_bytes key) flag;
+              revision = revision;
+              limit = self.old.limit;
+            }) }
+        ensures unchanged { OnErr result (self.new ≡ self.old) }
+        ensures given_back { IfErr result (λ e. e.value ≡ (key, flag)) }
+    {
+        let cost = cost_of(&key, &flag.definition);
+        let before = store(&mut self.flags, key, flag)?;
+        self.size = (self.size as u128 + cost - before) as u64;
+        self.revision = revision;
+        Ok(())
     }
 
     fn remove(&mut self, key: &FlagKey)
@@ -428,16 +348,5 @@ impl FlagSet {
         take(&mut self.flags, key);
         self.size -= gone;
         self.revision += 1;
-    }
-}
-
-fn meets(expect: Expect, current: Option<u64>) -> bool
-    ensures { result ≡ is_met expect current }
-{
-    match (expect, current) {
-        (Expect::Any, _) => true,
-        (Expect::Absent, current) => current.is_none(),
-        (Expect::At(_), None) => false,
-        (Expect::At(revision), Some(current)) => current == revision,
     }
 }

@@ -6,7 +6,7 @@ ghost use Rattle.std.specs.BTreeMap.{IsOrdered};
 ghost use Rattle.std.specs.FinMap as map;
 ghost use Rattle.fp_definition.specs.Key.{key_bytes, flag_cmp};
 ghost use Rattle.fp_edit.specs.Entries.{flags_of};
-ghost use Rattle.fp_edit.specs.Flags.{cost, cost_found, one_found};
+ghost use Rattle.fp_edit.specs.Flags.{cost, cost_found};
 ghost use Rattle.fp_edit.specs.declared.flags.TheConstants.{FLAG_FRAME};
 
 use fp_definition::{Definition, FlagKey};
@@ -88,16 +88,6 @@ pub(crate) fn cost_at(flags: &BTreeMap<FlagKey, Flag>, key: &FlagKey) -> u128
 {
     match find(flags, key) {
         Some(flag) => cost_of(key, &flag.definition),
-        None => 0,
-    }
-}
-
-/// How many flags a key has: one or none.
-pub(crate) fn count_at(flags: &BTreeMap<FlagKey, Flag>, key: &FlagKey) -> u128
-    ensures { result ≡ one_found (map.get (flags_of flags.now.entries) (key_bytes key.now)) }
-{
-    match find(flags, key) {
-        Some(_) => 1,
         None => 0,
     }
 }

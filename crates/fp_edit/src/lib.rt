@@ -7,6 +7,7 @@ mod edit;
 mod flag_set;
 mod flags;
 mod following;
+mod judging;
 mod laws;
 mod line;
 mod tally;

@@ -1,5 +1,5 @@
-use Rattle.std.proofs.Common.{◌-◌, ◌∷◌, [], ◌++◌, ℕ, List, take, drop, refl, ap, ◌∙◌, arith}
-use Rattle.std.proofs.lemmas.List.{take_rest}
+use Rattle.std.proofs.Common.{◌-◌, ◌∷◌, [], ◌++◌, ℕ, List, take, drop, refl, sym, ap, ◌∙◌, arith}
+use Rattle.std.proofs.lemmas.List.{append-nil, take_rest}
 use Rattle.fp_definition.specs.Key.{key_bytes}
 use Rattle.fp_edit.specs.Entries.{entries_of}
 use Rattle.fp_edit.specs.Outline.{part}
@@ -47,10 +47,10 @@ loop-key-preserved c =
 
 pub returns : goal.returns
 returns c =
-    let end = ended (rw (c.in-None.ensures.steps.0) at c.loop-key.invariant) in (
+    let u = rw (c.in-None.ensures.steps.0) at c.loop-key.invariant in (
       record {
-        text = c.in_ok-extend_from_slice-2.ensures.items ∙ ap (λ l. c.loop-key.text.items ++ l) (take_rest c.deref-2.result.now c.loop-key.from ∙ ap (drop c.loop-key.from) c.deref-2.ensures.value) ∙ end.0;
-        lengths = end.1;
+        text = c.in_ok-extend_from_slice-2.ensures.items ∙ ap (λ l. c.loop-key.text.items ++ l) (take_rest c.deref-2.result.now c.loop-key.from ∙ ap (drop c.loop-key.from) c.deref-2.ensures.value) ∙ (ended u refl).0;
+        lengths = sym (append-nil c.loop-key.lengths.items) ∙ u.measured;
       },
       refl,
     )

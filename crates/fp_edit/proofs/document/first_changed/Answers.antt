@@ -1,58 +1,63 @@
 use Rattle.std.proofs.Common.{◌<◌, ◌≤◌, ℕ, List, ◌∷◌, sym, ap, subst, ◌∙◌, arith}
+use Rattle.std.proofs.lemmas.List.{take-append-drop}
 use Rattle.fp_definition.specs.Key.{key_bytes}
 use Rattle.fp_edit.specs.Entries.{entries_of}
 use Rattle.fp_edit.specs.Outline.{changed_after}
 use Rattle.fp_edit.specs.declared.flags.Flag.{Flag}
-use Rattle.fp_edit.proofs.Patched.{replacing, goes_on, within, counted, length_is, stands, replaced, all_replaced, others, fewer_than}
+use Rattle.fp_edit.proofs.Patched.{begun, counted, goes_on, ends_within, stands, replaced, ended, others}
 use Rattle.fp_edit.proofs.document.first_changed.Goals as goal
 
 pub loop-key-init : goal.loop-key-init
 loop-key-init c =
     let flags = c.into_iter-key-iterator.ensures.into_iter_gives ∙ c.iter-key-items.ensures.rest in
     let before = c.args.document.now in
-    rw flags (replacing before.revision before c.requires.0 (entries_of c.args.flags.now.entries) c.requires.1 c.requires.2, c.requires.3)
+    rw flags (record { underway = begun before.revision before c.requires.0 (entries_of c.args.flags.now.entries) c.requires.1 c.requires.2 }, c.requires.3)
 
 pub index-len-requires : goal.index-len-requires
 index-len-requires c =
-    let h = goes_on c.loop-key.invariant.0 (key_bytes c.in-Some.key.now, c.in-Some.flag.now) (entries_of c.next.new.self) (ap entries_of c.in-Some.ensures.steps) in
-    subst (λ n. c.loop-key.index < n) (sym c.args.document.now.lengths.ok.0) (counted h)
+    subst (λ n. c.loop-key.index < n) (sym c.args.document.now.lengths.ok.0)
+    (counted c.loop-key.invariant.0 (key_bytes c.in-Some.key.now, c.in-Some.flag.now) (entries_of c.next.new.self) (ap entries_of c.in-Some.ensures.steps))
 
 pub returns-then-flag-document : goal.returns-then-flag-document
 returns-then-flag-document c =
     let f : List ℕ × Flag = (key_bytes c.in-Some.key.now, c.in-Some.flag.now) in
     let fs = entries_of c.next.new.self in
     let before = c.args.document.now in
-    let h = goes_on c.loop-key.invariant.0 f fs (ap entries_of c.in-Some.ensures.steps) in
-    let len = c.index-len.ensures ∙ length_is h _ in
-    let one : changed_after before.revision (f ∷ fs) ≤ 1 = subst (λ es. changed_after before.revision es ≤ 1) (ap entries_of c.in-Some.ensures.steps) c.loop-key.invariant.1 in
-    let end = all_replaced (replaced h) (others before.revision f fs one c.if-flag-document.true) in record {
-      within = rw len (within h);
-      counted = counted h;
+    let left = ap entries_of c.in-Some.ensures.steps in
+    let u = c.loop-key.invariant.0 in
+    let one : changed_after before.revision (f ∷ fs) ≤ 1 = subst (λ es. changed_after before.revision es ≤ 1) left c.loop-key.invariant.1 in
+    let end = replaced u f fs left _ _ c.index-len.ensures (others before.revision f fs one c.if-flag-document.true) in record {
+      within = ends_within (goes_on u f fs left _ _ c.index-len.ensures);
+      counted = counted u f fs left;
       outlines = λ e new is text lengths. record {
-        text = text ∙ rw (len, is) end.0;
+        text = text ∙ rw is end.0;
         lengths = lengths ∙ rw is end.1;
       };
     }
 
 pub overflow_add-at : goal.overflow_add-at
 overflow_add-at c =
-    let h = goes_on c.loop-key.invariant.0 (key_bytes c.in-Some.key.now, c.in-Some.flag.now) (entries_of c.next.new.self) (ap entries_of c.in-Some.ensures.steps) in
-    let len = c.index-len.ensures ∙ length_is h _ in
-    let reach = within h in
+    let reach = ends_within (goes_on c.loop-key.invariant.0 (key_bytes c.in-Some.key.now, c.in-Some.flag.now) (entries_of c.next.new.self) (ap entries_of c.in-Some.ensures.steps) _ _ c.index-len.ensures) in
     let small = c.args.document.now.text.small in
     let ok = c.args.document.now.text.ok in omega arith
+
+pub overflow_add-index : goal.overflow_add-index
+overflow_add-index c =
+    let more = counted c.loop-key.invariant.0 (key_bytes c.in-Some.key.now, c.in-Some.flag.now) (entries_of c.next.new.self) (ap entries_of c.in-Some.ensures.steps) in
+    let small = c.args.document.now.lengths.small in
+    let ok = c.args.document.now.lengths.ok in omega arith
 
 pub loop-key-preserved : goal.loop-key-preserved
 loop-key-preserved c =
     let f : List ℕ × Flag = (key_bytes c.in-Some.key.now, c.in-Some.flag.now) in
     let fs = entries_of c.next.new.self in
     let before = c.args.document.now in
-    let h = goes_on c.loop-key.invariant.0 f fs (ap entries_of c.in-Some.ensures.steps) in
-    let len = c.index-len.ensures ∙ length_is h _ in
-    let one : changed_after before.revision (f ∷ fs) ≤ 1 = subst (λ es. changed_after before.revision es ≤ 1) (ap entries_of c.in-Some.ensures.steps) c.loop-key.invariant.1 in
-    rw len (stands h c.if-flag-document.false, fewer_than before.revision f fs one)
+    let left = ap entries_of c.in-Some.ensures.steps in
+    let one : changed_after before.revision (f ∷ fs) ≤ 1 = subst (λ es. changed_after before.revision es ≤ 1) left c.loop-key.invariant.1 in
+    (stands c.loop-key.invariant.0 f fs left _ _ c.index-len.ensures c.if-flag-document.false, omega (arith, one))
 
 pub returns : goal.returns
 returns c =
     let before = c.args.document.now in
-    let end = all_replaced c.loop-key.invariant.0 (ap (λ es. changed_after before.revision (entries_of es)) c.in-None.ensures.steps.0) in record { text = end.0; lengths = end.1 }
+    let end = ended c.loop-key.invariant.0.underway (ap (λ es. changed_after before.revision (entries_of es)) c.in-None.ensures.steps.0) in
+    record { text = end.0; lengths = sym (take-append-drop c.loop-key.index before.lengths.items) ∙ end.1 }

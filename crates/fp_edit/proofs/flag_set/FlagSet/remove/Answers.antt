@@ -1,30 +1,25 @@
 use Rattle.std.proofs.Common.{◌≡◌, ◌+◌, ◌-◌, true, sym, subst, arith}
-use Rattle.std.specs.FinMap as fin
 use Rattle.fp_definition.specs.Key.{key_bytes}
 use Rattle.fp_edit.specs.Admits.{has_revision, flags_after}
 use Rattle.fp_edit.specs.Edits.{delete}
 use Rattle.fp_edit.specs.Entries.{flags_of}
-use Rattle.fp_edit.specs.Flags.{State, IsTallied, size, cost_found}
+use Rattle.fp_edit.specs.Flags.{State, IsTallied}
 use Rattle.fp_edit.proofs.Kept.{kept-delete}
 use Rattle.fp_edit.proofs.Sizes.{size-remove}
 use Rattle.fp_edit.proofs.flag_set.FlagSet.remove.Goals as goal
 
 pub overflow_cast-gone : goal.overflow_cast-gone
 overflow_cast-gone c =
-    let es = c.self.inside.flags.entries in
-    let k = key_bytes c.args.key.now in
-    let all = size-remove (flags_of es) k in
-    let gone : c.cost_at-gone.result ≡ cost_found k (fin.get (flags_of es) k) = c.cost_at-gone.ensures in
-    let kept : c.self.inside.size ≡ size (flags_of es) = c.self.invariant.1.size in
+    let all = size-remove (flags_of c.self.inside.flags.entries) (key_bytes c.args.key.now) in
+    let gone = c.cost_at-gone.ensures in
+    let kept = c.self.invariant.1.size in
     grind (arith, c.self.ranges.0, c.self.ranges.1)
 
 pub overflow_sub-self : goal.overflow_sub-self
 overflow_sub-self c =
-    let es = c.self.inside.flags.entries in
-    let k = key_bytes c.args.key.now in
-    let all = size-remove (flags_of es) k in
-    let gone : c.cost_at-gone.result ≡ cost_found k (fin.get (flags_of es) k) = c.cost_at-gone.ensures in
-    let kept : c.self.inside.size ≡ size (flags_of es) = c.self.invariant.1.size in
+    let all = size-remove (flags_of c.self.inside.flags.entries) (key_bytes c.args.key.now) in
+    let gone = c.cost_at-gone.ensures in
+    let kept = c.self.invariant.1.size in
     omega arith
 
 pub invariant_of-self : goal.invariant_of-self
