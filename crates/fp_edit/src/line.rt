@@ -198,7 +198,7 @@ fn expect_at(revision: Option<u64>) -> Result<Expect, LineFault>
     }
 }
 
-#[tactic(auto, unfolding(crate::specs::Line::flag_of))]
+#[tactic(auto, using(fp_base::proofs::Inside::ordered_get), unfolding(crate::specs::Line::flag_of))]
 fn flag_of(alloc: Global, tree: &Tree<'_>) -> Result<Definition, LineFault>
     requires { IsOrdered (tree_view tree.now) }
     ensures { Gives (λ definition. definition) Tells result
