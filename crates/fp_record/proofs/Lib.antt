@@ -8,6 +8,4 @@ pub mod Many
 pub mod Places
 pub mod Sets
 pub mod Texts
-pub mod Utf8
 pub mod Whole
-pub mod Written

@@ -1,5 +1,5 @@
 -- One after the other: what is read so is spelled so, and what is spelled so is read.
-use Rattle.std.proofs.Common.{◌≡◌, ℕ, zero, suc, ◌<◌, ◌≤◌, List, [], ◌∷◌, ◌++◌, length, Result, Ok, Err, refl, ap, subst, ◌∙◌, append_assoc, arith}
+use Rattle.std.proofs.Common.{◌≡◌, ℕ, zero, suc, ◌+◌, ◌-◌, ◌<◌, ◌≤◌, List, [], ◌∷◌, ◌++◌, length, Result, Ok, Err, add-one, refl, sym, ap, subst, ◌∙◌, append_assoc, arith}
 use Rattle.std.specs.List.{flat_map}
 use Rattle.std.proofs.lemmas.List.Concat.{flat_map-cons}
 use Rattle.fp_base.specs.Steps.{◌>>=◌}
@@ -47,37 +47,46 @@ pub many_next : {A S : Type 0} (step : S → Result (A × S) ℕ) (n : ℕ) (s :
 unfolding many_from
 many_next step n s one others e h = rw (e, h) (refl {a = Ok (one.0 ∷ others.0, others.1)})
 
-next_stops : {A S : Type 0} (step : S → Result (A × S) ℕ) (n : ℕ) (s : S) (one : A × S) (at : ℕ) → step s ≡ Ok one → many_from step n one.1 ≡ Err at → many_from step (suc n) s ≡ Err at
-unfolding many_from
-next_stops step n s one at e h = rw (e, h) (refl {a = Err at})
+-- what was read before, and what is read then
+abbrev behind : {A S : Type 0} → List A → Result (List A × S) ℕ → Result (List A × S) ℕ
+behind front read = read >>= λ y. Ok (front ++ y.0, y.1)
 
--- one more behind those that were read
-pub many_more : {A S : Type 0} (step : S → Result (A × S) ℕ) (n : ℕ) (s : S) (x : List A × S) (y : A × S) → many_from step n s ≡ Ok x → step x.1 ≡ Ok y → many_from step (suc n) s ≡ Ok (x.0 ++ y.0 ∷ [], y.1)
+behind_none : {A S : Type 0} (read : Result (List A × S) ℕ) → read ≡ behind [] read
+behind_none (Ok y) = refl
+behind_none (Err at) = refl
+
+behind_one : {A S : Type 0} (a : A) (front : List A) (read : Result (List A × S) ℕ) → (behind front read >>= λ z. Ok (a ∷ z.0, z.1)) ≡ behind (a ∷ front) read
+behind_one a front (Ok y) = refl
+behind_one a front (Err at) = refl
+
+next_is : {A S : Type 0} (step : S → Result (A × S) ℕ) (count : ℕ) (s : S) (one : A × S) (front : List A) (read : Result (List A × S) ℕ) → step s ≡ Ok one → many_from step count one.1 ≡ behind front read
+    → many_from step (suc count) s ≡ behind (one.0 ∷ front) read
 unfolding many_from
-many_more {A = A} {S = S} step zero s x y e h =
+next_is step count s one front read e h = rw (e, h) (behind_one one.0 front read)
+
+many_split : {A S : Type 0} (step : S → Result (A × S) ℕ) (n m count : ℕ) (s : S) (x : List A × S) → count ≡ n + m → many_from step n s ≡ Ok x → many_from step count s ≡ behind x.0 (many_from step m x.1)
+unfolding many_from
+many_split {A = A} {S = S} step zero m count s x all e =
     let start : List A × S = ([], s) in
-    let none : List A × S = ([], y.1) in
-    let Steps : List A × S → Type 0 = λ z. step z.1 ≡ Ok y → many_from step (suc zero) s ≡ Ok (z.0 ++ y.0 ∷ [], y.1) in
-    subst Steps (ok_is start x e) (λ one. many_next step zero s y none one refl) h
-many_more {A = A} {S = S} step (suc n) s x y e h =
+    let same : count ≡ m = omega (arith, all) in
+    rw same (subst (λ (z : List A × S). many_from step m s ≡ behind z.0 (many_from step m z.1)) (ok_is start x e) (behind_none (many_from step m s)))
+many_split step (suc n) m zero s x all e = absurd (omega (arith, all))
+many_split {A = A} {S = S} step (suc n) m (suc count) s x all e =
     let a = bind_ok (step s) (λ one. many_from step n one.1 >>= λ others. Ok (one.0 ∷ others.0, others.1)) x e in
     let b = bind_ok (many_from step n a.0.1) (λ others. Ok (a.0.0 ∷ others.0, others.1)) x a.2 in
     let made : List A × S = (a.0.0 ∷ b.0.0, b.0.1) in
-    let more : List A × S = (b.0.0 ++ y.0 ∷ [], y.1) in
-    let Steps : List A × S → Type 0 = λ z. step z.1 ≡ Ok y → many_from step (suc (suc n)) s ≡ Ok (z.0 ++ y.0 ∷ [], y.1) in
-    subst Steps (ok_is made x b.2) (λ one. many_next step (suc n) s a.0 more a.1 (many_more step n a.0.1 b.0 y b.1 one)) h
+    subst (λ (z : List A × S). many_from step (suc count) s ≡ behind z.0 (many_from step m z.1)) (ok_is made x b.2)
+    (next_is step count s a.0 b.0.0 (many_from step m b.0.1) a.1 (many_split step n m count a.0.1 b.0 (omega (arith, all)) b.1))
+
+-- one more behind those that were read
+pub one_more : {A S : Type 0} (step : S → Result (A × S) ℕ) (n : ℕ) (s : S) (x : List A × S) (y : A × S) → many_from step n s ≡ Ok x → step x.1 ≡ Ok y → many_from step (n + 1) s ≡ Ok (x.0 ++ y.0 ∷ [], y.1)
+unfolding many_from
+one_more step n s x y e h = many_split step n 1 (n + 1) s x refl e ∙ rw h (refl {a = Ok (x.0 ++ y.0 ∷ [], y.1)})
+
+pub many_more : {A S : Type 0} (step : S → Result (A × S) ℕ) (n : ℕ) (s : S) (x : List A × S) (y : A × S) → many_from step n s ≡ Ok x → step x.1 ≡ Ok y → many_from step (suc n) s ≡ Ok (x.0 ++ y.0 ∷ [], y.1)
+many_more step n s x y e h = ap (λ (k : ℕ). many_from step k s) (sym (add-one n)) ∙ one_more step n s x y e h
 
 -- where the one behind those that were read isn't there, no more are
 pub many_stops : {A S : Type 0} (step : S → Result (A × S) ℕ) (n count : ℕ) (s : S) (x : List A × S) (at : ℕ) → n < count → many_from step n s ≡ Ok x → step x.1 ≡ Err at → many_from step count s ≡ Err at
 unfolding many_from
-many_stops step n zero s x at lt e h = absurd (omega (arith, lt))
-many_stops {A = A} {S = S} step zero (suc count) s x at lt e h =
-    let start : List A × S = ([], s) in
-    let Steps : List A × S → Type 0 = λ z. step z.1 ≡ Err at → many_from step (suc count) s ≡ Err at in
-    subst Steps (ok_is start x e) (λ one. rw one (refl {a = Err at})) h
-many_stops {A = A} {S = S} step (suc n) (suc count) s x at lt e h =
-    let a = bind_ok (step s) (λ one. many_from step n one.1 >>= λ others. Ok (one.0 ∷ others.0, others.1)) x e in
-    let b = bind_ok (many_from step n a.0.1) (λ others. Ok (a.0.0 ∷ others.0, others.1)) x a.2 in
-    let made : List A × S = (a.0.0 ∷ b.0.0, b.0.1) in
-    let Steps : List A × S → Type 0 = λ z. step z.1 ≡ Err at → many_from step (suc count) s ≡ Err at in
-    subst Steps (ok_is made x b.2) (λ one. next_stops step count s a.0 at a.1 (many_stops step n count a.0.1 b.0 at (omega (arith, lt)) b.1 one)) h
+many_stops step n count s x at lt e h = many_split step n (suc (count - suc n)) count s x (omega (arith, lt)) e ∙ rw h (refl {a = Err at})

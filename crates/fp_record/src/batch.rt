@@ -116,6 +116,7 @@ impl Batch {
 }
 
 /// How many bytes an edit takes in a batch.
+#[tactic(auto, using(crate::proofs::Texts::definition_short))]
 pub fn encoded_len(edit: &Edit) -> usize
     ensures len { result ≡ length (encoding_of_change (change_of edit.now)) }
     ensures small { result ≤ LONGEST_EDIT }
@@ -202,6 +203,7 @@ pub fn edit_from(alloc: Global, bytes: &[u8], at: usize) -> Result<(Edit, usize)
     }
 }
 
+#[tactic(auto, unfolding(crate::specs::Reading::many_from))]
 fn edits_from(
     alloc: Global,
     bytes: &[u8],

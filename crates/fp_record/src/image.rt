@@ -225,6 +225,7 @@ pub fn flag_from<'a>(
     Ok(FoundFlag { flag, text, next })
 }
 
+#[tactic(auto, unfolding(crate::specs::Reading::many_from, crate::specs::Reading::flags_at))]
 fn flags_from(
     alloc: Global,
     bytes: &[u8],
