@@ -3,6 +3,7 @@ use Rattle.std.proofs.Common.{◌≡◌, ℕ, List, [], ◌∷◌, ◌++◌, map
 use Rattle.std.specs.List.{AllByRecursion}
 use Rattle.std.specs.List.Sorted.{IsStrictlySortedBy}
 use Rattle.std.specs.Map.{keys_of}
+use Rattle.std.proofs.lemmas.List.{map-append}
 use Rattle.serde_json.specs.Data.{Data, Members, no_members, member}
 use Rattle.fp_definition.specs.Key.{key_bytes, flag_cmp, is_key}
 use Rattle.fp_definition.specs.declared.key.FlagKey.{FlagKey}
@@ -33,8 +34,7 @@ flags-ok evaluators k d ms f h = ap (λ r. and_others r (flags_of evaluators ms)
 -- ---- their keys
 
 pub keys-one : (fs : List (FlagKey × List ℕ)) (f : FlagKey × List ℕ) → map key_bytes (keys_of (fs ++ f ∷ [])) ≡ map key_bytes (keys_of fs) ++ key_bytes f.0 ∷ []
-keys-one [] f = refl
-keys-one (g ∷ fs) f = ap (λ ks. key_bytes g.0 ∷ ks) (keys-one fs f)
+keys-one fs f = ap (map key_bytes) (map-append (λ (e : FlagKey × List ℕ). e.0) fs (f ∷ [])) ∙ map-append key_bytes (keys_of fs) (f.0 ∷ [])
 
 abbrev key_or : List ℕ → Result Flag Refusal → List ℕ
 key_or k (Ok f) = f.0

@@ -1,8 +1,6 @@
 -- What a walk makes of ordered data, with evaluators that are ordered, is ordered.
-use Rattle.std.proofs.Common.{◌≡◌, ℕ, zero, suc, List, ◌∷◌, Option, Some, None, Ordering, Less, Equal, Greater, nat_cmp, Result, Ok, Err, subst}
-use Rattle.std.specs.Prelude.{⊤, IfOk, IfSome}
-use Rattle.std.specs.Ordering.{match_ordering}
-use Rattle.std.specs.Cmp.Lexicographic.{slice_cmp}
+use Rattle.std.proofs.Common.{◌≡◌, ℕ, zero, suc, List, ◌∷◌, Option, Some, None, Result, Ok, Err, refl, subst}
+use Rattle.std.specs.Prelude.{⊤, IfOk}
 use Rattle.serde_json.specs.Data.{Data, null, boolean, number, string, array, object, Items, no_items, item, Members, no_members, member}
 use Rattle.serde_json.specs.Find.{get_member}
 use Rattle.serde_json.specs.View.{items_of}
@@ -11,6 +9,7 @@ use Rattle.fp_base.specs.Ordered.{IsOrdered, AreOrdered, MembersAreOrdered}
 use Rattle.fp_base.specs.Sorted.{IsBelow, IsSorted}
 use Rattle.fp_base.specs.TreeView.{tree_view}
 use Rattle.fp_base.specs.declared.tree.Tree.{Tree}
+use Rattle.fp_base.proofs.Inside.{ordered_get}
 use Rattle.fp_imports.specs.Faults.{TellsBroken, with_rest}
 use Rattle.fp_imports.specs.References.{Walked, onward, count_one, expansion, items_expansion, members_expansion, put_in, reference, reference_or, replacement, whole_expansion}
 use Rattle.fp_imports.specs.declared.faults.ReferenceFault.{ReferenceFault}
@@ -64,36 +63,22 @@ module _ (at : List ℕ → ℕ → Walked Data) (ordered : (name : List ℕ) (l
         (λ e n p. onward-made (members_expansion at ms n) (λ es m. Ok (member k e es, m)) (Keeps ms) (Keeps (member k d ms)) (members-ordered ms n s.1 h.1)
         (λ es m q. (((q.1 k s.0, q.0.0), (p, q.0.1)), λ l b. (b.0, q.1 l b.1))))
 
-found-by : (o : Ordering) (r : Option Data) (e : Data) → IfSome r IsOrdered → IsOrdered e → IfSome (match_ordering o r (Some e) r) IsOrdered
-found-by Less r e h k = h
-found-by Equal r e h k = k
-found-by Greater r e h k = h
+put_in-made : (walk : Data → ℕ → Walked Data) (name : List ℕ) (o : Option Data) (left : ℕ) → ((d : Data) → o ≡ Some d → IfMade (walk d left) IsOrdered) → IfMade (put_in walk name o left) IsOrdered
+put_in-made walk name None left k = tt
+put_in-made walk name (Some d) left k = k d refl
 
--- a member of ordered data
-found-ordered : (k : List ℕ) (ms : Members) → MembersAreOrdered ms → IfSome (get_member k ms) IsOrdered
-found-ordered k no_members h = tt
-found-ordered k (member l e ms) h = found-by (slice_cmp nat_cmp k l) (get_member k ms) e (found-ordered k ms h.1) h.0
-
-pub ordered-there : (k : List ℕ) (ms : Members) (d : Data) → MembersAreOrdered ms → get_member k ms ≡ Some d → IsOrdered d
-ordered-there k ms d h there = subst (λ o. IfSome o IsOrdered) there (found-ordered k ms h)
-
-put_in-made : (walk : Data → ℕ → Walked Data) (name : List ℕ) (o : Option Data) (left : ℕ) → IfSome o IsOrdered → ((d : Data) → IsOrdered d → IfMade (walk d left) IsOrdered)
-    → IfMade (put_in walk name o left) IsOrdered
-put_in-made walk name None left h k = tt
-put_in-made walk name (Some d) left h k = k d h
-
-replacement-ordered : (evaluators : Members) → MembersAreOrdered evaluators → (more : ℕ) (name : List ℕ) (left : ℕ) → IfMade (replacement evaluators more name left) IsOrdered
+replacement-ordered : (evaluators : Members) → IsOrdered (object evaluators) → (more : ℕ) (name : List ℕ) (left : ℕ) → IfMade (replacement evaluators more name left) IsOrdered
 replacement-ordered evaluators h zero name left = tt
 replacement-ordered evaluators h (suc more) name left =
-    put_in-made (expansion (replacement evaluators more)) name (get_member name evaluators) left (found-ordered name evaluators h)
-    (λ d. expansion-ordered (replacement evaluators more) (replacement-ordered evaluators h more) d left)
+    put_in-made (expansion (replacement evaluators more)) name (get_member name evaluators) left
+    (λ d is. expansion-ordered (replacement evaluators more) (replacement-ordered evaluators h more) d left (ordered_get name (object evaluators) d h is))
 
 given-made : (r : Result (Tree × ℕ) ReferenceFault) (w : Walked Data) → Gives (with_rest tree_view) TellsBroken r w → IfMade w IsOrdered → IfOk r (λ p. IsOrdered (tree_view p.0))
 given-made (Ok p) w h m = subst (λ x. IfMade x IsOrdered) h m
 given-made (Err e) w h m = tt
 
 -- a targeting that was made anew
-pub expanded-ordered : (evaluators : Members) (d : Data) (r : Result (Tree × ℕ) ReferenceFault) → MembersAreOrdered evaluators → IsOrdered d
+pub expanded-ordered : (evaluators : Members) (d : Data) (r : Result (Tree × ℕ) ReferenceFault) → IsOrdered (object evaluators) → IsOrdered d
     → Gives (with_rest tree_view) TellsBroken r (whole_expansion evaluators d) → IfOk r (λ p. IsOrdered (tree_view p.0))
 expanded-ordered evaluators d r h k g =
     given-made r (whole_expansion evaluators d) g (expansion-ordered (replacement evaluators 8) (replacement-ordered evaluators h 8) d 16384 k)

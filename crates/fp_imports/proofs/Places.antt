@@ -1,7 +1,7 @@
 -- The member in a place, and another value that is put there.
 use Rattle.std.proofs.Common.{◌≡◌, ◌<◌, ℕ, zero, suc, List, [], ◌∷◌, length, get_or, Some, Ordering, Less, Equal, Greater, nat_cmp, arith, sym, ap, ◌∙◌}
 use Rattle.std.specs.Prelude.{set}
-use Rattle.std.proofs.lemmas.List.{set-get_or}
+use Rattle.std.proofs.lemmas.List.{get_or_default, set-get_or}
 use Rattle.std.specs.Ordering.{match_ordering}
 use Rattle.std.specs.Cmp.Lexicographic.{slice_cmp}
 use Rattle.serde_json.specs.Data.{Data, object, Members, no_members, member, put}
@@ -17,9 +17,7 @@ use Rattle.fp_imports.specs.Places.{IsPlaceOf}
 
 -- one member stands in a place
 pub same-place : (ms : List Entry) (at : ℕ) (m n : Entry) → at < length ms → m ≡ get_or ms at m → n ≡ get_or ms at n → m ≡ n
-same-place [] at m n h p q = absurd (omega arith)
-same-place (x ∷ ms) zero m n h p q = p ∙ sym q
-same-place (x ∷ ms) (suc at) m n h p q = same-place ms at m n (omega arith) p q
+same-place ms at m n h p q = p ∙ get_or_default ms at m n h ∙ sym q
 
 below-there : (k : List ℕ) (ms : List Entry) (at : ℕ) (m : Entry) → at < length ms → m ≡ get_or ms at m → IsBelow k (tree_members ms) → slice_cmp nat_cmp k m.0.now ≡ Less
 below-there k [] at m h p b = absurd (omega arith)

@@ -1,16 +1,13 @@
 -- Data without references are their own expansion.
-use Rattle.std.proofs.Common.{◌≡◌, ◌+◌, ℕ, suc, List, [], ◌∷◌, Bool, true, false, ◌||◌, Option, Some, None, Ok, refl, ap, ◌∙◌, true≢false, arith}
+use Rattle.std.proofs.Common.{◌≡◌, ◌+◌, ℕ, suc, List, [], ◌∷◌, true, false, Option, Some, None, Ok, refl, ap, ◌∙◌, true≢false, arith}
 use Rattle.std.specs.Prelude.{is_some, IfSome}
+use Rattle.std.proofs.lemmas.Bool.{or_parts}
 use Rattle.serde_json.specs.Data.{Data, null, boolean, number, string, array, object, Items, no_items, item, Members, no_members, member}
 use Rattle.serde_json.specs.View.{items_of}
 use Rattle.fp_base.specs.Count.{count, items_count, members_count}
 use Rattle.fp_imports.specs.References.{Walked, expansion, items_expansion, members_expansion, onward, reference}
 use Rattle.fp_imports.specs.Refers.{refers, items_refer, members_refer}
 use Rattle.fp_imports.proofs.Walks.{at_array, at_object, items_ok, members_ok}
-
-neither : (a b : Bool) → (a || b) ≡ false → (a ≡ false) × (b ≡ false)
-neither true b h = absurd (true≢false h)
-neither false b h = (refl, h)
 
 no_name : (o : Option (List ℕ)) → is_some o ≡ false → o ≡ None
 no_name None h = refl
@@ -42,14 +39,14 @@ module _ (at : List ℕ → ℕ → Walked Data) where
     expansion-itself (object ms) left rest e h =
         let n = members_count ms + rest in
         let more : left ≡ suc n = omega arith in
-        let none = neither (is_some (reference ms)) (members_refer ms) h in
+        let none = or_parts (is_some (reference ms)) (members_refer ms) h in
         at_object at ms left n (no_name (reference ms) none.0) more
         ∙ ap (λ w. onward w (λ es m. Ok (object es, m))) (members-itself ms n rest refl none.1)
 
     items-itself : (ds : Items) (left rest : ℕ) → left ≡ items_count ds + rest → items_refer ds ≡ false → items_expansion at ds left ≡ Ok (list_of ds, rest)
     items-itself no_items left rest e h = let same : left ≡ rest = omega arith in ap (items_expansion at no_items) same
     items-itself (item d ds) left rest e h =
-        let none = neither (refers d) (items_refer ds) h in
+        let none = or_parts (refers d) (items_refer ds) h in
         let all : left ≡ count d + (items_count ds + rest) = omega arith in
         items_ok at d ds left d (items_count ds + rest) (expansion-itself d left (items_count ds + rest) all none.0)
         ∙ ap (λ w. onward w (λ es m. Ok (d ∷ es, m))) (items-itself ds (items_count ds + rest) rest refl none.1)
@@ -57,7 +54,7 @@ module _ (at : List ℕ → ℕ → Walked Data) where
     members-itself : (ms : Members) (left rest : ℕ) → left ≡ members_count ms + rest → members_refer ms ≡ false → members_expansion at ms left ≡ Ok (ms, rest)
     members-itself no_members left rest e h = let same : left ≡ rest = omega arith in ap (members_expansion at no_members) same
     members-itself (member k d ms) left rest e h =
-        let none = neither (refers d) (members_refer ms) h in
+        let none = or_parts (refers d) (members_refer ms) h in
         let all : left ≡ count d + (members_count ms + rest) = omega arith in
         members_ok at k d ms left d (members_count ms + rest) (expansion-itself d left (members_count ms + rest) all none.0)
         ∙ ap (λ w. onward w (λ es m. Ok (member k d es, m))) (members-itself ms (members_count ms + rest) rest refl none.1)

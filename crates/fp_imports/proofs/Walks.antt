@@ -1,14 +1,11 @@
 -- Walks, step by step.
-use Rattle.std.proofs.Common.{◌≡◌, Vec, Global, sym, ℕ, zero, suc, ◌+◌, ◌*◌, max, Option, Some, None, Ordering, Equal, ◌<◌, ◌≤◌, List, [], ◌∷◌, ◌++◌, length, get_or, Result, Ok, Err, Greater, Less, string_bytes, nat_cmp, refl, ap, ◌∙◌, append_assoc, arith, rules}
-use Rattle.std.specs.Ordering.{match_ordering}
-use Rattle.std.specs.Cmp.Lexicographic.{slice_cmp}
+use Rattle.std.proofs.Common.{◌≡◌, sym, ℕ, zero, suc, ◌+◌, ◌*◌, Option, Some, None, ◌<◌, ◌≤◌, List, [], ◌∷◌, ◌++◌, length, get_or, Result, Ok, Err, string_bytes, refl, ap, ◌∙◌, append_assoc, arith}
 use Rattle.serde_json.specs.Data.{Data, null, boolean, number, string, array, object, Items, item, depth, items_depth, members_depth, Members, no_members, member}
 use Rattle.serde_json.specs.View.{items_of}
 use Rattle.serde_json.specs.Find.{get_member}
 use Rattle.fp_base.specs.Answer.{Gives}
 use Rattle.fp_base.specs.TreeView.{Entry, tree_view, tree_items, tree_members}
-use Rattle.fp_base.specs.declared.tree.Tree.{Tree, the_lemmas}
-use Rattle.fp_base.specs.declared.tree.Tree.TheVariants.{Array, Object}
+use Rattle.fp_base.specs.declared.tree.Tree.{Tree}
 use Rattle.fp_base.proofs.Sorted.{append, append-one}
 use Rattle.fp_imports.specs.References.{Walked, Broken, unknown, too_deep, too_large, onward, count_one, reference, reference_or, expansion, items_expansion, members_expansion, put_in, replacement}
 use Rattle.fp_imports.specs.Faults.{TellsBroken}
@@ -42,11 +39,6 @@ names (member k d ms) = k ∷ names ms
 pub names-one : (ms : List Entry) (m : Entry) → names (tree_members (ms ++ m ∷ [])) ≡ names (tree_members ms) ++ m.0.now ∷ []
 names-one [] m = refl
 names-one (x ∷ ms) m = ap (λ ns. x.0.now ∷ ns) (names-one ms m)
-
--- a member more, behind others
-pub members-one : (ms : List Entry) (m : Entry) → tree_members (ms ++ m ∷ []) ≡ append (tree_members ms) (member m.0.now (tree_view m.1) no_members)
-members-one [] m = refl
-members-one (x ∷ ms) m = ap (member x.0.now (tree_view x.1)) (members-one ms m)
 
 -- those that were walked stand before those that are walked next
 abbrev pub after_items : List Data → Walked (List Data) → Walked (List Data)
@@ -82,21 +74,6 @@ member_depth [] i m h = absurd (omega arith)
 member_depth (x ∷ ms) zero m h = omega arith
 member_depth (x ∷ ms) (suc i) m h = let rest = member_depth ms i m (omega arith) in omega arith
 
-depth_or : Option Data → ℕ
-depth_or None = 0
-depth_or (Some d) = depth d
-
-by_order : (o : Ordering) (r : Option Data) (d e : Data) (n : ℕ) → match_ordering o r (Some d) r ≡ Some e → (r ≡ Some e → depth e ≤ n) → depth e ≤ max (depth d) n
-unfolding depth_or
-by_order Less r d e n h k = let below = k h in omega arith
-by_order Equal r d e n h k = let same : depth d ≡ depth e = ap depth_or h in omega arith
-by_order Greater r d e n h k = let below = k h in omega arith
-
-pub member_found_depth : (k : List ℕ) (ms : Members) (e : Data) → get_member k ms ≡ Some e → depth e ≤ members_depth ms
-unfolding depth_or
-member_found_depth k no_members e h = absurd (search rules)
-member_found_depth k (member l d ms) e h = by_order (slice_cmp nat_cmp k l) (get_member k ms) d e (members_depth ms) h (member_found_depth k ms e)
-
 -- the measure
 pub falls_part : (a d i t : ℕ) → t ≡ 2 * (a + i) + 1 → d ≤ i → 2 * (a + d) < t
 falls_part a d i t h k = omega arith
@@ -104,7 +81,7 @@ falls_part a d i t h k = omega arith
 pub falls_reference : (a d v t : ℕ) → t ≡ 2 * (a + v) → v ≡ suc d → 2 * a + 1 < t
 falls_reference a d v t h k = omega arith
 
-pub falls_replaced : (m n top d t : ℕ) → m ≡ n + 1 → t ≡ 2 * (m * suc top) + 1 → d ≤ top → 2 * (n * suc top + d) < t
+pub falls_replaced : (m n top d t : ℕ) → m ≡ n + 1 → t ≡ 2 * (m * suc top) + 1 → d ≤ suc top → 2 * (n * suc top + d) < t
 falls_replaced m n top d t h k l =
     let more : (n + 1) * suc top ≡ n * suc top + suc top = grind arith in
     let t_is : t ≡ 2 * ((n + 1) * suc top) + 1 = k ∙ ap (λ x. 2 * (x * suc top) + 1) h in omega arith

@@ -7,7 +7,7 @@ use Rattle.fp_imports.specs.Document.{flag_expansion}
 use Rattle.fp_imports.specs.Faults.{with_rest}
 use Rattle.fp_imports.specs.Places.{IsPlaceOf}
 use Rattle.fp_imports.specs.References.{whole_expansion}
-use Rattle.fp_imports.proofs.Orders.{ordered-there}
+use Rattle.fp_base.proofs.Inside.{ordered_get}
 use Rattle.fp_imports.proofs.Places.{put-at, put-same, found-at, ordered-put}
 use Rattle.fp_imports.proofs.Targetings.{targeting-put, targeting-broken}
 use Rattle.fp_base.proofs.Views.{view-Object}
@@ -35,7 +35,7 @@ expand-requires-clause-targeting c =
     let shape : tree_view c.args.flag ≡ object (tree_members v.items) = ap tree_view c.in-Object.is ∙ view-Object v in
     let ordered = subst IsOrdered shape c.requires.flag in
     let place = subst (λ es. IsPlaceOf (codes "targeting") es c.in-Some.at) c.deref.ensures.value c.in-Some.ensures.found in
-    ordered-there (codes "targeting") (tree_members v.items) (tree_view m.1) ordered.1 (found-at place ordered.0 m c.index-2.ensures)
+    ordered_get (codes "targeting") (object (tree_members v.items)) (tree_view m.1) ordered (found-at place ordered.0 m c.index-2.ensures)
 
 pub returns-in-Ok-clause-made : goal.returns-in-Ok-clause-made
 returns-in-Ok-clause-made c =

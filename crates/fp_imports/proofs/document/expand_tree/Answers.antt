@@ -6,7 +6,7 @@ use Rattle.fp_base.specs.Ordered.{IsOrdered}
 use Rattle.fp_base.specs.TreeView.{tree_view, tree_members}
 use Rattle.fp_imports.specs.Document.{document, evaluators_in, flags_of_parts}
 use Rattle.fp_imports.specs.Faults.{Tells, seen_flag}
-use Rattle.fp_imports.proofs.Orders.{ordered-there}
+use Rattle.fp_base.proofs.Inside.{ordered_get}
 use Rattle.fp_base.proofs.Views.{view-Object}
 use Rattle.fp_imports.proofs.document.expand_tree.Goals as goal
 
@@ -25,7 +25,7 @@ flags_taken-requires-in-Some-Object-clause-evaluators c =
     let seen : tree_view e ≡ object (tree_members c.in-Some-Object.evaluators.items) = ap tree_view c.in-Some-Object.field-0-is ∙ view-Object c.in-Some-Object.evaluators in
     let lent : c.deref-in-Some-Object.result.now ≡ c.in-Some-Object.evaluators.items = c.deref-in-Some-Object.ensures.value ∙ ap (λ w. w.items) c.in-Some-Object.evaluators-is in
     let found : get_member (codes "$evaluators") ms ≡ Some (tree_view e) = ap (λ es. get_member (codes "$evaluators") (tree_members es)) (sym c.deref.ensures.value) ∙ sym c.in-Some-Object.ensures in
-    subst (λ es. IsOrdered (object (tree_members es))) (sym lent) (subst IsOrdered seen (ordered-there (codes "$evaluators") ms (tree_view e) c.take_flags.ensures.kept.1 found))
+    subst (λ es. IsOrdered (object (tree_members es))) (sym lent) (subst IsOrdered seen (ordered_get (codes "$evaluators") (object ms) (tree_view e) c.take_flags.ensures.kept found))
 
 pub returns-in-Some-Object-clause-flags : goal.returns-in-Some-Object-clause-flags
 returns-in-Some-Object-clause-flags c =

@@ -9,7 +9,7 @@ use Rattle.fp_base.specs.declared.tree.Tree.{Tree, the_lemmas}
 use Rattle.fp_base.specs.declared.tree.Tree.TheVariants.{Null}
 use Rattle.fp_imports.specs.Document.{flags_in}
 use Rattle.fp_imports.specs.Places.{IsPlaceOf}
-use Rattle.fp_imports.proofs.Orders.{ordered-there}
+use Rattle.fp_base.proofs.Inside.{ordered_get}
 use Rattle.fp_imports.proofs.Places.{put-at, found-at, ordered-put}
 use Rattle.fp_base.proofs.Views.{view-Object}
 use Rattle.fp_imports.proofs.document.take_flags.Goals as goal
@@ -38,7 +38,7 @@ returns-in-Object-clause-ordered c =
     let m = c.index_mut.result.now in
     let found = found-at place c.requires.0 m c.index_mut.ensures.value in
     let seen : tree_view m.1 ≡ object (tree_members c.in-Object.flags.items) = ap tree_view (sym c.in-Object.ensures.value) ∙ view-Object c.in-Object.flags in
-    subst IsOrdered seen (ordered-there (codes "flags") (tree_members c.args.members.now.items) (tree_view m.1) c.requires.1 found)
+    subst IsOrdered seen (ordered_get (codes "flags") (object (tree_members c.args.members.now.items)) (tree_view m.1) c.requires found)
 
 pub returns-in-Object-clause-kept : goal.returns-in-Object-clause-kept
 returns-in-Object-clause-kept c =

@@ -6,12 +6,14 @@ use Rattle.serde_json.specs.View.{items_of}
 use Rattle.fp_base.specs.Answer.{Gives}
 use Rattle.fp_base.specs.TreeView.{Entry, tree_view, tree_items, tree_members}
 use Rattle.fp_base.specs.declared.tree.Tree.{Tree}
+use Rattle.fp_base.proofs.Entries.{members-more}
+use Rattle.fp_base.proofs.Inside.{flat_get}
 use Rattle.fp_base.proofs.Sorted.{append-none}
 use Rattle.fp_base.proofs.Turns.{drop-here}
 use Rattle.fp_imports.specs.References.{unknown, onward, expansion, items_expansion, members_expansion, replacement, reference}
 use Rattle.fp_imports.specs.Faults.{TellsBroken, with_rest}
 use Rattle.fp_base.proofs.Views.{view-Array, view-Object}
-use Rattle.fp_imports.proofs.Walks.{members-one, after_items, after_members, after_items-one, after_members-one, gives_err, item_depth, member_depth, member_found_depth, falls_part, falls_reference, falls_replaced, at_reference, at_name, at_array, at_object, at_full, items_err, items_ok, members_err, members_ok}
+use Rattle.fp_imports.proofs.Walks.{after_items, after_members, after_items-one, after_members-one, gives_err, item_depth, member_depth, falls_part, falls_reference, falls_replaced, at_reference, at_name, at_array, at_object, at_full, items_err, items_ok, members_err, members_ok}
 use Rattle.fp_imports.proofs.references.+expands.Goals as goal
 
 pub expand_items-expand_value-requires : goal.expand_items-expand_value-requires
@@ -85,7 +87,7 @@ expand_members-loop-member-preserved t c =
     let next = members_expansion at (tree_members rest) c.in-Ok.rest in
     let here : drop l.member-index ms ≡ m ∷ rest = drop-here ms l.member-index m (omega arith) c.member-item.is in
     let walk : expansion at (tree_view m.1) l.unused ≡ Ok (tree_view made, c.in-Ok.rest) = subst (λ r. Gives (with_rest tree_view) TellsBroken r (expansion at (tree_view m.1) l.unused)) c.in-Ok.is c.expand_value.ensures in
-    ap (λ ys. after_members ys next) (ap tree_members c.in_ok-push-in-Ok.ensures.items ∙ members-one l.found.items (m.0, made))
+    ap (λ ys. after_members ys next) (ap tree_members c.in_ok-push-in-Ok.ensures.items ∙ members-more l.found.items (m.0, made))
     ∙ after_members-one (tree_members l.found.items) m.0.now (tree_view made) next
     ∙ ap (after_members (tree_members l.found.items)) (sym (ap (λ ys. members_expansion at (tree_members ys) l.unused) here ∙ members_ok at m.0.now (tree_view m.1) (tree_members rest) l.unused (tree_view made) c.in-Ok.rest walk))
     ∙ l.invariant
@@ -112,7 +114,7 @@ expand_reference-expand_value-requires t c =
     let e = tree_view c.in-Some.evaluator.now in
     let found : get_member c.args.name.now evaluators ≡ Some e = sym c.member_in_order.ensures ∙ ap (option_map (λ x. tree_view x.now)) c.in-Some.is in
     let first : 2 * (c.args.more * suc (members_depth evaluators)) + 1 ≡ t = c.requires.1.0 in
-    (falls_replaced c.args.more (c.args.more - 1) (members_depth evaluators) (depth e) t (omega arith) (sym first) (member_found_depth c.args.name.now evaluators e found), c.requires.1.1)
+    (falls_replaced c.args.more (c.args.more - 1) (members_depth evaluators) (depth e) t (omega arith) (sym first) (flat_get (suc (members_depth evaluators)) c.args.name.now (object evaluators) e (omega arith) found), c.requires.1.1)
 
 pub expand_reference-returns-in-Some : goal.expand_reference-returns-in-Some
 expand_reference-returns-in-Some t c =
