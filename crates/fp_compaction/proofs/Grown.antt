@@ -1,17 +1,51 @@
--- A sealed batch joins what the other slot is to hold.
-use Rattle.std.proofs.Common.{◌≡◌, ◌<◌, ◌+◌, ℕ, List, ◌∷◌, ◌++◌, length, sym, ◌∙◌, ap, subst}
-use Rattle.std.specs.Prelude.{Result, Ok, Err, OnErr}
+-- The calls of a batch, by the sets that they lead from and to; and a sealed batch joins what the other slot is to hold.
+use Rattle.std.proofs.Common.{◌≡◌, ◌⊎◌, ◌<◌, ◌+◌, ℕ, Bool, List, [], ◌∷◌, ◌++◌, length, refl, sym, ◌∙◌, ap, subst}
+use Rattle.std.specs.Prelude.{Result, Ok, Err, OnOk, OnErr}
+use Rattle.fp_disk.specs.Outcomes.{LeavesOnly}
+use Rattle.fp_disk.specs.declared.disk.Disk.{Ghosts}
+use Rattle.fp_disk.specs.declared.disk.DiskFault.{DiskFault}
+use Rattle.fp_disk.specs.declared.history.CallKind.{CallKind}
 use Rattle.fp_edit.specs.Flags.{State}
 use Rattle.fp_gate.specs.declared.gate.TheConstants.{OPEN}
 use Rattle.fp_journal.specs.Chain.{body_of, with_length, with_gate}
+use Rattle.fp_journal.specs.Holds.{Holds}
+use Rattle.fp_journal.specs.declared.journal.Phase.{Phase}
+use Rattle.fp_journal.specs.declared.journal.Phase.TheVariants.{Failed}
 use Rattle.fp_journal.specs.declared.slot.Slot.{Slot}
 use Rattle.fp_journal.proofs.Steps.{body_of-with_gate}
-use Rattle.fp_recovery.specs.Stands.{Spells}
+use Rattle.fp_recovery.specs.Stands.{Spells, StandsFor}
 use Rattle.fp_recovery.proofs.Texts.{spells_on}
-use Rattle.fp_slots.specs.State.{SlotsState, IsGrowing, SameCompaction}
+use Rattle.fp_slots.specs.Calls.{KeepsCompaction}
+use Rattle.fp_slots.specs.State.{SlotsState, IsGrowing, KeepsOrNext, KeepsSealed, SameCompaction}
 use Rattle.fp_slots.specs.declared.slots.Step.{Step}
-use Rattle.fp_compaction.specs.Sets.{IsPlannedFor}
-use Rattle.fp_compaction.specs.Batches.{FitsBeside, IsReadyFor, LeadsTo}
+use Rattle.fp_compaction.specs.Sets.{GoesOnKept, IsKeptIn, IsPlannedFor}
+use Rattle.fp_compaction.specs.Batches.{FitsBeside, IsReadyFor, LeadsTo, LeavesNext, LeavesSealed}
+use Rattle.fp_compaction.specs.Calls.{MovesBatch}
+use Rattle.fp_compaction.proofs.Kept as kept
+
+-- ---- a call of a batch
+module _ {D T : Type 0} (disk : Ghosts D) (old new : SlotsState D) {P : List ℕ → Type 0} {r : Result T DiskFault} (w : KeepsCompaction disk old new P r) where
+  leaves_as : (size : ℕ) (s : State) (k : IsKeptIn (disk.unsynced old.journal.disk) old size s) (Q : List ℕ → Type 0) → ((c : List ℕ) → Holds c 0 k.1.header → P c → Q c) → disk.honest old.journal.disk → LeavesOnly disk.moment disk.crash_states_since old.journal.disk new.journal.disk Q
+  leaves_as size s k Q shows h = kept.leaves_stands (disk.unsynced old.journal.disk) old size k.0 s k.1 disk.moment disk.crash_states_since disk.unsynced old.journal.disk new.journal.disk refl (w.apart h) P Q shows (w.any_moment h)
+
+  pub kept_batch : new.journal.sealed ≡ old.journal.sealed → GoesOnKept disk old new
+  kept_batch sealed h size s k = (k.0, kept.kept_beside (disk.unsynced old.journal.disk) old size k.0 s k.1 disk.moment disk.crash_states_since disk.unsynced old.journal.disk new.journal.disk refl (w.apart h) new w.same sealed)
+
+  pub moves_batch : {kind : CallKind} {to : Phase} {opens : Bool} → disk.calls new.journal.disk ≡ disk.calls old.journal.disk ++ kind ∷ [] → new.journal.sealed ≡ old.journal.sealed → OnOk r (new.journal.phase ≡ to) × OnErr r (new.journal.phase ≡ Failed) → new.journal.begun ≡ opens → MovesBatch disk kind to opens old new r
+  moves_batch called sealed phase begun = record {
+    call = record { honest = w.honest; called = called; cause = w.cause };
+    kept = kept_batch sealed;
+    same = w.same;
+    sealed = sealed;
+    phase = phase;
+    begun = begun;
+  }
+
+pub leaves_sealed : {D T : Type 0} (disk : Ghosts D) (old new : SlotsState D) {r : Result T DiskFault} → KeepsCompaction disk old new (KeepsSealed old) r → LeavesSealed disk old new
+leaves_sealed disk old new w h size s k = leaves_as disk old new w size s k (λ o. StandsFor o s) (kept.sealed_stands (disk.unsynced old.journal.disk) old size k.0 s k.1) h
+
+pub leaves_next : {D T : Type 0} (disk : Ghosts D) (old new : SlotsState D) {r : Result T DiskFault} → KeepsCompaction disk old new (KeepsOrNext old old.journal.staged) r → LeavesNext disk old new
+leaves_next disk old new w h size s t k leads = leaves_as disk old new w size s k (λ o. StandsFor o s ⊎ StandsFor o t) (kept.next_stands (disk.unsynced old.journal.disk) old size k.0 s k.1 t leads) h
 
 -- what holds anyhow holds where a call failed
 pub on_err : {T E : Type 0} (r : Result T E) (P : Type 0) → P → OnErr r P

@@ -5,19 +5,21 @@ use Rattle.std.proofs.lemmas.List.{append-nil, take_at}
 use Rattle.std.proofs.lemmas.Nat.{from_be_bytes-to_be_bytes_8}
 use Rattle.fp_gate.specs.declared.gate.TheConstants.{OPEN}
 use Rattle.fp_slots.specs.declared.places.TheConstants.{VERSION}
-use Rattle.fp_disk.specs.Outcomes.{LeavesOnly, PendingState}
+use Rattle.std.specs.Prelude.{slice_range}
+use Rattle.fp_disk.specs.Outcomes.{LeavesOnly, PendingState, all_synced}
 use Rattle.fp_disk.specs.Moments.{leaves_both, leaves_map}
 use Rattle.fp_edit.specs.Flags.{State}
 use Rattle.fp_journal.specs.Holds.{Holds, IsSynced}
 use Rattle.fp_journal.specs.Chain.{Ends, spell}
 use Rattle.fp_journal.specs.Moments.{KeepsFirm}
-use Rattle.fp_journal.specs.State.{HasAmong, HasChain, Outside, has_begun}
+use Rattle.fp_journal.specs.State.{HasAmong, HasChain, JournalState, Outside, has_begun}
+use Rattle.fp_journal.proofs.Holds.{firm_settled, held_range}
 use Rattle.fp_journal.specs.declared.slot.Slot.{Slot}
 use Rattle.fp_journal.proofs.Gates.{text-more}
-use Rattle.fp_layout.specs.Layout.{IsHeader, IsActive}
-use Rattle.fp_layout.specs.Opening.{ReadsSlot}
-use Rattle.fp_layout.specs.Size.{IsSlotSize, Side, first, second, other_side, slot_of}
-use Rattle.fp_recovery.specs.Durable.{IsKept}
+use Rattle.fp_layout.specs.Layout.{IsHeader, IsHead, IsActive}
+use Rattle.fp_layout.specs.NewDisk.{IsNewDisk, empty_image, new_front}
+use Rattle.fp_layout.specs.Opening.{FoundDisk, ReadsSlot}
+use Rattle.fp_layout.specs.Size.{IsSlotSize, Side, first, second, first_slot, second_slot, other_side, slot_of}
 use Rattle.fp_recovery.specs.Refusals.{BeginsWith}
 use Rattle.fp_slots.specs.Rules.{Rules, RulesWith}
 use Rattle.fp_slots.specs.State.{SlotsState, Keeps, KeepsEither, KeepsOrNext, IsFrontOf, KeepsSealed, OutsideBoth, SameCompaction, SameSlots, sealed_text}
@@ -25,8 +27,9 @@ use Rattle.fp_edit.specs.Edits.{Change}
 use Rattle.fp_journal.specs.Reading.{Reads}
 use Rattle.fp_recovery.specs.Room.{HasNoRoom, IsFullFor}
 use Rattle.fp_recovery.specs.Stands.{Leads, Spells, StandsFor, TakesBatch}
-use Rattle.fp_recovery.proofs.Kept.{side_long}
-use Rattle.fp_recovery.proofs.Texts.{spells_on}
+use Rattle.fp_recovery.proofs.Agreed.{agrees_range, header_agreed}
+use Rattle.fp_recovery.proofs.Kept.{found_front, found_read, new_read, new_set, new_text, side_long}
+use Rattle.fp_recovery.proofs.Texts.{IsReadFrom, read_spells, spells_on, text_read}
 use Rattle.fp_compaction.specs.Sets.{IsKeptOn, IsKeptIn, IsPlaced, IsPlannedFor, IsTaken, LeavesSet}
 use Rattle.fp_compaction.specs.Batches.{LeadsTo}
 
@@ -113,14 +116,14 @@ module _ {D : Type 0} (u : PendingState) (slots : SlotsState D) (size : ℕ) (si
         leaves_map moment crash_states_since old new (λ c. P c × Head c) Q (λ c p. shows c p.1 p.0) (leaves_both moment crash_states_since old new P Head leaves (frame 0 k.header header_outside firm_old).1)
 
     -- the slots as they are afterwards
-    kept_as : (after : SlotsState D) (t : State) → after.journal.slot ≡ slots.journal.slot → after.other ≡ slots.other → Spells size (sealed_text after.journal) t → IsKeptOn (unsynced new) after size side t
-    kept_as after t slot other spells = record {
+    kept_as : (after : SlotsState D) (x : Side) (t : State) → after.journal.slot ≡ slot_of size x → after.other ≡ slot_of size (other_side x) → Spells size (sealed_text after.journal) t → IsKeptOn (unsynced new) after size x t
+    kept_as after x t mine its spells = record {
       header = k.header;
       is_header = k.is_header;
       header_long = k.header_long;
       firm = (frame 0 k.header header_outside firm_old).0;
-      mine = slot ∙ k.mine;
-      its = other ∙ k.its;
+      mine = mine;
+      its = its;
       sealed = spells;
     }
 
@@ -128,30 +131,38 @@ module _ {D : Type 0} (u : PendingState) (slots : SlotsState D) (size : ℕ) (si
     same_text after bodies front is = ap (λ (t : List ℕ). t ++ spell after.journal.sealed) front ∙ ap (λ (l : List (List ℕ)). slots.journal.front ++ spell l) is
 
     pub kept_on : (after : SlotsState D) → SameSlots slots after → IsKeptOn (unsynced new) after size side s
-    kept_on after same = kept_as after s same.0.1 same.3 (subst (λ (t : List ℕ). Spells size t s) (sym (same_text after slots.journal.sealed same.0.2 same.1)) k.sealed)
+    kept_on after same = kept_as after side s (same.0.1 ∙ k.mine) (same.3 ∙ k.its) (subst (λ (t : List ℕ). Spells size t s) (sym (same_text after slots.journal.sealed same.0.2 same.1)) k.sealed)
 
     pub kept_beside : (after : SlotsState D) → SameCompaction slots after → after.journal.sealed ≡ slots.journal.sealed → IsKeptOn (unsynced new) after size side s
-    kept_beside after same sealed = kept_as after s same.0.1 same.1 (subst (λ (t : List ℕ). Spells size t s) (sym (same_text after slots.journal.sealed same.0.2 sealed)) k.sealed)
+    kept_beside after same sealed = kept_as after side s (same.0.1 ∙ k.mine) (same.1 ∙ k.its) (subst (λ (t : List ℕ). Spells size t s) (sym (same_text after slots.journal.sealed same.0.2 sealed)) k.sealed)
 
     -- and with the batch that was on its way
     pub kept_next : (after : SlotsState D) (t : State) → LeadsTo slots size s t → after.journal.slot ≡ slots.journal.slot → after.journal.front ≡ slots.journal.front → after.other ≡ slots.other → after.journal.sealed ≡ slots.journal.sealed ++ slots.journal.staged ∷ []
         → IsKeptOn (unsynced new) after size side t
-    kept_next after t leads slot front other sealed = kept_as after t slot other (subst (λ (x : List ℕ). Spells size x t) (sym (same_text after (slots.journal.sealed ++ slots.journal.staged ∷ []) front sealed)) (longer t slots.journal.staged leads.0 leads.1))
+    kept_next after t leads slot front other sealed = kept_as after side t (slot ∙ k.mine) (other ∙ k.its) (subst (λ (x : List ℕ). Spells size x t) (sym (same_text after (slots.journal.sealed ++ slots.journal.staged ∷ []) front sealed)) (longer t slots.journal.staged leads.0 leads.1))
 
     twice : (x : Side) → other_side (other_side x) ≡ x
     twice first = refl
     twice second = refl
 
     pub turned : (after : SlotsState D) → IsPlannedFor slots size s → after.journal.slot ≡ slots.other → after.journal.front ≡ slots.text → after.journal.sealed ≡ [] → after.other ≡ slots.journal.slot → IsKeptOn (unsynced new) after size (other_side side) s
-    turned after planned slot front none other = record {
-      header = k.header;
-      is_header = k.is_header;
-      header_long = k.header_long;
-      firm = (frame 0 k.header header_outside firm_old).0;
-      mine = slot ∙ k.its;
-      its = other ∙ k.mine ∙ sym (ap (λ (x : Side). slot_of size x) (twice side));
-      sealed = subst (λ (t : List ℕ). Spells size t s) (sym (ap (λ (l : List (List ℕ)). after.journal.front ++ spell l) none ∙ append-nil after.journal.front ∙ front)) planned;
-    }
+    turned after planned slot front none other = kept_as after (other_side side) s (slot ∙ k.its) (other ∙ k.mine ∙ sym (ap (λ (x : Side). slot_of size x) (twice side)))
+        (subst (λ (t : List ℕ). Spells size t s) (sym (ap (λ (l : List (List ℕ)). after.journal.front ++ spell l) none ∙ append-nil after.journal.front ∙ front)) planned)
+
+-- slots with the same journal, beside the same slot
+pub kept_still : {D : Type 0} {u : PendingState} {old new : SlotsState D} {size : ℕ} {s : State} → new.journal ≡ old.journal → new.other ≡ old.other → IsKeptIn u old size s → IsKeptIn u new size s
+kept_still {D} {size = size} {s = s} journal other k = (
+  k.0,
+  record {
+    header = k.1.header;
+    is_header = k.1.is_header;
+    header_long = k.1.header_long;
+    firm = k.1.firm;
+    mine = ap (λ (j : JournalState D). j.slot) journal ∙ k.1.mine;
+    its = other ∙ k.1.its;
+    sealed = subst (λ (j : JournalState D). Spells size (sealed_text j) s) (sym journal) k.1.sealed;
+  },
+)
 
 -- ---- a disk as it is opened
 -- of two sizes and sides with one slot
@@ -161,34 +172,38 @@ size_same n m first second is = let b = ap (λ (z : Slot). z.start) is in let e 
 size_same n m second first is = let b = ap (λ (z : Slot). z.start) is in let e = ap (λ (z : Slot). z.stop) is in omega (arith, b, e)
 size_same n m second second is = let b = ap (λ (z : Slot). z.start) is in omega (arith, b)
 
-side_same : (n : ℕ) (x y : Side) → 1 ≤ n → slot_of n x ≡ slot_of n y → x ≡ y
-side_same n first first some is = refl
-side_same n first second some is = let b = ap (λ (z : Slot). z.start) is in absurd (omega (arith, b, some))
-side_same n second first some is = let b = ap (λ (z : Slot). z.start) is in absurd (omega (arith, b, some))
-side_same n second second some is = refl
-
--- what a journal in one slot keeps, both do
-pub kept_in : {D : Type 0} (u : PendingState) (slots : SlotsState D) (s : State) (c : List ℕ) (size : ℕ) → IsSlotSize size → IsActive c size slots.journal.slot slots.other → IsKept u s slots.journal → IsKeptIn u slots size s
-kept_in u slots s c size allowed a k =
-    let both : slot_of k.size k.side ≡ slot_of size a.side = sym k.slot_is ∙ a.slot_is in let n : k.size ≡ size = size_same k.size size k.side a.side both in
-    let least = allowed.least in
-    let x : k.side ≡ a.side = side_same size k.side a.side (omega (arith, least)) (subst (λ (z : ℕ). slot_of z k.side ≡ slot_of size a.side) n both) in (
-      a.side,
+-- a journal that goes on behind what was read
+read_kept : {D : Type 0} (u : PendingState) (slots : SlotsState D) (c : List ℕ) (size : ℕ) (slot other : Slot) (s : State) (r : IsReadFrom c size slot other s) → slots.journal.front ≡ text_read c size slot other s r → slots.journal.sealed ≡ [] → u ≡ all_synced c
+    → (side : Side) → slots.journal.slot ≡ slot_of size side → slots.other ≡ slot_of size (other_side side) → IsKeptIn u slots size s
+read_kept u slots c size slot other s r front none sure side mine its =
+    let long = r.header.long in let range = held_range c 0 64 (omega (arith, long)) in
+    let text = ap (λ (l : List (List ℕ)). slots.journal.front ++ spell l) none ∙ append-nil slots.journal.front ∙ front in (
+      side,
       record {
-        header = k.header;
-        is_header = λ o h l. subst (λ (z : ℕ). IsHeader o z) n (k.is_header o h (subst (λ (z : ℕ). 65 + z ≤ length o) (sym n) l));
-        header_long = k.header_long;
-        firm = k.header_firm;
-        mine = a.slot_is;
-        its = a.other_is;
-        sealed = subst (λ (z : ℕ). Spells z (sealed_text slots.journal) s) n k.spells;
+        header = slice_range c 0 64;
+        is_header = λ o h l. header_agreed c o size r.header (agrees_range c o 0 64 (omega (arith, long)) h) l;
+        header_long = range.1;
+        firm = subst (λ (v : PendingState). IsSynced v 0 (slice_range c 0 64)) (sym sure) (firm_settled c 0 (slice_range c 0 64) range.0);
+        mine = mine;
+        its = its;
+        sealed = subst (λ (t : List ℕ). Spells size t s) (sym text) (read_spells c size slot other s r);
       },
     )
 
--- and under the size by which the slot was found elsewhere
-pub kept_in_of : {D : Type 0} (u : PendingState) (slots : SlotsState D) (s : State) (c : List ℕ) (size : ℕ) → IsSlotSize size → IsActive c size slots.journal.slot slots.other → IsKept u s slots.journal → (n : ℕ) → IsSlotSize n → (side : Side) → slots.journal.slot ≡ slot_of n side
-    → IsKeptIn u slots n s
-kept_in_of u slots s c size allowed a k n ok side is = subst (λ (z : ℕ). IsKeptIn u slots z s) (size_same size n a.side side (sym a.slot_is ∙ is)) (kept_in u slots s c size allowed a k)
+-- in slots of a size that was found elsewhere
+pub found_kept : {D : Type 0} (u : PendingState) (slots : SlotsState D) (c : List ℕ) (before s : State) (f : FoundDisk BeginsWith TakesBatch c before s slots.journal.slot slots.journal.front) → slots.journal.sealed ≡ [] → u ≡ all_synced c
+    → (n : ℕ) (side : Side) → slots.journal.slot ≡ slot_of n side → slots.other ≡ slot_of n (other_side side) → IsKeptIn u slots n s
+found_kept u slots c before s f none sure n side mine its =
+    let size = f.begun.size in let same : n ≡ size = size_same n size side f.begun.active.side (sym mine ∙ f.begun.active.slot_is) in
+    subst (λ (z : ℕ). IsKeptIn u slots z s) (sym same)
+    (read_kept u slots c size slots.journal.slot f.begun.other s (found_read c before s slots.journal.slot slots.journal.front f) (found_front c before s slots.journal.slot slots.journal.front f) none sure
+    side (subst (λ (z : ℕ). slots.journal.slot ≡ slot_of z side) same mine) (subst (λ (z : ℕ). slots.other ≡ slot_of z (other_side side)) same its))
+
+-- on a new disk
+pub new_kept : {D : Type 0} (u : PendingState) (slots : SlotsState D) (size : ℕ) (c : List ℕ) (allowed : IsSlotSize size) (made : IsNewDisk size c) (header : IsHeader c size) (active : IsActive c size (first_slot size) (second_slot size)) (head : IsHead c 64 size 1 0 empty_image)
+    → slots.journal.slot ≡ first_slot size → slots.other ≡ second_slot size → slots.journal.front ≡ new_front → slots.journal.sealed ≡ [] → u ≡ all_synced c → IsKeptIn u slots size (new_set size)
+new_kept u slots size c allowed made header active head mine its front none sure =
+    read_kept u slots c size (first_slot size) (second_slot size) (new_set size) (new_read size c allowed made header active head) (front ∙ sym (new_text size c allowed made header active head)) none sure first mine its
 
 -- ---- the limit of a set
 limit_led : (s t : State) (cs : List Change) → Leads s cs t → t.limit ≡ s.limit

@@ -1,9 +1,10 @@
 -- A compaction step by step: which follows which, what each calls, leaves and keeps.
 use Rattle.std.specs.Prelude.{◌≡◌, ◌<◌, ◌≤◌, ◌+◌, ◌-◌, ◌^◌, ℕ, Bool, true, false, List, [], ◌∷◌}
-use Rattle.std.specs.Prelude.{◌++◌, if◌then◌else◌, length, nat_lt}
+use Rattle.std.specs.Prelude.{◌≢◌, ◌++◌, if◌then◌else◌, length, nat_lt, Result, OnOk, OnErr}
 use Rattle.fp_disk.specs.Crashes.{SameHonesty}
 use Rattle.fp_disk.specs.Outcomes.{IsOutcome, LeavesOnly}
 use Rattle.fp_disk.specs.declared.disk.Disk.{Ghosts}
+use Rattle.fp_disk.specs.declared.disk.DiskFault.{DiskFault}
 use Rattle.fp_disk.specs.declared.history.CallKind.{CallKind}
 use Rattle.fp_disk.specs.declared.history.CallKind.TheVariants.{Sync, Write}
 use Rattle.fp_edit.specs.Flags.{State}
@@ -138,6 +139,19 @@ pub record BreaksOff {D : Type 0} (faults : D → ℕ) (old new : SlotsState D) 
   pub left : new.left ≡ old.left
   pub failed : new.journal.phase ≡ Failed
   pub cause : faults old.journal.disk < faults new.journal.disk
+
+-- A step of a compaction that runs is taken, and the one behind it is next: the slots stay, or the
+-- last one turns them. Or the device failed, and the step is still to be taken
+pub record StepsOn {D T : Type 0} (disk : Ghosts D) (old new : SlotsState D)
+    (result : Result T DiskFault) : Type 0 where
+  pub taken : TakesStep disk old new
+  pub step : OnOk result (new.step ≡ next_step old.step old.left)
+      × OnErr result (new.step ≡ old.step)
+  pub left : OnOk result (new.left ≡ next_left old.step old.left)
+  pub stays : OnOk result (old.step ≢ SyncOpen → Stays old new)
+  pub turned : OnOk result (old.step ≡ SyncOpen → Turns old new)
+  pub no_failure : OnOk result (disk.faults new.journal.disk ≡ disk.faults old.journal.disk)
+  pub broken : OnErr result (BreaksOff disk.faults old new)
 
 -- ---- what a crash leaves now, and what a read gives
 abbrev pub LeavesNow : {D : Type 0} → Ghosts D → SlotsState D → Type 0

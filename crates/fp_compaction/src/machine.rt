@@ -6,7 +6,7 @@ ghost use Rattle.fp_edit.specs.Flags.{size as size_of};
 ghost use Rattle.fp_slots.specs.declared.slots.Step.TheVariants.{Begin, SyncOpen};
 ghost use Rattle.fp_compaction.specs.Sets.{IsPlannedFor};
 ghost use Rattle.fp_compaction.specs.Steps.{BreaksOff, HasImageRoom, MayStep, StartsImage, Stays};
-ghost use Rattle.fp_compaction.specs.Steps.{TakesStep, Turns, next_left, next_step};
+ghost use Rattle.fp_compaction.specs.Steps.{StepsOn, TakesStep, Turns, next_left, next_step};
 ghost use Rattle.fp_compaction.specs.declared.machine.StepFault.TheVariants.{Device, Memory};
 
 use crate::steps::{begin, chunk, close, copy_tail, finish, open_other, seal, sync_close};
@@ -53,6 +53,25 @@ pub fn may_step<D: Disk>(slots: &Slots<D>) -> bool
     }
 }
 
+// Takes the next step of a compaction that runs.
+fn step_on<D: Disk>(slots: &mut Slots<D>) -> Result<(), DiskFault>
+    requires runs { slots.old.step ≢ Begin }
+    requires live { slots.old.journal.phase ≢ Failed }
+    requires may { MayStep slots.old }
+    ensures { StepsOn D.Disk slots.old slots.new result }
+{
+    match slots.step() {
+        Step::Begin => unreachable!(),
+        Step::Close => close(slots),
+        Step::SyncClose => sync_close(slots),
+        Step::Part => chunk(slots),
+        Step::Tail => copy_tail(slots),
+        Step::SyncBody => seal(slots),
+        Step::Open => open_other(slots),
+        Step::SyncOpen => finish(slots),
+    }
+}
+
 /// Takes the next step, with one call of the disk at most.
 /// The set is what is kept, and is looked at only where none runs.
 pub fn take_step<D: Disk>(
@@ -81,15 +100,8 @@ pub fn take_step<D: Disk>(
     ensures memory { IfErr result (λ e. e ≡ Memory →
         (slots.old.step ≡ Begin) × (slots.new ≡ slots.old)) }
 {
-    let taken = match slots.step() {
-        Step::Begin => return Ok(begin(alloc, slots, set)?),
-        Step::Close => close(slots),
-        Step::SyncClose => sync_close(slots),
-        Step::Part => chunk(slots),
-        Step::Tail => copy_tail(slots),
-        Step::SyncBody => seal(slots),
-        Step::Open => open_other(slots),
-        Step::SyncOpen => finish(slots),
-    };
-    Ok(taken?)
+    if let Step::Begin = slots.step() {
+        return Ok(begin(alloc, slots, set)?);
+    }
+    Ok(step_on(slots)?)
 }

@@ -3,12 +3,12 @@
 
 ghost use Rattle.std.specs.Prelude.{◌≡◌, ◌≢◌, ◌<◌, ◌≤◌, ◌+◌, ◌-◌, ◌/◌, ◌^◌, [], ℕ, OnOk, OnErr};
 ghost use Rattle.fp_journal.specs.declared.journal.Phase.TheVariants.{Idle, Failed};
-ghost use Rattle.fp_slots.specs.declared.places.TheConstants.{IMAGE_PLACE, PART};
+ghost use Rattle.fp_slots.specs.declared.places.TheConstants.{IMAGE_PLACE};
 ghost use Rattle.fp_slots.specs.declared.slots.Step.TheVariants.{Begin, Close, SyncClose, Part};
 ghost use Rattle.fp_slots.specs.declared.slots.Step.TheVariants.{Tail, SyncBody, Open, SyncOpen};
 ghost use Rattle.fp_edit.specs.Flags.{size as size_of};
 ghost use Rattle.fp_edit.specs.declared.flags.TheConstants.{IMAGE_HEAD};
-ghost use Rattle.fp_compaction.specs.Steps.{StartsImage, BreaksOff, Stays, TakesStep, Turns};
+ghost use Rattle.fp_compaction.specs.Steps.{StartsImage, StepsOn, TakesStep};
 ghost use Rattle.fp_compaction.specs.Sets.{GoesOnKept, IsPlannedFor, LeavesEither};
 
 use crate::image::image_of;
@@ -44,14 +44,7 @@ pub fn begin<D: Disk>(alloc: Global, slots: &mut Slots<D>, set: &FlagSet) -> Res
 pub fn close<D: Disk>(slots: &mut Slots<D>) -> Result<(), DiskFault>
     requires step { slots.old.step ≡ Close }
     requires live { slots.old.journal.phase ≢ Failed }
-    ensures taken { TakesStep D.Disk slots.old slots.new }
-    ensures step { OnOk result (slots.new.step ≡ SyncClose)
-        × OnErr result (slots.new.step ≡ Close) }
-    ensures stays { OnOk result (Stays slots.old slots.new) }
-    ensures left { OnOk result (slots.new.left ≡ slots.old.left) }
-    ensures no_failure { OnOk result
-        (D.faults slots.new.journal.disk ≡ D.faults slots.old.journal.disk) }
-    ensures broken { OnErr result (BreaksOff D.faults slots.old slots.new) }
+    ensures { StepsOn D.Disk slots.old slots.new result }
 {
     slots.close_other()
 }
@@ -60,13 +53,7 @@ pub fn close<D: Disk>(slots: &mut Slots<D>) -> Result<(), DiskFault>
 pub fn sync_close<D: Disk>(slots: &mut Slots<D>) -> Result<(), DiskFault>
     requires step { slots.old.step ≡ SyncClose }
     requires live { slots.old.journal.phase ≢ Failed }
-    ensures taken { TakesStep D.Disk slots.old slots.new }
-    ensures step { OnOk result (slots.new.step ≡ Part) × OnErr result (slots.new.step ≡ SyncClose) }
-    ensures stays { OnOk result (Stays slots.old slots.new) }
-    ensures left { OnOk result (slots.new.left ≡ slots.old.left) }
-    ensures no_failure { OnOk result
-        (D.faults slots.new.journal.disk ≡ D.faults slots.old.journal.disk) }
-    ensures broken { OnErr result (BreaksOff D.faults slots.old slots.new) }
+    ensures { StepsOn D.Disk slots.old slots.new result }
 {
     slots.sync_close()
 }
@@ -75,14 +62,7 @@ pub fn sync_close<D: Disk>(slots: &mut Slots<D>) -> Result<(), DiskFault>
 pub fn chunk<D: Disk>(slots: &mut Slots<D>) -> Result<(), DiskFault>
     requires step { slots.old.step ≡ Part }
     requires live { slots.old.journal.phase ≢ Failed }
-    ensures taken { TakesStep D.Disk slots.old slots.new }
-    ensures step { OnOk result ((PART < slots.old.left → slots.new.step ≡ Part)
-        × (slots.old.left ≤ PART → slots.new.step ≡ Tail)) × OnErr result (slots.new.step ≡ Part) }
-    ensures less { OnOk result (slots.new.left ≡ slots.old.left - PART) }
-    ensures stays { OnOk result (Stays slots.old slots.new) }
-    ensures no_failure { OnOk result
-        (D.faults slots.new.journal.disk ≡ D.faults slots.old.journal.disk) }
-    ensures broken { OnErr result (BreaksOff D.faults slots.old slots.new) }
+    ensures { StepsOn D.Disk slots.old slots.new result }
 {
     slots.write_part()
 }
@@ -91,13 +71,7 @@ pub fn chunk<D: Disk>(slots: &mut Slots<D>) -> Result<(), DiskFault>
 pub fn copy_tail<D: Disk>(slots: &mut Slots<D>) -> Result<(), DiskFault>
     requires step { slots.old.step ≡ Tail }
     requires live { slots.old.journal.phase ≡ Idle }
-    ensures taken { TakesStep D.Disk slots.old slots.new }
-    ensures step { OnOk result (slots.new.step ≡ SyncBody) × OnErr result (slots.new.step ≡ Tail) }
-    ensures stays { OnOk result (Stays slots.old slots.new) }
-    ensures left { OnOk result (slots.new.left ≡ slots.old.left) }
-    ensures no_failure { OnOk result
-        (D.faults slots.new.journal.disk ≡ D.faults slots.old.journal.disk) }
-    ensures broken { OnErr result (BreaksOff D.faults slots.old slots.new) }
+    ensures { StepsOn D.Disk slots.old slots.new result }
 {
     slots.write_tail()
 }
@@ -106,13 +80,7 @@ pub fn copy_tail<D: Disk>(slots: &mut Slots<D>) -> Result<(), DiskFault>
 pub fn seal<D: Disk>(slots: &mut Slots<D>) -> Result<(), DiskFault>
     requires step { slots.old.step ≡ SyncBody }
     requires live { slots.old.journal.phase ≢ Failed }
-    ensures taken { TakesStep D.Disk slots.old slots.new }
-    ensures step { OnOk result (slots.new.step ≡ Open) × OnErr result (slots.new.step ≡ SyncBody) }
-    ensures stays { OnOk result (Stays slots.old slots.new) }
-    ensures left { OnOk result (slots.new.left ≡ slots.old.left) }
-    ensures no_failure { OnOk result
-        (D.faults slots.new.journal.disk ≡ D.faults slots.old.journal.disk) }
-    ensures broken { OnErr result (BreaksOff D.faults slots.old slots.new) }
+    ensures { StepsOn D.Disk slots.old slots.new result }
 {
     slots.sync_parts()
 }
@@ -121,15 +89,9 @@ pub fn seal<D: Disk>(slots: &mut Slots<D>) -> Result<(), DiskFault>
 pub fn open_other<D: Disk>(slots: &mut Slots<D>) -> Result<(), DiskFault>
     requires step { slots.old.step ≡ Open }
     requires live { slots.old.journal.phase ≢ Failed }
-    ensures taken { TakesStep D.Disk slots.old slots.new }
     ensures stands { LeavesEither D.Disk slots.old slots.new }
     ensures kept { GoesOnKept D.Disk slots.old slots.new }
-    ensures step { OnOk result (slots.new.step ≡ SyncOpen) × OnErr result (slots.new.step ≡ Open) }
-    ensures stays { OnOk result (Stays slots.old slots.new) }
-    ensures left { OnOk result (slots.new.left ≡ slots.old.left) }
-    ensures no_failure { OnOk result
-        (D.faults slots.new.journal.disk ≡ D.faults slots.old.journal.disk) }
-    ensures broken { OnErr result (BreaksOff D.faults slots.old slots.new) }
+    ensures on { StepsOn D.Disk slots.old slots.new result }
 {
     slots.open_other()
 }
@@ -138,16 +100,10 @@ pub fn open_other<D: Disk>(slots: &mut Slots<D>) -> Result<(), DiskFault>
 pub fn finish<D: Disk>(slots: &mut Slots<D>) -> Result<(), DiskFault>
     requires step { slots.old.step ≡ SyncOpen }
     requires live { slots.old.journal.phase ≢ Failed }
-    ensures taken { TakesStep D.Disk slots.old slots.new }
     ensures stands { LeavesEither D.Disk slots.old slots.new }
-    ensures step { OnOk result (slots.new.step ≡ Begin) × OnErr result (slots.new.step ≡ SyncOpen) }
-    ensures turns { OnOk result (Turns slots.old slots.new) }
     ensures text { OnOk result ((slots.new.journal.front ≡ slots.old.text)
         × (slots.new.journal.sealed ≡ [])) }
-    ensures left { OnOk result (slots.new.left ≡ slots.old.left) }
-    ensures no_failure { OnOk result
-        (D.faults slots.new.journal.disk ≡ D.faults slots.old.journal.disk) }
-    ensures broken { OnErr result (BreaksOff D.faults slots.old slots.new) }
+    ensures on { StepsOn D.Disk slots.old slots.new result }
 {
     // That no batch is on its way is known only where it is asked.
     let _ = slots.step();

@@ -1,6 +1,6 @@
--- A batch that goes on its way, or breaks off, from call to call.
-use Rattle.std.proofs.Common.{◌≡◌, ◌≢◌, ◌⊎◌, ◌<◌, ◌≤◌, ◌+◌, ℕ, false, List, [], ◌∷◌, ◌++◌, length, refl, sym, ap, subst, ◌∙◌, inl, inr, arith, length-append}
-use Rattle.fp_disk.specs.Outcomes.{PendingState}
+-- A batch that goes on its way, or breaks off, from call to call; and the calls, by what the slots answer.
+use Rattle.std.proofs.Common.{◌≡◌, ◌≢◌, ◌⊎◌, ◌<◌, ◌≤◌, ◌+◌, ℕ, Bool, false, List, [], ◌∷◌, ◌++◌, length, refl, sym, ap, subst, ◌∙◌, inl, inr, arith, length-append, true}
+use Rattle.fp_disk.specs.Outcomes.{IsOutcome, LeavesOnly}
 use Rattle.fp_edit.specs.Edits.{Change}
 use Rattle.fp_edit.specs.Flags.{State}
 use Rattle.fp_edit.specs.Following.{Follows}
@@ -9,7 +9,7 @@ use Rattle.fp_edit.proofs.Followed.{after-append}
 use Rattle.fp_edit.proofs.Runs.{revision-after_all}
 use Rattle.fp_gate.specs.declared.gate.TheConstants.{OPEN}
 use Rattle.fp_journal.specs.declared.journal.Phase.{Phase}
-use Rattle.fp_journal.specs.declared.journal.Phase.TheVariants.{Idle, Staged, Failed}
+use Rattle.fp_journal.specs.declared.journal.Phase.TheVariants.{Idle, Staged, Failed, GateOpened}
 use Rattle.fp_journal.specs.declared.slot.Slot.{Slot}
 use Rattle.fp_journal.specs.Chain.{with_length, spell, with_gate}
 use Rattle.fp_journal.specs.State.{IsOnWay, JournalState, room}
@@ -18,35 +18,44 @@ use Rattle.fp_layout.specs.Size.{other_side, slot_of}
 use Rattle.fp_record.specs.Group.{Group}
 use Rattle.fp_record.specs.WellFormed.{IsBatch}
 use Rattle.fp_record.specs.Encoding.{encoding_of_batch}
-use Rattle.fp_recovery.specs.Stands.{TakesBatch, Leads, Spells}
-use Rattle.fp_slots.specs.State.{HasBegun, IsEarly, IsGrowing, SlotsState}
+use Rattle.fp_recovery.specs.Stands.{TakesBatch, Leads, Spells, StandsFor}
+use Rattle.fp_slots.specs.State.{HasBegun, IsEarly, IsGrowing, SlotsState, SamePlan}
 use Rattle.fp_slots.specs.declared.slots.Step.{Step}
-use Rattle.fp_compaction.specs.Batches.{HasRoomFor, tail_of}
+use Rattle.fp_compaction.specs.Batches.{HasRoomFor, tail_of, LeavesNext, LeavesSealed, KeepsNext, PlansNext}
 use Rattle.fp_compaction.specs.Sets.{IsKeptIn, IsPlaced, IsPlannedFor}
 use Rattle.fp_group_commit.proofs.Fronts.{leads_all}
 use Rattle.fp_group_commit.specs.declared.fault.StoreFault.{StoreFault}
 use Rattle.fp_group_commit.specs.declared.fault.StoreFault.TheVariants as fault
 use Rattle.fp_group_commit.specs.Changes.{GoesOn, batch_len}
-use Rattle.fp_group_commit.specs.Calls.{Breaks, IsStrange, RefusesBy, SameRoom}
+use Rattle.fp_group_commit.specs.Calls.{Breaks, IsStrange, RefusesBy, SameRoom, CallsDisk, MovesOn}
 use Rattle.fp_group_commit.specs.Tokens.{Identity, ReceiptState, IsReceipt}
-use Rattle.fp_group_commit.specs.Store.{StoreState, sealed_set, coming}
+use Rattle.fp_group_commit.specs.Store.{StoreState, sealed_set, coming, Leaves, has_begun}
 use Rattle.fp_group_commit.specs.Sound.{IsFlight, IsPlan, IsSound}
-use Rattle.fp_group_commit.proofs.Steps.{SameBeside, breaks, fits_other, placed_as, room_same, same_room, wide_of}
+use Rattle.fp_group_commit.proofs.Steps.{SameBeside, breaks, fits_other, placed_as, room_same, same_room, wide_of, beside_of, beside_plan, beside_then, begun_shut, exit_has, goes, idle_or, kept_on, kept_plan_now, makes_all, next_leaves, not_idle, open_leaves, sealed_leaves, leads}
+use Rattle.std.specs.Prelude.{Result, Ok, Err}
+use Rattle.fp_disk.specs.Crashes.{AtAnyMoment, SameHonesty}
+use Rattle.fp_disk.specs.History.{Makes}
+use Rattle.fp_disk.specs.Moments.{leaves_map}
+use Rattle.fp_disk.specs.declared.disk.Disk.{Ghosts}
+use Rattle.fp_disk.specs.declared.disk.DiskFault.{DiskFault}
+use Rattle.fp_disk.specs.declared.history.CallKind.{CallKind}
+use Rattle.fp_compaction.specs.Calls.{MakesCall, MovesBatch}
+
+-- a store at this phase, over these slots
+abbrev pub Moved : {D : Type 0} → StoreState D → Phase → SlotsState D → StoreState D
+Moved s p t = record { store = s.store; sealed = s.sealed; staged = s.staged; step = p; slots = t }
 
 -- ---- a batch goes on its way, or the device fails
-module _ {D : Type 0} (honest : D → Type 0) (unsynced : D → PendingState) {s : StoreState D} {set : State} {first : ℕ} {ahead copies : List Change} (i : IsSound honest unsynced s set first ahead copies) where
-  abbrev pub Moved : Phase → SlotsState D → StoreState D
-  Moved p t = record { store = s.store; sealed = s.sealed; staged = s.staged; step = p; slots = t }
-
-  module _ (p : Phase) (t : SlotsState D) (same : SameBeside s.slots t) (bodies : t.journal.sealed ≡ s.slots.journal.sealed) (kept_is : honest t.journal.disk → IsKeptIn (unsynced t.journal.disk) t i.size (sealed_set s)) where
-    plan_as : HasBegun t.step → IsPlan i.size (Moved p t)
+module _ {D : Type 0} (disk : Ghosts D) {s : StoreState D} {set : State} {first : ℕ} {ahead copies : List Change} (i : IsSound disk.honest disk.unsynced s set first ahead copies) where
+  module _ (p : Phase) (t : SlotsState D) (same : SameBeside s.slots t) (bodies : t.journal.sealed ≡ s.slots.journal.sealed) (kept_is : disk.honest t.journal.disk → IsKeptIn (disk.unsynced t.journal.disk) t i.size (sealed_set s)) where
+    plan_as : HasBegun t.step → IsPlan i.size (Moved s p t)
     plan_as begun = let q = i.planned (subst (λ (x : Step). HasBegun x) same.4 begun) in let head = q.head in let front = q.front in let text = ap length same.5 in let at = same.6 in record {
       spells = subst (λ (x : List ℕ). Spells i.size x (sealed_set s)) (sym same.5) q.spells;
       head = omega (arith, head, at);
       front = omega (arith, front, text, at);
     }
 
-    pub flight_as : IsFlight s first ahead copies → IsOnWay p → t.journal.staged ≡ s.slots.journal.staged → t.coming ≡ s.slots.coming → IsFlight (Moved p t) first ahead copies
+    pub flight_as : IsFlight s first ahead copies → IsOnWay p → t.journal.staged ≡ s.slots.journal.staged → t.coming ≡ s.slots.coming → IsFlight (Moved s p t) first ahead copies
     flight_as f way staged coming_same = record {
       on_way = way;
       none = f.none;
@@ -66,7 +75,7 @@ module _ {D : Type 0} (honest : D → Type 0) (unsynced : D → PendingState) {s
           (subst (λ (x : List ℕ). s.slots.other.start + length (s.slots.text ++ OPEN ∷ with_length x) < s.slots.other.stop) (sym staged) fits)));
     }
 
-    pub sound_moved : IsFlight s first ahead copies → IsOnWay p → t.journal.staged ≡ s.slots.journal.staged → t.coming ≡ s.slots.coming → (t.journal.phase ≡ p) ⊎ (t.journal.phase ≡ Failed) → IsSound honest unsynced (Moved p t) set first ahead copies
+    pub sound_moved : IsFlight s first ahead copies → IsOnWay p → t.journal.staged ≡ s.slots.journal.staged → t.coming ≡ s.slots.coming → (t.journal.phase ≡ p) ⊎ (t.journal.phase ≡ Failed) → IsSound disk.honest disk.unsynced (Moved s p t) set first ahead copies
     sound_moved f way staged coming_same going = record {
       set_is = i.set_is;
       follows = i.follows;
@@ -79,7 +88,7 @@ module _ {D : Type 0} (honest : D → Type 0) (unsynced : D → PendingState) {s
     }
 
     -- the set has caught up, and nothing is on its way
-    pub sound_at_rest : p ≡ Idle → t.journal.begun ≡ false → (later : State) (left : List Change) → after_all later left ≡ after_all set ahead → Follows later left → (t.journal.phase ≡ p) ⊎ (t.journal.phase ≡ Failed) → IsSound honest unsynced (Moved p t) later first left copies
+    pub sound_at_rest : p ≡ Idle → t.journal.begun ≡ false → (later : State) (left : List Change) → after_all later left ≡ after_all set ahead → Follows later left → (t.journal.phase ≡ p) ⊎ (t.journal.phase ≡ Failed) → IsSound disk.honest disk.unsynced (Moved s p t) later first left copies
     sound_at_rest idle begun later left keeps follows going = record {
       set_is = keeps ∙ i.set_is;
       follows = follows;
@@ -97,7 +106,7 @@ module _ {D : Type 0} (honest : D → Type 0) (unsynced : D → PendingState) {s
 
     pub sound_staged : (group : Group) (later : State) (left twice : List Change) → after_all later left ≡ after_all set ahead → Follows later left → left ≡ [] → twice ≡ group.changes → GoesOn (after_all set ahead) group → IsBatch group
         → t.journal.staged ≡ encoding_of_batch group → length t.journal.staged ≡ batch_len group → HasRoomFor s.slots (batch_len group) → (IsGrowing t.step → t.coming ≡ with_gate t.journal.staged) → t.journal.phase ≡ Staged
-        → IsSound honest unsynced (StagedNow group) later group.first left twice
+        → IsSound disk.honest disk.unsynced (StagedNow group) later group.first left twice
     sound_staged group later left twice keeps follows none copied on lawful spelled len has ready phase =
         let place : group.first ≡ (sealed_set s).revision + 1 = on.0 ∙ ap (λ (x : State). x.revision + 1) i.set_is in
         let goes_on : Follows (sealed_set s) group.changes = subst (λ (x : State). Follows x group.changes) i.set_is on.1 in
@@ -166,8 +175,8 @@ module _ {D : Type 0} (honest : D → Type 0) (unsynced : D → PendingState) {s
 
   pub sound_sealed : IsFlight s first ahead copies → (n : StoreState D) → n.store ≡ s.store → n.sealed ≡ s.sealed ++ s.staged → n.step ≡ Idle → n.slots.journal.phase ≡ Idle → n.slots.journal.begun ≡ false → n.slots.journal.slot ≡ s.slots.journal.slot → n.slots.other ≡ s.slots.other → n.slots.step ≡ s.slots.step
       → n.slots.head ≡ s.slots.head → (IsGrowing s.slots.step → n.slots.text ≡ s.slots.text ++ OPEN ∷ with_length s.slots.journal.staged)
-      → (honest n.slots.journal.disk → IsKeptIn (unsynced n.slots.journal.disk) n.slots i.size (coming s)) → (IsGrowing s.slots.step → IsPlannedFor n.slots i.size (coming s)) → (next_first : ℕ) (rest : List Change) → IsSound honest unsynced n set next_first copies rest
-  sound_sealed f n store sealed step phase begun slot other compacts head grown kept_next planned next_first rest =
+      → KeepsNext disk s.slots n.slots → PlansNext s.slots n.slots → (disk.honest n.slots.journal.disk → disk.honest s.slots.journal.disk) → (next_first : ℕ) (rest : List Change) → IsSound disk.honest disk.unsynced n set next_first copies rest
+  sound_sealed f n store sealed step phase begun slot other compacts head grown next planned back next_first rest =
       let set_is : set ≡ sealed_set s = ap (λ (l : List Change). after_all set l) (sym f.none) ∙ i.set_is in
       let kept_is : sealed_set n ≡ coming s = ap (λ (x : Identity). after_all x.start n.sealed) store ∙ ap (λ (l : List Change). after_all s.store.start l) sealed in
       record {
@@ -177,11 +186,11 @@ module _ {D : Type 0} (honest : D → Type 0) (unsynced : D → PendingState) {s
         flight = inl (step, begun);
         size = i.size;
         placed = subst (λ (x : Identity). IsPlaced i.size n.slots x.start.limit) (sym store) (placed_as i.size s.store.start.limit s.slots n.slots i.placed slot other);
-        kept_is = λ h. subst (λ (t : State). IsKeptIn (unsynced n.slots.journal.disk) n.slots i.size t) (sym kept_is) (kept_next h);
+        kept_is = λ h. subst (λ (t : State). IsKeptIn (disk.unsynced n.slots.journal.disk) n.slots i.size t) (sym kept_is) (next (back h) i.size (sealed_set s) (coming s) (i.kept_is (back h)) (leads disk i f));
         planned = λ begins.
             (let growing : IsGrowing s.slots.step = (subst (λ (x : Step). HasBegun x) compacts begins, f.early) in let q = i.planned growing.0 in let at = q.head in let front = q.front in
             let text = ap length (grown growing) in let joined = length-append s.slots.text (OPEN ∷ with_length s.slots.journal.staged) in record {
-              spells = subst (λ (t : State). IsPlannedFor n.slots i.size t) (sym kept_is) (planned growing);
+              spells = subst (λ (t : State). IsPlannedFor n.slots i.size t) (sym kept_is) (planned growing i.size (sealed_set s) (coming s) q.spells (leads disk i f));
               head = omega (arith, at, head);
               front = omega (arith, front, head, text, joined);
             });
@@ -195,9 +204,140 @@ module _ {D : Type 0} (honest : D → Type 0) (unsynced : D → PendingState) {s
     numbered = (let n = f.lawful.revisions in let len = ap length changes in omega (arith, n, len, first_is));
   }
 
-module _ {D : Type 0} (honest : D → Type 0) (unsynced : D → PendingState) {s : StoreState D} {set : State} {first : ℕ} {ahead copies : List Change} (i : IsSound honest unsynced s set first ahead copies) (p : Phase) (t : SlotsState D) (same : SameBeside s.slots t) (bodies : t.journal.sealed ≡ s.slots.journal.sealed) where
-  pub moved_room : SameRoom s (Moved honest unsynced i p t)
-  moved_room = same_room s (Moved honest unsynced i p t) same bodies
+-- ---- what a call of the disk leaves
+abbrev pub CountsNow : {D : Type 0} → Ghosts D → Type 0
+CountsNow {D} disk = (d : D) (t : ℕ) (c : List ℕ) → disk.honest d → t ≤ disk.moment d → IsOutcome (disk.unsynced d) c → disk.crash_states_since d t c
 
-  pub moved_breaks : (faults : D → ℕ) → s.slots.journal.phase ≢ Failed → t.journal.phase ≡ Failed → faults s.slots.journal.disk < faults t.journal.disk → p ≡ s.step → Breaks faults s (Moved honest unsynced i p t)
-  moved_breaks faults well failed cause step = breaks faults s (Moved honest unsynced i p t) well failed cause step same bodies
+makes : {T E : Type 0} (r : Result T E) (kinds old new : List CallKind) → new ≡ old ++ kinds → Makes kinds old new r
+makes (Ok x) kinds old new is = is
+makes (Err e) kinds old new is = makes_all kinds old new is
+
+-- the calls are made, and what each crash leaves meanwhile has P, and at the end is left by the store
+pub calls_on : {D T E : Type 0} (disk : Ghosts D) → CountsNow disk → (kinds : List CallKind) (old new : StoreState D) (P Q : List ℕ → Type 0) (r : Result T E) → disk.calls new.slots.journal.disk ≡ disk.calls old.slots.journal.disk ++ kinds → SameHonesty disk old.slots.journal.disk new.slots.journal.disk
+    → (disk.honest old.slots.journal.disk → LeavesOnly disk.moment disk.crash_states_since old.slots.journal.disk new.slots.journal.disk Q) → ((c : List ℕ) → Q c → P c) → ((c : List ℕ) → Q c → Leaves new c) → CallsDisk disk kinds old new P r
+calls_on disk counts_now kinds old new P Q r called honest leaves before after = record {
+  called = makes r kinds (disk.calls old.slots.journal.disk) (disk.calls new.slots.journal.disk) called;
+  any_moment = λ h. leaves_map disk.moment disk.crash_states_since old.slots.journal.disk new.slots.journal.disk Q P before (leaves h);
+  exit = exit_has disk counts_now old.slots.journal.disk new.slots.journal.disk Q (Leaves new) after honest.1 leaves;
+  honest = honest;
+}
+
+-- ---- a call of a batch on its way, as it begins
+pub record OnWay {D : Type 0} (s : StoreState D) (p : Phase) (first : ℕ) (ahead copies : List Change) : Type 0 where
+  pub at : s.step ≡ p
+  pub well : s.slots.journal.phase ≢ Failed
+  pub is : s.slots.journal.phase ≡ p
+  pub flight : IsFlight s first ahead copies
+  pub off : s.step ≢ Idle
+
+-- slots in which a body was kept ready, where none was on its way, and the set has caught up
+pub record Readied {D : Type 0} (disk : Ghosts D) (s : StoreState D) (mid : SlotsState D) (later : State) (first : ℕ) (left copies : List Change) : Type 0 where
+  pub well : s.slots.journal.phase ≢ Failed
+  pub plan : SamePlan s.slots mid
+  pub at : s.step ≡ Idle
+  pub idle : mid.journal.phase ≡ Idle
+  pub sound : IsSound disk.honest disk.unsynced (Moved s Idle mid) later first left copies
+
+module _ {D : Type 0} (disk : Ghosts D) {s : StoreState D} {set : State} {first : ℕ} {ahead copies : List Change} (i : IsSound disk.honest disk.unsynced s set first ahead copies) where
+  pub on_way : {v : StoreState D} {p : Phase} → s ≡ v → v.step ≡ p → p ≢ Idle → s.slots.journal.phase ≢ Failed → OnWay s p first ahead copies
+  on_way {p = p} view begins never well =
+      let at : s.step ≡ p = ap (λ (k : StoreState D). k.step) view ∙ begins in record {
+        at = at;
+        well = well;
+        is = goes s.slots.journal.phase s.step well i.going ∙ at;
+        flight = not_idle s.step p _ _ at never i.flight;
+        off = λ e. never (sym at ∙ e);
+      }
+
+  -- nothing was written
+  pub shut_at_rest : {v : StoreState D} → s ≡ v → v.step ≡ Idle → has_begun s ≡ false
+  shut_at_rest view begins =
+      let at : s.step ≡ Idle = ap (λ (k : StoreState D). k.step) view ∙ begins in
+      begun_shut s.slots.journal.phase s.step s.slots.journal.begun (λ (e : s.step ≡ GateOpened). let both : Idle ≡ GateOpened = sym at ∙ e in absurd (cc both)) (idle_or s.step _ _ at (λ f. f.on_way) i.flight).1 i.going
+
+  pub readied : {v : StoreState D} → s ≡ v → v.step ≡ Idle → s.slots.journal.phase ≢ Failed → (mid : SlotsState D) → SamePlan s.slots mid → (later : State) (left : List Change) → after_all later left ≡ after_all set ahead → Follows later left → Readied disk s mid later first left copies
+  readied view begins well mid plan later left keeps follows =
+      let at : s.step ≡ Idle = ap (λ (k : StoreState D). k.step) view ∙ begins in
+      let idle : mid.journal.phase ≡ Idle = ap (λ (j : JournalState D). j.phase) plan.0 ∙ goes s.slots.journal.phase s.step well i.going ∙ at in
+      let begun : mid.journal.begun ≡ false = ap (λ (j : JournalState D). j.begun) plan.0 ∙ (idle_or s.step _ _ at (λ f. f.on_way) i.flight).1 in record {
+        well = well;
+        plan = plan;
+        at = at;
+        idle = idle;
+        sound = sound_at_rest disk i Idle mid (beside_plan s.slots mid plan) (ap (λ (j : JournalState D). j.sealed) plan.0) (kept_plan_now s.slots mid plan disk.honest disk.unsynced i.kept_is) refl begun later left keeps follows (inl idle);
+      }
+
+  -- ---- it moves the batch, or the device fails
+  pub breaks_as : (t : SlotsState D) → SameBeside s.slots t → t.journal.sealed ≡ s.slots.journal.sealed → s.slots.journal.phase ≢ Failed → t.journal.phase ≡ Failed → disk.faults s.slots.journal.disk < disk.faults t.journal.disk → Breaks disk.faults s (Moved s s.step t)
+  breaks_as t same bodies well failed cause = breaks disk.faults s (Moved s s.step t) well failed cause refl same bodies
+
+  module _ {T : Type 0} {kind : CallKind} {to : Phase} {opens : Bool} {r : Result T DiskFault} (t : SlotsState D) (w : MovesBatch disk kind to opens s.slots t r) where
+    pub sound_on : IsFlight s first ahead copies → t.journal.staged ≡ s.slots.journal.staged → (p : Phase) → IsOnWay p → (t.journal.phase ≡ p) ⊎ (t.journal.phase ≡ Failed) → IsSound disk.honest disk.unsynced (Moved s p t) set first ahead copies
+    sound_on f staged p way going = sound_moved disk i p t (beside_of s.slots t w.same) w.sealed (kept_on disk i t w.kept w.call.honest.1) f way staged w.same.8 going
+
+    pub moves_on : {A : Type 0} {x : A} → s.slots.journal.phase ≢ Failed → to ≢ Failed → t.journal.phase ≡ to → disk.faults t.journal.disk ≡ disk.faults s.slots.journal.disk → MovesOn disk.faults to s (Moved s to t) (Ok x)
+    moves_on well other phase no_failure = record {
+      same = (refl, refl, refl);
+      ok = record { step = refl; well_before = well; well_now = λ e. other (sym phase ∙ e); no_failure = no_failure };
+      phase = tt;
+      fault = tt;
+      same_room = same_room s (Moved s to t) (beside_of s.slots t w.same) w.sealed;
+    }
+
+    pub breaks_off : {A : Type 0} → s.slots.journal.phase ≢ Failed → t.journal.phase ≡ Failed → disk.faults s.slots.journal.disk < disk.faults t.journal.disk → MovesOn {T = A} disk.faults to s (Moved s s.step t) (Err fault.Device)
+    breaks_off well failed cause = record {
+      same = (refl, refl, refl);
+      ok = tt;
+      phase = refl;
+      fault = breaks_as t (beside_of s.slots t w.same) w.sealed well failed cause;
+      same_room = same_room s (Moved s s.step t) (beside_of s.slots t w.same) w.sealed;
+    }
+
+  -- ---- what it leaves
+  pub leaves_opened : (t : SlotsState D) → IsFlight s first ahead copies → LeavesNext disk s.slots t → s.step ≢ Idle → has_begun s ≡ true → AtAnyMoment disk s.slots.journal.disk t.journal.disk (Leaves s)
+  leaves_opened t f stands off begun h = leaves_map disk.moment disk.crash_states_since s.slots.journal.disk t.journal.disk (λ c. StandsFor c (sealed_set s) ⊎ StandsFor c (coming s)) (Leaves s) (open_leaves s off begun) (next_leaves disk i t f stands h)
+
+  module _ (counts_now : CountsNow disk) {T A E : Type 0} {kind : CallKind} {r : Result T DiskFault} (t : SlotsState D) (call : MakesCall disk kind s.slots t r) (p : Phase) (result : Result A E) where
+    pub calls_sealed : LeavesSealed disk s.slots t → CallsDisk disk (kind ∷ []) s (Moved s p t) (Leaves s) result
+    calls_sealed stands = calls_on disk counts_now (kind ∷ []) s (Moved s p t) (Leaves s) (λ c. StandsFor c (sealed_set s)) result call.called call.honest (sealed_leaves disk i t stands) (λ c o. inl o) (λ c o. inl o)
+
+    calls_next : IsFlight s first ahead copies → LeavesNext disk s.slots t → (P : List ℕ → Type 0) → ((c : List ℕ) → StandsFor c (sealed_set s) ⊎ StandsFor c (coming s) → P c) → p ≢ Idle → has_begun (Moved s p t) ≡ true → CallsDisk disk (kind ∷ []) s (Moved s p t) P result
+    calls_next f stands P before off begun = calls_on disk counts_now (kind ∷ []) s (Moved s p t) P (λ c. StandsFor c (sealed_set s) ⊎ StandsFor c (coming s)) result call.called call.honest (next_leaves disk i t f stands) before (open_leaves (Moved s p t) off begun)
+
+    -- the gate begins to open in it, or has begun before
+    pub calls_opening : IsFlight s first ahead copies → LeavesNext disk s.slots t → p ≢ Idle → has_begun (Moved s p t) ≡ true → CallsDisk disk (kind ∷ []) s (Moved s p t) (Leaves (Moved s p t)) result
+    calls_opening f stands off begun = calls_next f stands (Leaves (Moved s p t)) (open_leaves (Moved s p t) off begun) off begun
+
+    pub calls_opened : IsFlight s first ahead copies → LeavesNext disk s.slots t → s.step ≢ Idle → has_begun s ≡ true → p ≢ Idle → has_begun (Moved s p t) ≡ true → CallsDisk disk (kind ∷ []) s (Moved s p t) (Leaves s) result
+    calls_opened f stands before opened off begun = calls_next f stands (Leaves s) (open_leaves s before opened) off begun
+
+-- ---- a body that was kept ready is staged, or the device fails
+module _ {D : Type 0} (disk : Ghosts D) {s : StoreState D} {mid : SlotsState D} {later : State} {first : ℕ} {left copies : List Change} (b : Readied disk s mid later first left copies)
+    {T : Type 0} {kind : CallKind} {to : Phase} {r : Result T DiskFault} (t : SlotsState D) (w : MovesBatch disk kind to false mid t r) where
+  on : SameBeside s.slots t
+  on = beside_then s.slots mid t b.plan w.same
+
+  bodies : t.journal.sealed ≡ s.slots.journal.sealed
+  bodies = w.sealed ∙ ap (λ (j : JournalState D). j.sealed) b.plan.0
+
+  pub sound_unstaged : t.journal.phase ≡ Failed → IsSound disk.honest disk.unsynced (Moved s s.step t) later first left copies
+  sound_unstaged failed = subst (λ (p : Phase). IsSound disk.honest disk.unsynced (Moved s p t) later first left copies) (sym b.at)
+      (sound_at_rest disk b.sound Idle t (beside_of mid t w.same) w.sealed (kept_on disk b.sound t w.kept w.call.honest.1) refl w.begun later left refl b.sound.follows (inr failed))
+
+  pub breaks_then : t.journal.phase ≡ Failed → disk.faults mid.journal.disk < disk.faults t.journal.disk → Breaks disk.faults s (Moved s s.step t)
+  breaks_then failed cause = breaks disk.faults s (Moved s s.step t) b.well failed (subst (λ (j : JournalState D). disk.faults j.disk < disk.faults t.journal.disk) b.plan.0 cause) refl on bodies
+
+  -- with these changes as the batch, at this phase
+  module _ (changes : List Change) (p : Phase) where
+    abbrev Then : StoreState D
+    Then = record { store = s.store; sealed = s.sealed; staged = changes; step = p; slots = t }
+
+    pub room_then : SameRoom s Then
+    room_then = same_room s Then on bodies
+
+    pub calls_then : {A E : Type 0} → CountsNow disk → LeavesSealed disk mid t → (result : Result A E) → CallsDisk disk (kind ∷ []) s Then (Leaves s) result
+    calls_then counts_now stands result =
+        let Sealed : List ℕ → Type 0 = λ c. StandsFor c (sealed_set s) in
+        calls_on disk counts_now (kind ∷ []) s Then (Leaves s) Sealed result (w.call.called ∙ ap (λ (j : JournalState D). disk.calls j.disk ++ kind ∷ []) b.plan.0)
+        (subst (λ (j : JournalState D). SameHonesty disk j.disk t.journal.disk) b.plan.0 w.call.honest)
+        (subst (λ (j : JournalState D). disk.honest j.disk → LeavesOnly disk.moment disk.crash_states_since j.disk t.journal.disk Sealed) b.plan.0 (sealed_leaves disk b.sound t stands)) (λ c o. inl o) (λ c o. inl o)

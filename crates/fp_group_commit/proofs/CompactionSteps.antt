@@ -33,6 +33,13 @@ use Rattle.fp_group_commit.proofs.BatchSteps.{Moved}
 use Rattle.fp_group_commit.proofs.Sizes.{halves}
 
 -- ---- a step of a compaction
+-- a store whose set has caught up where a compaction begins, as a step may be taken
+pub record MayStepOn {D : Type 0} (disk : Ghosts D) (s : StoreState D) (set : State) (first : ℕ) (ahead copies : List Change) : Type 0 where
+  pub sound : IsSound disk.honest disk.unsynced s set first ahead copies
+  pub begin : s.slots.step ≡ Begin → set ≡ sealed_set s
+  pub may : MayCompact s
+  pub well : s.slots.journal.phase ≢ Failed
+
 module _ {D : Type 0} (disk : Ghosts D) {s : StoreState D} {set : State} {first : ℕ} {ahead copies : List Change} (i : IsSound disk.honest disk.unsynced s set first ahead copies) where
   -- the set has caught up, where no batch is on its way
   pub caught : (later : State) (left : List Change) → after_all later left ≡ after_all set ahead → Follows later left → ((s.step ≡ Idle → ⊥) → left ≡ ahead) → IsSound disk.honest disk.unsynced s later first left copies
@@ -72,9 +79,6 @@ module _ {D : Type 0} (disk : Ghosts D) {s : StoreState D} {set : State} {first 
       none (inl rest) = done rest.0
       none (inr f) = f.none
 
-  pub caught_begin : (s.slots.step ≡ Begin → s.step ≡ Idle → ahead ≡ []) → s.slots.step ≡ Begin → set ≡ sealed_set s
-  caught_begin done at = caught_all (done at)
-
   pub may_step : MayCompact s → s.slots.journal.phase ≢ Failed → MayStep s.slots
   may_step may well = record {
     next = may.next;
@@ -89,7 +93,7 @@ module _ {D : Type 0} (disk : Ghosts D) {s : StoreState D} {set : State} {first 
 
   module _ (t : SlotsState D) (taken_step : TakesStep disk s.slots t) where
     abbrev Now : StoreState D
-    Now = Moved disk.honest disk.unsynced i s.step t
+    Now = Moved s s.step t
 
     kept_step : disk.honest t.journal.disk → IsKeptIn (disk.unsynced t.journal.disk) t i.size (sealed_set s)
     kept_step h = let back = taken_step.honest.1 h in taken_step.kept back i.size (sealed_set s) (i.kept_is back) (late disk i)
@@ -208,17 +212,17 @@ module _ {D : Type 0} (disk : Ghosts D) {s : StoreState D} {set : State} {first 
         at_rest (inr f) = absurd (subst (λ (x : Step). IsEarly x) at f.early)
 
   -- ---- a step was taken, whichever it was
-  module _ (t : SlotsState D) (taken_step : TakesStep disk s.slots t) (is : s.slots.step ≡ Begin → set ≡ sealed_set s) (may : MayCompact s) (well : s.slots.journal.phase ≢ Failed) (order : t.step ≡ next_step s.slots.step s.slots.left)
+  module _ (t : SlotsState D) (taken_step : TakesStep disk s.slots t) (k : MayStepOn disk s set first ahead copies) (order : t.step ≡ next_step s.slots.step s.slots.left)
       (begun : s.slots.step ≡ Begin → StartsImage (flags.size set.flags) set.limit s.slots t) (planned : s.slots.step ≡ Begin → (size : ℕ) → set.limit ≡ size / 2 → IsPlannedFor t size set)
       (stays : s.slots.step ≢ Begin → s.slots.step ≢ SyncOpen → Stays s.slots t) (turned : s.slots.step ≡ SyncOpen → Turns s.slots t) where
     abbrev pub Then : StoreState D
-    Then = Moved disk.honest disk.unsynced i s.step t
+    Then = Moved s s.step t
 
     phase_is : s.slots.journal.phase ≡ s.step
-    phase_is = goes s.slots.journal.phase s.step well i.going
+    phase_is = goes s.slots.journal.phase s.step k.well i.going
 
     early_then : IsFlight s first ahead copies → IsEarly t.step
-    early_then f = subst (λ (x : Step). IsEarly x) (sym order) (early_next s.slots.step s.slots.left f.early (λ tail. subst (λ (p : Phase). IsOnWay p) (may.still tail) f.on_way))
+    early_then f = subst (λ (x : Step). IsEarly x) (sym order) (early_next s.slots.step s.slots.left f.early (λ tail. subst (λ (p : Phase). IsOnWay p) (k.may.still tail) f.on_way))
 
     by_stays : Stays s.slots t → HasBegun s.slots.step → IsSound disk.honest disk.unsynced Then set first ahead copies
     by_stays st runs = sound_same t taken_step st.slots (inl (st.phase ∙ phase_is)) (λ later. runs) early_then
@@ -227,7 +231,7 @@ module _ {D : Type 0} (disk : Ghosts D) {s : StoreState D} {set : State} {first 
     sound_between off on = by_stays (stays off on) (begun_unless s.slots.step off)
 
     sound_begin : s.slots.step ≡ Begin → IsSound disk.honest disk.unsynced Then set first ahead copies
-    sound_begin at = sound_begun t taken_step (is at) (begun at) (order ∙ ap (λ (x : Step). next_step x s.slots.left) at) (planned at) well
+    sound_begin at = sound_begun t taken_step (k.begin at) (begun at) (order ∙ ap (λ (x : Step). next_step x s.slots.left) at) (planned at) k.well
 
     sound_end : s.slots.step ≡ SyncOpen → IsSound disk.honest disk.unsynced Then set first ahead copies
     sound_end at = sound_turned t taken_step at (turned at) (order ∙ ap (λ (x : Step). next_step x s.slots.left) at)
@@ -286,7 +290,7 @@ module _ {D : Type 0} (disk : Ghosts D) {s : StoreState D} {set : State} {first 
 
     plans_now : s.slots.step ≡ Begin → PlansImage s Then
     plans_now at =
-        let b = begun at in let text = b.text in let short = b.short in let own : set ≡ sealed_set s = is at in
+        let b = begun at in let text = b.text in let short = b.short in let own : set ≡ sealed_set s = k.begin at in
         let limit : set.limit ≡ s.store.start.limit = ap (λ (x : State). x.limit) own ∙ limit-after_all s.store.start s.sealed in
         let sizes : flags.size set.flags ≡ flags.size (sealed_set s).flags = ap (λ (x : State). flags.size x.flags) own in
         record {
@@ -300,8 +304,8 @@ module _ {D : Type 0} (disk : Ghosts D) {s : StoreState D} {set : State} {first 
     compacts faults no_failure left numbered = record {
       next = order;
       left = left;
-      well_before = well;
-      well_now = λ e. well (sym phase_now ∙ e);
+      well_before = k.well;
+      well_now = λ e. k.well (sym phase_now ∙ e);
       no_failure = no_failure;
       most = most_now;
       begun = plans_now;
@@ -316,16 +320,22 @@ module _ {D : Type 0} (disk : Ghosts D) {s : StoreState D} {set : State} {first 
 
   -- ---- the device failed in a step
   module _ (t : SlotsState D) (taken_step : TakesStep disk s.slots t) (order : t.step ≡ s.slots.step) (off : BreaksOff disk.faults s.slots t) where
-    pub sound_broken : IsSound disk.honest disk.unsynced (Moved disk.honest disk.unsynced i s.step t) set first ahead copies
+    pub sound_broken : IsSound disk.honest disk.unsynced (Moved s s.step t) set first ahead copies
     sound_broken = sound_same t taken_step off.slots (inr off.failed) (λ runs. subst (λ (x : Step). HasBegun x) order runs) (λ f. subst (λ (x : Step). IsEarly x) (sym order) f.early)
 
     pub begun_broken : journal.has_begun s.slots.journal.phase s.slots.journal.begun ≡ s.slots.journal.begun → journal.has_begun t.journal.phase t.journal.begun ≡ journal.has_begun s.slots.journal.phase s.slots.journal.begun
     begun_broken told = begun_stays s.slots.journal.phase t.journal.phase s.slots.journal.begun t.journal.begun told off.slots.9 off.failed
 
-    pub leaves_broken : journal.has_begun s.slots.journal.phase s.slots.journal.begun ≡ s.slots.journal.begun → (c : List ℕ) → Leaves s c → Leaves (Moved disk.honest disk.unsynced i s.step t) c
+    pub leaves_broken : journal.has_begun s.slots.journal.phase s.slots.journal.begun ≡ s.slots.journal.begun → (c : List ℕ) → Leaves s c → Leaves (Moved s s.step t) c
     leaves_broken told c (inl stands) = inl stands
     leaves_broken told c (inr both) = inr (both.0, begun_broken told ∙ both.1, both.2)
 
-    pub breaks_step : (left : t.left ≡ s.slots.left) → s.slots.journal.phase ≢ Failed → Breaks disk.faults s (Moved disk.honest disk.unsynced i s.step t)
-    breaks_step left well = breaks disk.faults s (Moved disk.honest disk.unsynced i s.step t) well off.failed off.cause refl
+    pub breaks_step : (left : t.left ≡ s.slots.left) → s.slots.journal.phase ≢ Failed → Breaks disk.faults s (Moved s s.step t)
+    breaks_step left well = breaks disk.faults s (Moved s s.step t) well off.failed off.cause refl
         (off.slots.0, off.slots.3, off.slots.4, off.slots.5, order, off.slots.6, off.slots.7, left) off.slots.1
+
+-- the set is made to catch up first
+pub caught_up : {D : Type 0} (disk : Ghosts D) {s v : StoreState D} {set : State} {first : ℕ} {ahead copies : List Change} → IsSound disk.honest disk.unsynced s set first ahead copies → s ≡ v → MayCompact v → s.slots.journal.phase ≢ Failed
+    → (later : State) (left : List Change) → after_all later left ≡ after_all set ahead → Follows later left → ((s.step ≡ Idle → ⊥) → left ≡ ahead) → (s.slots.step ≡ Begin → s.step ≡ Idle → left ≡ []) → MayStepOn disk s later first left copies
+caught_up {D} disk i view may well later left keeps follows still done =
+    let now = caught disk i later left keeps follows still in record { sound = now; begin = λ at. caught_all disk now (done at); may = subst (λ (k : StoreState D). MayCompact k) (sym view) may; well = well }

@@ -4,7 +4,6 @@ use Rattle.std.specs.Prelude.{Err}
 use Rattle.std.proofs.lemmas.List.{append-nil}
 use Rattle.fp_disk.specs.Outcomes.{PendingState, IsOutcome, LeavesOnly}
 use Rattle.fp_disk.specs.Moments.{leaves_still}
-use Rattle.fp_disk.specs.Crashes.{SameHonesty}
 use Rattle.fp_disk.specs.History.{MakesSome}
 use Rattle.fp_disk.specs.declared.disk.Disk.{Ghosts}
 use Rattle.fp_disk.specs.declared.history.CallKind.{CallKind}
@@ -27,6 +26,7 @@ use Rattle.fp_slots.specs.declared.slots.Step.{Step}
 use Rattle.fp_slots.specs.declared.slots.Step.TheVariants.{Begin, Close, SyncClose, Part, Tail, SyncBody, Open, SyncOpen}
 use Rattle.fp_compaction.specs.Batches.{HasRoomFor, LeadsTo, LeavesNext, LeavesSealed, tail_of}
 use Rattle.fp_compaction.specs.Sets.{GoesOnKept, IsKeptIn, IsPlaced, IsPlannedFor, IsTaken, LeavesSet}
+use Rattle.fp_compaction.proofs.Kept.{kept_still}
 use Rattle.fp_compaction.specs.Steps.{IsLate, LeavesNow, ReadsNext, next_step}
 use Rattle.fp_group_commit.specs.Calls.{Breaks, CallsDisk, SameRoom}
 use Rattle.fp_group_commit.specs.Store.{IsAtRest, readable_set, reached_at, StoreState, Leaves, sealed_set, coming}
@@ -250,22 +250,8 @@ module _ {D : Type 0} (old new : SlotsState D) (same : SamePlan old new) where
         let start = ap (λ (x : Slot). x.start) same.1 in let stop = ap (λ (x : Slot). x.stop) same.1 in omega (arith, tail, text, head, start, stop));
   }
 
-  pub kept_plan : {u : PendingState} {size : ℕ} {s : State} → IsKeptIn u old size s → IsKeptIn u new size s
-  kept_plan {u} {size} {s} k = (
-    k.0,
-    record {
-      header = k.1.header;
-      is_header = k.1.is_header;
-      header_long = k.1.header_long;
-      firm = k.1.firm;
-      mine = ap (λ (j : JournalState D). j.slot) same.0 ∙ k.1.mine;
-      its = same.1 ∙ k.1.its;
-      sealed = subst (λ (j : JournalState D). Spells size (sealed_text j) s) (sym same.0) k.1.sealed;
-    },
-  )
-
   pub kept_plan_now : (honest : D → Type 0) (unsynced : D → PendingState) {size : ℕ} {s : State} → (honest old.journal.disk → IsKeptIn (unsynced old.journal.disk) old size s) → honest new.journal.disk → IsKeptIn (unsynced new.journal.disk) new size s
-  kept_plan_now honest unsynced {size} {s} k = subst (λ (j : JournalState D). honest j.disk → IsKeptIn (unsynced j.disk) new size s) (sym same.0) (λ h. kept_plan (k h))
+  kept_plan_now honest unsynced {size} {s} k = subst (λ (j : JournalState D). honest j.disk → IsKeptIn (unsynced j.disk) new size s) (sym same.0) (λ h. kept_still same.0 same.1 (k h))
 
 -- ---- a store as it begins
 pub sound_new : {D : Type 0} (honest : D → Type 0) (unsynced : D → PendingState) (n : StoreState D) (set : State) → n.store.start ≡ set → n.sealed ≡ [] → n.step ≡ Idle → n.slots.journal.phase ≡ Idle → n.slots.journal.begun ≡ false → n.slots.step ≡ Begin
@@ -313,13 +299,6 @@ pub tail_stays : {D : Type 0} (old new : SlotsState D) → new.head ≡ old.head
 tail_stays old new head text = let len = ap length text in omega (arith, head, len)
 
 -- ---- a call behind one that kept a body ready
-module _ {D : Type 0} (disk : Ghosts D) (old mid new : SlotsState D) (plan : SamePlan old mid) where
-  pub from_plan : {P : List ℕ → Type 0} → (disk.honest mid.journal.disk → LeavesOnly disk.moment disk.crash_states_since mid.journal.disk new.journal.disk P) → disk.honest old.journal.disk → LeavesOnly disk.moment disk.crash_states_since old.journal.disk new.journal.disk P
-  from_plan {P} l = subst (λ (j : JournalState D). disk.honest j.disk → LeavesOnly disk.moment disk.crash_states_since j.disk new.journal.disk P) plan.0 l
-
-  pub honest_plan : SameHonesty disk mid.journal.disk new.journal.disk → SameHonesty disk old.journal.disk new.journal.disk
-  honest_plan h = subst (λ (j : JournalState D). SameHonesty disk j.disk new.journal.disk) plan.0 h
-
 pub beside_then : {D : Type 0} (old mid new : SlotsState D) → SamePlan old mid → SameCompaction mid new → SameBeside old new
 beside_then old mid new plan same =
     let a = beside_plan old mid plan in

@@ -12,9 +12,9 @@ use Rattle.fp_slots.specs.Rules.{RulesNeither, none_open, cut, equal}
 use Rattle.fp_layout.specs.declared.fault.OpenFault.TheVariants.{Damaged}
 use Rattle.fp_recovery.specs.Refusals.{BeginsWith, RejectsImage, RefusesBatch, RefusesBytes, nothing_read}
 use Rattle.fp_recovery.specs.Stands.{TakesBatch}
-use Rattle.fp_recovery.proofs.One.{most_small}
+use Rattle.fp_recovery.proofs.Parts.{most_small}
 use Rattle.fp_recovery.proofs.Read.{image_within_bytes}
-use Rattle.fp_recovery.proofs.OneFault.{stops_within}
+use Rattle.fp_recovery.proofs.Chains.{stops_within}
 
 -- ---- places
 module _ (c : List ℕ) where

@@ -5,6 +5,8 @@ pub mod Flags
 pub mod Agreed
 pub mod Kept
 pub mod Texts
+pub mod Parts
+pub mod Chains
 pub mod One
 pub mod Refused
 pub mod OneFault

@@ -2,21 +2,18 @@ use Rattle.std.proofs.Common.{◌⊎◌, refl, sym, ap, subst, ◌∙◌}
 use Rattle.fp_disk.specs.Outcomes.{LeavesOnly}
 use Rattle.fp_journal.specs.State.{JournalState}
 use Rattle.fp_recovery.specs.Stands.{StandsFor}
-use Rattle.fp_slots.specs.State.{KeepsOrNext}
 use Rattle.fp_compaction.specs.Sets.{IsKeptOn}
 use Rattle.fp_compaction.proofs.Grown as grown
 use Rattle.fp_compaction.proofs.Kept as kept
 use Rattle.fp_compaction.proofs.batches.sync_gate.Goals as goal
 
 pub returns-in_err-sealed-clause-stands : goal.returns-in_err-sealed-clause-stands
-returns-in_err-sealed-clause-stands g c =
-    let D = g.D.Disk in let old = c.args.slots.now in let w = c.sync_gate.ensures in let mid = c.sync_gate.new.self in
-    λ h size s t k leads. kept.leaves_stands (D.unsynced old.journal.disk) old size k.0 s k.1 D.moment D.crash_states_since D.unsynced old.journal.disk mid.journal.disk refl (w.kept.apart h) (KeepsOrNext old old.journal.staged) (λ o. StandsFor o s ⊎ StandsFor o t) (kept.next_stands (D.unsynced old.journal.disk) old size k.0 s k.1 t leads) (w.kept.any_moment h)
+returns-in_err-sealed-clause-stands g c = grown.leaves_next g.D.Disk c.args.slots.now c.sync_gate.new.self c.sync_gate.ensures.kept
 
 pub returns-in_err-sealed-clause-broken : goal.returns-in_err-sealed-clause-broken
 returns-in_err-sealed-clause-broken g c =
-    let D = g.D.Disk in let old = c.args.slots.now in let w = c.sync_gate.ensures in let mid = c.sync_gate.new.self in let err = c.in_err-sealed.ensures.err in
-    grown.on_err c.from_residual.result _ (err.2, c.in_err-sealed.ensures.begun.1, λ h size s k. (k.0, kept.kept_beside (D.unsynced old.journal.disk) old size k.0 s k.1 D.moment D.crash_states_since D.unsynced old.journal.disk mid.journal.disk refl (w.kept.apart h) mid w.kept.same err.0), w.kept.same)
+    let w = c.sync_gate.ensures in let err = c.in_err-sealed.ensures.err in
+    grown.on_err c.from_residual.result _ (err.2, c.in_err-sealed.ensures.begun.1, grown.kept_batch g.D.Disk c.args.slots.now c.sync_gate.new.self w.kept err.0, w.kept.same)
 
 pub grow-requires-clause-ready : goal.grow-requires-clause-ready
 grow-requires-clause-ready g c =
@@ -30,10 +27,9 @@ grow-requires-clause-fits g c =
 
 pub returns-clause-stands : goal.returns-clause-stands
 returns-clause-stands g c =
-    let D = g.D.Disk in let old = c.args.slots.now in let w = c.sync_gate.ensures in let mid = c.sync_gate.new.self in let new = c.grow.new.slots in
-    let disk = ap (λ (j : JournalState g.row.D.Denot). j.disk) c.grow.ensures.journal.0 in
-    λ h size s t k leads. subst (λ (d : g.row.D.Denot). LeavesOnly D.moment D.crash_states_since old.journal.disk d (λ o. StandsFor o s ⊎ StandsFor o t)) (sym disk)
-    (kept.leaves_stands (D.unsynced old.journal.disk) old size k.0 s k.1 D.moment D.crash_states_since D.unsynced old.journal.disk mid.journal.disk refl (w.kept.apart h) (KeepsOrNext old old.journal.staged) (λ o. StandsFor o s ⊎ StandsFor o t) (kept.next_stands (D.unsynced old.journal.disk) old size k.0 s k.1 t leads) (w.kept.any_moment h))
+    let D = g.D.Disk in let old = c.args.slots.now in
+    λ h size s t k leads. subst (λ (d : g.row.D.Denot). LeavesOnly D.moment D.crash_states_since old.journal.disk d (λ o. StandsFor o s ⊎ StandsFor o t)) (sym (ap (λ (j : JournalState g.row.D.Denot). j.disk) c.grow.ensures.journal.0))
+    (grown.leaves_next D old c.sync_gate.new.self c.sync_gate.ensures.kept h size s t k leads)
 
 pub returns-clause-next : goal.returns-clause-next
 returns-clause-next g c =

@@ -1,14 +1,13 @@
 use Rattle.std.proofs.Common.{◌≡◌, ◌+◌, ◌++◌, ℕ, List, length, refl, sym, ap, subst, ◌∙◌}
 use Rattle.fp_edit.specs.Flags.{State}
-use Rattle.fp_recovery.specs.Durable.{IsKept}
 use Rattle.fp_recovery.specs.Stands.{StandsFor}
 use Rattle.std.proofs.lemmas.List.{append-nil}
 use Rattle.fp_journal.specs.Chain.{spell}
 use Rattle.fp_slots.specs.State.{sealed_text}
 use Rattle.fp_recovery.specs.Recovered.{StandsAt}
-use Rattle.fp_recovery.proofs.Kept.{found_at, found_kept, found_stands}
-use Rattle.fp_compaction.specs.Sets.{IsPlaced, place_of}
-use Rattle.fp_compaction.proofs.Kept.{kept_in_of, placed}
+use Rattle.fp_recovery.proofs.Kept.{found_at, found_stands}
+use Rattle.fp_compaction.specs.Sets.{IsKeptIn, IsPlaced, place_of}
+use Rattle.fp_compaction.proofs.Kept.{found_kept, placed}
 use Rattle.fp_compaction.proofs.opening.open.Goals as goal
 
 pub returns-clause-stands : goal.returns-clause-stands
@@ -31,12 +30,9 @@ returns-clause-place g c = λ h.
 
 pub returns-clause-kept : goal.returns-clause-kept
 returns-clause-kept g c =
-    let D = g.D.Disk in let e = c.in_ok-slots.ensures in let slots = c.in_ok-slots.slots in let j = slots.journal in let set = c.into_set-set.result in
+    let D = g.D.Disk in let e = c.in_ok-slots.ensures in let slots = c.in_ok-slots.slots in let j = slots.journal in
     let before = c.new-restoring.result in let after = c.open.new.reader in let i = e.read.begun in (
       i.size,
       subst (λ (s : State). IsPlaced i.size slots s.limit) (sym c.into_set-set.ensures) (placed slots before after e.read),
-      λ h. let has = e.slots h in
-          let kept : IsKept (D.unsynced j.disk) set j = subst (λ (s : State). IsKept (D.unsynced j.disk) s j) (sym c.into_set-set.ensures)
-          (found_kept (D.bytes c.args.disk) before after j.slot j.front (e.found h) (D.unsynced j.disk) j refl refl e.begins.0 (e.all_synced h)) in
-          kept_in_of (D.unsynced j.disk) slots set (D.bytes c.args.disk) has.size has.header.allowed has.active kept i.size i.allowed i.side i.slot_is,
+      λ h. subst (λ (s : State). IsKeptIn (D.unsynced j.disk) slots i.size s) (sym c.into_set-set.ensures) (found_kept (D.unsynced j.disk) slots (D.bytes c.args.disk) before after (e.found h) e.begins.0 (e.all_synced h) i.size i.side i.slot_is i.other_is),
     )

@@ -1,6 +1,9 @@
+use Rattle.std.proofs.Common.{◌≡◌}
+use Rattle.fp_slots.specs.declared.slots.Step.TheVariants.{SyncBody, SyncOpen}
 use Rattle.fp_compaction.proofs.Stepping as steps
 use Rattle.fp_compaction.proofs.steps.seal.Goals as goal
 
-pub returns-clause-taken : goal.returns-clause-taken
-returns-clause-taken g c =
-    let w = c.sync_parts.ensures in steps.early_step g.D.Disk c.args.slots.now c.sync_parts.new.self c.requires.step w.kept w.called
+pub returns : goal.returns
+returns g c =
+    let w = c.sync_parts.ensures in let new = c.sync_parts.new.self in
+    steps.early_on g.D.Disk c.args.slots.now new c.sync_parts.result c.requires.step (λ (e : SyncBody ≡ SyncOpen). absurd (cc e)) w.kept w.called w.step (steps.unmoved c.args.slots.now new c.sync_parts.result w.left)

@@ -1,9 +1,7 @@
-use Rattle.std.proofs.Common.{rules, ◌≡◌, ◌≢◌, refl, ap, sym, ◌∙◌, inl, inr}
-use Rattle.fp_disk.specs.Moments.{leaves_map}
+use Rattle.std.proofs.Common.{rules, ◌≡◌, ◌∙◌, inl, inr}
 use Rattle.fp_journal.specs.declared.journal.Phase.TheVariants.{Idle, BodySynced, GateOpened, Failed}
-use Rattle.fp_group_commit.specs.Store.{StoreState}
 use Rattle.fp_group_commit.proofs.Steps as steps
-use Rattle.fp_group_commit.proofs.BatchSteps as batch_steps
+use Rattle.fp_group_commit.proofs.BatchSteps as calls
 use Rattle.fp_group_commit.proofs.store.Store.open_gate.Goals as goal
 
 pub returns-in-Failed-clause-disk : goal.returns-in-Failed-clause-disk
@@ -11,85 +9,39 @@ returns-in-Failed-clause-disk g c = rw (← c.self.view_is) (steps.calls_none g.
 
 pub open_gate-requires : goal.open_gate-requires
 open_gate-requires g c =
-    let D = g.D.Disk in let m = g.met.D.Disk in let s = c.self.inside in let t = s.slots in let i = c.self.invariant in
-    let at : s.step ≡ BodySynced = ap (λ (k : StoreState g.row.D.Denot). k.step) c.self.view_is ∙ c.requires in
-    let well : t.journal.phase ≢ Failed = λ e. c.in_default.not-Failed (c.phase.ensures.phase ∙ e) in
-    let is : t.journal.phase ≡ BodySynced = steps.goes t.journal.phase s.step well i.going ∙ at in
-    let f = steps.not_idle s.step BodySynced _ _ at (λ (e : BodySynced ≡ Idle). absurd (cc e)) i.flight in
-    record { early = f.early; synced = is }
+    let b = calls.on_way g.D.Disk c.self.invariant c.self.view_is c.requires (λ (e : BodySynced ≡ Idle). absurd (cc e)) (λ e. c.in_default.not-Failed (c.phase.ensures.phase ∙ e)) in
+    record { early = b.flight.early; synced = b.is }
 
 pub invariant_of-self : goal.invariant_of-self
 invariant_of-self g c =
-    let D = g.D.Disk in let m = g.met.D.Disk in let s = c.self.inside in let t = s.slots in let i = c.self.invariant in
-    let at : s.step ≡ BodySynced = ap (λ (k : StoreState g.row.D.Denot). k.step) c.self.view_is ∙ c.requires in
-    let well : t.journal.phase ≢ Failed = λ e. c.in_default.not-Failed (c.phase.ensures.phase ∙ e) in
-    let is : t.journal.phase ≡ BodySynced = steps.goes t.journal.phase s.step well i.going ∙ at in
-    let f = steps.not_idle s.step BodySynced _ _ at (λ (e : BodySynced ≡ Idle). absurd (cc e)) i.flight in
-    let t1 = c.open_gate.new.slots in let w = c.open_gate.ensures in
-    batch_steps.sound_moved D.honest D.unsynced i s.step t1 (steps.beside_of t t1 w.moves.same) w.moves.sealed (steps.kept_on D i t1 w.moves.kept w.moves.call.honest.1) f f.on_way w.staged w.moves.same.8 (inr c.in_default-open_gate.ensures.moves.phase.1)
+    let b = calls.on_way g.D.Disk c.self.invariant c.self.view_is c.requires (λ (e : BodySynced ≡ Idle). absurd (cc e)) (λ e. c.in_default.not-Failed (c.phase.ensures.phase ∙ e)) in
+    let w = c.open_gate.ensures in
+    calls.sound_on g.D.Disk c.self.invariant c.open_gate.new.slots w.moves b.flight w.staged c.self.inside.step b.flight.on_way (inr c.in_default-open_gate.ensures.moves.phase.1)
 
 pub returns-in_default-open_gate : goal.returns-in_default-open_gate
 returns-in_default-open_gate g c =
-    let D = g.D.Disk in let m = g.met.D.Disk in let s = c.self.inside in let t = s.slots in let i = c.self.invariant in
-    let at : s.step ≡ BodySynced = ap (λ (k : StoreState g.row.D.Denot). k.step) c.self.view_is ∙ c.requires in
-    let well : t.journal.phase ≢ Failed = λ e. c.in_default.not-Failed (c.phase.ensures.phase ∙ e) in
-    let is : t.journal.phase ≡ BodySynced = steps.goes t.journal.phase s.step well i.going ∙ at in
-    let f = steps.not_idle s.step BodySynced _ _ at (λ (e : BodySynced ≡ Idle). absurd (cc e)) i.flight in
-    let t1 = c.open_gate.new.slots in let w = c.open_gate.ensures in
-    let leaves = steps.next_leaves D i t1 f w.stands in
-    let off : s.step ≢ Idle = λ e. (let other : BodySynced ≡ Idle = sym at ∙ e in absurd (cc other)) in
-    let begun = steps.begun_opened t1.journal.phase t1.journal.begun (inr (c.in_default-open_gate.ensures.moves.phase.1, w.moves.begun)) in
+    let b = calls.on_way g.D.Disk c.self.invariant c.self.view_is c.requires (λ (e : BodySynced ≡ Idle). absurd (cc e)) (λ e. c.in_default.not-Failed (c.phase.ensures.phase ∙ e)) in
+    let D = g.D.Disk in let m = g.met.D.Disk in let i = c.self.invariant in let t = c.open_gate.new.slots in let w = c.open_gate.ensures in let failed = c.in_default-open_gate.ensures.moves.phase.1 in
+    let begun = steps.begun_opened t.journal.phase t.journal.begun (inr (failed, w.moves.begun)) in
     rw (← c.self.view_is) (record {
-      moves = record {
-        same = (refl, refl, refl);
-        ok = tt;
-        phase = refl;
-        fault = batch_steps.moved_breaks D.honest D.unsynced i s.step t1 (steps.beside_of t t1 w.moves.same) w.moves.sealed D.faults well c.in_default-open_gate.ensures.moves.phase.1 (search rules) refl;
-        same_room = batch_steps.moved_room D.honest D.unsynced i s.step t1 (steps.beside_of t t1 w.moves.same) w.moves.sealed;
-      };
+      moves = calls.breaks_off D i t w.moves b.well failed (search rules);
       begun = (tt, λ is. begun);
-      disk = record {
-        called = inr w.moves.call.called;
-        any_moment = λ h. leaves_map D.moment D.crash_states_since t.journal.disk t1.journal.disk _ _ (steps.open_leaves (batch_steps.Moved D.honest D.unsynced i s.step t1) off begun) (leaves h);
-        exit = steps.exit_has D m.counts_now t.journal.disk t1.journal.disk _ _ (steps.open_leaves (batch_steps.Moved D.honest D.unsynced i s.step t1) off begun) w.moves.call.honest.1 leaves;
-        honest = w.moves.call.honest;
-      };
+      disk = calls.calls_opening D i m.counts_now t w.moves.call c.self.inside.step _ b.flight w.stands b.off begun;
     })
 
 pub invariant_of-self-2 : goal.invariant_of-self-2
 invariant_of-self-2 g c =
-    let D = g.D.Disk in let m = g.met.D.Disk in let s = c.self.inside in let t = s.slots in let i = c.self.invariant in
-    let at : s.step ≡ BodySynced = ap (λ (k : StoreState g.row.D.Denot). k.step) c.self.view_is ∙ c.requires in
-    let well : t.journal.phase ≢ Failed = λ e. c.in_default.not-Failed (c.phase.ensures.phase ∙ e) in
-    let is : t.journal.phase ≡ BodySynced = steps.goes t.journal.phase s.step well i.going ∙ at in
-    let f = steps.not_idle s.step BodySynced _ _ at (λ (e : BodySynced ≡ Idle). absurd (cc e)) i.flight in
-    let t1 = c.open_gate.new.slots in let w = c.open_gate.ensures in
-    batch_steps.sound_moved D.honest D.unsynced i GateOpened t1 (steps.beside_of t t1 w.moves.same) w.moves.sealed (steps.kept_on D i t1 w.moves.kept w.moves.call.honest.1) f tt w.staged w.moves.same.8 (inl c.in-Ok.ensures.moves.phase.0)
+    let b = calls.on_way g.D.Disk c.self.invariant c.self.view_is c.requires (λ (e : BodySynced ≡ Idle). absurd (cc e)) (λ e. c.in_default.not-Failed (c.phase.ensures.phase ∙ e)) in
+    let w = c.open_gate.ensures in
+    calls.sound_on g.D.Disk c.self.invariant c.open_gate.new.slots w.moves b.flight w.staged GateOpened tt (inl c.in-Ok.ensures.moves.phase.0)
 
 pub returns : goal.returns
 returns g c =
-    let D = g.D.Disk in let m = g.met.D.Disk in let s = c.self.inside in let t = s.slots in let i = c.self.invariant in
-    let at : s.step ≡ BodySynced = ap (λ (k : StoreState g.row.D.Denot). k.step) c.self.view_is ∙ c.requires in
-    let well : t.journal.phase ≢ Failed = λ e. c.in_default.not-Failed (c.phase.ensures.phase ∙ e) in
-    let is : t.journal.phase ≡ BodySynced = steps.goes t.journal.phase s.step well i.going ∙ at in
-    let f = steps.not_idle s.step BodySynced _ _ at (λ (e : BodySynced ≡ Idle). absurd (cc e)) i.flight in
-    let t1 = c.open_gate.new.slots in let w = c.open_gate.ensures in
-    let leaves = steps.next_leaves D i t1 f w.stands in
-    let off : GateOpened ≡ Idle → ⊥ = λ e. absurd (cc e) in
-    let begun = steps.begun_opened t1.journal.phase t1.journal.begun (inl c.in-Ok.ensures.moves.phase.0) in
+    let b = calls.on_way g.D.Disk c.self.invariant c.self.view_is c.requires (λ (e : BodySynced ≡ Idle). absurd (cc e)) (λ e. c.in_default.not-Failed (c.phase.ensures.phase ∙ e)) in
+    let D = g.D.Disk in let m = g.met.D.Disk in let i = c.self.invariant in let t = c.open_gate.new.slots in let w = c.open_gate.ensures in let done = c.in-Ok.ensures.moves.phase.0 in
+    let begun = steps.begun_opened t.journal.phase t.journal.begun (inl done) in
     rw (← c.self.view_is) (record {
-      moves = record {
-        same = (refl, refl, refl);
-        ok = record { step = refl; well_before = well; well_now = λ e. (let both : GateOpened ≡ Failed = sym c.in-Ok.ensures.moves.phase.0 ∙ e in absurd (cc both)); no_failure = search rules };
-        phase = tt;
-        fault = tt;
-        same_room = batch_steps.moved_room D.honest D.unsynced i GateOpened t1 (steps.beside_of t t1 w.moves.same) w.moves.sealed;
-      };
+      moves = calls.moves_on D i t w.moves b.well (λ (e : GateOpened ≡ Failed). absurd (cc e)) done (search rules);
       begun = (begun, tt);
-      disk = record {
-        called = w.moves.call.called;
-        any_moment = λ h. leaves_map D.moment D.crash_states_since t.journal.disk t1.journal.disk _ _ (steps.open_leaves (batch_steps.Moved D.honest D.unsynced i GateOpened t1) off begun) (leaves h);
-        exit = steps.exit_has D m.counts_now t.journal.disk t1.journal.disk _ _ (steps.open_leaves (batch_steps.Moved D.honest D.unsynced i GateOpened t1) off begun) w.moves.call.honest.1 leaves;
-        honest = w.moves.call.honest;
-      };
+      disk = calls.calls_opening D i m.counts_now t w.moves.call GateOpened _ b.flight w.stands (λ (e : GateOpened ≡ Idle). absurd (cc e)) begun;
     })

@@ -1,9 +1,7 @@
-use Rattle.std.proofs.Common.{rules, ◌≡◌, ◌≢◌, refl, ap, sym, ◌∙◌, inl, inr}
-use Rattle.fp_disk.specs.Moments.{leaves_map}
+use Rattle.std.proofs.Common.{rules, ◌≡◌, ◌∙◌, inl, inr}
 use Rattle.fp_journal.specs.declared.journal.Phase.TheVariants.{Idle, Staged, BodySynced, GateOpened, Failed}
-use Rattle.fp_group_commit.specs.Store.{StoreState}
 use Rattle.fp_group_commit.proofs.Steps as steps
-use Rattle.fp_group_commit.proofs.BatchSteps as batch_steps
+use Rattle.fp_group_commit.proofs.BatchSteps as calls
 use Rattle.fp_group_commit.proofs.store.Store.sync_body.Goals as goal
 
 pub returns-in-Failed-clause-disk : goal.returns-in-Failed-clause-disk
@@ -11,81 +9,37 @@ returns-in-Failed-clause-disk g c = rw (← c.self.view_is) (steps.calls_none g.
 
 pub sync_body-requires : goal.sync_body-requires
 sync_body-requires g c =
-    let D = g.D.Disk in let m = g.met.D.Disk in let s = c.self.inside in let t = s.slots in let i = c.self.invariant in
-    let at : s.step ≡ Staged = ap (λ (k : StoreState g.row.D.Denot). k.step) c.self.view_is ∙ c.requires in
-    let well : t.journal.phase ≢ Failed = λ e. c.in_default.not-Failed (c.phase.ensures.phase ∙ e) in
-    let is : t.journal.phase ≡ Staged = steps.goes t.journal.phase s.step well i.going ∙ at in
-    let f = steps.not_idle s.step Staged _ _ at (λ (e : Staged ≡ Idle). absurd (cc e)) i.flight in
-    record { early = f.early; staged = is }
+    let b = calls.on_way g.D.Disk c.self.invariant c.self.view_is c.requires (λ (e : Staged ≡ Idle). absurd (cc e)) (λ e. c.in_default.not-Failed (c.phase.ensures.phase ∙ e)) in
+    record { early = b.flight.early; staged = b.is }
 
 pub invariant_of-self : goal.invariant_of-self
 invariant_of-self g c =
-    let D = g.D.Disk in let m = g.met.D.Disk in let s = c.self.inside in let t = s.slots in let i = c.self.invariant in
-    let at : s.step ≡ Staged = ap (λ (k : StoreState g.row.D.Denot). k.step) c.self.view_is ∙ c.requires in
-    let well : t.journal.phase ≢ Failed = λ e. c.in_default.not-Failed (c.phase.ensures.phase ∙ e) in
-    let is : t.journal.phase ≡ Staged = steps.goes t.journal.phase s.step well i.going ∙ at in
-    let f = steps.not_idle s.step Staged _ _ at (λ (e : Staged ≡ Idle). absurd (cc e)) i.flight in
-    let t1 = c.sync_body.new.slots in let w = c.sync_body.ensures in
-    batch_steps.sound_moved D.honest D.unsynced i s.step t1 (steps.beside_of t t1 w.moves.same) w.moves.sealed (steps.kept_on D i t1 w.moves.kept w.moves.call.honest.1) f f.on_way w.staged w.moves.same.8 (inr c.in_default-sync_body.ensures.moves.phase.1)
+    let b = calls.on_way g.D.Disk c.self.invariant c.self.view_is c.requires (λ (e : Staged ≡ Idle). absurd (cc e)) (λ e. c.in_default.not-Failed (c.phase.ensures.phase ∙ e)) in
+    let w = c.sync_body.ensures in
+    calls.sound_on g.D.Disk c.self.invariant c.sync_body.new.slots w.moves b.flight w.staged c.self.inside.step b.flight.on_way (inr c.in_default-sync_body.ensures.moves.phase.1)
 
 pub returns-in_default-sync_body : goal.returns-in_default-sync_body
 returns-in_default-sync_body g c =
-    let D = g.D.Disk in let m = g.met.D.Disk in let s = c.self.inside in let t = s.slots in let i = c.self.invariant in
-    let at : s.step ≡ Staged = ap (λ (k : StoreState g.row.D.Denot). k.step) c.self.view_is ∙ c.requires in
-    let well : t.journal.phase ≢ Failed = λ e. c.in_default.not-Failed (c.phase.ensures.phase ∙ e) in
-    let is : t.journal.phase ≡ Staged = steps.goes t.journal.phase s.step well i.going ∙ at in
-    let f = steps.not_idle s.step Staged _ _ at (λ (e : Staged ≡ Idle). absurd (cc e)) i.flight in
-    let t1 = c.sync_body.new.slots in let w = c.sync_body.ensures in
-    let leaves = steps.sealed_leaves D i t1 w.stands in
+    let b = calls.on_way g.D.Disk c.self.invariant c.self.view_is c.requires (λ (e : Staged ≡ Idle). absurd (cc e)) (λ e. c.in_default.not-Failed (c.phase.ensures.phase ∙ e)) in
+    let D = g.D.Disk in let m = g.met.D.Disk in let i = c.self.invariant in let t = c.sync_body.new.slots in let w = c.sync_body.ensures in let failed = c.in_default-sync_body.ensures.moves.phase.1 in
     rw (← c.self.view_is) (record {
-      moves = record {
-        same = (refl, refl, refl);
-        ok = tt;
-        phase = refl;
-        fault = batch_steps.moved_breaks D.honest D.unsynced i s.step t1 (steps.beside_of t t1 w.moves.same) w.moves.sealed D.faults well c.in_default-sync_body.ensures.moves.phase.1 (search rules) refl;
-        same_room = batch_steps.moved_room D.honest D.unsynced i s.step t1 (steps.beside_of t t1 w.moves.same) w.moves.sealed;
-      };
-      begun = λ before. steps.begun_shut t1.journal.phase Staged t1.journal.begun (λ (e : Staged ≡ GateOpened). absurd (cc e)) w.moves.begun (inr c.in_default-sync_body.ensures.moves.phase.1);
-      disk = record {
-        called = inr w.moves.call.called;
-        any_moment = λ h. leaves_map D.moment D.crash_states_since t.journal.disk t1.journal.disk _ _ (λ o stands. inl stands) (leaves h);
-        exit = steps.exit_has D m.counts_now t.journal.disk t1.journal.disk _ _ (λ o stands. inl stands) w.moves.call.honest.1 leaves;
-        honest = w.moves.call.honest;
-      };
+      moves = calls.breaks_off D i t w.moves b.well failed (search rules);
+      begun = λ before. steps.begun_shut t.journal.phase Staged t.journal.begun (λ (e : Staged ≡ GateOpened). absurd (cc e)) w.moves.begun (inr failed);
+      disk = calls.calls_sealed D i m.counts_now t w.moves.call c.self.inside.step _ w.stands;
     })
 
 pub invariant_of-self-2 : goal.invariant_of-self-2
 invariant_of-self-2 g c =
-    let D = g.D.Disk in let m = g.met.D.Disk in let s = c.self.inside in let t = s.slots in let i = c.self.invariant in
-    let at : s.step ≡ Staged = ap (λ (k : StoreState g.row.D.Denot). k.step) c.self.view_is ∙ c.requires in
-    let well : t.journal.phase ≢ Failed = λ e. c.in_default.not-Failed (c.phase.ensures.phase ∙ e) in
-    let is : t.journal.phase ≡ Staged = steps.goes t.journal.phase s.step well i.going ∙ at in
-    let f = steps.not_idle s.step Staged _ _ at (λ (e : Staged ≡ Idle). absurd (cc e)) i.flight in
-    let t1 = c.sync_body.new.slots in let w = c.sync_body.ensures in
-    batch_steps.sound_moved D.honest D.unsynced i BodySynced t1 (steps.beside_of t t1 w.moves.same) w.moves.sealed (steps.kept_on D i t1 w.moves.kept w.moves.call.honest.1) f tt w.staged w.moves.same.8 (inl c.in-Ok.ensures.moves.phase.0)
+    let b = calls.on_way g.D.Disk c.self.invariant c.self.view_is c.requires (λ (e : Staged ≡ Idle). absurd (cc e)) (λ e. c.in_default.not-Failed (c.phase.ensures.phase ∙ e)) in
+    let w = c.sync_body.ensures in
+    calls.sound_on g.D.Disk c.self.invariant c.sync_body.new.slots w.moves b.flight w.staged BodySynced tt (inl c.in-Ok.ensures.moves.phase.0)
 
 pub returns : goal.returns
 returns g c =
-    let D = g.D.Disk in let m = g.met.D.Disk in let s = c.self.inside in let t = s.slots in let i = c.self.invariant in
-    let at : s.step ≡ Staged = ap (λ (k : StoreState g.row.D.Denot). k.step) c.self.view_is ∙ c.requires in
-    let well : t.journal.phase ≢ Failed = λ e. c.in_default.not-Failed (c.phase.ensures.phase ∙ e) in
-    let is : t.journal.phase ≡ Staged = steps.goes t.journal.phase s.step well i.going ∙ at in
-    let f = steps.not_idle s.step Staged _ _ at (λ (e : Staged ≡ Idle). absurd (cc e)) i.flight in
-    let t1 = c.sync_body.new.slots in let w = c.sync_body.ensures in
-    let leaves = steps.sealed_leaves D i t1 w.stands in
+    let b = calls.on_way g.D.Disk c.self.invariant c.self.view_is c.requires (λ (e : Staged ≡ Idle). absurd (cc e)) (λ e. c.in_default.not-Failed (c.phase.ensures.phase ∙ e)) in
+    let D = g.D.Disk in let m = g.met.D.Disk in let i = c.self.invariant in let t = c.sync_body.new.slots in let w = c.sync_body.ensures in let done = c.in-Ok.ensures.moves.phase.0 in
     rw (← c.self.view_is) (record {
-      moves = record {
-        same = (refl, refl, refl);
-        ok = record { step = refl; well_before = well; well_now = λ e. (let both : BodySynced ≡ Failed = sym c.in-Ok.ensures.moves.phase.0 ∙ e in absurd (cc both)); no_failure = search rules };
-        phase = tt;
-        fault = tt;
-        same_room = batch_steps.moved_room D.honest D.unsynced i BodySynced t1 (steps.beside_of t t1 w.moves.same) w.moves.sealed;
-      };
-      begun = λ before. steps.begun_shut t1.journal.phase BodySynced t1.journal.begun (λ (e : BodySynced ≡ GateOpened). absurd (cc e)) w.moves.begun (inl c.in-Ok.ensures.moves.phase.0);
-      disk = record {
-        called = w.moves.call.called;
-        any_moment = λ h. leaves_map D.moment D.crash_states_since t.journal.disk t1.journal.disk _ _ (λ o stands. inl stands) (leaves h);
-        exit = steps.exit_has D m.counts_now t.journal.disk t1.journal.disk _ _ (λ o stands. inl stands) w.moves.call.honest.1 leaves;
-        honest = w.moves.call.honest;
-      };
+      moves = calls.moves_on D i t w.moves b.well (λ (e : BodySynced ≡ Failed). absurd (cc e)) done (search rules);
+      begun = λ before. steps.begun_shut t.journal.phase BodySynced t.journal.begun (λ (e : BodySynced ≡ GateOpened). absurd (cc e)) w.moves.begun (inl done);
+      disk = calls.calls_sealed D i m.counts_now t w.moves.call BodySynced _ w.stands;
     })
