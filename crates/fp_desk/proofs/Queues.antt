@@ -22,10 +22,6 @@ same_at (a ∷ xs) [] i x y lt p q e = absurd (cc e)
 same_at (a ∷ xs) (b ∷ ys) zero x y lt p q e = let here : change_of a ≡ change_of b = cc e in ap change_of p ∙ here ∙ sym (ap change_of q)
 same_at (a ∷ xs) (b ∷ ys) (suc i) x y lt p q e = same_at xs ys i x y (omega (arith, lt)) p q (cc e)
 
-pub same_more : (xs ys : List Edit) (i : ℕ) (x y : Edit) → i < length xs → i < length ys → x ≡ get_or xs i x → y ≡ get_or ys i y → changes_of (take i xs) ≡ changes_of (take i ys) → change_of x ≡ change_of y → changes_of (take (i + 1) xs) ≡ changes_of (take (i + 1) ys)
-same_more xs ys i x y lt lt' p q e one =
-    taken_more xs i x lt p ∙ ap (λ (l : List Change). l ++ change_of x ∷ []) e ∙ ap (λ (c : Change). changes_of (take i ys) ++ c ∷ []) one ∙ sym (taken_more ys i y lt' q)
-
 pub nil_of : (xs : List Edit) → length xs ≡ 0 → changes_of xs ≡ []
 nil_of [] h = refl
 nil_of (x ∷ xs) h = absurd (omega (arith, h))
@@ -122,6 +118,3 @@ pub copied_more : (xs copies more : List Edit) (i : ℕ) (x y : Edit) → more �
 copied_more xs copies more i x y pushed before copy lt is =
     ap changes_of pushed ∙ map-append change_of copies (y ∷ []) ∙ ap (λ (l : List Change). l ++ change_of y ∷ []) before
     ∙ ap (λ (p : Proposal). changes_of (take i xs) ++ p.change ∷ []) copy ∙ sym (taken_more xs i x lt is)
-
-pub within : (i n m : ℕ) → i < n → n ≤ m → i < m
-within i n m lt le = omega (arith, lt, le)

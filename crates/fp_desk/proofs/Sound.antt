@@ -16,11 +16,7 @@ use Rattle.fp_desk.specs.Desk.{DeskState, IsSound, head, log, settled_set, settl
 
 pub with_settled : (waiting : List Change) (stopped : Bool) (s t : Identity) (xs ys ds es last now : List Change) → s ≡ t → xs ≡ ys → ds ≡ es → last ≡ now
     → ◌≡◌ {A = DeskState} (record { store = s; settled = xs; drawn = ds; waiting = waiting; stopped = stopped; last = last }) (record { store = t; settled = ys; drawn = es; waiting = waiting; stopped = stopped; last = now })
-with_settled waiting stopped s t xs ys ds es last now store settled drawn came =
-    ap (λ (x : Identity). record { store = x; settled = xs; drawn = ds; waiting = waiting; stopped = stopped; last = last }) store
-    ∙ ap (λ (l : List Change). record { store = t; settled = l; drawn = ds; waiting = waiting; stopped = stopped; last = last }) settled
-    ∙ ap (λ (l : List Change). record { store = t; settled = ys; drawn = l; waiting = waiting; stopped = stopped; last = last }) drawn
-    ∙ ap (λ (l : List Change). record { store = t; settled = ys; drawn = es; waiting = waiting; stopped = stopped; last = l }) came
+with_settled waiting stopped s t xs ys ds es last now store settled drawn came = cc
 
 module _ (d : DeskState) (h base : State) (lag : List Change) (i : IsSound d h base lag) where
   -- the numbers

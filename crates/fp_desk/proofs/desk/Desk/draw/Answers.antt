@@ -42,15 +42,6 @@ module _ (c : goal.After-longest_body) where
 pub first_part-n-requires : goal.first_part-n-requires
 first_part-n-requires c = some_wait c
 
-pub copies_of_front-requires : goal.copies_of_front-requires
-copies_of_front-requires c = c.first_part-n.ensures.within
-
-pub move_front-requires-clause-there : goal.move_front-requires-clause-there
-move_front-requires-clause-there c = c.first_part-n.ensures.within
-
-pub move_front-requires-clause-room : goal.move_front-requires-clause-room
-move_front-requires-clause-room c = c.in_ok-try_reserve.ensures.ok
-
 module _ (c : goal.After-try_reserve) where
   sound : IsSound (record { store = c.self.inside.settled.store; settled = c.self.inside.settled.edits; drawn = changes_of c.try_reserve.new.self.items; waiting = changes_of c.self.inside.waiting.items; stopped = c.self.inside.stopped; last = c.self.inside.settled.last })
       c.self.inside.head c.self.inside.base (changes_of c.self.inside.lag.items)

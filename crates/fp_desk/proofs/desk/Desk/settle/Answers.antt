@@ -27,14 +27,8 @@ module _ (c : goal.After-catch_up) where
 pub returns-then-is_err-clause-refused : goal.returns-then-is_err-clause-refused
 returns-then-is_err-clause-refused c = drawn (goal.at.returns-then-is_err-clause-refused c).After-catch_up
 
-pub returns-then-is_err-clause-unchanged : goal.returns-then-is_err-clause-unchanged
-returns-then-is_err-clause-unchanged c = c.self.view_is
-
 pub invariant_of-self : goal.invariant_of-self
 invariant_of-self c = behind _ _ _ _ c.self.invariant _ _ c.catch_up.ensures.same c.catch_up.ensures.follows
-
-pub catch_up-requires : goal.catch_up-requires
-catch_up-requires c = c.self.invariant.lag_follows
 
 pub advance-requires-clause-store : goal.advance-requires-clause-store
 advance-requires-clause-store c = c.requires ∙ ap (λ (d : DeskState). d.store) (sym c.self.view_is)
@@ -66,6 +60,3 @@ returns-clause-settled c =
     let caught = none (goal.at.returns-clause-settled c).Else-is_err in let batch = same (goal.at.returns-clause-settled c).After-catch_up in
     subst (λ (d : DeskState). ◌≡◌ {A = DeskState} (record { store = c.advance.new.self.store; settled = c.advance.new.self.edits; drawn = changes_of c.swap.new.y.items; waiting = changes_of c.self.inside.waiting.items; stopped = c.self.inside.stopped; last = c.advance.new.self.last }) (record { store = d.store; settled = d.settled ++ d.drawn; drawn = []; waiting = d.waiting; stopped = d.stopped; last = d.drawn })) c.self.view_is
     (with_settled (changes_of c.self.inside.waiting.items) c.self.inside.stopped _ _ _ _ _ _ _ _ c.advance.ensures.store (c.advance.ensures.edits ∙ ap (λ (l : List Change). c.self.inside.settled.edits ++ l) (sym batch)) (rw c.swap.ensures.y_after caught) (c.advance.ensures.last ∙ sym batch))
-
-pub returns-clause-all : goal.returns-clause-all
-returns-clause-all c = c.advance.ensures.all
