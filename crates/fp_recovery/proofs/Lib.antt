@@ -12,3 +12,4 @@ pub mod Refused
 pub mod OneFault
 pub mod FaultPlaces
 pub mod Recovered
+pub mod Decided
