@@ -1,5 +1,5 @@
 -- Each list of bytes stands for a set, or has a fault: read forward, each test is met or fails.
-use Rattle.std.proofs.Common.{◌≡◌, ◌⊎◌, ◌<◌, ◌≤◌, ◌+◌, ◌-◌, ◌/◌, ◌^◌, ℕ, zero, suc, min, Bool, true, false, List, [], ◌∷◌, length, get_or, Result, Ok, Err, refl, sym, ap, subst, ◌∙◌, inl, inr, arith}
+use Rattle.std.proofs.Common.{◌≡◌, ◌⊎◌, ◌<◌, ◌≤◌, ◌+◌, ◌/◌, ◌^◌, ℕ, zero, suc, min, true, false, List, [], ◌∷◌, length, get_or, Ok, Err, refl, sym, subst, ◌∙◌, inl, inr, arith}
 use Rattle.std.specs.Prelude.{slice_index, slice_range}
 use Rattle.std.specs.Int.{Width, byte_len, w32, w64, from_be_bytes, to_be_bytes, is_power_of_two}
 use Rattle.std.specs.FinMap as fin
@@ -9,7 +9,6 @@ use Rattle.fp_base.specs.Bytes.{bytes_cmp}
 use Rattle.fp_edit.specs.Flags.{State}
 use Rattle.fp_edit.specs.declared.flags.Flag.{Flag}
 use Rattle.fp_gate.specs.declared.gate.TheConstants.{OPEN}
-use Rattle.fp_journal.specs.Chain.{with_length}
 use Rattle.fp_journal.specs.Holds.{Holds}
 use Rattle.fp_journal.specs.Reading.{FoundChain, IsChain, IsNext, StopsAt, no_gate, no_length, too_long, no_body, length_at}
 use Rattle.fp_journal.specs.declared.slot.Slot.{Slot}
@@ -24,7 +23,7 @@ use Rattle.fp_layout.specs.declared.fault.OpenFault.{OpenFault}
 use Rattle.fp_layout.specs.declared.fault.OpenFault.TheVariants.{Damaged, Unformatted, UnknownVersion}
 use Rattle.fp_layout.proofs.Numbers.{number32_one, number64_one}
 use Rattle.fp_record.proofs.Places.{IsBytes, IsWide, wide32, wide64}
-use Rattle.fp_slots.specs.Rules.{Rules, RulesNeither, cut, equal, none_open}
+use Rattle.fp_slots.specs.Rules.{Rules, cut, equal, none_open}
 use Rattle.fp_recovery.specs.Exact.{IsOfBytes}
 use Rattle.fp_recovery.specs.Reading.{batch_onto, image_under}
 use Rattle.fp_recovery.specs.Refusals.{BeginsWith, RefusesBatch, RefusesBytes, RejectsImage, nothing_read}

@@ -1,5 +1,5 @@
 -- What was read of a disk is what it stands for.
-use Rattle.std.proofs.Common.{◌≡◌, ◌⊎◌, ◌≤◌, ◌+◌, ◌-◌, ◌/◌, ℕ, List, [], ◌∷◌, ◌++◌, length, refl, sym, ap, subst, ◌∙◌, inl, inr, ⊎_elim, arith, append_assoc, length-append, lit<, lit≤}
+use Rattle.std.proofs.Common.{◌≡◌, ◌≤◌, ◌+◌, ◌/◌, ℕ, List, [], ◌∷◌, length, refl, sym, ap, subst, ◌∙◌, inl, inr, ⊎_elim, arith, length-append, lit<, lit≤}
 use Rattle.std.specs.Prelude.{slice_index, slice_range}
 use Rattle.std.proofs.lemmas.List.{append-nil}
 use Rattle.std.specs.FinMap as fin
@@ -8,34 +8,24 @@ use Rattle.fp_disk.specs.Moments.{leaves_map}
 use Rattle.fp_disk.specs.Outcomes.{PendingState, IsOutcome, LeavesOnly, all_synced}
 use Rattle.fp_disk.specs.declared.disk.Disk.{Ghosts}
 use Rattle.fp_edit.specs.Flags.{State}
-use Rattle.std.specs.Int.{w32, w64, to_be_bytes}
-use Rattle.fp_gate.specs.declared.gate.TheConstants.{OPEN}
-use Rattle.fp_journal.specs.Holds.{Holds, IsSynced}
-use Rattle.fp_journal.specs.Chain.{with_length, spell}
+use Rattle.fp_journal.specs.Holds.{Holds}
 use Rattle.fp_journal.specs.Reading.{IsChain}
-use Rattle.fp_journal.specs.State.{HasChain, HasChainOrNext, JournalState, Outside}
 use Rattle.fp_journal.specs.declared.slot.Slot.{Slot}
-use Rattle.fp_journal.proofs.Gates.{text-more}
-use Rattle.fp_journal.proofs.Holds.{holds_front, holds_byte, held_range, range_held, firm_outcome, firm_settled}
+use Rattle.fp_journal.proofs.Holds.{holds_front, holds_byte, range_held}
 use Rattle.fp_layout.specs.Size.{IsSlotSize, Side, first, second, other_side, slot_of, first_slot, second_slot}
 use Rattle.fp_layout.specs.Layout.{IsHeader, IsHead, IsActive}
 use Rattle.fp_layout.specs.NewDisk.{IsNewDisk, IsNewOrNone, new_front, empty_image}
 use Rattle.fp_layout.specs.Opening.{FoundDisk}
 use Rattle.fp_layout.proofs.Settled.{settled_one}
 use Rattle.fp_layout.proofs.Making.{new_header, new_active, new_head}
-use Rattle.fp_layout.proofs.Numbers.{number64_one}
-use Rattle.fp_slots.specs.Rules.{Rules, RulesWith}
-use Rattle.fp_slots.specs.State.{IsFrontOf}
-use Rattle.fp_slots.specs.declared.places.TheConstants.{VERSION}
-use Rattle.fp_slots.proofs.Ruling.{rules_shut, rules_older}
+use Rattle.fp_slots.specs.Rules.{RulesWith}
 use Rattle.fp_record.specs.WellFormed.{IsImage}
 use Rattle.fp_record.specs.Encoding.{encoding_of_image}
-use Rattle.fp_recovery.specs.Stands.{IsImageOf, TakesBatch, Spells, StandsFor, gate_of}
+use Rattle.fp_recovery.specs.Stands.{IsImageOf, TakesBatch, StandsFor, gate_of}
 use Rattle.fp_recovery.specs.Refusals.{BeginsWith}
 use Rattle.fp_recovery.specs.Durable.{IsNewSetOrNone, IsDurable}
 use Rattle.fp_recovery.proofs.Restored.{image_of, entries-empty}
-use Rattle.fp_recovery.proofs.Agreed.{agrees_range, header_agreed}
-use Rattle.fp_recovery.proofs.Texts.{IsReadFrom, most_of, read_ends, read_spells, read_stands, spells_on, text_long, text_read}
+use Rattle.fp_recovery.proofs.Texts.{IsReadFrom, read_ends, read_stands, text_long, text_read}
 
 -- a disk whose slot tells a text is as long as a header wants it
 pub side_long : (size : ℕ) (side : Side) (text c : List ℕ) → RulesWith (slot_of size side) (slot_of size (other_side side)) text c → 65 + size ≤ length c

@@ -1,15 +1,14 @@
 -- A disk that is refused shows one fault, at one place within it.
-use Rattle.std.proofs.Common.{◌≡◌, ◌⊎◌, ◌<◌, ◌≤◌, ◌+◌, ◌/◌, ◌^◌, ℕ, List, [], ◌∷◌, length, Result, Err, refl, sym, ap, subst, ◌∙◌, inl, inr, arith, length-append, add-zero}
+use Rattle.std.proofs.Common.{◌≡◌, ◌+◌, ◌/◌, ℕ, List, Result, Err, refl, sym, ap, subst, ◌∙◌, inl, inr, arith}
 use Rattle.std.specs.Prelude.{slice_index}
-use Rattle.std.specs.FinMap as fin
 use Rattle.std.proofs.lemmas.Bool.{cases_lt}
 use Rattle.fp_edit.specs.Flags.{State}
 use Rattle.fp_journal.specs.declared.slot.Slot.{Slot}
 use Rattle.fp_layout.proofs.Numbers.{number64_one}
 use Rattle.fp_layout.specs.Faults.{BreaksHeader, bad_size, not_zero, too_short, BreaksHead, no_generation, no_version, no_base, no_image}
 use Rattle.fp_layout.specs.Faults as faults
-use Rattle.fp_layout.specs.Layout.{IsFormatted, IsHeader, IsHead, IsActive, IsFirstOther}
-use Rattle.fp_layout.specs.Opening.{FoundFront, BreaksFront, in_header, in_slots, in_head, in_image, BreaksDisk, in_front, in_chain}
+use Rattle.fp_layout.specs.Layout.{IsFormatted, IsFirstOther}
+use Rattle.fp_layout.specs.Opening.{in_header, in_slots, in_head, in_image, BreaksDisk, in_front, in_chain}
 use Rattle.fp_slots.specs.Rules.{RulesNeither, none_open, cut, equal}
 use Rattle.fp_layout.specs.declared.fault.OpenFault.{OpenFault}
 use Rattle.fp_layout.specs.declared.fault.OpenFault.TheVariants.{Unformatted, UnknownVersion, Damaged, Device, Memory}

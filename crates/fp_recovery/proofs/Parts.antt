@@ -1,14 +1,9 @@
 -- The parts of a disk are read in one way.
-use Rattle.std.proofs.Common.{◌≡◌, ◌<◌, ◌+◌, ◌-◌, ◌/◌, ◌^◌, ℕ, List, [], ◌∷◌, length, refl, sym, ap, subst, ◌∙◌, arith}
+use Rattle.std.proofs.Common.{◌≡◌, ◌<◌, ◌+◌, ◌-◌, ◌/◌, ◌^◌, ℕ, List, [], length, sym, ap, subst, ◌∙◌, arith}
 use Rattle.std.specs.FinMap as fin
 use Rattle.std.proofs.lemmas.List.{append-nil}
 use Rattle.fp_edit.specs.Flags.{State, Flags}
-use Rattle.fp_gate.specs.declared.gate.TheConstants.{OPEN}
-use Rattle.fp_journal.specs.Chain.{with_length}
-use Rattle.fp_journal.specs.Reading.{IsChain, Reads}
 use Rattle.fp_journal.specs.declared.slot.Slot.{Slot}
-use Rattle.fp_journal.proofs.Holds.{byte_held}
-use Rattle.fp_journal.proofs.Links.{chain_first, same_body}
 use Rattle.fp_layout.specs.Size.{Side, first, second, other_side, slot_of}
 use Rattle.fp_layout.specs.Layout.{IsHeader, IsHead, IsActive}
 use Rattle.fp_layout.proofs.Numbers.{number32_one, number64_one, text_one}
@@ -18,9 +13,9 @@ use Rattle.fp_record.specs.Encoding.{encoding_of_image, encoding_of_batch}
 use Rattle.fp_record.specs.Group.{Group}
 use Rattle.fp_slots.specs.Rules.{Rules}
 use Rattle.fp_slots.proofs.Ruling.{rules_alone}
-use Rattle.fp_recovery.specs.Stands.{IsImageOf, TakesBatch, StandsFor, Leads}
+use Rattle.fp_recovery.specs.Stands.{IsImageOf, TakesBatch, Leads}
 use Rattle.fp_recovery.proofs.Restored.{leads_one}
-use Rattle.fp_recovery.proofs.Texts.{IsReadFrom, most_of, stands_read}
+use Rattle.fp_recovery.proofs.Texts.{most_of}
 
 -- ---- numbers
 pub size_one : (c : List ℕ) (m n : ℕ) → IsHeader c m → IsHeader c n → m ≡ n

@@ -1,18 +1,11 @@
 -- Sets that a disk is sure to keep.
-use Rattle.std.specs.Prelude.{◌≡◌, ◌⊎◌, ◌≤◌, ◌+◌, ◌/◌, ℕ, List, ◌++◌, length}
+use Rattle.std.specs.Prelude.{◌⊎◌, ◌/◌, ℕ, List}
 use Rattle.std.specs.FinMap as map
 use Rattle.fp_disk.specs.Outcomes.{PendingState, IsOutcome}
 use Rattle.fp_edit.specs.Flags.{State}
-use Rattle.fp_journal.specs.Holds.{Holds, IsSynced}
-use Rattle.fp_journal.specs.Chain.{spell}
-use Rattle.fp_journal.specs.State.{JournalState, Outside}
-use Rattle.fp_layout.specs.Size.{Side, other_side, slot_of}
-use Rattle.fp_layout.specs.Layout.{IsHeader}
-use Rattle.fp_layout.specs.declared.header.TheConstants.{HEADER}
 use Rattle.fp_layout.specs.declared.fault.OpenFault.TheVariants.{Unformatted}
-use Rattle.fp_slots.specs.Rules.{Rules}
 use Rattle.fp_recovery.specs.Refusals.{RefusesBytes}
-use Rattle.fp_recovery.specs.Stands.{Spells, StandsFor}
+use Rattle.fp_recovery.specs.Stands.{StandsFor}
 
 -- whatever a crash leaves now stands for the set
 abbrev pub IsDurable : PendingState → State → Type 0

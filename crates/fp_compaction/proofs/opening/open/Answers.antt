@@ -1,4 +1,4 @@
-use Rattle.std.proofs.Common.{◌≡◌, ◌+◌, ◌++◌, ℕ, List, length, refl, sym, ap, subst, ◌∙◌}
+use Rattle.std.proofs.Common.{◌≡◌, ◌+◌, ◌++◌, ℕ, List, length, sym, ap, subst, ◌∙◌}
 use Rattle.fp_edit.specs.Flags.{State}
 use Rattle.fp_recovery.specs.Stands.{StandsFor}
 use Rattle.std.proofs.lemmas.List.{append-nil}
