@@ -1,5 +1,5 @@
 pub mod Fronts
-pub mod Sizes
 pub mod Steps
+pub mod Sizes
 pub mod BatchSteps
 pub mod CompactionSteps

@@ -20,8 +20,8 @@ use Rattle.fp_journal.specs.State.{IsOnWay, JournalState, SameSlot, room}
 use Rattle.fp_journal.specs.State as journal
 use Rattle.fp_layout.specs.Size.{Side, other_side, slot_of}
 use Rattle.fp_layout.specs.Size as sides
-use Rattle.fp_recovery.specs.Stands.{StandsFor, Spells}
-use Rattle.fp_slots.specs.State.{HasBegun, IsEarly, SameCompaction, SamePlan, SlotsState, sealed_text}
+use Rattle.fp_recovery.specs.Stands.{StandsFor}
+use Rattle.fp_slots.specs.State.{HasBegun, IsEarly, SameCompaction, SamePlan, SlotsState}
 use Rattle.fp_slots.specs.declared.slots.Step.{Step}
 use Rattle.fp_slots.specs.declared.slots.Step.TheVariants.{Begin, Close, SyncClose, Part, Tail, SyncBody, Open, SyncOpen}
 use Rattle.fp_compaction.specs.Batches.{HasRoomFor, LeadsTo, LeavesNext, LeavesSealed, tail_of}

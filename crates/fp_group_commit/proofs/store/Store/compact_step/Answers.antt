@@ -1,4 +1,4 @@
-use Rattle.std.proofs.Common.{refl, sym, ap, ◌∙◌}
+use Rattle.std.proofs.Common.{refl, sym, ◌∙◌}
 use Rattle.fp_edit.specs.Following.{changes_of}
 use Rattle.fp_edit.proofs.Followed.{none_left}
 use Rattle.fp_group_commit.proofs.Steps as steps

@@ -5,11 +5,11 @@ use Rattle.fp_edit.proofs.Followed.{none_left}
 use Rattle.fp_journal.specs.Chain.{with_gate}
 use Rattle.fp_journal.specs.declared.journal.Phase.TheVariants.{Idle, Staged, GateOpened, Failed}
 use Rattle.fp_record.proofs.Lengths.{length-encoding_of_batch}
-use Rattle.fp_slots.specs.State.{IsGrowing, SlotsState}
+use Rattle.fp_slots.specs.State.{IsGrowing}
 use Rattle.fp_slots.specs.declared.slots.Step.{Step}
 use Rattle.fp_compaction.specs.Batches.{HasRoomFor}
 use Rattle.fp_group_commit.specs.Changes.{GoesOn, HasRoom}
-use Rattle.fp_group_commit.specs.Store.{StoreState, has_begun}
+use Rattle.fp_group_commit.specs.Store.{StoreState}
 use Rattle.fp_group_commit.proofs.Steps as steps
 use Rattle.fp_group_commit.proofs.BatchSteps as calls
 use Rattle.fp_group_commit.proofs.store.Store.stage.Goals as goal

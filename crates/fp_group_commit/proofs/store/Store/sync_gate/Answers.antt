@@ -1,9 +1,8 @@
-use Rattle.std.proofs.Common.{rules, ◌≡◌, ◌≢◌, ℕ, refl, ap, sym, ◌∙◌, inl, inr}
+use Rattle.std.proofs.Common.{rules, ◌≡◌, ℕ, refl, ap, sym, ◌∙◌, inl, inr}
 use Rattle.fp_edit.specs.Flags.{State}
 use Rattle.fp_edit.specs.Following.{changes_of}
 use Rattle.fp_journal.specs.declared.journal.Phase.TheVariants.{Idle, GateOpened, Failed}
 use Rattle.fp_record.specs.Group.{Group}
-use Rattle.fp_group_commit.specs.Store.{StoreState}
 use Rattle.fp_group_commit.specs.Tokens.{FrontState, Identity}
 use Rattle.fp_group_commit.proofs.Steps as steps
 use Rattle.fp_group_commit.proofs.BatchSteps as calls
