@@ -94,9 +94,8 @@ impl FlagSet {
 
     /// Whether the set accepts the edits behind those that are ahead of it. It takes no memory.
     pub fn accepts_behind(&self, ahead: &[Edit], edits: &[Edit]) -> bool
-        requires { Follows self.now (changes_of ahead.now) }
-        ensures { IsTrue result
-            ↔ Follows (after_all self.now (changes_of ahead.now)) (changes_of edits.now) }
+        ensures { IsTrue result ↔ (Follows self.now (changes_of ahead.now)
+            × Follows (after_all self.now (changes_of ahead.now)) (changes_of edits.now)) }
     {
         let Some(tally) = self.tally_behind(&[], self.tally(), ahead) else {
             return false;

@@ -23,7 +23,7 @@ pub returns-then-not-accepts_behind : goal.returns-then-not-accepts_behind
 returns-then-not-accepts_behind c = λ on.
     let edits : changes_of c.deref.result.now ≡ c.args.draw.now.changes = ap changes_of c.deref.ensures.value ∙ ap (λ (g : Group). g.changes) c.draw.view_is in
     let base = after_all c.args.set.now (changes_of c.args.ahead.now) in
-    let yes = c.accepts_behind.ensures.1 (subst (λ (l : List Change). Follows base l) (sym edits) on.1) in
+    let yes = c.accepts_behind.ensures.1 (c.requires, subst (λ (l : List Change). Follows base l) (sym edits) on.1) in
     let none : false ≡ true = sym c.if-not-accepts_behind.true ∙ yes in absurd (cc none)
 
 pub returns : goal.returns
@@ -32,4 +32,4 @@ returns c =
     let first = ap (λ (g : Group). g.first) c.draw.view_is in let is = c.revision.ensures.revision in
     let here = ahead_is (goal.at.returns c).After-revision in let same = c.if-draw-revision.false in
     let base = after_all c.args.set.now (changes_of c.args.ahead.now) in
-    (omega (arith, first, is, here, same), subst (λ (l : List Change). Follows base l) edits (c.accepts_behind.ensures.0 c.if-not-accepts_behind.false))
+    (omega (arith, first, is, here, same), subst (λ (l : List Change). Follows base l) edits (c.accepts_behind.ensures.0 c.if-not-accepts_behind.false).1)
