@@ -7,12 +7,12 @@ use Rattle.fp_stream.specs.declared.hello.Hello.TheVariants.{Has}
 use Rattle.fp_stream.specs.declared.frame.Frame.{Frame}
 use Rattle.fp_stream.specs.declared.fault.FrameFault.{FrameFault}
 use Rattle.fp_stream.specs.declared.head.TheConstants.{HEAD}
-use Rattle.fp_stream.specs.Heads.{head, IsHead, HasFault}
+use Rattle.fp_stream.specs.Heads.{head, IsHead}
 use Rattle.fp_stream.specs.Frames.{Snapshot, frame, stream_of, AreNews, has_after, snapshot_of, snapshots_of}
 use Rattle.fp_stream.specs.Reading.{Stops, Reads}
 use Rattle.fp_stream.specs.Decoding.{Reader, DecodesTo}
 use Rattle.fp_stream.specs.declared.head.Head.{Head}
-use Rattle.fp_stream.specs.Steps.{held_of, wanted_by, IsKnown, IsWhole, Adds, Passes}
+use Rattle.fp_stream.specs.Steps.{held_of, wanted_by, IsKnown, IsWhole, Passes}
 
 pub AreNews-append : (has : Hello) (a b : List Snapshot) → AreNews has a → AreNews (has_after has a) b → AreNews has (a ++ b)
 AreNews-append has [] b p q = q
@@ -46,15 +46,6 @@ Leaves-more has bytes added last rest more after news whole is_last l = record {
 }
 
 -- ---- no whole frame
-pub Leaves-fault : (has : Hello) (front behind : List ℕ) (fault : FrameFault) → length front ≡ HEAD → HasFault has front fault
-    → DecodesTo has (front ++ behind) [] (record { has = has; held = []; owed = Some fault })
-Leaves-fault has front behind fault long wrong = record {
-  rest = front ++ behind;
-  reads = record { whole = refl; news = tt; stops = record { front = front; behind = behind; is = refl; long = long; wrong = wrong } };
-  held = tt;
-  last = refl;
-}
-
 pub Leaves-short : (has : Hello) (front behind : List ℕ) (revision size : ℕ) → front ≡ head revision size → IsHead has revision size → length behind < size
     → DecodesTo has (front ++ behind) [] (record { has = has; held = head revision size ++ behind; owed = None })
 Leaves-short has front behind revision size is lawful short = record {
@@ -77,18 +68,6 @@ Leaves-nothing has rest short = record {
 }
 
 -- ---- a run over a slice
-pub Passes-start : (has : Hello) (bytes : List ℕ) (frames : List Frame) → Passes has bytes frames frames has bytes
-Passes-start has bytes frames = record { added = []; adds = sym (append-nil (snapshots_of frames)); news = tt; whole = refl; is_last = refl }
-
--- frames that passed, and what stops behind them
-pub Adds-passed : (has : Hello) (bytes : List ℕ) (before now : List Frame) (last : Hello) (rest : List ℕ) (after : Reader)
-    → Passes has bytes before now last rest → DecodesTo last rest [] after → Adds has bytes before now after
-Adds-passed has bytes before now last rest after p l = record {
-  added = p.added ++ [];
-  adds = p.adds ∙ ap (λ (t : List Snapshot). snapshots_of before ++ t) (sym (append-nil p.added));
-  leaves = Leaves-more has bytes p.added last rest [] after p.news p.whole p.is_last l;
-}
-
 -- a frame more
 pub Passes-push : (has : Hello) (bytes : List ℕ) (before now : List Frame) (last : Hello) (rest front behind : List ℕ) (f : Frame)
     → Passes has bytes before now last rest → rest ≡ front ++ behind → IsWhole last front behind (snapshot_of f)

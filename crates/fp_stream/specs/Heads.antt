@@ -6,7 +6,7 @@ use Rattle.fp_stream.specs.declared.hello.Hello.TheVariants.{Nothing, Has}
 use Rattle.fp_stream.specs.declared.fault.FrameFault.{FrameFault}
 use Rattle.fp_stream.specs.declared.fault.FrameFault.TheVariants.{BadMagic, TooLong, NotRising}
 use Rattle.fp_stream.specs.declared.fault.FrameFault.TheVariants.{Memory, Failed}
-use Rattle.fp_stream.specs.declared.head.TheConstants.{MOST_BODY}
+use Rattle.fp_stream.specs.declared.head.TheConstants.{MOST_BODY, REVISION_AT}
 
 -- a revision, and how long the body behind the head is
 abbrev pub head : ℕ → ℕ → List ℕ
@@ -43,7 +43,7 @@ pub record SaysNoNews (has : Hello) (bytes : List ℕ) : Type 0 where
 
 -- the first fault of sixteen bytes that stand in a head's place
 abbrev pub HasFault : Hello → List ℕ → FrameFault → Type 0
-HasFault has bytes BadMagic = take 4 bytes ≢ codes "SNP1"
+HasFault has bytes BadMagic = take REVISION_AT bytes ≢ codes "SNP1"
 HasFault has bytes TooLong = SaysTooLong bytes
 HasFault has bytes NotRising = SaysNoNews has bytes
 HasFault has bytes Memory = ⊥

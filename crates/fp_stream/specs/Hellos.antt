@@ -7,12 +7,12 @@ use Rattle.fp_stream.specs.declared.hello.Hello.{Hello}
 use Rattle.fp_stream.specs.declared.hello.Hello.TheVariants.{Nothing, Has}
 use Rattle.fp_stream.specs.declared.hello.HelloFault.{HelloFault}
 use Rattle.fp_stream.specs.declared.hello.HelloFault.TheVariants.{Cut, BadHello, Device}
-use Rattle.fp_stream.specs.declared.hello.TheConstants.{HELLO}
+use Rattle.fp_stream.specs.declared.hello.TheConstants.{HAS, HELLO, NOTHING}
 
 -- the nine bytes of a hello
 abbrev pub hello_bytes : Hello → List ℕ
-hello_bytes Nothing = 0 ∷ to_be_bytes w64 0
-hello_bytes (Has revision) = 1 ∷ to_be_bytes w64 revision
+hello_bytes Nothing = NOTHING ∷ to_be_bytes w64 0
+hello_bytes (Has revision) = HAS ∷ to_be_bytes w64 revision
 
 -- a revision has eight bytes
 abbrev pub IsHello : Hello → Type 0

@@ -4,6 +4,7 @@ ghost use Rattle.std.specs.Prelude.{◌≡◌, ◌<◌, length, take, codes, sli
 ghost use Rattle.std.specs.Prelude.{IfOk, IfErr, IsTrue, ◌↔◌};
 ghost use Rattle.std.specs.Int.{w32, w64, from_be_bytes};
 ghost use Rattle.fp_stream.specs.Heads.{head, IsHead, HasFault};
+ghost use Rattle.fp_stream.specs.declared.head.TheConstants.{HEAD, REVISION_AT, SIZE_AT};
 
 use crate::fault::FrameFault;
 use crate::hello::Hello;
@@ -13,6 +14,11 @@ pub const MOST_BODY: usize = 134_217_728;
 
 /// How long a head is.
 pub(crate) const HEAD: usize = 16;
+
+// Where its revision begins, behind `SNP1`, and the length of its body behind that.
+const REVISION_AT: usize = 4;
+
+const SIZE_AT: usize = 12;
 
 // A head that was read: what its frame's revision is, and how long its body.
 #[derive(Drop, Clone, Copy)]
@@ -43,25 +49,27 @@ pub(crate) fn head_of(has: Hello, bytes: &[u8]) -> Result<Head, FrameFault>
 }
 
 fn has_magic(bytes: &[u8]) -> bool
-    ensures { IsTrue result ↔ (take 4 bytes.now ≡ codes "SNP1") }
+    ensures { IsTrue result ↔ (take REVISION_AT bytes.now ≡ codes "SNP1") }
 {
     bytes.starts_with(b"SNP1")
 }
 
 fn revision_in(bytes: &[u8]) -> u64
     requires { length bytes.now ≡ HEAD }
-    ensures { result ≡ from_be_bytes w64 (slice_range bytes.now 4 12) }
+    ensures { result ≡ from_be_bytes w64 (slice_range bytes.now REVISION_AT SIZE_AT) }
 {
-    u64::from_be_bytes([
-        bytes[4], bytes[5], bytes[6], bytes[7], bytes[8], bytes[9], bytes[10], bytes[11],
-    ])
+    let mut revision = [0; 8];
+    revision.copy_from_slice(&bytes[REVISION_AT..SIZE_AT]);
+    u64::from_be_bytes(revision)
 }
 
 fn size_in(bytes: &[u8]) -> u32
     requires { length bytes.now ≡ HEAD }
-    ensures { result ≡ from_be_bytes w32 (slice_range bytes.now 12 16) }
+    ensures { result ≡ from_be_bytes w32 (slice_range bytes.now SIZE_AT HEAD) }
 {
-    u32::from_be_bytes([bytes[12], bytes[13], bytes[14], bytes[15]])
+    let mut size = [0; 4];
+    size.copy_from_slice(&bytes[SIZE_AT..HEAD]);
+    u32::from_be_bytes(size)
 }
 
 // The bytes of a head.

@@ -7,6 +7,7 @@ ghost use Rattle.std.specs.Io.KnownBytes.{Appends, Consumes, IsAtEnd};
 ghost use Rattle.fp_streams.specs.Failures.{CountsFailures};
 ghost use Rattle.fp_streams.specs.declared.counted.StreamFault.TheVariants.{Device};
 ghost use Rattle.fp_stream.specs.declared.hello.Hello.{Hello};
+ghost use Rattle.fp_stream.specs.declared.hello.TheConstants.{HELLO};
 ghost use Rattle.fp_stream.specs.Heads.{IsNewer};
 ghost use Rattle.fp_stream.specs.Hellos.{hello_bytes, CountsHello, IsHello, Hears};
 ghost use Rattle.fp_stream.specs.Hellos.{IsSaid, IsSpelled};
@@ -53,6 +54,11 @@ pub enum HelloFault {
 /// How long a hello is.
 const HELLO: usize = 9;
 
+// Its first byte, for who has nothing and for who has a revision.
+const NOTHING: u8 = 0;
+
+const HAS: u8 = 1;
+
 /// Says hello. At an error some of it may have been said.
 pub fn write_hello<W: Write>(w: &mut FailureCounted<W>, hello: Hello) -> Result<(), StreamFault>
     ensures hello { OnOk result (Appends (W.contents w.old.inner) (W.contents w.new.inner)
@@ -61,8 +67,8 @@ pub fn write_hello<W: Write>(w: &mut FailureCounted<W>, hello: Hello) -> Result<
     ensures counted { CountsFailures w.old.failures w.new.failures result }
 {
     let (first, revision) = match hello {
-        Hello::Nothing => (0, 0),
-        Hello::Has(revision) => (1, revision),
+        Hello::Nothing => (NOTHING, 0),
+        Hello::Has(revision) => (HAS, revision),
     };
     w.send(&bytes_of(first, revision))
 }
@@ -96,10 +102,10 @@ pub fn read_hello<R: Read>(r: &mut FailureCounted<R>) -> Result<Hello, HelloFaul
 // Reads as many bytes as there are, up to all of a hello's. One by one, so that
 // none behind them is taken.
 fn fill<R: Read>(r: &mut FailureCounted<R>, bytes: &mut [u8; HELLO]) -> Result<usize, StreamFault>
-    ensures within { IfOk result (λ len. len ≤ 9) }
+    ensures within { IfOk result (λ len. len ≤ HELLO) }
     ensures read { IfOk result (λ len.
         Consumes (R.remaining r.old.inner) (R.remaining r.new.inner) (take len bytes.new)) }
-    ensures end { IfOk result (λ len. len < 9 → IsAtEnd (R.remaining r.new.inner)) }
+    ensures end { IfOk result (λ len. len < HELLO → IsAtEnd (R.remaining r.new.inner)) }
     ensures fault { IfErr result (λ f. f ≡ Device) }
     ensures counted { CountsFailures r.old.failures r.new.failures result }
 {
@@ -119,12 +125,11 @@ fn fill<R: Read>(r: &mut FailureCounted<R>, bytes: &mut [u8; HELLO]) -> Result<u
 fn hello_in(bytes: &[u8; HELLO]) -> Option<Hello>
     ensures { IsSpelled bytes.now result }
 {
-    let revision = u64::from_be_bytes([
-        bytes[1], bytes[2], bytes[3], bytes[4], bytes[5], bytes[6], bytes[7], bytes[8],
-    ]);
-    match bytes[0] {
-        0 if revision == 0 => Some(Hello::Nothing),
-        1 => Some(Hello::Has(revision)),
+    let [first, a, b, c, d, e, f, g, h] = *bytes;
+    let revision = u64::from_be_bytes([a, b, c, d, e, f, g, h]);
+    match first {
+        NOTHING if revision == 0 => Some(Hello::Nothing),
+        HAS => Some(Hello::Has(revision)),
         _ => None,
     }
 }
