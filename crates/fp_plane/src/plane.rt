@@ -150,8 +150,7 @@ impl<K: Naming, D: Disk + Drop, R: Wait + Drop> Plane<K, D, R> {
 
     /// No edit is taken any more. What was taken goes on.
     pub fn close(&self) {
-        self.shared.hall.lock(&self.shared.rt).close();
-        self.shared.work.notify_all();
+        self.tell_closed(self.closed());
     }
 
     /// No edit is taken any more. Waits until what was taken is settled and the flusher has ended,
@@ -160,9 +159,26 @@ impl<K: Naming, D: Disk + Drop, R: Wait + Drop> Plane<K, D, R> {
         ensures ours { MatchResult result (λ s. s.store ≡ K.store) (λ e. e.1.store ≡ K.store) }
         ensures rest { IfOk result stores.IsAtRest }
     {
+        self.store_left(self.closed())
+    }
+
+    // The lock, under which the hall is closed.
+    fn closed(&self) -> MutexGuard<'_, Hall<K, D, R>>
+        ensures stopped { result.value.desk.stopped ≡ true }
+        ensures closing { result.value.closing ≡ true }
+    {
         let mut hall = self.shared.hall.lock(&self.shared.rt);
         hall.close();
-        self.store_left(hall)
+        hall
+    }
+
+    // Lets go of the lock of a hall that was closed, and wakes the flusher.
+    fn tell_closed(&self, hall: MutexGuard<'_, Hall<K, D, R>>)
+        requires stopped { hall.value.desk.stopped ≡ true }
+        requires closing { hall.value.closing ≡ true }
+    {
+        drop(hall);
+        self.shared.work.notify_all();
     }
 
     // Waits for the flusher's end under the lock that was closed, and takes its store.
