@@ -1,7 +1,8 @@
 //! What the program's words ask of the service.
 
-ghost use Rattle.std.specs.Prelude.{IfSome, map, string_bytes};
+ghost use Rattle.std.specs.Prelude.{MatchOption, map, string_bytes};
 ghost use Rattle.fp_server.specs.Tasks.{AsksFor};
+ghost use Rattle.fp_server.specs.declared.task.Task.{Task};
 
 use crate::serving::Addresses;
 use std::net::SocketAddrV4;
@@ -18,7 +19,8 @@ pub enum Task<'w> {
 /// What the words ask of the service; `None` where they ask nothing of it, or an address is no
 /// four numbers and a port.
 pub fn task_of(words: &[String]) -> Option<Task<'_>>
-    ensures { IfSome result (AsksFor (map string_bytes words.now)) }
+    ensures { MatchOption result ((task : Task) → ¬ AsksFor (map string_bytes words.now) task)
+        (AsksFor (map string_bytes words.now)) }
 {
     match words {
         [word, path, ofrep, edit, stream] if word.as_str() == "serve" => {
