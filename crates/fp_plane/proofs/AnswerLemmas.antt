@@ -16,25 +16,3 @@ said-whole a before held line = record { shown = a; like = inl refl; line = line
 
 pub said-wanting : (r : flags.Reply) (before held : Option (List ℕ)) → only_refuses r ≡ true → AppendsLine before held (answer_text (reply flags.out_of_memory)) → IsSaid (reply r) before held
 said-wanting r before held refuses line = record { shown = reply flags.out_of_memory; like = inr (refuses, refl); line = line }
-
--- a refusal only refuses, and so does what says why a line is no edit
-pub refusal-refuses : (f : EditFault) → only_refuses (refusal_of f) ≡ true
-refusal-refuses (edit.Conflict current) = refl
-refusal-refuses edit.SetTooLarge = refl
-refusal-refuses edit.RevisionsUsed = refl
-refusal-refuses edit.Memory = refl
-
-flag-refuses : (o : Option flag.Fault) → only_refuses (bad_flag_or_memory o) ≡ true
-flag-refuses None = refl
-flag-refuses (Some f) = refl
-
-pub no_edit-refuses : (f : LineFault) → only_refuses (fault_of f) ≡ true
-no_edit-refuses TooLong = refl
-no_edit-refuses NotJson = refl
-no_edit-refuses NotObject = refl
-no_edit-refuses BadMember = refl
-no_edit-refuses BadOp = refl
-no_edit-refuses BadKey = refl
-no_edit-refuses BadIf = refl
-no_edit-refuses (BadFlag e) = flag-refuses (tells e)
-no_edit-refuses Memory = refl

@@ -1,4 +1,4 @@
--- Definitions, sets of flags, edits, tickets and desks may cross threads.
+-- Definitions, sets of flags, edits and desks may cross threads.
 use denote.Param.Send.{IsSend, IsSync, sendable, view_send, view_sync, recorded_send, recorded_sync, struct_send, struct_sync, enum_send}
 use denote.Struct.Declared.{shape}
 use denote.Enum.Declared as enums
@@ -27,8 +27,6 @@ use Rattle.fp_group_commit.specs.contracts.settled.Settled as settled
 use Rattle.fp_group_commit.specs.contracts.settled.Settled.TheInside as settled_inside
 use Rattle.fp_desk.specs.contracts.desk.Desk as desk
 use Rattle.fp_desk.specs.contracts.desk.Desk.TheInside as desk_inside
-use Rattle.fp_desk.specs.contracts.desk.Ticket as ticket
-use Rattle.fp_desk.specs.contracts.desk.Ticket.TheInside as ticket_inside
 
 value_sent : IsSend (value.the_field).row
 value_sent = search (sendable, crosses, maps.crosses, value_knot.both_send-Value) depth 30
@@ -92,9 +90,6 @@ edit_sent = recorded_send _ _ _ (edit.the_type).to_one edit_field_sent
 
 pub settled_sent : IsSend settled.the_row
 settled_sent = view_send _ _ _ _ _ (recorded_send _ _ _ (settled_inside.the_type).to_one (struct_send (shape settled_inside.the_type) (search sendable, (part.the_send, (Vec-send _ edit_sent, tt)))))
-
-pub ticket_sent : IsSend ticket.the_row
-ticket_sent = view_send _ _ _ _ _ (recorded_send _ _ _ (ticket_inside.the_type).to_one (struct_send (shape ticket_inside.the_type) (search (sendable, crosses, part.the_send) depth 20)))
 
 pub desk_sent : IsSend desk.the_row
 desk_sent = view_send _ _ _ _ _ (recorded_send _ _ _ (desk_inside.the_type).to_one (struct_send (shape desk_inside.the_type) (flags_sent, (flags_sent, (Deque-send _ edit_sent, (Deque-send _ edit_sent, (Deque-send _ edit_sent, (settled_sent, (search sendable, (search (sendable, crosses), tt))))))))))

@@ -78,14 +78,3 @@ pub record IsUnderWay {A S : Type 0} (asks : A → S → List Ask → Type 0) (f
   pub asked : List Ask
   pub came : HasAsked asks first at_first source stream asked
   pub served : IsServed store told asked before held
-
-module _ {A S : Type 0} (asks : A → S → List Ask → Type 0) (first : A) (at_first : S) (source : A) (stream : S) (store : Identity) (told : Option FrontState) (before held : Option (List ℕ)) (u : IsUnderWay asks first at_first source stream store told before held) where
-  -- it broke off there
-  pub cut-off : (all : List Ask) → asks first at_first all → IsServedFirst store told all before held
-  cut-off all a = let h = u.came all a in record { asked = u.asked; later = h.0; part = h.1; served = u.served }
-
-  -- it asks nothing more
-  pub served-whole : ((all : List Ask) → asks source stream all → all ≡ []) → (all : List Ask) → asks first at_first all → IsServed store told all before held
-  served-whole none all a =
-      let h = u.came all a in
-      subst (λ (xs : List Ask). IsServed store told xs before held) (sym (append-nil u.asked) ∙ ap (λ (xs : List Ask). u.asked ++ xs) (sym (none h.0 h.2)) ∙ h.1) u.served

@@ -32,11 +32,6 @@ says_all revision before held after p q = record {
   text = Appends-more before held after (where_text p.ofrep p.edit p.stream) (line (codes "stopped at revision " ++ decimal revision)) p.text q;
 }
 
--- whatever the fault is
-pub if_err : {A E : Type 0} {P : E → Type 0} (r : Result A E) → ((e : E) → P e) → IfErr r P
-if_err (Ok _) p = tt
-if_err (Err e) p = p e
-
 -- with nothing on its way, what a crash leaves is what is kept
 kept_alone : {D : Type 0} (s : StoreState D) (c : List ℕ) → s.step ≡ Idle → Leaves s c → StandsFor c (sealed_set s)
 kept_alone s c idle (inl stands) = stands
