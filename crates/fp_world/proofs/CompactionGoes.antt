@@ -1,5 +1,5 @@
 -- A compaction as the plain commits have it, from step to step.
-use Rattle.std.proofs.Common.{◌≡◌, ◌≢◌, ◌+◌, ◌-◌, ◌*◌, ℕ, Bool, true, false, List, ◌++◌, refl, sym, ap, ◌∙◌, inl, inr, arith}
+use Rattle.std.proofs.Common.{◌≡◌, ◌≤◌, ◌+◌, ◌-◌, ◌*◌, ℕ, Bool, true, false, List, [], ◌∷◌, ◌++◌, length, refl, sym, ap, ◌∙◌, inl, inr, arith}
 use Rattle.fp_disk.specs.History.{MakesSome}
 use Rattle.fp_disk.specs.declared.history.CallKind.{CallKind}
 use Rattle.fp_disk.specs.declared.history.CallKind.TheVariants.{Sync, Write}
@@ -26,7 +26,7 @@ use Rattle.fp_world.specs.declared.committer.Held.{Held}
 use Rattle.fp_world.specs.declared.committer.Held.TheVariants as held
 use Rattle.fp_world.specs.Commits.{MayStep, StepsOn, is_flying, is_sealed, sealed_edits}
 use Rattle.fp_world.specs.Committer.{IsOut, MakesItsCall, MakesNoMore, RisesFor, compaction_of, in_flight_at, is_in_flight, progress_of}
-use Rattle.fp_world.proofs.Goes.{At, compaction_is, is_well, machine_is, sealed_is}
+use Rattle.fp_world.proofs.Goes.{At, at_rest, compaction_is, is_well, machine_is, sealed_is}
 
 -- ---- a compaction
 flying : (p : Phase) → is_in_flight p ≡ true → is_flying (in_flight_at p) ≡ true
@@ -36,14 +36,11 @@ flying BodySynced air = refl
 flying GateOpened air = refl
 flying Failed air = absurd cc
 
-idle_air : (p : Phase) → is_in_flight p ≡ true → p ≢ Idle
-idle_air p air e = let both : true ≡ false = sym air ∙ ap is_in_flight e in absurd cc
-
 -- no batch is in flight exactly where the store has none
 pub still_now : {D : Type 0} (s : StoreState D) (d : DeskState) (h : Held) → IsOut h s d → s.step ≡ Idle → is_flying (progress_of h s.step) ≡ false
 still_now s d held.Nothing o idle = refl
 still_now s d (held.Drawn group) o idle = refl
-still_now s d held.InFlight o idle = absurd (idle_air s.step o.0 idle)
+still_now s d held.InFlight o idle = absurd (at_rest s.step idle o.0)
 still_now s d (held.Sealed receipt) o idle = refl
 
 pub still_then : {D : Type 0} (s : StoreState D) (d : DeskState) (h : Held) → IsOut h s d → is_flying (progress_of h s.step) ≡ false → s.step ≡ Idle
@@ -98,40 +95,33 @@ stops faults fault.Memory h s n d told o may b = (is_well s.slots.journal.phase 
 stops faults fault.Stranger h s n d told o may b = absurd b
 
 -- its calls
-none_or_one : (next : Step) (may_open : Bool) (old new : List CallKind) → new ≡ old ++ calls_of next may_open → MakesNoMore old new
-none_or_one Begin b old new is = inl (is ∙ append-nil old)
-none_or_one Close true old new is = inr (Write, is)
-none_or_one Close false old new is = inl (is ∙ append-nil old)
-none_or_one SyncClose b old new is = inr (Sync, is)
-none_or_one Part b old new is = inr (Write, is)
-none_or_one Tail b old new is = inr (Write, is)
-none_or_one SyncBody b old new is = inr (Sync, is)
-none_or_one Open b old new is = inr (Write, is)
-none_or_one SyncOpen b old new is = inr (Sync, is)
+at_most_one : (next : Step) (may_open : Bool) → length (calls_of next may_open) ≤ 1
+at_most_one Begin b = omega arith
+at_most_one Close true = omega arith
+at_most_one Close false = omega arith
+at_most_one SyncClose b = omega arith
+at_most_one Part b = omega arith
+at_most_one Tail b = omega arith
+at_most_one SyncBody b = omega arith
+at_most_one Open b = omega arith
+at_most_one SyncOpen b = omega arith
 
-some_or_one : (next : Step) (may_open : Bool) (old new : List CallKind) → MakesSome (calls_of next may_open) old new → MakesNoMore old new
-some_or_one Begin b old new s = inl s
-some_or_one Close false old new s = inl s
-some_or_one Close true old new (inl s) = inl s
-some_or_one Close true old new (inr s) = inr (Write, s)
-some_or_one SyncClose b old new (inl s) = inl s
-some_or_one SyncClose b old new (inr s) = inr (Sync, s)
-some_or_one Part b old new (inl s) = inl s
-some_or_one Part b old new (inr s) = inr (Write, s)
-some_or_one Tail b old new (inl s) = inl s
-some_or_one Tail b old new (inr s) = inr (Write, s)
-some_or_one SyncBody b old new (inl s) = inl s
-some_or_one SyncBody b old new (inr s) = inr (Sync, s)
-some_or_one Open b old new (inl s) = inl s
-some_or_one Open b old new (inr s) = inr (Write, s)
-some_or_one SyncOpen b old new (inl s) = inl s
-some_or_one SyncOpen b old new (inr s) = inr (Sync, s)
+makes_all : (kinds old new : List CallKind) → length kinds ≤ 1 → new ≡ old ++ kinds → MakesNoMore old new
+makes_all [] old new few is = inl (is ∙ append-nil old)
+makes_all (k ∷ []) old new few is = inr (k, is)
+makes_all (k ∷ l ∷ kinds) old new few is = absurd (omega (arith, few))
+
+makes_some : (kinds old new : List CallKind) → length kinds ≤ 1 → MakesSome kinds old new → MakesNoMore old new
+makes_some [] old new few s = inl s
+makes_some (k ∷ []) old new few (inl s) = inl s
+makes_some (k ∷ []) old new few (inr s) = inr (k, s)
+makes_some (k ∷ l ∷ kinds) old new few s = absurd (omega (arith, few))
 
 pub calls_of_step : (next : Step) (may_open : Bool) (p : Step) (old new : List CallKind) → new ≡ old ++ calls_of next may_open → MakesItsCall event.Compact (answer.Phase p) old new
-calls_of_step next may_open p old new is = none_or_one next may_open old new is
+calls_of_step next may_open p old new is = makes_all (calls_of next may_open) old new (at_most_one next may_open) is
 
 pub calls_of_stop : {D : Type 0} (faults : D → ℕ) (calls : D → List CallKind) (e : StoreFault) (s n : StoreState D) → StopsBy faults s n e → MakesSome (calls_of s.slots.step s.slots.may_open) (calls s.slots.journal.disk) (calls n.slots.journal.disk) → MakesItsCall event.Compact (answer.Fault e) (calls s.slots.journal.disk) (calls n.slots.journal.disk)
-calls_of_stop faults calls fault.Device s n b made = some_or_one s.slots.step s.slots.may_open (calls s.slots.journal.disk) (calls n.slots.journal.disk) made
+calls_of_stop faults calls fault.Device s n b made = makes_some (calls_of s.slots.step s.slots.may_open) (calls s.slots.journal.disk) (calls n.slots.journal.disk) (at_most_one s.slots.step s.slots.may_open) made
 calls_of_stop faults calls fault.Failed s n b made = ap (λ (x : StoreState _). calls x.slots.journal.disk) b.1
 calls_of_stop faults calls fault.Memory s n b made = ap (λ (x : StoreState _). calls x.slots.journal.disk) b.2
 calls_of_stop faults calls fault.Stranger s n b made = absurd b

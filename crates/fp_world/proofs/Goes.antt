@@ -88,50 +88,45 @@ pub some_in : (xs : List Change) → xs ≢ [] → 0 < length xs
 some_in [] never = absurd (never refl)
 some_in (x ∷ xs) never = omega arith
 
--- while the store is busy they are in flight
-pub in_air : {D : Type 0} (s : StoreState D) (d : DeskState) (h : Held) → IsOut h s d → s.step ≢ Idle → (p : Phase) → progress_of h p ≡ in_flight_at p
-in_air s d held.Nothing o busy p = absurd (busy o.0)
-in_air s d (held.Drawn group) o busy p = absurd (busy o.0)
-in_air s d held.InFlight o busy p = refl
-in_air s d (held.Sealed receipt) o busy p = absurd (busy o.0)
+pub at_rest : (p : Phase) → p ≡ Idle → is_in_flight p ≡ true → ⊥
+at_rest p idle air = let both : false ≡ true = sym (ap is_in_flight idle) ∙ air in absurd cc
 
--- and only then
-pub by_phase : {D : Type 0} (s : StoreState D) (d : DeskState) (h : Held) → IsOut h s d → (p : Phase) (point : Progress) → in_flight_at p ≡ point → is_in_flight p ≡ true
-    → ((q : Phase) → is_in_flight q ≡ true → in_flight_at q ≡ point → q ≡ p) → (nothing_drawn ≢ point) → (batch_drawn ≢ point) → (batch_sealed ≢ point) → progress_of h s.step ≡ point → s.step ≡ p
-by_phase s d held.Nothing o p point at air one no0 no1 no2 e = absurd (no0 e)
-by_phase s d (held.Drawn group) o p point at air one no0 no1 no2 e = absurd (no1 e)
-by_phase s d held.InFlight o p point at air one no0 no1 no2 e = one s.step o.0 e
-by_phase s d (held.Sealed receipt) o p point at air one no0 no1 no2 e = absurd (no2 e)
+-- while a batch is in the store they are in flight
+pub in_air : {D : Type 0} (s : StoreState D) (d : DeskState) (h : Held) → IsOut h s d → is_in_flight s.step ≡ true → (p : Phase) → progress_of h p ≡ in_flight_at p
+in_air s d held.Nothing o air p = absurd (at_rest s.step o.0 air)
+in_air s d (held.Drawn group) o air p = absurd (at_rest s.step o.0 air)
+in_air s d held.InFlight o air p = refl
+in_air s d (held.Sealed receipt) o air p = absurd (at_rest s.step o.0 air)
 
-only_staged : (q : Phase) → is_in_flight q ≡ true → in_flight_at q ≡ batch_staged → q ≡ Staged
-only_staged Idle air e = absurd cc
-only_staged Staged air e = refl
-only_staged BodySynced air e = absurd cc
-only_staged GateOpened air e = absurd cc
-only_staged Failed air e = absurd cc
+-- the store's step, by where they are
+abbrev pub step_at : Progress → Phase
+step_at batch_staged = Staged
+step_at body_synced = BodySynced
+step_at gate_opened = GateOpened
+step_at _ = Idle
 
-only_synced : (q : Phase) → is_in_flight q ≡ true → in_flight_at q ≡ body_synced → q ≡ BodySynced
-only_synced Idle air e = absurd cc
-only_synced Staged air e = absurd cc
-only_synced BodySynced air e = refl
-only_synced GateOpened air e = absurd cc
-only_synced Failed air e = absurd cc
+step_in_flight : (p : Phase) → is_in_flight p ≡ true → step_at (in_flight_at p) ≡ p
+step_in_flight Idle air = absurd cc
+step_in_flight Staged air = refl
+step_in_flight BodySynced air = refl
+step_in_flight GateOpened air = refl
+step_in_flight Failed air = absurd cc
 
-only_opened : (q : Phase) → is_in_flight q ≡ true → in_flight_at q ≡ gate_opened → q ≡ GateOpened
-only_opened Idle air e = absurd cc
-only_opened Staged air e = absurd cc
-only_opened BodySynced air e = absurd cc
-only_opened GateOpened air e = refl
-only_opened Failed air e = absurd cc
+never_at_rest : (p : Phase) → step_at (in_flight_at p) ≡ Idle → ⊥
+never_at_rest Idle e = absurd cc
+never_at_rest Staged e = absurd cc
+never_at_rest BodySynced e = absurd cc
+never_at_rest GateOpened e = absurd cc
+never_at_rest Failed e = absurd cc
 
-pub when_staged : {D : Type 0} (s : StoreState D) (d : DeskState) (h : Held) → IsOut h s d → progress_of h s.step ≡ batch_staged → s.step ≡ Staged
-when_staged s d h o e = by_phase s d h o Staged batch_staged refl refl only_staged (λ x. absurd cc) (λ x. absurd cc) (λ x. absurd cc) e
+step_of : {D : Type 0} (s : StoreState D) (d : DeskState) (h : Held) → IsOut h s d → step_at (progress_of h s.step) ≡ s.step
+step_of s d held.Nothing o = sym o.0
+step_of s d (held.Drawn group) o = sym o.0
+step_of s d held.InFlight o = step_in_flight s.step o.0
+step_of s d (held.Sealed receipt) o = sym o.0
 
-pub when_synced : {D : Type 0} (s : StoreState D) (d : DeskState) (h : Held) → IsOut h s d → progress_of h s.step ≡ body_synced → s.step ≡ BodySynced
-when_synced s d h o e = by_phase s d h o BodySynced body_synced refl refl only_synced (λ x. absurd cc) (λ x. absurd cc) (λ x. absurd cc) e
-
-pub when_opened : {D : Type 0} (s : StoreState D) (d : DeskState) (h : Held) → IsOut h s d → progress_of h s.step ≡ gate_opened → s.step ≡ GateOpened
-when_opened s d h o e = by_phase s d h o GateOpened gate_opened refl refl only_opened (λ x. absurd cc) (λ x. absurd cc) (λ x. absurd cc) e
+pub when_at : {D : Type 0} (s : StoreState D) (d : DeskState) (h : Held) → IsOut h s d → (point : Progress) → progress_of h s.step ≡ point → s.step ≡ step_at point
+when_at s d h o point e = sym (step_of s d h o) ∙ ap step_at e
 
 -- ---- calls of the store
 module _ {D : Type 0} (faults : D → ℕ) (May : Commits → Type 0) (to : Progress) where
@@ -195,17 +190,10 @@ cannot_stage group s d told quarter is some never can =
     let any = some_in d.drawn some in let few = can.few in let short = can.short in let left = can.room in
     never (record { some = omega (arith, len, any); few = omega (arith, len, few); room = record { short = omega (arith, bytes, short); fits = omega (arith, bytes, left); early = can.early; tail = λ runs. let tail = can.tail runs in omega (arith, bytes, tail, quarter) } })
 
-not_in_flight : (p : Phase) → in_flight_at p ≡ batch_drawn → ⊥
-not_in_flight Idle e = absurd cc
-not_in_flight Staged e = absurd cc
-not_in_flight BodySynced e = absurd cc
-not_in_flight GateOpened e = absurd cc
-not_in_flight Failed e = absurd cc
-
 pub none_held : {D : Type 0} (h : Held) (s : StoreState D) (d : DeskState) (told : ℕ) → ((group : Group) → h ≡ held.Drawn group → ⊥) → CanStage (At h s d told) → ⊥
 none_held held.Nothing s d told other can = let e = can.drawn in absurd cc
 none_held (held.Drawn group) s d told other can = other group refl
-none_held held.InFlight s d told other can = not_in_flight s.step can.drawn
+none_held held.InFlight s d told other can = never_at_rest s.step (ap step_at can.drawn)
 none_held (held.Sealed receipt) s d told other can = let e = can.drawn in absurd cc
 
 pub refused_stage : {D : Type 0} (faults : D → ℕ) (e : StoreFault) (g g2 : Group) (s n : StoreState D) (d : DeskState) (told : ℕ) → RefusesBy faults s n g e → e ≢ fault.Stranger → CanStage (At (held.Drawn g) s d told) → Stages (At (held.Drawn g) s d told) (answer.Fault e) (At (held.Drawn g2) n d told)
@@ -238,17 +226,10 @@ seal_fails faults fault.Memory h s n d told b step point = absurd b
 seal_fails faults fault.Stranger h s n d told b step point = absurd b
 
 -- ---- and settled
-air_not_sealed : (p : Phase) → in_flight_at p ≡ batch_sealed → ⊥
-air_not_sealed Idle e = absurd cc
-air_not_sealed Staged e = absurd cc
-air_not_sealed BodySynced e = absurd cc
-air_not_sealed GateOpened e = absurd cc
-air_not_sealed Failed e = absurd cc
-
 pub not_sealed : {D : Type 0} (h : Held) (s : StoreState D) → ((receipt : ReceiptState) → h ≡ held.Sealed receipt → ⊥) → progress_of h s.step ≢ batch_sealed
 not_sealed held.Nothing s other e = absurd cc
 not_sealed (held.Drawn group) s other e = absurd cc
-not_sealed held.InFlight s other e = air_not_sealed s.step e
+not_sealed held.InFlight s other e = never_at_rest s.step (ap step_at e)
 not_sealed (held.Sealed receipt) s other e = other receipt refl
 
 -- ---- an edit isn't taken
@@ -286,25 +267,7 @@ well_by b p same off = is_well p (λ e. let both : false ≡ true = sym off ∙ 
 pub ill_by : (b : Bool) (p : Phase) → (IsTrue b ↔ (p ≡ Failed)) → b ≡ true → is_failed p ≡ true
 ill_by b p same on = ap is_failed (same.0 on)
 
-pub unless : (p q : Phase) → p ≡ q → (q ≡ Idle → ⊥) → p ≢ Idle
-unless p q is never e = never (sym is ∙ e)
-
--- the answers that change nothing
-pub not_now : (May : Commits → Type 0) (to : Progress) (m : Commits) → m.failed ≡ false → (May m → ⊥) → Advances May to m answer.NotNow m
-not_now May to m well never = (well, never, refl)
-
-pub failed_before : (May : Commits → Type 0) (to : Progress) (m : Commits) → m.failed ≡ true → Advances May to m (answer.Fault fault.Failed) m
-failed_before May to m ill = (ill, refl)
-
 -- ---- the disk is opened again
-pub ok_map : {T E : Type 0} (r : Result T E) (P Q : T → Type 0) → IfOk r P → ((x : T) → P x → Q x) → IfOk r Q
-ok_map (Ok x) P Q p f = f x p
-ok_map (Err e) P Q p f = tt
-
-pub err_map : {T E : Type 0} (r : Result T E) (P Q : E → Type 0) → IfErr r P → ((x : E) → P x → Q x) → IfErr r Q
-err_map (Ok x) P Q p f = tt
-err_map (Err e) P Q p f = f e p
-
 pub wanting : (c : List ℕ) (t : State) (e : OpenFault) → StandsFor c t → IsUnlessWanting c e → (e ≡ opening.Device) ⊎ (e ≡ opening.Memory)
 wanting c t opening.Unformatted stands none = absurd (none t stands)
 wanting c t (opening.UnknownVersion v) stands none = absurd (none t stands)

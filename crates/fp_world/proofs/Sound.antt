@@ -5,6 +5,7 @@ use Rattle.fp_edit.specs.Edits.{Change}
 use Rattle.fp_edit.specs.Flags.{State}
 use Rattle.fp_journal.specs.declared.journal.Phase.TheVariants.{Idle}
 use Rattle.fp_record.specs.Group.{Group}
+use Rattle.fp_group_commit.specs.Calls.{SameStore}
 use Rattle.fp_group_commit.specs.Changes.{GoesOn}
 use Rattle.fp_group_commit.specs.Store.{Leaves, StoreState}
 use Rattle.fp_desk.specs.Desk.{DeskState, IsNewDraw, TicketState, log, settled_revision, settled_set}
@@ -12,6 +13,7 @@ use Rattle.fp_world.specs.Commits.{all_settled}
 use Rattle.fp_world.specs.Committer.{IsOut, IsCommitter, NumberedFrom, is_in_flight}
 use Rattle.fp_world.specs.declared.committer.Held.{Held}
 use Rattle.fp_world.specs.declared.committer.Held.TheVariants as held
+use Rattle.fp_world.proofs.Goes.{at_rest}
 use Rattle.fp_world.proofs.Keeps.{log_more}
 
 -- ---- tickets
@@ -38,11 +40,11 @@ none_drawn s d held.InFlight o none = absurd (o.3 none)
 none_drawn s d (held.Sealed receipt) o none = absurd (o.5 none)
 
 -- a batch in flight stays in flight
-pub out_moved : {D : Type 0} (s n : StoreState D) (d : DeskState) (h : Held) → IsOut h s d → s.step ≢ Idle → n.sealed ≡ s.sealed → n.staged ≡ s.staged → is_in_flight n.step ≡ true → IsOut h n d
-out_moved s n d held.Nothing o busy sealed staged air = absurd (busy o.0)
-out_moved s n d (held.Drawn group) o busy sealed staged air = absurd (busy o.0)
-out_moved s n d held.InFlight o busy sealed staged air = (air, sealed ∙ o.1, staged ∙ o.2, o.3)
-out_moved s n d (held.Sealed receipt) o busy sealed staged air = absurd (busy o.0)
+pub out_moved : {D : Type 0} (s n : StoreState D) (d : DeskState) (h : Held) → IsOut h s d → is_in_flight s.step ≡ true → n.sealed ≡ s.sealed → n.staged ≡ s.staged → is_in_flight n.step ≡ true → IsOut h n d
+out_moved s n d held.Nothing o air sealed staged still = absurd (at_rest s.step o.0 air)
+out_moved s n d (held.Drawn group) o air sealed staged still = absurd (at_rest s.step o.0 air)
+out_moved s n d held.InFlight o air sealed staged still = (still, sealed ∙ o.1, staged ∙ o.2, o.3)
+out_moved s n d (held.Sealed receipt) o air sealed staged still = absurd (at_rest s.step o.0 air)
 
 -- a call that leaves the batch and what is sealed
 pub out_still : {D : Type 0} (s n : StoreState D) (d : DeskState) (h : Held) → IsOut h s d → n.step ≡ s.step → n.store ≡ s.store → n.sealed ≡ s.sealed → n.staged ≡ s.staged → IsOut h n d
@@ -103,6 +105,10 @@ module _ {D : Type 0} (honest : D → Type 0) (unsynced : D → PendingState) {h
     counted = w.counted;
   }
 
+  -- and its batch is in flight still
+  pub moved : (n : StoreState D) → is_in_flight s.step ≡ true → is_in_flight n.step ≡ true → SameStore s n → (honest n.slots.journal.disk → (c : List ℕ) → IsOutcome (unsynced n.slots.journal.disk) c → Leaves n c) → IsCommitter honest unsynced h ts start n d told
+  moved n air still same now = went h n same.0 (out_moved s n d h w.out air same.1 same.2 still) now
+
   -- what was drawn is settled
   pub settles : (n : DeskState) → n ≡ all_settled d → s.step ≡ Idle → s.sealed ≡ d.settled ++ d.drawn → IsCommitter honest unsynced held.Nothing ts start s n told
   settles n is idle sealed =
@@ -119,7 +125,3 @@ module _ {D : Type 0} (honest : D → Type 0) (unsynced : D → PendingState) {h
         numbered = w.numbered;
         counted = omega (arith, len, count);
       }
-
-  -- more was told
-  pub tells : (more : ℕ) → more ≤ settled_revision d → IsCommitter honest unsynced h ts start s d more
-  tells more low = record { same = w.same; out = w.out; low = low; now = w.now; open_desk = w.open_desk; start_is = w.start_is; numbered = w.numbered; counted = w.counted }

@@ -39,48 +39,7 @@ first_edits d f b =
 pub front_is : {D : Type 0} (w : WorldState D) → Begins w.views.board (settled_front w.committer.desk) → w.views.board ≡ published_front (machine w)
 front_is w b = first_edits w.committer.desk w.views.board b
 
--- no more than is settled
-pub shown_low : (d : DeskState) (f : FrontState) → Begins f (settled_front d) → front_revision f ≤ settled_revision d
-shown_low d f b =
-    let start = ap (λ (x : Identity). x.start.revision) b.0 in let len = ap length b.1.1 in let both = length-append f.edits b.1.0 in
-    omega (arith, start, len, both)
-
--- the settled front goes on
-pub begins_on : (f : FrontState) (d n : DeskState) → n.store ≡ d.store → IsPrefix d.settled n.settled → Begins f (settled_front d) → Begins f (settled_front n)
-begins_on f d n store more b =
-    (b.0 ∙ sym store, (b.1.0 ++ more.0, sym (append_assoc f.edits b.1.0 more.0) ∙ ap (λ (l : List Change). l ++ more.0) b.1.1 ∙ more.1))
-
 -- ---- steps
--- an event of the edits' way
-pub edits_step : (e : Event) (a : Answer) (old new : Machine) → IsOfEdits e → CommitStep old.commits e a new.commits → new ≡ record old { commits = new.commits } → Step old e a new
-edits_step (event.Submit edit) a old new of s is = (s, is)
-edits_step event.Draw a old new of s is = (s, is)
-edits_step event.Stage a old new of s is = (s, is)
-edits_step event.SyncBody a old new of s is = (s, is)
-edits_step event.OpenGate a old new of s is = (s, is)
-edits_step event.SyncGate a old new of s is = (s, is)
-edits_step event.Settle a old new of s is = (s, is)
-edits_step (event.Ack revision) a old new of s is = (s, is)
-edits_step event.Compact a old new of s is = (s, is)
-edits_step event.Publish a old new of s is = absurd of
-edits_step (event.Hand seat) a old new of s is = absurd of
-edits_step (event.Evaluate reader request now) a old new of s is = absurd of
-
--- which events aren't of what is published
-pub of_edits : (e : Event) → (e ≡ event.Publish → ⊥) → ((seat : ℕ) → e ≡ event.Hand seat → ⊥) → ((reader : ℕ) (request : Request) (now : ℕ) → e ≡ event.Evaluate reader request now → ⊥) → IsOfEdits e
-of_edits (event.Submit edit) p h v = tt
-of_edits event.Draw p h v = tt
-of_edits event.Stage p h v = tt
-of_edits event.SyncBody p h v = tt
-of_edits event.OpenGate p h v = tt
-of_edits event.SyncGate p h v = tt
-of_edits event.Settle p h v = tt
-of_edits (event.Ack revision) p h v = tt
-of_edits event.Compact p h v = tt
-of_edits event.Publish p h v = p refl
-of_edits (event.Hand seat) p h v = h seat refl
-of_edits (event.Evaluate reader request now) p h v = v reader request now refl
-
 module _ {D : Type 0} (disk : Ghosts D) (only_now : (d : D) (c : List ℕ) → disk.honest d → disk.crash_states_since d (disk.moment d) c → IsOutcome (disk.unsynced d) c) where
   -- one that makes no call of the disk, and of the committer changes no more than what was told
   pub told_step : (old new : WorldState D) (e : Event) (a : Answer) (t : ℕ) → new.committer ≡ record old.committer { told = t } → told_of old ≤ t → t ≡ told_after (told_of old) a

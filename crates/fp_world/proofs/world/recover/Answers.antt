@@ -1,4 +1,5 @@
 use Rattle.std.proofs.Common.{sym}
+use Rattle.std.proofs.lemmas.Result.{IfErr-weaker, IfOk-weaker}
 use Rattle.fp_edit.specs.Log.{after}
 use Rattle.fp_desk.specs.Desk.{log}
 use Rattle.fp_world.proofs.Goes as goes
@@ -9,8 +10,8 @@ returns-clause-opens g c = let e = c.open.ensures in goes.opens g.D.Disk c.args.
 
 pub returns-clause-kept : goal.returns-clause-kept
 returns-clause-kept g c = λ h desk told k.
-    goes.ok_map c.open.result _ _ (c.open.ensures.only h) (λ r only. (k.0, k.1, k.2, sym (only (after desk.store.start (log desk) k.0) k.3)))
+    IfOk-weaker c.open.result _ _ (λ r only. (k.0, k.1, k.2, sym (only (after desk.store.start (log desk) k.0) k.3))) (c.open.ensures.only h)
 
 pub returns-clause-refused : goal.returns-clause-refused
 returns-clause-refused g c = λ h desk told k.
-    goes.err_map c.open.result _ _ (c.open.ensures.refused h) (λ e none. goes.wanting (g.D.Disk.bytes c.args.disk) (after desk.store.start (log desk) k.0) e.0 k.3 none)
+    IfErr-weaker c.open.result _ _ (λ e none. goes.wanting (g.D.Disk.bytes c.args.disk) (after desk.store.start (log desk) k.0) e.0 k.3 none) (c.open.ensures.refused h)

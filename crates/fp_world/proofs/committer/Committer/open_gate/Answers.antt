@@ -19,41 +19,34 @@ pub returns-in_default : goal.returns-in_default
 returns-in_default g c =
     let D = g.D.Disk in let m = g.met.D.Disk in let s = c.self.inside.store in
     rw (← c.self.view_is) (record {
-      steps = (goes.well_by c.failed.result s.slots.journal.phase c.failed.ensures c.if-failed.false, (λ at. c.in_default.not-BodySynced (c.phase.ensures.phase ∙ goes.when_synced s c.self.inside.desk c.self.inside.held c.self.invariant.out at)), refl);
+      steps = (goes.well_by c.failed.result s.slots.journal.phase c.failed.ensures c.if-failed.false, (λ at. c.in_default.not-BodySynced (c.phase.ensures.phase ∙ goes.when_at s c.self.inside.desk c.self.inside.held c.self.invariant.out body_synced at)), refl);
       kept = keeps.told_still D m.only_now c.self.invariant refl refl;
       called = refl;
     })
 
 pub invariant_of-self : goal.invariant_of-self
 invariant_of-self g c =
-    let D = g.D.Disk in let m = g.met.D.Disk in let w = c.open_gate.ensures in let s = c.self.inside.store in let d = c.self.inside.desk in let n = c.open_gate.new.self in let h = c.self.inside.held in let told = c.self.inside.told in let i = c.self.invariant in
-    let at : s.step ≡ BodySynced = search rules in
-    let busy = goes.unless s.step BodySynced at (λ (e : BodySynced ≡ Idle). absurd cc) in
-    let point : progress_of h s.step ≡ body_synced = goes.in_air s d h i.out busy s.step ∙ ap in_flight_at at in
-    let on : n.step ≡ GateOpened = search rules in
-    let out = sound.out_moved s n d h i.out busy w.moves.same.1 w.moves.same.2 (ap is_in_flight on) in
-    sound.went D.honest D.unsynced i h n w.moves.same.0 out w.disk.exit
+    let D = g.D.Disk in let w = c.open_gate.ensures in
+    let at : c.self.inside.store.step ≡ BodySynced = search rules in
+    let on : c.open_gate.new.self.step ≡ GateOpened = search rules in
+    sound.moved D.honest D.unsynced c.self.invariant c.open_gate.new.self (ap is_in_flight at) (ap is_in_flight on) w.moves.same w.disk.exit
 
 pub invariant_of-self-2 : goal.invariant_of-self-2
 invariant_of-self-2 g c =
-    let D = g.D.Disk in let m = g.met.D.Disk in let w = c.open_gate.ensures in let s = c.self.inside.store in let d = c.self.inside.desk in let n = c.open_gate.new.self in let h = c.self.inside.held in let told = c.self.inside.told in let i = c.self.invariant in
-    let at : s.step ≡ BodySynced = search rules in
-    let busy = goes.unless s.step BodySynced at (λ (e : BodySynced ≡ Idle). absurd cc) in
-    let point : progress_of h s.step ≡ body_synced = goes.in_air s d h i.out busy s.step ∙ ap in_flight_at at in
-    let on : n.step ≡ BodySynced = search rules in
-    let out = sound.out_moved s n d h i.out busy w.moves.same.1 w.moves.same.2 (ap is_in_flight on) in
-    sound.went D.honest D.unsynced i h n w.moves.same.0 out w.disk.exit
+    let D = g.D.Disk in let w = c.open_gate.ensures in
+    let at : c.self.inside.store.step ≡ BodySynced = search rules in
+    let on : c.open_gate.new.self.step ≡ BodySynced = search rules in
+    sound.moved D.honest D.unsynced c.self.invariant c.open_gate.new.self (ap is_in_flight at) (ap is_in_flight on) w.moves.same w.disk.exit
 
 pub returns-in_default-open_gate : goal.returns-in_default-open_gate
 returns-in_default-open_gate g c =
     let D = g.D.Disk in let m = g.met.D.Disk in let w = c.open_gate.ensures in let s = c.self.inside.store in let d = c.self.inside.desk in let n = c.open_gate.new.self in let h = c.self.inside.held in let told = c.self.inside.told in let i = c.self.invariant in
     let at : s.step ≡ BodySynced = search rules in
-    let busy = goes.unless s.step BodySynced at (λ (e : BodySynced ≡ Idle). absurd cc) in
-    let point : progress_of h s.step ≡ body_synced = goes.in_air s d h i.out busy s.step ∙ ap in_flight_at at in
+    let air = goes.in_air s d h i.out (ap is_in_flight at) in
     let on : n.step ≡ GateOpened = search rules in
-    let out = sound.out_moved s n d h i.out busy w.moves.same.1 w.moves.same.2 (ap is_in_flight on) in
+    let out = sound.out_moved s n d h i.out (ap is_in_flight at) w.moves.same.1 w.moves.same.2 (ap is_in_flight on) in
     rw (← c.self.view_is) (record {
-      steps = goes.done D.faults (IsAt body_synced) gate_opened h h s n d told GateOpened c.in_default-open_gate.ensures.moves.ok w.moves.same_room point (goes.in_air s d h i.out busy n.step ∙ ap in_flight_at on);
+      steps = goes.done D.faults (IsAt body_synced) gate_opened h h s n d told GateOpened c.in_default-open_gate.ensures.moves.ok w.moves.same_room (air s.step ∙ ap in_flight_at at) (air n.step ∙ ap in_flight_at on);
       kept = keeps.told_moved D m.counts_now refl w.moves.same.0 (λ h0. keeps.opened_leaves D.moment D.crash_states_since h n d told s.slots.journal.disk (i.same ∙ sym w.moves.same.0) out i.low (w.disk.any_moment h0)) w.disk.honest (let moved = c.in_default-open_gate.ensures.moves.ok in moved.no_failure);
       called = c.in_default-open_gate.ensures.disk.called;
     })
@@ -62,12 +55,11 @@ pub returns : goal.returns
 returns g c =
     let D = g.D.Disk in let m = g.met.D.Disk in let w = c.open_gate.ensures in let s = c.self.inside.store in let d = c.self.inside.desk in let n = c.open_gate.new.self in let h = c.self.inside.held in let told = c.self.inside.told in let i = c.self.invariant in
     let at : s.step ≡ BodySynced = search rules in
-    let busy = goes.unless s.step BodySynced at (λ (e : BodySynced ≡ Idle). absurd cc) in
-    let point : progress_of h s.step ≡ body_synced = goes.in_air s d h i.out busy s.step ∙ ap in_flight_at at in
+    let air = goes.in_air s d h i.out (ap is_in_flight at) in
     let on : n.step ≡ BodySynced = search rules in
-    let out = sound.out_moved s n d h i.out busy w.moves.same.1 w.moves.same.2 (ap is_in_flight on) in
+    let out = sound.out_moved s n d h i.out (ap is_in_flight at) w.moves.same.1 w.moves.same.2 (ap is_in_flight on) in
     rw (← c.self.view_is) (record {
-      steps = subst (λ (x : CommitterState g.row.D.Denot). Advances (IsAt body_synced) gate_opened (commits_of x) (answer.Fault c.in-Err.fault) (goes.At h n d told)) c.self.view_is (goes.fails D.faults (IsAt body_synced) gate_opened c.in-Err.fault h s n d told c.in-Err.ensures.moves.fault c.in-Err.ensures.moves.phase point);
+      steps = subst (λ (x : CommitterState g.row.D.Denot). Advances (IsAt body_synced) gate_opened (commits_of x) (answer.Fault c.in-Err.fault) (goes.At h n d told)) c.self.view_is (goes.fails D.faults (IsAt body_synced) gate_opened c.in-Err.fault h s n d told c.in-Err.ensures.moves.fault c.in-Err.ensures.moves.phase (air s.step ∙ ap in_flight_at at));
       kept = keeps.told_moved D m.counts_now refl w.moves.same.0 (λ h0. keeps.opened_leaves D.moment D.crash_states_since h n d told s.slots.journal.disk (i.same ∙ sym w.moves.same.0) out i.low (w.disk.any_moment h0)) w.disk.honest (goes.rise_of_fail D.faults c.in-Err.fault s n c.in-Err.ensures.moves.fault);
       called = goes.calls_of_fail D.faults D.calls Write c.in-Err.fault s n c.in-Err.ensures.moves.fault c.in-Err.ensures.disk.called;
     })

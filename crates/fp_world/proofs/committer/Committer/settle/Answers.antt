@@ -22,7 +22,6 @@ returns-in-Ok-clause-steps g c =
     let D = g.D.Disk in let s = c.self.inside.store in let d = c.self.inside.desk in let h = c.self.inside.held in let told = c.self.inside.told in let i = c.self.invariant in
     let receipt = c.in-Sealed.receipt in
     let is : h ≡ held.Sealed receipt = sym c.replace.ensures.value ∙ c.in-Sealed.is in
-    let o = subst (λ (x : Held). IsOut x s d) is i.out in
     let n = c.settle.new.self in let new = c.in-Ok.ensures.settled in
     let is_revision = c.settled_revision.ensures in let same = ap settled_revision new in let both = length-append d.settled d.drawn in
     rw (← c.self.view_is, c.replace.ensures.after) (ap (λ (x : Held). progress_of x s.step) is, omega (arith, is_revision, same, both), ap (λ (x : DeskState). goes.At held.Nothing s x told) new)
@@ -37,7 +36,6 @@ returns-in-Err-Memory-default-clause-steps g c =
     let D = g.D.Disk in let s = c.self.inside.store in let d = c.self.inside.desk in let h = c.self.inside.held in let told = c.self.inside.told in let i = c.self.invariant in
     let receipt = c.in-Sealed.receipt in
     let is : h ≡ held.Sealed receipt = sym c.replace.ensures.value ∙ c.in-Sealed.is in
-    let o = subst (λ (x : Held). IsOut x s d) is i.out in
     let point = ap (λ (x : Held). progress_of x s.step) is in
     let same = c.in-Err-Memory-default.ensures.unchanged in
     rw (← c.self.view_is, c.replace-in-Err-Memory-default.ensures.after, same) (point, ap (λ (x : Held). goes.At x s d told) (sym is))

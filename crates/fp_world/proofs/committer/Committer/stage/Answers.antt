@@ -51,7 +51,6 @@ invariant_of-self-in_default-stage g c =
     let draw = c.in-Drawn.draw in
     let is : h ≡ held.Drawn draw = sym c.replace.ensures.value ∙ c.in-Drawn.is in
     let o = subst (λ (x : Held). IsOut x s d) is i.out in
-    let well = goes.well_by c.failed.result s.slots.journal.phase c.failed.ensures c.if-failed.false in
     let w = c.stage.ensures in let n = c.stage.new.self in
     let on : n.step ≡ Staged = search rules in let staged : n.staged ≡ draw.changes = search rules in
     rw c.replace.ensures.after (sound.went D.honest D.unsynced i held.InFlight n w.same.0 (ap is_in_flight on, w.same.1 ∙ o.1, staged ∙ o.2, o.3) w.disk.exit)
@@ -62,7 +61,6 @@ invariant_of-self-2 g c =
     let draw = c.in-Drawn.draw in
     let is : h ≡ held.Drawn draw = sym c.replace.ensures.value ∙ c.in-Drawn.is in
     let o = subst (λ (x : Held). IsOut x s d) is i.out in
-    let well = goes.well_by c.failed.result s.slots.journal.phase c.failed.ensures c.if-failed.false in
     let w = c.stage.ensures in let n = c.stage.new.self in
     let on : n.step ≡ s.step = search rules in let same : c.in-Err.draw ≡ draw = search rules in
     let back : IsOut (held.Drawn c.in-Err.draw) n d = (on ∙ o.0, w.same.1 ∙ o.1, ap (λ (x : Group). x.changes) same ∙ o.2, o.3, subst (λ (x : Group). GoesOn (settled_set d) x) (sym same) o.4) in
@@ -74,14 +72,12 @@ returns-in_default-stage g c =
     let draw = c.in-Drawn.draw in
     let is : h ≡ held.Drawn draw = sym c.replace.ensures.value ∙ c.in-Drawn.is in
     let o = subst (λ (x : Held). IsOut x s d) is i.out in
-    let well = goes.well_by c.failed.result s.slots.journal.phase c.failed.ensures c.if-failed.false in
     let w = c.stage.ensures in let n = c.stage.new.self in
-    let leaves : D.honest s.slots.journal.disk → LeavesOnly D.moment D.crash_states_since s.slots.journal.disk n.slots.journal.disk (KeptFrom d told) = (λ h0. keeps.kept_leaves D.honest D.moment D.crash_states_since D.unsynced i n.slots.journal.disk (w.disk.any_moment h0)) in
     let ok = c.in_default-stage.ensures.ok in
     let room : HasRoom s.slots draw = c.has_room.ensures.room.0 (search rules) in
     rw (← c.self.view_is, c.replace.ensures.after) (record {
       steps = subst (λ (x : Held). Stages (goes.At x s d told) answer.Done (goes.At held.InFlight n d told)) (sym is) (goes.done D.faults CanStage batch_staged (held.Drawn draw) held.InFlight s n d told Staged ok w.same_room (goes.can_stage draw s d told (goes.quarter_of s d i.same c.has_room.ensures.quarter) o.2 room) (ap in_flight_at ok.step));
-      kept = keeps.told_moved D m.counts_now refl w.same.0 leaves w.disk.honest ok.no_failure;
+      kept = keeps.told_moved D m.counts_now refl w.same.0 (λ h0. keeps.kept_leaves D.honest D.moment D.crash_states_since D.unsynced i n.slots.journal.disk (w.disk.any_moment h0)) w.disk.honest ok.no_failure;
       called = c.in_default-stage.ensures.disk.called;
     })
 
@@ -91,15 +87,13 @@ returns g c =
     let draw = c.in-Drawn.draw in
     let is : h ≡ held.Drawn draw = sym c.replace.ensures.value ∙ c.in-Drawn.is in
     let o = subst (λ (x : Held). IsOut x s d) is i.out in
-    let well = goes.well_by c.failed.result s.slots.journal.phase c.failed.ensures c.if-failed.false in
     let w = c.stage.ensures in let n = c.stage.new.self in
-    let leaves : D.honest s.slots.journal.disk → LeavesOnly D.moment D.crash_states_since s.slots.journal.disk n.slots.journal.disk (KeptFrom d told) = (λ h0. keeps.kept_leaves D.honest D.moment D.crash_states_since D.unsynced i n.slots.journal.disk (w.disk.any_moment h0)) in
     let e = c.in-Err.ensures in let f = c.in-Err.fault in
     let room : HasRoom s.slots draw = c.has_room.ensures.room.0 (search rules) in
     rw (← c.self.view_is) (record {
       steps = subst (λ (x : CommitterState g.row.D.Denot). Stages (commits_of x) (answer.Fault f) (goes.At c.replace-2.new.dest n d told)) c.self.view_is
           (subst (λ (x : Held). Stages (goes.At h s d told) (answer.Fault f) (goes.At x n d told)) (sym c.replace-2.ensures.after)
           (subst (λ (x : Held). Stages (goes.At x s d told) (answer.Fault f) (goes.At (held.Drawn c.in-Err.draw) n d told)) (sym is) (goes.refused_stage D.faults f draw c.in-Err.draw s n d told e.fault c.in_default-fault.not-Stranger (goes.can_stage draw s d told (goes.quarter_of s d i.same c.has_room.ensures.quarter) o.2 room))));
-      kept = keeps.told_moved D m.counts_now refl w.same.0 leaves w.disk.honest (goes.rise_of_refusal D.faults f s n draw e.fault);
+      kept = keeps.told_moved D m.counts_now refl w.same.0 (λ h0. keeps.kept_leaves D.honest D.moment D.crash_states_since D.unsynced i n.slots.journal.disk (w.disk.any_moment h0)) w.disk.honest (goes.rise_of_refusal D.faults f s n draw e.fault);
       called = goes.calls_of_refusal D.faults D.calls Write f s n draw e.fault e.disk.called;
     })

@@ -19,41 +19,33 @@ pub returns-in_default : goal.returns-in_default
 returns-in_default g c =
     let D = g.D.Disk in let m = g.met.D.Disk in let s = c.self.inside.store in
     rw (← c.self.view_is) (record {
-      steps = (goes.well_by c.failed.result s.slots.journal.phase c.failed.ensures c.if-failed.false, (λ at. c.in_default.not-Staged (c.phase.ensures.phase ∙ goes.when_staged s c.self.inside.desk c.self.inside.held c.self.invariant.out at)), refl);
+      steps = (goes.well_by c.failed.result s.slots.journal.phase c.failed.ensures c.if-failed.false, (λ at. c.in_default.not-Staged (c.phase.ensures.phase ∙ goes.when_at s c.self.inside.desk c.self.inside.held c.self.invariant.out batch_staged at)), refl);
       kept = keeps.told_still D m.only_now c.self.invariant refl refl;
       called = refl;
     })
 
 pub invariant_of-self : goal.invariant_of-self
 invariant_of-self g c =
-    let D = g.D.Disk in let m = g.met.D.Disk in let w = c.sync_body.ensures in let s = c.self.inside.store in let d = c.self.inside.desk in let n = c.sync_body.new.self in let h = c.self.inside.held in let told = c.self.inside.told in let i = c.self.invariant in
-    let at : s.step ≡ Staged = search rules in
-    let busy = goes.unless s.step Staged at (λ (e : Staged ≡ Idle). absurd cc) in
-    let point : progress_of h s.step ≡ batch_staged = goes.in_air s d h i.out busy s.step ∙ ap in_flight_at at in
-    let on : n.step ≡ BodySynced = search rules in
-    let out = sound.out_moved s n d h i.out busy w.moves.same.1 w.moves.same.2 (ap is_in_flight on) in
-    sound.went D.honest D.unsynced i h n w.moves.same.0 out w.disk.exit
+    let D = g.D.Disk in let w = c.sync_body.ensures in
+    let at : c.self.inside.store.step ≡ Staged = search rules in
+    let on : c.sync_body.new.self.step ≡ BodySynced = search rules in
+    sound.moved D.honest D.unsynced c.self.invariant c.sync_body.new.self (ap is_in_flight at) (ap is_in_flight on) w.moves.same w.disk.exit
 
 pub invariant_of-self-2 : goal.invariant_of-self-2
 invariant_of-self-2 g c =
-    let D = g.D.Disk in let m = g.met.D.Disk in let w = c.sync_body.ensures in let s = c.self.inside.store in let d = c.self.inside.desk in let n = c.sync_body.new.self in let h = c.self.inside.held in let told = c.self.inside.told in let i = c.self.invariant in
-    let at : s.step ≡ Staged = search rules in
-    let busy = goes.unless s.step Staged at (λ (e : Staged ≡ Idle). absurd cc) in
-    let point : progress_of h s.step ≡ batch_staged = goes.in_air s d h i.out busy s.step ∙ ap in_flight_at at in
-    let on : n.step ≡ Staged = search rules in
-    let out = sound.out_moved s n d h i.out busy w.moves.same.1 w.moves.same.2 (ap is_in_flight on) in
-    sound.went D.honest D.unsynced i h n w.moves.same.0 out w.disk.exit
+    let D = g.D.Disk in let w = c.sync_body.ensures in
+    let at : c.self.inside.store.step ≡ Staged = search rules in
+    let on : c.sync_body.new.self.step ≡ Staged = search rules in
+    sound.moved D.honest D.unsynced c.self.invariant c.sync_body.new.self (ap is_in_flight at) (ap is_in_flight on) w.moves.same w.disk.exit
 
 pub returns-in_default-sync_body : goal.returns-in_default-sync_body
 returns-in_default-sync_body g c =
     let D = g.D.Disk in let m = g.met.D.Disk in let w = c.sync_body.ensures in let s = c.self.inside.store in let d = c.self.inside.desk in let n = c.sync_body.new.self in let h = c.self.inside.held in let told = c.self.inside.told in let i = c.self.invariant in
     let at : s.step ≡ Staged = search rules in
-    let busy = goes.unless s.step Staged at (λ (e : Staged ≡ Idle). absurd cc) in
-    let point : progress_of h s.step ≡ batch_staged = goes.in_air s d h i.out busy s.step ∙ ap in_flight_at at in
+    let air = goes.in_air s d h i.out (ap is_in_flight at) in
     let on : n.step ≡ BodySynced = search rules in
-    let out = sound.out_moved s n d h i.out busy w.moves.same.1 w.moves.same.2 (ap is_in_flight on) in
     rw (← c.self.view_is) (record {
-      steps = goes.done D.faults (IsAt batch_staged) body_synced h h s n d told BodySynced c.in_default-sync_body.ensures.moves.ok w.moves.same_room point (goes.in_air s d h i.out busy n.step ∙ ap in_flight_at on);
+      steps = goes.done D.faults (IsAt batch_staged) body_synced h h s n d told BodySynced c.in_default-sync_body.ensures.moves.ok w.moves.same_room (air s.step ∙ ap in_flight_at at) (air n.step ∙ ap in_flight_at on);
       kept = keeps.told_moved D m.counts_now refl w.moves.same.0 (λ h0. keeps.kept_leaves D.honest D.moment D.crash_states_since D.unsynced i n.slots.journal.disk (w.disk.any_moment h0)) w.disk.honest (let moved = c.in_default-sync_body.ensures.moves.ok in moved.no_failure);
       called = c.in_default-sync_body.ensures.disk.called;
     })
@@ -62,12 +54,9 @@ pub returns : goal.returns
 returns g c =
     let D = g.D.Disk in let m = g.met.D.Disk in let w = c.sync_body.ensures in let s = c.self.inside.store in let d = c.self.inside.desk in let n = c.sync_body.new.self in let h = c.self.inside.held in let told = c.self.inside.told in let i = c.self.invariant in
     let at : s.step ≡ Staged = search rules in
-    let busy = goes.unless s.step Staged at (λ (e : Staged ≡ Idle). absurd cc) in
-    let point : progress_of h s.step ≡ batch_staged = goes.in_air s d h i.out busy s.step ∙ ap in_flight_at at in
-    let on : n.step ≡ Staged = search rules in
-    let out = sound.out_moved s n d h i.out busy w.moves.same.1 w.moves.same.2 (ap is_in_flight on) in
+    let air = goes.in_air s d h i.out (ap is_in_flight at) in
     rw (← c.self.view_is) (record {
-      steps = subst (λ (x : CommitterState g.row.D.Denot). Advances (IsAt batch_staged) body_synced (commits_of x) (answer.Fault c.in-Err.fault) (goes.At h n d told)) c.self.view_is (goes.fails D.faults (IsAt batch_staged) body_synced c.in-Err.fault h s n d told c.in-Err.ensures.moves.fault c.in-Err.ensures.moves.phase point);
+      steps = subst (λ (x : CommitterState g.row.D.Denot). Advances (IsAt batch_staged) body_synced (commits_of x) (answer.Fault c.in-Err.fault) (goes.At h n d told)) c.self.view_is (goes.fails D.faults (IsAt batch_staged) body_synced c.in-Err.fault h s n d told c.in-Err.ensures.moves.fault c.in-Err.ensures.moves.phase (air s.step ∙ ap in_flight_at at));
       kept = keeps.told_moved D m.counts_now refl w.moves.same.0 (λ h0. keeps.kept_leaves D.honest D.moment D.crash_states_since D.unsynced i n.slots.journal.disk (w.disk.any_moment h0)) w.disk.honest (goes.rise_of_fail D.faults c.in-Err.fault s n c.in-Err.ensures.moves.fault);
       called = goes.calls_of_fail D.faults D.calls Sync c.in-Err.fault s n c.in-Err.ensures.moves.fault c.in-Err.ensures.disk.called;
     })

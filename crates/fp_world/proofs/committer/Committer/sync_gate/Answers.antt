@@ -24,7 +24,7 @@ pub returns-in_default : goal.returns-in_default
 returns-in_default g c =
     let D = g.D.Disk in let m = g.met.D.Disk in let s = c.self.inside.store in let d = c.self.inside.desk in let h = c.self.inside.held in let told = c.self.inside.told in let i = c.self.invariant in
     rw (← c.self.view_is) (record {
-      steps = (goes.well_by c.failed.result s.slots.journal.phase c.failed.ensures c.if-failed.false, (λ at. c.in_default.not-GateOpened (c.phase.ensures.phase ∙ goes.when_opened s d h i.out at)), refl);
+      steps = (goes.well_by c.failed.result s.slots.journal.phase c.failed.ensures c.if-failed.false, (λ at. c.in_default.not-GateOpened (c.phase.ensures.phase ∙ goes.when_at s d h i.out gate_opened at)), refl);
       kept = keeps.told_still D m.only_now c.self.invariant refl refl;
       called = refl;
     })
@@ -32,11 +32,8 @@ returns-in_default g c =
 pub invariant_of-self : goal.invariant_of-self
 invariant_of-self g c =
     let D = g.D.Disk in let m = g.met.D.Disk in let s = c.self.inside.store in let d = c.self.inside.desk in let h = c.self.inside.held in let told = c.self.inside.told in let i = c.self.invariant in
-    let w = c.sync_gate.ensures in let n = c.sync_gate.new.self in
+    let n = c.sync_gate.new.self in
     let at : s.step ≡ GateOpened = search rules in
-    let busy = goes.unless s.step GateOpened at (λ (e : GateOpened ≡ Idle). absurd cc) in
-    let point : progress_of h s.step ≡ gate_opened = goes.in_air s d h i.out busy s.step ∙ ap in_flight_at at in
-    let leaves : D.honest s.slots.journal.disk → LeavesOnly D.moment D.crash_states_since s.slots.journal.disk n.slots.journal.disk (KeptFrom d told) = (λ h0. keeps.kept_leaves D.honest D.moment D.crash_states_since D.unsynced i n.slots.journal.disk (w.disk.any_moment h0)) in
     let w = c.in-Ok.ensures in
     let f = keeps.in_flight s d h i.out at in
     let start = ap (λ (x : Identity). x.start.revision) i.same in let len = ap length f.0 in let place = w.batch.1 in let all = revision-after_all s.store.start s.sealed in
@@ -44,28 +41,23 @@ invariant_of-self g c =
 
 pub invariant_of-self-in-Err : goal.invariant_of-self-in-Err
 invariant_of-self-in-Err g c =
-    let D = g.D.Disk in let m = g.met.D.Disk in let s = c.self.inside.store in let d = c.self.inside.desk in let h = c.self.inside.held in let told = c.self.inside.told in let i = c.self.invariant in
-    let w = c.sync_gate.ensures in let n = c.sync_gate.new.self in
+    let D = g.D.Disk in let s = c.self.inside.store in let i = c.self.invariant in
+    let n = c.sync_gate.new.self in
     let at : s.step ≡ GateOpened = search rules in
-    let busy = goes.unless s.step GateOpened at (λ (e : GateOpened ≡ Idle). absurd cc) in
-    let point : progress_of h s.step ≡ gate_opened = goes.in_air s d h i.out busy s.step ∙ ap in_flight_at at in
-    let leaves : D.honest s.slots.journal.disk → LeavesOnly D.moment D.crash_states_since s.slots.journal.disk n.slots.journal.disk (KeptFrom d told) = (λ h0. keeps.kept_leaves D.honest D.moment D.crash_states_since D.unsynced i n.slots.journal.disk (w.disk.any_moment h0)) in
     let e = c.in-Err.ensures in
     let on : n.step ≡ GateOpened = e.phase ∙ at in
-    sound.went D.honest D.unsynced i h n e.err.0 (sound.out_moved s n d h i.out busy e.err.1 e.err.2 (ap is_in_flight on)) e.disk.exit
+    sound.moved D.honest D.unsynced i n (ap is_in_flight at) (ap is_in_flight on) e.err e.disk.exit
 
 pub returns-in-Ok : goal.returns-in-Ok
 returns-in-Ok g c =
     let D = g.D.Disk in let m = g.met.D.Disk in let s = c.self.inside.store in let d = c.self.inside.desk in let h = c.self.inside.held in let told = c.self.inside.told in let i = c.self.invariant in
     let w = c.sync_gate.ensures in let n = c.sync_gate.new.self in
     let at : s.step ≡ GateOpened = search rules in
-    let busy = goes.unless s.step GateOpened at (λ (e : GateOpened ≡ Idle). absurd cc) in
-    let point : progress_of h s.step ≡ gate_opened = goes.in_air s d h i.out busy s.step ∙ ap in_flight_at at in
-    let leaves : D.honest s.slots.journal.disk → LeavesOnly D.moment D.crash_states_since s.slots.journal.disk n.slots.journal.disk (KeptFrom d told) = (λ h0. keeps.kept_leaves D.honest D.moment D.crash_states_since D.unsynced i n.slots.journal.disk (w.disk.any_moment h0)) in
+    let point : progress_of h s.step ≡ gate_opened = goes.in_air s d h i.out (ap is_in_flight at) s.step ∙ ap in_flight_at at in
     let k = c.in-Ok.ensures in let f = keeps.in_flight s d h i.out at in let ok = k.ok in
     rw (← c.self.view_is, c.replace.ensures.after) (record {
       steps = goes.seals D.faults h c.in-Ok.receipt s n d told c.revision.result i.same ok k.takes_room k.store f.0 f.1 k.sealed point c.revision.ensures;
-      kept = keeps.told_moved D m.counts_now refl k.store leaves w.disk.honest ok.no_failure;
+      kept = keeps.told_moved D m.counts_now refl k.store (λ h0. keeps.kept_leaves D.honest D.moment D.crash_states_since D.unsynced i n.slots.journal.disk (w.disk.any_moment h0)) w.disk.honest ok.no_failure;
       called = k.disk.called;
     })
 
@@ -74,12 +66,10 @@ returns-in-Err g c =
     let D = g.D.Disk in let m = g.met.D.Disk in let s = c.self.inside.store in let d = c.self.inside.desk in let h = c.self.inside.held in let told = c.self.inside.told in let i = c.self.invariant in
     let w = c.sync_gate.ensures in let n = c.sync_gate.new.self in
     let at : s.step ≡ GateOpened = search rules in
-    let busy = goes.unless s.step GateOpened at (λ (e : GateOpened ≡ Idle). absurd cc) in
-    let point : progress_of h s.step ≡ gate_opened = goes.in_air s d h i.out busy s.step ∙ ap in_flight_at at in
-    let leaves : D.honest s.slots.journal.disk → LeavesOnly D.moment D.crash_states_since s.slots.journal.disk n.slots.journal.disk (KeptFrom d told) = (λ h0. keeps.kept_leaves D.honest D.moment D.crash_states_since D.unsynced i n.slots.journal.disk (w.disk.any_moment h0)) in
+    let point : progress_of h s.step ≡ gate_opened = goes.in_air s d h i.out (ap is_in_flight at) s.step ∙ ap in_flight_at at in
     let e = c.in-Err.ensures in let f = c.in-Err.fault in
     rw (← c.self.view_is) (record {
       steps = subst (λ (x : CommitterState g.row.D.Denot). Seals (commits_of x) (answer.Fault f) (goes.At h n d told)) c.self.view_is (goes.seal_fails D.faults f h s n d told e.fault e.phase point);
-      kept = keeps.told_moved D m.counts_now refl e.err.0 leaves w.disk.honest (goes.rise_of_fail D.faults f s n e.fault);
+      kept = keeps.told_moved D m.counts_now refl e.err.0 (λ h0. keeps.kept_leaves D.honest D.moment D.crash_states_since D.unsynced i n.slots.journal.disk (w.disk.any_moment h0)) w.disk.honest (goes.rise_of_fail D.faults f s n e.fault);
       called = goes.calls_of_fail D.faults D.calls Sync f s n e.fault e.disk.called;
     })
