@@ -86,8 +86,8 @@ pub fn became_of(reply: &Reply, out: &mut Text) -> Became {
     }
 }
 
-// The step of a compaction that is the next one.
-fn next_step(step: Step) -> &'static str {
+/// The step of a compaction that is the next one.
+pub fn next_step(step: Step) -> &'static str {
     match step {
         Step::Begin => "next begin",
         Step::Close => "next close",

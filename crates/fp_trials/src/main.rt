@@ -3,6 +3,7 @@
 #![tactic(auto)]
 
 mod commands;
+mod confirm;
 mod damage;
 mod disk;
 mod eval;

@@ -4,6 +4,7 @@ ghost use Rattle.std.specs.Prelude.{◌≡◌, IfOk, IfSome, OnOk, IsTrue};
 ghost use Rattle.fp_journal.specs.declared.journal.Phase.TheVariants.{Staged, BodySynced};
 ghost use Rattle.fp_journal.specs.declared.journal.Phase.TheVariants.{GateOpened};
 
+use crate::confirm::confirm;
 use crate::event::{not_done, refused};
 use crate::text::edit_of;
 use crate::trial::{Answer, Trial};
@@ -16,7 +17,8 @@ use fp_journal::Phase;
 use fp_transcript::{Args, Text};
 use std::alloc::Global;
 
-/// `stop EDIT`, `stray FIRST EDIT`, `receipt EDIT / EDIT`, of the disk as it is opened now.
+/// `stop EDIT`, `stray FIRST EDIT`, `receipt EDIT / EDIT`, `confirm EDIT / EDIT`, of the disk
+/// as it is opened now.
 pub fn on_parts(trial: &mut Trial, word: &str, args: &mut Args<'_>) -> Answer {
     let disk = trial.take_disk();
     match found(trial.alloc, disk) {
@@ -45,12 +47,13 @@ fn on_store(
     match word {
         "stop" => stop(opening, args, &mut trial.text),
         "stray" => stray(trial, store, args),
+        "confirm" => confirm(trial, store, opening, args),
         _ => receipt(trial, store, opening, args),
     }
 }
 
-// A desk over an opening that another desk gave back.
-fn desk_over(alloc: Global, opening: Opening) -> Option<Desk>
+/// A desk over an opening that another desk gave back.
+pub fn desk_over(alloc: Global, opening: Opening) -> Option<Desk>
     ensures { IfSome result (λ desk. desk.store ≡ opening) }
 {
     let Ok(unused) = Desk::new(alloc, opening) else {
@@ -116,8 +119,8 @@ fn stop_desk(desk: &mut Desk) {
     desk.stop();
 }
 
-// One edit as a batch.
-fn batch_of(first: u64, args: &mut Args<'_>) -> Option<Draw> {
+/// One edit as a batch.
+pub fn batch_of(first: u64, args: &mut Args<'_>) -> Option<Draw> {
     let Some(edit) = edit_of(args) else {
         return None;
     };
@@ -128,8 +131,8 @@ fn batch_of(first: u64, args: &mut Args<'_>) -> Option<Draw> {
     Some(Draw::new(first, edits))
 }
 
-// Stages a batch that no desk drew, where there is room for it.
-fn staged(store: &mut Store<MemoryDisk>, draw: Draw) -> Result<bool, StoreFault>
+/// Stages a batch that no desk drew, where there is room for it.
+pub fn staged(store: &mut Store<MemoryDisk>, draw: Draw) -> Result<bool, StoreFault>
     ensures store { store.new.store ≡ store.old.store }
     ensures step { IfOk result (λ is_staged. IsTrue is_staged → store.new.step ≡ Staged) }
 {
@@ -186,8 +189,8 @@ fn gate_synced(store: &mut Store<MemoryDisk>) -> Result<Receipt, StoreFault>
     store.sync_gate()
 }
 
-// The receipt for a staged batch.
-fn sealed(store: &mut Store<MemoryDisk>) -> Result<Receipt, StoreFault>
+/// The receipt for a staged batch.
+pub fn sealed(store: &mut Store<MemoryDisk>) -> Result<Receipt, StoreFault>
     requires { store.old.step ≡ Staged }
     ensures store { store.new.store ≡ store.old.store }
     ensures own { IfOk result (λ receipt. receipt.store ≡ store.new.store) }
@@ -197,8 +200,8 @@ fn sealed(store: &mut Store<MemoryDisk>) -> Result<Receipt, StoreFault>
     gate_synced(store)
 }
 
-// What a receipt is for, of which the desk may know nothing.
-fn settled(desk: &mut Desk, receipt: Receipt) -> Answer
+/// What a receipt is for, of which the desk may know nothing.
+pub fn settled(desk: &mut Desk, receipt: Receipt) -> Answer
     requires { receipt.store ≡ desk.old.store }
     ensures store { desk.new.store ≡ desk.old.store }
 {
@@ -235,8 +238,8 @@ fn receipt(
     }
 }
 
-// The desk draws the edit in front of `/`, if it is one. The other one is left.
-fn draws(args: &mut Args<'_>, desk: &mut Desk)
+/// The desk draws the edit in front of `/`, if it is one. The other one is left.
+pub fn draws(args: &mut Args<'_>, desk: &mut Desk)
     ensures { desk.new.store ≡ desk.old.store }
 {
     let (own, other) = args.rest.split_once(" / ").unwrap_or((args.rest, ""));

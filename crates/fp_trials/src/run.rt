@@ -29,7 +29,7 @@ pub const ON_EVENTS: [&str; 8] = [
 
 const ON_EDITS: [&str; 5] = ["submit", "submits", "edit", "with", "batch"];
 
-const ON_PARTS: [&str; 3] = ["stop", "stray", "receipt"];
+const ON_PARTS: [&str; 4] = ["stop", "stray", "receipt", "confirm"];
 
 const ON_INPUT: [&str; 4] = ["input", "last", "raw", "turns"];
 

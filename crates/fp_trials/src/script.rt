@@ -2,7 +2,7 @@
 
 use crate::noted::on_noted;
 use crate::run::{repeat, step};
-use crate::seeded::on_seeds;
+use crate::seeded::{on_listed, on_seeds};
 use crate::sweep::sweep;
 use crate::text::judged;
 use crate::trial::{Answer, Fault, Trial};
@@ -70,7 +70,7 @@ impl<'a, R: Files + AllocGlobal + Wait> Answers for Script<'a, R> {
     /// which the latter answers.
     fn answer(&mut self, line: &str, out: &mut Text) {
         if line == "}" {
-            run_block(&mut self.trial, &mut self.block, out);
+            run_block(self.rt, &mut self.trial, &mut self.block, out);
         } else if !self.block.head.is_empty() {
             push_line(&mut self.block, line, out);
         } else if let Some(head) = head_of(line) {
@@ -93,17 +93,18 @@ fn push_line(block: &mut Block, line: &str, out: &mut Text) {
 fn head_of(line: &str) -> Option<&str> {
     let head = line.strip_suffix(" {")?;
     let (word, _) = first_word(head);
-    matches!(word, "for" | "sweep" | "alone").then_some(head)
+    matches!(word, "for" | "sweep" | "alone" | "stops").then_some(head)
 }
 
-// `for WORD ..`, `sweep`, `sweep half`, `alone`, `alone half`.
-fn run_block(trial: &mut Trial, block: &mut Block, out: &mut Text) {
+// `for WORD ..`, `sweep`, `sweep half`, `alone`, `alone half`, and the same words behind `stops`.
+fn run_block<R: Wait>(rt: &R, trial: &mut Trial, block: &mut Block, out: &mut Text) {
     let none = Vec::new(trial.alloc);
     let lines = mem::replace(&mut block.lines, none);
     let head = mem::replace(&mut block.head, out.another());
     let mut args = Args::of(trial.alloc, head.as_str());
     match args.word() {
         "for" => repeat(trial, &mut args, &lines, out),
+        "stops" => on_listed(rt, trial, &mut args, &lines, out),
         // A `}` without a block.
         "" => out.push("not understood"),
         word => sweep(trial, word, args.rest, &lines, out),

@@ -80,7 +80,8 @@ fn sweep_over(
     trial.told = told;
 }
 
-fn failing_at(is_alone: bool, call: u64) -> Failing {
+/// All calls from this one on fail, or it alone.
+pub fn failing_at(is_alone: bool, call: u64) -> Failing {
     if is_alone {
         Failing::At(call)
     } else {

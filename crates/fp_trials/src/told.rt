@@ -2,6 +2,7 @@
 
 use crate::trial::Answer;
 use fp_edit::{Edit, FlagSet};
+use fp_group_commit::StoreFault;
 use fp_transcript::{Text, number};
 use fp_world::{Answer as Reply, Event};
 use std::alloc::{AllocError, Global};
@@ -32,6 +33,8 @@ pub struct Told {
     newest: u64,
     told: u64,
     violations: u64,
+    // Whether a call of the disk has failed since the disk was opened.
+    is_failed: bool,
     // How many stops there were.
     pub stops: u64,
     // The kinds of answers that were given.
@@ -53,6 +56,7 @@ impl Told {
             newest: 0,
             told: 0,
             violations: 0,
+            is_failed: false,
             stops: 0,
             kinds: Vec::new(alloc),
         }
@@ -82,6 +86,7 @@ impl Told {
         let _ = &self.changes;
         self.newest = revision;
         self.told = revision;
+        self.is_failed = false;
     }
 
     /// Notes what events were answered.
@@ -94,6 +99,7 @@ impl Told {
 
     fn note(&mut self, event: &Event, answer: &Reply) -> Result<(), AllocError> {
         self.note_kind(kind_of(answer))?;
+        self.note_call(event, answer);
         match answer {
             Reply::Ticket(revision) => self.accept(event, *revision)?,
             Reply::Acked(revision) => self.tell_of(*revision),
@@ -102,6 +108,19 @@ impl Told {
             _ => {}
         }
         Ok(())
+    }
+
+    // From a call that fails on, and not before, each event that calls the disk has to be answered
+    // that the store has failed.
+    fn note_call(&mut self, event: &Event, answer: &Reply) {
+        let _ = &self.changes;
+        let is_refused = matches!(answer, Reply::Fault(StoreFault::Failed));
+        if calls_disk(event) && is_refused != self.is_failed {
+            self.lost();
+        }
+        if matches!(answer, Reply::Fault(StoreFault::Device)) {
+            self.is_failed = true;
+        }
     }
 
     fn note_kind(&mut self, kind: &'static str) -> Result<(), AllocError> {
@@ -225,11 +244,19 @@ fn mark_in(set: &FlagSet, key: u64) -> Option<Mark> {
     None
 }
 
+fn calls_disk(event: &Event) -> bool {
+    matches!(
+        event,
+        Event::Stage | Event::SyncBody | Event::OpenGate | Event::SyncGate | Event::Compact
+    )
+}
+
 fn kind_of(answer: &Reply) -> &'static str {
     match answer {
         Reply::NotNow => "not now",
         Reply::Memory => "memory",
         Reply::Refused(_) => "refused",
+        Reply::Fault(StoreFault::Device) => "device",
         Reply::Fault(_) => "fault",
         Reply::Ticket(_) => "ticket",
         Reply::Drawn(_) => "drawn",

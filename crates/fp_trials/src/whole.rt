@@ -157,8 +157,8 @@ pub fn made<R: Wait>(
     }
 }
 
-// What a line asks of a world.
-fn asked(trial: &mut Trial, word: &str, args: &mut Args<'_>) -> Option<Event> {
+/// What a line asks of a world.
+pub fn asked(trial: &mut Trial, word: &str, args: &mut Args<'_>) -> Option<Event> {
     match word {
         "submit" => edit_of(args).map(Event::Submit),
         "publish" => Some(Event::Publish),
