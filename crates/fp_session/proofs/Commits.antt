@@ -1,5 +1,5 @@
 -- What a crash may leave while a batch is sealed.
-use Rattle.std.proofs.Common.{◌≡◌, ◌≢◌, ◌⊎◌, ◌<◌, ◌≤◌, ◌+◌, ◌^◌, ℕ, true, false, List, [], ◌∷◌, ◌++◌, length, take, refl, sym, ap, subst, ◌∙◌, inl, inr, arith, append_assoc, append-nil, length-append}
+use Rattle.std.proofs.Common.{◌≡◌, ◌≢◌, ◌⊎◌, ◌<◌, ◌≤◌, ◌+◌, ◌^◌, ℕ, true, false, List, [], ◌∷◌, ◌++◌, length, refl, sym, ap, subst, ◌∙◌, inl, inr, arith, append_assoc, append-nil, length-append}
 use Rattle.std.proofs.lemmas.List.{take_at}
 use Rattle.fp_disk.specs.Crashes.{AtAnyMoment, EachCrash, SameHonesty}
 use Rattle.fp_disk.specs.Moments.{leaves_map, leaves_still, leaves_then}
@@ -18,7 +18,7 @@ use Rattle.fp_group_commit.specs.Tokens.{Identity}
 use Rattle.fp_desk.specs.Desk.{DeskState, log}
 use Rattle.fp_disk.specs.History.{MakesSome}
 use Rattle.fp_disk.specs.declared.history.CallKind.{CallKind}
-use Rattle.std.specs.Prelude.{Result, Ok, Err, IfErr, OnErr, OnOk}
+use Rattle.std.specs.Prelude.{Result, IfErr, OnErr, OnOk}
 use Rattle.fp_session.specs.Session.{BreaksOff, Commits, IsAhead, IsInStep, IsSealed, KeepsAll, KeepsOrGains, LacksRoomFor, Proceeds, StandsAhead, Works, batch_calls}
 use Rattle.fp_session.specs.Session.{whole_batch}
 use Rattle.fp_session.specs.SessionLaws.{works_on}
@@ -49,15 +49,6 @@ pub idle_keeps : {D : Type 0} (s : StoreState D) → s.step ≡ Idle → (c : Li
 idle_keeps s idle c (inl stands) = stands
 idle_keeps s idle c (inr both) = absurd (both.0 idle)
 
--- a store on the way to this batch leaves what was kept, or that and the batch
-pub leaves_either : {D : Type 0} (old s : StoreState D) (batch : List Change) → s.store ≡ old.store → s.sealed ≡ old.sealed → (s.step ≡ Idle) ⊎ (s.staged ≡ batch) → (c : List ℕ) → Leaves s c → KeepsOrGains old batch c
-leaves_either old s batch store sealed going c (inl stands) =
-    inl (subst (λ (u : State). StandsFor c u) (ap (λ (x : Identity). after_all x.start s.sealed) store ∙ ap (λ (l : List Change). after_all old.store.start l) sealed) stands)
-leaves_either old s batch store sealed (inl idle) c (inr both) = absurd (both.0 idle)
-leaves_either old s batch store sealed (inr staged) c (inr both) =
-    inr (subst (λ (u : State). StandsFor c u)
-    (ap (λ (x : Identity). after_all x.start (s.sealed ++ s.staged)) store ∙ ap (λ (l : List Change). after_all old.store.start (l ++ s.staged)) sealed ∙ ap (λ (l : List Change). after_all old.store.start (old.sealed ++ l)) staged) both.2)
-
 -- a store that keeps the same on the way to the same batch
 pub gains_as : {D : Type 0} (a b : StoreState D) (x y : List Change) → b.store ≡ a.store → b.sealed ≡ a.sealed → y ≡ x → (c : List ℕ) → KeepsOrGains b y c → KeepsOrGains a x c
 gains_as a b x y store sealed same c (inl stands) =
@@ -65,6 +56,12 @@ gains_as a b x y store sealed same c (inl stands) =
 gains_as a b x y store sealed same c (inr stands) =
     inr (subst (λ (u : State). StandsFor c u)
     (ap (λ (i : Identity). after_all i.start (b.sealed ++ y)) store ∙ ap (λ (l : List Change). after_all a.store.start (l ++ y)) sealed ∙ ap (λ (l : List Change). after_all a.store.start (a.sealed ++ l)) same) stands)
+
+-- a store on the way to this batch leaves what was kept, or that and the batch
+pub leaves_either : {D : Type 0} (old s : StoreState D) (batch : List Change) → s.store ≡ old.store → s.sealed ≡ old.sealed → (s.step ≡ Idle) ⊎ (s.staged ≡ batch) → (c : List ℕ) → Leaves s c → KeepsOrGains old batch c
+leaves_either old s batch store sealed going c (inl stands) = gains_as old s batch batch store sealed refl c (inl stands)
+leaves_either old s batch store sealed (inl idle) c (inr both) = absurd (both.0 idle)
+leaves_either old s batch store sealed (inr staged) c (inr both) = gains_as old s batch s.staged store sealed staged c (inr both.2)
 
 -- one call more
 pub call_more : {D : Type 0} (disk : Ghosts D) (old s : StoreState D) (batch : List Change) (first a b : D) → s.store ≡ old.store → s.sealed ≡ old.sealed → (s.step ≡ Idle) ⊎ (s.staged ≡ batch)
@@ -85,19 +82,14 @@ sealed_moment disk a s t batch idle same staged honest first second =
 
 -- ---- and of its desk
 ahead_at : (d : DeskState) (xs rest : List Change) → log d ≡ xs ++ rest → length d.settled ≤ length xs → IsAhead d (after_all d.store.start xs)
-ahead_at d xs rest is le =
-    let n = length xs in let len = ap length is in let all = length-append xs rest in
-    let cut : take n (log d) ≡ xs = ap (λ (l : List Change). take n l) is ∙ take_at xs rest n refl in
-    (n, le, omega (arith, len, all), ap (λ (l : List Change). after_all d.store.start l) (sym cut))
+ahead_at d xs rest is le = (length xs, le, grind (arith, length-append), grind (arith, take_at))
 
 front_ahead : (d : DeskState) (xs rest : List Change) (c : List ℕ) → log d ≡ xs ++ rest → length d.settled ≤ length xs → StandsFor c (after_all d.store.start xs) → StandsAhead d c
 front_ahead d xs rest c is le stands = (after_all d.store.start xs, ahead_at d xs rest is le, stands)
 
 -- what is ahead of a desk was ahead of it when less was settled
 pub ahead_on : (d e : DeskState) → e.store ≡ d.store → log e ≡ log d → length d.settled ≤ length e.settled → (u : State) → IsAhead e u → IsAhead d u
-ahead_on d e store all more u a =
-    let low = a.1 in let high = a.2 in let len = ap length all in
-    (a.0, omega (arith, low, more), omega (arith, high, len), a.3 ∙ ap (λ (x : Identity). after_all x.start (take a.0 (log e))) store ∙ ap (λ (l : List Change). after_all d.store.start (take a.0 l)) all)
+ahead_on d e store all more u a = grind arith
 
 pub stands_on : (d e : DeskState) → e.store ≡ d.store → log e ≡ log d → length d.settled ≤ length e.settled → (c : List ℕ) → StandsAhead e c → StandsAhead d c
 stands_on d e store all more c s = (s.0, ahead_on d e store all more s.0 s.1, s.2)
@@ -196,23 +188,14 @@ module _ {D : Type 0} (disk : Ghosts D) (s m t : StoreState D) (d mid : DeskStat
 
   -- it is on its way still
   pub same_log_drawn : (e : DeskState) → e ≡ mid → (e.store ≡ d.store) × (log e ≡ log d)
-  same_log_drawn e is = (
-    ap (λ (x : DeskState). x.store) (is ∙ draw.new_is),
-    ap log (is ∙ draw.new_is) ∙ ap (λ (l : List Change). d.settled ++ l) (sym draw.longest.parts) ∙ ap (λ (l : List Change). d.settled ++ (l ++ d.waiting)) (sym draw.none_out),
-  )
+  same_log_drawn e is = let none = draw.none_out in let parts = draw.longest.parts in let new = draw.new_is in grind (arith, none, parts, new, is, append_assoc)
 
   settled_is : (e : DeskState) → e ≡ record mid { settled = mid.settled ++ mid.drawn; drawn = []; last = mid.drawn } → e ≡ record d { settled = d.settled ++ group.changes; waiting = mid.waiting; last = group.changes }
-  settled_is e is = is ∙ ap (λ (x : DeskState). record x { settled = x.settled ++ x.drawn; drawn = []; last = x.drawn }) draw.new_is
-      ∙ ap (λ (l : List Change). record { store = d.store; settled = d.settled ++ group.changes; drawn = l; waiting = mid.waiting; stopped = d.stopped; last = group.changes }) (sym draw.none_out)
+  settled_is e is = let none = draw.none_out in let new = draw.new_is in grind (arith, none, new, is)
 
   -- or settled
   pub same_log : (e : DeskState) → e ≡ record mid { settled = mid.settled ++ mid.drawn; drawn = []; last = mid.drawn } → (e.store ≡ d.store) × (log e ≡ log d)
-  same_log e is =
-      let now = settled_is e is in (
-        ap (λ (x : DeskState). x.store) now,
-        ap log now ∙ append_assoc d.settled group.changes (d.drawn ++ mid.waiting) ∙ ap (λ (l : List Change). d.settled ++ (group.changes ++ (l ++ mid.waiting))) draw.none_out
-            ∙ ap (λ (l : List Change). d.settled ++ l) (sym draw.longest.parts) ∙ ap (λ (l : List Change). d.settled ++ (l ++ d.waiting)) (sym draw.none_out),
-      )
+  same_log e is = let none = draw.none_out in let parts = draw.longest.parts in let new = draw.new_is in grind (arith, none, parts, new, is, append_assoc)
 
   module _ (sealed : IsSealed disk.faults group.changes m t) (store : t.store ≡ m.store) (calls : disk.calls t.slots.journal.disk ≡ disk.calls m.slots.journal.disk ++ batch_calls) where
     pub works_sealed : Works disk s t
@@ -250,16 +233,13 @@ broken_batch disk m t early calls = record {
 }
 
 pub ok_more : {A E : Type 0} (r : Result A E) (P Q : Type 0) → (P → Q) → OnOk r P → OnOk r Q
-ok_more (Ok x) P Q f p = f p
-ok_more (Err e) P Q f p = tt
+ok_more r P Q f p = grind arith
 
 pub ok_or_err : {A E : Type 0} (r : Result A E) (P Q R : Type 0) → OnOk r P → OnErr r Q → (P → R) → (Q → R) → R
-ok_or_err (Ok x) P Q R p q f h = f p
-ok_or_err (Err e) P Q R p q f h = h q
+ok_or_err r P Q R p q f h = grind arith
 
 pub err_any : {A E : Type 0} (r : Result A E) (P : Type 0) → P → IfErr r (λ _. P)
-err_any (Ok x) P p = tt
-err_any (Err e) P p = p
+err_any r P p = grind arith
 
 -- what is ahead of a desk at each moment of a call is so at its end
 pub present_ahead : {D : Type 0} (disk : Ghosts D) (old new : D) (d e : DeskState) → ((x : D) (t : ℕ) (c : List ℕ) → disk.honest x → t ≤ disk.moment x → IsOutcome (disk.unsynced x) c → disk.crash_states_since x t c)

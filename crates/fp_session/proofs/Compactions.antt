@@ -1,6 +1,6 @@
 -- A store over the steps of compactions, and how few of them are left.
 use Rattle.std.proofs.Common.{◌≡◌, ◌≢◌, ◌<◌, ◌≤◌, ◌+◌, ◌-◌, ◌*◌, ◌^◌, ℕ, suc, true, false, [], ◌∷◌, ◌++◌, refl, sym, ap, subst, ◌∙◌, arith, append-nil}
-use Rattle.std.specs.Prelude.{if◌then◌else◌, nat_lt}
+use Rattle.std.specs.Prelude.{nat_lt}
 use Rattle.std.proofs.Math.Nat.{suc-mul}
 use borrow.Author.Tests.{leb-true, leb-false}
 use Rattle.fp_disk.specs.Crashes.{AtAnyMoment, EachCrash, SameHonesty}
@@ -10,9 +10,9 @@ use Rattle.fp_disk.specs.Outcomes.{IsOutcome}
 use Rattle.fp_disk.specs.declared.disk.Disk.{Ghosts}
 use Rattle.fp_edit.specs.Flags.{State}
 use Rattle.fp_edit.specs.Log.{after_all}
-use Rattle.fp_journal.specs.declared.journal.Phase.TheVariants.{Idle, Failed}
+use Rattle.fp_journal.specs.declared.journal.Phase.TheVariants.{Idle}
 use Rattle.fp_recovery.specs.Stands.{StandsFor}
-use Rattle.fp_slots.specs.declared.places.TheConstants.{IMAGE_PLACE, PART}
+use Rattle.fp_slots.specs.declared.places.TheConstants.{IMAGE_PLACE}
 use Rattle.fp_slots.specs.declared.slots.Step.{Step}
 use Rattle.fp_slots.specs.declared.slots.Step.TheVariants.{Begin, Close, SyncClose, Part, Tail, SyncBody, Open, SyncOpen}
 use Rattle.fp_compaction.specs.Steps.{calls_of, next_left, next_step}
@@ -21,7 +21,7 @@ use Rattle.fp_group_commit.specs.Store.{Leaves, MayCompact, StoreState, sealed_s
 use Rattle.fp_group_commit.specs.Tokens.{Identity}
 use Rattle.fp_session.specs.Session.{BreaksOff, Halts, KeepsAll, Proceeds, Works}
 use Rattle.fp_session.specs.Session.{compaction_step}
-use Rattle.fp_session.specs.SessionLaws.{breaks_on, no_works, works_on}
+use Rattle.fp_session.specs.SessionLaws.{breaks_on, works_on}
 use Rattle.fp_session.specs.declared.commit.CommitFault.{CommitFault}
 use Rattle.fp_session.proofs.Commits.{honest_on, idle_keeps, next_moment, weaker}
 
@@ -64,10 +64,6 @@ module _ {D : Type 0} (disk : Ghosts D) where
         now = k.now;
         honest = honest_on disk a.slots.journal.disk b.slots.journal.disk c.slots.journal.disk h.honest k.honest;
       }
-
-  pub proceeds_none : ((x : D) (c : _) → disk.honest x → disk.crash_states_since x (disk.moment x) c → IsOutcome (disk.unsynced x) c)
-      → (a : StoreState D) → a.slots.journal.phase ≢ Failed → EachCrash disk a.slots.journal.disk (λ c. StandsFor c (sealed_set a)) → Proceeds disk a a
-  proceeds_none only_now a well keeps = record { keeps = keeps_none only_now a keeps; well = well; no_failure = refl; works = no_works disk a }
 
   pub proceeds_then : (a b c : StoreState D) → Proceeds disk a b → Proceeds disk b c → Proceeds disk a c
   proceeds_then a b c h k = record {
@@ -121,42 +117,13 @@ abbrev pub work_left : {D : Type 0} → StoreState D → ℕ
 work_left s = (2 ^ 64 - s.slots.generation) * (IMAGE_PLACE + s.store.start.limit + 9)
     + steps_left s.slots.step s.slots.left (IMAGE_PLACE + s.store.start.limit)
 
-below : (n m x y : ℕ) → m ≡ n → x < y → m + x < n + y
-below n m x y same lt = omega (arith, same, lt)
-
 -- a generation more is worth all steps of a compaction
 worth : (r most : ℕ) → r * (most + 9) + (most + 8) < suc r * (most + 9) + 1
-worth r most = let more : suc r * (most + 9) ≡ r * (most + 9) + (most + 9) = suc-mul r (most + 9) in subst (λ (x : ℕ). r * (most + 9) + (most + 8) < x + 1) (sym more) (apart (r * (most + 9)) most)
-  where
-    apart : (n m : ℕ) → n + (m + 8) < n + (m + 9) + 1
-    apart n m = omega arith
+worth r most = grind (arith, suc-mul)
 
 falls_at : (p : Step) (left next g h most : ℕ) → (p ≢ Begin → next ≡ next_left p left) → (p ≡ Begin → next + 1 ≤ most) → (p ≢ SyncOpen → h ≡ g) → (p ≡ SyncOpen → h ≡ g + 1) → h < 2 ^ 64
     → (2 ^ 64 - h) * (most + 9) + steps_left (next_step p left) next most < (2 ^ 64 - g) * (most + 9) + steps_left p left most
-falls_at Begin left next g h most stays begun same turned small =
-    let few = begun refl in below _ _ _ _ (ap (λ (x : ℕ). (2 ^ 64 - x) * (most + 9)) (same (λ e. absurd (cc e)))) (omega (arith, few))
-falls_at Close left next g h most stays begun same turned small =
-    let is = stays (λ e. absurd (cc e)) in below _ _ _ _ (ap (λ (x : ℕ). (2 ^ 64 - x) * (most + 9)) (same (λ e. absurd (cc e)))) (omega (arith, is))
-falls_at SyncClose left next g h most stays begun same turned small =
-    let is = stays (λ e. absurd (cc e)) in below _ _ _ _ (ap (λ (x : ℕ). (2 ^ 64 - x) * (most + 9)) (same (λ e. absurd (cc e)))) (omega (arith, is))
-falls_at Part left next g h most stays begun same turned small =
-    let is = stays (λ e. absurd (cc e)) in below _ _ _ _ (ap (λ (x : ℕ). (2 ^ 64 - x) * (most + 9)) (same (λ e. absurd (cc e)))) (part is)
-  where
-    part : next ≡ left - PART → steps_left (next_step Part left) next most < left + 5
-    part is = elim (nat_lt PART left) as (λ t. nat_lt PART left ≡ t → steps_left (if t then Part else Tail) next most < left + 5) [
-      | true ↦ λ e. let more = leb-true _ _ e in omega (arith, more, is)
-      | false ↦ λ e. omega arith
-    ] refl
-falls_at Tail left next g h most stays begun same turned small =
-    below _ _ _ _ (ap (λ (x : ℕ). (2 ^ 64 - x) * (most + 9)) (same (λ e. absurd (cc e)))) (omega arith)
-falls_at SyncBody left next g h most stays begun same turned small =
-    below _ _ _ _ (ap (λ (x : ℕ). (2 ^ 64 - x) * (most + 9)) (same (λ e. absurd (cc e)))) (omega arith)
-falls_at Open left next g h most stays begun same turned small =
-    below _ _ _ _ (ap (λ (x : ℕ). (2 ^ 64 - x) * (most + 9)) (same (λ e. absurd (cc e)))) (omega arith)
-falls_at SyncOpen left next g h most stays begun same turned small =
-    let is = turned refl in
-    let left_over : 2 ^ 64 - g ≡ suc (2 ^ 64 - h) = omega (arith, is, small) in
-    subst (λ (x : ℕ). (2 ^ 64 - h) * (most + 9) + (most + 8) < x * (most + 9) + 1) (sym left_over) (worth (2 ^ 64 - h) most)
+falls_at p left next g h most stays begun same turned small = grind (arith, worth)
 
 pub falls : {D : Type 0} (faults : D → ℕ) (a b : StoreState D) → b.store ≡ a.store → Compacts faults a b → work_left b < work_left a
 falls faults a b store c =
@@ -171,23 +138,16 @@ falls faults a b store c =
 -- ---- where a step may not be taken
 -- none runs, and no generation is left
 pub used_up : {D : Type 0} (s : StoreState D) → s.step ≡ Idle → (MayCompact s → ⊥) → (s.slots.step ≡ Begin) × (2 ^ 64 ≤ s.slots.generation + 1)
-used_up s idle never = at s.slots.step refl
+used_up s idle never = (begins, large)
   where
-    runs : (p : Step) → p ≡ s.slots.step → (p ≡ Begin → ⊥) → ⊥
-    runs p is not = never (record { next = λ b. absurd (not (is ∙ b)); still = λ t. idle })
+    nothing_else : (p : Step) → ((p ≡ Begin → ⊥) → ⊥) → p ≡ Begin
+    nothing_else p not = grind arith
 
-    large : s.slots.step ≡ Begin → 2 ^ 64 ≤ s.slots.generation + 1
-    large b = elim (nat_lt (s.slots.generation + 1) (2 ^ 64)) as (λ t. nat_lt (s.slots.generation + 1) (2 ^ 64) ≡ t → 2 ^ 64 ≤ s.slots.generation + 1) [
+    begins : s.slots.step ≡ Begin
+    begins = nothing_else s.slots.step (λ not. never (record { next = λ b. absurd (not b); still = λ t. idle }))
+
+    large : 2 ^ 64 ≤ s.slots.generation + 1
+    large = elim (nat_lt (s.slots.generation + 1) (2 ^ 64)) as (λ t. nat_lt (s.slots.generation + 1) (2 ^ 64) ≡ t → 2 ^ 64 ≤ s.slots.generation + 1) [
       | true ↦ λ e. absurd (never (record { next = λ _. leb-true _ _ e; still = λ t. idle }))
       | false ↦ λ e. (let no = leb-false _ _ e in omega (arith, no))
     ] refl
-
-    at : (p : Step) → p ≡ s.slots.step → (s.slots.step ≡ Begin) × (2 ^ 64 ≤ s.slots.generation + 1)
-    at Begin is = (sym is, large (sym is))
-    at Close is = absurd (runs Close is (λ e. absurd (cc e)))
-    at SyncClose is = absurd (runs SyncClose is (λ e. absurd (cc e)))
-    at Part is = absurd (runs Part is (λ e. absurd (cc e)))
-    at Tail is = absurd (runs Tail is (λ e. absurd (cc e)))
-    at SyncBody is = absurd (runs SyncBody is (λ e. absurd (cc e)))
-    at Open is = absurd (runs Open is (λ e. absurd (cc e)))
-    at SyncOpen is = absurd (runs SyncOpen is (λ e. absurd (cc e)))

@@ -1,19 +1,19 @@
 -- How runs end, with what a writer then holds.
-use Rattle.std.proofs.Common.{◌≡◌, ◌<◌, ◌≤◌, ℕ, List, [], ◌++◌, length, map, Bool, true, Option, Some, IfSome, IfErr, IfOk, OnOk, MatchResult, Result, Ok, Err, refl, sym, ap, subst, ◌∙◌, arith}
+use Rattle.std.proofs.Common.{◌≡◌, ◌<◌, ◌≤◌, ℕ, List, [], ◌++◌, length, map, Bool, Option, IfErr, OnOk, MatchResult, Result, Ok, Err, refl, sym, ap, subst, ◌∙◌, arith}
 use Rattle.std.specs.Io.KnownBytes.{Appends}
-use Rattle.fp_base.proofs.Known.{Appends-more, IfSome-each}
+use Rattle.fp_base.proofs.Known.{Appends-more}
 use Rattle.fp_edit.specs.Flags.{State}
 use Rattle.fp_session.specs.Asks.{Ask}
 use Rattle.fp_session.specs.Progress.{Ends, EndsOver, IsAt, IsAtWith, IsBroken, IsBrokenWith, IsEnded, IsSentFurther, StopsAt}
 use Rattle.fp_session.specs.Reply.{Reply, reply_of_code}
 use Rattle.fp_session.specs.Run.{after, IsAfterPrefix, IsRun, IsRunWritten, IsToldBy, script}
-use Rattle.fp_session.specs.StoreRun.{StoreRun}
+use Rattle.fp_session.proofs.RunPromise.{RunPromise}
 use Rattle.fp_session.specs.declared.edit_store.EditStore.{Ghosts}
 use Rattle.fp_session.specs.declared.fault.ApplyFault.{ApplyFault}
-use Rattle.fp_session.specs.declared.fault.ApplyFault.TheVariants.{Device, StoreFailed, Memory, CommitMemory}
+use Rattle.fp_session.specs.declared.fault.ApplyFault.TheVariants.{Device}
 use Rattle.fp_session.specs.declared.replies.Replies.{Replies}
 use Rattle.fp_session.specs.declared.reply.Reply as code
-use Rattle.fp_session.proofs.ProgressLemmas.{at-failed, broken-wider, is_at-broken, stops-more}
+use Rattle.fp_session.proofs.ProgressLemmas.{at-failed, broken-wider, course-as, is_at-broken}
 use Rattle.fp_session.proofs.RunLemmas.{prefix-more, prefix-whole, told_by-more, written-flags, written-script}
 
 module _ {E : Type 0} (store : Ghosts E) (first now : E) where
@@ -46,12 +46,6 @@ module _ {E : Type 0} (store : Ghosts E) (first now : E) where
         told = λ same u a. (sent ++ r.text.items, Appends-more before held now_held sent r.text.items was (more same), wider.told u a);
         stops = wider.stops;
       }
-
-  pub broken_with-more : (asked more : List Ask) (most : ℕ) (before now_held : Option (List ℕ)) (f0 f : ℕ) (fault : ApplyFault) → IsBrokenWith store most first now asked before now_held f0 f fault → IsBrokenWith store most first now (asked ++ more) before now_held f0 f fault
-  broken_with-more asked more most before now_held f0 f fault b = record {
-    told = λ same u a. told_by-more (store.state first) (store.state now) u asked more most fault before now_held (b.told same u a);
-    stops = stops-more store first now asked more fault b.stops;
-  }
 
   -- ---- more was sent
   pub at-further : (asked : List Ask) (sent : List ℕ) (before now_held : Option (List ℕ)) (r q : Replies) → IsAt store first now asked sent r → IsSentFurther before now_held sent r q → IsAtWith store first now asked before now_held q
@@ -105,74 +99,49 @@ module _ {E : Type 0} (store : Ghosts E) (first now : E) where
     stops = record { left = prefix-whole (store.state first) (store.state now) asked e.replies e.run; course = e.led; leaves = e.leaves };
   })
 
-  -- ---- what a run that ended comes to
-  module _ (most : ℕ) (asked : List Ask) (before now_held : Option (List ℕ)) (f0 f : ℕ) where
-    pub ends-script : (outcome : Result Bool ApplyFault) → Ends store most first now asked before now_held f0 f outcome → IfOk outcome (λ told. told ≡ true → Appends before now_held (script (store.state first) asked))
-    ends-script (Ok told) e = λ all. written-script (store.state first) asked told before now_held (store.state now) e.written all
-    ends-script (Err fault) e = tt
-
-    pub ends-flags : (outcome : Result Bool ApplyFault) → Ends store most first now asked before now_held f0 f outcome → IfOk outcome (λ told. told ≡ true → store.state now ≡ after (store.state first) asked)
-    ends-flags (Ok told) e = λ all. written-flags (store.state first) asked told before now_held (store.state now) e.written all
-    ends-flags (Err fault) e = tt
-
-    pub ends-run : (outcome : Result Bool ApplyFault) → Ends store most first now asked before now_held f0 f outcome → IfOk outcome (λ told. IsRunWritten (store.state first) asked told before now_held (store.state now))
-    ends-run (Ok told) e = e.written
-    ends-run (Err fault) e = tt
-
-    pub ends-kept : (outcome : Result Bool ApplyFault) → Ends store most first now asked before now_held f0 f outcome → OnOk outcome ((u : State) → store.may_stand now u → u ≡ store.state now)
-    ends-kept (Ok told) e = e.kept
-    ends-kept (Err fault) e = tt
-
-    pub ends-told : (outcome : Result Bool ApplyFault) → Ends store most first now asked before now_held f0 f outcome → IfErr outcome (λ e. f ≡ f0 → (u : State) → store.may_stand now u → IsToldBy (store.state first) asked most e before now_held (store.state now) u)
-    ends-told (Ok told) e = tt
-    ends-told (Err fault) e = e.told
-
-    pub ends-left : (outcome : Result Bool ApplyFault) → Ends store most first now asked before now_held f0 f outcome → IsAfterPrefix (store.state first) asked (store.state now)
-    ends-left (Ok told) e = prefix-whole (store.state first) (store.state now) asked e.written.replies e.written.run
-    ends-left (Err fault) e = e.stops.left
-
-    pub ends-leaves : (outcome : Result Bool ApplyFault) → Ends store most first now asked before now_held f0 f outcome → store.leaves first now (IsAfterPrefix (store.state first) asked)
-    ends-leaves (Ok told) e = e.leaves
-    ends-leaves (Err fault) e = e.stops.leaves
-
-    -- nothing goes on at its end
-    pub ends-rests : (outcome : Result Bool ApplyFault) → Ends store most first now asked before now_held f0 f outcome → OnOk outcome (store.rests now)
-    ends-rests (Ok told) e = e.rests
-    ends-rests (Err fault) e = tt
-
-    -- whatever else what may stand is
-    pub ends-course : (P : State → Type 0) → ((u : State) → IsAfterPrefix (store.state first) asked u → P u) → (outcome : Result Bool ApplyFault) → Ends store most first now asked before now_held f0 f outcome → StoreRun store P first now outcome
-    ends-course P weaker (Ok told) e = e.led
-    ends-course P weaker (Err fault) e = by_fault fault e.stops.course
-      where
-        by_fault : (x : ApplyFault) → StoreRun {A = Unit {0}} store (IsAfterPrefix (store.state first) asked) first now (Err x) → StoreRun {A = Bool} store P first now (Err x)
-        by_fault Device c = c
-        by_fault Memory c = c
-        by_fault StoreFailed c = record { before = c.before; led = c.led; asked = λ u a. weaker u (c.asked u a); failed = c.failed }
-        by_fault CommitMemory c = record { before = c.before; led = c.led; asked = λ u a. weaker u (c.asked u a); failed = c.failed }
-
   -- ---- over a source
-  module _ (most : ℕ) (asks : List Ask → Type 0) (before now_held : Option (List ℕ)) (f0 f : ℕ) where
-    pub over-all : (outcome : Result Bool ApplyFault) → EndsOver store most first now asks before now_held f0 f outcome → (all : List Ask) → asks all → Ends store most first now all before now_held f0 f outcome
-    over-all (Ok told) e all is = subst (λ (l : List Ask). Ends store most first now l before now_held f0 f (Ok told)) (e.whole all is) e.ends
-    over-all (Err fault) e all is =
-        let p = e.part all is in
-        subst (λ (l : List Ask). IsBrokenWith store most first now l before now_held f0 f fault) p.1 (broken_with-more e.asked p.0 most before now_held f0 f fault e.ends)
+  -- that had asked so much where it broke off
+  pub broke-over : (most : ℕ) (asks : List Ask → Type 0) (before now_held : Option (List ℕ)) (f0 f1 f : ℕ) (fault : ApplyFault) (asked : List Ask) → ((all : List Ask) → asks all → (later : List Ask) × (asked ++ later ≡ all)) → f1 ≡ f0
+      → IsBrokenWith store most first now asked before now_held f1 f fault → EndsOver store most first now asks before now_held f0 f (Err fault)
+  broke-over most asks before now_held f0 f1 f fault asked part same broken =
+      record { asked = asked; part = part; whole = tt; ends = subst (λ (n : ℕ). IsBrokenWith store most first now asked before now_held n f fault) same broken }
 
-    pub over-prefix : (outcome : Result Bool ApplyFault) (e : EndsOver store most first now asks before now_held f0 f outcome) (u : State) → IsAfterPrefix (store.state first) e.asked u → (all : List Ask) → asks all → IsAfterPrefix (store.state first) all u
-    over-prefix outcome e u p all is =
-        let q = e.part all is in
-        subst (λ (xs : List Ask). IsAfterPrefix (store.state first) xs u) q.1 (prefix-more (store.state first) u e.asked q.0 p)
+  -- what is promised of it
+  module _ (most : ℕ) (asks : List Ask → Type 0) (before now_held : Option (List ℕ)) (f0 f : ℕ) (Of : (List Ask → Type 0) → Type 0) (known : (P : List Ask → Type 0) → ((all : List Ask) → asks all → P all) → Of P) where
+    -- what some first of it leaves
+    abbrev Left : State → Type 0
+    Left u = Of (λ xs. IsAfterPrefix (store.state first) xs u)
 
--- what holds of an outcome wherever an input is known
-pub ok-some : {A B : Type 0} (r : Result A ApplyFault) (o : Option B) (C : A → Type 0) (P : A → B → Type 0) → ((x : B) → o ≡ Some x → IfOk r (λ a. C a → P a x)) → IfOk r (λ a. C a → IfSome o (P a))
-ok-some (Ok a) o C P h = λ c. IfSome-each o (P a) (λ x is. h x is c)
-ok-some (Err e) o C P h = tt
+    within : (outcome : Result Bool ApplyFault) (e : EndsOver store most first now asks before now_held f0 f outcome) (u : State) → IsAfterPrefix (store.state first) e.asked u → Left u
+    within outcome e u p = known (λ xs. IsAfterPrefix (store.state first) xs u) (λ all is.
+        let q = e.part all is in subst (λ (xs : List Ask). IsAfterPrefix (store.state first) xs u) q.1 (prefix-more (store.state first) u e.asked q.0 p))
 
-pub ok-each : {A B : Type 0} (r : Result A ApplyFault) (o : Option B) (P : A → B → Type 0) → ((x : B) → o ≡ Some x → IfOk r (λ a. P a x)) → IfOk r (λ a. IfSome o (P a))
-ok-each (Ok a) o P h = IfSome-each o (P a) (λ x is. h x is)
-ok-each (Err e) o P h = tt
-
-pub err-some : {A B : Type 0} (r : Result A ApplyFault) (o : Option B) (C : Type 0) (D : State → Type 0) (P : ApplyFault → State → B → Type 0) → ((x : B) → o ≡ Some x → IfErr r (λ e. C → (u : State) → D u → P e u x)) → IfErr r (λ e. C → (u : State) → D u → IfSome o (P e u))
-err-some (Ok a) o C D P h = tt
-err-some (Err e) o C D P h = λ c u d. IfSome-each o (P e u) (λ x is. h x is c u d)
+    pub promised : (outcome : Result Bool ApplyFault) → EndsOver store most first now asks before now_held f0 f outcome → RunPromise store Of most first now before now_held f0 f outcome
+    promised (Ok told) e = record {
+      script = λ all. known (λ xs. Appends before now_held (script (store.state first) xs)) (λ xs is. written-script (store.state first) xs told before now_held (store.state now) (written xs is) all);
+      flags = λ all. known (λ xs. store.state now ≡ after (store.state first) xs) (λ xs is. written-flags (store.state first) xs told before now_held (store.state now) (written xs is) all);
+      run = known (λ xs. IsRunWritten (store.state first) xs told before now_held (store.state now)) written;
+      kept = e.ends.kept;
+      told = tt;
+      left = within (Ok told) e (store.state now) (prefix-whole (store.state first) (store.state now) e.asked e.ends.written.replies e.ends.written.run);
+      any_moment = store.leaves_as first now (IsAfterPrefix (store.state first) e.asked) Left (within (Ok told) e) e.ends.leaves;
+      rests = e.ends.rests;
+      course = e.ends.led;
+    }
+      where
+        written : (xs : List Ask) → asks xs → IsRunWritten (store.state first) xs told before now_held (store.state now)
+        written xs is = subst (λ (l : List Ask). IsRunWritten (store.state first) l told before now_held (store.state now)) (e.whole xs is) e.ends.written
+    promised (Err fault) e = record {
+      script = tt;
+      flags = tt;
+      run = tt;
+      kept = tt;
+      told = λ same u a. known (λ xs. IsToldBy (store.state first) xs most fault before now_held (store.state now) u) (λ all is.
+          let q = e.part all is in
+          subst (λ (xs : List Ask). IsToldBy (store.state first) xs most fault before now_held (store.state now) u) q.1
+          (told_by-more (store.state first) (store.state now) u e.asked q.0 most fault before now_held (e.ends.told same u a)));
+      left = within (Err fault) e (store.state now) e.ends.stops.left;
+      any_moment = store.leaves_as first now (IsAfterPrefix (store.state first) e.asked) Left (within (Err fault) e) e.ends.stops.leaves;
+      rests = tt;
+      course = course-as store (Unit {0}) Bool first now (IsAfterPrefix (store.state first) e.asked) Left (within (Err fault) e) fault e.ends.stops.course;
+    }

@@ -6,4 +6,5 @@ pub mod RunLemmas
 pub mod ProgressLemmas
 pub mod Sourcing
 pub mod Readings
+pub mod RunPromise
 pub mod Endings

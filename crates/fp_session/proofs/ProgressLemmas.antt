@@ -6,7 +6,7 @@ use Rattle.std.specs.List.{list_all}
 use Rattle.fp_edit.specs.Flags.{State}
 use Rattle.fp_session.specs.Asks.{Ask}
 use Rattle.fp_session.specs.Fault.{of_commit}
-use Rattle.fp_session.specs.Progress.{At, IsAt, IsBroken, IsEnded, StopsAt, Takes}
+use Rattle.fp_session.specs.Progress.{At, IsAt, IsBroken, IsEnded, IsToldUpTo, StopsAt, Takes}
 use Rattle.fp_session.specs.Reply.{Reply, is_told, reply_of_code, texts_of, told_if}
 use Rattle.fp_session.specs.Run.{Answers, IsRun, IsAfterPrefix, IsTold, last_replies, most_open, show_line}
 use Rattle.fp_session.specs.StoreRun.{StoreRun}
@@ -14,10 +14,11 @@ use Rattle.fp_session.specs.declared.commit.CommitFault.{CommitFault}
 use Rattle.fp_session.specs.declared.commit.CommitFault.TheVariants as commit
 use Rattle.fp_session.specs.declared.edit_store.EditStore.{Ghosts}
 use Rattle.fp_session.specs.declared.fault.ApplyFault.{ApplyFault}
-use Rattle.fp_session.specs.declared.fault.ApplyFault.TheVariants.{Device, StoreFailed, Memory, CommitMemory}
+use Rattle.fp_session.specs.declared.fault.ApplyFault.TheVariants.{Device, Memory}
 use Rattle.fp_session.specs.declared.replies.Replies.{Replies}
+use Rattle.fp_session.specs.declared.replies.Telling.{Telling}
 use Rattle.fp_session.specs.declared.reply.Reply as code
-use Rattle.fp_session.proofs.RunLemmas.{run-append, run-lengths, run-single, run-none, texts_of-append, prefix-start, prefix-whole, prefix-more, prefix-behind, told-more, told_if-kept}
+use Rattle.fp_session.proofs.RunLemmas.{run-append, run-lengths, run-single, run-none, texts_of-append, prefix-start, prefix-whole, prefix-more, prefix-behind, told-more, told_if-kept, told_up_to-all}
 
 module _ {E : Type 0} (store : Ghosts E) where
   -- nothing was asked yet
@@ -124,29 +125,28 @@ module _ {E : Type 0} (store : Ghosts E) where
         leaves = next_leaves;
       }
 
-    few_open : (most : ℕ) → length waiting ≤ most → length i.batch ≤ most
-    few_open most le = let same = run-lengths i.kept (store.state now) i.batch waiting i.on in omega (arith, le, same)
+    -- ---- what is told where it breaks off: what was sent, and at most so much of what waited
+    at-told : (taken u : State) (most : ℕ) (fault : ApplyFault) (all : List ℕ) → taken ≡ store.state now → store.may_stand now u → length waiting ≤ most_open fault most → all ≡ sent ++ (text ++ texts_of (last_replies fault waiting)) → IsTold start asked most fault all taken u
+    at-told taken u most fault all same a le is = record {
+      done = i.done;
+      batch = i.batch;
+      later = [];
+      kept = i.kept;
+      replies = i.replies;
+      waiting = waiting;
+      split = i.split ∙ ap (λ (l : List Ask). i.done ++ l) (sym (append-nil i.batch));
+      run = i.run;
+      on = subst (λ s. IsRun i.kept i.batch waiting s) (sym same) i.on;
+      few = let len = run-lengths i.kept (store.state now) i.batch waiting i.on in omega (arith, le, len);
+      holds = i.ahead u a;
+      written = is ∙ sym (append_assoc sent text (texts_of (last_replies fault waiting))) ∙ ap (λ (l : List ℕ). l ++ texts_of (last_replies fault waiting)) i.written ∙ sym (texts_of-append i.replies (last_replies fault waiting));
+    }
 
     -- ---- what waited isn't kept
     pub seal-broken : (next : E) (q : Replies) (most : ℕ) (f : CommitFault) → store.state next ≡ store.state now → ((u : State) → store.may_stand next u → store.may_stand now u)
         → store.leaves now next (store.may_stand now) → store.fails_on f now next → q.text.items ≡ text ++ texts_of (map (told_if false) waiting) → length waiting ≤ most → IsBroken store most first next asked sent q (of_commit f)
     seal-broken next q most f same ahead moment fails texts le = record {
-      told = λ u a. record {
-        done = i.done;
-        batch = i.batch;
-        later = [];
-        kept = i.kept;
-        replies = i.replies;
-        waiting = waiting;
-        split = i.split ∙ ap (λ (l : List Ask). i.done ++ l) (sym (append-nil i.batch));
-        run = i.run;
-        on = subst (λ s. IsRun i.kept i.batch waiting s) (sym same) i.on;
-        few = opened f;
-        holds = i.ahead u (ahead u a);
-        written =
-            ap (λ (l : List ℕ). sent ++ l) texts ∙ sym (append_assoc sent text (texts_of (map (told_if false) waiting)))
-            ∙ ap (λ (l : List ℕ). l ++ texts_of (map (told_if false) waiting)) i.written ∙ sym (texts_of-append i.replies (map (told_if false) waiting)) ∙ ap (λ (rs : List Reply). texts_of (i.replies ++ rs)) (lasts f);
-      };
+      told = λ u a. at-told (store.state next) u most (of_commit f) (sent ++ q.text.items) same (ahead u a) (opened f) (ap (λ (l : List ℕ). sent ++ l) texts ∙ ap (λ (rs : List Reply). sent ++ (text ++ texts_of rs)) (lasts f));
       stops = record {
         left = subst (λ s. IsAfterPrefix start asked s) (sym same) at-left;
         course = failed f fails;
@@ -158,13 +158,11 @@ module _ {E : Type 0} (store : Ghosts E) where
         failed commit.StoreFailed h = record { before = now; led = i.led; asked = at-ahead; failed = h }
         failed commit.Memory h = record { before = now; led = i.led; asked = at-ahead; failed = h }
 
-        opened : (f : CommitFault) → length i.batch ≤ most_open (of_commit f) most
-        opened commit.StoreFailed = few_open most le
-        opened commit.Memory = few_open most le
+        opened : (f : CommitFault) → length waiting ≤ most_open (of_commit f) most
+        opened f = grind arith
 
         lasts : (f : CommitFault) → map (told_if false) waiting ≡ last_replies (of_commit f) waiting
-        lasts commit.StoreFailed = refl
-        lasts commit.Memory = refl
+        lasts f = grind arith
 
     -- ---- what is done beside it went on
     pub at-gone : (next : E) → store.state next ≡ store.state now → ((u : State) → store.may_stand next u → store.may_stand now u) → store.leaves now next (store.may_stand now) → store.continues_to now next
@@ -187,44 +185,28 @@ module _ {E : Type 0} (store : Ghosts E) where
     -- ---- memory is wanting here
     pub at-broken : (q : Replies) (most : ℕ) → q.text.items ≡ text → length waiting ≤ most → IsBroken store most first now asked sent q Memory
     at-broken q most same le = record {
-      told = λ u a. record {
-        done = i.done;
-        batch = i.batch;
-        later = [];
-        kept = i.kept;
-        replies = i.replies;
-        waiting = waiting;
-        split = i.split ∙ ap (λ (l : List Ask). i.done ++ l) (sym (append-nil i.batch));
-        run = i.run;
-        on = i.on;
-        few = few_open most le;
-        holds = i.ahead u a;
-        written = ap (λ (l : List ℕ). sent ++ l) same ∙ i.written ∙ ap texts_of (sym (append-nil i.replies));
-      };
+      told = λ u a. at-told (store.state now) u most Memory (sent ++ q.text.items) refl a le (ap (λ (l : List ℕ). sent ++ l) (same ∙ sym (append-nil text)));
       stops = record { left = at-left; course = i.led; leaves = i.leaves };
     }
 
     -- ---- a stream failed here, where nothing waits and all was sent
     pub at-failed : waiting ≡ [] → text ≡ [] → (most : ℕ) (u : State) → store.may_stand now u → IsTold start asked most Device sent (store.state now) u
-    at-failed none empty most u a = record {
-      done = i.done;
-      batch = i.batch;
-      later = [];
-      kept = i.kept;
-      replies = i.replies;
-      waiting = waiting;
-      split = i.split ∙ ap (λ (l : List Ask). i.done ++ l) (sym (append-nil i.batch));
-      run = i.run;
-      on = i.on;
-      few = let same = run-lengths i.kept (store.state now) i.batch waiting i.on in let zero = ap length none in omega (arith, same, zero);
-      holds = i.ahead u a;
-      written = sym (append-nil sent) ∙ ap (λ (l : List ℕ). sent ++ l) (sym empty) ∙ i.written ∙ ap texts_of (sym (append-nil i.replies));
-    }
+    at-failed none empty most u a = let zero = ap length none in
+        at-told (store.state now) u most Device sent refl a (omega (arith, zero)) (sym (append-nil sent) ∙ ap (λ (l : List ℕ). sent ++ l) (sym empty ∙ sym (append-nil text)))
 
   pub is_at-broken : (first now : E) (asked : List Ask) (sent : List ℕ) (r q : Replies) (most : ℕ) → IsAt store first now asked sent r → q.text.items ≡ r.text.items → length r.waiting.items ≤ most → IsBroken store most first now asked sent q Memory
   is_at-broken first now asked sent r q most i same le =
       let all = length-map r.waiting.items reply_of_code in
       at-broken first now asked sent r.text.items (map reply_of_code r.waiting.items) r.is_told i q most same (omega (arith, le, all))
+
+  -- what waited is kept, and told
+  pub is_at-sealed : (first now next : E) (asked : List Ask) (sent : List ℕ) (old q : Replies) (t : Telling) → IsAt store first now asked sent old → store.state next ≡ store.state now → ((u : State) → store.may_stand next u → u ≡ store.state next) → store.leaves now next (store.may_stand now)
+      → store.continues_to now next → IsToldUpTo true old.waiting.items t (length old.waiting.items) → q.text.items ≡ old.text.items ++ t.text.items → q.is_told ≡ (old.is_told && t.is_told) → q.waiting.items ≡ [] → IsAt store first next asked sent q
+  is_at-sealed first now next asked sent old q t i same kept moment goes told texts tells none =
+      let all = told_up_to-all true old.waiting.items t told in
+      subst (λ (ws : List code.Reply). At store first next asked sent q.text.items (map reply_of_code ws) q.is_told) (sym none)
+      (at-sealed first now asked sent old.text.items (map reply_of_code old.waiting.items) old.is_told i next same kept moment goes q.text.items q.is_told
+      (texts ∙ ap (λ (l : List ℕ). old.text.items ++ l) all.0) (tells ∙ ap (λ (b : Bool). old.is_told && b) all.1))
 
   -- ---- what is done beside the edits, where none waits
   module _ (first now next : E) (asked : List Ask) (sent : List ℕ) (r : Replies) (i : IsAt store first now asked sent r) (same : store.state next ≡ store.state now) (ahead : (u : State) → store.may_stand next u → store.may_stand now u)
@@ -248,7 +230,7 @@ module _ {E : Type 0} (store : Ghosts E) where
       record {
         replies = i.replies;
         run = subst (λ xs. IsRun (store.state first) xs i.replies (store.state now)) (sym all) (subst (λ s. IsRun (store.state first) i.done i.replies s) (sym here) i.run);
-        kept = λ u a. only i.kept u (subst (λ xs. IsAfterPrefix i.kept xs u) none (i.ahead u a)) ∙ sym here;
+        kept = λ u a. let p = subst (λ xs. IsAfterPrefix i.kept xs u) none (i.ahead u a) in only i.kept u p.later p.done p.replies p.split p.run ∙ sym here;
         written = ap (λ (l : List ℕ). sent ++ l) shown ∙ sym (append_assoc sent text (show_line (store.state now))) ∙ ap (λ (l : List ℕ). l ++ show_line (store.state now)) i.written;
         told = same ∙ i.told;
         rests = rests;
@@ -256,31 +238,25 @@ module _ {E : Type 0} (store : Ghosts E) where
         leaves = i.leaves;
       }
     where
-      no_run : (s u : State) (xs : List Ask) (rs : List Reply) → xs ≡ [] → IsRun s xs rs u → u ≡ s
-      no_run s u [] [] e h = h
-      no_run s u [] (r ∷ rs) e h = absurd h
-      no_run s u (x ∷ xs) rs e h = absurd cc
-
-      no_front : (xs ys : List Ask) → [] ≡ xs ++ ys → xs ≡ []
-      no_front [] ys e = refl
-      no_front (x ∷ xs) ys e = absurd cc
-
-      only : (s u : State) → IsAfterPrefix s [] u → u ≡ s
-      only s u p = no_run s u p.done p.replies (no_front p.done p.later p.split) p.run
+      only : (s u : State) (later done : List Ask) (replies : List Reply) → [] ≡ done ++ later → IsRun s done replies u → u ≡ s
+      only s u later [] replies split run = grind arith
+      only s u later (x ∷ done) replies split run = absurd cc
 
   -- ---- whatever was to be asked behind
+
+  -- whatever else what may stand is
+  pub course-as : (A B : Type 0) (first now : E) (P Q : State → Type 0) → ((u : State) → P u → Q u) → (f : ApplyFault) → StoreRun {A = A} store P first now (Err f) → StoreRun {A = B} store Q first now (Err f)
+  course-as A B first now P Q on f c = grind arith
+
   pub stops-more : (first now : E) (asked more : List Ask) (f : ApplyFault) → StopsAt store first now asked f → StopsAt store first now (asked ++ more) f
   stops-more first now asked more f s = record {
-    left = prefix-more (store.state first) (store.state now) asked more s.left;
-    course = wider f s.course;
-    leaves = store.leaves_as first now (IsAfterPrefix (store.state first) asked) (IsAfterPrefix (store.state first) (asked ++ more)) (λ u p. prefix-more (store.state first) u asked more p) s.leaves;
+    left = wider (store.state now) s.left;
+    course = course-as (Unit {0}) (Unit {0}) first now (IsAfterPrefix (store.state first) asked) (IsAfterPrefix (store.state first) (asked ++ more)) wider f s.course;
+    leaves = store.leaves_as first now (IsAfterPrefix (store.state first) asked) (IsAfterPrefix (store.state first) (asked ++ more)) wider s.leaves;
   }
     where
-      wider : (f : ApplyFault) → StoreRun {A = Unit {0}} store (IsAfterPrefix (store.state first) asked) first now (Err f) → StoreRun {A = Unit {0}} store (IsAfterPrefix (store.state first) (asked ++ more)) first now (Err f)
-      wider Device c = c
-      wider Memory c = c
-      wider StoreFailed c = record { before = c.before; led = c.led; asked = λ u a. prefix-more (store.state first) u asked more (c.asked u a); failed = c.failed }
-      wider CommitMemory c = record { before = c.before; led = c.led; asked = λ u a. prefix-more (store.state first) u asked more (c.asked u a); failed = c.failed }
+      wider : (u : State) → IsAfterPrefix (store.state first) asked u → IsAfterPrefix (store.state first) (asked ++ more) u
+      wider u p = prefix-more (store.state first) u asked more p
 
   pub broken-more : (first now : E) (asked more : List Ask) (most wider : ℕ) (sent : List ℕ) (q : Replies) (f : ApplyFault) → most ≤ wider → IsBroken store most first now asked sent q f → IsBroken store wider first now (asked ++ more) sent q f
   broken-more first now asked more most wider sent q f le b = record {

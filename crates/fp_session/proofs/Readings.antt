@@ -18,7 +18,7 @@ lines_at ended line left = record { line = line; left = left; ended = ended }
 -- a line that ends asks what it says, before what stands behind it
 asked-newline : (line rest : List ℕ) → lines line ≡ line ∷ [] → asked_by_input (line ++ 10 ∷ rest) ≡ asked_by_lines (line ∷ []) ++ asked_by_input rest
 asked-newline line rest one =
-    let all : lines (line ++ 10 ∷ rest) ≡ line ∷ lines rest = lines-append line (10 ∷ rest) [] (lines rest) refl [] line one ∙ ap (λ (l : List ℕ). l ∷ lines rest) (append-nil line) in
+    let all : lines (line ++ 10 ∷ rest) ≡ line ∷ lines rest = lines-append line (10 ∷ rest) [] (lines rest) one refl ∙ ap (λ (l : List ℕ). l ∷ lines rest) (append-nil line) in
     ap asked_by_lines all ∙ asked-append (line ∷ []) (lines rest)
 
 -- nothing came in yet
@@ -43,7 +43,7 @@ module _ (reads : Option (List ℕ)) where
     pub lines-more : (k : List ℕ) → lines left ≡ left ∷ [] → k ≡ line_up_to_limit (a.line ++ left) → AskLines (lines_at ended k []) reads all
     lines-more k one held = record {
       line = a.line ++ left;
-      one = lines-append a.line left left [] one [] a.line a.one;
+      one = lines-append a.line left left [] a.one one;
       held = held;
       left = subst (λ (l : List ℕ). IsLeftToAsk ended reads l all) (sym (append-nil (a.line ++ left))) a.left;
     }
@@ -54,7 +54,7 @@ module _ (reads : Option (List ℕ)) where
       ended_line = a.line ++ take at left
 
       whole : lines ended_line ≡ ended_line ∷ []
-      whole = lines-append a.line (take at left) (take at left) [] cut.one [] a.line a.one
+      whole = lines-append a.line (take at left) (take at left) [] a.one cut.one
 
       splits : (input : List ℕ) → asked_by_input ((a.line ++ left) ++ input) ≡ asked_by_lines (ended_line ∷ []) ++ asked_by_input (drop (at + 1) left ++ input)
       splits input =
@@ -97,10 +97,6 @@ module _ (reads : Option (List ℕ)) where
       ap (λ (x : Ask). x ∷ []) (ap line_of a.held ∙ (cut-same a.line).1) ∙ sym (asked-line a.line (sym (cut-same a.line).0 ∙ ap is_blank (sym a.held) ∙ other)) ∙ sym last,
       record { line = []; one = refl; held = none; left = refl },
     )
-
-    -- nothing is left
-    pub last-none : line ≡ [] → all ≡ []
-    last-none none = last ∙ asked-blank a.line (sym (cut-same a.line).0 ∙ ap is_blank (sym a.held ∙ none))
 
 -- ---- more came in, which is known to be what was still to be read
 module _ (reads now_reads : Option (List ℕ)) (bytes : List ℕ) (read : Consumes reads now_reads bytes) (line : List ℕ) (all : List Ask) (a : AskLines (lines_at false line []) reads all) where

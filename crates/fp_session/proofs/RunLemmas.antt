@@ -1,35 +1,29 @@
 -- Runs over what is asked: joined, cut off, and where no reply tells of wanting memory.
-use Rattle.std.proofs.Common.{◌≡◌, ◌≤◌, ℕ, suc, ◌+◌, List, [], ◌∷◌, ◌++◌, map, Option, Some, None, IsSomeAnd, Ok, Err, Bool, true, false, ◌&&◌, true≢false, refl, sym, ap, subst, ◌∙◌, append_assoc, append-nil, ◌<◌, get_or, length, take, arith}
+use Rattle.std.proofs.Common.{◌≡◌, ◌≤◌, ℕ, suc, ◌+◌, List, [], ◌∷◌, ◌++◌, map, Option, Some, None, IsSomeAnd, Err, Bool, true, ◌&&◌, refl, sym, ap, subst, ◌∙◌, append_assoc, append-nil, ◌<◌, get_or, length, take, arith}
 use Rattle.std.proofs.lemmas.List.{map-append, take_all, take_more}
 use Rattle.std.proofs.lemmas.List.Folds.{list_all-append}
+use Rattle.std.proofs.Math.Bool.{and-true}
 use Rattle.std.specs.List.{list_all}
 use Rattle.std.specs.Io.KnownBytes.{Appends}
 use Rattle.fp_definition.specs.Faults.{tells}
 use Rattle.fp_definition.specs.Valid as flag
 use Rattle.fp_edit.specs.Flags.{State}
-use Rattle.fp_edit.specs.Edits.{Proposal}
-use Rattle.fp_edit.specs.Admits.{refusal, next, Admits, accepted, IsRefusedOrWanting}
 use Rattle.fp_edit.specs.Line as line
 use Rattle.fp_edit.specs.Spelled.{Tells}
-use Rattle.fp_edit.specs.declared.edit.EditFault.{EditFault}
-use Rattle.fp_edit.specs.declared.edit.EditFault.TheVariants as edit
 use Rattle.fp_edit.specs.declared.line.LineFault.{LineFault}
 use Rattle.fp_edit.specs.declared.line.LineFault.TheVariants.{TooLong, NotJson, NotObject, BadMember, BadOp, BadKey, BadIf, BadFlag, Memory}
 use Rattle.fp_session.specs.Asks.{Ask}
-use Rattle.fp_session.specs.Reply.{Reply, revision, conflict, set_too_large, revisions_used, no_edit, out_of_memory, store_failed, is_told, texts_of, reply_text, told_if, reply_of_code, refusal_of, fault_of, bad_flag_or_memory}
+use Rattle.fp_session.specs.Reply.{Reply, no_edit, is_told, texts_of, reply_text, told_if, reply_of_code, fault_of, bad_flag_or_memory}
 use Rattle.fp_session.specs.Progress.{IsToldUpTo}
 use Rattle.fp_session.specs.declared.fault.ApplyFault.{ApplyFault}
-use Rattle.fp_session.specs.declared.fault.ApplyFault.TheVariants.{Device, StoreFailed, CommitMemory}
-use Rattle.fp_session.specs.declared.fault.ApplyFault.TheVariants as run
 use Rattle.fp_session.specs.declared.replies.Telling.{Telling}
 use Rattle.fp_session.specs.declared.reply.Reply as code
-use Rattle.fp_session.specs.declared.reply.Reply.TheVariants.{Refused, NoEdit}
-use Rattle.fp_session.specs.Run.{verdict_on_edit, verdict, after, replies_to, script, show_line, Answers, IsRun, IsRunWritten, IsAfterPrefix, IsTold, IsToldBy, most_open}
+use Rattle.fp_session.specs.declared.reply.Reply.TheVariants.{NoEdit}
+use Rattle.fp_session.specs.Run.{verdict, after, replies_to, script, show_line, Answers, IsRun, IsRunWritten, IsAfterPrefix, IsTold, IsToldBy, most_open}
 
 -- one run after another
 pub run-append : (s t u : State) (xs ys : List Ask) (rs qs : List Reply) → IsRun s xs rs t → IsRun t ys qs u → IsRun s (xs ++ ys) (rs ++ qs) u
-run-append s t u [] ys [] qs h k = subst (λ v. IsRun v ys qs u) h k
-run-append s t u [] ys (r ∷ rs) qs h k = absurd h
+run-append s t u [] ys rs qs h k = grind arith
 run-append s t u (x ∷ xs) ys [] qs h k = absurd h
 run-append s t u (x ∷ xs) ys (r ∷ rs) qs h k = (h.0, h.1, run-append h.0 t u xs ys rs qs h.2 k)
 
@@ -74,17 +68,13 @@ prefix-behind s t u xs ys rs run p = record {
 -- ---- what was told
 
 pub run-lengths : (s t : State) (xs : List Ask) (rs : List Reply) → IsRun s xs rs t → length xs ≡ length rs
-run-lengths s t [] [] h = refl
-run-lengths s t [] (r ∷ rs) h = absurd h
+run-lengths s t [] rs h = grind arith
 run-lengths s t (x ∷ xs) [] h = absurd h
 run-lengths s t (x ∷ xs) (r ∷ rs) h = ap suc (run-lengths h.0 t xs rs h.2)
 
 -- where more may be open
 pub open-more : (fault : ApplyFault) (n most more : ℕ) → most ≤ more → n ≤ most_open fault most → n ≤ most_open fault more
-open-more Device n most more le few = few
-open-more StoreFailed n most more le few = omega (arith, le, few)
-open-more run.Memory n most more le few = omega (arith, le, few)
-open-more CommitMemory n most more le few = omega (arith, le, few)
+open-more fault n most more le few = grind arith
 
 pub told-more : (s taken u : State) (xs ys : List Ask) (most more : ℕ) (fault : ApplyFault) (text : List ℕ) → most ≤ more → IsTold s xs most fault text taken u → IsTold s (xs ++ ys) more fault text taken u
 told-more s taken u xs ys most more fault text le t = record {
@@ -104,27 +94,6 @@ told-more s taken u xs ys most more fault text le t = record {
 
 pub told_by-more : (s taken u : State) (xs ys : List Ask) (most : ℕ) (fault : ApplyFault) (old new : Option (List ℕ)) → IsToldBy s xs most fault old new taken u → IsToldBy s (xs ++ ys) most fault old new taken u
 told_by-more s taken u xs ys most fault old new t = (t.0, t.1, told-more s taken u xs ys most most fault t.0 (omega arith) t.2)
-
--- ---- one edit
-
--- that was admitted
-pub accepted-answers : (s t : State) (p : Proposal) (n : ℕ) → Admits s p (accepted t) → n ≡ t.revision → Answers s (Ok p) (revision n) t
-accepted-answers s t p n admits counted =
-    let made : s.revision + 1 ≡ n = sym (counted ∙ ap (λ u. u.revision) admits.1) in
-    ap (verdict_on_edit s p) admits.0 ∙ ap (λ m. (revision m, next s p.change)) made ∙ ap (λ u. (revision n, u)) (sym admits.1)
-
--- that wasn't
-pub refused-answers : (s t : State) (p : Proposal) (e : EditFault) → IsRefusedOrWanting s p e → t ≡ s → Answers s (Ok p) (reply_of_code (Refused e)) t
-refused-answers s t p e refused stays = by_fault e refused
-  where
-    stands : (e : EditFault) → refusal s p ≡ Some e → verdict s (Ok p) ≡ (refusal_of e, t)
-    stands e h = ap (verdict_on_edit s p) h ∙ ap (λ u. (refusal_of e, u)) (sym stays)
-
-    by_fault : (e : EditFault) → IsRefusedOrWanting s p e → Answers s (Ok p) (refusal_of e) t
-    by_fault (edit.Conflict current) h = stands (edit.Conflict current) h
-    by_fault edit.SetTooLarge h = stands edit.SetTooLarge h
-    by_fault edit.RevisionsUsed h = stands edit.RevisionsUsed h
-    by_fault edit.Memory h = stays
 
 -- ---- what is no edit
 pub no_edit-answers : (s : State) (x : Ask) (e : LineFault) → Tells e (λ f. x ≡ Err f) → Answers s x (reply_of_code (NoEdit e)) s
@@ -151,28 +120,13 @@ no_edit-answers s x e fault = by_fault e fault
 -- ---- where no reply tells of wanting memory
 
 told-verdict : (s t : State) (x : Ask) (r : Reply) → is_told r ≡ true → Answers s x r t → verdict s x ≡ (r, t)
-told-verdict s t x (revision n) e h = h
-told-verdict s t x (conflict current) e h = h
-told-verdict s t x set_too_large e h = h
-told-verdict s t x revisions_used e h = h
-told-verdict s t x (no_edit f) e h = h
-told-verdict s t x out_of_memory e h = absurd (true≢false (sym e))
-told-verdict s t x store_failed e h = absurd h
-
-both : (a b : Bool) → a && b ≡ true → (a ≡ true) × (b ≡ true)
-both true b h = (refl, h)
-both false b h = absurd (true≢false (sym h))
+told-verdict s t x r told answers = grind arith
 
 -- each reply is the verdict
 pub run-told : (s t : State) (xs : List Ask) (rs : List Reply) → IsRun s xs rs t → list_all is_told rs ≡ true → (rs ≡ replies_to s xs) × (t ≡ after s xs)
-run-told s t [] [] h e = (refl, h)
-run-told s t [] (r ∷ rs) h e = absurd h
+run-told s t [] rs h e = grind arith
 run-told s t (x ∷ xs) [] h e = absurd h
-run-told s t (x ∷ xs) (r ∷ rs) h e =
-    let parts = both (is_told r) (list_all is_told rs) e in
-    let is = told-verdict s h.0 x r parts.0 h.1 in
-    let rest = run-told h.0 t xs rs h.2 parts.1 in
-    (ap (λ qs. r ∷ qs) rest.0 ∙ ap (λ v. v.0 ∷ replies_to v.1 xs) (sym is), rest.1 ∙ ap (λ v. after v.1 xs) (sym is))
+run-told s t (x ∷ xs) (r ∷ rs) h e = let rest = run-told h.0 t xs rs h.2 in let is = told-verdict s h.0 x r in grind (arith, rest, is, h.1)
 
 pub written-flags : (start : State) (xs : List Ask) (told : Bool) (old new : Option (List ℕ)) (now : State) → IsRunWritten start xs told old new now → told ≡ true → now ≡ after start xs
 written-flags start xs told old new now r all = (run-told start now xs r.replies r.run (sym r.told_is ∙ all)).1
@@ -202,12 +156,8 @@ told_up_to-more is_kept waiting t u n reply told lt here is texts tells h =
       tells = tells ∙ ap (λ b. b && is_told told) h.tells ∙ sym (one_more (first (take n waiting))) ∙ ap (λ (l : List Reply). list_all is_told l) (sym all_of);
     }
   where
-    last : (b : Bool) → b && true ≡ b
-    last true = refl
-    last false = refl
-
     one_more : (rs : List Reply) → list_all is_told (rs ++ told ∷ []) ≡ list_all is_told rs && is_told told
-    one_more rs = list_all-append is_told rs (told ∷ []) ∙ ap (λ b. list_all is_told rs && b) (last (is_told told))
+    one_more rs = list_all-append is_told rs (told ∷ []) ∙ ap (λ b. list_all is_told rs && b) (and-true (is_told told))
 
 -- all of them are
 pub told_up_to-all : (is_kept : Bool) (waiting : List code.Reply) (t : Telling) → IsToldUpTo is_kept waiting t (length waiting)

@@ -6,7 +6,7 @@ use Rattle.fp_session.specs.Asks.{Ask}
 use Rattle.fp_session.specs.Progress.{AsksFor}
 use Rattle.fp_session.specs.Sources.{AsksNext, HasAsked, most_at_once, most_waiting}
 use Rattle.fp_session.specs.declared.batching.Batching.{Batching}
-use Rattle.fp_session.specs.declared.batching.Batching.TheVariants.{Single, Full}
+use Rattle.fp_session.specs.declared.batching.Batching.TheVariants.{Single}
 
 module _ {A S : Type 0} (asks : A → S → List Ask → Type 0) where
   pub asked-one : (old new : A) (o : Option (Result Edit LineFault)) (e : Result Edit LineFault) → o ≡ Some e → AsksNext asks old new o
@@ -38,10 +38,8 @@ module _ {A S : Type 0} (asks : A → S → List Ask → Type 0) where
 
 -- no more waits than a batch takes
 pub few-waiting : (b : Batching) (n : ℕ) → n ≤ most_waiting b → n ≤ most_at_once b
-few-waiting Single n le = omega (arith, le)
-few-waiting Full n le = le
+few-waiting b n le = grind arith
 
 -- and one that is a batch of its own waits alone
 pub few-alone : (b : Batching) (m n : ℕ) → b ≡ Single → m ≤ most_waiting b → n ≤ m + 1 → n ≤ most_at_once b
-few-alone Single m n is le more = omega (arith, le, more)
-few-alone Full m n is le more = absurd cc
+few-alone b m n is le more = grind arith

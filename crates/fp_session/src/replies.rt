@@ -94,27 +94,8 @@ impl Replies {
         ensures bounded { OnOk result (length self.new.waiting.items ≤ MOST_WAITING) }
         ensures fault { IfErr result IsFromWithin }
     {
-        self.keep_full(alloc, edits)?;
+        self.make_place(alloc, edits, true)?;
         self.waiting.push(Reply::NoEdit(fault))?;
-        Ok(())
-    }
-
-    // Has what waits kept, where no reply more may wait.
-    fn keep_full<E: EditStore>(&mut self, alloc: Global, edits: &mut E) -> Result<(), ApplyFault>
-        ensures room { OnOk result (length self.new.waiting.items < MOST_WAITING) }
-        ensures no_more { OnOk result (length self.new.waiting.items
-            ≤ length self.old.waiting.items) }
-        ensures asked { (first : E) (asked : List Ask) (sent : List ℕ)
-            → IsAt E.EditStore first edits.old asked sent self.old → MatchResult result
-            (λ _. IsAt E.EditStore first edits.new asked sent self.new)
-            (IsBroken E.EditStore (length self.old.waiting.items) first edits.new asked sent
-            self.new) }
-        ensures fault { IfErr result IsFromWithin }
-    {
-        if self.waiting.len() < MOST_WAITING {
-            return Ok(());
-        }
-        self.seal(alloc, edits)?;
         Ok(())
     }
 
@@ -136,7 +117,8 @@ impl Replies {
         ensures bounded { OnOk result (length self.new.waiting.items ≤ MOST_WAITING) }
         ensures fault { IfErr result IsFromWithin }
     {
-        self.make_place(alloc, edits, &edit)?;
+        let joins = edits.joins(&edit);
+        self.make_place(alloc, edits, joins)?;
         self.waiting.reserve(1)?;
         let reply = submit(edits, edit);
         let Ok(()) = self.waiting.push(reply) else {
@@ -145,14 +127,15 @@ impl Replies {
         Ok(())
     }
 
-    // Has what waits kept, where the edit can't wait together with it.
+    // Has what waits kept, where what comes can't wait together with it.
     fn make_place<E: EditStore>(
         &mut self,
         alloc: Global,
         edits: &mut E,
-        edit: &Edit,
+        joins: bool,
     ) -> Result<(), ApplyFault>
-        ensures place { OnOk result (E.has_place edits.new (change_of edit.now)) }
+        ensures place { (c : Change) → (joins ≡ true → E.has_place edits.old c)
+            → OnOk result (E.has_place edits.new c) }
         ensures room { OnOk result (length self.new.waiting.items < MOST_WAITING) }
         ensures no_more { OnOk result (length self.new.waiting.items
             ≤ length self.old.waiting.items) }
@@ -163,7 +146,7 @@ impl Replies {
             self.new) }
         ensures fault { IfErr result IsFromWithin }
     {
-        if self.waiting.len() < MOST_WAITING && edits.joins(edit) {
+        if joins && self.waiting.len() < MOST_WAITING {
             return Ok(());
         }
         self.seal(alloc, edits)?;

@@ -7,7 +7,7 @@ use Rattle.fp_session.specs.Sources.{most_at_once}
 use Rattle.fp_session.specs.Streams.{of_stream}
 use Rattle.fp_session.specs.declared.fault.ApplyFault.{ApplyFault}
 use Rattle.fp_session.specs.declared.fault.ApplyFault.TheVariants.{Memory}
-use Rattle.fp_session.proofs.Endings.{broken-sent, concluded, read-device}
+use Rattle.fp_session.proofs.Endings.{broke-over, broken-sent, concluded, read-device}
 use Rattle.fp_session.proofs.ProgressLemmas.{is_at-broken, is_at-start}
 use Rattle.fp_session.proofs.Sourcing.{asked-none, asked-one, came-none, came-one, came-part, came-whole, few-waiting}
 use Rattle.fp_session.proofs.run.answer_all.Goals as goal
@@ -73,33 +73,19 @@ returns-in_default-clause-ends g c =
 
 pub returns-in_err-answer-clause-ends : goal.returns-in_err-answer-clause-ends
 returns-in_err-answer-clause-ends g c =
-    let p = err_from_is_err_and c.from_residual-in_err-answer.result c.from_residual-in_err-answer.ensures.1 in
-    let inv = c.loop-next-2.invariant in let first = c.args.edits.now in let most = most_at_once c.args.batching in
-    let before = g.W.Write.contents c.args.w.now.inner in let f0 = c.args.w.now.failures in
+    let p = err_from_is_err_and c.from_residual-in_err-answer.result c.from_residual-in_err-answer.ensures.1 in let inv = c.loop-next-2.invariant in let before = g.W.Write.contents c.args.w.now.inner in
     let next = asked-one g.A.EditSource.asks c.loop-next-2.source c.next.new.self c.in-Ok.next c.in-Some.edit c.in-Some.is c.in-Ok.ensures.next in
     let came = came-one g.A.EditSource.asks c.args.source.now c.args.stream.now c.loop-next-2.source c.next.new.self c.loop-next.stream inv.asked inv.came next.0 next.2 in
-    let w = g.W.Write.contents c.answer.new.w.inner in let f = c.answer.new.w.failures in let e = c.in_err-answer.field-0.0 in
-    rw (p.1, p.2) (record {
-      asked = inv.asked ++ next.0 ∷ [];
-      part = came-part g.A.EditSource.asks c.args.source.now c.args.stream.now c.next.new.self c.loop-next.stream (inv.asked ++ next.0 ∷ []) came;
-      whole = tt;
-      ends = subst (λ (n : ℕ). IsBrokenWith g.E.EditStore most first c.answer.new.edits (inv.asked ++ next.0 ∷ []) before w n f e) inv.sent_well (c.in_err-answer.ensures.answered first inv.asked next.0 before next.1 inv.few inv.at);
-    })
+    rw (p.1, p.2) (broke-over g.E.EditStore c.args.edits.now c.answer.new.edits (most_at_once c.args.batching) _ before (g.W.Write.contents c.answer.new.w.inner) c.args.w.now.failures c.loop-next-2.w.failures c.answer.new.w.failures c.in_err-answer.field-0.0 (inv.asked ++ next.0 ∷ [])
+    (came-part g.A.EditSource.asks c.args.source.now c.args.stream.now c.next.new.self c.loop-next.stream (inv.asked ++ next.0 ∷ []) came) inv.sent_well (c.in_err-answer.ensures.answered c.args.edits.now inv.asked next.0 before next.1 inv.few inv.at))
 
 pub returns-in_err-settle-clause-ends : goal.returns-in_err-settle-clause-ends
 returns-in_err-settle-clause-ends g c =
-    let p = err_from_is_err_and c.from_residual-in_err-settle.result c.from_residual-in_err-settle.ensures.1 in
-    let inv = c.loop-next-2.invariant in let first = c.args.edits.now in let most = most_at_once c.args.batching in
-    let before = g.W.Write.contents c.args.w.now.inner in let f0 = c.args.w.now.failures in
+    let p = err_from_is_err_and c.from_residual-in_err-settle.result c.from_residual-in_err-settle.ensures.1 in let inv = c.loop-next-2.invariant in let most = most_at_once c.args.batching in let before = g.W.Write.contents c.args.w.now.inner in
     let came = came-none g.A.EditSource.asks c.args.source.now c.args.stream.now c.loop-next-2.source c.next.new.self c.loop-next.stream inv.asked inv.came
     (asked-none g.A.EditSource.asks c.loop-next-2.source c.next.new.self c.in-Ok.next c.in_default-next.is c.in-Ok.ensures.next) in
-    let w = g.W.Write.contents c.settle.new.w.inner in let f = c.settle.new.w.failures in let e = c.in_err-settle.field-0.0 in
-    rw (p.1, p.2) (record {
-      asked = inv.asked;
-      part = came-part g.A.EditSource.asks c.args.source.now c.args.stream.now c.next.new.self c.loop-next.stream inv.asked came;
-      whole = tt;
-      ends = subst (λ (n : ℕ). IsBrokenWith g.E.EditStore most first c.settle.new.edits inv.asked before w n f e) inv.sent_well (c.in_err-settle.ensures.settled first inv.asked before most (few-waiting c.args.batching _ inv.few) inv.at);
-    })
+    rw (p.1, p.2) (broke-over g.E.EditStore c.args.edits.now c.settle.new.edits most _ before (g.W.Write.contents c.settle.new.w.inner) c.args.w.now.failures c.loop-next-2.w.failures c.settle.new.w.failures c.in_err-settle.field-0.0 inv.asked
+    (came-part g.A.EditSource.asks c.args.source.now c.args.stream.now c.next.new.self c.loop-next.stream inv.asked came) inv.sent_well (c.in_err-settle.ensures.settled c.args.edits.now inv.asked before most (few-waiting c.args.batching _ inv.few) inv.at))
 
 -- the stream failed, and all replies are sent
 pub returns-in_err-more-clause-ends : goal.returns-in_err-more-clause-ends

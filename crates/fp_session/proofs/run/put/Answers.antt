@@ -1,4 +1,4 @@
-use Rattle.std.proofs.Common.{◌∷◌, [], ◌++◌, length, MatchResult, Result, Ok, Err}
+use Rattle.std.proofs.Common.{◌∷◌, [], ◌++◌, length, MatchResult, Result, arith}
 use Rattle.std.proofs.lemmas.Result.{err_from_is_err_and}
 use Rattle.fp_session.specs.Progress.{IsAt, IsBroken}
 use Rattle.fp_session.specs.Sources.{most_at_once}
@@ -8,8 +8,7 @@ use Rattle.fp_session.proofs.Sourcing.{few-alone, few-waiting}
 use Rattle.fp_session.proofs.run.put.Goals as goal
 
 either : (A : Type 0) (P Q : ApplyFault → Type 0) (r : Result (Unit {0}) ApplyFault) → ((f : ApplyFault) → P f → Q f) → MatchResult r (λ _. A) P → MatchResult r (λ _. A) Q
-either A P Q (Ok x) wider m = m
-either A P Q (Err f) wider m = wider f m
+either A P Q r wider m = grind arith
 
 pub returns-in_err-ask-clause-asked : goal.returns-in_err-ask-clause-asked
 returns-in_err-ask-clause-asked g c = λ first asked sent x asks le i.

@@ -1,11 +1,10 @@
-use Rattle.std.proofs.Common.{◌++◌, ℕ, List, Bool, true, false, ◌&&◌, length, map, refl, sym, ap, subst, ◌∙◌, arith}
+use Rattle.std.proofs.Common.{◌++◌, ℕ, List, false, length, map, refl, sym, ap, subst, ◌∙◌, arith}
 use Rattle.std.proofs.lemmas.List.{length-map}
 use Rattle.std.proofs.lemmas.Result.{err_from_is_err_and}
-use Rattle.fp_session.specs.Progress.{At, IsBroken}
+use Rattle.fp_session.specs.Progress.{IsBroken}
 use Rattle.fp_session.specs.Reply.{reply_of_code}
 use Rattle.fp_session.specs.declared.fault.ApplyFault.{ApplyFault}
-use Rattle.fp_session.specs.declared.reply.Reply as code
-use Rattle.fp_session.proofs.ProgressLemmas.{at-sealed, is_at-broken, seal-broken}
+use Rattle.fp_session.proofs.ProgressLemmas.{is_at-broken, is_at-sealed, seal-broken}
 use Rattle.fp_session.proofs.RunLemmas.{told_up_to-all}
 use Rattle.fp_session.proofs.replies.Replies.seal.Goals as goal
 
@@ -27,26 +26,15 @@ returns-in_err-reserve-clause-asked g c = λ first asked sent i.
 
 pub returns-in_err-go_on-clause-asked : goal.returns-in_err-go_on-clause-asked
 returns-in_err-go_on-clause-asked g c = λ first asked sent i.
-    let p = err_from_is_err_and c.from_residual-in_err-go_on.result c.from_residual-in_err-go_on.ensures.1 in
-    let old = c.args.self.now in let q = c.tell.new.self in let w = c.in-Ok.ensures in let next = c.commit.new.self in let t = c.tell.ensures in
-    let all = told_up_to-all true old.waiting.items c.in_ok-kept.kept c.in_ok-kept.ensures.told in
-    let at : At g.E.EditStore first next asked sent q.text.items (map reply_of_code q.waiting.items) q.is_told =
-    subst (λ (ws : List code.Reply). At g.E.EditStore first next asked sent q.text.items (map reply_of_code ws) q.is_told) (sym t.none)
-    (at-sealed g.E.EditStore first c.args.edits.now asked sent old.text.items (map reply_of_code old.waiting.items) old.is_told i next w.same w.kept w.any_moment w.fate
-    q.text.items q.is_told (t.text ∙ ap (λ (l : List ℕ). l ++ c.in_ok-kept.kept.text.items) c.reserve.ensures.items ∙ ap (λ (l : List ℕ). old.text.items ++ l) all.0)
-    (t.told ∙ ap (λ (b : Bool). old.is_told && b) all.1)) in
-    rw (p.1, p.2) (c.in_err-go_on.ensures.at first asked sent q (length old.waiting.items) t.none at)
+    let p = err_from_is_err_and c.from_residual-in_err-go_on.result c.from_residual-in_err-go_on.ensures.1 in let old = c.args.self.now in let w = c.in-Ok.ensures in let t = c.tell.ensures in
+    rw (p.1, p.2) (c.in_err-go_on.ensures.at first asked sent c.tell.new.self (length old.waiting.items) t.none
+    (is_at-sealed g.E.EditStore first c.args.edits.now c.commit.new.self asked sent old c.tell.new.self c.in_ok-kept.kept i w.same w.kept w.any_moment w.fate c.in_ok-kept.ensures.told (t.text ∙ ap (λ (l : List ℕ). l ++ c.in_ok-kept.kept.text.items) c.reserve.ensures.items) t.told t.none))
 
 pub returns-clause-asked : goal.returns-clause-asked
 returns-clause-asked g c = λ first asked sent i.
-    let old = c.args.self.now in let q = c.tell.new.self in let w = c.in-Ok.ensures in let next = c.commit.new.self in let t = c.tell.ensures in
-    let all = told_up_to-all true old.waiting.items c.in_ok-kept.kept c.in_ok-kept.ensures.told in
-    let at : At g.E.EditStore first next asked sent q.text.items (map reply_of_code q.waiting.items) q.is_told =
-    subst (λ (ws : List code.Reply). At g.E.EditStore first next asked sent q.text.items (map reply_of_code ws) q.is_told) (sym t.none)
-    (at-sealed g.E.EditStore first c.args.edits.now asked sent old.text.items (map reply_of_code old.waiting.items) old.is_told i next w.same w.kept w.any_moment w.fate
-    q.text.items q.is_told (t.text ∙ ap (λ (l : List ℕ). l ++ c.in_ok-kept.kept.text.items) c.reserve.ensures.items ∙ ap (λ (l : List ℕ). old.text.items ++ l) all.0)
-    (t.told ∙ ap (λ (b : Bool). old.is_told && b) all.1)) in
-    c.in_ok-go_on.ensures.at first asked sent q 0 t.none at
+    let old = c.args.self.now in let w = c.in-Ok.ensures in let t = c.tell.ensures in
+    c.in_ok-go_on.ensures.at first asked sent c.tell.new.self 0 t.none
+    (is_at-sealed g.E.EditStore first c.args.edits.now c.commit.new.self asked sent old c.tell.new.self c.in_ok-kept.kept i w.same w.kept w.any_moment w.fate c.in_ok-kept.ensures.told (t.text ∙ ap (λ (l : List ℕ). l ++ c.in_ok-kept.kept.text.items) c.reserve.ensures.items) t.told t.none)
 
 pub returns-in-Err-clause-asked : goal.returns-in-Err-clause-asked
 returns-in-Err-clause-asked g c = λ first asked sent i.
