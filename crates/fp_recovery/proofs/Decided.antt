@@ -4,8 +4,11 @@ use Rattle.std.specs.Prelude.{slice_index, slice_range}
 use Rattle.std.specs.Int.{Width, byte_len, w32, w64, from_be_bytes, to_be_bytes, is_power_of_two}
 use Rattle.std.specs.FinMap as fin
 use Rattle.std.proofs.lemmas.Bool.{cases_eq, cases_lt}
+use Rattle.std.proofs.lemmas.List.Elements.{All-get_or}
+use Rattle.std.proofs.Math.ListN.{get_or-eq_default}
 use Rattle.std.proofs.lemmas.Nat.{from_be_bytes-to_be_bytes_4}
 use Rattle.fp_base.specs.Bytes.{bytes_cmp}
+use Rattle.fp_disk.specs.Outcomes.{AreBytes, IsByte}
 use Rattle.fp_edit.specs.Flags.{State}
 use Rattle.fp_edit.specs.declared.flags.Flag.{Flag}
 use Rattle.fp_gate.specs.declared.gate.TheConstants.{OPEN}
@@ -331,7 +334,7 @@ module _ (c : List ℕ) (fits : IsBytes c) where
       then_or (head_or h.0 slot other h.1 a.1) (λ d.
       then_or (image_or h.0 slot other h.1 a.1 d) (λ i. batches_or i.0 slot i.1 i.2))))
 
-pub set_or_fault : (c : List ℕ) → IsBytes c → ((s : State) × StandsFor c s) ⊎ ((f : OpenFault) × IsOfBytes f × RefusesBytes c f)
+set_or_fault : (c : List ℕ) → IsBytes c → ((s : State) × StandsFor c s) ⊎ ((f : OpenFault) × IsOfBytes f × RefusesBytes c f)
 set_or_fault c fits = elim (formatted_or c fits) [
   | inr none ↦ inr (Unformatted, tt, none)
   | inl f ↦ elim (cases_eq (slice_index c 9) 1) [
@@ -342,3 +345,12 @@ set_or_fault c fits = elim (formatted_or c fits) [
     ]
   ]
 ]
+
+each_small : (c : List ℕ) → AreBytes c → IsBytes c
+each_small c h i = elim (cases_lt i (length c)) [
+  | inl here ↦ All-get_or IsByte c i 0 here h
+  | inr past ↦ rw (get_or-eq_default c 0 past) (omega arith)
+]
+
+pub bytes_decided : (c : List ℕ) → AreBytes c → ((s : State) × StandsFor c s) ⊎ ((f : OpenFault) × IsOfBytes f × RefusesBytes c f)
+bytes_decided c h = set_or_fault c (each_small c h)

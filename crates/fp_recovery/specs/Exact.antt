@@ -1,6 +1,7 @@
 -- What follows from the definitions, for every list of bytes: it stands for a set or has a fault; and
 -- a disk that is refused shows one fault, at one place within it, and stands for no set.
-use Rattle.std.specs.Prelude.{◌≡◌, ◌⊎◌, ◌<◌, ◌≤◌, ℕ, List, length, slice_index}
+use Rattle.std.specs.Prelude.{◌≡◌, ◌⊎◌, ◌≤◌, ℕ, List, length}
+use Rattle.fp_disk.specs.Outcomes.{AreBytes}
 use Rattle.fp_edit.specs.Flags.{State}
 use Rattle.fp_layout.specs.declared.fault.OpenFault.{OpenFault}
 use Rattle.fp_layout.specs.declared.fault.OpenFault.TheVariants.{Unformatted, UnknownVersion}
@@ -29,10 +30,6 @@ StandingHaveNoFault = (c : List ℕ) (f : OpenFault) (s : State) → IsOfBytes f
 -- the place of damage is one of the bytes', or their end where one is missing
 abbrev pub HaveFaultsWithin : Type 0
 HaveFaultsWithin = (c : List ℕ) (at : ℕ) → RefusesBytes c (Damaged at) → at ≤ length c
-
--- each number is that of a byte
-abbrev pub AreBytes : List ℕ → Type 0
-AreBytes c = (k : ℕ) → slice_index c k < 256
 
 -- bytes stand for a set or have a fault
 abbrev pub StandOrHaveFault : Type 0
