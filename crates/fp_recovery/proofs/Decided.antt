@@ -1,5 +1,5 @@
 -- Each list of bytes stands for a set, or has a fault: read forward, each test is met or fails.
-use Rattle.std.proofs.Common.{◌≡◌, ◌⊎◌, ◌<◌, ◌≤◌, ◌+◌, ◌/◌, ◌^◌, ℕ, zero, suc, min, true, false, List, [], ◌∷◌, length, get_or, Ok, Err, refl, sym, subst, ◌∙◌, inl, inr, arith}
+use Rattle.std.proofs.Common.{◌≡◌, ◌⊎◌, ◌<◌, ◌≤◌, ◌+◌, ◌/◌, ◌^◌, ◌++◌, ℕ, zero, suc, min, true, false, List, [], ◌∷◌, length, get_or, Ok, Err, refl, sym, subst, ◌∙◌, inl, inr, arith}
 use Rattle.std.specs.Prelude.{slice_index, slice_range}
 use Rattle.std.specs.Int.{Width, byte_len, w32, w64, from_be_bytes, to_be_bytes, is_power_of_two}
 use Rattle.std.specs.FinMap as fin
@@ -13,10 +13,10 @@ use Rattle.fp_edit.specs.Flags.{State}
 use Rattle.fp_edit.specs.declared.flags.Flag.{Flag}
 use Rattle.fp_gate.specs.declared.gate.TheConstants.{OPEN}
 use Rattle.fp_journal.specs.Holds.{Holds}
-use Rattle.fp_journal.specs.Reading.{FoundChain, IsChain, IsNext, StopsAt, no_gate, no_length, too_long, no_body, length_at}
+use Rattle.fp_journal.specs.Reading.{Breaks, FoundChain, IsChain, IsClosed, IsNext, Reads, StopsAt, no_gate, no_length, too_long, no_body, length_at}
 use Rattle.fp_journal.specs.declared.slot.Slot.{Slot}
 use Rattle.fp_journal.proofs.Holds.{byte_held, held_range, holds_append, holds_back, holds_byte}
-use Rattle.fp_journal.proofs.Links.{IsReading, read_none, reading_all, reading_breaks, reading_more, reading_refused}
+use Rattle.fp_journal.proofs.Links.{HasRead, read_all, read_more, read_none, reads_more}
 use Rattle.fp_layout.specs.Faults.{BreaksHead, bad_size, no_base, no_generation, no_image, no_version, not_zero, too_short}
 use Rattle.fp_layout.specs.Faults as faults
 use Rattle.fp_layout.specs.Layout.{AreZeros, HasBase, HasLength, HasVersion, IsActive, IsFirstOther, IsFormatted, IsHead, IsHeader, magic}
@@ -35,6 +35,32 @@ use Rattle.fp_recovery.proofs.Parts.{most_small}
 use Rattle.fp_recovery.proofs.Read.{batch_is, image_is, image_stands}
 use Rattle.fp_recovery.proofs.Restored.{sorted_image}
 use Rattle.fp_recovery.proofs.Texts.{read_stands}
+
+-- ---- batches that were taken one after the other
+record IsReading (most from stop : ℕ) (c : List ℕ) (before : State) (at : ℕ) (now : State) : Type 0 where
+  bodies : List (List ℕ)
+  read : HasRead most from stop c bodies at
+  reads : Reads TakesBatch before bodies now
+
+module _ (most from stop : ℕ) (c : List ℕ) (small : most < 2 ^ 32) (before : State) where
+  reading_more : (at next : ℕ) (now then : State) (b : List ℕ) → IsReading most from stop c before at now → IsNext most at stop b next c → TakesBatch now b then → IsReading most from stop c before next then
+  reading_more at next now then b r n one = record {
+    bodies = r.bodies ++ b ∷ [];
+    read = read_more most from stop c small r.bodies at next b r.read n;
+    reads = reads_more TakesBatch before now then r.bodies b r.reads one;
+  }
+
+  reading_all : (at : ℕ) (now : State) → IsReading most from stop c before at now → IsClosed at stop c → FoundChain TakesBatch most from stop c before now at
+  reading_all at now r shut = let all = read_all most from stop c small r.bodies at r.read shut in record { bodies = r.bodies; chain = all.0; only = all.1; place = r.read.place; reads = r.reads }
+
+  stops : (at : ℕ) (now : State) (k : ℕ) → IsReading most from stop c before at now → Breaks most stop c at k ⊎ ((body : List ℕ) × (next : ℕ) × (offset : ℕ) × IsNext most at stop body next c × RefusesBatch now body offset × (k ≡ at + 5 + offset)) → StopsAt TakesBatch RefusesBatch most from stop c before k
+  stops at now k r fault = record { bodies = r.bodies; gate = at; last = now; holds = r.read.holds; short = r.read.short; place = r.read.place; within = r.read.within; reads = r.reads; fault = fault }
+
+  reading_breaks : (at : ℕ) (now : State) (k : ℕ) → IsReading most from stop c before at now → Breaks most stop c at k → StopsAt TakesBatch RefusesBatch most from stop c before k
+  reading_breaks at now k r broken = stops at now k r (inl broken)
+
+  reading_refused : (at next : ℕ) (now : State) (b : List ℕ) (offset : ℕ) → IsReading most from stop c before at now → IsNext most at stop b next c → RefusesBatch now b offset → StopsAt TakesBatch RefusesBatch most from stop c before (at + 5 + offset)
+  reading_refused at next now b offset r n bad = stops at now (at + 5 + offset) r (inr (b, next, offset, n, bad, refl))
 
 -- ---- bytes, texts and numbers at a place
 length_held : (c : List ℕ) (at n : ℕ) → n < 2 ^ 32 → Holds c at (OPEN ∷ to_be_bytes w32 n) → length_at c at ≡ n
@@ -251,7 +277,7 @@ module _ (c : List ℕ) (fits : IsBytes c) where
   -- ---- the batches
   module _ (most from stop : ℕ) (small : most < 2 ^ 32) (before : State) where
     abbrev Reading : ℕ → State → Type 0
-    Reading at now = IsReading TakesBatch most from stop c before at now
+    Reading at now = IsReading most from stop c before at now
 
     abbrev Stopped : Type 0
     Stopped = (k : ℕ) × StopsAt TakesBatch RefusesBatch most from stop c before k
@@ -261,15 +287,15 @@ module _ (c : List ℕ) (fits : IsBytes c) where
 
     next_or : (at : ℕ) (now : State) → Reading at now → (Read ⊎ Stopped) ⊎ ((t : State) × (next : ℕ) × (at < next) × Reading next t)
     next_or at now r = elim (cases_lt at (min stop (length c))) [
-      | inr past ↦ inl (inr (at, reading_breaks TakesBatch RefusesBatch most from stop c small before at now at r (no_gate past refl)))
+      | inr past ↦ inl (inr (at, reading_breaks most from stop c small before at now at r (no_gate past refl)))
       | inl lt ↦ elim (cases_eq (slice_index c at) OPEN) [
-        | inr shut ↦ inl (inl (now, at, reading_all TakesBatch RefusesBatch most from stop c small before at now r (record { within = omega (arith, lt); long = omega (arith, lt); shut = shut })))
+        | inr shut ↦ inl (inl (now, at, reading_all most from stop c small before at now r (record { within = omega (arith, lt); long = omega (arith, lt); shut = shut })))
         | inl on ↦ elim (cases_lt (min stop (length c)) (at + 5)) [
-          | inl short ↦ inl (inr (at + 1, reading_breaks TakesBatch RefusesBatch most from stop c small before at now (at + 1) r (no_length on lt short refl)))
+          | inl short ↦ inl (inr (at + 1, reading_breaks most from stop c small before at now (at + 1) r (no_length on lt short refl)))
           | inr long ↦ elim (cases_lt most (length_at c at)) [
-            | inl wide ↦ inl (inr (at + 1, reading_breaks TakesBatch RefusesBatch most from stop c small before at now (at + 1) r (too_long on long wide refl)))
+            | inl wide ↦ inl (inr (at + 1, reading_breaks most from stop c small before at now (at + 1) r (too_long on long wide refl)))
             | inr few ↦ elim (cases_lt (min stop (length c)) (at + 5 + length_at c at)) [
-              | inl short ↦ inl (inr (at + 5, reading_breaks TakesBatch RefusesBatch most from stop c small before at now (at + 5) r (no_body on long few short refl)))
+              | inl short ↦ inl (inr (at + 5, reading_breaks most from stop c small before at now (at + 5) r (no_body on long few short refl)))
               | inr whole ↦ body on (omega (arith, long)) few whole
             ]
           ]
@@ -292,12 +318,12 @@ module _ (c : List ℕ) (fits : IsBytes c) where
               within = omega (arith, size, len, whole);
             } in
             elim (batch_onto now b) as (λ x. batch_onto now b ≡ x → (Read ⊎ Stopped) ⊎ ((t : State) × (next : ℕ) × (at < next) × Reading next t)) [
-              | Ok t ↦ λ e. inr (t, at + 5 + length b, omega arith, reading_more TakesBatch RefusesBatch most from stop c small before at (at + 5 + length b) now t b r link (batch_is now t b (range_bytes (at + 5) n.0 within) e))
-              | Err k ↦ λ e. inl (inr (at + 5 + k, reading_refused TakesBatch RefusesBatch most from stop c small before at (at + 5 + length b) now b k r link e))
+              | Ok t ↦ λ e. inr (t, at + 5 + length b, omega arith, reading_more most from stop c small before at (at + 5 + length b) now t b r link (batch_is now t b (range_bytes (at + 5) n.0 within) e))
+              | Err k ↦ λ e. inl (inr (at + 5 + k, reading_refused most from stop c small before at (at + 5 + length b) now b k r link e))
             ] refl
 
     walk : (left at : ℕ) (now : State) → length c ≤ at + left → Reading at now → Read ⊎ Stopped
-    walk zero at now le r = inr (at, reading_breaks TakesBatch RefusesBatch most from stop c small before at now at r (no_gate (omega (arith, le)) refl))
+    walk zero at now le r = inr (at, reading_breaks most from stop c small before at now at r (no_gate (omega (arith, le)) refl))
     walk (suc left) at now le r = elim (next_or at now r) [
       | inl done ↦ done
       | inr more ↦ (let lt = more.2 in walk left more.1 more.0 (omega (arith, le, lt)) more.3)
