@@ -1,5 +1,5 @@
 -- Documents that are imported, and what is wrong with them.
-use Rattle.std.proofs.Common.{◌≡◌, ℕ, List, Option, Err, IfSome, string_bytes}
+use Rattle.std.proofs.Common.{◌≡◌, ℕ, List, Option, Err, IfSome, string_bytes, arith}
 use Rattle.std.proofs.lemmas.Option.{IfSome_then}
 use Rattle.fp_edit.specs.Flags.{State}
 use Rattle.fp_imports.specs.Faults.{Tells}
@@ -8,11 +8,9 @@ use Rattle.fp_imports.specs.declared.faults.ImportFault.TheVariants as import
 use Rattle.fp_layout.specs.declared.fault.OpenFault.{OpenFault}
 use Rattle.fp_layout.specs.declared.fault.OpenFault.TheVariants as opening
 use Rattle.fp_session.specs.declared.fault.ApplyFault.{ApplyFault}
-use Rattle.fp_session.specs.declared.fault.ApplyFault.TheVariants as run
 use Rattle.fp_recovery.specs.Refusals.{RefusesBytes, IsUnlessWanting}
 use Rattle.fp_recovery.specs.Stands.{StandsFor}
 use Rattle.fp_commands.specs.declared.fault.CommandFault.{CommandFault}
-use Rattle.fp_commands.specs.declared.fault.CommandFault.TheVariants as command
 use Rattle.fp_commands.specs.Documents.{import_of, IsDocumentFault}
 use Rattle.fp_commands.specs.Disks.{IsImportingFault}
 use Rattle.fp_commands.specs.Faults.{of_import, of_open, of_run}
@@ -37,21 +35,7 @@ importing-open is_honest c left opening.Device r none = tt
 importing-open is_honest c left opening.Memory r none = tt
 
 pub importing-run : (is_honest : Type 0) (c : List ℕ) (left : Option (List ℕ)) (f : ApplyFault) → IsImportingFault is_honest c left (of_run f)
-importing-run is_honest c left run.Device = tt
-importing-run is_honest c left run.StoreFailed = tt
-importing-run is_honest c left run.Memory = tt
-importing-run is_honest c left run.CommitMemory = tt
+importing-run is_honest c left f = grind arith
 
 pub importing-document : (is_honest : Type 0) (c : List ℕ) (left : Option (List ℕ)) (f : CommandFault) → (is_honest → (s : State) × StandsFor c s) → IsDocumentFault left f → IsImportingFault is_honest c left f
-importing-document is_honest c left command.NotDocument stands h = (stands, h)
-importing-document is_honest c left (command.UnknownEvaluator name) stands h = (stands, h)
-importing-document is_honest c left command.EvaluatorsTooDeep stands h = (stands, h)
-importing-document is_honest c left command.BadKey stands h = (stands, h)
-importing-document is_honest c left (command.Flag key fault) stands h = (stands, h)
-importing-document is_honest c left command.Device stands h = tt
-importing-document is_honest c left command.Memory stands h = tt
-importing-document is_honest c left command.NotEmpty stands h = absurd h
-importing-document is_honest c left command.Unformatted stands h = absurd h
-importing-document is_honest c left (command.UnknownVersion v) stands h = absurd h
-importing-document is_honest c left (command.Damaged at) stands h = absurd h
-importing-document is_honest c left command.StoreFailed stands h = absurd h
+importing-document is_honest c left f stands h = grind arith

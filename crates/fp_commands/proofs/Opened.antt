@@ -1,9 +1,17 @@
 -- Tasks over a file that was opened.
-use Rattle.std.proofs.Common.{◌≡◌, List, ℕ, Result, Ok, Err, inr, subst, sym}
+use Rattle.std.proofs.Common.{◌≡◌, ◌∷◌, [], ◌++◌, List, ℕ, Some, Result, Ok, Err, inr, subst, sym, ◌∙◌}
 use Rattle.fp_disk.specs.declared.disk.Disk.{Ghosts as DiskGhosts}
+use Rattle.fp_files.specs.Lending.{IsLentOnce}
+use Rattle.fp_files.specs.Openings.{KeepsOthers}
 use Rattle.fp_files.specs.declared.files.DiskFiles.{Ghosts as FileGhosts}
 use Rattle.fp_commands.specs.Files.{Environment, OnFile, OverFile}
 use Rattle.fp_commands.specs.declared.fault.CommandFault.{CommandFault}
+
+-- a disk that was lent and given back
+pub lent_once : {F D : Type 0} (files : FileGhosts F D) (disk : DiskGhosts D) (old mid new : F) (path : List ℕ) (after : D) → files.asked mid ≡ files.asked old ++ path ∷ [] → KeepsOthers files.at old mid path → files.lent mid path → files.faults mid ≡ files.faults old
+    → files.asked new ≡ files.asked mid → KeepsOthers files.at mid new path → (files.lent mid path → disk.honest after → files.at new path ≡ Some after) → files.faults new ≡ files.faults mid → IsLentOnce files disk old new path after
+lent_once files disk old mid new path after asked others lent well asked_on others_on kept well_on =
+    record { asked = asked_on ∙ asked; others = λ other apart. others_on other apart ∙ others other apart; kept = kept lent; no_failure = well_on ∙ well }
 
 -- what was done there is what the task comes to
 pub on_file : {F R W D : Type 0} (files : FileGhosts F D) (disk : DiskGhosts D) (old new : Environment F R W) (path : List ℕ) (Found : D → Type 0)

@@ -1,7 +1,8 @@
 //! The commands over a disk. Each gives the disk back.
 
 ghost use Rattle.fp_disk.specs.Crashes.{AtAnyMoment, EachCrash, SameHonesty};
-ghost use Rattle.std.specs.Prelude.{◌≡◌, ◌≢◌, ◌⊎◌, ◌<◌, ◌+◌, ◌++◌, [], ◌∷◌, IfOk, IfErr, OnOk};
+ghost use Rattle.std.specs.Prelude.{◌≡◌, ◌≢◌, ◌⊎◌, ◌<◌, ◌+◌, ◌++◌, [], ◌∷◌, Ok, Err, IfOk, IfErr};
+ghost use Rattle.std.specs.Prelude.{MatchResult, OnOk};
 ghost use Rattle.std.specs.Io.KnownBytes.{Appends};
 ghost use Rattle.fp_disk.specs.History.{Makes};
 ghost use Rattle.fp_disk.specs.Outcomes.{IsOutcome, LeavesOnly, all_synced};
@@ -10,6 +11,7 @@ ghost use Rattle.fp_journal.specs.Pieces.{ThenSomeReads};
 ghost use Rattle.fp_layout.specs.declared.size.TheConstants.{STANDARD_SLOT};
 ghost use Rattle.fp_layout.specs.NewDisk.{IsNewDisk, StaysAsItWas, format_calls};
 ghost use Rattle.fp_session.specs.Run.{show_line};
+ghost use Rattle.fp_session.specs.Session.{StandsAhead, disk_of};
 ghost use Rattle.fp_session.specs.declared.replies.TheConstants.{MOST_WAITING};
 ghost use Rattle.fp_recovery.specs.Durable.{IsNewSetOrNone, IsDurable};
 ghost use Rattle.fp_recovery.specs.Refusals.{StandsForNone};
@@ -18,6 +20,7 @@ ghost use Rattle.fp_commands.specs.Disks.{IfFileRefused, IfRefused, IsApplyingFa
 ghost use Rattle.fp_commands.specs.Disks.{IsImportingFault, IsLeftOnDisk, IsMakingFault};
 ghost use Rattle.fp_commands.specs.Disks.{IsOnlyRead, IsRunOnDisk, IsShowingFault, IsShown};
 ghost use Rattle.fp_commands.specs.Disks.{IsStreamFault, IsToldOnDisk, IsUnbegun, LacksRoom};
+ghost use Rattle.fp_commands.specs.Faults.{of_run};
 ghost use Rattle.fp_commands.specs.Task.{no_flags};
 ghost use Rattle.fp_commands.specs.declared.fault.CommandFault.TheVariants.{Device, NotEmpty};
 ghost use Rattle.fp_commands.specs.declared.fault.CommandFault.TheVariants.{StoreFailed};
@@ -28,7 +31,7 @@ use fp_disk::Disk;
 use fp_edit::FlagSet;
 use fp_group_commit::{CreateFault, Store};
 use fp_layout::SlotSize;
-use fp_session::{DiskSession, apply_lines, import_flags, shown};
+use fp_session::{ApplyFault, DiskSession, apply_lines, import_flags, shown};
 use fp_streams::FailureCounted;
 use std::alloc::Global;
 use std::io::{Read, Write};
@@ -160,11 +163,7 @@ pub fn apply_disk<D: Disk, R: Read, W: Write>(
         Err((fault, disk)) => return (disk, Err(fault.into())),
     };
     let (kept, outcome) = apply_lines(alloc, r, w, session);
-    let disk = kept.into_disk();
-    match outcome {
-        Ok(told) => (disk, Ok(told)),
-        Err(fault) => (disk, Err(fault.into())),
-    }
+    end_run(kept, outcome)
 }
 
 /// Puts each flag of the flagd document that the reader gives over what a disk stands for, in
@@ -235,6 +234,19 @@ pub fn import_disk<D: Disk, R: Read, W: Write>(
         Err(fault) => return (session.into_disk(), Err(fault)),
     };
     let (kept, outcome) = import_flags(alloc, w, session, flags);
+    end_run(kept, outcome)
+}
+
+// Gives the disk back behind a run.
+fn end_run<D: Disk>(
+    kept: DiskSession<D>,
+    outcome: Result<bool, ApplyFault>,
+) -> (D, Result<bool, CommandFault>)
+    ensures disk { result.0 ≡ disk_of kept }
+    ensures keeps { EachCrash D.Disk result.0 (StandsAhead kept.desk) }
+    ensures outcome { MatchResult outcome (λ told. result.1 ≡ Ok told)
+        (λ f. result.1 ≡ Err (of_run f)) }
+{
     let disk = kept.into_disk();
     match outcome {
         Ok(told) => (disk, Ok(told)),

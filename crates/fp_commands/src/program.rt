@@ -128,7 +128,7 @@ fn task_over_file(word: &str) -> Option<Task>
     }
 }
 
-fn perform<F, R, W>(
+fn perform<F: DiskFiles, R: Read, W: Write>(
     alloc: Global,
     files: &mut F,
     task: Task,
@@ -138,10 +138,6 @@ fn perform<F, R, W>(
     r: &mut FailureCounted<R>,
     w: &mut FailureCounted<W>,
 ) -> Result<(), CommandFault>
-where
-    F: DiskFiles,
-    R: Read,
-    W: Write,
     requires { now < 2 ^ 63 }
     ensures performs { Performs F.DiskFiles F.Disk.Disk R.remaining W.contents
         (record { files = files.old; reader = r.old; writer = w.old })
@@ -174,17 +170,13 @@ fn apply<R: Read, W: Write>(
 }
 
 // Makes the file a disk of no flags. Neither stream is used.
-fn init_file<F, R, W>(
+fn init_file<F: DiskFiles, R: Read, W: Write>(
     alloc: Global,
     files: &mut F,
     path: &str,
     _r: &FailureCounted<R>,
     _w: &FailureCounted<W>,
 ) -> Result<(), CommandFault>
-where
-    F: DiskFiles,
-    R: Read,
-    W: Write,
     ensures { Performs F.DiskFiles F.Disk.Disk R.remaining W.contents
         (record { files = files.old; reader = _r.now; writer = _w.now })
         (record { files = files.new; reader = _r.now; writer = _w.now })
@@ -197,17 +189,13 @@ where
 }
 
 // Answers the input's lines over what the file stands for.
-fn apply_file<F, R, W>(
+fn apply_file<F: DiskFiles, R: Read, W: Write>(
     alloc: Global,
     files: &mut F,
     path: &str,
     r: &mut FailureCounted<R>,
     w: &mut FailureCounted<W>,
 ) -> Result<(), CommandFault>
-where
-    F: DiskFiles,
-    R: Read,
-    W: Write,
     ensures performs { Performs F.DiskFiles F.Disk.Disk R.remaining W.contents
         (record { files = files.old; reader = r.old; writer = w.old })
         (record { files = files.new; reader = r.new; writer = w.new })
@@ -222,17 +210,13 @@ where
 }
 
 // Shows what the file stands for. The reader isn't used.
-fn show_file<F, R, W>(
+fn show_file<F: DiskFiles, R: Read, W: Write>(
     alloc: Global,
     files: &mut F,
     path: &str,
     _r: &FailureCounted<R>,
     w: &mut FailureCounted<W>,
 ) -> Result<(), CommandFault>
-where
-    F: DiskFiles,
-    R: Read,
-    W: Write,
     ensures performs { Performs F.DiskFiles F.Disk.Disk R.remaining W.contents
         (record { files = files.old; reader = _r.now; writer = w.old })
         (record { files = files.new; reader = _r.now; writer = w.new })
@@ -246,17 +230,13 @@ where
 }
 
 // Puts the flags of the document that is read over what the file stands for.
-fn import_file<F, R, W>(
+fn import_file<F: DiskFiles, R: Read, W: Write>(
     alloc: Global,
     files: &mut F,
     path: &str,
     r: &mut FailureCounted<R>,
     w: &mut FailureCounted<W>,
 ) -> Result<(), CommandFault>
-where
-    F: DiskFiles,
-    R: Read,
-    W: Write,
     ensures performs { Performs F.DiskFiles F.Disk.Disk R.remaining W.contents
         (record { files = files.old; reader = r.old; writer = w.old })
         (record { files = files.new; reader = r.new; writer = w.new })
@@ -271,7 +251,7 @@ where
 }
 
 // Answers the request that is read for a flag of what the file stands for.
-fn eval_file<F, R, W>(
+fn eval_file<F: DiskFiles, R: Read, W: Write>(
     alloc: Global,
     files: &mut F,
     path: &str,
@@ -280,10 +260,6 @@ fn eval_file<F, R, W>(
     r: &mut FailureCounted<R>,
     w: &mut FailureCounted<W>,
 ) -> Result<(), CommandFault>
-where
-    F: DiskFiles,
-    R: Read,
-    W: Write,
     requires { now < 2 ^ 63 }
     ensures performs { Performs F.DiskFiles F.Disk.Disk R.remaining W.contents
         (record { files = files.old; reader = r.old; writer = w.old })

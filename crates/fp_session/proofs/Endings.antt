@@ -7,7 +7,7 @@ use Rattle.fp_session.specs.Asks.{Ask}
 use Rattle.fp_session.specs.Progress.{Ends, EndsOver, IsAt, IsAtWith, IsBroken, IsBrokenWith, IsEnded, IsSentFurther, StopsAt}
 use Rattle.fp_session.specs.Reply.{Reply, reply_of_code}
 use Rattle.fp_session.specs.Run.{after, IsAfterPrefix, IsRun, IsRunWritten, IsToldBy, script}
-use Rattle.fp_session.proofs.RunPromise.{RunPromise}
+use Rattle.fp_session.specs.RunPromise.{RunPromise}
 use Rattle.fp_session.specs.declared.edit_store.EditStore.{Ghosts}
 use Rattle.fp_session.specs.declared.fault.ApplyFault.{ApplyFault}
 use Rattle.fp_session.specs.declared.fault.ApplyFault.TheVariants.{Device}

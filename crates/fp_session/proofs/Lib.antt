@@ -6,5 +6,4 @@ pub mod RunLemmas
 pub mod ProgressLemmas
 pub mod Sourcing
 pub mod Readings
-pub mod RunPromise
 pub mod Endings

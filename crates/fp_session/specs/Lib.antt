@@ -6,6 +6,7 @@ pub mod Run
 pub mod Streams
 pub mod Fault
 pub mod StoreRun
+pub mod RunPromise
 pub mod Session
 pub mod SessionLaws
 pub mod Progress

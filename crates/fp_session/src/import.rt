@@ -1,12 +1,9 @@
 //! Flags that are imported.
 
-ghost use Rattle.std.specs.Prelude.{◌≡◌, List, Ok, length};
-ghost use Rattle.std.specs.Prelude.{true, map, IfErr, IfOk, OnOk};
-ghost use Rattle.std.specs.Io.KnownBytes.{Appends};
+ghost use Rattle.std.specs.Prelude.{◌≡◌, List, Ok, length, map};
 ghost use Rattle.fp_edit.specs.Flags.{State};
 ghost use Rattle.fp_session.specs.Asks.{asked_by_flags, flag_bytes};
-ghost use Rattle.fp_session.specs.Run.{IsAfterPrefix, IsRunWritten, IsToldBy, after, script};
-ghost use Rattle.fp_session.specs.StoreRun.{StoreRun};
+ghost use Rattle.fp_session.specs.RunPromise.{RunPromise};
 ghost use Rattle.fp_session.specs.Streams.{Blames};
 ghost use Rattle.fp_session.specs.declared.replies.TheConstants.{MOST_WAITING};
 
@@ -88,42 +85,11 @@ pub fn import_flags<W: Write, E: EditStore>(
     // Nothing waits to be kept yet.
     requires fresh { (s : State) → E.may_stand edits s → s ≡ E.state edits }
 
-    // What is written is the import's script, and the flags are as it leaves them.
-    ensures script { IfOk result.1 (λ told. told ≡ true →
-        Appends (W.contents w.old.inner) (W.contents w.new.inner)
-        (script (E.state edits) (asked_by_flags (map flag_bytes flags.items)))) }
-    ensures flags { IfOk result.1 (λ told. told ≡ true →
-        E.state result.0 ≡ after (E.state edits) (asked_by_flags (map flag_bytes flags.items))) }
-
-    // Where a reply tells of wanting memory, its put changed nothing, and all else is as before.
-    ensures run { IfOk result.1 (λ told.
-        IsRunWritten (E.state edits) (asked_by_flags (map flag_bytes flags.items)) told
-        (W.contents w.old.inner) (W.contents w.new.inner) (E.state result.0)) }
-    ensures kept { OnOk result.1 ((flags : State) → E.may_stand result.0 flags
-        → flags ≡ E.state result.0) }
-
-    // At a fault all replies were written, unless the writer failed: those to what any flags that
-    // may stand hold, and those to the batch behind that isn't known to be kept, which tell no
-    // revision, or none where memory was wanting.
-    ensures told { IfErr result.1 (λ fault. w.new.failures ≡ w.old.failures
-        → (s : State) → E.may_stand result.0 s
-        → IsToldBy (E.state edits) (asked_by_flags (map flag_bytes flags.items)) MOST_WAITING fault
-        (W.contents w.old.inner) (W.contents w.new.inner) (E.state result.0) s) }
-
-    // Whatever comes back, the flags are as some first puts leave them,
-    // and so is whatever a crash leaves at any moment.
-    ensures left { IsAfterPrefix (E.state edits) (asked_by_flags (map flag_bytes flags.items))
-        (E.state result.0) }
-    ensures any_moment { E.leaves edits result.0
-        (IsAfterPrefix (E.state edits) (asked_by_flags (map flag_bytes flags.items))) }
-
-    // At the end nothing goes on beside the edits.
-    ensures rests { OnOk result.1 (E.rests result.0) }
-
-    // What keeps the flags goes on, but where it failed to keep what waited.
-    ensures course { StoreRun E.EditStore
-        (IsAfterPrefix (E.state edits) (asked_by_flags (map flag_bytes flags.items)))
-        edits result.0 result.1 }
+    // As many puts wait as are answered at once.
+    ensures runs { RunPromise E.EditStore
+        (λ Holds. Holds (asked_by_flags (map flag_bytes flags.items))) MOST_WAITING
+        edits result.0 (W.contents w.old.inner) (W.contents w.new.inner)
+        w.old.failures w.new.failures result.1 }
 
     // `Device` comes only where the writer failed, and a run to the end only where it didn't.
     ensures device { Blames w.old.failures w.new.failures result.1 }

@@ -1,13 +1,11 @@
 //! The lines of an input.
 
-ghost use Rattle.std.specs.Prelude.{◌≡◌, ◌≢◌, ◌+◌, [], true, IfErr, IfOk};
-ghost use Rattle.std.specs.Prelude.{IfSome, MatchOption, Option, OnOk, length, ◌<◌, false};
-ghost use Rattle.std.specs.Io.KnownBytes.{Appends};
+ghost use Rattle.std.specs.Prelude.{◌≡◌, ◌≢◌, ◌+◌, ◌<◌, [], false, length, IfErr, IfOk};
+ghost use Rattle.std.specs.Prelude.{IfSome, MatchOption};
 ghost use Rattle.fp_edit.specs.Flags.{State};
 ghost use Rattle.fp_session.specs.Asks.{asked_by_input};
-ghost use Rattle.fp_session.specs.Run.{IsAfterPrefix, IsRunWritten, IsToldBy, after, script};
+ghost use Rattle.fp_session.specs.RunPromise.{RunPromise};
 ghost use Rattle.fp_session.specs.Sources.{AskLines, AsksNext, bytes_at_hand};
-ghost use Rattle.fp_session.specs.StoreRun.{StoreRun};
 ghost use Rattle.fp_session.specs.Streams.{Blames};
 ghost use Rattle.fp_session.specs.declared.fault.ApplyFault.TheVariants.{Device};
 
@@ -121,42 +119,11 @@ pub fn apply_lines<R: Read, W: Write, E: EditStore>(
     // Nothing waits to be kept yet.
     requires fresh { (flags : State) → E.may_stand edits flags → flags ≡ E.state edits }
 
-    // What is written is the script of what was read, and the flags are as it leaves them.
-    ensures script { IfOk result.1 (λ told. told ≡ true → IfSome (R.remaining r.old.inner) (λ input.
-        Appends (W.contents w.old.inner) (W.contents w.new.inner)
-        (script (E.state edits) (asked_by_input input)))) }
-    ensures flags { IfOk result.1 (λ told. told ≡ true → IfSome (R.remaining r.old.inner) (λ input.
-        E.state result.0 ≡ after (E.state edits) (asked_by_input input))) }
-
-    // Where a reply tells of wanting memory, its line changed nothing, and all else is as before.
-    ensures run { IfOk result.1 (λ told. IfSome (R.remaining r.old.inner) (λ input.
-        IsRunWritten (E.state edits) (asked_by_input input) told
-        (W.contents w.old.inner) (W.contents w.new.inner) (E.state result.0))) }
-    ensures kept { OnOk result.1 ((flags : State) → E.may_stand result.0 flags
-        → flags ≡ E.state result.0) }
-
-    // At a fault all replies were written, unless the writer failed: those to what any flags that
-    // may stand hold, and the one to an edit behind that isn't known to be kept, which tells no
-    // revision, or none where memory was wanting.
-    ensures told { IfErr result.1 (λ fault. w.new.failures ≡ w.old.failures
-        → (flags : State) → E.may_stand result.0 flags → IfSome (R.remaining r.old.inner) (λ input.
-        IsToldBy (E.state edits) (asked_by_input input) 1 fault
-        (W.contents w.old.inner) (W.contents w.new.inner) (E.state result.0) flags)) }
-
-    // Whatever comes back, the flags are as some first lines of the input leave them, and so is
-    // whatever a crash leaves at any moment.
-    ensures left { IfSome (R.remaining r.old.inner) (λ input.
-        IsAfterPrefix (E.state edits) (asked_by_input input) (E.state result.0)) }
-    ensures any_moment { E.leaves edits result.0
-        (λ flags. IfSome (R.remaining r.old.inner) (λ input.
-        IsAfterPrefix (E.state edits) (asked_by_input input) flags)) }
-
-    // At the end nothing goes on beside the edits.
-    ensures rests { OnOk result.1 (E.rests result.0) }
-
-    // What keeps the flags goes on, but where it failed to keep what waited.
-    ensures course { StoreRun E.EditStore (λ flags. IfSome (R.remaining r.old.inner) (λ input.
-        IsAfterPrefix (E.state edits) (asked_by_input input) flags)) edits result.0 result.1 }
+    // What holds of what is asked is said where the input is known, and one edit at most waits.
+    ensures runs { RunPromise E.EditStore
+        (λ Holds. IfSome (R.remaining r.old.inner) (λ input. Holds (asked_by_input input))) 1
+        edits result.0 (W.contents w.old.inner) (W.contents w.new.inner)
+        w.old.failures w.new.failures result.1 }
 
     // `Device` comes only where the reader or the writer failed,
     // and a run to the end only where neither did.

@@ -6,7 +6,8 @@ use Rattle.fp_session.specs.Run.{show_line}
 use Rattle.fp_recovery.proofs.Cases.{err_more}
 use Rattle.fp_commands.specs.declared.fault.CommandFault.{CommandFault}
 use Rattle.fp_commands.specs.Disks.{IsShown, IsShowingFault, IsStreamFault}
-use Rattle.fp_commands.proofs.Told.{ok_more, showing-open, showing-stream}
+use Rattle.fp_session.proofs.Commits.{ok_more}
+use Rattle.fp_commands.proofs.Told.{showing-open, showing-stream}
 use Rattle.fp_commands.proofs.disk.show_disk.Goals as goal
 
 pub returns-in-Ok-clause-shown : goal.returns-in-Ok-clause-shown

@@ -3,7 +3,8 @@ use Rattle.fp_group_commit.specs.Tokens.{Identity}
 use Rattle.fp_commands.specs.declared.fault.CommandFault.{CommandFault}
 use Rattle.fp_commands.specs.Disks.{IsShowingFault, IsStreamFault}
 use Rattle.fp_commands.specs.Eval.{IsAnswered, IsEvaluated}
-use Rattle.fp_commands.proofs.Told.{ok_more, showing-open, showing-stream}
+use Rattle.fp_session.proofs.Commits.{ok_more}
+use Rattle.fp_commands.proofs.Told.{showing-open, showing-stream}
 use Rattle.fp_recovery.proofs.Cases.{err_more}
 use Rattle.fp_commands.proofs.eval.eval_disk.Goals as goal
 

@@ -1,6 +1,6 @@
-use Rattle.std.proofs.Common.{◌∙◌, refl}
+use Rattle.std.proofs.Common.{refl}
 use Rattle.fp_files.specs.Lending.{IsThereOrNew}
-use Rattle.fp_commands.proofs.Opened.{on_file}
+use Rattle.fp_commands.proofs.Opened.{lent_once, on_file}
 use Rattle.fp_commands.specs.Files.{MakesDisk}
 use Rattle.fp_commands.proofs.program.init_file.Goals as goal
 
@@ -13,12 +13,7 @@ returns g c =
       before = c.in_ok-disk.disk;
       after = c.init_disk-disk.result.0;
       found = o.found;
-      lent = record {
-        asked = back.asked ∙ o.asked;
-        others = λ other apart. back.others other apart ∙ o.others other apart;
-        kept = back.kept o.lent;
-        no_failure = back.faults ∙ o.cause.well refl;
-      };
+      lent = lent_once g.F.DiskFiles g.F.Disk.Disk c.args.files.now c.create.new.self c.close.new.self c.args.path.now c.init_disk-disk.result.0 o.asked o.others o.lent (o.cause.well refl) back.asked back.others back.kept back.faults;
       does = record {
         unread = refl;
         nothing_written = refl;
