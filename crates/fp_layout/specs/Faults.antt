@@ -10,10 +10,11 @@ use Rattle.fp_layout.specs.Size.{IsSlotSize}
 use Rattle.fp_slots.specs.declared.choosing.SlotFault.{SlotFault}
 use Rattle.fp_slots.specs.declared.choosing.SlotFault.TheVariants as slot_fault
 use Rattle.fp_slots.specs.declared.places.TheConstants.{GENERATION_PLACE, VERSION_PLACE, BASE_PLACE}
-use Rattle.fp_slots.specs.declared.places.TheConstants.{LENGTH_PLACE, IMAGE_PLACE, VERSION}
+use Rattle.fp_slots.specs.declared.places.TheConstants.{LENGTH_PLACE, IMAGE_PLACE}
 use Rattle.fp_layout.specs.Layout.{IsFormatted, IsFirstOther, AreZeros, HasVersion, HasBase}
 use Rattle.fp_layout.specs.Layout.{HasLength}
-use Rattle.fp_layout.specs.declared.header.TheConstants.{HEADER, HEADER_VERSION_PLACE}
+use Rattle.fp_layout.specs.declared.header.TheConstants.{HEADER, HEADER_VERSION}
+use Rattle.fp_layout.specs.declared.header.TheConstants.{HEADER_VERSION_PLACE}
 use Rattle.fp_layout.specs.declared.header.TheConstants.{SIZE_PLACE, ZEROS_PLACE}
 use Rattle.fp_layout.specs.declared.fault.OpenFault.{OpenFault}
 use Rattle.fp_layout.specs.declared.fault.OpenFault.TheVariants.{Unformatted, UnknownVersion}
@@ -30,8 +31,9 @@ pub data BreaksHeader (c : List ℕ) (size k : ℕ) : Type 0 where
 abbrev pub RefusesHeader : List ℕ → OpenFault → Type 0
 RefusesHeader c Unformatted = IsFormatted c → ⊥
 RefusesHeader c (UnknownVersion v) =
-    IsFormatted c × (slice_index c HEADER_VERSION_PLACE ≡ v) × (v ≢ VERSION)
-RefusesHeader c (Damaged at) = IsFormatted c × (slice_index c HEADER_VERSION_PLACE ≡ VERSION)
+    IsFormatted c × (slice_index c HEADER_VERSION_PLACE ≡ v) × (v ≢ HEADER_VERSION)
+RefusesHeader c (Damaged at) = IsFormatted c
+    × (slice_index c HEADER_VERSION_PLACE ≡ HEADER_VERSION)
     × ((size : ℕ) × (size < 2 ^ 64) × Holds c SIZE_PLACE (to_be_bytes w64 size)
     × BreaksHeader c size at)
 RefusesHeader c Device = ⊥
@@ -41,14 +43,15 @@ RefusesHeader c Memory = ⊥
 -- has a value that isn't allowed, shows it at its own first byte
 pub data BreaksHead (c : List ℕ) (at size k : ℕ) : Type 0 where
   no_generation : length c < at + VERSION_PLACE → k ≡ at + GENERATION_PLACE → BreaksHead c at size k
-  no_version : at + VERSION_PLACE ≤ length c → (HasVersion c at → ⊥) → k ≡ at + VERSION_PLACE
-      → BreaksHead c at size k
-  no_base : HasVersion c at → ((base : ℕ) → HasBase c at base → ⊥) → k ≡ at + BASE_PLACE
-      → BreaksHead c at size k
-  no_length : HasVersion c at → (base : ℕ) → HasBase c at base
+  no_version : at + VERSION_PLACE ≤ length c → ((version : ℕ) → HasVersion c at version → ⊥)
+      → k ≡ at + VERSION_PLACE → BreaksHead c at size k
+  no_base : (version : ℕ) → HasVersion c at version → ((base : ℕ) → HasBase c at base → ⊥)
+      → k ≡ at + BASE_PLACE → BreaksHead c at size k
+  no_length : (version base : ℕ) → HasVersion c at version → HasBase c at base
       → ((len : ℕ) → HasLength c at size len → ⊥) → k ≡ at + LENGTH_PLACE → BreaksHead c at size k
-  no_image : HasVersion c at → (base len : ℕ) → HasBase c at base → HasLength c at size len
-      → length c < at + IMAGE_PLACE + len → k ≡ at + IMAGE_PLACE → BreaksHead c at size k
+  no_image : (version base len : ℕ) → HasVersion c at version → HasBase c at base
+      → HasLength c at size len → length c < at + IMAGE_PLACE + len → k ≡ at + IMAGE_PLACE
+      → BreaksHead c at size k
 
 abbrev pub IsDamage : (ℕ → Type 0) → OpenFault → Type 0
 IsDamage P Unformatted = ⊥

@@ -3,6 +3,7 @@ use Rattle.std.specs.Prelude.{◌≡◌, ◌↔◌, ◌<◌, ◌≤◌, ◌+◌,
 use Rattle.std.specs.Prelude.{slice_index}
 use Rattle.fp_gate.specs.declared.gate.TheConstants.{OPEN}
 use Rattle.fp_journal.specs.Holds.{Holds}
+use Rattle.fp_slots.specs.Head.{IsVersion}
 use Rattle.fp_slots.specs.Rules.{IsRuling}
 use Rattle.fp_slots.specs.declared.places.TheConstants.{IMAGE_PLACE}
 use Rattle.fp_layout.specs.Size.{IsSlotSize, Side, other_side, slot_of}
@@ -20,7 +21,9 @@ pub record IsHeadOn (size len : ℕ) (r : Ruling) : Type 0 where
   pub side : Side
   pub slot_is : r.slot ≡ slot_of size side
   pub other_is : r.other ≡ slot_of size (other_side side)
-  pub text_is : r.text ≡ front_text r.head.generation r.head.base r.head.len
+  pub text_is : r.text
+      ≡ front_text r.head.version r.head.generation r.head.base r.head.len
+  pub known : IsVersion r.head.version
   pub numbered : r.head.generation < 2 ^ 64
   pub low : r.head.base < BASES_END
   pub small : r.head.len ≤ size / 2
@@ -33,17 +36,17 @@ pub record StandsIn (r : Ruling) (c : List ℕ) : Type 0 where
 
 -- ---- the image too
 -- the reader has begun with it, and reading goes on behind it
-pub record IsFrontOn {R : Type 0} (begins : R → ℕ → ℕ → List ℕ → R → Type 0)
+pub record IsFrontOn {R : Type 0} (begins : R → ℕ → ℕ → ℕ → List ℕ → R → Type 0)
     (before after : R) (p : Front) : Type 0 where
-  pub read : ReadsImage begins before after p.slot p.other p.generation p.text
+  pub read : ReadsImage begins before after p.slot p.other p.version p.generation p.text
   pub place : p.at ≡ p.slot.start + length p.text
   pub within : p.at ≤ p.len
 
 -- all of that stands in these bytes
-pub record FoundIn {R : Type 0} (begins : R → ℕ → ℕ → List ℕ → R → Type 0) (before after : R)
+pub record FoundIn {R : Type 0} (begins : R → ℕ → ℕ → ℕ → List ℕ → R → Type 0) (before after : R)
     (p : Front) (c : List ℕ) : Type 0 where
   pub front : FoundFront begins c before after p.slot p.at
-  pub slots : HasSlots c p.slot p.other p.generation
+  pub slots : HasSlots c p.slot p.other p.version p.generation
   pub gate : IsTrue p.is_open ↔ (slice_index c p.other.start ≡ OPEN)
   pub text : Holds c p.slot.start p.text
   pub long : p.len ≡ length c

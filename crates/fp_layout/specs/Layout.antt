@@ -4,11 +4,13 @@ use Rattle.std.specs.Prelude.{slice_index, codes}
 use Rattle.std.specs.Int.{w32, w64, to_be_bytes}
 use Rattle.fp_journal.specs.Holds.{Holds}
 use Rattle.fp_journal.specs.declared.slot.Slot.{Slot}
+use Rattle.fp_slots.specs.Head.{IsVersion}
 use Rattle.fp_slots.specs.Rules.{HasGeneration, Rules}
 use Rattle.fp_slots.specs.declared.places.TheConstants.{VERSION_PLACE, BASE_PLACE, LENGTH_PLACE}
-use Rattle.fp_slots.specs.declared.places.TheConstants.{IMAGE_PLACE, VERSION}
+use Rattle.fp_slots.specs.declared.places.TheConstants.{IMAGE_PLACE}
 use Rattle.fp_layout.specs.declared.head.TheConstants.{BASES_END}
-use Rattle.fp_layout.specs.declared.header.TheConstants.{HEADER, HEADER_VERSION_PLACE}
+use Rattle.fp_layout.specs.declared.header.TheConstants.{HEADER, HEADER_VERSION}
+use Rattle.fp_layout.specs.declared.header.TheConstants.{HEADER_VERSION_PLACE}
 use Rattle.fp_layout.specs.declared.header.TheConstants.{SIZE_PLACE, ZEROS_PLACE}
 use Rattle.fp_layout.specs.Size.{IsSlotSize, Side, other_side, slot_of}
 use Rattle.fp_gate.specs.declared.gate.TheConstants.{OPEN}
@@ -37,16 +39,18 @@ pub record IsFormatted (c : List ℕ) : Type 0 where
 -- a disk with slots of this size
 pub record IsHeader (c : List ℕ) (size : ℕ) : Type 0 where
   pub formatted : IsFormatted c
-  pub version : slice_index c HEADER_VERSION_PLACE ≡ VERSION
+  pub version : slice_index c HEADER_VERSION_PLACE ≡ HEADER_VERSION
   pub size_text : Holds c SIZE_PLACE (to_be_bytes w64 size)
   pub allowed : IsSlotSize size
   pub zeros : AreZeros c ZEROS_PLACE HEADER
   pub long : HEADER + 1 + size ≤ length c
 
 -- ---- the head of the slot that begins at this place, behind its gate
-pub record HasVersion (c : List ℕ) (at : ℕ) : Type 0 where
+-- this version, one that is read
+pub record HasVersion (c : List ℕ) (at version : ℕ) : Type 0 where
   pub long : at + BASE_PLACE ≤ length c
-  pub is : slice_index c (at + VERSION_PLACE) ≡ VERSION
+  pub is : slice_index c (at + VERSION_PLACE) ≡ version
+  pub known : IsVersion version
 
 -- its image is one of this revision
 pub record HasBase (c : List ℕ) (at base : ℕ) : Type 0 where
@@ -59,15 +63,16 @@ pub record HasLength (c : List ℕ) (at size len : ℕ) : Type 0 where
   pub small : len ≤ size / 2
 
 -- so it stands there, up to an image of so many bytes
-abbrev pub front_text : (generation base len : ℕ) → List ℕ
-front_text generation base len =
+abbrev pub front_text : (version generation base len : ℕ) → List ℕ
+front_text version generation base len =
     OPEN ∷ (to_be_bytes w64 generation
-    ++ VERSION ∷ (to_be_bytes w64 base ++ to_be_bytes w32 len))
+    ++ version ∷ (to_be_bytes w64 base ++ to_be_bytes w32 len))
 
 -- all of it
-pub record IsHead (c : List ℕ) (at size generation base : ℕ) (image : List ℕ) : Type 0 where
+pub record IsHead (c : List ℕ) (at size version generation base : ℕ) (image : List ℕ)
+    : Type 0 where
   pub generation_is : HasGeneration at generation c
-  pub version : HasVersion c at
+  pub version : HasVersion c at version
   pub base_is : HasBase c at base
   pub length_is : HasLength c at size (length image)
   pub image_text : Holds c (at + IMAGE_PLACE) image
@@ -79,9 +84,11 @@ pub record IsActive (c : List ℕ) (size : ℕ) (slot other : Slot) : Type 0 whe
   pub other_is : other ≡ slot_of size (other_side side)
   pub rules : Rules slot.start other.start c
 
--- a header is there, these are the disk's two slots, and the first rules under this generation
-pub record HasSlots (c : List ℕ) (slot other : Slot) (generation : ℕ) : Type 0 where
+-- a header is there, these are the disk's two slots, and the first is of this version and rules
+-- under this generation
+pub record HasSlots (c : List ℕ) (slot other : Slot) (version generation : ℕ) : Type 0 where
   pub size : ℕ
   pub header : IsHeader c size
   pub active : IsActive c size slot other
+  pub version_is : HasVersion c slot.start version
   pub generation_is : HasGeneration slot.start generation c

@@ -9,14 +9,14 @@ use Rattle.fp_disk.specs.declared.history.CallKind.TheVariants.{Sync, Write}
 use Rattle.fp_journal.specs.Holds.{Holds}
 use Rattle.fp_layout.specs.Layout.{magic, AreZeros, IsFormatted}
 use Rattle.fp_layout.specs.declared.format.TheConstants.{FIRST_GATE}
-use Rattle.fp_layout.specs.declared.header.TheConstants.{HEADER, ZEROS}
+use Rattle.fp_layout.specs.declared.header.TheConstants.{HEADER, HEADER_VERSION, ZEROS}
 use Rattle.fp_slots.specs.Head.{head_text, slot_text}
 use Rattle.fp_slots.specs.declared.places.TheConstants.{VERSION}
 use Rattle.fp_gate.specs.declared.gate.TheConstants.{OPEN}
 
 -- ---- the text behind the header's gate
 abbrev pub header_text : ℕ → List ℕ
-header_text size = magic ++ VERSION ∷ (to_be_bytes w64 size ++ replicate ZEROS 0)
+header_text size = magic ++ HEADER_VERSION ∷ (to_be_bytes w64 size ++ replicate ZEROS 0)
 
 -- an image of no flags
 abbrev pub empty_image : List ℕ
@@ -24,11 +24,11 @@ empty_image = to_be_bytes w32 0
 
 -- what stands in a new slot in front of the first batch's gate
 abbrev pub new_front : List ℕ
-new_front = head_text 1 0 empty_image
+new_front = head_text VERSION 1 0 empty_image
 
 -- the bytes up to that gate, it included, as they are while all gates are closed
 abbrev pub closed_bytes : ℕ → List ℕ
-closed_bytes size = 0 ∷ (header_text size ++ 0 ∷ (slot_text 1 0 empty_image ++ 0 ∷ []))
+closed_bytes size = 0 ∷ (header_text size ++ 0 ∷ (slot_text VERSION 1 0 empty_image ++ 0 ∷ []))
 
 -- the calls that write it: the header's closed gate, and a sync; the text behind it, the second
 -- slot's closed gate, and a sync; the first slot's gate, and a sync; the header's, and a sync

@@ -13,10 +13,11 @@ ghost use Rattle.fp_layout.specs.Layout.{IsHeader, IsHead, IsActive};
 ghost use Rattle.fp_layout.specs.NewDisk.{IsNewDisk, IsNewOrNone, closed_bytes, empty_image};
 ghost use Rattle.fp_layout.specs.NewDisk.{StaysAsItWas, format_calls, new_front};
 ghost use Rattle.fp_layout.specs.declared.header.TheConstants.{HEADER};
+ghost use Rattle.fp_slots.specs.declared.places.TheConstants.{VERSION};
 ghost use Rattle.fp_slots.specs.declared.slots.Step.TheVariants.{Begin};
 ghost use Rattle.fp_layout.specs.declared.format.CreateFault.TheVariants.{NotEmpty, Device};
 
-use crate::header::{HEADER, ZEROS};
+use crate::header::{HEADER, HEADER_VERSION, ZEROS};
 use crate::size::SlotSize;
 use fp_disk::{Disk, DiskFault};
 use fp_gate::OPEN;
@@ -48,7 +49,7 @@ fn closed(alloc: Global, size: SlotSize) -> Result<Vec<u8>, AllocError>
     [
         &[0][..],
         b"FLAGPLN1",
-        &[VERSION],
+        &[HEADER_VERSION],
         &size.bytes().to_be_bytes(),
         &[0; ZEROS],
         &[0],
@@ -109,13 +110,13 @@ pub fn create<D: Disk>(
     ensures journal { IfOk result (λ s. (s.journal.slot ≡ first_slot size)
         × (s.journal.front ≡ new_front) × (s.journal.sealed ≡ []) × (s.journal.phase ≡ Idle)) }
     ensures beside { IfOk result (λ s. (s.other ≡ second_slot size) × (s.generation ≡ 1)
-        × (s.step ≡ Begin) × (s.may_open ≡ false)) }
+        × (s.version ≡ VERSION) × (s.step ≡ Begin) × (s.may_open ≡ false)) }
     ensures made { D.honest disk → IfOk result (λ s. IsNewDisk size (D.bytes s.journal.disk)) }
     ensures all_synced { D.honest disk → IfOk result (λ s. D.unsynced s.journal.disk
         ≡ all_synced (D.bytes s.journal.disk)) }
     ensures stands { D.honest disk → IfOk result (λ s. IsHeader (D.bytes s.journal.disk) size
         × IsActive (D.bytes s.journal.disk) size (first_slot size) (second_slot size)
-        × IsHead (D.bytes s.journal.disk) HEADER size 1 0 empty_image) }
+        × IsHead (D.bytes s.journal.disk) HEADER size VERSION 1 0 empty_image) }
     ensures not_empty { D.honest disk → IfErr result (λ e. e.0 ≡ NotEmpty → D.bytes disk ≢ []) }
     ensures empty { D.honest disk → IsOk result → D.bytes disk ≡ [] }
     ensures any_moment { D.honest disk → D.unsynced disk ≡ all_synced []
@@ -150,5 +151,5 @@ pub fn create<D: Disk>(
     };
     bytes[HEADER] = OPEN;
     let journal = Journal::adopt(alloc, disk, size.first_slot(), &bytes, FIRST_GATE as u64);
-    Ok(Slots::new(alloc, journal, size.second_slot(), 1, false))
+    Ok(Slots::new(alloc, journal, size.second_slot(), 1, VERSION, false))
 }

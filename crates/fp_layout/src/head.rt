@@ -1,19 +1,21 @@
 //! What stands in a slot in front of its batches.
 
-ghost use Rattle.std.specs.Prelude.{◌≡◌, ◌≢◌, ◌<◌, ◌≤◌, ◌+◌, ◌-◌, ◌/◌, ◌^◌, List, ℕ, ◌↔◌, IsTrue};
+ghost use Rattle.std.specs.Prelude.{◌≡◌, ◌≢◌, ◌<◌, ◌≤◌, ◌+◌, ◌-◌, ◌/◌, ◌^◌, List, ℕ};
 ghost use Rattle.std.specs.Prelude.{length, min, slice_index, IfOk, IfErr, IfSome, IfNone};
 ghost use Rattle.fp_gate.specs.declared.gate.TheConstants.{OPEN};
 ghost use Rattle.fp_layout.specs.Layout.{HasVersion, HasBase, HasLength, front_text};
 ghost use Rattle.fp_layout.specs.Faults.{IsDamage, BreaksHead};
 ghost use Rattle.fp_layout.specs.declared.fault.OpenFault.TheVariants.{Device};
 ghost use Rattle.fp_layout.specs.declared.head.TheConstants.{BASES_END};
+ghost use Rattle.fp_slots.specs.Head.{IsVersion};
 ghost use Rattle.fp_slots.specs.Rules.{IsLead};
 ghost use Rattle.fp_slots.specs.declared.places.TheConstants.{IMAGE_PLACE};
 
 use crate::fault::OpenFault;
 use crate::field::{u32_at, u64_at};
 use crate::size::SlotSize;
-use fp_slots::{BASE_PLACE, GENERATION_PLACE, IMAGE_PLACE, LENGTH_PLACE, VERSION, VERSION_PLACE};
+use fp_slots::{BASE_PLACE, FIRST_VERSION, GENERATION_PLACE, IMAGE_PLACE, LENGTH_PLACE};
+use fp_slots::{VERSION, VERSION_PLACE};
 
 /// No image is of this revision or a later one.
 pub const BASES_END: u64 = 1 << 63;
@@ -21,6 +23,8 @@ pub const BASES_END: u64 = 1 << 63;
 /// What stands in a slot in front of its image.
 #[derive(Clone, Copy)]
 pub(crate) struct Head {
+    /// How what stands behind it is written.
+    pub(crate) version: u8,
     /// Which of two slots is the later one.
     pub(crate) generation: u64,
     /// The revision of the image.
@@ -29,11 +33,19 @@ pub(crate) struct Head {
     pub(crate) len: usize,
 }
 
-// Whether a version stands behind the gate and the generation, and it is this one.
-fn has_version(bytes: &[u8]) -> bool
-    ensures { IsTrue result ↔ HasVersion bytes.now 0 }
+// The version behind the gate and the generation, where there is one that is read.
+fn version_of(bytes: &[u8]) -> Option<u8>
+    ensures some { IfSome result (HasVersion bytes.now 0) }
+    ensures none { IfNone result ((version : ℕ) → HasVersion bytes.now 0 version → ⊥) }
 {
-    bytes.len() >= BASE_PLACE && bytes[VERSION_PLACE] == VERSION
+    if bytes.len() < BASE_PLACE {
+        return None;
+    }
+    let version = bytes[VERSION_PLACE];
+    if version < FIRST_VERSION || version > VERSION {
+        return None;
+    }
+    Some(version)
 }
 
 // The revision of the image, where there is one.
@@ -76,7 +88,9 @@ pub(crate) fn read_head(
     requires open { slice_index bytes.now 0 ≡ OPEN }
     requires many { length bytes.now ≡ min IMAGE_PLACE (len - slot) }
     requires fits { slot + IMAGE_PLACE < 2 ^ 64 }
-    ensures text { IfOk result (λ h. bytes.now ≡ front_text h.generation h.base h.len) }
+    ensures text { IfOk result (λ h.
+        bytes.now ≡ front_text h.version h.generation h.base h.len) }
+    ensures known { IfOk result (λ h. IsVersion h.version) }
     ensures small { IfOk result (λ h.
         (h.generation < 2 ^ 64) × (h.base < BASES_END) × (h.len ≤ size / 2)) }
     ensures within { IfOk result (λ h. slot + IMAGE_PLACE + h.len ≤ len) }
@@ -89,11 +103,11 @@ pub(crate) fn read_head(
             at: slot + GENERATION_PLACE as u64,
         });
     }
-    if !has_version(bytes) {
+    let Some(version) = version_of(bytes) else {
         return Err(OpenFault::Damaged {
             at: slot + VERSION_PLACE as u64,
         });
-    }
+    };
     let Some(base) = base_of(bytes) else {
         return Err(OpenFault::Damaged {
             at: slot + BASE_PLACE as u64,
@@ -109,6 +123,7 @@ pub(crate) fn read_head(
         return Err(OpenFault::Damaged { at: place });
     }
     Ok(Head {
+        version,
         generation: u64_at(bytes, GENERATION_PLACE),
         base,
         len: image,

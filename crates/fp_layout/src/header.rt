@@ -13,10 +13,12 @@ use crate::fault::OpenFault;
 use crate::field::u64_at;
 use crate::size::SlotSize;
 use fp_gate::OPEN;
-use fp_slots::VERSION;
 
 /// How many bytes it has.
 pub const HEADER: usize = 64;
+
+/// Its version.
+pub const HEADER_VERSION: u8 = 1;
 
 /// The place of the version, of one byte, behind the magic text.
 pub const HEADER_VERSION_PLACE: usize = 9;
@@ -67,7 +69,7 @@ pub(crate) fn read_header(bytes: &[u8], len: u64) -> Result<SlotSize, OpenFault>
     if !is_formatted(bytes) {
         return Err(OpenFault::Unformatted);
     }
-    if bytes[HEADER_VERSION_PLACE] != VERSION {
+    if bytes[HEADER_VERSION_PLACE] != HEADER_VERSION {
         return Err(OpenFault::UnknownVersion(bytes[HEADER_VERSION_PLACE]));
     }
     let Some(size) = SlotSize::new(u64_at(bytes, SIZE_PLACE)) else {

@@ -33,17 +33,24 @@ use std::alloc::Global;
 
 /// What takes a slot's image, and then the bodies of its chain.
 pub trait SlotReader: Reader {
-    /// Beginning with this image, of this revision and at most this long, makes that of it.
-    ghost begins: { Self → ℕ → ℕ → List ℕ → Self → Type 0 };
+    /// Beginning with this image, of a slot of this version, of this revision and at most this
+    /// long, makes that of it.
+    ghost begins: { Self → ℕ → ℕ → ℕ → List ℕ → Self → Type 0 };
 
     /// The image is none, as its byte at this offset is the first to show.
-    ghost rejects: { Self → ℕ → ℕ → List ℕ → ℕ → Type 0 };
+    ghost rejects: { Self → ℕ → ℕ → ℕ → List ℕ → ℕ → Type 0 };
 
     /// Takes the image.
-    fn begin(&mut self, base: u64, limit: u64, image: &[u8]) -> Result<(), BodyFault>
-        ensures taken { OnOk result (begins self.old base limit image.now self.new) }
+    fn begin(
+        &mut self,
+        version: u8,
+        base: u64,
+        limit: u64,
+        image: &[u8],
+    ) -> Result<(), BodyFault>
+        ensures taken { OnOk result (begins self.old version base limit image.now self.new) }
         ensures fault { IfErr result
-            (IsWrong (length image.now) (rejects self.old base limit image.now)) };
+            (IsWrong (length image.now) (rejects self.old version base limit image.now)) };
 }
 
 // The slot that rules, the other one, and what stands in front of the image.
@@ -62,6 +69,7 @@ pub(crate) struct Front {
     pub(crate) slot: Slot,
     pub(crate) other: Slot,
     pub(crate) is_open: bool,
+    pub(crate) version: u8,
     pub(crate) generation: u64,
     pub(crate) text: Text,
     pub(crate) at: u64,
@@ -169,13 +177,14 @@ fn read_image<D: Disk, R: SlotReader>(
     } = ruling;
     let place = slot.start + IMAGE_PLACE as u64;
     let image = read_bytes(alloc, disk, place, head.len)?;
-    match reader.begin(head.base, size.bytes() / 2, &image) {
+    match reader.begin(head.version, head.base, size.bytes() / 2, &image) {
         Ok(()) => {
             text.push(&image);
             Ok(Front {
                 slot,
                 other,
                 is_open,
+                version: head.version,
                 generation: head.generation,
                 text,
                 at: place + image.len() as u64,
@@ -299,6 +308,7 @@ pub fn read_disk<D: Disk, R: SlotReader>(
         slot,
         other: _,
         is_open: _,
+        version: _,
         generation: _,
         mut text,
         at,
@@ -319,13 +329,13 @@ pub fn open<D: Disk, R: SlotReader>(
     ensures found { D.honest disk → IfOk result (λ s. FoundDisk R.begins R.takes (D.bytes disk)
         reader.old reader.new s.journal.slot s.journal.front) }
     ensures slots { D.honest disk → IfOk result (λ s.
-        HasSlots (D.bytes disk) s.journal.slot s.other s.generation) }
+        HasSlots (D.bytes disk) s.journal.slot s.other s.version s.generation) }
     // Where its gate is closed a compaction doesn't close it again.
     ensures other_gate { D.honest disk → IfOk result (λ s. IsTrue s.may_open
         ↔ (slice_index (D.bytes disk) s.other.start ≡ OPEN)) }
     // Where the disk doesn't keep its word too: what the journal goes on behind was read.
     ensures read { IfOk result (λ s. ReadsSlot R.begins R.takes reader.old reader.new
-        s.journal.slot s.other s.generation s.journal.front) }
+        s.journal.slot s.other s.version s.generation s.journal.front) }
     ensures fault { D.honest disk → IfErr result (λ e.
         RefusesDisk R.begins R.rejects R.takes R.refuses (D.bytes disk) reader.old e.0) }
     ensures same { D.honest disk → MatchResult result (λ s. D.bytes s.journal.disk
@@ -353,13 +363,14 @@ pub fn open<D: Disk, R: SlotReader>(
         slot,
         other,
         is_open,
+        version,
         generation,
         text,
         at,
         len,
     } = front;
     match resume(alloc, disk, slot, at, len, text, reader) {
-        Ok(journal) => Ok(Slots::new(alloc, journal, other, generation, is_open)),
+        Ok(journal) => Ok(Slots::new(alloc, journal, other, generation, version, is_open)),
         Err((fault, disk)) => Err((fault.into(), disk)),
     }
 }

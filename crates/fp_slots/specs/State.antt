@@ -15,21 +15,23 @@ use Rattle.fp_gate.specs.Gates.{IsSyncOf}
 use Rattle.fp_gate.specs.declared.gate.TheConstants.{OPEN}
 use Rattle.fp_slots.specs.declared.held.Held.{Held}
 use Rattle.fp_slots.specs.declared.held.Held.TheVariants as held
-use Rattle.fp_slots.specs.declared.places.TheConstants.{GENERATION_PLACE, VERSION_PLACE}
+use Rattle.fp_slots.specs.declared.places.TheConstants.{GENERATION_PLACE, VERSION_PLACE, VERSION}
 use Rattle.fp_slots.specs.declared.slots.Step.{Step}
 use Rattle.fp_slots.specs.declared.slots.Step.TheVariants.{Begin, Close, SyncClose, Part, Tail}
 use Rattle.fp_slots.specs.declared.slots.Step.TheVariants.{SyncBody, Open, SyncOpen}
+use Rattle.fp_slots.specs.Head.{IsVersion}
 use Rattle.fp_slots.specs.Rules.{Rules, RulesWith}
 
--- The journal's slot rules, of this generation. `other` is the other one, whose gate may be open or
--- isn't (`may_open`); `step` is what a compaction does next, `text` what the other slot is to hold,
--- its open gate first, `head` how many bytes of it are the image and what stands in front of it,
--- and `left` how many of those no Part wrote yet. `coming` are bytes that are kept ready to go
--- behind the text
+-- The journal's slot rules, of this generation and this version. `other` is the other one, whose
+-- gate may be open or isn't (`may_open`); `step` is what a compaction does next, `text` what the
+-- other slot is to hold, its open gate first, `head` how many bytes of it are the image and what
+-- stands in front of it, and `left` how many of those no Part wrote yet. `coming` are bytes that are
+-- kept ready to go behind the text
 pub record SlotsState (D : Type 0) : Type 0 where
   pub journal : JournalState D
   pub other : Slot
   pub generation : ℕ
+  pub version : ℕ
   pub may_open : Bool
   pub step : Step
   pub text : List ℕ
@@ -109,6 +111,7 @@ SameSlots old new = SameSlot old.journal new.journal
     × (new.journal.staged ≡ old.journal.staged)
     × (new.other ≡ old.other)
     × (new.generation ≡ old.generation)
+    × (new.version ≡ old.version)
     × (new.may_open ≡ old.may_open)
     × (new.text ≡ old.text)
     × (new.head ≡ old.head)
@@ -120,6 +123,7 @@ abbrev pub SameCompaction : {D : Type 0} → SlotsState D → SlotsState D → T
 SameCompaction old new = SameSlot old.journal new.journal
     × (new.other ≡ old.other)
     × (new.generation ≡ old.generation)
+    × (new.version ≡ old.version)
     × (new.may_open ≡ old.may_open)
     × (new.step ≡ old.step)
     × (new.text ≡ old.text)
@@ -133,6 +137,7 @@ abbrev pub SamePlan : {D : Type 0} → SlotsState D → SlotsState D → Type 0
 SamePlan old new = (new.journal ≡ old.journal)
     × (new.other ≡ old.other)
     × (new.generation ≡ old.generation)
+    × (new.version ≡ old.version)
     × (new.may_open ≡ old.may_open)
     × (new.step ≡ old.step)
     × (new.text ≡ old.text)
@@ -170,10 +175,10 @@ pub record IsCopied (slot : ℕ) (bytes : List ℕ) (to : ℕ) (b : List ℕ) : 
   pub same : (k : ℕ) → 1 ≤ k → k < to → slice_index b (slot + k) ≡ slice_index bytes k
 
 -- ---- what is to stand in the other slot:
--- an open gate, the next generation, any bytes, a closed gate
+-- an open gate, the next generation, the version of all that is written, any bytes, a closed gate
 pub record IsPlan (slot : Slot) (generation : ℕ) (text bytes : List ℕ) : Type 0 where
   pub rest : List ℕ
-  pub text_is : text ≡ OPEN ∷ (to_be_bytes w64 (generation + 1) ++ rest)
+  pub text_is : text ≡ OPEN ∷ (to_be_bytes w64 (generation + 1) ++ VERSION ∷ rest)
   pub bytes_are : bytes ≡ text ++ 0 ∷ []
   pub next : generation + 1 < 2 ^ 64
   pub fits : slot.start + length text < slot.stop
@@ -221,10 +226,10 @@ IsStill SyncBody phase = (phase ≡ Idle) ⊎ (phase ≡ Failed)
 IsStill Open phase = (phase ≡ Idle) ⊎ (phase ≡ Failed)
 IsStill SyncOpen phase = (phase ≡ Idle) ⊎ (phase ≡ Failed)
 
--- the front of a slot of this generation
-pub record IsFrontOf (generation : ℕ) (front : List ℕ) : Type 0 where
+-- the front of a slot of this version and this generation
+pub record IsFrontOf (version generation : ℕ) (front : List ℕ) : Type 0 where
   pub rest : List ℕ
-  pub front_is : front ≡ OPEN ∷ (to_be_bytes w64 generation ++ rest)
+  pub front_is : front ≡ OPEN ∷ (to_be_bytes w64 generation ++ version ∷ rest)
 
 pub record IsKept {D : Type 0} (honest : D → Type 0) (bytes : D → List ℕ)
     (unsynced : D → PendingState) (s : SlotsState D) (may_open : Bool) (planned : List ℕ)
@@ -232,7 +237,8 @@ pub record IsKept {D : Type 0} (honest : D → Type 0) (bytes : D → List ℕ)
   pub apart : (s.journal.slot.stop ≤ s.other.start) ⊎ (s.other.stop ≤ s.journal.slot.start)
   pub wide : s.other.start + VERSION_PLACE ≤ s.other.stop
   pub wide_too : s.journal.slot.start + VERSION_PLACE ≤ s.journal.slot.stop
-  pub front : IsFrontOf s.generation s.journal.front
+  pub front : IsFrontOf s.version s.generation s.journal.front
+  pub known : IsVersion s.version
   pub small : s.generation < 2 ^ 64
   pub told : has_begun s.journal.phase s.journal.begun ≡ s.journal.begun
   pub plan : IsPlanned s.step s.other s.generation s.text planned done

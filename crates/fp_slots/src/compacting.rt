@@ -9,12 +9,12 @@ ghost use Rattle.fp_journal.specs.Moments.{KeepsSynced};
 ghost use Rattle.fp_journal.specs.declared.journal.Phase.TheVariants.{Idle, Failed};
 ghost use Rattle.fp_slots.specs.Calls.{KeepsSlots, WritesPart};
 ghost use Rattle.fp_slots.specs.State.{Keeps, KeepsEither, OutsideBoth, SameSlots};
-ghost use Rattle.fp_slots.specs.declared.places.TheConstants.{PART};
+ghost use Rattle.fp_slots.specs.declared.places.TheConstants.{PART, VERSION};
 ghost use Rattle.fp_slots.specs.declared.slots.Step.TheVariants.{Begin, Close, SyncClose, Part};
 ghost use Rattle.fp_slots.specs.declared.slots.Step.TheVariants.{Tail, SyncBody, Open, SyncOpen};
 
 use crate::held::Held;
-use crate::places::PART;
+use crate::places::{PART, VERSION};
 use crate::planning::piece;
 use crate::slots::Slots;
 use fp_disk::{Disk, DiskFault};
@@ -157,6 +157,7 @@ impl<D: Disk> Slots<D> {
         ensures begun { OnOk result (self.new.journal.begun ≡ false) }
         ensures turned { OnOk result ((self.new.other ≡ self.old.journal.slot)
             × (self.new.generation ≡ self.old.generation + 1)
+            × (self.new.version ≡ VERSION)
             × (self.new.may_open ≡ true)
             × (self.new.step ≡ Begin)) }
         ensures broken { OnErr result (SameSlots self.old self.new
@@ -183,6 +184,7 @@ impl<D: Disk> Slots<D> {
         self.journal.switch(self.other, &self.planned, len);
         self.other = old;
         self.generation += 1;
+        self.version = VERSION;
         self.may_open = true;
         Ok(())
     }

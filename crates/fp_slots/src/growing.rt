@@ -39,9 +39,9 @@ impl<D: Disk> Slots<D> {
             ≡ self.old.text ++ OPEN ∷ with_length (body_of self.old.coming))
             × (self.new.coming ≡ []) }
         ensures same { (self.new.journal ≡ self.old.journal) × (self.new.other ≡ self.old.other)
-            × (self.new.generation ≡ self.old.generation) × (self.new.may_open ≡ self.old.may_open)
-            × (self.new.step ≡ self.old.step) × (self.new.head ≡ self.old.head)
-            × (self.new.left ≡ self.old.left) }
+            × (self.new.generation ≡ self.old.generation) × (self.new.version ≡ self.old.version)
+            × (self.new.may_open ≡ self.old.may_open) × (self.new.step ≡ self.old.step)
+            × (self.new.head ≡ self.old.head) × (self.new.left ≡ self.old.left) }
     {
         self.ended = open_between(&mut self.planned, self.ended);
     }

@@ -14,6 +14,7 @@ mod slots;
 pub use choosing::{Active, SlotFault, pick};
 pub use laws::{one_slot_rules, plan_goes_on, refusals_are_right};
 pub use places::{
-    BASE_PLACE, GENERATION_PLACE, IMAGE_PLACE, LENGTH_PLACE, PART, VERSION, VERSION_PLACE,
+    BASE_PLACE, FIRST_VERSION, GENERATION_PLACE, IMAGE_PLACE, LENGTH_PLACE, PART, VERSION,
+    VERSION_PLACE,
 };
 pub use slots::{Slots, Step};

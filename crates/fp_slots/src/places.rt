@@ -16,7 +16,10 @@ pub const LENGTH_PLACE: usize = 18;
 pub const IMAGE_PLACE: usize = 22;
 
 /// The version of all that is written.
-pub const VERSION: u8 = 1;
+pub const VERSION: u8 = 2;
+
+/// The oldest version that is read: in such a slot no batch has a change set.
+pub const FIRST_VERSION: u8 = 1;
 
 /// How many bytes of the other slot one call writes at most, while the image is copied.
 pub const PART: usize = 65_536;

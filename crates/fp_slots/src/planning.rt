@@ -7,7 +7,7 @@ ghost use Rattle.fp_journal.specs.Chain.{with_gate};
 ghost use Rattle.fp_journal.specs.State.{IsOnWay};
 ghost use Rattle.fp_slots.specs.Head.{head_text};
 
-use crate::places::{IMAGE_PLACE, VERSION};
+use crate::places::IMAGE_PLACE;
 use fp_disk::Disk;
 use fp_gate::OPEN;
 use fp_journal::{Journal, Phase};
@@ -26,6 +26,7 @@ pub(crate) fn on_way<D: Disk>(journal: &Journal<D>) -> &[u8]
 // The head of a slot, the closed gate of its first batch, and these bytes behind it.
 pub(crate) fn shut_head(
     alloc: Global,
+    version: u8,
     generation: u64,
     base: u64,
     image: &[u8],
@@ -33,12 +34,12 @@ pub(crate) fn shut_head(
 ) -> Result<Vec<u8>, AllocError>
     requires { length image.now < 2 ^ 32 }
     ensures { IfOk result (λ v. v.items
-        ≡ (head_text generation base image.now ++ 0 ∷ []) ++ behind.now) }
+        ≡ (head_text version generation base image.now ++ 0 ∷ []) ++ behind.now) }
 {
     let mut bytes = [
         &[OPEN][..],
         &generation.to_be_bytes(),
-        &[VERSION],
+        &[version],
         &base.to_be_bytes(),
         &(image.len() as u32).to_be_bytes(),
     ]

@@ -5,13 +5,13 @@ ghost use Rattle.std.specs.Prelude.{◌≡◌, ◌≢◌, ◌⊎◌, ◌<◌, �
 ghost use Rattle.fp_journal.specs.Chain.{with_gate};
 ghost use Rattle.fp_journal.specs.State.{IsOnWay};
 ghost use Rattle.fp_journal.specs.declared.journal.Phase.TheVariants.{Failed};
-ghost use Rattle.fp_slots.specs.Head.{head_text};
+ghost use Rattle.fp_slots.specs.Head.{IsVersion, head_text};
 ghost use Rattle.fp_slots.specs.State.{IsBeaten, IsFrontOf, IsStill, Leaves};
-ghost use Rattle.fp_slots.specs.declared.places.TheConstants.{IMAGE_PLACE, VERSION_PLACE};
+ghost use Rattle.fp_slots.specs.declared.places.TheConstants.{IMAGE_PLACE, VERSION, VERSION_PLACE};
 ghost use Rattle.fp_slots.specs.declared.slots.Step.TheVariants.{Begin, Close};
 
 use crate::held::Held;
-use crate::places::IMAGE_PLACE;
+use crate::places::{IMAGE_PLACE, VERSION};
 use crate::planning::{on_way, shut_head};
 use fp_disk::Disk;
 use fp_journal::{Journal, Slot};
@@ -45,6 +45,7 @@ pub struct Slots<D: Disk> {
     pub(crate) journal: Journal<D>,
     pub(crate) other: Slot,
     pub(crate) generation: u64,
+    pub(crate) version: u8,
     pub(crate) held: Held<D>,
     pub(crate) may_open: bool,
     // The text that the other slot is to hold, a closed gate, and what is to stand behind that one.
@@ -64,6 +65,7 @@ impl<D: Disk> Model for Slots<D> {
       journal = s.journal;
       other = s.other;
       generation = s.generation;
+      version = s.version;
       may_open = s.may_open;
       step = step_of s.held;
       text = slice_range s.planned.items 0 s.ended;
@@ -77,6 +79,7 @@ impl<D: Disk> Model for Slots<D> {
           journal = s.journal;
           other = s.other;
           generation = s.generation;
+          version = s.version;
           may_open = s.may_open;
           step = step_of s.held;
           text = slice_range s.planned.items 0 s.ended;
@@ -96,18 +99,21 @@ impl<D: Disk> Slots<D> {
         journal: Journal<D>,
         other: Slot,
         generation: u64,
+        version: u8,
         may_open: bool,
     ) -> Slots<D>
         requires apart { (journal.slot.stop ≤ other.start) ⊎ (other.stop ≤ journal.slot.start) }
         requires wide { (other.start + VERSION_PLACE ≤ other.stop)
             × (journal.slot.start + VERSION_PLACE ≤ journal.slot.stop) }
-        requires front { IsFrontOf generation journal.front }
+        requires front { IsFrontOf version generation journal.front }
+        requires known { IsVersion version }
         requires live { journal.phase ≢ Failed }
         requires beaten { D.honest journal.disk →
             IsBeaten may_open other.start generation (D.unsynced journal.disk) }
         ensures same { (result.journal ≡ journal)
             × (result.other ≡ other)
             × (result.generation ≡ generation)
+            × (result.version ≡ version)
             × (result.may_open ≡ may_open)
             × (result.step ≡ Begin) }
     {
@@ -116,6 +122,7 @@ impl<D: Disk> Slots<D> {
             journal,
             other,
             generation,
+            version,
             held: Held::Begin,
             may_open,
             planned: Vec::new(alloc),
@@ -134,6 +141,7 @@ impl<D: Disk> Slots<D> {
             journal,
             other: _,
             generation: _,
+            version: _,
             held: _,
             may_open: _,
             planned: _,
@@ -149,7 +157,8 @@ impl<D: Disk> Slots<D> {
         ensures step { result ≡ self.now.step }
         ensures outcomes { EachCrash D.Disk self.now.journal.disk (Leaves result self.now) }
         ensures still { IsStill self.now.step self.now.journal.phase }
-        ensures front { IsFrontOf self.now.generation self.now.journal.front }
+        ensures front { IsFrontOf self.now.version self.now.generation
+            self.now.journal.front }
         ensures numbered { self.now.generation < 2 ^ 64 }
     {
         let _phase = self.journal.phase();
@@ -171,6 +180,15 @@ impl<D: Disk> Slots<D> {
         self.generation
     }
 
+    /// The version of the slot that rules.
+    pub fn version(&self) -> u8
+        ensures version { result ≡ self.now.version }
+        ensures known { IsVersion self.now.version }
+    {
+        let _ = &self.journal;
+        self.version
+    }
+
     /// How many bytes the other slot has, and how many of them it is to hold behind the image.
     pub fn beside(&self) -> (u64, u64)
         ensures size { result.0 ≡ self.now.other.stop - self.now.other.start }
@@ -183,8 +201,8 @@ impl<D: Disk> Slots<D> {
     }
 
     /// Begins a compaction that is to leave this image of that revision in the other slot, under
-    /// the next generation. A body on its way is kept ready to go behind it. It makes no call of
-    /// the disk; where memory runs out all stays as it was.
+    /// the next generation, by the version of all that is written. A body on its way is kept ready
+    /// to go behind it. It makes no call of the disk; where memory runs out all stays as it was.
     pub fn begin(&mut self, alloc: Global, base: u64, image: &[u8]) -> Result<(), AllocError>
         requires step { self.old.step ≡ Begin }
         requires live { self.old.journal.phase ≢ Failed }
@@ -195,9 +213,10 @@ impl<D: Disk> Slots<D> {
         ensures same { (self.new.journal ≡ self.old.journal)
             × (self.new.other ≡ self.old.other)
             × (self.new.generation ≡ self.old.generation)
+            × (self.new.version ≡ self.old.version)
             × (self.new.may_open ≡ self.old.may_open) }
         ensures text { OnOk result
-            ((self.new.text ≡ head_text (self.old.generation + 1) base image.now)
+            ((self.new.text ≡ head_text VERSION (self.old.generation + 1) base image.now)
             × (self.new.head ≡ IMAGE_PLACE + length image.now)
             × (self.new.left + 1 ≡ self.new.head)) }
         ensures ready { OnOk result (IsOnWay self.old.journal.phase →
@@ -206,7 +225,7 @@ impl<D: Disk> Slots<D> {
         ensures step { OnOk result (self.new.step ≡ Close) × OnErr result (self.new.step ≡ Begin) }
     {
         let next = self.generation + 1;
-        let planned = shut_head(alloc, next, base, image, on_way(&self.journal))?;
+        let planned = shut_head(alloc, VERSION, next, base, image, on_way(&self.journal))?;
         self.ended = IMAGE_PLACE + image.len();
         self.head = self.ended;
         self.done = 1;
