@@ -57,7 +57,7 @@ copied_all slot bytes b some c = let long = c.long in let len = length-drop 1 by
 -- ---- the plan
 module _ (slot : Slot) (generation : ℕ) (text bytes : List ℕ) (p : IsPlan slot generation text bytes) where
   abbrev Behind : List ℕ
-  Behind = (to_be_bytes w64 (generation + 1) ++ p.rest) ++ 0 ∷ []
+  Behind = (to_be_bytes w64 (generation + 1) ++ VERSION ∷ p.rest) ++ 0 ∷ []
 
   planned : bytes ≡ OPEN ∷ Behind
   planned = p.bytes_are ∙ ap (λ (t : List ℕ). t ++ 0 ∷ []) p.text_is
@@ -66,7 +66,7 @@ module _ (slot : Slot) (generation : ℕ) (text bytes : List ℕ) (p : IsPlan sl
   behind = ap (drop 1) planned
 
   pub plan_long : (length bytes ≡ length text + 1) × (9 ≤ length text)
-  plan_long = let a : length bytes ≡ length (text ++ 0 ∷ []) = ap length p.bytes_are in let b = length-append text (0 ∷ []) in let c : length text ≡ length (OPEN ∷ (to_be_bytes w64 (generation + 1) ++ p.rest)) = ap length p.text_is in
+  plan_long = let a : length bytes ≡ length (text ++ 0 ∷ []) = ap length p.bytes_are in let b = length-append text (0 ∷ []) in let c : length text ≡ length (OPEN ∷ (to_be_bytes w64 (generation + 1) ++ VERSION ∷ p.rest)) = ap length p.text_is in
       (omega (arith, a, b), omega (arith, c))
 
   pub plan_within : (start : ℕ) → start ≡ slot.start → start + length bytes ≤ slot.stop
@@ -87,11 +87,11 @@ module _ (slot : Slot) (generation : ℕ) (text bytes : List ℕ) (p : IsPlan sl
   pub opened_generation : (c : List ℕ) → Holds c (slot.start + 1) (drop 1 bytes) → HasGeneration slot.start (generation + 1) c
   opened_generation c h = record {
     small = p.next;
-    text = holds_front c (slot.start + 1) (to_be_bytes w64 (generation + 1)) p.rest (holds_front c (slot.start + 1) (to_be_bytes w64 (generation + 1) ++ p.rest) (0 ∷ []) (subst (λ (t : List ℕ). Holds c (slot.start + 1) t) behind h));
+    text = holds_front c (slot.start + 1) (to_be_bytes w64 (generation + 1)) (VERSION ∷ p.rest) (holds_front c (slot.start + 1) (to_be_bytes w64 (generation + 1) ++ VERSION ∷ p.rest) (0 ∷ []) (subst (λ (t : List ℕ). Holds c (slot.start + 1) t) behind h));
   }
 
   -- whatever the gate is, one of the slots rules, and what it holds is known
-  pub either_tells : (mine : Slot) (front sealed c : List ℕ) → IsFrontOf generation front → generation < 2 ^ 64 → Holds c mine.start front → Ends mine.start mine.stop sealed c → Holds c (slot.start + 1) (drop 1 bytes)
+  pub either_tells : {version : ℕ} (mine : Slot) (front sealed c : List ℕ) → IsFrontOf version generation front → generation < 2 ^ 64 → Holds c mine.start front → Ends mine.start mine.stop sealed c → Holds c (slot.start + 1) (drop 1 bytes)
       → RulesWith mine slot sealed c ⊎ RulesWith slot mine text c
   either_tells mine front sealed c f small there e h = let long = h.long in elim (cases_eq (slice_index c slot.start) OPEN) [
     | inl opened ↦ inr (record {
@@ -102,17 +102,17 @@ module _ (slot : Slot) (generation : ℕ) (text bytes : List ℕ) (p : IsPlan sl
   ]
 
 -- ---- a head as a plan
-pub head_long : (generation base : ℕ) (image : List ℕ) → length (head_text generation base image) ≡ IMAGE_PLACE + length image
-head_long generation base image = omega arith
+pub head_long : (version generation base : ℕ) (image : List ℕ) → length (head_text version generation base image) ≡ IMAGE_PLACE + length image
+head_long version generation base image = omega arith
 
 pub head_plan : (slot : Slot) (generation base : ℕ) (image text bytes : List ℕ) → generation + 1 < 2 ^ 64 → slot.start + IMAGE_PLACE + length image < slot.stop
-    → text ≡ head_text (generation + 1) base image → bytes ≡ text ++ 0 ∷ [] → IsPlan slot generation text bytes
+    → text ≡ head_text VERSION (generation + 1) base image → bytes ≡ text ++ 0 ∷ [] → IsPlan slot generation text bytes
 head_plan slot generation base image text bytes next fits is all = record {
-  rest = VERSION ∷ (to_be_bytes w64 base ++ (to_be_bytes w32 (length image) ++ image));
+  rest = to_be_bytes w64 base ++ (to_be_bytes w32 (length image) ++ image);
   text_is = is;
   bytes_are = all;
   next = next;
-  fits = (let a : length text ≡ length (head_text (generation + 1) base image) = ap length is in let b = head_long (generation + 1) base image in omega (arith, a, b, fits));
+  fits = (let a : length text ≡ length (head_text VERSION (generation + 1) base image) = ap length is in let b = head_long VERSION (generation + 1) base image in omega (arith, a, b, fits));
 }
 
 -- ---- a batch that is sealed meanwhile
@@ -123,7 +123,7 @@ module _ (slot : Slot) (generation done : ℕ) (text body b : List ℕ) where
   pub plan_longer : IsPlan slot generation text (text ++ 0 ∷ []) → slot.start + length Longer < slot.stop → IsPlan slot generation Longer (Longer ++ 0 ∷ [])
   plan_longer p fits = record {
     rest = p.rest ++ OPEN ∷ with_length body;
-    text_is = ap (λ (t : List ℕ). t ++ OPEN ∷ with_length body) p.text_is ∙ ap (λ (t : List ℕ). OPEN ∷ t) (append_assoc (to_be_bytes w64 (generation + 1)) p.rest (OPEN ∷ with_length body));
+    text_is = ap (λ (t : List ℕ). t ++ OPEN ∷ with_length body) p.text_is ∙ ap (λ (t : List ℕ). OPEN ∷ t) (append_assoc (to_be_bytes w64 (generation + 1)) (VERSION ∷ p.rest) (OPEN ∷ with_length body));
     bytes_are = refl;
     next = p.next;
     fits = fits;

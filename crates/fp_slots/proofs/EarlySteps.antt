@@ -105,8 +105,8 @@ module _ {D S : Type 0} {disk : Ghosts D} {s : SlotsState D} {may_open : Bool} {
 
   -- what it keeps, however it ended
   pub keeps_batch : {T : Type 0} {x : Result T DiskFault} (k : JournalState D) → SameSlot j k → k.disk ≡ j.disk → CountsFaults (disk.faults s.journal.disk) (disk.faults j.disk) x → KeepsCompaction disk s (record s { journal = k }) (λ c. Rules s.journal.slot.start s.other.start c × P c) x
-  keeps_batch k same e cause = record { same = (on k same, refl, refl, refl, refl, refl, refl, refl, refl); any_moment = rw e rules; apart = rw e (λ h at text out firm. w.apart h at text out.0 firm); honest = rw e w.honest; cause = rw e cause }
+  keeps_batch k same e cause = record { same = (on k same, refl, refl, refl, refl, refl, refl, refl, refl, refl); any_moment = rw e rules; apart = rw e (λ h at text out firm. w.apart h at text out.0 firm); honest = rw e w.honest; cause = rw e cause }
 
 -- ---- a compaction that begins
 pub begins : {D : Type 0} {disk : Ghosts D} {s : SlotsState D} {may_open : Bool} {planned : List ℕ} {done : ℕ} → AtStep disk s may_open planned done Begin → (text next coming : List ℕ) (head left : ℕ) → IsPlan s.other s.generation text next → Kept disk (record s { step = Close; text = text; head = head; left = left; coming = coming }) may_open next 1
-begins a text next coming head left plan = record { apart = a.kept.apart; wide = a.kept.wide; wide_too = a.kept.wide_too; front = a.kept.front; small = a.kept.small; told = a.kept.told; plan = (plan, refl); still = tt; live = λ h fine. beside_is a h; failed = λ h no. absurd (a.alive no) }
+begins a text next coming head left plan = record { apart = a.kept.apart; wide = a.kept.wide; wide_too = a.kept.wide_too; front = a.kept.front; known = a.kept.known; small = a.kept.small; told = a.kept.told; plan = (plan, refl); still = tt; live = λ h fine. beside_is a h; failed = λ h no. absurd (a.alive no) }

@@ -60,6 +60,7 @@ module _ {D : Type 0} (disk : Ghosts D) {s v : SlotsState D} {may_open : Bool} {
           wide = kept.wide;
           wide_too = kept.wide_too;
           front = kept.front;
+          known = kept.known;
           small = kept.small;
           told = kept.told;
           plan = plan_at s.other s.generation done s.text (body_of s.coming) planned fits s.step growing kept.plan;
@@ -71,4 +72,4 @@ module _ {D : Type 0} (disk : Ghosts D) {s v : SlotsState D} {may_open : Bool} {
     -- what is kept ready is in no claim
     pub readied : (coming : List ℕ) → InFront new s.text coming n → Kept disk (record s { text = slice_range new 0 n; coming = drop (n + 1) new }) may_open (slice_range new 0 (n + 1)) done
     readied coming f = fronted s.text coming f (subst (λ (t : List ℕ). Kept disk (record s { coming = drop (n + 1) new }) may_open t done) planned_is
-        (record { apart = kept.apart; wide = kept.wide; wide_too = kept.wide_too; front = kept.front; small = kept.small; told = kept.told; plan = kept.plan; still = kept.still; live = kept.live; failed = λ h no. absurd (alive no) }))
+        (record { apart = kept.apart; wide = kept.wide; wide_too = kept.wide_too; front = kept.front; known = kept.known; small = kept.small; told = kept.told; plan = kept.plan; still = kept.still; live = kept.live; failed = λ h no. absurd (alive no) }))

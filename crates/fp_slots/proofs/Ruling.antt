@@ -54,18 +54,18 @@ among_front begun slot front bodies body c is = held begun is
 pub claims_front : (p : Phase) (begun : Bool) (slot : Slot) (front : List ℕ) (bodies : List (List ℕ)) (body c : List ℕ) → ClaimsAt p begun slot front bodies body c → Holds c slot.start front
 claims_front p begun slot front bodies body c is = among_front (has_begun p begun) slot front bodies body c is
 
-module _ (slot generation : ℕ) (front c : List ℕ) (f : IsFrontOf generation front) (h : Holds c slot front) where
-  all : Holds c slot (OPEN ∷ (to_be_bytes w64 generation ++ f.rest))
+module _ {version : ℕ} (slot generation : ℕ) (front c : List ℕ) (f : IsFrontOf version generation front) (h : Holds c slot front) where
+  all : Holds c slot (OPEN ∷ (to_be_bytes w64 generation ++ version ∷ f.rest))
   all = subst (λ (t : List ℕ). Holds c slot t) f.front_is h
 
   pub front_open : slice_index c slot ≡ OPEN
-  front_open = byte_held c slot OPEN (to_be_bytes w64 generation ++ f.rest) all
+  front_open = byte_held c slot OPEN (to_be_bytes w64 generation ++ version ∷ f.rest) all
 
   pub front_there : slot < length c
   front_there = let long = all.long in omega (arith, long)
 
   pub front_generation : generation < 2 ^ 64 → HasGeneration slot generation c
-  front_generation small = record { small = small; text = holds_front c (slot + 1) (to_be_bytes w64 generation) f.rest (holds_back c slot (OPEN ∷ []) (to_be_bytes w64 generation ++ f.rest) all) }
+  front_generation small = record { small = small; text = holds_front c (slot + 1) (to_be_bytes w64 generation) (version ∷ f.rest) (holds_back c slot (OPEN ∷ []) (to_be_bytes w64 generation ++ version ∷ f.rest) all) }
 
   -- it rules where the other one is closed
   pub rules_shut : (other gate : ℕ) → gate ≢ OPEN → Holds c other (gate ∷ []) → Rules slot other c

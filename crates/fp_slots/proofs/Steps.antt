@@ -22,6 +22,7 @@ use Rattle.fp_slots.specs.Calls.{KeepsSlots}
 use Rattle.fp_slots.specs.Rules.{Rules}
 use Rattle.fp_slots.specs.declared.held.Held.{Held}
 use Rattle.fp_slots.specs.declared.held.Held.TheVariants as held
+use Rattle.fp_slots.specs.declared.places.TheConstants.{VERSION}
 use Rattle.fp_slots.specs.declared.slots.Step.{Step}
 use Rattle.fp_slots.specs.declared.slots.Step.TheVariants.{Begin, Close, SyncClose, Part, Tail, SyncBody, Open, SyncOpen}
 use Rattle.fp_slots.specs.State.{SlotsState, Keeps, KeepsEither, Leaves, IsShut, IsOlder, IsBeaten, IsCopied, IsPlan, IsPart, OutsideBoth, sealed_text, IsPlanned, IsBeside, IsFrontOf, IsStill, IsEarly, HasBegun, IsGrowing, IsHeld, IsKept, step_of}
@@ -92,7 +93,7 @@ early_not_open = by_early (λ p. p ≡ Open → ⊥) (λ is. absurd (cc is)) (λ
 phase_cases : (p : Phase) → (p ≡ Failed) ⊎ (p ≢ Failed)
 phase_cases = by_phase (λ p. (p ≡ Failed) ⊎ (p ≢ Failed)) (inr (λ e. absurd (cc e))) (inr (λ e. absurd (cc e))) (inr (λ e. absurd (cc e))) (inr (λ e. absurd (cc e))) (inl refl)
 
-module _ {D : Type 0} (s : SlotsState D) (front : IsFrontOf s.generation s.journal.front) (small : s.generation < 2 ^ 64) (c : List ℕ) (says : CrashStates s.journal c) (u : PendingState) (o : IsOutcome u c) where
+module _ {D : Type 0} (s : SlotsState D) (front : IsFrontOf s.version s.generation s.journal.front) (small : s.generation < 2 ^ 64) (c : List ℕ) (says : CrashStates s.journal c) (u : PendingState) (o : IsOutcome u c) where
   there : Holds c s.journal.slot.start s.journal.front
   there = claims_front s.journal.phase s.journal.begun s.journal.slot s.journal.front s.journal.sealed s.journal.staged c says
 
@@ -189,6 +190,7 @@ module _ {D : Type 0} {disk : Ghosts D} {s : SlotsState D} {may_open : Bool} {pl
       wide = a.kept.wide;
       wide_too = rw same.1 a.kept.wide_too;
       front = rw same.2 a.kept.front;
+      known = a.kept.known;
       small = a.kept.small;
       told = told;
       plan = plan;
@@ -275,7 +277,7 @@ module _ {D S : Type 0} {disk : Ghosts D} {s : SlotsState D} {may_open : Bool} {
       broke_at m = subst (λ (q : Step). Kept disk (record s { journal = j; step = q }) may_open planned done) t.at.is (broke m)
 
       pub kept_err : {T : Type 0} {f : DiskFault} {P : List ℕ → Type 0} {step : Step} → Moves disk s j P → KeepsSlots {T = T} disk s (record s { journal = j; step = step }) P (Err f)
-      kept_err m = record { same = (t.kept.same, t.bodies.0, t.bodies.1, refl, refl, refl, refl, refl, refl, t.begun); phase = (tt, t.phase.1); any_moment = m.leaves; apart = m.frame; honest = t.kept.honest; cause = answers_err t.kept.cause }
+      kept_err m = record { same = (t.kept.same, t.bodies.0, t.bodies.1, refl, refl, refl, refl, refl, refl, refl, t.begun); phase = (tt, t.phase.1); any_moment = m.leaves; apart = m.frame; honest = t.kept.honest; cause = answers_err t.kept.cause }
 
     -- one that succeeded
     module _ {x : S} (t : Called {S = S} disk s may_open planned done p j Out (Ok x)) where
@@ -284,7 +286,7 @@ module _ {D S : Type 0} {disk : Ghosts D} {s : SlotsState D} {may_open : Bool} {
       went step to left fits plan beside = moved t.at j t.kept.same (let ok = t.phase.0 in let begun = t.begun in rw (ok, begun) t.at.kept.told) step to left (fits t.phase.0) plan (λ h _. beside h) (λ h is. absurd (t.at.alive (sym t.phase.0 ∙ is)))
 
       pub kept_ok : {T : Type 0} {y : T} {P : List ℕ → Type 0} {step : Step} {left : ℕ} → Moves disk s j P → KeepsSlots {T = T} disk s (record s { journal = j; step = step; left = left }) P (Ok y)
-      kept_ok m = record { same = (t.kept.same, t.bodies.0, t.bodies.1, refl, refl, refl, refl, refl, refl, t.begun); phase = (t.phase.0, tt); any_moment = m.leaves; apart = m.frame; honest = t.kept.honest; cause = answers_ok t.kept.cause }
+      kept_ok m = record { same = (t.kept.same, t.bodies.0, t.bodies.1, refl, refl, refl, refl, refl, refl, refl, t.begun); phase = (t.phase.0, tt); any_moment = m.leaves; apart = m.frame; honest = t.kept.honest; cause = answers_ok t.kept.cause }
 
 -- ---- what each step leaves at each moment
 module _ {D S : Type 0} {disk : Ghosts D} {s : SlotsState D} {may_open : Bool} {planned : List ℕ} {done : ℕ} {j : JournalState D} {r : Result S DiskFault} where
@@ -423,12 +425,13 @@ module _ {D S : Type 0} {disk : Ghosts D} {s : SlotsState D} {may_open : Bool} {
         record { its = s.generation; small = t.at.kept.small; less = omega arith; firm = sure t durable h (s.journal.slot.start + 1) (to_be_bytes w64 s.generation) (subst (λ (b : List ℕ). Holds b (s.journal.slot.start + 1) (to_be_bytes w64 s.generation)) (durable h).0 there) }
 
     pub switched : (k : JournalState D) (other : Slot) → other ≡ s.journal.slot → k.slot ≡ s.other → k.front ≡ s.text → (k.phase ≡ Idle) × (k.begun ≡ false) → k.disk ≡ j.disk
-        → Kept disk (record { journal = k; other = other; generation = s.generation + 1; may_open = true; step = Begin; text = s.text; head = s.head; left = s.left; coming = s.coming }) true planned done
+        → Kept disk (record { journal = k; other = other; generation = s.generation + 1; version = VERSION; may_open = true; step = Begin; text = s.text; head = s.head; left = s.left; coming = s.coming }) true planned done
     switched k other other_is slot_is front_is idle disk_is = let plan = plan_is t.at in record {
       apart = rw (other_is, slot_is) (⊎_elim (λ before. inr before) (λ behind. inl behind) t.at.kept.apart);
       wide = rw other_is t.at.kept.wide_too;
       wide_too = rw slot_is t.at.kept.wide;
       front = rw front_is (record { rest = plan.rest; front_is = plan.text_is });
+      known = record { least = omega arith; greatest = omega arith };
       small = plan.next;
       told = rw (idle.0, idle.1) refl;
       plan = tt;

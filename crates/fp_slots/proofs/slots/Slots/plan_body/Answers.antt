@@ -18,7 +18,7 @@ invariant_of-self-2 g c =
 pub returns-clause-same : goal.returns-clause-same
 returns-clause-same g c =
     let D = g.D.Disk in let s = c.self.inside in let new = c.put_behind.new.planned.items in let more = c.as_slice.result.now in let shut = growing_law.planned_is D c.self.view_is c.self.invariant.0 c.requires.growing in
-    let f = put_behind s.planned.items (slice_range s.planned.items 0 s.ended) s.ended c.self.invariant.2.there shut refl new more (search rules) in rw (← c.self.view_is) (refl, refl, refl, refl, refl, f.front, refl, refl)
+    let f = put_behind s.planned.items (slice_range s.planned.items 0 s.ended) s.ended c.self.invariant.2.there shut refl new more (search rules) in rw (← c.self.view_is) (refl, refl, refl, refl, refl, refl, f.front, refl, refl)
 
 pub returns-clause-ready : goal.returns-clause-ready
 returns-clause-ready g c =
