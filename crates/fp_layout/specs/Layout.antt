@@ -72,7 +72,7 @@ front_text version generation base len =
 pub record IsHead (c : List ℕ) (at size version generation base : ℕ) (image : List ℕ)
     : Type 0 where
   pub generation_is : HasGeneration at generation c
-  pub version : HasVersion c at version
+  pub version_is : HasVersion c at version
   pub base_is : HasBase c at base
   pub length_is : HasLength c at size (length image)
   pub image_text : Holds c (at + IMAGE_PLACE) image
