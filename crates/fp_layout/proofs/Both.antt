@@ -41,8 +41,8 @@ module _ (size : ℕ) (slot other : Slot) where
   both_wide first is its allowed = two_wide size slot is other its allowed
   both_wide second is its allowed = let wide = two_wide size other its slot is allowed in (wide.1, wide.0)
 
-pub front_of_chain : (generation base : ℕ) (image head more text : List ℕ) → head ≡ head_text generation base image → text ≡ head ++ more → IsFrontOf generation text
-front_of_chain generation base image head more text head_is is = record {
-  rest = (1 ∷ (to_be_bytes w64 base ++ (to_be_bytes w32 (length image) ++ image))) ++ more;
+pub front_of_chain : (version generation base : ℕ) (image head more text : List ℕ) → head ≡ head_text version generation base image → text ≡ head ++ more → IsFrontOf version generation text
+front_of_chain version generation base image head more text head_is is = record {
+  rest = (to_be_bytes w64 base ++ (to_be_bytes w32 (length image) ++ image)) ++ more;
   front_is = is ∙ ap (λ (l : List ℕ). l ++ more) head_is;
 }

@@ -21,7 +21,9 @@ use Rattle.fp_disk.specs.declared.disk.Disk.{Ghosts}
 use Rattle.fp_disk.specs.Moments.{leaves_call, leaves_then, leaves_map}
 use Rattle.fp_slots.specs.State as slots
 use Rattle.fp_layout.specs.Layout.{magic, IsFormatted, IsHeader, IsHead, IsActive}
-use Rattle.fp_slots.specs.Head.{slot_text}
+use Rattle.fp_slots.specs.Head.{IsVersion, slot_text}
+use Rattle.fp_slots.specs.declared.places.TheConstants.{VERSION}
+use Rattle.fp_layout.specs.declared.header.TheConstants.{HEADER_VERSION}
 use Rattle.fp_layout.specs.NewDisk.{closed_bytes, header_text, empty_image, new_front, IsMade, IsNewDisk, IsNewOrNone, StaysAsItWas}
 use Rattle.fp_gate.specs.declared.gate.TheConstants.{OPEN}
 
@@ -58,7 +60,7 @@ first_none size c o = let l = o.no_longer in inl (none_short c (omega (arith, l)
 -- ---- the bytes after each write
 module _ (size : ℕ) (b1 b2 b3 b4 : List ℕ) (large : 64 ≤ size) where
   abbrev tail : List ℕ
-  tail = slot_text 1 0 empty_image
+  tail = slot_text VERSION 1 0 empty_image
 
   abbrev Written1 : Type 0
   Written1 = Written [] 0 (0 ∷ []) b1
@@ -204,6 +206,9 @@ module _ {D : Type 0} (disk : Ghosts D) (present : (d : D) → disk.honest d →
         (leaves_map disk.moment disk.crash_states_since d e (IsOutcome (with_write (disk.unsynced d) 0 1)) (IsNewOrNone size) (λ c o. last_new size (disk.bytes d) c (made h (empty_bytes h is)) (subst (λ (u : PendingState). IsOutcome (with_write u 0 1) c) (sure h) o)) (moments (s.honest.0 h)))
 
 -- ---- what a new disk stands for
+written_known : IsVersion VERSION
+written_known = record { least = lit≤ tt; greatest = lit≤ tt }
+
 module _ (size : ℕ) (c : List ℕ) (allowed : IsSlotSize size) (n : IsNewDisk size c) where
   header : Holds c 1 (header_text size)
   header = holds_front c 1 (header_text size) new_front n.made.text
@@ -211,36 +216,36 @@ module _ (size : ℕ) (c : List ℕ) (allowed : IsSlotSize size) (n : IsNewDisk 
   front : Holds c 64 new_front
   front = holds_back c 1 (header_text size) new_front n.made.text
 
-  behind_magic : Holds c 9 (1 ∷ (to_be_bytes w64 size ++ replicate 46 0))
-  behind_magic = holds_back c 1 magic (1 ∷ (to_be_bytes w64 size ++ replicate 46 0)) header
+  behind_magic : Holds c 9 (HEADER_VERSION ∷ (to_be_bytes w64 size ++ replicate 46 0))
+  behind_magic = holds_back c 1 magic (HEADER_VERSION ∷ (to_be_bytes w64 size ++ replicate 46 0)) header
 
   size_and_zeros : Holds c 10 (to_be_bytes w64 size ++ replicate 46 0)
-  size_and_zeros = holds_back c 9 (1 ∷ []) (to_be_bytes w64 size ++ replicate 46 0) behind_magic
+  size_and_zeros = holds_back c 9 (HEADER_VERSION ∷ []) (to_be_bytes w64 size ++ replicate 46 0) behind_magic
 
   pub new_header : IsHeader c size
   new_header = let long = n.made.long in let least = allowed.least in let zeros : Holds c 18 (replicate 46 0) = holds_back c 10 (to_be_bytes w64 size) (replicate 46 0) size_and_zeros in record {
-    formatted = record { long = omega (arith, long, least); gate = n.gate; magic_text = holds_front c 1 magic (1 ∷ (to_be_bytes w64 size ++ replicate 46 0)) header };
-    version = byte_held c 9 1 (to_be_bytes w64 size ++ replicate 46 0) behind_magic;
+    formatted = record { long = omega (arith, long, least); gate = n.gate; magic_text = holds_front c 1 magic (HEADER_VERSION ∷ (to_be_bytes w64 size ++ replicate 46 0)) header };
+    version = byte_held c 9 HEADER_VERSION (to_be_bytes w64 size ++ replicate 46 0) behind_magic;
     size_text = holds_front c 10 (to_be_bytes w64 size) (replicate 46 0) size_and_zeros;
     allowed = allowed;
     zeros = λ k low high. let there : 18 + (k - 18) ≡ k = omega (arith, low) in ap (λ (j : ℕ). slice_index c j) (sym there) ∙ zeros.same (k - 18) (omega (arith, low, high)) ∙ get_or-replicate 46 (k - 18) 0 0 (omega (arith, low, high));
     long = omega (arith, long);
   }
 
-  behind_gate : Holds c 65 (slot_text 1 0 empty_image)
-  behind_gate = holds_back c 64 (OPEN ∷ []) (slot_text 1 0 empty_image) front
+  behind_gate : Holds c 65 (slot_text VERSION 1 0 empty_image)
+  behind_gate = holds_back c 64 (OPEN ∷ []) (slot_text VERSION 1 0 empty_image) front
 
   abbrev Behind : List ℕ
   Behind = to_be_bytes w64 0 ++ (to_be_bytes w32 4 ++ empty_image)
 
-  pub new_head : IsHead c 64 size 1 0 empty_image
+  pub new_head : IsHead c 64 size VERSION 1 0 empty_image
   new_head = let least = allowed.least in
-      let version : Holds c 73 (1 ∷ Behind) = holds_back c 65 (to_be_bytes w64 1) (1 ∷ Behind) behind_gate in
-      let base : Holds c 74 Behind = holds_back c 73 (1 ∷ []) Behind version in
+      let version : Holds c 73 (VERSION ∷ Behind) = holds_back c 65 (to_be_bytes w64 1) (VERSION ∷ Behind) behind_gate in
+      let base : Holds c 74 Behind = holds_back c 73 (VERSION ∷ []) Behind version in
       let len : Holds c 82 (to_be_bytes w32 4 ++ empty_image) = holds_back c 74 (to_be_bytes w64 0) (to_be_bytes w32 4 ++ empty_image) base in
       let long = base.long in record {
-        generation_is = record { small = lit< tt; text = holds_front c 65 (to_be_bytes w64 1) (1 ∷ Behind) behind_gate };
-        version = record { long = omega (arith, long); is = byte_held c 73 1 Behind version };
+        generation_is = record { small = lit< tt; text = holds_front c 65 (to_be_bytes w64 1) (VERSION ∷ Behind) behind_gate };
+        version_is = record { long = omega (arith, long); is = byte_held c 73 VERSION Behind version; known = written_known };
         base_is = record { text = holds_front c 74 (to_be_bytes w64 0) (to_be_bytes w32 4 ++ empty_image) base; small = lit< tt };
         length_is = record { text = holds_front c 82 (to_be_bytes w32 4) empty_image len; small = omega (arith, least) };
         image_text = holds_back c 82 (to_be_bytes w32 4) empty_image len;
@@ -252,7 +257,7 @@ module _ (size : ℕ) (c : List ℕ) (allowed : IsSlotSize size) (n : IsNewDisk 
         side = first;
         slot_is = refl;
         other_is = refl;
-        rules = record { there = omega (arith, long); opened = byte_held c 64 OPEN (slot_text 1 0 empty_image) front; over = inl (λ e. omega (arith, zero, e)) };
+        rules = record { there = omega (arith, long); opened = byte_held c 64 OPEN (slot_text VERSION 1 0 empty_image) front; over = inl (λ e. omega (arith, zero, e)) };
       }
 
   -- the second slot is closed
@@ -295,8 +300,8 @@ module _ (size : ℕ) (slot : Slot) (at : slot ≡ first_slot size) where
     pub two_wide : IsSlotSize size → (other.start + 9 ≤ other.stop) × (slot.start + 9 ≤ slot.stop)
     two_wide allowed = let least = allowed.least in (subst (λ (s : Slot). s.start + 9 ≤ s.stop) (sym beside) (omega (arith, least)), subst (λ (s : Slot). s.start + 9 ≤ s.stop) (sym at) (omega (arith, least)))
 
-pub new_is_front : (text : List ℕ) → text ≡ new_front → slots.IsFrontOf 1 text
-new_is_front text is = record { rest = 1 ∷ (to_be_bytes w64 0 ++ (to_be_bytes w32 4 ++ empty_image)); front_is = is }
+pub new_is_front : (text : List ℕ) → text ≡ new_front → slots.IsFrontOf VERSION 1 text
+new_is_front text is = record { rest = to_be_bytes w64 0 ++ (to_be_bytes w32 4 ++ empty_image); front_is = is }
 
 pub idle_lives : (p : Phase) → p ≡ Idle → p ≡ Failed → ⊥
 idle_lives p is failed = let no : Idle ≡ Failed = sym is ∙ failed in cc no

@@ -40,7 +40,7 @@ slots_no_device (slot_fault.Damaged at) = λ e. absurd cc
 pub head_refuses : (c : List ℕ) (size : ℕ) (slot other : Slot) (f : OpenFault) → IsActive c size slot other → IsDamage (BreaksHead c slot.start size) f → IsDamage (BreaksRuling c size) f
 head_refuses c size slot other f a = by_fault (λ f. IsDamage (BreaksHead c slot.start size) f → IsDamage (BreaksRuling c size) f) (λ r. absurd r) (λ v r. absurd r) (λ at r. in_one slot other a r) (λ r. absurd r) (λ r. absurd r) f
 
-module _ {R : Type 0} (rejects : R → ℕ → ℕ → List ℕ → ℕ → Type 0) (c : List ℕ) (before : R) where
+module _ {R : Type 0} (rejects : R → ℕ → ℕ → ℕ → List ℕ → ℕ → Type 0) (c : List ℕ) (before : R) where
   pub bytes_refuse : (f : BytesFault) → RefusesFront rejects c before (fault_of_bytes f)
   bytes_refuse bytes_fault.Device = tt
   bytes_refuse bytes_fault.Memory = tt
@@ -52,7 +52,7 @@ module _ {R : Type 0} (rejects : R → ℕ → ℕ → List ℕ → ℕ → Type
   pub ruling_refuses : (size : ℕ) (f : OpenFault) → IsHeader c size → UnlessWanting (IsDamage (BreaksRuling c size)) f → RefusesFront rejects c before f
   ruling_refuses size f h = by_fault (λ f. UnlessWanting (IsDamage (BreaksRuling c size)) f → RefusesFront rejects c before f) (λ r. absurd r) (λ v r. absurd r) (λ at r. ruling_breaks size at h r) (λ r. tt) (λ r. tt) f
 
-module _ {R : Type 0} (begins : R → ℕ → ℕ → List ℕ → R → Type 0) (rejects : R → ℕ → ℕ → List ℕ → ℕ → Type 0) (takes : R → List ℕ → R → Type 0) (refuses : R → List ℕ → ℕ → Type 0) (c : List ℕ) (before : R) where
+module _ {R : Type 0} (begins : R → ℕ → ℕ → ℕ → List ℕ → R → Type 0) (rejects : R → ℕ → ℕ → ℕ → List ℕ → ℕ → Type 0) (takes : R → List ℕ → R → Type 0) (refuses : R → List ℕ → ℕ → Type 0) (c : List ℕ) (before : R) where
   pub front_refuses : (f : OpenFault) → RefusesFront rejects c before f → RefusesDisk begins rejects takes refuses c before f
   front_refuses = by_fault (λ f. RefusesFront rejects c before f → RefusesDisk begins rejects takes refuses c before f) (λ r. r) (λ v r. r) (λ at r. in_front r) (λ r. r) (λ r. r)
 

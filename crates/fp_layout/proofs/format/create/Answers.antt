@@ -24,7 +24,7 @@ returns g c =
         ap (λ (k : JournalState g.row.D.Denot). k.sealed) same.0 ∙ j.begins.0,
         ap (λ (k : JournalState g.row.D.Denot). k.phase) same.0 ∙ j.begins.1,
       );
-      beside = (same.1 ∙ c.second_slot.ensures.slot, same.2, same.4, same.3);
+      beside = (same.1 ∙ c.second_slot.ensures.slot, same.2, same.3, same.5, same.4);
       made = new;
       all_synced = λ h. y.all_synced (x.honest.0 h);
       stands = λ h. (making.new_header s (D.bytes d2) allowed (new h), making.new_active s (D.bytes d2) allowed (new h), making.new_head s (D.bytes d2) allowed (new h));

@@ -38,13 +38,13 @@ returns-in-Ok-resume g c =
     let D = g.D.Disk in let m = g.met.D.Disk in let S = g.R.SlotReader in let R = g.R.Reader in let d0 = c.args.disk in let d1 = c.sync_front.new.disk in let b = D.bytes d0 in let p = c.in-Ok.front in
     let j = c.in-Ok-resume.journal in let before = c.args.reader.now in let middle = c.sync_front.new.reader in let after = c.resume.new.reader in let same = c.new.ensures.same in
     let x = c.sync_front.ensures in let y = c.in-Ok.ensures in let z = c.in-Ok-resume.ensures in let end = p.slot.start + length j.front in
-    rw (same.0, same.1, same.2, same.3) (record {
-      begins = (z.begins.1, z.begins.2, same.4);
+    rw (same.0, same.1, same.2, same.3, same.4) (record {
+      begins = (z.begins.1, z.begins.2, same.5);
       found = λ h. let chain : ReadsChain (D.honest d1) R.takes p.slot.most p.at p.slot.stop b middle after p.text j.front end = subst (λ (t : List ℕ). ReadsChain (D.honest d1) R.takes p.slot.most p.at p.slot.stop t middle after p.text j.front end) (x.same h) z.found in
           subst (λ (s : Slot). FoundDisk S.begins R.takes b before after s j.front) (sym z.begins.0) (disk_found (D.honest d1) S.begins R.takes b before middle after p.slot p.at p.text j.front end (x.honest.0 h) (y.found h).front (y.found h).text y.read.place chain);
-      slots = λ h. subst (λ (s : Slot). HasSlots b s p.other p.generation) (sym z.begins.0) (y.found h).slots;
+      slots = λ h. subst (λ (s : Slot). HasSlots b s p.other p.version p.generation) (sym z.begins.0) (y.found h).slots;
       other_gate = λ h. (y.found h).gate;
-      read = subst (λ (s : Slot). ReadsSlot S.begins R.takes before after s p.other p.generation j.front) (sym z.begins.0)
+      read = subst (λ (s : Slot). ReadsSlot S.begins R.takes before after s p.other p.version p.generation j.front) (sym z.begins.0)
           (record { middle = middle; head = p.text; bodies = z.found.bodies; begun = y.read.read; reads = z.found.reads; short = z.found.short; text_is = z.found.text });
       fault = λ h. tt;
       same = λ h. (z.kept.same (x.honest.0 h)).0 ∙ x.same h;
@@ -94,7 +94,7 @@ new-requires-clause-wide g c = let r = c.in-Ok.ensures.read.read in let s = c.in
 pub new-requires-clause-front : goal.new-requires-clause-front
 new-requires-clause-front g c =
     let r = c.in-Ok.ensures.read.read in let chain = c.in-Ok-resume.ensures.found in let p = c.in-Ok.front in
-    front_of_chain p.generation r.base r.image p.text (spell chain.bodies) c.in-Ok-resume.journal.front r.text_is chain.text
+    front_of_chain p.version p.generation r.base r.image p.text (spell chain.bodies) c.in-Ok-resume.journal.front r.text_is chain.text
 
 pub new-requires-clause-live : goal.new-requires-clause-live
 new-requires-clause-live g c = idle_lives c.in-Ok-resume.journal.phase c.in-Ok-resume.ensures.begins.2

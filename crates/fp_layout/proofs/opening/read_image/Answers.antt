@@ -13,13 +13,14 @@ returns-in-Ok-clause-found g c = λ h.
     let D = g.D.Disk in let b = D.bytes c.args.disk.now in let r = c.args.ruling in let read = c.requires.read in let size = c.args.size in
     let image = c.in_ok-image.image.items in let long = c.in_ok-image.ensures.long in let stands = c.requires.stands h in let behind = c.in_ok-image.ensures.stands h in
     let active : IsActive b size r.slot r.other = record { side = read.side; slot_is = read.slot_is; other_is = read.other_is; rules = stands.ruling.rules } in
-    let head : IsHead b r.slot.start size r.head.generation r.head.base image =
-    head_found r.head.generation r.head.base r.head.len r.text image read.text_is long b r.slot.start size read.numbered read.low read.small stands.text behind in
+    let head : IsHead b r.slot.start size r.head.version r.head.generation r.head.base image =
+    head_found r.head.version r.head.generation r.head.base r.head.len r.text image read.text_is long b r.slot.start size read.known read.numbered read.low read.small stands.text behind in
     let text : c.push.new.self ≡ r.text ++ image = search rules in let len : c.len.result ≡ length image = search rules in
     record {
       front = record {
         size = size;
         other = r.other;
+        version = r.head.version;
         generation = r.head.generation;
         base = r.head.base;
         image = image;
@@ -29,9 +30,9 @@ returns-in-Ok-clause-found g c = λ h.
         begun = search rules;
         place = ap (λ (n : ℕ). r.slot.start + 22 + n) len;
       };
-      slots = record { size = size; header = c.requires.header h; active = active; generation_is = head.generation_is };
+      slots = record { size = size; header = c.requires.header h; active = active; version_is = head.version_is; generation_is = head.generation_is };
       gate = stands.ruling.gate;
-      text = subst (λ (t : List ℕ). Holds b r.slot.start t) (sym text) (head_there r.head.generation r.head.base r.head.len r.text image read.text_is long b r.slot.start stands.text behind);
+      text = subst (λ (t : List ℕ). Holds b r.slot.start t) (sym text) (head_there r.head.version r.head.generation r.head.base r.head.len r.text image read.text_is long b r.slot.start stands.text behind);
       long = c.requires.long h;
     }
 
@@ -40,10 +41,10 @@ returns-in-Err-BadBody-clause-fault g c = λ h.
     let D = g.D.Disk in let b = D.bytes c.args.disk.now in let r = c.args.ruling in let read = c.requires.read in let size = c.args.size in
     let image = c.in_ok-image.image.items in let stands = c.requires.stands h in
     let active : IsActive b size r.slot r.other = record { side = read.side; slot_is = read.slot_is; other_is = read.other_is; rules = stands.ruling.rules } in
-    let head : IsHead b r.slot.start size r.head.generation r.head.base image =
-    head_found r.head.generation r.head.base r.head.len r.text image read.text_is c.in_ok-image.ensures.long b r.slot.start size read.numbered read.low read.small stands.text (c.in_ok-image.ensures.stands h) in
-    let rejected : g.R.SlotReader.rejects c.args.reader.now r.head.base (size / 2) image c.in-Err-BadBody.at = search rules in
-    in_image size r.head.generation r.head.base r.slot r.other image c.in-Err-BadBody.at (c.requires.header h) active head rejected (ap (λ (n : ℕ). r.slot.start + 22 + n) c.in-Err-BadBody.at-is)
+    let head : IsHead b r.slot.start size r.head.version r.head.generation r.head.base image =
+    head_found r.head.version r.head.generation r.head.base r.head.len r.text image read.text_is c.in_ok-image.ensures.long b r.slot.start size read.known read.numbered read.low read.small stands.text (c.in_ok-image.ensures.stands h) in
+    let rejected : g.R.SlotReader.rejects c.args.reader.now r.head.version r.head.base (size / 2) image c.in-Err-BadBody.at = search rules in
+    in_image size r.head.version r.head.generation r.head.base r.slot r.other image c.in-Err-BadBody.at (c.requires.header h) active head rejected (ap (λ (n : ℕ). r.slot.start + 22 + n) c.in-Err-BadBody.at-is)
 
 pub returns-clause-kept : goal.returns-clause-kept
 returns-clause-kept g c = c.read_bytes.ensures.kept
@@ -94,7 +95,8 @@ returns-in-Ok-clause-read g c =
         allowed = read.allowed;
         slot_is = read.slot_is;
         other_is = read.other_is;
-        text_is = text ∙ head_is r.head.generation r.head.base r.head.len r.text image read.text_is long;
+        text_is = text ∙ head_is r.head.version r.head.generation r.head.base r.head.len r.text image read.text_is long;
+        known = read.known;
         numbered = read.numbered;
         low = read.low;
         small = omega (arith, small, long);
