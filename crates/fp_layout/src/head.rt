@@ -14,8 +14,9 @@ ghost use Rattle.fp_slots.specs.declared.places.TheConstants.{IMAGE_PLACE};
 use crate::fault::OpenFault;
 use crate::field::{u32_at, u64_at};
 use crate::size::SlotSize;
-use fp_slots::{BASE_PLACE, FIRST_VERSION, GENERATION_PLACE, IMAGE_PLACE, LENGTH_PLACE};
-use fp_slots::{VERSION, VERSION_PLACE};
+use fp_slots::{
+    BASE_PLACE, FIRST_VERSION, GENERATION_PLACE, IMAGE_PLACE, LENGTH_PLACE, VERSION, VERSION_PLACE,
+};
 
 /// No image is of this revision or a later one.
 pub const BASES_END: u64 = 1 << 63;

@@ -41,13 +41,7 @@ pub trait SlotReader: Reader {
     ghost rejects: { Self → ℕ → ℕ → ℕ → List ℕ → ℕ → Type 0 };
 
     /// Takes the image.
-    fn begin(
-        &mut self,
-        version: u8,
-        base: u64,
-        limit: u64,
-        image: &[u8],
-    ) -> Result<(), BodyFault>
+    fn begin(&mut self, version: u8, base: u64, limit: u64, image: &[u8]) -> Result<(), BodyFault>
         ensures taken { OnOk result (begins self.old version base limit image.now self.new) }
         ensures fault { IfErr result
             (IsWrong (length image.now) (rejects self.old version base limit image.now)) };
