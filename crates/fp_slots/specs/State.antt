@@ -25,8 +25,8 @@ use Rattle.fp_slots.specs.Rules.{Rules, RulesWith}
 -- The journal's slot rules, of this generation and this version. `other` is the other one, whose
 -- gate may be open or isn't (`may_open`); `step` is what a compaction does next, `text` what the
 -- other slot is to hold, its open gate first, `head` how many bytes of it are the image and what
--- stands in front of it, and `left` how many of those no Part wrote yet. `coming` are bytes that are
--- kept ready to go behind the text
+-- stands in front of it, and `left` how many of those no Part wrote yet. `coming` are bytes that
+-- are kept ready to go behind the text
 pub record SlotsState (D : Type 0) : Type 0 where
   pub journal : JournalState D
   pub other : Slot
