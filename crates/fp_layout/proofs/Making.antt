@@ -9,7 +9,7 @@ use Rattle.fp_journal.specs.declared.journal.Phase.{Phase}
 use Rattle.fp_journal.specs.declared.journal.Phase.TheVariants.{Failed, Idle}
 use Rattle.fp_journal.specs.declared.slot.Slot.{Slot}
 use Rattle.fp_layout.specs.Size.{IsSlotSize, first, first_slot, second_slot}
-use Rattle.fp_disk.specs.Crashes.{AtAnyMoment, SameHonesty}
+use Rattle.fp_disk.specs.Crashes.{AtAnyMoment, IsUntouched, SameHonesty}
 use Rattle.fp_disk.specs.declared.disk.DiskFault.{DiskFault}
 use Rattle.fp_disk.specs.declared.history.CallKind.{CallKind}
 use Rattle.fp_disk.specs.declared.history.CallKind.TheVariants.{Sync, Write}
@@ -24,7 +24,7 @@ use Rattle.fp_layout.specs.Layout.{magic, IsFormatted, IsHeader, IsHead, IsActiv
 use Rattle.fp_slots.specs.Head.{IsVersion, slot_text}
 use Rattle.fp_slots.specs.declared.places.TheConstants.{VERSION}
 use Rattle.fp_layout.specs.declared.header.TheConstants.{HEADER_VERSION}
-use Rattle.fp_layout.specs.NewDisk.{closed_bytes, header_text, empty_image, new_front, IsMade, IsNewDisk, IsNewOrNone, StaysAsItWas}
+use Rattle.fp_layout.specs.NewDisk.{closed_bytes, header_text, empty_image, new_front, IsMade, IsNewDisk, IsNewOrNone}
 use Rattle.fp_gate.specs.declared.gate.TheConstants.{OPEN}
 
 pub no_bytes : (c : List ℕ) → length c ≡ 0 → c ≡ []
@@ -33,13 +33,15 @@ no_bytes (x ∷ xs) is = absurd (omega (arith, is))
 
 module _ {D : Type 0} (disk : Ghosts D) (only_now : (d : D) (c : List ℕ) → disk.honest d → disk.crash_states_since d (disk.moment d) c → IsOutcome (disk.unsynced d) c) {old new : D} where
   -- a call that changes nothing
-  pub stays : disk.honest old → (disk.bytes new ≡ disk.bytes old) × (disk.unsynced new ≡ disk.unsynced old)
-      → Elapses (disk.moment old) (disk.moment new) (disk.crash_states_since old) (disk.crash_states_since new) (IsOutcome (disk.unsynced old)) → StaysAsItWas disk old new
-  stays honest same time = record {
-    bytes = same.0;
+  pub untouched : disk.honest old → (disk.bytes new ≡ disk.bytes old) × (disk.unsynced new ≡ disk.unsynced old)
+      → Elapses (disk.moment old) (disk.moment new) (disk.crash_states_since old) (disk.crash_states_since new) (IsOutcome (disk.unsynced old)) → IsUntouched disk old new
+  untouched honest same time = record {
+    stays = record {
+      bytes = same.0;
+      any_moment = leaves_call disk.moment disk.crash_states_since old new (IsOutcome (disk.unsynced old)) (IsOutcome (disk.unsynced old)) (IsOutcome (disk.unsynced old)) time
+          (λ c left. only_now old c honest left) (λ c out. out) (λ c out. out);
+    };
     unsynced = same.1;
-    any_moment = leaves_call disk.moment disk.crash_states_since old new (IsOutcome (disk.unsynced old)) (IsOutcome (disk.unsynced old)) (IsOutcome (disk.unsynced old)) time
-        (λ c left. only_now old c honest left) (λ c out. out) (λ c out. out);
   }
 
 -- ---- none yet

@@ -2,8 +2,6 @@
 use Rattle.std.specs.Prelude.{◌≡◌, ◌⊎◌, ◌+◌, ℕ, List, [], ◌∷◌, ◌++◌, length, replicate}
 use Rattle.std.specs.Prelude.{slice_index}
 use Rattle.std.specs.Int.{w32, w64, to_be_bytes}
-use Rattle.fp_disk.specs.Outcomes.{IsOutcome, LeavesOnly}
-use Rattle.fp_disk.specs.declared.disk.Disk.{Ghosts}
 use Rattle.fp_disk.specs.declared.history.CallKind.{CallKind}
 use Rattle.fp_disk.specs.declared.history.CallKind.TheVariants.{Sync, Write}
 use Rattle.fp_journal.specs.Holds.{Holds}
@@ -45,13 +43,6 @@ pub record IsMade (size : ℕ) (c : List ℕ) : Type 0 where
 pub record IsNewDisk (size : ℕ) (c : List ℕ) : Type 0 where
   pub gate : slice_index c 0 ≡ OPEN
   pub made : IsMade size c
-
--- a disk that wasn't made stays as it was, and so does what a crash at any moment leaves of it
-pub record StaysAsItWas {D : Type 0} (disk : Ghosts D) (old new : D) : Type 0 where
-  pub bytes : disk.bytes new ≡ disk.bytes old
-  pub unsynced : disk.unsynced new ≡ disk.unsynced old
-  pub any_moment : LeavesOnly disk.moment disk.crash_states_since old new
-      (IsOutcome (disk.unsynced old))
 
 -- what a crash may leave of a disk in the making
 abbrev pub IsNewOrNone : ℕ → List ℕ → Type 0

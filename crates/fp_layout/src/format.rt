@@ -1,6 +1,6 @@
 //! A new disk.
 
-ghost use Rattle.fp_disk.specs.Crashes.{AtAnyMoment, SameHonesty};
+ghost use Rattle.fp_disk.specs.Crashes.{AtAnyMoment, IsUntouched, SameHonesty};
 ghost use Rattle.std.specs.Prelude.{◌≡◌, ◌≢◌, ◌⊎◌, ◌<◌, ◌+◌, ◌∷◌, ◌++◌, [], length, IfOk};
 ghost use Rattle.std.specs.Prelude.{false, IfErr, OnOk, IsOk, MatchResult};
 ghost use Rattle.fp_disk.specs.History.{Makes, MakesSome};
@@ -11,7 +11,7 @@ ghost use Rattle.fp_journal.specs.declared.journal.Phase.TheVariants.{Idle};
 ghost use Rattle.fp_layout.specs.Size.{first_slot, second_slot};
 ghost use Rattle.fp_layout.specs.Layout.{IsHeader, IsHead, IsActive};
 ghost use Rattle.fp_layout.specs.NewDisk.{IsNewDisk, IsNewOrNone, closed_bytes, empty_image};
-ghost use Rattle.fp_layout.specs.NewDisk.{StaysAsItWas, format_calls, new_front};
+ghost use Rattle.fp_layout.specs.NewDisk.{format_calls, new_front};
 ghost use Rattle.fp_layout.specs.declared.header.TheConstants.{HEADER};
 ghost use Rattle.fp_slots.specs.declared.places.TheConstants.{VERSION};
 ghost use Rattle.fp_slots.specs.declared.slots.Step.TheVariants.{Begin};
@@ -133,7 +133,7 @@ pub fn create<D: Disk>(
 
     // Where it holds bytes it stays, whatever failed, and else where the device didn't fail.
     ensures kept { D.honest disk → IfErr result (λ e. (D.bytes disk ≢ []) ⊎ (e.0 ≢ Device)
-        → StaysAsItWas D.Disk disk e.1) }
+        → IsUntouched D.Disk disk e.1) }
     ensures no_failure { IfOk result (λ s. D.faults s.journal.disk ≡ D.faults disk) }
     ensures cause { IfErr result (λ e. e.0 ≡ Device → D.faults disk < D.faults e.1) }
     ensures unfailed { IfErr result (λ e. e.0 ≢ Device → D.faults e.1 ≡ D.faults disk) }

@@ -120,13 +120,13 @@ pub returns-in-Err-clause-cause : goal.returns-in-Err-clause-cause
 returns-in-Err-clause-cause g c = λ e. c.in-Err.ensures.cause.ill (refl {a = true})
 
 pub returns-in_default-clause-kept : goal.returns-in_default-clause-kept
-returns-in_default-clause-kept g c = λ h why. making.stays g.D.Disk g.met.D.Disk.only_now h (c.len.ensures.same h) (c.len.ensures.time h)
+returns-in_default-clause-kept g c = λ h why. making.untouched g.D.Disk g.met.D.Disk.only_now h (c.len.ensures.same h) (c.len.ensures.time h)
 
 pub returns-in-Ok-clause-kept : goal.returns-in-Ok-clause-kept
-returns-in-Ok-clause-kept g c = λ h why. making.stays g.D.Disk g.met.D.Disk.only_now h (c.len.ensures.same h) (c.len.ensures.time h)
+returns-in-Ok-clause-kept g c = λ h why. making.untouched g.D.Disk g.met.D.Disk.only_now h (c.len.ensures.same h) (c.len.ensures.time h)
 
 pub returns-in-Err-clause-kept : goal.returns-in-Err-clause-kept
-returns-in-Err-clause-kept g c = λ h why. making.stays g.D.Disk g.met.D.Disk.only_now h (c.len.ensures.same h) (c.len.ensures.time h)
+returns-in-Err-clause-kept g c = λ h why. making.untouched g.D.Disk g.met.D.Disk.only_now h (c.len.ensures.same h) (c.len.ensures.time h)
 
 pub returns-in_default-format-clause-kept : goal.returns-in_default-format-clause-kept
 returns-in_default-format-clause-kept g c = λ h why.
