@@ -13,6 +13,7 @@ use Rattle.fp_record.specs.WellFormed.{IsImage}
 use Rattle.fp_recovery.specs.Stands.{IsImageOf, Spells}
 use Rattle.fp_recovery.proofs.Restored.{image_within}
 use Rattle.fp_slots.specs.Head.{head_text}
+use Rattle.fp_slots.specs.declared.places.TheConstants.{VERSION}
 
 all_changed : (es : List (FlagKey × Flag)) (r : ℕ) → All (λ e. IsChangedBy r e.1) es → AllByRecursion (λ f. f.1.changed ≤ r) (entries_of es)
 all_changed [] r h = tt
@@ -28,17 +29,19 @@ image_made set es bytes is changed numbered within lawful spelled = record {
   limit_is = refl;
 }
 
-pub planned_for : (size : ℕ) (set : State) (generation : ℕ) (bytes text : List ℕ) → set.limit ≡ size / 2 → generation < 2 ^ 64 → IsImageOf set.revision set.limit bytes set → text ≡ head_text generation set.revision bytes → Spells size text set
-planned_for size set generation bytes text limit small image is = let within = image_within set.revision set.limit bytes set image in record {
+pub planned_for : (size : ℕ) (set : State) (generation : ℕ) (bytes text : List ℕ) → set.limit ≡ size / 2 → generation < 2 ^ 64 → IsImageOf set.revision set.limit bytes set → text ≡ head_text VERSION generation set.revision bytes → (p : Spells size text set) × (p.version ≡ VERSION)
+planned_for size set generation bytes text limit small image is = let within = image_within set.revision set.limit bytes set image in (record {
+  version = VERSION;
+  known = record { least = omega arith; greatest = omega arith };
   generation = generation;
   base = set.revision;
   image = bytes;
   first = set;
   batches = [];
-  text_is = is ∙ sym (append-nil (head_text generation set.revision bytes));
+  text_is = is ∙ sym (append-nil (head_text VERSION generation set.revision bytes));
   numbered = small;
   small = omega (arith, within, limit);
   image_is = subst (λ (n : ℕ). IsImageOf set.revision n bytes set) limit image;
   short = tt;
   leads = refl;
-}
+}, refl)

@@ -109,13 +109,13 @@ room_turned old new slot front none =
 
 -- no call was made: what is left now is what was left before
 pub still_step : {D : Type 0} (disk : Ghosts D) (old new : SlotsState D) → ((d : D) (c : List ℕ) → disk.honest d → disk.crash_states_since d (disk.moment d) c → IsOutcome (disk.unsynced d) c)
-    → old.step ≡ Begin → new.journal ≡ old.journal → new.other ≡ old.other → (disk.honest old.journal.disk → (c : List ℕ) → IsOutcome (disk.unsynced old.journal.disk) c → Keeps old c) → TakesStep disk old new
-still_step {D} disk old new only_now is journal other now =
+    → old.step ≡ Begin → new.journal ≡ old.journal → new.other ≡ old.other → new.version ≡ old.version → (disk.honest old.journal.disk → (c : List ℕ) → IsOutcome (disk.unsynced old.journal.disk) c → Keeps old c) → TakesStep disk old new
+still_step {D} disk old new only_now is journal other version now =
     let same : new.journal.disk ≡ old.journal.disk = ap (λ (j : JournalState D). j.disk) journal in record {
       stands = λ h size s t k taken late. subst (λ (d : D). LeavesOnly disk.moment disk.crash_states_since old.journal.disk d (LeavesSet old.journal s t)) (sym same)
           (leaves_still disk.moment disk.crash_states_since old.journal.disk (LeavesSet old.journal s t) (λ c left. let o = only_now old.journal.disk c h left in
           keeps_stands (disk.unsynced old.journal.disk) old size k.0 s k.1 t taken c (firm_outcome (disk.unsynced old.journal.disk) 0 k.1.header c k.1.firm o) (now h c o)));
-      kept = λ h size s k late. subst (λ (d : D). IsKeptIn (disk.unsynced d) new size s) (sym same) (kept_still journal other k);
+      kept = λ h size s k late. subst (λ (d : D). IsKeptIn (disk.unsynced d) new size s) (sym same) (kept_still journal other version k);
       honest = subst (λ (d : D). (disk.honest old.journal.disk → disk.honest d) × (disk.honest d → disk.honest old.journal.disk)) (sym same) (λ h. h, λ h. h);
       called = ap disk.calls same ∙ sym (append-nil (disk.calls old.journal.disk)) ∙ ap (λ (q : Step). disk.calls old.journal.disk ++ calls_of q old.may_open) (sym is);
     }
@@ -126,7 +126,7 @@ begins_now slots p is c left = subst (λ (q : Step). Leaves q slots c) is left
 
 -- ---- what a crash leaves now, and what a read gives, by the step that is next
 module _ {D : Type 0} (disk : Ghosts D) (slots : SlotsState D) where
-  left_at : (p : Step) (size : ℕ) (s t : State) → (k : IsKeptIn (disk.unsynced slots.journal.disk) slots size s) → IsTaken slots.journal size s t → (IsLate p → IsPlannedFor slots size s) → (c : List ℕ) → IsOutcome (disk.unsynced slots.journal.disk) c
+  left_at : (p : Step) (size : ℕ) (s t : State) → (k : IsKeptIn (disk.unsynced slots.journal.disk) slots size s) → IsTaken slots size s t → (IsLate p → IsPlannedFor slots size s) → (c : List ℕ) → IsOutcome (disk.unsynced slots.journal.disk) c
       → Leaves p slots c → LeavesSet slots.journal s t c
   left_at p size s t k taken late c out = at p late
     where
@@ -172,8 +172,8 @@ module _ {D : Type 0} (disk : Ghosts D) (slots : SlotsState D) where
   chain_at true is c chain = absurd (cc is)
 
   pub full_now : (p : Step) → p ≡ slots.step → (disk.honest slots.journal.disk → (c : List ℕ) → IsOutcome (disk.unsynced slots.journal.disk) c → Leaves p slots c)
-      → IsFrontOf slots.generation slots.journal.front → slots.generation < 2 ^ 64 → IsFullNow disk slots
-  full_now p is now front small = λ h begins begun size s k n none c out.
+      → IsFrontOf slots.version slots.generation slots.journal.front → slots.generation < 2 ^ 64 → IsFullNow disk slots
+  full_now p is now front small = λ h begins begun size s k group none c out.
       let keeps = begins_now slots p (is ∙ begins) c (now h c out) in
-      sealed_full (disk.unsynced slots.journal.disk) slots size k.0 s k.1 front small n none c (firm_outcome (disk.unsynced slots.journal.disk) 0 k.1.header c k.1.firm out) keeps.0
+      sealed_full (disk.unsynced slots.journal.disk) slots size k.0 s k.1 front small group none c (firm_outcome (disk.unsynced slots.journal.disk) 0 k.1.header c k.1.firm out) keeps.0
       (chain_at (has_begun slots.journal.phase slots.journal.begun) begun c keeps.1)

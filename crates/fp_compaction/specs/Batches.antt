@@ -47,7 +47,8 @@ LeavesSealed disk old new = disk.honest old.journal.disk → (size : ℕ) (s : S
 -- the batch on its way leads from this set to that one
 abbrev pub LeadsTo : {D : Type 0} → SlotsState D → ℕ → State → State → Type 0
 LeadsTo slots size s t =
-    TakesBatch s slots.journal.staged t × (length slots.journal.staged ≤ most_in size)
+    TakesBatch slots.version s slots.journal.staged t
+    × (length slots.journal.staged ≤ most_in size)
 
 -- at each moment the set is kept, or what the batch on its way makes of it
 abbrev pub LeavesNext : {D : Type 0} → Ghosts D → SlotsState D → SlotsState D → Type 0

@@ -11,9 +11,10 @@ use Rattle.fp_layout.specs.Size.{IsSlotSize, Side, most_in, other_side, slot_of}
 use Rattle.fp_layout.specs.declared.opening.Place.{Place}
 use Rattle.fp_recovery.specs.Stands.{Spells, StandsFor, TakesBatch}
 use Rattle.fp_slots.specs.State.{SlotsState, sealed_text}
+use Rattle.fp_slots.specs.declared.places.TheConstants.{VERSION}
 
 -- The slots are those of a disk whose header no crash takes away, and what is sealed in the one
--- that rules spells the set
+-- that rules spells the set, as of the version of that slot
 pub record IsKeptOn {D : Type 0} (u : PendingState) (slots : SlotsState D) (size : ℕ) (side : Side)
     (s : State) : Type 0 where
   pub header : List ℕ
@@ -23,14 +24,15 @@ pub record IsKeptOn {D : Type 0} (u : PendingState) (slots : SlotsState D) (size
   pub mine : slots.journal.slot ≡ slot_of size side
   pub its : slots.other ≡ slot_of size (other_side side)
   pub sealed : Spells size (sealed_text slots.journal) s
+  pub version_is : sealed.version ≡ slots.version
 
 -- the same, on one of a disk's two sides
 abbrev pub IsKeptIn : {D : Type 0} → PendingState → SlotsState D → ℕ → State → Type 0
 IsKeptIn u slots size s = (side : Side) × IsKeptOn u slots size side s
 
--- what the other slot is to hold spells the set too
+-- what the other slot is to hold spells the set too, as of the version of all that is written
 abbrev pub IsPlannedFor : {D : Type 0} → SlotsState D → ℕ → State → Type 0
-IsPlannedFor slots size s = Spells size slots.text s
+IsPlannedFor slots size s = (spells : Spells size slots.text s) × (spells.version ≡ VERSION)
 
 -- the slots are the two of a disk whose slots have this size,
 -- and half of one is what a set's image may take
@@ -51,9 +53,10 @@ abbrev pub IsOpening : {D : Type 0} → JournalState D → Type 0
 IsOpening j = has_begun j.phase j.begun ≡ true
 
 -- then it leads from this set to that one
-abbrev pub IsTaken : {D : Type 0} → JournalState D → ℕ → State → State → Type 0
-IsTaken j size s t =
-    IsOpening j → TakesBatch s j.staged t × (length j.staged ≤ most_in size)
+abbrev pub IsTaken : {D : Type 0} → SlotsState D → ℕ → State → State → Type 0
+IsTaken slots size s t = IsOpening slots.journal
+    → TakesBatch slots.version s slots.journal.staged t
+    × (length slots.journal.staged ≤ most_in size)
 
 -- what a crash leaves: the set, and once a call began to open the gate of the batch on its way
 -- perhaps what that makes of it

@@ -15,7 +15,8 @@ use Rattle.fp_journal.specs.declared.journal.Phase.TheVariants.{Idle, GateOpened
 use Rattle.fp_recovery.specs.Room.{HasNoRoom, IsFull}
 use Rattle.fp_recovery.specs.Stands.{StandsFor}
 use Rattle.fp_slots.specs.State.{SlotsState, SameSlots}
-use Rattle.fp_slots.specs.declared.places.TheConstants.{IMAGE_PLACE, PART}
+use Rattle.fp_slots.specs.declared.places.TheConstants.{IMAGE_PLACE, PART, VERSION}
+use Rattle.fp_record.specs.Group.{Group}
 use Rattle.fp_slots.specs.declared.slots.Step.{Step}
 use Rattle.fp_slots.specs.declared.slots.Step.TheVariants.{Begin, Close, SyncClose, Part, Tail}
 use Rattle.fp_slots.specs.declared.slots.Step.TheVariants.{SyncBody, Open, SyncOpen}
@@ -83,7 +84,7 @@ pub record HasImageRoom {D : Type 0} (slots : SlotsState D) (s : State) : Type 0
 -- begun. It asks that the other slot is to hold the kept set from where it may rule
 abbrev pub LeavesStep : {D : Type 0} → Ghosts D → SlotsState D → SlotsState D → Type 0
 LeavesStep disk old new = disk.honest old.journal.disk → (size : ℕ) (s t : State)
-    → IsKeptIn (disk.unsynced old.journal.disk) old size s → IsTaken old.journal size s t
+    → IsKeptIn (disk.unsynced old.journal.disk) old size s → IsTaken old size s t
     → (IsLate old.step → IsPlannedFor old size s)
     → LeavesOnly disk.moment disk.crash_states_since old.journal.disk new.journal.disk
     (LeavesSet old.journal s t)
@@ -114,6 +115,7 @@ pub record StartsImage {D : Type 0} (image limit : ℕ) (old new : SlotsState D)
   pub journal : new.journal ≡ old.journal
   pub other : new.other ≡ old.other
   pub generation : new.generation ≡ old.generation
+  pub version : new.version ≡ old.version
   pub may_open : new.may_open ≡ old.may_open
   pub head : new.head ≡ IMAGE_PLACE + image
   pub left : new.left + 1 ≡ new.head
@@ -121,12 +123,13 @@ pub record StartsImage {D : Type 0} (image limit : ℕ) (old new : SlotsState D)
   pub text : length new.text ≡ new.head
   pub ready : IsOnWay old.journal.phase → new.coming ≡ with_gate old.journal.staged
 
--- the slots are turned, the gate of the one that ruled may be open, and all room behind the text
--- that the other one was to hold is there
+-- the slots are turned, the gate of the one that ruled may be open, all room behind the text that the
+-- other one was to hold is there, and that one is of the version of all that is written
 pub record Turns {D : Type 0} (old new : SlotsState D) : Type 0 where
   pub mine : new.journal.slot ≡ old.other
   pub its : new.other ≡ old.journal.slot
   pub generation : new.generation ≡ old.generation + 1
+  pub version : new.version ≡ VERSION
   pub may_open : new.may_open ≡ true
   pub still : old.journal.phase ≡ Idle
   pub phase : new.journal.phase ≡ Idle
@@ -156,7 +159,7 @@ pub record StepsOn {D T : Type 0} (disk : Ghosts D) (old new : SlotsState D)
 -- ---- what a crash leaves now, and what a read gives
 abbrev pub LeavesNow : {D : Type 0} → Ghosts D → SlotsState D → Type 0
 LeavesNow disk slots = disk.honest slots.journal.disk → (size : ℕ) (s t : State)
-    → IsKeptIn (disk.unsynced slots.journal.disk) slots size s → IsTaken slots.journal size s t
+    → IsKeptIn (disk.unsynced slots.journal.disk) slots size s → IsTaken slots size s t
     → (IsLate slots.step → IsPlannedFor slots size s)
     → (c : List ℕ) → IsOutcome (disk.unsynced slots.journal.disk) c → LeavesSet slots.journal s t c
 
@@ -166,10 +169,11 @@ ReadsNext disk slots = disk.honest slots.journal.disk → slots.journal.phase �
     → (size : ℕ) (s t : State) → IsKeptIn (disk.unsynced slots.journal.disk) slots size s
     → LeadsTo slots size s t → StandsFor (disk.bytes slots.journal.disk) t
 
--- where none runs, no gate was begun, and the slot that rules has no room for a body of n bytes:
--- neither has whatever a crash leaves, and that is of the same generation
+-- where none runs, no gate was begun, and the slot that rules has no room for a batch: neither has
+-- whatever a crash leaves, and that is of the same generation
 abbrev pub IsFullNow : {D : Type 0} → Ghosts D → SlotsState D → Type 0
 IsFullNow disk slots = disk.honest slots.journal.disk → slots.step ≡ Begin
     → has_begun slots.journal.phase slots.journal.begun ≡ false → (size : ℕ) (s : State)
-    → IsKeptIn (disk.unsynced slots.journal.disk) slots size s → (n : ℕ) → HasNoRoom slots.journal n
-    → IsFull (disk.unsynced slots.journal.disk) s n slots.generation
+    → IsKeptIn (disk.unsynced slots.journal.disk) slots size s → (group : Group)
+    → HasNoRoom slots group
+    → IsFull (disk.unsynced slots.journal.disk) s group slots.generation

@@ -80,7 +80,7 @@ fn grow<D: Disk>(slots: &mut Slots<D>)
     ensures still { (IsGrowing slots.old.step → ⊥) → slots.new.text ≡ slots.old.text }
     ensures journal { (slots.new.journal ≡ slots.old.journal)
         × (slots.new.other ≡ slots.old.other) × (slots.new.generation ≡ slots.old.generation)
-        × (slots.new.may_open ≡ slots.old.may_open) × (slots.new.step ≡ slots.old.step)
+        × (slots.new.version ≡ slots.old.version) × (slots.new.may_open ≡ slots.old.may_open) × (slots.new.step ≡ slots.old.step)
         × (slots.new.head ≡ slots.old.head) × (slots.new.left ≡ slots.old.left) }
 {
     if is_growing(slots.step()) {
@@ -115,11 +115,14 @@ pub fn sync_gate<D: Disk>(slots: &mut Slots<D>) -> Result<Sealed, DiskFault>
         × GoesOnKept D.Disk slots.old slots.new
         × SameCompaction slots.old slots.new) }
     ensures beside { (slots.new.other ≡ slots.old.other)
-        × (slots.new.generation ≡ slots.old.generation) × (slots.new.step ≡ slots.old.step)
+        × (slots.new.generation ≡ slots.old.generation)
+        × (slots.new.version ≡ slots.old.version) × (slots.new.step ≡ slots.old.step)
         × (slots.new.head ≡ slots.old.head) × (slots.new.left ≡ slots.old.left)
         × (slots.new.may_open ≡ slots.old.may_open) }
     ensures call { MakesCall D.Disk Sync slots.old slots.new result }
 {
+    // What the slot's version may be is known only where it is asked.
+    let _ = slots.version();
     let sealed = slots.sync_gate()?;
     grow(slots);
     Ok(sealed)

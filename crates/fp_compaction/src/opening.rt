@@ -31,7 +31,7 @@ pub fn open<D: Disk>(alloc: Global, disk: D) -> Result<(Slots<D>, FlagSet), (Ope
     ensures place { D.honest disk →
         IfOk result (λ r. StandsAt (D.bytes disk) r.1 (place_of r.0.journal)) }
     ensures slots { D.honest disk → IfOk result (λ r.
-        HasSlots (D.bytes disk) r.0.journal.slot r.0.other r.0.generation) }
+        HasSlots (D.bytes disk) r.0.journal.slot r.0.other r.0.version r.0.generation) }
     ensures kept { IfOk result (λ r. (size : ℕ) × IsPlaced size r.0 r.1.limit
         × (D.honest disk → IsKeptIn (D.unsynced r.0.journal.disk) r.0 size r.1)) }
     ensures rest { IfOk result (λ r. (r.0.step ≡ Begin) × (r.0.journal.phase ≡ Idle)) }

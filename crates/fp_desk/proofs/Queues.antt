@@ -1,26 +1,36 @@
 -- Edits of two queues, one by one.
-use Rattle.std.proofs.Common.{◌≡◌, ◌<◌, ◌≤◌, ◌+◌, ◌*◌, ◌^◌, ℕ, zero, suc, List, [], ◌∷◌, ◌++◌, ◌⊎◌, inl, inr, ⊎_elim, length, take, drop, get_or, Bool, true, false, Result, Ok, Err, Fits, refl, sym, ap, ◌∙◌, arith}
+use Rattle.std.proofs.Common.{◌≡◌, ◌<◌, ◌≤◌, ◌+◌, ◌*◌, ◌^◌, ℕ, zero, suc, List, [], ◌∷◌, ◌++◌, ◌⊎◌, inl, inr, ⊎_elim, length, map, take, drop, get_or, Bool, true, false, Result, Ok, Err, Fits, refl, sym, ap, ◌∙◌, arith}
 use borrow.Author.Tests.{eqb-false, eqb-true}
 use Rattle.std.specs.Int.{w64}
 use Rattle.std.specs.Prelude.{OnOk, OnErr, ◌==◌, ◌≢◌}
 use Rattle.std.specs.Result.{is_err}
 use Rattle.std.proofs.lemmas.List.{length-map, map-append, take_at, drop_at}
 use Rattle.std.proofs.lemmas.List.Sums.{sum_by-append, sum_by-cons}
-use Rattle.fp_record.specs.declared.batch.TheConstants.{LONGEST_EDIT, MOST_EDITS}
+use Rattle.fp_edit.specs.declared.changes.TheConstants.{LONGEST_EDIT}
+use Rattle.fp_record.specs.declared.batch.TheConstants.{MOST_EDITS}
 use Rattle.fp_record.specs.Group.{Group}
-use Rattle.fp_record.specs.Encoding.{encoding_of_change}
-use Rattle.fp_group_commit.specs.Changes.{batch_len}
+use Rattle.fp_record.specs.Encoding.{batch_len, encoding_of_change}
 use Rattle.fp_desk.specs.Desk.{IsLongestPart}
-use Rattle.fp_edit.specs.Edits.{Change, Proposal, proposal_of}
+use Rattle.fp_edit.specs.Edits.{Change, Proposal, change_in, proposal_of}
+use Rattle.fp_edit.specs.Parts.{Part, parts_of, proposed_of}
+use Rattle.fp_edit.specs.declared.edit.Change as code
 use Rattle.fp_edit.specs.declared.edit.Edit.{Edit}
 use Rattle.fp_edit.specs.Following.{change_of, changes_of}
 use Rattle.fp_edit.proofs.Followed.{all_taken, taken_more}
 
-pub same_at : (xs ys : List Edit) (i : ℕ) (x y : Edit) → i < length xs → x ≡ get_or xs i x → y ≡ get_or ys i y → changes_of xs ≡ changes_of ys → change_of x ≡ change_of y
-same_at [] ys i x y lt p q e = absurd (omega (arith, lt))
-same_at (a ∷ xs) [] i x y lt p q e = absurd (cc e)
-same_at (a ∷ xs) (b ∷ ys) zero x y lt p q e = let here : change_of a ≡ change_of b = cc e in ap change_of p ∙ here ∙ sym (ap change_of q)
-same_at (a ∷ xs) (b ∷ ys) (suc i) x y lt p q e = same_at xs ys i x y (omega (arith, lt)) p q (cc e)
+-- what two lists come to alike, they come to alike at each place
+pub same_at : {A B : Type 0} (f : A → B) (xs ys : List A) (i : ℕ) (x y : A) → i < length xs → x ≡ get_or xs i x → y ≡ get_or ys i y → map f xs ≡ map f ys → f x ≡ f y
+same_at f [] ys i x y lt p q e = absurd (omega (arith, lt))
+same_at f (a ∷ xs) [] i x y lt p q e = absurd (cc e)
+same_at f (a ∷ xs) (b ∷ ys) zero x y lt p q e = let here : f a ≡ f b = cc e in ap f p ∙ here ∙ sym (ap f q)
+same_at f (a ∷ xs) (b ∷ ys) (suc i) x y lt p q e = same_at f xs ys i x y (omega (arith, lt)) p q (cc e)
+
+abbrev pub part_in : code.Change → Part
+part_in c = (proposed_of c).part
+
+pub parts_are : (xs : List code.Change) → parts_of (map proposed_of xs) ≡ map part_in xs
+parts_are [] = refl
+parts_are (x ∷ xs) = ap (λ (l : List Part). part_in x ∷ l) (parts_are xs)
 
 pub nil_of : (xs : List Edit) → length xs ≡ 0 → changes_of xs ≡ []
 nil_of [] h = refl
@@ -50,24 +60,24 @@ part_len cs c =
     let all = sum_by-append len cs (c ∷ []) in let one = sum_by-cons len c [] in omega (arith, all, one)
 
 module _ (xs : List Edit) (n most : ℕ) (some : 1 ≤ n) (le : n ≤ length xs) (few : n ≤ MOST_EDITS) (short : (n ≡ 1) ⊎ (batch_len (record { first = 0; changes = changes_of (take n xs) }) ≤ most)) (small : batch_len (record { first = 0; changes = changes_of (take n xs) }) ≤ 10 + LONGEST_EDIT * n) where
-  abbrev Part : Group
-  Part = record { first = 0; changes = changes_of (take n xs) }
+  abbrev Front : Group
+  Front = record { first = 0; changes = changes_of (take n xs) }
 
   pub part_by : (changes_of (drop n xs) ≡ []) ⊎ (length (changes_of (take n xs)) ≡ MOST_EDITS) ⊎ ((c : Change) (more : List Change) → changes_of (drop n xs) ≡ c ∷ more → most < batch_len (record { first = 0; changes = changes_of (take n xs) ++ c ∷ [] }))
-      → IsLongestPart most Part (changes_of xs) (changes_of (drop n xs))
+      → IsLongestPart most Front (changes_of xs) (changes_of (drop n xs))
   part_by longest = let len = taken_len xs n le in record {
     parts = all_taken xs n;
     some = omega (arith, len, some);
     few = omega (arith, len, few);
-    short = ⊎_elim (λ (one : n ≡ 1). inl (len ∙ one)) (λ (fits : batch_len Part ≤ most). inr fits) short;
-    fits = λ wide. ⊎_elim (λ (one : n ≡ 1). omega (arith, small, one, wide)) (λ (fits : batch_len Part ≤ most). fits) short;
+    short = ⊎_elim (λ (one : n ≡ 1). inl (len ∙ one)) (λ (fits : batch_len Front ≤ most). inr fits) short;
+    fits = λ wide. ⊎_elim (λ (one : n ≡ 1). omega (arith, small, one, wide)) (λ (fits : batch_len Front ≤ most). fits) short;
     longest = longest;
   }
 
-  pub part_full : MOST_EDITS ≤ n → IsLongestPart most Part (changes_of xs) (changes_of (drop n xs))
+  pub part_full : MOST_EDITS ≤ n → IsLongestPart most Front (changes_of xs) (changes_of (drop n xs))
   part_full full = part_by (inr (inl (let len = taken_len xs n le in omega (arith, len, full, few))))
 
-  pub part_wide : (e : Edit) → n < length xs → e ≡ get_or xs n e → most < batch_len Part + length (encoding_of_change (change_of e)) → IsLongestPart most Part (changes_of xs) (changes_of (drop n xs))
+  pub part_wide : (e : Edit) → n < length xs → e ≡ get_or xs n e → most < batch_len Front + length (encoding_of_change (change_of e)) → IsLongestPart most Front (changes_of xs) (changes_of (drop n xs))
   part_wide e lt is wide = part_by (inr (inr (λ c more h.
       let same : c ≡ change_of e = first_left xs n e lt is c more h in
       let len = part_len (changes_of (take n xs)) c in let same_len = ap (λ (x : Change). length (encoding_of_change x)) same in
@@ -117,4 +127,4 @@ some_changes (x ∷ xs) some e = cc
 pub copied_more : (xs copies more : List Edit) (i : ℕ) (x y : Edit) → more ≡ copies ++ y ∷ [] → changes_of copies ≡ changes_of (take i xs) → proposal_of y ≡ proposal_of x → i < length xs → x ≡ get_or xs i x → changes_of more ≡ changes_of (take (i + 1) xs)
 copied_more xs copies more i x y pushed before copy lt is =
     ap changes_of pushed ∙ map-append change_of copies (y ∷ []) ∙ ap (λ (l : List Change). l ++ change_of y ∷ []) before
-    ∙ ap (λ (p : Proposal). changes_of (take i xs) ++ p.change ∷ []) copy ∙ sym (taken_more xs i x lt is)
+    ∙ ap (λ (p : Proposal). changes_of (take i xs) ++ change_in p ∷ []) copy ∙ sym (taken_more xs i x lt is)

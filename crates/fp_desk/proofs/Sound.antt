@@ -1,7 +1,7 @@
 -- A desk from call to call.
 use Rattle.std.proofs.Common.{◌≡◌, ◌<◌, ◌≤◌, ◌+◌, ◌^◌, ℕ, Bool, List, [], ◌∷◌, ◌++◌, length, Option, sym, ap, subst, ◌∙◌, arith, append_assoc, length-append, None}
 use Rattle.fp_edit.specs.Admits.{Admits, accepted, next, refusal}
-use Rattle.fp_edit.specs.Edits.{Change, Proposal}
+use Rattle.fp_edit.specs.Edits.{Change, Proposal, change_in}
 use Rattle.fp_edit.specs.declared.edit.EditFault.{EditFault}
 use Rattle.fp_edit.specs.Flags.{State}
 use Rattle.fp_edit.specs.Log.{after_all}
@@ -65,9 +65,9 @@ module _ (d : DeskState) (h base : State) (lag : List Change) (i : IsSound d h b
         }
 
   -- ---- one edit more waits
-  pub waiting_on : (p : Proposal) (h2 : State) → Admits h p (accepted h2) → length d.drawn + length d.waiting < MOST_QUEUED → (n : DeskState) → n.store ≡ d.store → n.settled ≡ d.settled → n.drawn ≡ d.drawn → n.waiting ≡ d.waiting ++ p.change ∷ [] → IsSound n h2 base lag
+  pub waiting_on : (p : Proposal) (h2 : State) → Admits h p (accepted h2) → length d.drawn + length d.waiting < MOST_QUEUED → (n : DeskState) → n.store ≡ d.store → n.settled ≡ d.settled → n.drawn ≡ d.drawn → n.waiting ≡ d.waiting ++ change_in p ∷ [] → IsSound n h2 base lag
   waiting_on p h2 admits room n store settled drawn waiting =
-      let c = p.change in
+      let c = change_in p in
       let set_is : settled_set n ≡ settled_set d = ap (λ (x : Identity). after_all x.start n.settled) store ∙ ap (λ (l : List Change). after_all d.store.start l) settled in
       let tail_is : n.drawn ++ n.waiting ≡ (d.drawn ++ d.waiting) ++ c ∷ [] = ap (λ (l : List Change). l ++ n.waiting) drawn ∙ ap (λ (l : List Change). d.drawn ++ l) waiting ∙ sym (append_assoc d.drawn d.waiting (c ∷ [])) in
       let log_is : log n ≡ log d ++ c ∷ [] = ap (λ (l : List Change). l ++ (n.drawn ++ n.waiting)) settled ∙ ap (λ (l : List Change). d.settled ++ l) tail_is ∙ sym (append_assoc d.settled (d.drawn ++ d.waiting) (c ∷ [])) in

@@ -2,15 +2,17 @@
 use Rattle.std.specs.Prelude.{◌≡◌, ◌≢◌, ◌⊎◌, ◌<◌, ◌≤◌, ◌+◌, ◌-◌, ◌/◌, ℕ, Bool, true, false, List}
 use Rattle.std.specs.Prelude.{[], ◌∷◌, ◌++◌, length, Option, None, Some}
 use Rattle.fp_edit.specs.Admits.{Admits, accepted, refusal}
-use Rattle.fp_edit.specs.Edits.{Change, Proposal}
+use Rattle.fp_edit.specs.Edits.{Change, Proposal, change_in}
 use Rattle.fp_edit.specs.Flags.{State}
 use Rattle.fp_edit.specs.Log.{after_all}
 use Rattle.fp_edit.specs.declared.edit.TheConstants.{REVISIONS_END}
 use Rattle.fp_record.specs.Group.{Group}
-use Rattle.fp_record.specs.declared.batch.TheConstants.{BATCH_HEAD, LONGEST_EDIT, MOST_EDITS}
+use Rattle.fp_edit.specs.declared.changes.TheConstants.{LONGEST_EDIT}
+use Rattle.fp_record.specs.Encoding.{batch_len}
+use Rattle.fp_record.specs.declared.batch.TheConstants.{BATCH_HEAD, MOST_EDITS}
 use Rattle.fp_desk.specs.declared.desk.TheConstants.{MOST_QUEUED}
 use Rattle.fp_edit.specs.Following.{Follows}
-use Rattle.fp_group_commit.specs.Changes.{GoesOn, batch_len}
+use Rattle.fp_group_commit.specs.Changes.{GoesOn}
 use Rattle.fp_group_commit.specs.Tokens.{FrontState, Identity, ReceiptState}
 use Rattle.fp_desk.specs.declared.fault.SubmitFault.{SubmitFault}
 use Rattle.fp_desk.specs.declared.fault.SubmitFault.TheVariants as submit
@@ -100,7 +102,7 @@ pub record IsAccepted (old new : DeskState) (edit : Proposal) : Type 0 where
   pub open_desk : old.stopped ≡ false
   pub admitted : Admits (head old) edit (accepted (head new))
   pub room : unsettled_count old < MOST_QUEUED
-  pub new_is : new ≡ record old { waiting = old.waiting ++ edit.change ∷ [] }
+  pub new_is : new ≡ record old { waiting = old.waiting ++ change_in edit ∷ [] }
 
 -- why an edit wasn't accepted: the first that applies
 abbrev pub Refuses : DeskState → Proposal → SubmitFault → Type 0

@@ -1,12 +1,13 @@
 //! Edits in a queue.
 
 ghost use Rattle.std.specs.Prelude.{◌≡◌, ◌<◌, ◌≤◌, ◌+◌, ◌++◌, ◌↔◌, length, take, drop, IfOk};
-ghost use Rattle.std.specs.Prelude.{IsTrue};
+ghost use Rattle.std.specs.Prelude.{IsTrue, map};
 ghost use Rattle.std.specs.VecDeque.{deque_len, deque_capacity};
 ghost use Rattle.fp_desk.specs.Desk.{FitsBehind, IsLongestPart};
 ghost use Rattle.fp_edit.specs.Following.{change_of, changes_of};
+ghost use Rattle.fp_edit.specs.Parts.{parts_of, proposed_of};
 
-use fp_edit::Edit;
+use fp_edit::{Change, Edit};
 use fp_record::{BATCH_HEAD, MOST_EDITS, encoded_len};
 use std::alloc::{AllocError, Global};
 use std::collections::VecDeque;
@@ -25,6 +26,45 @@ fn same_change(a: &Edit, b: &Edit) -> bool
             },
         ) => { key.as_str() == other_key.as_str() && flag.text() == other.text() }
         (Edit::Delete { key, .. }, Edit::Delete { key: other_key, .. }) => {
+            key.as_str() == other_key.as_str()
+        }
+        (Edit::Set(changes), Edit::Set(others)) => {
+            same_parts(changes.as_slice(), others.as_slice())
+        }
+        _ => false,
+    }
+}
+
+// Whether two sets of changes change the same, one by one.
+fn same_parts(changes: &[Change], others: &[Change]) -> bool
+    ensures { IsTrue result ↔ (parts_of (map proposed_of changes.now)
+        ≡ parts_of (map proposed_of others.now)) }
+{
+    if changes.len() != others.len() {
+        return false;
+    }
+    for i in 0..changes.len() {
+        if !same_part(&changes[i], &others[i]) {
+            return false;
+        }
+    }
+    true
+}
+
+// Whether two changes of sets change the same.
+fn same_part(a: &Change, b: &Change) -> bool
+    ensures { IsTrue result ↔ ((proposed_of a.now).part ≡ (proposed_of b.now).part) }
+{
+    match (a, b) {
+        (
+            Change::Put { key, flag, .. },
+            Change::Put {
+                key: other_key,
+                flag: other,
+                ..
+            },
+        ) => { key.as_str() == other_key.as_str() && flag.text() == other.text() }
+        (Change::Delete { key, .. }, Change::Delete { key: other_key, .. }) => {
             key.as_str() == other_key.as_str()
         }
         _ => false,

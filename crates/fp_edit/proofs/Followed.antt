@@ -1,17 +1,19 @@
 -- Changes that follow one another, and edits taken one by one.
-use Rattle.std.proofs.Common.{◌≡◌, ◌<◌, ◌+◌, ◌^◌, ◌&&◌, ℕ, Bool, true, false, List, [], ◌∷◌, ◌++◌, length, take, drop, suc, add-one, get_or, None, refl, sym, ap, subst, ◌∙◌, arith}
+use Rattle.std.proofs.Common.{◌≡◌, ◌<◌, ◌+◌, ◌^◌, ℕ, Bool, true, false, cond, List, [], ◌∷◌, ◌++◌, length, map, take, drop, suc, add-one, get_or, None, Some, refl, sym, ap, subst, ◌∙◌, arith}
 use Rattle.std.proofs.lemmas.Bool.{and_from, and_parts, ltb-true}
 use Rattle.std.proofs.lemmas.List.{nil_from_length, take-append-drop, map-append}
 use Rattle.std.proofs.Math.Seq.{take-suc}
+use Rattle.std.specs.List.{AllByRecursion}
 use Rattle.fp_base.specs.Tests.{first_failed}
-use Rattle.fp_edit.specs.Admits.{refusal, next, can_change, present, is_met, has_room, has_revision}
-use Rattle.fp_edit.specs.Edits.{Change, Proposal}
+use Rattle.fp_edit.specs.Admits.{refusal, next, present, is_as_expected, keys, keys_from, has_room, has_revision}
+use Rattle.fp_edit.specs.Edits.{Change, one, set, Proposal, single, joint, change_in}
+use Rattle.fp_edit.specs.Parts.{Part, ProposedPart, free, parts_of}
 use Rattle.fp_edit.specs.Flags.{State}
 use Rattle.fp_edit.specs.Following.{Follows, change_of, changes_of, unconditional}
 use Rattle.fp_edit.specs.Log.{after_all}
 use Rattle.fp_edit.specs.declared.edit.Edit.{Edit}
 use Rattle.fp_edit.specs.declared.edit.EditFault.{EditFault}
-use Rattle.fp_edit.specs.declared.edit.EditFault.TheVariants.{Conflict, SetTooLarge, RevisionsUsed}
+use Rattle.fp_edit.specs.declared.edit.EditFault.TheVariants.{Conflict, ConflictIn, SetTooLarge, RevisionsUsed}
 
 pub after-append : (s : State) (xs ys : List Change) → after_all s (xs ++ ys) ≡ after_all (after_all s xs) ys
 after-append s [] ys = refl
@@ -34,30 +36,82 @@ pub follows_front : (s : State) (xs ys : List Change) → Follows s (xs ++ ys) �
 follows_front s [] ys f = tt
 follows_front s (x ∷ xs) ys f = (f.0, follows_front (next s x) xs ys f.1)
 
+-- ---- tests that are met
+met_first : (b : Bool) (f : EditFault) (ts : List (Bool × EditFault)) → cond b (first_failed ts) (Some f) ≡ None → (b ≡ true) × (first_failed ts ≡ None)
+met_first true f ts h = (refl, h)
+met_first false f ts h = absurd cc
+
+met_parts : (ts us : List (Bool × EditFault)) → first_failed (ts ++ us) ≡ None → (first_failed ts ≡ None) × (first_failed us ≡ None)
+met_parts [] us h = (refl, h)
+met_parts (t ∷ ts) us h =
+    let here = met_first t.0 t.1 (ts ++ us) h in
+    let rest = met_parts ts us here.1 in (rw here.0 rest.0, rest.1)
+
+met_from : (ts us : List (Bool × EditFault)) → first_failed ts ≡ None → first_failed us ≡ None → first_failed (ts ++ us) ≡ None
+met_from [] us h g = g
+met_from (t ∷ ts) us h g = let here = met_first t.0 t.1 ts h in rw here.0 (met_from ts us here.1 g)
+
+-- ---- keys as expected
+pub as_expected : (s : State) (p : ProposedPart) → first_failed (keys s (single p)) ≡ None → is_as_expected s p ≡ true
+as_expected s p h = (met_first (is_as_expected s p) (Conflict (present s p)) [] h).0
+
+pub from_expected : (s : State) (p : ProposedPart) → is_as_expected s p ≡ true → first_failed (keys s (single p)) ≡ None
+from_expected s p h = rw h refl
+
+-- each key of a set is
+abbrev pub AreExpected : State → List ProposedPart → Type 0
+AreExpected s ps = AllByRecursion (λ (p : ProposedPart). is_as_expected s p ≡ true) ps
+
+pub all_expected : (s : State) (at : ℕ) (ps : List ProposedPart) → first_failed (keys_from s at ps) ≡ None → AreExpected s ps
+all_expected s at [] h = tt
+all_expected s at (p ∷ ps) h =
+    let here = met_first (is_as_expected s p) (ConflictIn at (present s p)) (keys_from s (suc at) ps) h in (here.0, all_expected s (suc at) ps here.1)
+
+pub from_all_expected : (s : State) (at : ℕ) (ps : List ProposedPart) → AreExpected s ps → first_failed (keys_from s at ps) ≡ None
+from_all_expected s at [] h = refl
+from_all_expected s at (p ∷ ps) h = rw (h.0) (from_all_expected s (suc at) ps h.1)
+
 -- ---- what is accepted
-all_met : (a b c : Bool) (e f g : EditFault) → first_failed ((a, e) ∷ (b, f) ∷ (c, g) ∷ []) ≡ None → (a ≡ true) × (b ≡ true) × (c ≡ true)
-all_met true true true e f g h = (refl, refl, refl)
-all_met true true false e f g h = absurd cc
-all_met true false c e f g h = absurd cc
-all_met false b c e f g h = absurd cc
-
 module _ (s : State) (p : Proposal) where
-  abbrev CanBe : Bool
-  CanBe = can_change p.change (present s p) && is_met p.expect (present s p)
+  pub met : refusal s p ≡ None → (first_failed (keys s p) ≡ None) × (has_room s (change_in p) ≡ true) × (has_revision s ≡ true)
+  met h =
+      let both = met_parts (keys s p) ((has_room s (change_in p), SetTooLarge) ∷ (has_revision s, RevisionsUsed) ∷ []) h in
+      let room = met_first (has_room s (change_in p)) SetTooLarge ((has_revision s, RevisionsUsed) ∷ []) both.1 in
+      (both.0, room.0, (met_first (has_revision s) RevisionsUsed [] room.1).0)
 
-  pub met : refusal s p ≡ None → (CanBe ≡ true) × (has_room s p.change ≡ true) × (has_revision s ≡ true)
-  met h = all_met CanBe (has_room s p.change) (has_revision s) (Conflict (present s p)) SetTooLarge RevisionsUsed h
-
-  pub passes : CanBe ≡ true → has_room s p.change ≡ true → has_revision s ≡ true → refusal s p ≡ None
-  passes a b c = rw (a, b, c) refl
+  pub passes : first_failed (keys s p) ≡ None → has_room s (change_in p) ≡ true → has_revision s ≡ true → refusal s p ≡ None
+  passes a b c = met_from (keys s p) ((has_room s (change_in p), SetTooLarge) ∷ (has_revision s, RevisionsUsed) ∷ []) a (rw (b, c) refl)
 
   -- there is a revision for it
   pub has_next : refusal s p ≡ None → s.revision + 1 < 2 ^ 63
   has_next h = ltb-true _ _ (met h).2
 
+-- ---- without what is expected
+parts-free : (ps : List Part) → parts_of (map free ps) ≡ ps
+parts-free [] = refl
+parts-free (p ∷ ps) = ap (λ (qs : List Part). p ∷ qs) (parts-free ps)
+
+pub change-unconditional : (c : Change) → change_in (unconditional c) ≡ c
+change-unconditional (one p) = refl
+change-unconditional (set ps) = ap set (parts-free ps)
+
+free_expected : (s : State) (p : ProposedPart) → is_as_expected s p ≡ true → is_as_expected s (free p.part) ≡ true
+free_expected s p h = and_from _ _ (and_parts _ _ h).0 refl
+
+free_all : (s : State) (ps : List ProposedPart) → AreExpected s ps → AreExpected s (map free (parts_of ps))
+free_all s [] h = tt
+free_all s (p ∷ ps) h = (free_expected s p h.0, free_all s ps h.1)
+
+free_keys : (s : State) (p : Proposal) → first_failed (keys s p) ≡ None → first_failed (keys s (unconditional (change_in p))) ≡ None
+free_keys s (single p) h = from_expected s (free p.part) (free_expected s p (as_expected s p h))
+free_keys s (joint ps) h = from_all_expected s 0 (map free (parts_of ps)) (free_all s ps (all_expected s 0 ps h))
+
 -- what is accepted with an expectation is accepted without
-pub freely : (s : State) (p : Proposal) → refusal s p ≡ None → refusal s (unconditional p.change) ≡ None
-freely s p h = let all = met s p h in passes s (unconditional p.change) (and_from _ _ (and_parts _ _ all.0).0 refl) all.1 all.2
+pub freely : (s : State) (p : Proposal) → refusal s p ≡ None → refusal s (unconditional (change_in p)) ≡ None
+freely s p h =
+    let all = met s p h in
+    let room : has_room s (change_in (unconditional (change_in p))) ≡ true = ap (has_room s) (change-unconditional (change_in p)) ∙ all.1 in
+    passes s (unconditional (change_in p)) (free_keys s p all.0) room all.2
 
 -- there are revisions for all of them
 pub follows_small : (s : State) (xs : List Change) → s.revision < 2 ^ 63 → Follows s xs → s.revision + length xs < 2 ^ 63

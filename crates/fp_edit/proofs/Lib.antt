@@ -1,11 +1,16 @@
 pub mod Changed
+pub mod Filling
 pub mod Followed
+pub mod Refusing
 pub mod Tallying
 pub mod Kept
 pub mod Maps
 pub mod Outlined
+pub mod Parts
 pub mod Patched
 pub mod Runs
 pub mod Since
 pub mod Sizes
 pub mod Texts
+pub mod Lines
+pub mod SetTests

@@ -1,14 +1,14 @@
--- The sets that a map's entries make: after an insert and a removal, and in order.
-use Rattle.std.proofs.Common.{◌≡◌, T, ◌&&◌, ℕ, List, [], ◌∷◌, ◌++◌, map, length, Ordering, Less, Equal, Greater, Some, None, cond, Bool, true, false, is_eq, refl, sym, ap, subst, ◌∙◌, append_assoc}
+-- The sets that a map's entries make: after an insert, a removal and a write, and in order.
+use Rattle.std.proofs.Common.{◌≡◌, T, ◌&&◌, ℕ, List, [], ◌∷◌, ◌++◌, map, length, Ordering, Less, Equal, Greater, Some, None, cond, Bool, true, false, is_eq, is_some, refl, sym, ap, subst, ◌∙◌, append_assoc}
 use Rattle.std.specs.Ordering.{match_ordering, ordering_reverse, eq_by_cmp, is_lt}
-use Rattle.std.specs.Map.{lookup, remove_entry, keys_of}
+use Rattle.std.specs.Map.{lookup, remove_entry, set_value, keys_of}
 use Rattle.std.specs.List.{AllByRecursion}
 use Rattle.std.specs.List.Sorted.{IsStrictlySortedBy}
 use Rattle.std.specs.BTreeMap.{insert_entry, is_at}
 use Rattle.std.specs.Cmp.{eq_by_cmp_equiv, Equal-is}
 use Rattle.std.proofs.lemmas.Cmp.{nat_list_cmp_total}
 use Rattle.std.proofs.lemmas.List.{length-map}
-use Rattle.std.proofs.lemmas.Map.{lookup-remove_entry}
+use Rattle.std.proofs.lemmas.Map.{lookup-remove_entry, lookup-set_value}
 use Rattle.std.proofs.lemmas.Map.Keys.{IsDistinct-from_sorted}
 use Rattle.std.proofs.lemmas.Map.Lookups.{exact_bytes}
 use Rattle.std.specs.FinMap as fin
@@ -106,6 +106,28 @@ flags_of-remove es k h = fin.same_map nat_list_cmp_total exact_bytes _ _ (λ q.
     ∙ sym (fin.get-remove nat_list_cmp_total (flags_of es) (key_bytes k) q
     ∙ ap (λ b. cond b None (fin.get (flags_of es) q)) ((eq_by_cmp_equiv nat_list_cmp_total).symm q (key_bytes k))
     ∙ ap (cond (eq_by_cmp bytes_cmp (key_bytes k) q) None) (fin.get-from_entries nat_list_cmp_total (map entry_of es) q ∙ find_is_lookup (map entry_of es) q)))
+
+-- ---- a flag in the place of another one
+
+mapped_set : (es : List Entry) (q : List ℕ) (f : Flag) → map entry_of (set_value (is_at (λ k. bytes_cmp q (key_bytes k))) es f) ≡ set_value (is_at (bytes_cmp q)) (map entry_of es) f
+mapped_set [] q f = refl
+mapped_set (e ∷ es) q f =
+    map_cond (is_eq (bytes_cmp q (key_bytes e.0))) ((e.0, f) ∷ es) (e ∷ set_value (is_at (λ k. bytes_cmp q (key_bytes k))) es f)
+    ∙ ap (λ r. cond (is_eq (bytes_cmp q (key_bytes e.0))) (map entry_of ((e.0, f) ∷ es)) (entry_of e ∷ r)) (mapped_set es q f)
+
+pub flags_of-set : (es : List Entry) (k : FlagKey) (f : Flag) → is_some (fin.get (flags_of es) (key_bytes k)) ≡ true
+    → flags_of (set_value (is_at (flag_cmp k)) es f) ≡ fin.insert (flags_of es) (key_bytes k) f
+flags_of-set es k f there =
+    let found : (q : List ℕ) → fin.get (flags_of es) q ≡ lookup (eq_by_cmp bytes_cmp q) (map entry_of es) = λ q.
+    fin.get-from_entries nat_list_cmp_total (map entry_of es) q ∙ find_is_lookup (map entry_of es) q in
+    fin.same_map nat_list_cmp_total exact_bytes _ _ (λ q.
+    fin.get-from_entries nat_list_cmp_total (map entry_of (set_value (is_at (flag_cmp k)) es f)) q
+    ∙ ap (find bytes_cmp q) (mapped_set es (key_bytes k) f)
+    ∙ find_is_lookup (set_value (is_at (bytes_cmp (key_bytes k))) (map entry_of es) f) q
+    ∙ lookup-set_value (eq_by_cmp_equiv nat_list_cmp_total) (is_at (bytes_cmp (key_bytes k))) (one_key (key_bytes k)) q f (map entry_of es) (ap is_some (sym (found (key_bytes k))) ∙ there)
+    ∙ sym (fin.get-insert nat_list_cmp_total (flags_of es) (key_bytes k) f q
+    ∙ ap (λ b. cond b (Some f) (fin.get (flags_of es) q)) ((eq_by_cmp_equiv nat_list_cmp_total).symm q (key_bytes k))
+    ∙ ap (cond (eq_by_cmp bytes_cmp (key_bytes k) q) (Some f)) (found q)))
 
 -- ---- the entries
 

@@ -1,5 +1,5 @@
 -- The size and the count of a set after an insert and a removal.
-use Rattle.std.proofs.Common.{◌≡◌, T, ◌&&◌, ℕ, ◌+◌, List, [], ◌∷◌, length, Ordering, Less, Equal, Greater, Option, Some, None, cond, Bool, true, false, is_eq, refl, sym, ap, ◌∙◌, arith}
+use Rattle.std.proofs.Common.{◌≡◌, ◌<◌, ◌≤◌, T, ◌&&◌, ℕ, ◌+◌, List, [], ◌∷◌, length, Ordering, Less, Equal, Greater, Option, Some, None, cond, Bool, true, false, is_eq, refl, sym, ap, ◌∙◌, arith}
 use Rattle.std.specs.Ordering.{eq_by_cmp, is_lt}
 use Rattle.std.specs.Cmp.{Equal-is}
 use Rattle.std.proofs.lemmas.Cmp.{nat_list_cmp_total, tied_itself}
@@ -26,7 +26,7 @@ less Equal p = absurd p
 less Greater p = absurd p
 
 -- a key that is below x, which is below all of the entries, isn't found among them
-find_below : (k x : List ℕ) (es : List (List ℕ × Flag)) → bytes_cmp k x ≡ Less → T (below_all bytes_cmp x es) → find bytes_cmp k es ≡ None
+pub find_below : (k x : List ℕ) (es : List (List ℕ × Flag)) → bytes_cmp k x ≡ Less → T (below_all bytes_cmp x es) → find bytes_cmp k es ≡ None
 find_below k x [] p h = refl
 find_below k x (e ∷ es) p h =
     let here : bytes_cmp k e.0 ≡ Less = nat_list_cmp_total.trans k x e.0 p (less _ (first _ _ h)) in
@@ -125,3 +125,26 @@ count-remove m k =
     let all = sum-remove (λ _. 1) length (λ e es. omega arith) (λ _. one_found) (λ k. refl) (λ k f. refl) m k in
     let old = fin.len-entries m in
     let new = fin.len-entries (fin.remove m k) in omega arith
+
+-- ---- a key's flag, by what it takes
+none_at : (k : List ℕ) (o : Option Flag) → cost_found k o ≡ 0 → o ≡ None
+none_at k None h = refl
+none_at k (Some f) h = absurd (omega (arith, h))
+
+some_at : (k : List ℕ) (o : Option Flag) → 0 < cost_found k o → (f : Flag) × (o ≡ Some f)
+some_at k None h = absurd (omega (arith, h))
+some_at k (Some f) h = (f, refl)
+
+-- it is part of the whole
+pub found_within : (m : Flags) (k : List ℕ) → cost_found k (fin.get m k) ≤ size m
+found_within m k = let all = size-remove m k in omega (arith, all)
+
+pub found_some : (m : Flags) (k : List ℕ) → 0 < cost_found k (fin.get m k) → 0 < fin.len m
+found_some m k h = let all = count-remove m k in let one = ap one_found (some_at k (fin.get m k) h).1 in omega (arith, all, one)
+
+-- it counts where it takes something
+pub found_counts : (k : List ℕ) (o : Option Flag) → 0 < cost_found k o → one_found o ≡ 1
+found_counts k o h = ap one_found (some_at k o h).1
+
+pub none_counts : (k : List ℕ) (o : Option Flag) → cost_found k o ≡ 0 → one_found o ≡ 0
+none_counts k o h = ap one_found (none_at k o h)

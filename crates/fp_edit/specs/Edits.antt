@@ -1,28 +1,33 @@
--- Edits: a change to one flag, and what is expected at its key.
-use Rattle.std.specs.Prelude.{ℕ, List, Bool, true, false}
+-- Edits: what they change, and what they propose.
+use Rattle.std.specs.Prelude.{ℕ, List, [], ◌∷◌}
 use Rattle.fp_definition.specs.Key.{key_bytes}
-use Rattle.fp_edit.specs.declared.edit.Expect.{Expect}
+use Rattle.fp_edit.specs.Parts.{Part, put, delete, ProposedPart, parts_of}
 use Rattle.fp_edit.specs.declared.edit.Edit.{Edit}
-use Rattle.fp_edit.specs.declared.edit.Edit.TheVariants.{Put, Delete}
+use Rattle.fp_edit.specs.declared.edit.Edit.TheVariants.{Put, Delete, Set}
 
--- a key gets a definition, given by its canonical text; or a key's flag goes
+-- one flag is changed, or several are under one revision
 pub data Change : Type 0 where
-  put : List ℕ → List ℕ → Change
-  delete : List ℕ → Change
+  one : Part → Change
+  set : List Part → Change
 
-abbrev pub changed_key : Change → List ℕ
-changed_key (put k text) = k
-changed_key (delete k) = k
+abbrev pub parts : Change → List Part
+parts (one p) = p ∷ []
+parts (set ps) = ps
 
-abbrev pub is_put : Change → Bool
-is_put (put k text) = true
-is_put (delete k) = false
+-- the same with what is expected at each key
+pub data Proposal : Type 0 where
+  single : ProposedPart → Proposal
+  joint : List ProposedPart → Proposal
 
-pub record Proposal : Type 0 where
-  pub change : Change
-  pub expect : Expect
+-- without it
+abbrev pub change_in : Proposal → Change
+change_in (single p) = one p.part
+change_in (joint ps) = set (parts_of ps)
 
 -- what an edit of the code proposes
 abbrev pub proposal_of : Edit → Proposal
-proposal_of (Put key flag expect) = record { change = put (key_bytes key) flag; expect = expect }
-proposal_of (Delete key expect) = record { change = delete (key_bytes key); expect = expect }
+proposal_of (Put key flag expect) =
+    single (record { part = put (key_bytes key) flag; expect = expect })
+proposal_of (Delete key expect) =
+    single (record { part = delete (key_bytes key); expect = expect })
+proposal_of (Set changes) = joint changes

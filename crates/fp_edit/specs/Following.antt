@@ -2,22 +2,23 @@
 use Rattle.std.specs.Prelude.{◌≡◌, ℕ, List, [], ◌∷◌, map, None}
 use Rattle.std.specs.FinMap as fin
 use Rattle.fp_edit.specs.Admits.{next, refusal}
-use Rattle.fp_edit.specs.Edits.{Change, Proposal, proposal_of}
+use Rattle.fp_edit.specs.Parts.{free}
+use Rattle.fp_edit.specs.Edits.{Change, one, set, Proposal, single, joint, change_in, proposal_of}
 use Rattle.fp_edit.specs.Flags.{State, size}
 use Rattle.fp_edit.specs.declared.edit.Edit.{Edit}
-use Rattle.fp_edit.specs.declared.edit.Expect.TheVariants.{Any}
 use Rattle.fp_edit.specs.declared.tally.Tally.{Tally}
 
 -- edits without what their editors expected
 abbrev pub change_of : Edit → Change
-change_of edit = (proposal_of edit).change
+change_of edit = change_in (proposal_of edit)
 
 abbrev pub changes_of : List Edit → List Change
 changes_of edits = map change_of edits
 
 -- a change by an editor that expects nothing
 abbrev pub unconditional : Change → Proposal
-unconditional c = record { change = c; expect = Any }
+unconditional (one p) = single (free p)
+unconditional (set ps) = joint (map free ps)
 
 -- each change is accepted by the set that those before it left
 abbrev pub Follows : State → List Change → Type 0

@@ -1,11 +1,14 @@
 pub mod Admits
+pub mod Changes
 pub mod Document
 pub mod Edits
 pub mod Entries
+pub mod Filled
 pub mod Flags
 pub mod Following
 pub mod Laws
 pub mod Line
 pub mod Log
 pub mod Outline
+pub mod Parts
 pub mod Spelled

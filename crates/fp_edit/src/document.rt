@@ -1,6 +1,6 @@
 //! Documents that show a set of flags.
 
-ghost use Rattle.std.specs.Prelude.{◌≡◌, ◌≤◌, ◌↔◌, ◌++◌, ℕ, List, false, IfOk, OnOk, OnErr, IsTrue};
+ghost use Rattle.std.specs.Prelude.{◌≡◌, ◌≤◌, ◌++◌, ℕ, List, true, false, IfOk, OnOk, OnErr};
 ghost use Rattle.std.specs.Prelude.{MatchOption, length};
 ghost use Rattle.std.specs.BTreeMap.{IsOrdered};
 ghost use Rattle.std.specs.List.{splice};
@@ -10,8 +10,8 @@ ghost use Rattle.fp_edit.specs.Document.{data_of, document, members_of};
 ghost use Rattle.fp_edit.specs.Entries.{entries_of, flags_of};
 ghost use Rattle.fp_edit.specs.Flags.{State};
 ghost use Rattle.fp_edit.specs.declared.flags.Flag.{Flag};
-ghost use Rattle.fp_edit.specs.Outline.{part, part_lengths, changed_after, SameButChanged};
-ghost use Rattle.fp_edit.specs.Outline.{Outlines, IsDocumentOf, IsAlike, IsPlaceOf};
+ghost use Rattle.fp_edit.specs.Outline.{part, part_lengths, head, is_part_of, changed_after};
+ghost use Rattle.fp_edit.specs.Outline.{Outlines, IsDocumentOf, IsAlike, HasAsMany, HasNewKey, MayTake};
 
 use crate::flags::Flag;
 use fp_base::put_quoted;
@@ -63,29 +63,37 @@ impl Document {
     }
 
     /// Makes the document of flags out of that of others, of which one at most was changed since:
-    /// its new part takes the place of the old one, and moves what stands behind it.
+    /// its new part takes the place of the old one, and moves what stands behind it. Where the part
+    /// at that place has another key, it answers `false` and changes nothing.
     pub(crate) fn put_changed(
         &mut self,
         alloc: Global,
         flags: &BTreeMap<FlagKey, Flag>,
         revision: u64,
-    ) -> Result<(), AllocError>
+    ) -> Result<bool, AllocError>
         requires { (es : List (List ℕ × Flag)) × Outlines self.old es
-            × SameButChanged self.old.revision es (entries_of flags.now.entries)
+            × HasAsMany self.old.revision es (entries_of flags.now.entries)
             × changed_after self.old.revision (entries_of flags.now.entries) ≤ 1 }
-        ensures put { OnOk result (Outlines self.new (entries_of flags.now.entries)
-            × (self.new.revision ≡ revision)) }
+        ensures put { IfOk result (λ b. b ≡ true
+            → Outlines self.new (entries_of flags.now.entries) × (self.new.revision ≡ revision)) }
+        ensures other { IfOk result (λ b. b ≡ false
+            → HasNewKey self.old (entries_of flags.now.entries) × IsAlike self.old self.new) }
         ensures unchanged { OnErr result (IsAlike self.old self.new) }
     {
         if let Some(place) = first_changed(flags, self) {
             let mut part = Vec::with_capacity(alloc, place.len)?;
+            let end = place.at + place.len;
+            let old = &self.text[place.at..end];
             let definition = &place.flag.definition;
-            let len = put_member(alloc, &mut part, place.later, place.key, definition)?;
-            replace(&mut self.text, place.at, place.at + place.len, part)?;
-            self.lengths[place.index] = len;
+            let new = put_in_place_of(alloc, &mut part, old, place.later, place.key, definition)?;
+            let Some(new) = new else {
+                return Ok(false);
+            };
+            replace(&mut self.text, place.at, end, part)?;
+            self.lengths[place.index] = new;
         }
         self.revision = revision;
-        Ok(())
+        Ok(true)
     }
 }
 
@@ -148,13 +156,47 @@ fn put_member(
         (part later (key_bytes key.now, record { definition = definition.now; changed = changed }))) }
 {
     let start = out.len();
+    put_head(alloc, out, later, key)?;
+    out.extend_from_slice(text_of(definition))?;
+    Ok(out.len() - start)
+}
+
+// Puts it in place of an old part, where that is of the same key; else it answers `None`.
+fn put_in_place_of(
+    alloc: Global,
+    out: &mut Vec<u8>,
+    old: &[u8],
+    later: bool,
+    key: &FlagKey,
+    definition: &Definition,
+) -> Result<Option<usize>, AllocError>
+    ensures { (changed : ℕ) → IfOk result (λ o. MatchOption o
+        (is_part_of later (key_bytes key.now) old.now ≡ false)
+        (λ n. (is_part_of later (key_bytes key.now) old.now ≡ true)
+        × (out.new.items ≡ out.old.items ++ part later
+        (key_bytes key.now, record { definition = definition.now; changed = changed }))
+        × (n ≡ length (part later
+        (key_bytes key.now, record { definition = definition.now; changed = changed }))))) }
+{
+    let start = out.len();
+    put_head(alloc, out, later, key)?;
+    if !old.starts_with(&out[start..]) {
+        return Ok(None);
+    }
+    out.extend_from_slice(text_of(definition))?;
+    Ok(Some(out.len() - start))
+}
+
+// Puts what a flag's part begins with.
+fn put_head(alloc: Global, out: &mut Vec<u8>, later: bool, key: &FlagKey) -> Result<(), AllocError>
+    ensures { OnOk result (out.new.items ≡ out.old.items ++ head later (key_bytes key.now)) }
+{
     if later {
         out.push(b',')?;
     }
     put_quoted(alloc, out, key.as_str())?;
     out.push(b':')?;
-    out.extend_from_slice(text_of(definition))?;
-    Ok(out.len() - start)
+    Ok(())
 }
 
 fn text_of(definition: &Definition) -> &[u8]
@@ -163,35 +205,20 @@ fn text_of(definition: &Definition) -> &[u8]
     definition.text()
 }
 
-/// Whether so many flags were changed after a revision.
-pub(crate) fn are_changed_after(flags: &BTreeMap<FlagKey, Flag>, revision: u64, count: u64) -> bool
-    ensures { IsTrue result ↔ (changed_after revision (entries_of flags.now.entries) ≡ count) }
-{
-    let mut left = count;
-    for (_key, flag) in flags.iter() {
-        if flag.changed > revision {
-            if left == 0 {
-                return false;
-            }
-            left -= 1;
-        }
-    }
-    left == 0
-}
-
 /// The document of flags that are those of an earlier document, but for the ones that were changed
-/// since. What stands between these is copied.
+/// since. What stands between these is copied. Where one of them has a new key, there is `None`.
 pub(crate) fn document_after(
     alloc: Global,
     flags: &BTreeMap<FlagKey, Flag>,
     revision: u64,
     room: usize,
     before: &Document,
-) -> Result<Document, AllocError>
+) -> Result<Option<Document>, AllocError>
     requires { (es : List (List ℕ × Flag)) × Outlines before.now es
-        × SameButChanged before.now.revision es (entries_of flags.now.entries) }
-    ensures { IfOk result (λ d. Outlines d (entries_of flags.now.entries)
-        × (d.revision ≡ revision)) }
+        × HasAsMany before.now.revision es (entries_of flags.now.entries) }
+    ensures { IfOk result (λ o. MatchOption o
+        (HasNewKey before.now (entries_of flags.now.entries))
+        (λ d. Outlines d (entries_of flags.now.entries) × (d.revision ≡ revision))) }
 {
     let mut text = Vec::with_capacity(alloc, room)?;
     let mut lengths = Vec::with_capacity(alloc, flags.len())?;
@@ -205,22 +232,28 @@ pub(crate) fn document_after(
             unreachable!();
         };
         left = rest;
+        let end = at + *len;
         if flag.changed > before.revision {
             text.extend_from_slice(&before.text[from..at])?;
-            lengths.push(put_member(alloc, &mut text, later, key, &flag.definition)?)?;
-            from = at + *len;
+            let old = &before.text[at..end];
+            let new = put_in_place_of(alloc, &mut text, old, later, key, &flag.definition)?;
+            let Some(new) = new else {
+                return Ok(None);
+            };
+            lengths.push(new)?;
+            from = end;
         } else {
             lengths.push(*len)?;
         }
-        at += *len;
+        at = end;
         later = true;
     }
     text.extend_from_slice(&before.text[from..])?;
-    Ok(Document {
+    Ok(Some(Document {
         text,
         lengths,
         revision,
-    })
+    }))
 }
 
 // Where a document has a flag's part, and the flag that is there now.
@@ -236,10 +269,10 @@ struct Place<'a> {
 
 fn first_changed<'a>(flags: &'a BTreeMap<FlagKey, Flag>, document: &Document) -> Option<Place<'a>>
     requires { (es : List (List ℕ × Flag)) × Outlines document.now es
-        × SameButChanged document.now.revision es (entries_of flags.now.entries)
+        × HasAsMany document.now.revision es (entries_of flags.now.entries)
         × changed_after document.now.revision (entries_of flags.now.entries) ≤ 1 }
     ensures { MatchOption result (Outlines document.now (entries_of flags.now.entries))
-        (λ p. IsPlaceOf p document.now (entries_of flags.now.entries)) }
+        (λ p. MayTake p document.now (entries_of flags.now.entries)) }
 {
     let mut at = HEAD.len();
     let mut index = 0;

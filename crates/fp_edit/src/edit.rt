@@ -1,5 +1,6 @@
 //! Edits of a set of flags.
 
+use crate::changes::Changes;
 use fp_definition::{Definition, FlagKey};
 use thiserror::Error;
 
@@ -17,9 +18,9 @@ pub enum Expect {
     At(u64),
 }
 
-/// A change to one flag, and what its editor expects to find there.
+/// One of the changes that are made together, and what its editor expects to find there.
 #[derive(Drop)]
-pub enum Edit {
+pub enum Change {
     /// The key's flag gets this definition.
     Put {
         key: FlagKey,
@@ -33,6 +34,24 @@ pub enum Edit {
     },
 }
 
+/// What an editor asks for: a change to one flag, or changes to several under one revision.
+#[derive(Drop)]
+pub enum Edit {
+    /// The key's flag gets this definition.
+    Put {
+        key: FlagKey,
+        flag: Definition,
+        expect: Expect,
+    },
+    /// The key's flag goes.
+    Delete {
+        key: FlagKey,
+        expect: Expect,
+    },
+    /// All of these are made, or none.
+    Set(Changes),
+}
+
 /// Why an edit isn't made, in the order of the tests.
 #[derive(Debug, Clone, Copy, PartialEq, Eq, Error)]
 pub enum EditFault {
@@ -40,6 +59,10 @@ pub enum EditFault {
     /// where there is no flag.
     #[error("the key isn't as expected")]
     Conflict { current: Option<u64> },
+    /// The same of the key of a change in a set: `at` is the change's place, from 0 on, and the first
+    /// of which this is so.
+    #[error("the key of change {at} isn't as expected")]
+    ConflictIn { at: usize, current: Option<u64> },
     /// The set would have too many flags, or too large an image.
     #[error("the set would grow too large")]
     SetTooLarge,

@@ -9,16 +9,20 @@ ghost use Rattle.fp_edit.specs.Admits.{Admits, accepted, IsRefused, has_revision
 ghost use Rattle.fp_edit.specs.Admits.{is_within, next, refusal};
 ghost use Rattle.fp_edit.specs.Document.{document};
 ghost use Rattle.fp_edit.specs.Entries.{entries_of};
-ghost use Rattle.fp_edit.specs.Outline.{IsDocumentOf, LeadsTo, Outlines, SameButChanged, changed_after};
-ghost use Rattle.fp_edit.specs.Edits.{is_put, put, delete, proposal_of};
+ghost use Rattle.fp_edit.specs.Outline.{IsDocumentOf, LeadsTo, Outlines, HasAsMany, changed_after};
+ghost use Rattle.fp_edit.specs.Edits.{joint, one, parts, proposal_of, set};
+ghost use Rattle.fp_edit.specs.Parts.{any_put, delete, parts_of, put};
 ghost use Rattle.fp_edit.specs.Following.{change_of};
 ghost use Rattle.fp_edit.specs.Flags.{State, IsChangedBy, cost_found, size as size_of};
 ghost use Rattle.fp_edit.specs.declared.flags.Flag.{Flag};
 ghost use Rattle.fp_edit.specs.declared.flags.TheConstants.{IMAGE_HEAD};
 
-use crate::document::{Document, are_changed_after, document_after, document_of};
+use crate::changes::Changes;
+use crate::document::{Document, document_after, document_of};
 use crate::edit::{Edit, EditFault, REVISIONS_END};
-use crate::flags::{Flag, IMAGE_HEAD, copy_of, cost_at, cost_of, count, find, store, take};
+use crate::flags::{
+    Flag, IMAGE_HEAD, add_new, copy_of, cost_at, cost_of, count, find, replace_all, store, take,
+};
 use fp_definition::{Definition, FlagKey};
 use std::alloc::{AllocError, AllocFailed, Global};
 use std::collections::BTreeMap;
@@ -35,12 +39,16 @@ pub struct FlagSet {
     revision: u64,
     limit: u64,
     size: u64,
+    // Whether it is known that the last edit marked one flag at most: then a document of the set
+    // before it is changed in one place.
+    marks_one: bool,
     alloc: Global,
 }
 
 impl Model for FlagSet {
     ghost use Rattle.fp_edit.specs.Flags.{State, coded_state, IsTallied, size as size_of};
     ghost use Rattle.fp_edit.specs.Entries.{flags_of};
+    ghost use Rattle.fp_edit.specs.Outline.{MarksOne};
 
     ghost Value = { State };
 
@@ -53,7 +61,8 @@ impl Model for FlagSet {
     ghost use Rattle.fp_definition.specs.Key.{flag_cmp};
 
     ghost invariant = { λ a. IsOrdered flag_cmp a.flags
-        × IsTallied (flags_of a.flags.entries) a.revision a.limit a.size };
+        × IsTallied (flags_of a.flags.entries) a.revision a.limit a.size
+        × MarksOne a.marks_one a.revision (flags_of a.flags.entries) };
 }
 
 impl FlagSet {
@@ -76,6 +85,7 @@ impl FlagSet {
             revision,
             limit,
             size: IMAGE_HEAD,
+            marks_one: true,
             alloc,
         }
     }
@@ -150,14 +160,17 @@ impl FlagSet {
     }
 
     /// The same, made of the document of an earlier set, from which edits lead to this one. Where
-    /// they put flags in place of flags, each another one, what stands between these is copied.
+    /// they put flags in place of flags, what stands between these is copied.
     pub fn outlined_after(&self, before: &Document) -> Result<Document, AllocError>
         requires { (s : State) × IsDocumentOf before.now s × LeadsTo s self.now }
         ensures { IfOk result (λ d. IsDocumentOf d self.now) }
     {
-        if self.replaces_flags_of(before) {
+        if self.has_as_many_as(before) {
             let room = self.size as usize;
-            return document_after(self.alloc, &self.flags, self.revision, room, before);
+            let made = document_after(self.alloc, &self.flags, self.revision, room, before)?;
+            if let Some(document) = made {
+                return Ok(document);
+            }
         }
         self.outlined()
     }
@@ -173,35 +186,35 @@ impl FlagSet {
     {
         // A text in twice the room that it needs isn't kept.
         if self.replaces_one_of(document) && document.room() / 2 <= self.size as usize {
-            return document.put_changed(self.alloc, &self.flags, self.revision);
+            if document.put_changed(self.alloc, &self.flags, self.revision)? {
+                return Ok(());
+            }
         }
         *document = self.outlined_after(document)?;
         Ok(())
     }
 
-    // Whether it is seen that one edit was made since that document, and put no new flag and took
-    // none away.
+    // Whether it is seen that one edit was made since that document, that it marked one flag at
+    // most, and that there are as many flags.
     fn replaces_one_of(&self, before: &Document) -> bool
         requires { (s : State) × IsDocumentOf before.now s × LeadsTo s self.now }
         ensures { result ≡ true → (es : List (List ℕ × Flag)) × Outlines before.now es
-            × SameButChanged before.now.revision es (map.entries self.now.flags)
+            × HasAsMany before.now.revision es (map.entries self.now.flags)
             × changed_after before.now.revision (map.entries self.now.flags) ≤ 1 }
     {
-        before.count() == self.len() && self.revision.saturating_sub(before.revision()) == 1
+        self.marks_one
+            && self.revision.saturating_sub(before.revision()) == 1
+            && self.has_as_many_as(before)
     }
 
-    // Whether it is seen that the edits since that document put flags in place of flags, each
-    // another one.
-    fn replaces_flags_of(&self, before: &Document) -> bool
+    // Whether there are as many flags as that document shows. Those that weren't changed since are
+    // in both, so that the keys are the same where those of the changed ones are.
+    fn has_as_many_as(&self, before: &Document) -> bool
         requires { (s : State) × IsDocumentOf before.now s × LeadsTo s self.now }
         ensures { result ≡ true → (es : List (List ℕ × Flag)) × Outlines before.now es
-            × SameButChanged before.now.revision es (map.entries self.now.flags) }
+            × HasAsMany before.now.revision es (map.entries self.now.flags) }
     {
-        if before.count() != self.len() {
-            return false;
-        }
-        let edits = self.revision.saturating_sub(before.revision());
-        are_changed_after(&self.flags, before.revision(), edits)
+        before.count() == self.len()
     }
 
     /// An equal set, which shares the definitions.
@@ -213,6 +226,7 @@ impl FlagSet {
             revision: self.revision,
             limit: self.limit,
             size: self.size,
+            marks_one: self.marks_one,
             alloc: self.alloc,
         })
     }
@@ -242,7 +256,7 @@ impl FlagSet {
         requires { refusal self.old (proposal_of edit) ≡ None }
         ensures admitted { OnOk result (Admits self.old (proposal_of edit) (accepted self.new)) }
         ensures revision { IfOk result (λ r. r ≡ self.new.revision) }
-        ensures put { OnErr result (is_put (change_of edit) ≡ true) }
+        ensures put { OnErr result (any_put (parts (change_of edit)) ≡ true) }
         ensures given_back { IfErr result (λ e. e ≡ edit) }
         ensures unchanged { OnErr result (self.new ≡ self.old) }
     {
@@ -255,7 +269,32 @@ impl FlagSet {
                 self.remove(&key);
                 Ok(self.revision)
             }
+            Edit::Set(changes) => match self.make_all(changes) {
+                Ok(()) => Ok(self.revision),
+                Err(changes) => Err(Edit::Set(changes)),
+            },
         }
+    }
+
+    // Makes all changes of a set, or none. Whatever takes memory comes first: each new key gets its
+    // flag.
+    fn make_all(&mut self, changes: Changes) -> Result<(), Changes>
+        requires { refusal self.old (joint changes) ≡ None }
+        ensures made { OnOk result (self.new ≡ next self.old (set (parts_of changes))) }
+        ensures put { OnErr result (any_put (parts_of changes) ≡ true) }
+        ensures given_back { IfErr result (λ c. c ≡ changes) }
+        ensures unchanged { OnErr result (self.new ≡ self.old) }
+    {
+        let revision = self.revision + 1;
+        let marks_one = changes.as_slice().len() == 1;
+        let Ok(added) = add_new(&mut self.flags, changes.as_slice(), revision) else {
+            return Err(changes);
+        };
+        let (come, gone) = replace_all(&mut self.flags, changes.into_changes(), revision);
+        self.size = (self.size as u128 + added + come - gone) as u64;
+        self.revision = revision;
+        self.marks_one = marks_one;
+        Ok(())
     }
 
     /// Brings back a flag that an image holds, with the revision that changed it last. This is no
@@ -297,8 +336,8 @@ impl FlagSet {
 
     fn put(&mut self, key: FlagKey, flag: Definition) -> Result<(), (FlagKey, Definition)>
         requires revision { has_revision self.old ≡ true }
-        requires room { has_room self.old (put (key_bytes key) flag) ≡ true }
-        ensures put { OnOk result (self.new ≡ next self.old (put (key_bytes key) flag)) }
+        requires room { has_room self.old (one (put (key_bytes key) flag)) ≡ true }
+        ensures put { OnOk result (self.new ≡ next self.old (one (put (key_bytes key) flag))) }
         ensures unchanged { OnErr result (self.new ≡ self.old) }
         ensures given_back { IfErr result (λ p. p ≡ (key, flag)) }
     {
@@ -336,17 +375,19 @@ impl FlagSet {
         let cost = cost_of(&key, &flag.definition);
         let before = store(&mut self.flags, key, flag)?;
         self.size = (self.size as u128 + cost - before) as u64;
+        self.marks_one = self.revision < revision;
         self.revision = revision;
         Ok(())
     }
 
     fn remove(&mut self, key: &FlagKey)
         requires { has_revision self.old ≡ true }
-        ensures { self.new ≡ next self.old (delete (key_bytes key.now)) }
+        ensures { self.new ≡ next self.old (one (delete (key_bytes key.now))) }
     {
         let gone = cost_at(&self.flags, key) as u64;
         take(&mut self.flags, key);
         self.size -= gone;
         self.revision += 1;
+        self.marks_one = true;
     }
 }

@@ -1,32 +1,41 @@
 //! Edits that follow one another, whatever their editors expected.
 
 ghost use Rattle.std.specs.Prelude.{◌≡◌, ◌↔◌, length, vec_len, IfOk, IfSome, IfNone, OnOk, IsTrue};
+ghost use Rattle.std.specs.Prelude.{MatchOption, None, map as list_map};
 ghost use Rattle.std.specs.FinMap as map;
 ghost use Rattle.fp_definition.specs.Key.{key_bytes};
-ghost use Rattle.fp_edit.specs.Edits.{changed_key, proposal_of};
+ghost use Rattle.fp_edit.specs.Admits.{next, refusal};
+ghost use Rattle.fp_edit.specs.Changes.{set_fault};
+ghost use Rattle.fp_edit.specs.Edits.{proposal_of, set};
+ghost use Rattle.fp_edit.specs.Parts.{parts_of, proposed_of};
 ghost use Rattle.fp_edit.specs.Flags.{State, cost_found};
 ghost use Rattle.fp_edit.specs.Following.{Follows, IsTallyOf, change_of, changes_of};
 ghost use Rattle.fp_edit.specs.Following.{unconditional};
 ghost use Rattle.fp_edit.specs.Log.{after_all};
 
-use crate::edit::{Edit, Expect};
+use crate::edit::{Change, Edit, Expect};
 use crate::flag_set::FlagSet;
-use crate::tally::{Tally, judged, key_cost};
+use crate::tally::{Sums, Tally, judged_delete, judged_put, judged_sums, key_cost, sums_after};
 use fp_definition::FlagKey;
 use std::alloc::{AllocError, Global};
 use std::collections::VecDeque;
 
-impl Edit {
-    /// The key whose flag it changes.
-    pub fn key(&self) -> &FlagKey
-        ensures { key_bytes result.now ≡ changed_key (change_of self.now) }
-    {
-        match self {
-            Edit::Put { key, .. } => key,
-            Edit::Delete { key, .. } => key,
+impl From<Change> for Edit {
+    ghost use Rattle.std.specs.Prelude.{◌≡◌};
+    ghost use Rattle.fp_edit.specs.Edits.{proposal_of, single};
+    ghost use Rattle.fp_edit.specs.Parts.{proposed_of};
+
+    ghost from_gives = { λ change edit. proposal_of edit ≡ single (proposed_of change) };
+
+    fn from(change: Change) -> Edit {
+        match change {
+            Change::Put { key, flag, expect } => Edit::Put { key, flag, expect },
+            Change::Delete { key, expect } => Edit::Delete { key, expect },
         }
     }
+}
 
+impl Edit {
     /// The same change, whatever its editor expected.
     pub fn unconditional(self) -> Edit
         ensures { proposal_of result ≡ unconditional (change_of self) }
@@ -35,6 +44,7 @@ impl Edit {
         match self {
             Edit::Put { key, flag, .. } => Edit::Put { key, flag, expect },
             Edit::Delete { key, .. } => Edit::Delete { key, expect },
+            Edit::Set(changes) => Edit::Set(changes.unconditional()),
         }
     }
 
@@ -52,6 +62,7 @@ impl Edit {
                 key: key.try_copy()?,
                 expect: *expect,
             }),
+            Edit::Set(changes) => Ok(Edit::Set(changes.try_copy()?)),
         }
     }
 }
@@ -125,25 +136,93 @@ impl FlagSet {
         ensures refused { IfNone result
             (Follows (after_all self.now (changes_of ahead.now)) (changes_of edits.now) → ⊥) }
     {
-        let limit = tally.limit;
-        let mut revision = tally.revision;
-        let mut count = tally.count;
-        let mut size = tally.size;
+        let mut now = tally;
         for i in 0..edits.len() {
-            let edit = &edits[i];
-            let key = edit.key();
-            let found = cost_after(&edits[..i], key, cost_after(ahead, key, self.cost_at(key)));
-            let (count_then, size_then) = judged(limit, revision, count, size, found, edit)?;
-            revision += 1;
-            count = count_then;
-            size = size_then;
+            now = self.judged_behind(ahead, &edits[..i], now, &edits[i])?;
         }
-        Some(Tally {
-            limit,
-            revision,
-            count,
-            size,
-        })
+        Some(now)
+    }
+
+    // The numbers behind an edit, where the set accepts it behind those of `ahead` and `before`,
+    // which lead to the numbers given.
+    fn judged_behind(
+        &self,
+        ahead: &[Edit],
+        before: &[Edit],
+        tally: Tally,
+        edit: &Edit,
+    ) -> Option<Tally>
+        requires { IsTallyOf tally
+            (after_all (after_all self.now (changes_of ahead.now)) (changes_of before.now)) }
+        ensures { MatchOption result
+            (refusal (after_all (after_all self.now (changes_of ahead.now)) (changes_of before.now))
+            (unconditional (change_of edit.now)) ≡ None → ⊥)
+            (λ t. (refusal
+            (after_all (after_all self.now (changes_of ahead.now)) (changes_of before.now))
+            (unconditional (change_of edit.now)) ≡ None)
+            × IsTallyOf t (next
+            (after_all (after_all self.now (changes_of ahead.now)) (changes_of before.now))
+            (change_of edit.now))) }
+    {
+        match edit {
+            Edit::Put { key, flag, .. } => {
+                judged_put(tally, self.found_behind(ahead, before, key), key, flag)
+            }
+            Edit::Delete { key, .. } => {
+                judged_delete(tally, self.found_behind(ahead, before, key), key)
+            }
+            Edit::Set(changes) => self.judged_set(ahead, before, tally, changes.as_slice()),
+        }
+    }
+
+    // What a key's flag takes behind those edits.
+    fn found_behind(&self, ahead: &[Edit], before: &[Edit], key: &FlagKey) -> u128
+        ensures { result ≡ cost_found (key_bytes key.now) (map.get
+            (after_all (after_all self.now (changes_of ahead.now)) (changes_of before.now)).flags
+            (key_bytes key.now)) }
+    {
+        cost_after(before, key, cost_after(ahead, key, self.cost_at(key)))
+    }
+
+    // The same of the changes of a set.
+    fn judged_set(
+        &self,
+        ahead: &[Edit],
+        before: &[Edit],
+        tally: Tally,
+        changes: &[Change],
+    ) -> Option<Tally>
+        requires tally { IsTallyOf tally
+            (after_all (after_all self.now (changes_of ahead.now)) (changes_of before.now)) }
+        requires lawful { set_fault (parts_of (list_map proposed_of changes.now)) ≡ None }
+        ensures { MatchOption result
+            (refusal (after_all (after_all self.now (changes_of ahead.now)) (changes_of before.now))
+            (unconditional (set (parts_of (list_map proposed_of changes.now)))) ≡ None → ⊥)
+            (λ t. (refusal
+            (after_all (after_all self.now (changes_of ahead.now)) (changes_of before.now))
+            (unconditional (set (parts_of (list_map proposed_of changes.now)))) ≡ None)
+            × IsTallyOf t (next
+            (after_all (after_all self.now (changes_of ahead.now)) (changes_of before.now))
+            (set (parts_of (list_map proposed_of changes.now))))) }
+    {
+        let mut sums = Sums {
+            count: tally.count as u128,
+            size: tally.size as u128,
+        };
+        let mut is_bound = false;
+        for change in changes {
+            let found = self.found_behind(ahead, before, change.key());
+            match change {
+                Change::Put { .. } => is_bound = true,
+                Change::Delete { .. } => {
+                    if found == 0 {
+                        return None;
+                    }
+                }
+            }
+            sums = sums_after(sums, change, found);
+        }
+        judged_sums(tally, sums, is_bound)
     }
 
     /// Takes into the set the edits that are ahead of it. Where memory is wanting it

@@ -2,6 +2,7 @@
 //! show sets.
 #![tactic(auto)]
 
+mod changes;
 mod document;
 mod edit;
 mod flag_set;
@@ -12,12 +13,16 @@ mod laws;
 mod line;
 mod tally;
 
+pub use changes::{
+    Changes, DELETE_FRAME, LONGEST_EDIT, MOST_CHANGES, PUT_FRAME, SET_FRAME, SetFault, delete_len,
+    put_len,
+};
 pub use document::Document;
-pub use edit::{Edit, EditFault, Expect, REVISIONS_END};
+pub use edit::{Change, Edit, EditFault, Expect, REVISIONS_END};
 pub use flag_set::{FlagSet, MOST_FLAGS};
 pub use flags::{FLAG_FRAME, Flag, IMAGE_HEAD};
 pub use following::copies_of;
 pub use laws::{
     one_outcome, refusals_leave_no_trace, revisions_count_edits, sets_keep_their_limit,
 };
-pub use line::{LONGEST_LINE, LineFault, parse_line};
+pub use line::{LONGEST_LINE, LineFault, PartFault, parse_line};

@@ -1,16 +1,19 @@
 //! Lines that spell edits.
 
-ghost use Rattle.std.specs.Prelude.{◌≡◌, Some, codes};
+ghost use Rattle.std.specs.Prelude.{◌≡◌, List, Some, Result, Ok, Err, codes, map, option_map};
+ghost use Rattle.serde_json.specs.Data.{array, object};
 ghost use Rattle.serde_json.specs.Find.{get};
 ghost use Rattle.fp_base.specs.Answer.{Gives};
-ghost use Rattle.fp_base.specs.Ordered.{IsOrdered};
-ghost use Rattle.fp_base.specs.TreeView.{tree_view, tree_members};
+ghost use Rattle.fp_base.specs.Ordered.{IsOrdered, AreOrdered};
+ghost use Rattle.fp_base.specs.TreeView.{tree_view, tree_items, tree_members};
 ghost use Rattle.fp_definition.specs.Key.{key_bytes};
 ghost use Rattle.fp_edit.specs.Edits.{proposal_of};
+ghost use Rattle.fp_edit.specs.Parts.{ProposedPart, proposed_of};
 ghost use Rattle.fp_edit.specs.Line as says;
-ghost use Rattle.fp_edit.specs.Spelled.{Tells};
+ghost use Rattle.fp_edit.specs.Spelled.{Tells, TellsPart};
 
-use crate::edit::{Edit, Expect, REVISIONS_END};
+use crate::changes::{Changes, is_count};
+use crate::edit::{Change, Edit, Expect, REVISIONS_END};
 use fp_base::{Tree, read_tree};
 use fp_definition::{DefFault, Definition, FlagKey, KeyFault, LONGEST_KEY};
 use json::Scratch;
@@ -20,20 +23,14 @@ use thiserror::Error;
 /// The most bytes that a line has, its newline not counted.
 pub const LONGEST_LINE: usize = 32_768;
 
-/// Why a line is no edit, in the order in which the faults are looked for.
+/// Why an object is no edit of one flag, in the order in which the faults are looked for.
 #[derive(Debug, Drop, Error)]
-pub enum LineFault {
-    /// The line has too many bytes.
-    #[error("the line is longer than {LONGEST_LINE} bytes")]
-    TooLong,
-    /// The line is no JSON.
-    #[error("the line is no JSON")]
-    NotJson,
-    /// The line is JSON, and no object.
-    #[error("the line is no JSON object")]
+pub enum PartFault {
+    /// It is no object.
+    #[error("it is no JSON object")]
     NotObject,
     /// A member has a name that no member of an edit has.
-    #[error("the line has a member of another name than `flag`, `if`, `key` and `op`")]
+    #[error("it has a member of another name than `flag`, `if`, `key` and `op`")]
     BadMember,
     /// `op` isn't there, or is no operation.
     #[error("`op` is neither `put` nor `delete`")]
@@ -48,6 +45,47 @@ pub enum LineFault {
     /// `DefFault::Memory`.
     #[error("`flag` is no definition: {0}")]
     BadFlag(DefFault),
+    /// Memory ran out.
+    #[error("memory ran out")]
+    Memory,
+}
+
+/// Why a line is no edit, in the order in which the faults are looked for.
+#[derive(Debug, Drop, Error)]
+pub enum LineFault {
+    /// The line has too many bytes.
+    #[error("the line is longer than {LONGEST_LINE} bytes")]
+    TooLong,
+    /// The line is no JSON.
+    #[error("the line is no JSON")]
+    NotJson,
+    /// The line is JSON, and no object.
+    #[error("the line is no JSON object")]
+    NotObject,
+    /// A member has a name that no member of such an edit has.
+    #[error("the line has a member that its edit has not")]
+    BadMember,
+    /// `op` isn't there, or is no operation.
+    #[error("`op` is neither `put`, `delete` nor `set`")]
+    BadOp,
+    /// `key` isn't there, or is no key.
+    #[error("`key` is no text of 1 to {LONGEST_KEY} bytes")]
+    BadKey,
+    /// `if` is there, and is no expectation.
+    #[error("`if` is neither `any`, `absent` nor a revision")]
+    BadIf,
+    /// `flag` is no definition. Without a `flag` the fault is `NotObject`. It is never
+    /// `DefFault::Memory`.
+    #[error("`flag` is no definition: {0}")]
+    BadFlag(DefFault),
+    /// `edits` is no list of changes that can be made together: 1 to 64, each key once, and not too
+    /// long in a batch.
+    #[error("`edits` is no list of changes that can be made together")]
+    BadSet,
+    /// The change at this place of `edits`, from 0 on and the first that has a fault, is no edit of
+    /// one flag. The fault is never `PartFault::Memory`.
+    #[error("change {at} of `edits`: {fault}")]
+    InSet { at: usize, fault: PartFault },
     /// Memory ran out.
     #[error("memory ran out")]
     Memory,
@@ -91,10 +129,147 @@ fn edit_in(alloc: Global, tree: &Tree<'_>) -> Result<Edit, LineFault>
     let Tree::Object(members) = tree else {
         return Err(LineFault::NotObject);
     };
-    if !all_known(members) {
+    let op = tree.get("op");
+    if is_set(op) {
+        return set_in(alloc, tree, members);
+    }
+    match change_in(alloc, tree, op) {
+        Ok(change) => Ok(Edit::from(change)),
+        Err(fault) => Err(line_fault(fault)),
+    }
+}
+
+// The fault of a line whose edit of one flag has this one.
+fn line_fault(fault: PartFault) -> LineFault
+    ensures { (said : Result ProposedPart says.Fault) → TellsPart fault (λ f. said ≡ Err f)
+        → Tells result (λ f. said ≡ Err f) }
+{
+    match fault {
+        PartFault::NotObject => LineFault::NotObject,
+        PartFault::BadMember => LineFault::BadMember,
+        PartFault::BadOp => LineFault::BadOp,
+        PartFault::BadKey => LineFault::BadKey,
+        PartFault::BadIf => LineFault::BadIf,
+        PartFault::BadFlag(fault) => LineFault::BadFlag(fault),
+        PartFault::Memory => LineFault::Memory,
+    }
+}
+
+// ---- sets of changes
+
+// Whether `op`, as it was found, says that it is a set of changes.
+fn is_set(op: Option<&Tree<'_>>) -> bool
+    ensures { result ≡ says.is_set_text (option_map (λ t. tree_view t.now) op.entry) }
+{
+    matches!(op, Some(Tree::String(text)) if *text == "set")
+}
+
+#[tactic(auto, using(fp_base::proofs::Inside::ordered_get), unfolding(crate::specs::Line::set_of))]
+fn set_in(alloc: Global, tree: &Tree<'_>, members: &[(&str, Tree<'_>)]) -> Result<Edit, LineFault>
+    requires ordered { IsOrdered (tree_view tree.now) }
+    requires same { tree_view tree.now ≡ object (tree_members members.now) }
+    ensures { Gives proposal_of Tells result (says.set_in (tree_members members.now)) }
+{
+    if !all_known_in_set(members) {
         return Err(LineFault::BadMember);
     }
-    edit_of_members(alloc, tree)
+    match tree.get("edits") {
+        Some(edits) => set_of(alloc, edits),
+        None => Err(LineFault::BadSet),
+    }
+}
+
+fn all_known_in_set(members: &[(&str, Tree<'_>)]) -> bool
+    ensures { result ≡ says.all_known_in_set (tree_members members.now) }
+{
+    for member in members {
+        if member.0 != "edits" && member.0 != "op" {
+            return false;
+        }
+    }
+    true
+}
+
+// The set of the changes that `edits` lists.
+#[tactic(auto, unfolding(crate::specs::Line::set_of))]
+fn set_of(alloc: Global, edits: &Tree<'_>) -> Result<Edit, LineFault>
+    requires { IsOrdered (tree_view edits.now) }
+    ensures { Gives proposal_of Tells result (says.set_of (Some (tree_view edits.now))) }
+{
+    match edits {
+        Tree::Array(items) => set_of_items(alloc, items),
+        _ => Err(LineFault::BadSet),
+    }
+}
+
+// The set of the changes that these are.
+fn set_of_items(alloc: Global, items: &[Tree<'_>]) -> Result<Edit, LineFault>
+    requires { AreOrdered (tree_items items.now) }
+    ensures { Gives proposal_of Tells result (says.set_of (Some (array (tree_items items.now)))) }
+{
+    if !is_count(items.len()) {
+        return Err(LineFault::BadSet);
+    }
+    let changes = changes_in(alloc, items)?;
+    match Changes::new(changes) {
+        Ok(changes) => Ok(Edit::Set(changes)),
+        Err(_) => Err(LineFault::BadSet),
+    }
+}
+
+// The changes, or the fault of the first that is none.
+fn changes_in(alloc: Global, items: &[Tree<'_>]) -> Result<Vec<Change>, LineFault>
+    requires { AreOrdered (tree_items items.now) }
+    ensures { Gives (λ changes. map proposed_of changes.items) Tells result
+        (says.parts_from 0 (tree_items items.now)) }
+{
+    let mut changes = Vec::with_capacity(alloc, items.len())?;
+    for (at, item) in items.iter().enumerate() {
+        match change_inside(alloc, item) {
+            Ok(change) => changes.push_reserved(change),
+            Err(fault) => return Err(fault_in_set(at, fault)),
+        }
+    }
+    Ok(changes)
+}
+
+// The fault of a line whose change at this place has this one.
+fn fault_in_set(at: usize, fault: PartFault) -> LineFault
+    ensures { (said : Result (List ProposedPart) says.Fault)
+        → TellsPart fault (λ f. said ≡ Err (says.in_set at f)) → Tells result (λ f. said ≡ Err f) }
+{
+    match fault {
+        PartFault::Memory => LineFault::Memory,
+        fault => LineFault::InSet { at, fault },
+    }
+}
+
+fn change_inside(alloc: Global, tree: &Tree<'_>) -> Result<Change, PartFault>
+    requires { IsOrdered (tree_view tree.now) }
+    ensures { Gives proposed_of TellsPart result (says.part_inside (tree_view tree.now)) }
+{
+    let op = tree.get("op");
+    if is_set(op) {
+        return Err(PartFault::BadOp);
+    }
+    change_in(alloc, tree, op)
+}
+
+// ---- edits of one flag
+
+// The change to one flag that an object with this `op` is.
+fn change_in(alloc: Global, tree: &Tree<'_>, op: Option<&Tree<'_>>) -> Result<Change, PartFault>
+    requires ordered { IsOrdered (tree_view tree.now) }
+    requires op { option_map (λ t. tree_view t.now) op ≡ get (codes "op") (tree_view tree.now) }
+    ensures { Gives proposed_of TellsPart result (says.part_in (tree_view tree.now)) }
+{
+    let Tree::Object(members) = tree else {
+        return Err(PartFault::NotObject);
+    };
+    if !all_known(members) {
+        return Err(PartFault::BadMember);
+    }
+    change_with(alloc, tree, op)
 }
 
 fn all_known(members: &[(&str, Tree<'_>)]) -> bool
@@ -114,112 +289,111 @@ fn is_known(name: &str) -> bool
     name == "flag" || name == "if" || name == "key" || name == "op"
 }
 
-#[tactic(auto, unfolding(crate::specs::Line::parts_of))]
-fn edit_of_members(alloc: Global, tree: &Tree<'_>) -> Result<Edit, LineFault>
-    requires { IsOrdered (tree_view tree.now) }
-    ensures { Gives proposal_of Tells result (says.parts_of (tree_view tree.now)) }
+// The change that known members make, with this `op`.
+#[tactic(auto, unfolding(crate::specs::Line::part_of))]
+fn change_with(alloc: Global, tree: &Tree<'_>, op: Option<&Tree<'_>>) -> Result<Change, PartFault>
+    requires ordered { IsOrdered (tree_view tree.now) }
+    requires op { option_map (λ t. tree_view t.now) op ≡ get (codes "op") (tree_view tree.now) }
+    ensures { Gives proposed_of TellsPart result (says.part_of (tree_view tree.now)) }
 {
-    let op = op_of(tree)?;
+    let op = op_of(op)?;
     let key = key_of(alloc, tree)?;
     let expect = expect_of(tree)?;
     match op {
-        Op::Delete => Ok(Edit::Delete { key, expect }),
+        Op::Delete => Ok(Change::Delete { key, expect }),
         Op::Put => {
             let flag = flag_of(alloc, tree)?;
-            Ok(Edit::Put { key, flag, expect })
+            Ok(Change::Put { key, flag, expect })
         }
     }
 }
 
-fn op_of(tree: &Tree<'_>) -> Result<Op, LineFault>
-    ensures { Gives (λ op. op) Tells result (says.op_of (get (codes "op") (tree_view tree.now))) }
+fn op_of(op: Option<&Tree<'_>>) -> Result<Op, PartFault>
+    ensures { Gives (λ op. op) TellsPart result
+        (says.op_of (option_map (λ t. tree_view t.now) op.entry)) }
 {
-    match tree.get("op") {
+    match op {
         Some(Tree::String(text)) => op_by_name(text),
-        _ => Err(LineFault::BadOp),
+        _ => Err(PartFault::BadOp),
     }
 }
 
-fn op_by_name(text: &str) -> Result<Op, LineFault>
-    ensures { Gives (λ op. op) Tells result (says.op_by_name text.now) }
+fn op_by_name(text: &str) -> Result<Op, PartFault>
+    ensures { Gives (λ op. op) TellsPart result (says.op_by_name text.now) }
 {
-    if text == "put" {
-        Ok(Op::Put)
-    } else if text == "delete" {
-        Ok(Op::Delete)
-    } else {
-        Err(LineFault::BadOp)
+    match text {
+        "put" => Ok(Op::Put),
+        "delete" => Ok(Op::Delete),
+        _ => Err(PartFault::BadOp),
     }
 }
 
-fn key_of(alloc: Global, tree: &Tree<'_>) -> Result<FlagKey, LineFault>
-    ensures { Gives key_bytes Tells result (says.key_of (get (codes "key") (tree_view tree.now))) }
+fn key_of(alloc: Global, tree: &Tree<'_>) -> Result<FlagKey, PartFault>
+    ensures { Gives key_bytes TellsPart result (says.key_of (get (codes "key") (tree_view tree.now))) }
 {
     match tree.get("key") {
         Some(Tree::String(text)) => match FlagKey::new(alloc, text) {
             Ok(key) => Ok(key),
-            Err(KeyFault::BadKey) => Err(LineFault::BadKey),
-            Err(KeyFault::Memory) => Err(LineFault::Memory),
+            Err(KeyFault::BadKey) => Err(PartFault::BadKey),
+            Err(KeyFault::Memory) => Err(PartFault::Memory),
         },
-        _ => Err(LineFault::BadKey),
+        _ => Err(PartFault::BadKey),
     }
 }
 
-fn expect_of(tree: &Tree<'_>) -> Result<Expect, LineFault>
-    ensures { Gives (λ expect. expect) Tells result
+fn expect_of(tree: &Tree<'_>) -> Result<Expect, PartFault>
+    ensures { Gives (λ expect. expect) TellsPart result
         (says.expect_of (get (codes "if") (tree_view tree.now))) }
 {
     match tree.get("if") {
         None | Some(Tree::Null) => Ok(Expect::Any),
         Some(Tree::String(text)) => expect_by_name(text),
         Some(Tree::Number(number)) => expect_at(number.as_u64()),
-        Some(_) => Err(LineFault::BadIf),
+        Some(_) => Err(PartFault::BadIf),
     }
 }
 
-fn expect_by_name(text: &str) -> Result<Expect, LineFault>
-    ensures { Gives (λ expect. expect) Tells result (says.expect_by_name text.now) }
+fn expect_by_name(text: &str) -> Result<Expect, PartFault>
+    ensures { Gives (λ expect. expect) TellsPart result (says.expect_by_name text.now) }
 {
-    if text == "any" {
-        Ok(Expect::Any)
-    } else if text == "absent" {
-        Ok(Expect::Absent)
-    } else {
-        Err(LineFault::BadIf)
+    match text {
+        "any" => Ok(Expect::Any),
+        "absent" => Ok(Expect::Absent),
+        _ => Err(PartFault::BadIf),
     }
 }
 
-fn expect_at(revision: Option<u64>) -> Result<Expect, LineFault>
-    ensures { Gives (λ expect. expect) Tells result (says.expect_at revision) }
+fn expect_at(revision: Option<u64>) -> Result<Expect, PartFault>
+    ensures { Gives (λ expect. expect) TellsPart result (says.expect_at revision) }
 {
     match revision {
         Some(n) if 0 < n && n < REVISIONS_END => Ok(Expect::At(n)),
-        _ => Err(LineFault::BadIf),
+        _ => Err(PartFault::BadIf),
     }
 }
 
 #[tactic(auto, using(fp_base::proofs::Inside::ordered_get), unfolding(crate::specs::Line::flag_of))]
-fn flag_of(alloc: Global, tree: &Tree<'_>) -> Result<Definition, LineFault>
+fn flag_of(alloc: Global, tree: &Tree<'_>) -> Result<Definition, PartFault>
     requires { IsOrdered (tree_view tree.now) }
-    ensures { Gives (λ definition. definition) Tells result
+    ensures { Gives (λ definition. definition) TellsPart result
         (says.flag_of (get (codes "flag") (tree_view tree.now))) }
 {
     match tree.get("flag") {
-        None => Err(LineFault::BadFlag(DefFault::NotObject)),
+        None => Err(PartFault::BadFlag(DefFault::NotObject)),
         Some(flag) => definition_in(alloc, flag),
     }
 }
 
 // The definition that the member `flag` is.
 #[tactic(auto, unfolding(crate::specs::Line::flag_of))]
-fn definition_in(alloc: Global, flag: &Tree<'_>) -> Result<Definition, LineFault>
+fn definition_in(alloc: Global, flag: &Tree<'_>) -> Result<Definition, PartFault>
     requires { IsOrdered (tree_view flag.now) }
-    ensures { Gives (λ definition. definition) Tells result
+    ensures { Gives (λ definition. definition) TellsPart result
         (says.flag_of (Some (tree_view flag.now))) }
 {
     match Definition::from_tree(alloc, flag) {
         Ok(definition) => Ok(definition),
-        Err(DefFault::Memory) => Err(LineFault::Memory),
-        Err(fault) => Err(LineFault::BadFlag(fault)),
+        Err(DefFault::Memory) => Err(PartFault::Memory),
+        Err(fault) => Err(PartFault::BadFlag(fault)),
     }
 }

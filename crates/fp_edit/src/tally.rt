@@ -1,18 +1,22 @@
 //! The numbers of a set that its limits bind, and what an edit makes of them.
 
-ghost use Rattle.std.specs.Prelude.{◌≡◌, ◌+◌, ◌<◌, ◌≤◌, ◌^◌, ◌⊎◌, ◌↔◌, None, IfSome, IfNone};
-ghost use Rattle.std.specs.Prelude.{IsTrue};
+ghost use Rattle.std.specs.Prelude.{◌≡◌, ◌+◌, ◌<◌, ◌≤◌, ◌^◌, ◌⊎◌, ℕ, List, None, false, true};
+ghost use Rattle.std.specs.Prelude.{IfNone, IfSome, MatchOption, bytes_eq, map as list_map};
 ghost use Rattle.std.specs.FinMap as map;
 ghost use Rattle.fp_definition.specs.Key.{key_bytes};
-ghost use Rattle.fp_edit.specs.Admits.{next, refusal};
-ghost use Rattle.fp_edit.specs.Edits.{changed_key};
-ghost use Rattle.fp_edit.specs.Flags.{State, cost_found};
-ghost use Rattle.fp_edit.specs.Following.{Tallies, change_of, unconditional};
+ghost use Rattle.fp_edit.specs.Admits.{flags_after, has_revision, has_room, next, part_after};
+ghost use Rattle.fp_edit.specs.Admits.{parts_after, refusal};
+ghost use Rattle.fp_edit.specs.Changes.{are_distinct};
+ghost use Rattle.fp_edit.specs.Edits.{one, set};
+ghost use Rattle.fp_edit.specs.Parts.{Part, any_put, delete, keys_of, part_key, parts_of};
+ghost use Rattle.fp_edit.specs.Parts.{proposed_of, put};
+ghost use Rattle.fp_edit.specs.Flags.{Flags, State, cost_found, size as size_of};
+ghost use Rattle.fp_edit.specs.Following.{IsTallyOf, change_of, unconditional};
 
-use crate::edit::{Edit, REVISIONS_END};
+use crate::edit::{Change, Edit, REVISIONS_END};
 use crate::flag_set::MOST_FLAGS;
 use crate::flags::cost_of;
-use fp_definition::FlagKey;
+use fp_definition::{Definition, FlagKey};
 
 // These numbers.
 #[derive(Clone, Copy)]
@@ -23,11 +27,10 @@ pub(crate) struct Tally {
     pub(crate) size: u64,
 }
 
-// Whether it is the key of the edit.
-fn is_key_of(edit: &Edit, key: &FlagKey) -> bool
-    ensures { IsTrue result ↔ (changed_key (change_of edit.now) ≡ key_bytes key.now) }
+fn are_same(key: &FlagKey, other: &FlagKey) -> bool
+    ensures { result ≡ bytes_eq (key_bytes key.now) (key_bytes other.now) }
 {
-    edit.key().as_str() == key.as_str()
+    key.as_str() == other.as_str()
 }
 
 // What a key's flag takes after an edit, where it took that much before.
@@ -37,12 +40,78 @@ pub(crate) fn key_cost(edit: &Edit, key: &FlagKey, before: u128) -> u128
         → result ≡ cost_found (key_bytes key.now)
         (map.get (next s (change_of edit.now)).flags (key_bytes key.now)) }
 {
-    if !is_key_of(edit, key) {
-        return before;
-    }
     match edit {
-        Edit::Put { flag, .. } => cost_of(key, flag),
-        Edit::Delete { .. } => 0,
+        Edit::Put { key: its, flag, .. } => {
+            if are_same(key, its) {
+                return cost_of(key, flag);
+            }
+            before
+        }
+        Edit::Delete { key: its, .. } => {
+            if are_same(key, its) {
+                return 0;
+            }
+            before
+        }
+        Edit::Set(changes) => cost_in_set(changes.as_slice(), key, before),
+    }
+}
+
+// What a key's flag takes after the changes of a set, where it took that much before. No key is
+// there twice.
+fn cost_in_set(changes: &[Change], key: &FlagKey, before: u128) -> u128
+    requires { are_distinct (keys_of changes.now) ≡ true }
+    ensures { (revision : ℕ) (flags : Flags) → before ≡ cost_found (key_bytes key.now)
+        (map.get flags (key_bytes key.now))
+        → result ≡ cost_found (key_bytes key.now) (map.get
+        (parts_after revision flags (parts_of (list_map proposed_of changes.now)))
+        (key_bytes key.now)) }
+{
+    for change in changes {
+        if are_same(key, change.key()) {
+            return match change {
+                Change::Put { flag, .. } => cost_of(key, flag),
+                Change::Delete { .. } => 0,
+            };
+        }
+    }
+    before
+}
+
+// The number of flags and the bytes of their image, while the changes of a set are made.
+#[derive(Clone, Copy)]
+pub(crate) struct Sums {
+    pub(crate) count: u128,
+    pub(crate) size: u128,
+}
+
+// The same after a change to a key whose flag takes `found` bytes.
+pub(crate) fn sums_after(sums: Sums, change: &Change, found: u128) -> Sums
+    requires found { found ≤ sums.size }
+    requires some { 0 < found → 0 < sums.count }
+    requires small { (sums.count < 2 ^ 100) × (sums.size < 2 ^ 100) }
+    ensures grown { (result.count ≤ sums.count + 1) × (result.size ≤ sums.size + 2 ^ 66) }
+    ensures after { (revision : ℕ) (flags : Flags) → sums.count ≡ map.len flags
+        → sums.size ≡ size_of flags
+        → found ≡ cost_found (part_key (proposed_of change.now).part)
+        (map.get flags (part_key (proposed_of change.now).part))
+        → (result.count ≡ map.len (part_after revision flags (proposed_of change.now).part))
+        × (result.size ≡ size_of (part_after revision flags (proposed_of change.now).part)) }
+    ensures most { found ≡ 0 → (revision : ℕ) (flags : Flags) → map.len flags ≤ sums.count
+        → size_of flags ≤ sums.size
+        → (map.len (part_after revision flags (proposed_of change.now).part) ≤ result.count)
+        × (size_of (part_after revision flags (proposed_of change.now).part) ≤ result.size) }
+{
+    let there = u128::from(found > 0);
+    match change {
+        Change::Put { key, flag, .. } => Sums {
+            count: sums.count + 1 - there,
+            size: sums.size + cost_of(key, flag) - found,
+        },
+        Change::Delete { .. } => Sums {
+            count: sums.count - there,
+            size: sums.size - found,
+        },
     }
 }
 
@@ -68,38 +137,85 @@ fn with_flag(limit: u64, count: usize, size: u64, found: u128, cost: u128) -> Op
     Some((count as usize, size as u64))
 }
 
-// The numbers after an edit to a key whose flag takes `found` bytes, if the set of these numbers
+// The numbers after a put to a key whose flag takes `found` bytes, if the set of these numbers
 // accepts it whatever its editor expected.
-pub(crate) fn judged(
-    limit: u64,
-    revision: u64,
-    count: usize,
-    size: u64,
+pub(crate) fn judged_put(
+    tally: Tally,
     found: u128,
-    edit: &Edit,
-) -> Option<(usize, u64)>
-    requires found { found ≤ size }
-    requires some { 0 < found → 0 < count }
-    ensures accepted { (s : State) → Tallies limit revision count size s
-        → found ≡ cost_found (changed_key (change_of edit.now))
-        (map.get s.flags (changed_key (change_of edit.now)))
-        → IfSome result (λ n. (refusal s (unconditional (change_of edit.now)) ≡ None)
-        × Tallies limit (revision + 1) n.0 n.1 (next s (change_of edit.now))) }
-    ensures refused { (s : State) → Tallies limit revision count size s
-        → found ≡ cost_found (changed_key (change_of edit.now))
-        (map.get s.flags (changed_key (change_of edit.now)))
-        → IfNone result (refusal s (unconditional (change_of edit.now)) ≡ None → ⊥) }
+    key: &FlagKey,
+    flag: &Definition,
+) -> Option<Tally>
+    requires found { found ≤ tally.size }
+    requires some { 0 < found → 0 < tally.count }
+    ensures { (s : State) → IsTallyOf tally s
+        → found ≡ cost_found (key_bytes key.now) (map.get s.flags (key_bytes key.now))
+        → MatchOption result
+        (refusal s (unconditional (one (put (key_bytes key.now) flag.now))) ≡ None → ⊥)
+        (λ t. (refusal s (unconditional (one (put (key_bytes key.now) flag.now))) ≡ None)
+        × IsTallyOf t (next s (one (put (key_bytes key.now) flag.now)))) }
 {
-    if revision >= REVISIONS_END - 1 {
+    if tally.revision >= REVISIONS_END - 1 {
         return None;
     }
-    match edit {
-        Edit::Put { key, flag, .. } => with_flag(limit, count, size, found, cost_of(key, flag)),
-        Edit::Delete { .. } => {
-            if found == 0 {
-                return None;
-            }
-            Some((count - 1, size - found as u64))
-        }
+    let (count, size) = with_flag(
+        tally.limit,
+        tally.count,
+        tally.size,
+        found,
+        cost_of(key, flag),
+    )?;
+    Some(Tally {
+        limit: tally.limit,
+        revision: tally.revision + 1,
+        count,
+        size,
+    })
+}
+
+// The same after a deletion at a key whose flag takes `found` bytes.
+pub(crate) fn judged_delete(tally: Tally, found: u128, key: &FlagKey) -> Option<Tally>
+    requires found { found ≤ tally.size }
+    requires some { 0 < found → 0 < tally.count }
+    ensures { (s : State) → IsTallyOf tally s
+        → found ≡ cost_found (key_bytes key.now) (map.get s.flags (key_bytes key.now))
+        → MatchOption result
+        (refusal s (unconditional (one (delete (key_bytes key.now)))) ≡ None → ⊥)
+        (λ t. (refusal s (unconditional (one (delete (key_bytes key.now)))) ≡ None)
+        × IsTallyOf t (next s (one (delete (key_bytes key.now))))) }
+{
+    if tally.revision >= REVISIONS_END - 1 || found == 0 {
+        return None;
     }
+    Some(Tally {
+        limit: tally.limit,
+        revision: tally.revision + 1,
+        count: tally.count - 1,
+        size: tally.size - found as u64,
+    })
+}
+
+// The numbers after changes that led to these sums, if there is a revision for them and the limits,
+// where these bind them, let them pass.
+pub(crate) fn judged_sums(tally: Tally, sums: Sums, is_bound: bool) -> Option<Tally>
+    requires fits { is_bound ≡ false → (sums.count ≤ tally.count) × (sums.size ≤ tally.size) }
+    ensures { (s : State) (ps : List Part) → IsTallyOf tally s → is_bound ≡ any_put ps
+        → sums.count ≡ map.len (flags_after s (set ps))
+        → sums.size ≡ size_of (flags_after s (set ps))
+        → MatchOption result
+        (has_room s (set ps) ≡ true → has_revision s ≡ true → ⊥)
+        (λ t. (has_room s (set ps) ≡ true) × (has_revision s ≡ true)
+        × IsTallyOf t (next s (set ps))) }
+{
+    if tally.revision >= REVISIONS_END - 1 {
+        return None;
+    }
+    if is_bound && (sums.count > MOST_FLAGS as u128 || sums.size > tally.limit as u128) {
+        return None;
+    }
+    Some(Tally {
+        limit: tally.limit,
+        revision: tally.revision + 1,
+        count: sums.count as usize,
+        size: sums.size as u64,
+    })
 }

@@ -18,7 +18,9 @@ use Rattle.fp_layout.specs.Size.{other_side, slot_of}
 use Rattle.fp_record.specs.Group.{Group}
 use Rattle.fp_record.specs.WellFormed.{IsBatch}
 use Rattle.fp_record.specs.Encoding.{encoding_of_batch}
-use Rattle.fp_recovery.specs.Stands.{TakesBatch, Leads, Spells, StandsFor}
+use Rattle.std.specs.List.{AllByRecursion}
+use Rattle.fp_slots.specs.declared.places.TheConstants.{VERSION}
+use Rattle.fp_recovery.specs.Stands.{IsAllowed, TakesBatch, Leads, Spells, StandsFor}
 use Rattle.fp_slots.specs.State.{HasBegun, IsEarly, IsGrowing, SlotsState, SamePlan}
 use Rattle.fp_slots.specs.declared.slots.Step.{Step}
 use Rattle.fp_compaction.specs.Batches.{HasRoomFor, tail_of, LeavesNext, LeavesSealed, KeepsNext, PlansNext}
@@ -26,7 +28,8 @@ use Rattle.fp_compaction.specs.Sets.{IsKeptIn, IsPlaced, IsPlannedFor}
 use Rattle.fp_group_commit.proofs.Fronts.{leads_all}
 use Rattle.fp_group_commit.specs.declared.fault.StoreFault.{StoreFault}
 use Rattle.fp_group_commit.specs.declared.fault.StoreFault.TheVariants as fault
-use Rattle.fp_group_commit.specs.Changes.{GoesOn, batch_len}
+use Rattle.fp_record.specs.Encoding.{batch_len}
+use Rattle.fp_group_commit.specs.Changes.{GoesOn}
 use Rattle.fp_group_commit.specs.Calls.{Breaks, IsStrange, RefusesBy, SameRoom, CallsDisk, MovesOn}
 use Rattle.fp_group_commit.specs.Tokens.{Identity, ReceiptState, IsReceipt}
 use Rattle.fp_group_commit.specs.Store.{StoreState, sealed_set, coming, Leaves, has_begun}
@@ -49,8 +52,8 @@ Moved s p t = record { store = s.store; sealed = s.sealed; staged = s.staged; st
 module _ {D : Type 0} (disk : Ghosts D) {s : StoreState D} {set : State} {first : ℕ} {ahead copies : List Change} (i : IsSound disk.honest disk.unsynced s set first ahead copies) where
   module _ (p : Phase) (t : SlotsState D) (same : SameBeside s.slots t) (bodies : t.journal.sealed ≡ s.slots.journal.sealed) (kept_is : disk.honest t.journal.disk → IsKeptIn (disk.unsynced t.journal.disk) t i.size (sealed_set s)) where
     plan_as : HasBegun t.step → IsPlan i.size (Moved s p t)
-    plan_as begun = let q = i.planned (subst (λ (x : Step). HasBegun x) same.4 begun) in let head = q.head in let front = q.front in let text = ap length same.5 in let at = same.6 in record {
-      spells = subst (λ (x : List ℕ). Spells i.size x (sealed_set s)) (sym same.5) q.spells;
+    plan_as begun = let q = i.planned (subst (λ (x : Step). HasBegun x) same.5 begun) in let head = q.head in let front = q.front in let text = ap length same.6 in let at = same.7 in record {
+      spells = subst (λ (x : List ℕ). (p : Spells i.size x (sealed_set s)) × (p.version ≡ VERSION)) (sym same.6) q.spells;
       head = omega (arith, head, at);
       front = omega (arith, front, text, at);
     }
@@ -64,14 +67,14 @@ module _ {D : Type 0} (disk : Ghosts D) {s : StoreState D} {set : State} {first 
       place = f.place;
       lawful = f.lawful;
       short = subst (λ (b : List ℕ). length b ≤ t.journal.slot.most) (sym staged) (subst (λ (x : Slot). length s.slots.journal.staged ≤ x.most) (sym same.0.1) f.short);
-      takes = subst (λ (b : List ℕ). TakesBatch (sealed_set s) b (coming s)) (sym staged) f.takes;
+      takes = subst (λ (v : ℕ). TakesBatch v (sealed_set s) t.journal.staged (coming s)) (sym same.3) (subst (λ (b : List ℕ). TakesBatch s.slots.version (sealed_set s) b (coming s)) (sym staged) f.takes);
       len = ap length staged ∙ f.len;
       fits = (let left = room_same s.slots.journal t.journal same.0.1 same.0.2 bodies in let l = ap length staged in let fits = f.fits in omega (arith, left, l, fits));
-      early = subst (λ (x : Step). IsEarly x) (sym same.4) f.early;
-      ready = λ growing. coming_same ∙ f.ready (subst (λ (x : Step). IsGrowing x) same.4 growing) ∙ sym (ap with_gate staged);
-      beside = λ growing. (let fits = f.beside (subst (λ (x : Step). IsGrowing x) same.4 growing) in
+      early = subst (λ (x : Step). IsEarly x) (sym same.5) f.early;
+      ready = λ growing. coming_same ∙ f.ready (subst (λ (x : Step). IsGrowing x) same.5 growing) ∙ sym (ap with_gate staged);
+      beside = λ growing. (let fits = f.beside (subst (λ (x : Step). IsGrowing x) same.5 growing) in
           subst (λ (x : Slot). x.start + length (t.text ++ OPEN ∷ with_length t.journal.staged) < x.stop) (sym same.1)
-          (subst (λ (x : List ℕ). s.slots.other.start + length (x ++ OPEN ∷ with_length t.journal.staged) < s.slots.other.stop) (sym same.5)
+          (subst (λ (x : List ℕ). s.slots.other.start + length (x ++ OPEN ∷ with_length t.journal.staged) < s.slots.other.stop) (sym same.6)
           (subst (λ (x : List ℕ). s.slots.other.start + length (s.slots.text ++ OPEN ∷ with_length x) < s.slots.other.stop) (sym staged) fits)));
     }
 
@@ -105,9 +108,9 @@ module _ {D : Type 0} (disk : Ghosts D) {s : StoreState D} {set : State} {first 
     StagedNow group = record { store = s.store; sealed = s.sealed; staged = group.changes; step = Staged; slots = t }
 
     pub sound_staged : (group : Group) (later : State) (left twice : List Change) → after_all later left ≡ after_all set ahead → Follows later left → left ≡ [] → twice ≡ group.changes → GoesOn (after_all set ahead) group → IsBatch group
-        → t.journal.staged ≡ encoding_of_batch group → length t.journal.staged ≡ batch_len group → HasRoomFor s.slots (batch_len group) → (IsGrowing t.step → t.coming ≡ with_gate t.journal.staged) → t.journal.phase ≡ Staged
+        → t.journal.staged ≡ encoding_of_batch group → length t.journal.staged ≡ batch_len group → HasRoomFor s.slots (batch_len group) → AllByRecursion (IsAllowed s.slots.version) group.changes → (IsGrowing t.step → t.coming ≡ with_gate t.journal.staged) → t.journal.phase ≡ Staged
         → IsSound disk.honest disk.unsynced (StagedNow group) later group.first left twice
-    sound_staged group later left twice keeps follows none copied on lawful spelled len has ready phase =
+    sound_staged group later left twice keeps follows none copied on lawful spelled len has allowed ready phase =
         let place : group.first ≡ (sealed_set s).revision + 1 = on.0 ∙ ap (λ (x : State). x.revision + 1) i.set_is in
         let goes_on : Follows (sealed_set s) group.changes = subst (λ (x : State). Follows x group.changes) i.set_is on.1 in
         let left_room = room_same s.slots.journal t.journal same.0.1 same.0.2 bodies in let short = has.short in let wide = has.fits in let most = ap (λ (x : Slot). x.most) same.0.1 in
@@ -126,19 +129,20 @@ module _ {D : Type 0} (disk : Ghosts D) {s : StoreState D} {set : State} {first 
             takes = record {
               group = group;
               lawful = lawful;
+              allowed = subst (λ (v : ℕ). AllByRecursion (IsAllowed v) group.changes) (sym same.3) allowed;
               spelled = spelled;
               follows = place;
               leads = subst (λ (x : State). Leads (sealed_set s) group.changes x) (sym (after-append s.store.start s.sealed group.changes)) (leads_all (sealed_set s) group.changes goes_on);
             };
             len = len;
             fits = omega (arith, len, left_room, wide);
-            early = subst (λ (x : Step). IsEarly x) (sym same.4) has.early;
+            early = subst (λ (x : Step). IsEarly x) (sym same.5) has.early;
             ready = ready;
             beside = λ growing.
-                (let q = i.planned (subst (λ (x : Step). HasBegun x) same.4 growing.0) in let head = q.head in let tail = has.tail (subst (λ (x : Step). HasBegun x) same.4 growing.0) in
+                (let q = i.planned (subst (λ (x : Step). HasBegun x) same.5 growing.0) in let head = q.head in let tail = has.tail (subst (λ (x : Step). HasBegun x) same.5 growing.0) in
                 let its : t.other ≡ slot_of i.size (other_side i.placed.side) = same.1 ∙ i.placed.its in
                 let wide_old = wide_of i.size (other_side i.placed.side) s.slots.other i.placed.its in
-                let large = i.placed.allowed.least in let text = ap length same.5 in
+                let large = i.placed.allowed.least in let text = ap length same.6 in
                 fits_other i.size (other_side i.placed.side) t.other t.text t.journal.staged its large (omega (arith, head, tail, wide_old, large, text, len)));
           });
           size = i.size;
@@ -273,7 +277,7 @@ module _ {D : Type 0} (disk : Ghosts D) {s : StoreState D} {set : State} {first 
 
   module _ {T : Type 0} {kind : CallKind} {to : Phase} {opens : Bool} {r : Result T DiskFault} (t : SlotsState D) (w : MovesBatch disk kind to opens s.slots t r) where
     pub sound_on : IsFlight s first ahead copies → t.journal.staged ≡ s.slots.journal.staged → (p : Phase) → IsOnWay p → (t.journal.phase ≡ p) ⊎ (t.journal.phase ≡ Failed) → IsSound disk.honest disk.unsynced (Moved s p t) set first ahead copies
-    sound_on f staged p way going = sound_moved disk i p t (beside_of s.slots t w.same) w.sealed (kept_on disk i t w.kept w.call.honest.1) f way staged w.same.8 going
+    sound_on f staged p way going = sound_moved disk i p t (beside_of s.slots t w.same) w.sealed (kept_on disk i t w.kept w.call.honest.1) f way staged w.same.9 going
 
     pub moves_on : {A : Type 0} {x : A} → s.slots.journal.phase ≢ Failed → to ≢ Failed → t.journal.phase ≡ to → disk.faults t.journal.disk ≡ disk.faults s.slots.journal.disk → MovesOn disk.faults to s (Moved s to t) (Ok x)
     moves_on well other phase no_failure = record {

@@ -17,6 +17,7 @@ use Rattle.fp_journal.specs.Chain.{with_length, with_gate}
 use Rattle.fp_journal.specs.State.{IsOnWay, JournalState, room}
 use Rattle.fp_journal.specs.State as journal
 use Rattle.fp_layout.specs.Size.{other_side, slot_of}
+use Rattle.fp_slots.specs.declared.places.TheConstants.{VERSION}
 use Rattle.fp_recovery.specs.Stands.{TakesBatch, Spells}
 use Rattle.fp_slots.specs.State.{HasBegun, IsEarly, SameSlots, SlotsState}
 use Rattle.fp_slots.specs.declared.places.TheConstants.{IMAGE_PLACE}
@@ -112,19 +113,19 @@ module _ {D : Type 0} (disk : Ghosts D) {s : StoreState D} {set : State} {first 
         place = f.place;
         lawful = f.lawful;
         short = subst (λ (b : List ℕ). length b ≤ t.journal.slot.most) (sym same.2) (subst (λ (x : Slot). length s.slots.journal.staged ≤ x.most) (sym same.0.1) f.short);
-        takes = subst (λ (b : List ℕ). TakesBatch (sealed_set s) b (coming s)) (sym same.2) f.takes;
+        takes = subst (λ (v : ℕ). TakesBatch v (sealed_set s) t.journal.staged (coming s)) (sym same.5) (subst (λ (b : List ℕ). TakesBatch s.slots.version (sealed_set s) b (coming s)) (sym same.2) f.takes);
         len = ap length same.2 ∙ f.len;
         fits = (let left = room_same s.slots.journal t.journal same.0.1 same.0.2 same.1 in let l = ap length same.2 in let fits = f.fits in omega (arith, left, l, fits));
         early = early f;
-        ready = λ growing. same.8 ∙ f.ready (begun growing.0, f.early) ∙ sym (ap with_gate same.2);
+        ready = λ growing. same.9 ∙ f.ready (begun growing.0, f.early) ∙ sym (ap with_gate same.2);
         beside = λ growing. (let fits = f.beside (begun growing.0, f.early) in
             subst (λ (x : Slot). x.start + length (t.text ++ OPEN ∷ with_length t.journal.staged) < x.stop) (sym same.3)
-            (subst (λ (x : List ℕ). s.slots.other.start + length (x ++ OPEN ∷ with_length t.journal.staged) < s.slots.other.stop) (sym same.6)
+            (subst (λ (x : List ℕ). s.slots.other.start + length (x ++ OPEN ∷ with_length t.journal.staged) < s.slots.other.stop) (sym same.7)
             (subst (λ (x : List ℕ). s.slots.other.start + length (s.slots.text ++ OPEN ∷ with_length x) < s.slots.other.stop) (sym same.2) fits)));
       }
 
       same_or : ((s.step ≡ Idle) × (s.slots.journal.begun ≡ false)) ⊎ IsFlight s first ahead copies → ((s.step ≡ Idle) × (t.journal.begun ≡ false)) ⊎ IsFlight Now first ahead copies
-      same_or (inl rest) = inl (rest.0, same.9 ∙ rest.1)
+      same_or (inl rest) = inl (rest.0, same.10 ∙ rest.1)
       same_or (inr f) = inr (same_flight f)
 
       pub sound_same : IsSound disk.honest disk.unsynced Now set first ahead copies
@@ -136,8 +137,8 @@ module _ {D : Type 0} (disk : Ghosts D) {s : StoreState D} {set : State} {first 
         size = i.size;
         placed = placed_as i.size s.store.start.limit s.slots t i.placed same.0.1 same.3;
         kept_is = kept_step;
-        planned = λ runs. (let q = i.planned (begun runs) in let head = q.head in let front = q.front in let text = ap length same.6 in let at = same.7 in record {
-          spells = subst (λ (x : List ℕ). Spells i.size x (sealed_set s)) (sym same.6) q.spells;
+        planned = λ runs. (let q = i.planned (begun runs) in let head = q.head in let front = q.front in let text = ap length same.7 in let at = same.8 in record {
+          spells = subst (λ (x : List ℕ). (p : Spells i.size x (sealed_set s)) × (p.version ≡ VERSION)) (sym same.7) q.spells;
           head = omega (arith, head, at);
           front = omega (arith, front, text, at);
         });
@@ -166,7 +167,7 @@ module _ {D : Type 0} (disk : Ghosts D) {s : StoreState D} {set : State} {first 
             place = f.place;
             lawful = f.lawful;
             short = subst (λ (j : JournalState D). length j.staged ≤ j.slot.most) (sym b.journal) f.short;
-            takes = subst (λ (l : List ℕ). TakesBatch (sealed_set s) l (coming s)) (sym staged) f.takes;
+            takes = subst (λ (v : ℕ). TakesBatch v (sealed_set s) t.journal.staged (coming s)) (sym b.version) (subst (λ (l : List ℕ). TakesBatch s.slots.version (sealed_set s) l (coming s)) (sym staged) f.takes);
             len = ap length staged ∙ f.len;
             fits = subst (λ (j : JournalState D). length j.staged + 6 ≤ room j) (sym b.journal) f.fits;
             early = subst (λ (x : Step). IsEarly x) (sym next) tt;
@@ -261,24 +262,24 @@ module _ {D : Type 0} (disk : Ghosts D) {s : StoreState D} {set : State} {first 
     pub begun_now : journal.has_begun t.journal.phase t.journal.begun ≡ journal.has_begun s.slots.journal.phase s.slots.journal.begun
     begun_now = by_place s.slots.step _
         (λ at. ap (λ (j : JournalState D). journal.has_begun j.phase j.begun) (begun at).journal)
-        (λ off on. ap (λ (p : Phase). journal.has_begun p t.journal.begun) (stays off on).phase ∙ ap (journal.has_begun s.slots.journal.phase) (stays off on).slots.9)
+        (λ off on. ap (λ (p : Phase). journal.has_begun p t.journal.begun) (stays off on).phase ∙ ap (journal.has_begun s.slots.journal.phase) (stays off on).slots.10)
         (λ at. let turn = turned at in ap (λ (p : Phase). journal.has_begun p t.journal.begun) turn.phase ∙ sym (ap (λ (p : Phase). journal.has_begun p s.slots.journal.begun) turn.still))
 
     pub leaves_then : (c : List ℕ) → Leaves s c → Leaves Then c
     leaves_then c (inl stands) = inl stands
     leaves_then c (inr both) = inr (both.0, begun_now ∙ both.1, both.2)
 
-    slots_now : s.slots.step ≢ SyncOpen → (t.other ≡ s.slots.other) × (t.generation ≡ s.slots.generation) × (t.may_open ≡ s.slots.may_open)
+    slots_now : s.slots.step ≢ SyncOpen → (t.other ≡ s.slots.other) × (t.generation ≡ s.slots.generation) × (t.version ≡ s.slots.version) × (t.may_open ≡ s.slots.may_open)
     slots_now on = by_place s.slots.step _
-        (λ at. ((begun at).other, (begun at).generation, (begun at).may_open))
-        (λ off on. let same = (stays off on).slots in (same.3, same.4, same.5))
+        (λ at. ((begun at).other, (begun at).generation, (begun at).version, (begun at).may_open))
+        (λ off on. let same = (stays off on).slots in (same.3, same.4, same.5, same.6))
         (λ at. absurd (on at))
 
     tail_now : s.slots.step ≢ Begin → s.slots.step ≢ SyncOpen → tail_of t ≡ tail_of s.slots
-    tail_now off on = let same = (stays off on).slots in let text = ap length same.6 in let head = same.7 in omega (arith, text, head)
+    tail_now off on = let same = (stays off on).slots in let text = ap length same.7 in let head = same.8 in omega (arith, text, head)
 
     head_now : s.slots.step ≢ Begin → s.slots.step ≢ SyncOpen → t.head ≡ s.slots.head
-    head_now off on = (stays off on).slots.7
+    head_now off on = (stays off on).slots.8
 
     -- what the slot that was turned to has, but for head, image and tail
     gained_now : s.slots.step ≡ SyncOpen → room t.journal ≡ 2 * s.store.start.limit - (s.slots.head + tail_of s.slots)
@@ -313,7 +314,7 @@ module _ {D : Type 0} (disk : Ghosts D) {s : StoreState D} {set : State} {first 
       tail_stays = tail_now;
       numbered = numbered;
       slots_stay = slots_now;
-      slots_turn = λ at. ((turned at).its, (turned at).generation, (turned at).may_open);
+      slots_turn = λ at. ((turned at).its, (turned at).generation, (turned at).version, (turned at).may_open);
       room_stays = room_now;
       room_gained = gained_now;
     }
@@ -324,7 +325,7 @@ module _ {D : Type 0} (disk : Ghosts D) {s : StoreState D} {set : State} {first 
     sound_broken = sound_same t taken_step off.slots (inr off.failed) (λ runs. subst (λ (x : Step). HasBegun x) order runs) (λ f. subst (λ (x : Step). IsEarly x) (sym order) f.early)
 
     pub begun_broken : journal.has_begun s.slots.journal.phase s.slots.journal.begun ≡ s.slots.journal.begun → journal.has_begun t.journal.phase t.journal.begun ≡ journal.has_begun s.slots.journal.phase s.slots.journal.begun
-    begun_broken told = begun_stays s.slots.journal.phase t.journal.phase s.slots.journal.begun t.journal.begun told off.slots.9 off.failed
+    begun_broken told = begun_stays s.slots.journal.phase t.journal.phase s.slots.journal.begun t.journal.begun told off.slots.10 off.failed
 
     pub leaves_broken : journal.has_begun s.slots.journal.phase s.slots.journal.begun ≡ s.slots.journal.begun → (c : List ℕ) → Leaves s c → Leaves (Moved s s.step t) c
     leaves_broken told c (inl stands) = inl stands
@@ -332,7 +333,7 @@ module _ {D : Type 0} (disk : Ghosts D) {s : StoreState D} {set : State} {first 
 
     pub breaks_step : (left : t.left ≡ s.slots.left) → s.slots.journal.phase ≢ Failed → Breaks disk.faults s (Moved s s.step t)
     breaks_step left well = breaks disk.faults s (Moved s s.step t) well off.failed off.cause refl
-        (off.slots.0, off.slots.3, off.slots.4, off.slots.5, order, off.slots.6, off.slots.7, left) off.slots.1
+        (off.slots.0, off.slots.3, off.slots.4, off.slots.5, off.slots.6, order, off.slots.7, off.slots.8, left) off.slots.1
 
 -- the set is made to catch up first
 pub caught_up : {D : Type 0} (disk : Ghosts D) {s v : StoreState D} {set : State} {first : ℕ} {ahead copies : List Change} → IsSound disk.honest disk.unsynced s set first ahead copies → s ≡ v → MayCompact v → s.slots.journal.phase ≢ Failed

@@ -6,12 +6,13 @@ use Rattle.fp_edit.specs.Edits.{Change}
 use Rattle.fp_edit.specs.Flags.{State}
 use Rattle.fp_edit.specs.Following.{Follows}
 use Rattle.fp_edit.specs.Log.{after_all}
+use Rattle.fp_edit.proofs.Followed.{change-unconditional}
 use Rattle.fp_recovery.specs.Stands.{Leads}
 
 -- changes that follow one another lead to what they come to
 pub leads_all : (s : State) (cs : List Change) → Follows s cs → Leads s cs (after_all s cs)
 leads_all s [] f = refl
-leads_all s (c ∷ cs) f = (next s c, (f.0, refl), leads_all (next s c) cs f.1)
+leads_all s (c ∷ cs) f = (next s c, (f.0, ap (next s) (sym (change-unconditional c))), leads_all (next s c) cs f.1)
 
 -- two beginnings of one list, as long as one another
 same_front : {A : Type 0} (xs ys w : List A) → IsPrefix xs w → IsPrefix ys w → length xs ≡ length ys → xs ≡ ys

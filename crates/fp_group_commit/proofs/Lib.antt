@@ -1,4 +1,5 @@
 pub mod Fronts
+pub mod Places
 pub mod Steps
 pub mod Sizes
 pub mod BatchSteps

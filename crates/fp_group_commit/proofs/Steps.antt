@@ -166,7 +166,7 @@ makes_none (k ∷ kinds) old = inl refl
 
 -- ---- what a crash leaves, and what a read gives
 module _ {D : Type 0} (disk : Ghosts D) {s : StoreState D} {set : State} {first : ℕ} {ahead copies : List Change} (i : IsSound disk.honest disk.unsynced s set first ahead copies) where
-  pub taken : IsTaken s.slots.journal i.size (sealed_set s) (coming s)
+  pub taken : IsTaken s.slots i.size (sealed_set s) (coming s)
   taken begun = ⊎_elim
       (λ none. absurd (never_begun s.slots.journal.phase s.step s.slots.journal.begun none.0 i.going none.1 begun))
       (λ f. let most = most_of i.size i.placed.side s.slots.journal.slot i.placed.mine in let short = f.short in (f.takes, omega (arith, most, short))) i.flight
@@ -232,26 +232,26 @@ exit_has disk counts_now old new P Q shows back l h c out = let left = l (back h
 
 -- ---- what stays of the slots, but for what is kept ready
 abbrev pub SameBeside : {D : Type 0} → SlotsState D → SlotsState D → Type 0
-SameBeside old new = SameSlot old.journal new.journal × (new.other ≡ old.other) × (new.generation ≡ old.generation) × (new.may_open ≡ old.may_open) × (new.step ≡ old.step) × (new.text ≡ old.text) × (new.head ≡ old.head) × (new.left ≡ old.left)
+SameBeside old new = SameSlot old.journal new.journal × (new.other ≡ old.other) × (new.generation ≡ old.generation) × (new.version ≡ old.version) × (new.may_open ≡ old.may_open) × (new.step ≡ old.step) × (new.text ≡ old.text) × (new.head ≡ old.head) × (new.left ≡ old.left)
 
 pub beside_of : {D : Type 0} (old new : SlotsState D) → SameCompaction old new → SameBeside old new
-beside_of old new same = (same.0, same.1, same.2, same.3, same.4, same.5, same.6, same.7)
+beside_of old new same = (same.0, same.1, same.2, same.3, same.4, same.5, same.6, same.7, same.8)
 
 module _ {D : Type 0} (old new : SlotsState D) (same : SamePlan old new) where
   pub beside_plan : SameBeside old new
-  beside_plan = ((ap (λ (j : JournalState D). j.name) same.0, ap (λ (j : JournalState D). j.slot) same.0, ap (λ (j : JournalState D). j.front) same.0, ap (λ (j : JournalState D). j.disk_name) same.0), same.1, same.2, same.3, same.4, same.5, same.6, same.7)
+  beside_plan = ((ap (λ (j : JournalState D). j.name) same.0, ap (λ (j : JournalState D). j.slot) same.0, ap (λ (j : JournalState D). j.front) same.0, ap (λ (j : JournalState D). j.disk_name) same.0), same.1, same.2, same.3, same.4, same.5, same.6, same.7, same.8)
 
   pub room_plan : {n : ℕ} → HasRoomFor old n → HasRoomFor new n
   room_plan {n} has = record {
     short = subst (λ (j : JournalState D). n ≤ j.slot.most) (sym same.0) has.short;
     fits = subst (λ (j : JournalState D). n + 6 ≤ room j) (sym same.0) has.fits;
-    early = subst (λ (x : Step). IsEarly x) (sym same.4) has.early;
-    tail = λ begins. (let tail = has.tail (subst (λ (x : Step). HasBegun x) same.4 begins) in let text = ap length same.5 in let head = same.6 in
+    early = subst (λ (x : Step). IsEarly x) (sym same.5) has.early;
+    tail = λ begins. (let tail = has.tail (subst (λ (x : Step). HasBegun x) same.5 begins) in let text = ap length same.6 in let head = same.7 in
         let start = ap (λ (x : Slot). x.start) same.1 in let stop = ap (λ (x : Slot). x.stop) same.1 in omega (arith, tail, text, head, start, stop));
   }
 
   pub kept_plan_now : (honest : D → Type 0) (unsynced : D → PendingState) {size : ℕ} {s : State} → (honest old.journal.disk → IsKeptIn (unsynced old.journal.disk) old size s) → honest new.journal.disk → IsKeptIn (unsynced new.journal.disk) new size s
-  kept_plan_now honest unsynced {size} {s} k = subst (λ (j : JournalState D). honest j.disk → IsKeptIn (unsynced j.disk) new size s) (sym same.0) (λ h. kept_still same.0 same.1 (k h))
+  kept_plan_now honest unsynced {size} {s} k = subst (λ (j : JournalState D). honest j.disk → IsKeptIn (unsynced j.disk) new size s) (sym same.0) (λ h. kept_still same.0 same.1 same.3 (k h))
 
 -- ---- a store as it begins
 pub sound_new : {D : Type 0} (honest : D → Type 0) (unsynced : D → PendingState) (n : StoreState D) (set : State) → n.store.start ≡ set → n.sealed ≡ [] → n.step ≡ Idle → n.slots.journal.phase ≡ Idle → n.slots.journal.begun ≡ false → n.slots.step ≡ Begin
@@ -272,8 +272,8 @@ sound_new honest unsynced n set start none step phase begun rests k own own_is f
 -- ---- calls that leave a compaction where it is
 pub same_room : {D : Type 0} (old new : StoreState D) → SameBeside old.slots new.slots → new.slots.journal.sealed ≡ old.slots.journal.sealed → SameRoom old new
 same_room old new same bodies =
-    let text = ap length same.5 in let head = same.6 in
-    (ap (λ (x : Slot). x.most) same.0.1, room_same old.slots.journal new.slots.journal same.0.1 same.0.2 bodies, ((same.4, same.7, same.1, same.2, head, same.3), omega (arith, text, head)))
+    let text = ap length same.6 in let head = same.7 in
+    (ap (λ (x : Slot). x.most) same.0.1, room_same old.slots.journal new.slots.journal same.0.1 same.0.2 bodies, ((same.5, same.8, same.1, same.2, same.3, head, same.4), omega (arith, text, head)))
 
 -- the device failed in a call
 pub breaks : {D : Type 0} (faults : D → ℕ) (old new : StoreState D) → old.slots.journal.phase ≢ Failed → new.slots.journal.phase ≡ Failed → faults old.slots.journal.disk < faults new.slots.journal.disk → new.step ≡ old.step → SameBeside old.slots new.slots
@@ -302,7 +302,7 @@ tail_stays old new head text = let len = ap length text in omega (arith, head, l
 pub beside_then : {D : Type 0} (old mid new : SlotsState D) → SamePlan old mid → SameCompaction mid new → SameBeside old new
 beside_then old mid new plan same =
     let a = beside_plan old mid plan in
-    ((same.0.0 ∙ a.0.0, same.0.1 ∙ a.0.1, same.0.2 ∙ a.0.2, same.0.3 ∙ a.0.3), same.1 ∙ a.1, same.2 ∙ a.2, same.3 ∙ a.3, same.4 ∙ a.4, same.5 ∙ a.5, same.6 ∙ a.6, same.7 ∙ a.7)
+    ((same.0.0 ∙ a.0.0, same.0.1 ∙ a.0.1, same.0.2 ∙ a.0.2, same.0.3 ∙ a.0.3), same.1 ∙ a.1, same.2 ∙ a.2, same.3 ∙ a.3, same.4 ∙ a.4, same.5 ∙ a.5, same.6 ∙ a.6, same.7 ∙ a.7, same.8 ∙ a.8)
 
 -- all calls of a step that failed
 pub makes_all : (kinds old new : List CallKind) → new ≡ old ++ kinds → MakesSome kinds old new

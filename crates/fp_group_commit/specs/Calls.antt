@@ -9,14 +9,15 @@ use Rattle.fp_edit.specs.Flags.{State, size}
 use Rattle.fp_compaction.specs.Batches.{tail_of}
 use Rattle.fp_journal.specs.State.{room}
 use Rattle.fp_compaction.specs.Steps.{next_left, next_step}
-use Rattle.fp_slots.specs.declared.places.TheConstants.{IMAGE_PLACE}
+use Rattle.fp_slots.specs.declared.places.TheConstants.{IMAGE_PLACE, VERSION}
 use Rattle.fp_slots.specs.State.{IsGrowing}
 use Rattle.fp_slots.specs.declared.slots.Step.TheVariants.{Begin, SyncOpen}
 use Rattle.fp_journal.specs.declared.journal.Phase.{Phase}
 use Rattle.fp_journal.specs.declared.journal.Phase.TheVariants.{Failed}
 use Rattle.fp_journal.specs.declared.framed.TheConstants.{BODY_PLACE}
 use Rattle.fp_record.specs.Group.{Group}
-use Rattle.fp_group_commit.specs.Changes.{GoesOn, batch_len}
+use Rattle.fp_record.specs.Encoding.{batch_len}
+use Rattle.fp_group_commit.specs.Changes.{GoesOn}
 use Rattle.fp_group_commit.specs.Store.{Leaves, StoreState, sealed_set}
 use Rattle.fp_group_commit.specs.declared.fault.StoreFault.{StoreFault}
 use Rattle.fp_group_commit.specs.declared.fault.StoreFault.TheVariants as fault
@@ -36,11 +37,11 @@ abbrev pub SameStore : {D : Type 0} → StoreState D → StoreState D → Type 0
 SameStore old new = (new.store ≡ old.store) × (new.sealed ≡ old.sealed) × (new.staged ≡ old.staged)
 
 -- a compaction's next step, how long its head and image are and how much of them is left, the
--- slots, and whether the other one's gate may be open, are the same
+-- slots, the version of the one that rules, and whether the other one's gate may be open, are the same
 abbrev pub SameCourse : {D : Type 0} → StoreState D → StoreState D → Type 0
 SameCourse old new = (new.slots.step ≡ old.slots.step) × (new.slots.left ≡ old.slots.left)
     × (new.slots.other ≡ old.slots.other) × (new.slots.generation ≡ old.slots.generation)
-    × (new.slots.head ≡ old.slots.head) × (new.slots.may_open ≡ old.slots.may_open)
+    × (new.slots.version ≡ old.slots.version) × (new.slots.head ≡ old.slots.head) × (new.slots.may_open ≡ old.slots.may_open)
 
 -- and the tail is as long
 abbrev pub SamePlace : {D : Type 0} → StoreState D → StoreState D → Type 0
@@ -123,7 +124,7 @@ pub record PlansImage {D : Type 0} (old new : StoreState D) : Type 0 where
 
 -- It was taken, and the device failed neither before nor in the call. Head and image, what is left
 -- of them and the tail are as long as before, but for a Part. At the last one the slots are turned:
--- it is the next generation, and a slot's bytes, twice what a set may take, but for head, image and
+-- it is the next generation, of the version of all that is written, and a slot's bytes, twice what a set may take, but for head, image and
 -- tail are room. At each other the slots and the room stay
 pub record Compacts {D : Type 0} (faults : D → ℕ) (old new : StoreState D) : Type 0 where
   pub next : new.slots.step ≡ next_step old.slots.step old.slots.left
@@ -140,9 +141,11 @@ pub record Compacts {D : Type 0} (faults : D → ℕ) (old new : StoreState D) :
   pub numbered : new.slots.generation < 2 ^ 64
   pub slots_stay : old.slots.step ≢ SyncOpen → (new.slots.other ≡ old.slots.other)
       × (new.slots.generation ≡ old.slots.generation)
+      × (new.slots.version ≡ old.slots.version)
       × (new.slots.may_open ≡ old.slots.may_open)
   pub slots_turn : old.slots.step ≡ SyncOpen → (new.slots.other ≡ old.slots.journal.slot)
-      × (new.slots.generation ≡ old.slots.generation + 1) × (new.slots.may_open ≡ true)
+      × (new.slots.generation ≡ old.slots.generation + 1) × (new.slots.version ≡ VERSION)
+      × (new.slots.may_open ≡ true)
   pub room_stays : old.slots.step ≢ SyncOpen → room new.slots.journal ≡ room old.slots.journal
   pub room_gained : old.slots.step ≡ SyncOpen → room new.slots.journal
       ≡ 2 * old.store.start.limit - (old.slots.head + tail_of old.slots)

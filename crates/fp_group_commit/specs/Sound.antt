@@ -14,7 +14,7 @@ use Rattle.fp_slots.specs.State.{HasBegun, IsEarly}
 use Rattle.fp_slots.specs.declared.places.TheConstants.{IMAGE_PLACE}
 use Rattle.fp_compaction.specs.Batches.{FitsBeside, IsReadyFor}
 use Rattle.fp_compaction.specs.Sets.{IsKeptIn, IsPlaced, IsPlannedFor}
-use Rattle.fp_group_commit.specs.Changes.{batch_len}
+use Rattle.fp_record.specs.Encoding.{batch_len}
 use Rattle.fp_group_commit.specs.Store.{StoreState, coming, sealed_set}
 
 -- The batch on its way leads on from what is sealed, its edits are kept for the set, and those
@@ -28,7 +28,7 @@ pub record IsFlight {D : Type 0} (s : StoreState D) (first : ℕ)
   pub place : first ≡ (sealed_set s).revision + 1
   pub lawful : IsBatch (record { first = first; changes = s.staged })
   pub short : length s.slots.journal.staged ≤ s.slots.journal.slot.most
-  pub takes : TakesBatch (sealed_set s) s.slots.journal.staged (coming s)
+  pub takes : TakesBatch s.slots.version (sealed_set s) s.slots.journal.staged (coming s)
   pub len : length s.slots.journal.staged ≡ batch_len (record { first = first; changes = s.staged })
   pub fits : length s.slots.journal.staged + FRAME ≤ room s.slots.journal
   pub early : IsEarly s.slots.step

@@ -1,14 +1,16 @@
 //! Groups of edits that are to be sealed together.
 
 ghost use Rattle.std.specs.Prelude.{◌≡◌, ◌<◌, ◌≤◌, ◌+◌, ◌↔◌, length, IfOk, IfErr, OnOk, IsTrue};
+ghost use Rattle.std.specs.List.{AllByRecursion};
 ghost use Rattle.fp_edit.specs.Following.{Follows, changes_of};
 ghost use Rattle.fp_edit.specs.Log.{after_all};
 ghost use Rattle.fp_edit.specs.declared.edit.TheConstants.{REVISIONS_END};
 ghost use Rattle.fp_record.specs.declared.batch.TheConstants.{MOST_EDITS};
 ghost use Rattle.fp_record.specs.WellFormed.{IsBatch};
-ghost use Rattle.fp_record.specs.Encoding.{encoding_of_batch};
+ghost use Rattle.fp_record.specs.Encoding.{batch_len, encoding_of_batch};
+ghost use Rattle.fp_recovery.specs.Stands.{IsAllowed};
 ghost use Rattle.fp_group_commit.specs.Calls.{IsStrange};
-ghost use Rattle.fp_group_commit.specs.Changes.{GoesOn, HasRoom, batch_len};
+ghost use Rattle.fp_group_commit.specs.Changes.{GoesOn, HasRoom};
 
 use crate::fault::StoreFault;
 use crate::part::Applied;
@@ -17,7 +19,7 @@ use fp_edit::{Edit, FlagSet, copies_of};
 use fp_fronts::Lists;
 use fp_journal::Framed;
 use fp_record::{BATCH_HEAD, Batch, MOST_EDITS, encoded_len};
-use fp_slots::Slots;
+use fp_slots::{FIRST_VERSION, Slots};
 use std::alloc::{AllocError, Global};
 use std::collections::VecDeque;
 use std::marker::Model;
@@ -94,7 +96,23 @@ pub(crate) fn has_room<D: Disk>(slots: &Slots<D>, draw: &Draw) -> bool
     if draw.edits.len() == 0 || draw.edits.len() > MOST_EDITS {
         return false;
     }
-    fp_compaction::has_room(slots, spelled_sum(&draw.edits))
+    has_place(slots.version(), draw) && fp_compaction::has_room(slots, spelled_sum(&draw.edits))
+}
+
+// Whether each edit of the draw has a place in a slot of this version: in one of the first a set of
+// changes has none.
+fn has_place(version: u8, draw: &Draw) -> bool
+    ensures { IsTrue result ↔ AllByRecursion (IsAllowed version) draw.now.changes }
+{
+    if version > FIRST_VERSION {
+        return true;
+    }
+    for edit in draw.edits.iter() {
+        if let Edit::Set(_) = edit {
+            return false;
+        }
+    }
+    true
 }
 
 // The batch as it is written, and its edits once more.

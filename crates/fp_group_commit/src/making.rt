@@ -1,6 +1,6 @@
 //! Stores on new disks and on disks that kept edits before.
 
-ghost use Rattle.fp_disk.specs.Crashes.{AtAnyMoment, SameHonesty};
+ghost use Rattle.fp_disk.specs.Crashes.{AtAnyMoment, IsUntouched, SameHonesty};
 ghost use Rattle.std.specs.Prelude.{◌≡◌, ◌≢◌, ◌⊎◌, ◌<◌, ◌++◌, [], ◌∷◌, IfOk};
 ghost use Rattle.std.specs.Prelude.{◌↔◌, IfErr, IsOk, IsTrue, MatchResult, false, slice_index};
 ghost use Rattle.fp_disk.specs.History.{MakesSome};
@@ -9,7 +9,8 @@ ghost use Rattle.fp_disk.specs.declared.history.CallKind.TheVariants.{Length, Sy
 ghost use Rattle.fp_edit.specs.Flags.{State};
 ghost use Rattle.fp_gate.specs.declared.gate.TheConstants.{OPEN};
 ghost use Rattle.fp_journal.specs.Pieces.{ThenReads, ThenSomeReads};
-ghost use Rattle.fp_layout.specs.NewDisk.{IsNewDisk, StaysAsItWas, format_calls};
+ghost use Rattle.fp_layout.specs.NewDisk.{IsNewDisk, format_calls};
+ghost use Rattle.fp_slots.specs.declared.places.TheConstants.{VERSION};
 ghost use Rattle.fp_layout.specs.Layout.{HasSlots};
 ghost use Rattle.fp_layout.specs.Size.{IsSlotSize, first_slot, second_slot};
 ghost use Rattle.fp_layout.specs.declared.fault.OpenFault.TheVariants as opening;
@@ -35,7 +36,7 @@ use std::alloc::Global;
 fn refusal_of_size<D: Disk>(disk: &mut D) -> CreateFault
     ensures not_empty { D.honest disk.old → result ≡ NotEmpty → D.bytes disk.old ≢ [] }
     ensures bad_size { D.honest disk.old → result ≡ BadSize → D.bytes disk.old ≡ [] }
-    ensures kept { D.honest disk.old → StaysAsItWas D.Disk disk.old disk.new }
+    ensures kept { D.honest disk.old → IsUntouched D.Disk disk.old disk.new }
     ensures honest { SameHonesty D.Disk disk.old disk.new }
     ensures called { D.calls disk.new ≡ D.calls disk.old ++ Length ∷ [] }
     ensures cause { result ≡ Device → D.faults disk.old < D.faults disk.new }
@@ -63,6 +64,7 @@ impl<D: Disk> Store<D> {
         ensures slots { IfOk result (λ r. (r.0.slots.journal.slot ≡ first_slot size)
             × (r.0.slots.other ≡ second_slot size)) }
         ensures gate { IfOk result (λ r. (place_of r.0.slots.journal).gate ≡ FIRST_GATE) }
+        ensures version { IfOk result (λ r. r.0.slots.version ≡ VERSION) }
         ensures other_gate { IfOk result (λ r. r.0.slots.may_open ≡ false) }
         ensures made { D.honest disk →
             IfOk result (λ r. IsNewDisk size (D.bytes r.0.slots.journal.disk)) }
@@ -81,7 +83,7 @@ impl<D: Disk> Store<D> {
 
         // Where it holds bytes it stays, whatever failed, and else where the device didn't fail.
         ensures kept { D.honest disk → IfErr result (λ e. (D.bytes disk ≢ []) ⊎ (e.0 ≢ Device)
-            → StaysAsItWas D.Disk disk e.1) }
+            → IsUntouched D.Disk disk e.1) }
 
         // A crash at any moment leaves what opening calls no disk, or one that stands for no flags.
         ensures any_moment { D.honest disk → D.unsynced disk ≡ all_synced [] → MatchResult result
@@ -118,7 +120,7 @@ impl<D: Disk> Store<D> {
         ensures place { D.honest disk → IfOk result (λ r.
             StandsAt (D.bytes disk) r.0.store.start (place_of r.0.slots.journal)) }
         ensures slots { D.honest disk → IfOk result (λ r. HasSlots (D.bytes disk)
-            r.0.slots.journal.slot r.0.slots.other r.0.slots.generation) }
+            r.0.slots.journal.slot r.0.slots.other r.0.slots.version r.0.slots.generation) }
         ensures only { D.honest disk → IfOk result (λ r. (other : State) →
             StandsFor (D.bytes disk) other → other ≡ r.0.store.start) }
         ensures fresh { IfOk result (λ r. IsFresh r.0 r.0.store.start) }

@@ -10,7 +10,8 @@ ghost use Rattle.fp_compaction.specs.Sets.{IsKeptIn, IsPlaced};
 ghost use Rattle.fp_recovery.specs.Stands.{StandsFor};
 ghost use Rattle.fp_slots.specs.declared.slots.Step.TheVariants.{Begin};
 ghost use Rattle.fp_recovery.specs.Room.{HasNoRoom, IsFullFor};
-ghost use Rattle.fp_group_commit.specs.Changes.{HasRoom, batch_len};
+ghost use Rattle.fp_group_commit.specs.Changes.{HasRoom};
+ghost use Rattle.fp_slots.specs.Head.{IsVersion};
 ghost use Rattle.fp_group_commit.specs.Store.{IsAtRest, IsFresh, Leaves, MayCompact, sealed_set};
 ghost use Rattle.fp_group_commit.specs.Store.{has_begun, readable_set};
 
@@ -142,17 +143,17 @@ impl<D: Disk> Store<D> {
         matches!(self.slots.journal().phase(), Phase::Failed)
     }
 
-    /// Whether the draw is within the limits of a batch, and fits
-    /// beside a compaction, where one runs.
+    /// Whether the draw is within the limits of a batch, fits beside a compaction, where one runs, and
+    /// holds no set of changes where the slot that rules is of the first version.
     pub fn has_room(&self, draw: &Draw) -> bool
         ensures room { IsTrue result ↔ HasRoom self.now.slots draw.now }
 
         // Where no compaction runs and the slot that rules has none,
         // nor has whatever a crash leaves, in the same generation.
         ensures full { IsAtRest self.now → self.now.slots.step ≡ Begin
-            → HasNoRoom self.now.slots.journal (batch_len draw.now)
+            → HasNoRoom self.now.slots draw.now
             → EachCrash D.Disk self.now.slots.journal.disk
-            (λ c. IsFullFor c (sealed_set self.now) (batch_len draw.now)
+            (λ c. IsFullFor c (sealed_set self.now) draw.now
             self.now.slots.generation) }
 
         // A quarter of a slot is half of what a set may take.
@@ -175,6 +176,16 @@ impl<D: Disk> Store<D> {
             Step::Tail => matches!(self.step, Phase::Idle),
             _ => true,
         }
+    }
+
+    /// The version of the slot that rules: 1 or 2. In one of version 1 no set of changes has a place; a
+    /// compaction leads to one of version 2.
+    pub fn version(&self) -> u8
+        ensures version { result ≡ self.now.slots.version }
+        ensures known { IsVersion result }
+    {
+        let _ = &self.set;
+        self.slots.version()
     }
 
     /// How many bytes are left for batches.

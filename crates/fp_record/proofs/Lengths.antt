@@ -4,11 +4,14 @@ use Rattle.std.specs.Int.{w16, w32, w64, to_be_bytes}
 use Rattle.std.specs.List.{flat_map, sum_by}
 use Rattle.std.proofs.lemmas.List.{length-append}
 use Rattle.std.proofs.lemmas.List.Concat.{flat_map-cons, length-flat_map}
-use Rattle.fp_edit.specs.Edits.{put, delete}
+use Rattle.std.proofs.lemmas.List.Sums.{sum_by-cons}
+use Rattle.fp_edit.specs.Changes.{part_len, set_len}
+use Rattle.fp_edit.specs.Edits.{one, set}
 use Rattle.fp_edit.specs.Flags.{total_cost}
+use Rattle.fp_edit.specs.Parts.{Part, put, delete}
 use Rattle.fp_edit.specs.declared.flags.Flag.{Flag}
 use Rattle.fp_record.specs.Group.{Group}
-use Rattle.fp_record.specs.Encoding.{encoding_of_key, encoding_of_definition, encoding_of_change, encoding_of_batch, encoding_of_flag, encoding_of_image}
+use Rattle.fp_record.specs.Encoding.{encoding_of_key, encoding_of_definition, encoding_of_part, encoding_of_change, encoding_of_batch, encoding_of_flag, encoding_of_image}
 
 length-encoding_of_key : (key : List ℕ) → length (encoding_of_key key) ≡ 2 + length key
 unfolding encoding_of_key
@@ -18,13 +21,22 @@ length-encoding_of_definition : (text : List ℕ) → length (encoding_of_defini
 unfolding encoding_of_definition
 length-encoding_of_definition text = length-append (to_be_bytes w32 (length text)) text
 
-pub length-put : (key text : List ℕ) → length (encoding_of_change (put key text)) ≡ 7 + length key + length text
-unfolding encoding_of_change
-length-put key text = omega (arith, length-append (encoding_of_key key) (encoding_of_definition text), length-encoding_of_key key, length-encoding_of_definition text)
+length-part : (part : Part) → length (encoding_of_part part) ≡ part_len part
+unfolding encoding_of_part
+length-part (put key text) = omega (arith, length-append (encoding_of_key key) (encoding_of_definition text), length-encoding_of_key key, length-encoding_of_definition text)
+length-part (delete key) = omega (arith, length-encoding_of_key key)
 
-pub length-delete : (key : List ℕ) → length (encoding_of_change (delete key)) ≡ 3 + length key
+length-parts : (parts : List Part) → length (flat_map encoding_of_part parts) ≡ sum_by part_len parts
+length-parts [] = refl
+length-parts (part ∷ parts) = rw flat_map-cons (omega (arith, length-append (encoding_of_part part) (flat_map encoding_of_part parts), length-part part, length-parts parts, sum_by-cons part_len part parts))
+
+pub length-one : (part : Part) → length (encoding_of_change (one part)) ≡ part_len part
 unfolding encoding_of_change
-length-delete key = omega (arith, length-encoding_of_key key)
+length-one part = length-part part
+
+pub length-set : (parts : List Part) → length (encoding_of_change (set parts)) ≡ set_len parts
+unfolding encoding_of_change
+length-set parts = omega (arith, length-append (to_be_bytes w16 (length parts)) (flat_map encoding_of_part parts), length-parts parts)
 
 pub length-encoding_of_batch : (v : Group) → length (encoding_of_batch v) ≡ 10 + sum_by (λ c. length (encoding_of_change c)) v.changes
 unfolding encoding_of_batch

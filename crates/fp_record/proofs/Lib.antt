@@ -8,4 +8,5 @@ pub mod Many
 pub mod Places
 pub mod Sets
 pub mod Texts
+pub mod Together
 pub mod Whole

@@ -67,6 +67,15 @@ From-range bytes at text rest h =
     let k : at + length text - at ≡ length text = omega arith in
     rw (k, h.is) (take_at text rest (length text) refl)
 
+-- how far it is from a text to what is behind it
+pub From-to : (bytes : List ℕ) (at : ℕ) (text rest : List ℕ) (next : ℕ) → From bytes at (text ++ rest) → From bytes next rest → next ≡ at + length text
+From-to bytes at text rest next h k =
+    let from = h.within in
+    let to = k.within in
+    let all : length bytes - at ≡ length text + length rest = sym (length-drop at bytes) ∙ ap length h.is ∙ length-append text rest in
+    let left : length bytes - next ≡ length rest = sym (length-drop next bytes) ∙ ap length k.is in
+    omega (arith, from, to, all, left)
+
 -- a reader took this text, and left what is behind it
 pub record Takes (bytes : List ℕ) (at : ℕ) (text : List ℕ) (next : ℕ) : Type 0 where
   pub parts : drop at bytes ≡ text ++ drop next bytes
@@ -77,6 +86,12 @@ Takes-nothing bytes at h = record { parts = refl; within = h }
 
 pub Takes-then : (bytes : List ℕ) (a : ℕ) (x : List ℕ) (b : ℕ) (y : List ℕ) (c : ℕ) → Takes bytes a x b → Takes bytes b y c → Takes bytes a (x ++ y) c
 Takes-then bytes a x b y c p q = record { parts = p.parts ∙ ap (λ (t : List ℕ). x ++ t) q.parts ∙ sym (append_assoc x y (drop c bytes)); within = q.within }
+
+pub Takes-long : (bytes : List ℕ) (at : ℕ) (text : List ℕ) (next : ℕ) → at ≤ length bytes → Takes bytes at text next → next ≡ at + length text
+Takes-long bytes at text next from h =
+    let to = h.within in
+    let all : length bytes - at ≡ length text + (length bytes - next) = sym (length-drop at bytes) ∙ ap length h.parts ∙ length-append text (drop next bytes) ∙ ap (λ (n : ℕ). length text + n) (length-drop next bytes) in
+    omega (arith, from, to, all)
 
 -- ---- that many bytes
 
@@ -158,6 +173,14 @@ number_takes w limit wide bytes at x fits e =
     let same : slice_range bytes at (at + byte_len w) ≡ to_be_bytes w n = sym (wide.back (slice_range bytes at (at + byte_len w)) p.1 field) in
     let taken : Takes bytes at (to_be_bytes w n) (at + byte_len w) = subst (λ (t : List ℕ). Takes bytes at t (at + byte_len w)) same p.0 in
     subst (λ (y : ℕ × ℕ). Takes bytes at (to_be_bytes w y.0) y.1 × (y.0 < limit)) (ok_is (n, at + byte_len w) x g.1) (taken, wide.below (slice_range bytes at (at + byte_len w)) field)
+
+-- where what is behind a number begins
+pub number_ends : (w : Width) (bytes : List ℕ) (at : ℕ) (x : ℕ × ℕ) → number_at w bytes at ≡ Ok x → (x.1 ≡ at + byte_len w) × (x.1 ≤ length bytes)
+number_ends w bytes at x e =
+    let found : ℕ × ℕ = (from_be_bytes w (slice_range bytes at (at + byte_len w)), at + byte_len w) in
+    let g = passed (ltb (length bytes) (at + byte_len w)) at (Ok found) x e in
+    let within : at + byte_len w ≤ length bytes = ltb-false _ _ g.0 in
+    subst (λ (y : ℕ × ℕ). (y.1 ≡ at + byte_len w) × (y.1 ≤ length bytes)) (ok_is found x g.1) (refl, within)
 
 pub number_again : (w : Width) (limit : ℕ) (wide : IsWide w limit) (bytes : List ℕ) (at n : ℕ) (rest : List ℕ) → n < limit → From bytes at (to_be_bytes w n ++ rest) → (next : ℕ) × (number_at w bytes at ≡ Ok (n, next)) × From bytes next rest
 number_again w limit wide bytes at n rest lt h =

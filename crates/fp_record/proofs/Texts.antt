@@ -13,7 +13,7 @@ use Rattle.fp_record.proofs.Places.{both_true}
 use Rattle.fp_definition.specs.declared.definition.TheConstants.{DEEPEST_DEFINITION, LONGEST_DEFINITION}
 
 -- where no test failed, the first was met
-first_met : {F : Type 0} (t : Bool × F) (ts : List (Bool × F)) → is_none (first_failed (t ∷ ts)) ≡ true → (t.0 ≡ true) × (is_none (first_failed ts) ≡ true)
+pub first_met : {F : Type 0} (t : Bool × F) (ts : List (Bool × F)) → is_none (first_failed (t ∷ ts)) ≡ true → (t.0 ≡ true) × (is_none (first_failed ts) ≡ true)
 first_met {F = F} t ts e = elim t.0 as (λ (b : Bool). is_none (cond b (first_failed ts) (Some t.1)) ≡ true → (b ≡ true) × (is_none (first_failed ts) ≡ true)) [
   | true ↦ λ h. (refl, h)
   | false ↦ λ h. absurd cc

@@ -1,42 +1,83 @@
 -- Reading batches and images forward, field by field.
-use Rattle.std.specs.Prelude.{ℕ, zero, suc, ◌+◌, ◌-◌, ◌^◌, Bool, ◌&&◌, List, [], ◌∷◌, length}
+use Rattle.std.specs.Prelude.{ℕ, zero, suc, ◌+◌, ◌-◌, ◌^◌, Bool, ◌&&◌, List, [], ◌∷◌, ◌++◌, length}
 use Rattle.std.specs.Prelude.{nat_le, ◌==◌, Result, Ok, Err, if◌then◌else◌}
 use Rattle.std.specs.Int.{w8, w16, w32, w64}
 use Rattle.std.specs.Ordering.{is_lt}
 use Rattle.fp_base.specs.Bytes.{bytes_cmp}
 use Rattle.fp_base.specs.Steps.{◌>>=◌}
-use Rattle.fp_edit.specs.Edits.{Change, put, delete}
+use Rattle.fp_edit.specs.Changes.{is_among, is_count}
+use Rattle.fp_edit.specs.Parts.{Part, put, delete, part_key}
+use Rattle.fp_edit.specs.Edits.{Change, one, set}
+use Rattle.fp_edit.specs.declared.changes.TheConstants.{LONGEST_EDIT}
 use Rattle.fp_edit.specs.declared.edit.TheConstants.{REVISIONS_END}
 use Rattle.fp_edit.specs.declared.flag_set.TheConstants.{MOST_FLAGS}
 use Rattle.fp_edit.specs.declared.flags.Flag.{Flag}
 use Rattle.fp_record.specs.Group.{Group}
 use Rattle.fp_record.specs.declared.batch.TheConstants.{MOST_EDITS}
+use Rattle.fp_record.specs.declared.batch.TheConstants.{PUT_KIND, DELETE_KIND, SET_KIND}
 use Rattle.fp_record.specs.Fields.{number_at, key_at, definition_at}
 
-unfoldable pub put_at : List ℕ → ℕ → Result (Change × ℕ) ℕ
-put_at bytes at = do
+-- a key that none of these is; one that is, is wrong at its first byte, which is behind the two of
+-- its length
+unfoldable pub new_key_at : List (List ℕ) → List ℕ → ℕ → Result (List ℕ × ℕ) ℕ
+new_key_at before bytes at = do
   key ← key_at bytes at
+  if is_among key.0 before then Err (at + 2) else Ok key
+
+unfoldable pub put_at : List (List ℕ) → List ℕ → ℕ → Result (Part × ℕ) ℕ
+put_at before bytes at = do
+  key ← new_key_at before bytes at
   text ← definition_at bytes key.1
   Ok (put key.0 text.0, text.1)
 
-unfoldable pub delete_at : List ℕ → ℕ → Result (Change × ℕ) ℕ
-delete_at bytes at = do
-  key ← key_at bytes at
+unfoldable pub delete_at : List (List ℕ) → List ℕ → ℕ → Result (Part × ℕ) ℕ
+delete_at before bytes at = do
+  key ← new_key_at before bytes at
   Ok (delete key.0, key.1)
 
-unfoldable pub change_at : List ℕ → ℕ → Result (Change × ℕ) ℕ
-change_at bytes at = do
+-- a change to one flag, whose key is none of these
+unfoldable pub part_at : List (List ℕ) → List ℕ → ℕ → Result (Part × ℕ) ℕ
+part_at before bytes at = do
   kind ← number_at w8 bytes at
-  if kind.0 == 1 then put_at bytes kind.1 else if kind.0 == 2 then delete_at bytes kind.1
-      else Err at
+  if kind.0 == PUT_KIND then put_at before bytes kind.1
+      else if kind.0 == DELETE_KIND then delete_at before bytes kind.1 else Err at
 
 -- that many of what step reads, one after the other
 unfoldable pub many_from : {A S : Type 0} → (S → Result (A × S) ℕ) → ℕ → S → Result (List A × S) ℕ
 many_from step zero s = Ok ([], s)
 many_from step (suc n) s = do
-  one ← step s
-  others ← many_from step n one.1
-  Ok (one.0 ∷ others.0, others.1)
+  first ← step s
+  others ← many_from step n first.1
+  Ok (first.0 ∷ others.0, others.1)
+
+-- the next part of a set, from the keys before it and an offset on to the keys with its own and the
+-- offset behind it
+unfoldable pub next_part : List ℕ → List (List ℕ) × ℕ → Result (Part × (List (List ℕ) × ℕ)) ℕ
+next_part bytes from = do
+  part ← part_at from.0 bytes from.1
+  Ok (part.0, (from.0 ++ part_key part.0 ∷ [], part.1))
+
+-- how many parts a set has
+unfoldable pub part_count : List ℕ → ℕ → Result (ℕ × ℕ) ℕ
+part_count bytes at = do
+  count ← number_at w16 bytes at
+  if is_count count.0 then Ok count else Err at
+
+-- a set whose kind is at that offset: its number of parts and then its parts; one that is longer
+-- than an edit may be is wrong at its kind
+unfoldable pub set_at : List ℕ → ℕ → ℕ → Result (Change × ℕ) ℕ
+set_at bytes kind at = do
+  count ← part_count bytes at
+  parts ← many_from (next_part bytes) count.0 ([], count.1)
+  if nat_le parts.1.1 (kind + LONGEST_EDIT) then Ok (set parts.0, parts.1.1) else Err kind
+
+-- an edit of one flag, or a set
+unfoldable pub change_at : List ℕ → ℕ → Result (Change × ℕ) ℕ
+change_at bytes at = do
+  kind ← number_at w8 bytes at
+  if kind.0 == SET_KIND then set_at bytes at kind.1 else do
+    part ← part_at [] bytes at
+    Ok (one part.0, part.1)
 
 abbrev pub changes_at : ℕ → List ℕ → ℕ → Result (List Change × ℕ) ℕ
 changes_at count bytes at = many_from (change_at bytes) count at

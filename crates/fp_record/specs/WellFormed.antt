@@ -1,12 +1,14 @@
 -- The values that have a spelling.
-use Rattle.std.specs.Prelude.{◌≡◌, ℕ, ◌+◌, ◌^◌, ◌<◌, ◌≤◌, true, List, length, map}
+use Rattle.std.specs.Prelude.{◌≡◌, ℕ, ◌+◌, ◌^◌, ◌<◌, ◌≤◌, true, List, None, length, map}
 use Rattle.std.specs.List.{AllByRecursion}
 use Rattle.std.specs.List.Sorted.{IsStrictlySortedBy}
 use Rattle.std.specs.Str.{IsUtf8}
 use Rattle.fp_base.specs.Bytes.{bytes_cmp}
 use Rattle.fp_definition.specs.Key.{is_key}
 use Rattle.fp_definition.specs.Valid.{is_definition_text}
-use Rattle.fp_edit.specs.Edits.{Change, put, delete}
+use Rattle.fp_edit.specs.Changes.{set_fault}
+use Rattle.fp_edit.specs.Parts.{Part, put, delete}
+use Rattle.fp_edit.specs.Edits.{Change, one, set}
 use Rattle.fp_edit.specs.declared.edit.TheConstants.{REVISIONS_END}
 use Rattle.fp_edit.specs.declared.flag_set.TheConstants.{MOST_FLAGS}
 use Rattle.fp_edit.specs.declared.flags.Flag.{Flag}
@@ -22,9 +24,14 @@ pub record IsKey (key : List ℕ) : Type 0 where
 pub record IsText (text : List ℕ) : Type 0 where
   pub canonical : is_definition_text text ≡ true
 
+abbrev pub IsPart : Part → Type 0
+IsPart (put key text) = IsKey key × IsText text
+IsPart (delete key) = IsKey key
+
+-- a set's parts can be changed together: some and not too many, no key twice, and not too long
 abbrev pub IsChange : Change → Type 0
-IsChange (put key text) = IsKey key × IsText text
-IsChange (delete key) = IsKey key
+IsChange (one part) = IsPart part
+IsChange (set parts) = AllByRecursion IsPart parts × (set_fault parts ≡ None)
 
 -- some changes and not too many, the last of them at a revision that there is
 pub record IsBatch (group : Group) : Type 0 where

@@ -1,24 +1,27 @@
 //! Batches: edits under consecutive revisions.
 
-ghost use Rattle.std.specs.Prelude.{◌≡◌, ◌+◌, ◌<◌, ◌≤◌, ◌++◌, ◌⊎◌, length, vec_len, IfOk};
-ghost use Rattle.std.specs.Prelude.{◌≢◌, IfErr, OnOk, Ok, Err};
+ghost use Rattle.std.specs.Prelude.{◌≡◌, ◌+◌, ◌<◌, ◌≤◌, ◌++◌, ◌⊎◌, length, vec_len, map, IfOk};
+ghost use Rattle.std.specs.Prelude.{◌≢◌, IfErr, OnOk, Ok, Err, None};
 ghost use Rattle.std.specs.List.{AllByRecursion};
 ghost use Rattle.fp_base.specs.Answer.{Gives};
-ghost use Rattle.fp_edit.specs.Edits.{proposal_of};
-ghost use Rattle.fp_edit.specs.Following.{change_of, changes_of, unconditional};
+ghost use Rattle.fp_definition.specs.Key.{key_bytes};
+ghost use Rattle.fp_edit.specs.Changes.{set_fault};
+ghost use Rattle.fp_edit.specs.Edits.{set};
+ghost use Rattle.fp_edit.specs.Following.{change_of, changes_of};
+ghost use Rattle.fp_edit.specs.Parts.{delete, parts_of, proposed_of, put};
 ghost use Rattle.fp_record.specs.Group.{Group};
 ghost use Rattle.fp_record.specs.Fields.{Tells};
 ghost use Rattle.fp_record.specs.declared.fault.RecordFault.TheVariants.{Memory};
-ghost use Rattle.fp_record.specs.WellFormed.{IsBatch, IsChange};
-ghost use Rattle.fp_record.specs.Reading.{change_at, put_at, delete_at, changes_at, count_at};
-ghost use Rattle.fp_record.specs.Reading.{batch_at, batch_in};
-ghost use Rattle.fp_record.specs.Encoding.{encoding_of_batch, encoding_of_change};
+ghost use Rattle.fp_record.specs.WellFormed.{IsBatch, IsChange, IsPart};
+ghost use Rattle.fp_record.specs.Reading.{batch_at, batch_in, count_at};
+ghost use Rattle.fp_record.specs.Encoding.{encoding_of_batch, encoding_of_change, encoding_of_part};
 
+use crate::edits::edits_from;
 use crate::fault::RecordFault;
-use crate::fields::{definition_from, key_from, u8_at, u16_at, u64_at};
+use crate::fields::{u16_at, u64_at};
 use crate::writing::{put_definition, put_key, put_u16, put_u64};
-use fp_definition::{LONGEST_DEFINITION, LONGEST_KEY};
-use fp_edit::{Edit, Expect, REVISIONS_END};
+use fp_definition::{Definition, FlagKey};
+use fp_edit::{Change, Edit, LONGEST_EDIT, REVISIONS_END, delete_len, put_len};
 use std::alloc::{AllocError, Global};
 use std::marker::Model;
 
@@ -28,15 +31,14 @@ pub const MOST_EDITS: usize = 64;
 /// How many bytes stand in front of a batch's edits: the first revision, and their number.
 pub const BATCH_HEAD: usize = 10;
 
-/// How many bytes a put takes in a batch beside its key and its definition: its kind, and their
-/// lengths.
-pub const PUT_FRAME: usize = 7;
+/// The first byte of an edit that puts a flag.
+pub const PUT_KIND: u8 = 1;
 
-/// How many bytes a deletion takes in a batch beside its key: its kind, and the key's length.
-pub const DELETE_FRAME: usize = 3;
+/// The first byte of one that deletes a flag.
+pub const DELETE_KIND: u8 = 2;
 
-/// The most bytes that an edit takes in a batch.
-pub const LONGEST_EDIT: usize = PUT_FRAME + LONGEST_KEY + LONGEST_DEFINITION;
+/// The first byte of one that changes several flags.
+pub const SET_KIND: u8 = 3;
 
 /// Edits that are written and read together. What their editors expected isn't part of it.
 #[derive(Drop)]
@@ -122,8 +124,13 @@ pub fn encoded_len(edit: &Edit) -> usize
     ensures small { result ≤ LONGEST_EDIT }
 {
     match edit {
-        Edit::Put { key, flag, .. } => PUT_FRAME + key.as_str().len() + flag.text().len(),
-        Edit::Delete { key, .. } => DELETE_FRAME + key.as_str().len(),
+        Edit::Put { key, flag, .. } => {
+            // Since it is canonical, it is no longer than a definition may be.
+            let _text = flag.text();
+            put_len(key, flag)
+        }
+        Edit::Delete { key, .. } => delete_len(key),
+        Edit::Set(changes) => changes.encoded_len(),
     }
 }
 
@@ -134,16 +141,56 @@ fn put_edit(out: &mut Vec<u8>, edit: &Edit) -> Result<(), AllocError>
     ensures lawful { OnOk result (IsChange (change_of edit.now)) }
 {
     match edit {
-        Edit::Put { key, flag, .. } => {
-            out.push(1)?;
-            put_key(out, key)?;
-            put_definition(out, flag)
-        }
-        Edit::Delete { key, .. } => {
-            out.push(2)?;
-            put_key(out, key)
-        }
+        Edit::Put { key, flag, .. } => put_put(out, key, flag),
+        Edit::Delete { key, .. } => put_delete(out, key),
+        Edit::Set(changes) => put_set(out, changes.as_slice()),
     }
+}
+
+#[tactic(auto, unfolding(crate::specs::Encoding::encoding_of_part))]
+fn put_put(out: &mut Vec<u8>, key: &FlagKey, flag: &Definition) -> Result<(), AllocError>
+    ensures written { OnOk result
+        (out.new.items ≡ out.old.items ++ encoding_of_part (put (key_bytes key.now) flag.now)) }
+    ensures lawful { OnOk result (IsPart (put (key_bytes key.now) flag.now)) }
+{
+    out.push(PUT_KIND)?;
+    put_key(out, key)?;
+    put_definition(out, flag)
+}
+
+#[tactic(auto, unfolding(crate::specs::Encoding::encoding_of_part))]
+fn put_delete(out: &mut Vec<u8>, key: &FlagKey) -> Result<(), AllocError>
+    ensures written { OnOk result
+        (out.new.items ≡ out.old.items ++ encoding_of_part (delete (key_bytes key.now))) }
+    ensures lawful { OnOk result (IsPart (delete (key_bytes key.now))) }
+{
+    out.push(DELETE_KIND)?;
+    put_key(out, key)
+}
+
+fn put_change(out: &mut Vec<u8>, change: &Change) -> Result<(), AllocError>
+    ensures written { OnOk result
+        (out.new.items ≡ out.old.items ++ encoding_of_part (proposed_of change.now).part) }
+    ensures lawful { OnOk result (IsPart (proposed_of change.now).part) }
+{
+    match change {
+        Change::Put { key, flag, .. } => put_put(out, key, flag),
+        Change::Delete { key, .. } => put_delete(out, key),
+    }
+}
+
+fn put_set(out: &mut Vec<u8>, changes: &[Change]) -> Result<(), AllocError>
+    requires { set_fault (parts_of (map proposed_of changes.now)) ≡ None }
+    ensures written { OnOk result (out.new.items ≡ out.old.items
+        ++ encoding_of_change (set (parts_of (map proposed_of changes.now)))) }
+    ensures lawful { OnOk result (IsChange (set (parts_of (map proposed_of changes.now)))) }
+{
+    out.push(SET_KIND)?;
+    put_u16(out, changes.len() as u16)?;
+    for change in changes {
+        put_change(out, change)?;
+    }
+    Ok(())
 }
 
 fn spelled(alloc: Global, first: u64, edits: &[Edit]) -> Result<Vec<u8>, AllocError>
@@ -160,70 +207,6 @@ fn spelled(alloc: Global, first: u64, edits: &[Edit]) -> Result<Vec<u8>, AllocEr
         put_edit(&mut out, edit)?;
     }
     Ok(out)
-}
-
-#[tactic(auto, unfolding(crate::specs::Reading::put_at))]
-fn put_from(alloc: Global, bytes: &[u8], at: usize) -> Result<(Edit, usize), RecordFault>
-    requires { at ≤ length bytes.now }
-    ensures free { IfOk result (λ x. proposal_of x.0 ≡ unconditional (change_of x.0)) }
-    ensures value { Gives (λ x. (change_of x.0, x.1)) Tells result (put_at bytes.now at) }
-    ensures within { IfOk result (λ x. x.1 ≤ length bytes.now) }
-{
-    let (key, next) = key_from(alloc, bytes, at)?;
-    let (flag, next) = definition_from(alloc, bytes, next)?;
-    let expect = Expect::Any;
-    Ok((Edit::Put { key, flag, expect }, next))
-}
-
-#[tactic(auto, unfolding(crate::specs::Reading::delete_at))]
-fn delete_from(alloc: Global, bytes: &[u8], at: usize) -> Result<(Edit, usize), RecordFault>
-    requires { at ≤ length bytes.now }
-    ensures free { IfOk result (λ x. proposal_of x.0 ≡ unconditional (change_of x.0)) }
-    ensures value { Gives (λ x. (change_of x.0, x.1)) Tells result (delete_at bytes.now at) }
-    ensures within { IfOk result (λ x. x.1 ≤ length bytes.now) }
-{
-    let (key, next) = key_from(alloc, bytes, at)?;
-    let expect = Expect::Any;
-    Ok((Edit::Delete { key, expect }, next))
-}
-
-/// The edit at this place, by an editor that expects nothing, and the place behind it.
-#[tactic(auto, unfolding(crate::specs::Reading::change_at))]
-pub fn edit_from(alloc: Global, bytes: &[u8], at: usize) -> Result<(Edit, usize), RecordFault>
-    requires { at ≤ length bytes.now }
-    ensures free { IfOk result (λ x. proposal_of x.0 ≡ unconditional (change_of x.0)) }
-    ensures value { Gives (λ x. (change_of x.0, x.1)) Tells result (change_at bytes.now at) }
-    ensures within { IfOk result (λ x. x.1 ≤ length bytes.now) }
-{
-    let (kind, next) = u8_at(bytes, at)?;
-    match kind {
-        1 => put_from(alloc, bytes, next),
-        2 => delete_from(alloc, bytes, next),
-        _ => Err(RecordFault::BadRecord { at }),
-    }
-}
-
-#[tactic(auto, unfolding(crate::specs::Reading::many_from))]
-fn edits_from(
-    alloc: Global,
-    bytes: &[u8],
-    count: u16,
-    at: usize,
-) -> Result<(Vec<Edit>, usize), RecordFault>
-    requires { at ≤ length bytes.now }
-    ensures value { Gives (λ x. (changes_of x.0.items, x.1)) Tells result
-        (changes_at count bytes.now at) }
-    ensures count { IfOk result (λ x. length x.0.items ≡ count) }
-    ensures within { IfOk result (λ x. x.1 ≤ length bytes.now) }
-{
-    let mut edits = Vec::new(alloc);
-    let mut place = at;
-    for _ in 0..count {
-        let (edit, next) = edit_from(alloc, bytes, place)?;
-        edits.push(edit)?;
-        place = next;
-    }
-    Ok((edits, place))
 }
 
 /// How many edits a batch has, behind that first revision, and the place of the first.

@@ -124,16 +124,6 @@ pub fn key_of(alloc: Global, text: &str) -> Result<FlagKey, RecordFault>
     }
 }
 
-#[tactic(auto, unfolding(crate::specs::Fields::key_at))]
-pub fn key_from(alloc: Global, bytes: &[u8], at: usize) -> Result<(FlagKey, usize), RecordFault>
-    requires { at ≤ length bytes.now }
-    ensures value { Gives (λ x. (key_bytes x.0, x.1)) Tells result (key_at bytes.now at) }
-    ensures within { IfOk result (λ x. x.1 ≤ length bytes.now) }
-{
-    let (text, next) = key_text_at(bytes, at)?;
-    Ok((key_of(alloc, text)?, next))
-}
-
 #[tactic(auto, unfolding(crate::specs::Fields::definition_at))]
 pub fn definition_from(
     alloc: Global,

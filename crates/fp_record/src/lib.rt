@@ -2,6 +2,7 @@
 #![tactic(auto)]
 
 mod batch;
+mod edits;
 mod fault;
 mod fields;
 mod image;
@@ -9,11 +10,11 @@ mod laws;
 mod writing;
 
 pub use batch::{
-    BATCH_HEAD, Batch, DELETE_FRAME, LONGEST_EDIT, MOST_EDITS, PUT_FRAME, count_from, edit_from,
-    encoded_len,
+    BATCH_HEAD, Batch, DELETE_KIND, MOST_EDITS, PUT_KIND, SET_KIND, count_from, encoded_len,
 };
+pub use edits::edit_from;
 pub use fault::RecordFault;
-pub use fields::u64_at;
+pub use fields::{u8_at, u64_at};
 pub use image::{FoundFlag, Image, flag_count_from, flag_from};
 pub use laws::{
     batches_stand_alone, batches_take_their_changes, images_stand_alone,

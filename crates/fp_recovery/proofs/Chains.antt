@@ -1,7 +1,6 @@
 -- A chain of batches ends in one way: by the closed gate behind it, or at the place that is its first fault.
 use Rattle.std.proofs.Common.{◌≡◌, ◌⊎◌, ◌<◌, ◌≤◌, ◌+◌, ◌^◌, ℕ, List, [], ◌∷◌, length, Result, Ok, Err, refl, sym, ap, subst, ◌∙◌, inl, inr, arith, length-append, add-zero, min}
 use Rattle.std.specs.Int.{w32, to_be_bytes}
-use Rattle.fp_edit.specs.Flags.{State}
 use Rattle.fp_gate.specs.declared.gate.TheConstants.{OPEN}
 use Rattle.fp_journal.specs.Chain.{with_length, spell}
 use Rattle.fp_journal.specs.Holds.{Holds}
@@ -10,9 +9,8 @@ use Rattle.fp_journal.specs.State.{AllShort}
 use Rattle.fp_journal.proofs.Holds.{byte_held, holds_front, holds_back}
 use Rattle.fp_journal.proofs.Links.{same_body, length_read}
 use Rattle.fp_recovery.specs.Reading.{batch_onto}
-use Rattle.fp_recovery.specs.Refusals.{RefusesBatch}
-use Rattle.fp_recovery.specs.Stands.{TakesBatch}
-use Rattle.fp_recovery.proofs.Parts.{batch_one}
+use Rattle.fp_recovery.specs.Refusals.{RefusesBatch, Replayed, TakesBody}
+use Rattle.fp_recovery.proofs.Parts.{body_one}
 use Rattle.fp_recovery.proofs.Read.{batch_back, batch_within}
 
 -- what is read isn't refused, and no two places are told
@@ -24,29 +22,29 @@ err_is {A = A} r j k a b = let one : Result A ℕ = Err j in let two : Result A 
 
 module _ (most stop : ℕ) (c : List ℕ) where
   -- there is no link behind this gate, or the set refuses its body
-  abbrev Stops : ℕ → State → ℕ → Type 0
+  abbrev Stops : ℕ → Replayed → ℕ → Type 0
   Stops at s k = Breaks most stop c at k ⊎ ((body : List ℕ) × (next : ℕ) × (offset : ℕ) × IsNext most at stop body next c × RefusesBatch s body offset × (k ≡ at + 5 + offset))
 
   -- the gate is closed, and the set is what was read; or it stops there
-  abbrev EndsBy : ℕ → State → Result State ℕ → Type 0
+  abbrev EndsBy : ℕ → Replayed → Result Replayed ℕ → Type 0
   EndsBy at s (Ok t) = IsClosed at stop c × (s ≡ t)
   EndsBy at s (Err k) = Stops at s k
 
   -- bodies that were read from here on, none of them past the stop
-  record AreHere (at : ℕ) (bodies : List (List ℕ)) (s t : State) : Type 0 where
+  record AreHere (at : ℕ) (bodies : List (List ℕ)) (s t : Replayed) : Type 0 where
     holds : Holds c at (spell bodies)
     short : AllShort most bodies
     within : (at + length (spell bodies) ≡ at) ⊎ (at + length (spell bodies) ≤ stop)
-    reads : Reads TakesBatch s bodies t
+    reads : Reads TakesBody s bodies t
 
   -- and how it ends behind them
-  pub record Ending (at : ℕ) (s : State) (out : Result State ℕ) : Type 0 where
+  pub record Ending (at : ℕ) (s : Replayed) (out : Result Replayed ℕ) : Type 0 where
     bodies : List (List ℕ)
-    last : State
+    last : Replayed
     here : AreHere at bodies s last
     end : EndsBy (at + length (spell bodies)) last out
 
-  pub stop_ending : (at : ℕ) (s : State) (k : ℕ) → StopsAt TakesBatch RefusesBatch most at stop c s k → Ending at s (Err k)
+  pub stop_ending : (at : ℕ) (s : Replayed) (k : ℕ) → StopsAt TakesBody RefusesBatch most at stop c s k → Ending at s (Err k)
   stop_ending at s k h = record {
     bodies = h.bodies;
     last = h.last;
@@ -54,7 +52,7 @@ module _ (most stop : ℕ) (c : List ℕ) where
     end = subst (λ (n : ℕ). Stops n h.last k) h.place h.fault;
   }
 
-  pub chain_ending : (at : ℕ) (s t : State) (bodies : List (List ℕ)) → IsChain most at stop bodies c → Reads TakesBatch s bodies t → Ending at s (Ok t)
+  pub chain_ending : (at : ℕ) (s t : Replayed) (bodies : List (List ℕ)) → IsChain most at stop bodies c → Reads TakesBody s bodies t → Ending at s (Ok t)
   chain_ending at s t bodies h reads =
       let e = h.ends in let w = e.within in let long = e.holds.long in let len = length-append (spell bodies) (e.gate ∷ []) in
       let gate = byte_held c (at + length (spell bodies)) e.gate [] (holds_back c at (spell bodies) (e.gate ∷ []) e.holds) in
@@ -102,15 +100,15 @@ module _ (most stop : ℕ) (c : List ℕ) (small : most < 2 ^ 32) where
   same_next : (at next next' : ℕ) (a b : List ℕ) → IsNext most at stop a next c → IsNext most at stop b next' c → a ≡ b
   same_next at next next' a b p q = let x = p.short in let y = q.short in same_body c at a b p.holds (omega (arith, x, small)) q.holds (omega (arith, y, small))
 
-  shut_sound : (at k : ℕ) (s : State) → IsClosed at stop c → Stops most stop c at s k → ⊥
+  shut_sound : (at k : ℕ) (s : Replayed) → IsClosed at stop c → Stops most stop c at s k → ⊥
   shut_sound at k s shut (inl p) = closed_sound at k shut p
   shut_sound at k s shut (inr p) = shut.shut (byte_held c at OPEN (with_length p.0) p.3.holds)
 
-  ends_one : (at : ℕ) (s : State) (a b : Result State ℕ) → EndsBy most stop c at s a → EndsBy most stop c at s b → a ≡ b
-  ends_one at s (Ok t) (Ok u) p q = ap (λ (x : State). let r : Result State ℕ = Ok x in r) (sym p.1 ∙ q.1)
+  ends_one : (at : ℕ) (s : Replayed) (a b : Result Replayed ℕ) → EndsBy most stop c at s a → EndsBy most stop c at s b → a ≡ b
+  ends_one at s (Ok t) (Ok u) p q = ap (λ (x : Replayed). let r : Result Replayed ℕ = Ok x in r) (sym p.1 ∙ q.1)
   ends_one at s (Ok t) (Err k) p q = absurd (shut_sound at k s p.0 q)
   ends_one at s (Err k) (Ok t) p q = absurd (shut_sound at k s q.0 p)
-  ends_one at s (Err j) (Err k) p q = ap (λ (n : ℕ). let r : Result State ℕ = Err n in r) (stops_one p q)
+  ends_one at s (Err j) (Err k) p q = ap (λ (n : ℕ). let r : Result Replayed ℕ = Err n in r) (stops_one p q)
     where
       stops_one : Stops most stop c at s j → Stops most stop c at s k → j ≡ k
       stops_one (inl p) (inl q) = breaks_one at j k p q
@@ -118,25 +116,25 @@ module _ (most stop : ℕ) (c : List ℕ) (small : most < 2 ^ 32) where
       stops_one (inr p) (inl q) = absurd (next_sound at p.1 k p.0 p.3 q)
       stops_one (inr p) (inr q) =
           let same = same_next at p.1 q.1 p.0 q.0 p.3 q.3 in
-          let refused : batch_onto s q.0 ≡ Err p.2 = subst (λ (b : List ℕ). batch_onto s b ≡ Err p.2) same p.4 in
-          p.5 ∙ ap (λ (n : ℕ). at + 5 + n) (err_is (batch_onto s q.0) p.2 q.2 refused q.4) ∙ sym q.5
+          let refused : batch_onto s.version s.set q.0 ≡ Err p.2 = subst (λ (b : List ℕ). batch_onto s.version s.set b ≡ Err p.2) same p.4 in
+          p.5 ∙ ap (λ (n : ℕ). at + 5 + n) (err_is (batch_onto s.version s.set q.0) p.2 q.2 refused q.4) ∙ sym q.5
 
-  ends_taken : (at next : ℕ) (s t : State) (a : Result State ℕ) (b : List ℕ) → EndsBy most stop c at s a → IsNext most at stop b next c → TakesBatch s b t → ⊥
+  ends_taken : (at next : ℕ) (s t : Replayed) (a : Result Replayed ℕ) (b : List ℕ) → EndsBy most stop c at s a → IsNext most at stop b next c → TakesBody s b t → ⊥
   ends_taken at next s t (Ok u) b p n takes = p.0.shut (byte_held c at OPEN (with_length b) n.holds)
   ends_taken at next s t (Err k) b (inl p) n takes = next_sound at next k b n p
   ends_taken at next s t (Err k) b (inr p) n takes =
       let same = same_next at p.1 next p.0 b p.3 n in
-      apart (batch_onto s b) t p.2 (batch_back s t b takes) (subst (λ (x : List ℕ). batch_onto s x ≡ Err p.2) same p.4)
+      apart (batch_onto s.version s.set b) t.set p.2 (batch_back s.version s.set t.set b takes.1) (subst (λ (x : List ℕ). batch_onto s.version s.set x ≡ Err p.2) same p.4)
 
   -- the first of them, and the others
-  record FirstOf (at : ℕ) (b : List ℕ) (bs : List (List ℕ)) (s t : State) : Type 0 where
-    middle : State
-    taken : TakesBatch s b middle
+  record FirstOf (at : ℕ) (b : List ℕ) (bs : List (List ℕ)) (s t : Replayed) : Type 0 where
+    middle : Replayed
+    taken : TakesBody s b middle
     link : IsNext most at stop b (at + 5 + length b) c
     others : AreHere most stop c (at + 5 + length b) bs middle t
     end : at + length (spell (b ∷ bs)) ≡ at + 5 + length b + length (spell bs)
 
-  first_of : (at : ℕ) (b : List ℕ) (bs : List (List ℕ)) (s t : State) → AreHere most stop c at (b ∷ bs) s t → FirstOf at b bs s t
+  first_of : (at : ℕ) (b : List ℕ) (bs : List (List ℕ)) (s t : Replayed) → AreHere most stop c at (b ∷ bs) s t → FirstOf at b bs s t
   first_of at b bs s t h =
       let len : length (with_length b) ≡ 4 + length b = length-append (to_be_bytes w32 (length b)) b in
       let all = length-append (with_length b) (spell bs) in
@@ -155,29 +153,29 @@ module _ (most stop : ℕ) (c : List ℕ) (small : most < 2 ^ 32) where
         end = end;
       }
 
-  ends_first : (at : ℕ) (s u v : State) (a : Result State ℕ) (y : List ℕ) (ys : List (List ℕ)) → AreHere most stop c at [] s u → EndsBy most stop c (at + 0) u a → AreHere most stop c at (y ∷ ys) s v → ⊥
+  ends_first : (at : ℕ) (s u v : Replayed) (a : Result Replayed ℕ) (y : List ℕ) (ys : List (List ℕ)) → AreHere most stop c at [] s u → EndsBy most stop c (at + 0) u a → AreHere most stop c at (y ∷ ys) s v → ⊥
   ends_first at s u v a y ys h p g =
       let f = first_of at y ys s v g in
-      ends_taken at (at + 5 + length y) s f.middle a y (subst (λ (n : ℕ). EndsBy most stop c n s a) (add-zero at) (subst (λ (z : State). EndsBy most stop c (at + 0) z a) (sym h.reads) p)) f.link f.taken
+      ends_taken at (at + 5 + length y) s f.middle a y (subst (λ (n : ℕ). EndsBy most stop c n s a) (add-zero at) (subst (λ (z : Replayed). EndsBy most stop c (at + 0) z a) (sym h.reads) p)) f.link f.taken
 
-  ends_all : (xs ys : List (List ℕ)) (at : ℕ) (s u v : State) (a b : Result State ℕ) → AreHere most stop c at xs s u → EndsBy most stop c (at + length (spell xs)) u a → AreHere most stop c at ys s v → EndsBy most stop c (at + length (spell ys)) v b → a ≡ b
+  ends_all : (xs ys : List (List ℕ)) (at : ℕ) (s u v : Replayed) (a b : Result Replayed ℕ) → AreHere most stop c at xs s u → EndsBy most stop c (at + length (spell xs)) u a → AreHere most stop c at ys s v → EndsBy most stop c (at + length (spell ys)) v b → a ≡ b
   ends_all [] [] at s u v a b h p g q =
-      ends_one (at + 0) s a b (subst (λ (z : State). EndsBy most stop c (at + 0) z a) (sym h.reads) p) (subst (λ (z : State). EndsBy most stop c (at + 0) z b) (sym g.reads) q)
+      ends_one (at + 0) s a b (subst (λ (z : Replayed). EndsBy most stop c (at + 0) z a) (sym h.reads) p) (subst (λ (z : Replayed). EndsBy most stop c (at + 0) z b) (sym g.reads) q)
   ends_all [] (y ∷ ys) at s u v a b h p g q = absurd (ends_first at s u v a y ys h p g)
   ends_all (x ∷ xs) [] at s u v a b h p g q = absurd (ends_first at s v u b x xs g q h)
   ends_all (x ∷ xs) (y ∷ ys) at s u v a b h p g q =
       let f = first_of at x xs s u h in
       let k = first_of at y ys s v g in
       let same = same_next at (at + 5 + length x) (at + 5 + length y) x y f.link k.link in
-      let middle : f.middle ≡ k.middle = batch_one s f.middle k.middle y (subst (λ (z : List ℕ). TakesBatch s z f.middle) same f.taken) k.taken in
-      let others : AreHere most stop c (at + 5 + length y) xs k.middle u = subst (λ (m : State). AreHere most stop c (at + 5 + length y) xs m u) middle (subst (λ (z : List ℕ). AreHere most stop c (at + 5 + length z) xs f.middle u) same f.others) in
+      let middle : f.middle ≡ k.middle = body_one s f.middle k.middle y (subst (λ (z : List ℕ). TakesBody s z f.middle) same f.taken) k.taken in
+      let others : AreHere most stop c (at + 5 + length y) xs k.middle u = subst (λ (m : Replayed). AreHere most stop c (at + 5 + length y) xs m u) middle (subst (λ (z : List ℕ). AreHere most stop c (at + 5 + length z) xs f.middle u) same f.others) in
       let end = f.end ∙ ap (λ (z : List ℕ). at + 5 + length z + length (spell xs)) same in
       ends_all xs ys (at + 5 + length y) k.middle u v a b others (subst (λ (n : ℕ). EndsBy most stop c n u a) end p) k.others (subst (λ (n : ℕ). EndsBy most stop c n v b) k.end q)
 
-  pub one_ending : (at : ℕ) (s : State) (a b : Result State ℕ) → Ending most stop c at s a → Ending most stop c at s b → a ≡ b
+  pub one_ending : (at : ℕ) (s : Replayed) (a b : Result Replayed ℕ) → Ending most stop c at s a → Ending most stop c at s b → a ≡ b
   one_ending at s a b p q = ends_all p.bodies q.bodies at s p.last q.last a b p.here p.end q.here q.end
 
-  pub stops_within : (at : ℕ) (s : State) (k : ℕ) → at ≤ length c → StopsAt TakesBatch RefusesBatch most at stop c s k → k ≤ length c
+  pub stops_within : (at : ℕ) (s : Replayed) (k : ℕ) → at ≤ length c → StopsAt TakesBody RefusesBatch most at stop c s k → k ≤ length c
   stops_within at s k le h = let long = h.holds.long in let place = h.place in by_fault (omega (arith, long, place)) h.fault
     where
       by_fault : h.gate ≤ length c → Stops most stop c h.gate h.last k → k ≤ length c
@@ -186,5 +184,5 @@ module _ (most stop : ℕ) (c : List ℕ) (small : most < 2 ^ 32) where
       by_fault there (inl (too_long o fits long is)) = omega (arith, fits, is)
       by_fault there (inl (no_body o fits f s is)) = omega (arith, fits, is)
       by_fault there (inr f) =
-          let l = (next_long h.gate f.1 f.0 f.3).2 in let inside = batch_within h.last f.0 f.2 f.4 in let is = f.5 in
+          let l = (next_long h.gate f.1 f.0 f.3).2 in let inside = batch_within h.last.version h.last.set f.0 f.2 f.4 in let is = f.5 in
           omega (arith, l, inside, is)

@@ -26,40 +26,42 @@ use Rattle.fp_layout.specs.declared.fault.OpenFault.{OpenFault}
 use Rattle.fp_layout.specs.declared.fault.OpenFault.TheVariants.{Damaged, Unformatted, UnknownVersion}
 use Rattle.fp_layout.proofs.Numbers.{number32_one, number64_one}
 use Rattle.fp_record.proofs.Places.{IsBytes, IsWide, wide32, wide64}
+use Rattle.fp_slots.specs.Head.{IsVersion}
 use Rattle.fp_slots.specs.Rules.{Rules, cut, equal, none_open}
+use Rattle.fp_slots.specs.declared.places.TheConstants.{FIRST_VERSION, VERSION}
 use Rattle.fp_recovery.specs.Exact.{IsOfBytes}
 use Rattle.fp_recovery.specs.Reading.{batch_onto, image_under}
-use Rattle.fp_recovery.specs.Refusals.{BeginsWith, RefusesBatch, RefusesBytes, RejectsImage, nothing_read}
+use Rattle.fp_recovery.specs.Refusals.{BeginsWith, RefusesBatch, RefusesBytes, RejectsImage, Replayed, TakesBody, nothing_read}
 use Rattle.fp_recovery.specs.Stands.{IsImageOf, StandsFor, TakesBatch}
 use Rattle.fp_recovery.proofs.Parts.{most_small}
 use Rattle.fp_recovery.proofs.Read.{batch_is, image_is, image_stands}
-use Rattle.fp_recovery.proofs.Restored.{sorted_image}
+use Rattle.fp_recovery.proofs.Restored.{sets_read, sorted_image}
 use Rattle.fp_recovery.proofs.Texts.{read_stands}
 
 -- ---- batches that were taken one after the other
-record IsReading (most from stop : ℕ) (c : List ℕ) (before : State) (at : ℕ) (now : State) : Type 0 where
+record IsReading (most from stop : ℕ) (c : List ℕ) (before : Replayed) (at : ℕ) (now : Replayed) : Type 0 where
   bodies : List (List ℕ)
   read : HasRead most from stop c bodies at
-  reads : Reads TakesBatch before bodies now
+  reads : Reads TakesBody before bodies now
 
-module _ (most from stop : ℕ) (c : List ℕ) (small : most < 2 ^ 32) (before : State) where
-  reading_more : (at next : ℕ) (now then : State) (b : List ℕ) → IsReading most from stop c before at now → IsNext most at stop b next c → TakesBatch now b then → IsReading most from stop c before next then
+module _ (most from stop : ℕ) (c : List ℕ) (small : most < 2 ^ 32) (before : Replayed) where
+  reading_more : (at next : ℕ) (now then : Replayed) (b : List ℕ) → IsReading most from stop c before at now → IsNext most at stop b next c → TakesBody now b then → IsReading most from stop c before next then
   reading_more at next now then b r n one = record {
     bodies = r.bodies ++ b ∷ [];
     read = read_more most from stop c small r.bodies at next b r.read n;
-    reads = reads_more TakesBatch before now then r.bodies b r.reads one;
+    reads = reads_more TakesBody before now then r.bodies b r.reads one;
   }
 
-  reading_all : (at : ℕ) (now : State) → IsReading most from stop c before at now → IsClosed at stop c → FoundChain TakesBatch most from stop c before now at
+  reading_all : (at : ℕ) (now : Replayed) → IsReading most from stop c before at now → IsClosed at stop c → FoundChain TakesBody most from stop c before now at
   reading_all at now r shut = let all = read_all most from stop c small r.bodies at r.read shut in record { bodies = r.bodies; chain = all.0; only = all.1; place = r.read.place; reads = r.reads }
 
-  stops : (at : ℕ) (now : State) (k : ℕ) → IsReading most from stop c before at now → Breaks most stop c at k ⊎ ((body : List ℕ) × (next : ℕ) × (offset : ℕ) × IsNext most at stop body next c × RefusesBatch now body offset × (k ≡ at + 5 + offset)) → StopsAt TakesBatch RefusesBatch most from stop c before k
+  stops : (at : ℕ) (now : Replayed) (k : ℕ) → IsReading most from stop c before at now → Breaks most stop c at k ⊎ ((body : List ℕ) × (next : ℕ) × (offset : ℕ) × IsNext most at stop body next c × RefusesBatch now body offset × (k ≡ at + 5 + offset)) → StopsAt TakesBody RefusesBatch most from stop c before k
   stops at now k r fault = record { bodies = r.bodies; gate = at; last = now; holds = r.read.holds; short = r.read.short; place = r.read.place; within = r.read.within; reads = r.reads; fault = fault }
 
-  reading_breaks : (at : ℕ) (now : State) (k : ℕ) → IsReading most from stop c before at now → Breaks most stop c at k → StopsAt TakesBatch RefusesBatch most from stop c before k
+  reading_breaks : (at : ℕ) (now : Replayed) (k : ℕ) → IsReading most from stop c before at now → Breaks most stop c at k → StopsAt TakesBody RefusesBatch most from stop c before k
   reading_breaks at now k r broken = stops at now k r (inl broken)
 
-  reading_refused : (at next : ℕ) (now : State) (b : List ℕ) (offset : ℕ) → IsReading most from stop c before at now → IsNext most at stop b next c → RefusesBatch now b offset → StopsAt TakesBatch RefusesBatch most from stop c before (at + 5 + offset)
+  reading_refused : (at next : ℕ) (now : Replayed) (b : List ℕ) (offset : ℕ) → IsReading most from stop c before at now → IsNext most at stop b next c → RefusesBatch now b offset → StopsAt TakesBody RefusesBatch most from stop c before (at + 5 + offset)
   reading_refused at next now b offset r n bad = stops at now (at + 5 + offset) r (inr (b, next, offset, n, bad, refl))
 
 -- ---- bytes, texts and numbers at a place
@@ -142,7 +144,7 @@ module _ (c : List ℕ) (fits : IsBytes c) where
   ]
 
   abbrev Damage : ℕ → Type 0
-  Damage k = BreaksDisk BeginsWith RejectsImage TakesBatch RefusesBatch c nothing_read k
+  Damage k = BreaksDisk BeginsWith RejectsImage TakesBody RefusesBatch c nothing_read k
 
   abbrev OrDamage : Type 0 → Type 0
   OrDamage A = A ⊎ ((k : ℕ) × Damage k)
@@ -217,20 +219,30 @@ module _ (c : List ℕ) (fits : IsBytes c) where
     ])
   ]
 
-  version_or : (at : ℕ) → HasVersion c at ⊎ (HasVersion c at → ⊥)
+  known_or : (version : ℕ) → IsVersion version ⊎ (IsVersion version → ⊥)
+  known_or version = elim (cases_lt version FIRST_VERSION) [
+    | inl lt ↦ inr (λ v. let least = v.least in omega (arith, least, lt))
+    | inr least ↦ elim (cases_lt VERSION version) [
+      | inl lt ↦ inr (λ v. let greatest = v.greatest in omega (arith, greatest, lt))
+      | inr greatest ↦ inl (record { least = least; greatest = greatest })
+    ]
+  ]
+
+  version_or : (at : ℕ) → ((version : ℕ) × HasVersion c at version) ⊎ ((version : ℕ) → HasVersion c at version → ⊥)
   version_or at = elim (cases_lt (length c) (at + 10)) [
-    | inl short ↦ inr (λ v. let long = v.long in omega (arith, long, short))
-    | inr long ↦ elim (cases_eq (slice_index c (at + 9)) 1) [
-      | inl is ↦ inl (record { long = long; is = is })
-      | inr other ↦ inr (λ v. other v.is)
+    | inl short ↦ inr (λ version v. let long = v.long in omega (arith, long, short))
+    | inr long ↦ elim (known_or (slice_index c (at + 9))) [
+      | inl known ↦ inl (slice_index c (at + 9), record { long = long; is = refl; known = known })
+      | inr none ↦ inr (λ version v. none (subst IsVersion (sym v.is) v.known))
     ]
   ]
 
   record Head (at size : ℕ) : Type 0 where
+    version : ℕ
     generation : ℕ
     base : ℕ
     image : List ℕ
-    head : IsHead c at size generation base image
+    head : IsHead c at size version generation base image
     bytes : IsBytes image
 
   head_or : (size : ℕ) (slot other : Slot) → IsHeader c size → IsActive c size slot other → OrDamage (Head slot.start size)
@@ -245,16 +257,17 @@ module _ (c : List ℕ) (fits : IsBytes c) where
         | inr there ↦ elim (version_or at) [
           | inr none ↦ inr (damaged (at + 9) (no_version there none refl))
           | inl v ↦ elim (base_or at) [
-            | inr none ↦ inr (damaged (at + 10) (no_base v none refl))
+            | inr none ↦ inr (damaged (at + 10) (no_base v.0 v.1 none refl))
             | inl b ↦ elim (length_or at size h.allowed.greatest) [
-              | inr none ↦ inr (damaged (at + 18) (faults.no_length v b.0 b.1 none refl))
+              | inr none ↦ inr (damaged (at + 18) (faults.no_length v.0 b.0 v.1 b.1 none refl))
               | inl len ↦ elim (cases_lt (length c) (at + 22 + len.0)) [
-                | inl short ↦ inr (damaged (at + 22) (no_image v b.0 len.0 b.1 len.1 short refl))
+                | inl short ↦ inr (damaged (at + 22) (no_image v.0 b.0 len.0 v.1 b.1 len.1 short refl))
                 | inr long ↦ (let g = number wide64 (at + 1) (omega (arith, there)) in let r = held_range c (at + 22) len.0 long in inl (record {
+                  version = v.0;
                   generation = g.0;
                   base = b.0;
                   image = slice_range c (at + 22) (at + 22 + len.0);
-                  head = record { generation_is = record { small = g.1; text = g.2 }; version = v; base_is = b.1; length_is = subst (λ (n : ℕ). HasLength c at size n) (sym r.1) len.1; image_text = r.0 };
+                  head = record { generation_is = record { small = g.1; text = g.2 }; version_is = v.1; base_is = b.1; length_is = subst (λ (n : ℕ). HasLength c at size n) (sym r.1) len.1; image_text = r.0 };
                   bytes = range_bytes (at + 22) len.0 long;
                 }))
               ]
@@ -264,28 +277,29 @@ module _ (c : List ℕ) (fits : IsBytes c) where
       ]
 
   -- ---- the image
-  image_or : (size : ℕ) (slot other : Slot) → IsHeader c size → IsActive c size slot other → Head slot.start size → OrDamage ((s : State) × (at : ℕ) × FoundFront BeginsWith c nothing_read s slot at)
-  image_or size slot other h a d = elim (image_under d.base (size / 2) d.image) as (λ r. image_under d.base (size / 2) d.image ≡ r → OrDamage ((s : State) × (at : ℕ) × FoundFront BeginsWith c nothing_read s slot at)) [
+  image_or : (size : ℕ) (slot other : Slot) → IsHeader c size → IsActive c size slot other → Head slot.start size → OrDamage ((s : Replayed) × (at : ℕ) × FoundFront BeginsWith c nothing_read s slot at)
+  image_or size slot other h a d = elim (image_under d.base (size / 2) d.image) as (λ r. image_under d.base (size / 2) d.image ≡ r → OrDamage ((s : Replayed) × (at : ℕ) × FoundFront BeginsWith c nothing_read s slot at)) [
     | Ok es ↦ λ e. (let read = image_is d.base (size / 2) d.image es d.bytes e in
         let s : State = record { flags = fin.from_sorted es; revision = d.base; limit = size / 2 } in
         let is : fin.entries s.flags ≡ es = fin.entries-from_sorted bytes_cmp es (sorted_image es read.lawful.ascending) in
         let begun : IsImageOf d.base (size / 2) d.image s = image_stands d.base (size / 2) d.image s d.bytes (subst (λ (l : List (List ℕ × Flag)). image_under d.base (size / 2) d.image ≡ Ok l) (sym is) e) refl refl in
-        inl (s, slot.start + 22 + length d.image, record { size = size; other = other; generation = d.generation; base = d.base; image = d.image; header = h; active = a; head = d.head; begun = begun; place = refl }))
-    | Err k ↦ λ e. inr (slot.start + 22 + k, in_front (in_image size d.generation d.base slot other d.image k h a d.head e refl))
+        let read : Replayed = record { version = d.version; set = s } in
+        inl (read, slot.start + 22 + length d.image, record { size = size; other = other; version = d.version; generation = d.generation; base = d.base; image = d.image; header = h; active = a; head = d.head; begun = (refl, begun); place = refl }))
+    | Err k ↦ λ e. inr (slot.start + 22 + k, in_front (in_image size d.version d.generation d.base slot other d.image k h a d.head e refl))
   ] refl
 
   -- ---- the batches
-  module _ (most from stop : ℕ) (small : most < 2 ^ 32) (before : State) where
-    abbrev Reading : ℕ → State → Type 0
+  module _ (most from stop : ℕ) (small : most < 2 ^ 32) (before : Replayed) where
+    abbrev Reading : ℕ → Replayed → Type 0
     Reading at now = IsReading most from stop c before at now
 
     abbrev Stopped : Type 0
-    Stopped = (k : ℕ) × StopsAt TakesBatch RefusesBatch most from stop c before k
+    Stopped = (k : ℕ) × StopsAt TakesBody RefusesBatch most from stop c before k
 
     abbrev Read : Type 0
-    Read = (t : State) × (end : ℕ) × FoundChain TakesBatch most from stop c before t end
+    Read = (t : Replayed) × (end : ℕ) × FoundChain TakesBody most from stop c before t end
 
-    next_or : (at : ℕ) (now : State) → Reading at now → (Read ⊎ Stopped) ⊎ ((t : State) × (next : ℕ) × (at < next) × Reading next t)
+    next_or : (at : ℕ) (now : Replayed) → Reading at now → (Read ⊎ Stopped) ⊎ ((t : Replayed) × (next : ℕ) × (at < next) × Reading next t)
     next_or at now r = elim (cases_lt at (min stop (length c))) [
       | inr past ↦ inl (inr (at, reading_breaks most from stop c small before at now at r (no_gate past refl)))
       | inl lt ↦ elim (cases_eq (slice_index c at) OPEN) [
@@ -303,7 +317,7 @@ module _ (c : List ℕ) (fits : IsBytes c) where
       ]
     ]
       where
-        body : slice_index c at ≡ OPEN → at + 5 ≤ length c → length_at c at ≤ most → at + 5 + length_at c at ≤ min stop (length c) → (Read ⊎ Stopped) ⊎ ((t : State) × (next : ℕ) × (at < next) × Reading next t)
+        body : slice_index c at ≡ OPEN → at + 5 ≤ length c → length_at c at ≤ most → at + 5 + length_at c at ≤ min stop (length c) → (Read ⊎ Stopped) ⊎ ((t : Replayed) × (next : ℕ) × (at < next) × Reading next t)
         body on long few whole =
             let n = number wide32 (at + 1) (omega (arith, long)) in
             let front : Holds c at (OPEN ∷ to_be_bytes w32 n.0) = holds_append c at (OPEN ∷ []) (to_be_bytes w32 n.0) (subst (λ (x : ℕ). Holds c at (x ∷ [])) on (holds_byte c at (omega (arith, long)))) n.2 in
@@ -317,37 +331,38 @@ module _ (c : List ℕ) (fits : IsBytes c) where
               place = refl;
               within = omega (arith, size, len, whole);
             } in
-            elim (batch_onto now b) as (λ x. batch_onto now b ≡ x → (Read ⊎ Stopped) ⊎ ((t : State) × (next : ℕ) × (at < next) × Reading next t)) [
-              | Ok t ↦ λ e. inr (t, at + 5 + length b, omega arith, reading_more most from stop c small before at (at + 5 + length b) now t b r link (batch_is now t b (range_bytes (at + 5) n.0 within) e))
+            elim (batch_onto now.version now.set b) as (λ x. batch_onto now.version now.set b ≡ x → (Read ⊎ Stopped) ⊎ ((t : Replayed) × (next : ℕ) × (at < next) × Reading next t)) [
+              | Ok t ↦ λ e. let then : Replayed = record { version = now.version; set = t } in inr (then, at + 5 + length b, omega arith, reading_more most from stop c small before at (at + 5 + length b) now then b r link (refl, batch_is now.version now.set t b (range_bytes (at + 5) n.0 within) e))
               | Err k ↦ λ e. inl (inr (at + 5 + k, reading_refused most from stop c small before at (at + 5 + length b) now b k r link e))
             ] refl
 
-    walk : (left at : ℕ) (now : State) → length c ≤ at + left → Reading at now → Read ⊎ Stopped
+    walk : (left at : ℕ) (now : Replayed) → length c ≤ at + left → Reading at now → Read ⊎ Stopped
     walk zero at now le r = inr (at, reading_breaks most from stop c small before at now at r (no_gate (omega (arith, le)) refl))
     walk (suc left) at now le r = elim (next_or at now r) [
       | inl done ↦ done
       | inr more ↦ (let lt = more.2 in walk left more.1 more.0 (omega (arith, le, lt)) more.3)
     ]
 
-  batches_or : (s : State) (slot : Slot) (at : ℕ) → FoundFront BeginsWith c nothing_read s slot at → OrDamage ((t : State) × StandsFor c t)
+  batches_or : (s : Replayed) (slot : Slot) (at : ℕ) → FoundFront BeginsWith c nothing_read s slot at → OrDamage ((t : State) × StandsFor c t)
   batches_or s slot at f =
       let small = most_small c f.size slot f.other f.header f.active in let long = f.head.image_text.long in let place = f.place in
       elim (walk slot.most at slot.stop small s (length c) at s (omega arith) (record { bodies = []; read = read_none slot.most at slot.stop c (omega (arith, long, place)); reads = refl })) [
         | inr d ↦ inr (d.0, in_chain slot at s f d.1)
         | inl r ↦ inl (
-          r.0,
-          read_stands c f.size slot f.other r.0 (record {
+          r.0.set,
+          read_stands c f.size slot f.other r.0.set (record {
+            version = f.version;
             generation = f.generation;
             base = f.base;
             image = f.image;
-            first = s;
+            first = s.set;
             batches = r.2.bodies;
             header = f.header;
             active = f.active;
             head = f.head;
-            image_is = f.begun;
+            image_is = f.begun.1;
             chain = subst (λ (n : ℕ). IsChain slot.most n slot.stop r.2.bodies c) place r.2.chain;
-            leads = r.2.reads;
+            leads = subst (λ (v : ℕ). Reads (TakesBatch v) s.set r.2.bodies r.0.set) f.begun.0 (sets_read s r.0 r.2.bodies r.2.reads);
           }),
         )
       ]

@@ -1,6 +1,5 @@
 -- A place at which a disk is damaged lies within it.
 use Rattle.std.proofs.Common.{◌≡◌, ◌<◌, ◌≤◌, ◌+◌, ◌/◌, ℕ, List, length, ap, arith}
-use Rattle.fp_edit.specs.Flags.{State}
 use Rattle.fp_journal.specs.declared.slot.Slot.{Slot}
 use Rattle.fp_layout.specs.Faults.{BreaksHeader, bad_size, not_zero, too_short, BreaksHead, no_generation, no_version, no_base, no_image}
 use Rattle.fp_layout.specs.Faults as faults
@@ -10,8 +9,7 @@ use Rattle.fp_layout.specs.Size.{Side, slot_of}
 use Rattle.fp_layout.specs.Size as sides
 use Rattle.fp_slots.specs.Rules.{RulesNeither, none_open, cut, equal}
 use Rattle.fp_layout.specs.declared.fault.OpenFault.TheVariants.{Damaged}
-use Rattle.fp_recovery.specs.Refusals.{BeginsWith, RejectsImage, RefusesBatch, RefusesBytes, nothing_read}
-use Rattle.fp_recovery.specs.Stands.{TakesBatch}
+use Rattle.fp_recovery.specs.Refusals.{BeginsWith, RejectsImage, RefusesBatch, RefusesBytes, Replayed, TakesBody, nothing_read}
 use Rattle.fp_recovery.proofs.Parts.{most_small}
 use Rattle.fp_recovery.proofs.Read.{image_within_bytes}
 use Rattle.fp_recovery.proofs.Chains.{stops_within}
@@ -38,15 +36,15 @@ module _ (c : List ℕ) where
   head_within : (at size k : ℕ) → at < length c → BreaksHead c at size k → k ≤ length c
   head_within at size k there (no_generation short is) = omega (arith, there, is)
   head_within at size k there (no_version long none is) = omega (arith, long, is)
-  head_within at size k there (no_base v none is) = let long = v.long in omega (arith, long, is)
-  head_within at size k there (faults.no_length v b b_is none is) = let long = b_is.text.long in omega (arith, long, is)
-  head_within at size k there (no_image v b len b_is len_is short is) = let long = len_is.text.long in omega (arith, long, is)
+  head_within at size k there (no_base v v_is none is) = let long = v_is.long in omega (arith, long, is)
+  head_within at size k there (faults.no_length v b v_is b_is none is) = let long = b_is.text.long in omega (arith, long, is)
+  head_within at size k there (no_image v b len v_is b_is len_is short is) = let long = len_is.text.long in omega (arith, long, is)
 
-  pub damage_within : (before : State) (k : ℕ) → BreaksDisk BeginsWith RejectsImage TakesBatch RefusesBatch c before k → k ≤ length c
+  pub damage_within : (before : Replayed) (k : ℕ) → BreaksDisk BeginsWith RejectsImage TakesBody RefusesBatch c before k → k ≤ length c
   damage_within before k (in_front (in_header p)) = header_within p.2.0 k p.0 p.2.3
   damage_within before k (in_front (in_slots size h b)) = slots_within size k h b
   damage_within before k (in_front (in_head size slot other h a b)) = head_within slot.start size k (active_there size slot other h a) b
-  damage_within before k (in_front (in_image size generation base slot other image offset h a d r is)) =
+  damage_within before k (in_front (in_image size version generation base slot other image offset h a d r is)) =
       let inside = image_within_bytes base (size / 2) image offset r in let long = d.image_text.long in omega (arith, inside, long, is)
   damage_within before k (in_chain slot at middle f s) =
       let long = f.head.image_text.long in let place = f.place in

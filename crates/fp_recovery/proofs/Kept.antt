@@ -9,7 +9,7 @@ use Rattle.fp_disk.specs.Outcomes.{PendingState, IsOutcome, LeavesOnly, all_sync
 use Rattle.fp_disk.specs.declared.disk.Disk.{Ghosts}
 use Rattle.fp_edit.specs.Flags.{State}
 use Rattle.fp_journal.specs.Holds.{Holds}
-use Rattle.fp_journal.specs.Reading.{IsChain}
+use Rattle.fp_journal.specs.Reading.{IsChain, Reads}
 use Rattle.fp_journal.specs.declared.slot.Slot.{Slot}
 use Rattle.fp_journal.proofs.Holds.{holds_front, holds_byte, range_held}
 use Rattle.fp_layout.specs.Size.{IsSlotSize, Side, first, second, other_side, slot_of, first_slot, second_slot}
@@ -19,12 +19,13 @@ use Rattle.fp_layout.specs.Opening.{FoundDisk}
 use Rattle.fp_layout.proofs.Settled.{settled_one}
 use Rattle.fp_layout.proofs.Making.{new_header, new_active, new_head}
 use Rattle.fp_slots.specs.Rules.{RulesWith}
+use Rattle.fp_slots.specs.declared.places.TheConstants.{VERSION}
 use Rattle.fp_record.specs.WellFormed.{IsImage}
 use Rattle.fp_record.specs.Encoding.{encoding_of_image}
 use Rattle.fp_recovery.specs.Stands.{IsImageOf, TakesBatch, StandsFor, gate_of}
-use Rattle.fp_recovery.specs.Refusals.{BeginsWith}
+use Rattle.fp_recovery.specs.Refusals.{BeginsWith, Replayed, TakesBody}
 use Rattle.fp_recovery.specs.Durable.{IsNewSetOrNone, IsDurable}
-use Rattle.fp_recovery.proofs.Restored.{image_of, entries-empty}
+use Rattle.fp_recovery.proofs.Restored.{image_of, entries-empty, sets_read}
 use Rattle.fp_recovery.proofs.Texts.{IsReadFrom, read_ends, read_stands, text_long, text_read}
 
 -- a disk whose slot tells a text is as long as a header wants it
@@ -32,32 +33,33 @@ pub side_long : (size : ℕ) (side : Side) (text c : List ℕ) → RulesWith (sl
 side_long size first text c t = let there = t.rules.there in omega (arith, there)
 side_long size second text c t = let long = t.ends.holds.long in let len = length-append text (t.ends.gate ∷ []) in omega (arith, long, len)
 
-module _ (c : List ℕ) (before set : State) (slot : Slot) (front : List ℕ) (f : FoundDisk BeginsWith TakesBatch c before set slot front) where
+module _ (c : List ℕ) (before after : Replayed) (slot : Slot) (front : List ℕ) (f : FoundDisk BeginsWith TakesBody c before after slot front) where
   -- what was read of a disk is what it stands for
-  pub found_read : IsReadFrom c f.begun.size slot f.begun.other set
+  abbrev pub found_read : IsReadFrom c f.begun.size slot f.begun.other after.set
   found_read = record {
+    version = f.begun.version;
     generation = f.begun.generation;
     base = f.begun.base;
     image = f.begun.image;
-    first = f.middle;
+    first = f.middle.set;
     batches = f.chain.bodies;
     header = f.begun.header;
     active = f.begun.active;
     head = f.begun.head;
-    image_is = f.begun.begun;
+    image_is = f.begun.begun.1;
     chain = subst (λ (n : ℕ). IsChain slot.most n slot.stop f.chain.bodies c) f.begun.place f.chain.chain;
-    leads = f.chain.reads;
+    leads = subst (λ (v : ℕ). Reads (TakesBatch v) f.middle.set f.chain.bodies after.set) f.begun.begun.0 (sets_read f.middle after f.chain.bodies f.chain.reads);
   }
 
-  pub found_stands : StandsFor c set
-  found_stands = read_stands c f.begun.size slot f.begun.other set found_read
+  pub found_stands : StandsFor c after.set
+  found_stands = read_stands c f.begun.size slot f.begun.other after.set found_read
 
-  pub found_front : front ≡ text_read c f.begun.size slot f.begun.other set found_read
+  pub found_front : front ≡ text_read c f.begun.size slot f.begun.other after.set found_read
   unfolding found_read
   found_front =
-      let text = text_read c f.begun.size slot f.begun.other set found_read in let e = read_ends c f.begun.size slot f.begun.other set found_read in
+      let text = text_read c f.begun.size slot f.begun.other after.set found_read in let e = read_ends c f.begun.size slot f.begun.other after.set found_read in
       let there : Holds c slot.start text = holds_front c slot.start text (e.gate ∷ []) e.holds in
-      let all = text_long c f.begun.size slot f.begun.other set found_read in let place = f.begun.place in let end = f.chain.place in
+      let all = text_long c f.begun.size slot f.begun.other after.set found_read in let place = f.begun.place in let end = f.chain.place in
       let len : length front ≡ length text = omega (arith, all, place, end) in
       f.front_is ∙ ap (λ (n : ℕ). slice_range c slot.start (slot.start + n)) len ∙ range_held c slot.start text there
 
@@ -88,9 +90,10 @@ pub new_image : (size : ℕ) → IsSlotSize size → IsImageOf 0 (size / 2) empt
 new_image size allowed = let least = allowed.least in
     image_of 0 (size / 2) empty_image [] (new_set size) no_image empty_spelled (record { numbered = lit< tt; changed = tt; within = omega (arith, least) }) entries-empty refl refl
 
-module _ (size : ℕ) (c : List ℕ) (allowed : IsSlotSize size) (made : IsNewDisk size c) (header : IsHeader c size) (active : IsActive c size (first_slot size) (second_slot size)) (head : IsHead c 64 size 1 0 empty_image) where
-  pub new_read : IsReadFrom c size (first_slot size) (second_slot size) (new_set size)
+module _ (size : ℕ) (c : List ℕ) (allowed : IsSlotSize size) (made : IsNewDisk size c) (header : IsHeader c size) (active : IsActive c size (first_slot size) (second_slot size)) (head : IsHead c 64 size VERSION 1 0 empty_image) where
+  abbrev pub new_read : IsReadFrom c size (first_slot size) (second_slot size) (new_set size)
   new_read = let long = header.long in let least = allowed.least in let zero : slice_index c 90 ≡ 0 = made.made.zeros 90 (lit≤ tt) (omega (arith, least)) in record {
+    version = VERSION;
     generation = 1;
     base = 0;
     image = empty_image;

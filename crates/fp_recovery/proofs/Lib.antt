@@ -1,5 +1,8 @@
 pub mod Cases
 pub mod Restored
+pub mod Reach
+pub mod Allowed
+pub mod Faults
 pub mod Read
 pub mod Flags
 pub mod Agreed

@@ -1,7 +1,7 @@
 -- What is read forward is what stands there, and what stands there is read so.
 use Rattle.std.proofs.Common.{◌≡◌, ◌<◌, ◌≤◌, ◌+◌, ◌-◌, ◌&&◌, ℕ, zero, suc, Bool, true, false, cond, eqb, leb, ltb, List, [], ◌∷◌, length, Option, Some, None, Result, Ok, Err, refl, sym, ap, subst, ◌∙◌, arith}
-use Rattle.std.specs.Prelude.{is_none}
 use Rattle.std.specs.Int.{w64}
+use Rattle.std.specs.List.{AllByRecursion}
 use Rattle.std.specs.FinMap as fin
 use Rattle.std.proofs.lemmas.Bool.{eqb-true, eq-eqb, ne_eqb, leb-true, le-leb, ltb-true, lt-ltb}
 use Rattle.fp_base.specs.Steps.{◌>>=◌}
@@ -10,6 +10,7 @@ use Rattle.fp_edit.specs.Edits.{Change}
 use Rattle.fp_edit.specs.Flags.{State}
 use Rattle.fp_edit.specs.declared.edit.TheConstants.{REVISIONS_END}
 use Rattle.fp_edit.specs.declared.flags.Flag.{Flag}
+use Rattle.fp_edit.proofs.Followed.{change-unconditional}
 use Rattle.fp_journal.specs.Reading.{IsWrong}
 use Rattle.fp_record.specs.Encoding.{encoding_of_image}
 use Rattle.fp_record.specs.Fields.{number_at}
@@ -26,92 +27,108 @@ use Rattle.fp_record.proofs.Loop.{Fails}
 use Rattle.fp_record.proofs.Many.{many_next}
 use Rattle.fp_record.proofs.Places.{IsBytes, bind_ok, both_true, met, ok_is}
 use Rattle.fp_record.proofs.Whole.{whole_ok}
-use Rattle.fp_recovery.specs.Reading.{image_under, edit_onto, edits_onto, front_behind, batch_onto}
-use Rattle.fp_recovery.specs.Refusals.{RefusesBatch, body_fault}
+use Rattle.fp_recovery.specs.Reading.{image_under, kind_at, onto, edit_onto, edits_onto, front_behind, batch_onto}
+use Rattle.fp_recovery.specs.Refusals.{body_fault}
 use Rattle.fp_edit.specs.Following.{unconditional}
-use Rattle.fp_recovery.specs.Stands.{IsImageAt, IsImageOf, Leads, TakesBatch}
+use Rattle.fp_edit.specs.declared.edit.EditFault.{EditFault}
+use Rattle.fp_recovery.specs.Stands.{IsAllowed, IsImageAt, IsImageOf, Leads, TakesBatch}
+use Rattle.fp_recovery.proofs.Faults.{wrong_within}
+use Rattle.fp_recovery.proofs.Allowed.{allowed_kind, kind_allows, kind_inside}
+use Rattle.fp_recovery.proofs.Reach.{change_reach}
 use Rattle.fp_recovery.proofs.Restored.{image_of, image_within}
-
-is_nothing : {A : Type 0} (o : Option A) → is_none o ≡ true → o ≡ None
-is_nothing None e = refl
-is_nothing (Some x) e = absurd cc
 
 -- all is read up to the end
 whole_at : {A : Type 0} (bytes : List ℕ) (read : Result (A × ℕ) ℕ) (v : A) → read ≡ Ok (v, length bytes) → whole bytes read ≡ Ok v
 whole_at bytes read v e = rw (e, eq-eqb (length bytes) (length bytes) refl) (refl {a = Ok v})
 
 -- ---- edits
-edit_made : (bytes : List ℕ) (from : State × ℕ) (x : Change × ℕ) → change_at bytes from.1 ≡ Ok x → refusal from.0 (unconditional x.0) ≡ None → edit_onto bytes from ≡ Ok (next from.0 x.0, x.1)
+-- what it takes, a set accepts
+taken : (from : State × ℕ) (found : Change × ℕ) (o : Option EditFault) (after : State × ℕ) → onto from found o ≡ Ok after → (o ≡ None) × (after ≡ (next from.0 found.0, found.1))
+taken from found None after e = (refl, sym (ok_is (next from.0 found.0, found.1) after e))
+taken from found (Some fault) after e = absurd cc
+
+edit_made : (version : ℕ) (bytes : List ℕ) (from : State × ℕ) (x : Change × ℕ) → change_at bytes from.1 ≡ Ok x → IsAllowed version x.0 → refusal from.0 (unconditional x.0) ≡ None → edit_onto version bytes from ≡ Ok (next from.0 x.0, x.1)
 unfolding edit_onto
-edit_made bytes from x e none = rw (e, none) (refl {a = Ok (next from.0 x.0, x.1)})
+edit_made version bytes from x e allowed none =
+    let kind = allowed_kind version bytes from.1 x e allowed in
+    rw (kind.1, e, none) (refl {a = Ok (next from.0 x.0, x.1)})
 
-edits_next : (bytes : List ℕ) (n : ℕ) (from after to : State × ℕ) → edit_onto bytes from ≡ Ok after → edits_onto bytes n after ≡ Ok to → edits_onto bytes (suc n) from ≡ Ok to
+edits_next : (version : ℕ) (bytes : List ℕ) (n : ℕ) (from after to : State × ℕ) → edit_onto version bytes from ≡ Ok after → edits_onto version bytes n after ≡ Ok to → edits_onto version bytes (suc n) from ≡ Ok to
 unfolding edits_onto
-edits_next bytes n from after to e h = rw (e, h) (refl {a = Ok to})
+edits_next version bytes n from after to e h = rw (e, h) (refl {a = Ok to})
 
-pub edits_lead : (bytes : List ℕ) (n : ℕ) (from to : State × ℕ) → edits_onto bytes n from ≡ Ok to → (cs : List Change) × (changes_at n bytes from.1 ≡ Ok (cs, to.1)) × Leads from.0 cs to.0
+-- changes that were read, each of which has its place in such a slot, lead to this set
+record AreMade (version : ℕ) (bytes : List ℕ) (n : ℕ) (from to : State × ℕ) : Type 0 where
+  changes : List Change
+  read : changes_at n bytes from.1 ≡ Ok (changes, to.1)
+  allowed : AllByRecursion (IsAllowed version) changes
+  leads : Leads from.0 changes to.0
+
+edits_lead : (version : ℕ) (bytes : List ℕ) (n : ℕ) (from to : State × ℕ) → edits_onto version bytes n from ≡ Ok to → AreMade version bytes n from to
 unfolding edits_onto edit_onto many_from
-edits_lead bytes zero from to e =
+edits_lead version bytes zero from to e =
     let is : from ≡ to = ok_is from to e in
     let Read : ℕ → Type 0 = λ k. changes_at zero bytes from.1 ≡ Ok ([], k) in
-    ([], subst Read (ap (λ (z : State × ℕ). z.1) is) refl, ap (λ (z : State × ℕ). z.0) (sym is))
-edits_lead bytes (suc n) from to e =
-    let a = bind_ok (edit_onto bytes from) (λ after. edits_onto bytes n after) to e in
+    record { changes = []; read = subst Read (ap (λ (z : State × ℕ). z.1) is) refl; allowed = tt; leads = ap (λ (z : State × ℕ). z.0) (sym is) }
+edits_lead version bytes (suc n) from to e =
+    let a = bind_ok (edit_onto version bytes from) (λ after. edits_onto version bytes n after) to e in
     let after = a.0 in
-    let b = bind_ok (change_at bytes from.1) (λ found. cond (is_none (refusal from.0 (unconditional found.0))) (Ok (next from.0 found.0, found.1)) (Err from.1)) after a.1 in
+    let k = bind_ok (kind_at version bytes from.1) (λ kind. change_at bytes from.1 >>= λ found. onto from found (refusal from.0 (unconditional found.0))) after a.1 in
+    let b = bind_ok (change_at bytes from.1) (λ found. onto from found (refusal from.0 (unconditional found.0))) after k.2 in
     let found = b.0 in
-    let made : State × ℕ = (next from.0 found.0, found.1) in
-    let m = met (is_none (refusal from.0 (unconditional found.0))) from.1 (Ok made) after b.2 in
-    let is : made ≡ after = ok_is made after m.1 in
-    let rest = edits_lead bytes n after to a.2 in
-    let others : changes_at n bytes found.1 ≡ Ok (rest.0, to.1) = subst (λ (k : ℕ). changes_at n bytes k ≡ Ok (rest.0, to.1)) (sym (ap (λ (z : State × ℕ). z.1) is)) rest.1 in
-    let cs = found.0 ∷ rest.0 in
-    let left : List Change × ℕ = (rest.0, to.1) in
-    (cs, many_next (change_at bytes) n from.1 found left b.1 others, (after.0, (is_nothing (refusal from.0 (unconditional found.0)) m.0, sym (ap (λ (z : State × ℕ). z.0) is)), rest.2))
+    let t = taken from found (refusal from.0 (unconditional found.0)) after b.2 in
+    let rest = edits_lead version bytes n after to a.2 in
+    let others : changes_at n bytes found.1 ≡ Ok (rest.changes, to.1) = subst (λ (k : ℕ). changes_at n bytes k ≡ Ok (rest.changes, to.1)) (ap (λ (z : State × ℕ). z.1) t.1) rest.read in
+    let left : List Change × ℕ = (rest.changes, to.1) in record {
+      changes = found.0 ∷ rest.changes;
+      read = many_next (change_at bytes) n from.1 found left b.1 others;
+      allowed = (kind_allows version bytes from.1 k.0 found k.1 b.1, rest.allowed);
+      leads = (after.0, (t.0, ap (λ (z : State × ℕ). z.0) t.1 ∙ ap (next from.0) (sym (change-unconditional found.0))), rest.leads);
+    }
 
-pub edits_back : (bytes : List ℕ) (n : ℕ) (from : State × ℕ) (x : List Change × ℕ) (t : State) → changes_at n bytes from.1 ≡ Ok x → Leads from.0 x.0 t → edits_onto bytes n from ≡ Ok (t, x.1)
+edits_back : (version : ℕ) (bytes : List ℕ) (n : ℕ) (from : State × ℕ) (x : List Change × ℕ) (t : State) → changes_at n bytes from.1 ≡ Ok x → AllByRecursion (IsAllowed version) x.0 → Leads from.0 x.0 t → edits_onto version bytes n from ≡ Ok (t, x.1)
 unfolding edits_onto edit_onto many_from
-edits_back bytes zero from x t e led =
+edits_back version bytes zero from x t e allowed led =
     let start : List Change × ℕ = ([], from.1) in
-    let Done : List Change × ℕ → Type 0 = λ y. Leads from.0 y.0 t → edits_onto bytes zero from ≡ Ok (t, y.1) in
-    let Same : State → Type 0 = λ s. edits_onto bytes zero from ≡ Ok (s, from.1) in
+    let Done : List Change × ℕ → Type 0 = λ y. Leads from.0 y.0 t → edits_onto version bytes zero from ≡ Ok (t, y.1) in
+    let Same : State → Type 0 = λ s. edits_onto version bytes zero from ≡ Ok (s, from.1) in
     subst Done (ok_is start x e) (λ same. subst Same (sym same) refl) led
-edits_back bytes (suc n) from x t e led =
+edits_back version bytes (suc n) from x t e allowed led =
     let a = bind_ok (change_at bytes from.1) (λ one. many_from (change_at bytes) n one.1 >>= λ others. Ok (one.0 ∷ others.0, others.1)) x e in
     let one = a.0 in
     let b = bind_ok (many_from (change_at bytes) n one.1) (λ others. Ok (one.0 ∷ others.0, others.1)) x a.2 in
     let others = b.0 in
     let made : List Change × ℕ = (one.0 ∷ others.0, others.1) in
-    let Done : List Change × ℕ → Type 0 = λ y. Leads from.0 y.0 t → edits_onto bytes (suc n) from ≡ Ok (t, y.1) in
+    let Done : List Change × ℕ → Type 0 = λ y. AllByRecursion (IsAllowed version) y.0 → Leads from.0 y.0 t → edits_onto version bytes (suc n) from ≡ Ok (t, y.1) in
     subst Done (ok_is made x b.2)
-    (λ l. let after : State × ℕ = (next from.0 one.0, one.1) in
-    let rest : Leads after.0 others.0 t = subst (λ (s : State). Leads s others.0 t) l.1.1 l.2 in
+    (λ all l. let after : State × ℕ = (next from.0 one.0, one.1) in
+    let rest : Leads after.0 others.0 t = subst (λ (s : State). Leads s others.0 t) (l.1.1 ∙ ap (next from.0) (change-unconditional one.0)) l.2 in
     let none : refusal from.0 (unconditional one.0) ≡ None = l.1.0 in
     let to : State × ℕ = (t, others.1) in
-    edits_next bytes n from after to (edit_made bytes from one a.1 none) (edits_back bytes n after others t b.1 rest))
-    led
+    edits_next version bytes n from after to (edit_made version bytes from one a.1 all.0 none) (edits_back version bytes n after others t b.1 all.1 rest))
+    allowed led
 
 -- as a loop does
-pub onto_more : (bytes : List ℕ) (count i : ℕ) (from after : State × ℕ) (total : Result (State × ℕ) ℕ) → i < count → edit_onto bytes from ≡ Ok after → edits_onto bytes (count - i) from ≡ total → edits_onto bytes (count - (i + 1)) after ≡ total
+pub onto_more : (version : ℕ) (bytes : List ℕ) (count i : ℕ) (from after : State × ℕ) (total : Result (State × ℕ) ℕ) → i < count → edit_onto version bytes from ≡ Ok after → edits_onto version bytes (count - i) from ≡ total → edits_onto version bytes (count - (i + 1)) after ≡ total
 unfolding edits_onto
-onto_more bytes count i from after total lt h so_far =
+onto_more version bytes count i from after total lt h so_far =
     let k : count - i ≡ suc (count - (i + 1)) = omega (arith, lt) in
-    let one : edits_onto bytes (count - i) from ≡ edits_onto bytes (count - (i + 1)) after = rw (k, h) refl in
+    let one : edits_onto version bytes (count - i) from ≡ edits_onto version bytes (count - (i + 1)) after = rw (k, h) refl in
     sym one ∙ so_far
 
-pub onto_fails : (e : RecordFault) (bytes : List ℕ) (count i : ℕ) (from : State × ℕ) (total : Result (State × ℕ) ℕ) → i < count → Fails e (edit_onto bytes from) → edits_onto bytes (count - i) from ≡ total → Fails e total
+pub onto_fails : (e : RecordFault) (version : ℕ) (bytes : List ℕ) (count i : ℕ) (from : State × ℕ) (total : Result (State × ℕ) ℕ) → i < count → Fails e (edit_onto version bytes from) → edits_onto version bytes (count - i) from ≡ total → Fails e total
 unfolding edits_onto
-onto_fails fault.Memory bytes count i from total lt h so_far = tt
-onto_fails (fault.BadRecord at) bytes count i from total lt h so_far =
+onto_fails fault.Memory version bytes count i from total lt h so_far = tt
+onto_fails (fault.BadRecord at) version bytes count i from total lt h so_far =
     let k : count - i ≡ suc (count - (i + 1)) = omega (arith, lt) in
-    let one : edits_onto bytes (count - i) from ≡ Err at = rw (k, h) refl in
+    let one : edits_onto version bytes (count - i) from ≡ Err at = rw (k, h) refl in
     sym so_far ∙ one
 
-pub onto_done : (bytes : List ℕ) (count i : ℕ) (from : State × ℕ) (total : Result (State × ℕ) ℕ) → count ≤ i → edits_onto bytes (count - i) from ≡ total → total ≡ Ok from
+pub onto_done : (version : ℕ) (bytes : List ℕ) (count i : ℕ) (from : State × ℕ) (total : Result (State × ℕ) ℕ) → count ≤ i → edits_onto version bytes (count - i) from ≡ total → total ≡ Ok from
 unfolding edits_onto
-onto_done bytes count i from total le so_far =
+onto_done version bytes count i from total le so_far =
     let k : count - i ≡ 0 = omega (arith, le) in
-    let one : edits_onto bytes (count - i) from ≡ Ok from = rw k refl in
+    let one : edits_onto version bytes (count - i) from ≡ Ok from = rw k refl in
     sym so_far ∙ one
 
 -- ---- batches
@@ -124,29 +141,29 @@ front_made : (revision : ℕ) (bytes : List ℕ) (first count : ℕ × ℕ) → 
 unfolding front_behind
 front_made revision bytes first count a same b = rw (a, same) b
 
-front_then : (s : State) (bytes : List ℕ) (front : ℕ × ℕ) (to : State × ℕ) → front_behind s.revision bytes ≡ Ok front → edits_onto bytes front.0 (s, front.1) ≡ Ok to → (front_behind s.revision bytes >>= λ x. edits_onto bytes x.0 (s, x.1)) ≡ Ok to
-front_then s bytes front to a b = rw a b
+front_then : (version : ℕ) (s : State) (bytes : List ℕ) (front : ℕ × ℕ) (to : State × ℕ) → front_behind s.revision bytes ≡ Ok front → edits_onto version bytes front.0 (s, front.1) ≡ Ok to → (front_behind s.revision bytes >>= λ x. edits_onto version bytes x.0 (s, x.1)) ≡ Ok to
+front_then version s bytes front to a b = rw a b
 
-pub batch_is : (s t : State) (bytes : List ℕ) → IsBytes bytes → batch_onto s bytes ≡ Ok t → TakesBatch s bytes t
+pub batch_is : (version : ℕ) (s t : State) (bytes : List ℕ) → IsBytes bytes → batch_onto version s bytes ≡ Ok t → TakesBatch version s bytes t
 unfolding batch_onto front_behind batch_in batch_at
-batch_is s t bytes fits e =
-    let w = whole_ok bytes (front_behind s.revision bytes >>= λ front. edits_onto bytes front.0 (s, front.1)) t e in
+batch_is version s t bytes fits e =
+    let w = whole_ok bytes (front_behind s.revision bytes >>= λ front. edits_onto version bytes front.0 (s, front.1)) t e in
     let end : State × ℕ = (t, length bytes) in
-    let a = bind_ok (front_behind s.revision bytes) (λ front. edits_onto bytes front.0 (s, front.1)) end w in
+    let a = bind_ok (front_behind s.revision bytes) (λ front. edits_onto version bytes front.0 (s, front.1)) end w in
     let b = bind_ok (number_at w64 bytes 0) (λ first. cond (eqb first.0 (s.revision + 1)) (count_at first.0 bytes first.1) (Err 0)) a.0 a.1 in
     let first = b.0 in
     let m = met (eqb first.0 (s.revision + 1)) 0 (count_at first.0 bytes first.1) a.0 b.2 in
     let start : State × ℕ = (s, a.0.1) in
-    let l = edits_lead bytes a.0.0 start end a.2 in
-    let group : Group = record { first = first.0; changes = l.0 } in
-    let changes : List Change × ℕ = (l.0, length bytes) in
-    let read : batch_at bytes ≡ Ok (group, length bytes) = batch_made bytes first a.0 changes b.1 m.1 l.1 in
+    let l = edits_lead version bytes a.0.0 start end a.2 in
+    let group : Group = record { first = first.0; changes = l.changes } in
+    let changes : List Change × ℕ = (l.changes, length bytes) in
+    let read : batch_at bytes ≡ Ok (group, length bytes) = batch_made bytes first a.0 changes b.1 m.1 l.read in
     let spelled = batch_spelled bytes group fits (whole_at bytes (batch_at bytes) group read) in
-    record { group = group; lawful = spelled.0; spelled = spelled.1; follows = eqb-true first.0 (s.revision + 1) m.0; leads = l.2 }
+    record { group = group; lawful = spelled.0; allowed = l.allowed; spelled = spelled.1; follows = eqb-true first.0 (s.revision + 1) m.0; leads = l.leads }
 
-pub batch_back : (s t : State) (bytes : List ℕ) → TakesBatch s bytes t → batch_onto s bytes ≡ Ok t
+pub batch_back : (version : ℕ) (s t : State) (bytes : List ℕ) → TakesBatch version s bytes t → batch_onto version s bytes ≡ Ok t
 unfolding batch_onto front_behind batch_in batch_at
-batch_back s t bytes h =
+batch_back version s t bytes h =
     let group = h.group in
     let end : Group × ℕ = (group, length bytes) in
     let w = whole_ok bytes (batch_at bytes) group (batch_found bytes group h.lawful h.spelled) in
@@ -159,19 +176,21 @@ batch_back s t bytes h =
     let made : Group × ℕ = (record { first = first.0; changes = changes.0 }, changes.1) in
     let is : made ≡ end = ok_is made end c.2 in
     let follows : first.0 ≡ s.revision + 1 = ap (λ (x : Group × ℕ). x.0.first) is ∙ h.follows in
-    let led : Leads s changes.0 t = subst (λ (cs : List Change). Leads s cs t) (sym (ap (λ (x : Group × ℕ). x.0.changes) is)) h.leads in
+    let same : changes.0 ≡ group.changes = ap (λ (x : Group × ℕ). x.0.changes) is in
+    let allowed : AllByRecursion (IsAllowed version) changes.0 = subst (λ (cs : List Change). AllByRecursion (IsAllowed version) cs) (sym same) h.allowed in
+    let led : Leads s changes.0 t = subst (λ (cs : List Change). Leads s cs t) (sym same) h.leads in
     let start : State × ℕ = (s, count.1) in
-    let edits : edits_onto bytes count.0 start ≡ Ok (t, length bytes) = subst (λ (k : ℕ). edits_onto bytes count.0 start ≡ Ok (t, k)) (ap (λ (x : Group × ℕ). x.1) is) (edits_back bytes count.0 start changes t c.1 led) in
+    let edits : edits_onto version bytes count.0 start ≡ Ok (t, length bytes) = subst (λ (k : ℕ). edits_onto version bytes count.0 start ≡ Ok (t, k)) (ap (λ (x : Group × ℕ). x.1) is) (edits_back version bytes count.0 start changes t c.1 allowed led) in
     let to : State × ℕ = (t, length bytes) in
-    let same : eqb first.0 (s.revision + 1) ≡ true = eq-eqb first.0 (s.revision + 1) follows in
-    whole_at bytes (front_behind s.revision bytes >>= λ front. edits_onto bytes front.0 (s, front.1)) t (front_then s bytes count to (front_made s.revision bytes first count a.1 same b.1) edits)
+    let behind : eqb first.0 (s.revision + 1) ≡ true = eq-eqb first.0 (s.revision + 1) follows in
+    whole_at bytes (front_behind s.revision bytes >>= λ front. edits_onto version bytes front.0 (s, front.1)) t (front_then version s bytes count to (front_made s.revision bytes first count a.1 behind b.1) edits)
 
-pub batch_read : (s t : State) (bytes : List ℕ) (front : ℕ × ℕ) (end : ℕ) → front_behind s.revision bytes ≡ Ok front → edits_onto bytes front.0 (s, front.1) ≡ Ok (t, end) → end ≡ length bytes → batch_onto s bytes ≡ Ok t
+pub batch_read : (version : ℕ) (s t : State) (bytes : List ℕ) (front : ℕ × ℕ) (end : ℕ) → front_behind s.revision bytes ≡ Ok front → edits_onto version bytes front.0 (s, front.1) ≡ Ok (t, end) → end ≡ length bytes → batch_onto version s bytes ≡ Ok t
 unfolding batch_onto
-batch_read s t bytes front end a b is =
+batch_read version s t bytes front end a b is =
     let to : State × ℕ = (t, length bytes) in
-    whole_at bytes (front_behind s.revision bytes >>= λ x. edits_onto bytes x.0 (s, x.1)) t
-    (front_then s bytes front to a (subst (λ (n : ℕ). edits_onto bytes front.0 (s, front.1) ≡ Ok (t, n)) is b))
+    whole_at bytes (front_behind s.revision bytes >>= λ x. edits_onto version bytes x.0 (s, x.1)) t
+    (front_then version s bytes front to a (subst (λ (n : ℕ). edits_onto version bytes front.0 (s, front.1) ≡ Ok (t, n)) is b))
 
 -- ---- images
 -- what is read of an image of this revision under this limit
@@ -226,16 +245,24 @@ image_stands base limit bytes s fits read revision limit_is =
 
 -- ---- places
 module _ (bytes : List ℕ) where
-  edit_inside : (from : State × ℕ) → from.1 ≤ length bytes → Inside (length bytes) (λ (x : State × ℕ). x.1) (edit_onto bytes from)
-  unfolding edit_onto
-  edit_inside from le = let n = length bytes in let end : State × ℕ → ℕ = λ x. x.1 in
-      inside_then n (λ (x : Change × ℕ). x.1) end (change_at bytes from.1) (λ found. cond (is_none (refusal from.0 (unconditional found.0))) (Ok (next from.0 found.0, found.1)) (Err from.1)) (change_inside bytes from.1 le)
-      (λ found is f. inside_if n end (is_none (refusal from.0 (unconditional found.0))) (Ok (next from.0 found.0, found.1)) from.1 f le)
+  onto_inside : (from : State × ℕ) (found : Change × ℕ) → change_at bytes from.1 ≡ Ok found → found.1 ≤ length bytes → Inside (length bytes) (λ (x : State × ℕ). x.1) (onto from found (refusal from.0 (unconditional found.0)))
+  onto_inside from found e le = by_answer (refusal from.0 (unconditional found.0)) refl
+    where
+      by_answer : (o : Option EditFault) → refusal from.0 (unconditional found.0) ≡ o → Inside (length bytes) (λ (x : State × ℕ). x.1) (onto from found o)
+      by_answer None is = le
+      by_answer (Some fault) is = let within = wrong_within from.0 found.0 from.1 found.1 fault is (change_reach bytes from.1 found e) in omega (arith, within, le)
 
-  edits_inside : (n : ℕ) (from : State × ℕ) → from.1 ≤ length bytes → Inside (length bytes) (λ (x : State × ℕ). x.1) (edits_onto bytes n from)
+  edit_inside : (version : ℕ) (from : State × ℕ) → from.1 ≤ length bytes → Inside (length bytes) (λ (x : State × ℕ). x.1) (edit_onto version bytes from)
+  unfolding edit_onto
+  edit_inside version from le = let n = length bytes in let end : State × ℕ → ℕ = λ x. x.1 in
+      inside_then n (λ (kind : ℕ). from.1) end (kind_at version bytes from.1) (λ kind. change_at bytes from.1 >>= λ found. onto from found (refusal from.0 (unconditional found.0))) (kind_inside n version bytes from.1 le)
+      (λ kind is k. inside_then n (λ (x : Change × ℕ). x.1) end (change_at bytes from.1) (λ found. onto from found (refusal from.0 (unconditional found.0))) (change_inside bytes from.1 le) (λ found is f. onto_inside from found is f))
+
+  edits_inside : (version n : ℕ) (from : State × ℕ) → from.1 ≤ length bytes → Inside (length bytes) (λ (x : State × ℕ). x.1) (edits_onto version bytes n from)
   unfolding edits_onto
-  edits_inside zero from le = le
-  edits_inside (suc n) from le = let end : State × ℕ → ℕ = λ x. x.1 in inside_then (length bytes) end end (edit_onto bytes from) (λ after. edits_onto bytes n after) (edit_inside from le) (λ after is a. edits_inside n after a)
+  edits_inside version zero from le = le
+  edits_inside version (suc n) from le = let end : State × ℕ → ℕ = λ x. x.1 in
+      inside_then (length bytes) end end (edit_onto version bytes from) (λ after. edits_onto version bytes n after) (edit_inside version from le) (λ after is a. edits_inside version n after a)
 
   front_inside : (revision : ℕ) → Inside (length bytes) (λ (x : ℕ × ℕ). x.1) (front_behind revision bytes)
   unfolding front_behind
@@ -243,11 +270,11 @@ module _ (bytes : List ℕ) where
       inside_then n end end (number_at w64 bytes 0) (λ first. cond (eqb first.0 (revision + 1)) (count_at first.0 bytes first.1) (Err 0)) (first_inside bytes)
       (λ first is f. inside_if n end (eqb first.0 (revision + 1)) (count_at first.0 bytes first.1) 0 (count_inside bytes first.0 first.1 f) (omega arith))
 
-pub batch_within : (s : State) (bytes : List ℕ) (at : ℕ) → batch_onto s bytes ≡ Err at → at ≤ length bytes
+pub batch_within : (version : ℕ) (s : State) (bytes : List ℕ) (at : ℕ) → batch_onto version s bytes ≡ Err at → at ≤ length bytes
 unfolding batch_onto
-batch_within s bytes at e =
-    whole_inside bytes (front_behind s.revision bytes >>= λ front. edits_onto bytes front.0 (s, front.1)) at
-    (inside_then (length bytes) (λ (x : ℕ × ℕ). x.1) (λ (x : State × ℕ). x.1) (front_behind s.revision bytes) (λ front. edits_onto bytes front.0 (s, front.1)) (front_inside bytes s.revision) (λ front is f. edits_inside bytes front.0 (s, front.1) f))
+batch_within version s bytes at e =
+    whole_inside bytes (front_behind s.revision bytes >>= λ front. edits_onto version bytes front.0 (s, front.1)) at
+    (inside_then (length bytes) (λ (x : ℕ × ℕ). x.1) (λ (x : State × ℕ). x.1) (front_behind s.revision bytes) (λ front. edits_onto version bytes front.0 (s, front.1)) (front_inside bytes s.revision) (λ front is f. edits_inside bytes version front.0 (s, front.1) f))
     e
 
 pub image_within_bytes : (base limit : ℕ) (bytes : List ℕ) (at : ℕ) → image_under base limit bytes ≡ Err at → at ≤ length bytes
@@ -259,9 +286,9 @@ image_within_bytes base limit bytes at e = by_test (ltb base REVISIONS_END && le
     by_test false e = let is : 0 ≡ at = cc in omega (arith, is)
 
 -- ---- a fault of a record, as one of its body
-pub wrong_batch : (s : State) (bytes : List ℕ) (e : RecordFault) → Fails e (batch_onto s bytes) → IsWrong (length bytes) (RefusesBatch s bytes) (body_fault e)
-wrong_batch s bytes fault.Memory h = tt
-wrong_batch s bytes (fault.BadRecord at) h = (batch_within s bytes at h, h)
+pub wrong_batch : (version : ℕ) (s : State) (bytes : List ℕ) (e : RecordFault) → Fails e (batch_onto version s bytes) → IsWrong (length bytes) (λ (at : ℕ). batch_onto version s bytes ≡ Err at) (body_fault e)
+wrong_batch version s bytes fault.Memory h = tt
+wrong_batch version s bytes (fault.BadRecord at) h = (batch_within version s bytes at h, h)
 
 pub wrong_image : (base limit : ℕ) (bytes : List ℕ) (e : RecordFault) → Fails e (image_under base limit bytes) → IsWrong (length bytes) (λ (at : ℕ). image_under base limit bytes ≡ Err at) (body_fault e)
 wrong_image base limit bytes fault.Memory h = tt

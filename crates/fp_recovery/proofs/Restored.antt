@@ -15,7 +15,9 @@ use Rattle.fp_edit.specs.declared.flag_set.TheConstants.{MOST_FLAGS}
 use Rattle.fp_edit.specs.declared.flags.Flag.{Flag}
 use Rattle.fp_edit.specs.Edits.{Change}
 use Rattle.fp_edit.specs.Admits.{is_within}
-use Rattle.fp_recovery.specs.Stands.{Leads, IsImageAt, IsImageOf}
+use Rattle.fp_journal.specs.Reading.{Reads}
+use Rattle.fp_recovery.specs.Refusals.{Replayed, TakesBody}
+use Rattle.fp_recovery.specs.Stands.{Leads, IsImageAt, IsImageOf, TakesBatch}
 
 pub All-right : {X : Type 0} (P : X → Type 0) (xs ys : List X) → AllByRecursion P (xs ++ ys) → AllByRecursion P ys
 All-right P [] ys h = h
@@ -74,3 +76,15 @@ leads_one s [] t u a b = a ∙ sym b
 leads_one s (c ∷ cs) t u a b =
     let same : a.0 ≡ b.0 = a.1.1 ∙ sym b.1.1 in
     leads_one b.0 cs t u (subst (λ (v : State). Leads v cs t) same a.2) b.2
+
+-- ---- bodies one after another
+-- a reader of them stays in its slot
+pub sets_read : (before after : Replayed) (bodies : List (List ℕ)) → Reads TakesBody before bodies after → Reads (TakesBatch before.version) before.set bodies after.set
+sets_read before after [] r = ap (λ (x : Replayed). x.set) r
+sets_read before after (b ∷ bs) r =
+    let middle = r.0 in
+    (middle.set, r.1.1, subst (λ (v : ℕ). Reads (TakesBatch v) middle.set bs after.set) r.1.0 (sets_read middle after bs r.2))
+
+pub bodies_read : (version : ℕ) (s t : State) (bodies : List (List ℕ)) → Reads (TakesBatch version) s bodies t → Reads TakesBody (record { version = version; set = s }) bodies (record { version = version; set = t })
+bodies_read version s t [] r = ap (λ (x : State). let read : Replayed = record { version = version; set = x } in read) r
+bodies_read version s t (b ∷ bs) r = (record { version = version; set = r.0 }, (refl, r.1), bodies_read version r.0 t bs r.2)

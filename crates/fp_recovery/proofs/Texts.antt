@@ -19,19 +19,21 @@ use Rattle.fp_slots.specs.Rules.{RulesWith}
 use Rattle.fp_recovery.specs.Stands.{IsImageOf, TakesBatch, Spells, StandsFor}
 
 -- ---- a batch more
-pub spells_on : (size : ℕ) (text body : List ℕ) (s t : State) → Spells size text s → TakesBatch s body t → length body ≤ size / 8 - 6 → Spells size (text ++ OPEN ∷ with_length body) t
+abbrev pub spells_on : (size : ℕ) (text body : List ℕ) (s t : State) (p : Spells size text s) → TakesBatch p.version s body t → length body ≤ size / 8 - 6 → Spells size (text ++ OPEN ∷ with_length body) t
 spells_on size text body s t p takes fits = record {
+  version = p.version;
   generation = p.generation;
   base = p.base;
   image = p.image;
   first = p.first;
   batches = p.batches ++ body ∷ [];
-  text_is = ap (λ (x : List ℕ). x ++ OPEN ∷ with_length body) p.text_is ∙ sym (text-more (head_text p.generation p.base p.image) p.batches body);
+  text_is = ap (λ (x : List ℕ). x ++ OPEN ∷ with_length body) p.text_is ∙ sym (text-more (head_text p.version p.generation p.base p.image) p.batches body);
+  known = p.known;
   numbered = p.numbered;
   small = p.small;
   image_is = p.image_is;
   short = All-push (λ (b : List ℕ). length b ≤ size / 8 - 6) p.batches body p.short fits;
-  leads = reads_more TakesBatch p.first s t p.batches body p.leads takes;
+  leads = reads_more (TakesBatch p.version) p.first s t p.batches body p.leads takes;
 }
 
 pub most_of : (size : ℕ) (side : Side) → (slot_of size side).most ≡ size / 8 - 6
@@ -41,6 +43,7 @@ most_of size second = refl
 -- ---- place by place
 -- what is read of a disk, by its places
 pub record IsReadFrom (c : List ℕ) (size : ℕ) (slot other : Slot) (s : State) : Type 0 where
+  pub version : ℕ
   pub generation : ℕ
   pub base : ℕ
   pub image : List ℕ
@@ -48,19 +51,20 @@ pub record IsReadFrom (c : List ℕ) (size : ℕ) (slot other : Slot) (s : State
   pub batches : List (List ℕ)
   pub header : IsHeader c size
   pub active : IsActive c size slot other
-  pub head : IsHead c slot.start size generation base image
+  pub head : IsHead c slot.start size version generation base image
   pub image_is : IsImageOf base (size / 2) image first
   pub chain : IsChain slot.most (slot.start + 22 + length image) slot.stop batches c
-  pub leads : Reads TakesBatch first batches s
+  pub leads : Reads (TakesBatch version) first batches s
 
 -- what stands is read
 pub stands_read : (c : List ℕ) (s : State) (p : StandsFor c s) → IsReadFrom c p.size (slot_of p.size p.side) (slot_of p.size (other_side p.side)) s
 stands_read c s p =
-    let q = p.spells in let slot : Slot = slot_of p.size p.side in let start : ℕ = slot.start in let stop : ℕ = slot.stop in let head = head_text q.generation q.base q.image in
+    let q = p.spells in let slot : Slot = slot_of p.size p.side in let start : ℕ = slot.start in let stop : ℕ = slot.stop in let head = head_text q.version q.generation q.base q.image in
     let e : Ends start stop (head ++ spell q.batches) c = subst (λ (t : List ℕ). Ends start stop t c) q.text_is p.tells.ends in let w = e.within in
     let all : Holds c start (head ++ (spell q.batches ++ e.gate ∷ [])) = subst (λ (t : List ℕ). Holds c start t) (append_assoc head (spell q.batches) (e.gate ∷ [])) e.holds in
-    let len = head_length q.generation q.base q.image in let both = length-append head (spell q.batches) in
+    let len = head_length q.version q.generation q.base q.image in let both = length-append head (spell q.batches) in
     let place : start + length head ≡ start + 22 + length q.image = omega (arith, len) in record {
+      version = q.version;
       generation = q.generation;
       base = q.base;
       image = q.image;
@@ -68,7 +72,7 @@ stands_read c s p =
       batches = q.batches;
       header = p.header;
       active = record { side = p.side; slot_is = refl; other_is = refl; rules = p.tells.rules };
-      head = head_places start q.generation q.base q.image c p.size q.numbered q.image_is.here.numbered q.small (holds_front c start head (spell q.batches ++ e.gate ∷ []) all);
+      head = head_places start q.version q.generation q.base q.image c p.size q.known q.numbered q.image_is.here.numbered q.small (holds_front c start head (spell q.batches ++ e.gate ∷ []) all);
       image_is = q.image_is;
       chain = record {
         short = subst (λ (m : ℕ). AllShort m q.batches) (sym (most_of p.size p.side)) q.short;
@@ -85,32 +89,34 @@ stands_read c s p =
 -- ---- and what is read stands
 module _ (c : List ℕ) (size : ℕ) (slot other : Slot) (s : State) (r : IsReadFrom c size slot other s) where
   abbrev pub text_read : List ℕ
-  text_read = head_text r.generation r.base r.image ++ spell r.batches
+  text_read = head_text r.version r.generation r.base r.image ++ spell r.batches
 
   pub text_long : length text_read ≡ 22 + length r.image + length (spell r.batches)
-  text_long = let len = head_length r.generation r.base r.image in let both = length-append (head_text r.generation r.base r.image) (spell r.batches) in omega (arith, len, both)
+  text_long = let len = head_length r.version r.generation r.base r.image in let both = length-append (head_text r.version r.generation r.base r.image) (spell r.batches) in omega (arith, len, both)
 
   pub read_ends : Ends slot.start slot.stop text_read c
   read_ends =
-      let head = head_text r.generation r.base r.image in let e = r.chain.ends in let w = e.within in
-      let len = head_length r.generation r.base r.image in let both = text_long in
+      let head = head_text r.version r.generation r.base r.image in let e = r.chain.ends in let w = e.within in
+      let len = head_length r.version r.generation r.base r.image in let both = text_long in
       let place : slot.start + 22 + length r.image ≡ slot.start + length head = omega (arith, len) in record {
         gate = e.gate;
         shut = e.shut;
         holds = subst (λ (t : List ℕ). Holds c slot.start t) (sym (append_assoc head (spell r.batches) (e.gate ∷ [])))
-            (holds_append c slot.start head (spell r.batches ++ e.gate ∷ []) (head_whole slot.start r.generation r.base r.image c size r.active.rules.opened r.head) (subst (λ (k : ℕ). Holds c k (spell r.batches ++ e.gate ∷ [])) place e.holds));
+            (holds_append c slot.start head (spell r.batches ++ e.gate ∷ []) (head_whole slot.start r.version r.generation r.base r.image c size r.active.rules.opened r.head) (subst (λ (k : ℕ). Holds c k (spell r.batches ++ e.gate ∷ [])) place e.holds));
         within = omega (arith, w, both, place);
       }
 
-  pub read_spells : Spells size text_read s
+  abbrev pub read_spells : Spells size text_read s
   read_spells =
       let most : slot.most ≡ size / 8 - 6 = ap (λ (x : Slot). x.most) r.active.slot_is ∙ most_of size r.active.side in record {
+        version = r.version;
         generation = r.generation;
         base = r.base;
         image = r.image;
         first = r.first;
         batches = r.batches;
         text_is = refl;
+        known = r.head.version_is.known;
         numbered = r.head.generation_is.small;
         small = r.head.length_is.small;
         image_is = r.image_is;

@@ -1,5 +1,5 @@
--- What follows from the definitions, for every list of bytes: it stands for a set or has a fault; and
--- a disk that is refused shows one fault, at one place within it, and stands for no set.
+-- What follows from the definitions, for every list of bytes: it stands for a set or has a fault;
+-- and a disk that is refused shows one fault, at one place within it, and stands for no set.
 use Rattle.std.specs.Prelude.{◌≡◌, ◌⊎◌, ◌≤◌, ℕ, List, length}
 use Rattle.fp_disk.specs.Outcomes.{AreBytes}
 use Rattle.fp_edit.specs.Flags.{State}

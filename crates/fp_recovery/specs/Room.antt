@@ -1,25 +1,32 @@
 -- Disks that have no room for one batch more.
 use Rattle.std.specs.Prelude.{◌≡◌, ◌⊎◌, ◌<◌, ◌+◌, ℕ, List}
+use Rattle.std.specs.List.{AllByRecursion}
 use Rattle.fp_disk.specs.Outcomes.{PendingState, IsOutcome}
 use Rattle.fp_edit.specs.Flags.{State}
-use Rattle.fp_journal.specs.State.{JournalState, room}
+use Rattle.fp_journal.specs.State.{room}
 use Rattle.fp_journal.specs.declared.framed.TheConstants.{FRAME}
 use Rattle.fp_layout.specs.Size.{slot_of}
-use Rattle.fp_recovery.specs.Stands.{StandsFor, gate_of}
+use Rattle.fp_record.specs.Encoding.{batch_len}
+use Rattle.fp_record.specs.Group.{Group}
+use Rattle.fp_recovery.specs.Stands.{IsAllowed, StandsFor, gate_of}
+use Rattle.fp_slots.specs.State.{SlotsState}
 
--- the journal has no room for a batch of n bytes;
--- its gate, the number of its length and the gate behind it take six bytes more
-abbrev pub HasNoRoom : {D : Type 0} → JournalState D → ℕ → Type 0
-HasNoRoom journal n = (journal.slot.most < n) ⊎ (room journal < FRAME + n)
+-- the slot that rules has no room for the batch, which with its gate, the number of its length and
+-- the gate behind it takes six bytes more; or is of a version in which a change of it has no place
+abbrev pub HasNoRoom : {D : Type 0} → SlotsState D → Group → Type 0
+HasNoRoom slots group = (slots.journal.slot.most < batch_len group)
+    ⊎ (room slots.journal < FRAME + batch_len group)
+    ⊎ (AllByRecursion (IsAllowed slots.version) group.changes → ⊥)
 
--- the bytes stand for the set in that generation, and a batch of n bytes is longer than their slot
--- takes, or would reach past its end
-pub record IsFullFor (c : List ℕ) (s : State) (n generation : ℕ) : Type 0 where
+-- the bytes stand for the set in that generation, and the batch is longer than their slot takes, or
+-- would reach past its end, or has a change that has no place in it
+pub record IsFullFor (c : List ℕ) (s : State) (group : Group) (generation : ℕ) : Type 0 where
   pub stands : StandsFor c s
-  pub full : ((slot_of stands.size stands.side).most < n)
-      ⊎ ((slot_of stands.size stands.side).stop < gate_of stands + (FRAME + n))
+  pub full : ((slot_of stands.size stands.side).most < batch_len group)
+      ⊎ ((slot_of stands.size stands.side).stop < gate_of stands + (FRAME + batch_len group))
+      ⊎ (AllByRecursion (IsAllowed stands.spells.version) group.changes → ⊥)
   pub generation_is : stands.spells.generation ≡ generation
 
 -- so is whatever a crash leaves now
-abbrev pub IsFull : PendingState → State → ℕ → ℕ → Type 0
-IsFull u s n generation = (c : List ℕ) → IsOutcome u c → IsFullFor c s n generation
+abbrev pub IsFull : PendingState → State → Group → ℕ → Type 0
+IsFull u s group generation = (c : List ℕ) → IsOutcome u c → IsFullFor c s group generation

@@ -5,7 +5,7 @@ use Rattle.std.specs.FinMap as map
 use Rattle.fp_edit.specs.Flags.{State, total_cost}
 use Rattle.fp_edit.specs.declared.flags.Flag.{Flag}
 use Rattle.fp_edit.specs.declared.flags.TheConstants.{IMAGE_HEAD}
-use Rattle.fp_edit.specs.Edits.{Change}
+use Rattle.fp_edit.specs.Edits.{Change, one, set}
 use Rattle.fp_edit.specs.Admits.{Admits, accepted}
 use Rattle.fp_edit.specs.declared.edit.TheConstants.{REVISIONS_END}
 use Rattle.fp_edit.specs.Following.{unconditional}
@@ -14,7 +14,8 @@ use Rattle.fp_journal.specs.Reading.{Reads}
 use Rattle.fp_journal.specs.State.{AllShort}
 use Rattle.fp_layout.specs.Size.{Side, most_in, other_side, slot_of}
 use Rattle.fp_layout.specs.Layout.{IsHeader}
-use Rattle.fp_slots.specs.Head.{head_text}
+use Rattle.fp_slots.specs.Head.{IsVersion, head_text}
+use Rattle.fp_slots.specs.declared.places.TheConstants.{FIRST_VERSION}
 use Rattle.fp_slots.specs.Rules.{RulesWith}
 use Rattle.fp_record.specs.Group.{Group}
 use Rattle.fp_record.specs.WellFormed.{IsBatch, IsImage}
@@ -41,11 +42,17 @@ abbrev pub Leads : State → List Change → State → Type 0
 Leads s [] t = t ≡ s
 Leads s (c ∷ cs) t = (u : State) × Admits s (unconditional c) (accepted u) × Leads u cs t
 
--- the bytes are a batch whose first revision is the one behind the set's,
--- and whose changes lead from the set to t
-pub record TakesBatch (s : State) (bytes : List ℕ) (t : State) : Type 0 where
+-- a change may stand in a slot of this version: in one of the first no set of changes does
+abbrev pub IsAllowed : ℕ → Change → Type 0
+IsAllowed version (one part) = Unit {0}
+IsAllowed version (set parts) = FIRST_VERSION < version
+
+-- the bytes are a batch in a slot of this version, whose first revision is the one behind the
+-- set's, and whose changes lead from the set to t
+pub record TakesBatch (version : ℕ) (s : State) (bytes : List ℕ) (t : State) : Type 0 where
   pub group : Group
   pub lawful : IsBatch group
+  pub allowed : AllByRecursion (IsAllowed version) group.changes
   pub spelled : bytes ≡ encoding_of_batch group
   pub follows : group.first ≡ s.revision + 1
   pub leads : Leads s group.changes t
@@ -54,17 +61,19 @@ pub record TakesBatch (s : State) (bytes : List ℕ) (t : State) : Type 0 where
 -- The text of a slot, up to the closed gate behind its last batch: a head with the image of a set,
 -- and batches that lead from that set to s, each from where the one before it led
 pub record Spells (size : ℕ) (text : List ℕ) (s : State) : Type 0 where
+  pub version : ℕ
   pub generation : ℕ
   pub base : ℕ
   pub image : List ℕ
   pub first : State
   pub batches : List (List ℕ)
-  pub text_is : text ≡ head_text generation base image ++ spell batches
+  pub text_is : text ≡ head_text version generation base image ++ spell batches
+  pub known : IsVersion version
   pub numbered : generation < 2 ^ 64
   pub small : length image ≤ size / 2
   pub image_is : IsImageOf base (size / 2) image first
   pub short : AllShort (most_in size) batches
-  pub leads : Reads TakesBatch first batches s
+  pub leads : Reads (TakesBatch version) first batches s
 
 -- ---- a disk
 -- a header, and one of the two slots rules, with a text that spells s

@@ -1,39 +1,42 @@
 //! A set that is made again from an image and batches.
 
 ghost use Rattle.std.specs.Prelude.{◌≡◌};
-ghost use Rattle.std.specs.FinMap as map;
+ghost use Rattle.fp_recovery.specs.Refusals.{nothing_read};
 
 use crate::batches::take_batch;
 use crate::images::read_image;
 use fp_edit::FlagSet;
 use fp_journal::{BodyFault, Reader};
 use fp_layout::SlotReader;
+use fp_slots::FIRST_VERSION;
 use std::alloc::Global;
 use std::marker::Model;
 
 /// A set on its way back: the image makes it, and each batch leads it on.
 #[derive(Drop)]
 pub struct Replayer {
+    version: u8,
     set: FlagSet,
     alloc: Global,
 }
 
 impl Model for Replayer {
-    ghost use Rattle.fp_edit.specs.Flags.{State, coded_state};
+    ghost use Rattle.fp_recovery.specs.Refusals.{Replayed, coded_replayed};
 
-    ghost Value = { State };
+    ghost Value = { Replayed };
 
-    ghost coded = { coded_state };
+    ghost coded = { coded_replayed };
 
-    ghost view = { λ r. r.set };
+    ghost view = { λ r. record { version = r.version; set = r.set } };
 }
 
 impl Replayer {
     /// No flags yet.
     pub fn new(alloc: Global) -> Replayer
-        ensures { result ≡ record { flags = map.empty; revision = 0; limit = 0 } }
+        ensures { result ≡ nothing_read }
     {
         Replayer {
+            version: FIRST_VERSION,
             set: FlagSet::new(alloc, 0),
             alloc,
         }
@@ -41,22 +44,21 @@ impl Replayer {
 
     /// The set as it has come.
     pub fn into_set(self) -> FlagSet
-        ensures { result ≡ self }
+        ensures { result ≡ self.set }
     {
         self.set
     }
 }
 
 impl Reader for Replayer {
-    ghost use Rattle.fp_recovery.specs.Stands.{TakesBatch};
-    ghost use Rattle.fp_recovery.specs.Refusals.{RefusesBatch};
+    ghost use Rattle.fp_recovery.specs.Refusals.{RefusesBatch, TakesBody};
 
-    ghost takes = { TakesBatch };
+    ghost takes = { TakesBody };
 
     ghost refuses = { RefusesBatch };
 
     fn take(&mut self, body: &[u8]) -> Result<(), BodyFault> {
-        take_batch(self.alloc, &mut self.set, body)
+        take_batch(self.alloc, &mut self.set, self.version, body)
     }
 }
 
@@ -67,7 +69,8 @@ impl SlotReader for Replayer {
 
     ghost rejects = { RejectsImage };
 
-    fn begin(&mut self, base: u64, limit: u64, image: &[u8]) -> Result<(), BodyFault> {
+    fn begin(&mut self, version: u8, base: u64, limit: u64, image: &[u8]) -> Result<(), BodyFault> {
+        self.version = version;
         self.set = read_image(self.alloc, base, limit, image)?;
         Ok(())
     }

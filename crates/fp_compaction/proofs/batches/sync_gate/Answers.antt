@@ -18,12 +18,12 @@ returns-in_err-sealed-clause-broken g c =
 pub grow-requires-clause-ready : goal.grow-requires-clause-ready
 grow-requires-clause-ready g c =
     let old = c.args.slots.now in let w = c.sync_gate.ensures in let mid = c.sync_gate.new.self in
-    λ growing. grown.ready_on old mid w.kept.same c.requires.ready (grown.grows_still mid.step old.step (sym w.kept.same.4) growing)
+    λ growing. grown.ready_on old mid w.kept.same c.requires.ready (grown.grows_still mid.step old.step (sym w.kept.same.5) growing)
 
 pub grow-requires-clause-fits : goal.grow-requires-clause-fits
 grow-requires-clause-fits g c =
     let old = c.args.slots.now in let w = c.sync_gate.ensures in let mid = c.sync_gate.new.self in
-    λ growing. grown.fits_on old mid w.kept.same c.requires.ready (grown.grows_still mid.step old.step (sym w.kept.same.4) growing) c.requires.fits
+    λ growing. grown.fits_on old mid w.kept.same c.requires.ready (grown.grows_still mid.step old.step (sym w.kept.same.5) growing) c.requires.fits
 
 pub returns-clause-stands : goal.returns-clause-stands
 returns-clause-stands g c =
@@ -40,15 +40,15 @@ returns-clause-next g c =
     λ h size s t k leads. (
       k.0,
       subst (λ (d : g.row.D.Denot). IsKeptOn (D.unsynced d) new size k.0 t) (sym disk)
-          (kept.kept_next (D.unsynced old.journal.disk) old size k.0 s k.1 D.moment D.crash_states_since D.unsynced old.journal.disk mid.journal.disk refl (w.kept.apart h) new t leads slot front (j.1 ∙ w.kept.same.1) sealed),
+          (kept.kept_next (D.unsynced old.journal.disk) old size k.0 s k.1 D.moment D.crash_states_since D.unsynced old.journal.disk mid.journal.disk refl (w.kept.apart h) new t leads slot front (j.1 ∙ w.kept.same.1) (j.3 ∙ w.kept.same.3) sealed),
     )
 
 pub returns-clause-planned : goal.returns-clause-planned
 returns-clause-planned g c =
     let old = c.args.slots.now in let w = c.sync_gate.ensures in let mid = c.sync_gate.new.self in let new = c.grow.new.slots in
-    λ growing. grown.plans_next old mid w.kept.same c.requires.ready growing new (c.grow.ensures.grown (grown.grows_still old.step mid.step w.kept.same.4 growing))
+    λ growing. grown.plans_next old mid w.kept.same c.requires.ready growing new (c.grow.ensures.grown (grown.grows_still old.step mid.step w.kept.same.5 growing)) c.version.ensures.known
 
 pub returns-clause-grown : goal.returns-clause-grown
 returns-clause-grown g c =
     let old = c.args.slots.now in let w = c.sync_gate.ensures in let mid = c.sync_gate.new.self in let new = c.grow.new.slots in
-    λ growing. grown.text_on old mid w.kept.same c.requires.ready growing new (c.grow.ensures.grown (grown.grows_still old.step mid.step w.kept.same.4 growing))
+    λ growing. grown.text_on old mid w.kept.same c.requires.ready growing new (c.grow.ensures.grown (grown.grows_still old.step mid.step w.kept.same.5 growing))

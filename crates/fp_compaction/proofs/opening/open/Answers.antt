@@ -21,7 +21,7 @@ returns-clause-place g c = λ h.
     let b = D.bytes c.args.disk in let before = c.new-restoring.result in let after = c.open.new.reader in
     let found = e.found h in let at = found_at b before after j.slot j.front found in
     let text : sealed_text j ≡ j.front = ap (λ (bodies : List (List ℕ)). j.front ++ spell bodies) e.begins.0 ∙ append-nil j.front in
-    let here : StandsAt b after (place_of j) = record {
+    let here : StandsAt b after.set (place_of j) = record {
       stands = found_stands b before after j.slot j.front found;
       slot_is = at.0;
       gate_is = ap (λ (t : List ℕ). j.slot.start + length t) text ∙ at.1;
@@ -34,5 +34,5 @@ returns-clause-kept g c =
     let before = c.new-restoring.result in let after = c.open.new.reader in let i = e.read.begun in (
       i.size,
       subst (λ (s : State). IsPlaced i.size slots s.limit) (sym c.into_set-set.ensures) (placed slots before after e.read),
-      λ h. subst (λ (s : State). IsKeptIn (D.unsynced j.disk) slots i.size s) (sym c.into_set-set.ensures) (found_kept (D.unsynced j.disk) slots (D.bytes c.args.disk) before after (e.found h) e.begins.0 (e.all_synced h) i.size i.side i.slot_is i.other_is),
+      λ h. subst (λ (s : State). IsKeptIn (D.unsynced j.disk) slots i.size s) (sym c.into_set-set.ensures) (found_kept (D.unsynced j.disk) slots (D.bytes c.args.disk) before after (e.found h) e.begins.0 (e.all_synced h) (e.slots h).version_is i.size i.side i.slot_is i.other_is),
     )

@@ -43,19 +43,20 @@ returns-clause-on g c =
         stands = steps.late_leaves D old new c.requires.step tt (steps.either_leaves D old new w.any_moment w.apart);
         kept = λ h size s k late. (
           other_side k.0,
-          kept.turned (D.unsynced old.journal.disk) old size k.0 s k.1 D.moment D.crash_states_since D.unsynced old.journal.disk new.journal.disk refl (w.apart h) new (late (steps.is_late old.step SyncOpen c.requires.step tt)) ok.switched.0 ok.switched.1 ok.switched.2 ok.turned.0,
+          kept.turned (D.unsynced old.journal.disk) old size k.0 s k.1 D.moment D.crash_states_since D.unsynced old.journal.disk new.journal.disk refl (w.apart h) new (late (steps.is_late old.step SyncOpen c.requires.step tt)) ok.switched.0 ok.switched.1 ok.switched.2 ok.turned.0 ok.turned.2,
         );
         honest = w.honest;
         called = steps.called_at D.calls old new c.requires.step w.called;
       };
-      step = (ok.turned.3 ∙ sym (ap (λ (q : Step). next_step q old.left) c.requires.step), tt);
+      step = (ok.turned.4 ∙ sym (ap (λ (q : Step). next_step q old.left) c.requires.step), tt);
       left = w.left ∙ sym (ap (λ (q : Step). next_left q old.left) c.requires.step);
       stays = λ off. absurd (off c.requires.step);
       turned = λ at. record {
         mine = ok.switched.0;
         its = ok.turned.0;
         generation = ok.turned.1;
-        may_open = ok.turned.2;
+        version = ok.turned.2;
+        may_open = ok.turned.3;
         still = ⊎_elim (λ e. e) (λ e. absurd (c.requires.live e)) (subst (λ (q : Step). IsStill q old.journal.phase) c.requires.step c.step.ensures.still);
         phase = ok.switched.3;
         begun = ok.begun;

@@ -1,7 +1,8 @@
 use Rattle.std.proofs.Common.{◌≡◌, ◌⊎◌, ◌≤◌, ◌+◌, ◌*◌, ◌-◌, length, take}
 use Rattle.fp_edit.specs.Following.{changes_of}
-use Rattle.fp_record.specs.declared.batch.TheConstants.{LONGEST_EDIT, MOST_EDITS}
-use Rattle.fp_group_commit.specs.Changes.{batch_len}
+use Rattle.fp_edit.specs.declared.changes.TheConstants.{LONGEST_EDIT}
+use Rattle.fp_record.specs.declared.batch.TheConstants.{MOST_EDITS}
+use Rattle.fp_record.specs.Encoding.{batch_len}
 use Rattle.fp_desk.proofs.queue.first_part.Given as goal
 
 abbrev pub invariant-loop-n : goal.invariant-loop-n

@@ -1,8 +1,8 @@
 use Rattle.std.proofs.Common.{◌≡◌, ◌≤◌, ◌+◌, ◌*◌, ◌-◌, length, take}
 use Rattle.fp_edit.specs.Following.{change_of, changes_of}
 use Rattle.fp_record.specs.Encoding.{encoding_of_change}
-use Rattle.fp_record.specs.declared.batch.TheConstants.{LONGEST_EDIT}
-use Rattle.fp_group_commit.specs.Changes.{batch_len}
+use Rattle.fp_edit.specs.declared.changes.TheConstants.{LONGEST_EDIT}
+use Rattle.fp_record.specs.Encoding.{batch_len}
 use Rattle.fp_desk.proofs.queue.fits_behind.Given as goal
 
 abbrev pub invariant-loop-i : goal.invariant-loop-i

@@ -1,23 +1,34 @@
-use Rattle.std.proofs.Common.{◌≢◌, sym, ap, ◌∙◌, rules}
+use Rattle.std.proofs.Common.{sym, ap, ◌∙◌}
+use Rattle.std.proofs.lemmas.Slice.Eq.{bytes_eq-Decides}
 use Rattle.fp_definition.specs.Key.{key_bytes}
-use Rattle.fp_edit.specs.Edits.{Change, changed_key}
-use Rattle.fp_edit.specs.Flags.{cost_found}
 use Rattle.fp_edit.specs.Following.{change_of}
-use Rattle.fp_edit.proofs.Tallying.{cost-made, get-other, made}
+use Rattle.fp_edit.specs.Parts.{delete, put}
+use Rattle.fp_edit.proofs.Parts.{apart}
+use Rattle.fp_edit.proofs.Tallying.{cost-other, cost-own}
 use Rattle.fp_edit.proofs.tally.key_cost.Goals as goal
 
-pub returns-then-not-is_key_of : goal.returns-then-not-is_key_of
-returns-then-not-is_key_of c = λ s before.
-    let k = key_bytes c.args.key.now in let x = change_of c.args.edit.now in
-    let never : k ≢ changed_key x = search rules in
-    before ∙ ap (cost_found k) (sym (get-other s x k never))
-
-pub returns-in-Put : goal.returns-in-Put
-returns-in-Put c = λ s before.
+pub returns-then-are_same : goal.returns-then-are_same
+returns-then-are_same c = λ s before.
     let k = key_bytes c.args.key.now in
-    c.cost_of.ensures.cost ∙ sym (cost-made s (change_of c.args.edit.now) k (search rules) ∙ ap (λ (x : Change). cost_found k (made s x)) (ap change_of c.in-Put.is))
+    let own = key_bytes c.in-Put.its in
+    let same = (bytes_eq-Decides k own).0 (sym c.are_same.ensures ∙ c.if-are_same.true) in
+    c.cost_of.ensures.cost ∙ sym (cost-own s (change_of c.args.edit.now) (put own c.in-Put.flag) k (ap change_of c.in-Put.is) same)
 
-pub returns-in-Delete : goal.returns-in-Delete
-returns-in-Delete c = λ s before.
+pub returns-else-are_same : goal.returns-else-are_same
+returns-else-are_same c = λ s before.
     let k = key_bytes c.args.key.now in
-    sym (cost-made s (change_of c.args.edit.now) k (search rules) ∙ ap (λ (x : Change). cost_found k (made s x)) (ap change_of c.in-Delete.is))
+    let own = key_bytes c.in-Put.its in
+    before ∙ sym (cost-other s (change_of c.args.edit.now) (put own c.in-Put.flag) k (ap change_of c.in-Put.is) (apart k own (sym c.are_same.ensures ∙ c.if-are_same.false)))
+
+pub returns-then-are_same-2 : goal.returns-then-are_same-2
+returns-then-are_same-2 c = λ s before.
+    let k = key_bytes c.args.key.now in
+    let own = key_bytes c.in-Delete.its in
+    let same = (bytes_eq-Decides k own).0 (sym c.are_same-in-Delete.ensures ∙ c.if-are_same-2.true) in
+    sym (cost-own s (change_of c.args.edit.now) (delete own) k (ap change_of c.in-Delete.is) same)
+
+pub returns-else-are_same-2 : goal.returns-else-are_same-2
+returns-else-are_same-2 c = λ s before.
+    let k = key_bytes c.args.key.now in
+    let own = key_bytes c.in-Delete.its in
+    before ∙ sym (cost-other s (change_of c.args.edit.now) (delete own) k (ap change_of c.in-Delete.is) (apart k own (sym c.are_same-in-Delete.ensures ∙ c.if-are_same-2.false)))

@@ -4,8 +4,7 @@ use Rattle.std.specs.Prelude.{slice_range}
 use Rattle.fp_edit.specs.Flags.{State}
 use Rattle.fp_layout.specs.Opening.{FoundDisk}
 use Rattle.fp_recovery.specs.Recovered.{StandsAt}
-use Rattle.fp_recovery.specs.Refusals.{BeginsWith, RefusesBytes}
-use Rattle.fp_recovery.specs.Stands.{TakesBatch}
+use Rattle.fp_recovery.specs.Refusals.{BeginsWith, RefusesBytes, TakesBody}
 use Rattle.fp_recovery.proofs.Kept.{found_at, found_stands}
 use Rattle.fp_recovery.proofs.One.{stands_one}
 use Rattle.fp_recovery.proofs.OneFault.{standing_has_no_fault}
@@ -32,9 +31,9 @@ returns-in_err-place-clause-told g c =
 pub returns-clause-stands : goal.returns-clause-stands
 returns-clause-stands g c = λ h.
     let b = g.D.Disk.bytes c.args.disk.now in let place = c.in_ok-place.place in let front = slice_range b place.slot.start place.gate in let before = c.new-restoring.result in let after = c.read_disk.new.reader in
-    let found : FoundDisk BeginsWith TakesBatch b before after place.slot front = c.in_ok-place.ensures.found h in
+    let found : FoundDisk BeginsWith TakesBody b before after place.slot front = c.in_ok-place.ensures.found h in
     let at = found_at b before after place.slot front found in
-    let here : StandsAt b after place = record {
+    let here : StandsAt b after.set place = record {
       stands = found_stands b before after place.slot front found;
       slot_is = at.0;
       gate_is = c.in_ok-place.ensures.gate h ∙ at.1;

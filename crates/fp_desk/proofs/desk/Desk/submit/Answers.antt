@@ -1,7 +1,7 @@
 use Rattle.std.proofs.Common.{rules, ◌≡◌, ◌<◌, ◌+◌, ◌++◌, ◌∷◌, ℕ, List, [], length, None, refl, sym, ap, subst, ◌∙◌, arith}
 use Rattle.std.proofs.lemmas.List.{length-map, map-append}
 use Rattle.fp_edit.specs.Admits.{Admits, accepted, refusal}
-use Rattle.fp_edit.specs.Edits.{Change, Proposal, proposal_of}
+use Rattle.fp_edit.specs.Edits.{Change, Proposal, change_in, proposal_of}
 use Rattle.fp_edit.specs.Flags.{State}
 use Rattle.fp_edit.specs.declared.edit.Edit.{Edit}
 use Rattle.fp_edit.proofs.Runs.{revision-after_all}
@@ -13,7 +13,7 @@ use Rattle.fp_desk.specs.declared.desk.TheConstants.{MOST_QUEUED}
 use Rattle.fp_desk.proofs.Queues.{counted, fits_both, has_room}
 use Rattle.fp_desk.proofs.Sound.{full, judged, still, waiting_on}
 use Rattle.fp_desk.proofs.desk.Desk.submit.Goals as goal
-use Rattle.fp_desk.proofs.desk.Desk.submit.Goals.{After-len-2, After-try_reserve, in-Put-1, in-Delete-1}
+use Rattle.fp_desk.proofs.desk.Desk.submit.Goals.{After-len-2, After-try_reserve, in-Put-1, in-Delete-1, in-Set-1}
 
 module _ (c : goal.After-len-2) where
   abbrev Old : DeskState
@@ -78,7 +78,7 @@ returns-in_default-try_copy-clause-unchanged c = unchanged (goal.at.returns-in_d
 pub returns-in-Err-clause-unchanged : goal.returns-in-Err-clause-unchanged
 returns-in-Err-clause-unchanged c =
     let before = unchanged (goal.at.returns-in-Err-clause-unchanged c).After-try_reserve in
-    elim c.match-copy.branch [ in-Put-1 w ↦ w.self-is ∙ before | in-Delete-1 w ↦ w.self-is ∙ before ]
+    elim c.match-copy.branch [ in-Put-1 w ↦ w.self-is ∙ before | in-Delete-1 w ↦ w.self-is ∙ before | in-Set-1 w ↦ w.self-is ∙ before ]
 
 pub returns-in-Ok-make-clause-ticket : goal.returns-in-Ok-make-clause-ticket
 returns-in-Ok-make-clause-ticket c = (ap (λ (f : FrontState). f.store) c.tell.ensures, ap proposal_of c.of-shown.ensures)
@@ -93,7 +93,7 @@ module _ (c : goal.After-tell) where
   waits : changes_of c.push_back_reserved.new.self.items ≡ changes_of c.self.inside.waiting.items ++ change_of c.args.edit ∷ []
   waits =
       ap changes_of (c.push_back_reserved.ensures.items ∙ ap (λ (l : List Edit). l ++ c.in-Ok.copy ∷ []) c.try_reserve.ensures.items)
-      ∙ map-append change_of c.self.inside.waiting.items (c.in-Ok.copy ∷ []) ∙ ap (λ (p : Proposal). changes_of c.self.inside.waiting.items ++ p.change ∷ []) c.in-Ok.ensures
+      ∙ map-append change_of c.self.inside.waiting.items (c.in-Ok.copy ∷ []) ∙ ap (λ (p : Proposal). changes_of c.self.inside.waiting.items ++ change_in p ∷ []) c.in-Ok.ensures
 
   abbrev New : DeskState
   New = record { store = c.self.inside.settled.store; settled = c.self.inside.settled.edits; drawn = changes_of c.self.inside.drawn.items; waiting = changes_of c.push_back_reserved.new.self.items; stopped = c.self.inside.stopped; last = c.self.inside.settled.last }

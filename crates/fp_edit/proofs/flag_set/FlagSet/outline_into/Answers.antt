@@ -1,11 +1,11 @@
 use Rattle.std.proofs.Common.{◌≡◌, ap, sym, ◌∙◌}
-use Rattle.std.proofs.lemmas.Result.{on_ok_weaker}
 use Rattle.std.specs.FinMap as fin
 use Rattle.fp_edit.specs.Entries.{entries_of}
 use Rattle.fp_edit.specs.Flags.{State}
 use Rattle.fp_edit.proofs.Maps.{entries-flags_of}
-use Rattle.fp_edit.proofs.Outlined.{is_document_of}
+use Rattle.fp_edit.proofs.Outlined.{is_document_of, alike_document}
 use Rattle.fp_edit.proofs.flag_set.FlagSet.outline_into.Goals as goal
+use Rattle.fp_edit.proofs.flag_set.FlagSet.outline_into.Goals.{then-replaces_one_of+then-room-self+in_ok-put_changed+else-branch, else-replaces_one_of}
 
 pub put_changed-requires : goal.put_changed-requires
 put_changed-requires c =
@@ -13,7 +13,16 @@ put_changed-requires c =
     let is : fin.entries c.args.self.now.flags ≡ entries_of set.flags.entries = ap (λ (x : State). fin.entries x.flags) (sym c.self.view_is) ∙ entries-flags_of set.flags.entries c.self.invariant.0 in
     rw (← is) (c.replaces_one_of.ensures c.if-replaces_one_of.true)
 
-pub returns-then-room-self-clause-made : goal.returns-then-room-self-clause-made
-returns-then-room-self-clause-made c =
+pub returns-then-branch-clause-made : goal.returns-then-branch-clause-made
+returns-then-branch-clause-made c =
     let set = c.self.inside in
-    rw (← c.self.view_is) (on_ok_weaker _ (λ p. is_document_of c.put_changed.new.self set.flags.entries set.revision set.limit c.self.invariant.0 c.self.invariant.1.changed p.0 p.1) c.put_changed.ensures.put)
+    let put = c.in_ok-put_changed.ensures.put c.if-branch.true in
+    rw (← c.self.view_is) (is_document_of c.put_changed.new.self set.flags.entries set.revision set.limit c.self.invariant.0 c.self.invariant.1.changed put.0 put.1)
+
+pub outlined_after-requires : goal.outlined_after-requires
+outlined_after-requires c = elim c.if-replaces_one_of.branch [
+  | then-replaces_one_of+then-room-self+in_ok-put_changed+else-branch w ↦
+      let other = w.in_ok-put_changed.ensures.other w.if-branch.false in
+      (c.requires.0, rw w.document-is (alike_document _ _ c.requires.0 other.1 c.requires.1), c.requires.2)
+  | else-replaces_one_of w ↦ (c.requires.0, rw w.document-is c.requires.1, c.requires.2)
+]

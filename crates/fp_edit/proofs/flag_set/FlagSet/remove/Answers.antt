@@ -1,11 +1,14 @@
-use Rattle.std.proofs.Common.{◌≡◌, ◌+◌, ◌-◌, true, sym, subst, arith}
+use Rattle.std.proofs.Common.{◌≡◌, ◌+◌, ◌-◌, true, sym, subst, refl, arith}
 use Rattle.fp_definition.specs.Key.{key_bytes}
 use Rattle.fp_edit.specs.Admits.{has_revision, flags_after}
-use Rattle.fp_edit.specs.Edits.{delete}
+use Rattle.fp_edit.specs.Edits.{one}
 use Rattle.fp_edit.specs.Entries.{flags_of}
-use Rattle.fp_edit.specs.Flags.{State, IsTallied}
-use Rattle.fp_edit.proofs.Kept.{kept-delete}
+use Rattle.fp_edit.specs.Flags.{State, Flags, IsTallied, size}
+use Rattle.fp_edit.specs.Outline.{MarksOne}
+use Rattle.fp_edit.specs.Parts.{delete}
+use Rattle.fp_edit.proofs.Kept.{kept-after}
 use Rattle.fp_edit.proofs.Sizes.{size-remove}
+use Rattle.fp_edit.proofs.Since.{marks_one-remove}
 use Rattle.fp_edit.proofs.flag_set.FlagSet.remove.Goals as goal
 
 pub overflow_cast-gone : goal.overflow_cast-gone
@@ -24,11 +27,16 @@ overflow_sub-self c =
 
 pub invariant_of-self : goal.invariant_of-self
 invariant_of-self c =
+    let set = c.self.inside in
     let k = key_bytes c.args.key.now in
-    let s : State = record { flags = flags_of c.self.inside.flags.entries; revision = c.self.inside.revision; limit = c.self.inside.limit } in
+    let s : State = record { flags = flags_of set.flags.entries; revision = set.revision; limit = set.limit } in
     let more : has_revision s ≡ true = subst (λ (t : State). has_revision t ≡ true) (sym c.self.view_is) c.requires in
-    let kept = kept-delete s c.self.inside.size k c.self.invariant.1 more in (
+    let all = size-remove s.flags k in
+    let gone = c.cost_at-gone.ensures in
+    let kept = c.self.invariant.1.size in
+    let measured : set.size - c.cost_at-gone.result ≡ size (flags_after s (one (delete k))) = omega arith in (
       c.take.ensures.ordered,
-      subst (λ m. IsTallied m (s.revision + 1) s.limit (c.self.inside.size - c.cost_at-gone.result)) (sym c.take.ensures.taken)
-          (subst (λ n. IsTallied (flags_after s (delete k)) (s.revision + 1) s.limit (c.self.inside.size - n)) (sym c.cost_at-gone.ensures) kept),
+      subst (λ (m : Flags). IsTallied m (s.revision + 1) s.limit (set.size - c.cost_at-gone.result)) (sym c.take.ensures.taken)
+          (subst (λ n. IsTallied (flags_after s (one (delete k))) (s.revision + 1) s.limit n) (sym measured) (kept-after s (one (delete k)) refl set.size c.self.invariant.1 more)),
+      subst (MarksOne true (s.revision + 1)) (sym c.take.ensures.taken) (marks_one-remove true s.revision (s.revision + 1) s.flags c.self.invariant.1.changed (λ _. omega arith) k),
     )

@@ -1,10 +1,14 @@
 use Rattle.std.proofs.Common.{◌≡◌, ◌+◌, ◌-◌, ◌≤◌, true, sym, subst, arith}
+use Rattle.std.specs.Prelude.{nat_lt}
 use Rattle.std.specs.FinMap as fin
+use Rattle.std.proofs.lemmas.Bool.{ltb-true}
 use Rattle.fp_definition.specs.Key.{key_bytes}
 use Rattle.fp_edit.specs.Admits.{is_within}
 use Rattle.fp_edit.specs.Entries.{flags_of}
 use Rattle.fp_edit.specs.Flags.{State, Flags, IsTallied, size}
+use Rattle.fp_edit.specs.Outline.{MarksOne}
 use Rattle.fp_edit.proofs.Kept.{kept-insert}
+use Rattle.fp_edit.proofs.Since.{marks_one-insert}
 use Rattle.fp_edit.proofs.Sizes.{resized}
 use Rattle.fp_edit.proofs.flag_set.FlagSet.store_at.Goals as goal
 
@@ -38,4 +42,6 @@ invariant_of-self-2 c =
       subst (λ (n : Flags). IsTallied n revision set.limit (set.size + c.cost_of-cost.result - c.in_ok-before.before)) (sym c.in_ok-before.ensures.stored)
           (subst (λ n. IsTallied (fin.insert m k f) revision set.limit n) (sym measured)
           (kept-insert m set.revision revision set.limit set.size k f c.self.invariant.1 later c.requires.revision.1 c.requires.changed room)),
+      subst (MarksOne (nat_lt set.revision revision) revision) (sym c.in_ok-before.ensures.stored)
+          (marks_one-insert (nat_lt set.revision revision) set.revision revision m c.self.invariant.1.changed (ltb-true _ _) k f),
     )

@@ -26,7 +26,7 @@ adopt-requires-clause-kept g c =
       size,
       record { allowed = allowed; side = first; mine = parts.0; its = its; half = ap (λ (s : State). s.limit) set },
       λ h. let h0 = e.honest.1 h in let stands = e.stands h0 in subst (λ (s : State). IsKeptIn (D.unsynced t.journal.disk) t size s) (sym set)
-          (new_kept (D.unsynced t.journal.disk) t size (D.bytes t.journal.disk) stands.0.allowed (e.made h0) stands.0 stands.1 stands.2 parts.0 its parts.1 parts.2 (e.all_synced h0)),
+          (new_kept (D.unsynced t.journal.disk) t size (D.bytes t.journal.disk) stands.0.allowed (e.made h0) stands.0 stands.1 stands.2 e.beside.2 parts.0 its parts.1 parts.2 (e.all_synced h0)),
     )
 
 pub returns-clause-slots : goal.returns-clause-slots

@@ -1,4 +1,6 @@
 use Rattle.std.proofs.Common.{length, rules, ◌≡◌, ℕ, refl, sym, ap, subst, ◌∙◌, inl, inr}
+use Rattle.std.specs.List.{AllByRecursion}
+use Rattle.fp_recovery.specs.Stands.{IsAllowed}
 use Rattle.fp_edit.specs.Flags.{State}
 use Rattle.fp_edit.specs.Following.{changes_of}
 use Rattle.fp_edit.proofs.Followed.{none_left}
@@ -31,7 +33,7 @@ returns-in-Err g c =
       phase = refl;
       fault = calls.refuses D i D.faults (λ e. c.in_default.not-Failed (c.phase.ensures.phase ∙ e)) c.args.draw c.in-Err.fault c.in-Err.ensures.fault;
       given_back = refl;
-      same_room = (refl, refl, ((refl, refl, refl, refl, refl, refl), refl));
+      same_room = (refl, refl, ((refl, refl, refl, refl, refl, refl, refl), refl));
       begun = calls.shut_at_rest D i c.self.view_is c.requires.idle;
       disk = steps.calls_none D i g.met.D.Disk.only_now c.phase.ensures.outcomes;
     })
@@ -47,7 +49,7 @@ returns-in_default-make_ready g c =
       phase = refl;
       fault = (λ e. c.in_default.not-Failed (c.phase.ensures.phase ∙ e), refl, calls.goes_kept D i c.args.draw c.in-Ok.ensures.goes_on);
       given_back = refl;
-      same_room = (refl, refl, ((refl, refl, refl, refl, refl, refl), refl));
+      same_room = (refl, refl, ((refl, refl, refl, refl, refl, refl, refl), refl));
       begun = calls.shut_at_rest D i c.self.view_is c.requires.idle;
       disk = steps.calls_none D i g.met.D.Disk.only_now c.phase.ensures.outcomes;
     })
@@ -89,7 +91,8 @@ invariant_of-self-2 g c =
     let D = g.D.Disk in let mid = c.make_ready.new.slots in let t = c.stage.new.slots in let w = c.stage.ensures in
     calls.sound_staged D b.sound Staged t (steps.beside_of mid t w.moves.same) w.moves.sealed (steps.kept_on D b.sound t w.moves.kept w.moves.call.honest.1) c.args.draw c.ready.new.set (changes_of c.ready.new.ahead.items) (changes_of c.in-Ok.ready.1.items) refl c.ready.ensures.follows (none_left c.ready.new.ahead.items c.in-Ok.ensures.done) c.in-Ok.ensures.copied
     (subst (λ (x : State). GoesOn x c.args.draw) (sym c.ready.ensures.same) c.in-Ok.ensures.goes_on) c.in-Ok.ensures.lawful (w.staged ∙ c.in-Ok.ensures.spelled) (ap length w.staged ∙ len) (steps.room_plan c.self.inside.slots mid b.plan room.room)
-    (λ growing. w.moves.same.8 ∙ c.in-Ok-make_ready.ensures.ready (subst (λ (x : Step). IsGrowing x) w.moves.same.4 growing) ∙ sym (ap with_gate w.staged)) c.in-Ok-stage.ensures.moves.phase.0
+    (subst (λ (v : ℕ). AllByRecursion (IsAllowed v) c.args.draw.changes) (sym b.plan.3) room.allowed)
+    (λ growing. w.moves.same.9 ∙ c.in-Ok-make_ready.ensures.ready (subst (λ (x : Step). IsGrowing x) w.moves.same.5 growing) ∙ sym (ap with_gate w.staged)) c.in-Ok-stage.ensures.moves.phase.0
 
 pub returns : goal.returns
 returns g c =

@@ -20,7 +20,7 @@ pub invariant_of-self : goal.invariant_of-self
 invariant_of-self g c =
     let b = calls.on_way g.D.Disk c.self.invariant c.self.view_is c.requires (λ (e : GateOpened ≡ Idle). absurd (cc e)) (λ e. c.in_default.not-Failed (c.phase.ensures.phase ∙ e)) in
     let D = g.D.Disk in let s = c.self.inside in let t = c.sync_gate.new.slots in let e = c.in_default-sync_gate.ensures in
-    calls.sound_moved D c.self.invariant s.step t (steps.beside_of s.slots t e.broken.3) e.bodies.0 (steps.kept_on D c.self.invariant t e.broken.2 c.sync_gate.ensures.call.honest.1) b.flight b.flight.on_way e.bodies.1 e.broken.3.8 (inr e.broken.0)
+    calls.sound_moved D c.self.invariant s.step t (steps.beside_of s.slots t e.broken.3) e.bodies.0 (steps.kept_on D c.self.invariant t e.broken.2 c.sync_gate.ensures.call.honest.1) b.flight b.flight.on_way e.bodies.1 e.broken.3.9 (inr e.broken.0)
 
 pub returns-in_default-sync_gate : goal.returns-in_default-sync_gate
 returns-in_default-sync_gate g c =
@@ -57,7 +57,7 @@ invariant_of-self-2 g c =
     let s = c.self.inside in let t = c.sync_gate.new.slots in let w = c.sync_gate.ensures in let o = c.in-Ok.ensures in let l = c.lengthen-front.ensures in
     let store : ◌≡◌ {A = Identity} (record { name = c.lengthen-front.new.self.name; start = s.origin }) (record { name = s.sealed.name; start = s.origin }) = ap (λ (n : ℕ). record { name = n; start = s.origin }) l.0 in
     rw c.swap.ensures.x_after (calls.sound_sealed g.D.Disk c.self.invariant b.flight (record { store = record { name = c.lengthen-front.new.self.name; start = s.origin }; sealed = c.lengthen-front.new.self.log; staged = c.replace-draw.new.dest.changes; step = Idle; slots = t })
-    store l.1 refl o.sealed.0 o.shut w.same_slot.1 w.beside.0 w.beside.2 w.beside.3 o.grown o.next o.planned w.call.honest.1 c.replace-draw.new.dest.first (changes_of c.swap.new.y.items))
+    store l.1 refl o.sealed.0 o.shut w.same_slot.1 w.beside.0 w.beside.3 w.beside.4 o.grown o.next o.planned w.call.honest.1 c.replace-draw.new.dest.first (changes_of c.swap.new.y.items))
 
 pub returns : goal.returns
 returns g c =
@@ -66,7 +66,7 @@ returns g c =
     let store : ◌≡◌ {A = Identity} (record { name = c.lengthen-front.new.self.name; start = s.origin }) (record { name = s.sealed.name; start = s.origin }) = ap (λ (n : ℕ). record { name = n; start = s.origin }) l.0 in
     let start : c.again.result ≡ s.origin = c.again.ensures in
     let sound = calls.sound_sealed D i b.flight (record { store = record { name = c.lengthen-front.new.self.name; start = s.origin }; sealed = c.lengthen-front.new.self.log; staged = c.replace-draw.new.dest.changes; step = Idle; slots = t })
-    store l.1 refl o.sealed.0 o.shut w.same_slot.1 k.0 k.2 k.3 o.grown o.next o.planned w.call.honest.1 c.replace-draw.new.dest.first (changes_of c.swap.new.y.items) in
+    store l.1 refl o.sealed.0 o.shut w.same_slot.1 k.0 k.3 k.4 o.grown o.next o.planned w.call.honest.1 c.replace-draw.new.dest.first (changes_of c.swap.new.y.items) in
     rw (← c.self.view_is) (record {
       store = store;
       ok = record { step = refl; well_before = b.well; well_now = (λ e. let both : Idle ≡ Failed = sym o.sealed.0 ∙ e in absurd (cc both)); no_failure = search rules };
@@ -76,7 +76,7 @@ returns g c =
       err = tt;
       phase = tt;
       fault = tt;
-      takes_room = (ap (λ x. x.most) w.same_slot.1, calls.takes_room D i b.flight t.journal w.same_slot.1 w.same_slot.2 o.sealed.1, (k.2, k.4, k.0, k.1, k.3, k.5), calls.tail_grows D i b.flight t k.3 o.grown, λ still. steps.tail_stays s.slots t k.3 (o.still still));
+      takes_room = (ap (λ x. x.most) w.same_slot.1, calls.takes_room D i b.flight t.journal w.same_slot.1 w.same_slot.2 o.sealed.1, (k.3, k.5, k.0, k.1, k.2, k.4, k.6), calls.tail_grows D i b.flight t k.4 o.grown, λ still. steps.tail_stays s.slots t k.4 (o.still still));
       begun = (steps.begun_shut t.journal.phase Idle t.journal.begun (λ (e : Idle ≡ GateOpened). absurd (cc e)) o.shut (inl o.sealed.0), tt);
       disk = record {
         called = w.call.called;
