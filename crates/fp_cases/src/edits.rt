@@ -1,7 +1,8 @@
 //! Cases of edits, and of the sets that they make.
 
+use crate::values::SHOWN;
 use fp_definition::FlagKey;
-use fp_edit::{Edit, EditFault, Expect, Flag, FlagSet, LineFault, parse_line};
+use fp_edit::{Change, Edit, EditFault, Expect, Flag, FlagSet, LineFault, PartFault, parse_line};
 use fp_transcript::Text;
 
 /// Tells the edit that a line spells.
@@ -19,6 +20,10 @@ pub fn edit_of(line: &[u8], out: &mut Text) -> Option<Edit> {
             out.is_short = true;
             None
         }
+        Err(LineFault::InSet { at, fault }) => {
+            put_part_fault(at, &fault, out);
+            None
+        }
         Err(fault) => {
             out.shown(&fault);
             None
@@ -26,7 +31,14 @@ pub fn edit_of(line: &[u8], out: &mut Text) -> Option<Edit> {
     }
 }
 
-/// An edit: what it does, its key, what it expects, and a put's definition.
+fn put_part_fault(at: usize, fault: &PartFault, out: &mut Text) {
+    out.named("change", at as u64);
+    out.push(": ");
+    out.shown(fault);
+}
+
+/// An edit: what it does, its key, what it expects, and a put's definition; of a set that of its
+/// first changes, each on a line of its own.
 pub fn put_edit(edit: &Edit, out: &mut Text) {
     match edit {
         Edit::Put { key, flag, expect } => {
@@ -35,6 +47,24 @@ pub fn put_edit(edit: &Edit, out: &mut Text) {
             out.utf8(flag.text());
         }
         Edit::Delete { key, expect } => put_head("delete ", key, *expect, out),
+        Edit::Set(changes) => {
+            out.named("set of", changes.as_slice().len() as u64);
+            for change in changes.as_slice().iter().take(SHOWN) {
+                out.push("\n");
+                put_change(change, out);
+            }
+        }
+    }
+}
+
+fn put_change(change: &Change, out: &mut Text) {
+    match change {
+        Change::Put { key, flag, expect } => {
+            put_head("put ", key, *expect, out);
+            out.push(" ");
+            out.utf8(flag.text());
+        }
+        Change::Delete { key, expect } => put_head("delete ", key, *expect, out),
     }
 }
 
@@ -79,12 +109,21 @@ fn admit(set: &mut FlagSet, edit: Edit, out: &mut Text) {
 
 fn put_fault(fault: EditFault, out: &mut Text) {
     match fault {
-        EditFault::Conflict { current: None } => out.push("conflict, no flag there"),
-        EditFault::Conflict {
-            current: Some(revision),
-        } => out.named("conflict, changed at", revision),
+        EditFault::Conflict { current } => put_conflict(current, out),
+        EditFault::ConflictIn { at, current } => {
+            out.named("change", at as u64);
+            out.push(": ");
+            put_conflict(current, out);
+        }
         EditFault::Memory => out.is_short = true,
         fault => out.shown(&fault),
+    }
+}
+
+fn put_conflict(current: Option<u64>, out: &mut Text) {
+    match current {
+        None => out.push("conflict, no flag there"),
+        Some(revision) => out.named("conflict, changed at", revision),
     }
 }
 

@@ -30,18 +30,21 @@ image_made set es bytes is changed numbered within lawful spelled = record {
 }
 
 pub planned_for : (size : ℕ) (set : State) (generation : ℕ) (bytes text : List ℕ) → set.limit ≡ size / 2 → generation < 2 ^ 64 → IsImageOf set.revision set.limit bytes set → text ≡ head_text VERSION generation set.revision bytes → (p : Spells size text set) × (p.version ≡ VERSION)
-planned_for size set generation bytes text limit small image is = let within = image_within set.revision set.limit bytes set image in (record {
-  version = VERSION;
-  known = record { least = omega arith; greatest = omega arith };
-  generation = generation;
-  base = set.revision;
-  image = bytes;
-  first = set;
-  batches = [];
-  text_is = is ∙ sym (append-nil (head_text VERSION generation set.revision bytes));
-  numbered = small;
-  small = omega (arith, within, limit);
-  image_is = subst (λ (n : ℕ). IsImageOf set.revision n bytes set) limit image;
-  short = tt;
-  leads = refl;
-}, refl)
+planned_for size set generation bytes text limit small image is = let within = image_within set.revision set.limit bytes set image in (
+  record {
+    version = VERSION;
+    known = record { least = omega arith; greatest = omega arith };
+    generation = generation;
+    base = set.revision;
+    image = bytes;
+    first = set;
+    batches = [];
+    text_is = is ∙ sym (append-nil (head_text VERSION generation set.revision bytes));
+    numbered = small;
+    small = omega (arith, within, limit);
+    image_is = subst (λ (n : ℕ). IsImageOf set.revision n bytes set) limit image;
+    short = tt;
+    leads = refl;
+  },
+  refl,
+)

@@ -95,8 +95,8 @@ module _ {D : Type 0} (u : PendingState) (slots : SlotsState D) (size : ℕ) (si
         full = ⊎_elim
             (λ long. let most = ap (λ (z : Slot). z.most) k.mine in inl (omega (arith, long, most)))
             (λ other. inr (⊎_elim
-                (λ narrow. let start = ap (λ (z : Slot). z.start) k.mine in let stop = ap (λ (z : Slot). z.stop) k.mine in inl (omega (arith, narrow, start, stop)))
-                (λ never. inr (λ allowed. never (subst (λ (v : ℕ). AllByRecursion (IsAllowed v) group.changes) k.version_is allowed))) other)) none;
+            (λ narrow. let start = ap (λ (z : Slot). z.start) k.mine in let stop = ap (λ (z : Slot). z.stop) k.mine in inl (omega (arith, narrow, start, stop)))
+            (λ never. inr (λ allowed. never (subst (λ (v : ℕ). AllByRecursion (IsAllowed v) group.changes) k.version_is allowed))) other)) none;
         generation_is = same;
       }
 
@@ -193,8 +193,7 @@ read_kept : {D : Type 0} (u : PendingState) (slots : SlotsState D) (c : List ℕ
     → slots.version ≡ r.version → (side : Side) → slots.journal.slot ≡ slot_of size side → slots.other ≡ slot_of size (other_side side) → IsKeptIn u slots size s
 read_kept u slots c size slot other s r front none sure version side mine its =
     let spells = subst (λ (t : List ℕ). SpellsAs size t s slots.version) (sym (ap (λ (l : List (List ℕ)). slots.journal.front ++ spell l) none ∙ append-nil slots.journal.front ∙ front)) (read_spells c size slot other s r, sym version) in
-    let long = r.header.long in let range = held_range c 0 64 (omega (arith, long)) in
-    (
+    let long = r.header.long in let range = held_range c 0 64 (omega (arith, long)) in (
       side,
       record {
         header = slice_range c 0 64;

@@ -19,6 +19,9 @@ use Rattle.fp_definition.specs.contracts.definition.Definition as definition
 use Rattle.fp_definition.specs.contracts.definition.Definition.TheInside as definition_inside
 use Rattle.fp_definition.specs.contracts.definition.Kept as kept
 use Rattle.fp_edit.specs.contracts.edit.Edit as edit
+use Rattle.fp_edit.specs.contracts.edit.Change as change
+use Rattle.fp_edit.specs.contracts.changes.Changes as changes
+use Rattle.fp_edit.specs.contracts.changes.Changes.TheInside as changes_inside
 use Rattle.fp_edit.specs.contracts.flags.Flag as flag
 use Rattle.fp_edit.specs.contracts.flag_set.FlagSet as flags
 use Rattle.fp_edit.specs.contracts.flag_set.FlagSet.TheInside as inside
@@ -77,13 +80,19 @@ flag_shared : IsSync flag.the_row
 flag_shared = search (sendable, definition_shared) depth 20
 
 pub flags_sent : IsSend flags.the_row
-flags_sent = view_send _ _ _ _ _ (recorded_send _ _ _ (inside.the_type).to_one (struct_send (shape inside.the_type) (search (sendable, maps.BTreeMap-send, key.the_send, flag_sent) depth 5, (search sendable, (search sendable, (search sendable, (search (sendable, crosses), tt)))))))
+flags_sent = view_send _ _ _ _ _ (recorded_send _ _ _ (inside.the_type).to_one (struct_send (shape inside.the_type) (search (sendable, maps.BTreeMap-send, key.the_send, flag_sent) depth 5, (search sendable, (search sendable, (search sendable, (search sendable, (search (sendable, crosses), tt))))))))
 
 pub flags_shared : IsSync flags.the_row
-flags_shared = view_sync _ _ _ _ _ (recorded_sync _ _ _ (inside.the_type).to_one (struct_sync (shape inside.the_type) (search (sendable, maps.BTreeMap-sync, key.the_sync, flag_shared) depth 5, (search sendable, (search sendable, (search sendable, (search (sendable, crosses), tt)))))))
+flags_shared = view_sync _ _ _ _ _ (recorded_sync _ _ _ (inside.the_type).to_one (struct_sync (shape inside.the_type) (search (sendable, maps.BTreeMap-sync, key.the_sync, flag_shared) depth 5, (search sendable, (search sendable, (search sendable, (search sendable, (search (sendable, crosses), tt))))))))
+
+change_sent : IsSend change.the_row
+change_sent = recorded_send _ _ _ (change.the_type).to_one (enum_send (enums.shape change.the_type) ((key.the_field_send, (definition_sent, (search sendable depth 10, tt))), ((key.the_field_send, (search sendable depth 10, tt)), tt)))
+
+changes_sent : IsSend changes.the_row
+changes_sent = view_send _ _ _ _ _ (recorded_send _ _ _ (changes_inside.the_type).to_one (struct_send (shape changes_inside.the_type) (Vec-send _ change_sent, tt)))
 
 pub edit_field_sent : IsSend (edit.the_field).row
-edit_field_sent = enum_send (enums.shape edit.the_type) ((key.the_field_send, (definition_sent, (search sendable depth 10, tt))), ((key.the_field_send, (search sendable depth 10, tt)), tt))
+edit_field_sent = enum_send (enums.shape edit.the_type) ((key.the_field_send, (definition_sent, (search sendable depth 10, tt))), ((key.the_field_send, (search sendable depth 10, tt)), ((changes_sent, tt), tt)))
 
 pub edit_sent : IsSend edit.the_row
 edit_sent = recorded_send _ _ _ (edit.the_type).to_one edit_field_sent

@@ -88,15 +88,17 @@ fn reopened(trial: &mut Trial, told: &mut Told, is_new: bool) -> Result<(), Allo
     Ok(())
 }
 
-/// `worlds LISTS EVENTS`, `stops EVENTS`: how often what was told before a crash wasn't kept, and
-/// how many kinds of answers there were.
+/// `worlds LISTS EVENTS`, `stops EVENTS`, with `sets` behind it or without: how often what was told
+/// before a crash wasn't kept, and how many kinds of answers there were.
 pub fn on_seeds<R: Wait>(rt: &R, trial: &mut Trial, word: &str, args: &mut Args<'_>) -> Answer {
     let mut told = Told::new(trial.alloc);
+    let lists = if word == "worlds" { args.number() } else { 0 };
+    let count = args.number();
+    let draws = Draws::new(trial.alloc, args.word() == "sets");
     let done = if word == "worlds" {
-        let lists = args.number();
-        worlds(rt, trial, &mut told, lists, args.number())
+        worlds(rt, trial, &mut told, draws, lists, count)
     } else {
-        stops(rt, trial, &mut told, args.number())
+        stops(rt, trial, &mut told, draws, count)
     };
     match done {
         Ok(()) => told.tell(&mut trial.text),
@@ -110,10 +112,11 @@ fn worlds<R: Wait>(
     rt: &R,
     trial: &mut Trial,
     told: &mut Told,
+    draws: Draws,
     lists: u64,
     count: u64,
 ) -> Result<(), AllocError> {
-    let mut draws = Draws::new(trial.alloc);
+    let mut draws = draws;
     reopened(trial, told, true)?;
     for _ in 0..lists {
         draws.near = told.newest();
@@ -154,10 +157,11 @@ fn stops<R: Wait>(
     rt: &R,
     trial: &mut Trial,
     told: &mut Told,
+    draws: Draws,
     count: u64,
 ) -> Result<(), AllocError> {
     let bytes = trial.bytes().ok_or(AllocError)?;
-    let mut draws = Draws::new(trial.alloc);
+    let mut draws = draws;
     reopened(trial, told, true)?;
     draws.near = told.newest();
     let events = draws.events(count)?;

@@ -27,6 +27,9 @@ const KEYS: u64 = 8;
 // Lengths of definitions: small ones, and some of which few fill an image.
 const LENGTHS: [u64; 8] = [42, 64, 65, 300, 4_000, 9_001, 16_291, 16_384];
 
+// The longest definition in a set, of which a line has room for four.
+const LONGEST_IN_SET: u64 = 8_000;
+
 /// Draws events, and what becomes of their disk.
 #[derive(Drop)]
 pub struct Draws {
@@ -34,17 +37,20 @@ pub struct Draws {
     seed: u64,
     // Which event is the next one in a batch's course.
     place: u64,
+    // Whether a third of the edits are sets of changes.
+    with_sets: bool,
     /// A revision near those that are there.
     pub near: u64,
 }
 
 impl Draws {
-    /// From the first seed on.
-    pub fn new(alloc: Global) -> Draws {
+    /// From the first seed on, with sets of changes or without.
+    pub fn new(alloc: Global, with_sets: bool) -> Draws {
         Draws {
             alloc,
             seed: FIRST_SEED,
             place: 0,
+            with_sets,
             near: 1,
         }
     }
@@ -105,17 +111,39 @@ impl Draws {
 
     fn edit(&mut self) -> Option<Edit> {
         let mut line = Text::new(self.alloc);
-        if self.below(4) == 0 {
-            line.push("delete k");
-            line.number(self.below(KEYS));
+        if self.with_sets && self.below(3) == 0 {
+            self.put_set(&mut line);
         } else {
-            line.push("put k");
-            line.number(self.below(KEYS));
-            line.push(" ");
-            line.number(self.length());
+            let is_delete = self.below(4) == 0;
+            let key = self.below(KEYS);
+            self.put_change(is_delete, key, u64::MAX, &mut line);
         }
-        self.expected(&mut line);
         edit_of(&mut Args::of(self.alloc, line.as_str()))
+    }
+
+    // Two to four changes, of keys in a row.
+    fn put_set(&mut self, line: &mut Text) {
+        line.push("set ");
+        let first = self.below(KEYS);
+        for n in 0..self.below(3).saturating_add(2) {
+            if n > 0 {
+                line.push(", ");
+            }
+            let is_delete = self.below(4) == 0;
+            let key = first.saturating_add(n) % KEYS;
+            self.put_change(is_delete, key, LONGEST_IN_SET, line);
+        }
+    }
+
+    // What is done to a key, with a definition that isn't longer than this.
+    fn put_change(&mut self, is_delete: bool, key: u64, longest: u64, line: &mut Text) {
+        line.push(if is_delete { "delete k" } else { "put k" });
+        line.number(key);
+        if !is_delete {
+            line.push(" ");
+            line.number(self.length().min(longest));
+        }
+        self.expected(line);
     }
 
     fn length(&mut self) -> u64 {

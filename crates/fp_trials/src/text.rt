@@ -112,10 +112,32 @@ pub fn edit_of(args: &mut Args<'_>) -> Option<Edit> {
 }
 
 /// Appends the line of an edit: of `put KEY`, of `put KEY LENGTH` with a definition of so many
-/// bytes, of `delete KEY`, each with `if absent` or `if REVISION` behind it or without; any
-/// other text is a line itself, in which `ON` stands for its definition.
+/// bytes, of `delete KEY`, each with `if absent` or `if REVISION` behind it or without; of
+/// `set EDIT, EDIT ..`, with such edits; any other text is a line itself, in which `ON` stands for
+/// its definition.
 pub fn put_line(args: &mut Args<'_>, out: &mut Text) {
-    let (edit, expected) = args.rest.split_once(" if ").unwrap_or((args.rest, "any"));
+    match args.rest.strip_prefix("set ") {
+        Some(edits) => put_set(args, edits, out),
+        None => put_single(args, args.rest, out),
+    }
+    args.is_short = args.is_short || out.is_short;
+}
+
+fn put_set(args: &mut Args<'_>, edits: &str, out: &mut Text) {
+    out.push(r#"{"edits":["#);
+    let mut is_later = false;
+    for edit in edits.split(", ") {
+        if is_later {
+            out.push(",");
+        }
+        put_single(args, edit, out);
+        is_later = true;
+    }
+    out.push(r#"],"op":"set"}"#);
+}
+
+fn put_single(args: &mut Args<'_>, text: &str, out: &mut Text) {
+    let (edit, expected) = text.split_once(" if ").unwrap_or((text, "any"));
     let (word, rest) = first_word(edit);
     let (key, length) = first_word(rest);
     match word {
@@ -123,7 +145,6 @@ pub fn put_line(args: &mut Args<'_>, out: &mut Text) {
         "delete" => edit_line("{", key, "delete", expected, out),
         _ => out.replaced(edit, "ON", ON),
     }
-    args.is_short = args.is_short || out.is_short;
 }
 
 fn put_put(args: &mut Args<'_>, key: &str, length: &str, expected: &str, out: &mut Text) {

@@ -1,7 +1,8 @@
 //! What a world told, and what its disk has to be opened as.
 
 use crate::trial::Answer;
-use fp_edit::{Edit, FlagSet};
+use fp_definition::{Definition, FlagKey};
+use fp_edit::{Change as Part, Edit, FlagSet};
 use fp_group_commit::StoreFault;
 use fp_transcript::{Text, number};
 use fp_world::{Answer as Reply, Event};
@@ -138,8 +139,29 @@ impl Told {
         }
         self.newest = revision;
         if let Event::Submit(edit) = event {
-            self.changes.push(change_of(edit, revision))?;
+            self.note_edit(edit, revision)?;
         }
+        Ok(())
+    }
+
+    // Notes each change that an accepted edit made.
+    fn note_edit(&mut self, edit: &Edit, revision: u64) -> Result<(), AllocError> {
+        match edit {
+            Edit::Put { key, flag, .. } => self.note_change(put_of(key, flag, revision)),
+            Edit::Delete { key, .. } => self.note_change(deletion_of(key, revision)),
+            Edit::Set(changes) => self.note_parts(changes.as_slice(), revision),
+        }
+    }
+
+    fn note_parts(&mut self, parts: &[Part], revision: u64) -> Result<(), AllocError> {
+        for part in parts {
+            self.note_change(change_of(part, revision))?;
+        }
+        Ok(())
+    }
+
+    fn note_change(&mut self, change: Change) -> Result<(), AllocError> {
+        self.changes.push(change)?;
         Ok(())
     }
 
@@ -220,15 +242,26 @@ impl Told {
     }
 }
 
-fn change_of(edit: &Edit, revision: u64) -> Change {
-    let length = match edit {
-        Edit::Put { flag, .. } => Some(flag.text().len() as u64),
-        Edit::Delete { .. } => None,
-    };
+fn change_of(part: &Part, revision: u64) -> Change {
+    match part {
+        Part::Put { key, flag, .. } => put_of(key, flag, revision),
+        Part::Delete { key, .. } => deletion_of(key, revision),
+    }
+}
+
+fn put_of(key: &FlagKey, flag: &Definition, revision: u64) -> Change {
     Change {
-        key: key_of(edit.key().as_str()),
+        key: key_of(key.as_str()),
         revision,
-        length,
+        length: Some(flag.text().len() as u64),
+    }
+}
+
+fn deletion_of(key: &FlagKey, revision: u64) -> Change {
+    Change {
+        key: key_of(key.as_str()),
+        revision,
+        length: None,
     }
 }
 

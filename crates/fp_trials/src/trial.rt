@@ -114,9 +114,19 @@ impl Answer {
 
 fn tell_refused(fault: EditFault, out: &mut Text) {
     match fault {
-        EditFault::Conflict { current: None } => out.push("conflict"),
-        EditFault::Conflict { current: Some(n) } => out.named("conflict at", n),
+        EditFault::Conflict { current } => tell_conflict(current, out),
+        EditFault::ConflictIn { at, current } => {
+            tell_conflict(current, out);
+            out.named(" of change", at as u64);
+        }
         fault => out.shown(&fault),
+    }
+}
+
+fn tell_conflict(current: Option<u64>, out: &mut Text) {
+    match current {
+        None => out.push("conflict"),
+        Some(revision) => out.named("conflict at", revision),
     }
 }
 

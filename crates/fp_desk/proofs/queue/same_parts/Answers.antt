@@ -18,5 +18,5 @@ pub returns : goal.returns
 returns c =
     let mine = c.loop-i-test.false in let len = c.if-changes-others.false in
     let same : map part_in c.args.changes.now ≡ map part_in c.args.others.now =
-        ap (map part_in) (sym (take_all c.loop-i.i c.args.changes.now mine)) ∙ c.loop-i.invariant ∙ ap (map part_in) (take_all c.loop-i.i c.args.others.now (omega (arith, mine, len))) in
+    ap (map part_in) (sym (take_all c.loop-i.i c.args.changes.now mine)) ∙ c.loop-i.invariant ∙ ap (map part_in) (take_all c.loop-i.i c.args.others.now (omega (arith, mine, len))) in
     (λ _. parts_are c.args.changes.now ∙ same ∙ sym (parts_are c.args.others.now), λ _. refl)

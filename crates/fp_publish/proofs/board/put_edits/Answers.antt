@@ -1,6 +1,6 @@
 use Rattle.std.proofs.Common.{take, drop, fold, sym, ap, ◌∙◌}
 use Rattle.fp_edit.specs.Admits.{next}
-use Rattle.fp_edit.specs.Edits.{Proposal}
+use Rattle.fp_edit.specs.Edits.{Proposal, change_in}
 use Rattle.fp_edit.specs.Flags.{State}
 use Rattle.fp_edit.specs.Following.{changes_of}
 use Rattle.fp_edit.specs.Log.{after_all}
@@ -18,6 +18,6 @@ loop-edit-preserved c = record {
       let so_far : State = after_all old.set (changes_of (take c.loop-edit.edit-index c.args.edits.now)) in
       c.in_ok-put.ensures.appended p
       ∙ ap (λ (x : Page). page_after x (step.Change c.in_ok-try_copy.field-0)) (c.loop-edit.invariant.appended p)
-      ∙ ap (λ (x : Proposal). record { set = next so_far x.change; front = old.front }) c.in_ok-try_copy.ensures
+      ∙ ap (λ (x : Proposal). record { set = next so_far (change_in x); front = old.front }) c.in_ok-try_copy.ensures
       ∙ ap (λ (t : State). record { set = t; front = old.front }) (sym (one_after old.set c.args.edits.now c.loop-edit.edit-index c.edit-item.result c.loop-edit-test.true c.edit-item.is));
 }
