@@ -8,9 +8,9 @@ use Rattle.fp_disk.specs.declared.disk.Disk.{Ghosts}
 use Rattle.fp_disk.specs.declared.history.CallKind.{CallKind}
 use Rattle.fp_edit.specs.Flags.{State}
 use Rattle.fp_edit.specs.Log.{after_all}
+use Rattle.fp_journal.specs.Pieces.{ThenReads}
 use Rattle.fp_recovery.specs.Room.{IsFull}
 use Rattle.fp_recovery.specs.Stands.{StandsFor}
-use Rattle.fp_group_commit.specs.Changes.{batch_len}
 use Rattle.fp_session.specs.Asks.{Ask}
 use Rattle.fp_session.specs.Run.{IsAfterPrefix, IsRunWritten, IsToldBy}
 use Rattle.fp_session.specs.RunPromise.{RunPromise}
@@ -25,7 +25,7 @@ use Rattle.fp_session.specs.declared.edit_store.EditStore.{Ghosts as StoreGhosts
 use Rattle.fp_session.specs.declared.fault.ApplyFault.{ApplyFault}
 use Rattle.fp_session.specs.declared.fault.ApplyFault.TheVariants.{Device, StoreFailed, Memory, CommitMemory}
 use Rattle.fp_session.proofs.RunLemmas.{written-flags, written-script}
-use Rattle.fp_commands.specs.Disks.{Asked, BlamesRun, CallsSomeWorks, IsLeftOnDisk, IsOnlyRead, IsStreamFault, LacksRoom, Opens}
+use Rattle.fp_commands.specs.Disks.{Asked, BlamesRun, CallsSomeWorks, IsLeftOnDisk, IsOnlyRead, IsStreamFault, LacksRoom, opening_calls}
 use Rattle.fp_commands.specs.Faults.{of_run}
 use Rattle.fp_commands.specs.Files.{Environment, failures, RunsOnDisk}
 use Rattle.fp_commands.specs.declared.fault.CommandFault.{CommandFault}
@@ -78,7 +78,7 @@ session_store disk = record {
 -- A run over a session that was opened on a disk and gave it back, over streams: it was asked what was read, as `asked` says
 module _ {D F R W : Type 0} (disk : Ghosts D) (remaining : R → Option (List ℕ)) (contents : W → Option (List ℕ)) (Reads : List ℕ → List Ask → Type 0) (most : ℕ) (MayEnd : Type 0 → List ℕ → Option (List ℕ) → CommandFault → Type 0) (old new : Environment F R W)
     (d0 d1 : D) (s k : SessionState D) (stands : disk.honest d0 → StandsFor (disk.bytes d0) (flags_of s)) (only : disk.honest d0 → (other : State) → StandsFor (disk.bytes d0) other → other ≡ flags_of s)
-    (ready : IsReady disk s) (begins : s.store.slots.step ≡ Begin) (well : disk.faults (disk_of s) ≡ disk.faults d0) (opened : Opens (disk.calls d0) (disk.calls (disk_of s))) (read : AtAnyMoment disk d0 (disk_of s) (IsOutcome (disk.unsynced d0)))
+    (ready : IsReady disk s) (begins : s.store.slots.step ≡ Begin) (well : disk.faults (disk_of s) ≡ disk.faults d0) (opened : ThenReads opening_calls (disk.calls d0) (disk.calls (disk_of s))) (read : AtAnyMoment disk d0 (disk_of s) (IsOutcome (disk.unsynced d0)))
     (honest : SameHonesty disk d0 (disk_of s)) (here : d1 ≡ disk_of k) (keeps : EachCrash disk d1 (StandsAhead k.desk)) (Of : (List Ask → Type 0) → Type 0) (asked : (P : List Ask → Type 0) → Of P → Asked (remaining old.reader.inner) Reads P)
     (both : (P Q : List Ask → Type 0) → Of P → Of Q → Of (λ xs. P xs × Q xs)) (may_end : (f : ApplyFault) → MayEnd (disk.honest d0) (disk.bytes d0) (remaining old.reader.inner) (of_run f))
     (counts_now : (x : D) (t : ℕ) (c : List ℕ) → disk.honest x → t ≤ disk.moment x → IsOutcome (disk.unsynced x) c → disk.crash_states_since x t c) (present : (x : D) → disk.honest x → IsOutcome (disk.unsynced x) (disk.bytes x)) where
@@ -136,7 +136,7 @@ module _ {D F R W : Type 0} (disk : Ghosts D) (remaining : R → Option (List �
           (both (λ xs. IsAfterPrefix start xs l.flags) (λ xs. IsAfterPrefix start xs (after_all l.flags l.batch)) (there l.flags l.from) (there (after_all l.flags l.batch) l.to));
       generation = l.generation;
       last = l.last;
-      full = λ h. subst (λ y. IsFull (disk.unsynced y) l.flags (batch_len (record { first = 0; changes = l.batch })) l.generation) (sym here) (l.full (moved.0.0 (honest.0 h)));
+      full = λ h. subst (λ y. IsFull (disk.unsynced y) l.flags (record { first = 0; changes = l.batch }) l.generation) (sym here) (l.full (moved.0.0 (honest.0 h)));
     })
     lacks x led there (inr more) = let same = led.no_failure in let at = ap disk.faults here in inr (omega (arith, more, same, at, well))
 

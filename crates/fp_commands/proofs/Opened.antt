@@ -1,11 +1,19 @@
--- Tasks over a file that was opened.
+-- A disk that was opened, and tasks over its file.
 use Rattle.std.proofs.Common.{◌≡◌, ◌∷◌, [], ◌++◌, List, ℕ, Some, Result, Ok, Err, inr, subst, sym, ◌∙◌}
+use Rattle.fp_disk.specs.Crashes.{AtAnyMoment}
+use Rattle.fp_disk.specs.Outcomes.{IsOutcome}
 use Rattle.fp_disk.specs.declared.disk.Disk.{Ghosts as DiskGhosts}
 use Rattle.fp_files.specs.Lending.{IsLentOnce}
 use Rattle.fp_files.specs.Openings.{KeepsOthers}
 use Rattle.fp_files.specs.declared.files.DiskFiles.{Ghosts as FileGhosts}
+use Rattle.fp_journal.specs.Pieces.{ThenSomeReads}
+use Rattle.fp_commands.specs.Disks.{IsOnlyRead, opening_calls}
 use Rattle.fp_commands.specs.Files.{Environment, OnFile, OverFile}
 use Rattle.fp_commands.specs.declared.fault.CommandFault.{CommandFault}
+
+-- what opening leaves, whether it ends well
+pub only_read : {D : Type 0} (disk : DiskGhosts D) (before after : D) → (disk.honest before → disk.bytes after ≡ disk.bytes before) → AtAnyMoment disk before after (IsOutcome (disk.unsynced before)) → ThenSomeReads opening_calls (disk.calls before) (disk.calls after) → IsOnlyRead disk before after
+only_read disk before after same any_moment called = record { kept = λ h. record { bytes = same h; any_moment = any_moment h }; called = called }
 
 -- a disk that was lent and given back
 pub lent_once : {F D : Type 0} (files : FileGhosts F D) (disk : DiskGhosts D) (old mid new : F) (path : List ℕ) (after : D) → files.asked mid ≡ files.asked old ++ path ∷ [] → KeepsOthers files.at old mid path → files.lent mid path → files.faults mid ≡ files.faults old

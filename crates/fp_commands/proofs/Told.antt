@@ -43,6 +43,10 @@ some_both o P Q p q = grind arith
 
 -- ---- what was refused
 
+-- what holds whatever failed
+pub if_refused : (P : Type 0) (f : CommandFault) → P → IfRefused P f
+if_refused P f p = grind arith
+
 -- a run refuses neither bytes nor what was read
 pub refused-run : (P : Type 0) (f : ApplyFault) → IfRefused P (of_run f)
 refused-run P f = grind arith

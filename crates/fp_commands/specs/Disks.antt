@@ -2,9 +2,9 @@
 use Rattle.std.specs.Prelude.{◌≡◌, ◌≢◌, ◌⊎◌, ◌<◌, ◌≤◌, ◌+◌, ◌^◌, ℕ, List, [], ◌∷◌, ◌++◌, length}
 use Rattle.std.specs.Prelude.{Bool, true, Option, IfSome, Result, Ok, Err}
 use Rattle.std.specs.Io.KnownBytes.{Appends}
-use Rattle.fp_disk.specs.Crashes.{AtAnyMoment}
+use Rattle.fp_disk.specs.Crashes.{StaysAsItWas}
 use Rattle.fp_disk.specs.History.{MakesSome}
-use Rattle.fp_disk.specs.Outcomes.{PendingState, IsOutcome}
+use Rattle.fp_disk.specs.Outcomes.{PendingState}
 use Rattle.fp_disk.specs.declared.disk.Disk.{Ghosts}
 use Rattle.fp_disk.specs.declared.history.CallKind.TheVariants.{Length, Sync}
 use Rattle.fp_edit.specs.Flags.{State}
@@ -24,7 +24,6 @@ use Rattle.fp_disk.specs.declared.history.CallKind.{CallKind}
 use Rattle.fp_recovery.specs.Durable.{IsDurable}
 use Rattle.fp_recovery.specs.Refusals.{RefusesBytes, StandsForNone}
 use Rattle.fp_recovery.specs.Room.{IsFull}
-use Rattle.fp_group_commit.specs.Changes.{batch_len}
 use Rattle.fp_recovery.specs.Stands.{StandsFor}
 use Rattle.fp_commands.specs.Documents.{import_of, IsDocumentFault}
 use Rattle.fp_commands.specs.Faults.{of_run}
@@ -106,12 +105,14 @@ IfFileRefused p (UnknownVersion version) = p
 IfFileRefused p (Damaged at) = p
 IfFileRefused p f = Unit {0}
 
--- a disk was opened at most, and nothing was written on it:
--- a crash leaves what it might have left before
+-- the calls of opening a disk, in front of its reads
+abbrev pub opening_calls : List CallKind
+opening_calls = Sync ∷ Length ∷ []
+
+-- a disk was opened at most, and nothing was written on it
 pub record IsOnlyRead {D : Type 0} (disk : Ghosts D) (before after : D) : Type 0 where
-  pub same : disk.honest before → disk.bytes after ≡ disk.bytes before
-  pub any_moment : AtAnyMoment disk before after (IsOutcome (disk.unsynced before))
-  pub called : ThenSomeReads (Sync ∷ Length ∷ []) (disk.calls before) (disk.calls after)
+  pub kept : disk.honest before → StaysAsItWas disk before after
+  pub called : ThenSomeReads opening_calls (disk.calls before) (disk.calls after)
 
 -- ---- what is written, and what the disk then stands for
 
@@ -188,16 +189,12 @@ pub record LacksRoom (is_honest : Type 0) (bytes : List ℕ) (now : PendingState
   pub generation : ℕ
   pub last : 2 ^ 64 ≤ generation + 1
   pub full : is_honest
-      → IsFull now flags (batch_len (record { first = 0; changes = batch })) generation
-
--- the calls of a disk that was opened: a sync, its length, and reads
-abbrev pub Opens : (old new : List CallKind) → Type 0
-Opens old new = ThenReads (Sync ∷ Length ∷ []) old new
+      → IsFull now flags (record { first = 0; changes = batch }) generation
 
 -- it was opened, and its calls then were those of batches and of whole compactions beside them
 pub record CallsWorks (old new : List CallKind) : Type 0 where
   pub begun : List CallKind
-  pub opened : Opens old begun
+  pub opened : ThenReads opening_calls old begun
   pub works : List Work
   pub lead : Leads Begin works Begin
   pub calls : new ≡ begun ++ calls_of works
@@ -206,7 +203,7 @@ pub record CallsWorks (old new : List CallKind) : Type 0 where
 -- of steps of compactions, and some first ones of one more
 pub record CallsSomeWorks (old new : List CallKind) : Type 0 where
   pub begun : List CallKind
-  pub opened : Opens old begun
+  pub opened : ThenReads opening_calls old begun
   pub works : List Work
   pub next : Step
   pub last : Work
@@ -217,7 +214,7 @@ pub record CallsSomeWorks (old new : List CallKind) : Type 0 where
 -- the calls of a run, where a fault ended it perhaps in the course of opening the disk
 abbrev pub CallsOfRun : {A : Type 0} → (old new : List CallKind) → Result A CommandFault → Type 0
 CallsOfRun old new (Ok x) = CallsWorks old new
-CallsOfRun old new (Err f) = ThenSomeReads (Sync ∷ Length ∷ []) old new ⊎ CallsSomeWorks old new
+CallsOfRun old new (Err f) = ThenSomeReads opening_calls old new ⊎ CallsSomeWorks old new
 
 -- ---- what failed
 

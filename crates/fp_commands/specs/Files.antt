@@ -1,7 +1,7 @@
 -- What a command does with the file that its words name.
 use Rattle.std.specs.Prelude.{◌≡◌, ◌≢◌, ◌⊎◌, ◌<◌, ◌+◌, ℕ, List, [], ◌∷◌, ◌++◌, Bool, Option}
 use Rattle.std.specs.Prelude.{Result, Ok, Err, IfErr, OnOk, IfOk, IfSome}
-use Rattle.fp_disk.specs.Crashes.{AtAnyMoment, EachCrash, SameHonesty}
+use Rattle.fp_disk.specs.Crashes.{AtAnyMoment, EachCrash, IsUntouched, SameHonesty}
 use Rattle.fp_disk.specs.History.{Makes}
 use Rattle.fp_disk.specs.Outcomes.{IsOutcome, all_synced}
 use Rattle.fp_disk.specs.declared.disk.Disk.{Ghosts as DiskGhosts}
@@ -9,7 +9,7 @@ use Rattle.fp_disk.specs.declared.history.CallKind.TheVariants.{Length}
 use Rattle.fp_files.specs.Lending.{IsLentOnce, IsNotOpened, IsThere, IsThereOrNew}
 use Rattle.fp_files.specs.declared.files.DiskFiles.{Ghosts as FileGhosts}
 use Rattle.fp_layout.specs.declared.size.TheConstants.{STANDARD_SLOT}
-use Rattle.fp_layout.specs.NewDisk.{IsNewDisk, StaysAsItWas, format_calls}
+use Rattle.fp_layout.specs.NewDisk.{IsNewDisk, format_calls}
 use Rattle.fp_recovery.specs.Durable.{IsNewSetOrNone, IsDurable}
 use Rattle.fp_recovery.specs.Refusals.{StandsForNone}
 use Rattle.fp_edit.specs.Flags.{State}
@@ -71,7 +71,7 @@ pub record MakesDisk {F R W D : Type 0} (disk : DiskGhosts D) (old new : Environ
   pub empty : disk.honest before → OnOk outcome (disk.bytes before ≡ [])
   pub not_empty : disk.honest before → IfErr outcome (λ f. f ≡ NotEmpty → disk.bytes before ≢ [])
   pub kept : disk.honest before → IfErr outcome (λ f. (disk.bytes before ≢ []) ⊎ (f ≢ Device)
-      → StaysAsItWas disk before after)
+      → IsUntouched disk before after)
   pub any_moment : disk.unsynced before ≡ all_synced []
       → AtAnyMoment disk before after (IsNewSetOrNone STANDARD_SLOT)
   pub called : Makes (Length ∷ format_calls) (disk.calls before) (disk.calls after) outcome

@@ -1,15 +1,15 @@
 //! The commands over a disk. Each gives the disk back.
 
-ghost use Rattle.fp_disk.specs.Crashes.{AtAnyMoment, EachCrash, SameHonesty};
+ghost use Rattle.fp_disk.specs.Crashes.{AtAnyMoment, EachCrash, IsUntouched, SameHonesty};
 ghost use Rattle.std.specs.Prelude.{◌≡◌, ◌≢◌, ◌⊎◌, ◌<◌, ◌+◌, ◌++◌, [], ◌∷◌, Ok, Err, IfOk, IfErr};
 ghost use Rattle.std.specs.Prelude.{MatchResult, OnOk};
 ghost use Rattle.std.specs.Io.KnownBytes.{Appends};
 ghost use Rattle.fp_disk.specs.History.{Makes};
 ghost use Rattle.fp_disk.specs.Outcomes.{IsOutcome, LeavesOnly, all_synced};
-ghost use Rattle.fp_disk.specs.declared.history.CallKind.TheVariants.{Length, Sync};
+ghost use Rattle.fp_disk.specs.declared.history.CallKind.TheVariants.{Length};
 ghost use Rattle.fp_journal.specs.Pieces.{ThenSomeReads};
 ghost use Rattle.fp_layout.specs.declared.size.TheConstants.{STANDARD_SLOT};
-ghost use Rattle.fp_layout.specs.NewDisk.{IsNewDisk, StaysAsItWas, format_calls};
+ghost use Rattle.fp_layout.specs.NewDisk.{IsNewDisk, format_calls};
 ghost use Rattle.fp_session.specs.Run.{show_line};
 ghost use Rattle.fp_session.specs.Session.{StandsAhead, disk_of};
 ghost use Rattle.fp_session.specs.declared.replies.TheConstants.{MOST_WAITING};
@@ -20,6 +20,7 @@ ghost use Rattle.fp_commands.specs.Disks.{IfFileRefused, IfRefused, IsApplyingFa
 ghost use Rattle.fp_commands.specs.Disks.{IsImportingFault, IsLeftOnDisk, IsMakingFault};
 ghost use Rattle.fp_commands.specs.Disks.{IsOnlyRead, IsRunOnDisk, IsShowingFault, IsShown};
 ghost use Rattle.fp_commands.specs.Disks.{IsStreamFault, IsToldOnDisk, IsUnbegun, LacksRoom};
+ghost use Rattle.fp_commands.specs.Disks.{opening_calls};
 ghost use Rattle.fp_commands.specs.Faults.{of_run};
 ghost use Rattle.fp_commands.specs.Task.{no_flags};
 ghost use Rattle.fp_commands.specs.declared.fault.CommandFault.TheVariants.{Device, NotEmpty};
@@ -45,7 +46,7 @@ pub fn init_disk<D: Disk>(alloc: Global, disk: D) -> (D, Result<(), CommandFault
 
     // Where it holds bytes it stays, whatever failed, and else where the device didn't fail.
     ensures kept { D.honest disk → IfErr result.1 (λ f. (D.bytes disk ≢ []) ⊎ (f ≢ Device)
-        → StaysAsItWas D.Disk disk result.0) }
+        → IsUntouched D.Disk disk result.0) }
 
     // A crash at any moment of it leaves what is no disk yet, or one of no flags.
     ensures any_moment { D.honest disk → D.unsynced disk ≡ all_synced []
@@ -76,7 +77,7 @@ pub fn show_disk<D: Disk, W: Write>(
     ensures shown { OnOk result.1
         (IsShown (D.honest disk) (D.bytes disk) (W.contents w.old.inner) (W.contents w.new.inner)) }
     ensures same { D.honest disk → D.bytes result.0 ≡ D.bytes disk }
-    ensures called { ThenSomeReads (Sync ∷ Length ∷ []) (D.calls disk) (D.calls result.0) }
+    ensures called { ThenSomeReads opening_calls (D.calls disk) (D.calls result.0) }
     ensures fault { IfErr result.1 (IsShowingFault (D.honest disk) (D.bytes disk)) }
     ensures nothing_written { IfErr result.1 (IfRefused (w.new ≡ w.old)) }
 

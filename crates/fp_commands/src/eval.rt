@@ -1,14 +1,13 @@
 //! The evaluation of one flag of what a disk stands for.
 
-ghost use Rattle.std.specs.Prelude.{◌≡◌, ◌<◌, ◌+◌, ◌^◌, [], ◌∷◌, IfOk, IfErr, OnOk};
+ghost use Rattle.std.specs.Prelude.{◌≡◌, ◌<◌, ◌+◌, ◌^◌, [], IfOk, IfErr, OnOk};
 ghost use Rattle.fp_disk.specs.Crashes.{AtAnyMoment, SameHonesty};
 ghost use Rattle.fp_disk.specs.Outcomes.{IsOutcome};
-ghost use Rattle.fp_disk.specs.declared.history.CallKind.TheVariants.{Length, Sync};
 ghost use Rattle.fp_journal.specs.Pieces.{ThenSomeReads};
 ghost use Rattle.fp_ofrep.specs.Seen.{response_seen};
 ghost use Rattle.fp_recovery.specs.Refusals.{StandsForNone};
 ghost use Rattle.fp_commands.specs.Disks.{Blames, IfFileRefused, IfRefused, IsShowingFault};
-ghost use Rattle.fp_commands.specs.Disks.{IsStreamFault};
+ghost use Rattle.fp_commands.specs.Disks.{IsStreamFault, opening_calls};
 ghost use Rattle.fp_commands.specs.Eval.{IsAnswered, IsEvaluated, reply_line};
 
 use crate::fault::CommandFault;
@@ -37,7 +36,7 @@ pub fn eval_disk<D: Disk, R: Read, W: Write>(
         (R.remaining r.old.inner) (W.contents w.old.inner) (W.contents w.new.inner)) }
     ensures same { D.honest disk → D.bytes result.0 ≡ D.bytes disk }
     ensures any_moment { AtAnyMoment D.Disk disk result.0 (IsOutcome (D.unsynced disk)) }
-    ensures called { ThenSomeReads (Sync ∷ Length ∷ []) (D.calls disk) (D.calls result.0) }
+    ensures called { ThenSomeReads opening_calls (D.calls disk) (D.calls result.0) }
     ensures fault { IfErr result.1 (IsShowingFault (D.honest disk) (D.bytes disk)) }
 
     // A disk is refused before anything is read or written.

@@ -60,14 +60,26 @@ pub fn line_of<S: Read>(alloc: Global, stream: &mut S) -> Vec<u8> {
     line
 }
 
+// How many bytes are read at once.
+const PIECE: usize = 1_024;
+
 /// The next bytes, as many as these if so many come.
 pub fn bytes_of<S: Read>(alloc: Global, stream: &mut S, count: u64) -> Vec<u8> {
     let mut bytes = Vec::new(alloc);
+    let mut piece = [0; PIECE];
+    let mut left = count;
+    // Each turn gives a byte or is the last one.
     for _ in 0..count {
-        if let Some(byte) = byte_of(stream) {
-            let _ = bytes.push(byte);
-        } else {
+        let most = left.min(PIECE as u64) as usize;
+        let Some(room) = piece.get_mut(..most) else {
             break;
+        };
+        match stream.read(room) {
+            Ok(given) if given > 0 => {
+                let _ = bytes.extend_from_slice(piece.get(..given).unwrap_or(&[]));
+                left = left.saturating_sub(given as u64);
+            }
+            _ => break,
         }
     }
     bytes
@@ -76,6 +88,36 @@ pub fn bytes_of<S: Read>(alloc: Global, stream: &mut S, count: u64) -> Vec<u8> {
 /// Says nothing more.
 pub fn end(stream: &TcpStream) {
     let _ = stream.shutdown(Shutdown::Write);
+}
+
+// How many flags are turned together.
+const TOGETHER: u64 = 64;
+
+/// Says a set of changes that puts flags, all of them with one variant.
+pub fn say_turn(alloc: Global, stream: &TcpStream, is_on: bool) -> bool {
+    let mut line = Text::new(alloc);
+    line.push("{\"edits\":[");
+    for n in 0..TOGETHER {
+        if n > 0 {
+            line.push(",");
+        }
+        push_turn(n, is_on, &mut line);
+    }
+    line.push("],\"op\":\"set\"}\n");
+    say(stream, line.as_str().as_bytes())
+}
+
+fn push_turn(n: u64, is_on: bool, line: &mut Text) {
+    line.push("{\"flag\":{\"defaultVariant\":\"");
+    line.push(if is_on { "on" } else { "off" });
+    line.push("\",\"variants\":{\"off\":false,\"on\":true}},\"key\":\"flag-");
+    line.number(n);
+    line.push("\",\"op\":\"put\"}");
+}
+
+/// Whether a document or a reply shows a flag that is on beside one that is off.
+pub fn is_mixed(text: &str) -> bool {
+    text.contains("ariant\":\"on\"") && text.contains("ariant\":\"off\"")
 }
 
 /// The number behind this, in a line that ends there.
@@ -141,11 +183,14 @@ fn next_in_turn(alloc: Global, stream: &TcpStream, last: Option<u64>) -> Option<
     }
 }
 
-/// Says a request to evaluate a flag.
+/// Says a request to evaluate a flag, or all of them where the key is empty.
 pub fn say_request(alloc: Global, stream: &TcpStream, key: &str) -> bool {
     let mut request = Text::new(alloc);
-    request.push("POST /ofrep/v1/evaluate/flags/");
-    request.push(key);
+    request.push("POST /ofrep/v1/evaluate/flags");
+    if !key.is_empty() {
+        request.push("/");
+        request.push(key);
+    }
     request.push(" HTTP/1.1\r\nhost: a\r\ncontent-length: 2\r\n\r\n{}");
     say(stream, request.as_str().as_bytes())
 }
@@ -159,6 +204,8 @@ pub struct Response {
     pub is_found: bool,
     /// The revision that it is of; 0 where it names none.
     pub revision: u64,
+    /// Whether it has a flag that is on and one that is off.
+    pub is_mixed: bool,
 }
 
 /// The next response, read to its end.
@@ -168,6 +215,7 @@ pub fn response_of(alloc: Global, mut stream: &TcpStream) -> Response {
         is_there: !status.is_empty(),
         is_found: status.starts_with(b"HTTP/1.1 200 "),
         revision: 0,
+        is_mixed: false,
     };
     let mut length = 0;
     for _ in 0..u64::MAX {
@@ -178,11 +226,12 @@ pub fn response_of(alloc: Global, mut stream: &TcpStream) -> Response {
         response.revision = number_behind(&line, "flag-revision: ").unwrap_or(response.revision);
         length = number_behind(&line, "content-length: ").unwrap_or(length);
     }
-    let _body = bytes_of(alloc, &mut stream, length);
+    let body = bytes_of(alloc, &mut stream, length);
+    response.is_mixed = is_mixed(str::from_utf8(&body).unwrap_or(""));
     response
 }
 
-/// An evaluation of a flag.
+/// An evaluation of a flag, or of all where the key is empty.
 pub fn evaluated(alloc: Global, stream: &TcpStream, key: &str) -> Response {
     let _ = say_request(alloc, stream, key);
     response_of(alloc, stream)

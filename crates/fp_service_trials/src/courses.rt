@@ -1,6 +1,6 @@
 //! Editors, evaluators and subscribers in threads of their own, and what they came to.
 
-use crate::clients::{connect, evaluated, say_put, told_next};
+use crate::clients::{connect, evaluated, is_mixed, say_put, say_turn, told_next};
 use fp_server::Host;
 use fp_stream::{Hello, watch_loop, write_hello};
 use fp_streams::FailureCounted;
@@ -33,13 +33,14 @@ impl Courses {
     }
 }
 
-/// What an editor does: its number, how many puts it makes, and whether it says them all before it
-/// hears of one.
+/// What an editor does: its number, how many edits it makes, whether it says them all before it
+/// hears of one, and whether each of them turns all flags together.
 #[derive(Clone, Copy)]
 pub struct Course {
     pub number: u64,
     pub count: u64,
     pub is_at_once: bool,
+    pub is_turning: bool,
 }
 
 // The key of an editor's put.
@@ -51,7 +52,16 @@ fn key_of(course: Course, n: u64, key: &mut Text) {
     key.number(n);
 }
 
-// Makes the puts until one isn't told a revision: for each that is, a line of its key and revision.
+// Says the edit of this place: a put, or a set that turns all flags.
+fn say_edit(alloc: Global, stream: &TcpStream, course: Course, n: u64, key: &str) {
+    let _ = if course.is_turning {
+        say_turn(alloc, stream, n % 2 == 0)
+    } else {
+        say_put(alloc, stream, key)
+    };
+}
+
+// Makes the edits until one isn't told a revision: for each that is, a line of its key and revision.
 fn told_of<R: Host>(rt: &R, at: SocketAddr, course: Course) -> String {
     let alloc = rt.alloc();
     let mut told = Text::new(alloc);
@@ -63,7 +73,7 @@ fn told_of<R: Host>(rt: &R, at: SocketAddr, course: Course) -> String {
         for n in 0..course.count {
             key_of(course, n, &mut key);
             if !course.is_at_once {
-                let _ = say_put(alloc, &stream, key.as_str());
+                say_edit(alloc, &stream, course, n, key.as_str());
             }
             let Some(revision) = told_next(alloc, &stream) else {
                 break;
@@ -78,7 +88,7 @@ fn told_of<R: Host>(rt: &R, at: SocketAddr, course: Course) -> String {
 fn say_all(alloc: Global, stream: &TcpStream, course: Course, key: &mut Text) {
     for n in 0..course.count {
         key_of(course, n, key);
-        let _ = say_put(alloc, stream, key.as_str());
+        say_edit(alloc, stream, course, n, key.as_str());
     }
 }
 
@@ -125,14 +135,16 @@ pub fn revisions_in(alloc: Global, lines: &str) -> Vec<u64> {
 }
 
 // Evaluates until this revision is seen, or nothing new is for long, and gives the one seen last.
-// None where one fell.
-fn seen_until<R: Host>(rt: &R, at: SocketAddr, key: &str, last: u64) -> Option<u64> {
+// None where one fell, or flags were mixed.
+fn seen_until<R: Host>(rt: &R, at: SocketAddr, is_all: bool, last: u64) -> Option<u64> {
+    let key = if is_all { "" } else { "a" };
     let stream = connect(rt, at).ok()?;
     let mut seen = 0;
     let mut turns: u32 = 0;
     for _ in 0..u64::MAX {
-        let now = evaluated(rt.alloc(), &stream, key).revision;
-        if now < seen {
+        let response = evaluated(rt.alloc(), &stream, key);
+        let now = response.revision;
+        if now < seen || response.is_mixed {
             return None;
         }
         turns = if seen < now {
@@ -149,30 +161,32 @@ fn seen_until<R: Host>(rt: &R, at: SocketAddr, key: &str, last: u64) -> Option<u
     Some(seen)
 }
 
-/// Starts so many evaluators of the flag `a`, each until it sees this revision.
+/// Starts so many evaluators of the flag `a`, or of all flags, each until it sees this revision.
 pub fn start_evaluators<R: Host>(
     rt: &R,
     at: SocketAddr,
     count: u64,
+    is_all: bool,
     last: u64,
     courses: &mut Courses,
 ) {
     for _ in 0..count {
         let own = *rt;
-        if let Ok(handle) = thread::spawn(rt, move || seen_until(&own, at, "a", last)) {
+        if let Ok(handle) = thread::spawn(rt, move || seen_until(&own, at, is_all, last)) {
             let _ = courses.evaluators.push(handle);
         }
     }
 }
 
-/// Waits for the evaluators, and says the revision that each saw last, or that one fell.
+/// Waits for the evaluators, and says the revision that each saw last, or that one fell or flags
+/// were mixed.
 pub fn seen<R: Host>(rt: &R, courses: &mut Courses, out: &mut Text) {
     let none = Vec::new(rt.alloc());
     for evaluator in mem::replace(&mut courses.evaluators, none) {
         out.part();
         match evaluator.join(rt) {
             Some(revision) => out.number(revision),
-            None => out.push("fell"),
+            None => out.push("fell or mixed"),
         }
     }
 }
@@ -215,13 +229,13 @@ fn start_subscriber<R: Host>(rt: &R, stream: TcpStream, courses: &mut Courses) {
     }
 }
 
-// The revision of the last line that was shown. None where they don't rise.
+// The revision of the last line that was shown. None where they don't rise, or flags are mixed.
 fn last_shown(shown: &[u8]) -> Option<u64> {
     let mut last = None;
     for line in str::from_utf8(shown).ok()?.lines() {
         let (revision, _) = line.split_once(' ')?;
         let revision = revision.parse::<u64>().ok()?;
-        if last >= Some(revision) {
+        if last >= Some(revision) || is_mixed(line) {
             return None;
         }
         last = Some(revision);
@@ -236,7 +250,7 @@ pub fn shown<R: Host>(rt: &R, courses: &mut Courses, out: &mut Text) {
         out.part();
         match last_shown(&subscriber.join(rt)) {
             Some(revision) => out.number(revision),
-            None => out.push("not rising"),
+            None => out.push("not rising or mixed"),
         }
     }
 }

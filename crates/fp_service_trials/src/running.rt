@@ -99,17 +99,26 @@ pub struct Ended {
     pub left: String,
 }
 
-/// How large the slots of a new disk are, and the call from which on its calls fail, if one is named.
+/// How large the slots of a new disk are, whether the one that rules is of the first version, and the
+/// call from which on its calls fail, if one is named.
 #[derive(Drop, Clone, Copy)]
 pub struct DiskPlan {
     pub slot: u64,
+    pub is_old: bool,
     pub failing: Option<u64>,
 }
+
+// Where the version of the first slot is.
+const VERSION_AT: u64 = 73;
 
 // A disk in memory with no flags on it.
 fn new_disk(alloc: Global, plan: DiskPlan) -> Option<MemoryDisk> {
     let (store, _) = Store::create(alloc, MemoryDisk::new(alloc), plan.slot).ok()?;
     let mut disk = store.into_disk();
+    if plan.is_old {
+        let _ = disk.write_at(VERSION_AT, &[1]);
+        let _ = disk.sync();
+    }
     if let Some(call) = plan.failing {
         disk.set_failing(Failing::From(call), FailedWrite::Nothing);
     }

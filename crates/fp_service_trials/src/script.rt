@@ -78,7 +78,15 @@ const OF_PEER: [&str; 7] = ["say", "line", "hear", "puts", "fills", "quiet", "cl
 const OF_CROWD: [&str; 5] = ["enter", "refused", "comes-in", "one-leaves", "all-leave"];
 
 // The words of `on_course`.
-const OF_COURSE: [&str; 5] = ["editors", "evaluators", "subscribers", "see", "finds"];
+const OF_COURSE: [&str; 7] = [
+    "editors",
+    "turners",
+    "evaluators",
+    "askers",
+    "subscribers",
+    "see",
+    "finds",
+];
 
 impl<R: Host> Script<R> {
     fn run(&mut self, word: &str, args: &mut Args<'_>, out: &mut Text) {
@@ -103,8 +111,8 @@ impl<R: Host> Script<R> {
         port
     }
 
-    // `serve`, `serve failing CALL`, `serve slots SIZE`, `hold behind COUNT`, `hold from PLACE`,
-    // `held`, `let-go`, `end`, `stop`, `left`, `pause MILLISECONDS`.
+    // `serve`, `serve failing CALL`, `serve slots SIZE`, `serve old`, `hold behind COUNT`,
+    // `hold from PLACE`, `held`, `let-go`, `end`, `stop`, `left`, `pause MILLISECONDS`.
     fn on_service(&mut self, word: &str, args: &mut Args<'_>, out: &mut Text) {
         match word {
             "serve" => self.serve(args, out),
@@ -125,11 +133,13 @@ impl<R: Host> Script<R> {
     fn serve(&mut self, args: &mut Args<'_>, out: &mut Text) {
         let mut plan = DiskPlan {
             slot: LEAST_SLOT,
+            is_old: false,
             failing: None,
         };
         match args.word() {
             "failing" => plan.failing = Some(args.number()),
             "slots" => plan.slot = args.number(),
+            "old" => plan.is_old = true,
             _ => (),
         }
         self.service = Running::start(&self.rt, plan);
@@ -261,8 +271,9 @@ impl<R: Host> Script<R> {
         }
     }
 
-    // `editors COUNT EDITS`, with `at-once` behind it or without; `evaluators COUNT REVISION`,
-    // `subscribers COUNT`, `see COUNT KEY`, `finds COUNT`.
+    // `editors COUNT EDITS`, with `at-once` behind it or without; `turners COUNT SETS`,
+    // `evaluators COUNT REVISION`, `askers COUNT REVISION`, `subscribers COUNT`, `see COUNT KEY`,
+    // `finds COUNT`.
     fn on_course(&mut self, word: &str, args: &mut Args<'_>, out: &mut Text) {
         let Some(service) = &self.service else {
             args.is_bad = true;
@@ -271,22 +282,21 @@ impl<R: Host> Script<R> {
         let rt = &self.rt;
         let count = args.number();
         match word {
-            "editors" => start_editors(
+            "editors" | "turners" => start_editors(
                 rt,
                 service.ports.edit,
                 count,
-                course(args),
+                course(word, args),
                 &mut self.courses,
             ),
-            "evaluators" => {
-                start_evaluators(
-                    rt,
-                    service.ports.ofrep,
-                    count,
-                    args.number(),
-                    &mut self.courses,
-                )
-            }
+            "evaluators" | "askers" => start_evaluators(
+                rt,
+                service.ports.ofrep,
+                count,
+                word == "askers",
+                args.number(),
+                &mut self.courses,
+            ),
             "subscribers" => start_subscribers(rt, service.ports.stream, count, &mut self.courses),
             "see" => see(rt, service.ports.ofrep, count, args.word(), out),
             _ => out.number(found(rt, service.ports.edit, service.ports.ofrep, count)),
@@ -306,11 +316,12 @@ fn hold_of(args: &mut Args<'_>) -> Hold {
     }
 }
 
-fn course(args: &mut Args<'_>) -> Course {
+fn course(word: &str, args: &mut Args<'_>) -> Course {
     Course {
         number: 0,
         count: args.number(),
         is_at_once: args.word() == "at-once",
+        is_turning: word == "turners",
     }
 }
 

@@ -29,7 +29,8 @@ use Rattle.fp_edit.proofs.Runs.{revision-after_all}
 use Rattle.fp_journal.specs.State.{room}
 use Rattle.fp_record.specs.Group.{Group}
 use Rattle.fp_recovery.specs.Room.{HasNoRoom, IsFullFor}
-use Rattle.fp_group_commit.specs.Changes.{HasRoom, batch_len}
+use Rattle.fp_record.specs.Encoding.{batch_len}
+use Rattle.fp_group_commit.specs.Changes.{HasRoom}
 use Rattle.fp_group_commit.specs.Tokens.{ReceiptState}
 use Rattle.fp_desk.specs.Desk.{IsDrawn, IsNewDraw}
 
@@ -132,8 +133,9 @@ module _ {D : Type 0} (disk : Ghosts D) (s : StoreState D) (d : DeskState) (i : 
   sealed_ahead new batch rest parts l = weaker disk s.slots.journal.disk new (KeepsOrGains s batch) (StandsAhead d) (stands_ahead s d i.same i.settled i.none_drawn batch rest parts) l
 
   -- a first part of what waits that has no room
-  pub lacks_part : (batch rest : List Change) → d.waiting ≡ batch ++ rest → 0 < length batch → (generation : ℕ) → 2 ^ 64 ≤ generation + 1 → EachCrash disk s.slots.journal.disk (λ c. IsFullFor c (sealed_set s) (batch_len (record { first = 0; changes = batch })) generation) → LacksRoomFor disk d s.slots.journal.disk
-  lacks_part batch rest parts some generation last full =
+  pub lacks_part : (group : Group) (rest : List Change) → d.waiting ≡ group.changes ++ rest → 0 < length group.changes → (generation : ℕ) → 2 ^ 64 ≤ generation + 1 → EachCrash disk s.slots.journal.disk (λ c. IsFullFor c (sealed_set s) group generation) → LacksRoomFor disk d s.slots.journal.disk
+  lacks_part group rest parts some generation last full =
+      let batch : List Change = group.changes in
       let same_kept : sealed_set s ≡ after_all d.store.start d.settled = ap (λ (x : Identity). after_all x.start s.sealed) (sym i.same) ∙ ap (λ (l : List Change). after_all d.store.start l) i.settled in
       let whole = log_parts s d i.same i.settled i.none_drawn batch rest parts in
       let more = length-append d.settled batch in
@@ -145,7 +147,7 @@ module _ {D : Type 0} (disk : Ghosts D) (s : StoreState D) (d : DeskState) (i : 
         some = some;
         generation = generation;
         last = last;
-        full = full;
+        full = λ h c o. let f = full h c o in record { stands = f.stands; full = f.full; generation_is = f.generation_is };
       }
 
   -- what is kept is ahead of nothing
@@ -248,13 +250,14 @@ present_ahead disk old new d e counts_now same store all more moment = λ h c o.
     let l = moment (same.1 h) in stands_on d e store all more c (l.each c (counts_now new (disk.moment old) c h l.later o))
 
 -- ---- room
-pub no_room : {D : Type 0} (slots : SlotsState D) (group : Group) (b : Bool) → (IsTrue b ↔ HasRoom slots group) → b ≡ false → slots.step ≡ Begin → 0 < length group.changes → length group.changes ≤ 64 → HasNoRoom slots.journal (batch_len group)
+pub no_room : {D : Type 0} (slots : SlotsState D) (group : Group) (b : Bool) → (IsTrue b ↔ HasRoom slots group) → b ≡ false → slots.step ≡ Begin → 0 < length group.changes → length group.changes ≤ 64 → HasNoRoom slots group
 no_room slots group b says not begins some few =
-    elim (nat_le (batch_len group) slots.journal.slot.most) as (λ t. nat_le (batch_len group) slots.journal.slot.most ≡ t → HasNoRoom slots.journal (batch_len group)) [
+    elim (nat_le (batch_len group) slots.journal.slot.most) as (λ t. nat_le (batch_len group) slots.journal.slot.most ≡ t → HasNoRoom slots group) [
       | false ↦ λ e. inl (leb-false _ _ e)
-      | true ↦ λ e. elim (nat_le (batch_len group + 6) (room slots.journal)) as (λ t. nat_le (batch_len group + 6) (room slots.journal) ≡ t → HasNoRoom slots.journal (batch_len group)) [
-        | false ↦ λ f. let narrow = leb-false _ _ f in inr (omega (arith, narrow))
-        | true ↦ λ f. let both : false ≡ true = sym not ∙ says.1 (record { some = some; few = few; room = record { short = leb-true _ _ e; fits = leb-true _ _ f; early = subst (λ (x : Step). IsEarly x) (sym begins) tt; tail = λ runs. absurd (subst (λ (x : Step). HasBegun x) begins runs) } }) in absurd cc
+      | true ↦ λ e. elim (nat_le (batch_len group + 6) (room slots.journal)) as (λ t. nat_le (batch_len group + 6) (room slots.journal) ≡ t → HasNoRoom slots group) [
+        | false ↦ λ f. let narrow = leb-false _ _ f in inr (inl (omega (arith, narrow)))
+        | true ↦ λ f. inr (inr (λ allowed.
+            let both : false ≡ true = sym not ∙ says.1 (record { some = some; few = few; room = record { short = leb-true _ _ e; fits = leb-true _ _ f; early = subst (λ (x : Step). IsEarly x) (sym begins) tt; tail = λ runs. absurd (subst (λ (x : Step). HasBegun x) begins runs) }; allowed = allowed }) in absurd cc))
       ] refl
     ] refl
 

@@ -9,11 +9,13 @@ use Rattle.fp_definition.specs.Faults.{tells}
 use Rattle.fp_definition.specs.Valid as flag
 use Rattle.fp_edit.specs.Flags.{State}
 use Rattle.fp_edit.specs.Line as line
-use Rattle.fp_edit.specs.Spelled.{Tells}
+use Rattle.fp_edit.specs.Spelled.{Tells, TellsInSet}
+use Rattle.fp_edit.specs.declared.line.PartFault.{PartFault}
+use Rattle.fp_edit.specs.declared.line.PartFault.TheVariants as part
 use Rattle.fp_edit.specs.declared.line.LineFault.{LineFault}
-use Rattle.fp_edit.specs.declared.line.LineFault.TheVariants.{TooLong, NotJson, NotObject, BadMember, BadOp, BadKey, BadIf, BadFlag, Memory}
+use Rattle.fp_edit.specs.declared.line.LineFault.TheVariants.{TooLong, NotJson, NotObject, BadMember, BadOp, BadKey, BadIf, BadFlag, BadSet, InSet, Memory}
 use Rattle.fp_session.specs.Asks.{Ask}
-use Rattle.fp_session.specs.Reply.{Reply, no_edit, is_told, texts_of, reply_text, told_if, reply_of_code, fault_of, bad_flag_or_memory}
+use Rattle.fp_session.specs.Reply.{Reply, no_edit, is_told, texts_of, reply_text, told_if, reply_of_code, fault_of, fault_in, bad_flag_or_memory, bad_flag_in_or_memory}
 use Rattle.fp_session.specs.Progress.{IsToldUpTo}
 use Rattle.fp_session.specs.declared.fault.ApplyFault.{ApplyFault}
 use Rattle.fp_session.specs.declared.replies.Telling.{Telling}
@@ -106,6 +108,19 @@ no_edit-answers s x e fault = by_fault e fault
     of_flag None h = absurd h
     of_flag (Some f) h = stands (line.bad_flag f) h
 
+    of_flag_in : (at : ℕ) (o : Option flag.Fault) → IsSomeAnd o (λ f. x ≡ Err (line.in_set at (line.bad_flag f))) → Answers s x (bad_flag_in_or_memory at o) s
+    of_flag_in at None h = absurd h
+    of_flag_in at (Some f) h = stands (line.in_set at (line.bad_flag f)) h
+
+    by_part : (at : ℕ) (e : PartFault) → TellsInSet at e (λ f. x ≡ Err f) → Answers s x (fault_in at e) s
+    by_part at part.NotObject h = stands (line.in_set at line.not_object) h
+    by_part at part.BadMember h = stands (line.in_set at line.bad_member) h
+    by_part at part.BadOp h = stands (line.in_set at line.bad_op) h
+    by_part at part.BadKey h = stands (line.in_set at line.bad_key) h
+    by_part at part.BadIf h = stands (line.in_set at line.bad_if) h
+    by_part at (part.BadFlag f) h = of_flag_in at (tells f) h
+    by_part at part.Memory h = absurd h
+
     by_fault : (e : LineFault) → Tells e (λ f. x ≡ Err f) → Answers s x (fault_of e) s
     by_fault TooLong h = stands line.too_long h
     by_fault NotJson h = stands line.not_json h
@@ -115,6 +130,8 @@ no_edit-answers s x e fault = by_fault e fault
     by_fault BadKey h = stands line.bad_key h
     by_fault BadIf h = stands line.bad_if h
     by_fault (BadFlag f) h = of_flag (tells f) h
+    by_fault BadSet h = stands line.bad_set h
+    by_fault (InSet at e) h = by_part at e h
     by_fault Memory h = refl
 
 -- ---- where no reply tells of wanting memory

@@ -1,15 +1,17 @@
 -- An edit on its way through a session.
 use Rattle.std.proofs.Common.{◌≡◌, ◌⊎◌, ◌≤◌, ◌+◌, ℕ, true, false, None, List, [], ◌∷◌, ◌++◌, length, take, refl, sym, ap, subst, ◌∙◌, inl, arith, append_assoc, length-append}
-use Rattle.std.specs.Prelude.{Bool, ◌&&◌, Option, Some, if◌then◌else◌}
+use Rattle.std.specs.Prelude.{Bool, Option, Some, suc}
 use Rattle.std.proofs.lemmas.List.{take-append-le, take_all}
 use Rattle.fp_disk.specs.Crashes.{AtAnyMoment, EachCrash, SameHonesty}
 use Rattle.fp_disk.specs.Moments.{leaves_still}
 use Rattle.fp_disk.specs.Outcomes.{IsOutcome}
 use Rattle.fp_disk.specs.declared.disk.Disk.{Ghosts}
-use Rattle.fp_edit.specs.Admits.{can_change, changed_at, has_revision, has_room, is_met, IsRefusedOrWanting, refusal}
+use Rattle.fp_base.specs.Tests.{first_failed}
+use Rattle.fp_edit.specs.Admits.{has_revision, has_room, is_as_expected, IsRefusedOrWanting, keys_from, present, refusal}
 use Rattle.fp_edit.specs.declared.edit.EditFault.{EditFault}
 use Rattle.fp_edit.specs.declared.edit.EditFault.TheVariants as fault
-use Rattle.fp_edit.specs.Edits.{changed_key, Proposal}
+use Rattle.fp_edit.specs.Edits.{change_in, joint, Proposal, single}
+use Rattle.fp_edit.specs.Parts.{ProposedPart}
 use Rattle.fp_edit.specs.Flags.{State}
 use Rattle.fp_edit.specs.Log.{after_all}
 use Rattle.fp_edit.proofs.Runs.{revision-after_all}
@@ -43,7 +45,7 @@ module _ (d mid : DeskState) (edit : Proposal) (acc : IsAccepted d mid edit) whe
     keeps = i.keeps;
   }
 
-  mid_log : log mid ≡ log d ++ edit.change ∷ []
+  mid_log : log mid ≡ log d ++ change_in edit ∷ []
   mid_log = let new = acc.new_is in grind (arith, new, append_assoc)
 
   pub mid_revision : (r : ℕ) → r ≡ mid.store.start.revision + length (log mid) → r ≡ (head mid).revision
@@ -96,17 +98,28 @@ module _ {D : Type 0} (disk : Ghosts D) (s a : SessionState D) (is : s ≡ a) wh
         (subst (λ (x : StoreState D). SameHonesty disk (disk_of s) x.slots.journal.disk × AtAnyMoment disk (disk_of s) x.slots.journal.disk (StandsAhead s.desk)) (sym at) (k.honest, kept_ahead disk s.store m s.desk going k))
 
 -- ---- refusals
-never_memory : (a b c : Bool) (k : Option ℕ) → (if a then (if b then (if c then None else Some fault.RevisionsUsed) else Some fault.SetTooLarge) else Some (fault.Conflict k)) ≡ Some fault.Memory → ⊥
+never_memory : (a b c : Bool) (k : Option ℕ) → first_failed ((a, fault.Conflict k) ∷ (b, fault.SetTooLarge) ∷ (c, fault.RevisionsUsed) ∷ []) ≡ Some fault.Memory → ⊥
 never_memory a b c k h = grind arith
 
+never_in_set : (s : State) (b c : Bool) (at : ℕ) (ps : List ProposedPart) → first_failed (keys_from s at ps ++ (b, fault.SetTooLarge) ∷ (c, fault.RevisionsUsed) ∷ []) ≡ Some fault.Memory → ⊥
+never_in_set s b c at [] h = never_memory true b c None h
+never_in_set s b c at (p ∷ ps) h = by_test (is_as_expected s p) h
+  where
+    by_test : (t : Bool) → first_failed ((t, fault.ConflictIn at (present s p)) ∷ keys_from s (suc at) ps ++ (b, fault.SetTooLarge) ∷ (c, fault.RevisionsUsed) ∷ []) ≡ Some fault.Memory → ⊥
+    by_test true h = never_in_set s b c (suc at) ps h
+    by_test false h = absurd cc
+
 -- the fault of a test is none of want of memory
+never_wanting : (s : State) (p : Proposal) → refusal s p ≡ Some fault.Memory → ⊥
+never_wanting s (single p) h = never_memory (is_as_expected s p) (has_room s (change_in (single p))) (has_revision s) (present s p) h
+never_wanting s (joint ps) h = never_in_set s (has_room s (change_in (joint ps))) (has_revision s) 0 ps h
+
 pub refused_known : (s : State) (p : Proposal) (f : EditFault) → refusal s p ≡ Some f → IsRefusedOrWanting s p f
 refused_known s p (fault.Conflict current) h = h
+refused_known s p (fault.ConflictIn at current) h = h
 refused_known s p fault.SetTooLarge h = h
 refused_known s p fault.RevisionsUsed h = h
-refused_known s p fault.Memory h =
-    let current = changed_at s (changed_key p.change) in
-    absurd (never_memory (can_change p.change current && is_met p.expect current) (has_room s p.change) (has_revision s) current h)
+refused_known s p fault.Memory h = absurd (never_wanting s p h)
 
 -- ---- at first
 pub new_in_step : {D : Type 0} (disk : Ghosts D) (s : StoreState D) (opening : Identity) (d : DeskState) → opening ≡ s.store → IsFresh s s.store.start → EachCrash disk s.slots.journal.disk (Leaves s)

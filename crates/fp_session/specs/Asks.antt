@@ -2,8 +2,8 @@
 use Rattle.std.specs.Prelude.{ℕ, List, map, Result, Ok}
 use Rattle.fp_definition.specs.Key.{key_bytes}
 use Rattle.fp_definition.specs.declared.key.FlagKey.{FlagKey}
-use Rattle.fp_edit.specs.Edits.{put, Proposal}
-use Rattle.fp_edit.specs.declared.edit.Expect.TheVariants.{Any}
+use Rattle.fp_edit.specs.Parts.{put, free}
+use Rattle.fp_edit.specs.Edits.{Proposal, single}
 use Rattle.fp_edit.specs.Line.{line_of, Fault}
 use Rattle.fp_session.specs.Lines.{lines, lines_with_reply}
 
@@ -23,7 +23,7 @@ flag_bytes f = (key_bytes f.0, f.1)
 
 -- it is put, whatever stands at its key
 abbrev pub put_of : List ℕ × List ℕ → Proposal
-put_of f = record { change = put f.0 f.1; expect = Any }
+put_of f = single (free (put f.0 f.1))
 
 abbrev pub asked_by_flags : List (List ℕ × List ℕ) → List Ask
 asked_by_flags flags = map (λ f. Ok (put_of f)) flags

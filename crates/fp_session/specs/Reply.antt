@@ -1,5 +1,5 @@
 -- Replies to lines, and their texts.
-use Rattle.std.specs.Prelude.{ℕ, List, [], ◌∷◌, ◌++◌, codes, decimal, Bool, true, false, not, ◌||◌}
+use Rattle.std.specs.Prelude.{ℕ, List, [], ◌∷◌, ◌++◌, drop, codes, decimal, Bool, true, false, not, ◌||◌}
 use Rattle.std.specs.Prelude.{if◌then◌else◌, Option, Some, None}
 use Rattle.serde_json.specs.Data.{string}
 use Rattle.serde_json.specs.Written.{compact_text}
@@ -8,10 +8,12 @@ use Rattle.fp_definition.specs.Faults.{tells, word_of}
 use Rattle.fp_edit.specs.Line as line
 use Rattle.fp_edit.specs.declared.edit.EditFault.{EditFault}
 use Rattle.fp_edit.specs.declared.edit.EditFault.TheVariants as edit
+use Rattle.fp_edit.specs.declared.line.PartFault.{PartFault}
+use Rattle.fp_edit.specs.declared.line.PartFault.TheVariants as part
 use Rattle.fp_edit.specs.declared.line.LineFault.{LineFault}
 use Rattle.fp_edit.specs.declared.line.LineFault.TheVariants.{TooLong, NotJson, NotObject}
 use Rattle.fp_edit.specs.declared.line.LineFault.TheVariants.{BadMember, BadOp, BadKey, BadIf}
-use Rattle.fp_edit.specs.declared.line.LineFault.TheVariants.{BadFlag, Memory}
+use Rattle.fp_edit.specs.declared.line.LineFault.TheVariants.{BadFlag, BadSet, InSet, Memory}
 use Rattle.fp_session.specs.declared.reply.Reply as code
 use Rattle.fp_session.specs.declared.reply.Reply.TheVariants.{Revision, Refused, NoEdit}
 use Rattle.fp_session.specs.declared.reply.Reply.TheVariants.{StoreFailed}
@@ -21,6 +23,8 @@ pub data Reply : Type 0 where
   revision : ℕ → Reply
   -- the revision that changed the key's flag last
   conflict : Option ℕ → Reply
+  -- the same of the change of a set at this place
+  conflict_in : ℕ → Option ℕ → Reply
   set_too_large : Reply
   revisions_used : Reply
   no_edit : line.Fault → Reply
@@ -48,6 +52,10 @@ abbrev pub flag_text : flag.Fault → List ℕ
 flag_text f = codes "{\"detail\":\"" ++ word_of f ++ codes "\",\"error\":\"flag\""
     ++ operator_member f ++ codes "}"
 
+-- an object's text, with its place in a set as its first member
+abbrev pub placed : ℕ → List ℕ → List ℕ
+placed at text = codes "{\"at\":" ++ decimal at ++ codes "," ++ drop 1 text
+
 abbrev pub line_text : line.Fault → List ℕ
 line_text line.too_long = error_text (codes "line-too-long")
 line_text line.not_json = error_text (codes "not-json")
@@ -57,11 +65,17 @@ line_text line.bad_op = error_text (codes "bad-op")
 line_text line.bad_key = error_text (codes "bad-key")
 line_text line.bad_if = error_text (codes "bad-if")
 line_text (line.bad_flag f) = flag_text f
+line_text line.bad_set = error_text (codes "bad-set")
+line_text (line.in_set at f) = placed at (line_text f)
+
+abbrev pub conflict_text : Option ℕ → List ℕ
+conflict_text current =
+    codes "{\"current\":" ++ number_or_null current ++ codes ",\"error\":\"conflict\"}"
 
 abbrev pub reply_text : Reply → List ℕ
 reply_text (revision n) = codes "{\"revision\":" ++ decimal n ++ codes "}"
-reply_text (conflict current) =
-    codes "{\"current\":" ++ number_or_null current ++ codes ",\"error\":\"conflict\"}"
+reply_text (conflict current) = conflict_text current
+reply_text (conflict_in at current) = placed at (conflict_text current)
 reply_text set_too_large = error_text (codes "set-too-large")
 reply_text revisions_used = error_text (codes "revisions-used")
 reply_text (no_edit f) = line_text f
@@ -77,6 +91,7 @@ texts_of (r ∷ rs) = (reply_text r ++ 10 ∷ []) ++ texts_of rs
 abbrev pub is_told : Reply → Bool
 is_told (revision n) = true
 is_told (conflict current) = true
+is_told (conflict_in at current) = true
 is_told set_too_large = true
 is_told revisions_used = true
 is_told (no_edit f) = true
@@ -87,6 +102,7 @@ is_told store_failed = true
 abbrev pub tells_revision : Reply → Bool
 tells_revision (revision n) = true
 tells_revision (conflict current) = true
+tells_revision (conflict_in at current) = true
 tells_revision set_too_large = false
 tells_revision revisions_used = false
 tells_revision (no_edit f) = false
@@ -102,6 +118,7 @@ told_if is_kept r = if is_kept || not (tells_revision r) then r else store_faile
 
 abbrev pub refusal_of : EditFault → Reply
 refusal_of (edit.Conflict current) = conflict current
+refusal_of (edit.ConflictIn at current) = conflict_in at current
 refusal_of edit.SetTooLarge = set_too_large
 refusal_of edit.RevisionsUsed = revisions_used
 refusal_of edit.Memory = out_of_memory
@@ -109,6 +126,19 @@ refusal_of edit.Memory = out_of_memory
 abbrev pub bad_flag_or_memory : Option flag.Fault → Reply
 bad_flag_or_memory None = out_of_memory
 bad_flag_or_memory (Some f) = no_edit (line.bad_flag f)
+
+abbrev pub bad_flag_in_or_memory : ℕ → Option flag.Fault → Reply
+bad_flag_in_or_memory at None = out_of_memory
+bad_flag_in_or_memory at (Some f) = no_edit (line.in_set at (line.bad_flag f))
+
+abbrev pub fault_in : ℕ → PartFault → Reply
+fault_in at part.NotObject = no_edit (line.in_set at line.not_object)
+fault_in at part.BadMember = no_edit (line.in_set at line.bad_member)
+fault_in at part.BadOp = no_edit (line.in_set at line.bad_op)
+fault_in at part.BadKey = no_edit (line.in_set at line.bad_key)
+fault_in at part.BadIf = no_edit (line.in_set at line.bad_if)
+fault_in at (part.BadFlag f) = bad_flag_in_or_memory at (tells f)
+fault_in at part.Memory = out_of_memory
 
 abbrev pub fault_of : LineFault → Reply
 fault_of TooLong = no_edit line.too_long
@@ -119,6 +149,8 @@ fault_of BadOp = no_edit line.bad_op
 fault_of BadKey = no_edit line.bad_key
 fault_of BadIf = no_edit line.bad_if
 fault_of (BadFlag f) = bad_flag_or_memory (tells f)
+fault_of BadSet = no_edit line.bad_set
+fault_of (InSet at f) = fault_in at f
 fault_of Memory = out_of_memory
 
 abbrev pub reply_of_code : code.Reply → Reply

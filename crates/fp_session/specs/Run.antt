@@ -5,11 +5,11 @@ use Rattle.std.specs.List.{list_all}
 use Rattle.std.specs.Io.KnownBytes.{Appends}
 use Rattle.fp_edit.specs.Admits.{refusal, next}
 use Rattle.fp_edit.specs.Document.{document}
-use Rattle.fp_edit.specs.Edits.{Proposal}
+use Rattle.fp_edit.specs.Edits.{Proposal, change_in}
 use Rattle.fp_edit.specs.Flags.{State}
 use Rattle.fp_edit.specs.declared.edit.EditFault.{EditFault}
 use Rattle.fp_session.specs.Asks.{Ask}
-use Rattle.fp_session.specs.Reply.{Reply, revision, conflict, set_too_large, revisions_used}
+use Rattle.fp_session.specs.Reply.{Reply, revision, conflict, conflict_in, set_too_large, revisions_used}
 use Rattle.fp_session.specs.Reply.{no_edit, out_of_memory, store_failed, refusal_of, told_if}
 use Rattle.fp_session.specs.Reply.{texts_of, is_told}
 use Rattle.fp_session.specs.declared.fault.ApplyFault.{ApplyFault}
@@ -17,7 +17,7 @@ use Rattle.fp_session.specs.declared.fault.ApplyFault.TheVariants.{Device, Store
 use Rattle.fp_session.specs.declared.fault.ApplyFault.TheVariants.{CommitMemory}
 
 abbrev pub verdict_on_edit : State → Proposal → Option EditFault → Reply × State
-verdict_on_edit s p None = (revision (s.revision + 1), next s p.change)
+verdict_on_edit s p None = (revision (s.revision + 1), next s (change_in p))
 verdict_on_edit s p (Some e) = (refusal_of e, s)
 
 -- by the flags that it comes upon: the reply to what is asked, and the flags after it
@@ -53,6 +53,7 @@ Answers s x out_of_memory t = t ≡ s
 Answers s x store_failed t = ⊥
 Answers s x (revision n) t = verdict s x ≡ (revision n, t)
 Answers s x (conflict current) t = verdict s x ≡ (conflict current, t)
+Answers s x (conflict_in at current) t = verdict s x ≡ (conflict_in at current, t)
 Answers s x set_too_large t = verdict s x ≡ (set_too_large, t)
 Answers s x revisions_used t = verdict s x ≡ (revisions_used, t)
 Answers s x (no_edit f) t = verdict s x ≡ (no_edit f, t)

@@ -15,7 +15,6 @@ use Rattle.fp_slots.specs.State.{IsEarly}
 use Rattle.fp_slots.specs.declared.slots.Step.{Step}
 use Rattle.fp_compaction.specs.Steps as compaction
 use Rattle.fp_recovery.specs.Stands.{StandsFor}
-use Rattle.fp_group_commit.specs.Changes.{batch_len}
 use Rattle.fp_group_commit.specs.Store.{IsAtRest, StoreState, sealed_set}
 use Rattle.fp_desk.specs.Desk.{DeskState, FitsBehind, head, log, most_of}
 use Rattle.fp_session.specs.declared.commit.CommitFault.{CommitFault}
@@ -137,8 +136,8 @@ pub record LacksRoomFor {D : Type 0} (disk : Ghosts D) (d : DeskState) (now : D)
   pub some : 0 < length batch
   pub generation : ℕ
   pub last : 2 ^ 64 ≤ generation + 1
-  pub full : EachCrash disk now (λ c. IsFullFor c flags (batch_len
-      (record { first = 0; changes = batch })) generation)
+  pub full : EachCrash disk now (λ c. IsFullFor c flags (record { first = 0; changes = batch })
+      generation)
 
 -- ---- compactions
 -- the store keeps the same edits, no batch is on its way,

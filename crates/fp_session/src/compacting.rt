@@ -7,7 +7,7 @@ ghost use Rattle.fp_recovery.specs.Room.{IsFullFor};
 ghost use Rattle.fp_recovery.specs.Stands.{StandsFor};
 ghost use Rattle.fp_slots.specs.declared.slots.Step.TheVariants.{Begin};
 ghost use Rattle.fp_group_commit.specs.Calls.{Compacts};
-ghost use Rattle.fp_group_commit.specs.Changes.{HasRoom, batch_len};
+ghost use Rattle.fp_group_commit.specs.Changes.{HasRoom};
 ghost use Rattle.fp_group_commit.specs.Store.{IsAtRest, MayCompact, sealed_set};
 ghost use Rattle.fp_session.specs.Session.{Halts, Proceeds};
 ghost use Rattle.fp_session.specs.declared.commit.CommitFault.TheVariants.{StoreFailed};
@@ -15,7 +15,7 @@ ghost use Rattle.fp_session.specs.declared.commit.CommitFault.TheVariants.{Store
 use crate::CommitFault;
 use fp_disk::Disk;
 use fp_group_commit::{Draw, Store, StoreFault};
-use fp_slots::Step;
+use fp_slots::{Step, VERSION};
 
 // Takes the next step.
 fn take_step<D: Disk>(store: &mut Store<D>) -> Result<(), CommitFault>
@@ -47,7 +47,7 @@ pub fn make_room<D: Disk>(store: &mut Store<D>, draw: &Draw) -> Result<(), Commi
         ⊎ ((f ≡ StoreFailed) × Proceeds D.Disk store.old store.new
         × (2 ^ 64 ≤ store.new.slots.generation + 1)
         × EachCrash D.Disk store.new.slots.journal.disk
-        (λ c. IsFullFor c (sealed_set store.new) (batch_len draw.now)
+        (λ c. IsFullFor c (sealed_set store.new) draw.now
         store.new.slots.generation))) }
 {
     while !store.has_room(draw) {
@@ -59,7 +59,8 @@ pub fn make_room<D: Disk>(store: &mut Store<D>, draw: &Draw) -> Result<(), Commi
     Ok(())
 }
 
-/// Takes a step where a compaction runs, or begins one where less than a quarter of a slot is left.
+/// Takes a step where a compaction runs, or begins one where less than a quarter of a slot is left, or
+/// the slot is older than all that is written.
 pub fn go_on<D: Disk>(store: &mut Store<D>) -> Result<(), CommitFault>
     requires rest { IsAtRest store.old }
     requires keeps { EachCrash D.Disk store.old.slots.journal.disk
@@ -68,7 +69,7 @@ pub fn go_on<D: Disk>(store: &mut Store<D>) -> Result<(), CommitFault>
     ensures halts { IfErr result (Halts D.Disk store.old store.new) }
 {
     let is_due = match store.step() {
-        Step::Begin => store.is_short(),
+        Step::Begin => store.is_short() || store.version() < VERSION,
         _ => true,
     };
     if is_due && store.may_compact() {

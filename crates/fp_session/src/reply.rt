@@ -1,6 +1,6 @@
 //! Reply lines.
 
-ghost use Rattle.std.specs.Prelude.{◌≡◌, ◌++◌, not, Some, IfOk, OnOk};
+ghost use Rattle.std.specs.Prelude.{◌≡◌, ◌<◌, ◌++◌, not, Some, length, IfOk, OnOk};
 ghost use Rattle.fp_definition.specs.Faults as flag;
 ghost use Rattle.fp_definition.specs.Valid as flag_fault;
 ghost use Rattle.fp_session.specs.Reply as say;
@@ -8,7 +8,7 @@ ghost use Rattle.fp_session.specs.Reply.{reply_of_code, reply_text, is_told, tel
 
 use fp_base::put_quoted;
 use fp_definition::DefFault;
-use fp_edit::{EditFault, LineFault};
+use fp_edit::{EditFault, LineFault, PartFault};
 use itoa::Buffer;
 use std::alloc::{AllocError, Global};
 
@@ -44,7 +44,8 @@ impl Reply {
     {
         matches!(
             self,
-            Reply::Revision(_) | Reply::Refused(EditFault::Conflict { .. })
+            Reply::Revision(_)
+                | Reply::Refused(EditFault::Conflict { .. } | EditFault::ConflictIn { .. })
         )
     }
 
@@ -56,6 +57,10 @@ impl Reply {
             self,
             Reply::Refused(EditFault::Memory)
                 | Reply::NoEdit(LineFault::Memory | LineFault::BadFlag(DefFault::Memory))
+                | Reply::NoEdit(LineFault::InSet {
+                    fault: PartFault::Memory | PartFault::BadFlag(DefFault::Memory),
+                    ..
+                })
         )
     }
 }
@@ -101,6 +106,9 @@ fn refusal_text(alloc: Global, fault: &EditFault) -> Result<Vec<u8>, AllocError>
 {
     match fault {
         EditFault::Conflict { current } => conflict_text(alloc, *current),
+        EditFault::ConflictIn { at, current } => {
+            placed(alloc, *at, &conflict_text(alloc, *current)?)
+        }
         EditFault::SetTooLarge => error_text(alloc, "set-too-large"),
         EditFault::RevisionsUsed => error_text(alloc, "revisions-used"),
         EditFault::Memory => error_text(alloc, "out-of-memory"),
@@ -119,8 +127,39 @@ fn fault_text(alloc: Global, fault: &LineFault) -> Result<Vec<u8>, AllocError>
         LineFault::BadKey => error_text(alloc, "bad-key"),
         LineFault::BadIf => error_text(alloc, "bad-if"),
         LineFault::BadFlag(fault) => flag_text(alloc, fault),
+        LineFault::BadSet => error_text(alloc, "bad-set"),
+        LineFault::InSet { at, fault } => part_text(alloc, *at, fault),
         LineFault::Memory => error_text(alloc, "out-of-memory"),
     }
+}
+
+fn part_text(alloc: Global, at: usize, fault: &PartFault) -> Result<Vec<u8>, AllocError>
+    ensures { IfOk result (λ t. t.items ≡ reply_text (say.fault_in at fault.now)) }
+{
+    let text = match fault {
+        PartFault::NotObject => error_text(alloc, "not-object")?,
+        PartFault::BadMember => error_text(alloc, "bad-member")?,
+        PartFault::BadOp => error_text(alloc, "bad-op")?,
+        PartFault::BadKey => error_text(alloc, "bad-key")?,
+        PartFault::BadIf => error_text(alloc, "bad-if")?,
+        PartFault::BadFlag(DefFault::Memory) | PartFault::Memory => {
+            return error_text(alloc, "out-of-memory");
+        }
+        PartFault::BadFlag(fault) => detail_text(alloc, fault)?,
+    };
+    placed(alloc, at, &text)
+}
+
+// An object's text, with its place in a set as its first member.
+fn placed(alloc: Global, at: usize, text: &[u8]) -> Result<Vec<u8>, AllocError>
+    requires { 0 < length text.now }
+    ensures { IfOk result (λ t. t.items ≡ say.placed at text.now) }
+{
+    let mut placed = Vec::from_slice(alloc, b"{\"at\":")?;
+    placed.extend_from_slice(Buffer::new().format(at).as_bytes())?;
+    placed.extend_from_slice(b",")?;
+    placed.extend_from_slice(&text[1..])?;
+    Ok(placed)
 }
 
 fn flag_text(alloc: Global, fault: &DefFault) -> Result<Vec<u8>, AllocError>

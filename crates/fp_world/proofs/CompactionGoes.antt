@@ -80,8 +80,8 @@ compacts faults h s n d told next same o may c step is =
         left = c.left;
         head = c.head_stays;
         tail = c.tail_stays;
-        stays = λ on. ((c.slots_stay on).1, c.room_stays on);
-        turns = λ at. ((c.slots_turn at).1, c.room_gained at ∙ ap (λ (x : Identity). 2 * x.start.limit - (s.slots.head + tail_of s.slots)) (sym same));
+        stays = λ on. ((c.slots_stay on).1, (c.slots_stay on).2, c.room_stays on);
+        turns = λ at. ((c.slots_turn at).1, (c.slots_turn at).2, c.room_gained at ∙ ap (λ (x : Identity). 2 * x.start.limit - (s.slots.head + tail_of s.slots)) (sym same));
         rest = machine_is (At h n d told) (record (At h s d told) { room = room n.slots.journal; compaction = compaction_of n }) refl (ap (λ (p : Phase). progress_of h p) step) (is_well n.slots.journal.phase c.well_now ∙ sym well) c.most refl refl refl;
       },
       is,

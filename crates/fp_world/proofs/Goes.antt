@@ -1,5 +1,5 @@
 -- A world as the plain commits_of, from call to call.
-use Rattle.std.proofs.Common.{◌≡◌, ◌≢◌, ◌⊎◌, ◌<◌, ◌≤◌, ◌+◌, ◌-◌, ◌/◌, ℕ, Bool, true, false, List, [], ◌∷◌, ◌++◌, length, refl, sym, ap, ◌∙◌, inl, inr, arith, length-append}
+use Rattle.std.proofs.Common.{◌≡◌, ◌≢◌, ◌⊎◌, ◌<◌, ◌≤◌, ◌+◌, ◌-◌, ◌/◌, ℕ, Bool, true, false, List, [], ◌∷◌, ◌++◌, length, refl, sym, ap, subst, ◌∙◌, inl, inr, arith, length-append}
 use Rattle.fp_disk.specs.Crashes.{SameHonesty}
 use Rattle.fp_disk.specs.History.{MakesSome}
 use Rattle.fp_disk.specs.Outcomes.{IsOutcome, LeavesOnly}
@@ -12,11 +12,13 @@ use Rattle.fp_journal.specs.Pieces.{ThenReads, ThenSomeReads}
 use Rattle.fp_journal.specs.State.{room}
 use Rattle.fp_journal.specs.declared.journal.Phase.{Phase}
 use Rattle.fp_journal.specs.declared.journal.Phase.TheVariants.{Idle, Staged, BodySynced, GateOpened, Failed}
+use Rattle.fp_record.specs.Encoding.{batch_len}
 use Rattle.fp_record.specs.Group.{Group}
 use Rattle.fp_group_commit.specs.Calls.{Breaks, FailsBy, MovesTo, RefusesBy, SameCourse, SamePlace, SameRoom, TakesRoom}
-use Rattle.fp_group_commit.specs.Changes.{HasRoom, batch_len}
+use Rattle.fp_group_commit.specs.Changes.{HasRoom}
 use Rattle.fp_slots.specs.declared.slots.Step.{Step}
 use Rattle.fp_compaction.specs.Batches.{tail_of}
+use Rattle.std.specs.List.{AllByRecursion}
 use Rattle.std.specs.Prelude.{if◌then◌else◌, IsTrue, ◌↔◌}
 use Rattle.fp_edit.specs.Log.{after_all}
 use Rattle.fp_group_commit.specs.Store.{StoreState, coming, is_failed, sealed_set, readable_set, reached_at}
@@ -30,7 +32,7 @@ use Rattle.std.specs.Prelude.{Result, Ok, Err, IfOk, IfErr, MatchResult}
 use Rattle.fp_layout.specs.declared.fault.OpenFault.{OpenFault}
 use Rattle.fp_layout.specs.declared.fault.OpenFault.TheVariants as opening
 use Rattle.fp_recovery.specs.Refusals.{IsUnlessWanting}
-use Rattle.fp_recovery.specs.Stands.{StandsFor}
+use Rattle.fp_recovery.specs.Stands.{IsAllowed, StandsFor}
 use Rattle.fp_world.specs.declared.event.Answer.{Answer}
 use Rattle.fp_world.specs.declared.event.Answer.TheVariants as answer
 use Rattle.fp_world.specs.declared.committer.Held.{Held}
@@ -73,10 +75,11 @@ At h s d told = record {
 -- a compaction is where it was, but for its tail
 course_is : {D : Type 0} (s n : StoreState D) → SameCourse s n → (tail : ℕ) → ◌≡◌ {A = Compaction} (record (compaction_of n) { tail = tail }) (record (compaction_of s) { tail = tail })
 course_is s n same tail =
-    ap (λ (x : Step). record { next = x; head = n.slots.head; left = n.slots.left; tail = tail; generation = n.slots.generation }) same.0
-    ∙ ap (λ (x : ℕ). record { next = s.slots.step; head = x; left = n.slots.left; tail = tail; generation = n.slots.generation }) same.4
-    ∙ ap (λ (x : ℕ). record { next = s.slots.step; head = s.slots.head; left = x; tail = tail; generation = n.slots.generation }) same.1
-    ∙ ap (λ (x : ℕ). record { next = s.slots.step; head = s.slots.head; left = s.slots.left; tail = tail; generation = x }) same.3
+    ap (λ (x : Step). record { next = x; head = n.slots.head; left = n.slots.left; tail = tail; generation = n.slots.generation; version = n.slots.version }) same.0
+    ∙ ap (λ (x : ℕ). record { next = s.slots.step; head = x; left = n.slots.left; tail = tail; generation = n.slots.generation; version = n.slots.version }) same.5
+    ∙ ap (λ (x : ℕ). record { next = s.slots.step; head = s.slots.head; left = x; tail = tail; generation = n.slots.generation; version = n.slots.version }) same.1
+    ∙ ap (λ (x : ℕ). record { next = s.slots.step; head = s.slots.head; left = s.slots.left; tail = tail; generation = x; version = n.slots.version }) same.3
+    ∙ ap (λ (x : ℕ). record { next = s.slots.step; head = s.slots.head; left = s.slots.left; tail = tail; generation = s.slots.generation; version = x }) same.4
 
 -- and with it
 pub compaction_is : {D : Type 0} (s n : StoreState D) → SamePlace s n → compaction_of n ≡ compaction_of s
@@ -182,13 +185,13 @@ pub can_stage : {D : Type 0} (group : Group) (s : StoreState D) (d : DeskState) 
 can_stage group s d told quarter is r =
     let len = ap length is in let bytes = ap (λ (l : List Change). batch_len (record { first = 0; changes = l })) is in
     let few = r.few in let short = r.room.short in let left = r.room.fits in
-    record { drawn = refl; few = omega (arith, len, few); short = omega (arith, bytes, short); room = omega (arith, bytes, left); early = r.room.early; tail = λ runs. let tail = r.room.tail runs in omega (arith, bytes, tail, quarter) }
+    record { drawn = refl; few = omega (arith, len, few); short = omega (arith, bytes, short); room = omega (arith, bytes, left); early = r.room.early; allowed = subst (λ (l : List Change). AllByRecursion (IsAllowed s.slots.version) l) is r.allowed; tail = λ runs. let tail = r.room.tail runs in omega (arith, bytes, tail, quarter) }
 
 pub cannot_stage : {D : Type 0} (group : Group) (s : StoreState D) (d : DeskState) (told : ℕ) → Quarter s d → group.changes ≡ d.drawn → d.drawn ≢ [] → (HasRoom s.slots group → ⊥) → CanStage (At (held.Drawn group) s d told) → ⊥
 cannot_stage group s d told quarter is some never can =
     let len = ap length is in let bytes = ap (λ (l : List Change). batch_len (record { first = 0; changes = l })) is in
     let any = some_in d.drawn some in let few = can.few in let short = can.short in let left = can.room in
-    never (record { some = omega (arith, len, any); few = omega (arith, len, few); room = record { short = omega (arith, bytes, short); fits = omega (arith, bytes, left); early = can.early; tail = λ runs. let tail = can.tail runs in omega (arith, bytes, tail, quarter) } })
+    never (record { some = omega (arith, len, any); few = omega (arith, len, few); room = record { short = omega (arith, bytes, short); fits = omega (arith, bytes, left); early = can.early; tail = λ runs. let tail = can.tail runs in omega (arith, bytes, tail, quarter) }; allowed = subst (λ (l : List Change). AllByRecursion (IsAllowed s.slots.version) l) (sym is) can.allowed })
 
 pub none_held : {D : Type 0} (h : Held) (s : StoreState D) (d : DeskState) (told : ℕ) → ((group : Group) → h ≡ held.Drawn group → ⊥) → CanStage (At h s d told) → ⊥
 none_held held.Nothing s d told other can = let e = can.drawn in absurd cc

@@ -2,6 +2,7 @@
 -- a desk, and how far its drawn edits are. It has no disk.
 use Rattle.std.specs.Prelude.{◌≡◌, ◌≢◌, ◌⊎◌, ◌<◌, ◌≤◌, ◌+◌, ◌-◌, ◌*◌, ◌/◌, ◌^◌, ℕ, max, Bool, true}
 use Rattle.std.specs.Prelude.{false, List, [], ◌∷◌, ◌++◌, length, if◌then◌else◌}
+use Rattle.std.specs.List.{AllByRecursion}
 use Rattle.fp_edit.specs.Edits.{Change, Proposal, proposal_of}
 use Rattle.fp_edit.specs.Flags.{State, size}
 use Rattle.fp_edit.specs.Following.{change_of}
@@ -10,10 +11,11 @@ use Rattle.fp_compaction.specs.Steps.{next_left, next_step}
 use Rattle.fp_record.specs.Group.{Group}
 use Rattle.fp_record.specs.declared.batch.TheConstants.{MOST_EDITS}
 use Rattle.fp_slots.specs.State.{HasBegun, IsEarly, IsGrowing}
-use Rattle.fp_slots.specs.declared.places.TheConstants.{IMAGE_PLACE}
+use Rattle.fp_slots.specs.declared.places.TheConstants.{IMAGE_PLACE, VERSION}
 use Rattle.fp_slots.specs.declared.slots.Step.{Step}
 use Rattle.fp_slots.specs.declared.slots.Step.TheVariants.{Begin, Tail, SyncOpen}
-use Rattle.fp_group_commit.specs.Changes.{batch_len}
+use Rattle.fp_record.specs.Encoding.{batch_len}
+use Rattle.fp_recovery.specs.Stands.{IsAllowed}
 use Rattle.fp_group_commit.specs.Tokens.{front_revision}
 use Rattle.fp_group_commit.specs.declared.fault.StoreFault.TheVariants as fault
 use Rattle.fp_desk.specs.Desk.{DeskState, IsAccepted, IsNewDraw, Refuses, log, settled_revision}
@@ -34,14 +36,15 @@ pub data Progress : Type 0 where
   batch_sealed : Progress
 
 -- A compaction: its next step (`Begin` where none runs), how many bytes head and image have, how
--- many of them no part wrote yet, how many the batches behind them have, and the generation of the
--- slot that rules
+-- many of them no part wrote yet, how many the batches behind them have, and the generation and the
+-- version of the slot that rules
 pub record Compaction : Type 0 where
   pub next : Step
   pub head : ℕ
   pub left : ℕ
   pub tail : ℕ
   pub generation : ℕ
+  pub version : ℕ
 
 -- The desk, how far its drawn edits are, whether the device failed, the most bytes of a batch's
 -- body and those left for batches, the greatest revision that was told, and how far a compaction is
@@ -64,13 +67,15 @@ drawn_batch d = record { first = settled_revision d + 1; changes = d.drawn }
 
 -- The drawn edits wait to be written, make a batch, and there is room for it with its two gates.
 -- While a compaction runs its tail isn't written yet, and with this batch and a last gate it takes
--- a quarter of a slot at most: half of one is what a set may take
+-- a quarter of a slot at most: half of one is what a set may take. Each has a place in a slot of the
+-- version that rules
 pub record CanStage (m : Commits) : Type 0 where
   pub drawn : m.progress ≡ batch_drawn
   pub few : length m.desk.drawn ≤ MOST_EDITS
   pub short : batch_len (drawn_batch m.desk) ≤ m.most
   pub room : batch_len (drawn_batch m.desk) + FRAME ≤ m.room
   pub early : IsEarly m.compaction.next
+  pub allowed : AllByRecursion (IsAllowed m.compaction.version) m.desk.drawn
   pub tail : HasBegun m.compaction.next
       → m.compaction.tail + batch_len (drawn_batch m.desk) + FRAME ≤ m.desk.store.start.limit / 2
 
@@ -190,9 +195,9 @@ MayStep m = (m.compaction.next ≡ Begin → m.compaction.generation + 1 < 2 ^ 6
     × (m.compaction.next ≡ Tail → is_flying m.progress ≡ false)
 
 -- One step of it. As it begins, an image of the sealed set is to be written, behind a head and all
--- but its gate. A Part writes one part of it. At the last step the next generation rules, and a
--- slot's bytes, twice what a set may take, but for head, image and tail are room; at each other the
--- room stays
+-- but its gate. A Part writes one part of it. At the last step the next generation rules, of the
+-- version of all that is written, and a slot's bytes, twice what a set may take, but for head, image
+-- and tail are room; at each other the room stays
 pub record Compacts (old new : Commits) : Type 0 where
   pub next : new.compaction.next ≡ next_step old.compaction.next old.compaction.left
   pub begun : old.compaction.next ≡ Begin → (new.compaction.head
@@ -205,9 +210,11 @@ pub record Compacts (old new : Commits) : Type 0 where
   pub tail : old.compaction.next ≢ Begin → old.compaction.next ≢ SyncOpen
       → new.compaction.tail ≡ old.compaction.tail
   pub stays : old.compaction.next ≢ SyncOpen
-      → (new.compaction.generation ≡ old.compaction.generation) × (new.room ≡ old.room)
+      → (new.compaction.generation ≡ old.compaction.generation)
+      × (new.compaction.version ≡ old.compaction.version) × (new.room ≡ old.room)
   pub turns : old.compaction.next ≡ SyncOpen
-      → (new.compaction.generation ≡ old.compaction.generation + 1) × (new.room
+      → (new.compaction.generation ≡ old.compaction.generation + 1)
+      × (new.compaction.version ≡ VERSION) × (new.room
       ≡ 2 * old.desk.store.start.limit - (old.compaction.head + old.compaction.tail))
   pub rest : new ≡ record old { room = new.room; compaction = new.compaction }
 

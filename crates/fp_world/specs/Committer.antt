@@ -42,6 +42,7 @@ compaction_of s = record {
   left = s.slots.left;
   tail = tail_of s.slots;
   generation = s.slots.generation;
+  version = s.slots.version;
 }
 
 -- the same without its disk

@@ -9,6 +9,7 @@ use Rattle.fp_commands.specs.Files.{Environment}
 use Rattle.fp_commands.specs.declared.fault.CommandFault.{CommandFault}
 use Rattle.fp_commands.specs.declared.fault.CommandFault.TheVariants.{StoreFailed}
 use Rattle.fp_commands.proofs.Courses.{ran}
+use Rattle.fp_commands.proofs.Opened.{only_read}
 use Rattle.fp_commands.proofs.Told.{applying-open, applying-run, open_not_failed, some_both}
 use Rattle.fp_commands.proofs.disk.apply_disk.Goals as goal
 
@@ -27,7 +28,7 @@ returns-in-Err-clause-told g c = λ h same.
     let e = c.in-Err.ensures in inl (
       subst (λ (f : CommandFault). f ≢ StoreFailed) (sym c.into.ensures) (open_not_failed c.in-Err.fault),
       refl,
-      record { same = e.same; any_moment = e.any_moment; called = e.called },
+      only_read g.D.Disk c.args.disk c.in-Err.disk e.same e.any_moment e.called,
     )
 
 -- ---- it was

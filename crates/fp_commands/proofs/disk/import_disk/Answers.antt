@@ -2,11 +2,12 @@ use Rattle.std.proofs.Common.{◌≡◌, ◌≢◌, ◌⊎◌, ℕ, List, map, r
 use Rattle.std.proofs.lemmas.Option.{IfSome_then}
 use Rattle.fp_disk.specs.Moments.{leaves_map}
 use Rattle.fp_disk.specs.Outcomes.{IsOutcome, LeavesOnly}
+use Rattle.fp_journal.specs.Pieces.{ThenReads}
 use Rattle.fp_recovery.specs.Stands.{StandsFor}
 use Rattle.fp_session.specs.Asks.{asked_by_flags, flag_bytes}
 use Rattle.fp_session.specs.Session.{disk_of, flags_of}
 use Rattle.fp_session.specs.declared.replies.TheConstants.{MOST_WAITING}
-use Rattle.fp_commands.specs.Disks.{AskedByDocument, IsImportingFault, IsLeftOnDisk, Opens}
+use Rattle.fp_commands.specs.Disks.{AskedByDocument, IsImportingFault, IsLeftOnDisk, IsOnlyRead, opening_calls}
 use Rattle.fp_commands.specs.Documents.{IsDocumentFault}
 use Rattle.fp_commands.specs.Files.{Environment}
 use Rattle.fp_commands.specs.declared.fault.CommandFault.{CommandFault}
@@ -14,7 +15,8 @@ use Rattle.fp_commands.specs.declared.fault.CommandFault.TheVariants.{StoreFaile
 use Rattle.fp_commands.proofs.Blamed.{blames-beside}
 use Rattle.fp_commands.proofs.Courses.{ran}
 use Rattle.fp_commands.proofs.Imported.{importing-document, importing-open, importing-run}
-use Rattle.fp_commands.proofs.Told.{open_not_failed}
+use Rattle.fp_commands.proofs.Opened.{only_read}
+use Rattle.fp_commands.proofs.Told.{if_refused, open_not_failed}
 use Rattle.fp_commands.proofs.disk.import_disk.Goals as goal
 
 -- ---- the disk wasn't opened
@@ -32,7 +34,7 @@ returns-in-Err-clause-told g c = λ h same.
     let e = c.in-Err.ensures in inl (
       subst (λ (f : CommandFault). f ≢ StoreFailed) (sym c.into.ensures) (open_not_failed c.in-Err.fault),
       refl,
-      record { same = e.same; any_moment = e.any_moment; called = e.called },
+      only_read g.D.Disk c.args.disk c.in-Err.disk e.same e.any_moment e.called,
     )
 
 -- ---- no document was read
@@ -64,21 +66,23 @@ returns-in-Err-read_document-clause-cause g c = λ is.
 
 pub returns-in-Err-read_document-clause-told : goal.returns-in-Err-read_document-clause-told
 returns-in-Err-read_document-clause-told g c = λ h same.
-    let D = g.D.Disk in let here = c.into_disk.ensures.disk in let e = c.in-Ok.ensures in
+    let D = g.D.Disk in let e = c.in-Ok.ensures in
     inl (
       λ is. subst (λ (f : CommandFault). IsDocumentFault (g.R.Read.remaining c.args.r.now.inner) f) is c.in-Err-read_document.ensures.fault,
       refl,
-      record {
-        same = λ honest. ap D.bytes here ∙ e.same honest;
-        any_moment = λ honest. subst (λ (x : g.row.D.Denot). LeavesOnly D.moment D.crash_states_since c.args.disk x (IsOutcome (D.unsynced c.args.disk))) (sym here) (e.any_moment honest);
-        called = inr (subst (λ (x : g.row.D.Denot). Opens (D.calls c.args.disk) (D.calls x)) (sym here) e.called);
-      },
+      subst (λ (x : g.row.D.Denot). IsOnlyRead D c.args.disk x) (sym c.into_disk.ensures.disk) (only_read D c.args.disk (disk_of c.in-Ok.session) e.same e.any_moment (inr e.called)),
     )
+
+pub returns-in-Err-read_document-clause-only_read : goal.returns-in-Err-read_document-clause-only_read
+returns-in-Err-read_document-clause-only_read g c =
+    let D = g.D.Disk in let e = c.in-Ok.ensures in
+    if_refused (IsOnlyRead D c.args.disk c.into_disk.result) c.in-Err-read_document.fault
+    (subst (λ (x : g.row.D.Denot). IsOnlyRead D c.args.disk x) (sym c.into_disk.ensures.disk) (only_read D c.args.disk (disk_of c.in-Ok.session) e.same e.any_moment (inr e.called)))
 
 pub returns-in-Err-read_document-clause-called : goal.returns-in-Err-read_document-clause-called
 returns-in-Err-read_document-clause-called g c =
     let D = g.D.Disk in
-    inl (inr (subst (λ (x : g.row.D.Denot). Opens (D.calls c.args.disk) (D.calls x)) (sym c.into_disk.ensures.disk) c.in-Ok.ensures.called))
+    inl (inr (subst (λ (x : g.row.D.Denot). ThenReads opening_calls (D.calls c.args.disk) (D.calls x)) (sym c.into_disk.ensures.disk) c.in-Ok.ensures.called))
 
 -- ---- it was
 

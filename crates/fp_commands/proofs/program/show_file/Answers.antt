@@ -1,6 +1,6 @@
 use Rattle.std.proofs.Common.{rules, refl}
 use Rattle.fp_files.specs.Lending.{IsThere}
-use Rattle.fp_commands.proofs.Opened.{lent_once, on_file}
+use Rattle.fp_commands.proofs.Opened.{lent_once, on_file, only_read}
 use Rattle.fp_commands.specs.Files.{ShowsDisk}
 use Rattle.fp_commands.proofs.program.show_file.Goals as goal
 
@@ -13,5 +13,5 @@ returns-clause-performs g c =
       after = c.show_disk-disk.result.0;
       found = o.found;
       lent = lent_once g.F.DiskFiles g.F.Disk.Disk c.args.files.now c.open.new.self c.close.new.self c.args.path.now c.show_disk-disk.result.0 o.asked o.others o.lent (o.cause.well refl) back.asked back.others back.kept back.faults;
-      does = search rules;
+      does = search (rules, only_read);
     })

@@ -2,6 +2,7 @@ use Rattle.std.proofs.Common.{inl, refl, sym, subst, ◌∙◌, ap}
 use Rattle.std.proofs.lemmas.Result.{err_from_is_err_and}
 use Rattle.fp_commands.specs.declared.fault.CommandFault.{CommandFault}
 use Rattle.fp_commands.specs.Faults.{of_stream}
+use Rattle.fp_commands.proofs.Opened.{only_read}
 use Rattle.fp_commands.proofs.Told.{showing-open}
 use Rattle.fp_server.specs.Ends.{EndsBadly, IsServingFault, unserved}
 use Rattle.fp_server.proofs.EndsLemmas.{ends_well, ends_broken, says_all}
@@ -15,7 +16,7 @@ returns-in-Err-clause-err g c =
       after = c.in-Err.disk;
       found = c.in_ok-disk.ensures.found;
       back = λ h. c.close.ensures.kept c.in_ok-disk.ensures.lent h;
-      read = record { same = c.in-Err.ensures.same; any_moment = c.in-Err.ensures.any_moment; called = c.in-Err.ensures.called };
+      read = only_read D before c.in-Err.disk c.in-Err.ensures.same c.in-Err.ensures.any_moment c.in-Err.ensures.called;
       fault = showing-open (D.honest before) (D.bytes before) fault c.in-Err.ensures.fault c.in-Err.ensures.refused;
     }))
 

@@ -1,6 +1,6 @@
 use Rattle.std.proofs.Common.{List, ◌++◌, ◌∷◌, [], refl, sym, ap, subst, ◌∙◌}
 use Rattle.std.proofs.lemmas.List.{append-nil}
-use Rattle.fp_edit.specs.Edits.{Proposal, proposal_of}
+use Rattle.fp_edit.specs.Edits.{Proposal, change_in, proposal_of}
 use Rattle.fp_desk.specs.Desk.{DeskState, IsAccepted, Refuses, TicketState, log}
 use Rattle.fp_world.specs.Commits.{Submits}
 use Rattle.fp_world.specs.Committer.{CommitterState, commits_of}
@@ -39,11 +39,11 @@ returns-clause-log g c = rw (← c.self.view_is) (ap log c.in-Err.ensures.unchan
 pub returns-in-Ok-submit-clause-log : goal.returns-in-Ok-submit-clause-log
 returns-in-Ok-submit-clause-log g c =
     let d = c.self.inside.desk in let p = proposal_of c.in-Ok.edit in
-    rw (← c.self.view_is) (ap log c.in-Ok-submit.ensures.accepted.new_is ∙ keeps.log_more d p.change ∙ ap (λ (q : Proposal). log d ++ q.change ∷ []) c.in-Ok.ensures)
+    rw (← c.self.view_is) (ap log c.in-Ok-submit.ensures.accepted.new_is ∙ keeps.log_more d (change_in p) ∙ ap (λ (q : Proposal). log d ++ change_in q ∷ []) c.in-Ok.ensures)
 
 pub returns-in-Ok-submit-clause-kept : goal.returns-in-Ok-submit-clause-kept
 returns-in-Ok-submit-clause-kept g c =
-    let d = c.self.inside.desk in let n = c.submit.new.self in let told = c.self.inside.told in let x = (proposal_of c.in-Ok.edit).change in let new = c.in-Ok-submit.ensures.accepted.new_is in let same = ap (λ (x : DeskState). x.store) new in
+    let d = c.self.inside.desk in let n = c.submit.new.self in let told = c.self.inside.told in let x = change_in (proposal_of c.in-Ok.edit) in let new = c.in-Ok-submit.ensures.accepted.new_is in let same = ap (λ (x : DeskState). x.store) new in
     rw (← c.self.view_is) (keeps.desk_moved g.D.Disk c.self.invariant n refl same (λ o kept. keeps.kept_more d n (x ∷ []) told o same (ap log new ∙ keeps.log_more d x) kept))
 
 pub returns-clause-steps : goal.returns-clause-steps
@@ -60,5 +60,5 @@ returns-clause-kept g c = rw (← c.self.view_is, c.in-Err.ensures.unchanged) (k
 pub invariant_of-self-in-Ok-submit : goal.invariant_of-self-in-Ok-submit
 invariant_of-self-in-Ok-submit g c =
     let D = g.D.Disk in let e = c.in-Ok-submit.ensures in let t = c.in-Ok-submit.ticket in let accepted = e.accepted in
-    sound.submitted D.honest D.unsynced c.self.invariant c.submit.new.self (proposal_of c.in-Ok.edit).change t accepted.new_is e.revision c.push_reserved.new.self.items
+    sound.submitted D.honest D.unsynced c.self.invariant c.submit.new.self (change_in (proposal_of c.in-Ok.edit)) t accepted.new_is e.revision c.push_reserved.new.self.items
     (c.push_reserved.ensures.items ∙ ap (λ (l : List TicketState). l ++ t ∷ []) c.try_reserve.ensures.items)
