@@ -103,11 +103,11 @@ never_memory a b c k h = grind arith
 
 never_in_set : (s : State) (b c : Bool) (at : ℕ) (ps : List ProposedPart) → first_failed (keys_from s at ps ++ (b, fault.SetTooLarge) ∷ (c, fault.RevisionsUsed) ∷ []) ≡ Some fault.Memory → ⊥
 never_in_set s b c at [] h = never_memory true b c None h
-never_in_set s b c at (p ∷ ps) h = by_test (is_as_expected s p) h
+never_in_set s b c at (p ∷ ps) h = by_test (never_in_set s b c (suc at) ps) (is_as_expected s p) h
   where
-    by_test : (t : Bool) → first_failed ((t, fault.ConflictIn at (present s p)) ∷ keys_from s (suc at) ps ++ (b, fault.SetTooLarge) ∷ (c, fault.RevisionsUsed) ∷ []) ≡ Some fault.Memory → ⊥
-    by_test true h = never_in_set s b c (suc at) ps h
-    by_test false h = absurd cc
+    by_test : (first_failed (keys_from s (suc at) ps ++ (b, fault.SetTooLarge) ∷ (c, fault.RevisionsUsed) ∷ []) ≡ Some fault.Memory → ⊥) → (t : Bool) → first_failed ((t, fault.ConflictIn at (present s p)) ∷ keys_from s (suc at) ps ++ (b, fault.SetTooLarge) ∷ (c, fault.RevisionsUsed) ∷ []) ≡ Some fault.Memory → ⊥
+    by_test behind true h = behind h
+    by_test behind false h = absurd cc
 
 -- the fault of a test is none of want of memory
 never_wanting : (s : State) (p : Proposal) → refusal s p ≡ Some fault.Memory → ⊥

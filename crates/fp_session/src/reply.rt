@@ -53,16 +53,26 @@ impl Reply {
     pub fn is_out_of_memory(&self) -> bool
         ensures { result ≡ not (is_told (reply_of_code self.now)) }
     {
-        matches!(
-            self,
-            Reply::Refused(EditFault::Memory)
-                | Reply::NoEdit(LineFault::Memory | LineFault::BadFlag(DefFault::Memory))
-                | Reply::NoEdit(LineFault::InSet {
-                    fault: PartFault::Memory | PartFault::BadFlag(DefFault::Memory),
-                    ..
-                })
-        )
+        match self {
+            Reply::NoEdit(fault) => is_want_of_memory(fault),
+            _ => matches!(self, Reply::Refused(EditFault::Memory)),
+        }
     }
+}
+
+// Whether a fault says nothing of the line.
+fn is_want_of_memory(fault: &LineFault) -> bool
+    ensures { result ≡ not (is_told (say.fault_of fault.now)) }
+{
+    matches!(
+        fault,
+        LineFault::Memory
+            | LineFault::BadFlag(DefFault::Memory)
+            | LineFault::InSet {
+                fault: PartFault::Memory | PartFault::BadFlag(DefFault::Memory),
+                ..
+            }
+    )
 }
 
 fn error_text(alloc: Global, name: &str) -> Result<Vec<u8>, AllocError>
@@ -136,18 +146,35 @@ fn fault_text(alloc: Global, fault: &LineFault) -> Result<Vec<u8>, AllocError>
 fn part_text(alloc: Global, at: usize, fault: &PartFault) -> Result<Vec<u8>, AllocError>
     ensures { IfOk result (λ t. t.items ≡ reply_text (say.fault_in at fault.now)) }
 {
-    let text = match fault {
-        PartFault::NotObject => error_text(alloc, "not-object")?,
-        PartFault::BadMember => error_text(alloc, "bad-member")?,
-        PartFault::BadOp => error_text(alloc, "bad-op")?,
-        PartFault::BadKey => error_text(alloc, "bad-key")?,
-        PartFault::BadIf => error_text(alloc, "bad-if")?,
-        PartFault::BadFlag(DefFault::Memory) | PartFault::Memory => {
-            return error_text(alloc, "out-of-memory");
-        }
-        PartFault::BadFlag(fault) => detail_text(alloc, fault)?,
-    };
+    match fault {
+        PartFault::NotObject => placed_error_text(alloc, at, "not-object"),
+        PartFault::BadMember => placed_error_text(alloc, at, "bad-member"),
+        PartFault::BadOp => placed_error_text(alloc, at, "bad-op"),
+        PartFault::BadKey => placed_error_text(alloc, at, "bad-key"),
+        PartFault::BadIf => placed_error_text(alloc, at, "bad-if"),
+        PartFault::BadFlag(fault) => placed_flag_text(alloc, at, fault),
+        PartFault::Memory => error_text(alloc, "out-of-memory"),
+    }
+}
+
+fn placed_error_text(alloc: Global, at: usize, name: &str) -> Result<Vec<u8>, AllocError>
+    ensures { IfOk result (λ t. t.items ≡ say.placed at (say.error_text name.now)) }
+{
+    let text = error_text(alloc, name)?;
     placed(alloc, at, &text)
+}
+
+fn placed_flag_text(alloc: Global, at: usize, fault: &DefFault) -> Result<Vec<u8>, AllocError>
+    ensures { IfOk result
+        (λ t. t.items ≡ reply_text (say.bad_flag_in_or_memory at (flag.tells fault.now))) }
+{
+    match fault {
+        DefFault::Memory => error_text(alloc, "out-of-memory"),
+        _ => {
+            let text = detail_text(alloc, fault)?;
+            placed(alloc, at, &text)
+        }
+    }
 }
 
 // An object's text, with its place in a set as its first member.
