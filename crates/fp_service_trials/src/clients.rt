@@ -70,6 +70,10 @@ pub fn bytes_of<S: Read>(alloc: Global, stream: &mut S, count: u64) -> Vec<u8> {
     let mut left = count;
     // Each turn gives a byte or is the last one.
     for _ in 0..count {
+        // A read of no bytes would wait for some.
+        if left == 0 {
+            break;
+        }
         let most = left.min(PIECE as u64) as usize;
         let Some(room) = piece.get_mut(..most) else {
             break;

@@ -1,6 +1,6 @@
 -- Replies to lines, and their texts.
-use Rattle.std.specs.Prelude.{ℕ, List, [], ◌∷◌, ◌++◌, drop, codes, decimal, Bool, true, false, not, ◌||◌}
-use Rattle.std.specs.Prelude.{if◌then◌else◌, Option, Some, None}
+use Rattle.std.specs.Prelude.{ℕ, List, [], ◌∷◌, ◌++◌, drop, codes, decimal, Bool, true, false, not}
+use Rattle.std.specs.Prelude.{◌||◌, if◌then◌else◌, Option, Some, None}
 use Rattle.serde_json.specs.Data.{string}
 use Rattle.serde_json.specs.Written.{compact_text}
 use Rattle.fp_definition.specs.Valid as flag

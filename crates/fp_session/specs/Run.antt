@@ -9,8 +9,8 @@ use Rattle.fp_edit.specs.Edits.{Proposal, change_in}
 use Rattle.fp_edit.specs.Flags.{State}
 use Rattle.fp_edit.specs.declared.edit.EditFault.{EditFault}
 use Rattle.fp_session.specs.Asks.{Ask}
-use Rattle.fp_session.specs.Reply.{Reply, revision, conflict, conflict_in, set_too_large, revisions_used}
-use Rattle.fp_session.specs.Reply.{no_edit, out_of_memory, store_failed, refusal_of, told_if}
+use Rattle.fp_session.specs.Reply.{Reply, revision, conflict, conflict_in, set_too_large}
+use Rattle.fp_session.specs.Reply.{revisions_used, no_edit, out_of_memory, store_failed, refusal_of, told_if}
 use Rattle.fp_session.specs.Reply.{texts_of, is_told}
 use Rattle.fp_session.specs.declared.fault.ApplyFault.{ApplyFault}
 use Rattle.fp_session.specs.declared.fault.ApplyFault.TheVariants.{Device, StoreFailed, Memory}

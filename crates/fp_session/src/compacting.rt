@@ -59,8 +59,8 @@ pub fn make_room<D: Disk>(store: &mut Store<D>, draw: &Draw) -> Result<(), Commi
     Ok(())
 }
 
-/// Takes a step where a compaction runs, or begins one where less than a quarter of a slot is left, or
-/// the slot is older than all that is written.
+/// Takes a step where a compaction runs, or begins one where less than a quarter of a slot is
+/// left, or the slot is older than all that is written.
 pub fn go_on<D: Disk>(store: &mut Store<D>) -> Result<(), CommitFault>
     requires rest { IsAtRest store.old }
     requires keeps { EachCrash D.Disk store.old.slots.journal.disk

@@ -38,7 +38,7 @@ use Rattle.fp_world.specs.declared.event.Answer.TheVariants as answer
 use Rattle.fp_world.specs.declared.committer.Held.{Held}
 use Rattle.fp_world.specs.declared.committer.Held.TheVariants as held
 use Rattle.fp_world.specs.Commits.{Advances, CanStage, Commits, Compaction, IsAt, Progress, Seals, Stages, Submits, is_read, opened_set, told_after}
-use Rattle.fp_world.specs.Commits.{nothing_drawn, batch_drawn, batch_staged, body_synced, gate_opened, batch_sealed}
+use Rattle.fp_world.specs.Commits.{batch_staged, body_synced, gate_opened, batch_sealed}
 use Rattle.fp_world.specs.Committer.{IsOut, MakesOne, RisesFor, compaction_of, in_flight_at, is_in_flight, progress_of}
 use Rattle.fp_world.specs.World.{Opens}
 

@@ -1,5 +1,5 @@
 -- What holds of a world, from event to event.
-use Rattle.std.proofs.Common.{◌≡◌, ◌≢◌, ◌<◌, ◌≤◌, ◌+◌, ℕ, zero, suc, true, List, [], ◌∷◌, ◌++◌, length, get_or, sym, ap, subst, ◌∙◌, arith, append_assoc, length-append}
+use Rattle.std.proofs.Common.{◌≡◌, ◌≢◌, ◌<◌, ◌+◌, ℕ, zero, suc, true, List, [], ◌∷◌, ◌++◌, length, get_or, sym, ap, subst, ◌∙◌, arith, append_assoc, length-append}
 use Rattle.fp_disk.specs.Outcomes.{PendingState, IsOutcome}
 use Rattle.fp_edit.specs.Edits.{Change}
 use Rattle.fp_edit.specs.Flags.{State}

@@ -1,7 +1,6 @@
 -- One event of a world, by what became of it.
-use Rattle.std.proofs.Common.{◌≡◌, ◌≢◌, ◌≤◌, ◌-◌, ℕ, max, List, [], ◌++◌, length, take, refl, sym, ap, subst, ◌∙◌, arith, append_assoc, length-append}
+use Rattle.std.proofs.Common.{◌≡◌, ◌≢◌, ◌≤◌, ◌-◌, ℕ, max, List, [], ◌++◌, length, take, sym, ap, subst, ◌∙◌, arith, append_assoc}
 use Rattle.std.proofs.lemmas.List.{append-nil, take_at}
-use mathlib.Core.List.{IsPrefix}
 use Rattle.fp_disk.specs.Crashes.{EachCrash, SameHonesty}
 use Rattle.fp_disk.specs.Outcomes.{IsOutcome}
 use Rattle.fp_disk.specs.declared.disk.Disk.{Ghosts}
@@ -14,14 +13,12 @@ use Rattle.std.specs.Prelude.{Option, MatchOption, slice_set}
 use Rattle.fp_stream.specs.declared.hello.Hello.{Hello}
 use Rattle.fp_stream.specs.declared.hello.Hello.TheVariants.{Has}
 use Rattle.fp_world.specs.Views.{HasNews, HasNoNews, ViewsState}
-use Rattle.fp_world.specs.Commits.{CommitStep, accepted_by, told_after}
+use Rattle.fp_world.specs.Commits.{accepted_by, told_after}
 use Rattle.fp_world.specs.Committer.{CommitterState, KeptFrom, MakesItsCall, RisesFor}
-use Rattle.fp_world.specs.Machine.{Machine, Step, and_published, published_front}
-use Rattle.fp_world.specs.World.{IsOfEdits, StepsTo, WorldState, desk_of, disk_of, machine, told_of}
+use Rattle.fp_world.specs.Machine.{Step, and_published, published_front}
+use Rattle.fp_world.specs.World.{StepsTo, WorldState, desk_of, disk_of, machine, told_of}
 use Rattle.fp_world.specs.declared.event.Answer.{Answer}
 use Rattle.fp_world.specs.declared.event.Event.{Event}
-use Rattle.fp_world.specs.declared.event.Event.TheVariants as event
-use Rattle.fp_world.specs.declared.request.Request.{Request}
 use Rattle.fp_world.proofs.Keeps as keeps
 
 -- ---- fronts

@@ -67,8 +67,8 @@ drawn_batch d = record { first = settled_revision d + 1; changes = d.drawn }
 
 -- The drawn edits wait to be written, make a batch, and there is room for it with its two gates.
 -- While a compaction runs its tail isn't written yet, and with this batch and a last gate it takes
--- a quarter of a slot at most: half of one is what a set may take. Each has a place in a slot of the
--- version that rules
+-- a quarter of a slot at most: half of one is what a set may take. Each has a place in a slot of
+-- the version that rules
 pub record CanStage (m : Commits) : Type 0 where
   pub drawn : m.progress ≡ batch_drawn
   pub few : length m.desk.drawn ≤ MOST_EDITS
@@ -196,8 +196,8 @@ MayStep m = (m.compaction.next ≡ Begin → m.compaction.generation + 1 < 2 ^ 6
 
 -- One step of it. As it begins, an image of the sealed set is to be written, behind a head and all
 -- but its gate. A Part writes one part of it. At the last step the next generation rules, of the
--- version of all that is written, and a slot's bytes, twice what a set may take, but for head, image
--- and tail are room; at each other the room stays
+-- version of all that is written, and a slot's bytes, twice what a set may take, but for head,
+-- image and tail are room; at each other the room stays
 pub record Compacts (old new : Commits) : Type 0 where
   pub next : new.compaction.next ≡ next_step old.compaction.next old.compaction.left
   pub begun : old.compaction.next ≡ Begin → (new.compaction.head

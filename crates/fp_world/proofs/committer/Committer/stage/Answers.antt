@@ -5,8 +5,7 @@ use Rattle.fp_record.specs.Group.{Group}
 use Rattle.fp_desk.specs.Desk.{settled_set}
 use Rattle.fp_group_commit.specs.Changes.{GoesOn, HasRoom}
 use Rattle.fp_world.specs.Commits.{CanStage, Stages, batch_staged}
-use Rattle.fp_disk.specs.Outcomes.{LeavesOnly}
-use Rattle.fp_world.specs.Committer.{IsOut, KeptFrom, CommitterState, in_flight_at, is_in_flight, commits_of}
+use Rattle.fp_world.specs.Committer.{IsOut, CommitterState, in_flight_at, is_in_flight, commits_of}
 use Rattle.fp_world.specs.declared.event.Answer.TheVariants as answer
 use Rattle.fp_world.specs.declared.committer.Held.{Held}
 use Rattle.fp_world.specs.declared.committer.Held.TheVariants as held

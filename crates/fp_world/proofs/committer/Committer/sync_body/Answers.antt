@@ -1,8 +1,8 @@
 use Rattle.std.proofs.Common.{rules, ◌≡◌, refl, ap, subst, ◌∙◌}
 use Rattle.fp_disk.specs.declared.history.CallKind.TheVariants.{Sync}
-use Rattle.fp_journal.specs.declared.journal.Phase.TheVariants.{Idle, Staged, BodySynced}
+use Rattle.fp_journal.specs.declared.journal.Phase.TheVariants.{Staged, BodySynced}
 use Rattle.fp_world.specs.Commits.{Advances, IsAt, batch_staged, body_synced}
-use Rattle.fp_world.specs.Committer.{CommitterState, in_flight_at, is_in_flight, commits_of, progress_of}
+use Rattle.fp_world.specs.Committer.{CommitterState, in_flight_at, is_in_flight, commits_of}
 use Rattle.fp_world.specs.declared.event.Answer.TheVariants as answer
 use Rattle.fp_world.proofs.Goes as goes
 use Rattle.fp_world.proofs.Keeps as keeps

@@ -2,11 +2,10 @@ use Rattle.std.proofs.Common.{rules, ◌≡◌, ◌++◌, List, length, refl, ap
 use Rattle.fp_disk.specs.declared.history.CallKind.TheVariants.{Sync}
 use Rattle.fp_edit.specs.Edits.{Change}
 use Rattle.fp_edit.proofs.Runs.{revision-after_all}
-use Rattle.fp_journal.specs.declared.journal.Phase.TheVariants.{Idle, GateOpened}
+use Rattle.fp_journal.specs.declared.journal.Phase.TheVariants.{GateOpened}
 use Rattle.fp_group_commit.specs.Tokens.{Identity}
 use Rattle.fp_world.specs.Commits.{Seals, gate_opened}
-use Rattle.fp_disk.specs.Outcomes.{LeavesOnly}
-use Rattle.fp_world.specs.Committer.{KeptFrom, CommitterState, in_flight_at, is_in_flight, commits_of, progress_of}
+use Rattle.fp_world.specs.Committer.{CommitterState, in_flight_at, is_in_flight, commits_of, progress_of}
 use Rattle.fp_world.specs.declared.event.Answer.TheVariants as answer
 use Rattle.fp_world.specs.declared.committer.Held.TheVariants as held
 use Rattle.fp_world.proofs.Goes as goes
