@@ -33,6 +33,7 @@ texts_of (a ∷ bs) = (answer_text a ++ 10 ∷ []) ++ texts_of bs
 abbrev pub revision_of_reply : Reply → Option ℕ
 revision_of_reply (flags.revision n) = Some n
 revision_of_reply (flags.conflict current) = None
+revision_of_reply (flags.conflict_in at current) = None
 revision_of_reply flags.set_too_large = None
 revision_of_reply flags.revisions_used = None
 revision_of_reply (flags.no_edit f) = None
@@ -48,6 +49,7 @@ revision_in stopped = None
 abbrev pub is_of_no_edit : Reply → Bool
 is_of_no_edit (flags.revision n) = false
 is_of_no_edit (flags.conflict current) = false
+is_of_no_edit (flags.conflict_in at current) = false
 is_of_no_edit flags.set_too_large = false
 is_of_no_edit flags.revisions_used = false
 is_of_no_edit (flags.no_edit f) = true
@@ -99,6 +101,7 @@ answer_of_code Stopped = stopped
 abbrev pub only_refuses : Reply → Bool
 only_refuses (flags.revision n) = false
 only_refuses (flags.conflict current) = true
+only_refuses (flags.conflict_in at current) = true
 only_refuses flags.set_too_large = true
 only_refuses flags.revisions_used = true
 only_refuses (flags.no_edit f) = true
