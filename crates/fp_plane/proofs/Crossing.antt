@@ -6,13 +6,7 @@ use Rattle.std.proofs.Crossing.{crosses, Arc-send, Arc-sync, Deque-send, Vec-sen
 use Rattle.std.proofs.MapsCrossing as maps
 use Rattle.serde_json.proofs.value.Value.TheLaws.TheKnot as value_knot
 use Rattle.serde_json.specs.contracts.value.Value as value
-use Rattle.fp_operators.proofs.datum.Datum.TheLaws.TheKnot as datum_knot
-use Rattle.fp_operators.specs.contracts.datum.Datum as datum
-use Rattle.fp_targeting.proofs.operator.Operator.TheSendSync as operator
-use Rattle.fp_targeting.proofs.tree.Tree.TheLaws.TheKnot as tree_knot
-use Rattle.fp_targeting.specs.contracts.rule.Rule as rule
-use Rattle.fp_targeting.specs.contracts.rule.Rule.TheInside as rule_inside
-use Rattle.fp_targeting.specs.contracts.tree.Tree as tree
+use Rattle.fp_targeting.proofs.Crossing.{rule_sent, rule_shared}
 use Rattle.fp_definition.proofs.key.FlagKey.TheSendSync as key
 use Rattle.fp_definition.specs.contracts.choice.Choice as choice
 use Rattle.fp_definition.specs.contracts.definition.Definition as definition
@@ -36,24 +30,6 @@ value_sent = search (sendable, crosses, maps.crosses, value_knot.both_send-Value
 
 value_shared : IsSync (value.the_field).row
 value_shared = search (sendable, crosses, maps.crosses, value_knot.both_sync-Value) depth 30
-
-datum_sent : IsSend (datum.the_field).row
-datum_sent = search (sendable, crosses, maps.crosses, datum_knot.both_send-Datum) depth 30
-
-datum_shared : IsSync (datum.the_field).row
-datum_shared = search (sendable, crosses, maps.crosses, datum_knot.both_sync-Datum) depth 30
-
-tree_sent : IsSend (tree.the_field).row
-tree_sent = tree_knot.both_send-Tree datum_sent datum_shared (λ h s y. Vec-send h s) (λ h s y. Vec-sync h y) operator.the_field_send operator.the_field_sync
-
-tree_shared : IsSync (tree.the_field).row
-tree_shared = tree_knot.both_sync-Tree datum_sent datum_shared (λ h s y. Vec-send h s) (λ h s y. Vec-sync h y) operator.the_field_send operator.the_field_sync
-
-rule_sent : IsSend rule.the_row
-rule_sent = view_send _ _ _ _ _ (recorded_send _ _ _ (rule_inside.the_type).to_one (struct_send (shape rule_inside.the_type) (tree_sent, tt)))
-
-rule_shared : IsSync rule.the_row
-rule_shared = view_sync _ _ _ _ _ (recorded_sync _ _ _ (rule_inside.the_type).to_one (struct_sync (shape rule_inside.the_type) (tree_shared, tt)))
 
 choice_sent : IsSend (choice.the_field).row
 choice_sent = struct_send (shape choice.the_type) (search sendable, (search (sendable, crosses) depth 20, (search (sendable, maps.BTreeMap-send, maps.String-send, value_sent) depth 5, (search (sendable, value_sent) depth 20, tt))))

@@ -17,7 +17,7 @@ use Rattle.fp_targeting.specs.declared.operator.Operator.{Operator}
 use Rattle.fp_targeting.specs.declared.operator.Operator.TheVariants.{If, And, Or, Var, Cat, SemVer, Fractional, Unary, Binary, Chain}
 
 -- which branch of a choice is taken is the same where both are alike
-either_way : (b : Bool) (x : Data) → x ≡ if b then x else x
+pub either_way : (b : Bool) (x : Data) → x ≡ if b then x else x
 either_way true x = refl
 either_way false x = refl
 
@@ -82,7 +82,7 @@ neighbours-takes f (a ∷ b ∷ []) h = refl
 neighbours-takes f (a ∷ b ∷ c ∷ []) h = refl
 neighbours-takes f (a ∷ b ∷ c ∷ e ∷ xs) h = absurd (grind (arith, h))
 
-length-meanings : (d : Data) (rs : Rules) → length (meanings d rs) ≡ count_of rs
+pub length-meanings : (d : Data) (rs : Rules) → length (meanings d rs) ≡ count_of rs
 length-meanings d no_rules = refl
 length-meanings d (rule r rs) = let i = length-meanings d rs in omega arith
 

@@ -1,14 +1,12 @@
 -- The rule of an object, by how many members it has.
-use Rattle.std.proofs.Common.{◌≡◌, ◌≢◌, ℕ, List, [], ◌∷◌, Vec, Global, Option, None, Some, is_some, length, get_or, refl, sym, ap, ◌∙◌, arith, if◌then◌else◌}
-use Rattle.serde_json.specs.Data.{Data, object, member, no_members}
+use Rattle.std.proofs.Common.{◌≡◌, ℕ, List, [], ◌∷◌, Vec, Global, true, false, Some, is_some, length, get_or, refl, sym, ap, ◌∙◌, arith, if◌then◌else◌, Bool, not, ◌==◌}
+use Rattle.serde_json.specs.Data.{Data, null, boolean, number, string, array, object, member, no_members}
 use Rattle.fp_base.specs.TreeView.{Entry, tree_view, tree_members}
 use Rattle.fp_base.specs.declared.tree.Tree.TheVariants.{Object}
 use Rattle.fp_base.proofs.Views.{view-Object}
-use Rattle.fp_operators.specs.FromJson.{data_of}
-use Rattle.fp_targeting.specs.Compile.{first_unknown, rule_of}
+use Rattle.fp_targeting.specs.Compile.{first_unknown, operator_rule, arguments_of, rule_of}
+use Rattle.fp_targeting.specs.Constant.{is_literal}
 use Rattle.fp_targeting.specs.Operators.{operator_of}
-use Rattle.fp_targeting.specs.Rule.{literal}
-use Rattle.fp_targeting.specs.declared.operator.Operator.{Operator}
 
 only-member : (ms : List Entry) (m : Entry) → length ms ≡ 1 → m ≡ get_or ms 0 m → tree_members ms ≡ member m.0.now (tree_view m.1) no_members
 only-member [] m h e = absurd (omega arith)
@@ -19,26 +17,28 @@ only-member (x ∷ y ∷ ms) m h e = absurd (omega arith)
 pub only-Object : (v : Vec Entry Global) (m : Entry) → length v.items ≡ 1 → m ≡ get_or v.items 0 m → tree_view (Object v) ≡ object (member m.0.now (tree_view m.1) no_members)
 only-Object v m h e = view-Object v ∙ ap object (only-member v.items m h e)
 
--- members of which there are none or several ask for no operator
-pub others-known : (ms : List Entry) → length ms ≢ 1 → first_unknown (object (tree_members ms)) ≡ None
-others-known [] h = refl
-others-known (x ∷ []) h = absurd (h refl)
-others-known (x ∷ y ∷ ms) h = refl
+-- a name that is no operator's, and one that is
+pub unknown-unnamed : (k : List ℕ) (d : Data) → is_some (operator_of k) ≡ false → first_unknown (object (member k d no_members)) ≡ Some k
+unknown-unnamed k d h = ap (λ b. if b then first_unknown d else Some k) h
 
-pub others-rule : (ms : List Entry) → length ms ≢ 1 → rule_of (object (tree_members ms)) ≡ Some (literal (data_of (object (tree_members ms))))
-others-rule [] h = refl
-others-rule (x ∷ []) h = absurd (h refl)
-others-rule (x ∷ y ∷ ms) h = refl
+pub unknown-named : (k : List ℕ) (d : Data) → is_some (operator_of k) ≡ true → first_unknown (object (member k d no_members)) ≡ first_unknown d
+unknown-named k d h = ap (λ b. if b then first_unknown d else Some k) h
 
-where_known : (o : Option Operator) (p : Operator) (a b : Option (List ℕ)) → o ≡ Some p → (if is_some o then a else b) ≡ a
-where_known o p a b e = rw e refl
+-- the rule of an operator's object
+pub rule_of-operator : (k : List ℕ) (d : Data) → rule_of (object (member k d no_members)) ≡ operator_rule k (arguments_of d)
+rule_of-operator k null = refl
+rule_of-operator k (boolean b) = refl
+rule_of-operator k (number n) = refl
+rule_of-operator k (string s) = refl
+rule_of-operator k (array ds) = refl
+rule_of-operator k (object ms) = refl
 
--- behind an operator that was found, what is unknown is in its argument
-pub unknown-inside : (k : List ℕ) (d : Data) (o : Operator) → operator_of k ≡ Some o → first_unknown (object (member k d no_members)) ≡ first_unknown d
-unknown-inside k d o e = where_known (operator_of k) o (first_unknown d) (Some k) e
+test-false : (b : Bool) → (b ≡ true → ⊥) → not b ≡ true
+test-false true h = absurd (h refl)
+test-false false h = refl
 
-where_unknown : (o : Option Operator) (a b : Option (List ℕ)) → o ≡ None → (if is_some o then a else b) ≡ b
-where_unknown o a b e = rw e refl
-
-pub unknown-here : (k : List ℕ) (d : Data) → operator_of k ≡ None → first_unknown (object (member k d no_members)) ≡ Some k
-unknown-here k d e = where_unknown (operator_of k) (first_unknown d) (Some k) e
+-- an object of other than one member stands for itself
+pub others-literal : (ms : List Entry) (n : ℕ) → n ≡ length ms → not (n == 1) ≡ is_literal (object (tree_members ms))
+others-literal [] n e = test-false (n == 1) (λ h. grind (arith, e, h))
+others-literal (x ∷ []) n e = ap (λ m. not (m == 1)) e
+others-literal (x ∷ y ∷ ms) n e = test-false (n == 1) (λ h. grind (arith, e, h))

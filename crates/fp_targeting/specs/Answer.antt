@@ -1,5 +1,5 @@
 -- What the faults of compiling tell.
-use Rattle.std.specs.Prelude.{ℕ, List, string_bytes}
+use Rattle.std.specs.Prelude.{ℕ, List, Option, None, Some, string_bytes}
 use Rattle.fp_targeting.specs.Compile.{Fault, too_deep, unsupported, bad}
 use Rattle.fp_targeting.specs.declared.rule.RuleFault.{RuleFault}
 use Rattle.fp_targeting.specs.declared.rule.RuleFault.TheVariants.{TooDeep, UnsupportedOperator}
@@ -12,9 +12,7 @@ Tells (UnsupportedOperator name) Has = Has (unsupported (string_bytes name))
 Tells BadRule Has = Has bad
 Tells Memory Has = Unit {0}
 
--- of an unknown operator alone, where no other fault is answered
-abbrev pub TellsUnknown : RuleFault → (List ℕ → Type 0) → Type 0
-TellsUnknown TooDeep Has = ⊥
-TellsUnknown (UnsupportedOperator name) Has = Has (string_bytes name)
-TellsUnknown BadRule Has = ⊥
-TellsUnknown Memory Has = Unit {0}
+-- the first unknown operator, or else a bad rule
+abbrev pub unknown_or_bad : Option (List ℕ) → Fault
+unknown_or_bad None = bad
+unknown_or_bad (Some name) = unsupported name

@@ -161,3 +161,6 @@ mutual
 
 abbrev pub coded_rule : Coded Rule
 coded_rule = record { code = rule_tree; inj = rule_tree-one_to_one }
+
+abbrev pub coded_rules : Coded Rules
+coded_rules = record { code = rules_tree; inj = rules_tree-one_to_one }

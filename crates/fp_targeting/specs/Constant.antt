@@ -20,15 +20,18 @@ abbrev mutual
   constants no_items = no_rules
   constants (item d ds) = rule (constant d) (constants ds)
 
-abbrev pub is_scalar : json.Data → Bool
-is_scalar json.null = true
-is_scalar (json.boolean b) = true
-is_scalar (json.number n) = true
-is_scalar (json.string s) = true
-is_scalar (json.array ds) = false
-is_scalar (json.object ms) = false
+-- the value stands for itself, whatever is in it: it is no list, and no operator's object
+abbrev pub is_literal : json.Data → Bool
+is_literal json.null = true
+is_literal (json.boolean b) = true
+is_literal (json.number n) = true
+is_literal (json.string s) = true
+is_literal (json.array ds) = false
+is_literal (json.object json.no_members) = true
+is_literal (json.object (json.member k d json.no_members)) = false
+is_literal (json.object (json.member k d (json.member l e ms))) = true
 
--- no item is a list or an object
-abbrev pub all_scalar : json.Items → Bool
-all_scalar json.no_items = true
-all_scalar (json.item d ds) = if is_scalar d then all_scalar ds else false
+-- each item stands for itself
+abbrev pub all_literal : json.Items → Bool
+all_literal json.no_items = true
+all_literal (json.item d ds) = if is_literal d then all_literal ds else false

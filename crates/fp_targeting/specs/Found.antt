@@ -1,9 +1,15 @@
--- The result that a lent or made datum is.
+-- The results that are at hand and kept.
+use Rattle.std.specs.Prelude.{List, [], map}
 use Rattle.fp_operators.specs.Data.{Data}
 use Rattle.fp_operators.specs.View.{view}
-use Rattle.fp_targeting.specs.declared.evaluate.Found.{Found}
-use Rattle.fp_targeting.specs.declared.evaluate.Found.TheVariants.{Lent, Made}
+use Rattle.fp_targeting.specs.Stack.{onto}
+use Rattle.fp_targeting.specs.declared.machine.Found.{Found}
+use Rattle.fp_targeting.specs.declared.machine.Found.TheVariants.{Lent, Made}
 
 abbrev pub found_view : Found → Data
 found_view (Lent d) = view d.now
 found_view (Made d) = view d
+
+-- the last one first
+abbrev pub stack_view : List Found → List Data
+stack_view kept = onto (map found_view kept) []

@@ -11,3 +11,10 @@ pub mod Found
 pub mod RuleData
 pub mod Codes
 pub mod Laws
+pub mod Table
+pub mod Stack
+pub mod Machine
+pub mod Reading
+pub mod Emits
+pub mod Strict
+pub mod Compiles

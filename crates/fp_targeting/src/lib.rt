@@ -2,15 +2,17 @@
 #![tactic(auto)]
 
 mod build;
+mod code;
 mod data;
-mod evaluate;
+mod few;
 pub mod laws;
+mod machine;
+mod names;
 mod operator;
 mod rule;
-mod split;
-mod tree;
+mod table;
 
 pub use data::Data;
 pub use fp_base::whole_numbers;
 pub use rule::{DEEPEST_RULE, MOST_RULE_VALUES, Rule, RuleFault};
-pub use split::GREATEST_WEIGHT;
+pub use table::GREATEST_WEIGHT;

@@ -4,20 +4,19 @@ ghost use Rattle.std.specs.Prelude.{◌≡◌, ◌≤◌, ◌↔◌, true, IfOk}
 ghost use Rattle.serde_json.specs.Data.{depth};
 ghost use Rattle.serde_json.specs.View.{view as json_view};
 ghost use Rattle.fp_operators.specs.View.{view};
-ghost use Rattle.fp_targeting.specs.Compile.{verdict};
+ghost use Rattle.fp_targeting.specs.Compile.{verdict, first_unknown};
 ghost use Rattle.fp_base.specs.Answer.{Gives};
 ghost use Rattle.fp_base.specs.Ordered.{IsOrdered};
 ghost use Rattle.fp_base.specs.TreeView.{tree_view};
 ghost use Rattle.fp_base.specs.Whole.{is_whole};
-ghost use Rattle.fp_targeting.specs.Answer.{Tells};
+ghost use Rattle.fp_targeting.specs.Answer.{Tells, unknown_or_bad};
 ghost use Rattle.fp_operators.specs.Data as values;
 ghost use Rattle.fp_targeting.specs.Means.{Means};
 ghost use Rattle.fp_targeting.specs.Meaning.{meaning};
 
-use crate::build::build;
+use crate::code::Code;
 use crate::data::Data;
-use crate::evaluate::evaluate;
-use crate::tree::{Tree, counts_fit};
+use crate::names::unknown_operator;
 use fp_base::{Tree as Json, nests_within};
 use fp_operators::Datum;
 use serde_json::Value;
@@ -33,24 +32,23 @@ pub const MOST_RULE_VALUES: usize = 1_024;
 /// A compiled rule.
 #[derive(Drop)]
 pub struct Rule {
-    tree: Tree,
+    code: Code,
 }
 
 impl Model for Rule {
     ghost use Rattle.std.specs.Prelude.{true, ◌≡◌};
     ghost use Rattle.fp_targeting.specs.Rule as rules;
     ghost use Rattle.fp_targeting.specs.Codes.{coded_rule};
-    ghost use Rattle.fp_targeting.specs.Operators.{well_formed};
+    ghost use Rattle.fp_targeting.specs.Emits.{IsSound};
+    ghost use Rattle.fp_targeting.specs.Reading.{rule_of_code};
 
     ghost Value = { rules.Rule };
 
     ghost coded = { coded_rule };
 
-    ghost use Rattle.fp_targeting.specs.View.{rule_view};
+    ghost view = { λ r. rule_of_code r.code };
 
-    ghost view = { λ r. rule_view r.tree };
-
-    ghost invariant = { λ r. well_formed (rule_view r.tree) ≡ true };
+    ghost invariant = { λ r. IsSound r.code };
 }
 
 /// Why a value is no rule, in the order in which the faults are looked for.
@@ -98,9 +96,7 @@ impl Rule {
         }
         let json = Json::of_value(alloc, value)?;
         if !json.has_whole_numbers() {
-            // A name that is no operator's comes before all that is wrong with numbers.
-            drop(build(alloc, &json)?);
-            return Err(RuleFault::BadRule);
+            return Err(refusal(alloc, &json));
         }
         Rule::from_tree(alloc, &json)
     }
@@ -113,13 +109,13 @@ impl Rule {
         requires ordered { IsOrdered (tree_view tree.now) }
         ensures { Gives (λ rule. rule) Tells result (verdict (tree_view tree.now)) }
     {
-        // Operators are looked up while the rule is made, and a name that is none's comes before
-        // all that is counted.
-        let rule = build(alloc, tree)?;
-        if tree.values_left(MOST_RULE_VALUES).is_none() || !counts_fit(&rule) {
-            return Err(RuleFault::BadRule);
+        if tree.values_left(MOST_RULE_VALUES).is_none() {
+            return Err(refusal(alloc, tree));
         }
-        Ok(Rule { tree: rule })
+        match Code::of(alloc, tree)? {
+            Some(code) => Ok(Rule { code }),
+            None => Err(refusal(alloc, tree)),
+        }
     }
 
     /// What the rule gives for the data.
@@ -127,7 +123,7 @@ impl Rule {
         ensures means { IfOk result (λ x. Means self.now «data».now (view x)) }
         ensures computed { IfOk result (λ x. view x ≡ meaning «data».now self.now) }
     {
-        evaluate(alloc, &self.tree, data.datum())?.into_datum(alloc)
+        self.code.run(alloc, data.datum())
     }
 
     /// Exactly one result: on any data there is one that the rule gives, and only one, which
@@ -137,6 +133,20 @@ impl Rule {
         ensures unique { (d x y : values.Data) → Means self.now d x → Means self.now d y → x ≡ y }
         ensures computed { (d x : values.Data) → Means self.now d x ↔ (x ≡ meaning d self.now) }
     {
-        let _tree = &self.tree;
+        let _code = &self.code;
+    }
+}
+
+// Why a value is no rule that nests within the limit: an unknown operator comes before all that is
+// counted, and before numbers that aren't whole.
+fn refusal(alloc: Global, json: &Json<'_>) -> RuleFault
+    ensures { Tells result (λ fault. fault ≡ unknown_or_bad (first_unknown (tree_view json.now))) }
+{
+    match unknown_operator(json) {
+        Some(name) => match String::from_str(alloc, name) {
+            Ok(name) => RuleFault::UnsupportedOperator(name),
+            Err(_) => RuleFault::Memory,
+        },
+        None => RuleFault::BadRule,
     }
 }

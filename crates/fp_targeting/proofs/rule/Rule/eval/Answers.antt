@@ -4,7 +4,7 @@ use Rattle.fp_operators.specs.View.{view}
 use Rattle.fp_targeting.specs.Means.{Means}
 use Rattle.fp_targeting.specs.Meaning.{meaning}
 use Rattle.fp_targeting.specs.Operators.{well_formed}
-use Rattle.fp_targeting.specs.View.{rule_view}
+use Rattle.fp_targeting.specs.Reading.{rule_of_code}
 use Rattle.fp_targeting.proofs.OneResult.{Means-exists}
 use Rattle.fp_targeting.proofs.rule.Rule.eval.Goals as goal
 
@@ -12,11 +12,11 @@ pub returns-clause-means : goal.returns-clause-means
 returns-clause-means c =
     let r = c.args.self.now in
     let d = c.args.data.now in
-    let formed : well_formed r ≡ true = ap well_formed (sym c.self.view_is) ∙ c.self.invariant in
-    let made = c.in_ok-evaluate.ensures ∙ ap (λ e. meaning e (rule_view c.self.inside.tree)) c.datum.ensures ∙ ap (meaning d) c.self.view_is in
-    IfOk-weaker c.into_datum.result _ (λ x. Means r d (view x)) (λ x e. subst (λ y. Means r d y) (sym (e ∙ made)) (Means-exists d r formed)) c.into_datum.ensures
+    let formed : well_formed r ≡ true = ap well_formed (sym c.self.view_is) ∙ c.self.invariant.formed in
+    let made = ap (λ e. meaning e (rule_of_code c.self.inside.code)) c.datum.ensures ∙ ap (meaning d) c.self.view_is in
+    IfOk-weaker c.run.result _ (λ x. Means r d (view x)) (λ x e. subst (λ y. Means r d y) (sym (e ∙ made)) (Means-exists d r formed)) c.run.ensures
 
 pub returns-clause-computed : goal.returns-clause-computed
 returns-clause-computed c =
-    let made = c.in_ok-evaluate.ensures ∙ ap (λ e. meaning e (rule_view c.self.inside.tree)) c.datum.ensures ∙ ap (meaning c.args.data.now) c.self.view_is in
-    IfOk-weaker c.into_datum.result _ (λ x. view x ≡ meaning c.args.data.now c.args.self.now) (λ x e. e ∙ made) c.into_datum.ensures
+    let made = ap (λ e. meaning e (rule_of_code c.self.inside.code)) c.datum.ensures ∙ ap (meaning c.args.data.now) c.self.view_is in
+    IfOk-weaker c.run.result _ (λ x. view x ≡ meaning c.args.data.now c.args.self.now) (λ x e. e ∙ made) c.run.ensures

@@ -1,0 +1,185 @@
+-- Code put together: what is added for a rule's parts makes the code of the rule.
+use Rattle.std.proofs.Common.{◌≡◌, ◌+◌, ◌-◌, ℕ, List, [], ◌∷◌, ◌++◌, length, map, Bool, true, false, Option, Some, None, option_and_then, nat_lt, refl, sym, ap, ◌∙◌, subst, arith, if◌then◌else◌}
+use Rattle.std.proofs.lemmas.Bool.{le-leb}
+use Rattle.std.proofs.lemmas.List.{append_assoc, append-nil, length-map}
+use Rattle.serde_json.specs.Data as json
+use Rattle.fp_operators.specs.Data.{Data, null}
+use Rattle.fp_operators.specs.Text.{concatenation}
+use Rattle.fp_operators.specs.View.{view}
+use Rattle.fp_targeting.specs.Compiles.{IsCompiled}
+use Rattle.fp_targeting.specs.Emits.{Has, Grows, Pushed, Raised, IsOperand, Adds, Keeps}
+use Rattle.fp_targeting.specs.Machine.{Env, Turn, run, look, list_of}
+use Rattle.fp_targeting.specs.Meaning.{meaning, meanings}
+use Rattle.fp_targeting.specs.Reading.{reads, read, in_order, with_last}
+use Rattle.fp_targeting.specs.Rule as tree
+use Rattle.fp_targeting.specs.Rule.{Rule, Rules, no_rules, rule}
+use Rattle.fp_targeting.specs.Stack.{onto, off}
+use Rattle.fp_targeting.specs.View.{rules_of}
+use Rattle.fp_targeting.specs.declared.code.Code.{Code}
+use Rattle.fp_targeting.specs.declared.code.Operand.{Operand}
+use Rattle.fp_targeting.specs.declared.code.Step.{Step}
+use Rattle.fp_targeting.specs.declared.code.Step.TheVariants.{Load, Keep, Join, Collect}
+use Rattle.fp_targeting.specs.declared.operator.Operator.TheVariants.{Cat}
+use Rattle.fp_targeting.proofs.Machines.{skip-over, of_all}
+use Rattle.fp_targeting.proofs.OneResult.{length-meanings}
+use Rattle.fp_targeting.proofs.Parts.{count_of-rules_of}
+use Rattle.fp_targeting.proofs.Stacks.{onto-append, onto-last, off-onto}
+
+-- ---- growing
+
+pub grows-trans : {a b d : Code} → Grows a b → Grows b d → Grows a d
+grows-trans {a = a} g h = record {
+  more = g.more ++ h.more;
+  steps = h.steps ∙ ap (λ xs. xs ++ h.more) g.steps ∙ append_assoc a.steps.items g.more h.more;
+  within = λ env e. g.within env (h.within env e);
+}
+
+grows-itself : (a : Code) → Grows a a
+grows-itself a = record { more = []; steps = sym (append-nil a.steps.items); within = λ env e. e }
+
+pub grows-skip : {a b : Code} → Grows a b → (n : ℕ) → n ≡ length b.steps.items - length a.steps.items → (env : Env) (root v : Data) (s : List Data)
+    → run env root (in_order b) n v s ≡ run env root (in_order a) 0 v s
+grows-skip {a = a} {b = b} g n e env root v s =
+    let l = ap length g.steps in
+    let m = Rattle.std.proofs.lemmas.List.length-append a.steps.items g.more in
+    let long : n ≡ length g.more = omega (arith, e, l, m) in
+    ap (λ cs. run env root cs n v s) (ap (λ xs. onto xs []) g.steps ∙ onto-append a.steps.items g.more [])
+    ∙ skip-over env root g.more (in_order a) n v s long
+
+module _ {a b : Code} {c : Step} (p : Pushed c a b) where
+  pushed-order : in_order b ≡ c ∷ in_order a
+  pushed-order = ap (λ xs. onto xs []) p.steps ∙ onto-last a.steps.items c []
+
+  pub pushed-has : (env : Env) → Has env b → Has env a
+  pushed-has env h = record {
+    more = h.more;
+    pool = h.pool ∙ ap (λ q. map view q.items ++ h.more) p.pool;
+    room = omega (arith, h.room, p.room);
+  }
+
+  pub pushed-grows : Grows a b
+  pushed-grows = record { more = c ∷ []; steps = p.steps; within = pushed-has }
+
+  pub pushed-run : (env : Env) (root v : Data) (s : List Data) → run env root (in_order b) 0 v s ≡ run env root (c ∷ in_order a) 0 v s
+  pushed-run env root v s = ap (λ cs. run env root cs 0 v s) pushed-order
+
+  pub pushed-read : (env : Env) (t : List Rule) → read env (in_order b) t ≡ read env (in_order a) (reads env c t)
+  pushed-read env t = ap (λ cs. read env cs t) pushed-order
+
+-- ---- operands
+
+module _ {o : Operand} {r : Rule} {a b : Code} (x : IsOperand o r a b) where
+  pub operand-order : in_order b ≡ in_order a
+  operand-order = ap (λ xs. onto xs.items []) x.steps
+
+  -- what is lent needs no more than to be at hand
+  pub added-load : {h : ℕ} {d : Code} → Pushed (Load o) b d → Adds h r a d
+  added-load p = record {
+    grows = grows-trans x.grows (pushed-grows p);
+    runs = λ env e root v s _. pushed-run p env root v s ∙ ap (λ cs. run env root cs 0 (look env root v o) s) operand-order
+        ∙ ap (λ w. run env root (in_order a) 0 w s) (x.looks env (pushed-has p env e) root v);
+    reads = λ env e t. pushed-read p env t ∙ ap (λ cs. read env cs (reads env (Load o) t)) operand-order
+        ∙ ap (λ (y : Rule × List Rule). read env (in_order a) (y.0 ∷ y.1)) (x.reads env (pushed-has p env e) t);
+  }
+
+-- where nothing was done, what comes next begins there
+pub pushed-there : {c : Step} {a b d : Code} → b ≡ a → Pushed c b d → Pushed c a d
+pushed-there {c = c} {d = d} e p = subst (λ z. Pushed c z d) e p
+
+pub operand-there : {o : Operand} {r : Rule} {a b d : Code} → b ≡ a → IsOperand o r b d → IsOperand o r a d
+operand-there {o = o} {r = r} {d = d} e i = subst (λ z. IsOperand o r z d) e i
+
+-- no instruction was added
+pub record Stays (old new : Code) : Type 0 where
+  pub grows : Grows old new
+  pub order : in_order new ≡ in_order old
+
+-- whether an operand was made or not
+pub stays : (x : Option Operand) {a b : Code} {d : json.Data} → ((o : Operand) → x ≡ Some o → IsCompiled (λ r. IsOperand o r a b) d) → (x ≡ None → b ≡ a) → Stays a b
+stays None {a = a} some none = subst (Stays a) (sym (none refl)) (record { grows = grows-itself a; order = refl })
+stays (Some o) some none = let i = (some o refl).made in record { grows = i.grows; order = operand-order i }
+
+pub adds-later : {h : ℕ} {r : Rule} {a b d : Code} → Stays a b → Adds h r b d → Adds h r a d
+adds-later {r = r} z x = record {
+  grows = grows-trans z.grows x.grows;
+  runs = λ env e root v s l. x.runs env e root v s l ∙ ap (λ cs. run env root cs 0 (meaning root r) s) z.order;
+  reads = λ env e t. x.reads env e t ∙ ap (λ cs. read env cs (r ∷ t)) z.order;
+}
+
+-- ---- what is kept
+
+keep_if : (b : Bool) (env : Env) (root v : Data) (cs : List Step) (s : List Data) → b ≡ true
+    → option_and_then (λ (t : Turn). run env root cs t.0 t.1 t.2) (if b then Some (0, null, v ∷ s) else None) ≡ run env root cs 0 null (v ∷ s)
+keep_if true env root v cs s e = refl
+keep_if false env root v cs s e = absurd (cc)
+
+module _ {a b : Code} {m : ℕ} (k : Raised m a b) where
+  pub raised-has : (env : Env) → Has env b → Has env a
+  raised-has env e = record {
+    more = e.more;
+    pool = e.pool ∙ ap (λ q. map view q.items ++ e.more) k.pool;
+    room = omega (arith, e.room, k.room);
+  }
+
+  pub raised-grows : Grows a b
+  raised-grows = record { more = Keep ∷ []; steps = k.steps; within = raised-has }
+
+  raised-order : in_order b ≡ Keep ∷ in_order a
+  raised-order = ap (λ xs. onto xs []) k.steps ∙ onto-last a.steps.items Keep []
+
+  -- what is at hand is kept
+  pub raised-run : (env : Env) → Has env b → (root v : Data) (s : List Data) → m ≡ length s + 1 → run env root (in_order b) 0 v s ≡ run env root (in_order a) 0 null (v ∷ s)
+  raised-run env e root v s l =
+      ap (λ cs. run env root cs 0 v s) raised-order
+      ∙ keep_if (nat_lt (length s) env.room) env root v (in_order a) s (Rattle.std.proofs.lemmas.Bool.lt-ltb (length s) env.room (omega (arith, l, e.room, k.high)))
+
+  pub raised-read : (env : Env) (t : List Rule) → read env (in_order b) t ≡ read env (in_order a) t
+  raised-read env t = ap (λ cs. read env cs t) raised-order
+
+-- what is kept, at an equal height
+pub raised-at : (m n : ℕ) {a b : Code} → m ≡ n → Raised m a b → Raised n a b
+raised-at m n {a = a} {b = b} e k = subst (λ i. Raised i a b) e k
+
+pub adds-at : (m n : ℕ) {r : Rule} {a b : Code} → m ≡ n → Adds m r a b → Adds n r a b
+adds-at m n {r = r} {a = a} {b = b} e x = subst (λ i. Adds i r a b) e x
+
+pub keeps-none : (h : ℕ) (a : Code) → Keeps h [] a a
+keeps-none h a = record { grows = grows-itself a; runs = λ env e root v s l. (v, refl); reads = λ env e t. refl }
+
+pub keeps-more : {h m : ℕ} {r : Rule} {rs : List Rule} {a b c d : Code} → m ≡ h + 1 → Keeps m rs a b → Raised m b c → Adds h r c d → Keeps h (r ∷ rs) a d
+keeps-more {r = r} up x k y = record {
+  grows = grows-trans x.grows (grows-trans (raised-grows k) y.grows);
+  runs = λ env e root v s l.
+      let ec = y.grows.within env e in
+      let z = x.runs env (raised-has k env ec) root null (meaning root r ∷ s) (omega (arith, up, l)) in
+      (z.0, y.runs env e root v s l ∙ raised-run k env ec root (meaning root r) s (omega (arith, up, l)) ∙ z.1);
+  reads = λ env e t.
+      let ec = y.grows.within env e in
+      y.reads env e t ∙ raised-read k env (r ∷ t) ∙ x.reads env (raised-has k env ec) (r ∷ t);
+}
+
+length-meanings_of : (root : Data) (rs : List Rule) → length (meanings root (rules_of rs)) ≡ length rs
+length-meanings_of root rs = length-meanings root (rules_of rs) ∙ count_of-rules_of rs
+
+pub all-last : (f : List Rule → Rule) (n : ℕ) (rs t : List Rule) → n ≡ length rs → with_last f n (onto rs t) ≡ f rs ∷ t
+all-last f n rs t e = ap (λ (p : List Rule × List Rule). f p.0 ∷ p.1) (ap (λ i. off i (onto rs t) []) e ∙ off-onto rs t ∙ ap (λ xs. (xs, t)) (append-nil rs))
+
+pub added-join : {h n : ℕ} {rs : List Rule} {a b d : Code} → Pushed (Join n) a b → Keeps h rs b d → n ≡ length rs → Adds h (tree.apply Cat (rules_of rs)) a d
+added-join {n = n} {rs = rs} {a = a} p k same = record {
+  grows = grows-trans (pushed-grows p) k.grows;
+  runs = λ env e root v s l.
+      let z = k.runs env e root v s l in
+      z.1 ∙ pushed-run p env root z.0 (onto (meanings root (rules_of rs)) s)
+      ∙ ap (option_and_then (λ t. run env root (in_order a) t.0 t.1 t.2)) (of_all concatenation n (meanings root (rules_of rs)) s (same ∙ sym (length-meanings_of root rs)));
+  reads = λ env e t. k.reads env e t ∙ pushed-read p env (onto rs t) ∙ ap (read env (in_order a)) (all-last (λ qs. tree.apply Cat (rules_of qs)) n rs t same);
+}
+
+pub added-collect : {h n : ℕ} {rs : List Rule} {a b d : Code} → Pushed (Collect n) a b → Keeps h rs b d → n ≡ length rs → Adds h (tree.list (rules_of rs)) a d
+added-collect {n = n} {rs = rs} {a = a} p k same = record {
+  grows = grows-trans (pushed-grows p) k.grows;
+  runs = λ env e root v s l.
+      let z = k.runs env e root v s l in
+      z.1 ∙ pushed-run p env root z.0 (onto (meanings root (rules_of rs)) s)
+      ∙ ap (option_and_then (λ t. run env root (in_order a) t.0 t.1 t.2)) (of_all list_of n (meanings root (rules_of rs)) s (same ∙ sym (length-meanings_of root rs)));
+  reads = λ env e t. k.reads env e t ∙ pushed-read p env (onto rs t) ∙ ap (read env (in_order a)) (all-last (λ qs. tree.list (rules_of qs)) n rs t same);
+}

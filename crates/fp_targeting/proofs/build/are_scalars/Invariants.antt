@@ -1,8 +1,0 @@
-use Rattle.std.proofs.Common.{◌≡◌, drop}
-use Rattle.fp_base.specs.TreeView.{tree_items}
-use Rattle.fp_targeting.specs.Constant.{all_scalar}
-use Rattle.fp_targeting.proofs.build.are_scalars.Given as goal
-
--- the items that are left decide as all do
-abbrev pub invariant-loop-item : goal.invariant-loop-item
-invariant-loop-item l = all_scalar (tree_items (drop l.item-index l.item-items)) ≡ all_scalar (tree_items l.item-items)

@@ -1,0 +1,16 @@
+use Rattle.std.proofs.Common.{Ok, is_some, sym, ap, ◌∙◌}
+use Rattle.fp_base.specs.TreeView.{tree_view}
+use Rattle.fp_targeting.proofs.Verdicts.{verdict-rule, refused-none}
+use Rattle.fp_targeting.proofs.rule.Rule.from_tree.Goals as goal
+
+pub invariant_of-result : goal.invariant_of-result
+invariant_of-result c = (c.in_ok-code.ensures.some c.in-Some.code c.in-Some.is).made.1
+
+pub returns-in-Some : goal.returns-in-Some
+returns-in-Some c =
+    let d = tree_view c.args.tree.now in
+    let x = c.in_ok-code.ensures.some c.in-Some.code c.in-Some.is in
+    verdict-rule d x.rule c.requires.flat (sym (ap is_some c.values_left.ensures) ∙ c.if-is_none.ensures) c.requires.whole x.known x.is_rule ∙ ap Ok x.made.0
+
+pub returns-in-None : goal.returns-in-None
+returns-in-None c = refused-none (tree_view c.args.tree.now) c.refusal-in-None.result c.requires.flat (c.in_ok-code.ensures.none c.in-None.is) c.refusal-in-None.ensures

@@ -1,0 +1,103 @@
+-- What is added to code, and what it then does.
+use Rattle.std.specs.Prelude.{◌≡◌, ◌≤◌, ℕ, List, [], ◌∷◌, ◌++◌, length, map, Some, true}
+use Rattle.std.specs.Prelude.{option_and_then}
+use Rattle.fp_operators.specs.Data.{Data, null}
+use Rattle.fp_operators.specs.Path.{named_by, at_text, follow}
+use Rattle.fp_operators.specs.View.{view}
+use Rattle.fp_targeting.specs.Machine.{Env, Turn, look, run, found_at, parts_at}
+use Rattle.fp_targeting.specs.Meaning.{meaning, meanings, value_of_operator}
+use Rattle.fp_targeting.specs.Operators.{well_formed}
+use Rattle.fp_targeting.specs.Reading.{joined, operand_rule, read, in_order, env_of, rule_of_code}
+use Rattle.fp_targeting.specs.Rule.{Rule}
+use Rattle.fp_targeting.specs.Stack.{onto}
+use Rattle.fp_targeting.specs.View.{rules_of}
+use Rattle.fp_targeting.specs.declared.operator.Operator.{Operator}
+use Rattle.fp_targeting.specs.declared.code.Code.{Code}
+use Rattle.fp_targeting.specs.declared.code.Operand.{Operand}
+use Rattle.fp_targeting.specs.declared.code.Step.{Step}
+use Rattle.fp_targeting.specs.declared.code.Step.TheVariants.{Keep}
+
+-- the code, or what it becomes, has this pool and this room
+pub record Has (env : Env) (code : Code) : Type 0 where
+  pub more : List Data
+  pub pool : env.pool ≡ map view code.pool.items ++ more
+  pub room : code.room ≤ env.room
+
+pub record Grows (old new : Code) : Type 0 where
+  pub more : List Step
+  pub steps : new.steps.items ≡ old.steps.items ++ more
+  pub within : (env : Env) → Has env new → Has env old
+
+-- one instruction was added, to be done first
+pub record Pushed (step : Step) (old new : Code) : Type 0 where
+  pub steps : new.steps.items ≡ old.steps.items ++ step ∷ []
+  pub pool : new.pool ≡ old.pool
+  pub room : new.room ≡ old.room
+
+-- what is at hand is to be kept first, as so manieth
+pub record Raised (height : ℕ) (old new : Code) : Type 0 where
+  pub steps : new.steps.items ≡ old.steps.items ++ Keep ∷ []
+  pub pool : new.pool ≡ old.pool
+  pub room : old.room ≤ new.room
+  pub high : height ≤ new.room
+
+-- the operand stands for a rule that no instruction is needed for
+pub record IsOperand (o : Operand) (r : Rule) (old new : Code) : Type 0 where
+  pub grows : Grows old new
+  pub steps : new.steps ≡ old.steps
+  pub looks : (env : Env) → Has env new → (root v : Data) → look env root v o ≡ meaning root r
+  pub reads : (env : Env) → Has env new → (t : List Rule) → operand_rule env o t ≡ (r, t)
+
+-- a path's parts were put into the pool
+pub record IsPath (first parts : ℕ) (path : List ℕ) (old new : Code) : Type 0 where
+  pub grows : Grows old new
+  pub steps : new.steps ≡ old.steps
+  pub named : (env : Env) → Has env new → (root : Data)
+      → follow (parts_at env first parts) root ≡ at_text path root
+  pub joined : (env : Env) → Has env new → joined (parts_at env first parts) ≡ path
+
+-- code of a rule was added, to be done first: behind it the rule's result is at hand. So many
+-- results are kept when it begins.
+pub record Adds (height : ℕ) (r : Rule) (old new : Code) : Type 0 where
+  pub grows : Grows old new
+  pub runs : (env : Env) → Has env new → (root v : Data) (s : List Data) → length s ≡ height
+      → run env root (in_order new) 0 v s ≡ run env root (in_order old) 0 (meaning root r) s
+  pub reads : (env : Env) → Has env new → (t : List Rule)
+      → read env (in_order new) t ≡ read env (in_order old) (r ∷ t)
+
+-- code of rules was added: behind it their results are kept
+pub record Keeps (height : ℕ) (rs : List Rule) (old new : Code) : Type 0 where
+  pub grows : Grows old new
+  pub runs : (env : Env) → Has env new → (root v : Data) (s : List Data) → length s ≡ height
+      → (w : Data) × (run env root (in_order new) 0 v s
+      ≡ run env root (in_order old) 0 w (onto (meanings root (rules_of rs)) s))
+  pub reads : (env : Env) → Has env new → (t : List Rule)
+      → read env (in_order new) t ≡ read env (in_order old) (onto rs t)
+
+-- code of an operator's arguments was added: behind it the operator's result is at hand
+pub record Decides (o : Operator) (height : ℕ) (rs : List Rule) (old new : Code) : Type 0 where
+  pub grows : Grows old new
+  pub runs : (env : Env) → Has env new → (root v : Data) (s : List Data) → length s ≡ height
+      → run env root (in_order new) 0 v s
+      ≡ run env root (in_order old) 0 (value_of_operator o root (meanings root (rules_of rs))) s
+  pub reads : (env : Env) → Has env new → (t : List Rule)
+      → read env (in_order new) t ≡ read env (in_order old) (onto rs t)
+
+-- code of a path was added: behind it, what the path names is at hand and so many instructions
+-- are skipped, or null is at hand
+pub record Finds (skip height : ℕ) (p : Rule) (old new : Code) : Type 0 where
+  pub grows : Grows old new
+  pub runs : (env : Env) → Has env new → (root v : Data) (s : List Data) → length s ≡ height
+      → run env root (in_order new) 0 v s
+      ≡ option_and_then (λ (t : Turn). run env root (in_order old) t.0 t.1 t.2)
+      (found_at skip s (named_by (meaning root p) root))
+  pub reads : (env : Env) → Has env new → (t : List Rule)
+      → read env (in_order new) t ≡ read env (in_order old) (p ∷ t)
+
+-- the code is of one rule, with arguments that its operators take, and gives what the rule means:
+-- no operand is missing, no instruction outside of it is skipped to, and the stack has room
+pub record IsSound (code : Code) : Type 0 where
+  pub formed : well_formed (rule_of_code code) ≡ true
+  pub gives : (root : Data)
+      → run (env_of code) root (in_order code) 0 null []
+      ≡ Some (meaning root (rule_of_code code))

@@ -1,0 +1,108 @@
+-- What instructions do. One result is at hand, and others are kept on a stack.
+use Rattle.std.specs.Prelude.{ℕ, zero, suc, List, [], ◌∷◌, length, map, take, drop, get_or}
+use Rattle.std.specs.Prelude.{Option, Some, None, option_and_then, nat_le, nat_lt, if◌then◌else◌}
+use Rattle.fp_operators.specs.Data.{Data, null, boolean, whole, text, list, object}
+use Rattle.fp_operators.specs.Data as values
+use Rattle.fp_operators.specs.Path.{follow, found_or, named_by}
+use Rattle.fp_operators.specs.Text.{concatenation}
+use Rattle.fp_operators.specs.Truth.{truth}
+use Rattle.fp_operators.specs.View.{items_of}
+use Rattle.fp_targeting.specs.Meaning.{or_null}
+use Rattle.fp_targeting.specs.Operators.{result_of_few}
+use Rattle.fp_targeting.specs.Rule.{Rules}
+use Rattle.fp_targeting.specs.Split.{chosen, text_in, own_key}
+use Rattle.fp_targeting.specs.Stack.{off}
+use Rattle.fp_targeting.specs.declared.operator.Operator.{Operator}
+use Rattle.fp_targeting.specs.declared.code.Operand.{Operand}
+use Rattle.fp_targeting.specs.declared.code.Operand.TheVariants.{Constant, Variable, All, AtHand}
+use Rattle.fp_targeting.specs.declared.code.Step.{Step}
+use Rattle.fp_targeting.specs.declared.code.Step.TheVariants.{Load, LoadNull, Keep, Skip}
+use Rattle.fp_targeting.specs.declared.code.Step.TheVariants.{SkipIfFalse, SkipIfTrue, Find}
+use Rattle.fp_targeting.specs.declared.code.Step.TheVariants.{FindVariable, One, Two, Three}
+use Rattle.fp_targeting.specs.declared.code.Step.TheVariants.{Second, Third, Join, Collect, Split}
+use Rattle.fp_targeting.specs.declared.code.Step.TheVariants.{SplitByOwnKey, End}
+
+-- what instructions name, and how many results may be kept at once
+pub record Env : Type 0 where
+  pub pool : List Data
+  pub room : ℕ
+
+abbrev pub text_bytes : Data → List ℕ
+text_bytes null = []
+text_bytes (boolean b) = []
+text_bytes (whole z) = []
+text_bytes (text s) = s
+text_bytes (list ds) = []
+text_bytes (object ms) = []
+
+abbrev pub parts_at : Env → ℕ → ℕ → List (List ℕ)
+parts_at env first count = map text_bytes (take count (drop first env.pool))
+
+abbrev pub look : Env → Data → Data → Operand → Data
+look env root v (Constant n) = get_or env.pool n null
+look env root v (Variable first parts) = found_or null (follow (parts_at env first parts) root)
+look env root v All = root
+look env root v AtHand = v
+
+abbrev pub few : Operator → List Data → Data
+few o ds = or_null (result_of_few o ds)
+
+-- how many instructions are skipped next, what is at hand, and what is kept
+abbrev pub Turn : Type 0
+Turn = ℕ × Data × List Data
+
+abbrev pub found_at : ℕ → List Data → Option Data → Option Turn
+found_at n s None = Some (0, null, s)
+found_at n s (Some d) = Some (n, d, s)
+
+abbrev pub second : Operator → Data → List Data → Option Turn
+second o c [] = None
+second o c (b ∷ s) = Some (0, few o (b ∷ c ∷ []), s)
+
+abbrev pub third : Operator → Data → List Data → Option Turn
+third o c [] = None
+third o c (b ∷ []) = None
+third o c (b ∷ a ∷ s) = Some (0, few o (a ∷ b ∷ c ∷ []), s)
+
+abbrev pub of_kept : (List Data → Data) → ℕ → List Data → Option Turn
+of_kept f n s =
+    if nat_le n (length s) then Some (0, f (off n s []).0, (off n s []).1) else None
+
+abbrev pub list_of : List Data → Data
+list_of ds = values.list (items_of ds)
+
+abbrev pub share_of_key : Rules → Option (List ℕ) → Data
+share_of_key pairs key = found_or null (option_and_then (chosen pairs) key)
+
+-- what one instruction does; none where an operand is missing, or the stack is full
+abbrev pub act : Env → Data → Step → Data → List Data → Option Turn
+act env root (Load o) v s = Some (0, look env root v o, s)
+act env root LoadNull v s = Some (0, null, s)
+act env root Keep v s = if nat_lt (length s) env.room then Some (0, null, v ∷ s) else None
+act env root (Skip n) v s = Some (n, v, s)
+act env root (SkipIfFalse n) v s = Some (if truth v then 0 else n, v, s)
+act env root (SkipIfTrue n) v s = Some (if truth v then n else 0, v, s)
+act env root (Find n) v s = found_at n s (named_by v root)
+act env root (FindVariable first parts n) v s =
+    found_at n s (follow (parts_at env first parts) root)
+act env root (One o a) v s = Some (0, few o (look env root v a ∷ []), s)
+act env root (Two o a b) v s =
+    Some (0, few o (look env root v a ∷ look env root v b ∷ []), s)
+act env root (Three o a b c) v s =
+    Some (0, few o (look env root v a ∷ look env root v b ∷ look env root v c ∷ []), s)
+act env root (Second o) v s = second o v s
+act env root (Third o) v s = third o v s
+act env root (Join n) v s = of_kept concatenation n s
+act env root (Collect n) v s = of_kept list_of n s
+act env root (Split pairs a) v s =
+    Some (0, share_of_key pairs (text_in (look env root v a)), s)
+act env root (SplitByOwnKey pairs) v s = Some (0, share_of_key pairs (own_key root), s)
+act env root (End o n) v s = Some (0, v, s)
+
+-- what instructions give, where so many are skipped first; none where that is more than there are
+abbrev pub run : Env → Data → List Step → ℕ → Data → List Data → Option Data
+run env root [] zero v s = Some v
+run env root [] (suc n) v s = None
+run env root (c ∷ cs) (suc n) v s = run env root cs n v s
+run env root (c ∷ cs) zero v s =
+    option_and_then (λ t. run env root cs t.0 t.1 t.2) (act env root c v s)

@@ -1,0 +1,397 @@
+//! What code gives for data.
+
+ghost use Rattle.std.specs.Prelude.{◌≡◌, ◌≤◌, Some, List, map, drop, take, IfOk, OnOk, IfSome};
+ghost use Rattle.std.specs.Prelude.{IsSome};
+ghost use Rattle.std.specs.Prelude.{IfNone, option_map, vec_capacity, length, if◌then◌else◌};
+ghost use Rattle.fp_operators.specs.Data as values;
+ghost use Rattle.fp_operators.specs.Data.{null as null_data};
+ghost use Rattle.fp_operators.specs.Path.{follow as follow_of, found_or};
+ghost use Rattle.fp_operators.specs.Text.{concatenation};
+ghost use Rattle.fp_operators.specs.View.{view};
+ghost use Rattle.fp_targeting.specs.Emits.{IsSound};
+ghost use Rattle.fp_targeting.specs.Found.{found_view, stack_view};
+ghost use Rattle.fp_targeting.specs.Machine.{act, look, parts_at, of_kept, text_bytes, found_at};
+ghost use Rattle.fp_targeting.specs.Machine.{second, third, list_of};
+ghost use Rattle.fp_targeting.specs.Meaning.{meaning};
+ghost use Rattle.fp_targeting.specs.Reading.{env_of, rule_of_code};
+ghost use Rattle.fp_targeting.specs.declared.code.Operand.TheVariants.{AtHand};
+
+use crate::code::{Code, Operand, Step};
+use crate::few::{of_one, of_three, of_two};
+use crate::operator::Operator;
+use fp_operators::{Datum, append_text, is_falsy, is_truthy, named, step};
+use std::alloc::{AllocError, Global};
+use std::mem::replace;
+
+/// A result: lent where it stands in the rule or in the data, else made for it.
+#[derive(Drop)]
+pub enum Found<'d> {
+    Lent(&'d Datum),
+    Made(Datum),
+}
+
+impl<'d> Found<'d> {
+    fn datum(&self) -> &Datum
+        ensures { view result.now ≡ found_view self.now }
+    {
+        match self {
+            Found::Lent(datum) => datum,
+            Found::Made(datum) => datum,
+        }
+    }
+
+    /// The result itself, copied where it is only lent.
+    fn into_datum(self, alloc: Global) -> Result<Datum, AllocError>
+        ensures { IfOk result (λ d. view d ≡ found_view self.entry) }
+    {
+        match self {
+            Found::Lent(datum) => datum.try_copy(alloc),
+            Found::Made(datum) => Ok(datum),
+        }
+    }
+}
+
+fn text(datum: &Datum) -> &str
+    ensures { result.now ≡ text_bytes (view datum.now) }
+{
+    match datum {
+        Datum::Text(text) => text.as_str(),
+        _ => "",
+    }
+}
+
+// What the parts of a path, one after the other, lead to.
+fn follow<'d>(root: &'d Datum, parts: &[Datum]) -> Option<&'d Datum>
+    ensures { option_map (λ d. view d.now) result
+        ≡ follow_of (map text_bytes (map view parts.now)) (view root.now) }
+{
+    let mut target = root;
+    for part in parts {
+        target = step(target, text(part))?;
+    }
+    Some(target)
+}
+
+// So many data, from the first on.
+fn row(pool: &[Datum], first: u16, count: u16) -> &[Datum]
+    ensures { result.now ≡ take count (drop first pool.now) }
+{
+    let from = (first as usize).min(pool.len());
+    let behind = &pool[from..];
+    &behind[..(count as usize).min(behind.len())]
+}
+
+impl Code {
+    // What a path names, of which so many parts stand in the pool from the first on.
+    fn variable<'d>(&self, root: &'d Datum, first: u16, parts: u16) -> Option<&'d Datum>
+        ensures { option_map (λ d. view d.now) result
+            ≡ follow_of (parts_at (env_of self.now) first parts) (view root.now) }
+    {
+        follow(root, row(self.pool.as_slice(), first, parts))
+    }
+
+    // What an operand is that isn't at hand.
+    fn lent<'d>(&'d self, operand: &Operand, root: &'d Datum, null: &'d Datum) -> Option<&'d Datum>
+        requires { view null.now ≡ null_data }
+        ensures some { IfSome result (λ d. (v : values.Data)
+            → look (env_of self.now) (view root.now) v operand.now ≡ view d.now) }
+        ensures none { IfNone result (operand.now ≡ AtHand) }
+    {
+        match operand {
+            Operand::Constant(place) => Some(or_null(self.pool.get(*place as usize), null)),
+            Operand::Variable { first, parts } => {
+                Some(or_null(self.variable(root, *first, *parts), null))
+            }
+            Operand::All => Some(root),
+            Operand::AtHand => None,
+        }
+    }
+
+    fn look<'a>(
+        &'a self,
+        operand: &Operand,
+        at_hand: &'a Found<'_>,
+        root: &'a Datum,
+        null: &'a Datum,
+    ) -> &'a Datum
+        requires { view null.now ≡ null_data }
+        ensures { view result.now
+            ≡ look (env_of self.now) (view root.now) (found_view at_hand.now) operand.now }
+    {
+        match self.lent(operand, root, null) {
+            Some(datum) => datum,
+            None => at_hand.datum(),
+        }
+    }
+
+    // The operand is at hand next.
+    fn load<'d>(
+        &'d self,
+        operand: &Operand,
+        root: &'d Datum,
+        null: &'d Datum,
+        at_hand: &mut Found<'d>,
+    )
+        requires { view null.now ≡ null_data }
+        ensures { found_view at_hand.new
+            ≡ look (env_of self.now) (view root.now) (found_view at_hand.old) operand.now }
+    {
+        if let Some(datum) = self.lent(operand, root, null) {
+            *at_hand = Found::Lent(datum);
+        }
+    }
+
+    // Does one instruction, and answers how many are skipped next.
+    fn act<'d>(
+        &'d self,
+        alloc: Global,
+        step: &'d Step,
+        root: &'d Datum,
+        null: &'d Datum,
+        at_hand: &mut Found<'d>,
+        kept: &mut Vec<Found<'d>>,
+    ) -> Result<u32, AllocError>
+        requires null { view null.now ≡ null_data }
+        requires room { self.now.room ≤ vec_capacity kept.old }
+        requires can { IsSome (act (env_of self.now) (view root.now) step.now
+            (found_view at_hand.old) (stack_view kept.old.items)) }
+        ensures does { IfOk result (λ n.
+            act (env_of self.now) (view root.now) step.now
+            (found_view at_hand.old) (stack_view kept.old.items)
+            ≡ Some (n, found_view at_hand.new, stack_view kept.new.items)) }
+        ensures room { vec_capacity kept.new ≡ vec_capacity kept.old }
+    {
+        match step {
+            Step::Load(operand) => {
+                self.load(operand, root, null, at_hand);
+                Ok(0)
+            }
+            Step::LoadNull => {
+                *at_hand = Found::Lent(null);
+                Ok(0)
+            }
+            Step::Keep => {
+                kept.push_reserved(replace(at_hand, Found::Lent(null)));
+                Ok(0)
+            }
+            Step::Skip(count) => Ok(*count),
+            Step::SkipIfFalse(count) => Ok(count_if(is_falsy(at_hand.datum()), *count)),
+            Step::SkipIfTrue(count) => Ok(count_if(is_truthy(at_hand.datum()), *count)),
+            Step::Find(count) => {
+                let found = named(alloc, root, at_hand.datum())?;
+                Ok(find(found, *count, null, at_hand))
+            }
+            Step::FindVariable { first, parts, skip } => {
+                Ok(find(self.variable(root, *first, *parts), *skip, null, at_hand))
+            }
+            Step::One(operator, a) => {
+                let made = of_one(*operator, self.look(a, at_hand, root, null));
+                *at_hand = Found::Made(made);
+                Ok(0)
+            }
+            Step::Two(operator, a, b) => {
+                let b = self.look(b, at_hand, root, null);
+                let made = of_two(*operator, self.look(a, at_hand, root, null), b);
+                *at_hand = Found::Made(made);
+                Ok(0)
+            }
+            Step::Three(operator, a, b, c) => {
+                let c = self.look(c, at_hand, root, null);
+                let b = self.look(b, at_hand, root, null);
+                let a = self.look(a, at_hand, root, null);
+                let made = of_three(alloc, *operator, a, b, c)?;
+                *at_hand = Found::Made(made);
+                Ok(0)
+            }
+            Step::Second(operator) => {
+                second(*operator, at_hand, kept);
+                Ok(0)
+            }
+            Step::Third(operator) => {
+                third(alloc, *operator, at_hand, kept)?;
+                Ok(0)
+            }
+            Step::Join(count) => {
+                *at_hand = Found::Made(join(alloc, kept, *count)?);
+                Ok(0)
+            }
+            Step::Collect(count) => {
+                *at_hand = Found::Made(collect(alloc, kept, *count)?);
+                Ok(0)
+            }
+            Step::Split(table, operand) => {
+                let key = self.look(operand, at_hand, root, null);
+                *at_hand = Found::Lent(or_null(table.chosen_by(key), null));
+                Ok(0)
+            }
+            Step::SplitByOwnKey(table) => {
+                *at_hand = Found::Lent(or_null(table.chosen_by_own_key(root), null));
+                Ok(0)
+            }
+            Step::End(_, _) => Ok(0),
+        }
+    }
+
+    /// What the rule of this code gives for the data.
+    pub fn run(&self, alloc: Global, root: &Datum) -> Result<Datum, AllocError>
+        requires { IsSound self.now }
+        ensures { IfOk result (λ x. view x ≡ meaning (view root.now) (rule_of_code self.now)) }
+    {
+        let null = Datum::Null;
+        self.do_all(alloc, root, &null)
+    }
+
+    // Does all instructions, from the last one that was added on. The stack has its room before.
+    fn do_all<'d>(
+        &'d self,
+        alloc: Global,
+        root: &'d Datum,
+        null: &'d Datum,
+    ) -> Result<Datum, AllocError>
+        requires null { view null.now ≡ null_data }
+        requires sound { IsSound self.now }
+        ensures { IfOk result (λ x. view x ≡ meaning (view root.now) (rule_of_code self.now)) }
+    {
+        let mut kept = Vec::with_capacity(alloc, self.room)?;
+        let mut at_hand = Found::Lent(null);
+        let mut left = self.steps.len();
+        'steps: while left > 0 {
+            left -= 1;
+            let step = &self.steps[left];
+            let skipped = self.act(alloc, step, root, null, &mut at_hand, &mut kept)?;
+            left -= skipped as usize;
+        }
+        at_hand.into_datum(alloc)
+    }
+}
+
+fn or_null<'d>(datum: Option<&'d Datum>, null: &'d Datum) -> &'d Datum
+    requires { view null.now ≡ null_data }
+    ensures { view result.now
+        ≡ found_or null_data (option_map (λ d. view d.now) datum.entry) }
+{
+    match datum {
+        Some(datum) => datum,
+        None => null,
+    }
+}
+
+fn count_if(holds: bool, count: u32) -> u32
+    ensures { result ≡ (if holds then count else 0) }
+{
+    if holds { count } else { 0 }
+}
+
+// What was found is at hand next, else null: how many instructions are skipped.
+fn find<'d>(found: Option<&'d Datum>, count: u32, null: &'d Datum, at_hand: &mut Found<'d>) -> u32
+    requires { view null.now ≡ null_data }
+    ensures { (s : List values.Data) → found_at count s (option_map (λ d. view d.now) found.entry)
+        ≡ Some (result, found_view at_hand.new, s) }
+{
+    match found {
+        Some(datum) => {
+            *at_hand = Found::Lent(datum);
+            count
+        }
+        None => {
+            *at_hand = Found::Lent(null);
+            0
+        }
+    }
+}
+
+// An operator's result for the last kept result and the one at hand.
+fn second(operator: Operator, at_hand: &mut Found<'_>, kept: &mut Vec<Found<'_>>)
+    requires { IsSome (second operator (found_view at_hand.old) (stack_view kept.old.items)) }
+    ensures does { second operator (found_view at_hand.old) (stack_view kept.old.items)
+        ≡ Some (0, found_view at_hand.new, stack_view kept.new.items) }
+    ensures room { vec_capacity kept.new ≡ vec_capacity kept.old }
+{
+    if let Some(first) = kept.pop() {
+        let made = of_two(operator, first.datum(), at_hand.datum());
+        *at_hand = Found::Made(made);
+    }
+}
+
+// An operator's result for the last two kept results and the one at hand.
+fn third(
+    alloc: Global,
+    operator: Operator,
+    at_hand: &mut Found<'_>,
+    kept: &mut Vec<Found<'_>>,
+) -> Result<(), AllocError>
+    requires { IsSome (third operator (found_view at_hand.old) (stack_view kept.old.items)) }
+    ensures does { OnOk result (third operator (found_view at_hand.old) (stack_view kept.old.items)
+        ≡ Some (0, found_view at_hand.new, stack_view kept.new.items)) }
+    ensures room { vec_capacity kept.new ≡ vec_capacity kept.old }
+{
+    if let Some(second) = kept.pop() {
+        if let Some(first) = kept.pop() {
+            let made = of_three(
+                alloc,
+                operator,
+                first.datum(),
+                second.datum(),
+                at_hand.datum(),
+            )?;
+            *at_hand = Found::Made(made);
+        }
+    }
+    Ok(())
+}
+
+// The texts of the last kept results, so many, joined: they are kept no longer.
+fn join(alloc: Global, kept: &mut Vec<Found<'_>>, count: u32) -> Result<Datum, AllocError>
+    requires { count ≤ length kept.old.items }
+    ensures does { IfOk result (λ d. of_kept concatenation count (stack_view kept.old.items)
+        ≡ Some (0, view d, stack_view kept.new.items)) }
+    ensures room { vec_capacity kept.new ≡ vec_capacity kept.old }
+{
+    let from = kept.len() - count as usize;
+    let joined = joined(alloc, behind(kept, from))?;
+    kept.truncate(from);
+    Ok(joined)
+}
+
+fn behind<'k, 'd>(kept: &'k Vec<Found<'d>>, from: usize) -> &'k [Found<'d>]
+    requires { from ≤ length kept.now.items }
+    ensures { result.now ≡ drop from kept.now.items }
+{
+    &kept[from..]
+}
+
+fn joined(alloc: Global, parts: &[Found<'_>]) -> Result<Datum, AllocError>
+    ensures { IfOk result (λ d. view d ≡ concatenation (map found_view parts.now)) }
+{
+    let mut text = String::new(alloc);
+    for part in parts {
+        if !append_text(&mut text, part.datum())? {
+            return Ok(Datum::Null);
+        }
+    }
+    Ok(Datum::Text(text))
+}
+
+// A list of the last kept results, so many: they are kept no longer.
+fn collect(alloc: Global, kept: &mut Vec<Found<'_>>, count: u32) -> Result<Datum, AllocError>
+    requires { count ≤ length kept.old.items }
+    ensures does { IfOk result (λ d.
+        of_kept list_of count (stack_view kept.old.items)
+        ≡ Some (0, view d, stack_view kept.new.items)) }
+    ensures room { vec_capacity kept.new ≡ vec_capacity kept.old }
+{
+    let from = kept.len() - count as usize;
+    let list = collected(alloc, behind(kept, from))?;
+    kept.truncate(from);
+    Ok(list)
+}
+
+fn collected(alloc: Global, items: &[Found<'_>]) -> Result<Datum, AllocError>
+    ensures { IfOk result (λ d. view d ≡ list_of (map found_view items.now)) }
+{
+    let mut list = Vec::with_capacity(alloc, items.len())?;
+    for item in items {
+        list.push(item.datum().try_copy(alloc)?)?;
+    }
+    Ok(Datum::List(list))
+}
