@@ -88,7 +88,7 @@ up_to (Some Greater) = refl
 pub at_most_either : (a b : Data) → is_some (order a b) ≡ true → is_at_most a b ≡ (is_below a b || loose_equality a b)
 at_most_either a b h = up_to (order a b) ∙ ap (λ e. is_below a b || e) (order_equal a b h)
 
-less_is : (o : Ordering) → is_lt o ≡ true → o ≡ Less
+pub less_is : (o : Ordering) → is_lt o ≡ true → o ≡ Less
 less_is Less h = refl
 less_is Equal h = cc h
 less_is Greater h = cc h

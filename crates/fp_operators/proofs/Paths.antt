@@ -1,9 +1,12 @@
 -- Paths, a part at a time, and what a part names.
-use Rattle.std.proofs.Common.{◌≡◌, ◌≢◌, ℕ, zero, suc, ◌<◌, ◌≤◌, List, [], ◌∷◌, ◌++◌, length, get_or, String, Global, Option, Some, None, option_map, option_and_then, is_eq, cond, Bor, refl, ap, arith, ne_eqb, ◌==◌, Bool, ◌∙◌, true, false, if◌then◌else◌}
+use Rattle.std.proofs.Common.{◌≡◌, ◌≢◌, ℕ, zero, suc, ◌<◌, ◌≤◌, List, [], ◌∷◌, ◌++◌, length, get_or, String, Global, Option, Some, None, option_map, option_and_then, is_eq, Ordering, Less, Equal, Greater, cond, Bor, refl, sym, ap, arith, ne_eqb, ◌==◌, Bool, ◌∙◌, true, false, if◌then◌else◌}
 use Rattle.std.specs.Ordering.{nat_cmp}
 use Rattle.std.specs.Cmp.Lexicographic.{slice_cmp}
 use Rattle.std.specs.Slice.{IsItemAt}
-use Rattle.std.specs.Map.{lookup}
+use Rattle.std.specs.Map.{lookup, keys_of}
+use Rattle.std.specs.List.Sorted.{IsStrictlySortedBy}
+use Rattle.std.specs.String.{string_cmp}
+use Rattle.std.proofs.lemmas.Cmp.{nat_list_cmp_total}
 use Rattle.std.specs.List.{All}
 use Rattle.std.proofs.lemmas.List.Splits.{slice_split_at, slice_split_none}
 use Rattle.std.proofs.lemmas.List.Elements.{All-from_get_or}
@@ -58,6 +61,20 @@ view-lookup name [] = refl
 view-lookup name (e ∷ es) =
     found_at (is_eq (slice_cmp nat_cmp name (string_bytes e.0))) e.1 (lookup (is_at (λ k. slice_cmp nat_cmp name (string_bytes k))) es) (member_at name (members_view es)) (view-lookup name es)
     ∙ ap (λ b. if b then Some (view e.1) else member_at name (members_view es)) (is_eq-slice_cmp name (string_bytes e.0))
+
+pub is_eq-not : (o : Ordering) → o ≢ Equal → is_eq o ≡ false
+is_eq-not Less h = refl
+is_eq-not Equal h = absurd (h refl)
+is_eq-not Greater h = refl
+
+-- a name that comes before the first of ascending members is none of theirs
+pub member_at-before : (name : List ℕ) (e : String Global × Datum) (es : List (String Global × Datum)) → IsStrictlySortedBy string_cmp (keys_of (e ∷ es))
+    → slice_cmp nat_cmp name (string_bytes e.0) ≡ Less → member_at name (members_view (e ∷ es)) ≡ None
+unfolding IsStrictlySortedBy
+member_at-before name e [] h before = rw (sym (is_eq-slice_cmp name (string_bytes e.0)), before) refl
+member_at-before name e (next ∷ es) h before =
+    let further : slice_cmp nat_cmp name (string_bytes next.0) ≡ Less = nat_list_cmp_total.trans name (string_bytes e.0) (string_bytes next.0) before h.0.0 in
+    rw (sym (is_eq-slice_cmp name (string_bytes e.0)), before) (member_at-before name next es h.1 further)
 
 pub view_of_ref : (r : Option (Bor Datum)) → option_map (λ x. view x.now) r ≡ option_map view (option_map (λ x. x.now) r)
 view_of_ref None = refl

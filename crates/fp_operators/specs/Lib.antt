@@ -1,6 +1,7 @@
 pub mod Data
 pub mod View
 pub mod FromJson
+pub mod Memory
 pub mod Truth
 pub mod Numeral
 pub mod Equality

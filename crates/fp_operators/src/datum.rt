@@ -1,12 +1,13 @@
 //! The data that rules compute with.
 
-ghost use Rattle.std.specs.Prelude.{◌≡◌, IfOk};
+ghost use Rattle.std.specs.Prelude.{◌≡◌, IfOk, OnErr, true};
 ghost use Rattle.fp_base.specs.Ordered.{IsOrdered, AreOrdered, MembersAreOrdered};
 ghost use Rattle.fp_base.specs.Sorted.{IsSorted};
 ghost use Rattle.fp_base.specs.TreeView.{tree_view, tree_items, tree_members};
 ghost use Rattle.serde_json.specs.View.{view as json_view};
 ghost use Rattle.fp_operators.specs.View.{view, items_view, members_view};
 ghost use Rattle.fp_operators.specs.FromJson.{data_of, items_from, members_from};
+ghost use Rattle.fp_operators.specs.Memory.{takes_memory};
 
 use fp_base::Tree;
 use serde_json::Value;
@@ -57,10 +58,11 @@ impl Datum {
         }
     }
 
-    /// An equal datum.
+    /// An equal datum. Null, a boolean and a number take no memory, so copying them can't fail.
     #[cycle(copy)]
     pub fn try_copy(&self, alloc: Global) -> Result<Datum, AllocError>
-        ensures { IfOk result (λ d. view d ≡ view self.now) }
+        ensures copy { IfOk result (λ d. view d ≡ view self.now) }
+        ensures memory { OnErr result (takes_memory (view self.now) ≡ true) }
     {
         match self {
             Datum::Null => Ok(Datum::Null),

@@ -1,6 +1,8 @@
 //! Paths into data.
 
-ghost use Rattle.std.specs.Prelude.{◌≡◌, IfOk, option_map, map};
+ghost use Rattle.std.specs.Prelude.{◌≡◌, IfOk, option_map, map, bytes_eq, true};
+ghost use Rattle.std.specs.Ordering.{nat_cmp, is_lt};
+ghost use Rattle.std.specs.Cmp.Lexicographic.{slice_cmp};
 ghost use Rattle.fp_operators.specs.View.{view, items_view, members_view};
 ghost use Rattle.fp_operators.specs.Path.{item_at, member_at, step_to, parts, follow};
 ghost use Rattle.fp_operators.specs.Path.{at_text as at_text_of, named_by, variable_of};
@@ -8,7 +10,11 @@ ghost use Rattle.fp_operators.specs.Path.{at_text as at_text_of, named_by, varia
 use crate::datum::Datum;
 use crate::numeral::place;
 use std::alloc::{AllocError, Global};
+use std::cmp::Ordering;
 use std::collections::BTreeMap;
+
+// A node of a map holds fewer members than this.
+const FEW: usize = 16;
 
 /// `var`: what the first argument names in the data, else the second argument, else null. With no
 /// argument, all data. Further arguments are not looked at.
@@ -92,5 +98,48 @@ fn member<'d>(members: &'d BTreeMap<String, Datum>, name: &str) -> Option<&'d Da
     ensures { option_map (λ d. view d.now) result
         ≡ member_at name.now (members_view members.now.entries) }
 {
+    if 2 < members.len() && members.len() < FEW {
+        return member_of_few(members, name);
+    }
     members.get(name)
+}
+
+// A look at one member after the other: `get` orders the name against each, which takes longer
+// where there are three or more.
+fn member_of_few<'d>(members: &'d BTreeMap<String, Datum>, name: &str) -> Option<&'d Datum>
+    ensures { option_map (λ d. view d.now) result
+        ≡ member_at name.now (members_view members.now.entries) }
+{
+    for (key, datum) in members.iter() {
+        if is_past(key.as_bytes(), name.as_bytes()) {
+            return None;
+        }
+        if is_name(key.as_bytes(), name.as_bytes()) {
+            return Some(datum);
+        }
+    }
+    None
+}
+
+// Whether the first byte says that this key and those behind it come after the name.
+fn is_past(key: &[u8], name: &[u8]) -> bool
+    ensures { result ≡ true → is_lt (slice_cmp nat_cmp name.now key.now) ≡ true }
+{
+    match (key, name) {
+        ([a, ..], [b, ..]) => *b < *a,
+        _ => false,
+    }
+}
+
+// Most other names differ in their length or their last byte, so few are compared.
+fn is_name(key: &[u8], name: &[u8]) -> bool
+    ensures { result ≡ bytes_eq name.now key.now }
+{
+    end_alike(key, name) && matches!(name.cmp(&key), Ordering::Equal)
+}
+
+fn end_alike(a: &[u8], b: &[u8]) -> bool
+    ensures { a.now ≡ b.now → result ≡ true }
+{
+    a.len() == b.len() && a.last() == b.last()
 }

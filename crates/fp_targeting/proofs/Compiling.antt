@@ -7,6 +7,7 @@ use Rattle.serde_json.specs.Data.{Items, no_items, item}
 use Rattle.fp_base.specs.TreeView.{tree_items}
 use Rattle.fp_base.specs.declared.tree.Tree.{Tree}
 use Rattle.fp_targeting.specs.Compile.{first_unknown, items_unknown, operator_rule, rules_from, arguments_of}
+use Rattle.fp_targeting.specs.Constant.{all_literal}
 use Rattle.fp_targeting.specs.Compiles.{NoRule, Compiles, CompileAll, Applies}
 use Rattle.fp_targeting.specs.Emits.{Pushed, Adds, Keeps, Decides}
 use Rattle.fp_targeting.specs.Operators.{operator_of, takes, allows, count_of}
@@ -21,6 +22,7 @@ use Rattle.fp_targeting.specs.declared.operator.Operator.{Operator}
 use Rattle.fp_targeting.specs.declared.operator.UnaryOperator.{UnaryOperator}
 use Rattle.fp_targeting.specs.declared.code.Step.TheVariants.{Join, Collect, End}
 use Rattle.fp_targeting.specs.declared.operator.Operator.TheVariants.{If, And, Or, Var, Cat, SemVer, Fractional, Unary, Binary, Chain}
+use Rattle.fp_targeting.proofs.Computed.{literals-written}
 use Rattle.fp_targeting.proofs.Deciding.{added-decided}
 use Rattle.fp_targeting.proofs.Emitting.{added-join, added-collect}
 use Rattle.fp_targeting.proofs.Parts.{all-made-into, rules_from-length, count_of-rules_of}
@@ -107,14 +109,14 @@ pub joined_all : {n : ℕ} {a c : Code} (h : ℕ) (d : Code) (b : Bool) (xs : Li
 joined_all h d b xs p same x = all-made-into (tree_items xs) b x (λ rs e y. added-join p y (same ∙ sym (rules_from-length xs rs e)))
 
 pub collected_all : {n : ℕ} {a c : Code} (h : ℕ) (d : Code) (b : Bool) (xs : List Tree) → Pushed (Collect n) a c → n ≡ length xs
-    → CompileAll b (λ rs. Keeps h rs c d) (tree_items xs) → Compiles b (λ r. Adds h r a d) (json.array (tree_items xs))
-collected_all h d true xs p same x = record {
+    → all_literal (tree_items xs) ≡ false → CompileAll b (λ rs. Keeps h rs c d) (tree_items xs) → Compiles b (λ r. Adds h r a d) (json.array (tree_items xs))
+collected_all h d true xs p same other x = record {
   rule = tree.list (rules_of x.rules);
   is_rule = ap (option_map (λ rs. tree.list (rules_of rs))) x.are_rules;
   known = x.known;
-  made = added-collect p x.made (same ∙ sym (rules_from-length xs x.rules x.are_rules));
+  made = added-collect p x.made (same ∙ sym (rules_from-length xs x.rules x.are_rules)) (literals-written (tree_items xs) x.rules x.are_rules ∙ other);
 }
-collected_all h d false xs p same none = λ u. ap (option_map (λ rs. tree.list (rules_of rs))) (none u)
+collected_all h d false xs p same other none = λ u. ap (option_map (λ rs. tree.list (rules_of rs))) (none u)
 
 -- ---- which operator it is, by the arms of a match
 

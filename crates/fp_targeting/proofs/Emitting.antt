@@ -8,8 +8,10 @@ use Rattle.fp_operators.specs.Text.{concatenation}
 use Rattle.fp_operators.specs.View.{view}
 use Rattle.fp_targeting.specs.Compiles.{IsCompiled}
 use Rattle.fp_targeting.specs.Emits.{Has, Grows, Pushed, Raised, IsOperand, Adds, Keeps}
+use Rattle.fp_targeting.specs.Frugal.{IsFrugal}
 use Rattle.fp_targeting.specs.Machine.{Env, Turn, run, look, list_of}
 use Rattle.fp_targeting.specs.Meaning.{meaning, meanings}
+use Rattle.fp_targeting.specs.Memory.{are_literals}
 use Rattle.fp_targeting.specs.Reading.{reads, read, in_order, with_last}
 use Rattle.fp_targeting.specs.Rule as tree
 use Rattle.fp_targeting.specs.Rule.{Rule, Rules, no_rules, rule}
@@ -20,6 +22,7 @@ use Rattle.fp_targeting.specs.declared.code.Operand.{Operand}
 use Rattle.fp_targeting.specs.declared.code.Step.{Step}
 use Rattle.fp_targeting.specs.declared.code.Step.TheVariants.{Load, Keep, Join, Collect}
 use Rattle.fp_targeting.specs.declared.operator.Operator.TheVariants.{Cat}
+use Rattle.fp_targeting.proofs.Frugal.{pushed-frugal, operand-frugal, not-false, true-false}
 use Rattle.fp_targeting.proofs.Machines.{skip-over, of_all}
 use Rattle.fp_targeting.proofs.OneResult.{length-meanings}
 use Rattle.fp_targeting.proofs.Parts.{count_of-rules_of}
@@ -80,6 +83,7 @@ module _ {o : Operand} {r : Rule} {a b : Code} (x : IsOperand o r a b) where
         ∙ ap (λ w. run env root (in_order a) 0 w s) (x.looks env (pushed-has p env e) root v);
     reads = λ env e t. pushed-read p env t ∙ ap (λ cs. read env cs (reads env (Load o) t)) operand-order
         ∙ ap (λ (y : Rule × List Rule). read env (in_order a) (y.0 ∷ y.1)) (x.reads env (pushed-has p env e) t);
+    frugal = λ none f. pushed-frugal p refl (operand-frugal x f);
   }
 
 -- where nothing was done, what comes next begins there
@@ -93,17 +97,19 @@ operand-there {o = o} {r = r} {d = d} e i = subst (λ z. IsOperand o r z d) e i
 pub record Stays (old new : Code) : Type 0 where
   pub grows : Grows old new
   pub order : in_order new ≡ in_order old
+  pub frugal : IsFrugal old → IsFrugal new
 
 -- whether an operand was made or not
 pub stays : (x : Option Operand) {a b : Code} {d : json.Data} → ((o : Operand) → x ≡ Some o → IsCompiled (λ r. IsOperand o r a b) d) → (x ≡ None → b ≡ a) → Stays a b
-stays None {a = a} some none = subst (Stays a) (sym (none refl)) (record { grows = grows-itself a; order = refl })
-stays (Some o) some none = let i = (some o refl).made in record { grows = i.grows; order = operand-order i }
+stays None {a = a} some none = subst (Stays a) (sym (none refl)) (record { grows = grows-itself a; order = refl; frugal = λ f. f })
+stays (Some o) some none = let i = (some o refl).made in record { grows = i.grows; order = operand-order i; frugal = λ f. operand-frugal i f }
 
 pub adds-later : {h : ℕ} {r : Rule} {a b d : Code} → Stays a b → Adds h r b d → Adds h r a d
 adds-later {r = r} z x = record {
   grows = grows-trans z.grows x.grows;
   runs = λ env e root v s l. x.runs env e root v s l ∙ ap (λ cs. run env root cs 0 (meaning root r) s) z.order;
   reads = λ env e t. x.reads env e t ∙ ap (λ cs. read env cs (r ∷ t)) z.order;
+  frugal = λ none f. x.frugal none (z.frugal f);
 }
 
 -- ---- what is kept
@@ -172,14 +178,17 @@ added-join {n = n} {rs = rs} {a = a} p k same = record {
       z.1 ∙ pushed-run p env root z.0 (onto (meanings root (rules_of rs)) s)
       ∙ ap (option_and_then (λ t. run env root (in_order a) t.0 t.1 t.2)) (of_all concatenation n (meanings root (rules_of rs)) s (same ∙ sym (length-meanings_of root rs)));
   reads = λ env e t. k.reads env e t ∙ pushed-read p env (onto rs t) ∙ ap (read env (in_order a)) (all-last (λ qs. tree.apply Cat (rules_of qs)) n rs t same);
+  frugal = λ none f. absurd (cc);
 }
 
-pub added-collect : {h n : ℕ} {rs : List Rule} {a b d : Code} → Pushed (Collect n) a b → Keeps h rs b d → n ≡ length rs → Adds h (tree.list (rules_of rs)) a d
-added-collect {n = n} {rs = rs} {a = a} p k same = record {
+pub added-collect : {h n : ℕ} {rs : List Rule} {a b d : Code} → Pushed (Collect n) a b → Keeps h rs b d → n ≡ length rs → are_literals (rules_of rs) ≡ false
+    → Adds h (tree.list (rules_of rs)) a d
+added-collect {n = n} {rs = rs} {a = a} p k same other = record {
   grows = grows-trans (pushed-grows p) k.grows;
   runs = λ env e root v s l.
       let z = k.runs env e root v s l in
       z.1 ∙ pushed-run p env root z.0 (onto (meanings root (rules_of rs)) s)
       ∙ ap (option_and_then (λ t. run env root (in_order a) t.0 t.1 t.2)) (of_all list_of n (meanings root (rules_of rs)) s (same ∙ sym (length-meanings_of root rs)));
   reads = λ env e t. k.reads env e t ∙ pushed-read p env (onto rs t) ∙ ap (read env (in_order a)) (all-last (λ qs. tree.list (rules_of qs)) n rs t same);
+  frugal = λ none f. absurd (true-false (not-false (are_literals (rules_of rs)) none) other);
 }

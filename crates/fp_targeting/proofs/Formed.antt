@@ -7,6 +7,8 @@ use Rattle.fp_operators.specs.View.{view}
 use Rattle.fp_targeting.specs.Compile.{one_more, operator_rule, rule_of, rules_from}
 use Rattle.fp_targeting.specs.Compiles.{IsCompiled}
 use Rattle.fp_targeting.specs.Emits.{Has, Adds, IsSound}
+use Rattle.fp_targeting.specs.Frugal.{any_asks, IsFrugal}
+use Rattle.fp_targeting.specs.Memory.{needs_memory}
 use Rattle.fp_targeting.specs.Machine.{Env, run}
 use Rattle.fp_targeting.specs.Meaning.{meaning}
 use Rattle.fp_targeting.specs.Operators.{operator_of, allows, well_formed, all_well_formed}
@@ -86,7 +88,7 @@ mutual
 -- ---- code of a whole rule
 
 -- what was added to code that was none is the rule's, and sound
-module _ {r : Rule} {a b : Code} (none : a.steps.items ≡ []) (x : Adds 0 r a b) where
+module _ {r : Rule} {a b : Code} (none : a.steps.items ≡ []) (room : a.room ≡ 0) (x : Adds 0 r a b) where
   whole-has : Has (env_of b) b
   whole-has = record { more = []; pool = sym (append-nil (map view b.pool.items)); room = omega arith }
 
@@ -98,14 +100,15 @@ module _ {r : Rule} {a b : Code} (none : a.steps.items ≡ []) (x : Adds 0 r a b
     formed = sym (ap well_formed whole-rule) ∙ formed;
     gives = λ root. x.runs (env_of b) whole-has root null [] refl ∙ ap (λ cs. run (env_of b) root (onto cs []) 0 (meaning root r) []) none
         ∙ ap (λ q. Some (meaning root q)) whole-rule;
+    frugal = λ needs. x.frugal (ap needs_memory whole-rule ∙ needs) (record { room = room; steps = ap any_asks none });
   }
 
-pub compiled-whole : (d : json.Data) (a b : Code) → a.steps.items ≡ [] → IsCompiled (λ r. Adds 0 r a b) d → IsCompiled (λ r. (r ≡ rule_of_code b) × IsSound b) d
-compiled-whole d a b none x = record {
+pub compiled-whole : (d : json.Data) (a b : Code) → a.steps.items ≡ [] → a.room ≡ 0 → IsCompiled (λ r. Adds 0 r a b) d → IsCompiled (λ r. (r ≡ rule_of_code b) × IsSound b) d
+compiled-whole d a b none room x = record {
   rule = x.rule;
   is_rule = x.is_rule;
   known = x.known;
-  made = (whole-rule none x.made, whole-sound none x.made (rule_of-formed d x.rule x.is_rule));
+  made = (whole-rule none room x.made, whole-sound none room x.made (rule_of-formed d x.rule x.is_rule));
 }
 
 -- what a rule is known to be, by the parts of its code
@@ -126,4 +129,6 @@ shrunk-whole d a b steps pool room x =
     let env : env_of a ≡ env_of b = ap (λ p. env_at p a.room) (sym pool) ∙ ap (λ n. env_at b.pool.items n) (sym room) in
     let here : Whole r (env_of a) (in_order a) = (x.made.0, x.made.1.formed, x.made.1.gives) in
     let there : Whole r (env_of b) (in_order b) = subst (λ cs. Whole r (env_of b) cs) (ap (λ xs. onto xs []) (sym steps)) (subst (λ e. Whole r e (in_order a)) env here) in
-    record { rule = r; is_rule = x.is_rule; known = x.known; made = (there.0, record { formed = there.1; gives = there.2 }) }
+    let frugal : needs_memory (rule_of_code b) ≡ false → IsFrugal b = λ needs.
+    let f = x.made.1.frugal (ap needs_memory (sym x.made.0 ∙ there.0) ∙ needs) in record { room = room ∙ f.room; steps = ap any_asks steps ∙ f.steps } in
+    record { rule = r; is_rule = x.is_rule; known = x.known; made = (there.0, record { formed = there.1; gives = there.2; frugal = frugal }) }

@@ -1,13 +1,14 @@
 -- What no instruction is needed for: constants, and paths that are known.
-use Rattle.std.proofs.Common.{◌≡◌, ◌≢◌, ℕ, List, [], ◌∷◌, ◌++◌, ◌-◌, length, map, take, drop, get_or, Bor, String, Global, string_bytes, Bool, true, false, not, ◌==◌, codes, Option, Some, None, option_and_then, refl, sym, ap, ◌∙◌, arith, rules, if◌then◌else◌}
+use Rattle.std.proofs.Common.{◌≡◌, ◌≢◌, ℕ, List, [], ◌∷◌, ◌++◌, ◌-◌, length, map, take, drop, get_or, String, Global, string_bytes, Bool, true, false, not, ◌==◌, codes, Option, Some, None, option_and_then, refl, sym, ap, ◌∙◌, arith, if◌then◌else◌}
 use Rattle.std.proofs.Math.Seq.{drop-append_seam, take-append_seam, get_or-append_seam}
 use Rattle.std.proofs.lemmas.List.{append_assoc, append-nil, length-map, length-append, map-append}
 use Rattle.std.proofs.lemmas.List.Splits.{join_with_byte-slice_split}
 use Rattle.std.specs.List.{join_with_byte}
 use Rattle.std.specs.Prelude.{bytes_eq}
 use Rattle.serde_json.specs.Data as json
+use Rattle.serde_json.specs.Find.{as_str}
 use Rattle.fp_base.specs.TreeView.{Entry, tree_view, tree_items, tree_members}
-use Rattle.fp_base.specs.declared.tree.Tree.{Tree, the_lemmas}
+use Rattle.fp_base.specs.declared.tree.Tree.{Tree}
 use Rattle.fp_operators.specs.Data.{Data, null, text}
 use Rattle.fp_operators.specs.FromJson.{data_of}
 use Rattle.fp_operators.specs.Path.{parts, follow, at_text, found_or, named_by}
@@ -29,7 +30,9 @@ use Rattle.fp_targeting.specs.declared.operator.Operator.{Operator}
 use Rattle.fp_targeting.specs.declared.code.Operand.TheVariants.{Constant, Variable}
 use Rattle.fp_targeting.specs.declared.code.Step.TheVariants.{FindVariable}
 use Rattle.fp_targeting.specs.declared.operator.Operator.TheVariants.{Var}
+use Rattle.fp_targeting.proofs.Computed.{written}
 use Rattle.fp_targeting.proofs.Constants.{meaning-constant, items_unknown-literals, rule_of-literal, rule_of-literals}
+use Rattle.fp_targeting.proofs.Frugal.{pushed-frugal, as-frugal}
 use Rattle.fp_targeting.proofs.Emitting.{grows-trans, pushed-has, pushed-grows, pushed-run, pushed-read}
 use Rattle.fp_targeting.proofs.Parts.{last-item}
 
@@ -119,6 +122,7 @@ module _ {d : Data} {a b : Code} {n : ℕ} (x : Pooled (d ∷ []) a b) (at : n �
   operand-constant = record {
     grows = pooled-grows x;
     steps = x.steps;
+    room = x.room;
     looks = λ env h root v. pooled-get env h ∙ sym (meaning-constant root d);
     reads = λ env h t. ap (λ e. (constant e, t)) (pooled-get env h);
   }
@@ -145,6 +149,7 @@ module _ (ps : List (List ℕ)) {p : List ℕ} {a b : Code} {first n : ℕ} (x :
   path-parts = record {
     grows = pooled-grows x;
     steps = x.steps;
+    room = x.room;
     named = λ env h root. ap (λ qs. follow qs root) (pooled-parts env h) ∙ found root;
     joined = λ env h. ap joined (pooled-parts env h) ∙ same;
   }
@@ -154,6 +159,7 @@ pub operand-variable : {first n : ℕ} {p : List ℕ} {a b : Code} → IsPath fi
 operand-variable x = record {
   grows = x.grows;
   steps = x.steps;
+  room = x.room;
   looks = λ env h root v. ap (found_or null) (x.named env h root);
   reads = λ env h t. ap (λ q. (tree.apply Var (rule (tree.literal (text q)) no_rules), t)) (x.joined env h);
 }
@@ -167,6 +173,7 @@ finds-known {first = first} {n = n} {skip = skip} {p = p} {a = a} x f = record {
   reads = λ env e t.
       pushed-read f env t ∙ ap (λ cs. read env (FindVariable first n skip ∷ cs) t) (ap (λ xs. onto xs.items []) x.steps)
       ∙ ap (λ q. read env (in_order a) (tree.literal (text q) ∷ t)) (x.joined env (pushed-has f env e));
+  frugal = λ known old. pushed-frugal f refl (as-frugal x.steps x.room old);
 } where
   named_text : (q : List ℕ) (root : Data) → at_text q root ≡ named_by (text q) root
   named_text q root = refl
@@ -181,13 +188,9 @@ is-empty (b ∷ bs) h = absurd (grind (arith, h))
 
 -- ---- arguments
 
-pub view-String : (s : Bor (List ℕ)) → tree_view (Tree.String s) ≡ json.string s.now
-view-String s = search (rules, the_lemmas)
-
 -- a text alone
-pub only-String : (ts : List Tree) (t : Tree) (s : Bor (List ℕ)) → length ts ≡ 1 → t ≡ get_or ts 0 t → t ≡ Tree.String s
-    → tree_items ts ≡ json.item (json.string s.now) json.no_items
-only-String ts t s l is e = ap tree_items (last-item ts 0 t l is) ∙ ap (λ d. json.item d json.no_items) (ap tree_view e ∙ view-String s)
+pub only-text : (ts : List Tree) (t : Tree) (s : List ℕ) → length ts ≡ 1 → t ≡ get_or ts 0 t → as_str (tree_view t) ≡ Some s → tree_items ts ≡ json.item (json.string s) json.no_items
+only-text ts t s l is e = ap tree_items (last-item ts 0 t l is) ∙ ap (λ d. json.item d json.no_items) (written (tree_view t) s e)
 
 pub compiled-text : {Made : List Rule → Type 0} (ds : json.Items) (s : List ℕ) → ds ≡ json.item (json.string s) json.no_items → Made (tree.literal (text s) ∷ []) → AreCompiled Made ds
 compiled-text ds s e made = record { rules = tree.literal (text s) ∷ []; are_rules = ap rules_from e; known = ap items_unknown e; made = made }

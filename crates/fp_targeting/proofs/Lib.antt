@@ -6,6 +6,8 @@ pub mod Members
 pub mod Constants
 pub mod Stacks
 pub mod Machines
+pub mod Frugal
+pub mod Computed
 pub mod Tables
 pub mod Emitting
 pub mod Deciding

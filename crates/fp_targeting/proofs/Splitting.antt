@@ -25,6 +25,7 @@ use Rattle.fp_targeting.specs.declared.code.Operand.TheVariants.{AtHand}
 use Rattle.fp_targeting.specs.declared.code.Step.TheVariants.{Split, SplitByOwnKey}
 use Rattle.fp_targeting.specs.declared.operator.Operator.TheVariants.{Fractional}
 use Rattle.fp_targeting.proofs.Trees.{rule_of-operator}
+use Rattle.fp_targeting.proofs.Frugal.{pushed-frugal, operand-frugal, first-none}
 use Rattle.fp_targeting.proofs.Emitting.{operand-order, grows-trans, pushed-has, pushed-grows, pushed-run, pushed-read}
 use Rattle.fp_targeting.proofs.Parts.{both-known, both-compiled, same-items, rules_from-length}
 use Rattle.fp_targeting.proofs.Tables.{mapped}
@@ -36,7 +37,7 @@ split-key : (root : Data) (r : Rule) (pairs : Rules) → is_list r ≡ false
     → share_of_key pairs (text_in (meaning root r)) ≡ split_value root (rule r pairs) (meanings root (rule r pairs))
 split-key root r pairs other = rw other refl
 
-pub split-lent : {h : ℕ} {o : Operand} {r : Rule} {pairs : Rules} {a b d : Code} → is_list r ≡ false → IsOperand o r a b → Pushed (Split pairs o) b d
+pub split-lent : {h : ℕ} {o : Operand} {r : Rule} {pairs : Rules} {a b d : Code} → is_list r ≡ false → IsOperand o r a b → Pushed (Split o pairs) b d
     → Adds h (tree.apply Fractional (rule r pairs)) a d
 split-lent {o = o} {r = r} {pairs = pairs} {a = a} other x p = record {
   grows = grows-trans x.grows (pushed-grows p);
@@ -46,11 +47,12 @@ split-lent {o = o} {r = r} {pairs = pairs} {a = a} other x p = record {
       ∙ ap (λ w. run env root (in_order a) 0 (share_of_key pairs (text_in w)) s) (x.looks env (pushed-has p env e) root v)
       ∙ ap (λ w. run env root (in_order a) 0 w s) (split-key root r pairs other);
   reads = λ env e t.
-      pushed-read p env t ∙ ap (λ cs. read env cs (reads env (Split pairs o) t)) (operand-order x)
+      pushed-read p env t ∙ ap (λ cs. read env cs (reads env (Split o pairs) t)) (operand-order x)
       ∙ ap (λ (y : Rule × List Rule). read env (in_order a) (tree.apply Fractional (rule y.0 pairs) ∷ y.1)) (x.reads env (pushed-has p env e) t);
+  frugal = λ none f. pushed-frugal p refl (operand-frugal x f);
 }
 
-pub split-computed : {h : ℕ} {r : Rule} {pairs : Rules} {a b d : Code} → is_list r ≡ false → Pushed (Split pairs AtHand) a b → Adds h r b d
+pub split-computed : {h : ℕ} {r : Rule} {pairs : Rules} {a b d : Code} → is_list r ≡ false → Pushed (Split AtHand pairs) a b → Adds h r b d
     → Adds h (tree.apply Fractional (rule r pairs)) a d
 split-computed {r = r} {pairs = pairs} {a = a} other p x = record {
   grows = grows-trans (pushed-grows p) x.grows;
@@ -58,6 +60,7 @@ split-computed {r = r} {pairs = pairs} {a = a} other p x = record {
       x.runs env e root v s l ∙ pushed-run p env root (meaning root r) s
       ∙ ap (λ w. run env root (in_order a) 0 w s) (split-key root r pairs other);
   reads = λ env e t. x.reads env e t ∙ pushed-read p env (r ∷ t);
+  frugal = λ none f. x.frugal (first-none r pairs none) (pushed-frugal p refl f);
 }
 
 none-chosen : (o : Option (List ℕ)) → share_of_key no_rules o ≡ null
@@ -75,6 +78,7 @@ added-split_by_own_key {pairs = pairs} {a = a} total p = record {
   grows = pushed-grows p;
   runs = λ env e root v s _. pushed-run p env root v s ∙ ap (λ w. run env root (in_order a) 0 w s) (own_key-split root pairs total);
   reads = λ env e t. pushed-read p env t;
+  frugal = λ none f. pushed-frugal p refl f;
 }
 
 pub compiled-pairs : (ds : json.Items) (pairs : Rules) (a b : Code) → option_map rules_of (rules_from ds) ≡ Some pairs → items_unknown ds ≡ None → is_some (total_of pairs) ≡ true

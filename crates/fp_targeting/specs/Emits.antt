@@ -1,14 +1,16 @@
 -- What is added to code, and what it then does.
 use Rattle.std.specs.Prelude.{◌≡◌, ◌≤◌, ℕ, List, [], ◌∷◌, ◌++◌, length, map, Some, true}
-use Rattle.std.specs.Prelude.{option_and_then}
+use Rattle.std.specs.Prelude.{false, option_and_then}
 use Rattle.fp_operators.specs.Data.{Data, null}
 use Rattle.fp_operators.specs.Path.{named_by, at_text, follow}
 use Rattle.fp_operators.specs.View.{view}
+use Rattle.fp_targeting.specs.Frugal.{IsFrugal}
 use Rattle.fp_targeting.specs.Machine.{Env, Turn, look, run, found_at, parts_at}
 use Rattle.fp_targeting.specs.Meaning.{meaning, meanings, value_of_operator}
+use Rattle.fp_targeting.specs.Memory.{needs_memory, is_known}
 use Rattle.fp_targeting.specs.Operators.{well_formed}
 use Rattle.fp_targeting.specs.Reading.{joined, operand_rule, read, in_order, env_of, rule_of_code}
-use Rattle.fp_targeting.specs.Rule.{Rule}
+use Rattle.fp_targeting.specs.Rule.{Rule, apply}
 use Rattle.fp_targeting.specs.Stack.{onto}
 use Rattle.fp_targeting.specs.View.{rules_of}
 use Rattle.fp_targeting.specs.declared.operator.Operator.{Operator}
@@ -34,7 +36,7 @@ pub record Pushed (step : Step) (old new : Code) : Type 0 where
   pub pool : new.pool ≡ old.pool
   pub room : new.room ≡ old.room
 
--- what is at hand is to be kept first, as so manieth
+-- what is at hand is to be kept first; with it, so many results are kept
 pub record Raised (height : ℕ) (old new : Code) : Type 0 where
   pub steps : new.steps.items ≡ old.steps.items ++ Keep ∷ []
   pub pool : new.pool ≡ old.pool
@@ -45,6 +47,7 @@ pub record Raised (height : ℕ) (old new : Code) : Type 0 where
 pub record IsOperand (o : Operand) (r : Rule) (old new : Code) : Type 0 where
   pub grows : Grows old new
   pub steps : new.steps ≡ old.steps
+  pub room : new.room ≡ old.room
   pub looks : (env : Env) → Has env new → (root v : Data) → look env root v o ≡ meaning root r
   pub reads : (env : Env) → Has env new → (t : List Rule) → operand_rule env o t ≡ (r, t)
 
@@ -52,6 +55,7 @@ pub record IsOperand (o : Operand) (r : Rule) (old new : Code) : Type 0 where
 pub record IsPath (first parts : ℕ) (path : List ℕ) (old new : Code) : Type 0 where
   pub grows : Grows old new
   pub steps : new.steps ≡ old.steps
+  pub room : new.room ≡ old.room
   pub named : (env : Env) → Has env new → (root : Data)
       → follow (parts_at env first parts) root ≡ at_text path root
   pub joined : (env : Env) → Has env new → joined (parts_at env first parts) ≡ path
@@ -64,6 +68,7 @@ pub record Adds (height : ℕ) (r : Rule) (old new : Code) : Type 0 where
       → run env root (in_order new) 0 v s ≡ run env root (in_order old) 0 (meaning root r) s
   pub reads : (env : Env) → Has env new → (t : List Rule)
       → read env (in_order new) t ≡ read env (in_order old) (r ∷ t)
+  pub frugal : needs_memory r ≡ false → IsFrugal old → IsFrugal new
 
 -- code of rules was added: behind it their results are kept
 pub record Keeps (height : ℕ) (rs : List Rule) (old new : Code) : Type 0 where
@@ -82,6 +87,7 @@ pub record Decides (o : Operator) (height : ℕ) (rs : List Rule) (old new : Cod
       ≡ run env root (in_order old) 0 (value_of_operator o root (meanings root (rules_of rs))) s
   pub reads : (env : Env) → Has env new → (t : List Rule)
       → read env (in_order new) t ≡ read env (in_order old) (onto rs t)
+  pub frugal : needs_memory (apply o (rules_of rs)) ≡ false → IsFrugal old → IsFrugal new
 
 -- code of a path was added: behind it, what the path names is at hand and so many instructions
 -- are skipped, or null is at hand
@@ -93,11 +99,14 @@ pub record Finds (skip height : ℕ) (p : Rule) (old new : Code) : Type 0 where
       (found_at skip s (named_by (meaning root p) root))
   pub reads : (env : Env) → Has env new → (t : List Rule)
       → read env (in_order new) t ≡ read env (in_order old) (p ∷ t)
+  pub frugal : is_known p ≡ true → IsFrugal old → IsFrugal new
 
 -- the code is of one rule, with arguments that its operators take, and gives what the rule means:
--- no operand is missing, no instruction outside of it is skipped to, and the stack has room
+-- no operand is missing, no instruction outside of it is skipped to, and the stack has room. Where
+-- the rule needs no memory, it asks for none.
 pub record IsSound (code : Code) : Type 0 where
   pub formed : well_formed (rule_of_code code) ≡ true
   pub gives : (root : Data)
       → run (env_of code) root (in_order code) 0 null []
       ≡ Some (meaning root (rule_of_code code))
+  pub frugal : needs_memory (rule_of_code code) ≡ false → IsFrugal code

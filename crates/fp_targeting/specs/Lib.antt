@@ -14,6 +14,8 @@ pub mod Laws
 pub mod Table
 pub mod Stack
 pub mod Machine
+pub mod Memory
+pub mod Frugal
 pub mod Reading
 pub mod Emits
 pub mod Strict

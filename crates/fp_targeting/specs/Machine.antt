@@ -88,13 +88,13 @@ act env root (FindVariable first parts n) v s =
 act env root (One o a) v s = Some (0, few o (look env root v a ∷ []), s)
 act env root (Two o a b) v s =
     Some (0, few o (look env root v a ∷ look env root v b ∷ []), s)
-act env root (Three o a b c) v s =
-    Some (0, few o (look env root v a ∷ look env root v b ∷ look env root v c ∷ []), s)
+act env root (Three o a b) v s =
+    Some (0, few o (look env root v a ∷ look env root v b ∷ v ∷ []), s)
 act env root (Second o) v s = second o v s
 act env root (Third o) v s = third o v s
 act env root (Join n) v s = of_kept concatenation n s
 act env root (Collect n) v s = of_kept list_of n s
-act env root (Split pairs a) v s =
+act env root (Split a pairs) v s =
     Some (0, share_of_key pairs (text_in (look env root v a)), s)
 act env root (SplitByOwnKey pairs) v s = Some (0, share_of_key pairs (own_key root), s)
 act env root (End o n) v s = Some (0, v, s)

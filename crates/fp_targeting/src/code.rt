@@ -5,7 +5,7 @@ use crate::table::Table;
 use fp_operators::Datum;
 
 /// Where an operator finds what an argument gives. Places are of 16 bits, so that an instruction
-/// takes 24 bytes.
+/// takes 16 bytes.
 #[derive(Clone, Copy, Drop)]
 pub enum Operand {
     /// A constant, by its place in the pool.
@@ -42,8 +42,8 @@ pub enum Step {
     One(Operator, Operand),
     /// The same of two.
     Two(Operator, Operand, Operand),
-    /// The same of three.
-    Three(Operator, Operand, Operand, Operand),
+    /// The same of two and what is at hand.
+    Three(Operator, Operand, Operand),
     /// The same of the last kept result and what is at hand.
     Second(Operator),
     /// The same of the last two kept results and what is at hand.
@@ -53,7 +53,7 @@ pub enum Step {
     /// A list of so many kept results.
     Collect(u32),
     /// The name whose share the operand falls to.
-    Split(Table, Operand),
+    Split(Operand, Table),
     /// The name whose share the flag's key followed by the targeting key falls to.
     SplitByOwnKey(Table),
     /// An operator's arguments, so many, end here. Does nothing.

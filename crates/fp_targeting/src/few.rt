@@ -1,7 +1,8 @@
 //! What an operator of one to three arguments gives for their results.
 
-ghost use Rattle.std.specs.Prelude.{◌≡◌, ◌∷◌, [], ◌&&◌, IfOk};
+ghost use Rattle.std.specs.Prelude.{◌≡◌, ◌∷◌, [], ◌&&◌, true, IfOk, OnErr};
 ghost use Rattle.fp_operators.specs.View.{view};
+ghost use Rattle.fp_targeting.specs.Frugal.{is_sem_ver};
 ghost use Rattle.fp_targeting.specs.Machine.{few};
 ghost use Rattle.fp_targeting.specs.Operators.{ascending, binary};
 
@@ -40,8 +41,9 @@ pub fn of_three(
     second: &Datum,
     third: &Datum,
 ) -> Result<Datum, AllocError>
-    ensures { IfOk result (λ x.
+    ensures gives { IfOk result (λ x.
         view x ≡ few operator (view first.now ∷ view second.now ∷ view third.now ∷ [])) }
+    ensures memory { OnErr result (is_sem_ver operator ≡ true) }
 {
     match operator {
         Operator::SemVer => Ok(Datum::Bool(sem_ver(alloc, first, second, third)?)),

@@ -5,11 +5,14 @@ mod build;
 mod code;
 mod data;
 mod few;
+mod json;
 pub mod laws;
 mod machine;
 mod names;
+mod operands;
 mod operator;
 mod rule;
+mod strict;
 mod table;
 
 pub use data::Data;

@@ -1,18 +1,21 @@
 //! What code gives for data.
 
-ghost use Rattle.std.specs.Prelude.{◌≡◌, ◌≤◌, Some, List, map, drop, take, IfOk, OnOk, IfSome};
-ghost use Rattle.std.specs.Prelude.{IsSome};
+ghost use Rattle.std.specs.Prelude.{◌≡◌, ◌≤◌, Some, List, map, drop, take, IfOk, IfSome};
+ghost use Rattle.std.specs.Prelude.{OnErr, IsSome, true, ◌||◌};
 ghost use Rattle.std.specs.Prelude.{IfNone, option_map, vec_capacity, length, if◌then◌else◌};
 ghost use Rattle.fp_operators.specs.Data as values;
 ghost use Rattle.fp_operators.specs.Data.{null as null_data};
+ghost use Rattle.fp_operators.specs.Memory.{takes_memory};
 ghost use Rattle.fp_operators.specs.Path.{follow as follow_of, found_or};
 ghost use Rattle.fp_operators.specs.Text.{concatenation};
 ghost use Rattle.fp_operators.specs.View.{view};
 ghost use Rattle.fp_targeting.specs.Emits.{IsSound};
 ghost use Rattle.fp_targeting.specs.Found.{found_view, stack_view};
+ghost use Rattle.fp_targeting.specs.Frugal.{asks, is_sem_ver};
 ghost use Rattle.fp_targeting.specs.Machine.{act, look, parts_at, of_kept, text_bytes, found_at};
 ghost use Rattle.fp_targeting.specs.Machine.{second, third, list_of};
 ghost use Rattle.fp_targeting.specs.Meaning.{meaning};
+ghost use Rattle.fp_targeting.specs.Memory.{needs_memory};
 ghost use Rattle.fp_targeting.specs.Reading.{env_of, rule_of_code};
 ghost use Rattle.fp_targeting.specs.declared.code.Operand.TheVariants.{AtHand};
 
@@ -42,7 +45,8 @@ impl<'d> Found<'d> {
 
     /// The result itself, copied where it is only lent.
     fn into_datum(self, alloc: Global) -> Result<Datum, AllocError>
-        ensures { IfOk result (λ d. view d ≡ found_view self.entry) }
+        ensures copy { IfOk result (λ d. view d ≡ found_view self.entry) }
+        ensures memory { OnErr result (takes_memory (found_view self.entry) ≡ true) }
     {
         match self {
             Found::Lent(datum) => datum.try_copy(alloc),
@@ -131,14 +135,16 @@ impl Code {
         root: &'d Datum,
         null: &'d Datum,
         at_hand: &mut Found<'d>,
-    )
+    ) -> u32
         requires { view null.now ≡ null_data }
-        ensures { found_view at_hand.new
+        ensures at_hand { found_view at_hand.new
             ≡ look (env_of self.now) (view root.now) (found_view at_hand.old) operand.now }
+        ensures skipped { result ≡ 0 }
     {
         if let Some(datum) = self.lent(operand, root, null) {
             *at_hand = Found::Lent(datum);
         }
+        0
     }
 
     // Does one instruction, and answers how many are skipped next.
@@ -160,16 +166,11 @@ impl Code {
             (found_view at_hand.old) (stack_view kept.old.items)
             ≡ Some (n, found_view at_hand.new, stack_view kept.new.items)) }
         ensures room { vec_capacity kept.new ≡ vec_capacity kept.old }
+        ensures memory { OnErr result (asks step.now ≡ true) }
     {
         match step {
-            Step::Load(operand) => {
-                self.load(operand, root, null, at_hand);
-                Ok(0)
-            }
-            Step::LoadNull => {
-                *at_hand = Found::Lent(null);
-                Ok(0)
-            }
+            Step::Load(operand) => Ok(self.load(operand, root, null, at_hand)),
+            Step::LoadNull => Ok(lend(null, at_hand)),
             Step::Keep => {
                 kept.push_reserved(replace(at_hand, Found::Lent(null)));
                 Ok(0)
@@ -185,32 +186,22 @@ impl Code {
                 Ok(find(self.variable(root, *first, *parts), *skip, null, at_hand))
             }
             Step::One(operator, a) => {
-                let made = of_one(*operator, self.look(a, at_hand, root, null));
-                *at_hand = Found::Made(made);
+                *at_hand = Found::Made(of_one(*operator, self.look(a, at_hand, root, null)));
                 Ok(0)
             }
             Step::Two(operator, a, b) => {
                 let b = self.look(b, at_hand, root, null);
-                let made = of_two(*operator, self.look(a, at_hand, root, null), b);
-                *at_hand = Found::Made(made);
+                *at_hand = Found::Made(of_two(*operator, self.look(a, at_hand, root, null), b));
                 Ok(0)
             }
-            Step::Three(operator, a, b, c) => {
-                let c = self.look(c, at_hand, root, null);
+            Step::Three(operator, a, b) => {
                 let b = self.look(b, at_hand, root, null);
                 let a = self.look(a, at_hand, root, null);
-                let made = of_three(alloc, *operator, a, b, c)?;
-                *at_hand = Found::Made(made);
+                *at_hand = Found::Made(of_three(alloc, *operator, a, b, at_hand.datum())?);
                 Ok(0)
             }
-            Step::Second(operator) => {
-                second(*operator, at_hand, kept);
-                Ok(0)
-            }
-            Step::Third(operator) => {
-                third(alloc, *operator, at_hand, kept)?;
-                Ok(0)
-            }
+            Step::Second(operator) => Ok(second(*operator, at_hand, kept)),
+            Step::Third(operator) => Ok(third(alloc, *operator, at_hand, kept)?),
             Step::Join(count) => {
                 *at_hand = Found::Made(join(alloc, kept, *count)?);
                 Ok(0)
@@ -219,14 +210,12 @@ impl Code {
                 *at_hand = Found::Made(collect(alloc, kept, *count)?);
                 Ok(0)
             }
-            Step::Split(table, operand) => {
+            Step::Split(operand, table) => {
                 let key = self.look(operand, at_hand, root, null);
-                *at_hand = Found::Lent(or_null(table.chosen_by(key), null));
-                Ok(0)
+                Ok(lend(or_null(table.chosen_by(key), null), at_hand))
             }
             Step::SplitByOwnKey(table) => {
-                *at_hand = Found::Lent(or_null(table.chosen_by_own_key(root), null));
-                Ok(0)
+                Ok(lend(or_null(table.chosen_by_own_key(root), null), at_hand))
             }
             Step::End(_, _) => Ok(0),
         }
@@ -235,7 +224,10 @@ impl Code {
     /// What the rule of this code gives for the data.
     pub fn run(&self, alloc: Global, root: &Datum) -> Result<Datum, AllocError>
         requires { IsSound self.now }
-        ensures { IfOk result (λ x. view x ≡ meaning (view root.now) (rule_of_code self.now)) }
+        ensures means { IfOk result (λ x.
+            view x ≡ meaning (view root.now) (rule_of_code self.now)) }
+        ensures memory { OnErr result ((needs_memory (rule_of_code self.now)
+            || takes_memory (meaning (view root.now) (rule_of_code self.now))) ≡ true) }
     {
         let null = Datum::Null;
         self.do_all(alloc, root, &null)
@@ -250,7 +242,10 @@ impl Code {
     ) -> Result<Datum, AllocError>
         requires null { view null.now ≡ null_data }
         requires sound { IsSound self.now }
-        ensures { IfOk result (λ x. view x ≡ meaning (view root.now) (rule_of_code self.now)) }
+        ensures means { IfOk result (λ x.
+            view x ≡ meaning (view root.now) (rule_of_code self.now)) }
+        ensures memory { OnErr result ((needs_memory (rule_of_code self.now)
+            || takes_memory (meaning (view root.now) (rule_of_code self.now))) ≡ true) }
     {
         let mut kept = Vec::with_capacity(alloc, self.room)?;
         let mut at_hand = Found::Lent(null);
@@ -274,6 +269,15 @@ fn or_null<'d>(datum: Option<&'d Datum>, null: &'d Datum) -> &'d Datum
         Some(datum) => datum,
         None => null,
     }
+}
+
+// The datum is at hand next.
+fn lend<'d>(datum: &'d Datum, at_hand: &mut Found<'d>) -> u32
+    ensures at_hand { found_view at_hand.new ≡ view datum.now }
+    ensures skipped { result ≡ 0 }
+{
+    *at_hand = Found::Lent(datum);
+    0
 }
 
 fn count_if(holds: bool, count: u32) -> u32
@@ -300,44 +304,41 @@ fn find<'d>(found: Option<&'d Datum>, count: u32, null: &'d Datum, at_hand: &mut
     }
 }
 
-// An operator's result for the last kept result and the one at hand.
-fn second(operator: Operator, at_hand: &mut Found<'_>, kept: &mut Vec<Found<'_>>)
+// An operator's result for the last kept result and the one at hand is at hand next.
+fn second(operator: Operator, at_hand: &mut Found<'_>, kept: &mut Vec<Found<'_>>) -> u32
     requires { IsSome (second operator (found_view at_hand.old) (stack_view kept.old.items)) }
     ensures does { second operator (found_view at_hand.old) (stack_view kept.old.items)
-        ≡ Some (0, found_view at_hand.new, stack_view kept.new.items) }
+        ≡ Some (result, found_view at_hand.new, stack_view kept.new.items) }
     ensures room { vec_capacity kept.new ≡ vec_capacity kept.old }
 {
     if let Some(first) = kept.pop() {
-        let made = of_two(operator, first.datum(), at_hand.datum());
-        *at_hand = Found::Made(made);
+        *at_hand = Found::Made(of_two(operator, first.datum(), at_hand.datum()));
     }
+    0
 }
 
-// An operator's result for the last two kept results and the one at hand.
+// An operator's result for the last two kept results and the one at hand is at hand next.
 fn third(
     alloc: Global,
     operator: Operator,
     at_hand: &mut Found<'_>,
     kept: &mut Vec<Found<'_>>,
-) -> Result<(), AllocError>
+) -> Result<u32, AllocError>
     requires { IsSome (third operator (found_view at_hand.old) (stack_view kept.old.items)) }
-    ensures does { OnOk result (third operator (found_view at_hand.old) (stack_view kept.old.items)
-        ≡ Some (0, found_view at_hand.new, stack_view kept.new.items)) }
+    ensures does { IfOk result (λ n. third operator (found_view at_hand.old)
+        (stack_view kept.old.items)
+        ≡ Some (n, found_view at_hand.new, stack_view kept.new.items)) }
     ensures room { vec_capacity kept.new ≡ vec_capacity kept.old }
+    ensures memory { OnErr result (is_sem_ver operator ≡ true) }
 {
     if let Some(second) = kept.pop() {
         if let Some(first) = kept.pop() {
-            let made = of_three(
-                alloc,
-                operator,
-                first.datum(),
-                second.datum(),
-                at_hand.datum(),
-            )?;
+            let last = at_hand.datum();
+            let made = of_three(alloc, operator, first.datum(), second.datum(), last)?;
             *at_hand = Found::Made(made);
         }
     }
-    Ok(())
+    Ok(0)
 }
 
 // The texts of the last kept results, so many, joined: they are kept no longer.

@@ -1,6 +1,6 @@
 //! Compiled rules.
 
-ghost use Rattle.std.specs.Prelude.{◌≡◌, ◌≤◌, ◌↔◌, true, IfOk};
+ghost use Rattle.std.specs.Prelude.{◌≡◌, ◌≤◌, ◌↔◌, ◌||◌, true, IfOk, OnErr};
 ghost use Rattle.serde_json.specs.Data.{depth};
 ghost use Rattle.serde_json.specs.View.{view as json_view};
 ghost use Rattle.fp_operators.specs.View.{view};
@@ -11,8 +11,10 @@ ghost use Rattle.fp_base.specs.TreeView.{tree_view};
 ghost use Rattle.fp_base.specs.Whole.{is_whole};
 ghost use Rattle.fp_targeting.specs.Answer.{Tells, unknown_or_bad};
 ghost use Rattle.fp_operators.specs.Data as values;
+ghost use Rattle.fp_operators.specs.Memory.{takes_memory};
 ghost use Rattle.fp_targeting.specs.Means.{Means};
 ghost use Rattle.fp_targeting.specs.Meaning.{meaning};
+ghost use Rattle.fp_targeting.specs.Memory.{needs_memory};
 
 use crate::code::Code;
 use crate::data::Data;
@@ -118,10 +120,13 @@ impl Rule {
         }
     }
 
-    /// What the rule gives for the data.
+    /// What the rule gives for the data. Memory can run out only where the rule needs it, or for a
+    /// text, a list or an object that it gives.
     pub fn eval(&self, alloc: Global, data: &Data) -> Result<Datum, AllocError>
         ensures means { IfOk result (λ x. Means self.now «data».now (view x)) }
         ensures computed { IfOk result (λ x. view x ≡ meaning «data».now self.now) }
+        ensures memory { OnErr result (
+            (needs_memory self.now || takes_memory (meaning «data».now self.now)) ≡ true) }
     {
         self.code.run(alloc, data.datum())
     }

@@ -1,24 +1,26 @@
 use Rattle.std.proofs.Common.{arith, sym, ap, ◌∙◌, refl, subst, drop, take, ◌≢◌, ◌≡◌, ◌≤◌, ◌+◌, true, length, ◌-◌, ◌*◌, ◌<◌, ◌/◌}
 use Rattle.std.proofs.lemmas.Bool.{leb-true}
 use Rattle.std.proofs.lemmas.List.{take_rest, length-drop}
-use Rattle.serde_json.specs.Data.{no_items, item, array, string}
+use Rattle.serde_json.specs.Data.{no_items, item, array}
 use Rattle.fp_base.specs.Count.{count, items_count}
 use Rattle.fp_base.specs.Ordered.{IsOrdered, AreOrdered}
 use Rattle.fp_base.specs.TreeView.{tree_view, tree_items}
 use Rattle.fp_base.proofs.Counted.{count_some}
 use Rattle.fp_base.proofs.Views.{view-Array, view-Object}
 use Rattle.fp_operators.specs.Data.{text}
-use Rattle.fp_targeting.specs.Compiles.{Compiles, CompileAll, IsCompiled, AreCompiled, NoRule, is_plain, NoRules}
+use Rattle.fp_targeting.specs.Compiles.{Compiles, CompileAll, IsCompiled, AreCompiled, NoRule, OneWaits, is_plain, NoRules}
 use Rattle.fp_targeting.specs.Emits.{Pushed, Adds, Decides, Finds}
+use Rattle.fp_targeting.specs.Memory.{waits}
 use Rattle.fp_targeting.specs.Operators.{takes}
 use Rattle.fp_targeting.specs.Rule.{apply, literal}
 use Rattle.fp_targeting.specs.View.{rules_of}
 use Rattle.fp_targeting.specs.declared.code.Step.TheVariants.{End}
 use Rattle.fp_targeting.specs.declared.operator.Operator.TheVariants.{If}
 use Rattle.fp_targeting.proofs.Compiling.{stops-either, stops-any, strict-either, unnamed, applies, refuses, looks-other, operation, decided, joined_all, collected_all}
-use Rattle.fp_targeting.proofs.Deciding.{found-alone, found-default, last-decides, more-decides, if-none, if-last, if-more}
+use Rattle.fp_targeting.proofs.Computed.{both-wait, first-waits, second-waits, written, unwritten}
+use Rattle.fp_targeting.proofs.Deciding.{finds-computed, found-alone, found-default, last-decides, more-decides, if-none, if-last, if-more}
 use Rattle.fp_targeting.proofs.Emitting.{added-load, pushed-there, operand-there, stays, adds-later, raised-at, adds-at, keeps-none, keeps-more}
-use Rattle.fp_targeting.proofs.Leaves.{others-plain, view-String}
+use Rattle.fp_targeting.proofs.Leaves.{others-plain}
 use Rattle.fp_targeting.proofs.Loops.{no-rules-drop, compiled-end, compiled-any, no-rules-at, compiled-more, compiled-pair}
 use Rattle.fp_targeting.proofs.Parts.{parted, no-first, no-others, compiles-true, compiles-false, all-false, made-into, all-made-into, same-items, both-compiled, in-front, alone, compile-before, compile-behind, compile-one, two-items, three-items, compile-last}
 use Rattle.fp_targeting.proofs.Sizes.{drop-count, drop-ordered, at-count, at-ordered, two-counted, three-counted}
@@ -26,6 +28,7 @@ use Rattle.fp_targeting.proofs.Splitting.{split-lent, split-computed, split_alon
 use Rattle.fp_targeting.proofs.Strictly.{few-taken, added-one, added-one-computed, added-two, added-two-second, added-two-first, added-three, added-second, added-third}
 use Rattle.fp_targeting.proofs.Trees.{only-Object}
 use Rattle.fp_targeting.proofs.code.Code.+build.Goals as goal
+use Rattle.fp_targeting.proofs.code.Code.+build.Goals.{three-then-is_lent, three-else-is_lent, three-in_default-via-in-Some+in_default, three-in_default-via-in_default}
 
 pub apply-split-requires : goal.apply-split-requires
 apply-split-requires t c = (omega (arith, c.decreases), c.requires.ordered)
@@ -217,10 +220,26 @@ pub third-compute-requires-3 : goal.third-compute-requires-3
 third-compute-requires-3 t c = (omega (arith, c.decreases, count_some (tree_view c.args.b.now), count_some (tree_view c.args.c.now)), c.requires.first)
 
 pub three-third-requires : goal.three-third-requires
-three-third-requires t c = (omega (arith, c.decreases), (c.requires.strict, (c.requires.first, (c.requires.second, c.requires.third))))
+three-third-requires t c =
+    let a = tree_view c.args.a.now in
+    let b = tree_view c.args.b.now in
+    let u = tree_view c.args.c.now in
+    let one : OneWaits (item a (item b (item u no_items))) = elim c.if-is_lent.branch [
+      | three-then-is_lent w ↦ second-waits a b u (w.is_lent-then-is_lent.ensures (sym w.value-is ∙ c.if-not-is_lent.true))
+      | three-else-is_lent w ↦ first-waits a b u (c.is_lent.ensures w.if-is_lent.false)
+    ] in
+    (omega (arith, c.decreases), (c.requires.strict, (c.requires.first, (c.requires.second, (c.requires.third, one)))))
 
 pub three-third-requires-in_default : goal.three-third-requires-in_default
-three-third-requires-in_default t c = (omega (arith, c.decreases), (c.requires.strict, (c.requires.first, (c.requires.second, c.requires.third))))
+three-third-requires-in_default t c =
+    let a = tree_view c.args.a.now in
+    let b = tree_view c.args.b.now in
+    let u = tree_view c.args.c.now in
+    let one : OneWaits (item a (item b (item u no_items))) = elim c.in_default.branch [
+      | three-in_default-via-in-Some+in_default w ↦ second-waits a b u (c.in_ok-second.ensures.computed w.in_default.is-1)
+      | three-in_default-via-in_default w ↦ first-waits a b u (c.in_ok-first.ensures.computed w.in_default.is-0)
+    ] in
+    (omega (arith, c.decreases), (c.requires.strict, (c.requires.first, (c.requires.second, (c.requires.third, one)))))
 
 pub two-compute-requires : goal.two-compute-requires
 two-compute-requires t c = (omega (arith, c.decreases, count_some (tree_view c.args.a.now)), c.requires.second)
@@ -229,22 +248,16 @@ pub two-compute-requires-in-None-Some : goal.two-compute-requires-in-None-Some
 two-compute-requires-in-None-Some t c = (omega (arith, c.decreases, count_some (tree_view c.args.b.now)), c.requires.first)
 
 pub two-second-requires : goal.two-second-requires
-two-second-requires t c = (omega (arith, c.decreases), (c.requires.strict, (c.requires.first, c.requires.second)))
+two-second-requires t c = (omega (arith, c.decreases), (c.requires.strict, (c.requires.first, (c.requires.second, both-wait (tree_view c.args.a.now) (tree_view c.args.b.now) (c.in_ok-first.ensures.computed c.in-None-None.is-0) (c.in_ok-second.ensures.computed c.in-None-None.is-1)))))
 
 pub var-found-requires : goal.var-found-requires
 var-found-requires t c = (omega (arith, c.decreases), (c.in_ok-operand.ensures.any c.in_default.is, (c.requires.takes, c.requires.ordered)))
 
--- src/build.rt:738:13
-
 pub apply-returns-then-not-takes : goal.apply-returns-then-not-takes
 apply-returns-then-not-takes t c = refuses c.args.operator c.args.arguments.now (looks-other c.args.operator c.in_default.not-Fractional) (sym c.takes.ensures ∙ c.if-not-takes.true)
 
--- src/build.rt:722:5
-
 pub apply-returns : goal.apply-returns
 apply-returns t c = applies c.in_ok-taken.field-0 c.args.operator (λ r. Adds c.args.height r c.args.self.now c.taken.new.self) c.args.arguments.now (looks-other c.args.operator c.in_default.not-Fractional) (sym c.takes.ensures ∙ c.if-not-takes.false) c.in_ok-taken.ensures
-
--- src/build.rt:355:13
 
 pub branches-returns-then-not-branch : goal.branches-returns-then-not-branch
 branches-returns-then-not-branch t c =
@@ -295,9 +308,8 @@ compute-returns-in_ok-each_kept-in-Array t c =
     let shape : tree_view c.args.json.now ≡ array (tree_items v.items) = ap tree_view c.in-Array.is ∙ view-Array v in
     let same : c.in_ok-count-in-Array.count ≡ length v.items = grind (arith, v.ok, c.len.ensures, c.in_ok-count-in-Array.ensures) in
     let kept = same-items _ b (ap tree_items c.as_slice.ensures.value) c.in_ok-each_kept-in-Array.ensures in
-    subst (Compiles b (λ r. Adds c.args.height r c.args.self.now c.each_kept.new.self)) (sym shape) (collected_all _ _ b v.items c.in_ok-push-in-Array.ensures same kept)
-
--- src/build.rt:305:13
+    subst (Compiles b (λ r. Adds c.args.height r c.args.self.now c.each_kept.new.self)) (sym shape)
+    (collected_all _ _ b v.items c.in_ok-push-in-Array.ensures same (sym c.are_literals.ensures ∙ c.if-are_literals.false) kept)
 
 pub conditions-returns-then-not-branch : goal.conditions-returns-then-not-branch
 conditions-returns-then-not-branch t c =
@@ -372,15 +384,11 @@ found-returns-then-not-branch t c =
     let none = compiles-false _ _ c.in_ok-compute-in-len2-up.field-0 c.if-not-branch.true c.in_ok-compute-in-len2-up.ensures in
     subst NoRules (ap tree_items (sym (two-items ts p d long c.path-item-2.is c.default-item.is))) (no-others (tree_view p) (item (tree_view d) no_items) (no-first (tree_view d) no_items none))
 
--- src/build.rt:398:5
-
 pub found-returns-in_ok-find-in-len1-up : goal.found-returns-in_ok-find-in-len1-up
 found-returns-in_ok-find-in-len1-up t c =
     let b = c.in_ok-find-in-len1-up.field-0 in
     compile-last _ c.args.arguments.now 0 c.path-item.result (omega (arith, c.in-len1-up.len_at_least, c.in-len1-up.len_below)) c.path-item.is b
     (made-into _ b c.in_ok-find-in-len1-up.ensures (λ r e m. found-alone m))
-
--- src/build.rt:398:5
 
 pub found-returns-in_ok-find-in-len2-up : goal.found-returns-in_ok-find-in-len2-up
 found-returns-in_ok-find-in-len2-up t c =
@@ -396,21 +404,15 @@ found-returns-in_ok-find-in-len2-up t c =
     same-items _ b (ap tree_items (sym (two-items ts p d long c.path-item-2.is c.default-item.is)))
     (compile-before _ _ b (alone i) (made-into _ b c.in_ok-find-in-len2-up.ensures (λ r e m. found-default i.made same m)))
 
--- src/build.rt:426:5
-
 pub one-returns-in_ok-push-in-Some : goal.one-returns-in_ok-push-in-Some
 one-returns-in_ok-push-in-Some t c =
     let i = c.in_ok-x.ensures.some c.in-Some.x c.in-Some.is in
     compile-one _ _ true (made-into _ true i (λ r e m. added-one c.args.operator c.requires.strict m c.in_ok-push-in-Some.ensures))
 
--- src/build.rt:426:5
-
 pub one-returns-in_ok-compute-in-None : goal.one-returns-in_ok-compute-in-None
 one-returns-in_ok-compute-in-None t c =
     compile-one _ _ c.in_ok-compute-in-None.field-0 (made-into _ c.in_ok-compute-in-None.field-0 c.in_ok-compute-in-None.ensures
     (λ r e m. added-one-computed c.args.operator c.requires.strict (pushed-there (c.in_ok-x.ensures.none c.in-None.is) c.in_ok-push-in-None.ensures) m))
-
--- src/build.rt:319:5
 
 pub otherwise-returns-in_ok-push-in-empty : goal.otherwise-returns-in_ok-push-in-empty
 otherwise-returns-in_ok-push-in-empty t c =
@@ -426,15 +428,14 @@ pub second-returns-then-not-branch : goal.second-returns-then-not-branch
 second-returns-then-not-branch t c = no-others (tree_view c.args.a.now) (item (tree_view c.args.b.now) no_items)
     (no-first (tree_view c.args.b.now) no_items (compiles-false _ _ c.in_ok-compute.field-0 c.if-not-branch.true c.in_ok-compute.ensures))
 
--- src/build.rt:489:5
-
 pub second-returns : goal.second-returns
 second-returns t c =
     let y = compiles-true c.in_ok-compute.field-0 c.if-not-branch.false c.in_ok-compute.ensures in
-    compile-before _ _ c.in_ok-compute-2.field-0 (alone y) (made-into _ c.in_ok-compute-2.field-0 c.in_ok-compute-2.ensures
-    (λ r e m. added-second c.args.operator c.requires.strict c.in_ok-above.ensures c.in_ok-push.ensures y.made c.in_ok-keep.ensures m))
-
--- src/build.rt:624:21
+    let b = c.in_ok-compute-2.field-0 in
+    all-made-into _ b
+    (compile-before (λ rs. waits (rules_of rs) ≡ true → Adds c.args.height (apply c.args.operator (rules_of rs)) c.args.self.now c.compute-2.new.self) _ b (alone y) (made-into _ b c.in_ok-compute-2.ensures
+    (λ r e m. added-second c.args.operator c.requires.strict c.in_ok-above.ensures c.in_ok-push.ensures y.made c.in_ok-keep.ensures m)))
+    (λ rs e f. f (c.requires.waits rs e))
 
 pub split-returns-then-is_array : goal.split-returns-then-is_array
 split-returns-then-is_array t c =
@@ -442,23 +443,17 @@ split-returns-then-is_array t c =
     let e = parted ts c.first-item.result (omega (arith, c.in-len1-up.len_at_least)) c.first-item.is in
     split_alone e (sym c.is_array.ensures ∙ c.if-is_array.true) _ c.in_ok-split_by_own_key-in-len1-up.field-0 c.in_ok-split_by_own_key-in-len1-up.ensures (λ rs m. m c.args.height)
 
--- src/build.rt:627:21
-
 pub split-returns-then-is_empty : goal.split-returns-then-is_empty
 split-returns-then-is_empty t c =
     let ts = c.args.arguments.now in
     let e = parted ts c.first-item.result (omega (arith, c.in-len1-up.len_at_least)) c.first-item.is in
     λ known rs are. split_none e (sym c.is_array.ensures ∙ c.if-is_array.false) (grind (arith, c.is_empty.ensures, c.if-is_empty.true)) rs are
 
--- src/build.rt:630:21
-
 pub split-returns-in_default : goal.split-returns-in_default
 split-returns-in_default t c =
     let ts = c.args.arguments.now in
     let e = parted ts c.first-item.result (omega (arith, c.in-len1-up.len_at_least)) c.first-item.is in
     λ known rs are. split_bad e (sym c.is_array.ensures ∙ c.if-is_array.false) (c.in_ok-table-in-len1-up.ensures.none c.in_default.is) rs are
-
--- src/build.rt:609:5
 
 pub split-returns-in_ok-split_by-in-len1-up : goal.split-returns-in_ok-split_by-in-len1-up
 split-returns-in_ok-split_by-in-len1-up t c =
@@ -469,22 +464,16 @@ split-returns-in_ok-split_by-in-len1-up t c =
     split_behind e (sym c.is_array.ensures ∙ c.if-is_array.false) _ c.in_ok-split_by-in-len1-up.field-0 t (λ none. grind (arith, c.is_empty.ensures, c.if-is_empty.false, none))
     (read.pairs t c.in-Some.is) (read.known t c.in-Some.is) (read.total t c.in-Some.is) c.in_ok-split_by-in-len1-up.ensures
 
--- src/build.rt:582:5
-
 pub split_by-returns-in_ok-push-in-Some : goal.split_by-returns-in_ok-push-in-Some
 split_by-returns-in_ok-push-in-Some t c =
     let i = c.in_ok-key.ensures.some c.in-Some.key c.in-Some.is in
     made-into _ true i (λ r e m. split-lent (is_list-array (tree_view c.args.bucketing.now) r e ∙ c.requires.other) m c.in_ok-push-in-Some.ensures)
-
--- src/build.rt:582:5
 
 pub split_by-returns-in_ok-compute-in-None : goal.split_by-returns-in_ok-compute-in-None
 split_by-returns-in_ok-compute-in-None t c =
     let d = tree_view c.args.bucketing.now in
     let pushed = pushed-there (c.in_ok-key.ensures.none c.in-None.is) c.in_ok-push-in-None.ensures in
     made-into _ c.in_ok-compute-in-None.field-0 c.in_ok-compute-in-None.ensures (λ r e m. split-computed (is_list-array d r e ∙ c.requires.other) pushed m)
-
--- src/build.rt:684:5
 
 pub taken-returns-in_ok-branches-in-If : goal.taken-returns-in_ok-branches-in-If
 taken-returns-in_ok-branches-in-If t c =
@@ -494,12 +483,8 @@ taken-returns-in_ok-branches-in-If t c =
     subst (λ o. CompileAll b (λ rs. Adds c.args.height (apply o (rules_of rs)) c.args.self.now c.branches.new.self) (tree_items xs)) (sym c.in-If.is)
     (decided _ _ b xs refl ended refl c.in_ok-branches-in-If.ensures)
 
--- src/build.rt:684:5
-
 pub taken-returns-in_ok-conditions-in-And : goal.taken-returns-in_ok-conditions-in-And
 taken-returns-in_ok-conditions-in-And t c = decided _ _ c.in_ok-conditions-in-And.field-0 c.args.arguments.now c.requires.other c.in_ok-end-in-And.ensures refl c.in_ok-conditions-in-And.ensures
-
--- src/build.rt:684:5
 
 pub taken-returns-in_ok-each_kept-in-Cat : goal.taken-returns-in_ok-each_kept-in-Cat
 taken-returns-in_ok-each_kept-in-Cat t c =
@@ -508,56 +493,45 @@ taken-returns-in_ok-each_kept-in-Cat t c =
     subst (λ o. CompileAll b (λ rs. Adds c.args.height (apply o (rules_of rs)) c.args.self.now c.each_kept.new.self) (tree_items xs)) (sym c.in-Cat.is)
     (joined_all _ _ b xs c.in_ok-push-in-Cat.ensures c.in_ok-count-in-Cat.ensures c.in_ok-each_kept-in-Cat.ensures)
 
--- src/build.rt:571:13
-
 pub third-returns-then-not-branch : goal.third-returns-then-not-branch
 third-returns-then-not-branch t c = no-others (tree_view c.args.a.now) (item (tree_view c.args.b.now) (item (tree_view c.args.c.now) no_items))
     (no-others (tree_view c.args.b.now) (item (tree_view c.args.c.now) no_items) (no-first (tree_view c.args.c.now) no_items (compiles-false _ _ c.in_ok-compute.field-0 c.if-not-branch.true c.in_ok-compute.ensures)))
-
--- src/build.rt:575:13
 
 pub third-returns-then-not-branch-2 : goal.third-returns-then-not-branch-2
 third-returns-then-not-branch-2 t c = no-others (tree_view c.args.a.now) (item (tree_view c.args.b.now) (item (tree_view c.args.c.now) no_items))
     (no-first (tree_view c.args.b.now) (item (tree_view c.args.c.now) no_items) (compiles-false _ _ c.in_ok-compute-2.field-0 c.if-not-branch-2.true c.in_ok-compute-2.ensures))
 
--- src/build.rt:549:5
-
 pub third-returns : goal.third-returns
 third-returns t c =
     let z = compiles-true c.in_ok-compute.field-0 c.if-not-branch.false c.in_ok-compute.ensures in
     let y = compiles-true c.in_ok-compute-2.field-0 c.if-not-branch-2.false c.in_ok-compute-2.ensures in
-    compile-before _ _ c.in_ok-compute-3.field-0 (in-front y (alone z)) (made-into _ c.in_ok-compute-3.field-0 c.in_ok-compute-3.ensures
+    let b = c.in_ok-compute-3.field-0 in
+    all-made-into _ b
+    (compile-before (λ rs. waits (rules_of rs) ≡ true → Adds c.args.height (apply c.args.operator (rules_of rs)) c.args.self.now c.compute-3.new.self) _ b (in-front y (alone z)) (made-into _ b c.in_ok-compute-3.ensures
     (λ r e m. added-third c.args.operator c.requires.strict c.in_ok-one.ensures c.in_ok-two.ensures c.in_ok-push.ensures z.made c.in_ok-keep.ensures y.made
-    c.in_ok-keep-2.ensures m))
+    c.in_ok-keep-2.ensures m)))
+    (λ rs e f. f (c.requires.waits rs e))
 
--- src/build.rt:515:5
-
-pub three-returns-in_ok-push-in-Some-Some-Some : goal.three-returns-in_ok-push-in-Some-Some-Some
-three-returns-in_ok-push-in-Some-Some-Some t c =
-    let i = c.in_ok-first.ensures.some c.in-Some-Some-Some.x c.in-Some-Some-Some.is-0 in
-    let j = c.in_ok-second.ensures.some c.in-Some-Some-Some.y c.in-Some-Some-Some.is-1 in
-    let k = c.in_ok-third-2.ensures.some c.in-Some-Some-Some.z c.in-Some-Some-Some.is-2 in
-    both-compiled i (in-front j (alone k)) (added-three c.args.operator c.requires.strict i.made j.made k.made c.in_ok-push-in-Some-Some-Some.ensures)
-
--- src/build.rt:515:5
+pub three-returns-in_ok-compute-in-Some-Some : goal.three-returns-in_ok-compute-in-Some-Some
+three-returns-in_ok-compute-in-Some-Some t c =
+    let i = c.in_ok-first.ensures.some c.in-Some-Some.x c.in-Some-Some.is-0 in
+    let j = c.in_ok-second.ensures.some c.in-Some-Some.y c.in-Some-Some.is-1 in
+    let b = c.in_ok-compute-in-Some-Some.field-0 in
+    compile-behind _ _ b i (compile-behind _ _ b j (compile-one _ _ b (made-into _ b c.in_ok-compute-in-Some-Some.ensures
+    (λ u e m. added-three c.args.operator c.requires.strict i.made j.made c.in_ok-push-in-Some-Some.ensures m))))
 
 pub three-returns-in_ok-third-in_default : goal.three-returns-in_ok-third-in_default
 three-returns-in_ok-third-in_default t c =
     let x = stays c.in_ok-first.first c.in_ok-first.ensures.some c.in_ok-first.ensures.none in
     let y = stays c.in_ok-second.second c.in_ok-second.ensures.some c.in_ok-second.ensures.none in
-    let z = stays c.in_ok-third-2.third c.in_ok-third-2.ensures.some c.in_ok-third-2.ensures.none in
     all-made-into _ c.in_ok-third-in_default.field-0 c.in_ok-third-in_default.ensures
-    (λ rs e m. adds-later x (adds-later y (adds-later z m)))
-
--- src/build.rt:453:5
+    (λ rs e m. adds-later x (adds-later y m))
 
 pub two-returns-in_ok-push-in-Some-Some : goal.two-returns-in_ok-push-in-Some-Some
 two-returns-in_ok-push-in-Some-Some t c =
     let i = c.in_ok-first.ensures.some c.in-Some-Some.x c.in-Some-Some.is-0 in
     let j = c.in_ok-second.ensures.some c.in-Some-Some.y c.in-Some-Some.is-1 in
     both-compiled i (alone j) (added-two c.args.operator c.requires.strict i.made j.made c.in_ok-push-in-Some-Some.ensures)
-
--- src/build.rt:453:5
 
 pub two-returns-in_ok-compute-in-Some-None : goal.two-returns-in_ok-compute-in-Some-None
 two-returns-in_ok-compute-in-Some-None t c =
@@ -567,8 +541,6 @@ two-returns-in_ok-compute-in-Some-None t c =
     (made-into _ c.in_ok-compute-in-Some-None.field-0 c.in_ok-compute-in-Some-None.ensures
     (λ q e m. added-two-second c.args.operator c.requires.strict i.made p m)))
 
--- src/build.rt:453:5
-
 pub two-returns-in_ok-compute-in-None-Some : goal.two-returns-in_ok-compute-in-None-Some
 two-returns-in_ok-compute-in-None-Some t c =
     let j = c.in_ok-second.ensures.some c.in-None-Some.y c.in-None-Some.is-1 in
@@ -577,13 +549,9 @@ two-returns-in_ok-compute-in-None-Some t c =
     (made-into _ c.in_ok-compute-in-None-Some.field-0 c.in_ok-compute-in-None-Some.ensures
     (λ r e m. added-two-first c.args.operator c.requires.strict y c.in_ok-push-in-None-Some.ensures m))
 
--- src/build.rt:677:13
-
 pub var-returns-in-Some : goal.var-returns-in-Some
 var-returns-in-Some t c =
     all-made-into _ true (c.in_ok-operand.ensures.some c.in-Some.operand c.in-Some.is) (λ rs e m. added-load m c.in_ok-push.ensures)
-
--- src/build.rt:662:5
 
 pub var-returns : goal.var-returns
 var-returns t c =
@@ -617,8 +585,12 @@ compute-returns-in-None t c =
     let shape = ap tree_view c.in-Object.is ∙ only-Object v m one c.index-only.ensures in
     subst NoRule (sym shape) (unnamed m.0.now (tree_view m.1) (sym c.named.ensures ∙ c.in-None.is))
 
-pub find-returns-in-String : goal.find-returns-in-String
-find-returns-in-String t c =
-    let shape : tree_view c.args.path.now ≡ string c.in-String.known.now = ap tree_view c.in-String.is ∙ view-String c.in-String.known in
-    subst (IsCompiled (λ p. Finds c.args.skip c.args.height p c.args.self.now c.find_known.new.self)) (sym shape)
-    (record { rule = literal (text c.in-String.known.now); is_rule = refl; known = refl; made = c.in_ok-find_known.ensures c.args.height })
+pub find-returns-in-Some : goal.find-returns-in-Some
+find-returns-in-Some t c =
+    subst (IsCompiled (λ p. Finds c.args.skip c.args.height p c.args.self.now c.find_known.new.self)) (sym (written (tree_view c.args.path.now) c.in-Some.known.now (sym c.in-Some.ensures)))
+    (record { rule = literal (text c.in-Some.known.now); is_rule = refl; known = refl; made = c.in_ok-find_known.ensures c.args.height })
+
+pub find-returns : goal.find-returns
+find-returns t c =
+    made-into _ c.in_ok-compute.field-0 c.in_ok-compute.ensures
+    (λ r e m. finds-computed (unwritten (tree_view c.args.path.now) r (sym c.in_default.ensures) e) c.in_ok-push.ensures m)

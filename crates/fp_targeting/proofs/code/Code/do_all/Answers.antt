@@ -4,8 +4,10 @@ use Rattle.fp_operators.specs.View.{view}
 use Rattle.fp_targeting.specs.Found.{found_view, stack_view}
 use Rattle.fp_targeting.specs.Machine.{run}
 use Rattle.fp_targeting.specs.Meaning.{meaning}
+use Rattle.fp_targeting.specs.Memory.{needs_memory}
 use Rattle.fp_targeting.specs.Reading.{env_of, rule_of_code}
 use Rattle.fp_targeting.specs.Stack.{onto}
+use Rattle.fp_targeting.proofs.Frugal.{asked, any-err, either-true}
 use Rattle.fp_targeting.proofs.Machines.{turn-within, turn-left}
 use Rattle.fp_targeting.proofs.code.Code.do_all.Goals as goal
 
@@ -40,3 +42,11 @@ steps-preserved c =
       room = grind (arith, c.steps.invariant.room, c.in_ok-skipped.ensures.room);
       gives = turn-left (env_of code) root xs k c.index-step.result.now v s m within c.index-step.ensures c.in_ok-skipped.skipped (found_view c.act.new.at_hand) (stack_view c.act.new.kept.items) c.in_ok-skipped.ensures.does h;
     }
+
+pub returns-in_err-skipped-clause-memory : goal.returns-in_err-skipped-clause-memory
+returns-in_err-skipped-clause-memory c =
+    let code = c.args.self.now in
+    let k = c.steps.left - 1 in
+    let within : k < length code.steps.items = omega (arith, c.steps.invariant.within, c.steps-test.true) in
+    any-err c.from_residual-in_err-skipped.result (either-true (needs_memory (rule_of_code code)) _
+    (asked (needs_memory (rule_of_code code)) c.requires.sound.frugal k c.index-step.result.now within c.index-step.ensures c.in_err-skipped.ensures.memory))

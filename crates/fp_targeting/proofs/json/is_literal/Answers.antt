@@ -3,7 +3,7 @@ use Rattle.fp_base.proofs.Views.{view-Object}
 use Rattle.fp_base.specs.TreeView.{tree_view}
 use Rattle.fp_targeting.specs.Constant.{is_literal}
 use Rattle.fp_targeting.proofs.Trees.{others-literal}
-use Rattle.fp_targeting.proofs.build.is_literal.Goals as goal
+use Rattle.fp_targeting.proofs.json.is_literal.Goals as goal
 
 pub returns-in-Object : goal.returns-in-Object
 returns-in-Object c =

@@ -6,7 +6,7 @@ use Rattle.fp_operators.specs.Path.{parts}
 use Rattle.fp_operators.specs.View.{view}
 use Rattle.fp_operators.proofs.Paths.{parts_cut, parts_last}
 use Rattle.fp_targeting.proofs.Leaves.{part-pushed}
-use Rattle.fp_targeting.proofs.build.push_parts.Goals as goal
+use Rattle.fp_targeting.proofs.operands.push_parts.Goals as goal
 
 pub parts-preserved : goal.parts-preserved
 parts-preserved c =

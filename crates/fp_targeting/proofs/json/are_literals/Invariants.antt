@@ -1,7 +1,7 @@
 use Rattle.std.proofs.Common.{◌≡◌, drop}
 use Rattle.fp_base.specs.TreeView.{tree_items}
 use Rattle.fp_targeting.specs.Constant.{all_literal}
-use Rattle.fp_targeting.proofs.build.are_literals.Given as goal
+use Rattle.fp_targeting.proofs.json.are_literals.Given as goal
 
 -- the items that are left decide as all do
 abbrev pub invariant-loop-item : goal.invariant-loop-item

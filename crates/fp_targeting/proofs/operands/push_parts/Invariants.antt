@@ -2,7 +2,7 @@ use Rattle.std.proofs.Common.{◌≡◌, ◌++◌, length, map, IsUtf8}
 use Rattle.fp_operators.specs.Data.{text}
 use Rattle.fp_operators.specs.Path.{parts}
 use Rattle.fp_operators.specs.View.{view}
-use Rattle.fp_targeting.proofs.build.push_parts.Given as goal
+use Rattle.fp_targeting.proofs.operands.push_parts.Given as goal
 
 -- the parts so far, and those of what is left
 abbrev pub invariant-parts : goal.invariant-parts

@@ -1,0 +1,98 @@
+-- Code that asks for no memory, where the rule needs none.
+use Rattle.std.proofs.Common.{◌≡◌, ◌<◌, ℕ, zero, suc, List, [], ◌∷◌, ◌++◌, length, get_or, Bool, true, false, not, ◌||◌, Result, Ok, Err, IfErr, refl, ap, ◌∙◌, arith}
+use Rattle.fp_targeting.specs.Emits.{Pushed, IsOperand}
+use Rattle.fp_targeting.specs.Frugal.{asks, any_asks, is_sem_ver, IsFrugal}
+use Rattle.fp_targeting.specs.Memory.{needs_memory, any_needs, itself_needs, waits}
+use Rattle.fp_targeting.specs.Rule.{Rule, Rules, apply, rule}
+use Rattle.fp_targeting.specs.Strict.{is_strict}
+use Rattle.fp_targeting.specs.declared.code.Code.{Code}
+use Rattle.fp_targeting.specs.declared.code.Operand.{Operand}
+use Rattle.fp_targeting.specs.declared.code.Step.{Step}
+use Rattle.fp_targeting.specs.declared.operator.Operator.{Operator}
+use Rattle.fp_targeting.specs.declared.operator.Operator.TheVariants.{If, And, Or, Var, Cat, SemVer, Fractional, Unary, Binary, Chain}
+
+pub neither : (a b : Bool) → (a || b) ≡ false → (a ≡ false) × (b ≡ false)
+neither true b h = absurd (cc)
+neither false b h = (refl, h)
+
+pub not-false : (b : Bool) → not b ≡ false → b ≡ true
+not-false true h = refl
+not-false false h = absurd (cc)
+
+pub true-false : {b : Bool} → b ≡ true → b ≡ false → ⊥
+true-false h g = cc
+
+pub either-true : (a b : Bool) → a ≡ true → (a || b) ≡ true
+either-true a b h = rw h refl
+
+pub any-err : {A B : Type 0} {P : Type 0} (r : Result A B) → P → IfErr r (λ e. P)
+any-err (Ok x) p = tt
+any-err (Err e) p = p
+
+-- ---- instructions
+
+asks-last : (cs : List Step) (c : Step) → any_asks cs ≡ false → asks c ≡ false → any_asks (cs ++ c ∷ []) ≡ false
+asks-last [] c h g = rw g refl
+asks-last (d ∷ cs) c h g = let n = neither (asks d) (any_asks cs) h in rw (n.0, asks-last cs c n.1 g) refl
+
+pub asks-none : (cs : List Step) (n : ℕ) (c : Step) → any_asks cs ≡ false → n < length cs → c ≡ get_or cs n c → asks c ≡ false
+asks-none [] n c h within is = absurd (omega (arith, within))
+asks-none (d ∷ cs) zero c h within is = ap asks is ∙ (neither (asks d) (any_asks cs) h).0
+asks-none (d ∷ cs) (suc n) c h within is = asks-none cs n c (neither (asks d) (any_asks cs) h).1 (omega (arith, within)) is
+
+pub pushed-frugal : {c : Step} {a b : Code} → Pushed c a b → asks c ≡ false → IsFrugal a → IsFrugal b
+pushed-frugal {c = c} {a = a} p none f = record {
+  room = p.room ∙ f.room;
+  steps = ap any_asks p.steps ∙ asks-last a.steps.items c f.steps none;
+}
+
+pub as-frugal : {a b : Code} → b.steps ≡ a.steps → b.room ≡ a.room → IsFrugal a → IsFrugal b
+as-frugal steps room f = record { room = room ∙ f.room; steps = ap (λ v. any_asks v.items) steps ∙ f.steps }
+
+pub operand-frugal : {o : Operand} {r : Rule} {a b : Code} → IsOperand o r a b → IsFrugal a → IsFrugal b
+operand-frugal x f = as-frugal x.steps x.room f
+
+-- where an instruction asks, the rule needs memory
+pub asked : (needs : Bool) {a : Code} → (needs ≡ false → IsFrugal a) → (n : ℕ) (c : Step) → n < length a.steps.items → c ≡ get_or a.steps.items n c → asks c ≡ true → needs ≡ true
+asked true f n c within is asking = refl
+asked false {a = a} f n c within is asking = absurd (true-false asking (asks-none a.steps.items n c (f refl).steps within is))
+
+-- ---- operators and their arguments
+
+module _ (o : Operator) (rs : Rules) (none : needs_memory (apply o rs) ≡ false) where
+  pub itself-none : itself_needs o rs ≡ false
+  itself-none = (neither (itself_needs o rs) (any_needs rs) none).0
+
+  pub all-none : any_needs rs ≡ false
+  all-none = (neither (itself_needs o rs) (any_needs rs) none).1
+
+module _ (r : Rule) (rs : Rules) (none : any_needs (rule r rs) ≡ false) where
+  pub first-none : needs_memory r ≡ false
+  first-none = (neither (needs_memory r) (any_needs rs) none).0
+
+  pub others-none : any_needs rs ≡ false
+  others-none = (neither (needs_memory r) (any_needs rs) none).1
+
+pub strict-waits : (o : Operator) (rs : Rules) → is_strict o ≡ true → itself_needs o rs ≡ false → waits rs ≡ false
+strict-waits If rs h none = absurd (cc)
+strict-waits And rs h none = absurd (cc)
+strict-waits Or rs h none = absurd (cc)
+strict-waits Var rs h none = absurd (cc)
+strict-waits Cat rs h none = absurd (cc)
+strict-waits SemVer rs h none = absurd (cc)
+strict-waits Fractional rs h none = absurd (cc)
+strict-waits (Unary o) rs h none = none
+strict-waits (Binary o) rs h none = none
+strict-waits (Chain o) rs h none = none
+
+pub strict-asks : (o : Operator) (rs : Rules) → is_strict o ≡ true → itself_needs o rs ≡ false → is_sem_ver o ≡ false
+strict-asks If rs h none = absurd (cc)
+strict-asks And rs h none = absurd (cc)
+strict-asks Or rs h none = absurd (cc)
+strict-asks Var rs h none = absurd (cc)
+strict-asks Cat rs h none = absurd (cc)
+strict-asks SemVer rs h none = absurd (cc)
+strict-asks Fractional rs h none = absurd (cc)
+strict-asks (Unary o) rs h none = refl
+strict-asks (Binary o) rs h none = refl
+strict-asks (Chain o) rs h none = refl

@@ -1,0 +1,45 @@
+-- Code that asks for no memory.
+use Rattle.std.specs.Prelude.{◌≡◌, List, [], ◌∷◌, Bool, true, false, ◌||◌}
+use Rattle.fp_targeting.specs.declared.code.Code.{Code}
+use Rattle.fp_targeting.specs.declared.code.Step.{Step}
+use Rattle.fp_targeting.specs.declared.code.Step.TheVariants.{Load, LoadNull, Keep, Skip}
+use Rattle.fp_targeting.specs.declared.code.Step.TheVariants.{SkipIfFalse, SkipIfTrue, Find}
+use Rattle.fp_targeting.specs.declared.code.Step.TheVariants.{FindVariable, One, Two, Three}
+use Rattle.fp_targeting.specs.declared.code.Step.TheVariants.{Second, Third, Join, Collect, Split}
+use Rattle.fp_targeting.specs.declared.code.Step.TheVariants.{SplitByOwnKey, End}
+use Rattle.fp_targeting.specs.declared.operator.Operator.{Operator}
+use Rattle.fp_targeting.specs.declared.operator.Operator.TheVariants.{SemVer}
+
+abbrev pub is_sem_ver : Operator → Bool
+is_sem_ver SemVer = true
+is_sem_ver o = false
+
+-- the instruction asks for memory
+abbrev pub asks : Step → Bool
+asks (Load o) = false
+asks LoadNull = false
+asks Keep = false
+asks (Skip n) = false
+asks (SkipIfFalse n) = false
+asks (SkipIfTrue n) = false
+asks (Find n) = true
+asks (FindVariable first parts n) = false
+asks (One o a) = false
+asks (Two o a b) = false
+asks (Three o a b) = is_sem_ver o
+asks (Second o) = false
+asks (Third o) = is_sem_ver o
+asks (Join n) = true
+asks (Collect n) = true
+asks (Split a pairs) = false
+asks (SplitByOwnKey pairs) = false
+asks (End o n) = false
+
+abbrev pub any_asks : List Step → Bool
+any_asks [] = false
+any_asks (c ∷ cs) = asks c || any_asks cs
+
+-- no result is kept, and no instruction asks for memory
+pub record IsFrugal (code : Code) : Type 0 where
+  pub room : code.room ≡ 0
+  pub steps : any_asks code.steps.items ≡ false

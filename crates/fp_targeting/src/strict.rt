@@ -1,0 +1,203 @@
+//! Code of operators that look at the results of all their one to three arguments.
+
+ghost use Rattle.std.specs.Prelude.{◌≡◌, true, IfOk, length};
+ghost use Rattle.serde_json.specs.Data.{no_items, item};
+ghost use Rattle.fp_base.specs.Ordered.{IsOrdered, AreOrdered};
+ghost use Rattle.fp_base.specs.TreeView.{tree_view, tree_items};
+ghost use Rattle.fp_targeting.specs.Compiles.{CompileAll, OneWaits};
+ghost use Rattle.fp_targeting.specs.Emits.{Adds};
+ghost use Rattle.fp_targeting.specs.Operators.{takes};
+ghost use Rattle.fp_targeting.specs.Rule.{apply};
+ghost use Rattle.fp_targeting.specs.Strict.{is_strict};
+ghost use Rattle.fp_targeting.specs.View.{rules_of};
+
+use crate::build::above;
+use crate::code::{Code, Operand, Step};
+use crate::json::is_lent;
+use crate::operator::Operator;
+use fp_base::Tree as Json;
+use std::alloc::{AllocError, Global};
+
+impl Code {
+    // Code of an operator at one argument.
+    #[cycle(build)]
+    fn one(
+        &mut self,
+        alloc: Global,
+        operator: Operator,
+        a: &Json<'_>,
+        height: usize,
+    ) -> Result<bool, AllocError>
+        requires strict { is_strict operator ≡ true }
+        requires ordered { IsOrdered (tree_view a.now) }
+        ensures { IfOk result (λ done. CompileAll done
+            (λ rs. Adds height (apply operator (rules_of rs)) self.old self.new)
+            (item (tree_view a.now) no_items)) }
+    {
+        match self.operand(alloc, a)? {
+            Some(x) => {
+                self.push(Step::One(operator, x))?;
+                Ok(true)
+            }
+            None => {
+                self.push(Step::One(operator, Operand::AtHand))?;
+                Ok(self.compute(alloc, a, height)?)
+            }
+        }
+    }
+
+    // Code of an operator at two arguments.
+    #[cycle(build)]
+    fn two(
+        &mut self,
+        alloc: Global,
+        operator: Operator,
+        a: &Json<'_>,
+        b: &Json<'_>,
+        height: usize,
+    ) -> Result<bool, AllocError>
+        requires strict { is_strict operator ≡ true }
+        requires first { IsOrdered (tree_view a.now) }
+        requires second { IsOrdered (tree_view b.now) }
+        ensures { IfOk result (λ done. CompileAll done
+            (λ rs. Adds height (apply operator (rules_of rs)) self.old self.new)
+            (item (tree_view a.now) (item (tree_view b.now) no_items))) }
+    {
+        let first = self.operand(alloc, a)?;
+        let second = self.operand(alloc, b)?;
+        match (first, second) {
+            (Some(x), Some(y)) => {
+                self.push(Step::Two(operator, x, y))?;
+                Ok(true)
+            }
+            (Some(x), None) => {
+                self.push(Step::Two(operator, x, Operand::AtHand))?;
+                Ok(self.compute(alloc, b, height)?)
+            }
+            (None, Some(y)) => {
+                self.push(Step::Two(operator, Operand::AtHand, y))?;
+                Ok(self.compute(alloc, a, height)?)
+            }
+            (None, None) => Ok(self.second(alloc, operator, a, b, height)?),
+        }
+    }
+
+    // The same where the first result is kept.
+    #[cycle(build)]
+    fn second(
+        &mut self,
+        alloc: Global,
+        operator: Operator,
+        a: &Json<'_>,
+        b: &Json<'_>,
+        height: usize,
+    ) -> Result<bool, AllocError>
+        requires strict { is_strict operator ≡ true }
+        requires first { IsOrdered (tree_view a.now) }
+        requires second { IsOrdered (tree_view b.now) }
+        requires waits { OneWaits (item (tree_view a.now) (item (tree_view b.now) no_items)) }
+        ensures { IfOk result (λ done. CompileAll done
+            (λ rs. Adds height (apply operator (rules_of rs)) self.old self.new)
+            (item (tree_view a.now) (item (tree_view b.now) no_items))) }
+    {
+        let above = above(height, 1)?;
+        self.push(Step::Second(operator))?;
+        if !self.compute(alloc, b, above)? {
+            return Ok(false);
+        }
+        self.keep(above)?;
+        Ok(self.compute(alloc, a, height)?)
+    }
+
+    // Code of an operator at three arguments.
+    #[cycle(build)]
+    fn three(
+        &mut self,
+        alloc: Global,
+        operator: Operator,
+        a: &Json<'_>,
+        b: &Json<'_>,
+        c: &Json<'_>,
+        height: usize,
+    ) -> Result<bool, AllocError>
+        requires strict { is_strict operator ≡ true }
+        requires first { IsOrdered (tree_view a.now) }
+        requires second { IsOrdered (tree_view b.now) }
+        requires third { IsOrdered (tree_view c.now) }
+        ensures { IfOk result (λ done. CompileAll done
+            (λ rs. Adds height (apply operator (rules_of rs)) self.old self.new)
+            (item (tree_view a.now) (item (tree_view b.now) (item (tree_view c.now) no_items)))) }
+    {
+        if !(is_lent(a) && is_lent(b)) {
+            return Ok(self.third(alloc, operator, a, b, c, height)?);
+        }
+        let first = self.operand(alloc, a)?;
+        let second = self.operand(alloc, b)?;
+        match (first, second) {
+            (Some(x), Some(y)) => {
+                self.push(Step::Three(operator, x, y))?;
+                Ok(self.compute(alloc, c, height)?)
+            }
+            _ => Ok(self.third(alloc, operator, a, b, c, height)?),
+        }
+    }
+
+    // The same where the first two results are kept.
+    #[cycle(build)]
+    fn third(
+        &mut self,
+        alloc: Global,
+        operator: Operator,
+        a: &Json<'_>,
+        b: &Json<'_>,
+        c: &Json<'_>,
+        height: usize,
+    ) -> Result<bool, AllocError>
+        requires strict { is_strict operator ≡ true }
+        requires first { IsOrdered (tree_view a.now) }
+        requires second { IsOrdered (tree_view b.now) }
+        requires third { IsOrdered (tree_view c.now) }
+        requires waits { OneWaits
+            (item (tree_view a.now) (item (tree_view b.now) (item (tree_view c.now) no_items))) }
+        ensures { IfOk result (λ done. CompileAll done
+            (λ rs. Adds height (apply operator (rules_of rs)) self.old self.new)
+            (item (tree_view a.now) (item (tree_view b.now) (item (tree_view c.now) no_items)))) }
+    {
+        let one = above(height, 1)?;
+        let two = above(one, 1)?;
+        self.push(Step::Third(operator))?;
+        if !self.compute(alloc, c, two)? {
+            return Ok(false);
+        }
+        self.keep(two)?;
+        if !self.compute(alloc, b, one)? {
+            return Ok(false);
+        }
+        self.keep(one)?;
+        Ok(self.compute(alloc, a, height)?)
+    }
+
+    /// Code of an operator that looks at the results of all its arguments.
+    #[cycle(build)]
+    pub fn few(
+        &mut self,
+        alloc: Global,
+        operator: Operator,
+        arguments: &[Json<'_>],
+        height: usize,
+    ) -> Result<bool, AllocError>
+        requires strict { is_strict operator ≡ true }
+        requires takes { takes operator (length arguments.now) ≡ true }
+        requires ordered { AreOrdered (tree_items arguments.now) }
+        ensures { IfOk result (λ done. CompileAll done
+            (λ rs. Adds height (apply operator (rules_of rs)) self.old self.new)
+            (tree_items arguments.now)) }
+    {
+        match arguments {
+            [] => Ok(false),
+            [a] => Ok(self.one(alloc, operator, a, height)?),
+            [a, b] => Ok(self.two(alloc, operator, a, b, height)?),
+            [a, b, c, ..] => Ok(self.three(alloc, operator, a, b, c, height)?),
+        }
+    }
+}
