@@ -1,5 +1,5 @@
 pub mod Canonical
-pub mod Metadata
+pub mod Crossing
 pub mod OneOutcome
 pub mod Ruled
 pub mod Told

@@ -12,7 +12,7 @@ pub record IsChoice (d : Data) (c : Choice) : Type 0 where
   pub disabled : c.is_disabled ≡ is_disabled (get (codes "state") d)
   pub default : get (codes "defaultVariant") d ≡ Some (string (string_bytes c.default))
   pub variants : get (codes "variants") d ≡ Some (object (members_view c.variants.entries))
-  pub metadata : option_map view c.metadata ≡ get (codes "metadata") d
+  pub metadata : option_map (λ m. view m.value) c.metadata ≡ get (codes "metadata") d
 
 -- the data meet the tests of their members, but for that of `targeting`
 pub record MeetsTests (d : Data) : Type 0 where

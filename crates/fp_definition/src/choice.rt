@@ -14,14 +14,15 @@ use fp_base::Tree;
 use serde_json::{Map, Value};
 use std::alloc::{AllocError, Global};
 
-// Whether a definition is disabled, the name of its default variant, its variants and metadata. What
-// else it has is in its text and its rule alone.
+// Whether a definition is disabled, the name of its default variant, its variants and metadata,
+// which most don't have and which is in a box for that. What else it has is in its text and its
+// rule alone.
 #[derive(Drop)]
 pub(crate) struct Choice {
     pub(crate) is_disabled: bool,
     pub(crate) default: String,
     pub(crate) variants: Map<String, Value>,
-    pub(crate) metadata: Option<Value>,
+    pub(crate) metadata: Option<Box<Value>>,
 }
 
 // The choice of a tree that meets the tests of its members.
@@ -76,12 +77,13 @@ fn variants_of(alloc: Global, tree: &Tree<'_>) -> Result<Map<String, Value>, All
 }
 
 #[tactic(auto, using(fp_base::proofs::Inside::ordered_get))]
-fn metadata_of(alloc: Global, tree: &Tree<'_>) -> Result<Option<Value>, AllocError>
+fn metadata_of(alloc: Global, tree: &Tree<'_>) -> Result<Option<Box<Value>>, AllocError>
     requires { IsOrdered (tree_view tree.now) }
-    ensures { IfOk result (λ m. option_map view m ≡ get (codes "metadata") (tree_view tree.now)) }
+    ensures { IfOk result (λ m. option_map (λ b. view b.value) m
+        ≡ get (codes "metadata") (tree_view tree.now)) }
 {
     match tree.get("metadata") {
-        Some(metadata) => Ok(Some(metadata.to_value(alloc)?)),
+        Some(metadata) => Ok(Some(Box::new(alloc, metadata.to_value(alloc)?)?)),
         None => Ok(None),
     }
 }

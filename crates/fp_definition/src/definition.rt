@@ -115,7 +115,10 @@ impl Definition {
             ≡ get (codes "metadata") (data_of self.now) }
         ensures whole { IfSome result (λ m. is_whole (view m.now) ≡ true) }
     {
-        self.choice().metadata.as_ref()
+        match &self.choice().metadata {
+            Some(metadata) => Some(metadata),
+            None => None,
+        }
     }
 
     // What it chooses from.

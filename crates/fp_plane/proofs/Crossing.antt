@@ -1,17 +1,11 @@
--- Definitions, sets of flags, edits and desks may cross threads.
+-- Sets of flags, edits and desks may cross threads.
 use denote.Param.Send.{IsSend, IsSync, sendable, view_send, view_sync, recorded_send, recorded_sync, struct_send, struct_sync, enum_send}
 use denote.Struct.Declared.{shape}
 use denote.Enum.Declared as enums
 use Rattle.std.proofs.Crossing.{crosses, Arc-send, Arc-sync, Deque-send, Vec-send, Vec-sync}
 use Rattle.std.proofs.MapsCrossing as maps
-use Rattle.serde_json.proofs.value.Value.TheLaws.TheKnot as value_knot
-use Rattle.serde_json.specs.contracts.value.Value as value
-use Rattle.fp_targeting.proofs.Crossing.{rule_sent, rule_shared}
+use Rattle.fp_definition.proofs.Crossing.{definition_sent, definition_shared}
 use Rattle.fp_definition.proofs.key.FlagKey.TheSendSync as key
-use Rattle.fp_definition.specs.contracts.choice.Choice as choice
-use Rattle.fp_definition.specs.contracts.definition.Definition as definition
-use Rattle.fp_definition.specs.contracts.definition.Definition.TheInside as definition_inside
-use Rattle.fp_definition.specs.contracts.definition.Kept as kept
 use Rattle.fp_edit.specs.contracts.edit.Edit as edit
 use Rattle.fp_edit.specs.contracts.edit.Change as change
 use Rattle.fp_edit.specs.contracts.changes.Changes as changes
@@ -24,30 +18,6 @@ use Rattle.fp_group_commit.specs.contracts.settled.Settled as settled
 use Rattle.fp_group_commit.specs.contracts.settled.Settled.TheInside as settled_inside
 use Rattle.fp_desk.specs.contracts.desk.Desk as desk
 use Rattle.fp_desk.specs.contracts.desk.Desk.TheInside as desk_inside
-
-value_sent : IsSend (value.the_field).row
-value_sent = search (sendable, crosses, maps.crosses, value_knot.both_send-Value) depth 30
-
-value_shared : IsSync (value.the_field).row
-value_shared = search (sendable, crosses, maps.crosses, value_knot.both_sync-Value) depth 30
-
-choice_sent : IsSend (choice.the_field).row
-choice_sent = struct_send (shape choice.the_type) (search sendable, (search (sendable, crosses) depth 20, (search (sendable, maps.BTreeMap-send, maps.String-send, value_sent) depth 5, (search (sendable, value_sent) depth 20, tt))))
-
-choice_shared : IsSync (choice.the_field).row
-choice_shared = struct_sync (shape choice.the_type) (search sendable, (search (sendable, crosses) depth 20, (search (sendable, maps.BTreeMap-sync, maps.String-sync, value_shared) depth 5, (search (sendable, value_shared) depth 20, tt))))
-
-kept_sent : IsSend kept.the_row
-kept_sent = recorded_send _ _ _ (kept.the_type).to_one (struct_send (shape kept.the_type) (search (sendable, crosses) depth 20, (choice_sent, (search (sendable, rule_sent) depth 20, tt))))
-
-kept_shared : IsSync kept.the_row
-kept_shared = recorded_sync _ _ _ (kept.the_type).to_one (struct_sync (shape kept.the_type) (search (sendable, crosses) depth 20, (choice_shared, (search (sendable, rule_shared) depth 20, tt))))
-
-pub definition_sent : IsSend definition.the_row
-definition_sent = view_send _ _ _ _ _ (recorded_send _ _ _ (definition_inside.the_type).to_one (struct_send (shape definition_inside.the_type) (Arc-send _ kept_sent kept_shared, tt)))
-
-pub definition_shared : IsSync definition.the_row
-definition_shared = view_sync _ _ _ _ _ (recorded_sync _ _ _ (definition_inside.the_type).to_one (struct_sync (shape definition_inside.the_type) (Arc-sync _ kept_sent kept_shared, tt)))
 
 flag_sent : IsSend flag.the_row
 flag_sent = search (sendable, definition_sent) depth 20
