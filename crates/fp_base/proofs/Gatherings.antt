@@ -1,8 +1,11 @@
 -- Members gathered in order, with those behind them that wait.
 use Rattle.std.proofs.Common.{◌≡◌, List, ℕ, [], ◌∷◌, ◌++◌, length, refl, sym, ap, subst, ◌∙◌, arith, append_assoc, append-nil}
 use Rattle.std.specs.Borrow.{Bor}
-use Rattle.std.specs.BTreeMap.{BTreeMap, insert_entry, IsFromIterResult}
+use Rattle.std.specs.BTreeMap.{insert_entry}
 use Rattle.std.specs.Cmp.{IsTotalOrder}
+use Rattle.std.specs.List.Sorted.{IsStableBy, IsStrictlySortedBy}
+use Rattle.std.specs.Map.{keys_of}
+use Rattle.std.specs.Ordering.{is_lt}
 use Rattle.std.proofs.lemmas.Cmp.{nat_list_cmp_total}
 use Rattle.std.proofs.lemmas.Map.Lookups.{map_keys, exact_bytes}
 use Rattle.serde_json.specs.Data.{Members, no_members, member, put}
@@ -10,16 +13,16 @@ use Rattle.fp_base.specs.Gathered.{laid}
 use Rattle.fp_base.specs.Places.{AreBefore}
 use Rattle.fp_base.specs.Sorted.{IsSorted}
 use Rattle.fp_base.specs.TreeView.{Entry, tree_view, tree_members}
-use Rattle.fp_base.specs.declared.tree.Tree.{Tree}
 use Rattle.fp_base.proofs.Collected.{named, inserted, at-inserted, keys-sorted, same-pairs}
 use Rattle.fp_base.proofs.Entries.{entry_cmp, members-insert, put-last}
 use Rattle.fp_base.proofs.Halves.{put-behind}
 use Rattle.fp_base.proofs.Sorted.{sorted-put}
+use Rattle.fp_base.proofs.Stable.{alike}
 
-abbrev name : Bor (List ℕ) → List ℕ
+abbrev pub name : Bor (List ℕ) → List ℕ
 name k = k.now
 
-names_total : IsTotalOrder entry_cmp
+pub names_total : IsTotalOrder entry_cmp
 names_total = record {
   antisymm = λ x y. nat_list_cmp_total.antisymm x.now y.now;
   trans = λ x y z. nat_list_cmp_total.trans x.now y.now z.now;
@@ -48,21 +51,28 @@ members-inserted : (es xs : List Entry) → tree_members (inserted names_total e
 members-inserted es [] = refl
 members-inserted es (x ∷ xs) = members-inserted (insert_entry entry_cmp es x.0 x.1) xs ∙ ap (λ ms. laid ms xs) (members-insert es x.0 x.1)
 
--- a tree's members, from those in order and those that came behind them
-pub gathered_collected : (ordered waiting : List Entry) (n : BTreeMap (Bor (List ℕ)) Tree) → IsSorted (tree_members ordered) → IsFromIterResult entry_cmp (ordered ++ waiting) n
-    → tree_members n.entries ≡ laid (tree_members ordered) waiting
-gathered_collected ordered waiting n sorted made =
-    let all = ordered ++ waiting in
-    let es = inserted names_total [] all in
-    let laid-all : tree_members es ≡ laid no_members all = members-inserted [] all in
-    let in_order = subst IsSorted (sym laid-all) (sorted-laid no_members all tt) in
-    trees-named n.entries
+-- those in order and those that came behind them, put in turn among none
+pub laid_together : (ordered waiting all : List Entry) → IsSorted (tree_members ordered) → all ≡ ordered ++ waiting → laid no_members all ≡ laid (tree_members ordered) waiting
+laid_together ordered waiting all sorted is = ap (laid no_members) is ∙ laid-append no_members ordered waiting ∙ ap (λ ms. laid ms waiting) (laid-behind [] ordered sorted)
+
+inserted-sorted : (xs : List Entry) → IsStrictlySortedBy entry_cmp (keys_of (inserted names_total [] xs))
+inserted-sorted xs =
+    let es = inserted names_total [] xs in
+    let made : tree_members es ≡ laid no_members xs = members-inserted [] xs in
+    keys-sorted name tree_view es (subst IsSorted (trees-named es) (subst IsSorted (sym made) (sorted-laid no_members xs tt)))
+
+-- what a stable sort by the names leaves makes the same members
+pub laid-sorted : (xs ys : List Entry) → length ys ≡ length xs → IsStableBy (λ (p : Entry) (q : Entry). is_lt (entry_cmp p.0 q.0)) xs ys → laid no_members ys ≡ laid no_members xs
+laid-sorted xs ys len stable =
+    let one = inserted names_total [] ys in
+    let other = inserted names_total [] xs in
+    sym (members-inserted [] ys)
+    ∙ trees-named one
     ∙ ap (named name tree_view)
-    (same-pairs names_total name (λ x y h. exact_bytes x.now y.now h) n.entries es made.1 (keys-sorted name tree_view es (subst IsSorted (trees-named es) in_order)) (λ q. made.0 q ∙ at-inserted names_total [] all q))
-    ∙ sym (trees-named es)
-    ∙ laid-all
-    ∙ laid-append no_members ordered waiting
-    ∙ ap (λ ms. laid ms waiting) (laid-behind [] ordered sorted)
+    (same-pairs names_total name (λ x y h. exact_bytes x.now y.now h) one other (inserted-sorted ys) (inserted-sorted xs)
+    (λ q. sym (at-inserted names_total [] ys q) ∙ alike names_total q xs ys len stable ∙ at-inserted names_total [] xs q))
+    ∙ sym (trees-named other)
+    ∙ members-inserted [] xs
 
 -- one more at the end of those that wait
 pub laid-last : (ms : Members) (es new : List Entry) (m : Entry) → new ≡ es ++ m ∷ [] → laid ms new ≡ put m.0.now (tree_view m.1) (laid ms es)

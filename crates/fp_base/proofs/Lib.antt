@@ -11,6 +11,7 @@ pub mod Entries
 pub mod Halves
 pub mod Gatherings
 pub mod Collected
+pub mod Stable
 pub mod Read
 pub mod Parsed
 pub mod Numerals

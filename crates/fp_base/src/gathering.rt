@@ -1,6 +1,8 @@
 //! The members of an object, gathered as they are read.
 
-ghost use Rattle.std.specs.Prelude.{◌≡◌, true, IfOk, OnOk};
+ghost use Rattle.std.specs.Prelude.{◌≡◌, ◌++◌, true, IfOk, OnOk};
+ghost use Rattle.std.specs.Cmp.Lexicographic.{slice_cmp};
+ghost use Rattle.std.specs.Ordering.{nat_cmp};
 ghost use Rattle.serde_json.specs.Data.{no_members, put};
 ghost use Rattle.fp_base.specs.Gathered.{laid, gathered};
 ghost use Rattle.fp_base.specs.Places.{AreBefore};
@@ -10,14 +12,17 @@ ghost use Rattle.fp_base.specs.TreeView.{tree_view, tree_members};
 use crate::places::put_in_order;
 use crate::tree::Tree;
 use std::alloc::{AllocError, Global};
-use std::collections::BTreeMap;
+use std::cmp::Ordering;
 use std::mem::replace;
 
 // Among so many members one that comes out of order is put in its place; beside more it waits.
-const MOST_MOVED: usize = 64;
+const MOST_MOVED: usize = 16;
 
-// At least so many wait, and as many as are in order, before all are put in order while reading
-// goes on: repeats of a name are dropped then.
+// So few that wait at the end, among as few, are put in their places one by one. More are sorted.
+const MOST_LAID: usize = 48;
+
+// At least so many wait, and half as many as are in order, before all are put in order while
+// reading goes on: repeats of a name are dropped then.
 const MOST_WAITING: usize = 1024;
 
 // Members in ascending order of their names, and behind them as they came those that wait to be put
@@ -83,7 +88,7 @@ impl<'a> Gathered<'a> {
         }
         self.waiting.push((name, tree))?;
         let waiting = self.waiting.len();
-        if waiting < MOST_WAITING || waiting < self.ordered.len() {
+        if waiting < MOST_WAITING || waiting < self.ordered.len() / 2 {
             return Ok(());
         }
         let ordered = replace(&mut self.ordered, Vec::new(alloc));
@@ -100,6 +105,9 @@ impl<'a> Gathered<'a> {
         let Gathered { ordered, waiting } = self;
         if waiting.is_empty() {
             return Ok(ordered);
+        }
+        if waiting.len() <= MOST_LAID && ordered.len() <= MOST_LAID {
+            return laid(ordered, waiting);
         }
         in_order(alloc, ordered, waiting)
     }
@@ -119,7 +127,7 @@ fn comes_last(members: &[(&str, Tree<'_>)], name: &str) -> bool
 
 // All members, each that waits put among the others in turn.
 #[inline(never)]
-#[tactic(auto, using(crate::proofs::Gatherings::gathered_collected))]
+#[tactic(auto, using(crate::proofs::Gatherings::laid_together))]
 fn in_order<'a>(
     alloc: Global,
     ordered: Vec<(&'a str, Tree<'a>)>,
@@ -129,19 +137,77 @@ fn in_order<'a>(
     ensures { IfOk result (λ v. tree_members v.items
         ≡ laid (tree_members ordered.entry.items) waiting.entry.items) }
 {
-    let mut all = ordered;
-    let mut waiting = waiting;
-    all.append(&mut waiting)?;
-    // A map made at once is sorted: cheaper than a look-up for each member.
-    let found: BTreeMap<&'a str, Tree<'a>> = all.into_iter().collect(alloc)?;
-    Ok(as_list(alloc, found)?)
+    let all = joined(ordered, waiting)?;
+    let found = sorted(alloc, all)?;
+    Ok(found)
 }
 
-fn as_list<'a>(
-    alloc: Global,
-    members: BTreeMap<&'a str, Tree<'a>>,
+// The ones in front of the others.
+fn joined<'a>(
+    front: Vec<(&'a str, Tree<'a>)>,
+    behind: Vec<(&'a str, Tree<'a>)>,
 ) -> Result<Vec<(&'a str, Tree<'a>)>, AllocError>
-    ensures { IfOk result (λ v. tree_members v.items ≡ tree_members members.entry.entries) }
+    ensures { IfOk result (λ v. v.items ≡ front.entry.items ++ behind.entry.items) }
 {
-    Ok(members.into_iter().collect(alloc)?)
+    let mut all = front;
+    let mut behind = behind;
+    all.reserve_exact(behind.len())?;
+    all.append(&mut behind)?;
+    Ok(all)
+}
+
+// Members that were put in turn among none. Once they are sorted, each comes last, or repeats the
+// one before it.
+fn sorted<'a>(
+    alloc: Global,
+    members: Vec<(&'a str, Tree<'a>)>,
+) -> Result<Vec<(&'a str, Tree<'a>)>, AllocError>
+    ensures { IfOk result (λ v. tree_members v.items ≡ laid no_members members.entry.items) }
+{
+    let mut members = members;
+    members.sort_by(by_name)?;
+    let none = Vec::with_capacity(alloc, members.len())?;
+    let found = laid(none, members)?;
+    Ok(found)
+}
+
+fn by_name(one: &(&str, Tree<'_>), other: &(&str, Tree<'_>)) -> Ordering
+    ensures { result ≡ slice_cmp nat_cmp one.now.0.now other.now.0.now }
+{
+    one.0.cmp(other.0)
+}
+
+// Members in order, with each of the others put among them in turn.
+fn laid<'a>(
+    ordered: Vec<(&'a str, Tree<'a>)>,
+    others: Vec<(&'a str, Tree<'a>)>,
+) -> Result<Vec<(&'a str, Tree<'a>)>, AllocError>
+    requires { IsSorted (tree_members ordered.items) }
+    ensures { IfOk result (λ v. tree_members v.items
+        ≡ laid (tree_members ordered.entry.items) others.entry.items) }
+{
+    let mut all = ordered;
+    for (name, tree) in others {
+        put_next(&mut all, name, tree)?;
+    }
+    Ok(all)
+}
+
+// One member more, which mostly comes last.
+#[inline(always)]
+fn put_next<'a>(
+    all: &mut Vec<(&'a str, Tree<'a>)>,
+    name: &'a str,
+    tree: Tree<'a>,
+) -> Result<(), AllocError>
+    requires { IsSorted (tree_members all.old.items) }
+    ensures { OnOk result (tree_members all.new.items
+        ≡ put name.now (tree_view tree.entry) (tree_members all.old.items)) }
+{
+    if comes_last(all, name) {
+        all.push((name, tree))?;
+        return Ok(());
+    }
+    put_in_order(all, name, tree)?;
+    Ok(())
 }

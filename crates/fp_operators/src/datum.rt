@@ -14,6 +14,9 @@ use serde_json::Value;
 use std::alloc::{AllocError, Global};
 use std::collections::BTreeMap;
 
+// Below so many members, putting each into a map by itself is cheaper than making the map at once.
+const LEAST_AT_ONCE: usize = 8;
+
 /// Data of rules: what JSON writes, with whole numbers from -2^63 to 2^63-1 alone.
 ///
 /// Data nest no deeper than the JSON that they were read from, which the reader limits to 127
@@ -54,7 +57,12 @@ impl Datum {
             },
             Tree::String(s) => Ok(Datum::Text(String::from_str(alloc, s)?)),
             Tree::Array(items) => Ok(Datum::List(from_items(alloc, items)?)),
-            Tree::Object(members) => Ok(Datum::Object(from_members(alloc, members)?)),
+            Tree::Object(members) => {
+                if members.len() < LEAST_AT_ONCE {
+                    return Ok(Datum::Object(from_few(alloc, members)?));
+                }
+                Ok(Datum::Object(from_many(alloc, members)?))
+            }
         }
     }
 
@@ -88,7 +96,7 @@ fn from_items(alloc: Global, items: &Vec<Tree<'_>>) -> Result<Vec<Datum>, AllocE
 }
 
 #[cycle(from_tree)]
-fn from_members(
+fn from_few(
     alloc: Global,
     members: &Vec<(&str, Tree<'_>)>,
 ) -> Result<BTreeMap<String, Datum>, AllocError>
@@ -103,6 +111,24 @@ fn from_members(
         drop(found.insert(name, Datum::from_tree(alloc, &member.1)?)?);
     }
     Ok(found)
+}
+
+#[cycle(from_tree)]
+fn from_many(
+    alloc: Global,
+    members: &Vec<(&str, Tree<'_>)>,
+) -> Result<BTreeMap<String, Datum>, AllocError>
+    requires sorted { IsSorted (tree_members members.now.items) }
+    requires ordered { MembersAreOrdered (tree_members members.now.items) }
+    ensures { IfOk result
+        (λ m. members_view m.entries ≡ members_from (tree_members members.now.items)) }
+{
+    let mut found = Vec::with_capacity(alloc, members.len())?;
+    for member in members {
+        let name = String::from_str(alloc, member.0)?;
+        found.push((name, Datum::from_tree(alloc, &member.1)?))?;
+    }
+    Ok(found.into_iter().collect(alloc)?)
 }
 
 #[cycle(copy)]
