@@ -21,7 +21,7 @@ pub use murmur::hash_of;
 pub use order::{
     between_exclusive, between_inclusive, greater, greater_or_equal, less, less_or_equal,
 };
-pub use path::{named, step, variable};
+pub use path::{at_text, named, step, variable};
 pub use share::place_below;
 pub use text::{append_text, concatenate, ends_with, is_in, starts_with};
 pub use truth::{is_falsy, is_truthy};

@@ -55,7 +55,8 @@ pub fn named<'d>(
     }
 }
 
-fn at_text<'d>(root: &'d Datum, path: &str) -> Option<&'d Datum>
+/// What the path that a text writes names in the data: the empty one all of them.
+pub fn at_text<'d>(root: &'d Datum, path: &str) -> Option<&'d Datum>
     ensures { option_map (λ d. view d.now) result ≡ at_text_of path.now (view root.now) }
 {
     if path.is_empty() {

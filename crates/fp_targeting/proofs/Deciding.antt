@@ -19,7 +19,7 @@ use Rattle.fp_targeting.specs.declared.operator.Operator.{Operator}
 use Rattle.fp_targeting.specs.declared.code.Step.TheVariants.{LoadNull, Skip, SkipIfFalse, SkipIfTrue, Find, End}
 use Rattle.fp_targeting.specs.declared.operator.Operator.TheVariants.{If, And, Or, Var, Cat, SemVer, Fractional, Unary, Binary, Chain}
 use Rattle.fp_targeting.proofs.Frugal.{not-false, true-false, pushed-frugal, itself-none, all-none, first-none, others-none}
-use Rattle.fp_targeting.proofs.Emitting.{grows-trans, grows-skip, pushed-has, pushed-grows, pushed-run, pushed-read, all-last}
+use Rattle.fp_targeting.proofs.Emitting.{grows-trans, grows-skip, pushed-has, pushed-few, pushed-grows, pushed-run, pushed-read, all-last}
 use Rattle.fp_targeting.proofs.OneResult.{either_way}
 
 value-results : (o : Operator) (root : Data) (rs : Rules) (ds : List Data) → looks_at_results o ≡ true → value_of_operator o root ds ≡ value_at o root rs ds
@@ -39,6 +39,7 @@ pub added-decided : {o : Operator} {h n : ℕ} {rs : List Rule} {a b d : Code} �
     → Adds h (tree.apply o (rules_of rs)) a d
 added-decided {o = o} {n = n} {rs = rs} {a = a} looks p x same = record {
   grows = grows-trans (pushed-grows p) x.grows;
+  few = omega (arith, pushed-few p, x.few);
   runs = λ env e root v s l.
       x.runs env e root v s l ∙ pushed-run p env root (value_of_operator o root (meanings root (rules_of rs))) s
       ∙ ap (λ w. run env root (in_order a) 0 w s) (value-results o root (rules_of rs) (meanings root (rules_of rs)) looks);
@@ -51,6 +52,7 @@ added-decided {o = o} {n = n} {rs = rs} {a = a} looks p x same = record {
 and-last : {h : ℕ} {r : Rule} {a b : Code} → Adds h r a b → Decides And h (r ∷ []) a b
 and-last {r = r} {a = a} x = record {
   grows = x.grows;
+  few = omega (arith, x.few);
   runs = λ env e root v s l. x.runs env e root v s l ∙ ap (λ w. run env root (in_order a) 0 w s) (either_way (truth (meaning root r)) (meaning root r));
   reads = x.reads;
   frugal = λ none f. x.frugal (first-none r no_rules none) f;
@@ -59,6 +61,7 @@ and-last {r = r} {a = a} x = record {
 or-last : {h : ℕ} {r : Rule} {a b : Code} → Adds h r a b → Decides Or h (r ∷ []) a b
 or-last {r = r} {a = a} x = record {
   grows = x.grows;
+  few = omega (arith, x.few);
   runs = λ env e root v s l. x.runs env e root v s l ∙ ap (λ w. run env root (in_order a) 0 w s) (either_way (truth (meaning root r)) (meaning root r));
   reads = x.reads;
   frugal = λ none f. x.frugal (first-none r no_rules none) f;
@@ -74,6 +77,7 @@ and-more : {h n : ℕ} {r q : Rule} {rs : List Rule} {a b c d : Code} → Decide
     → n ≡ length b.steps.items - length a.steps.items → Adds h r c d → Decides And h (r ∷ q ∷ rs) a d
 and-more {n = n} {r = r} {q = q} {rs = rs} {a = a} {b = b} x p skips y = record {
   grows = grows-trans x.grows (grows-trans (pushed-grows p) y.grows);
+  few = omega (arith, x.few, pushed-few p, y.few);
   runs = λ env e root v s l.
       let ec = y.grows.within env e in
       let m = meaning root r in
@@ -90,6 +94,7 @@ or-more : {h n : ℕ} {r q : Rule} {rs : List Rule} {a b c d : Code} → Decides
     → n ≡ length b.steps.items - length a.steps.items → Adds h r c d → Decides Or h (r ∷ q ∷ rs) a d
 or-more {n = n} {r = r} {q = q} {rs = rs} {a = a} {b = b} x p skips y = record {
   grows = grows-trans x.grows (grows-trans (pushed-grows p) y.grows);
+  few = omega (arith, x.few, pushed-few p, y.few);
   runs = λ env e root v s l.
       let ec = y.grows.within env e in
       let m = meaning root r in
@@ -139,19 +144,21 @@ more-decides o (q ∷ rs) e any x p skips y = more_decides o e x p skips y
 pub if-none : {h : ℕ} {a b : Code} → Pushed LoadNull a b → Decides If h [] a b
 if-none p = record {
   grows = pushed-grows p;
+  few = omega (arith, pushed-few p);
   runs = λ env e root v s l. pushed-run p env root v s;
   reads = λ env e t. pushed-read p env t;
   frugal = λ none f. pushed-frugal p refl f;
 }
 
 pub if-last : {h : ℕ} {r : Rule} {a b : Code} → Adds h r a b → Decides If h (r ∷ []) a b
-if-last {r = r} x = record { grows = x.grows; runs = x.runs; reads = x.reads; frugal = λ none f. x.frugal (first-none r no_rules none) f }
+if-last {r = r} x = record { grows = x.grows; few = omega (arith, x.few); runs = x.runs; reads = x.reads; frugal = λ none f. x.frugal (first-none r no_rules none) f }
 
 pub if-more : {h n k : ℕ} {c r : Rule} {rs : List Rule} {a b d f g i : Code} → Decides If h rs a b → Pushed (Skip n) b d
     → n ≡ length b.steps.items - length a.steps.items → Adds h r d f → Pushed (SkipIfFalse k) f g
     → k ≡ length f.steps.items - length b.steps.items → Adds h c g i → Decides If h (c ∷ r ∷ rs) a i
 if-more {n = n} {k = k} {c = c} {r = r} {rs = rs} {a = a} {f = f} x p ends y q skips z = record {
   grows = grows-trans x.grows (grows-trans (pushed-grows p) (grows-trans y.grows (grows-trans (pushed-grows q) z.grows)));
+  few = omega (arith, x.few, pushed-few p, y.few, pushed-few q, z.few);
   runs = λ env e root v s l.
       let eg = z.grows.within env e in
       let ef = pushed-has q env eg in
@@ -186,6 +193,7 @@ module _ (env : Env) (root : Data) (cs ds : List Step) (s : List Data) (n : ℕ)
 pub finds-computed : {n h : ℕ} {p : Rule} {a b d : Code} → is_known p ≡ false → Pushed (Find n) a b → Adds h p b d → Finds n h p a d
 finds-computed {p = p} other f x = record {
   grows = grows-trans (pushed-grows f) x.grows;
+  few = omega (arith, pushed-few f, x.few);
   runs = λ env e root v s l. x.runs env e root v s l ∙ pushed-run f env root (meaning root p) s;
   reads = λ env e t. x.reads env e t ∙ pushed-read f env (p ∷ t);
   frugal = λ known _. absurd (true-false known other);
@@ -199,6 +207,7 @@ path-known p rs none = not-false (is_known p) (itself-none Var (rule p rs) none)
 pub found-alone : {h : ℕ} {p : Rule} {a c : Code} → Finds 0 h p a c → Decides Var h (p ∷ []) a c
 found-alone {p = p} {a = a} x = record {
   grows = x.grows;
+  few = omega (arith, x.few);
   runs = λ env e root v s l.
       x.runs env e root v s l
       ∙ found-run env root (in_order a) (in_order a) s 0 (named_by (meaning root p) root) null refl (λ d. refl);
@@ -210,6 +219,7 @@ found-alone {p = p} {a = a} x = record {
 pub found-default : {h n : ℕ} {p q : Rule} {a b d : Code} → Adds h q a b → n ≡ length b.steps.items - length a.steps.items → Finds n h p b d → Decides Var h (p ∷ q ∷ []) a d
 found-default {n = n} {p = p} {q = q} {a = a} {b = b} x skips y = record {
   grows = grows-trans x.grows y.grows;
+  few = omega (arith, x.few, y.few);
   runs = λ env e root v s l.
       let eb = y.grows.within env e in
       y.runs env e root v s l

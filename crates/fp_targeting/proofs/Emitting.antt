@@ -1,5 +1,5 @@
 -- Code put together: what is added for a rule's parts makes the code of the rule.
-use Rattle.std.proofs.Common.{◌≡◌, ◌+◌, ◌-◌, ℕ, List, [], ◌∷◌, ◌++◌, length, map, Bool, true, false, Option, Some, None, option_and_then, nat_lt, refl, sym, ap, ◌∙◌, subst, arith, if◌then◌else◌}
+use Rattle.std.proofs.Common.{◌≡◌, ◌≤◌, ◌+◌, ◌-◌, ℕ, List, [], ◌∷◌, ◌++◌, length, map, Bool, true, false, Option, Some, None, option_and_then, nat_lt, refl, sym, ap, ◌∙◌, subst, arith, if◌then◌else◌}
 use Rattle.std.proofs.lemmas.Bool.{le-leb}
 use Rattle.std.proofs.lemmas.List.{append_assoc, append-nil, length-map}
 use Rattle.serde_json.specs.Data as json
@@ -7,11 +7,12 @@ use Rattle.fp_operators.specs.Data.{Data, null}
 use Rattle.fp_operators.specs.Text.{concatenation}
 use Rattle.fp_operators.specs.View.{view}
 use Rattle.fp_targeting.specs.Compiles.{IsCompiled}
-use Rattle.fp_targeting.specs.Emits.{Has, Grows, Pushed, Raised, IsOperand, Adds, Keeps}
+use Rattle.fp_targeting.specs.Emits.{Has, Grows, Pushed, Raised, IsOperand, Adds, AddsAlone, Keeps}
 use Rattle.fp_targeting.specs.Frugal.{IsFrugal}
 use Rattle.fp_targeting.specs.Machine.{Env, Turn, run, look, list_of}
 use Rattle.fp_targeting.specs.Meaning.{meaning, meanings}
 use Rattle.fp_targeting.specs.Memory.{are_literals}
+use Rattle.fp_targeting.specs.Places.{places, all_places}
 use Rattle.fp_targeting.specs.Reading.{reads, read, in_order, with_last}
 use Rattle.fp_targeting.specs.Rule as tree
 use Rattle.fp_targeting.specs.Rule.{Rule, Rules, no_rules, rule}
@@ -21,12 +22,19 @@ use Rattle.fp_targeting.specs.declared.code.Code.{Code}
 use Rattle.fp_targeting.specs.declared.code.Operand.{Operand}
 use Rattle.fp_targeting.specs.declared.code.Step.{Step}
 use Rattle.fp_targeting.specs.declared.code.Step.TheVariants.{Load, Keep, Join, Collect}
+use Rattle.fp_targeting.specs.declared.operator.Operator.{Operator}
 use Rattle.fp_targeting.specs.declared.operator.Operator.TheVariants.{Cat}
 use Rattle.fp_targeting.proofs.Frugal.{pushed-frugal, operand-frugal, not-false, true-false}
 use Rattle.fp_targeting.proofs.Machines.{skip-over, of_all}
 use Rattle.fp_targeting.proofs.OneResult.{length-meanings}
 use Rattle.fp_targeting.proofs.Parts.{count_of-rules_of}
 use Rattle.fp_targeting.proofs.Stacks.{onto-append, onto-last, off-onto}
+
+-- a rule takes a place at least
+pub one-place : (r : Rule) → 1 ≤ places r
+one-place (tree.literal d) = omega arith
+one-place (tree.list rs) = omega arith
+one-place (tree.apply o rs) = omega arith
 
 -- ---- growing
 
@@ -37,7 +45,7 @@ grows-trans {a = a} g h = record {
   within = λ env e. g.within env (h.within env e);
 }
 
-grows-itself : (a : Code) → Grows a a
+pub grows-itself : (a : Code) → Grows a a
 grows-itself a = record { more = []; steps = sym (append-nil a.steps.items); within = λ env e. e }
 
 pub grows-skip : {a b : Code} → Grows a b → (n : ℕ) → n ≡ length b.steps.items - length a.steps.items → (env : Env) (root v : Data) (s : List Data)
@@ -57,8 +65,12 @@ module _ {a b : Code} {c : Step} (p : Pushed c a b) where
   pushed-has env h = record {
     more = h.more;
     pool = h.pool ∙ ap (λ q. map view q.items ++ h.more) p.pool;
+    fits = h.fits;
     room = omega (arith, h.room, p.room);
   }
+
+  pub pushed-few : length b.pool.items ≡ length a.pool.items
+  pushed-few = ap (λ q. length q.items) p.pool
 
   pub pushed-grows : Grows a b
   pushed-grows = record { more = c ∷ []; steps = p.steps; within = pushed-has }
@@ -79,6 +91,7 @@ module _ {o : Operand} {r : Rule} {a b : Code} (x : IsOperand o r a b) where
   pub added-load : {h : ℕ} {d : Code} → Pushed (Load o) b d → Adds h r a d
   added-load p = record {
     grows = grows-trans x.grows (pushed-grows p);
+    few = omega (arith, x.few, pushed-few p, one-place r);
     runs = λ env e root v s _. pushed-run p env root v s ∙ ap (λ cs. run env root cs 0 (look env root v o) s) operand-order
         ∙ ap (λ w. run env root (in_order a) 0 w s) (x.looks env (pushed-has p env e) root v);
     reads = λ env e t. pushed-read p env t ∙ ap (λ cs. read env cs (reads env (Load o) t)) operand-order
@@ -96,20 +109,23 @@ operand-there {o = o} {r = r} {d = d} e i = subst (λ z. IsOperand o r z d) e i
 -- no instruction was added
 pub record Stays (old new : Code) : Type 0 where
   pub grows : Grows old new
+  pub few : length new.pool.items ≤ length old.pool.items + 1
   pub order : in_order new ≡ in_order old
   pub frugal : IsFrugal old → IsFrugal new
 
 -- whether an operand was made or not
 pub stays : (x : Option Operand) {a b : Code} {d : json.Data} → ((o : Operand) → x ≡ Some o → IsCompiled (λ r. IsOperand o r a b) d) → (x ≡ None → b ≡ a) → Stays a b
-stays None {a = a} some none = subst (Stays a) (sym (none refl)) (record { grows = grows-itself a; order = refl; frugal = λ f. f })
-stays (Some o) some none = let i = (some o refl).made in record { grows = i.grows; order = operand-order i; frugal = λ f. operand-frugal i f }
+stays None {a = a} some none = subst (Stays a) (sym (none refl)) (record { grows = grows-itself a; few = omega arith; order = refl; frugal = λ f. f })
+stays (Some o) some none = let i = (some o refl).made in record { grows = i.grows; few = i.few; order = operand-order i; frugal = λ f. operand-frugal i f }
 
-pub adds-later : {h : ℕ} {r : Rule} {a b d : Code} → Stays a b → Adds h r b d → Adds h r a d
-adds-later {r = r} z x = record {
-  grows = grows-trans z.grows x.grows;
-  runs = λ env e root v s l. x.runs env e root v s l ∙ ap (λ cs. run env root cs 0 (meaning root r) s) z.order;
-  reads = λ env e t. x.reads env e t ∙ ap (λ cs. read env cs (r ∷ t)) z.order;
-  frugal = λ none f. x.frugal none (z.frugal f);
+-- behind two operands that were looked for
+pub adds-later : {h : ℕ} {o : Operator} {rs : List Rule} {a b c d : Code} → Stays a b → Stays b c → AddsAlone h o rs c d → Adds h (tree.apply o (rules_of rs)) a d
+adds-later {o = o} {rs = rs} y z k = let r = tree.apply o (rules_of rs) in let x = k.adds in record {
+  grows = grows-trans y.grows (grows-trans z.grows x.grows);
+  few = omega (arith, y.few, z.few, k.alone);
+  runs = λ env e root v s l. x.runs env e root v s l ∙ ap (λ cs. run env root cs 0 (meaning root r) s) (z.order ∙ y.order);
+  reads = λ env e t. x.reads env e t ∙ ap (λ cs. read env cs (r ∷ t)) (z.order ∙ y.order);
+  frugal = λ none f. x.frugal none (z.frugal (y.frugal f));
 }
 
 -- ---- what is kept
@@ -124,8 +140,12 @@ module _ {a b : Code} {m : ℕ} (k : Raised m a b) where
   raised-has env e = record {
     more = e.more;
     pool = e.pool ∙ ap (λ q. map view q.items ++ e.more) k.pool;
+    fits = e.fits;
     room = omega (arith, e.room, k.room);
   }
+
+  pub raised-few : length b.pool.items ≡ length a.pool.items
+  raised-few = ap (λ q. length q.items) k.pool
 
   pub raised-grows : Grows a b
   raised-grows = record { more = Keep ∷ []; steps = k.steps; within = raised-has }
@@ -150,11 +170,12 @@ pub adds-at : (m n : ℕ) {r : Rule} {a b : Code} → m ≡ n → Adds m r a b �
 adds-at m n {r = r} {a = a} {b = b} e x = subst (λ i. Adds i r a b) e x
 
 pub keeps-none : (h : ℕ) (a : Code) → Keeps h [] a a
-keeps-none h a = record { grows = grows-itself a; runs = λ env e root v s l. (v, refl); reads = λ env e t. refl }
+keeps-none h a = record { grows = grows-itself a; few = omega arith; runs = λ env e root v s l. (v, refl); reads = λ env e t. refl }
 
 pub keeps-more : {h m : ℕ} {r : Rule} {rs : List Rule} {a b c d : Code} → m ≡ h + 1 → Keeps m rs a b → Raised m b c → Adds h r c d → Keeps h (r ∷ rs) a d
 keeps-more {r = r} up x k y = record {
   grows = grows-trans x.grows (grows-trans (raised-grows k) y.grows);
+  few = omega (arith, x.few, raised-few k, y.few);
   runs = λ env e root v s l.
       let ec = y.grows.within env e in
       let z = x.runs env (raised-has k env ec) root null (meaning root r ∷ s) (omega (arith, up, l)) in
@@ -173,6 +194,7 @@ all-last f n rs t e = ap (λ (p : List Rule × List Rule). f p.0 ∷ p.1) (ap (�
 pub added-join : {h n : ℕ} {rs : List Rule} {a b d : Code} → Pushed (Join n) a b → Keeps h rs b d → n ≡ length rs → Adds h (tree.apply Cat (rules_of rs)) a d
 added-join {n = n} {rs = rs} {a = a} p k same = record {
   grows = grows-trans (pushed-grows p) k.grows;
+  few = omega (arith, pushed-few p, k.few);
   runs = λ env e root v s l.
       let z = k.runs env e root v s l in
       z.1 ∙ pushed-run p env root z.0 (onto (meanings root (rules_of rs)) s)
@@ -185,6 +207,7 @@ pub added-collect : {h n : ℕ} {rs : List Rule} {a b d : Code} → Pushed (Coll
     → Adds h (tree.list (rules_of rs)) a d
 added-collect {n = n} {rs = rs} {a = a} p k same other = record {
   grows = grows-trans (pushed-grows p) k.grows;
+  few = omega (arith, pushed-few p, k.few);
   runs = λ env e root v s l.
       let z = k.runs env e root v s l in
       z.1 ∙ pushed-run p env root z.0 (onto (meanings root (rules_of rs)) s)

@@ -1,7 +1,8 @@
 -- What JSON writes is a rule whose operators have arguments that they take.
-use Rattle.std.proofs.Common.{◌≡◌, ℕ, List, [], ◌∷◌, Bool, true, false, ◌&&◌, Option, Some, None, option_map, option_and_then, map, refl, sym, ap, ◌∙◌, subst, arith, if◌then◌else◌}
-use Rattle.std.proofs.lemmas.List.{append-nil}
+use Rattle.std.proofs.Common.{◌≡◌, ◌≤◌, ◌+◌, ◌^◌, length, ℕ, List, [], ◌∷◌, Bool, true, false, ◌&&◌, Option, Some, None, option_map, option_and_then, map, refl, sym, ap, ◌∙◌, subst, arith, if◌then◌else◌}
+use Rattle.std.proofs.lemmas.List.{append-nil, length-map}
 use Rattle.serde_json.specs.Data as json
+use Rattle.fp_base.specs.Count.{count}
 use Rattle.fp_operators.specs.Data.{Data, null}
 use Rattle.fp_operators.specs.View.{view}
 use Rattle.fp_targeting.specs.Compile.{one_more, operator_rule, rule_of, rules_from}
@@ -12,6 +13,7 @@ use Rattle.fp_targeting.specs.Memory.{needs_memory}
 use Rattle.fp_targeting.specs.Machine.{Env, run}
 use Rattle.fp_targeting.specs.Meaning.{meaning}
 use Rattle.fp_targeting.specs.Operators.{operator_of, allows, well_formed, all_well_formed}
+use Rattle.fp_targeting.specs.Places.{places}
 use Rattle.fp_targeting.specs.Reading.{read, env_of, in_order, last_or, rule_of_code}
 use Rattle.fp_targeting.specs.Rule as tree
 use Rattle.fp_targeting.specs.Rule.{Rule, Rules, no_rules, rule}
@@ -21,6 +23,8 @@ use Rattle.fp_targeting.specs.declared.operator.Operator.{Operator}
 use Rattle.fp_targeting.specs.declared.code.Code.{Code}
 use Rattle.fp_targeting.specs.declared.code.Step.{Step}
 use Rattle.fp_operators.specs.declared.datum.Datum.{Datum}
+use Rattle.fp_targeting.specs.declared.rule.TheConstants.{MOST_RULE_VALUES}
+use Rattle.fp_targeting.proofs.Placing.{rule_of-places}
 
 abbrev AreFormed : Option (List Rule) → Type 0
 AreFormed o = (rs : List Rule) → o ≡ Some rs → all_well_formed (rules_of rs) ≡ true
@@ -88,9 +92,15 @@ mutual
 -- ---- code of a whole rule
 
 -- what was added to code that was none is the rule's, and sound
-module _ {r : Rule} {a b : Code} (none : a.steps.items ≡ []) (room : a.room ≡ 0) (x : Adds 0 r a b) where
+module _ {r : Rule} {a b : Code} (none : a.steps.items ≡ []) (room : a.room ≡ 0) (empty : a.pool.items ≡ []) (few : places r ≤ 2 ^ 16) (x : Adds 0 r a b) where
   whole-has : Has (env_of b) b
-  whole-has = record { more = []; pool = sym (append-nil (map view b.pool.items)); room = omega arith }
+  whole-has =
+      let old = ap length empty in record {
+        more = [];
+        pool = sym (append-nil (map view b.pool.items));
+        fits = omega (arith, x.few, old, few, length-map b.pool.items view);
+        room = omega arith;
+      }
 
   pub whole-rule : r ≡ rule_of_code b
   whole-rule = sym (ap (last_or (tree.literal null)) (x.reads (env_of b) whole-has [] ∙ ap (λ cs. read (env_of b) (onto cs []) (r ∷ [])) none))
@@ -103,12 +113,13 @@ module _ {r : Rule} {a b : Code} (none : a.steps.items ≡ []) (room : a.room �
     frugal = λ needs. x.frugal (ap needs_memory whole-rule ∙ needs) (record { room = room; steps = ap any_asks none });
   }
 
-pub compiled-whole : (d : json.Data) (a b : Code) → a.steps.items ≡ [] → a.room ≡ 0 → IsCompiled (λ r. Adds 0 r a b) d → IsCompiled (λ r. (r ≡ rule_of_code b) × IsSound b) d
-compiled-whole d a b none room x = record {
+pub compiled-whole : (d : json.Data) (a b : Code) → a.steps.items ≡ [] → a.room ≡ 0 → a.pool.items ≡ [] → count d ≤ MOST_RULE_VALUES → IsCompiled (λ r. Adds 0 r a b) d
+    → IsCompiled (λ r. (r ≡ rule_of_code b) × IsSound b) d
+compiled-whole d a b none room empty counted x = let few : places x.rule ≤ 2 ^ 16 = omega (arith, counted, rule_of-places d x.rule x.is_rule) in record {
   rule = x.rule;
   is_rule = x.is_rule;
   known = x.known;
-  made = (whole-rule none room x.made, whole-sound none room x.made (rule_of-formed d x.rule x.is_rule));
+  made = (whole-rule none room empty few x.made, whole-sound none room empty few x.made (rule_of-formed d x.rule x.is_rule));
 }
 
 -- what a rule is known to be, by the parts of its code

@@ -14,6 +14,7 @@ pub mod Deciding
 pub mod Sizes
 pub mod Trees
 pub mod Compiling
+pub mod Placing
 pub mod Formed
 pub mod Leaves
 pub mod Verdicts

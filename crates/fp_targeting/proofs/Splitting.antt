@@ -26,7 +26,7 @@ use Rattle.fp_targeting.specs.declared.code.Step.TheVariants.{Split, SplitByOwnK
 use Rattle.fp_targeting.specs.declared.operator.Operator.TheVariants.{Fractional}
 use Rattle.fp_targeting.proofs.Trees.{rule_of-operator}
 use Rattle.fp_targeting.proofs.Frugal.{pushed-frugal, operand-frugal, first-none}
-use Rattle.fp_targeting.proofs.Emitting.{operand-order, grows-trans, pushed-has, pushed-grows, pushed-run, pushed-read}
+use Rattle.fp_targeting.proofs.Emitting.{operand-order, grows-trans, pushed-has, pushed-few, pushed-grows, pushed-run, pushed-read}
 use Rattle.fp_targeting.proofs.Parts.{both-known, both-compiled, same-items, rules_from-length}
 use Rattle.fp_targeting.proofs.Tables.{mapped}
 
@@ -41,6 +41,7 @@ pub split-lent : {h : ℕ} {o : Operand} {r : Rule} {pairs : Rules} {a b d : Cod
     → Adds h (tree.apply Fractional (rule r pairs)) a d
 split-lent {o = o} {r = r} {pairs = pairs} {a = a} other x p = record {
   grows = grows-trans x.grows (pushed-grows p);
+  few = omega (arith, x.few, pushed-few p);
   runs = λ env e root v s _.
       pushed-run p env root v s
       ∙ ap (λ cs. run env root cs 0 (share_of_key pairs (text_in (look env root v o))) s) (operand-order x)
@@ -56,6 +57,7 @@ pub split-computed : {h : ℕ} {r : Rule} {pairs : Rules} {a b d : Code} → is_
     → Adds h (tree.apply Fractional (rule r pairs)) a d
 split-computed {r = r} {pairs = pairs} {a = a} other p x = record {
   grows = grows-trans (pushed-grows p) x.grows;
+  few = omega (arith, pushed-few p, x.few);
   runs = λ env e root v s l.
       x.runs env e root v s l ∙ pushed-run p env root (meaning root r) s
       ∙ ap (λ w. run env root (in_order a) 0 w s) (split-key root r pairs other);
@@ -76,6 +78,7 @@ own_key-split root (rule (tree.apply o qs) rs) h = absurd (cc)
 added-split_by_own_key : {h : ℕ} {pairs : Rules} {a b : Code} → is_some (total_of pairs) ≡ true → Pushed (SplitByOwnKey pairs) a b → Adds h (tree.apply Fractional pairs) a b
 added-split_by_own_key {pairs = pairs} {a = a} total p = record {
   grows = pushed-grows p;
+  few = omega (arith, pushed-few p);
   runs = λ env e root v s _. pushed-run p env root v s ∙ ap (λ w. run env root (in_order a) 0 w s) (own_key-split root pairs total);
   reads = λ env e t. pushed-read p env t;
   frugal = λ none f. pushed-frugal p refl f;

@@ -1,12 +1,13 @@
 -- Code of operators that look at the results of their one to three arguments.
 use Rattle.std.proofs.Common.{◌≡◌, ◌≤◌, ◌+◌, ℕ, List, [], ◌∷◌, length, true, false, refl, ap, ◌∙◌, arith}
 use Rattle.fp_operators.specs.Data.{Data, null}
-use Rattle.fp_targeting.specs.Emits.{Grows, Pushed, IsOperand, Adds, Has, Raised}
+use Rattle.fp_targeting.specs.Emits.{Grows, Pushed, IsOperand, Adds, AddsAlone, Has, Raised}
 use Rattle.fp_targeting.specs.Frugal.{IsFrugal}
 use Rattle.fp_targeting.specs.Machine.{Env, run, few, look}
 use Rattle.fp_targeting.specs.Meaning.{meaning, meanings, value_at}
 use Rattle.fp_targeting.specs.Memory.{needs_memory, waits}
 use Rattle.fp_targeting.specs.Operators.{takes}
+use Rattle.fp_targeting.specs.Places.{places}
 use Rattle.fp_targeting.specs.Reading.{operand_rule, reads, read, in_order}
 use Rattle.fp_targeting.specs.Rule as tree
 use Rattle.fp_targeting.specs.Rule.{Rule, Rules, no_rules, rule}
@@ -18,7 +19,7 @@ use Rattle.fp_targeting.specs.declared.code.Operand.TheVariants.{AtHand}
 use Rattle.fp_targeting.specs.declared.code.Step.TheVariants.{One, Two, Three, Second, Third}
 use Rattle.fp_targeting.specs.declared.operator.Operator.TheVariants.{If, And, Or, Var, Cat, SemVer, Fractional, Unary, Binary, Chain}
 use Rattle.fp_targeting.proofs.Frugal.{true-false, pushed-frugal, operand-frugal, itself-none, all-none, first-none, others-none, strict-waits, strict-asks}
-use Rattle.fp_targeting.proofs.Emitting.{grows-trans, pushed-has, pushed-grows, pushed-run, pushed-read, operand-order, raised-has, raised-grows, raised-run, raised-read}
+use Rattle.fp_targeting.proofs.Emitting.{one-place, grows-trans, pushed-has, pushed-few, pushed-grows, pushed-run, pushed-read, operand-order, raised-has, raised-few, raised-grows, raised-run, raised-read}
 
 -- such an operator takes no more than three
 pub few-taken : (o : Operator) (n : ℕ) → is_strict o ≡ true → takes o n ≡ true → n ≤ 3
@@ -48,14 +49,15 @@ value-strict (Chain o) root rs ds h = refl
 
 module _ (o : Operator) (strict : is_strict o ≡ true) where
   -- code that ends with an instruction that gives the operator's result
-  strict-adds : {h : ℕ} {rs : Rules} {a d : Code} → Grows a d
+  strict-adds : {h : ℕ} {rs : Rules} {a d : Code} → Grows a d → length d.pool.items ≤ length a.pool.items + places (tree.apply o rs)
       → ((env : Env) → Has env d → (root v : Data) (s : List Data) → length s ≡ h
       → run env root (in_order d) 0 v s ≡ run env root (in_order a) 0 (few o (meanings root rs)) s)
       → ((env : Env) → Has env d → (t : List Rule) → read env (in_order d) t ≡ read env (in_order a) (tree.apply o rs ∷ t))
       → (needs_memory (tree.apply o rs) ≡ false → IsFrugal a → IsFrugal d)
       → Adds h (tree.apply o rs) a d
-  strict-adds {rs = rs} {a = a} g r q frugal = record {
+  strict-adds {rs = rs} {a = a} g few r q frugal = record {
     grows = g;
+    few = few;
     runs = λ env e root v s l. r env e root v s l ∙ ap (λ w. run env root (in_order a) 0 w s) (value-strict o root rs (meanings root rs) strict);
     reads = q;
     frugal = frugal;
@@ -69,7 +71,7 @@ module _ (o : Operator) (strict : is_strict o ≡ true) where
   none-waits rs w none = true-false w (strict-waits o rs strict (itself-none o rs none))
 
   pub added-one : {h : ℕ} {x : Operand} {r : Rule} {a b d : Code} → IsOperand x r a b → Pushed (One o x) b d → Adds h (tree.apply o (rule r no_rules)) a d
-  added-one {x = x} {a = a} i p = strict-adds (grows-trans i.grows (pushed-grows p))
+  added-one {x = x} {a = a} i p = strict-adds (grows-trans i.grows (pushed-grows p)) (omega (arith, i.few, pushed-few p))
       (λ env e root v s _. pushed-run p env root v s ∙ ap (λ cs. run env root cs 0 (few o (look env root v x ∷ [])) s) (operand-order i)
       ∙ ap (λ w. run env root (in_order a) 0 (few o (w ∷ [])) s) (i.looks env (pushed-has p env e) root v))
       (λ env e t. pushed-read p env t ∙ ap (λ cs. read env cs (reads env (One o x) t)) (operand-order i)
@@ -77,14 +79,14 @@ module _ (o : Operator) (strict : is_strict o ≡ true) where
       (λ none f. pushed-frugal p refl (operand-frugal i f))
 
   pub added-one-computed : {h : ℕ} {r : Rule} {a b d : Code} → Pushed (One o AtHand) a b → Adds h r b d → Adds h (tree.apply o (rule r no_rules)) a d
-  added-one-computed {r = r} p x = strict-adds (grows-trans (pushed-grows p) x.grows)
+  added-one-computed {r = r} p x = strict-adds (grows-trans (pushed-grows p) x.grows) (omega (arith, pushed-few p, x.few))
       (λ env e root v s l. x.runs env e root v s l ∙ pushed-run p env root (meaning root r) s)
       (λ env e t. x.reads env e t ∙ pushed-read p env (r ∷ t))
       (λ none f. x.frugal (first-none r no_rules (all-none o (rule r no_rules) none)) (pushed-frugal p refl f))
 
   pub added-two : {h : ℕ} {x y : Operand} {r q : Rule} {a b c d : Code} → IsOperand x r a b → IsOperand y q b c → Pushed (Two o x y) c d
       → Adds h (tree.apply o (rule r (rule q no_rules))) a d
-  added-two {x = x} {y = y} {r = r} {q = q} {a = a} i j p = strict-adds (grows-trans i.grows (grows-trans j.grows (pushed-grows p)))
+  added-two {x = x} {y = y} {r = r} {q = q} {a = a} i j p = strict-adds (grows-trans i.grows (grows-trans j.grows (pushed-grows p))) (omega (arith, i.few, j.few, pushed-few p))
       (λ env e root v s _. let ec = pushed-has p env e in let eb = j.grows.within env ec in
       pushed-run p env root v s ∙ ap (λ cs. run env root cs 0 (few o (look env root v x ∷ look env root v y ∷ [])) s) (operand-order j ∙ operand-order i)
       ∙ ap (λ w. run env root (in_order a) 0 (few o (w ∷ look env root v y ∷ [])) s) (i.looks env eb root v)
@@ -98,7 +100,7 @@ module _ (o : Operator) (strict : is_strict o ≡ true) where
   -- the second one computed
   pub added-two-second : {h : ℕ} {x : Operand} {r q : Rule} {a b c d : Code} → IsOperand x r a b → Pushed (Two o x AtHand) b c → Adds h q c d
       → Adds h (tree.apply o (rule r (rule q no_rules))) a d
-  added-two-second {x = x} {r = r} {q = q} {a = a} i p k = strict-adds (grows-trans i.grows (grows-trans (pushed-grows p) k.grows))
+  added-two-second {x = x} {r = r} {q = q} {a = a} i p k = strict-adds (grows-trans i.grows (grows-trans (pushed-grows p) k.grows)) (omega (arith, i.few, pushed-few p, k.few, one-place r))
       (λ env e root v s l. let eb = pushed-has p env (k.grows.within env e) in
       k.runs env e root v s l ∙ pushed-run p env root (meaning root q) s
       ∙ ap (λ cs. run env root cs 0 (few o (look env root (meaning root q) x ∷ meaning root q ∷ [])) s) (operand-order i)
@@ -112,7 +114,7 @@ module _ (o : Operator) (strict : is_strict o ≡ true) where
   -- the first one computed
   pub added-two-first : {h : ℕ} {y : Operand} {r q : Rule} {a b c d : Code} → IsOperand y q a b → Pushed (Two o AtHand y) b c → Adds h r c d
       → Adds h (tree.apply o (rule r (rule q no_rules))) a d
-  added-two-first {y = y} {r = r} {q = q} {a = a} j p k = strict-adds (grows-trans j.grows (grows-trans (pushed-grows p) k.grows))
+  added-two-first {y = y} {r = r} {q = q} {a = a} j p k = strict-adds (grows-trans j.grows (grows-trans (pushed-grows p) k.grows)) (omega (arith, j.few, pushed-few p, k.few, one-place q))
       (λ env e root v s l. let eb = pushed-has p env (k.grows.within env e) in
       k.runs env e root v s l ∙ pushed-run p env root (meaning root r) s
       ∙ ap (λ cs. run env root cs 0 (few o (meaning root r ∷ look env root (meaning root r) y ∷ [])) s) (operand-order j)
@@ -127,7 +129,7 @@ module _ (o : Operator) (strict : is_strict o ≡ true) where
   pub added-three : {h : ℕ} {x y : Operand} {r q u : Rule} {a b c d f : Code} → IsOperand x r a b → IsOperand y q b c → Pushed (Three o x y) c d → Adds h u d f
       → Adds h (tree.apply o (rule r (rule q (rule u no_rules)))) a f
   added-three {x = x} {y = y} {r = r} {q = q} {u = u} {a = a} i j p k = let order = operand-order j ∙ operand-order i in
-      strict-adds (grows-trans i.grows (grows-trans j.grows (grows-trans (pushed-grows p) k.grows)))
+      strict-adds (grows-trans i.grows (grows-trans j.grows (grows-trans (pushed-grows p) k.grows))) (omega (arith, i.few, j.few, pushed-few p, k.few))
       (λ env e root v s l. let ed = k.grows.within env e in let ec = pushed-has p env ed in let eb = j.grows.within env ec in let w = meaning root u in
       k.runs env e root v s l ∙ pushed-run p env root w s
       ∙ ap (λ cs. run env root cs 0 (few o (look env root w x ∷ look env root w y ∷ w ∷ [])) s) order
@@ -146,7 +148,7 @@ module _ (o : Operator) (strict : is_strict o ≡ true) where
   -- both computed
   pub added-second : {h m : ℕ} {r q : Rule} {a b c d f : Code} → m ≡ h + 1 → Pushed (Second o) a b → Adds m q b c → Raised m c d → Adds h r d f
       → waits (rule r (rule q no_rules)) ≡ true → Adds h (tree.apply o (rule r (rule q no_rules))) a f
-  added-second {r = r} {q = q} up p y k x w = strict-adds (grows-trans (pushed-grows p) (grows-trans y.grows (grows-trans (raised-grows k) x.grows)))
+  added-second {r = r} {q = q} up p y k x w = strict-adds (grows-trans (pushed-grows p) (grows-trans y.grows (grows-trans (raised-grows k) x.grows))) (omega (arith, pushed-few p, y.few, raised-few k, x.few))
       (λ env e root v s l. let ed = x.grows.within env e in let ec = raised-has k env ed in
       x.runs env e root v s l ∙ raised-run k env ed root (meaning root r) s (omega (arith, up, l))
       ∙ y.runs env ec root null (meaning root r ∷ s) (omega (arith, up, l))
@@ -156,16 +158,18 @@ module _ (o : Operator) (strict : is_strict o ≡ true) where
       (λ none f. absurd (none-waits (rule r (rule q no_rules)) w none))
 
   pub added-third : {h m n : ℕ} {r q u : Rule} {a b c d f g i : Code} → m ≡ h + 1 → n ≡ m + 1 → Pushed (Third o) a b → Adds n u b c → Raised n c d → Adds m q d f
-      → Raised m f g → Adds h r g i → waits (rule r (rule q (rule u no_rules))) ≡ true → Adds h (tree.apply o (rule r (rule q (rule u no_rules)))) a i
-  added-third {r = r} {q = q} {u = u} up on p z j y k x w =
-      strict-adds (grows-trans (pushed-grows p) (grows-trans z.grows (grows-trans (raised-grows j) (grows-trans y.grows (grows-trans (raised-grows k) x.grows)))))
-      (λ env e root v s l. let eg = x.grows.within env e in let ef = raised-has k env eg in let ed = y.grows.within env ef in let ec = raised-has j env ed in
-      x.runs env e root v s l ∙ raised-run k env eg root (meaning root r) s (omega (arith, up, l))
-      ∙ y.runs env ef root null (meaning root r ∷ s) (omega (arith, up, l))
-      ∙ raised-run j env ed root (meaning root q) (meaning root r ∷ s) (omega (arith, up, on, l))
-      ∙ z.runs env ec root null (meaning root q ∷ meaning root r ∷ s) (omega (arith, up, on, l))
-      ∙ pushed-run p env root (meaning root u) (meaning root q ∷ meaning root r ∷ s))
-      (λ env e t. let eg = x.grows.within env e in let ef = raised-has k env eg in let ed = y.grows.within env ef in let ec = raised-has j env ed in
-      x.reads env e t ∙ raised-read k env (r ∷ t) ∙ y.reads env ef (r ∷ t) ∙ raised-read j env (q ∷ r ∷ t) ∙ z.reads env ec (q ∷ r ∷ t)
-      ∙ pushed-read p env (u ∷ q ∷ r ∷ t))
-      (λ none f. absurd (none-waits (rule r (rule q (rule u no_rules))) w none))
+      → Raised m f g → Adds h r g i → waits (rule r (rule q (rule u no_rules))) ≡ true → AddsAlone h o (r ∷ q ∷ u ∷ []) a i
+  added-third {r = r} {q = q} {u = u} up on p z j y k x w = record {
+    alone = omega (arith, pushed-few p, z.few, raised-few j, y.few, raised-few k, x.few);
+    adds = strict-adds (grows-trans (pushed-grows p) (grows-trans z.grows (grows-trans (raised-grows j) (grows-trans y.grows (grows-trans (raised-grows k) x.grows))))) (omega (arith, pushed-few p, z.few, raised-few j, y.few, raised-few k, x.few))
+        (λ env e root v s l. let eg = x.grows.within env e in let ef = raised-has k env eg in let ed = y.grows.within env ef in let ec = raised-has j env ed in
+        x.runs env e root v s l ∙ raised-run k env eg root (meaning root r) s (omega (arith, up, l))
+        ∙ y.runs env ef root null (meaning root r ∷ s) (omega (arith, up, l))
+        ∙ raised-run j env ed root (meaning root q) (meaning root r ∷ s) (omega (arith, up, on, l))
+        ∙ z.runs env ec root null (meaning root q ∷ meaning root r ∷ s) (omega (arith, up, on, l))
+        ∙ pushed-run p env root (meaning root u) (meaning root q ∷ meaning root r ∷ s))
+        (λ env e t. let eg = x.grows.within env e in let ef = raised-has k env eg in let ed = y.grows.within env ef in let ec = raised-has j env ed in
+        x.reads env e t ∙ raised-read k env (r ∷ t) ∙ y.reads env ef (r ∷ t) ∙ raised-read j env (q ∷ r ∷ t) ∙ z.reads env ec (q ∷ r ∷ t)
+        ∙ pushed-read p env (u ∷ q ∷ r ∷ t))
+        (λ none f. absurd (none-waits (rule r (rule q (rule u no_rules))) w none));
+  }

@@ -1,5 +1,5 @@
 -- Rules without an operator.
-use Rattle.std.specs.Prelude.{Bool, true, false, if◌then◌else◌}
+use Rattle.std.specs.Prelude.{ℤ, Bool, true, false, Option, Some, None, if◌then◌else◌}
 use Rattle.serde_json.specs.Data as json
 use Rattle.fp_operators.specs.Data.{Data, null, boolean, whole, text, list, object, Items}
 use Rattle.fp_operators.specs.Data.{no_items, item}
@@ -35,3 +35,12 @@ is_literal (json.object (json.member k d (json.member l e ms))) = true
 abbrev pub all_literal : json.Items → Bool
 all_literal json.no_items = true
 all_literal (json.item d ds) = if is_literal d then all_literal ds else false
+
+-- the number that a datum is
+abbrev pub whole_in : Data → Option ℤ
+whole_in null = None
+whole_in (boolean b) = None
+whole_in (whole z) = Some z
+whole_in (text s) = None
+whole_in (list ds) = None
+whole_in (object ms) = None

@@ -1,15 +1,17 @@
 -- What is added to code, and what it then does.
-use Rattle.std.specs.Prelude.{◌≡◌, ◌≤◌, ℕ, List, [], ◌∷◌, ◌++◌, length, map, Some, true}
-use Rattle.std.specs.Prelude.{false, option_and_then}
+use Rattle.std.specs.Prelude.{◌≡◌, ◌≤◌, ◌<◌, ◌+◌, ◌^◌, ℕ, List, [], ◌∷◌, ◌++◌, length, map, get_or}
+use Rattle.std.specs.Prelude.{Some, true, false, option_and_then}
 use Rattle.fp_operators.specs.Data.{Data, null}
-use Rattle.fp_operators.specs.Path.{named_by, at_text, follow}
+use Rattle.fp_operators.specs.Path.{named_by}
 use Rattle.fp_operators.specs.View.{view}
+use Rattle.fp_operators.specs.declared.datum.Datum.{Datum}
 use Rattle.fp_targeting.specs.Frugal.{IsFrugal}
-use Rattle.fp_targeting.specs.Machine.{Env, Turn, look, run, found_at, parts_at}
+use Rattle.fp_targeting.specs.Machine.{Env, Turn, look, run, found_at}
 use Rattle.fp_targeting.specs.Meaning.{meaning, meanings, value_of_operator}
 use Rattle.fp_targeting.specs.Memory.{needs_memory, is_known}
 use Rattle.fp_targeting.specs.Operators.{well_formed}
-use Rattle.fp_targeting.specs.Reading.{joined, operand_rule, read, in_order, env_of, rule_of_code}
+use Rattle.fp_targeting.specs.Places.{places, all_places}
+use Rattle.fp_targeting.specs.Reading.{operand_rule, read, in_order, env_of, rule_of_code}
 use Rattle.fp_targeting.specs.Rule.{Rule, apply}
 use Rattle.fp_targeting.specs.Stack.{onto}
 use Rattle.fp_targeting.specs.View.{rules_of}
@@ -19,10 +21,12 @@ use Rattle.fp_targeting.specs.declared.code.Operand.{Operand}
 use Rattle.fp_targeting.specs.declared.code.Step.{Step}
 use Rattle.fp_targeting.specs.declared.code.Step.TheVariants.{Keep}
 
--- the code, or what it becomes, has this pool and this room
+-- the code, or what it becomes, has this pool, of which each place has its number of 16 bits, and
+-- this room
 pub record Has (env : Env) (code : Code) : Type 0 where
   pub more : List Data
   pub pool : env.pool ≡ map view code.pool.items ++ more
+  pub fits : length env.pool ≤ 2 ^ 16
   pub room : code.room ≤ env.room
 
 pub record Grows (old new : Code) : Type 0 where
@@ -43,36 +47,48 @@ pub record Raised (height : ℕ) (old new : Code) : Type 0 where
   pub room : old.room ≤ new.room
   pub high : height ≤ new.room
 
+-- a datum stands at this place in the pool
+pub record Stands (n : ℕ) (d : Data) (pool : List Datum) : Type 0 where
+  pub within : n < length pool
+  pub is : get_or (map view pool) n null ≡ d
+
+-- a datum has this place in the pool, and was put there where it hadn't
+pub record IsPlaced (n : ℕ) (d : Data) (old new : Code) : Type 0 where
+  pub grows : Grows old new
+  pub steps : new.steps ≡ old.steps
+  pub room : new.room ≡ old.room
+  pub few : length new.pool.items ≤ length old.pool.items + 1
+  pub is : (env : Env) → Has env new → get_or env.pool n null ≡ d
+
 -- the operand stands for a rule that no instruction is needed for
 pub record IsOperand (o : Operand) (r : Rule) (old new : Code) : Type 0 where
   pub grows : Grows old new
   pub steps : new.steps ≡ old.steps
   pub room : new.room ≡ old.room
   pub looks : (env : Env) → Has env new → (root v : Data) → look env root v o ≡ meaning root r
+  pub few : length new.pool.items ≤ length old.pool.items + 1
   pub reads : (env : Env) → Has env new → (t : List Rule) → operand_rule env o t ≡ (r, t)
-
--- a path's parts were put into the pool
-pub record IsPath (first parts : ℕ) (path : List ℕ) (old new : Code) : Type 0 where
-  pub grows : Grows old new
-  pub steps : new.steps ≡ old.steps
-  pub room : new.room ≡ old.room
-  pub named : (env : Env) → Has env new → (root : Data)
-      → follow (parts_at env first parts) root ≡ at_text path root
-  pub joined : (env : Env) → Has env new → joined (parts_at env first parts) ≡ path
 
 -- code of a rule was added, to be done first: behind it the rule's result is at hand. So many
 -- results are kept when it begins.
 pub record Adds (height : ℕ) (r : Rule) (old new : Code) : Type 0 where
   pub grows : Grows old new
+  pub few : length new.pool.items ≤ length old.pool.items + places r
   pub runs : (env : Env) → Has env new → (root v : Data) (s : List Data) → length s ≡ height
       → run env root (in_order new) 0 v s ≡ run env root (in_order old) 0 (meaning root r) s
   pub reads : (env : Env) → Has env new → (t : List Rule)
       → read env (in_order new) t ≡ read env (in_order old) (r ∷ t)
   pub frugal : needs_memory r ≡ false → IsFrugal old → IsFrugal new
 
+-- code of an operator at rules was added, and no place but for what its arguments take
+pub record AddsAlone (height : ℕ) (o : Operator) (rs : List Rule) (old new : Code) : Type 0 where
+  pub adds : Adds height (apply o (rules_of rs)) old new
+  pub alone : length new.pool.items ≤ length old.pool.items + all_places (rules_of rs)
+
 -- code of rules was added: behind it their results are kept
 pub record Keeps (height : ℕ) (rs : List Rule) (old new : Code) : Type 0 where
   pub grows : Grows old new
+  pub few : length new.pool.items ≤ length old.pool.items + all_places (rules_of rs)
   pub runs : (env : Env) → Has env new → (root v : Data) (s : List Data) → length s ≡ height
       → (w : Data) × (run env root (in_order new) 0 v s
       ≡ run env root (in_order old) 0 w (onto (meanings root (rules_of rs)) s))
@@ -82,6 +98,7 @@ pub record Keeps (height : ℕ) (rs : List Rule) (old new : Code) : Type 0 where
 -- code of an operator's arguments was added: behind it the operator's result is at hand
 pub record Decides (o : Operator) (height : ℕ) (rs : List Rule) (old new : Code) : Type 0 where
   pub grows : Grows old new
+  pub few : length new.pool.items ≤ length old.pool.items + all_places (rules_of rs)
   pub runs : (env : Env) → Has env new → (root v : Data) (s : List Data) → length s ≡ height
       → run env root (in_order new) 0 v s
       ≡ run env root (in_order old) 0 (value_of_operator o root (meanings root (rules_of rs))) s
@@ -93,6 +110,7 @@ pub record Decides (o : Operator) (height : ℕ) (rs : List Rule) (old new : Cod
 -- are skipped, or null is at hand
 pub record Finds (skip height : ℕ) (p : Rule) (old new : Code) : Type 0 where
   pub grows : Grows old new
+  pub few : length new.pool.items ≤ length old.pool.items + places p
   pub runs : (env : Env) → Has env new → (root v : Data) (s : List Data) → length s ≡ height
       → run env root (in_order new) 0 v s
       ≡ option_and_then (λ (t : Turn). run env root (in_order old) t.0 t.1 t.2)

@@ -2,8 +2,8 @@
 use Rattle.std.specs.Prelude.{◌≡◌, List, [], ◌∷◌, Bool, true, false, ◌||◌}
 use Rattle.fp_targeting.specs.declared.code.Code.{Code}
 use Rattle.fp_targeting.specs.declared.code.Step.{Step}
-use Rattle.fp_targeting.specs.declared.code.Step.TheVariants.{Load, LoadNull, Keep, Skip}
-use Rattle.fp_targeting.specs.declared.code.Step.TheVariants.{SkipIfFalse, SkipIfTrue, Find}
+use Rattle.fp_targeting.specs.declared.code.Step.TheVariants.{Load, LoadNull, LoadWhole, Keep}
+use Rattle.fp_targeting.specs.declared.code.Step.TheVariants.{Skip, SkipIfFalse, SkipIfTrue, Find}
 use Rattle.fp_targeting.specs.declared.code.Step.TheVariants.{FindVariable, One, Two, Three}
 use Rattle.fp_targeting.specs.declared.code.Step.TheVariants.{Second, Third, Join, Collect, Split}
 use Rattle.fp_targeting.specs.declared.code.Step.TheVariants.{SplitByOwnKey, End}
@@ -18,12 +18,13 @@ is_sem_ver o = false
 abbrev pub asks : Step → Bool
 asks (Load o) = false
 asks LoadNull = false
+asks (LoadWhole z) = false
 asks Keep = false
 asks (Skip n) = false
 asks (SkipIfFalse n) = false
 asks (SkipIfTrue n) = false
 asks (Find n) = true
-asks (FindVariable first parts n) = false
+asks (FindVariable path n) = false
 asks (One o a) = false
 asks (Two o a b) = false
 asks (Three o a b) = is_sem_ver o

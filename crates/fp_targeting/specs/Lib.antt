@@ -17,6 +17,7 @@ pub mod Machine
 pub mod Memory
 pub mod Frugal
 pub mod Reading
+pub mod Places
 pub mod Emits
 pub mod Strict
 pub mod Compiles

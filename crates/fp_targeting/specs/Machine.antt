@@ -1,9 +1,9 @@
 -- What instructions do. One result is at hand, and others are kept on a stack.
-use Rattle.std.specs.Prelude.{ℕ, zero, suc, List, [], ◌∷◌, length, map, take, drop, get_or}
+use Rattle.std.specs.Prelude.{ℕ, zero, suc, List, [], ◌∷◌, length, get_or}
 use Rattle.std.specs.Prelude.{Option, Some, None, option_and_then, nat_le, nat_lt, if◌then◌else◌}
 use Rattle.fp_operators.specs.Data.{Data, null, boolean, whole, text, list, object}
 use Rattle.fp_operators.specs.Data as values
-use Rattle.fp_operators.specs.Path.{follow, found_or, named_by}
+use Rattle.fp_operators.specs.Path.{at_text, found_or, named_by}
 use Rattle.fp_operators.specs.Text.{concatenation}
 use Rattle.fp_operators.specs.Truth.{truth}
 use Rattle.fp_operators.specs.View.{items_of}
@@ -16,8 +16,8 @@ use Rattle.fp_targeting.specs.declared.operator.Operator.{Operator}
 use Rattle.fp_targeting.specs.declared.code.Operand.{Operand}
 use Rattle.fp_targeting.specs.declared.code.Operand.TheVariants.{Constant, Variable, All, AtHand}
 use Rattle.fp_targeting.specs.declared.code.Step.{Step}
-use Rattle.fp_targeting.specs.declared.code.Step.TheVariants.{Load, LoadNull, Keep, Skip}
-use Rattle.fp_targeting.specs.declared.code.Step.TheVariants.{SkipIfFalse, SkipIfTrue, Find}
+use Rattle.fp_targeting.specs.declared.code.Step.TheVariants.{Load, LoadNull, LoadWhole, Keep}
+use Rattle.fp_targeting.specs.declared.code.Step.TheVariants.{Skip, SkipIfFalse, SkipIfTrue, Find}
 use Rattle.fp_targeting.specs.declared.code.Step.TheVariants.{FindVariable, One, Two, Three}
 use Rattle.fp_targeting.specs.declared.code.Step.TheVariants.{Second, Third, Join, Collect, Split}
 use Rattle.fp_targeting.specs.declared.code.Step.TheVariants.{SplitByOwnKey, End}
@@ -35,12 +35,12 @@ text_bytes (text s) = s
 text_bytes (list ds) = []
 text_bytes (object ms) = []
 
-abbrev pub parts_at : Env → ℕ → ℕ → List (List ℕ)
-parts_at env first count = map text_bytes (take count (drop first env.pool))
+abbrev pub path_at : Env → ℕ → List ℕ
+path_at env n = text_bytes (get_or env.pool n null)
 
 abbrev pub look : Env → Data → Data → Operand → Data
 look env root v (Constant n) = get_or env.pool n null
-look env root v (Variable first parts) = found_or null (follow (parts_at env first parts) root)
+look env root v (Variable n) = found_or null (at_text (path_at env n) root)
 look env root v All = root
 look env root v AtHand = v
 
@@ -78,13 +78,13 @@ share_of_key pairs key = found_or null (option_and_then (chosen pairs) key)
 abbrev pub act : Env → Data → Step → Data → List Data → Option Turn
 act env root (Load o) v s = Some (0, look env root v o, s)
 act env root LoadNull v s = Some (0, null, s)
+act env root (LoadWhole z) v s = Some (0, whole z, s)
 act env root Keep v s = if nat_lt (length s) env.room then Some (0, null, v ∷ s) else None
 act env root (Skip n) v s = Some (n, v, s)
 act env root (SkipIfFalse n) v s = Some (if truth v then 0 else n, v, s)
 act env root (SkipIfTrue n) v s = Some (if truth v then n else 0, v, s)
 act env root (Find n) v s = found_at n s (named_by v root)
-act env root (FindVariable first parts n) v s =
-    found_at n s (follow (parts_at env first parts) root)
+act env root (FindVariable path n) v s = found_at n s (at_text (path_at env path) root)
 act env root (One o a) v s = Some (0, few o (look env root v a ∷ []), s)
 act env root (Two o a b) v s =
     Some (0, few o (look env root v a ∷ look env root v b ∷ []), s)

@@ -1,9 +1,9 @@
 -- Which rule code is of.
-use Rattle.std.specs.Prelude.{ℕ, List, [], ◌∷◌, ◌++◌, map, get_or}
-use Rattle.fp_operators.specs.Data.{null, text}
+use Rattle.std.specs.Prelude.{ℕ, List, [], ◌∷◌, map, get_or}
+use Rattle.fp_operators.specs.Data.{null, whole, text}
 use Rattle.fp_operators.specs.View.{view}
 use Rattle.fp_targeting.specs.Constant.{constant}
-use Rattle.fp_targeting.specs.Machine.{Env, parts_at}
+use Rattle.fp_targeting.specs.Machine.{Env, path_at}
 use Rattle.fp_targeting.specs.Rule.{Rule, literal, list, apply, no_rules, rule}
 use Rattle.fp_targeting.specs.Stack.{onto, off}
 use Rattle.fp_targeting.specs.View.{rules_of}
@@ -12,26 +12,19 @@ use Rattle.fp_targeting.specs.declared.code.Code.{Code}
 use Rattle.fp_targeting.specs.declared.code.Operand.{Operand}
 use Rattle.fp_targeting.specs.declared.code.Operand.TheVariants.{Constant, Variable, All, AtHand}
 use Rattle.fp_targeting.specs.declared.code.Step.{Step}
-use Rattle.fp_targeting.specs.declared.code.Step.TheVariants.{Load, LoadNull, Keep, Skip}
-use Rattle.fp_targeting.specs.declared.code.Step.TheVariants.{SkipIfFalse, SkipIfTrue, Find}
+use Rattle.fp_targeting.specs.declared.code.Step.TheVariants.{Load, LoadNull, LoadWhole, Keep}
+use Rattle.fp_targeting.specs.declared.code.Step.TheVariants.{Skip, SkipIfFalse, SkipIfTrue, Find}
 use Rattle.fp_targeting.specs.declared.code.Step.TheVariants.{FindVariable, One, Two, Three}
 use Rattle.fp_targeting.specs.declared.code.Step.TheVariants.{Second, Third, Join, Collect, Split}
 use Rattle.fp_targeting.specs.declared.code.Step.TheVariants.{SplitByOwnKey, End}
 
--- a path of these parts
-abbrev pub joined : List (List ℕ) → List ℕ
-joined [] = []
-joined (p ∷ []) = p
-joined (p ∷ q ∷ ps) = p ++ 46 ∷ joined (q ∷ ps)
-
-abbrev pub path_rule : Env → ℕ → ℕ → Rule
-path_rule env first parts = literal (text (joined (parts_at env first parts)))
+abbrev pub path_rule : Env → ℕ → Rule
+path_rule env n = literal (text (path_at env n))
 
 -- the rule that an operand is of, and what is left of the rules before it
 abbrev pub operand_rule : Env → Operand → List Rule → Rule × List Rule
 operand_rule env (Constant n) s = (constant (get_or env.pool n null), s)
-operand_rule env (Variable first parts) s =
-    (apply Var (rule (path_rule env first parts) no_rules), s)
+operand_rule env (Variable n) s = (apply Var (rule (path_rule env n) no_rules), s)
 operand_rule env All s = (apply Var no_rules, s)
 operand_rule env AtHand [] = (literal null, [])
 operand_rule env AtHand (r ∷ s) = (r, s)
@@ -43,12 +36,13 @@ with_last f n s = f (off n s []).0 ∷ (off n s []).1
 abbrev pub reads : Env → Step → List Rule → List Rule
 reads env (Load o) s = let a = operand_rule env o s in a.0 ∷ a.1
 reads env LoadNull s = s
+reads env (LoadWhole z) s = literal (whole z) ∷ s
 reads env Keep s = s
 reads env (Skip n) s = s
 reads env (SkipIfFalse n) s = s
 reads env (SkipIfTrue n) s = s
 reads env (Find n) s = s
-reads env (FindVariable first parts n) s = path_rule env first parts ∷ s
+reads env (FindVariable path n) s = path_rule env path ∷ s
 reads env (One o a) s =
     let x = operand_rule env a s in apply o (rule x.0 no_rules) ∷ x.1
 reads env (Two o a b) s =

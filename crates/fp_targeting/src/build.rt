@@ -1,6 +1,7 @@
 //! From a tree of JSON to the code of the rule that it writes.
 
 ghost use Rattle.std.specs.Prelude.{◌≡◌, ◌≤◌, ◌+◌, true, false, Some, None, IfOk, length};
+ghost use Rattle.fp_base.specs.Count.{count};
 ghost use Rattle.fp_base.specs.Ordered.{IsOrdered, AreOrdered};
 ghost use Rattle.fp_base.specs.TreeView.{tree_view, tree_items};
 ghost use Rattle.fp_targeting.specs.Compiles.{Compiles, CompileAll, Applies, IsCompiled, NoRule};
@@ -13,6 +14,7 @@ ghost use Rattle.fp_targeting.specs.Strict.{stops, skip_past, looks_at_results};
 ghost use Rattle.fp_targeting.specs.View.{rules_of};
 ghost use Rattle.fp_targeting.specs.declared.code.Code.{Code};
 ghost use Rattle.fp_targeting.specs.declared.operator.Operator.TheVariants.{If, Var, Fractional};
+ghost use Rattle.fp_targeting.specs.declared.rule.TheConstants.{MOST_RULE_VALUES};
 
 use crate::code::{Code, Operand, Step};
 use crate::json::{are_literals, arguments, is_array, text_of};
@@ -25,7 +27,8 @@ use std::alloc::{AllocError, Global};
 impl Code {
     /// The code of a rule, or none where the value is no rule or has an unknown operator.
     pub fn of(alloc: Global, json: &Json<'_>) -> Result<Option<Code>, AllocError>
-        requires { IsOrdered (tree_view json.now) }
+        requires ordered { IsOrdered (tree_view json.now) }
+        requires few { count (tree_view json.now) ≤ MOST_RULE_VALUES }
         ensures some { IfOk result (λ x. (code : Code) → x ≡ Some code
             → IsCompiled (λ r. (r ≡ rule_of_code code) × IsSound code) (tree_view json.now)) }
         ensures none { IfOk result (λ x. x ≡ None → NoRule (tree_view json.now)) }

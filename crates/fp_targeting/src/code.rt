@@ -10,8 +10,8 @@ use fp_operators::Datum;
 pub enum Operand {
     /// A constant, by its place in the pool.
     Constant(u16),
-    /// What a path names in the data, else null. Its parts stand in a row in the pool, so many.
-    Variable { first: u16, parts: u16 },
+    /// What a path names in the data, else null: the text at its place in the pool.
+    Variable(u16),
     /// All data.
     All,
     /// The result at hand.
@@ -25,6 +25,8 @@ pub enum Step {
     Load(Operand),
     /// Null is at hand next.
     LoadNull,
+    /// The number is at hand next: it has room in the instruction.
+    LoadWhole(i64),
     /// What is at hand goes onto the stack.
     Keep,
     /// So many instructions are skipped.
@@ -37,7 +39,7 @@ pub enum Step {
     /// so many instructions are skipped; else null is.
     Find(u32),
     /// The same of a path that is known, as in `Operand::Variable`.
-    FindVariable { first: u16, parts: u16, skip: u32 },
+    FindVariable { path: u16, skip: u32 },
     /// An operator's result for one operand is at hand next.
     One(Operator, Operand),
     /// The same of two.

@@ -1,6 +1,6 @@
 //! What a JSON value is, as a part of a rule.
 
-ghost use Rattle.std.specs.Prelude.{◌≡◌, ◌≤◌, false, option_map};
+ghost use Rattle.std.specs.Prelude.{◌≡◌, ◌≤◌, true, false, option_map};
 ghost use Rattle.serde_json.specs.Find.{as_str};
 ghost use Rattle.fp_base.specs.Count.{count, items_count};
 ghost use Rattle.fp_base.specs.Ordered.{IsOrdered, AreOrdered};
@@ -8,9 +8,12 @@ ghost use Rattle.fp_base.specs.TreeView.{tree_view, tree_items};
 ghost use Rattle.fp_targeting.specs.Compile.{first_unknown, items_unknown, arguments_of};
 ghost use Rattle.fp_targeting.specs.Compile.{rules_from};
 ghost use Rattle.fp_targeting.specs.Compiles.{IsComputed, ComputesVariable, is_array};
-ghost use Rattle.fp_targeting.specs.Constant.{is_literal, all_literal};
+ghost use Rattle.fp_operators.specs.FromJson.{data_of, items_from};
+ghost use Rattle.fp_operators.specs.View.{view, items_view};
+ghost use Rattle.fp_targeting.specs.Constant.{is_literal, all_literal, whole_in};
 
 use fp_base::Tree as Json;
+use fp_operators::Datum;
 use std::slice::from_ref;
 
 /// A list of arguments, or an only one.
@@ -65,6 +68,57 @@ pub fn are_literals(items: &Vec<Json<'_>>) -> bool
         }
     }
     true
+}
+
+/// The whole number that a value is.
+pub fn whole_number(json: &Json<'_>) -> Option<i64>
+    ensures { result ≡ whole_in (data_of (tree_view json.now)) }
+{
+    match json {
+        Json::Number(number) => number.as_i64(),
+        _ => None,
+    }
+}
+
+/// Whether a value that stands for itself writes a datum. Objects aren't looked into.
+pub fn writes(json: &Json<'_>, datum: &Datum) -> bool
+    ensures { result ≡ true → view datum.now ≡ data_of (tree_view json.now) }
+{
+    match (datum, json) {
+        (Datum::Text(a), Json::String(b)) => a.len() == b.len() && a.as_str() == *b,
+        (Datum::List(made), Json::Array(items)) => all_write(items.as_slice(), made.as_slice()),
+        _ => is_scalar(json, datum),
+    }
+}
+
+// The same of each of these.
+fn all_write(items: &[Json<'_>], made: &[Datum]) -> bool
+    ensures { result ≡ true → items_view made.now ≡ items_from (tree_items items.now) }
+{
+    if items.len() != made.len() {
+        return false;
+    }
+    let mut left = items.len();
+    'items: while left > 0 {
+        left -= 1;
+        if !is_scalar(&items[left], &made[left]) {
+            return false;
+        }
+    }
+    true
+}
+
+// Whether a value is a datum that is no list and no object.
+fn is_scalar(json: &Json<'_>, datum: &Datum) -> bool
+    ensures { result ≡ true → view datum.now ≡ data_of (tree_view json.now) }
+{
+    match (datum, json) {
+        (Datum::Null, Json::Null) => true,
+        (Datum::Bool(a), Json::Bool(b)) => *a == *b,
+        (Datum::Whole(a), Json::Number(b)) => b.as_i64() == Some(*a),
+        (Datum::Text(a), Json::String(b)) => a.as_str() == *b,
+        _ => false,
+    }
 }
 
 /// Whether no instruction is needed for a value, as `Code::operand` finds.

@@ -1,18 +1,18 @@
 //! What code gives for data.
 
-ghost use Rattle.std.specs.Prelude.{◌≡◌, ◌≤◌, Some, List, map, drop, take, IfOk, IfSome};
+ghost use Rattle.std.specs.Prelude.{◌≡◌, ◌≤◌, Some, List, map, drop, get_or, IfOk, IfSome};
 ghost use Rattle.std.specs.Prelude.{OnErr, IsSome, true, ◌||◌};
 ghost use Rattle.std.specs.Prelude.{IfNone, option_map, vec_capacity, length, if◌then◌else◌};
 ghost use Rattle.fp_operators.specs.Data as values;
 ghost use Rattle.fp_operators.specs.Data.{null as null_data};
 ghost use Rattle.fp_operators.specs.Memory.{takes_memory};
-ghost use Rattle.fp_operators.specs.Path.{follow as follow_of, found_or};
+ghost use Rattle.fp_operators.specs.Path.{at_text as at_text_of, found_or};
 ghost use Rattle.fp_operators.specs.Text.{concatenation};
 ghost use Rattle.fp_operators.specs.View.{view};
 ghost use Rattle.fp_targeting.specs.Emits.{IsSound};
 ghost use Rattle.fp_targeting.specs.Found.{found_view, stack_view};
 ghost use Rattle.fp_targeting.specs.Frugal.{asks, is_sem_ver};
-ghost use Rattle.fp_targeting.specs.Machine.{act, look, parts_at, of_kept, text_bytes, found_at};
+ghost use Rattle.fp_targeting.specs.Machine.{act, look, path_at, of_kept, text_bytes, found_at};
 ghost use Rattle.fp_targeting.specs.Machine.{second, third, list_of};
 ghost use Rattle.fp_targeting.specs.Meaning.{meaning};
 ghost use Rattle.fp_targeting.specs.Memory.{needs_memory};
@@ -22,7 +22,7 @@ ghost use Rattle.fp_targeting.specs.declared.code.Operand.TheVariants.{AtHand};
 use crate::code::{Code, Operand, Step};
 use crate::few::{of_one, of_three, of_two};
 use crate::operator::Operator;
-use fp_operators::{Datum, append_text, is_falsy, is_truthy, named, step};
+use fp_operators::{Datum, append_text, at_text, is_falsy, is_truthy, named};
 use std::alloc::{AllocError, Global};
 use std::mem::replace;
 
@@ -64,34 +64,23 @@ fn text(datum: &Datum) -> &str
     }
 }
 
-// What the parts of a path, one after the other, lead to.
-fn follow<'d>(root: &'d Datum, parts: &[Datum]) -> Option<&'d Datum>
-    ensures { option_map (λ d. view d.now) result
-        ≡ follow_of (map text_bytes (map view parts.now)) (view root.now) }
+// The path at a place in the pool.
+fn path_at(pool: &[Datum], place: u16) -> &str
+    ensures { result.now ≡ text_bytes (get_or (map view pool.now) place null_data) }
 {
-    let mut target = root;
-    for part in parts {
-        target = step(target, text(part))?;
+    match pool.get(place as usize) {
+        Some(datum) => text(datum),
+        None => "",
     }
-    Some(target)
-}
-
-// So many data, from the first on.
-fn row(pool: &[Datum], first: u16, count: u16) -> &[Datum]
-    ensures { result.now ≡ take count (drop first pool.now) }
-{
-    let from = (first as usize).min(pool.len());
-    let behind = &pool[from..];
-    &behind[..(count as usize).min(behind.len())]
 }
 
 impl Code {
-    // What a path names, of which so many parts stand in the pool from the first on.
-    fn variable<'d>(&self, root: &'d Datum, first: u16, parts: u16) -> Option<&'d Datum>
+    // What the path at a place in the pool names.
+    fn variable<'d>(&self, root: &'d Datum, place: u16) -> Option<&'d Datum>
         ensures { option_map (λ d. view d.now) result
-            ≡ follow_of (parts_at (env_of self.now) first parts) (view root.now) }
+            ≡ at_text_of (path_at (env_of self.now) place) (view root.now) }
     {
-        follow(root, row(self.pool.as_slice(), first, parts))
+        at_text(root, path_at(self.pool.as_slice(), place))
     }
 
     // What an operand is that isn't at hand.
@@ -103,9 +92,7 @@ impl Code {
     {
         match operand {
             Operand::Constant(place) => Some(or_null(self.pool.get(*place as usize), null)),
-            Operand::Variable { first, parts } => {
-                Some(or_null(self.variable(root, *first, *parts), null))
-            }
+            Operand::Variable(place) => Some(or_null(self.variable(root, *place), null)),
             Operand::All => Some(root),
             Operand::AtHand => None,
         }
@@ -171,6 +158,10 @@ impl Code {
         match step {
             Step::Load(operand) => Ok(self.load(operand, root, null, at_hand)),
             Step::LoadNull => Ok(lend(null, at_hand)),
+            Step::LoadWhole(number) => {
+                *at_hand = Found::Made(Datum::Whole(*number));
+                Ok(0)
+            }
             Step::Keep => {
                 kept.push_reserved(replace(at_hand, Found::Lent(null)));
                 Ok(0)
@@ -182,8 +173,8 @@ impl Code {
                 let found = named(alloc, root, at_hand.datum())?;
                 Ok(find(found, *count, null, at_hand))
             }
-            Step::FindVariable { first, parts, skip } => {
-                Ok(find(self.variable(root, *first, *parts), *skip, null, at_hand))
+            Step::FindVariable { path, skip } => {
+                Ok(find(self.variable(root, *path), *skip, null, at_hand))
             }
             Step::One(operator, a) => {
                 *at_hand = Found::Made(of_one(*operator, self.look(a, at_hand, root, null)));

@@ -1,28 +1,31 @@
 //! What is added to code: instructions, and operands that no instruction is needed for.
 
-ghost use Rattle.std.specs.Prelude.{◌≡◌, ◌≤◌, ◌+◌, ◌++◌, ℕ, true, Some, None, IfOk, OnOk, length};
-ghost use Rattle.std.specs.Prelude.{map};
+ghost use Rattle.std.specs.Prelude.{◌≡◌, ◌≤◌, ◌<◌, ◌^◌, ℕ, true, Some, None, IfOk, IfSome, OnOk};
+ghost use Rattle.std.specs.Prelude.{length};
 ghost use Rattle.fp_base.specs.Ordered.{IsOrdered};
 ghost use Rattle.fp_base.specs.TreeView.{tree_view, tree_items};
 ghost use Rattle.fp_operators.specs.Data.{text};
-ghost use Rattle.fp_operators.specs.Path.{parts};
-ghost use Rattle.fp_operators.specs.View.{view};
+ghost use Rattle.fp_operators.specs.FromJson.{data_of};
 ghost use Rattle.fp_targeting.specs.Compiles.{IsCompiled, AreCompiled, is_plain, IsComputed};
 ghost use Rattle.fp_targeting.specs.Compiles.{ComputesVariable, CompileSplit};
-ghost use Rattle.fp_targeting.specs.Emits.{Pushed, Raised, IsOperand, Adds, Finds, IsPath};
+ghost use Rattle.fp_targeting.specs.Emits.{Pushed, Raised, IsOperand, Adds, Finds, IsPlaced};
+ghost use Rattle.fp_targeting.specs.Emits.{Stands};
 ghost use Rattle.fp_targeting.specs.Rule.{apply, literal, rule, no_rules};
 ghost use Rattle.fp_targeting.specs.View.{rules_of};
 ghost use Rattle.fp_targeting.specs.declared.code.Operand.{Operand};
-ghost use Rattle.fp_targeting.specs.declared.code.Step.TheVariants.{End};
+ghost use Rattle.fp_targeting.specs.declared.code.Step.TheVariants.{LoadWhole, End};
 ghost use Rattle.fp_targeting.specs.declared.operator.Operator.TheVariants.{Var, Fractional};
 
 use crate::code::{Code, Operand, Step};
-use crate::json::{are_literals, arguments, text_of};
+use crate::json::{are_literals, arguments, text_of, whole_number, writes};
 use crate::operator::Operator;
 use crate::table::Table;
 use fp_base::Tree as Json;
 use fp_operators::Datum;
 use std::alloc::{AllocError, Global};
+
+// Among so many constants, the last ones, an equal one is looked for: a usual rule has fewer.
+const LOOKED_THROUGH: usize = 32;
 
 impl Code {
     /// Gives back the room that instructions and constants don't need.
@@ -61,6 +64,14 @@ impl Code {
         Ok(())
     }
 
+    // The number is at hand next.
+    fn load_whole(&mut self, number: i64) -> Result<(), AllocError>
+        ensures { OnOk result (Pushed (LoadWhole number) self.old self.new) }
+    {
+        self.push(Step::LoadWhole(number))?;
+        Ok(())
+    }
+
     // A value that stands for itself, as a constant.
     fn constant(&mut self, alloc: Global, json: &Json<'_>) -> Result<Operand, AllocError>
         requires plain { is_plain (tree_view json.now) ≡ true }
@@ -68,30 +79,29 @@ impl Code {
         ensures { IfOk result (λ o. IsCompiled
             (λ r. IsOperand o r self.old self.new) (tree_view json.now)) }
     {
-        let place = place(self.pool.len())?;
-        self.pool.push(Datum::from_tree(alloc, json)?)?;
+        let place = self.place(alloc, json)?;
         Ok(Operand::Constant(place))
     }
 
-    // A path, cut into its parts.
-    fn path(&mut self, alloc: Global, path: &str) -> Result<Operand, AllocError>
-        ensures { IfOk result (λ o. IsOperand o
-            (apply Var (rule (literal (text path.now)) no_rules)) self.old self.new) }
+    // The place of what a value writes, which is put into the pool where it isn't there.
+    fn place(&mut self, alloc: Global, json: &Json<'_>) -> Result<u16, AllocError>
+        requires { IsOrdered (tree_view json.now) }
+        ensures { IfOk result (λ n. IsPlaced n (data_of (tree_view json.now)) self.old self.new) }
     {
-        let (first, parts) = self.cut(alloc, path)?;
-        Ok(Operand::Variable { first, parts })
+        if let Some(there) = place_of(self.pool.as_slice(), json) {
+            return Ok(as_place(there));
+        }
+        let place = as_place(self.pool.len());
+        self.pool.push(Datum::from_tree(alloc, json)?)?;
+        Ok(place)
     }
 
-    // Puts a path's parts into the pool: the place of the first, and how many they are.
-    fn cut(&mut self, alloc: Global, path: &str) -> Result<(u16, u16), AllocError>
-        ensures { IfOk result (λ p. IsPath p.0 p.1 path.now self.old self.new) }
+    // The place of a path.
+    fn path(&mut self, alloc: Global, path: &str) -> Result<u16, AllocError>
+        ensures { IfOk result (λ n. IsPlaced n (text path.now) self.old self.new) }
     {
-        let first = place(self.pool.len())?;
-        if !path.is_empty() {
-            push_parts(alloc, &mut self.pool, path)?;
-        }
-        let parts = place(self.pool.len() - first as usize)?;
-        Ok((first, parts))
+        let json = Json::String(path);
+        self.place(alloc, &json)
     }
 
     /// `var` without a path, or with one that is known.
@@ -112,7 +122,7 @@ impl Code {
         match arguments {
             [] => Ok(Some(Operand::All)),
             [only] => match text_of(only) {
-                Some(path) => Ok(Some(self.path(alloc, path)?)),
+                Some(path) => Ok(Some(Operand::Variable(self.path(alloc, path)?))),
                 None => Ok(None),
             },
             [_, _, ..] => Ok(None),
@@ -172,8 +182,8 @@ impl Code {
         ensures { OnOk result ((h : ℕ)
             → Finds skip h (literal (text path.now)) self.old self.new) }
     {
-        let (first, parts) = self.cut(alloc, path)?;
-        self.push(Step::FindVariable { first, parts, skip })?;
+        let path = self.path(alloc, path)?;
+        self.push(Step::FindVariable { path, skip })?;
         Ok(())
     }
 
@@ -184,35 +194,36 @@ impl Code {
         ensures { OnOk result ((h : ℕ) → IsCompiled
             (λ r. Adds h r self.old self.new) (tree_view json.now)) }
     {
+        if let Some(number) = whole_number(json) {
+            self.load_whole(number)?;
+            return Ok(());
+        }
         let operand = self.constant(alloc, json)?;
         self.push(Step::Load(operand))?;
         Ok(())
     }
 }
 
-// The parts of a path, between its dots, behind what is there.
-fn push_parts(alloc: Global, pool: &mut Vec<Datum>, path: &str) -> Result<(), AllocError>
-    ensures { OnOk result (map view pool.new.items
-        ≡ map view pool.old.items ++ map text (parts path.now)) }
+// Where what a value writes stands already, if it does among the last so many.
+fn place_of(pool: &[Datum], json: &Json<'_>) -> Option<usize>
+    ensures { IfSome result (λ n. Stands n (data_of (tree_view json.now)) pool.now) }
 {
-    let mut rest = path;
-    'parts: while let Some((part, more)) = rest.split_once('.') {
-        pool.push(Datum::Text(String::from_str(alloc, part)?))?;
-        rest = more;
+    let last = pool.len().saturating_sub(LOOKED_THROUGH);
+    let mut left = pool.len();
+    'pool: while left > last {
+        left -= 1;
+        if writes(json, &pool[left]) {
+            return Some(left);
+        }
     }
-    pool.push(Datum::Text(String::from_str(alloc, rest)?))?;
-    Ok(())
+    None
 }
 
-// A place in the pool. More than there are numbers for can't be had: a definition's texts have no
-// more parts.
-fn place(count: usize) -> Result<u16, AllocError>
-    ensures { IfOk result (λ n. n ≡ count) }
+// A place in the pool, of which each fits: a rule has fewer values than there are numbers.
+fn as_place(count: usize) -> u16
+    ensures { count < 2 ^ 16 → result ≡ count }
 {
-    match u16::try_from(count) {
-        Ok(count) => Ok(count),
-        Err(_) => Err(AllocError),
-    }
+    u16::try_from(count).unwrap_or(u16::MAX)
 }
 
 /// As the count of an instruction.

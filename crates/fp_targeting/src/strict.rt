@@ -5,7 +5,7 @@ ghost use Rattle.serde_json.specs.Data.{no_items, item};
 ghost use Rattle.fp_base.specs.Ordered.{IsOrdered, AreOrdered};
 ghost use Rattle.fp_base.specs.TreeView.{tree_view, tree_items};
 ghost use Rattle.fp_targeting.specs.Compiles.{CompileAll, OneWaits};
-ghost use Rattle.fp_targeting.specs.Emits.{Adds};
+ghost use Rattle.fp_targeting.specs.Emits.{Adds, AddsAlone};
 ghost use Rattle.fp_targeting.specs.Operators.{takes};
 ghost use Rattle.fp_targeting.specs.Rule.{apply};
 ghost use Rattle.fp_targeting.specs.Strict.{is_strict};
@@ -160,7 +160,7 @@ impl Code {
         requires waits { OneWaits
             (item (tree_view a.now) (item (tree_view b.now) (item (tree_view c.now) no_items))) }
         ensures { IfOk result (λ done. CompileAll done
-            (λ rs. Adds height (apply operator (rules_of rs)) self.old self.new)
+            (λ rs. AddsAlone height operator rs self.old self.new)
             (item (tree_view a.now) (item (tree_view b.now) (item (tree_view c.now) no_items)))) }
     {
         let one = above(height, 1)?;

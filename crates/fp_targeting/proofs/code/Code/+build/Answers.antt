@@ -9,7 +9,7 @@ use Rattle.fp_base.proofs.Counted.{count_some}
 use Rattle.fp_base.proofs.Views.{view-Array, view-Object}
 use Rattle.fp_operators.specs.Data.{text}
 use Rattle.fp_targeting.specs.Compiles.{Compiles, CompileAll, IsCompiled, AreCompiled, NoRule, OneWaits, is_plain, NoRules}
-use Rattle.fp_targeting.specs.Emits.{Pushed, Adds, Decides, Finds}
+use Rattle.fp_targeting.specs.Emits.{Pushed, Adds, AddsAlone, Decides, Finds}
 use Rattle.fp_targeting.specs.Memory.{waits}
 use Rattle.fp_targeting.specs.Operators.{takes}
 use Rattle.fp_targeting.specs.Rule.{apply, literal}
@@ -507,7 +507,7 @@ third-returns t c =
     let y = compiles-true c.in_ok-compute-2.field-0 c.if-not-branch-2.false c.in_ok-compute-2.ensures in
     let b = c.in_ok-compute-3.field-0 in
     all-made-into _ b
-    (compile-before (λ rs. waits (rules_of rs) ≡ true → Adds c.args.height (apply c.args.operator (rules_of rs)) c.args.self.now c.compute-3.new.self) _ b (in-front y (alone z)) (made-into _ b c.in_ok-compute-3.ensures
+    (compile-before (λ rs. waits (rules_of rs) ≡ true → AddsAlone c.args.height c.args.operator rs c.args.self.now c.compute-3.new.self) _ b (in-front y (alone z)) (made-into _ b c.in_ok-compute-3.ensures
     (λ r e m. added-third c.args.operator c.requires.strict c.in_ok-one.ensures c.in_ok-two.ensures c.in_ok-push.ensures z.made c.in_ok-keep.ensures y.made
     c.in_ok-keep-2.ensures m)))
     (λ rs e f. f (c.requires.waits rs e))
@@ -525,7 +525,7 @@ three-returns-in_ok-third-in_default t c =
     let x = stays c.in_ok-first.first c.in_ok-first.ensures.some c.in_ok-first.ensures.none in
     let y = stays c.in_ok-second.second c.in_ok-second.ensures.some c.in_ok-second.ensures.none in
     all-made-into _ c.in_ok-third-in_default.field-0 c.in_ok-third-in_default.ensures
-    (λ rs e m. adds-later x (adds-later y m))
+    (λ rs e m. adds-later x y m)
 
 pub two-returns-in_ok-push-in-Some-Some : goal.two-returns-in_ok-push-in-Some-Some
 two-returns-in_ok-push-in-Some-Some t c =
