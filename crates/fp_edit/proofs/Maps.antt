@@ -1,18 +1,19 @@
 -- The sets that a map's entries make: after an insert, a removal and a write, and in order.
-use Rattle.std.proofs.Common.{◌≡◌, T, ◌&&◌, ℕ, List, [], ◌∷◌, ◌++◌, map, length, Ordering, Less, Equal, Greater, Some, None, cond, Bool, true, false, is_eq, is_some, refl, sym, ap, subst, ◌∙◌, append_assoc}
-use Rattle.std.specs.Ordering.{match_ordering, ordering_reverse, eq_by_cmp, is_lt}
+use Rattle.std.proofs.Common.{◌≡◌, T, ◌&&◌, ℕ, List, [], ◌∷◌, ◌++◌, map, length, Ordering, Less, Equal, Greater, Some, None, cond, Bool, true, false, is_eq, is_some, refl, sym, ap, ap₂, subst, ◌∙◌, append_assoc}
+use Rattle.std.specs.Ordering.{match_ordering, eq_by_cmp, is_lt}
 use Rattle.std.specs.Map.{lookup, remove_entry, set_value, keys_of}
 use Rattle.std.specs.List.{AllByRecursion}
 use Rattle.std.specs.List.Sorted.{IsStrictlySortedBy}
-use Rattle.std.specs.BTreeMap.{insert_entry, is_at}
+use Rattle.std.specs.BTreeMap.{BTreeMap, IsFromIterResult, insert_entry, is_at}
 use Rattle.std.specs.Cmp.{eq_by_cmp_equiv, Equal-is}
-use Rattle.std.proofs.lemmas.Cmp.{nat_list_cmp_total}
-use Rattle.std.proofs.lemmas.List.{length-map}
+use Rattle.std.proofs.lemmas.Cmp.{nat_list_cmp_total, on_total}
+use Rattle.std.proofs.lemmas.List.{length-map, map-append}
 use Rattle.std.proofs.lemmas.Map.{lookup-remove_entry, lookup-set_value}
 use Rattle.std.proofs.lemmas.Map.Keys.{IsDistinct-from_sorted}
 use Rattle.std.proofs.lemmas.Map.Lookups.{exact_bytes}
 use Rattle.std.specs.FinMap as fin
 use Rattle.std.specs.FinMap.Entries.{by_order, put, find, find-put, below_all, is_sorted}
+use Rattle.fp_base.proofs.Collected.{in-order}
 use Rattle.fp_base.specs.Bytes.{bytes_cmp}
 use Rattle.fp_definition.specs.Key.{key_bytes, flag_cmp}
 use Rattle.fp_definition.specs.declared.key.FlagKey.{FlagKey}
@@ -21,7 +22,7 @@ use Rattle.fp_edit.specs.Flags.{Flags}
 use Rattle.fp_edit.specs.declared.flags.Flag.{Flag}
 use Rattle.fp_edit.proofs.Sizes.{first, second, less}
 
-abbrev Entry : Type 0
+abbrev pub Entry : Type 0
 Entry = FlagKey × Flag
 
 find-mapped : (es : List Entry) (q : List ℕ) → find bytes_cmp q (map entry_of es) ≡ lookup (is_at (λ k. bytes_cmp q (key_bytes k))) es
@@ -142,23 +143,26 @@ entries-flags_of es h =
 pub len-flags_of : (es : List Entry) → IsStrictlySortedBy flag_cmp (keys_of es) → fin.len (flags_of es) ≡ length es
 len-flags_of es h = fin.len-entries (flags_of es) ∙ ap length (entries-flags_of es h) ∙ length-map es entry_of
 
--- ---- a copy, made in order
+-- ---- a copy, made of pairs in order
 
-below_inside : (x : List ℕ) (es : List (List ℕ × Flag)) (k : List ℕ) (f : Flag) (rest : List (List ℕ × Flag)) → T (below_all bytes_cmp x (es ++ (k, f) ∷ rest)) → bytes_cmp x k ≡ Less
-below_inside x [] k f rest h = less _ (first _ _ h)
-below_inside x (e ∷ es) k f rest h = below_inside x es k f rest (second _ _ h)
+keys_above : (e : Entry) (es : List Entry) → T (below_all bytes_cmp (key_bytes e.0) (map entry_of es)) → AllByRecursion (λ y. flag_cmp e.0 y ≡ Less) (keys_of es)
+keys_above e [] h = tt
+keys_above e (x ∷ es) h = (less _ (first _ _ h), keys_above e es (second _ _ h))
 
--- an entry whose key is above those before it goes last
-put-last : (es : List (List ℕ × Flag)) (k : List ℕ) (f : Flag) (rest : List (List ℕ × Flag)) → T (is_sorted bytes_cmp (es ++ (k, f) ∷ rest)) → put bytes_cmp k f es ≡ es ++ (k, f) ∷ []
-put-last [] k f rest h = refl
-put-last (e ∷ es) k f rest h =
-    let above : bytes_cmp k e.0 ≡ Greater = nat_list_cmp_total.antisymm k e.0 ∙ ap ordering_reverse (below_inside e.0 es k f rest (first _ _ h)) in
-    ap (λ o. by_order o ((k, f) ∷ e ∷ es) ((e.0, f) ∷ es) (e ∷ put bytes_cmp k f es)) above
-    ∙ ap (λ r. e ∷ r) (put-last es k f rest (second _ _ h))
+pub sorted-mapped : (es : List Entry) → T (is_sorted bytes_cmp (map entry_of es)) → IsStrictlySortedBy flag_cmp (keys_of es)
+unfolding IsStrictlySortedBy
+sorted-mapped [] h = tt
+sorted-mapped (e ∷ es) h = (keys_above e es (first _ _ h), sorted-mapped es (second _ _ h))
 
--- one entry more is copied
-pub copied_more : (m : Flags) (k : List ℕ) (f : Flag) (rest all : List (List ℕ × Flag)) → T (is_sorted bytes_cmp all)
-    → fin.entries m ++ (k, f) ∷ rest ≡ all → fin.entries (fin.insert m k f) ++ rest ≡ all
-copied_more m k f rest all sorted h =
-    let last = put-last (fin.entries m) k f rest (subst (λ es. T (is_sorted bytes_cmp es)) (sym h) sorted) in
-    ap (λ es. es ++ rest) (fin.entries-insert nat_list_cmp_total m k f ∙ last) ∙ append_assoc (fin.entries m) ((k, f) ∷ []) rest ∙ h
+-- one pair more is copied
+pub copied_more : (es : List Entry) (e : Entry) (k : List ℕ) (f : Flag) (rest all : List (List ℕ × Flag)) → key_bytes e.0 ≡ k → e.1 ≡ f
+    → map entry_of es ++ (k, f) ∷ rest ≡ all → map entry_of (es ++ e ∷ []) ++ rest ≡ all
+copied_more es e k f rest all named same h =
+    ap (λ ds. ds ++ rest) (map-append entry_of es (e ∷ []))
+    ∙ append_assoc (map entry_of es) (entry_of e ∷ []) rest
+    ∙ ap₂ (λ x y. map entry_of es ++ (x, y) ∷ rest) named same
+    ∙ h
+
+-- a map that is made at once of pairs in order has these pairs
+pub entries-collected : (xs : List Entry) (n : BTreeMap FlagKey Flag) → IsFromIterResult flag_cmp xs n → T (is_sorted bytes_cmp (map entry_of xs)) → map entry_of n.entries ≡ map entry_of xs
+entries-collected xs n made sorted = in-order (on_total key_bytes nat_list_cmp_total) key_bytes (λ x y h. exact_bytes (key_bytes x) (key_bytes y) h) xs n made (sorted-mapped xs sorted)

@@ -100,7 +100,8 @@ pub(crate) fn cost_at(flags: &BTreeMap<FlagKey, Flag>, key: &FlagKey) -> u128
     }
 }
 
-/// Another map of the same keys and shares of the same definitions.
+/// Another map of the same keys and shares of the same definitions. It is made at once, of pairs that
+/// are in order already.
 pub(crate) fn copy_of(
     alloc: Global,
     flags: &BTreeMap<FlagKey, Flag>,
@@ -108,15 +109,15 @@ pub(crate) fn copy_of(
     ensures copied { IfOk result (λ copy. flags_of copy.entries ≡ flags_of flags.now.entries) }
     ensures ordered { IfOk result (λ copy. IsOrdered flag_cmp copy) }
 {
-    let mut copy = BTreeMap::new(alloc);
+    let mut pairs = Vec::with_capacity(alloc, flags.len())?;
     for (key, flag) in flags.iter() {
         let shared = Flag {
             definition: flag.definition.try_copy()?,
             changed: flag.changed,
         };
-        store(&mut copy, key.try_copy()?, shared)?;
+        pairs.push((key.try_copy()?, shared))?;
     }
-    Ok(copy)
+    Ok(pairs.into_iter().collect(alloc)?)
 }
 
 /// Puts a flag under each key that a change puts and that has none yet, and answers the bytes that
