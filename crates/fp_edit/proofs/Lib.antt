@@ -5,6 +5,7 @@ pub mod Refusing
 pub mod Tallying
 pub mod Kept
 pub mod Maps
+pub mod Meeting
 pub mod Outlined
 pub mod Parts
 pub mod Patched

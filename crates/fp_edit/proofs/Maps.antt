@@ -18,7 +18,6 @@ use Rattle.fp_base.specs.Bytes.{bytes_cmp}
 use Rattle.fp_definition.specs.Key.{key_bytes, flag_cmp}
 use Rattle.fp_definition.specs.declared.key.FlagKey.{FlagKey}
 use Rattle.fp_edit.specs.Entries.{entry_of, flags_of}
-use Rattle.fp_edit.specs.Flags.{Flags}
 use Rattle.fp_edit.specs.declared.flags.Flag.{Flag}
 use Rattle.fp_edit.proofs.Sizes.{first, second, less}
 

@@ -1,5 +1,5 @@
 -- Edits: what they change, and what they propose.
-use Rattle.std.specs.Prelude.{ℕ, List, [], ◌∷◌}
+use Rattle.std.specs.Prelude.{List, [], ◌∷◌}
 use Rattle.fp_definition.specs.Key.{key_bytes}
 use Rattle.fp_edit.specs.Parts.{Part, put, delete, ProposedPart, parts_of}
 use Rattle.fp_edit.specs.declared.edit.Edit.{Edit}

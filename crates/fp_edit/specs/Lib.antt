@@ -6,6 +6,7 @@ pub mod Entries
 pub mod Filled
 pub mod Flags
 pub mod Following
+pub mod Keys
 pub mod Laws
 pub mod Line
 pub mod Log

@@ -1,13 +1,15 @@
 //! Changes that are made together, under one revision.
 
-ghost use Rattle.std.specs.Prelude.{◌≡◌, ◌+◌, ◌≤◌, None, Some, length, map, nat_le};
+ghost use Rattle.std.specs.Prelude.{◌≡◌, ◌+◌, ◌≤◌, [], None, Some, length, map, nat_le, true};
 ghost use Rattle.std.specs.Prelude.{IfOk, IfErr};
 ghost use Rattle.fp_definition.specs.Key.{key_bytes};
 ghost use Rattle.fp_edit.specs.Changes.{are_distinct, is_among, is_count, part_len, set_fault};
 ghost use Rattle.fp_edit.specs.Changes.{set_len};
+ghost use Rattle.fp_edit.specs.Keys.{AreMet};
 ghost use Rattle.fp_edit.specs.Parts.{free, keys_of, part_key, parts_of, proposed_of};
 
 use crate::edit::{Change, Expect};
+use crate::keys::MetKeys;
 use fp_definition::{Definition, FlagKey};
 use std::alloc::{AllocError, Global};
 use std::marker::Model;
@@ -70,7 +72,7 @@ impl Changes {
             (λ e. set_fault (parts_of (map proposed_of changes.items)) ≡ Some e.0) }
         ensures given_back { IfErr result (λ e. e.1 ≡ changes) }
     {
-        match fault_of(&changes) {
+        match fault_of(*changes.allocator(), &changes) {
             Some(fault) => Err((fault, changes)),
             None => Ok(Changes { changes }),
         }
@@ -198,13 +200,13 @@ pub(crate) fn is_count(count: usize) -> bool
 }
 
 // What the changes lack to be made together, if anything.
-fn fault_of(changes: &[Change]) -> Option<SetFault>
+fn fault_of(alloc: Global, changes: &[Change]) -> Option<SetFault>
     ensures { result ≡ set_fault (parts_of (map proposed_of changes.now)) }
 {
     if !is_count(changes.len()) {
         return Some(SetFault::BadCount);
     }
-    if !are_distinct(changes) {
+    if !are_distinct(alloc, changes) {
         return Some(SetFault::RepeatedKey);
     }
     if !is_short(changes) {
@@ -225,7 +227,34 @@ fn is_among(key: &FlagKey, changes: &[Change]) -> bool
     false
 }
 
-fn are_distinct(changes: &[Change]) -> bool
+// Whether no two are of one key. Where there is no memory to note the keys, each is compared with all
+// behind it.
+fn are_distinct(alloc: Global, changes: &[Change]) -> bool
+    ensures { result ≡ are_distinct (keys_of changes.now) }
+{
+    match meet_all(&mut MetKeys::new(alloc), changes) {
+        Ok(are_distinct) => are_distinct,
+        Err(_) => differ(changes),
+    }
+}
+
+// Meets the keys of the changes, the last one first, up to one that was met before; answers whether
+// there is none.
+fn meet_all<'a>(met: &mut MetKeys<'a>, changes: &'a [Change]) -> Result<bool, AllocError>
+    requires { AreMet met.old [] }
+    ensures distinct { IfOk result (λ all. all ≡ are_distinct (keys_of changes.now)) }
+    ensures met { IfOk result (λ all. all ≡ true → AreMet met.new (keys_of changes.now)) }
+{
+    let Some((change, rest)) = changes.split_first() else {
+        return Ok(true);
+    };
+    if !meet_all(met, rest)? {
+        return Ok(false);
+    }
+    met.meet(change.key().as_str())
+}
+
+fn differ(changes: &[Change]) -> bool
     ensures { result ≡ are_distinct (keys_of changes.now) }
 {
     for i in 0..changes.len() {

@@ -9,6 +9,7 @@ mod flag_set;
 mod flags;
 mod following;
 mod judging;
+mod keys;
 mod laws;
 mod line;
 mod tally;

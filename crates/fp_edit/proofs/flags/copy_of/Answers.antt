@@ -6,7 +6,6 @@ use Rattle.std.specs.FinMap.Entries.{is_sorted}
 use Rattle.fp_base.specs.Bytes.{bytes_cmp}
 use Rattle.fp_definition.specs.Key.{flag_cmp, key_bytes}
 use Rattle.fp_edit.specs.Entries.{entries_of}
-use Rattle.fp_edit.specs.declared.flags.Flag.{Flag}
 use Rattle.fp_edit.proofs.Maps.{Entry, copied_more, entries-collected, is_sorted-mapped}
 use Rattle.fp_edit.proofs.flags.copy_of.Goals as goal
 

@@ -1,5 +1,4 @@
-use Rattle.std.proofs.Common.{◌≡◌, Some, sym, subst, ◌∙◌}
-use Rattle.fp_edit.specs.Admits.{refusal}
+use Rattle.std.proofs.Common.{sym, ◌∙◌}
 use Rattle.fp_edit.specs.Edits.{proposal_of}
 use Rattle.fp_edit.proofs.Refusing.{refused_by}
 use Rattle.fp_edit.proofs.flag_set.FlagSet.admit.Goals as goal

@@ -1,7 +1,7 @@
 use Rattle.std.proofs.Common.{◌≡◌, drop}
 use Rattle.fp_edit.specs.Changes.{are_distinct}
 use Rattle.fp_edit.specs.Parts.{keys_of}
-use Rattle.fp_edit.proofs.changes.are_distinct.Given as goal
+use Rattle.fp_edit.proofs.changes.differ.Given as goal
 
 -- what is left decides
 abbrev pub invariant-loop-i : goal.invariant-loop-i
