@@ -1,3 +1,4 @@
+pub mod Bounding
 pub mod Changed
 pub mod Filling
 pub mod Followed
@@ -6,6 +7,7 @@ pub mod Tallying
 pub mod Kept
 pub mod Maps
 pub mod Meeting
+pub mod Noting
 pub mod Outlined
 pub mod Parts
 pub mod Patched

@@ -1,5 +1,5 @@
 -- Changes that follow one another, whatever their editors expected.
-use Rattle.std.specs.Prelude.{◌≡◌, ℕ, List, [], ◌∷◌, map, None}
+use Rattle.std.specs.Prelude.{◌≡◌, ◌≤◌, ℕ, List, [], ◌∷◌, map, None}
 use Rattle.std.specs.FinMap as fin
 use Rattle.fp_edit.specs.Admits.{next, refusal}
 use Rattle.fp_edit.specs.Parts.{free}
@@ -34,3 +34,13 @@ pub record Tallies (limit revision count bytes : ℕ) (s : State) : Type 0 where
 
 abbrev pub IsTallyOf : Tally → State → Type 0
 IsTallyOf t s = Tallies t.limit t.revision t.count t.size s
+
+-- numbers that those of a set don't pass
+pub record Bounds (limit revision count bytes : ℕ) (s : State) : Type 0 where
+  pub limit_is : limit ≡ s.limit
+  pub revision_is : revision ≡ s.revision
+  pub few : fin.len s.flags ≤ count
+  pub short : size s.flags ≤ bytes
+
+abbrev pub IsTallyAbove : Tally → State → Type 0
+IsTallyAbove t s = Bounds t.limit t.revision t.count t.size s

@@ -10,6 +10,7 @@ pub mod Keys
 pub mod Laws
 pub mod Line
 pub mod Log
+pub mod Noted
 pub mod Outline
 pub mod Parts
 pub mod Spelled

@@ -316,6 +316,10 @@ impl FlagSet {
         Ok(())
     }
 
+    pub(crate) fn alloc(&self) -> Global {
+        self.alloc
+    }
+
     // What the key's flag takes in the image, 0 without one.
     pub(crate) fn cost_at(&self, key: &FlagKey) -> u128
         ensures { result ≡ cost_found (key_bytes key.now)

@@ -1,7 +1,7 @@
 //! Edits that follow one another, whatever their editors expected.
 
 ghost use Rattle.std.specs.Prelude.{◌≡◌, ◌↔◌, length, vec_len, IfOk, IfSome, IfNone, OnOk, IsTrue};
-ghost use Rattle.std.specs.Prelude.{MatchOption, None, map as list_map};
+ghost use Rattle.std.specs.Prelude.{MatchOption, None, map as list_map, true};
 ghost use Rattle.std.specs.FinMap as map;
 ghost use Rattle.fp_definition.specs.Key.{key_bytes};
 ghost use Rattle.fp_edit.specs.Admits.{next, refusal};
@@ -9,13 +9,17 @@ ghost use Rattle.fp_edit.specs.Changes.{set_fault};
 ghost use Rattle.fp_edit.specs.Edits.{proposal_of, set};
 ghost use Rattle.fp_edit.specs.Parts.{parts_of, proposed_of};
 ghost use Rattle.fp_edit.specs.Flags.{State, cost_found};
-ghost use Rattle.fp_edit.specs.Following.{Follows, IsTallyOf, change_of, changes_of};
-ghost use Rattle.fp_edit.specs.Following.{unconditional};
+ghost use Rattle.fp_edit.specs.Following.{Follows, IsTallyAbove, IsTallyOf, change_of};
+ghost use Rattle.fp_edit.specs.Following.{changes_of, unconditional};
 ghost use Rattle.fp_edit.specs.Log.{after_all};
+ghost use Rattle.fp_edit.specs.Noted.{IsNoted};
 
+use crate::costs::Costs;
 use crate::edit::{Change, Edit, Expect};
 use crate::flag_set::FlagSet;
-use crate::tally::{Sums, Tally, judged_delete, judged_put, judged_sums, key_cost, sums_after};
+use crate::tally::{
+    Sums, Tally, judged_delete, judged_put, judged_sums, key_cost, most_after, sums_after,
+};
 use fp_definition::FlagKey;
 use std::alloc::{AllocError, Global};
 use std::collections::VecDeque;
@@ -94,24 +98,57 @@ fn cost_after(edits: &[Edit], key: &FlagKey, before: u128) -> u128
     cost
 }
 
+// What the numbers are at most behind edits that put flags and delete none, if the limits let them
+// pass whatever stands at their keys.
+fn most_behind(most: Tally, edits: &[Edit]) -> Option<Tally>
+    ensures { (s : State) → IsTallyAbove most s → IfSome result (λ t.
+        Follows s (changes_of edits.now) × IsTallyAbove t (after_all s (changes_of edits.now))) }
+{
+    let mut now = most;
+    for edit in edits {
+        now = most_after(now, edit)?;
+    }
+    Some(now)
+}
+
 impl FlagSet {
     /// Whether the set accepts the edits one after another, whatever their editors expected. It
-    /// takes no memory, and looks at the set only at their keys.
+    /// looks at the set only at their keys.
     pub fn accepts(&self, edits: &[Edit]) -> bool
         ensures { IsTrue result ↔ Follows self.now (changes_of edits.now) }
     {
-        self.tally_behind(&[], self.tally(), edits).is_some()
+        self.accepts_behind(&[], edits)
     }
 
-    /// Whether the set accepts the edits behind those that are ahead of it. It takes no memory.
-    pub fn accepts_behind(&self, ahead: &[Edit], edits: &[Edit]) -> bool
+    /// Whether the set accepts the edits behind those that are ahead of it. Where memory is wanting
+    /// it looks back at all of them for each key.
+    pub fn accepts_behind<'a>(&self, ahead: &'a [Edit], edits: &'a [Edit]) -> bool
         ensures { IsTrue result ↔ (Follows self.now (changes_of ahead.now)
             × Follows (after_all self.now (changes_of ahead.now)) (changes_of edits.now)) }
     {
-        let Some(tally) = self.tally_behind(&[], self.tally(), ahead) else {
+        if self.fits_as_new(ahead, edits) {
+            return true;
+        }
+        let mut costs = Costs::new(self.alloc());
+        let Some(tally) = self.tally_behind(&[], &mut costs, self.tally(), ahead) else {
             return false;
         };
-        self.tally_behind(ahead, tally, edits).is_some()
+        self.tally_behind(ahead, &mut costs, tally, edits).is_some()
+    }
+
+    // Whether it's seen without a look-up that the set accepts them: all put flags, and mostly there is
+    // room whatever stands at their keys.
+    fn fits_as_new(&self, ahead: &[Edit], edits: &[Edit]) -> bool
+        ensures { result ≡ true → Follows self.now (changes_of ahead.now)
+            × Follows (after_all self.now (changes_of ahead.now)) (changes_of edits.now) }
+    {
+        let Some(most) = most_behind(self.tally(), ahead) else {
+            return false;
+        };
+        match most_behind(most, edits) {
+            Some(_) => true,
+            None => false,
+        }
     }
 
     fn tally(&self) -> Tally
@@ -127,32 +164,45 @@ impl FlagSet {
 
     // The numbers behind the edits, where the set accepts them behind those of `ahead`, which lead
     // to the numbers given.
-    fn tally_behind(&self, ahead: &[Edit], tally: Tally, edits: &[Edit]) -> Option<Tally>
-        requires { IsTallyOf tally (after_all self.now (changes_of ahead.now)) }
+    fn tally_behind<'a>(
+        &self,
+        ahead: &[Edit],
+        costs: &mut Costs<'a>,
+        tally: Tally,
+        edits: &'a [Edit],
+    ) -> Option<Tally>
+        requires tally { IsTallyOf tally (after_all self.now (changes_of ahead.now)) }
+        requires noted { IsNoted costs.old self.now (after_all self.now (changes_of ahead.now)) }
         ensures accepted { IfSome result (λ t.
             Follows (after_all self.now (changes_of ahead.now)) (changes_of edits.now)
             × IsTallyOf t (after_all (after_all self.now (changes_of ahead.now))
             (changes_of edits.now))) }
+        ensures noted { IfSome result (λ _. IsNoted costs.new self.now
+            (after_all (after_all self.now (changes_of ahead.now)) (changes_of edits.now))) }
         ensures refused { IfNone result
             (Follows (after_all self.now (changes_of ahead.now)) (changes_of edits.now) → ⊥) }
     {
         let mut now = tally;
         for i in 0..edits.len() {
-            now = self.judged_behind(ahead, &edits[..i], now, &edits[i])?;
+            now = self.judged_behind(ahead, &edits[..i], costs, now, &edits[i])?;
+            costs.note(&edits[i]);
         }
         Some(now)
     }
 
     // The numbers behind an edit, where the set accepts it behind those of `ahead` and `before`,
     // which lead to the numbers given.
-    fn judged_behind(
+    fn judged_behind<'a>(
         &self,
         ahead: &[Edit],
         before: &[Edit],
+        costs: &Costs<'a>,
         tally: Tally,
-        edit: &Edit,
+        edit: &'a Edit,
     ) -> Option<Tally>
-        requires { IsTallyOf tally
+        requires tally { IsTallyOf tally
+            (after_all (after_all self.now (changes_of ahead.now)) (changes_of before.now)) }
+        requires noted { IsNoted costs.now self.now
             (after_all (after_all self.now (changes_of ahead.now)) (changes_of before.now)) }
         ensures { MatchOption result
             (refusal (after_all (after_all self.now (changes_of ahead.now)) (changes_of before.now))
@@ -166,33 +216,57 @@ impl FlagSet {
     {
         match edit {
             Edit::Put { key, flag, .. } => {
-                judged_put(tally, self.found_behind(ahead, before, key), key, flag)
+                judged_put(
+                    tally,
+                    self.found_behind(ahead, before, costs, key),
+                    key,
+                    flag,
+                )
             }
             Edit::Delete { key, .. } => {
-                judged_delete(tally, self.found_behind(ahead, before, key), key)
+                judged_delete(tally, self.found_behind(ahead, before, costs, key), key)
             }
-            Edit::Set(changes) => self.judged_set(ahead, before, tally, changes.as_slice()),
+            Edit::Set(changes) => self.judged_set(ahead, before, costs, tally, changes.as_slice()),
         }
     }
 
-    // What a key's flag takes behind those edits.
-    fn found_behind(&self, ahead: &[Edit], before: &[Edit], key: &FlagKey) -> u128
+    // What a key's flag takes behind those edits: as it is noted, or where there was no memory for that,
+    // as each of them left it.
+    fn found_behind<'a>(
+        &self,
+        ahead: &[Edit],
+        before: &[Edit],
+        costs: &Costs<'a>,
+        key: &'a FlagKey,
+    ) -> u128
+        requires { IsNoted costs.now self.now
+            (after_all (after_all self.now (changes_of ahead.now)) (changes_of before.now)) }
         ensures { result ≡ cost_found (key_bytes key.now) (map.get
             (after_all (after_all self.now (changes_of ahead.now)) (changes_of before.now)).flags
             (key_bytes key.now)) }
     {
-        cost_after(before, key, cost_after(ahead, key, self.cost_at(key)))
+        let Some(noted) = &costs.noted else {
+            return cost_after(before, key, cost_after(ahead, key, self.cost_at(key)));
+        };
+        let text = key.as_str();
+        match noted.get(&text) {
+            Some(cost) => *cost,
+            None => self.cost_at(key),
+        }
     }
 
     // The same of the changes of a set.
-    fn judged_set(
+    fn judged_set<'a>(
         &self,
         ahead: &[Edit],
         before: &[Edit],
+        costs: &Costs<'a>,
         tally: Tally,
-        changes: &[Change],
+        changes: &'a [Change],
     ) -> Option<Tally>
         requires tally { IsTallyOf tally
+            (after_all (after_all self.now (changes_of ahead.now)) (changes_of before.now)) }
+        requires noted { IsNoted costs.now self.now
             (after_all (after_all self.now (changes_of ahead.now)) (changes_of before.now)) }
         requires lawful { set_fault (parts_of (list_map proposed_of changes.now)) ≡ None }
         ensures { MatchOption result
@@ -211,7 +285,7 @@ impl FlagSet {
         };
         let mut is_bound = false;
         for change in changes {
-            let found = self.found_behind(ahead, before, change.key());
+            let found = self.found_behind(ahead, before, costs, change.key());
             match change {
                 Change::Put { .. } => is_bound = true,
                 Change::Delete { .. } => {

@@ -3,6 +3,7 @@
 #![tactic(auto)]
 
 mod changes;
+mod costs;
 mod document;
 mod edit;
 mod flag_set;

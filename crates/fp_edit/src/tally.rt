@@ -1,18 +1,22 @@
 //! The numbers of a set that its limits bind, and what an edit makes of them.
 
-ghost use Rattle.std.specs.Prelude.{◌≡◌, ◌+◌, ◌<◌, ◌≤◌, ◌^◌, ◌⊎◌, ℕ, List, None, false, true};
+ghost use Rattle.std.specs.Prelude.{◌≡◌, ◌+◌, ◌<◌, ◌≤◌, ◌^◌, ◌⊎◌, ℕ, List, None, false, length, true};
 ghost use Rattle.std.specs.Prelude.{IfNone, IfSome, MatchOption, bytes_eq, map as list_map};
 ghost use Rattle.std.specs.FinMap as map;
 ghost use Rattle.fp_definition.specs.Key.{key_bytes};
-ghost use Rattle.fp_edit.specs.Admits.{flags_after, has_revision, has_room, next, part_after};
+ghost use Rattle.fp_base.specs.Tests.{first_failed};
+ghost use Rattle.std.specs.List.{AllByRecursion};
+ghost use Rattle.fp_edit.specs.Admits.{flags_after, has_revision, has_room, keys, next, part_after};
 ghost use Rattle.fp_edit.specs.Admits.{parts_after, refusal};
 ghost use Rattle.fp_edit.specs.Changes.{are_distinct};
+ghost use Rattle.fp_edit.specs.Edits as edits;
 ghost use Rattle.fp_edit.specs.Edits.{one, set};
-ghost use Rattle.fp_edit.specs.Parts.{Part, any_put, delete, keys_of, part_key, parts_of};
+ghost use Rattle.fp_edit.specs.Parts.{Part, any_put, delete, is_put, keys_of, part_key, parts_of};
 ghost use Rattle.fp_edit.specs.Parts.{proposed_of, put};
 ghost use Rattle.fp_edit.specs.Flags.{Flags, State, cost_found, size as size_of};
-ghost use Rattle.fp_edit.specs.Following.{IsTallyOf, change_of, unconditional};
+ghost use Rattle.fp_edit.specs.Following.{IsTallyAbove, IsTallyOf, change_of, unconditional};
 
+use crate::changes::MOST_CHANGES;
 use crate::edit::{Change, Edit, REVISIONS_END};
 use crate::flag_set::MOST_FLAGS;
 use crate::flags::cost_of;
@@ -198,13 +202,18 @@ pub(crate) fn judged_delete(tally: Tally, found: u128, key: &FlagKey) -> Option<
 // where these bind them, let them pass.
 pub(crate) fn judged_sums(tally: Tally, sums: Sums, is_bound: bool) -> Option<Tally>
     requires fits { is_bound ≡ false → (sums.count ≤ tally.count) × (sums.size ≤ tally.size) }
-    ensures { (s : State) (ps : List Part) → IsTallyOf tally s → is_bound ≡ any_put ps
+    ensures judged { (s : State) (ps : List Part) → IsTallyOf tally s → is_bound ≡ any_put ps
         → sums.count ≡ map.len (flags_after s (set ps))
         → sums.size ≡ size_of (flags_after s (set ps))
         → MatchOption result
         (has_room s (set ps) ≡ true → has_revision s ≡ true → ⊥)
         (λ t. (has_room s (set ps) ≡ true) × (has_revision s ≡ true)
         × IsTallyOf t (next s (set ps))) }
+    // The same where they are no more than known to be enough.
+    ensures most { is_bound ≡ true → (s : State) (c : edits.Change) → IsTallyAbove tally s
+        → first_failed (keys s (unconditional c)) ≡ None → map.len (flags_after s c) ≤ sums.count
+        → size_of (flags_after s c) ≤ sums.size → IfSome result (λ t.
+        (refusal s (unconditional c) ≡ None) × IsTallyAbove t (next s c)) }
 {
     if tally.revision >= REVISIONS_END - 1 {
         return None;
@@ -218,4 +227,75 @@ pub(crate) fn judged_sums(tally: Tally, sums: Sums, is_bound: bool) -> Option<Ta
         count: sums.count as usize,
         size: sums.size as u64,
     })
+}
+
+// What the numbers are at most after an edit that puts flags and deletes none, if the limits let that
+// pass whatever stands at its keys.
+pub(crate) fn most_after(most: Tally, edit: &Edit) -> Option<Tally>
+    ensures { (s : State) → IsTallyAbove most s → IfSome result (λ t.
+        (refusal s (unconditional (change_of edit.now)) ≡ None)
+        × IsTallyAbove t (next s (change_of edit.now))) }
+{
+    match edit {
+        Edit::Put { key, flag, .. } => {
+            judged_sums(most, most_with(sums_of(most), key, flag), true)
+        }
+        Edit::Delete { .. } => None,
+        Edit::Set(changes) => most_after_all(most, changes.as_slice()),
+    }
+}
+
+// The same of the changes of a set.
+fn most_after_all(most: Tally, changes: &[Change]) -> Option<Tally>
+    requires { length changes.now ≤ MOST_CHANGES }
+    ensures { (s : State) → IsTallyAbove most s → IfSome result (λ t.
+        (refusal s (unconditional (set (parts_of (list_map proposed_of changes.now)))) ≡ None)
+        × IsTallyAbove t (next s (set (parts_of (list_map proposed_of changes.now))))) }
+{
+    let sums = most_with_all(sums_of(most), changes)?;
+    judged_sums(most, sums, true)
+}
+
+fn sums_of(tally: Tally) -> Sums
+    ensures same { (result.count ≡ tally.count) × (result.size ≡ tally.size) }
+    ensures small { (result.count < 2 ^ 64) × (result.size < 2 ^ 64) }
+{
+    Sums {
+        count: tally.count as u128,
+        size: tally.size as u128,
+    }
+}
+
+// What the numbers are at most with one more flag.
+fn most_with(sums: Sums, key: &FlagKey, flag: &Definition) -> Sums
+    requires small { (sums.count < 2 ^ 100) × (sums.size < 2 ^ 100) }
+    ensures { (s : State) → map.len s.flags ≤ sums.count → size_of s.flags ≤ sums.size
+        → (map.len (flags_after s (one (put (key_bytes key.now) flag.now))) ≤ result.count)
+        × (size_of (flags_after s (one (put (key_bytes key.now) flag.now))) ≤ result.size) }
+{
+    Sums {
+        count: sums.count + 1,
+        size: sums.size + cost_of(key, flag),
+    }
+}
+
+// The same with the flags of changes, if none of these deletes one.
+fn most_with_all(sums: Sums, changes: &[Change]) -> Option<Sums>
+    requires few { length changes.now ≤ MOST_CHANGES }
+    requires small { (sums.count < 2 ^ 64) × (sums.size < 2 ^ 64) }
+    ensures puts { IfSome result (λ _.
+        AllByRecursion (λ p. is_put p ≡ true) (parts_of (list_map proposed_of changes.now))) }
+    ensures most { IfSome result (λ n.
+        (s : State) → map.len s.flags ≤ sums.count → size_of s.flags ≤ sums.size
+        → (map.len (flags_after s (set (parts_of (list_map proposed_of changes.now)))) ≤ n.count)
+        × (size_of (flags_after s (set (parts_of (list_map proposed_of changes.now)))) ≤ n.size)) }
+{
+    let mut most = sums;
+    for change in changes {
+        let Change::Put { .. } = change else {
+            return None;
+        };
+        most = sums_after(most, change, 0);
+    }
+    Some(most)
 }

@@ -85,4 +85,4 @@ returns c =
     let ps = parts_in c.args.changes.now in
     let u = c.loop-change.invariant in
     let ended : length ps ≤ c.loop-change.change-index = rw (length-parts_in) c.loop-change-test.false in
-    judged_all s ps u ended c.judged_sums.result (c.judged_sums.ensures s ps c.requires.tally (bound_all s ps u ended) (count_all s ps u ended) (size_all s ps u ended))
+    judged_all s ps u ended c.judged_sums.result (c.judged_sums.ensures.judged s ps c.requires.tally (bound_all s ps u ended) (count_all s ps u ended) (size_all s ps u ended))

@@ -1,7 +1,8 @@
-use Rattle.std.proofs.Common.{sym, subst}
+use Rattle.std.proofs.Common.{take, sym, subst}
 use Rattle.fp_edit.specs.Flags.{State}
 use Rattle.fp_edit.specs.Following.{IsTallyOf, changes_of}
 use Rattle.fp_edit.specs.Log.{after_all}
+use Rattle.fp_edit.specs.Noted.{IsNoted}
 use Rattle.fp_edit.proofs.Followed.{one_accepted, one_after, one_follows}
 use Rattle.fp_edit.proofs.flag_set.FlagSet.tally_behind.Goals as goal
 
@@ -11,9 +12,12 @@ loop-i-preserved c =
     let xs = c.args.edits.now in
     let i = c.loop-i.i in
     let e = c.index-edits-i.result in
+    let noted = c.index-edits-i-in-loop-i.result in
     let next = c.in_ok-now.ensures in (
       one_follows base xs i e c.loop-i-test.true c.index-edits-i.is c.loop-i.invariant.0 next.0,
       subst (λ (t : State). IsTallyOf c.in_ok-now.now t) (sym (one_after base xs i e c.loop-i-test.true c.index-edits-i.is)) next.1,
+      subst (λ (t : State). IsNoted c.note.new.self c.args.self.now t) (sym (one_after base xs i noted c.loop-i-test.true c.index-edits-i-in-loop-i.is))
+          (c.note.ensures c.args.self.now (after_all base (changes_of (take i xs))) c.loop-i.invariant.2),
     )
 
 pub returns-in_err-now-clause-refused : goal.returns-in_err-now-clause-refused
