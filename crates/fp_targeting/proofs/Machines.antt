@@ -4,12 +4,14 @@ use Rattle.std.proofs.lemmas.Bool.{le-leb}
 use Rattle.std.proofs.lemmas.List.{append-nil, take-append-drop, length-map, map-append, take_more, drop-take, length-take-le, length-drop}
 use Rattle.fp_base.proofs.Turns.{take-here}
 use Rattle.fp_operators.specs.Data.{Data}
+use Rattle.fp_operators.specs.View.{view}
+use Rattle.fp_operators.specs.declared.datum.Datum.{Datum}
 use Rattle.fp_targeting.specs.Found.{found_view, stack_view}
 use Rattle.fp_targeting.specs.Machine.{Env, act, run, of_kept}
 use Rattle.fp_targeting.specs.Stack.{onto, off}
 use Rattle.fp_targeting.specs.declared.code.Step.{Step}
 use Rattle.fp_targeting.specs.declared.machine.Found.{Found}
-use Rattle.fp_targeting.proofs.Stacks.{onto-append, onto-last, length-onto, off-onto}
+use Rattle.fp_targeting.proofs.Stacks.{onto-append, onto-last, length-onto, off-step, off-onto}
 
 module _ (env : Env) (root : Data) where
   skip-one : (n k : ℕ) (c : Step) (t : List Step) (v : Data) (s : List Data) → n ≡ 1 + k → run env root (c ∷ t) n v s ≡ run env root t k v s
@@ -84,3 +86,25 @@ last-kept f n k xs e =
     ∙ ap (λ ds. of_kept f n (onto ds [])) (map-append found_view front back)
     ∙ ap (of_kept f n) (onto-append (map found_view front) (map found_view back) [])
     ∙ of_all f n (map found_view back) (stack_view front) long
+
+-- one more taken off
+pub taken-one : (left : ℕ) (kept rest : List Found) (items : List Datum) (x : Found) (d : Datum) (all : List Data × List Data) → 1 ≤ left → kept ≡ rest ++ x ∷ [] → view d ≡ found_view x
+    → off left (stack_view kept) (onto (map view items) []) ≡ all → off (left - 1) (stack_view rest) (onto (map view (items ++ d ∷ [])) []) ≡ all
+taken-one left kept rest items x d all some last same h =
+    let stack : stack_view kept ≡ found_view x ∷ stack_view rest =
+        ap stack_view last ∙ ap (λ ds. onto ds []) (map-append found_view rest (x ∷ [])) ∙ onto-last (map found_view rest) (found_view x) [] in
+    let more : onto (map view (items ++ d ∷ [])) [] ≡ found_view x ∷ onto (map view items) [] =
+        ap (λ ds. onto ds []) (map-append view items (d ∷ [])) ∙ onto-last (map view items) (view d) [] ∙ ap (λ e. e ∷ onto (map view items) []) same in
+    let fewer : left ≡ 1 + (left - 1) = omega (arith, some) in
+    ap (off (left - 1) (stack_view rest)) more
+    ∙ sym (off-step (left - 1) left (found_view x) (stack_view rest) (onto (map view items) []) fewer)
+    ∙ ap (λ s. off left s (onto (map view items) [])) (sym stack) ∙ h
+
+pub enough-kept : (n : ℕ) (kept : List Found) → n ≤ length kept → n ≤ length (stack_view kept)
+enough-kept n kept e = let o = length-onto (map found_view kept) [] in let m = length-map kept found_view in omega (arith, e, o, m)
+
+-- what was taken off, in the order in which it was kept
+pub of-taken : (f : List Data → Data) (n : ℕ) (kept : List Found) (ds s : List Data) → n ≤ length kept → off n (stack_view kept) [] ≡ (ds, s) → of_kept f n (stack_view kept) ≡ Some (0, f ds, s)
+of-taken f n kept ds s e h =
+    ap (λ b. if b then Some (0, f (off n (stack_view kept) []).0, (off n (stack_view kept) []).1) else None) (le-leb n _ (enough-kept n kept e))
+    ∙ ap (λ (p : List Data × List Data). Some (0, f p.0, p.1)) h

@@ -1,5 +1,7 @@
 -- Stacks, with the items of a list put onto them.
-use Rattle.std.proofs.Common.{◌≡◌, ℕ, suc, ◌+◌, List, [], ◌∷◌, ◌++◌, length, refl, ap, ◌∙◌, arith}
+use Rattle.std.proofs.Common.{◌≡◌, ℕ, suc, ◌+◌, List, [], ◌∷◌, ◌++◌, length, map, refl, sym, ap, ◌∙◌, arith}
+use Rattle.std.specs.Prelude.{reverse}
+use Rattle.std.proofs.lemmas.List.{append-nil, append_assoc, reverse-append}
 use Rattle.fp_targeting.specs.Stack.{onto, off}
 
 module _ {A : Type 0} where
@@ -15,7 +17,7 @@ module _ {A : Type 0} where
   length-onto (x ∷ xs) s = let i = length-onto xs (x ∷ s) in omega (arith, i)
 
   -- one more at a time
-  off-step : (n m : ℕ) (x : A) (s others : List A) → m ≡ 1 + n → off m (x ∷ s) others ≡ off n s (x ∷ others)
+  pub off-step : (n m : ℕ) (x : A) (s others : List A) → m ≡ 1 + n → off m (x ∷ s) others ≡ off n s (x ∷ others)
   off-step n m x s others e = let as_suc : m ≡ suc n = omega (arith, e) in ap (λ k. off k (x ∷ s) others) as_suc
 
   off-some : (n : ℕ) (xs s others : List A) → off (length xs + n) (onto xs s) others ≡ off n s (xs ++ others)
@@ -27,3 +29,17 @@ module _ {A : Type 0} where
   -- what was put comes off as it was put
   pub off-onto : (xs s : List A) → off (length xs) (onto xs s) [] ≡ (xs ++ [], s)
   off-onto xs s = ap (λ m. off m (onto xs s) []) (omega arith) ∙ off-some 0 xs s []
+
+  reverse-onto : (xs : List A) → reverse xs ≡ onto xs []
+  reverse-onto xs = sym (append-nil (reverse xs)) ∙ from xs [] where
+    from : (xs s : List A) → reverse xs ++ s ≡ onto xs s
+    from [] s = refl
+    from (x ∷ xs) s = ap (λ ys. ys ++ s) (reverse-append (x ∷ []) xs) ∙ append_assoc (reverse xs) (x ∷ []) s ∙ from xs (x ∷ s)
+
+module _ {A B : Type 0} (f : A → B) where
+  map-onto : (xs s : List A) → map f (onto xs s) ≡ onto (map f xs) (map f s)
+  map-onto [] s = refl
+  map-onto (x ∷ xs) s = map-onto xs (x ∷ s)
+
+  pub map-reverse : (xs : List A) → map f (reverse xs) ≡ onto (map f xs) []
+  map-reverse xs = ap (map f) (reverse-onto xs) ∙ map-onto xs []

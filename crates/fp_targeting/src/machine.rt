@@ -1,7 +1,7 @@
 //! What code gives for data.
 
 ghost use Rattle.std.specs.Prelude.{◌≡◌, ◌≤◌, Some, List, map, drop, get_or, IfOk, IfSome};
-ghost use Rattle.std.specs.Prelude.{OnErr, IsSome, true, ◌||◌};
+ghost use Rattle.std.specs.Prelude.{OnErr, IsSome, true, ◌||◌, []};
 ghost use Rattle.std.specs.Prelude.{IfNone, option_map, vec_capacity, length, if◌then◌else◌};
 ghost use Rattle.fp_operators.specs.Data as values;
 ghost use Rattle.fp_operators.specs.Data.{null as null_data};
@@ -17,6 +17,7 @@ ghost use Rattle.fp_targeting.specs.Machine.{second, third, list_of};
 ghost use Rattle.fp_targeting.specs.Meaning.{meaning};
 ghost use Rattle.fp_targeting.specs.Memory.{needs_memory};
 ghost use Rattle.fp_targeting.specs.Reading.{env_of, rule_of_code};
+ghost use Rattle.fp_targeting.specs.Stack.{off, onto};
 ghost use Rattle.fp_targeting.specs.declared.code.Operand.TheVariants.{AtHand};
 
 use crate::code::{Code, Operand, Step};
@@ -364,7 +365,7 @@ fn joined(alloc: Global, parts: &[Found<'_>]) -> Result<Datum, AllocError>
     Ok(Datum::Text(text))
 }
 
-// A list of the last kept results, so many: they are kept no longer.
+// A list of the last kept results, so many: they are taken off, and copied where they are only lent.
 fn collect(alloc: Global, kept: &mut Vec<Found<'_>>, count: u32) -> Result<Datum, AllocError>
     requires { count ≤ length kept.old.items }
     ensures does { IfOk result (λ d.
@@ -372,18 +373,29 @@ fn collect(alloc: Global, kept: &mut Vec<Found<'_>>, count: u32) -> Result<Datum
         ≡ Some (0, view d, stack_view kept.new.items)) }
     ensures room { vec_capacity kept.new ≡ vec_capacity kept.old }
 {
-    let from = kept.len() - count as usize;
-    let list = collected(alloc, behind(kept, from))?;
-    kept.truncate(from);
-    Ok(list)
+    let mut list = taken_off(alloc, kept, count)?;
+    list.reverse();
+    Ok(Datum::List(list))
 }
 
-fn collected(alloc: Global, items: &[Found<'_>]) -> Result<Datum, AllocError>
-    ensures { IfOk result (λ d. view d ≡ list_of (map found_view items.now)) }
+// The last kept results, so many, the last one first.
+fn taken_off(
+    alloc: Global,
+    kept: &mut Vec<Found<'_>>,
+    count: u32,
+) -> Result<Vec<Datum>, AllocError>
+    requires { count ≤ length kept.old.items }
+    ensures taken { IfOk result (λ v. off count (stack_view kept.old.items) []
+        ≡ (onto (map view v.items) [], stack_view kept.new.items)) }
+    ensures room { vec_capacity kept.new ≡ vec_capacity kept.old }
 {
-    let mut list = Vec::with_capacity(alloc, items.len())?;
-    for item in items {
-        list.push(item.datum().try_copy(alloc)?)?;
+    let mut items = Vec::with_capacity(alloc, count as usize)?;
+    let mut left = count;
+    'results: while left > 0 {
+        left -= 1;
+        if let Some(result) = kept.pop() {
+            items.push(result.into_datum(alloc)?)?;
+        }
     }
-    Ok(Datum::List(list))
+    Ok(items)
 }

@@ -1,16 +1,17 @@
-use Rattle.std.proofs.Common.{◌≡◌, ◌-◌, ◌+◌, List, length, map, ap, ap₂, sym, ◌∙◌, Some, arith}
-use Rattle.fp_targeting.specs.Machine.{list_of}
+use Rattle.std.proofs.Common.{List, map, ap, sym, ◌∙◌, Some}
 use Rattle.fp_operators.specs.Data.{Data}
-use Rattle.fp_targeting.specs.Found.{found_view, stack_view}
-use Rattle.fp_targeting.specs.declared.machine.Found.{Found}
-use Rattle.fp_targeting.proofs.Machines.{last-kept}
+use Rattle.fp_operators.specs.View.{view}
+use Rattle.fp_operators.proofs.Variants.{view-List}
+use Rattle.fp_targeting.specs.Found.{stack_view}
+use Rattle.fp_targeting.specs.Machine.{list_of}
+use Rattle.fp_targeting.proofs.Machines.{of-taken}
+use Rattle.fp_targeting.proofs.Stacks.{map-reverse}
 use Rattle.fp_targeting.proofs.machine.collect.Goals as goal
 
 pub returns-clause-does : goal.returns-clause-does
 returns-clause-does c =
-    let xs = c.args.kept.now.items in
-    let k = c.len.result - c.args.count in
-    let at : k + c.args.count ≡ length xs = omega (arith, c.requires, c.len.ensures) in
-    let made = sym (c.in_ok-list.ensures ∙ ap (λ ys. list_of (map found_view ys)) c.behind.ensures) in
-    last-kept list_of c.args.count k xs at
-    ∙ ap₂ (λ (d : Data) (ys : List Found). Some (0, d, stack_view ys)) made (sym c.truncate.ensures.items)
+    let made = sym (ap (map view) c.reverse.ensures.items ∙ map-reverse view c.in_ok-list.list.items) in
+    let left = stack_view c.taken_off.new.kept.items in
+    of-taken list_of c.args.count c.args.kept.now.items _ _ c.requires c.in_ok-list.ensures.taken
+    ∙ ap (λ (ds : List Data). Some (0, list_of ds, left)) made
+    ∙ ap (λ (d : Data). Some (0, d, left)) (sym (view-List c.reverse.new.self))
