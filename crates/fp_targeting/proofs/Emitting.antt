@@ -12,7 +12,7 @@ use Rattle.fp_targeting.specs.Frugal.{IsFrugal}
 use Rattle.fp_targeting.specs.Machine.{Env, Turn, run, look, list_of}
 use Rattle.fp_targeting.specs.Meaning.{meaning, meanings}
 use Rattle.fp_targeting.specs.Memory.{are_literals}
-use Rattle.fp_targeting.specs.Places.{places, all_places}
+use Rattle.fp_targeting.specs.Places.{places}
 use Rattle.fp_targeting.specs.Reading.{reads, read, in_order, with_last}
 use Rattle.fp_targeting.specs.Rule as tree
 use Rattle.fp_targeting.specs.Rule.{Rule, Rules, no_rules, rule}

@@ -92,9 +92,9 @@ pub taken-one : (left : ℕ) (kept rest : List Found) (items : List Datum) (x : 
     → off left (stack_view kept) (onto (map view items) []) ≡ all → off (left - 1) (stack_view rest) (onto (map view (items ++ d ∷ [])) []) ≡ all
 taken-one left kept rest items x d all some last same h =
     let stack : stack_view kept ≡ found_view x ∷ stack_view rest =
-        ap stack_view last ∙ ap (λ ds. onto ds []) (map-append found_view rest (x ∷ [])) ∙ onto-last (map found_view rest) (found_view x) [] in
+    ap stack_view last ∙ ap (λ ds. onto ds []) (map-append found_view rest (x ∷ [])) ∙ onto-last (map found_view rest) (found_view x) [] in
     let more : onto (map view (items ++ d ∷ [])) [] ≡ found_view x ∷ onto (map view items) [] =
-        ap (λ ds. onto ds []) (map-append view items (d ∷ [])) ∙ onto-last (map view items) (view d) [] ∙ ap (λ e. e ∷ onto (map view items) []) same in
+    ap (λ ds. onto ds []) (map-append view items (d ∷ [])) ∙ onto-last (map view items) (view d) [] ∙ ap (λ e. e ∷ onto (map view items) []) same in
     let fewer : left ≡ 1 + (left - 1) = omega (arith, some) in
     ap (off (left - 1) (stack_view rest)) more
     ∙ sym (off-step (left - 1) left (found_view x) (stack_view rest) (onto (map view items) []) fewer)

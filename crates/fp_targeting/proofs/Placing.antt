@@ -1,5 +1,5 @@
 -- A rule takes no more than three places for each value of what writes it.
-use Rattle.std.proofs.Common.{◌≡◌, ◌≤◌, ◌+◌, ◌*◌, ℕ, List, [], ◌∷◌, Bool, true, false, Option, Some, None, option_map, option_and_then, refl, sym, ap, arith, if◌then◌else◌}
+use Rattle.std.proofs.Common.{◌≡◌, ◌≤◌, ◌+◌, ◌*◌, ℕ, List, [], ◌∷◌, Bool, true, false, Option, Some, None, option_map, option_and_then, refl, ap, arith, if◌then◌else◌}
 use Rattle.serde_json.specs.Data as json
 use Rattle.fp_base.specs.Count.{count, items_count}
 use Rattle.fp_operators.specs.Data.{Data}

@@ -379,11 +379,7 @@ fn collect(alloc: Global, kept: &mut Vec<Found<'_>>, count: u32) -> Result<Datum
 }
 
 // The last kept results, so many, the last one first.
-fn taken_off(
-    alloc: Global,
-    kept: &mut Vec<Found<'_>>,
-    count: u32,
-) -> Result<Vec<Datum>, AllocError>
+fn taken_off(alloc: Global, kept: &mut Vec<Found<'_>>, count: u32) -> Result<Vec<Datum>, AllocError>
     requires { count ≤ length kept.old.items }
     ensures taken { IfOk result (λ v. off count (stack_view kept.old.items) []
         ≡ (onto (map view v.items) [], stack_view kept.new.items)) }
