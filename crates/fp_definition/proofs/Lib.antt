@@ -1,5 +1,6 @@
 pub mod Canonical
 pub mod Crossing
 pub mod OneOutcome
+pub mod Parted
 pub mod Ruled
 pub mod Told

@@ -2,7 +2,7 @@
 use Rattle.std.specs.Prelude.{◌≡◌, codes, true, Some, option_map, is_some, string_bytes}
 use Rattle.serde_json.specs.Data.{Data, object, string}
 use Rattle.serde_json.specs.Find.{as_object, get}
-use Rattle.serde_json.specs.View.{view, members_view}
+use Rattle.serde_json.specs.View.{members_view}
 use Rattle.fp_definition.specs.Resolving.{is_disabled}
 use Rattle.fp_definition.specs.Valid.{is_state, are_variants, names_variant, is_metadata}
 use Rattle.fp_definition.specs.declared.choice.Choice.{Choice}
@@ -11,8 +11,8 @@ use Rattle.fp_definition.specs.declared.choice.Choice.{Choice}
 pub record IsChoice (d : Data) (c : Choice) : Type 0 where
   pub disabled : c.is_disabled ≡ is_disabled (get (codes "state") d)
   pub default : get (codes "defaultVariant") d ≡ Some (string (string_bytes c.default))
-  pub variants : get (codes "variants") d ≡ Some (object (members_view c.variants.entries))
-  pub metadata : option_map (λ m. view m.value) c.metadata ≡ get (codes "metadata") d
+  pub variants : get (codes "variants") d ≡ Some (object (members_view c.variants))
+  pub metadata : option_map (λ m. object (members_view m)) c.metadata ≡ get (codes "metadata") d
 
 -- the data meet the tests of their members, but for that of `targeting`
 pub record MeetsTests (d : Data) : Type 0 where

@@ -3,26 +3,25 @@
 ghost use Rattle.std.specs.Prelude.{◌≡◌, true, Some, IfOk, codes, option_map, string_bytes};
 ghost use Rattle.serde_json.specs.Data.{object, string};
 ghost use Rattle.serde_json.specs.Find.{get};
-ghost use Rattle.serde_json.specs.View.{view, members_view};
+ghost use Rattle.serde_json.specs.View.{members_view};
 ghost use Rattle.fp_base.specs.Ordered.{IsOrdered};
 ghost use Rattle.fp_base.specs.TreeView.{tree_view};
 ghost use Rattle.fp_definition.specs.Choice.{IsChoice, MeetsTests};
 ghost use Rattle.fp_definition.specs.Resolving.{is_disabled};
-ghost use Rattle.fp_definition.specs.Valid.{are_variants, names_variant};
+ghost use Rattle.fp_definition.specs.Valid.{are_variants, is_metadata, names_variant};
 
+use crate::object::Members;
 use fp_base::Tree;
-use serde_json::{Map, Value};
 use std::alloc::{AllocError, Global};
 
-// Whether a definition is disabled, the name of its default variant, its variants and metadata,
-// which most don't have and which is in a box for that. What else it has is in its text and its
-// rule alone.
+// Whether a definition is disabled, the name of its default variant, its variants and metadata.
+// What else it has is in its text and its rule alone.
 #[derive(Drop)]
 pub(crate) struct Choice {
     pub(crate) is_disabled: bool,
     pub(crate) default: String,
-    pub(crate) variants: Map<String, Value>,
-    pub(crate) metadata: Option<Box<Value>>,
+    pub(crate) variants: Members,
+    pub(crate) metadata: Option<Members>,
 }
 
 // The choice of a tree that meets the tests of its members.
@@ -61,29 +60,27 @@ fn default_of(alloc: Global, tree: &Tree<'_>) -> Result<String, AllocError>
 }
 
 #[tactic(auto, using(fp_base::proofs::Inside::ordered_get))]
-fn variants_of(alloc: Global, tree: &Tree<'_>) -> Result<Map<String, Value>, AllocError>
+fn variants_of(alloc: Global, tree: &Tree<'_>) -> Result<Members, AllocError>
     requires tested { are_variants (get (codes "variants") (tree_view tree.now)) ≡ true }
     requires ordered { IsOrdered (tree_view tree.now) }
     ensures { IfOk result (λ m. get (codes "variants") (tree_view tree.now)
-        ≡ Some (object (members_view m.entries))) }
+        ≡ Some (object (members_view m))) }
 {
-    let Some(variants) = tree.get("variants") else {
+    let Some(Tree::Object(variants)) = tree.get("variants") else {
         unreachable!()
     };
-    let Value::Object(members) = variants.to_value(alloc)? else {
-        unreachable!()
-    };
-    Ok(members)
+    Members::of_tree(alloc, variants)
 }
 
 #[tactic(auto, using(fp_base::proofs::Inside::ordered_get))]
-fn metadata_of(alloc: Global, tree: &Tree<'_>) -> Result<Option<Box<Value>>, AllocError>
-    requires { IsOrdered (tree_view tree.now) }
-    ensures { IfOk result (λ m. option_map (λ b. view b.value) m
+fn metadata_of(alloc: Global, tree: &Tree<'_>) -> Result<Option<Members>, AllocError>
+    requires tested { is_metadata (get (codes "metadata") (tree_view tree.now)) ≡ true }
+    requires ordered { IsOrdered (tree_view tree.now) }
+    ensures { IfOk result (λ m. option_map (λ ms. object (members_view ms)) m
         ≡ get (codes "metadata") (tree_view tree.now)) }
 {
     match tree.get("metadata") {
-        Some(metadata) => Ok(Some(Box::new(alloc, metadata.to_value(alloc)?)?)),
-        None => Ok(None),
+        Some(Tree::Object(metadata)) => Ok(Some(Members::of_tree(alloc, metadata)?)),
+        _ => Ok(None),
     }
 }

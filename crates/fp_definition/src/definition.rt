@@ -3,14 +3,15 @@
 ghost use Rattle.std.specs.Prelude.{◌≡◌, true, Some, None, IfOk, IfErr, IfSome};
 ghost use Rattle.std.specs.Prelude.{if◌then◌else◌};
 ghost use Rattle.std.specs.Prelude.{codes, option_map};
+ghost use Rattle.serde_json.specs.Data.{object};
 ghost use Rattle.serde_json.specs.Find.{get};
-ghost use Rattle.serde_json.specs.View.{view};
+ghost use Rattle.serde_json.specs.View.{view, members_view};
 ghost use Rattle.serde_json.specs.Written.{compact_text};
 ghost use Rattle.fp_base.specs.Answer.{IsFirst};
 ghost use Rattle.fp_base.specs.Json.{json_of};
 ghost use Rattle.fp_base.specs.Ordered.{IsOrdered};
 ghost use Rattle.fp_base.specs.TreeView.{tree_view};
-ghost use Rattle.fp_base.specs.Whole.{is_whole};
+ghost use Rattle.fp_base.specs.Whole.{is_whole, members_whole};
 ghost use Rattle.fp_definition.specs.Choice.{IsChoice};
 ghost use Rattle.fp_definition.specs.Faults.{Tells};
 ghost use Rattle.fp_definition.specs.Resolving.{data_of};
@@ -21,6 +22,7 @@ ghost use Rattle.fp_definition.specs.Valid.{definition_in, is_text_of};
 use crate::choice::{Choice, chosen};
 use crate::faults::DefFault;
 use crate::members::tested_members;
+use crate::object::Members;
 use crate::text::{fitted, text_of};
 use fp_base::{Tree, read_tree};
 use fp_targeting::Rule;
@@ -109,11 +111,11 @@ impl Definition {
         self.share.text.as_slice()
     }
 
-    /// The member `metadata`.
-    pub fn metadata(&self) -> Option<&Value>
-        ensures value { option_map (λ m. view m.now) result
+    /// The members of the member `metadata`.
+    pub fn metadata(&self) -> Option<&Members>
+        ensures value { option_map (λ m. object (members_view m.now)) result
             ≡ get (codes "metadata") (data_of self.now) }
-        ensures whole { IfSome result (λ m. is_whole (view m.now) ≡ true) }
+        ensures whole { IfSome result (λ m. members_whole (members_view m.now) ≡ true) }
     {
         match &self.choice().metadata {
             Some(metadata) => Some(metadata),

@@ -22,10 +22,11 @@ ghost use Rattle.fp_targeting.specs.RuleData.{IsOfContext};
 
 use crate::definition::Definition;
 use crate::key::FlagKey;
+use crate::object::Members;
 use fp_base::Tree;
 use fp_operators::Datum;
 use fp_targeting::{Data, Rule};
-use serde_json::{Map, Value};
+use serde_json::Value;
 use std::alloc::{AllocError, Global};
 
 /// Why a variant was taken.
@@ -228,18 +229,18 @@ fn rule_has_one_result(rule: &Option<Rule>)
 }
 
 fn variant_among<'d>(
-    variants: &'d Map<String, Value>,
+    variants: &'d Members,
     name: &str,
     reason: Reason,
 ) -> Result<Resolved<'d>, EvalFault>
     ensures resolves { Gives said_by TellsItself result
-        (said_or_none name.now reason (get_member name.now (members_view variants.now.entries))) }
-    ensures printable { members_whole (members_view variants.now.entries) ≡ true → IfOk result (λ r.
+        (said_or_none name.now reason (get_member name.now (members_view variants.now))) }
+    ensures printable { members_whole (members_view variants.now) ≡ true → IfOk result (λ r.
         is_whole (view r.value.now) ≡ true) }
 {
-    match variants.get_key_value(name) {
+    match variants.get(name) {
         Some((variant, value)) => Ok(Resolved {
-            variant: variant.as_str(),
+            variant,
             value,
             reason,
         }),

@@ -4,7 +4,7 @@ ghost use Rattle.std.specs.Prelude.{◌≡◌, ◌++◌, ◌∷◌, [], true, If
 ghost use Rattle.std.specs.Option.{option_copied};
 ghost use Rattle.json.specs.Token.{key as key_token, string as string_token};
 ghost use Rattle.json.specs.Tree.{json_tokens, items_tokens, members_tokens};
-ghost use Rattle.serde_json.specs.Data.{Members};
+ghost use Rattle.serde_json.specs.Data.{Members as JsonMembers, object};
 ghost use Rattle.serde_json.specs.View.{view, items_view, members_view};
 ghost use Rattle.serde_json.specs.Written.{compact_text, outline, items_outline, members_outline};
 ghost use Rattle.fp_base.specs.Whole.{is_whole, items_whole, members_whole};
@@ -14,9 +14,8 @@ ghost use Rattle.fp_ofrep.specs.Bodies.{said_members, with_key, with_metadata};
 
 use crate::failure::Failure;
 use fp_base::write_value;
-use fp_definition::{Reason, Resolved};
+use fp_definition::{Members, Reason, Resolved};
 use json::Writer;
-use serde_json::Value;
 use std::alloc::{AllocError, Global};
 
 /// The text of a failure.
@@ -92,13 +91,13 @@ fn reason_word(reason: Reason) -> &'static str
 pub(crate) fn success_text(
     alloc: Global,
     key: &str,
-    metadata: Option<&Value>,
+    metadata: Option<&Members>,
     said: &Resolved<'_>,
 ) -> Result<Vec<u8>, AllocError>
     requires value { is_whole (view said.now.value.now) ≡ true }
-    requires metadata { IfSome metadata (λ m. is_whole (view m.now) ≡ true) }
+    requires metadata { IfSome metadata (λ m. members_whole (members_view m.now) ≡ true) }
     ensures { IfOk result (λ t. t.items ≡ compact_text
-        (success key.now (option_map (λ m. view m.now) metadata.entry) (said_by said.now))) }
+        (success key.now (option_map (λ m. object (members_view m.now)) metadata.entry) (said_by said.now))) }
 {
     let mut out = Writer::new(Vec::with_capacity(alloc, 128)?);
     write_success(&mut out, key, metadata, said)?;
@@ -109,13 +108,13 @@ pub(crate) fn success_text(
 pub(crate) fn write_success(
     out: &mut Writer,
     key: &str,
-    metadata: Option<&Value>,
+    metadata: Option<&Members>,
     said: &Resolved<'_>,
 ) -> Result<(), AllocError>
     requires value { is_whole (view said.now.value.now) ≡ true }
-    requires metadata { IfSome metadata (λ m. is_whole (view m.now) ≡ true) }
+    requires metadata { IfSome metadata (λ m. members_whole (members_view m.now) ≡ true) }
     ensures tokens { OnOk result (out.new.tokens ≡ out.old.tokens ++ json_tokens (outline
-        (success key.now (option_map (λ m. view m.now) metadata.entry) (said_by said.now)))) }
+        (success key.now (option_map (λ m. object (members_view m.now)) metadata.entry) (said_by said.now)))) }
     ensures before { OnOk result (out.new.before ≡ out.old.before) }
 {
     out.begin_object()?;
@@ -127,21 +126,36 @@ pub(crate) fn write_success(
 
 // Writes the member `metadata`, if there is one. Whatever members come after it, they are then what
 // is left to write.
-fn write_metadata(out: &mut Writer, metadata: Option<&Value>) -> Result<(), AllocError>
-    requires { IfSome metadata (λ m. is_whole (view m.now) ≡ true) }
-    ensures tokens { OnOk result ((ms : Members) → out.new.tokens ++ members_tokens
+fn write_metadata(out: &mut Writer, metadata: Option<&Members>) -> Result<(), AllocError>
+    requires { IfSome metadata (λ m. members_whole (members_view m.now) ≡ true) }
+    ensures tokens { OnOk result ((ms : JsonMembers) → out.new.tokens ++ members_tokens
         (members_outline ms) ≡ out.old.tokens ++ members_tokens (members_outline
-        (with_metadata (option_map (λ m. view m.now) metadata.entry) ms))) }
+        (with_metadata (option_map (λ m. object (members_view m.now)) metadata.entry) ms))) }
     ensures before { OnOk result (out.new.before ≡ out.old.before) }
 {
     match metadata {
-        Some(value) => {
+        Some(members) => {
             out.key("metadata")?;
-            write_value(out, value)?;
+            write_members(out, members)?;
             Ok(())
         }
         None => Ok(()),
     }
+}
+
+// Writes an object of these members.
+fn write_members(out: &mut Writer, members: &Members) -> Result<(), AllocError>
+    requires { members_whole (members_view members.now) ≡ true }
+    ensures tokens { OnOk result (out.new.tokens
+        ≡ out.old.tokens ++ json_tokens (outline (object (members_view members.now)))) }
+    ensures before { OnOk result (out.new.before ≡ out.old.before) }
+{
+    out.begin_object()?;
+    for (name, value) in members.entries() {
+        out.key(name.as_str())?;
+        write_value(out, value)?;
+    }
+    out.end_object()
 }
 
 // Writes reason, value and variant, and the end of the object.

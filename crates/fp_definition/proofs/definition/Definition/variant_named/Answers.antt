@@ -8,4 +8,4 @@ use Rattle.fp_definition.proofs.definition.Definition.variant_named.Goals as goa
 pub returns-clause-printable : goal.returns-clause-printable
 returns-clause-printable c =
     c.variant_among.ensures.printable
-    (whole-get (codes "variants") (data_of c.args.self.now) (object (members_view c.choice.result.now.variants.entries)) c.choice.ensures.whole c.choice.ensures.choice.variants)
+    (whole-get (codes "variants") (data_of c.args.self.now) (object (members_view c.choice.result.now.variants)) c.choice.ensures.whole c.choice.ensures.choice.variants)
