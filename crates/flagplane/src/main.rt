@@ -3,11 +3,14 @@
 
 use fp_commands::command;
 use fp_files::SystemFiles;
-use fp_server::{Host, Task, moment, serve, task_of, watch};
+use fp_log::{Reported, Source, Stamped};
+use fp_server::{Host, Task, TimeLimits, moment, serve, task_of, watch};
 use fp_streams::FailureCounted;
+use log::{Level, LevelFilter, Logged};
 use std::alloc::AllocGlobal;
 use std::env;
 use std::fmt::Display;
+use std::fs::File;
 use std::io::{Read, Write};
 use std::net::{TcpListener, TcpStream};
 use std::process::ExitCode;
@@ -33,18 +36,26 @@ fn status<E: Write + Drop, F: Display + Drop>(errors: E, outcome: Result<(), F>)
 // Does what the words ask of the service. `None` where they ask nothing of it.
 fn attend<R, I, O, E>(rt: &R, words: &[String], input: I, output: O, errors: E) -> Option<u8>
 where
-    R: Host + Files,
-    R::File: Send + 'static,
+    R: Host + Files<File = File>,
     I: Read + Drop,
     O: Write + Drop,
     E: Write + Drop,
 {
-    let mut input = FailureCounted::new(input);
-    let mut output = FailureCounted::new(output);
+    let mut input = FailureCounted::new(Reported::new(*rt, Source::Input, input));
+    let mut output = FailureCounted::new(Reported::new(*rt, Source::Output, output));
     match task_of(words) {
         Some(Task::Serve(path, addresses)) => {
             let mut files = SystemFiles::of(*rt);
-            let served = serve(rt, &mut files, path, &addresses, &mut input, &mut output);
+            let limits = TimeLimits::usual();
+            let served = serve(
+                rt,
+                &mut files,
+                path,
+                &addresses,
+                limits,
+                &mut input,
+                &mut output,
+            );
             Some(status(errors, served))
         }
         Some(Task::Watch(address)) => Some(status(errors, watch(rt, address, &mut output))),
@@ -52,11 +63,24 @@ where
     }
 }
 
+// The runtime, with a log on standard error.
+type LoggedRuntime = Logged<HostRuntime, Stamped<HostRuntime>>;
+
+// A log is written where the environment asks for it, and nowhere else.
+fn logged(rt: HostRuntime) -> LoggedRuntime {
+    let level = match env::var(&rt, "FLAGPLANE_LOG") {
+        Ok(value) if value.as_str() == "1" => LevelFilter::Info,
+        _ => LevelFilter::Off,
+    };
+    Logged::new(rt, level, Stamped(rt))
+}
+
 // Runs a command on a file or in memory.
-fn run(rt: &HostRuntime, words: &[String]) -> u8 {
-    let mut input = FailureCounted::new(rt.reader());
-    let mut output = FailureCounted::new(rt.stdout());
-    let mut errors = FailureCounted::new(rt.stderr());
+fn run(rt: &LoggedRuntime, words: &[String]) -> u8 {
+    let host = rt.inner();
+    let mut input = FailureCounted::new(Reported::new(*rt, Source::Input, host.reader()));
+    let mut output = FailureCounted::new(Reported::new(*rt, Source::Output, host.stdout()));
+    let mut errors = FailureCounted::new(host.stderr());
     let mut files = SystemFiles::of(*rt);
     command(
         rt.alloc(),
@@ -78,9 +102,10 @@ fn main(rt: HostRuntime) -> ExitCode {
         Some(words) => words.as_slice(),
         None => &[],
     };
-    let attended = attend(&rt, words, rt.reader(), rt.stdout(), rt.stderr());
+    let logged = logged(rt);
+    let attended = attend(&logged, words, rt.reader(), rt.stdout(), rt.stderr());
     ExitCode::from(match attended {
         Some(status) => status,
-        None => run(&rt, words),
+        None => run(&logged, words),
     })
 }

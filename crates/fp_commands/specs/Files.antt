@@ -8,6 +8,8 @@ use Rattle.fp_disk.specs.declared.disk.Disk.{Ghosts as DiskGhosts}
 use Rattle.fp_disk.specs.declared.history.CallKind.TheVariants.{Length}
 use Rattle.fp_files.specs.Lending.{IsLentOnce, IsNotOpened, IsThere, IsThereOrNew}
 use Rattle.fp_files.specs.declared.files.DiskFiles.{Ghosts as FileGhosts}
+use Rattle.fp_files.specs.declared.openings.Purpose.{Purpose}
+use Rattle.fp_files.specs.declared.openings.Purpose.TheVariants.{Making, Writing, Reading}
 use Rattle.fp_layout.specs.declared.size.TheConstants.{STANDARD_SLOT}
 use Rattle.fp_layout.specs.NewDisk.{IsNewDisk, format_calls}
 use Rattle.fp_recovery.specs.Durable.{IsNewSetOrNone, IsDurable}
@@ -176,20 +178,21 @@ pub record EvaluatesOnDisk {F R W D : Type 0} (disk : DiskGhosts D) (remaining :
 
 -- ---- over files
 
--- A file was opened alone, the disk that was found there became another,
+-- A file was opened alone, once and for this, the disk that was found there became another,
 -- which stands there now, and this is what was done with it
 pub record OverFile {F D : Type 0} (files : FileGhosts F D) (disk : DiskGhosts D) (old new : F)
-    (path : List ℕ) (Found : D → Type 0) (Does : D → D → Type 0) : Type 0 where
+    (path : List ℕ) (purpose : Purpose) (Found : D → Type 0) (Does : D → D → Type 0)
+    : Type 0 where
   pub before : D
   pub after : D
   pub found : Found before
-  pub lent : IsLentOnce files disk old new path after
+  pub lent : IsLentOnce files disk old new path purpose after
   pub does : Does before after
 
--- the file wasn't opened, for which a device is blamed, and nothing was read or written
+-- the file wasn't opened for this, for which a device is blamed, and nothing was read or written
 pub record FailsToOpen {F R W D : Type 0} (files : FileGhosts F D) (old new : Environment F R W)
-    (path : List ℕ) (fault : CommandFault) : Type 0 where
-  pub not_opened : IsNotOpened files old.files new.files path
+    (path : List ℕ) (purpose : Purpose) (fault : CommandFault) : Type 0 where
+  pub not_opened : IsNotOpened files old.files new.files path purpose
   pub is_device : fault ≡ Device
   pub unread : new.reader ≡ old.reader
   pub nothing_written : new.writer ≡ old.writer
@@ -197,15 +200,18 @@ pub record FailsToOpen {F R W D : Type 0} (files : FileGhosts F D) (old new : En
 -- what a task over the disk at a path comes to
 abbrev pub OnFile : {F R W D A : Type 0} → FileGhosts F D → DiskGhosts D → Environment F R W
     → Environment F R W
-    → List ℕ → (D → Type 0) → (D → D → Result A CommandFault → Type 0)
+    → List ℕ → Purpose → (D → Type 0) → (D → D → Result A CommandFault → Type 0)
     → Result (Unit {0}) CommandFault → Type 0
-OnFile {A = A} files disk old new path Found Does (Ok x) =
-    (a : A) × OverFile files disk old.files new.files path Found (λ before after. Does before after
-    (Ok a))
-OnFile files disk old new path Found Does (Err f) = FailsToOpen files old new path f
-    ⊎ OverFile files disk old.files new.files path Found (λ before after. Does before after (Err f))
+OnFile {A = A} files disk old new path purpose Found Does (Ok x) =
+    (a : A) × OverFile files disk old.files new.files path purpose Found
+    (λ before after. Does before after (Ok a))
+OnFile files disk old new path purpose Found Does (Err f) =
+    FailsToOpen files old new path purpose f
+    ⊎ OverFile files disk old.files new.files path purpose Found
+    (λ before after. Does before after (Err f))
 
--- what a task comes to: it is done, or this fault ended it. Over memory no file is opened
+-- What a task comes to: it is done, or this fault ended it. Over memory no file is opened; what
+-- changes a file has its lock, and what shows it opens it for reading alone
 abbrev pub Performs : {F R W D : Type 0} → FileGhosts F D → DiskGhosts D → (R → Option (List ℕ))
     → (W → Option (List ℕ))
     → Environment F R W → Environment F R W → Task → List ℕ → List ℕ → ℕ
@@ -214,17 +220,17 @@ abbrev pub Performs : {F R W D : Type 0} → FileGhosts F D → DiskGhosts D →
 Performs files disk remaining contents old new Apply path key now outcome = (new.files ≡ old.files)
     × AppliesInMemory remaining contents old.reader new.reader old.writer new.writer outcome
 Performs files disk remaining contents old new InitFile path key now outcome =
-    OnFile files disk old new path (IsThereOrNew files disk old.files path)
+    OnFile files disk old new path Making (IsThereOrNew files disk old.files path)
     (MakesDisk disk old new) outcome
 Performs files disk remaining contents old new ShowFile path key now outcome =
-    OnFile files disk old new path (IsThere files old.files path)
+    OnFile files disk old new path Reading (IsThere files old.files path)
     (ShowsDisk disk contents old new) outcome
 Performs files disk remaining contents old new ApplyFile path key now outcome =
-    OnFile files disk old new path (IsThere files old.files path)
+    OnFile files disk old new path Writing (IsThere files old.files path)
     (AppliesToDisk disk remaining contents old new) outcome
 Performs files disk remaining contents old new ImportFile path key now outcome =
-    OnFile files disk old new path (IsThere files old.files path)
+    OnFile files disk old new path Writing (IsThere files old.files path)
     (ImportsToDisk disk remaining contents old new) outcome
 Performs files disk remaining contents old new EvalFile path key now outcome =
-    OnFile files disk old new path (IsThere files old.files path)
+    OnFile files disk old new path Reading (IsThere files old.files path)
     (EvaluatesOnDisk disk remaining contents old new key now) outcome

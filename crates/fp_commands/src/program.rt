@@ -41,7 +41,8 @@ enum Task {
 /// Runs the command that the words name, over files and streams, and answers the program's status:
 /// 0 where it was done, 1 where a fault ended it, which `e` is told, and 2 where the words name no
 /// command, where `e` is told the usage. It takes no memory to tell either. No file is opened but
-/// the one that the words name, and that once. The moment is in seconds since 1970.
+/// the one that the words name, and that once: with its lock where it may be changed, and else for
+/// reading alone. The moment is in seconds since 1970.
 pub fn command<F, R, W, E>(
     alloc: Global,
     files: &mut F,
@@ -223,7 +224,7 @@ fn show_file<F: DiskFiles, R: Read, W: Write>(
         ShowFile path.now [] 0 result }
     ensures no_failure { OnOk result (w.new.failures ≤ w.old.failures) }
 {
-    let disk = files.open(path)?;
+    let disk = files.open_read_only(path)?;
     let (disk, outcome) = show_disk(alloc, w, disk);
     files.close(path, disk);
     outcome
@@ -267,7 +268,7 @@ fn eval_file<F: DiskFiles, R: Read, W: Write>(
         EvalFile path.now key.now now result }
     ensures no_failure { OnOk result (NoneFailed r.old r.new w.old w.new) }
 {
-    let disk = files.open(path)?;
+    let disk = files.open_read_only(path)?;
     let (disk, outcome) = eval_disk(alloc, r, w, disk, key, now);
     files.close(path, disk);
     outcome

@@ -1,9 +1,22 @@
 -- What is asked of a folder of disks, and which disk stands where.
-use Rattle.std.specs.Prelude.{◌≡◌, ◌≢◌, ℕ, List, Option, None, bytes_eq, if◌then◌else◌}
+use Rattle.std.specs.Prelude.{◌≡◌, ◌≢◌, ℕ, List, Option, None, Bool, true, false, bytes_eq, if◌then◌else◌}
+use Rattle.fp_files.specs.declared.openings.Purpose.{Purpose}
+use Rattle.fp_files.specs.declared.openings.Purpose.TheVariants.{Making, Writing, Reading}
 
--- the paths that were to be opened, in order, and how often that failed
+-- what it is opened for: with it goes the lock, and the file may be made
+abbrev pub writes : Purpose → Bool
+writes Making = true
+writes Writing = true
+writes Reading = false
+
+abbrev pub makes : Purpose → Bool
+makes Making = true
+makes Writing = false
+makes Reading = false
+
+-- the paths that were to be opened and what for, in order, and how often that failed
 pub record Openings : Type 0 where
-  pub asked : List (List ℕ)
+  pub asked : List (List ℕ × Purpose)
   pub faults : ℕ
 
 -- one disk at one path; it is `None` while it is lent

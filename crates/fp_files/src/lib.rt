@@ -2,11 +2,12 @@
 #![tactic(auto)]
 
 mod files;
+mod locks;
 mod openings;
 mod single;
 mod system;
 
 pub use files::DiskFiles;
-pub use openings::OpeningLog;
+pub use openings::{OpeningLog, Purpose};
 pub use single::SingleFile;
-pub use system::SystemFiles;
+pub use system::{SystemDisk, SystemFiles};

@@ -1,4 +1,4 @@
-//! Which paths were to be opened, and how often that failed.
+//! Which paths were to be opened and what for, and how often that failed.
 
 ghost use Rattle.std.specs.Prelude.{◌≡◌, ◌+◌, [], ◌∷◌, ◌++◌};
 
@@ -6,17 +6,28 @@ use fp_disk::{Bytes, DiskFault};
 use fp_fronts::{Count, Growing, Lists};
 use std::marker::Model;
 
-struct OfPath;
-
-impl<'a> Lists<&'a str, Bytes> for OfPath {
-    ghost items = { λ path. path.now ∷ [] };
+/// What a file is opened for.
+#[derive(Clone, Copy, Debug, PartialEq, Eq)]
+pub enum Purpose {
+    /// To be read and written, with its lock, and made where there is none.
+    Making,
+    /// To be read and written, with its lock.
+    Writing,
+    /// To be read alone, whoever has the lock.
+    Reading,
 }
 
-/// Which paths were to be opened so far, in order, and how often that failed. It is there in proofs
-/// alone and takes no bytes.
+struct OfRequest;
+
+impl<'a> Lists<(&'a str, Purpose), (Bytes, Purpose)> for OfRequest {
+    ghost items = { λ request. (request.0.now, request.1) ∷ [] };
+}
+
+/// Which paths were to be opened so far and what for, in order, and how often that failed. It is
+/// there in proofs alone and takes no bytes.
 #[derive(Drop)]
 pub struct OpeningLog {
-    paths: Growing<Bytes>,
+    paths: Growing<(Bytes, Purpose)>,
     failures: Count,
 }
 
@@ -40,13 +51,14 @@ impl OpeningLog {
     }
 
     /// One path more.
-    pub fn ask(&mut self, path: &str)
+    pub fn ask(&mut self, path: &str, purpose: Purpose)
         ensures { self.new ≡ record {
-          asked = self.old.asked ++ path.now ∷ [];
+          asked = self.old.asked ++ (path.now, purpose) ∷ [];
           faults = self.old.faults;
         } }
     {
-        self.paths.lengthen::<&str, OfPath>(&path);
+        self.paths
+            .lengthen::<(&str, Purpose), OfRequest>(&(path, purpose));
     }
 
     /// One failure more.

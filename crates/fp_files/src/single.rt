@@ -1,12 +1,12 @@
 //! One disk at one path.
 
-ghost use Rattle.std.specs.Prelude.{◌≡◌, Some, None, [], ◌∷◌, ◌++◌, IfOk};
+ghost use Rattle.std.specs.Prelude.{◌≡◌, ◌≢◌, Some, None, [], ◌∷◌, ◌++◌, IfOk};
 ghost use Rattle.std.specs.Prelude.{OnOk, OnErr, string_bytes};
 ghost use Rattle.fp_disk.specs.Outcomes.{CountsFaults};
 ghost use Rattle.fp_files.specs.Openings.{disk_at};
 
 use crate::files::DiskFiles;
-use crate::openings::OpeningLog;
+use crate::openings::{OpeningLog, Purpose};
 use fp_disk::{Disk, DiskFault};
 use std::marker::Model;
 
@@ -58,15 +58,18 @@ impl<D: Drop> SingleFile<D> {
         disk
     }
 
-    fn lend(&mut self, path: &str) -> Result<D, DiskFault>
+    // To whom it is lent, nobody else gets it.
+    fn lend(&mut self, path: &str, purpose: Purpose) -> Result<D, DiskFault>
         ensures found { IfOk result (λ d. disk_at self.old path.now ≡ Some d) }
         ensures lent { OnOk result ((path.now ≡ self.new.path) × (self.new.disk ≡ None)) }
+        ensures alone { OnOk result (self.old.disk ≢ None) }
         ensures path { self.new.path ≡ self.old.path }
         ensures failed { OnErr result (self.new.disk ≡ self.old.disk) }
-        ensures asked { self.new.openings.asked ≡ self.old.openings.asked ++ path.now ∷ [] }
+        ensures asked { self.new.openings.asked ≡ self.old.openings.asked
+            ++ (path.now, purpose) ∷ [] }
         ensures cause { CountsFaults self.old.openings.faults self.new.openings.faults result }
     {
-        self.log.ask(path);
+        self.log.ask(path, purpose);
         if path != self.path.as_str() {
             return Err(self.log.fault());
         }
@@ -89,11 +92,15 @@ impl<D: Disk + Drop> DiskFiles for SingleFile<D> {
     ghost faults = { λ f. f.openings.faults };
 
     fn create(&mut self, path: &str) -> Result<D, DiskFault> {
-        self.lend(path)
+        self.lend(path, Purpose::Making)
     }
 
     fn open(&mut self, path: &str) -> Result<D, DiskFault> {
-        self.lend(path)
+        self.lend(path, Purpose::Writing)
+    }
+
+    fn open_read_only(&mut self, path: &str) -> Result<D, DiskFault> {
+        self.lend(path, Purpose::Reading)
     }
 
     fn close(&mut self, path: &str, disk: D) {

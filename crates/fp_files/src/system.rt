@@ -4,13 +4,21 @@ ghost use Rattle.std.specs.Prelude.{◌≡◌, Some, [], ◌∷◌, ◌++◌, If
 ghost use Rattle.fp_disk.specs.Outcomes.{CountsFaults};
 
 use crate::files::DiskFiles;
-use crate::openings::OpeningLog;
-use fp_disk::{DiskFault, FileDisk, create_file, open_file};
+use crate::locks::open_for;
+use crate::openings::{OpeningLog, Purpose};
+use fp_disk::{DiskFault, FileDisk};
+use fp_log::{Event, Reported, Source, tell_failure};
+use log::Log;
+use std::fs::File;
 use std::marker::Model;
 use std::rt::Files;
 
-/// The files of a runtime. Nothing shows what stands at a path, so that
-/// their disks are never honest.
+/// The disk over a file of a runtime, whose failures are told to the runtime's log.
+pub type SystemDisk<R> = FileDisk<Reported<R, File>>;
+
+/// The files of a runtime. Nothing shows what stands at a path, so that their disks are never
+/// honest. One that is opened to be written has the system's lock until its disk is closed. What
+/// can't be opened, and each call of a file that fails, is told to the runtime's log.
 #[derive(Drop)]
 pub struct SystemFiles<R: Drop> {
     rt: R,
@@ -35,23 +43,28 @@ impl<R: Drop> SystemFiles<R> {
             log: OpeningLog::new(),
         }
     }
+}
 
-    // The answer of the system, noted.
-    fn noted<D: Drop>(&mut self, path: &str, opened: Result<D, DiskFault>) -> Result<D, DiskFault>
-        ensures same { IfOk result (λ d. opened ≡ Ok d) }
-        ensures asked { self.new.asked ≡ self.old.asked ++ path.now ∷ [] }
+impl<R: Files<File = File> + Log + Copy + Drop> SystemFiles<R> {
+    // The file at this path, as the system gives it for this, noted.
+    fn lend(&mut self, path: &str, purpose: Purpose) -> Result<SystemDisk<R>, DiskFault>
+        ensures asked { self.new.asked ≡ self.old.asked ++ (path.now, purpose) ∷ [] }
         ensures cause { CountsFaults self.old.faults self.new.faults result }
+        ensures disk { IfOk result (λ d. d ≡ record { made = []; faults = 0 }) }
     {
-        self.log.ask(path);
-        match opened {
-            Ok(disk) => Ok(disk),
-            Err(_) => Err(self.log.fault()),
+        self.log.ask(path, purpose);
+        match open_for(&self.rt, path, purpose) {
+            Ok(file) => Ok(FileDisk::over(Reported::new(self.rt, Source::File, file))),
+            Err(reason) => {
+                tell_failure(&self.rt, &Event::NotOpened { path }, &reason);
+                Err(self.log.fault())
+            }
         }
     }
 }
 
-impl<R: Files + Drop> DiskFiles for SystemFiles<R> {
-    type Disk = FileDisk<R::File>;
+impl<R: Files<File = File> + Log + Copy + Drop> DiskFiles for SystemFiles<R> {
+    type Disk = SystemDisk<R>;
 
     ghost at = { λ f path. Some (record { made = []; faults = 0 }) };
 
@@ -61,17 +74,19 @@ impl<R: Files + Drop> DiskFiles for SystemFiles<R> {
 
     ghost faults = { λ f. f.faults };
 
-    fn create(&mut self, path: &str) -> Result<FileDisk<R::File>, DiskFault> {
-        let opened = create_file(&self.rt, path);
-        self.noted(path, opened)
+    fn create(&mut self, path: &str) -> Result<SystemDisk<R>, DiskFault> {
+        self.lend(path, Purpose::Making)
     }
 
-    fn open(&mut self, path: &str) -> Result<FileDisk<R::File>, DiskFault> {
-        let opened = open_file(&self.rt, path);
-        self.noted(path, opened)
+    fn open(&mut self, path: &str) -> Result<SystemDisk<R>, DiskFault> {
+        self.lend(path, Purpose::Writing)
     }
 
-    fn close(&mut self, path: &str, disk: FileDisk<R::File>) {
+    fn open_read_only(&mut self, path: &str) -> Result<SystemDisk<R>, DiskFault> {
+        self.lend(path, Purpose::Reading)
+    }
+
+    fn close(&mut self, path: &str, disk: SystemDisk<R>) {
         let _ = path;
         drop(disk);
     }

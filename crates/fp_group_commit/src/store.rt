@@ -188,6 +188,14 @@ impl<D: Disk> Store<D> {
         self.slots.version()
     }
 
+    /// The generation of the slot that rules. Each compaction that ends raises it.
+    pub fn generation(&self) -> u64
+        ensures { result ≡ self.now.slots.generation }
+    {
+        let _ = &self.set;
+        self.slots.generation()
+    }
+
     /// How many bytes are left for batches.
     pub fn room(&self) -> u64
         ensures { result ≡ room self.now.slots.journal }

@@ -6,11 +6,14 @@ mod blocking;
 mod connection;
 mod evaluator;
 mod fault;
+mod limits;
 mod published;
 mod response;
 mod service;
+mod waiting;
 
-pub use blocking::Blocking;
+pub use blocking::{Blocking, Note, Patient};
 pub use connection::serve_ofrep;
 pub use evaluator::Evaluator;
 pub use fault::NoReply;
+pub use limits::{Stop, TimeLimits};

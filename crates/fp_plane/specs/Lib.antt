@@ -2,3 +2,4 @@ pub mod Hall
 pub mod Answers
 pub mod Editing
 pub mod Sending
+pub mod Telling

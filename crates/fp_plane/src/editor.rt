@@ -6,11 +6,13 @@ ghost use Rattle.std.specs.Result.{result_map_both};
 ghost use Rattle.fp_group_commit.specs.Tokens.{Identity, front_revision};
 ghost use Rattle.fp_session.specs.Asks.{Ask, asked_by_input};
 ghost use Rattle.fp_session.specs.Progress.{AsksFor};
+ghost use Rattle.fp_session.specs.Requests.{IsHttpRequest, first_line};
 ghost use Rattle.fp_streams.specs.Failures.{CountsFailures};
 ghost use Rattle.fp_streams.specs.declared.counted.StreamFault.TheVariants.{Device};
 ghost use Rattle.fp_plane.specs.Answers.{IsAnswerTo, IsAnswerToTaken, IsWithin, revision_in};
 ghost use Rattle.fp_plane.specs.Answers.{answer_of_code, answer_to_refusal, says_no_edit};
-ghost use Rattle.fp_plane.specs.Editing.{IsNoLess, IsServed, IsServedFirst};
+ghost use Rattle.fp_plane.specs.Editing.{Ends, IsNoLess, IsServed, IsServedFirst};
+ghost use Rattle.fp_plane.specs.declared.editor.EditorEnd.TheVariants.{HttpRequest};
 
 use crate::answer::{Answer, send_answer};
 use crate::naming::Naming;
@@ -25,8 +27,18 @@ use std::alloc::Global;
 use std::io::{Read, Write};
 use std::sync::Wait;
 
+/// How an editor's connection ended where neither stream failed.
+#[derive(Drop)]
+pub enum EditorEnd {
+    /// Each line was answered. With it the most that was told.
+    Served(Option<Told>),
+    /// Its first line is an HTTP request's, so that nothing was answered: a page that a browser
+    /// shows can say any lines behind it.
+    HttpRequest,
+}
+
 /// Answers each line of an editor, before the next one is looked at, and each edit once it is
-/// sealed, settled and shown.
+/// sealed, settled and shown; none of them where the first line is an HTTP request's.
 ///
 /// With the end, or the fault, comes the most that was told: no revision that it wrote is greater.
 /// Want of memory ends it where a line comes in; of an edit that was taken it always tells.
@@ -35,17 +47,22 @@ pub fn editor_loop<K, D, R, I, O>(
     alloc: Global,
     r: &mut FailureCounted<I>,
     w: &mut FailureCounted<O>,
-) -> Result<Option<Told>, (StreamFault, Option<Told>)>
+) -> Result<EditorEnd, (StreamFault, Option<Told>)>
 where
     K: Naming,
     D: Disk + Drop,
     R: Wait + Drop,
     I: Read,
     O: Write,
-    // One line for each line read that gets one, in order, and the most that was told.
-    ensures served { IfOk result (λ told. IfSome (I.remaining r.old.inner) (λ input.
-        IsServed K.store told (asked_by_input input)
-        (O.contents w.old.inner) (O.contents w.new.inner))) }
+    // One line for each line read that gets one, in order, and the most that was told; or else the
+    // first line is an HTTP request's.
+    ensures served { IfOk result (λ end. IfSome (I.remaining r.old.inner) (λ input.
+        Ends K.store end input (O.contents w.old.inner) (O.contents w.new.inner))) }
+
+    // However it ends, such a request gets no byte.
+    ensures silent { IfSome (I.remaining r.old.inner)
+        (λ input. IsHttpRequest (first_line input) → w.new ≡ w.old) }
+    ensures untouched { IfOk result (λ end. end ≡ HttpRequest → w.new ≡ w.old) }
 
     // The same of some first lines where the writer didn't fail.
     ensures broken { IfErr result (λ e. w.new.failures ≡ w.old.failures →
@@ -56,8 +73,45 @@ where
     ensures device { CountsFailures (r.old.failures + w.old.failures)
         (r.new.failures + w.new.failures) (result_map_both (λ t. t) (λ e. e.0) result) }
 {
+    let mut lines = InputLines::new(alloc);
+    let is_request = match lines.begin_with_request(r) {
+        Ok(is_request) => is_request,
+        Err(fault) => return Err((fault, None)),
+    };
+    if is_request {
+        return Ok(EditorEnd::HttpRequest);
+    }
+    match serve_source(plane, alloc, &mut lines, r, w) {
+        Ok(told) => Ok(EditorEnd::Served(told)),
+        Err(broken) => Err(broken),
+    }
+}
+
+// Answers all that a source asks, in order, and gives the most that was told.
+fn serve_source<K, D, R, S, A, O>(
+    plane: &Plane<K, D, R>,
+    alloc: Global,
+    source: &mut A,
+    stream: &mut S,
+    w: &mut FailureCounted<O>,
+) -> Result<Option<Told>, (StreamFault, Option<Told>)>
+where
+    K: Naming,
+    D: Disk + Drop,
+    R: Wait + Drop,
+    A: EditSource<S>,
+    O: Write,
+    ensures served { IfOk result (λ told. (all : List Ask) → A.asks source.old stream.old all
+        → IsServed K.store told all (O.contents w.old.inner) (O.contents w.new.inner)) }
+    ensures broken { IfErr result (λ e. w.new.failures ≡ w.old.failures
+        → (all : List Ask) → A.asks source.old stream.old all
+        → IsServedFirst K.store e.1 all (O.contents w.old.inner) (O.contents w.new.inner)) }
+    ensures ours { IfErr result (λ e. IfSome e.1 (λ t. t.store ≡ K.store)) }
+    ensures device { CountsFailures (A.failures stream.old + w.old.failures)
+        (A.failures stream.new + w.new.failures) (result_map_both (λ t. t) (λ e. e.0) result) }
+{
     let mut told = None;
-    match answer_all(plane, alloc, &mut InputLines::new(alloc), r, w, &mut told) {
+    match answer_all(plane, alloc, source, stream, w, &mut told) {
         Ok(()) => Ok(told),
         Err(fault) => Err((fault, told)),
     }

@@ -12,26 +12,35 @@ use crate::naming::Naming;
 use crate::owned::OwnStore;
 use crate::plane::Plane;
 use crate::sealing::{Broken, compact_on, pause, seal};
+use crate::telling::Seen;
 use fp_desk::SettleFault;
 use fp_disk::Disk;
 use fp_group_commit::{Draw, Receipt, Store};
+use fp_log::{Event, tell};
+use log::Log;
 use std::sync::Wait;
 use std::time::Clock;
 
 /// Seals what is handed in, batch after batch, settles and shows it, and tells all who
 /// wait, until the plane is to stop and nothing waits, or sealing broke off. Then it leaves the
-/// store in the plane.
+/// store in the plane. Compactions and a failure are told to who asked for it, once those who wait
+/// for the batch were told.
 pub fn flusher<K, D, R>(plane: &Plane<K, D, R>, store: OwnStore<D>)
 where
     K: Naming,
     D: Disk + Drop,
-    R: Wait + Clock + Drop,
+    R: Wait + Clock + Log + Drop,
     requires ours { store.store ≡ K.store }
     requires rest { IsAtRest store }
 {
     let mut store = store.into_store();
     let ended = flush_all(plane, &mut store);
+    let revision = store.revision();
+    let failed = ended.is_err();
     plane.leave(OwnStore::new(store), ended);
+    if failed {
+        tell(&plane.shared.rt, &Event::StoreFailed { revision });
+    }
 }
 
 // Seals, settles and shows all that is drawn, until the plane is to stop and nothing waits.
@@ -39,7 +48,7 @@ fn flush_all<K, D, R>(plane: &Plane<K, D, R>, store: &mut Store<D>) -> Result<()
 where
     K: Naming,
     D: Disk + Drop,
-    R: Wait + Clock + Drop,
+    R: Wait + Clock + Log + Drop,
     requires ours { store.old.store ≡ K.store }
     requires rest { IsAtRest store.old }
     ensures same { store.new.store ≡ store.old.store }
@@ -60,7 +69,7 @@ fn flush<K, D, R>(plane: &Plane<K, D, R>, store: &mut Store<D>, draw: Draw) -> R
 where
     K: Naming,
     D: Disk + Drop,
-    R: Wait + Clock + Drop,
+    R: Wait + Clock + Log + Drop,
     requires ours { store.old.store ≡ K.store }
     requires idle { store.old.step ≡ Idle }
     requires some { 0 < length draw.changes }
@@ -74,9 +83,11 @@ where
         (λ c. StandsFor c (sealed_set store.new))) }
     ensures honest { SameHonesty D.Disk store.old.slots.journal.disk store.new.slots.journal.disk }
 {
+    let before = Seen::of(store);
     let receipt = seal(&plane.shared.rt, store, draw)?;
     plane.settle(receipt)?;
     compact_on(store)?;
+    before.tell_since(&plane.shared.rt, store);
     Ok(())
 }
 

@@ -11,8 +11,9 @@ mod owned;
 mod plane;
 mod sealing;
 mod subscriber;
+mod telling;
 
-pub use editor::editor_loop;
+pub use editor::{EditorEnd, editor_loop};
 pub use flushing::flusher;
 pub use hall::{EvaluatorsUsed, Hall};
 pub use naming::Naming;

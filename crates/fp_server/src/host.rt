@@ -1,5 +1,6 @@
 //! What the service asks of the runtime.
 
+use log::Log;
 use std::alloc::AllocGlobal;
 use std::net::{Net, TcpListener, TcpStream};
 use std::random::RandomSource;
@@ -7,14 +8,15 @@ use std::sync::Wait;
 use std::thread::Threads;
 use std::time::Clock;
 
-/// A runtime with threads, sockets, memory, a clock and random numbers, which
-/// each thread has a copy of.
+/// A runtime with threads, sockets, memory, a clock, random numbers and a log, which each thread
+/// has a copy of.
 pub trait Host: Wait
     + Threads
     + Clock
     + RandomSource
     + AllocGlobal
     + Net<Listener = TcpListener, Stream = TcpStream>
+    + Log
     + Copy
     + Send
     + Sync
@@ -29,6 +31,7 @@ where
         + RandomSource
         + AllocGlobal
         + Net<Listener = TcpListener, Stream = TcpStream>
+        + Log
         + Copy
         + Send
         + Sync

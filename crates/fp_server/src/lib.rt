@@ -2,14 +2,18 @@
 #![tactic(auto)]
 
 mod connections;
+mod ended;
 mod evaluations;
 mod host;
 mod listening;
+mod noted;
+mod probing;
 mod roles;
 mod serving;
 mod task;
 mod watching;
 
+pub use fp_http::TimeLimits;
 pub use host::Host;
 pub use serving::{Addresses, moment, serve};
 pub use task::{Task, task_of};

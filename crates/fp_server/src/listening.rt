@@ -3,9 +3,12 @@
 ghost use Rattle.std.specs.Prelude.{◌≡◌};
 
 use crate::connections::{Connections, Place};
+use crate::ended::Ended;
 use crate::host::Host;
 use crate::roles::{Role, converse};
 use fp_disk::Disk;
+use fp_http::TimeLimits;
+use fp_log::{Event, tell_failure};
 use fp_plane::{Naming, Plane};
 use std::alloc::AllocError;
 use std::net::{IpAddr, Ipv4Addr, Shutdown, SocketAddr, TcpListener, TcpStream};
@@ -17,15 +20,22 @@ use std::{io, thread};
 pub struct Listening<R: Drop> {
     rt: R,
     pub(crate) bound: SocketAddr,
+    limits: TimeLimits,
     connections: Connections<R>,
 }
 
 impl<R: Host> Listening<R> {
     /// Of no connection yet, and at most so many at once.
-    pub fn of(rt: &R, listener: &TcpListener, most: usize) -> io::Result<Listening<R>> {
+    pub fn of(
+        rt: &R,
+        listener: &TcpListener,
+        most: usize,
+        limits: TimeLimits,
+    ) -> io::Result<Listening<R>> {
         Ok(Listening {
             rt: *rt,
             bound: listener.local_addr()?,
+            limits,
             connections: Connections::new(*rt, rt.alloc(), most)?,
         })
     }
@@ -44,10 +54,19 @@ impl<R: Host> Listening<R> {
         let connections = self.connections.try_copy()?;
         let plane = plane.try_copy()?;
         let own = self.rt;
-        let _started = thread::spawn(&self.rt, move || {
-            accept(&own, &listener, role, &connections, &plane);
-        })?;
-        Ok(())
+        let limits = self.limits;
+        let started = thread::spawn(&self.rt, move || {
+            accept(&own, &listener, role, limits, &connections, &plane);
+        });
+        match started {
+            Ok(_thread) => Ok(()),
+            Err(refused) => {
+                let reason = io::Error::from(refused);
+                let thread = role.port().name();
+                tell_failure(&self.rt, &Event::NotStarted { thread }, &reason);
+                Err(reason)
+            }
+        }
     }
 
     /// Where it was bound.
@@ -85,6 +104,7 @@ fn accept<K, D, R>(
     rt: &R,
     listener: &TcpListener,
     role: Role,
+    limits: TimeLimits,
     connections: &Connections<R>,
     plane: &Plane<K, D, R>,
 )
@@ -99,8 +119,8 @@ where
             return;
         }
         match accepted {
-            Ok((stream, _peer)) => {
-                let _ = begin(rt, stream, role, connections, plane);
+            Ok((stream, peer)) => {
+                let _ = begin(rt, stream, peer, role, limits, connections, plane);
             }
             // What is wanting may be there again soon.
             Err(_) => thread::sleep(rt, Duration::from_millis(10)),
@@ -137,7 +157,9 @@ where
 fn begin<K, D, R>(
     rt: &R,
     stream: TcpStream,
+    peer: SocketAddr,
     role: Role,
+    limits: TimeLimits,
     connections: &Connections<R>,
     plane: &Plane<K, D, R>,
 ) -> Result<(), AllocError>
@@ -146,14 +168,18 @@ where
     D: Disk + Drop + Send + 'static,
     R: Host,
 {
+    let port = role.port();
     let Some(place) = place_for(&stream, role, connections, plane) else {
+        drop(stream);
+        Ended::NoPlace.tell(rt, port, peer);
         return Ok(());
     };
     let plane = plane.try_copy()?;
     let own = *rt;
     let started = thread::spawn(rt, move || {
-        converse(&own, role, &plane, stream);
+        let ended = converse(&own, role, limits, &plane, stream);
         drop(place);
+        ended.tell(&own, port, peer);
     });
     if let Ok(_handle) = started {}
     Ok(())

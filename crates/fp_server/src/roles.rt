@@ -1,14 +1,20 @@
 //! What becomes of one connection.
 
-use crate::evaluations::LentEvaluator;
+use crate::ended::Ended;
+use crate::evaluations::{LentEvaluator, LoanFault};
 use crate::host::Host;
+use crate::noted::Noted;
 use crate::serving::moment;
 use fp_disk::Disk;
-use fp_http::{Blocking, serve_ofrep};
-use fp_plane::{Naming, Plane, editor_loop, subscriber_loop};
-use fp_streams::FailureCounted;
+use fp_http::{Blocking, TimeLimits, serve_ofrep};
+use fp_log::Port;
+use fp_plane::{EditorEnd, Naming, Plane, SubscriberFault, editor_loop, subscriber_loop};
+use fp_stream::HelloFault;
+use fp_streams::{FailureCounted, StreamFault};
+use std::cell::Cell;
 use std::io::{BufWriter, ErrorKind};
 use std::net::TcpStream;
+use std::rc::Rc;
 use std::time::Duration;
 
 /// What the connections of a listener are for.
@@ -22,8 +28,25 @@ pub enum Role {
     Snapshots,
 }
 
-/// Serves a connection to its end. A fault of it ends it alone.
-pub fn converse<K, D, R>(rt: &R, role: Role, plane: &Plane<K, D, R>, stream: TcpStream)
+impl Role {
+    /// The port of such connections, as it is told.
+    pub fn port(&self) -> Port {
+        match self {
+            Role::Evaluations => Port::Ofrep,
+            Role::Edits => Port::Edit,
+            Role::Snapshots => Port::Stream,
+        }
+    }
+}
+
+/// Serves a connection to its end, and tells why it ended. A fault of it ends it alone.
+pub fn converse<K, D, R>(
+    rt: &R,
+    role: Role,
+    limits: TimeLimits,
+    plane: &Plane<K, D, R>,
+    stream: TcpStream,
+) -> Ended
 where
     K: Naming,
     D: Disk + Drop,
@@ -31,50 +54,84 @@ where
 {
     // A reply is small, and waits for nothing behind it.
     let _ = stream.set_nodelay(true);
+    let _ = stream.set_write_timeout(Some(limits.reply));
     match role {
-        Role::Evaluations => evaluate(rt, plane, stream),
+        Role::Evaluations => evaluate(rt, limits, plane, stream),
         Role::Edits => edit(rt, plane, &stream),
         Role::Snapshots => subscribe(plane, &stream),
     }
 }
 
-fn evaluate<K, D, R>(rt: &R, plane: &Plane<K, D, R>, stream: TcpStream)
+fn evaluate<K, D, R>(rt: &R, limits: TimeLimits, plane: &Plane<K, D, R>, stream: TcpStream) -> Ended
 where
     K: Naming,
     D: Disk + Drop,
     R: Host,
 {
-    let Ok(evaluator) = LentEvaluator::of(plane) else {
-        return;
+    let evaluator = match LentEvaluator::of(plane) {
+        Ok(evaluator) => evaluator,
+        Err(LoanFault::Used) => return Ended::NoPlace,
+        Err(LoanFault::Memory) => return Ended::Fault(ErrorKind::OutOfMemory),
+    };
+    let Ok(note) = Rc::new(rt.alloc(), Cell::new(None)) else {
+        return Ended::Fault(ErrorKind::OutOfMemory);
+    };
+    let Ok(kept) = note.clone() else {
+        return Ended::Fault(ErrorKind::OutOfMemory);
     };
     let clock = *rt;
-    let _ = serve_ofrep(rt, Blocking::new(stream), evaluator, move || moment(&clock));
+    let connection = Blocking::new(stream, clock, limits, note);
+    let served = serve_ofrep(rt, connection, evaluator, move || moment(&clock));
+    match (kept.get(), served) {
+        (Some(stop), _) => stop.into(),
+        (None, Ok(_evaluator)) => Ended::ByPeer,
+        (None, Err(_)) => Ended::Fault(ErrorKind::OutOfMemory),
+    }
 }
 
-fn edit<K, D, R>(rt: &R, plane: &Plane<K, D, R>, stream: &TcpStream)
+fn edit<K, D, R>(rt: &R, plane: &Plane<K, D, R>, stream: &TcpStream) -> Ended
 where
     K: Naming,
     D: Disk + Drop,
     R: Host,
 {
     // A reply goes in one packet.
-    let Ok(gathered) = BufWriter::new(rt.alloc(), stream) else {
-        return;
+    let Ok(gathered) = BufWriter::new(rt.alloc(), Noted::new(stream)) else {
+        return Ended::Fault(ErrorKind::OutOfMemory);
     };
-    let mut r = FailureCounted::new(stream);
+    let mut r = FailureCounted::new(Noted::new(stream));
     let mut w = FailureCounted::new(gathered);
-    let _ = editor_loop(plane, rt.alloc(), &mut r, &mut w);
+    match editor_loop(plane, rt.alloc(), &mut r, &mut w) {
+        Ok(EditorEnd::Served(_told)) => Ended::ByPeer,
+        Ok(EditorEnd::HttpRequest) => Ended::HttpRequest,
+        Err((StreamFault::Memory, _)) => Ended::Fault(ErrorKind::OutOfMemory),
+        Err((StreamFault::Device, _)) => {
+            of_streams(w.get_ref().get_ref().ended(), r.get_ref().ended())
+        }
+    }
 }
 
-fn subscribe<K, D, R>(plane: &Plane<K, D, R>, stream: &TcpStream)
+fn subscribe<K, D, R>(plane: &Plane<K, D, R>, stream: &TcpStream) -> Ended
 where
     K: Naming,
     D: Disk + Drop,
     R: Host,
 {
-    let mut r = FailureCounted::new(stream);
-    let mut w = FailureCounted::new(stream);
-    let _ = subscriber_loop(plane, &mut r, &mut w, || has_left(stream));
+    let mut r = FailureCounted::new(Noted::new(stream));
+    let mut w = FailureCounted::new(Noted::new(stream));
+    match subscriber_loop(plane, &mut r, &mut w, || has_left(stream)) {
+        Ok(()) => Ended::ByPeer,
+        Err(SubscriberFault::Hello(HelloFault::Device)) | Err(SubscriberFault::Device) => {
+            of_streams(w.get_ref().ended(), r.get_ref().ended())
+        }
+        Err(SubscriberFault::Hello(_)) => Ended::NoHello,
+        Err(SubscriberFault::SeatsUsed) => Ended::NoPlace,
+    }
+}
+
+// Why a stream failed, as its writer says it, or else its reader.
+fn of_streams(written: Option<Ended>, read: Option<Ended>) -> Ended {
+    written.or(read).unwrap_or(Ended::Fault(ErrorKind::Other))
 }
 
 // Whether the peer ended the stream. What it says behind its hello is no end.

@@ -1,28 +1,34 @@
 //! A store over sockets, from its opening to its end.
 
-ghost use Rattle.std.specs.Prelude.{◌≡◌, ◌+◌, ◌<◌, ◌^◌, ◌++◌, ◌∷◌, [], IfOk, IfErr, OnOk};
+ghost use Rattle.std.specs.Prelude.{◌≡◌, ◌+◌, ◌<◌, ◌^◌, ◌++◌, ◌∷◌, [], IfOk, IfErr, OnOk, codes};
+ghost use Rattle.std.specs.FinMap as map;
 ghost use Rattle.std.specs.Io.KnownBytes.{Appends};
 ghost use Rattle.fp_commands.specs.declared.fault.CommandFault.TheVariants.{StoreFailed};
 ghost use Rattle.fp_files.specs.Openings.{KeepsOthers};
+ghost use Rattle.fp_files.specs.declared.openings.Purpose.TheVariants.{Writing};
 ghost use Rattle.fp_group_commit.specs.Store.{IsAtRest};
+ghost use Rattle.fp_log.specs.Events.{name_of, opening_text, text_of};
 ghost use Rattle.fp_streams.specs.Failures.{CountsFailures};
 ghost use Rattle.fp_server.specs.Ends.{EndsBadly, EndsWell, IsAttendingFault, IsServingFault};
 ghost use Rattle.fp_server.specs.Ends.{SaysWhere, where_text};
 
 use crate::host::Host;
 use crate::listening::Listening;
+use crate::probing::probe_peers;
 use crate::roles::Role;
 use fp_commands::CommandFault;
 use fp_disk::Disk;
 use fp_files::DiskFiles;
 use fp_group_commit::{Opening, Store};
+use fp_http::TimeLimits;
+use fp_log::{Event, Port, tell, tell_failure};
 use fp_plane::{Naming, OwnStore, Plane, flusher};
 use fp_publish::{MOST_EVALUATORS, MOST_SEATS};
 use fp_streams::{FailureCounted, StreamFault};
 use std::io::{ErrorKind, Read, Write};
 use std::marker::Brand;
 use std::net::{Shutdown, SocketAddrV4, TcpListener};
-use std::time::{Clock, Duration, SystemTime, UNIX_EPOCH};
+use std::time::{Clock, Duration, Instant, SystemTime, UNIX_EPOCH};
 use std::{io, thread};
 
 /// How many editors there may be at once.
@@ -63,15 +69,31 @@ struct Listeners {
     ofrep: TcpListener,
     edit: TcpListener,
     stream: TcpListener,
+    limits: TimeLimits,
 }
 
 impl Listeners {
-    fn bind<R: Host>(rt: &R, addresses: &Addresses) -> io::Result<Listeners> {
+    fn bind<R: Host>(rt: &R, addresses: &Addresses, limits: TimeLimits) -> io::Result<Listeners> {
         Ok(Listeners {
-            ofrep: TcpListener::bind(rt, addresses.ofrep)?,
-            edit: TcpListener::bind(rt, addresses.edit)?,
-            stream: TcpListener::bind(rt, addresses.stream)?,
+            ofrep: bind(rt, Port::Ofrep, addresses.ofrep)?,
+            edit: bind(rt, Port::Edit, addresses.edit)?,
+            stream: bind(rt, Port::Stream, addresses.stream)?,
+            limits,
         })
+    }
+}
+
+// Binds an address, whose connections' peers are probed. One that can't be bound is told.
+fn bind<R: Host>(rt: &R, port: Port, address: SocketAddrV4) -> io::Result<TcpListener> {
+    match TcpListener::bind(rt, address) {
+        Ok(listener) => {
+            probe_peers(&listener);
+            Ok(listener)
+        }
+        Err(reason) => {
+            tell_failure(rt, &Event::NotBound { port, address }, &reason);
+            Err(reason)
+        }
     }
 }
 
@@ -84,10 +106,11 @@ struct Services<R: Host> {
 
 impl<R: Host> Services<R> {
     fn of(rt: &R, listeners: &Listeners) -> io::Result<Services<R>> {
+        let limits = listeners.limits;
         Ok(Services {
-            ofrep: Listening::of(rt, &listeners.ofrep, MOST_EVALUATORS)?,
-            edit: Listening::of(rt, &listeners.edit, MOST_EDITORS)?,
-            stream: Listening::of(rt, &listeners.stream, MOST_SEATS)?,
+            ofrep: Listening::of(rt, &listeners.ofrep, MOST_EVALUATORS, limits)?,
+            edit: Listening::of(rt, &listeners.edit, MOST_EDITORS, limits)?,
+            stream: Listening::of(rt, &listeners.stream, MOST_SEATS, limits)?,
         })
     }
 
@@ -100,6 +123,7 @@ impl<R: Host> Services<R> {
             ofrep,
             edit,
             stream,
+            limits: _,
         } = listeners;
         self.ofrep.start(ofrep, Role::Evaluations, plane)?;
         self.edit.start(edit, Role::Edits, plane)?;
@@ -109,6 +133,7 @@ impl<R: Host> Services<R> {
     // Lets connections in, says where, and waits for the input's end.
     fn attend<K, D, I, O>(
         &self,
+        rt: &R,
         listeners: Listeners,
         plane: &Plane<K, D, R>,
         r: &mut FailureCounted<I>,
@@ -128,8 +153,20 @@ impl<R: Host> Services<R> {
             return Err(fault_of(&fault));
         }
         self.say_where(w)?;
+        self.tell_where(rt);
         await_end(r)?;
         Ok(())
+    }
+
+    // The same to who reads the log.
+    fn tell_where(&self, rt: &R) {
+        for (port, address) in [
+            (Port::Ofrep, self.ofrep.bound()),
+            (Port::Edit, self.edit.bound()),
+            (Port::Stream, self.stream.bound()),
+        ] {
+            tell(rt, &Event::Bound { port, address });
+        }
     }
 
     // Says where connections are let in.
@@ -172,14 +209,15 @@ fn await_end<I: Read>(r: &mut FailureCounted<I>) -> Result<(), StreamFault>
     Ok(())
 }
 
-/// Serves the file at this path to editors, evaluators and subscribers, until the input ends. Then
-/// what was handed in is sealed, those who wait are answered, and `stopped at revision N` is
+/// Serves the file at this path to editors, evaluators and subscribers, each of whom has so much
+/// time, until the input ends. Then what was handed in is sealed, those who wait are answered, and `stopped at revision N` is
 /// written. A store that failed is a fault at that end.
 pub fn serve<R, F, I, O>(
     rt: &R,
     files: &mut F,
     path: &str,
     addresses: &Addresses,
+    limits: TimeLimits,
     r: &mut FailureCounted<I>,
     w: &mut FailureCounted<O>,
 ) -> Result<(), CommandFault>
@@ -195,9 +233,10 @@ where
     // A store that failed is told only where neither the reader nor the writer did.
     ensures calm { IfErr result (λ f. f ≡ StoreFailed → r.new.failures + w.new.failures
         ≡ r.old.failures + w.old.failures) }
-    ensures asked { F.asked files.new ≡ F.asked files.old ++ path.now ∷ [] }
+    ensures asked { F.asked files.new ≡ F.asked files.old ++ (path.now, Writing) ∷ [] }
     ensures others { KeepsOthers F.at files.old files.new path.now }
 {
+    let begun = Instant::now(rt).ok();
     let disk = files.open(path)?;
     let (store, opening) = match Store::open(rt.alloc(), disk) {
         Ok(opened) => opened,
@@ -206,7 +245,8 @@ where
             return Err(fault.into());
         }
     };
-    let listeners = match Listeners::bind(rt, addresses) {
+    tell(rt, &opened(path, &opening, milliseconds_since(rt, begun)));
+    let listeners = match Listeners::bind(rt, addresses, limits) {
         Ok(listeners) => listeners,
         Err(fault) => {
             files.close(path, store.into_disk());
@@ -217,6 +257,7 @@ where
         Ok(store) => {
             let revision = store.revision();
             files.close(path, store.into_disk());
+            tell(rt, &Event::Stopped { revision });
             w.say(&format_args!("stopped at revision {revision}"))?;
             Ok(())
         }
@@ -225,6 +266,26 @@ where
             Err(fault)
         }
     }
+}
+
+// What is told of an opening: where it was, and how much it holds.
+fn opened<'e>(path: &'e str, opening: &Opening, milliseconds: u64) -> Event<'e>
+    ensures name { name_of result ≡ codes "opened" }
+    ensures text { text_of result ≡ opening_text path.now opening.now.start.revision
+        (map.len opening.now.start.flags) milliseconds }
+{
+    Event::Opened {
+        path,
+        revision: opening.revision(),
+        flags: opening.set().len(),
+        milliseconds,
+    }
+}
+
+// How many milliseconds passed since then, or none without a clock.
+fn milliseconds_since<R: Host>(rt: &R, begun: Option<Instant>) -> u64 {
+    let passed = begun.and_then(|begun| begun.elapsed(rt).ok());
+    passed.map_or(0, |passed| passed.as_millis().min(u64::MAX as u128) as u64)
 }
 
 // A fault of the system, as the program tells it.
@@ -309,6 +370,7 @@ where
         Ok(_thread) => serve_plane(rt, &plane, last, listeners, r, w),
         Err(refused) => {
             // What the thread was to do is done here: with nothing to seal it leaves the store.
+            tell(rt, &Event::NotStarted { thread: "flusher" });
             plane.close();
             let flush = refused.value;
             flush();
@@ -344,7 +406,7 @@ where
         Ok(services) => services,
         Err(fault) => return Err((fault_of(&fault), stopped(last))),
     };
-    let attended = services.attend(listeners, plane, r, w);
+    let attended = services.attend(rt, listeners, plane, r, w);
     services.edit.close(Shutdown::Read);
     let store = last.stop();
     services.end();

@@ -7,6 +7,7 @@ ghost use Rattle.fp_stream.specs.Watching.{BlamesStreams, Watches};
 ghost use Rattle.fp_stream.specs.declared.hello.Hello.TheVariants.{Nothing};
 
 use crate::host::Host;
+use fp_log::{Event, Reported, Source, tell_failure};
 use fp_stream::{Hello, WatchFault, watch_loop, write_hello};
 use fp_streams::FailureCounted;
 use std::alloc::Global;
@@ -24,13 +25,17 @@ where
     R: Host,
     O: Write,
 {
-    let Ok(stream) = TcpStream::connect(rt, address) else {
-        return Err(WatchFault::Device);
+    let stream = match TcpStream::connect(rt, address) {
+        Ok(stream) => stream,
+        Err(reason) => {
+            tell_failure(rt, &Event::NotConnected { address }, &reason);
+            return Err(WatchFault::Device);
+        }
     };
     show_service(
         rt.alloc(),
-        &mut FailureCounted::new(&stream),
-        &mut FailureCounted::new(&stream),
+        &mut FailureCounted::new(Reported::new(*rt, Source::Connection, &stream)),
+        &mut FailureCounted::new(Reported::new(*rt, Source::Connection, &stream)),
         w,
     )
 }

@@ -6,7 +6,7 @@ use fp_commands::CommandFault;
 use fp_disk::{Disk, FailedWrite, Failing, MemoryDisk};
 use fp_files::SingleFile;
 use fp_group_commit::Store;
-use fp_server::{Addresses, Host, serve};
+use fp_server::{Addresses, Host, TimeLimits, serve};
 use fp_streams::FailureCounted;
 use fp_transcript::Text;
 use std::alloc::{AllocGlobal, Global};
@@ -108,6 +108,13 @@ pub struct DiskPlan {
     pub failing: Option<u64>,
 }
 
+/// What is served, and how long its connections may take.
+#[derive(Drop, Clone, Copy)]
+pub struct Plan {
+    pub disk: DiskPlan,
+    pub limits: TimeLimits,
+}
+
 // Where the version of the first slot is.
 const VERSION_AT: u64 = 73;
 
@@ -147,13 +154,13 @@ fn left_on<D: Disk + Drop>(alloc: Global, disk: D) -> String {
 }
 
 // Serves a new disk, and opens it again.
-fn run<R: Host>(rt: &R, gate: SharedGate<R>, plan: DiskPlan, pipes: Pipes) -> Ended {
+fn run<R: Host>(rt: &R, gate: SharedGate<R>, plan: Plan, pipes: Pipes) -> Ended {
     let alloc = rt.alloc();
     let mut said = Text::new(alloc);
     let mut left = String::new(alloc);
-    if let (Some(disk), Ok(path)) = (new_disk(alloc, plan), String::from_str(alloc, PATH)) {
+    if let (Some(disk), Ok(path)) = (new_disk(alloc, plan.disk), String::from_str(alloc, PATH)) {
         let mut files = SingleFile::new(path, HeldDisk::new(disk, gate));
-        served(rt, &mut files, pipes, &mut said);
+        served(rt, &mut files, plan.limits, pipes, &mut said);
         if let Some(disk) = files.into_disk() {
             left = left_on(alloc, disk);
         }
@@ -165,7 +172,13 @@ fn run<R: Host>(rt: &R, gate: SharedGate<R>, plan: DiskPlan, pipes: Pipes) -> En
 }
 
 // Serves a disk on ports that are free.
-fn served<R, D>(rt: &R, files: &mut SingleFile<D>, pipes: Pipes, said: &mut Text)
+fn served<R, D>(
+    rt: &R,
+    files: &mut SingleFile<D>,
+    limits: TimeLimits,
+    pipes: Pipes,
+    said: &mut Text,
+)
 where
     R: Host,
     D: Disk + Drop + Send + 'static,
@@ -182,6 +195,7 @@ where
         files,
         PATH,
         &addresses,
+        limits,
         &mut FailureCounted::new(input),
         &mut FailureCounted::new(output),
     );
@@ -194,7 +208,7 @@ where
 fn spawned<R: Host>(
     rt: &R,
     gate: SharedGate<R>,
-    plan: DiskPlan,
+    plan: Plan,
     pipes: Pipes,
 ) -> Option<JoinHandle<Ended>> {
     let own = *rt;
@@ -207,7 +221,7 @@ fn spawned<R: Host>(
 impl<R: Host> Running<R> {
     /// Starts a service over a new disk with no flags on it, and waits until it tells where it is
     /// reached.
-    pub fn start(rt: &R, plan: DiskPlan) -> Option<Running<R>> {
+    pub fn start(rt: &R, plan: Plan) -> Option<Running<R>> {
         let (mut own, theirs) = both_ends(rt)?;
         let gate = Arc::new(rt.alloc(), Gate::new(*rt)).ok()?;
         let thread = spawned(rt, Arc::try_clone(&gate).ok()?, plan, theirs)?;

@@ -7,8 +7,8 @@ use crate::courses::{
 };
 use crate::crowd::{comes_in, enter, found, is_refused, see};
 use crate::held::Hold;
-use crate::running::{DiskPlan, Ended, LEAST_SLOT, Running};
-use fp_server::Host;
+use crate::running::{DiskPlan, Ended, LEAST_SLOT, Plan, Running};
+use fp_server::{Host, TimeLimits};
 use fp_transcript::{Args, Text, Texts, expanded};
 use std::alloc::AllocGlobal;
 use std::collections::BTreeMap;
@@ -111,8 +111,9 @@ impl<R: Host> Script<R> {
         port
     }
 
-    // `serve`, `serve failing CALL`, `serve slots SIZE`, `serve old`, `hold behind COUNT`,
-    // `hold from PLACE`, `held`, `let-go`, `end`, `stop`, `left`, `pause MILLISECONDS`.
+    // `serve`, `serve failing CALL`, `serve slots SIZE`, `serve old`,
+    // `serve within IDLE REQUEST REPLY SIZE`, `hold behind COUNT`, `hold from PLACE`, `held`,
+    // `let-go`, `end`, `stop`, `left`, `pause MILLISECONDS`.
     fn on_service(&mut self, word: &str, args: &mut Args<'_>, out: &mut Text) {
         match word {
             "serve" => self.serve(args, out),
@@ -131,18 +132,23 @@ impl<R: Host> Script<R> {
     }
 
     fn serve(&mut self, args: &mut Args<'_>, out: &mut Text) {
-        let mut plan = DiskPlan {
+        let mut disk = DiskPlan {
             slot: LEAST_SLOT,
             is_old: false,
             failing: None,
         };
+        let mut limits = TimeLimits::usual();
         match args.word() {
-            "failing" => plan.failing = Some(args.number()),
-            "slots" => plan.slot = args.number(),
-            "old" => plan.is_old = true,
+            "failing" => disk.failing = Some(args.number()),
+            "slots" => disk.slot = args.number(),
+            "old" => disk.is_old = true,
+            "within" => {
+                limits = limits_of(args);
+                disk.slot = args.number();
+            }
             _ => (),
         }
-        self.service = Running::start(&self.rt, plan);
+        self.service = Running::start(&self.rt, Plan { disk, limits });
         if self.service.is_none() {
             out.push("no service");
         }
@@ -301,6 +307,15 @@ impl<R: Host> Script<R> {
             "see" => see(rt, service.ports.ofrep, count, args.word(), out),
             _ => out.number(found(rt, service.ports.edit, service.ports.ofrep, count)),
         }
+    }
+}
+
+// `IDLE REQUEST REPLY`, each in milliseconds.
+fn limits_of(args: &mut Args<'_>) -> TimeLimits {
+    TimeLimits {
+        idle: Duration::from_millis(args.number()),
+        request: Duration::from_millis(args.number()),
+        reply: Duration::from_millis(args.number()),
     }
 }
 

@@ -7,3 +7,5 @@ pub mod ProgressLemmas
 pub mod Sourcing
 pub mod Readings
 pub mod Endings
+pub mod RequestLemmas
+pub mod FirstLines

@@ -10,3 +10,4 @@ pub mod RunPromise
 pub mod Session
 pub mod SessionLaws
 pub mod Progress
+pub mod Requests

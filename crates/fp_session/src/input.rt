@@ -1,17 +1,20 @@
 //! The lines of an input.
 
-ghost use Rattle.std.specs.Prelude.{◌≡◌, ◌≢◌, ◌+◌, ◌<◌, [], false, length, IfErr, IfOk};
-ghost use Rattle.std.specs.Prelude.{IfSome, MatchOption};
+ghost use Rattle.std.specs.Prelude.{◌≡◌, ◌≢◌, ◌+◌, ◌<◌, [], false, true, length, IfErr, IfOk};
+ghost use Rattle.std.specs.Prelude.{IfSome, MatchOption, OnOk};
 ghost use Rattle.fp_edit.specs.Flags.{State};
 ghost use Rattle.fp_session.specs.Asks.{asked_by_input};
+ghost use Rattle.fp_session.specs.Requests.{first_line, is_request_line};
 ghost use Rattle.fp_session.specs.RunPromise.{RunPromise};
 ghost use Rattle.fp_session.specs.Sources.{AskLines, AsksNext, bytes_at_hand};
 ghost use Rattle.fp_session.specs.Streams.{Blames};
 ghost use Rattle.fp_session.specs.declared.fault.ApplyFault.TheVariants.{Device};
+ghost use Rattle.fp_streams.specs.Failures.{CountsFailures};
 
 use crate::batching::Batching;
 use crate::chunk::Chunk;
 use crate::line::{IncomingLine, newline_in};
+use crate::request::RequestLine;
 use crate::run::answer_all;
 use crate::source::EditSource;
 use crate::{ApplyFault, EditStore};
@@ -51,6 +54,24 @@ impl InputLines {
             is_ended: false,
         }
     }
+
+    /// Reads as far as the first line goes, and says whether it is an HTTP request's. What the
+    /// lines ask is asked behind it.
+    pub fn begin_with_request<R: Read>(
+        &mut self,
+        reader: &mut FailureCounted<R>,
+    ) -> Result<bool, StreamFault>
+        requires fresh { self.old ≡ record { line = []; left = []; ended = false } }
+        ensures told { IfOk result (λ is_request. IfSome (R.remaining reader.old.inner)
+            (λ input. is_request ≡ is_request_line (first_line input))) }
+        ensures asks { OnOk result (IfSome (R.remaining reader.old.inner) (λ input.
+            AskLines self.new (R.remaining reader.new.inner) (asked_by_input input))) }
+        ensures counted { CountsFailures reader.old.failures reader.new.failures result }
+    {
+        let first = read_first(&mut self.line, &mut self.chunk, reader)?;
+        self.is_ended = first.is_ended;
+        Ok(first.is_request)
+    }
 }
 
 impl<R: Read> EditSource<FailureCounted<R>> for InputLines {
@@ -76,6 +97,53 @@ impl<R: Read> EditSource<FailureCounted<R>> for InputLines {
         let is_more = self.chunk.fill(reader)?;
         self.is_ended = !is_more;
         Ok(true)
+    }
+}
+
+// A first line: whether it is an HTTP request's, and whether the input ends with it.
+#[derive(Drop, Clone, Copy)]
+struct FirstLine {
+    is_request: bool,
+    is_ended: bool,
+}
+
+// Reads until the first line is whole. Behind it stands what came in with it.
+fn read_first<R: Read>(
+    line: &mut IncomingLine,
+    chunk: &mut Chunk,
+    reader: &mut FailureCounted<R>,
+) -> Result<FirstLine, StreamFault>
+    requires none { line.old ≡ [] }
+    requires empty { chunk.old ≡ [] }
+    ensures told { IfOk result (λ first. IfSome (R.remaining reader.old.inner)
+        (λ input. first.is_request ≡ is_request_line (first_line input))) }
+    ensures asks { IfOk result (λ first. IfSome (R.remaining reader.old.inner) (λ input. AskLines
+        (record { line = line.new; left = chunk.new; ended = first.is_ended })
+        (R.remaining reader.new.inner) (asked_by_input input))) }
+    ensures ended { IfOk result (λ first. first.is_ended ≡ true → chunk.new ≡ []) }
+    ensures counted { CountsFailures reader.old.failures reader.new.failures result }
+{
+    let mut request = RequestLine::Nothing;
+    loop {
+        let is_more = chunk.fill(reader)?;
+        if !is_more {
+            return Ok(FirstLine {
+                is_request: request.is_whole(),
+                is_ended: true,
+            });
+        }
+        if let Some(at) = newline_in(chunk.as_slice()) {
+            let whole = request.followed(&chunk.as_slice()[..at]);
+            return Ok(FirstLine {
+                is_request: whole.is_whole(),
+                is_ended: false,
+            });
+        }
+        request = request.followed(chunk.as_slice());
+        let Ok(()) = line.extend(chunk.as_slice()) else {
+            return Err(StreamFault::Memory);
+        };
+        chunk.skip(chunk.as_slice().len());
     }
 }
 

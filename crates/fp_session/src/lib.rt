@@ -14,6 +14,7 @@ mod laws;
 mod line;
 mod replies;
 mod reply;
+mod request;
 mod run;
 mod show;
 mod source;

@@ -8,6 +8,7 @@ mod damage;
 mod disk;
 mod eval;
 mod event;
+mod held;
 mod journal;
 mod noted;
 mod parts;
@@ -24,9 +25,13 @@ mod world;
 
 use crate::script::Script;
 use fp_transcript::{report, rewrite};
+use log::sink::Discard;
+use log::{LevelFilter, Logged};
 use std::{env, io};
 
 fn main(rt: HostRuntime) -> io::Result<()> {
+    // What isn't asked for isn't told.
+    let rt = Logged::new(rt, LevelFilter::Off, Discard);
     let mut is_named = false;
     for name in env::args(&rt)?.skip(1) {
         is_named = true;

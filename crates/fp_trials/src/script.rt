@@ -1,5 +1,6 @@
 //! A file of trials: its lines in order, its blocks, and the program's commands over files.
 
+use crate::held::{HeldFile, on_held};
 use crate::noted::on_noted;
 use crate::run::{repeat, step};
 use crate::seeded::{on_listed, on_seeds};
@@ -11,17 +12,21 @@ use fp_commands::command;
 use fp_files::SystemFiles;
 use fp_streams::FailureCounted;
 use fp_transcript::{Answers, Args, Text, first_word};
+use log::sink::Memory;
+use log::{LevelFilter, Log, Logged};
 use std::alloc::AllocGlobal;
+use std::fs::File;
 use std::rt::Files;
 use std::sync::Wait;
 use std::{fs, mem};
 
-/// What answers the lines of a file: what they work on; the world and the block that are open, if
-/// there are any.
-pub struct Script<'a, R: Files + AllocGlobal + Wait> {
+/// What answers the lines of a file: what they work on; the world, the file that is held and the
+/// block that are open, if there are any.
+pub struct Script<'a, R: Files<File = File> + AllocGlobal + Log + Wait> {
     rt: &'a R,
     trial: Trial,
     world: Option<Whole>,
+    held: Option<HeldFile<'a, R>>,
     block: Block,
 }
 
@@ -32,7 +37,7 @@ struct Block {
     lines: Vec<String>,
 }
 
-impl<'a, R: Files + AllocGlobal + Wait> Script<'a, R> {
+impl<'a, R: Files<File = File> + AllocGlobal + Log + Wait> Script<'a, R> {
     /// Over an empty disk.
     pub fn new(rt: &'a R) -> Script<'a, R> {
         let alloc = rt.alloc();
@@ -40,6 +45,7 @@ impl<'a, R: Files + AllocGlobal + Wait> Script<'a, R> {
             rt,
             trial: Trial::new(alloc),
             world: None,
+            held: None,
             block: Block {
                 head: Text::new(alloc),
                 lines: Vec::new(alloc),
@@ -53,6 +59,7 @@ impl<'a, R: Files + AllocGlobal + Wait> Script<'a, R> {
             rt,
             trial: _,
             world,
+            held: _,
             block: _,
         } = self;
         end_world(rt, world);
@@ -65,7 +72,7 @@ fn end_world<R: Wait>(rt: &R, world: Option<Whole>) {
     }
 }
 
-impl<'a, R: Files + AllocGlobal + Wait> Answers for Script<'a, R> {
+impl<'a, R: Files<File = File> + AllocGlobal + Log + Wait> Answers for Script<'a, R> {
     /// Appends the answer to a line. Those between one that ends in `{` and a `}` are a block, for
     /// which the latter answers.
     fn answer(&mut self, line: &str, out: &mut Text) {
@@ -77,7 +84,13 @@ impl<'a, R: Files + AllocGlobal + Wait> Answers for Script<'a, R> {
             self.block.head.push(head);
             out.is_short = self.block.head.is_short;
         } else {
-            let answer = alone(self.rt, &mut self.trial, &mut self.world, line);
+            let answer = alone(
+                self.rt,
+                &mut self.trial,
+                &mut self.world,
+                &mut self.held,
+                line,
+            );
             answer.tell(&self.trial.text, out);
         }
     }
@@ -113,15 +126,16 @@ fn run_block<R: Wait>(rt: &R, trial: &mut Trial, block: &mut Block, out: &mut Te
 }
 
 // The words of commands that can't stand in a block.
-const OVER_FILES: [&str; 4] = ["$", "load", "save", "noted"];
+const OVER_FILES: [&str; 6] = ["$", "logged", "load", "save", "noted", "held"];
 
 const OF_SEEDS: [&str; 2] = ["worlds", "stops"];
 
 // What works on a world, what can't stand in a block, and any other line.
-fn alone<R: Files + AllocGlobal + Wait>(
-    rt: &R,
+fn alone<'a, R: Files<File = File> + AllocGlobal + Log + Wait>(
+    rt: &'a R,
     trial: &mut Trial,
     world: &mut Option<Whole>,
+    held: &mut Option<HeldFile<'a, R>>,
     line: &str,
 ) -> Answer {
     let mut args = Args::of(trial.alloc, line);
@@ -136,24 +150,27 @@ fn alone<R: Files + AllocGlobal + Wait>(
         judged(&args, answer)
     } else if OVER_FILES.contains(&word) {
         trial.text.clear();
-        let answer = over_files(rt, trial, word, &mut args);
+        let answer = over_files(rt, trial, held, word, &mut args);
         judged(&args, answer)
     } else {
         step(trial, line)
     }
 }
 
-// `$ WORD ..`, `load NAME`, `save NAME`, `noted ..`.
-fn over_files<R: Files + AllocGlobal>(
-    rt: &R,
+// `$ WORD ..`, `logged WORD ..`, `load NAME`, `save NAME`, `noted ..`, `held ..`.
+fn over_files<'a, R: Files<File = File> + AllocGlobal + Log>(
+    rt: &'a R,
     trial: &mut Trial,
+    held: &mut Option<HeldFile<'a, R>>,
     word: &str,
     args: &mut Args<'_>,
 ) -> Answer {
     match word {
         "$" => program(rt, trial, args),
+        "logged" => logged(rt, trial, args),
         "load" => load(rt, trial, args.rest),
         "save" => save(rt, trial, args.rest),
+        "held" => on_held(rt, held, args),
         _ => on_noted(rt, trial, args),
     }
 }
@@ -172,7 +189,11 @@ fn words_of(args: &Args<'_>, out: &mut Text) -> Vec<String> {
 // `$ WORD ..`: the program's command of these words, of which `''` is the empty one, on
 // the lines that wait. It answers what was written, what was told on the error stream,
 // and a status that isn't 0.
-fn program<R: Files + AllocGlobal>(rt: &R, trial: &mut Trial, args: &mut Args<'_>) -> Answer {
+fn program<R: Files<File = File> + AllocGlobal + Log>(
+    rt: &R,
+    trial: &mut Trial,
+    args: &mut Args<'_>,
+) -> Answer {
     let words = words_of(args, &mut trial.text);
     let input = trial.take_input();
     let status = run(rt, &words, &input, &mut trial.text);
@@ -185,8 +206,28 @@ fn program<R: Files + AllocGlobal>(rt: &R, trial: &mut Trial, args: &mut Args<'_
     Answer::Text
 }
 
+// `logged WORD ..`: the same with a log, whose lines come last.
+fn logged<R: Files<File = File> + AllocGlobal + Log>(
+    rt: &R,
+    trial: &mut Trial,
+    args: &mut Args<'_>,
+) -> Answer {
+    let told = Memory::new(trial.alloc);
+    let answer = program(&Logged::new(rt, LevelFilter::Info, &told), trial, args);
+    for line in told.into_lines().as_slice() {
+        trial.text.push(line.as_str());
+        trial.text.end_line();
+    }
+    answer
+}
+
 // Runs the command: what it wrote and told, and its status.
-fn run<R: Files + AllocGlobal>(rt: &R, words: &[String], input: &[u8], out: &mut Text) -> u8 {
+fn run<R: Files<File = File> + AllocGlobal + Log>(
+    rt: &R,
+    words: &[String],
+    input: &[u8],
+    out: &mut Text,
+) -> u8 {
     let alloc = rt.alloc();
     let mut reader = FailureCounted::new(input);
     let mut writer = FailureCounted::new(Vec::new(alloc));
@@ -211,7 +252,11 @@ fn tells_of_memory(text: &str) -> bool {
 }
 
 // `load NAME`: the disk holds the file's bytes.
-fn load<R: Files + AllocGlobal>(rt: &R, trial: &mut Trial, name: &str) -> Answer {
+fn load<R: Files<File = File> + AllocGlobal + Log>(
+    rt: &R,
+    trial: &mut Trial,
+    name: &str,
+) -> Answer {
     match fs::read(rt, name) {
         Ok(bytes) => trial.hold(bytes),
         Err(_) => Answer::Fault(Fault::Device),

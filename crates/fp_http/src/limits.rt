@@ -1,0 +1,51 @@
+//! How long a connection may take, and what ended it.
+
+use std::fmt;
+use std::io::ErrorKind;
+use std::time::Duration;
+
+/// How long a connection may take for what.
+#[derive(Debug, Drop, Clone, Copy)]
+pub struct TimeLimits {
+    /// For saying nothing between two requests.
+    pub idle: Duration,
+    /// For a request, from its first bytes until it is whole.
+    pub request: Duration,
+    /// For taking some of a reply.
+    pub reply: Duration,
+}
+
+impl TimeLimits {
+    /// Those of a service: 75, 30 and 60 seconds.
+    pub fn usual() -> TimeLimits {
+        TimeLimits {
+            idle: Duration::from_secs(75),
+            request: Duration::from_secs(30),
+            reply: Duration::from_secs(60),
+        }
+    }
+}
+
+/// What ended a connection that its peer didn't end.
+#[derive(Debug, Drop, Clone, Copy, PartialEq, Eq)]
+pub enum Stop {
+    /// It said nothing between two requests, for too long.
+    Idle,
+    /// A request that had begun wasn't whole in time.
+    SlowRequest,
+    /// Nothing of a reply was taken, for too long.
+    SlowReply,
+    /// The stream failed.
+    Fault(ErrorKind),
+}
+
+impl fmt::Display for Stop {
+    fn fmt<W: fmt::Write>(&self, f: &mut fmt::Formatter<W>) -> fmt::Result {
+        match self {
+            Stop::Idle => f.write_str("idle"),
+            Stop::SlowRequest => f.write_str("slow request"),
+            Stop::SlowReply => f.write_str("slow reply"),
+            Stop::Fault(kind) => write!(f, "{kind}"),
+        }
+    }
+}

@@ -1,0 +1,61 @@
+//! A connection's stream that keeps why it failed last.
+
+use crate::ended::Ended;
+use std::io;
+use std::io::{ErrorKind, Read, Write};
+use std::net::TcpStream;
+
+/// One side of a stream, and why it failed last.
+#[derive(Drop)]
+pub struct Noted<'s> {
+    stream: &'s TcpStream,
+    ended: Option<Ended>,
+}
+
+impl Noted<'_> {
+    /// Of this stream, which didn't fail yet.
+    pub fn new(stream: &TcpStream) -> Noted<'_> {
+        Noted {
+            stream,
+            ended: None,
+        }
+    }
+
+    /// Why it failed last, if it did.
+    pub fn ended(&self) -> Option<Ended> {
+        self.ended
+    }
+}
+
+impl Read for Noted<'_> {
+    fn read(&mut self, buf: &mut [u8]) -> io::Result<usize> {
+        let mut stream = self.stream;
+        match stream.read(buf) {
+            Ok(count) => Ok(count),
+            Err(fault) => {
+                self.ended = Some(Ended::Fault(fault.kind()));
+                Err(fault)
+            }
+        }
+    }
+}
+
+impl Write for Noted<'_> {
+    fn write(&mut self, buf: &[u8]) -> io::Result<usize> {
+        let mut stream = self.stream;
+        match stream.write(buf) {
+            Ok(count) => Ok(count),
+            Err(fault) => {
+                self.ended = Some(match fault.kind() {
+                    ErrorKind::WouldBlock => Ended::SlowReply,
+                    kind => Ended::Fault(kind),
+                });
+                Err(fault)
+            }
+        }
+    }
+
+    fn flush(&mut self) -> io::Result<()> {
+        Ok(())
+    }
+}
