@@ -215,8 +215,8 @@ fn logged<R: Files<File = File> + AllocGlobal + Log>(
     let told = Memory::new(trial.alloc);
     let answer = program(&Logged::new(rt, LevelFilter::Info, &told), trial, args);
     for line in told.into_lines().as_slice() {
-        trial.text.push(line.as_str());
         trial.text.end_line();
+        trial.text.push(line.as_str());
     }
     answer
 }
