@@ -13,16 +13,12 @@ mod script;
 
 use crate::replay::answered;
 use fp_transcript::{report, transcript};
-use log::sink::Discard;
-use log::{LevelFilter, Logged};
 use std::alloc::AllocGlobal;
 use std::net::{TcpListener, TcpStream};
 use std::{env, fs, io};
 
 fn main(rt: HostRuntime) -> io::Result<()> {
     let _sockets: Option<(TcpListener, TcpStream)> = None;
-    // What happens isn't told.
-    let rt = Logged::new(rt, LevelFilter::Off, Discard);
     let mut is_named = false;
     for name in env::args(&rt)?.skip(1) {
         is_named = true;
