@@ -3,11 +3,10 @@ use Rattle.std.proofs.Common.{◌≡◌, ◌<◌, ◌≤◌, ◌+◌, ℕ, suc, 
 use Rattle.std.specs.Int.{w32, to_be_bytes}
 use Rattle.std.specs.List.{flat_map}
 use Rattle.std.specs.FinMap as fin
-use Rattle.std.proofs.lemmas.List.{append-nil, length-append}
+use Rattle.std.proofs.lemmas.List.{length-append}
 use Rattle.fp_edit.specs.Admits.{is_within}
 use Rattle.fp_edit.specs.Flags.{Flags, IsChangedBy, total_cost}
 use Rattle.fp_edit.specs.declared.flags.Flag.{Flag}
-use Rattle.fp_edit.proofs.Maps.{copied_more}
 use Rattle.fp_record.specs.Encoding.{encoding_of_flag}
 use Rattle.fp_record.specs.Reading.{many_from, flag_at, flags_at, flag_count, image_at}
 use Rattle.fp_record.specs.WellFormed.{IsFlag}
@@ -18,6 +17,7 @@ use Rattle.fp_record.proofs.Lengths.{length-flags}
 use Rattle.fp_record.proofs.Loop.{Fails, fails_on}
 use Rattle.fp_record.proofs.Many.{many_more, many_stops}
 use Rattle.fp_record.proofs.Places.{IsBytes, Takes-then}
+use Rattle.fp_recovery.proofs.InOrder.{inserted-last}
 use Rattle.fp_recovery.proofs.Restored.{All-right, entries-empty, has_room, sorted_image}
 
 abbrev Place : Type 0
@@ -66,7 +66,7 @@ module _ (base limit : ℕ) (bytes : List ℕ) (count at : ℕ) (counted : flag_
       let len = ap length whole.parts ∙ length-append text (drop to.1 bytes) in
       let parts = length-append (to_be_bytes w32 count) flags in
       let cost = length-flags all in
-      let inserted : fin.entries (fin.insert m key flag) ≡ all = sym (append-nil (fin.entries (fin.insert m key flag))) ∙ copied_more m key flag [] all (sorted_image all are.ascending) refl in
+      let inserted : fin.entries (fin.insert m key flag) ≡ all = inserted-last m key flag (sorted_image all are.ascending) in
       let number_now = ap length inserted in
       let cost_now = ap total_cost inserted in
       let is = All-right IsFlag (fin.entries m) ((key, flag) ∷ []) are.flags in
