@@ -12,8 +12,7 @@ use fp_commands::command;
 use fp_files::SystemFiles;
 use fp_streams::FailureCounted;
 use fp_transcript::{Answers, Args, Text, first_word};
-use log::sink::Memory;
-use log::{LevelFilter, Log, Logged};
+use log::Log;
 use std::alloc::AllocGlobal;
 use std::fs::File;
 use std::rt::Files;
@@ -126,7 +125,7 @@ fn run_block<R: Wait>(rt: &R, trial: &mut Trial, block: &mut Block, out: &mut Te
 }
 
 // The words of commands that can't stand in a block.
-const OVER_FILES: [&str; 6] = ["$", "logged", "load", "save", "noted", "held"];
+const OVER_FILES: [&str; 5] = ["$", "load", "save", "noted", "held"];
 
 const OF_SEEDS: [&str; 2] = ["worlds", "stops"];
 
@@ -157,7 +156,7 @@ fn alone<'a, R: Files<File = File> + AllocGlobal + Log + Wait>(
     }
 }
 
-// `$ WORD ..`, `logged WORD ..`, `load NAME`, `save NAME`, `noted ..`, `held ..`.
+// `$ WORD ..`, `load NAME`, `save NAME`, `noted ..`, `held ..`.
 fn over_files<'a, R: Files<File = File> + AllocGlobal + Log>(
     rt: &'a R,
     trial: &mut Trial,
@@ -167,7 +166,6 @@ fn over_files<'a, R: Files<File = File> + AllocGlobal + Log>(
 ) -> Answer {
     match word {
         "$" => program(rt, trial, args),
-        "logged" => logged(rt, trial, args),
         "load" => load(rt, trial, args.rest),
         "save" => save(rt, trial, args.rest),
         "held" => on_held(rt, held, args),
@@ -204,21 +202,6 @@ fn program<R: Files<File = File> + AllocGlobal + Log>(
         trial.text.named("status", u64::from(status));
     }
     Answer::Text
-}
-
-// `logged WORD ..`: the same with a log, whose lines come last.
-fn logged<R: Files<File = File> + AllocGlobal + Log>(
-    rt: &R,
-    trial: &mut Trial,
-    args: &mut Args<'_>,
-) -> Answer {
-    let told = Memory::new(trial.alloc);
-    let answer = program(&Logged::new(rt, LevelFilter::Info, &told), trial, args);
-    for line in told.into_lines().as_slice() {
-        trial.text.end_line();
-        trial.text.push(line.as_str());
-    }
-    answer
 }
 
 // Runs the command: what it wrote and told, and its status.
