@@ -9,6 +9,7 @@ ghost use Rattle.fp_operators.specs.Path.{at_text as at_text_of, named_by, varia
 
 use crate::datum::Datum;
 use crate::numeral::place;
+use itoa::Buffer;
 use std::alloc::{AllocError, Global};
 use std::cmp::Ordering;
 use std::collections::BTreeMap;
@@ -23,11 +24,11 @@ pub fn variable(alloc: Global, root: &Datum, arguments: &[Datum]) -> Result<Datu
 {
     match arguments {
         [] => root.try_copy(alloc),
-        [path] => match named(alloc, root, path)? {
+        [path] => match named(root, path) {
             Some(found) => found.try_copy(alloc),
             None => Ok(Datum::Null),
         },
-        [path, default, ..] => match named(alloc, root, path)? {
+        [path, default, ..] => match named(root, path) {
             Some(found) => found.try_copy(alloc),
             None => default.try_copy(alloc),
         },
@@ -36,22 +37,17 @@ pub fn variable(alloc: Global, root: &Datum, arguments: &[Datum]) -> Result<Datu
 
 /// What a datum names in the data: a text or a number its path, null all of them. The data are
 /// lent, so that a caller copies no more than it keeps.
-pub fn named<'d>(
-    alloc: Global,
-    root: &'d Datum,
-    path: &Datum,
-) -> Result<Option<&'d Datum>, AllocError>
-    ensures { IfOk result
-        (λ o. option_map (λ d. view d.now) o ≡ named_by (view path.now) (view root.now)) }
+pub fn named<'d>(root: &'d Datum, path: &Datum) -> Option<&'d Datum>
+    ensures { option_map (λ d. view d.now) result ≡ named_by (view path.now) (view root.now) }
 {
     match path {
-        Datum::Null => Ok(Some(root)),
-        Datum::Text(s) => Ok(at_text(root, s.as_str())),
+        Datum::Null => Some(root),
+        Datum::Text(s) => at_text(root, s.as_str()),
         Datum::Whole(z) => {
-            let digits = z.to_string(alloc)?;
-            Ok(at_text(root, digits.as_str()))
+            let mut digits = Buffer::new();
+            at_text(root, digits.format(*z))
         }
-        _ => Ok(None),
+        _ => None,
     }
 }
 
