@@ -1,22 +1,24 @@
 -- Members gathered in order, with those behind them that wait.
-use Rattle.std.proofs.Common.{◌≡◌, List, ℕ, [], ◌∷◌, ◌++◌, length, refl, sym, ap, subst, ◌∙◌, arith, append_assoc, append-nil}
+use Rattle.std.proofs.Common.{◌≡◌, List, ℕ, [], ◌∷◌, ◌++◌, length, reverse, Less, nat_cmp, refl, sym, ap, subst, ◌∙◌, arith, append_assoc, append-nil}
 use Rattle.std.specs.Borrow.{Bor}
 use Rattle.std.specs.BTreeMap.{insert_entry}
 use Rattle.std.specs.Cmp.{IsTotalOrder}
 use Rattle.std.specs.List.Sorted.{IsStableBy, IsStrictlySortedBy}
 use Rattle.std.specs.Map.{keys_of}
-use Rattle.std.specs.Ordering.{is_lt}
+use Rattle.std.specs.Cmp.Lexicographic.{slice_cmp}
+use Rattle.std.specs.Ordering.{is_lt, match_ordering}
 use Rattle.std.proofs.lemmas.Cmp.{nat_list_cmp_total}
+use Rattle.std.proofs.lemmas.List.{reverse-append}
 use Rattle.std.proofs.lemmas.Map.Lookups.{map_keys, exact_bytes}
 use Rattle.serde_json.specs.Data.{Members, no_members, member, put}
-use Rattle.fp_base.specs.Gathered.{laid}
+use Rattle.fp_base.specs.Gathered.{laid, IsFalling}
 use Rattle.fp_base.specs.Places.{AreBefore}
-use Rattle.fp_base.specs.Sorted.{IsSorted}
+use Rattle.fp_base.specs.Sorted.{IsBelow, IsSorted}
 use Rattle.fp_base.specs.TreeView.{Entry, tree_view, tree_members}
 use Rattle.fp_base.proofs.Collected.{named, inserted, at-inserted, keys-sorted, same-pairs}
 use Rattle.fp_base.proofs.Entries.{entry_cmp, members-insert, put-last}
-use Rattle.fp_base.proofs.Halves.{put-behind}
-use Rattle.fp_base.proofs.Sorted.{sorted-put}
+use Rattle.fp_base.proofs.Halves.{put-behind, sorted-behind}
+use Rattle.fp_base.proofs.Sorted.{below-trans, sorted-put}
 use Rattle.fp_base.proofs.Stable.{alike}
 
 abbrev pub name : Bor (List ℕ) → List ℕ
@@ -89,6 +91,66 @@ put-at_end ms new m before is =
 pub none-waits : (ms : Members) (es : List Entry) → length es ≡ 0 → laid ms es ≡ ms
 none-waits ms [] h = refl
 none-waits ms (e ∷ es) h = absurd (omega arith)
+
+-- ---- in descending order
+
+-- one more at the end comes first from behind
+pub reverse-more : (es : List Entry) (m : Entry) → reverse (es ++ m ∷ []) ≡ m ∷ reverse es
+reverse-more es m = reverse-append es (m ∷ [])
+
+turned-on : (e : Entry) (es done : List Entry) → reverse (e ∷ es) ++ done ≡ reverse es ++ e ∷ done
+turned-on e es done = ap (λ xs. xs ++ done) (reverse-append (e ∷ []) es) ∙ append_assoc (reverse es) (e ∷ []) done
+
+put-below : (e : Entry) (done : List Entry) → IsBelow e.0.now (tree_members done) → put e.0.now (tree_view e.1) (tree_members done) ≡ tree_members (e ∷ done)
+put-below e [] h = refl
+put-below e (x ∷ xs) h =
+    ap (λ o. match_ordering o (tree_members (e ∷ x ∷ xs)) (member x.0.now (tree_view e.1) (tree_members xs)) (member x.0.now (tree_view x.1) (put e.0.now (tree_view e.1) (tree_members xs)))) h.0
+
+falling-laid : (done es : List Entry) → IsSorted (tree_members (reverse es ++ done)) → laid (tree_members done) es ≡ tree_members (reverse es ++ done)
+falling-laid done [] h = refl
+falling-laid done (e ∷ es) h =
+    let same = turned-on e es done in
+    let sorted = subst (λ ys. IsSorted (tree_members ys)) same h in
+    let here = sorted-behind (reverse es) (e ∷ done) sorted in
+    ap (λ ms. laid ms es) (put-below e done here.0) ∙ falling-laid (e ∷ done) es sorted ∙ ap tree_members (sym same)
+
+-- laid among none they are turned
+pub turned-laid : (es : List Entry) → IsFalling es → tree_members (reverse es) ≡ laid no_members es
+turned-laid es h =
+    let same = append-nil (reverse es) in
+    sym (falling-laid [] es (subst (λ ys. IsSorted (tree_members ys)) (sym same) h) ∙ ap tree_members same)
+
+-- one more below them
+pub falling-more : (es new : List Entry) (m : Entry) → IsFalling es → IsBelow m.0.now (tree_members (reverse es)) → new ≡ es ++ m ∷ [] → IsFalling new
+falling-more es new m h below is = subst (λ ys. IsSorted (tree_members ys)) (sym (ap reverse is ∙ reverse-more es m)) (below, h)
+
+-- below the last of them
+pub below-last : (name : List ℕ) (ms front : List Entry) (m : Entry) → IsFalling ms → ms ≡ front ++ m ∷ [] → slice_cmp nat_cmp name m.0.now ≡ Less → IsBelow name (tree_members (reverse ms))
+below-last name ms front m h is less =
+    let same = ap reverse is ∙ reverse-more front m in
+    let sorted = subst (λ ys. IsSorted (tree_members ys)) same h in
+    subst (λ ys. IsBelow name (tree_members ys)) (sym same) (less, below-trans name m.0.now (tree_members (reverse front)) less sorted.0)
+
+-- one alone
+pub alone-falls : (es : List Entry) → length es ≡ 1 → IsFalling es
+alone-falls [] h = absurd (omega arith)
+alone-falls (e ∷ []) h = (tt, tt)
+alone-falls (e ∷ x ∷ es) h = absurd (omega arith)
+
+pub alone-laid : (es waiting : List Entry) → length es ≡ 1 → length waiting ≡ 0 → laid no_members es ≡ laid (tree_members es) waiting
+alone-laid [] waiting h none = absurd (omega arith)
+alone-laid (e ∷ []) [] h none = refl
+alone-laid (e ∷ []) (w ∷ waiting) h none = absurd (omega arith)
+alone-laid (e ∷ x ∷ es) waiting h none = absurd (omega arith)
+
+-- where none is in order
+pub none-ordered : (es waiting : List Entry) → length es ≡ 0 → laid (tree_members es) waiting ≡ laid no_members waiting
+none-ordered [] waiting h = refl
+none-ordered (e ∷ es) waiting h = absurd (omega arith)
+
+pub none-falls : (es : List Entry) → length es ≡ 0 → IsFalling es
+none-falls [] h = tt
+none-falls (e ∷ es) h = absurd (omega arith)
 
 -- what stays in order
 pub ruleset still_sorted = (sorted-laid, sorted-put)

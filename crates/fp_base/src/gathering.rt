@@ -1,12 +1,12 @@
 //! The members of an object, gathered as they are read.
 
-ghost use Rattle.std.specs.Prelude.{◌≡◌, ◌++◌, true, IfOk, OnOk};
+ghost use Rattle.std.specs.Prelude.{◌≡◌, ◌++◌, length, reverse, true, IfOk, OnOk};
 ghost use Rattle.std.specs.Cmp.Lexicographic.{slice_cmp};
 ghost use Rattle.std.specs.Ordering.{nat_cmp};
 ghost use Rattle.serde_json.specs.Data.{no_members, put};
-ghost use Rattle.fp_base.specs.Gathered.{laid, gathered};
+ghost use Rattle.fp_base.specs.Gathered.{laid, gathered, IsFalling, IsGathered};
 ghost use Rattle.fp_base.specs.Places.{AreBefore};
-ghost use Rattle.fp_base.specs.Sorted.{IsSorted};
+ghost use Rattle.fp_base.specs.Sorted.{IsBelow, IsSorted};
 ghost use Rattle.fp_base.specs.TreeView.{tree_view, tree_members};
 
 use crate::places::put_in_order;
@@ -26,7 +26,7 @@ const MOST_LAID: usize = 48;
 const MOST_WAITING: usize = 1024;
 
 // Members in ascending order of their names, and behind them as they came those that wait to be put
-// in order among them.
+// in order among them. Those that come in descending order from the first one on all wait.
 #[derive(Drop)]
 pub(crate) struct Gathered<'a> {
     pub(crate) ordered: Vec<(&'a str, Tree<'a>)>,
@@ -36,7 +36,7 @@ pub(crate) struct Gathered<'a> {
 impl<'a> Gathered<'a> {
     pub(crate) fn new(alloc: Global) -> Gathered<'a>
         ensures none { gathered result ≡ no_members }
-        ensures sorted { IsSorted (tree_members result.ordered.items) }
+        ensures kept { IsGathered result }
     {
         Gathered {
             ordered: Vec::new(alloc),
@@ -52,10 +52,10 @@ impl<'a> Gathered<'a> {
         name: &'a str,
         tree: Tree<'a>,
     ) -> Result<(), AllocError>
-        requires { IsSorted (tree_members self.old.ordered.items) }
+        requires { IsGathered self.old }
         ensures members { OnOk result (gathered self.new
             ≡ put name.now (tree_view tree.entry) (gathered self.old)) }
-        ensures sorted { OnOk result (IsSorted (tree_members self.new.ordered.items)) }
+        ensures kept { OnOk result (IsGathered self.new) }
     {
         if self.waiting.is_empty() {
             if comes_last(&self.ordered, name) {
@@ -66,19 +66,63 @@ impl<'a> Gathered<'a> {
         self.put_in_place(alloc, name, tree)
     }
 
-    // The same of a member that may come out of order.
+    // The same of a member that may come out of order. One alone is in descending order, too.
     #[inline(never)]
-    #[tactic(auto, using(crate::proofs::Gatherings::still_sorted))]
     fn put_in_place(
         &mut self,
         alloc: Global,
         name: &'a str,
         tree: Tree<'a>,
     ) -> Result<(), AllocError>
-        requires { IsSorted (tree_members self.old.ordered.items) }
+        requires { IsGathered self.old }
         ensures members { OnOk result (gathered self.new
             ≡ put name.now (tree_view tree.entry) (gathered self.old)) }
-        ensures sorted { OnOk result (IsSorted (tree_members self.new.ordered.items)) }
+        ensures kept { OnOk result (IsGathered self.new) }
+    {
+        if self.ordered.is_empty() {
+            return self.put_falling(alloc, name, tree);
+        }
+        if self.waiting.is_empty() {
+            if self.ordered.len() == 1 {
+                self.waiting = replace(&mut self.ordered, Vec::new(alloc));
+                return self.put_falling(alloc, name, tree);
+            }
+        }
+        self.put_apart(alloc, name, tree)
+    }
+
+    // The same beside members in descending order alone. Where it ends, they are turned.
+    #[inline(never)]
+    fn put_falling(
+        &mut self,
+        alloc: Global,
+        name: &'a str,
+        tree: Tree<'a>,
+    ) -> Result<(), AllocError>
+        requires none { length self.old.ordered.items ≡ 0 }
+        requires falling { IsFalling self.old.waiting.items }
+        ensures members { OnOk result (gathered self.new
+            ≡ put name.now (tree_view tree.entry) (gathered self.old)) }
+        ensures kept { OnOk result (IsGathered self.new) }
+    {
+        if comes_before_last(&self.waiting, name) {
+            self.waiting.push((name, tree))?;
+            return Ok(());
+        }
+        let falling = replace(&mut self.waiting, Vec::new(alloc));
+        self.ordered = turned(falling);
+        put_in_order(&mut self.ordered, name, tree)?;
+        Ok(())
+    }
+
+    // The same of a member that may come out of order, beside those in ascending order.
+    #[tactic(auto, using(crate::proofs::Gatherings::still_sorted))]
+    fn put_apart(&mut self, alloc: Global, name: &'a str, tree: Tree<'a>) -> Result<(), AllocError>
+        requires sorted { IsSorted (tree_members self.old.ordered.items) }
+        requires none { length self.old.ordered.items ≡ 0 → length self.old.waiting.items ≡ 0 }
+        ensures members { OnOk result (gathered self.new
+            ≡ put name.now (tree_view tree.entry) (gathered self.old)) }
+        ensures kept { OnOk result (IsGathered self.new) }
     {
         if self.waiting.is_empty() {
             if self.ordered.len() <= MOST_MOVED {
@@ -99,12 +143,15 @@ impl<'a> Gathered<'a> {
 
     #[inline(always)]
     pub(crate) fn into_members(self, alloc: Global) -> Result<Vec<(&'a str, Tree<'a>)>, AllocError>
-        requires { IsSorted (tree_members self.ordered.items) }
+        requires { IsGathered self }
         ensures { IfOk result (λ v. tree_members v.items ≡ gathered self.entry) }
     {
         let Gathered { ordered, waiting } = self;
         if waiting.is_empty() {
             return Ok(ordered);
+        }
+        if ordered.is_empty() {
+            return Ok(turned(waiting));
         }
         if waiting.len() <= MOST_LAID && ordered.len() <= MOST_LAID {
             return laid(ordered, waiting);
@@ -123,6 +170,29 @@ fn comes_last(members: &[(&str, Tree<'_>)], name: &str) -> bool
         Some(last) => last.0.cmp(name).is_lt(),
         None => true,
     }
+}
+
+// Whether a name comes before the last of members in descending order.
+#[inline(always)]
+fn comes_before_last(members: &[(&str, Tree<'_>)], name: &str) -> bool
+    requires { IsFalling members.now }
+    ensures { result ≡ true → IsBelow name.now (tree_members (reverse members.now)) }
+{
+    match members.last() {
+        Some(last) => name.cmp(last.0).is_lt(),
+        None => false,
+    }
+}
+
+// Members in descending order, from the last one on.
+fn turned<'a>(falling: Vec<(&'a str, Tree<'a>)>) -> Vec<(&'a str, Tree<'a>)>
+    requires { IsFalling falling.items }
+    ensures sorted { IsSorted (tree_members result.items) }
+    ensures members { tree_members result.items ≡ laid no_members falling.entry.items }
+{
+    let mut members = falling;
+    members.reverse();
+    members
 }
 
 // All members, each that waits put among the others in turn.

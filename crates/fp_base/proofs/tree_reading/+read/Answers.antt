@@ -95,7 +95,7 @@ read_members-members-preserved t c =
       omega (arith, l.invariant.3),
       subst IsSorted (sym placed) (sorted-put k (tree_view v) old l.invariant.4),
       subst MembersAreOrdered (sym placed) (ordered-put k (tree_view v) old done.ordered l.invariant.5),
-      c.in_ok-put.ensures.sorted,
+      c.in_ok-put.ensures.kept,
     )
 
 pub read_members-returns-clause-ok : goal.read_members-returns-clause-ok

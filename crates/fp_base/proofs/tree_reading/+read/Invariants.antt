@@ -2,7 +2,7 @@ use Rattle.std.proofs.Common.{◌≡◌, ℕ, ◌+◌, ◌*◌, ◌≤◌, lengt
 use Rattle.json.specs.Json.{items, members, value, parse_map}
 use Rattle.serde_json.specs.Data.{no_members}
 use Rattle.serde_json.specs.Read.{of_items, of_members, converted}
-use Rattle.fp_base.specs.Gathered.{gathered}
+use Rattle.fp_base.specs.Gathered.{gathered, IsGathered}
 use Rattle.fp_base.specs.Ordered.{AreOrdered, MembersAreOrdered}
 use Rattle.fp_base.specs.Sorted.{IsSorted}
 use Rattle.fp_base.specs.TreeView.{tree_items, tree_members}
@@ -36,7 +36,7 @@ invariant-read_members-members l =
     × (length l.reader ≤ length l.initial.reader)
     × IsSorted (gathered l.found)
     × MembersAreOrdered (gathered l.found)
-    × IsSorted (tree_members l.found.ordered.items)
+    × IsGathered l.found
 
 abbrev pub decreases-read_members-members : goal.decreases-read_members-members
 decreases-read_members-members l = length l.reader
