@@ -3,7 +3,7 @@
 ghost use Rattle.std.specs.Prelude.{◌≡◌, true, drop, OnOk, option_map};
 ghost use Rattle.serde_json.specs.Data.{put};
 ghost use Rattle.serde_json.specs.Find.{get_member};
-ghost use Rattle.fp_base.specs.Places.{IsNotBefore, IsPlaceOf, first_is_named};
+ghost use Rattle.fp_base.specs.Places.{IsPlaceOf, first_is_named};
 ghost use Rattle.fp_base.specs.Sorted.{IsSorted};
 ghost use Rattle.fp_base.specs.TreeView.{tree_view, tree_members};
 
@@ -37,7 +37,7 @@ pub(crate) fn put_in_order<'a>(
     ensures { OnOk result (tree_members members.new.items
         ≡ put name.now (tree_view tree.entry) (tree_members members.old.items)) }
 {
-    let at = place_from_front(members, name);
+    let at = place_of(members, name);
     if is_named(members, at, name) {
         members[at].1 = tree;
         Ok(())
@@ -54,28 +54,6 @@ fn is_named(members: &[(&str, Tree<'_>)], at: usize, name: &str) -> bool
     match members.get(at) {
         Some(member) => member.0 == name,
         None => false,
-    }
-}
-
-// The same place, seen at once where it is the front: members are often written the last first.
-fn place_from_front(members: &[(&str, Tree<'_>)], name: &str) -> usize
-    requires { IsSorted (tree_members members.now) }
-    ensures { IsPlaceOf name.now members.now result }
-{
-    if comes_first(members, name) {
-        0
-    } else {
-        place_of(members, name)
-    }
-}
-
-// Whether the first name of all doesn't come before this one.
-fn comes_first(members: &[(&str, Tree<'_>)], name: &str) -> bool
-    ensures { result ≡ true → IsNotBefore name.now members.now }
-{
-    match members.first() {
-        Some(first) => !first.0.cmp(name).is_lt(),
-        None => true,
     }
 }
 

@@ -1,4 +1,4 @@
-use Rattle.std.proofs.Common.{◌≡◌, ◌+◌, ◌-◌, ◌<◌, [], ◌∷◌, ◌++◌, take, length, sym, ap, ◌∙◌, arith, take_all}
+use Rattle.std.proofs.Common.{◌≡◌, ◌+◌, ◌-◌, ◌<◌, [], ◌∷◌, ◌++◌, take, length, sym, ◌∙◌, arith, take_all}
 use Rattle.fp_base.specs.TreeView.{Entry}
 use Rattle.fp_base.proofs.Gatherings.{below-last}
 use Rattle.fp_base.proofs.Halves.{less}

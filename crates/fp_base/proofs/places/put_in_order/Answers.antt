@@ -11,12 +11,12 @@ use Rattle.fp_base.proofs.places.put_in_order.Goals as goal
 pub returns-then-is_named : goal.returns-then-is_named
 returns-then-is_named c =
     let ms = c.args.members.now.items in
-    let at = c.place_from_front-at.result in
+    let at = c.place_of-at.result in
     let name = c.args.name.now in
     let t = c.args.tree in
     let m : Entry = c.index_mut.result.now in
     let lent = c.deref.ensures.value in
-    let before : AreBefore name (take at ms) = subst (λ ys. AreBefore name (take at ys)) lent c.place_from_front-at.ensures.before in
+    let before : AreBefore name (take at ms) = subst (λ ys. AreBefore name (take at ys)) lent c.place_of-at.ensures.before in
     let is : first_is_named name (drop at ms) ≡ true = ap (λ ys. first_is_named name (drop at ys)) (sym c.deref-2.ensures.value) ∙ sym c.is_named.ensures ∙ c.if-is_named.true in
     let within : at < length ms = named-within name ms at is in
     let here : drop at ms ≡ m ∷ drop (at + 1) ms = drop-here ms at m within c.index_mut.ensures.value in
@@ -29,12 +29,12 @@ returns-then-is_named c =
 pub returns-in_ok-insert : goal.returns-in_ok-insert
 returns-in_ok-insert c =
     let ms = c.args.members.now.items in
-    let at = c.place_from_front-at.result in
+    let at = c.place_of-at.result in
     let name = c.args.name.now in
     let m : Entry = (c.args.name, c.args.tree) in
     let lent = c.deref.ensures.value in
-    let before : AreBefore name (take at ms) = subst (λ ys. AreBefore name (take at ys)) lent c.place_from_front-at.ensures.before in
-    let behind : IsNotBefore name (drop at ms) = subst (λ ys. IsNotBefore name (drop at ys)) lent c.place_from_front-at.ensures.behind in
+    let before : AreBefore name (take at ms) = subst (λ ys. AreBefore name (take at ys)) lent c.place_of-at.ensures.before in
+    let behind : IsNotBefore name (drop at ms) = subst (λ ys. IsNotBefore name (drop at ys)) lent c.place_of-at.ensures.behind in
     let other : first_is_named name (drop at ms) ≡ false = ap (λ ys. first_is_named name (drop at ys)) (sym c.deref-2.ensures.value) ∙ sym c.is_named.ensures ∙ c.if-is_named.false in
     ap tree_members c.in_ok-insert.ensures.items
     ∙ sym (put-behind name (tree_view m.1) (take at ms) (drop at ms) (m ∷ drop at ms) before (put-first m (drop at ms) behind other))

@@ -5,7 +5,7 @@ use Rattle.serde_json.specs.Read.{of_items, of_members, converted}
 use Rattle.fp_base.specs.Gathered.{gathered, IsGathered}
 use Rattle.fp_base.specs.Ordered.{AreOrdered, MembersAreOrdered}
 use Rattle.fp_base.specs.Sorted.{IsSorted}
-use Rattle.fp_base.specs.TreeView.{tree_items, tree_members}
+use Rattle.fp_base.specs.TreeView.{tree_items}
 use Rattle.fp_base.proofs.Read.{items_before}
 use Rattle.fp_base.proofs.tree_reading.+read.Given as goal
 

@@ -1,4 +1,4 @@
-use Rattle.std.proofs.Common.{◌≡◌, length, sym, ap, subst, ◌∙◌, rules, arith}
+use Rattle.std.proofs.Common.{◌≡◌, length, sym, ap, subst, ◌∙◌}
 use Rattle.serde_json.specs.Data.{no_members, put}
 use Rattle.fp_base.specs.Gathered.{laid}
 use Rattle.fp_base.specs.Sorted.{IsSorted}
