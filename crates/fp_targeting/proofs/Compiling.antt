@@ -22,7 +22,7 @@ use Rattle.fp_targeting.specs.declared.operator.Operator.{Operator}
 use Rattle.fp_targeting.specs.declared.operator.UnaryOperator.{UnaryOperator}
 use Rattle.fp_targeting.specs.declared.code.Step.TheVariants.{Join, Collect, End}
 use Rattle.fp_targeting.specs.declared.operator.Operator.TheVariants.{If, And, Or, Var, Cat, SemVer, Fractional, Unary, Binary, Chain}
-use Rattle.fp_targeting.proofs.Computed.{literals-written}
+use Rattle.fp_targeting.proofs.Written.{literals-written}
 use Rattle.fp_targeting.proofs.Deciding.{added-decided}
 use Rattle.fp_targeting.proofs.Emitting.{added-join, added-collect}
 use Rattle.fp_targeting.proofs.Parts.{all-made-into, rules_from-length, count_of-rules_of}

@@ -60,7 +60,7 @@ table_field_sent : IsSend (table.the_field).row
 table_field_sent = search (sendable, table_sent) depth 10
 
 step_sent : IsSend step.the_row
-step_sent = recorded_send _ _ _ (step.the_type).to_one (enum_send (enums.shape step.the_type) ((operand.the_field_send, tt), (tt, ((wide_sent, tt), (tt, ((number_sent, tt), ((number_sent, tt), ((number_sent, tt), ((number_sent, tt), ((place_sent, (number_sent, tt)), ((operator.the_field_send, (operand.the_field_send, tt)), ((operator.the_field_send, (operand.the_field_send, (operand.the_field_send, tt))), ((operator.the_field_send, (operand.the_field_send, (operand.the_field_send, tt))), ((operator.the_field_send, tt), ((operator.the_field_send, tt), ((number_sent, tt), ((number_sent, tt), ((operand.the_field_send, (table_field_sent, tt)), ((table_field_sent, tt), ((operator.the_field_send, (number_sent, tt)), tt))))))))))))))))))))
+step_sent = recorded_send _ _ _ (step.the_type).to_one (enum_send (enums.shape step.the_type) ((operand.the_field_send, tt), (tt, ((wide_sent, tt), (tt, ((operand.the_field_send, tt), ((number_sent, tt), ((number_sent, tt), ((number_sent, tt), ((number_sent, tt), ((place_sent, (number_sent, tt)), ((operator.the_field_send, (operand.the_field_send, tt)), ((operator.the_field_send, (operand.the_field_send, (operand.the_field_send, tt))), ((operator.the_field_send, (operand.the_field_send, (operand.the_field_send, tt))), ((operator.the_field_send, tt), ((operator.the_field_send, tt), ((number_sent, tt), ((number_sent, tt), ((operand.the_field_send, (table_field_sent, tt)), ((table_field_sent, tt), ((operator.the_field_send, (number_sent, tt)), tt)))))))))))))))))))))
 
 code_sent : IsSend (code.the_field).row
 code_sent = struct_send (shape code.the_type) (Vec-send _ step_sent, (Vec-send _ datum_row_sent, (search sendable, tt)))
@@ -81,7 +81,7 @@ table_field_shared : IsSync (table.the_field).row
 table_field_shared = search (sendable, table_shared) depth 10
 
 step_shared : IsSync step.the_row
-step_shared = recorded_sync _ _ _ (step.the_type).to_one (enum_sync (enums.shape step.the_type) ((operand.the_field_sync, tt), (tt, ((wide_shared, tt), (tt, ((number_shared, tt), ((number_shared, tt), ((number_shared, tt), ((number_shared, tt), ((place_shared, (number_shared, tt)), ((operator.the_field_sync, (operand.the_field_sync, tt)), ((operator.the_field_sync, (operand.the_field_sync, (operand.the_field_sync, tt))), ((operator.the_field_sync, (operand.the_field_sync, (operand.the_field_sync, tt))), ((operator.the_field_sync, tt), ((operator.the_field_sync, tt), ((number_shared, tt), ((number_shared, tt), ((operand.the_field_sync, (table_field_shared, tt)), ((table_field_shared, tt), ((operator.the_field_sync, (number_shared, tt)), tt))))))))))))))))))))
+step_shared = recorded_sync _ _ _ (step.the_type).to_one (enum_sync (enums.shape step.the_type) ((operand.the_field_sync, tt), (tt, ((wide_shared, tt), (tt, ((operand.the_field_sync, tt), ((number_shared, tt), ((number_shared, tt), ((number_shared, tt), ((number_shared, tt), ((place_shared, (number_shared, tt)), ((operator.the_field_sync, (operand.the_field_sync, tt)), ((operator.the_field_sync, (operand.the_field_sync, (operand.the_field_sync, tt))), ((operator.the_field_sync, (operand.the_field_sync, (operand.the_field_sync, tt))), ((operator.the_field_sync, tt), ((operator.the_field_sync, tt), ((number_shared, tt), ((number_shared, tt), ((operand.the_field_sync, (table_field_shared, tt)), ((table_field_shared, tt), ((operator.the_field_sync, (number_shared, tt)), tt)))))))))))))))))))))
 
 code_shared : IsSync (code.the_field).row
 code_shared = struct_sync (shape code.the_type) (Vec-sync _ step_shared, (Vec-sync _ datum_row_shared, (search sendable, tt)))

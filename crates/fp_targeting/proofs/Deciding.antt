@@ -5,7 +5,7 @@ use Rattle.fp_operators.specs.Path.{found_or, named_by}
 use Rattle.fp_operators.specs.Truth.{truth}
 use Rattle.fp_targeting.specs.Emits.{Pushed, Adds, Decides, Finds}
 use Rattle.fp_targeting.specs.Machine.{Env, run, found_at}
-use Rattle.fp_targeting.specs.Memory.{needs_memory, is_known}
+use Rattle.fp_targeting.specs.Memory.{needs_memory}
 use Rattle.fp_targeting.specs.Meaning.{meaning, meanings, value_at, value_of_operator, value_behind_true, first_false, first_true}
 use Rattle.fp_targeting.specs.Reading.{read, in_order}
 use Rattle.fp_targeting.specs.Rule as tree
@@ -18,7 +18,7 @@ use Rattle.fp_targeting.specs.declared.code.Step.{Step}
 use Rattle.fp_targeting.specs.declared.operator.Operator.{Operator}
 use Rattle.fp_targeting.specs.declared.code.Step.TheVariants.{LoadNull, Skip, SkipIfFalse, SkipIfTrue, Find, End}
 use Rattle.fp_targeting.specs.declared.operator.Operator.TheVariants.{If, And, Or, Var, Cat, SemVer, Fractional, Unary, Binary, Chain}
-use Rattle.fp_targeting.proofs.Frugal.{not-false, true-false, pushed-frugal, itself-none, all-none, first-none, others-none}
+use Rattle.fp_targeting.proofs.Frugal.{pushed-frugal, first-none, others-none, first-deep, others-deep}
 use Rattle.fp_targeting.proofs.Emitting.{grows-trans, grows-skip, pushed-has, pushed-few, pushed-grows, pushed-run, pushed-read, all-last}
 use Rattle.fp_targeting.proofs.OneResult.{either_way}
 
@@ -44,7 +44,7 @@ added-decided {o = o} {n = n} {rs = rs} {a = a} looks p x same = record {
       x.runs env e root v s l ∙ pushed-run p env root (value_of_operator o root (meanings root (rules_of rs))) s
       ∙ ap (λ w. run env root (in_order a) 0 w s) (value-results o root (rules_of rs) (meanings root (rules_of rs)) looks);
   reads = λ env e t. x.reads env e t ∙ pushed-read p env (onto rs t) ∙ ap (read env (in_order a)) (all-last (λ qs. tree.apply o (rules_of qs)) n rs t same);
-  frugal = λ none f. x.frugal none (pushed-frugal p refl f);
+  frugal = λ none deep f. x.frugal none deep (pushed-frugal p refl f);
 }
 
 -- ---- `and`, `or`
@@ -55,7 +55,7 @@ and-last {r = r} {a = a} x = record {
   few = omega (arith, x.few);
   runs = λ env e root v s l. x.runs env e root v s l ∙ ap (λ w. run env root (in_order a) 0 w s) (either_way (truth (meaning root r)) (meaning root r));
   reads = x.reads;
-  frugal = λ none f. x.frugal (first-none r no_rules none) f;
+  frugal = λ none deep f. x.frugal (first-none r no_rules none) (first-deep _ And r no_rules deep) f;
 }
 
 or-last : {h : ℕ} {r : Rule} {a b : Code} → Adds h r a b → Decides Or h (r ∷ []) a b
@@ -64,7 +64,7 @@ or-last {r = r} {a = a} x = record {
   few = omega (arith, x.few);
   runs = λ env e root v s l. x.runs env e root v s l ∙ ap (λ w. run env root (in_order a) 0 w s) (either_way (truth (meaning root r)) (meaning root r));
   reads = x.reads;
-  frugal = λ none f. x.frugal (first-none r no_rules none) f;
+  frugal = λ none deep f. x.frugal (first-none r no_rules none) (first-deep _ Or r no_rules deep) f;
 }
 
 module _ (env : Env) (root : Data) (cs ds : List Step) (s : List Data) (j k : ℕ) where
@@ -87,7 +87,8 @@ and-more {n = n} {r = r} {q = q} {rs = rs} {a = a} {b = b} x p skips y = record 
   reads = λ env e t.
       let ec = y.grows.within env e in
       y.reads env e t ∙ pushed-read p env (r ∷ t) ∙ x.reads env (pushed-has p env ec) (r ∷ t);
-  frugal = λ none f. y.frugal (first-none r (rules_of (q ∷ rs)) none) (pushed-frugal p refl (x.frugal (others-none r (rules_of (q ∷ rs)) none) f));
+  frugal = λ none deep f. let qs = rules_of (q ∷ rs) in
+      y.frugal (first-none r qs none) (first-deep _ And r qs deep) (pushed-frugal p refl (x.frugal (others-none r qs none) (others-deep _ And r qs deep) f));
 }
 
 or-more : {h n : ℕ} {r q : Rule} {rs : List Rule} {a b c d : Code} → Decides Or h (q ∷ rs) a b → Pushed (SkipIfTrue n) b c
@@ -104,7 +105,8 @@ or-more {n = n} {r = r} {q = q} {rs = rs} {a = a} {b = b} x p skips y = record {
   reads = λ env e t.
       let ec = y.grows.within env e in
       y.reads env e t ∙ pushed-read p env (r ∷ t) ∙ x.reads env (pushed-has p env ec) (r ∷ t);
-  frugal = λ none f. y.frugal (first-none r (rules_of (q ∷ rs)) none) (pushed-frugal p refl (x.frugal (others-none r (rules_of (q ∷ rs)) none) f));
+  frugal = λ none deep f. let qs = rules_of (q ∷ rs) in
+      y.frugal (first-none r qs none) (first-deep _ Or r qs deep) (pushed-frugal p refl (x.frugal (others-none r qs none) (others-deep _ Or r qs deep) f));
 }
 
 -- ---- operators that stop
@@ -147,11 +149,11 @@ if-none p = record {
   few = omega (arith, pushed-few p);
   runs = λ env e root v s l. pushed-run p env root v s;
   reads = λ env e t. pushed-read p env t;
-  frugal = λ none f. pushed-frugal p refl f;
+  frugal = λ none deep f. pushed-frugal p refl f;
 }
 
 pub if-last : {h : ℕ} {r : Rule} {a b : Code} → Adds h r a b → Decides If h (r ∷ []) a b
-if-last {r = r} x = record { grows = x.grows; few = omega (arith, x.few); runs = x.runs; reads = x.reads; frugal = λ none f. x.frugal (first-none r no_rules none) f }
+if-last {r = r} x = record { grows = x.grows; few = omega (arith, x.few); runs = x.runs; reads = x.reads; frugal = λ none deep f. x.frugal (first-none r no_rules none) (first-deep _ If r no_rules deep) f }
 
 pub if-more : {h n k : ℕ} {c r : Rule} {rs : List Rule} {a b d f g i : Code} → Decides If h rs a b → Pushed (Skip n) b d
     → n ≡ length b.steps.items - length a.steps.items → Adds h r d f → Pushed (SkipIfFalse k) f g
@@ -175,10 +177,13 @@ if-more {n = n} {k = k} {c = c} {r = r} {rs = rs} {a = a} {f = f} x p ends y q s
       let ed = y.grows.within env ef in
       let eb = pushed-has p env ed in
       z.reads env e t ∙ pushed-read q env (c ∷ t) ∙ y.reads env ef (c ∷ t) ∙ pushed-read p env (r ∷ c ∷ t) ∙ x.reads env eb (r ∷ c ∷ t);
-  frugal = λ none f.
-      let behind = others-none c (rules_of (r ∷ rs)) none in
-      let before = x.frugal (others-none r (rules_of rs) behind) f in
-      z.frugal (first-none c (rules_of (r ∷ rs)) none) (pushed-frugal q refl (y.frugal (first-none r (rules_of rs) behind) (pushed-frugal p refl before)));
+  frugal = λ none deep f.
+      let qs = rules_of (r ∷ rs) in
+      let behind = others-none c qs none in
+      let less = others-deep _ If c qs deep in
+      let before = x.frugal (others-none r (rules_of rs) behind) (others-deep _ If r (rules_of rs) less) f in
+      z.frugal (first-none c qs none) (first-deep _ If c qs deep) (pushed-frugal q refl
+      (y.frugal (first-none r (rules_of rs) behind) (first-deep _ If r (rules_of rs) less) (pushed-frugal p refl before)));
 }
 
 -- ---- `var`
@@ -190,18 +195,14 @@ module _ (env : Env) (root : Data) (cs ds : List Step) (s : List Data) (n : ℕ)
   found-run (Some d) x none some = some d
 
 -- a path that is computed
-pub finds-computed : {n h : ℕ} {p : Rule} {a b d : Code} → is_known p ≡ false → Pushed (Find n) a b → Adds h p b d → Finds n h p a d
-finds-computed {p = p} other f x = record {
+pub finds-computed : {n h : ℕ} {p : Rule} {a b d : Code} → Pushed (Find n) a b → Adds h p b d → Finds n h p a d
+finds-computed {p = p} f x = record {
   grows = grows-trans (pushed-grows f) x.grows;
   few = omega (arith, pushed-few f, x.few);
   runs = λ env e root v s l. x.runs env e root v s l ∙ pushed-run f env root (meaning root p) s;
   reads = λ env e t. x.reads env e t ∙ pushed-read f env (p ∷ t);
-  frugal = λ known _. absurd (true-false known other);
+  frugal = λ none deep old. x.frugal none deep (pushed-frugal f refl old);
 }
-
--- where memory isn't needed, the path is known
-path-known : (p : Rule) (rs : Rules) → needs_memory (tree.apply Var (rule p rs)) ≡ false → is_known p ≡ true
-path-known p rs none = not-false (is_known p) (itself-none Var (rule p rs) none)
 
 -- a path alone
 pub found-alone : {h : ℕ} {p : Rule} {a c : Code} → Finds 0 h p a c → Decides Var h (p ∷ []) a c
@@ -212,7 +213,7 @@ found-alone {p = p} {a = a} x = record {
       x.runs env e root v s l
       ∙ found-run env root (in_order a) (in_order a) s 0 (named_by (meaning root p) root) null refl (λ d. refl);
   reads = x.reads;
-  frugal = λ none f. x.frugal (path-known p no_rules none) f;
+  frugal = λ none deep f. x.frugal (first-none p no_rules none) (first-deep _ Var p no_rules deep) f;
 }
 
 -- a path, and what stands in where it names nothing
@@ -226,7 +227,8 @@ found-default {n = n} {p = p} {q = q} {a = a} {b = b} x skips y = record {
       ∙ found-run env root (in_order b) (in_order a) s n (named_by (meaning root p) root) (meaning root q)
       (x.runs env eb root null s l) (λ d. grows-skip x.grows n skips env root d s);
   reads = λ env e t. y.reads env e t ∙ x.reads env (y.grows.within env e) (p ∷ t);
-  frugal = λ none f.
-      let default = first-none q no_rules (others-none p (rule q no_rules) (all-none Var (rule p (rule q no_rules)) none)) in
-      y.frugal (path-known p (rule q no_rules) none) (x.frugal default f);
+  frugal = λ none deep f.
+      let qs = rule q no_rules in
+      let default = first-none q no_rules (others-none p qs none) in
+      y.frugal (first-none p qs none) (first-deep _ Var p qs deep) (x.frugal default (first-deep _ Var q no_rules (others-deep _ Var p qs deep)) f);
 }

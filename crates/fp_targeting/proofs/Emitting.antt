@@ -7,7 +7,7 @@ use Rattle.fp_operators.specs.Data.{Data, null}
 use Rattle.fp_operators.specs.Text.{concatenation}
 use Rattle.fp_operators.specs.View.{view}
 use Rattle.fp_targeting.specs.Compiles.{IsCompiled}
-use Rattle.fp_targeting.specs.Emits.{Has, Grows, Pushed, Raised, IsOperand, Adds, AddsAlone, Keeps}
+use Rattle.fp_targeting.specs.Emits.{Has, Grows, Pushed, Raised, IsOperand, Adds, AddsAlone, KeepsOne, Keeps}
 use Rattle.fp_targeting.specs.Frugal.{IsFrugal}
 use Rattle.fp_targeting.specs.Machine.{Env, Turn, run, look, list_of}
 use Rattle.fp_targeting.specs.Meaning.{meaning, meanings}
@@ -21,7 +21,7 @@ use Rattle.fp_targeting.specs.View.{rules_of}
 use Rattle.fp_targeting.specs.declared.code.Code.{Code}
 use Rattle.fp_targeting.specs.declared.code.Operand.{Operand}
 use Rattle.fp_targeting.specs.declared.code.Step.{Step}
-use Rattle.fp_targeting.specs.declared.code.Step.TheVariants.{Load, Keep, Join, Collect}
+use Rattle.fp_targeting.specs.declared.code.Step.TheVariants.{Load, Keep, KeepOf, Join, Collect}
 use Rattle.fp_targeting.specs.declared.operator.Operator.{Operator}
 use Rattle.fp_targeting.specs.declared.operator.Operator.TheVariants.{Cat}
 use Rattle.fp_targeting.proofs.Frugal.{pushed-frugal, operand-frugal, not-false, true-false}
@@ -96,7 +96,7 @@ module _ {o : Operand} {r : Rule} {a b : Code} (x : IsOperand o r a b) where
         ∙ ap (λ w. run env root (in_order a) 0 w s) (x.looks env (pushed-has p env e) root v);
     reads = λ env e t. pushed-read p env t ∙ ap (λ cs. read env cs (reads env (Load o) t)) operand-order
         ∙ ap (λ (y : Rule × List Rule). read env (in_order a) (y.0 ∷ y.1)) (x.reads env (pushed-has p env e) t);
-    frugal = λ none f. pushed-frugal p refl (operand-frugal x f);
+    frugal = λ none deep f. pushed-frugal p refl (operand-frugal x f);
   }
 
 -- where nothing was done, what comes next begins there
@@ -125,17 +125,17 @@ adds-later {o = o} {rs = rs} y z k = let r = tree.apply o (rules_of rs) in let x
   few = omega (arith, y.few, z.few, k.alone);
   runs = λ env e root v s l. x.runs env e root v s l ∙ ap (λ cs. run env root cs 0 (meaning root r) s) (z.order ∙ y.order);
   reads = λ env e t. x.reads env e t ∙ ap (λ cs. read env cs (r ∷ t)) (z.order ∙ y.order);
-  frugal = λ none f. x.frugal none (z.frugal (y.frugal f));
+  frugal = λ none deep f. x.frugal none deep (z.frugal (y.frugal f));
 }
 
 -- ---- what is kept
 
-keep_if : (b : Bool) (env : Env) (root v : Data) (cs : List Step) (s : List Data) → b ≡ true
-    → option_and_then (λ (t : Turn). run env root cs t.0 t.1 t.2) (if b then Some (0, null, v ∷ s) else None) ≡ run env root cs 0 null (v ∷ s)
-keep_if true env root v cs s e = refl
-keep_if false env root v cs s e = absurd (cc)
+keep_if : (b : Bool) (env : Env) (root d : Data) (cs : List Step) (s : List Data) → b ≡ true
+    → option_and_then (λ (t : Turn). run env root cs t.0 t.1 t.2) (if b then Some (0, null, d ∷ s) else None) ≡ run env root cs 0 null (d ∷ s)
+keep_if true env root d cs s e = refl
+keep_if false env root d cs s e = absurd (cc)
 
-module _ {a b : Code} {m : ℕ} (k : Raised m a b) where
+module _ {a b : Code} {c : Step} {m : ℕ} (k : Raised c m a b) where
   pub raised-has : (env : Env) → Has env b → Has env a
   raised-has env e = record {
     more = e.more;
@@ -148,41 +148,70 @@ module _ {a b : Code} {m : ℕ} (k : Raised m a b) where
   raised-few = ap (λ q. length q.items) k.pool
 
   pub raised-grows : Grows a b
-  raised-grows = record { more = Keep ∷ []; steps = k.steps; within = raised-has }
+  raised-grows = record { more = c ∷ []; steps = k.steps; within = raised-has }
 
-  raised-order : in_order b ≡ Keep ∷ in_order a
-  raised-order = ap (λ xs. onto xs []) k.steps ∙ onto-last a.steps.items Keep []
+  raised-order : in_order b ≡ c ∷ in_order a
+  raised-order = ap (λ xs. onto xs []) k.steps ∙ onto-last a.steps.items c []
 
-  -- what is at hand is kept
-  pub raised-run : (env : Env) → Has env b → (root v : Data) (s : List Data) → m ≡ length s + 1 → run env root (in_order b) 0 v s ≡ run env root (in_order a) 0 null (v ∷ s)
-  raised-run env e root v s l =
-      ap (λ cs. run env root cs 0 v s) raised-order
-      ∙ keep_if (nat_lt (length s) env.room) env root v (in_order a) s (Rattle.std.proofs.lemmas.Bool.lt-ltb (length s) env.room (omega (arith, l, e.room, k.high)))
+  -- there is a place for one more
+  raised-place : (env : Env) → Has env b → (s : List Data) → m ≡ length s + 1 → nat_lt (length s) env.room ≡ true
+  raised-place env e s l = Rattle.std.proofs.lemmas.Bool.lt-ltb (length s) env.room (omega (arith, l, e.room, k.room))
 
-  pub raised-read : (env : Env) (t : List Rule) → read env (in_order b) t ≡ read env (in_order a) t
+  pub raised-read : (env : Env) (t : List Rule) → read env (in_order b) t ≡ read env (in_order a) (reads env c t)
   raised-read env t = ap (λ cs. read env cs t) raised-order
 
--- what is kept, at an equal height
-pub raised-at : (m n : ℕ) {a b : Code} → m ≡ n → Raised m a b → Raised n a b
-raised-at m n {a = a} {b = b} e k = subst (λ i. Raised i a b) e k
+-- what is at hand is kept
+pub raised-run : {a b : Code} {m : ℕ} (k : Raised Keep m a b) (env : Env) → Has env b → (root v : Data) (s : List Data) → m ≡ length s + 1
+    → run env root (in_order b) 0 v s ≡ run env root (in_order a) 0 null (v ∷ s)
+raised-run {a = a} k env e root v s l =
+    ap (λ cs. run env root cs 0 v s) (raised-order k) ∙ keep_if (nat_lt (length s) env.room) env root v (in_order a) s (raised-place k env e s l)
 
-pub adds-at : (m n : ℕ) {r : Rule} {a b : Code} → m ≡ n → Adds m r a b → Adds n r a b
-adds-at m n {r = r} {a = a} {b = b} e x = subst (λ i. Adds i r a b) e x
+-- where nothing was done, what is kept begins there
+pub raised-there : {c : Step} {m : ℕ} {a b d : Code} → b ≡ a → Raised c m b d → Raised c m a d
+raised-there {c = c} {m = m} {d = d} e k = subst (λ z. Raised c m z d) e k
+
+-- what an operand is, is kept
+pub kept-operand : {h m : ℕ} {o : Operand} {r : Rule} {a b d : Code} → m ≡ h + 1 → IsOperand o r a b → Raised (KeepOf o) m b d → KeepsOne h r a d
+kept-operand {o = o} {r = r} {a = a} {b = b} up i k = record {
+  grows = grows-trans i.grows (raised-grows k);
+  few = omega (arith, i.few, raised-few k, one-place r);
+  runs = λ env e root v s l. (
+    null,
+    ap (λ cs. run env root cs 0 v s) (raised-order k)
+        ∙ keep_if (nat_lt (length s) env.room) env root (look env root v o) (in_order b) s (raised-place k env e s (omega (arith, up, l)))
+        ∙ ap (λ cs. run env root cs 0 null (look env root v o ∷ s)) (operand-order i)
+        ∙ ap (λ w. run env root (in_order a) 0 null (w ∷ s)) (i.looks env (raised-has k env e) root v),
+  );
+  reads = λ env e t.
+      raised-read k env t ∙ ap (λ cs. read env cs (reads env (KeepOf o) t)) (operand-order i)
+      ∙ ap (λ (y : Rule × List Rule). read env (in_order a) (y.0 ∷ y.1)) (i.reads env (raised-has k env e) t);
+}
+
+-- what is computed is kept
+pub kept-computed : {h m : ℕ} {r : Rule} {a b d : Code} → m ≡ h + 1 → Raised Keep m a b → Adds h r b d → KeepsOne h r a d
+kept-computed {r = r} up k y = record {
+  grows = grows-trans (raised-grows k) y.grows;
+  few = omega (arith, raised-few k, y.few);
+  runs = λ env e root v s l.
+      (null, y.runs env e root v s l ∙ raised-run k env (y.grows.within env e) root (meaning root r) s (omega (arith, up, l)));
+  reads = λ env e t. y.reads env e t ∙ raised-read k env (r ∷ t);
+}
+
+pub kept-at : (m n : ℕ) {r : Rule} {a b : Code} → m ≡ n → KeepsOne m r a b → KeepsOne n r a b
+kept-at m n {r = r} {a = a} {b = b} e x = subst (λ i. KeepsOne i r a b) e x
 
 pub keeps-none : (h : ℕ) (a : Code) → Keeps h [] a a
 keeps-none h a = record { grows = grows-itself a; few = omega arith; runs = λ env e root v s l. (v, refl); reads = λ env e t. refl }
 
-pub keeps-more : {h m : ℕ} {r : Rule} {rs : List Rule} {a b c d : Code} → m ≡ h + 1 → Keeps m rs a b → Raised m b c → Adds h r c d → Keeps h (r ∷ rs) a d
-keeps-more {r = r} up x k y = record {
-  grows = grows-trans x.grows (grows-trans (raised-grows k) y.grows);
-  few = omega (arith, x.few, raised-few k, y.few);
+pub keeps-more : {h m : ℕ} {r : Rule} {rs : List Rule} {a b d : Code} → m ≡ h + 1 → Keeps m rs a b → KeepsOne h r b d → Keeps h (r ∷ rs) a d
+keeps-more {r = r} up x y = record {
+  grows = grows-trans x.grows y.grows;
+  few = omega (arith, x.few, y.few);
   runs = λ env e root v s l.
-      let ec = y.grows.within env e in
-      let z = x.runs env (raised-has k env ec) root null (meaning root r ∷ s) (omega (arith, up, l)) in
-      (z.0, y.runs env e root v s l ∙ raised-run k env ec root (meaning root r) s (omega (arith, up, l)) ∙ z.1);
-  reads = λ env e t.
-      let ec = y.grows.within env e in
-      y.reads env e t ∙ raised-read k env (r ∷ t) ∙ x.reads env (raised-has k env ec) (r ∷ t);
+      let first = y.runs env e root v s l in
+      let others = x.runs env (y.grows.within env e) root first.0 (meaning root r ∷ s) (omega (arith, up, l)) in
+      (others.0, first.1 ∙ others.1);
+  reads = λ env e t. y.reads env e t ∙ x.reads env (y.grows.within env e) (r ∷ t);
 }
 
 length-meanings_of : (root : Data) (rs : List Rule) → length (meanings root (rules_of rs)) ≡ length rs
@@ -200,7 +229,7 @@ added-join {n = n} {rs = rs} {a = a} p k same = record {
       z.1 ∙ pushed-run p env root z.0 (onto (meanings root (rules_of rs)) s)
       ∙ ap (option_and_then (λ t. run env root (in_order a) t.0 t.1 t.2)) (of_all concatenation n (meanings root (rules_of rs)) s (same ∙ sym (length-meanings_of root rs)));
   reads = λ env e t. k.reads env e t ∙ pushed-read p env (onto rs t) ∙ ap (read env (in_order a)) (all-last (λ qs. tree.apply Cat (rules_of qs)) n rs t same);
-  frugal = λ none f. absurd (cc);
+  frugal = λ none deep f. absurd (cc);
 }
 
 pub added-collect : {h n : ℕ} {rs : List Rule} {a b d : Code} → Pushed (Collect n) a b → Keeps h rs b d → n ≡ length rs → are_literals (rules_of rs) ≡ false
@@ -213,5 +242,5 @@ added-collect {n = n} {rs = rs} {a = a} p k same other = record {
       z.1 ∙ pushed-run p env root z.0 (onto (meanings root (rules_of rs)) s)
       ∙ ap (option_and_then (λ t. run env root (in_order a) t.0 t.1 t.2)) (of_all list_of n (meanings root (rules_of rs)) s (same ∙ sym (length-meanings_of root rs)));
   reads = λ env e t. k.reads env e t ∙ pushed-read p env (onto rs t) ∙ ap (read env (in_order a)) (all-last (λ qs. tree.list (rules_of qs)) n rs t same);
-  frugal = λ none f. absurd (true-false (not-false (are_literals (rules_of rs)) none) other);
+  frugal = λ none deep f. absurd (true-false (not-false (are_literals (rules_of rs)) none) other);
 }

@@ -2,6 +2,7 @@
 use Rattle.std.proofs.Common.{◌≡◌, ◌≤◌, ◌^◌, length, ℕ, List, [], ◌∷◌, Bool, true, false, ◌&&◌, Option, Some, None, option_map, option_and_then, map, refl, sym, ap, ◌∙◌, subst, arith, if◌then◌else◌}
 use Rattle.std.proofs.lemmas.List.{append-nil, length-map}
 use Rattle.serde_json.specs.Data as json
+use Rattle.serde_json.specs.Data.{depth}
 use Rattle.fp_base.specs.Count.{count}
 use Rattle.fp_operators.specs.Data.{Data, null}
 use Rattle.fp_operators.specs.View.{view}
@@ -12,6 +13,7 @@ use Rattle.fp_targeting.specs.Frugal.{any_asks, IsFrugal}
 use Rattle.fp_targeting.specs.Memory.{needs_memory}
 use Rattle.fp_targeting.specs.Machine.{Env, run}
 use Rattle.fp_targeting.specs.Meaning.{meaning}
+use Rattle.fp_targeting.specs.Nesting.{nesting}
 use Rattle.fp_targeting.specs.Operators.{operator_of, allows, well_formed, all_well_formed}
 use Rattle.fp_targeting.specs.Places.{places}
 use Rattle.fp_targeting.specs.Reading.{read, env_of, in_order, last_or, rule_of_code}
@@ -23,7 +25,8 @@ use Rattle.fp_targeting.specs.declared.operator.Operator.{Operator}
 use Rattle.fp_targeting.specs.declared.code.Code.{Code}
 use Rattle.fp_targeting.specs.declared.code.Step.{Step}
 use Rattle.fp_operators.specs.declared.datum.Datum.{Datum}
-use Rattle.fp_targeting.specs.declared.rule.TheConstants.{MOST_RULE_VALUES}
+use Rattle.fp_targeting.specs.declared.rule.TheConstants.{DEEPEST_RULE, MOST_RULE_VALUES}
+use Rattle.fp_targeting.proofs.Nested.{rule_of-nesting}
 use Rattle.fp_targeting.proofs.Placing.{rule_of-places}
 
 abbrev AreFormed : Option (List Rule) → Type 0
@@ -92,7 +95,7 @@ mutual
 -- ---- code of a whole rule
 
 -- what was added to code that was none is the rule's, and sound
-module _ {r : Rule} {a b : Code} (none : a.steps.items ≡ []) (room : a.room ≡ 0) (empty : a.pool.items ≡ []) (few : places r ≤ 2 ^ 16) (x : Adds 0 r a b) where
+module _ {r : Rule} {a b : Code} (none : a.steps.items ≡ []) (room : a.room ≡ 0) (empty : a.pool.items ≡ []) (few : places r ≤ 2 ^ 16) (deep : nesting r ≤ DEEPEST_RULE) (x : Adds 0 r a b) where
   whole-has : Has (env_of b) b
   whole-has =
       let old = ap length empty in record {
@@ -110,17 +113,19 @@ module _ {r : Rule} {a b : Code} (none : a.steps.items ≡ []) (room : a.room �
     formed = sym (ap well_formed whole-rule) ∙ formed;
     gives = λ root. x.runs (env_of b) whole-has root null [] refl ∙ ap (λ cs. run (env_of b) root (onto cs []) 0 (meaning root r) []) none
         ∙ ap (λ q. Some (meaning root q)) whole-rule;
-    frugal = λ needs. x.frugal (ap needs_memory whole-rule ∙ needs) (record { room = room; steps = ap any_asks none });
+    frugal = λ needs. x.frugal (ap needs_memory whole-rule ∙ needs) (omega (arith, deep)) (record { room = omega (arith, room); steps = ap any_asks none });
   }
 
-pub compiled-whole : (d : json.Data) (a b : Code) → a.steps.items ≡ [] → a.room ≡ 0 → a.pool.items ≡ [] → count d ≤ MOST_RULE_VALUES → IsCompiled (λ r. Adds 0 r a b) d
+pub compiled-whole : (d : json.Data) (a b : Code) → a.steps.items ≡ [] → a.room ≡ 0 → a.pool.items ≡ [] → count d ≤ MOST_RULE_VALUES → depth d ≤ DEEPEST_RULE → IsCompiled (λ r. Adds 0 r a b) d
     → IsCompiled (λ r. (r ≡ rule_of_code b) × IsSound b) d
-compiled-whole d a b none room empty counted x = let few : places x.rule ≤ 2 ^ 16 = omega (arith, counted, rule_of-places d x.rule x.is_rule) in record {
-  rule = x.rule;
-  is_rule = x.is_rule;
-  known = x.known;
-  made = (whole-rule none room empty few x.made, whole-sound none room empty few x.made (rule_of-formed d x.rule x.is_rule));
-}
+compiled-whole d a b none room empty counted flat x =
+    let few : places x.rule ≤ 2 ^ 16 = omega (arith, counted, rule_of-places d x.rule x.is_rule) in
+    let deep : nesting x.rule ≤ DEEPEST_RULE = omega (arith, flat, rule_of-nesting d x.rule x.is_rule) in record {
+      rule = x.rule;
+      is_rule = x.is_rule;
+      known = x.known;
+      made = (whole-rule none room empty few deep x.made, whole-sound none room empty few deep x.made (rule_of-formed d x.rule x.is_rule));
+    }
 
 -- what a rule is known to be, by the parts of its code
 abbrev Whole : Rule → Env → List Step → Type 0
@@ -141,5 +146,5 @@ shrunk-whole d a b steps pool room x =
     let here : Whole r (env_of a) (in_order a) = (x.made.0, x.made.1.formed, x.made.1.gives) in
     let there : Whole r (env_of b) (in_order b) = subst (λ cs. Whole r (env_of b) cs) (ap (λ xs. onto xs []) (sym steps)) (subst (λ e. Whole r e (in_order a)) env here) in
     let frugal : needs_memory (rule_of_code b) ≡ false → IsFrugal b = λ needs.
-    let f = x.made.1.frugal (ap needs_memory (sym x.made.0 ∙ there.0) ∙ needs) in record { room = room ∙ f.room; steps = ap any_asks steps ∙ f.steps } in
+    let f = x.made.1.frugal (ap needs_memory (sym x.made.0 ∙ there.0) ∙ needs) in record { room = omega (arith, room, f.room); steps = ap any_asks steps ∙ f.steps } in
     record { rule = r; is_rule = x.is_rule; known = x.known; made = (there.0, record { formed = there.1; gives = there.2; frugal = frugal }) }

@@ -27,7 +27,7 @@ use Rattle.fp_targeting.specs.declared.operator.Operator.{Operator}
 use Rattle.fp_targeting.specs.declared.code.Operand.TheVariants.{Constant, Variable}
 use Rattle.fp_targeting.specs.declared.code.Step.TheVariants.{LoadWhole, FindVariable}
 use Rattle.fp_targeting.specs.declared.operator.Operator.TheVariants.{Var}
-use Rattle.fp_targeting.proofs.Computed.{written}
+use Rattle.fp_targeting.proofs.Written.{written}
 use Rattle.fp_targeting.proofs.Constants.{meaning-constant, items_unknown-literals, rule_of-literal, rule_of-literals}
 use Rattle.fp_targeting.proofs.Frugal.{pushed-frugal, as-frugal}
 use Rattle.fp_targeting.proofs.Emitting.{grows-trans, grows-itself, pushed-has, pushed-few, pushed-grows, pushed-run, pushed-read}
@@ -145,7 +145,7 @@ finds-known {n = n} {skip = skip} {p = p} {a = a} x f = record {
   reads = λ env e t.
       pushed-read f env t ∙ ap (λ cs. read env cs (reads env (FindVariable n skip) t)) (ap (λ xs. onto xs.items []) x.steps)
       ∙ ap (λ g. read env (in_order a) (tree.literal (text (text_bytes g)) ∷ t)) (x.is env (pushed-has f env e));
-  frugal = λ known old. pushed-frugal f refl (as-frugal x.steps x.room old);
+  frugal = λ none deep old. pushed-frugal f refl (as-frugal x.steps x.room old);
 }
 
 whole-constant : (d : Data) (z : ℤ) → whole_in d ≡ Some z → tree.literal (whole z) ≡ constant d
@@ -163,7 +163,7 @@ added-whole h p = record {
   few = omega (arith, pushed-few p);
   runs = λ env e root v s _. pushed-run p env root v s;
   reads = λ env e t. pushed-read p env t;
-  frugal = λ none f. pushed-frugal p refl f;
+  frugal = λ none deep f. pushed-frugal p refl f;
 }
 
 pub compiled-number : (d : json.Data) (z : ℤ) {a b : Code} → is_plain d ≡ true → whole_in (data_of d) ≡ Some z → Pushed (LoadWhole z) a b → (h : ℕ)

@@ -7,14 +7,15 @@ pub mod Constants
 pub mod Stacks
 pub mod Machines
 pub mod Frugal
-pub mod Computed
 pub mod Tables
 pub mod Emitting
 pub mod Deciding
 pub mod Sizes
 pub mod Trees
+pub mod Written
 pub mod Compiling
 pub mod Placing
+pub mod Nested
 pub mod Formed
 pub mod Leaves
 pub mod Verdicts

@@ -6,7 +6,7 @@ use Rattle.fp_base.proofs.Turns.{take-here}
 use Rattle.fp_operators.specs.Data.{Data}
 use Rattle.fp_operators.specs.View.{view}
 use Rattle.fp_operators.specs.declared.datum.Datum.{Datum}
-use Rattle.fp_targeting.specs.Found.{found_view, stack_view}
+use Rattle.fp_targeting.specs.Found.{found_view, founds_view}
 use Rattle.fp_targeting.specs.Machine.{Env, act, run, of_kept}
 use Rattle.fp_targeting.specs.Stack.{onto, off}
 use Rattle.fp_targeting.specs.declared.code.Step.{Step}
@@ -77,34 +77,34 @@ of_all f n ds s e =
     ∙ ap (λ (p : List Data × List Data). Some (0, f p.0, p.1)) (ap (λ i. off i (onto ds s) []) e ∙ off-onto ds s ∙ ap (λ xs. (xs, s)) (append-nil ds))
 
 -- the last kept results, in the order in which they were kept
-pub last-kept : (f : List Data → Data) (n k : ℕ) (xs : List Found) → k + n ≡ length xs → of_kept f n (stack_view xs) ≡ Some (0, f (map found_view (drop k xs)), stack_view (take k xs))
+pub last-kept : (f : List Data → Data) (n k : ℕ) (xs : List Found) → k + n ≡ length xs → of_kept f n (founds_view xs) ≡ Some (0, f (map found_view (drop k xs)), founds_view (take k xs))
 last-kept f n k xs e =
     let front = take k xs in
     let back = drop k xs in
     let long : n ≡ length (map found_view back) = omega (arith, e, length-drop k xs, length-map back found_view) in
-    ap (λ ys. of_kept f n (stack_view ys)) (sym (take-append-drop k xs))
+    ap (λ ys. of_kept f n (founds_view ys)) (sym (take-append-drop k xs))
     ∙ ap (λ ds. of_kept f n (onto ds [])) (map-append found_view front back)
     ∙ ap (of_kept f n) (onto-append (map found_view front) (map found_view back) [])
-    ∙ of_all f n (map found_view back) (stack_view front) long
+    ∙ of_all f n (map found_view back) (founds_view front) long
 
 -- one more taken off
 pub taken-one : (left : ℕ) (kept rest : List Found) (items : List Datum) (x : Found) (d : Datum) (all : List Data × List Data) → 1 ≤ left → kept ≡ rest ++ x ∷ [] → view d ≡ found_view x
-    → off left (stack_view kept) (onto (map view items) []) ≡ all → off (left - 1) (stack_view rest) (onto (map view (items ++ d ∷ [])) []) ≡ all
+    → off left (founds_view kept) (onto (map view items) []) ≡ all → off (left - 1) (founds_view rest) (onto (map view (items ++ d ∷ [])) []) ≡ all
 taken-one left kept rest items x d all some last same h =
-    let stack : stack_view kept ≡ found_view x ∷ stack_view rest =
-    ap stack_view last ∙ ap (λ ds. onto ds []) (map-append found_view rest (x ∷ [])) ∙ onto-last (map found_view rest) (found_view x) [] in
+    let stack : founds_view kept ≡ found_view x ∷ founds_view rest =
+    ap founds_view last ∙ ap (λ ds. onto ds []) (map-append found_view rest (x ∷ [])) ∙ onto-last (map found_view rest) (found_view x) [] in
     let more : onto (map view (items ++ d ∷ [])) [] ≡ found_view x ∷ onto (map view items) [] =
     ap (λ ds. onto ds []) (map-append view items (d ∷ [])) ∙ onto-last (map view items) (view d) [] ∙ ap (λ e. e ∷ onto (map view items) []) same in
     let fewer : left ≡ 1 + (left - 1) = omega (arith, some) in
-    ap (off (left - 1) (stack_view rest)) more
-    ∙ sym (off-step (left - 1) left (found_view x) (stack_view rest) (onto (map view items) []) fewer)
+    ap (off (left - 1) (founds_view rest)) more
+    ∙ sym (off-step (left - 1) left (found_view x) (founds_view rest) (onto (map view items) []) fewer)
     ∙ ap (λ s. off left s (onto (map view items) [])) (sym stack) ∙ h
 
-pub enough-kept : (n : ℕ) (kept : List Found) → n ≤ length kept → n ≤ length (stack_view kept)
+pub enough-kept : (n : ℕ) (kept : List Found) → n ≤ length kept → n ≤ length (founds_view kept)
 enough-kept n kept e = let o = length-onto (map found_view kept) [] in let m = length-map kept found_view in omega (arith, e, o, m)
 
 -- what was taken off, in the order in which it was kept
-pub of-taken : (f : List Data → Data) (n : ℕ) (kept : List Found) (ds s : List Data) → n ≤ length kept → off n (stack_view kept) [] ≡ (ds, s) → of_kept f n (stack_view kept) ≡ Some (0, f ds, s)
+pub of-taken : (f : List Data → Data) (n : ℕ) (kept : List Found) (ds s : List Data) → n ≤ length kept → off n (founds_view kept) [] ≡ (ds, s) → of_kept f n (founds_view kept) ≡ Some (0, f ds, s)
 of-taken f n kept ds s e h =
-    ap (λ b. if b then Some (0, f (off n (stack_view kept) []).0, (off n (stack_view kept) []).1) else None) (le-leb n _ (enough-kept n kept e))
+    ap (λ b. if b then Some (0, f (off n (founds_view kept) []).0, (off n (founds_view kept) []).1) else None) (le-leb n _ (enough-kept n kept e))
     ∙ ap (λ (p : List Data × List Data). Some (0, f p.0, p.1)) h

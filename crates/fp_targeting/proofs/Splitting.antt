@@ -25,7 +25,7 @@ use Rattle.fp_targeting.specs.declared.code.Operand.TheVariants.{AtHand}
 use Rattle.fp_targeting.specs.declared.code.Step.TheVariants.{Split, SplitByOwnKey}
 use Rattle.fp_targeting.specs.declared.operator.Operator.TheVariants.{Fractional}
 use Rattle.fp_targeting.proofs.Trees.{rule_of-operator}
-use Rattle.fp_targeting.proofs.Frugal.{pushed-frugal, operand-frugal, first-none}
+use Rattle.fp_targeting.proofs.Frugal.{pushed-frugal, operand-frugal, first-none, first-deep}
 use Rattle.fp_targeting.proofs.Emitting.{operand-order, grows-trans, pushed-has, pushed-few, pushed-grows, pushed-run, pushed-read}
 use Rattle.fp_targeting.proofs.Parts.{both-known, both-compiled, same-items, rules_from-length}
 use Rattle.fp_targeting.proofs.Tables.{mapped}
@@ -50,7 +50,7 @@ split-lent {o = o} {r = r} {pairs = pairs} {a = a} other x p = record {
   reads = λ env e t.
       pushed-read p env t ∙ ap (λ cs. read env cs (reads env (Split o pairs) t)) (operand-order x)
       ∙ ap (λ (y : Rule × List Rule). read env (in_order a) (tree.apply Fractional (rule y.0 pairs) ∷ y.1)) (x.reads env (pushed-has p env e) t);
-  frugal = λ none f. pushed-frugal p refl (operand-frugal x f);
+  frugal = λ none deep f. pushed-frugal p refl (operand-frugal x f);
 }
 
 pub split-computed : {h : ℕ} {r : Rule} {pairs : Rules} {a b d : Code} → is_list r ≡ false → Pushed (Split AtHand pairs) a b → Adds h r b d
@@ -62,7 +62,7 @@ split-computed {r = r} {pairs = pairs} {a = a} other p x = record {
       x.runs env e root v s l ∙ pushed-run p env root (meaning root r) s
       ∙ ap (λ w. run env root (in_order a) 0 w s) (split-key root r pairs other);
   reads = λ env e t. x.reads env e t ∙ pushed-read p env (r ∷ t);
-  frugal = λ none f. x.frugal (first-none r pairs none) (pushed-frugal p refl f);
+  frugal = λ none deep f. x.frugal (first-none r pairs none) (first-deep _ Fractional r pairs deep) (pushed-frugal p refl f);
 }
 
 none-chosen : (o : Option (List ℕ)) → share_of_key no_rules o ≡ null
@@ -81,7 +81,7 @@ added-split_by_own_key {pairs = pairs} {a = a} total p = record {
   few = omega (arith, pushed-few p);
   runs = λ env e root v s _. pushed-run p env root v s ∙ ap (λ w. run env root (in_order a) 0 w s) (own_key-split root pairs total);
   reads = λ env e t. pushed-read p env t;
-  frugal = λ none f. pushed-frugal p refl f;
+  frugal = λ none deep f. pushed-frugal p refl f;
 }
 
 pub compiled-pairs : (ds : json.Items) (pairs : Rules) (a b : Code) → option_map rules_of (rules_from ds) ≡ Some pairs → items_unknown ds ≡ None → is_some (total_of pairs) ≡ true

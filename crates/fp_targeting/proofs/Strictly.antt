@@ -5,7 +5,8 @@ use Rattle.fp_targeting.specs.Emits.{Grows, Pushed, IsOperand, Adds, AddsAlone, 
 use Rattle.fp_targeting.specs.Frugal.{IsFrugal}
 use Rattle.fp_targeting.specs.Machine.{Env, run, few, look}
 use Rattle.fp_targeting.specs.Meaning.{meaning, meanings, value_at}
-use Rattle.fp_targeting.specs.Memory.{needs_memory, waits}
+use Rattle.fp_targeting.specs.Memory.{needs_memory}
+use Rattle.fp_targeting.specs.Nesting.{nesting}
 use Rattle.fp_targeting.specs.Operators.{takes}
 use Rattle.fp_targeting.specs.Places.{places}
 use Rattle.fp_targeting.specs.Reading.{operand_rule, reads, read, in_order}
@@ -16,9 +17,10 @@ use Rattle.fp_targeting.specs.declared.code.Code.{Code}
 use Rattle.fp_targeting.specs.declared.code.Operand.{Operand}
 use Rattle.fp_targeting.specs.declared.operator.Operator.{Operator}
 use Rattle.fp_targeting.specs.declared.code.Operand.TheVariants.{AtHand}
-use Rattle.fp_targeting.specs.declared.code.Step.TheVariants.{One, Two, Three, Second, Third}
+use Rattle.fp_targeting.specs.declared.code.Step.TheVariants.{Keep, One, Two, Three, Second, Third}
 use Rattle.fp_targeting.specs.declared.operator.Operator.TheVariants.{If, And, Or, Var, Cat, SemVer, Fractional, Unary, Binary, Chain}
-use Rattle.fp_targeting.proofs.Frugal.{true-false, pushed-frugal, operand-frugal, itself-none, all-none, first-none, others-none, strict-waits, strict-asks}
+use Rattle.fp_targeting.specs.declared.rule.TheConstants.{DEEPEST_RULE}
+use Rattle.fp_targeting.proofs.Frugal.{pushed-frugal, raised-frugal, operand-frugal, itself-none, all-none, first-none, others-none, first-deep, strict-asks}
 use Rattle.fp_targeting.proofs.Emitting.{one-place, grows-trans, pushed-has, pushed-few, pushed-grows, pushed-run, pushed-read, operand-order, raised-has, raised-few, raised-grows, raised-run, raised-read}
 
 -- such an operator takes no more than three
@@ -53,7 +55,7 @@ module _ (o : Operator) (strict : is_strict o ≡ true) where
       → ((env : Env) → Has env d → (root v : Data) (s : List Data) → length s ≡ h
       → run env root (in_order d) 0 v s ≡ run env root (in_order a) 0 (few o (meanings root rs)) s)
       → ((env : Env) → Has env d → (t : List Rule) → read env (in_order d) t ≡ read env (in_order a) (tree.apply o rs ∷ t))
-      → (needs_memory (tree.apply o rs) ≡ false → IsFrugal a → IsFrugal d)
+      → (needs_memory (tree.apply o rs) ≡ false → h + nesting (tree.apply o rs) ≤ DEEPEST_RULE → IsFrugal a → IsFrugal d)
       → Adds h (tree.apply o rs) a d
   strict-adds {rs = rs} {a = a} g few r q frugal = record {
     grows = g;
@@ -66,9 +68,8 @@ module _ (o : Operator) (strict : is_strict o ≡ true) where
   second-none : (r q : Rule) (rs : Rules) → needs_memory (tree.apply o (rule r (rule q rs))) ≡ false → needs_memory q ≡ false
   second-none r q rs none = first-none q rs (others-none r (rule q rs) (all-none o (rule r (rule q rs)) none))
 
-  -- where none waits, none was kept
-  none-waits : (rs : Rules) → waits rs ≡ true → needs_memory (tree.apply o rs) ≡ false → ⊥
-  none-waits rs w none = true-false w (strict-waits o rs strict (itself-none o rs none))
+  third-none : (r q u : Rule) (rs : Rules) → needs_memory (tree.apply o (rule r (rule q (rule u rs)))) ≡ false → needs_memory u ≡ false
+  third-none r q u rs none = first-none u rs (others-none q (rule u rs) (others-none r (rule q (rule u rs)) (all-none o (rule r (rule q (rule u rs))) none)))
 
   pub added-one : {h : ℕ} {x : Operand} {r : Rule} {a b d : Code} → IsOperand x r a b → Pushed (One o x) b d → Adds h (tree.apply o (rule r no_rules)) a d
   added-one {x = x} {a = a} i p = strict-adds (grows-trans i.grows (pushed-grows p)) (omega (arith, i.few, pushed-few p))
@@ -76,13 +77,13 @@ module _ (o : Operator) (strict : is_strict o ≡ true) where
       ∙ ap (λ w. run env root (in_order a) 0 (few o (w ∷ [])) s) (i.looks env (pushed-has p env e) root v))
       (λ env e t. pushed-read p env t ∙ ap (λ cs. read env cs (reads env (One o x) t)) (operand-order i)
       ∙ ap (λ (y : Rule × List Rule). read env (in_order a) (tree.apply o (rule y.0 no_rules) ∷ y.1)) (i.reads env (pushed-has p env e) t))
-      (λ none f. pushed-frugal p refl (operand-frugal i f))
+      (λ none deep f. pushed-frugal p refl (operand-frugal i f))
 
   pub added-one-computed : {h : ℕ} {r : Rule} {a b d : Code} → Pushed (One o AtHand) a b → Adds h r b d → Adds h (tree.apply o (rule r no_rules)) a d
   added-one-computed {r = r} p x = strict-adds (grows-trans (pushed-grows p) x.grows) (omega (arith, pushed-few p, x.few))
       (λ env e root v s l. x.runs env e root v s l ∙ pushed-run p env root (meaning root r) s)
       (λ env e t. x.reads env e t ∙ pushed-read p env (r ∷ t))
-      (λ none f. x.frugal (first-none r no_rules (all-none o (rule r no_rules) none)) (pushed-frugal p refl f))
+      (λ none deep f. x.frugal (first-none r no_rules (all-none o (rule r no_rules) none)) (first-deep _ o r no_rules deep) (pushed-frugal p refl f))
 
   pub added-two : {h : ℕ} {x y : Operand} {r q : Rule} {a b c d : Code} → IsOperand x r a b → IsOperand y q b c → Pushed (Two o x y) c d
       → Adds h (tree.apply o (rule r (rule q no_rules))) a d
@@ -95,7 +96,7 @@ module _ (o : Operator) (strict : is_strict o ≡ true) where
       pushed-read p env t ∙ ap (λ cs. read env cs (reads env (Two o x y) t)) (operand-order j ∙ operand-order i)
       ∙ ap (λ (z : Rule × List Rule). let w = operand_rule env x z.1 in read env (in_order a) (tree.apply o (rule w.0 (rule z.0 no_rules)) ∷ w.1)) (j.reads env ec t)
       ∙ ap (λ (w : Rule × List Rule). read env (in_order a) (tree.apply o (rule w.0 (rule q no_rules)) ∷ w.1)) (i.reads env eb t))
-      (λ none f. pushed-frugal p refl (operand-frugal j (operand-frugal i f)))
+      (λ none deep f. pushed-frugal p refl (operand-frugal j (operand-frugal i f)))
 
   -- the second one computed
   pub added-two-second : {h : ℕ} {x : Operand} {r q : Rule} {a b c d : Code} → IsOperand x r a b → Pushed (Two o x AtHand) b c → Adds h q c d
@@ -109,7 +110,7 @@ module _ (o : Operator) (strict : is_strict o ≡ true) where
       k.reads env e t ∙ pushed-read p env (q ∷ t)
       ∙ ap (λ cs. read env cs (reads env (Two o x AtHand) (q ∷ t))) (operand-order i)
       ∙ ap (λ (w : Rule × List Rule). read env (in_order a) (tree.apply o (rule w.0 (rule q no_rules)) ∷ w.1)) (i.reads env eb t))
-      (λ none f. k.frugal (second-none r q no_rules none) (pushed-frugal p refl (operand-frugal i f)))
+      (λ none deep f. k.frugal (second-none r q no_rules none) (omega (arith, deep)) (pushed-frugal p refl (operand-frugal i f)))
 
   -- the first one computed
   pub added-two-first : {h : ℕ} {y : Operand} {r q : Rule} {a b c d : Code} → IsOperand y q a b → Pushed (Two o AtHand y) b c → Adds h r c d
@@ -123,7 +124,7 @@ module _ (o : Operator) (strict : is_strict o ≡ true) where
       k.reads env e t ∙ pushed-read p env (r ∷ t)
       ∙ ap (λ cs. read env cs (reads env (Two o AtHand y) (r ∷ t))) (operand-order j)
       ∙ ap (λ (z : Rule × List Rule). let w = operand_rule env AtHand z.1 in read env (in_order a) (tree.apply o (rule w.0 (rule z.0 no_rules)) ∷ w.1)) (j.reads env eb (r ∷ t)))
-      (λ none f. k.frugal (first-none r (rule q no_rules) (all-none o (rule r (rule q no_rules)) none)) (pushed-frugal p refl (operand-frugal j f)))
+      (λ none deep f. k.frugal (first-none r (rule q no_rules) (all-none o (rule r (rule q no_rules)) none)) (first-deep _ o r (rule q no_rules) deep) (pushed-frugal p refl (operand-frugal j f)))
 
   -- the first two lent
   pub added-three : {h : ℕ} {x y : Operand} {r q u : Rule} {a b c d f : Code} → IsOperand x r a b → IsOperand y q b c → Pushed (Three o x y) c d → Adds h u d f
@@ -141,25 +142,27 @@ module _ (o : Operator) (strict : is_strict o ≡ true) where
       ∙ ap (λ (z : Rule × List Rule). let w = operand_rule env x z.1 in
       read env (in_order a) (tree.apply o (rule w.0 (rule z.0 (rule u no_rules))) ∷ w.1)) (j.reads env ec t)
       ∙ ap (λ (w : Rule × List Rule). read env (in_order a) (tree.apply o (rule w.0 (rule q (rule u no_rules))) ∷ w.1)) (i.reads env eb t))
-      (λ none f. let rs = rule r (rule q (rule u no_rules)) in
-      k.frugal (first-none u no_rules (others-none q (rule u no_rules) (others-none r (rule q (rule u no_rules)) (all-none o rs none))))
-      (pushed-frugal p (strict-asks o rs strict (itself-none o rs none)) (operand-frugal j (operand-frugal i f))))
+      (λ none deep f.
+      k.frugal (third-none r q u no_rules none) (omega (arith, deep))
+      (pushed-frugal p (strict-asks o strict (itself-none o (rule r (rule q (rule u no_rules))) none)) (operand-frugal j (operand-frugal i f))))
 
   -- both computed
-  pub added-second : {h m : ℕ} {r q : Rule} {a b c d f : Code} → m ≡ h + 1 → Pushed (Second o) a b → Adds m q b c → Raised m c d → Adds h r d f
-      → waits (rule r (rule q no_rules)) ≡ true → Adds h (tree.apply o (rule r (rule q no_rules))) a f
-  added-second {r = r} {q = q} up p y k x w = strict-adds (grows-trans (pushed-grows p) (grows-trans y.grows (grows-trans (raised-grows k) x.grows))) (omega (arith, pushed-few p, y.few, raised-few k, x.few))
+  pub added-second : {h m : ℕ} {r q : Rule} {a b c d f : Code} → m ≡ h + 1 → Pushed (Second o) a b → Adds m q b c → Raised Keep m c d → Adds h r d f
+      → Adds h (tree.apply o (rule r (rule q no_rules))) a f
+  added-second {r = r} {q = q} up p y k x = strict-adds (grows-trans (pushed-grows p) (grows-trans y.grows (grows-trans (raised-grows k) x.grows))) (omega (arith, pushed-few p, y.few, raised-few k, x.few))
       (λ env e root v s l. let ed = x.grows.within env e in let ec = raised-has k env ed in
       x.runs env e root v s l ∙ raised-run k env ed root (meaning root r) s (omega (arith, up, l))
       ∙ y.runs env ec root null (meaning root r ∷ s) (omega (arith, up, l))
       ∙ pushed-run p env root (meaning root q) (meaning root r ∷ s))
       (λ env e t. let ed = x.grows.within env e in let ec = raised-has k env ed in
       x.reads env e t ∙ raised-read k env (r ∷ t) ∙ y.reads env ec (r ∷ t) ∙ pushed-read p env (q ∷ r ∷ t))
-      (λ none f. absurd (none-waits (rule r (rule q no_rules)) w none))
+      (λ none deep f.
+      let behind = y.frugal (second-none r q no_rules none) (omega (arith, up, deep)) (pushed-frugal p refl f) in
+      x.frugal (first-none r (rule q no_rules) (all-none o (rule r (rule q no_rules)) none)) (omega (arith, deep)) (raised-frugal k (omega (arith, up, deep)) behind))
 
-  pub added-third : {h m n : ℕ} {r q u : Rule} {a b c d f g i : Code} → m ≡ h + 1 → n ≡ m + 1 → Pushed (Third o) a b → Adds n u b c → Raised n c d → Adds m q d f
-      → Raised m f g → Adds h r g i → waits (rule r (rule q (rule u no_rules))) ≡ true → AddsAlone h o (r ∷ q ∷ u ∷ []) a i
-  added-third {r = r} {q = q} {u = u} up on p z j y k x w = record {
+  pub added-third : {h m n : ℕ} {r q u : Rule} {a b c d f g i : Code} → m ≡ h + 1 → n ≡ m + 1 → Pushed (Third o) a b → Adds n u b c → Raised Keep n c d → Adds m q d f
+      → Raised Keep m f g → Adds h r g i → AddsAlone h o (r ∷ q ∷ u ∷ []) a i
+  added-third {r = r} {q = q} {u = u} up on p z j y k x = record {
     alone = omega (arith, pushed-few p, z.few, raised-few j, y.few, raised-few k, x.few);
     adds = strict-adds (grows-trans (pushed-grows p) (grows-trans z.grows (grows-trans (raised-grows j) (grows-trans y.grows (grows-trans (raised-grows k) x.grows))))) (omega (arith, pushed-few p, z.few, raised-few j, y.few, raised-few k, x.few))
         (λ env e root v s l. let eg = x.grows.within env e in let ef = raised-has k env eg in let ed = y.grows.within env ef in let ec = raised-has j env ed in
@@ -171,5 +174,10 @@ module _ (o : Operator) (strict : is_strict o ≡ true) where
         (λ env e t. let eg = x.grows.within env e in let ef = raised-has k env eg in let ed = y.grows.within env ef in let ec = raised-has j env ed in
         x.reads env e t ∙ raised-read k env (r ∷ t) ∙ y.reads env ef (r ∷ t) ∙ raised-read j env (q ∷ r ∷ t) ∙ z.reads env ec (q ∷ r ∷ t)
         ∙ pushed-read p env (u ∷ q ∷ r ∷ t))
-        (λ none f. absurd (none-waits (rule r (rule q (rule u no_rules))) w none));
+        (λ none deep f.
+        let rs = rule q (rule u no_rules) in
+        let last = z.frugal (third-none r q u no_rules none) (omega (arith, up, on, deep))
+        (pushed-frugal p (strict-asks o strict (itself-none o (rule r rs) none)) f) in
+        let middle = y.frugal (second-none r q (rule u no_rules) none) (omega (arith, up, deep)) (raised-frugal j (omega (arith, up, on, deep)) last) in
+        x.frugal (first-none r rs (all-none o (rule r rs) none)) (omega (arith, deep)) (raised-frugal k (omega (arith, up, deep)) middle));
   }

@@ -4,13 +4,11 @@ use Rattle.serde_json.specs.Data.{Data, null, boolean, number, string, array, ob
 use Rattle.serde_json.specs.Data.{no_members, member}
 use Rattle.fp_targeting.specs.Compile.{first_unknown, items_unknown, rule_of, rules_from}
 use Rattle.fp_targeting.specs.Constant.{all_literal}
-use Rattle.fp_targeting.specs.Memory.{is_there, is_known_variable, waits}
 use Rattle.fp_targeting.specs.Operators.{allows}
 use Rattle.fp_targeting.specs.Rule.{Rule, apply}
 use Rattle.fp_targeting.specs.Split.{total_of}
 use Rattle.fp_targeting.specs.View.{rules_of}
 use Rattle.fp_targeting.specs.declared.operator.Operator.{Operator}
-use Rattle.fp_targeting.specs.declared.operator.Operator.TheVariants.{Var}
 
 -- the value is a rule without an unknown operator, and this was made of it
 pub record IsCompiled (Made : Rule → Type 0) (d : Data) : Type 0 where
@@ -31,18 +29,6 @@ NoRule d = first_unknown d ≡ None → rule_of d ≡ None
 
 abbrev pub NoRules : Items → Type 0
 NoRules ds = items_unknown ds ≡ None → rules_from ds ≡ None
-
--- where the value is a rule, what it gives isn't there before
-abbrev pub IsComputed : Data → Type 0
-IsComputed d = (r : Rule) → rule_of d ≡ Some r → is_there r ≡ false
-
-abbrev pub ComputesVariable : Items → Type 0
-ComputesVariable ds =
-    (rs : List Rule) → rules_from ds ≡ Some rs → is_known_variable Var (rules_of rs) ≡ false
-
--- where the values are rules, the result of one waits for that of another
-abbrev pub OneWaits : Items → Type 0
-OneWaits ds = (rs : List Rule) → rules_from ds ≡ Some rs → waits (rules_of rs) ≡ true
 
 abbrev pub Compiles : Bool → (Rule → Type 0) → Data → Type 0
 Compiles true Made d = IsCompiled Made d

@@ -1,6 +1,6 @@
 -- What is added to code, and what it then does.
 use Rattle.std.specs.Prelude.{◌≡◌, ◌≤◌, ◌<◌, ◌+◌, ◌^◌, ℕ, List, [], ◌∷◌, ◌++◌, length, map, get_or}
-use Rattle.std.specs.Prelude.{Some, true, false, option_and_then}
+use Rattle.std.specs.Prelude.{Some, true, false, max, option_and_then}
 use Rattle.fp_operators.specs.Data.{Data, null}
 use Rattle.fp_operators.specs.Path.{named_by}
 use Rattle.fp_operators.specs.View.{view}
@@ -8,7 +8,8 @@ use Rattle.fp_operators.specs.declared.datum.Datum.{Datum}
 use Rattle.fp_targeting.specs.Frugal.{IsFrugal}
 use Rattle.fp_targeting.specs.Machine.{Env, Turn, look, run, found_at}
 use Rattle.fp_targeting.specs.Meaning.{meaning, meanings, value_of_operator}
-use Rattle.fp_targeting.specs.Memory.{needs_memory, is_known}
+use Rattle.fp_targeting.specs.Memory.{needs_memory}
+use Rattle.fp_targeting.specs.Nesting.{nesting}
 use Rattle.fp_targeting.specs.Operators.{well_formed}
 use Rattle.fp_targeting.specs.Places.{places, all_places}
 use Rattle.fp_targeting.specs.Reading.{operand_rule, read, in_order, env_of, rule_of_code}
@@ -19,7 +20,7 @@ use Rattle.fp_targeting.specs.declared.operator.Operator.{Operator}
 use Rattle.fp_targeting.specs.declared.code.Code.{Code}
 use Rattle.fp_targeting.specs.declared.code.Operand.{Operand}
 use Rattle.fp_targeting.specs.declared.code.Step.{Step}
-use Rattle.fp_targeting.specs.declared.code.Step.TheVariants.{Keep}
+use Rattle.fp_targeting.specs.declared.rule.TheConstants.{DEEPEST_RULE}
 
 -- the code, or what it becomes, has this pool, of which each place has its number of 16 bits, and
 -- this room
@@ -40,12 +41,11 @@ pub record Pushed (step : Step) (old new : Code) : Type 0 where
   pub pool : new.pool ≡ old.pool
   pub room : new.room ≡ old.room
 
--- what is at hand is to be kept first; with it, so many results are kept
-pub record Raised (height : ℕ) (old new : Code) : Type 0 where
-  pub steps : new.steps.items ≡ old.steps.items ++ Keep ∷ []
+-- an instruction that keeps one more result is to be done first; with it, so many are kept
+pub record Raised (step : Step) (height : ℕ) (old new : Code) : Type 0 where
+  pub steps : new.steps.items ≡ old.steps.items ++ step ∷ []
   pub pool : new.pool ≡ old.pool
-  pub room : old.room ≤ new.room
-  pub high : height ≤ new.room
+  pub room : new.room ≡ max old.room height
 
 -- a datum stands at this place in the pool
 pub record Stands (n : ℕ) (d : Data) (pool : List Datum) : Type 0 where
@@ -78,12 +78,23 @@ pub record Adds (height : ℕ) (r : Rule) (old new : Code) : Type 0 where
       → run env root (in_order new) 0 v s ≡ run env root (in_order old) 0 (meaning root r) s
   pub reads : (env : Env) → Has env new → (t : List Rule)
       → read env (in_order new) t ≡ read env (in_order old) (r ∷ t)
-  pub frugal : needs_memory r ≡ false → IsFrugal old → IsFrugal new
+  pub frugal : needs_memory r ≡ false → height + nesting r ≤ DEEPEST_RULE → IsFrugal old
+      → IsFrugal new
 
 -- code of an operator at rules was added, and no place but for what its arguments take
 pub record AddsAlone (height : ℕ) (o : Operator) (rs : List Rule) (old new : Code) : Type 0 where
   pub adds : Adds height (apply o (rules_of rs)) old new
   pub alone : length new.pool.items ≤ length old.pool.items + all_places (rules_of rs)
+
+-- code of a rule was added: behind it the rule's result is kept
+pub record KeepsOne (height : ℕ) (r : Rule) (old new : Code) : Type 0 where
+  pub grows : Grows old new
+  pub few : length new.pool.items ≤ length old.pool.items + places r
+  pub runs : (env : Env) → Has env new → (root v : Data) (s : List Data) → length s ≡ height
+      → (w : Data) × (run env root (in_order new) 0 v s
+      ≡ run env root (in_order old) 0 w (meaning root r ∷ s))
+  pub reads : (env : Env) → Has env new → (t : List Rule)
+      → read env (in_order new) t ≡ read env (in_order old) (r ∷ t)
 
 -- code of rules was added: behind it their results are kept
 pub record Keeps (height : ℕ) (rs : List Rule) (old new : Code) : Type 0 where
@@ -104,7 +115,8 @@ pub record Decides (o : Operator) (height : ℕ) (rs : List Rule) (old new : Cod
       ≡ run env root (in_order old) 0 (value_of_operator o root (meanings root (rules_of rs))) s
   pub reads : (env : Env) → Has env new → (t : List Rule)
       → read env (in_order new) t ≡ read env (in_order old) (onto rs t)
-  pub frugal : needs_memory (apply o (rules_of rs)) ≡ false → IsFrugal old → IsFrugal new
+  pub frugal : needs_memory (apply o (rules_of rs)) ≡ false
+      → height + nesting (apply o (rules_of rs)) ≤ DEEPEST_RULE → IsFrugal old → IsFrugal new
 
 -- code of a path was added: behind it, what the path names is at hand and so many instructions
 -- are skipped, or null is at hand
@@ -117,7 +129,8 @@ pub record Finds (skip height : ℕ) (p : Rule) (old new : Code) : Type 0 where
       (found_at skip s (named_by (meaning root p) root))
   pub reads : (env : Env) → Has env new → (t : List Rule)
       → read env (in_order new) t ≡ read env (in_order old) (p ∷ t)
-  pub frugal : is_known p ≡ true → IsFrugal old → IsFrugal new
+  pub frugal : needs_memory p ≡ false → height + nesting p ≤ DEEPEST_RULE → IsFrugal old
+      → IsFrugal new
 
 -- the code is of one rule, with arguments that its operators take, and gives what the rule means:
 -- no operand is missing, no instruction outside of it is skipped to, and the stack has room. Where

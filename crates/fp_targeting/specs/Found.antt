@@ -2,7 +2,9 @@
 use Rattle.std.specs.Prelude.{List, [], map}
 use Rattle.fp_operators.specs.Data.{Data}
 use Rattle.fp_operators.specs.View.{view}
+use Rattle.fp_targeting.specs.Kept.{kept_items}
 use Rattle.fp_targeting.specs.Stack.{onto}
+use Rattle.fp_targeting.specs.declared.kept.Kept.{Kept}
 use Rattle.fp_targeting.specs.declared.machine.Found.{Found}
 use Rattle.fp_targeting.specs.declared.machine.Found.TheVariants.{Lent, Made}
 
@@ -11,5 +13,8 @@ found_view (Lent d) = view d.now
 found_view (Made d) = view d
 
 -- the last one first
-abbrev pub stack_view : List Found → List Data
-stack_view kept = onto (map found_view kept) []
+abbrev pub founds_view : List Found → List Data
+founds_view founds = onto (map found_view founds) []
+
+abbrev pub stack_view : Kept → List Data
+stack_view kept = founds_view (kept_items kept)

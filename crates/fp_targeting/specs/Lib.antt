@@ -10,11 +10,13 @@ pub mod Meaning
 pub mod Found
 pub mod RuleData
 pub mod Codes
+pub mod Kept
 pub mod Laws
 pub mod Table
 pub mod Stack
 pub mod Machine
 pub mod Memory
+pub mod Nesting
 pub mod Frugal
 pub mod Reading
 pub mod Places

@@ -16,7 +16,7 @@ use Rattle.fp_targeting.specs.declared.operator.Operator.{Operator}
 use Rattle.fp_targeting.specs.declared.code.Operand.{Operand}
 use Rattle.fp_targeting.specs.declared.code.Operand.TheVariants.{Constant, Variable, All, AtHand}
 use Rattle.fp_targeting.specs.declared.code.Step.{Step}
-use Rattle.fp_targeting.specs.declared.code.Step.TheVariants.{Load, LoadNull, LoadWhole, Keep}
+use Rattle.fp_targeting.specs.declared.code.Step.TheVariants.{Load, LoadNull, LoadWhole, Keep, KeepOf}
 use Rattle.fp_targeting.specs.declared.code.Step.TheVariants.{Skip, SkipIfFalse, SkipIfTrue, Find}
 use Rattle.fp_targeting.specs.declared.code.Step.TheVariants.{FindVariable, One, Two, Three}
 use Rattle.fp_targeting.specs.declared.code.Step.TheVariants.{Second, Third, Join, Collect, Split}
@@ -74,12 +74,17 @@ list_of ds = values.list (items_of ds)
 abbrev pub share_of_key : Rules → Option (List ℕ) → Data
 share_of_key pairs key = found_or null (option_and_then (chosen pairs) key)
 
+-- one more result is kept
+abbrev pub kept : Env → Data → List Data → Option Turn
+kept env d s = if nat_lt (length s) env.room then Some (0, null, d ∷ s) else None
+
 -- what one instruction does; none where an operand is missing, or the stack is full
 abbrev pub act : Env → Data → Step → Data → List Data → Option Turn
 act env root (Load o) v s = Some (0, look env root v o, s)
 act env root LoadNull v s = Some (0, null, s)
 act env root (LoadWhole z) v s = Some (0, whole z, s)
-act env root Keep v s = if nat_lt (length s) env.room then Some (0, null, v ∷ s) else None
+act env root Keep v s = kept env v s
+act env root (KeepOf o) v s = kept env (look env root v o) s
 act env root (Skip n) v s = Some (n, v, s)
 act env root (SkipIfFalse n) v s = Some (if truth v then 0 else n, v, s)
 act env root (SkipIfTrue n) v s = Some (if truth v then n else 0, v, s)

@@ -12,7 +12,7 @@ use Rattle.fp_targeting.specs.declared.code.Code.{Code}
 use Rattle.fp_targeting.specs.declared.code.Operand.{Operand}
 use Rattle.fp_targeting.specs.declared.code.Operand.TheVariants.{Constant, Variable, All, AtHand}
 use Rattle.fp_targeting.specs.declared.code.Step.{Step}
-use Rattle.fp_targeting.specs.declared.code.Step.TheVariants.{Load, LoadNull, LoadWhole, Keep}
+use Rattle.fp_targeting.specs.declared.code.Step.TheVariants.{Load, LoadNull, LoadWhole, Keep, KeepOf}
 use Rattle.fp_targeting.specs.declared.code.Step.TheVariants.{Skip, SkipIfFalse, SkipIfTrue, Find}
 use Rattle.fp_targeting.specs.declared.code.Step.TheVariants.{FindVariable, One, Two, Three}
 use Rattle.fp_targeting.specs.declared.code.Step.TheVariants.{Second, Third, Join, Collect, Split}
@@ -38,6 +38,7 @@ reads env (Load o) s = let a = operand_rule env o s in a.0 ∷ a.1
 reads env LoadNull s = s
 reads env (LoadWhole z) s = literal (whole z) ∷ s
 reads env Keep s = s
+reads env (KeepOf o) s = let a = operand_rule env o s in a.0 ∷ a.1
 reads env (Skip n) s = s
 reads env (SkipIfFalse n) s = s
 reads env (SkipIfTrue n) s = s

@@ -1,12 +1,13 @@
 //! From a tree of JSON to the code of the rule that it writes.
 
 ghost use Rattle.std.specs.Prelude.{◌≡◌, ◌≤◌, ◌+◌, true, false, Some, None, IfOk, length};
+ghost use Rattle.serde_json.specs.Data.{depth};
 ghost use Rattle.fp_base.specs.Count.{count};
 ghost use Rattle.fp_base.specs.Ordered.{IsOrdered, AreOrdered};
 ghost use Rattle.fp_base.specs.TreeView.{tree_view, tree_items};
 ghost use Rattle.fp_targeting.specs.Compiles.{Compiles, CompileAll, Applies, IsCompiled, NoRule};
 ghost use Rattle.fp_targeting.specs.Compiles.{is_array};
-ghost use Rattle.fp_targeting.specs.Emits.{Adds, Keeps, Decides, Finds, IsSound};
+ghost use Rattle.fp_targeting.specs.Emits.{Adds, KeepsOne, Keeps, Decides, Finds, IsSound};
 ghost use Rattle.fp_targeting.specs.Operators.{takes};
 ghost use Rattle.fp_targeting.specs.Reading.{rule_of_code};
 ghost use Rattle.fp_targeting.specs.Rule.{apply, rule};
@@ -14,7 +15,7 @@ ghost use Rattle.fp_targeting.specs.Strict.{stops, skip_past, looks_at_results};
 ghost use Rattle.fp_targeting.specs.View.{rules_of};
 ghost use Rattle.fp_targeting.specs.declared.code.Code.{Code};
 ghost use Rattle.fp_targeting.specs.declared.operator.Operator.TheVariants.{If, Var, Fractional};
-ghost use Rattle.fp_targeting.specs.declared.rule.TheConstants.{MOST_RULE_VALUES};
+ghost use Rattle.fp_targeting.specs.declared.rule.TheConstants.{DEEPEST_RULE, MOST_RULE_VALUES};
 
 use crate::code::{Code, Operand, Step};
 use crate::json::{are_literals, arguments, is_array, text_of};
@@ -29,6 +30,7 @@ impl Code {
     pub fn of(alloc: Global, json: &Json<'_>) -> Result<Option<Code>, AllocError>
         requires ordered { IsOrdered (tree_view json.now) }
         requires few { count (tree_view json.now) ≤ MOST_RULE_VALUES }
+        requires flat { depth (tree_view json.now) ≤ DEEPEST_RULE }
         ensures some { IfOk result (λ x. (code : Code) → x ≡ Some code
             → IsCompiled (λ r. (r ≡ rule_of_code code) × IsSound code) (tree_view json.now)) }
         ensures none { IfOk result (λ x. x ≡ None → NoRule (tree_view json.now)) }
@@ -43,6 +45,31 @@ impl Code {
         }
         code.shrink();
         Ok(Some(code))
+    }
+
+    // Code of an argument, whose result is kept above so many.
+    #[cycle(build)]
+    fn one_kept(
+        &mut self,
+        alloc: Global,
+        argument: &Json<'_>,
+        height: usize,
+    ) -> Result<bool, AllocError>
+        requires { IsOrdered (tree_view argument.now) }
+        ensures { IfOk result (λ done. Compiles done
+            (λ r. KeepsOne height r self.old self.new) (tree_view argument.now)) }
+    {
+        let above = above(height, 1)?;
+        match self.operand(alloc, argument)? {
+            Some(operand) => {
+                self.keep(Step::KeepOf(operand), above)?;
+                Ok(true)
+            }
+            None => {
+                self.keep(Step::Keep, above)?;
+                Ok(self.compute(alloc, argument, height)?)
+            }
+        }
     }
 
     // Code of arguments, one after the other, each of whose results is kept.
@@ -61,9 +88,7 @@ impl Code {
         'arguments: while left > 0 {
             left -= 1;
             let below = above(height, left)?;
-            let above = above(below, 1)?;
-            self.keep(above)?;
-            if !self.compute(alloc, &arguments[left], below)? {
+            if !self.one_kept(alloc, &arguments[left], below)? {
                 return Ok(false);
             }
         }

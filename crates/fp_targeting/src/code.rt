@@ -29,6 +29,8 @@ pub enum Step {
     LoadWhole(i64),
     /// What is at hand goes onto the stack.
     Keep,
+    /// What the operand is goes onto the stack.
+    KeepOf(Operand),
     /// So many instructions are skipped.
     Skip(u32),
     /// So many are skipped where what is at hand is false.

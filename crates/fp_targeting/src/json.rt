@@ -7,7 +7,7 @@ ghost use Rattle.fp_base.specs.Ordered.{IsOrdered, AreOrdered};
 ghost use Rattle.fp_base.specs.TreeView.{tree_view, tree_items};
 ghost use Rattle.fp_targeting.specs.Compile.{first_unknown, items_unknown, arguments_of};
 ghost use Rattle.fp_targeting.specs.Compile.{rules_from};
-ghost use Rattle.fp_targeting.specs.Compiles.{IsComputed, ComputesVariable, is_array};
+ghost use Rattle.fp_targeting.specs.Compiles.{is_array};
 ghost use Rattle.fp_operators.specs.FromJson.{data_of, items_from};
 ghost use Rattle.fp_operators.specs.View.{view, items_view};
 ghost use Rattle.fp_targeting.specs.Constant.{is_literal, all_literal, whole_in};
@@ -124,7 +124,6 @@ fn is_scalar(json: &Json<'_>, datum: &Datum) -> bool
 /// Whether no instruction is needed for a value, as `Code::operand` finds.
 pub fn is_lent(json: &Json<'_>) -> bool
     requires { IsOrdered (tree_view json.now) }
-    ensures { result ≡ false → IsComputed (tree_view json.now) }
 {
     match json {
         Json::Null | Json::Bool(_) | Json::Number(_) | Json::String(_) => true,
@@ -140,9 +139,7 @@ pub fn is_lent(json: &Json<'_>) -> bool
 }
 
 // Whether `var` is of all data, or of a path that is known.
-fn is_known(arguments: &[Json<'_>]) -> bool
-    ensures { result ≡ false → ComputesVariable (tree_items arguments.now) }
-{
+fn is_known(arguments: &[Json<'_>]) -> bool {
     match arguments {
         [] => true,
         [only] => text_of(only).is_some(),

@@ -6,6 +6,7 @@ mod code;
 mod data;
 mod few;
 mod json;
+mod kept;
 pub mod laws;
 mod machine;
 mod names;
@@ -17,5 +18,6 @@ mod table;
 
 pub use data::Data;
 pub use fp_base::whole_numbers;
+pub use machine::Found;
 pub use rule::{DEEPEST_RULE, MOST_RULE_VALUES, Rule, RuleFault};
 pub use table::GREATEST_WEIGHT;

@@ -1,8 +1,8 @@
 //! What code gives for data.
 
-ghost use Rattle.std.specs.Prelude.{◌≡◌, ◌≤◌, Some, List, map, drop, get_or, IfOk, IfSome};
-ghost use Rattle.std.specs.Prelude.{OnErr, IsSome, true, ◌||◌, []};
-ghost use Rattle.std.specs.Prelude.{IfNone, option_map, vec_capacity, length, if◌then◌else◌};
+ghost use Rattle.std.specs.Prelude.{◌≡◌, ◌≤◌, Some, List, map, drop, get_or, IfOk};
+ghost use Rattle.std.specs.Prelude.{OnErr, IsSome, true, []};
+ghost use Rattle.std.specs.Prelude.{◌≢◌, option_map, length, if◌then◌else◌};
 ghost use Rattle.fp_operators.specs.Data as values;
 ghost use Rattle.fp_operators.specs.Data.{null as null_data};
 ghost use Rattle.fp_operators.specs.Memory.{takes_memory};
@@ -12,6 +12,7 @@ ghost use Rattle.fp_operators.specs.View.{view};
 ghost use Rattle.fp_targeting.specs.Emits.{IsSound};
 ghost use Rattle.fp_targeting.specs.Found.{found_view, stack_view};
 ghost use Rattle.fp_targeting.specs.Frugal.{asks, is_sem_ver};
+ghost use Rattle.fp_targeting.specs.Kept.{kept_items, kept_room};
 ghost use Rattle.fp_targeting.specs.Machine.{act, look, path_at, of_kept, text_bytes, found_at};
 ghost use Rattle.fp_targeting.specs.Machine.{second, third, list_of};
 ghost use Rattle.fp_targeting.specs.Meaning.{meaning};
@@ -22,10 +23,11 @@ ghost use Rattle.fp_targeting.specs.declared.code.Operand.TheVariants.{AtHand};
 
 use crate::code::{Code, Operand, Step};
 use crate::few::{of_one, of_three, of_two};
+use crate::kept::Kept;
 use crate::operator::Operator;
 use fp_operators::{Datum, append_text, at_text, is_falsy, is_truthy, named};
 use std::alloc::{AllocError, Global};
-use std::mem::replace;
+use std::mem::take;
 
 /// A result: lent where it stands in the rule or in the data, else made for it.
 #[derive(Drop)]
@@ -34,8 +36,28 @@ pub enum Found<'d> {
     Made(Datum),
 }
 
+/// What fills a place where no result is kept.
+impl<'d> Default for Found<'d> {
+    ghost is_default = { λ x. found_view x ≡ null_data };
+
+    fn default() -> Found<'d> {
+        Found::Made(Datum::Null)
+    }
+}
+
 impl<'d> Found<'d> {
-    fn datum(&self) -> &Datum
+    // What was found, else null.
+    fn or_null(found: Option<&'d Datum>) -> Found<'d>
+        ensures { found_view result ≡ found_or null_data (option_map (λ d. view d.now) found.entry) }
+    {
+        match found {
+            Some(datum) => Found::Lent(datum),
+            None => Found::Made(Datum::Null),
+        }
+    }
+
+    /// The result, as it is lent or made.
+    pub fn datum(&self) -> &Datum
         ensures { view result.now ≡ found_view self.now }
     {
         match self {
@@ -45,7 +67,7 @@ impl<'d> Found<'d> {
     }
 
     /// The result itself, copied where it is only lent.
-    fn into_datum(self, alloc: Global) -> Result<Datum, AllocError>
+    pub fn into_datum(self, alloc: Global) -> Result<Datum, AllocError>
         ensures copy { IfOk result (λ d. view d ≡ found_view self.entry) }
         ensures memory { OnErr result (takes_memory (found_view self.entry) ≡ true) }
     {
@@ -84,16 +106,15 @@ impl Code {
         at_text(root, path_at(self.pool.as_slice(), place))
     }
 
-    // What an operand is that isn't at hand.
-    fn lent<'d>(&'d self, operand: &Operand, root: &'d Datum, null: &'d Datum) -> Option<&'d Datum>
-        requires { view null.now ≡ null_data }
-        ensures some { IfSome result (λ d. (v : values.Data)
-            → look (env_of self.now) (view root.now) v operand.now ≡ view d.now) }
-        ensures none { IfNone result (operand.now ≡ AtHand) }
+    // What an operand is that isn't at hand. What names nothing is null.
+    fn lent<'d>(&'d self, operand: &Operand, root: &'d Datum) -> Option<&'d Datum>
+        ensures { operand.now ≢ AtHand → (v : values.Data)
+            → look (env_of self.now) (view root.now) v operand.now
+            ≡ found_or null_data (option_map (λ d. view d.now) result) }
     {
         match operand {
-            Operand::Constant(place) => Some(or_null(self.pool.get(*place as usize), null)),
-            Operand::Variable(place) => Some(or_null(self.variable(root, *place), null)),
+            Operand::Constant(place) => self.pool.get(*place as usize),
+            Operand::Variable(place) => self.variable(root, *place),
             Operand::All => Some(root),
             Operand::AtHand => None,
         }
@@ -110,29 +131,38 @@ impl Code {
         ensures { view result.now
             ≡ look (env_of self.now) (view root.now) (found_view at_hand.now) operand.now }
     {
-        match self.lent(operand, root, null) {
-            Some(datum) => datum,
-            None => at_hand.datum(),
+        match operand {
+            Operand::AtHand => at_hand.datum(),
+            _ => or_null(self.lent(operand, root), null),
         }
     }
 
     // The operand is at hand next.
-    fn load<'d>(
-        &'d self,
-        operand: &Operand,
-        root: &'d Datum,
-        null: &'d Datum,
-        at_hand: &mut Found<'d>,
-    ) -> u32
-        requires { view null.now ≡ null_data }
+    fn load<'d>(&'d self, operand: &Operand, root: &'d Datum, at_hand: &mut Found<'d>) -> u32
         ensures at_hand { found_view at_hand.new
             ≡ look (env_of self.now) (view root.now) (found_view at_hand.old) operand.now }
         ensures skipped { result ≡ 0 }
     {
-        if let Some(datum) = self.lent(operand, root, null) {
-            *at_hand = Found::Lent(datum);
+        match operand {
+            Operand::AtHand => 0,
+            _ => lend(self.lent(operand, root), at_hand),
         }
-        0
+    }
+
+    // What an operand is, which is no longer at hand.
+    fn take_operand<'d>(
+        &'d self,
+        operand: &Operand,
+        root: &'d Datum,
+        at_hand: &mut Found<'d>,
+    ) -> Found<'d>
+        ensures { found_view result
+            ≡ look (env_of self.now) (view root.now) (found_view at_hand.old) operand.now }
+    {
+        match operand {
+            Operand::AtHand => take(at_hand),
+            _ => Found::or_null(self.lent(operand, root)),
+        }
     }
 
     // Does one instruction, and answers how many are skipped next.
@@ -141,41 +171,46 @@ impl Code {
         alloc: Global,
         step: &'d Step,
         root: &'d Datum,
-        null: &'d Datum,
+        null: &Datum,
         at_hand: &mut Found<'d>,
-        kept: &mut Vec<Found<'d>>,
+        kept: &mut Kept<'d>,
     ) -> Result<u32, AllocError>
         requires null { view null.now ≡ null_data }
-        requires room { self.now.room ≤ vec_capacity kept.old }
+        requires room { self.now.room ≤ kept_room kept.old }
         requires can { IsSome (act (env_of self.now) (view root.now) step.now
-            (found_view at_hand.old) (stack_view kept.old.items)) }
+            (found_view at_hand.old) (stack_view kept.old)) }
         ensures does { IfOk result (λ n.
             act (env_of self.now) (view root.now) step.now
-            (found_view at_hand.old) (stack_view kept.old.items)
-            ≡ Some (n, found_view at_hand.new, stack_view kept.new.items)) }
-        ensures room { vec_capacity kept.new ≡ vec_capacity kept.old }
+            (found_view at_hand.old) (stack_view kept.old)
+            ≡ Some (n, found_view at_hand.new, stack_view kept.new)) }
+        ensures room { kept_room kept.new ≡ kept_room kept.old }
         ensures memory { OnErr result (asks step.now ≡ true) }
     {
         match step {
-            Step::Load(operand) => Ok(self.load(operand, root, null, at_hand)),
-            Step::LoadNull => Ok(lend(null, at_hand)),
+            Step::Load(operand) => Ok(self.load(operand, root, at_hand)),
+            Step::LoadNull => Ok(lend(None, at_hand)),
             Step::LoadWhole(number) => {
                 *at_hand = Found::Made(Datum::Whole(*number));
                 Ok(0)
             }
             Step::Keep => {
-                kept.push_reserved(replace(at_hand, Found::Lent(null)));
+                kept.push(take(at_hand));
+                Ok(0)
+            }
+            Step::KeepOf(operand) => {
+                kept.push(self.take_operand(operand, root, at_hand));
+                *at_hand = Found::default();
                 Ok(0)
             }
             Step::Skip(count) => Ok(*count),
             Step::SkipIfFalse(count) => Ok(count_if(is_falsy(at_hand.datum()), *count)),
             Step::SkipIfTrue(count) => Ok(count_if(is_truthy(at_hand.datum()), *count)),
             Step::Find(count) => {
-                let found = named(alloc, root, at_hand.datum())?;
-                Ok(find(found, *count, null, at_hand))
+                let found = named(root, at_hand.datum());
+                Ok(find(found, *count, at_hand))
             }
             Step::FindVariable { path, skip } => {
-                Ok(find(self.variable(root, *path), *skip, null, at_hand))
+                Ok(find(self.variable(root, *path), *skip, at_hand))
             }
             Step::One(operator, a) => {
                 *at_hand = Found::Made(of_one(*operator, self.look(a, at_hand, root, null)));
@@ -204,22 +239,19 @@ impl Code {
             }
             Step::Split(operand, table) => {
                 let key = self.look(operand, at_hand, root, null);
-                Ok(lend(or_null(table.chosen_by(key), null), at_hand))
+                Ok(lend(table.chosen_by(key), at_hand))
             }
-            Step::SplitByOwnKey(table) => {
-                Ok(lend(or_null(table.chosen_by_own_key(root), null), at_hand))
-            }
+            Step::SplitByOwnKey(table) => Ok(lend(table.chosen_by_own_key(root), at_hand)),
             Step::End(_, _) => Ok(0),
         }
     }
 
     /// What the rule of this code gives for the data.
-    pub fn run(&self, alloc: Global, root: &Datum) -> Result<Datum, AllocError>
+    pub fn run<'d>(&'d self, alloc: Global, root: &'d Datum) -> Result<Found<'d>, AllocError>
         requires { IsSound self.now }
         ensures means { IfOk result (λ x.
-            view x ≡ meaning (view root.now) (rule_of_code self.now)) }
-        ensures memory { OnErr result ((needs_memory (rule_of_code self.now)
-            || takes_memory (meaning (view root.now) (rule_of_code self.now))) ≡ true) }
+            found_view x ≡ meaning (view root.now) (rule_of_code self.now)) }
+        ensures memory { OnErr result (needs_memory (rule_of_code self.now) ≡ true) }
     {
         let null = Datum::Null;
         self.do_all(alloc, root, &null)
@@ -230,17 +262,19 @@ impl Code {
         &'d self,
         alloc: Global,
         root: &'d Datum,
-        null: &'d Datum,
-    ) -> Result<Datum, AllocError>
+        null: &Datum,
+    ) -> Result<Found<'d>, AllocError>
         requires null { view null.now ≡ null_data }
         requires sound { IsSound self.now }
         ensures means { IfOk result (λ x.
-            view x ≡ meaning (view root.now) (rule_of_code self.now)) }
-        ensures memory { OnErr result ((needs_memory (rule_of_code self.now)
-            || takes_memory (meaning (view root.now) (rule_of_code self.now))) ≡ true) }
+            found_view x ≡ meaning (view root.now) (rule_of_code self.now)) }
+        ensures memory { OnErr result (needs_memory (rule_of_code self.now) ≡ true) }
     {
-        let mut kept = Vec::with_capacity(alloc, self.room)?;
-        let mut at_hand = Found::Lent(null);
+        let mut kept = Kept::none(alloc);
+        if self.room > 0 {
+            kept.make_room(alloc, self.room)?;
+        }
+        let mut at_hand = Found::Made(Datum::Null);
         let mut left = self.steps.len();
         'steps: while left > 0 {
             left -= 1;
@@ -248,7 +282,7 @@ impl Code {
             let skipped = self.act(alloc, step, root, null, &mut at_hand, &mut kept)?;
             left -= skipped as usize;
         }
-        at_hand.into_datum(alloc)
+        Ok(at_hand)
     }
 }
 
@@ -263,12 +297,13 @@ fn or_null<'d>(datum: Option<&'d Datum>, null: &'d Datum) -> &'d Datum
     }
 }
 
-// The datum is at hand next.
-fn lend<'d>(datum: &'d Datum, at_hand: &mut Found<'d>) -> u32
-    ensures at_hand { found_view at_hand.new ≡ view datum.now }
+// The datum is at hand next, else null.
+fn lend<'d>(datum: Option<&'d Datum>, at_hand: &mut Found<'d>) -> u32
+    ensures at_hand { found_view at_hand.new
+        ≡ found_or null_data (option_map (λ d. view d.now) datum.entry) }
     ensures skipped { result ≡ 0 }
 {
-    *at_hand = Found::Lent(datum);
+    *at_hand = Found::or_null(datum);
     0
 }
 
@@ -279,29 +314,21 @@ fn count_if(holds: bool, count: u32) -> u32
 }
 
 // What was found is at hand next, else null: how many instructions are skipped.
-fn find<'d>(found: Option<&'d Datum>, count: u32, null: &'d Datum, at_hand: &mut Found<'d>) -> u32
-    requires { view null.now ≡ null_data }
+fn find<'d>(found: Option<&'d Datum>, count: u32, at_hand: &mut Found<'d>) -> u32
     ensures { (s : List values.Data) → found_at count s (option_map (λ d. view d.now) found.entry)
         ≡ Some (result, found_view at_hand.new, s) }
 {
-    match found {
-        Some(datum) => {
-            *at_hand = Found::Lent(datum);
-            count
-        }
-        None => {
-            *at_hand = Found::Lent(null);
-            0
-        }
-    }
+    let skipped = if found.is_some() { count } else { 0 };
+    *at_hand = Found::or_null(found);
+    skipped
 }
 
 // An operator's result for the last kept result and the one at hand is at hand next.
-fn second(operator: Operator, at_hand: &mut Found<'_>, kept: &mut Vec<Found<'_>>) -> u32
-    requires { IsSome (second operator (found_view at_hand.old) (stack_view kept.old.items)) }
-    ensures does { second operator (found_view at_hand.old) (stack_view kept.old.items)
-        ≡ Some (result, found_view at_hand.new, stack_view kept.new.items) }
-    ensures room { vec_capacity kept.new ≡ vec_capacity kept.old }
+fn second(operator: Operator, at_hand: &mut Found<'_>, kept: &mut Kept<'_>) -> u32
+    requires { IsSome (second operator (found_view at_hand.old) (stack_view kept.old)) }
+    ensures does { second operator (found_view at_hand.old) (stack_view kept.old)
+        ≡ Some (result, found_view at_hand.new, stack_view kept.new) }
+    ensures room { kept_room kept.new ≡ kept_room kept.old }
 {
     if let Some(first) = kept.pop() {
         *at_hand = Found::Made(of_two(operator, first.datum(), at_hand.datum()));
@@ -314,13 +341,13 @@ fn third(
     alloc: Global,
     operator: Operator,
     at_hand: &mut Found<'_>,
-    kept: &mut Vec<Found<'_>>,
+    kept: &mut Kept<'_>,
 ) -> Result<u32, AllocError>
-    requires { IsSome (third operator (found_view at_hand.old) (stack_view kept.old.items)) }
+    requires { IsSome (third operator (found_view at_hand.old) (stack_view kept.old)) }
     ensures does { IfOk result (λ n. third operator (found_view at_hand.old)
-        (stack_view kept.old.items)
-        ≡ Some (n, found_view at_hand.new, stack_view kept.new.items)) }
-    ensures room { vec_capacity kept.new ≡ vec_capacity kept.old }
+        (stack_view kept.old)
+        ≡ Some (n, found_view at_hand.new, stack_view kept.new)) }
+    ensures room { kept_room kept.new ≡ kept_room kept.old }
     ensures memory { OnErr result (is_sem_ver operator ≡ true) }
 {
     if let Some(second) = kept.pop() {
@@ -334,23 +361,23 @@ fn third(
 }
 
 // The texts of the last kept results, so many, joined: they are kept no longer.
-fn join(alloc: Global, kept: &mut Vec<Found<'_>>, count: u32) -> Result<Datum, AllocError>
-    requires { count ≤ length kept.old.items }
-    ensures does { IfOk result (λ d. of_kept concatenation count (stack_view kept.old.items)
-        ≡ Some (0, view d, stack_view kept.new.items)) }
-    ensures room { vec_capacity kept.new ≡ vec_capacity kept.old }
+fn join(alloc: Global, kept: &mut Kept<'_>, count: u32) -> Result<Datum, AllocError>
+    requires { count ≤ length (kept_items kept.old) }
+    ensures does { IfOk result (λ d. of_kept concatenation count (stack_view kept.old)
+        ≡ Some (0, view d, stack_view kept.new)) }
+    ensures room { kept_room kept.new ≡ kept_room kept.old }
 {
-    let from = kept.len() - count as usize;
+    let from = kept.as_slice().len() - count as usize;
     let joined = joined(alloc, behind(kept, from))?;
     kept.truncate(from);
     Ok(joined)
 }
 
-fn behind<'k, 'd>(kept: &'k Vec<Found<'d>>, from: usize) -> &'k [Found<'d>]
-    requires { from ≤ length kept.now.items }
-    ensures { result.now ≡ drop from kept.now.items }
+fn behind<'k, 'd>(kept: &'k Kept<'d>, from: usize) -> &'k [Found<'d>]
+    requires { from ≤ length (kept_items kept.now) }
+    ensures { result.now ≡ drop from (kept_items kept.now) }
 {
-    &kept[from..]
+    &kept.as_slice()[from..]
 }
 
 fn joined(alloc: Global, parts: &[Found<'_>]) -> Result<Datum, AllocError>
@@ -366,12 +393,12 @@ fn joined(alloc: Global, parts: &[Found<'_>]) -> Result<Datum, AllocError>
 }
 
 // A list of the last kept results, so many: they are taken off, and copied where they are only lent.
-fn collect(alloc: Global, kept: &mut Vec<Found<'_>>, count: u32) -> Result<Datum, AllocError>
-    requires { count ≤ length kept.old.items }
+fn collect(alloc: Global, kept: &mut Kept<'_>, count: u32) -> Result<Datum, AllocError>
+    requires { count ≤ length (kept_items kept.old) }
     ensures does { IfOk result (λ d.
-        of_kept list_of count (stack_view kept.old.items)
-        ≡ Some (0, view d, stack_view kept.new.items)) }
-    ensures room { vec_capacity kept.new ≡ vec_capacity kept.old }
+        of_kept list_of count (stack_view kept.old)
+        ≡ Some (0, view d, stack_view kept.new)) }
+    ensures room { kept_room kept.new ≡ kept_room kept.old }
 {
     let mut list = taken_off(alloc, kept, count)?;
     list.reverse();
@@ -379,11 +406,11 @@ fn collect(alloc: Global, kept: &mut Vec<Found<'_>>, count: u32) -> Result<Datum
 }
 
 // The last kept results, so many, the last one first.
-fn taken_off(alloc: Global, kept: &mut Vec<Found<'_>>, count: u32) -> Result<Vec<Datum>, AllocError>
-    requires { count ≤ length kept.old.items }
-    ensures taken { IfOk result (λ v. off count (stack_view kept.old.items) []
-        ≡ (onto (map view v.items) [], stack_view kept.new.items)) }
-    ensures room { vec_capacity kept.new ≡ vec_capacity kept.old }
+fn taken_off(alloc: Global, kept: &mut Kept<'_>, count: u32) -> Result<Vec<Datum>, AllocError>
+    requires { count ≤ length (kept_items kept.old) }
+    ensures taken { IfOk result (λ v. off count (stack_view kept.old) []
+        ≡ (onto (map view v.items) [], stack_view kept.new)) }
+    ensures room { kept_room kept.new ≡ kept_room kept.old }
 {
     let mut items = Vec::with_capacity(alloc, count as usize)?;
     let mut left = count;

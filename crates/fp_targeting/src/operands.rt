@@ -6,8 +6,7 @@ ghost use Rattle.fp_base.specs.Ordered.{IsOrdered};
 ghost use Rattle.fp_base.specs.TreeView.{tree_view, tree_items};
 ghost use Rattle.fp_operators.specs.Data.{text};
 ghost use Rattle.fp_operators.specs.FromJson.{data_of};
-ghost use Rattle.fp_targeting.specs.Compiles.{IsCompiled, AreCompiled, is_plain, IsComputed};
-ghost use Rattle.fp_targeting.specs.Compiles.{ComputesVariable, CompileSplit};
+ghost use Rattle.fp_targeting.specs.Compiles.{IsCompiled, AreCompiled, is_plain, CompileSplit};
 ghost use Rattle.fp_targeting.specs.Emits.{Pushed, Raised, IsOperand, Adds, Finds, IsPlaced};
 ghost use Rattle.fp_targeting.specs.Emits.{Stands};
 ghost use Rattle.fp_targeting.specs.Rule.{apply, literal, rule, no_rules};
@@ -46,11 +45,11 @@ impl Code {
         Ok(())
     }
 
-    /// What is at hand is to be kept first, where that makes so many.
-    pub fn keep(&mut self, above: usize) -> Result<(), AllocError>
-        ensures { OnOk result (Raised above self.old self.new) }
+    /// An instruction that keeps one more result, so many with it, is to be done first.
+    pub fn keep(&mut self, step: Step, above: usize) -> Result<(), AllocError>
+        ensures { OnOk result (Raised step above self.old self.new) }
     {
-        self.steps.push(Step::Keep)?;
+        self.steps.push(step)?;
         self.room = self.room.max(above);
         Ok(())
     }
@@ -116,8 +115,6 @@ impl Code {
         ensures none { IfOk result (λ x. x ≡ None → self.new ≡ self.old) }
         ensures any { IfOk result (λ x. x ≡ None → 1 ≤ length arguments.now) }
         ensures few { IfOk result (λ x. (o : Operand) → x ≡ Some o → length arguments.now ≤ 1) }
-        ensures computed { IfOk result (λ x. x ≡ None
-            → ComputesVariable (tree_items arguments.now)) }
     {
         match arguments {
             [] => Ok(Some(Operand::All)),
@@ -135,7 +132,6 @@ impl Code {
         ensures some { IfOk result (λ x. (o : Operand) → x ≡ Some o → IsCompiled
             (λ r. IsOperand o r self.old self.new) (tree_view json.now)) }
         ensures none { IfOk result (λ x. x ≡ None → self.new ≡ self.old) }
-        ensures computed { IfOk result (λ x. x ≡ None → IsComputed (tree_view json.now)) }
     {
         match json {
             Json::Null | Json::Bool(_) | Json::Number(_) | Json::String(_) => {

@@ -12,12 +12,14 @@ ghost use Rattle.fp_base.specs.Whole.{is_whole};
 ghost use Rattle.fp_targeting.specs.Answer.{Tells, unknown_or_bad};
 ghost use Rattle.fp_operators.specs.Data as values;
 ghost use Rattle.fp_operators.specs.Memory.{takes_memory};
+ghost use Rattle.fp_targeting.specs.Found.{found_view};
 ghost use Rattle.fp_targeting.specs.Means.{Means};
 ghost use Rattle.fp_targeting.specs.Meaning.{meaning};
 ghost use Rattle.fp_targeting.specs.Memory.{needs_memory};
 
 use crate::code::Code;
 use crate::data::Data;
+use crate::machine::Found;
 use crate::names::unknown_operator;
 use fp_base::{Tree as Json, nests_within};
 use fp_operators::Datum;
@@ -120,6 +122,16 @@ impl Rule {
         }
     }
 
+    /// What the rule gives for the data, lent where it stands in the rule or in the data. Memory
+    /// can run out only where the rule makes a list or a text, or reads versions.
+    pub fn find<'d>(&'d self, alloc: Global, data: &'d Data) -> Result<Found<'d>, AllocError>
+        ensures means { IfOk result (λ x. Means self.now «data».now (found_view x)) }
+        ensures computed { IfOk result (λ x. found_view x ≡ meaning «data».now self.now) }
+        ensures memory { OnErr result (needs_memory self.now ≡ true) }
+    {
+        self.code.run(alloc, data.datum())
+    }
+
     /// What the rule gives for the data. Memory can run out only where the rule needs it, or for a
     /// text, a list or an object that it gives.
     pub fn eval(&self, alloc: Global, data: &Data) -> Result<Datum, AllocError>
@@ -128,7 +140,7 @@ impl Rule {
         ensures memory { OnErr result (
             (needs_memory self.now || takes_memory (meaning «data».now self.now)) ≡ true) }
     {
-        self.code.run(alloc, data.datum())
+        self.find(alloc, data)?.into_datum(alloc)
     }
 
     /// Exactly one result: on any data there is one that the rule gives, and only one, which

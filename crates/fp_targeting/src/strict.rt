@@ -4,7 +4,7 @@ ghost use Rattle.std.specs.Prelude.{◌≡◌, true, IfOk, length};
 ghost use Rattle.serde_json.specs.Data.{no_items, item};
 ghost use Rattle.fp_base.specs.Ordered.{IsOrdered, AreOrdered};
 ghost use Rattle.fp_base.specs.TreeView.{tree_view, tree_items};
-ghost use Rattle.fp_targeting.specs.Compiles.{CompileAll, OneWaits};
+ghost use Rattle.fp_targeting.specs.Compiles.{CompileAll};
 ghost use Rattle.fp_targeting.specs.Emits.{Adds, AddsAlone};
 ghost use Rattle.fp_targeting.specs.Operators.{takes};
 ghost use Rattle.fp_targeting.specs.Rule.{apply};
@@ -95,7 +95,6 @@ impl Code {
         requires strict { is_strict operator ≡ true }
         requires first { IsOrdered (tree_view a.now) }
         requires second { IsOrdered (tree_view b.now) }
-        requires waits { OneWaits (item (tree_view a.now) (item (tree_view b.now) no_items)) }
         ensures { IfOk result (λ done. CompileAll done
             (λ rs. Adds height (apply operator (rules_of rs)) self.old self.new)
             (item (tree_view a.now) (item (tree_view b.now) no_items))) }
@@ -105,7 +104,7 @@ impl Code {
         if !self.compute(alloc, b, above)? {
             return Ok(false);
         }
-        self.keep(above)?;
+        self.keep(Step::Keep, above)?;
         Ok(self.compute(alloc, a, height)?)
     }
 
@@ -157,8 +156,6 @@ impl Code {
         requires first { IsOrdered (tree_view a.now) }
         requires second { IsOrdered (tree_view b.now) }
         requires third { IsOrdered (tree_view c.now) }
-        requires waits { OneWaits
-            (item (tree_view a.now) (item (tree_view b.now) (item (tree_view c.now) no_items))) }
         ensures { IfOk result (λ done. CompileAll done
             (λ rs. AddsAlone height operator rs self.old self.new)
             (item (tree_view a.now) (item (tree_view b.now) (item (tree_view c.now) no_items)))) }
@@ -169,11 +166,11 @@ impl Code {
         if !self.compute(alloc, c, two)? {
             return Ok(false);
         }
-        self.keep(two)?;
+        self.keep(Step::Keep, two)?;
         if !self.compute(alloc, b, one)? {
             return Ok(false);
         }
-        self.keep(one)?;
+        self.keep(Step::Keep, one)?;
         Ok(self.compute(alloc, a, height)?)
     }
 

@@ -8,18 +8,16 @@ use Rattle.fp_base.specs.TreeView.{tree_view, tree_items}
 use Rattle.fp_base.proofs.Counted.{count_some}
 use Rattle.fp_base.proofs.Views.{view-Array, view-Object}
 use Rattle.fp_operators.specs.Data.{text}
-use Rattle.fp_targeting.specs.Compiles.{Compiles, CompileAll, IsCompiled, AreCompiled, NoRule, OneWaits, is_plain, NoRules}
+use Rattle.fp_targeting.specs.Compiles.{Compiles, CompileAll, IsCompiled, AreCompiled, NoRule, is_plain, NoRules}
 use Rattle.fp_targeting.specs.Emits.{Pushed, Adds, AddsAlone, Decides, Finds}
-use Rattle.fp_targeting.specs.Memory.{waits}
 use Rattle.fp_targeting.specs.Operators.{takes}
 use Rattle.fp_targeting.specs.Rule.{apply, literal}
 use Rattle.fp_targeting.specs.View.{rules_of}
 use Rattle.fp_targeting.specs.declared.code.Step.TheVariants.{End}
 use Rattle.fp_targeting.specs.declared.operator.Operator.TheVariants.{If}
 use Rattle.fp_targeting.proofs.Compiling.{stops-either, stops-any, strict-either, unnamed, applies, refuses, looks-other, operation, decided, joined_all, collected_all}
-use Rattle.fp_targeting.proofs.Computed.{both-wait, first-waits, second-waits, written, unwritten}
 use Rattle.fp_targeting.proofs.Deciding.{finds-computed, found-alone, found-default, last-decides, more-decides, if-none, if-last, if-more}
-use Rattle.fp_targeting.proofs.Emitting.{added-load, pushed-there, operand-there, stays, adds-later, raised-at, adds-at, keeps-none, keeps-more}
+use Rattle.fp_targeting.proofs.Emitting.{added-load, pushed-there, operand-there, stays, adds-later, raised-there, kept-operand, kept-computed, kept-at, keeps-none, keeps-more}
 use Rattle.fp_targeting.proofs.Leaves.{others-plain}
 use Rattle.fp_targeting.proofs.Loops.{no-rules-drop, compiled-end, compiled-any, no-rules-at, compiled-more, compiled-pair}
 use Rattle.fp_targeting.proofs.Parts.{parted, no-first, no-others, compiles-true, compiles-false, all-false, made-into, all-made-into, same-items, both-compiled, in-front, alone, compile-before, compile-behind, compile-one, two-items, three-items, compile-last}
@@ -27,8 +25,8 @@ use Rattle.fp_targeting.proofs.Sizes.{drop-count, drop-ordered, at-count, at-ord
 use Rattle.fp_targeting.proofs.Splitting.{split-lent, split-computed, split_alone, split_none, split_bad, split_behind, is_list-array}
 use Rattle.fp_targeting.proofs.Strictly.{few-taken, added-one, added-one-computed, added-two, added-two-second, added-two-first, added-three, added-second, added-third}
 use Rattle.fp_targeting.proofs.Trees.{only-Object}
+use Rattle.fp_targeting.proofs.Written.{written}
 use Rattle.fp_targeting.proofs.code.Code.+build.Goals as goal
-use Rattle.fp_targeting.proofs.code.Code.+build.Goals.{three-then-is_lent, three-else-is_lent, three-in_default-via-in-Some+in_default, three-in_default-via-in_default}
 
 pub apply-split-requires : goal.apply-split-requires
 apply-split-requires t c = (omega (arith, c.decreases), c.requires.ordered)
@@ -89,8 +87,8 @@ conditions-compute-requires-in-conditions t c =
     let many = at-count (c.conditions.left - 1) xs c.index-arguments-left-in-conditions.result within c.index-arguments-left-in-conditions.is in
     (omega (arith, c.decreases, many), at-ordered (c.conditions.left - 1) xs c.index-arguments-left-in-conditions.result within c.index-arguments-left-in-conditions.is c.requires.ordered)
 
-pub each_kept-compute-requires : goal.each_kept-compute-requires
-each_kept-compute-requires t c =
+pub each_kept-one_kept-requires : goal.each_kept-one_kept-requires
+each_kept-one_kept-requires t c =
     let xs = c.args.arguments.now in
     let within : c.arguments.left - 1 < length xs = omega (arith, c.arguments.invariant.within, c.arguments-test.true) in
     let many = at-count (c.arguments.left - 1) xs c.index-arguments-left.result within c.index-arguments-left.is in
@@ -220,26 +218,10 @@ pub third-compute-requires-3 : goal.third-compute-requires-3
 third-compute-requires-3 t c = (omega (arith, c.decreases, count_some (tree_view c.args.b.now), count_some (tree_view c.args.c.now)), c.requires.first)
 
 pub three-third-requires : goal.three-third-requires
-three-third-requires t c =
-    let a = tree_view c.args.a.now in
-    let b = tree_view c.args.b.now in
-    let u = tree_view c.args.c.now in
-    let one : OneWaits (item a (item b (item u no_items))) = elim c.if-is_lent.branch [
-      | three-then-is_lent w ↦ second-waits a b u (w.is_lent-then-is_lent.ensures (sym w.value-is ∙ c.if-not-is_lent.true))
-      | three-else-is_lent w ↦ first-waits a b u (c.is_lent.ensures w.if-is_lent.false)
-    ] in
-    (omega (arith, c.decreases), (c.requires.strict, (c.requires.first, (c.requires.second, (c.requires.third, one)))))
+three-third-requires t c = (omega (arith, c.decreases), (c.requires.strict, (c.requires.first, (c.requires.second, c.requires.third))))
 
 pub three-third-requires-in_default : goal.three-third-requires-in_default
-three-third-requires-in_default t c =
-    let a = tree_view c.args.a.now in
-    let b = tree_view c.args.b.now in
-    let u = tree_view c.args.c.now in
-    let one : OneWaits (item a (item b (item u no_items))) = elim c.in_default.branch [
-      | three-in_default-via-in-Some+in_default w ↦ second-waits a b u (c.in_ok-second.ensures.computed w.in_default.is-1)
-      | three-in_default-via-in_default w ↦ first-waits a b u (c.in_ok-first.ensures.computed w.in_default.is-0)
-    ] in
-    (omega (arith, c.decreases), (c.requires.strict, (c.requires.first, (c.requires.second, (c.requires.third, one)))))
+three-third-requires-in_default t c = (omega (arith, c.decreases), (c.requires.strict, (c.requires.first, (c.requires.second, c.requires.third))))
 
 pub two-compute-requires : goal.two-compute-requires
 two-compute-requires t c = (omega (arith, c.decreases, count_some (tree_view c.args.a.now)), c.requires.second)
@@ -248,7 +230,7 @@ pub two-compute-requires-in-None-Some : goal.two-compute-requires-in-None-Some
 two-compute-requires-in-None-Some t c = (omega (arith, c.decreases, count_some (tree_view c.args.b.now)), c.requires.first)
 
 pub two-second-requires : goal.two-second-requires
-two-second-requires t c = (omega (arith, c.decreases), (c.requires.strict, (c.requires.first, (c.requires.second, both-wait (tree_view c.args.a.now) (tree_view c.args.b.now) (c.in_ok-first.ensures.computed c.in-None-None.is-0) (c.in_ok-second.ensures.computed c.in-None-None.is-1)))))
+two-second-requires t c = (omega (arith, c.decreases), (c.requires.strict, (c.requires.first, c.requires.second)))
 
 pub var-found-requires : goal.var-found-requires
 var-found-requires t c = (omega (arith, c.decreases), (c.in_ok-operand.ensures.any c.in_default.is, (c.requires.takes, c.requires.ordered)))
@@ -358,7 +340,7 @@ each_kept-arguments-init t c =
 pub each_kept-returns-then-not-branch : goal.each_kept-returns-then-not-branch
 each_kept-returns-then-not-branch t c =
     let within : c.arguments.left - 1 < length c.args.arguments.now = omega (arith, c.arguments.invariant.within, c.arguments-test.true) in
-    no-rules-at (c.arguments.left - 1) c.args.arguments.now c.index-arguments-left.result within c.index-arguments-left.is (compiles-false _ _ c.in_ok-compute.field-0 c.if-not-branch.true c.in_ok-compute.ensures)
+    no-rules-at (c.arguments.left - 1) c.args.arguments.now c.index-arguments-left.result within c.index-arguments-left.is (compiles-false _ _ c.in_ok-one_kept.field-0 c.if-not-branch.true c.in_ok-one_kept.ensures)
 
 pub each_kept-arguments-preserved : goal.each_kept-arguments-preserved
 each_kept-arguments-preserved t c =
@@ -366,14 +348,22 @@ each_kept-arguments-preserved t c =
     let xs = c.args.arguments.now in
     let within : i < length xs = omega (arith, c.arguments.invariant.within, c.arguments-test.true) in
     let up : c.arguments.left ≡ i + 1 = omega (arith, c.arguments-test.true) in
-    let x = compiles-true c.in_ok-compute.field-0 c.if-not-branch.false c.in_ok-compute.ensures in
+    let x = compiles-true c.in_ok-one_kept.field-0 c.if-not-branch.false c.in_ok-one_kept.ensures in
     let rest = c.arguments.invariant.made in
     record {
       within = omega (arith, within);
       made = compiled-more i xs c.index-arguments-left.result within c.index-arguments-left.is c.arguments.left up x rest
-          (keeps-more (omega (arith, up)) rest.made (raised-at c.in_ok-above.above (c.args.height + c.arguments.left) (omega (arith, up, c.in_ok-above.ensures, c.in_ok-below.ensures)) c.in_ok-keep.ensures)
-          (adds-at c.in_ok-below.below (c.args.height + i) c.in_ok-below.ensures x.made));
+          (keeps-more (omega (arith, up)) rest.made (kept-at c.in_ok-below.below (c.args.height + i) c.in_ok-below.ensures x.made));
     }
+
+pub one_kept-returns-in_ok-keep-in-Some : goal.one_kept-returns-in_ok-keep-in-Some
+one_kept-returns-in_ok-keep-in-Some t c =
+    made-into _ true (c.in_ok-operand.ensures.some c.in-Some.operand c.in-Some.is) (λ r e m. kept-operand c.in_ok-above.ensures m c.in_ok-keep-in-Some.ensures)
+
+pub one_kept-returns-in_ok-compute-in-None : goal.one_kept-returns-in_ok-compute-in-None
+one_kept-returns-in_ok-compute-in-None t c =
+    made-into _ c.in_ok-compute-in-None.field-0 c.in_ok-compute-in-None.ensures
+    (λ r e m. kept-computed c.in_ok-above.ensures (raised-there (c.in_ok-operand.ensures.none c.in-None.is) c.in_ok-keep-in-None.ensures) m)
 
 pub found-returns-then-not-branch : goal.found-returns-then-not-branch
 found-returns-then-not-branch t c =
@@ -432,10 +422,8 @@ pub second-returns : goal.second-returns
 second-returns t c =
     let y = compiles-true c.in_ok-compute.field-0 c.if-not-branch.false c.in_ok-compute.ensures in
     let b = c.in_ok-compute-2.field-0 in
-    all-made-into _ b
-    (compile-before (λ rs. waits (rules_of rs) ≡ true → Adds c.args.height (apply c.args.operator (rules_of rs)) c.args.self.now c.compute-2.new.self) _ b (alone y) (made-into _ b c.in_ok-compute-2.ensures
-    (λ r e m. added-second c.args.operator c.requires.strict c.in_ok-above.ensures c.in_ok-push.ensures y.made c.in_ok-keep.ensures m)))
-    (λ rs e f. f (c.requires.waits rs e))
+    compile-before _ _ b (alone y) (made-into _ b c.in_ok-compute-2.ensures
+    (λ r e m. added-second c.args.operator c.requires.strict c.in_ok-above.ensures c.in_ok-push.ensures y.made c.in_ok-keep.ensures m))
 
 pub split-returns-then-is_array : goal.split-returns-then-is_array
 split-returns-then-is_array t c =
@@ -506,11 +494,9 @@ third-returns t c =
     let z = compiles-true c.in_ok-compute.field-0 c.if-not-branch.false c.in_ok-compute.ensures in
     let y = compiles-true c.in_ok-compute-2.field-0 c.if-not-branch-2.false c.in_ok-compute-2.ensures in
     let b = c.in_ok-compute-3.field-0 in
-    all-made-into _ b
-    (compile-before (λ rs. waits (rules_of rs) ≡ true → AddsAlone c.args.height c.args.operator rs c.args.self.now c.compute-3.new.self) _ b (in-front y (alone z)) (made-into _ b c.in_ok-compute-3.ensures
+    compile-before _ _ b (in-front y (alone z)) (made-into _ b c.in_ok-compute-3.ensures
     (λ r e m. added-third c.args.operator c.requires.strict c.in_ok-one.ensures c.in_ok-two.ensures c.in_ok-push.ensures z.made c.in_ok-keep.ensures y.made
-    c.in_ok-keep-2.ensures m)))
-    (λ rs e f. f (c.requires.waits rs e))
+    c.in_ok-keep-2.ensures m))
 
 pub three-returns-in_ok-compute-in-Some-Some : goal.three-returns-in_ok-compute-in-Some-Some
 three-returns-in_ok-compute-in-Some-Some t c =
@@ -593,4 +579,4 @@ find-returns-in-Some t c =
 pub find-returns : goal.find-returns
 find-returns t c =
     made-into _ c.in_ok-compute.field-0 c.in_ok-compute.ensures
-    (λ r e m. finds-computed (unwritten (tree_view c.args.path.now) r (sym c.in_default.ensures) e) c.in_ok-push.ensures m)
+    (λ r e m. finds-computed c.in_ok-push.ensures m)

@@ -42,7 +42,10 @@ abbrev pub decreases-compute : goal.decreases-compute
 decreases-compute l = 16 * count (tree_view l.json.now)
 
 abbrev pub decreases-each_kept : goal.decreases-each_kept
-decreases-each_kept l = 16 * items_count (tree_items l.arguments.now) + 1
+decreases-each_kept l = 16 * items_count (tree_items l.arguments.now) + 2
+
+abbrev pub decreases-one_kept : goal.decreases-one_kept
+decreases-one_kept l = 16 * count (tree_view l.argument.now) + 1
 
 abbrev pub decreases-apply : goal.decreases-apply
 decreases-apply l = 16 * items_count (tree_items l.arguments.now) + 12

@@ -5,12 +5,8 @@ use Rattle.fp_targeting.specs.Emits.{IsOperand}
 use Rattle.fp_targeting.specs.Rule.{apply, literal, rule, no_rules}
 use Rattle.fp_targeting.specs.declared.code.Operand.TheVariants.{Variable}
 use Rattle.fp_targeting.specs.declared.operator.Operator.TheVariants.{Var}
-use Rattle.fp_targeting.proofs.Computed.{computes-alone, computes-several}
 use Rattle.fp_targeting.proofs.Leaves.{only-text, compiled-text, operand-variable}
 use Rattle.fp_targeting.proofs.code.Code.known_variable.Goals as goal
-
-pub returns-in-len2-up-clause-computed : goal.returns-in-len2-up-clause-computed
-returns-in-len2-up-clause-computed c = λ _. computes-several c.args.arguments.now c.in-len2-up.len_at_least
 
 pub returns-in_ok-path-in-Some-clause-some : goal.returns-in_ok-path-in-Some-clause-some
 returns-in_ok-path-in-Some-clause-some c = λ o e.
@@ -19,7 +15,3 @@ returns-in_ok-path-in-Some-clause-some c = λ o e.
     let same : Variable c.in_ok-path-in-Some.field-0 ≡ o = cc in
     compiled-text (tree_items ts) path.now (only-text ts c.only-item.result path.now (omega (arith, c.in-len1.len_at_least, c.in-len1.len_below)) c.only-item.is (sym c.in-Some.ensures))
     (subst (λ x. IsOperand x (apply Var (rule (literal (text path.now)) no_rules)) c.args.self.now c.path.new.self) same (operand-variable c.in_ok-path-in-Some.ensures))
-
-pub returns-in-None-clause-computed : goal.returns-in-None-clause-computed
-returns-in-None-clause-computed c = λ _.
-    computes-alone c.args.arguments.now c.only-item.result (omega (arith, c.in-len1.len_at_least, c.in-len1.len_below)) c.only-item.is (sym c.in-None.ensures)

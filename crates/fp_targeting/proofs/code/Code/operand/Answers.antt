@@ -3,13 +3,12 @@ use Rattle.std.proofs.lemmas.Bool.{le-leb}
 use Rattle.serde_json.specs.Data.{object, member, no_members}
 use Rattle.fp_base.specs.Ordered.{IsOrdered}
 use Rattle.fp_base.specs.TreeView.{tree_view, tree_items}
-use Rattle.fp_base.proofs.Views.{view-Array, view-Object}
-use Rattle.fp_targeting.specs.Compiles.{IsCompiled, IsComputed, is_plain}
+use Rattle.fp_base.proofs.Views.{view-Object}
+use Rattle.fp_targeting.specs.Compiles.{IsCompiled, is_plain}
 use Rattle.fp_targeting.specs.Emits.{IsOperand}
 use Rattle.fp_targeting.specs.Rule.{Rule}
 use Rattle.fp_targeting.specs.declared.operator.Operator.TheVariants.{Var}
 use Rattle.fp_targeting.proofs.Compiling.{applies, operation}
-use Rattle.fp_targeting.proofs.Computed.{computed-array, computed-other, computed-variable}
 use Rattle.fp_targeting.proofs.Leaves.{others-plain, named-var}
 use Rattle.fp_targeting.proofs.Trees.{only-Object}
 use Rattle.fp_targeting.proofs.code.Code.operand.Goals as goal
@@ -39,24 +38,3 @@ returns-in_ok-known_variable-in-Object-clause-some c = λ o e.
     subst (IsCompiled P) (sym shape)
     (operation true m.0.now Var (tree_view m.1) (tree_items ts) P (named-var m.0.now c.if-ne.ensures) c.arguments.ensures.rules c.arguments.ensures.unknown
     (applies true Var P ts refl (le-leb (length ts) 2 (omega (arith, x.few o e))) (x.some o e)))
-
-pub returns-then-not-are_literals-clause-computed : goal.returns-then-not-are_literals-clause-computed
-returns-then-not-are_literals-clause-computed c = λ _.
-    subst IsComputed (sym (ap tree_view c.in-Array.is ∙ view-Array c.in-Array.items))
-    (computed-array (tree_items c.in-Array.items.items) (sym c.are_literals.ensures ∙ c.if-not-are_literals.true))
-
-pub returns-then-ne-clause-computed : goal.returns-then-ne-clause-computed
-returns-then-ne-clause-computed c = λ _.
-    let v = c.in-Object.members in
-    let m = c.index-only.result.now in
-    let one : length v.items ≡ 1 = grind (arith, v.ok, c.len.ensures, c.if-len-ne1.false) in
-    subst IsComputed (sym (ap tree_view c.in-Object.is ∙ only-Object v m one c.index-only.ensures))
-    (computed-other m.0.now (tree_view m.1) c.if-ne.ensures)
-
-pub returns-in_ok-known_variable-in-Object-clause-computed : goal.returns-in_ok-known_variable-in-Object-clause-computed
-returns-in_ok-known_variable-in-Object-clause-computed c = λ none.
-    let v = c.in-Object.members in
-    let m = c.index-only.result.now in
-    let one : length v.items ≡ 1 = grind (arith, v.ok, c.len.ensures, c.if-len-ne1.false) in
-    subst IsComputed (sym (ap tree_view c.in-Object.is ∙ only-Object v m one c.index-only.ensures))
-    (computed-variable m.0.now (tree_view m.1) (tree_items c.arguments.result.now) c.arguments.ensures.rules (c.in_ok-known_variable-in-Object.ensures.computed none))

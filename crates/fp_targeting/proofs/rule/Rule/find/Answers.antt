@@ -1,14 +1,13 @@
-use Rattle.std.proofs.Common.{◌≡◌, ◌||◌, IfErr, sym, ap, ◌∙◌, subst, true}
+use Rattle.std.proofs.Common.{◌≡◌, IfErr, sym, ap, ◌∙◌, subst, true}
 use Rattle.std.proofs.lemmas.Result.{IfOk-weaker}
-use Rattle.fp_operators.specs.View.{view}
-use Rattle.fp_operators.specs.Memory.{takes_memory}
+use Rattle.fp_targeting.specs.Found.{found_view}
 use Rattle.fp_targeting.specs.Memory.{needs_memory}
 use Rattle.fp_targeting.specs.Means.{Means}
 use Rattle.fp_targeting.specs.Meaning.{meaning}
 use Rattle.fp_targeting.specs.Operators.{well_formed}
 use Rattle.fp_targeting.specs.Reading.{rule_of_code}
 use Rattle.fp_targeting.proofs.OneResult.{Means-exists}
-use Rattle.fp_targeting.proofs.rule.Rule.eval.Goals as goal
+use Rattle.fp_targeting.proofs.rule.Rule.find.Goals as goal
 
 pub returns-clause-means : goal.returns-clause-means
 returns-clause-means c =
@@ -16,16 +15,13 @@ returns-clause-means c =
     let d = c.args.data.now in
     let formed : well_formed r ≡ true = ap well_formed (sym c.self.view_is) ∙ c.self.invariant.formed in
     let made = ap (λ e. meaning e (rule_of_code c.self.inside.code)) c.datum.ensures ∙ ap (meaning d) c.self.view_is in
-    IfOk-weaker c.run.result _ (λ x. Means r d (view x)) (λ x e. subst (λ y. Means r d y) (sym (e ∙ made)) (Means-exists d r formed)) c.run.ensures.means
+    IfOk-weaker c.run.result _ (λ x. Means r d (found_view x)) (λ x e. subst (λ y. Means r d y) (sym (e ∙ made)) (Means-exists d r formed)) c.run.ensures.means
 
 pub returns-clause-computed : goal.returns-clause-computed
 returns-clause-computed c =
     let made = ap (λ e. meaning e (rule_of_code c.self.inside.code)) c.datum.ensures ∙ ap (meaning c.args.data.now) c.self.view_is in
-    IfOk-weaker c.run.result _ (λ x. view x ≡ meaning c.args.data.now c.args.self.now) (λ x e. e ∙ made) c.run.ensures.means
+    IfOk-weaker c.run.result _ (λ x. found_view x ≡ meaning c.args.data.now c.args.self.now) (λ x e. e ∙ made) c.run.ensures.means
 
 pub returns-clause-memory : goal.returns-clause-memory
 returns-clause-memory c =
-    let d = c.args.data.now in
-    let code = c.self.inside.code in
-    subst (λ r. IfErr c.run.result (λ e. (needs_memory r || takes_memory (meaning d r)) ≡ true)) c.self.view_is
-    (subst (λ x. IfErr c.run.result (λ e. (needs_memory (rule_of_code code) || takes_memory (meaning x (rule_of_code code))) ≡ true)) c.datum.ensures c.run.ensures.memory)
+    subst (λ r. IfErr c.run.result (λ e. needs_memory r ≡ true)) c.self.view_is c.run.ensures.memory
