@@ -7,3 +7,4 @@ pub mod Outcome
 pub mod Targeting
 pub mod Kept
 pub mod Choice
+pub mod Memory

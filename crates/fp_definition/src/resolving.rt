@@ -1,7 +1,7 @@
 //! What a definition resolves to.
 
-ghost use Rattle.std.specs.Prelude.{◌≡◌, ◌<◌, ◌^◌, ◌↔◌, ℕ, List, Result, true, IfOk, IfSome};
-ghost use Rattle.std.specs.Prelude.{IsSome, codes};
+ghost use Rattle.std.specs.Prelude.{◌≡◌, ◌<◌, ◌^◌, ◌↔◌, ℕ, List, Result, true, IfOk, IfErr};
+ghost use Rattle.std.specs.Prelude.{IfSome, IsSome, codes};
 ghost use Rattle.serde_json.specs.Data.{Data as JsonData};
 ghost use Rattle.serde_json.specs.Find.{as_object, get, get_member};
 ghost use Rattle.serde_json.specs.View.{view, members_view};
@@ -10,15 +10,19 @@ ghost use Rattle.fp_base.specs.Ordered.{IsOrdered};
 ghost use Rattle.fp_base.specs.TreeView.{tree_view};
 ghost use Rattle.fp_base.specs.Whole.{is_whole, members_whole};
 ghost use Rattle.fp_definition.specs.Key.{key_bytes};
+ghost use Rattle.fp_definition.specs.Memory.{HasRule, rule_needs_memory};
 ghost use Rattle.fp_definition.specs.Outcome.{outcome_of};
 ghost use Rattle.fp_definition.specs.Resolving.{Resolves, Said, Tells, TellsItself, said_by};
 ghost use Rattle.fp_definition.specs.Resolving.{by_default, by_result, data_of, is_disabled};
 ghost use Rattle.fp_definition.specs.Resolving.{outcome_of_variant, said_or_none};
+ghost use Rattle.fp_definition.specs.Targeting.{rule_in};
+ghost use Rattle.fp_definition.specs.declared.resolving.EvalFault.TheVariants.{Memory, NoVariant};
 ghost use Rattle.fp_operators.specs.Data as values;
 ghost use Rattle.fp_operators.specs.View.{view as datum_view};
 ghost use Rattle.fp_targeting.specs.Meaning.{meaning};
 ghost use Rattle.fp_targeting.specs.Means.{Means};
-ghost use Rattle.fp_targeting.specs.RuleData.{IsOfContext};
+ghost use Rattle.fp_targeting.specs.Memory.{needs_memory};
+ghost use Rattle.fp_targeting.specs.RuleData.{IsOfContext, rule_data};
 
 use crate::definition::Definition;
 use crate::key::FlagKey;
@@ -88,6 +92,7 @@ impl Definition {
         ensures computed { Gives said_by Tells result
             (outcome_of (data_of self.now) (key_bytes key.now) (view context.now) now) }
         ensures printable { IfOk result (λ r. is_whole (view r.value.now) ≡ true) }
+        ensures memory { IfErr result (λ e. e ≡ Memory → HasRule (data_of self.now)) }
     {
         if self.is_disabled() {
             return Err(EvalFault::Disabled);
@@ -119,6 +124,7 @@ impl Definition {
         ensures computed { Gives said_by Tells result
             (outcome_of (data_of self.now) (key_bytes key.now) (tree_view context.now) now) }
         ensures printable { IfOk result (λ r. is_whole (view r.value.now) ≡ true) }
+        ensures memory { IfErr result (λ e. e ≡ Memory → HasRule (data_of self.now)) }
     {
         if self.is_disabled() {
             return Err(EvalFault::Disabled);
@@ -148,6 +154,7 @@ impl Definition {
         ensures context { (context : JsonData) (now : ℕ) → IsOfContext context now «data».old
             → IsOfContext context now «data».new }
         ensures printable { IfOk result (λ r. is_whole (view r.value.now) ≡ true) }
+        ensures memory { IfErr result (λ e. e ≡ Memory → HasRule (data_of self.now)) }
     {
         if self.is_disabled() {
             return Err(EvalFault::Disabled);
@@ -157,6 +164,29 @@ impl Definition {
         };
         data.set_flag(alloc, key.as_str())?;
         self.by_rule(alloc, rule, data)
+    }
+
+    /// The same over data that are made for the flag, whose key they have. Memory can run out only
+    /// where the rule makes a list or a text, or reads versions: what it names is lent.
+    #[tactic(auto, unfolding(crate::specs::Outcome::outcome_of))]
+    pub fn resolve_over(&self, alloc: Global, data: &Data) -> Result<Resolved<'_>, EvalFault>
+        ensures resolves { (key : List ℕ) (context : JsonData) (now : ℕ)
+            → «data».now ≡ rule_data context key now
+            → Answers said_by Tells result (Resolves (data_of self.now) key context now) }
+        ensures computed { (key : List ℕ) (context : JsonData) (now : ℕ)
+            → «data».now ≡ rule_data context key now
+            → Gives said_by Tells result (outcome_of (data_of self.now) key context now) }
+        ensures printable { IfOk result (λ r. is_whole (view r.value.now) ≡ true) }
+        ensures memory { IfErr result (λ e. e ≡ Memory
+            → rule_needs_memory (rule_in (get (codes "targeting") (data_of self.now))) ≡ true) }
+    {
+        if self.is_disabled() {
+            return Err(EvalFault::Disabled);
+        }
+        match self.rule() {
+            None => self.default_of(Reason::Static),
+            Some(rule) => self.by_rule(alloc, rule, data),
+        }
     }
 
     /// Exactly one outcome, whatever the key, the context and the moment, which `resolve` answers
@@ -182,9 +212,10 @@ impl Definition {
         ensures computed { Gives said_by Tells result
             (by_result (data_of self.now) (meaning «data».now rule.now)) }
         ensures printable { IfOk result (λ r. is_whole (view r.value.now) ≡ true) }
+        ensures memory { IfErr result (λ e. e ≡ Memory → needs_memory rule.now ≡ true) }
     {
-        let given = rule.eval(alloc, data)?;
-        self.named_by(&given)
+        let given = rule.find(alloc, data)?;
+        self.named_by(given.datum())
     }
 
     // The variant that a rule's result names.
@@ -192,6 +223,7 @@ impl Definition {
         ensures resolves { Gives said_by TellsItself result
             (by_result (data_of self.now) (datum_view given.now)) }
         ensures printable { IfOk result (λ r. is_whole (view r.value.now) ≡ true) }
+        ensures refused { IfErr result (λ e. e ≡ NoVariant) }
     {
         match given {
             Datum::Null => self.default_of(Reason::Default),
@@ -206,6 +238,7 @@ impl Definition {
         ensures resolves { Gives said_by TellsItself result
             (by_default reason (data_of self.now)) }
         ensures printable { IfOk result (λ r. is_whole (view r.value.now) ≡ true) }
+        ensures refused { IfErr result (λ e. e ≡ NoVariant) }
     {
         self.variant_named(self.choice().default.as_str(), reason)
     }
@@ -214,6 +247,7 @@ impl Definition {
         ensures resolves { Gives said_by TellsItself result
             (outcome_of_variant name.now reason (get (codes "variants") (data_of self.now))) }
         ensures printable { IfOk result (λ r. is_whole (view r.value.now) ≡ true) }
+        ensures refused { IfErr result (λ e. e ≡ NoVariant) }
     {
         variant_among(&self.choice().variants, name, reason)
     }
@@ -237,6 +271,7 @@ fn variant_among<'d>(
         (said_or_none name.now reason (get_member name.now (members_view variants.now))) }
     ensures printable { members_whole (members_view variants.now) ≡ true → IfOk result (λ r.
         is_whole (view r.value.now) ≡ true) }
+    ensures refused { IfErr result (λ e. e ≡ NoVariant) }
 {
     match variants.get(name) {
         Some((variant, value)) => Ok(Resolved {
