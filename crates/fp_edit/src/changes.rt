@@ -78,6 +78,14 @@ impl Changes {
         }
     }
 
+    /// These changes, in this order, of which it's known that they lack nothing.
+    pub fn of_lawful(changes: Vec<Change>) -> Changes
+        requires { set_fault (parts_of (map proposed_of changes.items)) ≡ None }
+        ensures { result ≡ map proposed_of changes.items }
+    {
+        Changes { changes }
+    }
+
     /// The changes in their order.
     pub fn as_slice(&self) -> &[Change]
         ensures changes { map proposed_of result.now ≡ self.now }
@@ -241,7 +249,7 @@ fn are_distinct(alloc: Global, changes: &[Change]) -> bool
 // Meets the keys of the changes, the last one first, up to one that was met before; answers whether
 // there is none.
 fn meet_all<'a>(met: &mut MetKeys<'a>, changes: &'a [Change]) -> Result<bool, AllocError>
-    requires { AreMet met.old [] }
+    requires { met.old ≡ [] }
     ensures distinct { IfOk result (λ all. all ≡ are_distinct (keys_of changes.now)) }
     ensures met { IfOk result (λ all. all ≡ true → AreMet met.new (keys_of changes.now)) }
 {

@@ -1,33 +1,42 @@
 //! Keys that were met, each once.
 
-ghost use Rattle.std.specs.Prelude.{◌≡◌, ◌||◌, ℕ, List, [], not, bytes_eq, IfOk, OnOk};
-ghost use Rattle.fp_edit.specs.Keys.{AreMet, was_met};
+ghost use Rattle.std.specs.Prelude.{◌≡◌, ◌∷◌, [], not, IfOk, OnOk};
+ghost use Rattle.fp_edit.specs.Changes.{is_among};
+ghost use Rattle.fp_edit.specs.Keys.{AreMet};
 
 use std::alloc::{AllocError, Global};
 use std::collections::BTreeSet;
+use std::marker::Model;
 
-/// Keys that were met.
+/// Keys that were met, by which it's known of the next one whether it's new.
 #[derive(Drop)]
-pub(crate) struct MetKeys<'a> {
+pub struct MetKeys<'a> {
     keys: BTreeSet<&'a str>,
 }
 
+impl<'a> Model for MetKeys<'a> {
+    ghost use Rattle.std.specs.Prelude.{ℕ, List, map};
+
+    ghost Value = { List (List ℕ) };
+
+    ghost view = { λ a. map (λ q. q.now) a.keys.keys };
+}
+
 impl<'a> MetKeys<'a> {
-    /// None was met yet.
-    pub(crate) fn new(alloc: Global) -> MetKeys<'a>
-        ensures { AreMet result [] }
+    /// None was met yet. It takes no memory.
+    pub fn new(alloc: Global) -> MetKeys<'a>
+        ensures { result ≡ [] }
     {
         MetKeys {
             keys: BTreeSet::new(alloc),
         }
     }
 
-    /// Meets a key, and answers whether it's the first time. Where memory is wanting, the first time
-    /// has not come.
-    pub(crate) fn meet(&mut self, key: &'a str) -> Result<bool, AllocError>
-        ensures first { IfOk result (λ first. first ≡ not (was_met self.old key.now)) }
-        ensures met { OnOk result ((k : List ℕ)
-            → was_met self.new k ≡ (bytes_eq k key.now || was_met self.old k)) }
+    /// Meets a key by one look-up, and answers whether it's the first time. Where memory is wanting,
+    /// the first time has not come.
+    pub fn meet(&mut self, key: &'a str) -> Result<bool, AllocError>
+        ensures first { IfOk result (λ first. first ≡ not (is_among key.now self.old)) }
+        ensures met { OnOk result (AreMet self.new (key.now ∷ self.old)) }
     {
         Ok(self.keys.insert(key)?)
     }

@@ -24,6 +24,7 @@ pub use edit::{Change, Edit, EditFault, Expect, REVISIONS_END};
 pub use flag_set::{FlagSet, MOST_FLAGS};
 pub use flags::{FLAG_FRAME, Flag, IMAGE_HEAD};
 pub use following::copies_of;
+pub use keys::MetKeys;
 pub use laws::{
     one_outcome, refusals_leave_no_trace, revisions_count_edits, sets_keep_their_limit,
 };
