@@ -287,10 +287,11 @@ impl FlagSet {
     {
         let revision = self.revision + 1;
         let marks_one = changes.as_slice().len() == 1;
-        let Ok(added) = add_new(&mut self.flags, changes.as_slice(), revision) else {
+        let Ok((added, are_made)) = add_new(&mut self.flags, changes.as_slice(), revision) else {
             return Err(changes);
         };
-        let (come, gone) = replace_all(&mut self.flags, changes.into_changes(), revision);
+        let changes = changes.into_changes();
+        let (come, gone) = replace_all(&mut self.flags, changes, revision, are_made);
         self.size = (self.size as u128 + added + come - gone) as u64;
         self.revision = revision;
         self.marks_one = marks_one;

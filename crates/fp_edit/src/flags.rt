@@ -121,31 +121,35 @@ pub(crate) fn copy_of(
 }
 
 /// Puts a flag under each key that a change puts and that has none yet, and answers the bytes that
-/// these take in an image. Where memory is wanting none is put.
+/// these take in an image, and whether all changes are made by that. Where memory is wanting none is
+/// put.
 pub(crate) fn add_new(
     flags: &mut BTreeMap<FlagKey, Flag>,
     changes: &[Change],
     revision: u64,
-) -> Result<u128, AllocError>
+) -> Result<(u128, bool), AllocError>
     requires ordered { IsOrdered flag_cmp flags.old }
     requires few { length changes.now ≤ MOST_CHANGES }
     ensures there { OnOk result
         (HasPutKeys (flags_of flags.new.entries) (parts_of (map_of proposed_of changes.now))) }
     ensures filled { OnOk result (FillsAt (keys_of changes.now)
         (flags_of flags.old.entries) (flags_of flags.new.entries)) }
-    ensures size { IfOk result (λ n.
-        size_of (flags_of flags.new.entries) ≡ size_of (flags_of flags.old.entries) + n) }
-    ensures small { IfOk result (λ n. n ≤ length changes.now * 2 ^ 66) }
+    ensures made { IfOk result (λ x. x.1 ≡ true → flags_of flags.new.entries
+        ≡ parts_after revision (flags_of flags.old.entries)
+        (parts_of (map_of proposed_of changes.now))) }
+    ensures size { IfOk result (λ x.
+        size_of (flags_of flags.new.entries) ≡ size_of (flags_of flags.old.entries) + x.0) }
+    ensures small { IfOk result (λ x. x.0 ≤ length changes.now * 2 ^ 66) }
     ensures put { OnErr result (any_put (parts_of (map_of proposed_of changes.now)) ≡ true) }
     ensures unchanged { OnErr result (flags_of flags.new.entries ≡ flags_of flags.old.entries) }
     ensures ordered { IsOrdered flag_cmp flags.new }
 {
     let Some((change, rest)) = changes.split_first() else {
-        return Ok(0);
+        return Ok((0, true));
     };
     let cost = add_one(flags, change, revision)?;
     match add_new(flags, rest, revision) {
-        Ok(more) => Ok(cost + more),
+        Ok((more, are_made)) => Ok((cost + more, cost > 0 && are_made)),
         Err(e) => {
             if cost > 0 {
                 take(flags, change.key());
@@ -172,6 +176,8 @@ fn add_one(
     ensures small { IfOk result (λ n. n < 2 ^ 66) }
     ensures none { IfOk result (λ n. n ≡ 0
         → flags_of flags.new.entries ≡ flags_of flags.old.entries) }
+    ensures made { IfOk result (λ n. 0 < n → flags_of flags.new.entries
+        ≡ part_after revision (flags_of flags.old.entries) (proposed_of change.now).part) }
     ensures one { IfOk result (λ n. 0 < n
         → map.remove (flags_of flags.new.entries) (part_key (proposed_of change.now).part)
         ≡ flags_of flags.old.entries) }
@@ -194,17 +200,20 @@ fn add_one(
 }
 
 /// Makes changes of which each that puts a flag finds one at its key, and answers the bytes of an
-/// image that come and those that go.
+/// image that come and those that go. Where it's known that they are made already, nothing is done.
 pub(crate) fn replace_all(
     flags: &mut BTreeMap<FlagKey, Flag>,
     changes: Vec<Change>,
     revision: u64,
+    are_made: bool,
 ) -> (u128, u128)
     requires ordered { IsOrdered flag_cmp flags.old }
     requires few { length changes.items ≤ MOST_CHANGES }
     requires there { HasPutKeys (flags_of flags.old.entries)
         (parts_of (map_of proposed_of changes.items)) }
     requires distinct { are_distinct (keys_of changes.items) ≡ true }
+    requires same { are_made ≡ true → parts_after revision (flags_of flags.old.entries)
+        (parts_of (map_of proposed_of changes.items)) ≡ flags_of flags.old.entries }
     ensures made { flags_of flags.new.entries ≡ parts_after revision (flags_of flags.old.entries)
         (parts_of (map_of proposed_of changes.items)) }
     ensures size { size_of (flags_of flags.new.entries) + result.1
@@ -212,6 +221,9 @@ pub(crate) fn replace_all(
     ensures small { result.0 ≤ length changes.items * 2 ^ 66 }
     ensures ordered { IsOrdered flag_cmp flags.new }
 {
+    if are_made {
+        return (0, 0);
+    }
     let mut come = 0;
     let mut gone = 0;
     for change in changes {
@@ -233,36 +245,42 @@ fn make_one(flags: &mut BTreeMap<FlagKey, Flag>, change: Change, revision: u64) 
     ensures small { (result.0 < 2 ^ 66) × (result.1 < 2 ^ 66) }
     ensures ordered { IsOrdered flag_cmp flags.new }
 {
-    let gone = cost_at(flags, change.key());
     match change {
         Change::Put { key, flag, .. } => {
             let come = cost_of(&key, &flag);
-            replace(flags, &key, flag, revision);
+            let gone = replace(flags, &key, flag, revision);
             (come, gone)
         }
         Change::Delete { key, .. } => {
+            let gone = cost_at(flags, &key);
             take(flags, &key);
             (0, gone)
         }
     }
 }
 
-// Gives a key that has a flag another one, which takes no memory.
+// Gives a key that has a flag another one, which takes no memory, and answers what the one before it
+// took of an image.
 fn replace(
     flags: &mut BTreeMap<FlagKey, Flag>,
     key: &FlagKey,
     definition: Definition,
     revision: u64,
-)
+) -> u128
     requires { is_some (map.get (flags_of flags.old.entries) (key_bytes key.now)) ≡ true }
     ensures replaced { flags_of flags.new.entries
         ≡ map.insert (flags_of flags.old.entries) (key_bytes key.now)
         (record { definition = definition; changed = revision }) }
+    ensures before { result ≡ cost_found (key_bytes key.now)
+        (map.get (flags_of flags.old.entries) (key_bytes key.now)) }
+    ensures small { result < 2 ^ 66 }
     ensures ordered { IsOrdered flag_cmp flags.new }
 {
     let Some(flag) = flags.get_mut(key) else {
         unreachable!();
     };
+    let before = cost_of(key, &flag.definition);
     flag.definition = definition;
     flag.changed = revision;
+    before
 }

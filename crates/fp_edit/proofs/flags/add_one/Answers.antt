@@ -56,3 +56,6 @@ pub returns-clause-one : goal.returns-clause-one
 returns-clause-one c = λ some.
     let p = (proposed_of c.args.change.now).part in
     ap (λ (n : Flags). map.remove n (part_key p)) (stored c) ∙ undone c.args.revision (flags_of c.args.flags.now.entries) p (nothing c)
+
+pub returns-clause-made : goal.returns-clause-made
+returns-clause-made c = λ some. stored c

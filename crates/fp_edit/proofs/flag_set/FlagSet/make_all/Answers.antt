@@ -28,7 +28,7 @@ made c =
     let filled = flags_of c.add_new.new.flags.entries in
     let new = subst (λ (ps : List ProposedPart). FillsAt (map part_key (parts_of ps)) (before c).flags filled) c.as_slice-2.ensures.changes c.in-Ok.ensures.filled in
     c.replace_all-come.ensures.made
-    ∙ ap (λ (ps : List ProposedPart). parts_after r filled (parts_of ps)) c.into_changes.ensures.changes
+    ∙ ap (λ (ps : List ProposedPart). parts_after r filled (parts_of ps)) c.into_changes-changes.ensures.changes
     ∙ parts_after-same r filled (before c).flags (parts_of c.args.changes) new.others
 
 admitted : (c : After-replace_all-come) → refusal (before c) (joint c.args.changes) ≡ None
@@ -75,3 +75,15 @@ invariant_of-self-2 c =
 
 pub returns-clause-made : goal.returns-clause-made
 returns-clause-made c = rw (← c.self.view_is) (ap (λ (m : Flags). record { flags = m; revision = c.self.inside.revision + 1; limit = c.self.inside.limit }) (made (goal.at.returns-clause-made c).After-replace_all-come))
+
+-- what is made already is made once more
+pub replace_all-come-requires-clause-same : goal.replace_all-come-requires-clause-same
+replace_all-come-requires-clause-same c = λ on.
+    let r = c.self.inside.revision + 1 in
+    let m = flags_of c.self.inside.flags.entries in
+    let filled = flags_of c.add_new.new.flags.entries in
+    let new = subst (λ (ps : List ProposedPart). FillsAt (map part_key (parts_of ps)) m filled) c.as_slice-2.ensures.changes c.in-Ok.ensures.filled in
+    let done = subst (λ (ps : List ProposedPart). filled ≡ parts_after r m (parts_of ps)) c.as_slice-2.ensures.changes (c.in-Ok.ensures.made on) in
+    ap (λ (ps : List ProposedPart). parts_after r filled (parts_of ps)) c.into_changes-changes.ensures.changes
+    ∙ parts_after-same r filled m (parts_of c.args.changes) new.others
+    ∙ sym done
