@@ -6,6 +6,8 @@ use crate::text::Text;
 /// What rules flags have.
 #[derive(Clone, Copy)]
 pub enum Rules {
+    /// No flag has one.
+    None,
     /// Two flags of three have a short one.
     Usual,
     /// Three flags of four have one, and of these one of four lists 20 to 300 tenants.
@@ -16,6 +18,7 @@ impl Rules {
     // How many conditions a rule has, and how many tenants a list in it.
     fn chosen(self, random: &mut Random) -> (u64, u64) {
         match self {
+            Rules::None => (0, 0),
             Rules::Usual => (random.below(3), random.from(3, 6)),
             Rules::Long if random.below(4) == 0 => (random.below(4), random.from(20, 281)),
             Rules::Long => (random.below(4), random.from(3, 12)),

@@ -1,4 +1,4 @@
-//! Runs one of seven workloads through the product's calls, over disks in memory, and prints a digest
+//! Runs one of eight workloads through the product's calls, over disks in memory, and prints a digest
 //! of all that they answered.
 #![tactic(auto)]
 
@@ -14,6 +14,7 @@ mod job;
 mod opening;
 mod pool;
 mod random;
+mod sets;
 mod snapshots;
 mod text;
 mod uncommon;

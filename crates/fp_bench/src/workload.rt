@@ -6,6 +6,7 @@ use crate::evaluations::evaluations;
 use crate::importing::importing;
 use crate::job::Job;
 use crate::opening::opening;
+use crate::sets::sets;
 use crate::snapshots::snapshots;
 use crate::uncommon::uncommon;
 use std::sync::Wait;
@@ -20,10 +21,11 @@ pub enum Workload {
     Snapshots,
     Awkward,
     Uncommon,
+    Sets,
 }
 
 /// Each of them.
-pub const WORKLOADS: [Workload; 7] = [
+pub const WORKLOADS: [Workload; 8] = [
     Workload::Opening,
     Workload::Edits,
     Workload::Import,
@@ -31,6 +33,7 @@ pub const WORKLOADS: [Workload; 7] = [
     Workload::Snapshots,
     Workload::Awkward,
     Workload::Uncommon,
+    Workload::Sets,
 ];
 
 impl Workload {
@@ -44,6 +47,7 @@ impl Workload {
             Workload::Snapshots => "snapshots",
             Workload::Awkward => "awkward",
             Workload::Uncommon => "uncommon",
+            Workload::Sets => "sets",
         }
     }
 
@@ -57,6 +61,7 @@ impl Workload {
             Workload::Snapshots => snapshots(rt, job),
             Workload::Awkward => awkward(rt, job),
             Workload::Uncommon => uncommon(rt, job),
+            Workload::Sets => sets(job),
         }
     }
 }
