@@ -1,5 +1,5 @@
 -- Batches: what is read is spelled so, and what is spelled so is read.
-use Rattle.std.proofs.Common.{◌≡◌, ℕ, ◌+◌, ◌^◌, ◌<◌, ◌≤◌, true, false, cond, ◌&&◌, eqb, leb, List, [], ◌∷◌, ◌++◌, length, map, None, Some, Result, Ok, Err, refl, sym, ap, subst, ◌∙◌, append_assoc, arith, inl, inr}
+use Rattle.std.proofs.Common.{◌≡◌, ℕ, ◌+◌, ◌^◌, ◌<◌, ◌≤◌, true, false, cond, ◌&&◌, eqb, leb, List, [], ◌∷◌, ◌++◌, length, map, None, Result, Ok, Err, refl, sym, ap, subst, ◌∙◌, append_assoc, arith, inl, inr}
 use Rattle.std.specs.Prelude.{is_none}
 use Rattle.std.specs.Int.{w8, w16, w64, to_be_bytes}
 use Rattle.std.specs.List.{flat_map, AllByRecursion}
@@ -21,7 +21,6 @@ use Rattle.fp_record.proofs.Together.{AreNew, all_new, new_behind, new_with, dis
 use Rattle.fp_record.proofs.Whole.{whole_ok, whole_again, Takes-all, one_reading}
 use Rattle.fp_record.proofs.Places.{IsBytes, bind_ok, passed, met, both_true, ok_is, chosen, From, From-start, From-to, Takes, Takes-then, Takes-long, wide8, wide16, wide64, number_takes, number_ends, number_again}
 use Rattle.fp_edit.specs.declared.edit.TheConstants.{REVISIONS_END}
-use Rattle.fp_edit.specs.declared.changes.SetFault.{SetFault}
 use Rattle.fp_edit.specs.declared.changes.TheConstants.{MOST_CHANGES, LONGEST_EDIT}
 use Rattle.fp_record.specs.declared.batch.TheConstants.{MOST_EDITS, PUT_KIND, DELETE_KIND, SET_KIND}
 
@@ -204,18 +203,11 @@ set_reads bytes kind at count x fits behind within e h =
     let is : is_count (length x.0) ≡ true = ap is_count two.1 ∙ one.1 in
     record { taken = all; lawful = two.2.lawful; short = set_short kind at x.1.1 x.0 behind (Takes-long bytes at (to_be_bytes w16 (length x.0) ++ flat_map encoding_of_part x.0) x.1.1 within all) is two.2.distinct }
 
--- a set's parts were read, and what they owe tells whether the set is
+-- a set's parts were read, and their length tells that they lack nothing
 module _ (bytes : List ℕ) (kind at : ℕ) (count : ℕ × ℕ) (x : List Part × (List (List ℕ) × ℕ)) (fits : IsBytes bytes) (behind : at ≡ kind + 1) (within : at ≤ length bytes)
     (e : part_count bytes at ≡ Ok count) (h : many_from (next_part bytes) count.0 ([], count.1) ≡ Ok x) where
-  set_is : set_at bytes kind at ≡ cond (is_none (set_fault x.0)) (Ok (set x.0, x.1.1)) (Err kind)
-  unfolding set_at
-  set_is = rw (e, h, (set_reads bytes kind at count x fits behind within e h).short) refl
-
-  pub set_made : set_fault x.0 ≡ None → set_at bytes kind at ≡ Ok (set x.0, x.1.1)
-  set_made none = set_is ∙ rw none refl
-
-  pub set_refused : (fault : SetFault) → set_fault x.0 ≡ Some fault → set_at bytes kind at ≡ Err kind
-  set_refused fault some = set_is ∙ rw some refl
+  pub set_lawful : x.1.1 ≤ kind + LONGEST_EDIT → set_fault x.0 ≡ None
+  set_lawful short = nothing (set_fault x.0) (sym (set_reads bytes kind at count x fits behind within e h).short ∙ le-leb x.1.1 (kind + LONGEST_EDIT) short)
 
 set_takes : (bytes : List ℕ) (kind at : ℕ) (x : Change × ℕ) → IsBytes bytes → at ≡ kind + 1 → at ≤ length bytes → Takes bytes kind (SET_KIND ∷ []) at → set_at bytes kind at ≡ Ok x → Takes bytes kind (encoding_of_change x.0) x.1 × IsChange x.0
 unfolding set_at encoding_of_change

@@ -5,6 +5,7 @@ pub mod Keyed
 pub mod Lengths
 pub mod Loop
 pub mod Many
+pub mod MetBefore
 pub mod Places
 pub mod Sets
 pub mod Texts

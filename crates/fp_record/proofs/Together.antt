@@ -19,7 +19,7 @@ abbrev pub AreNew : List (List ℕ) → List (List ℕ) → Type 0
 AreNew before keys = AllByRecursion (λ k. is_among k before ≡ false) keys
 
 -- with one more in front of them
-among_more : (k : List ℕ) (before : List (List ℕ)) (key : List ℕ) → is_among k (before ++ key ∷ []) ≡ (is_among k before || bytes_eq k key)
+pub among_more : (k : List ℕ) (before : List (List ℕ)) (key : List ℕ) → is_among k (before ++ key ∷ []) ≡ (is_among k before || bytes_eq k key)
 among_more k before key = or_push (is_among k) (bytes_eq k) refl (λ l ls. refl) before key
 
 pub all_new : (keys : List (List ℕ)) → AreNew [] keys

@@ -24,11 +24,16 @@ new_key_at before bytes at = do
   key ← key_at bytes at
   if is_among key.0 before then Err (at + 2) else Ok key
 
+-- the put of this key with the definition that is there
+abbrev pub put_with : List ℕ → List ℕ → ℕ → Result (Part × ℕ) ℕ
+put_with key bytes at = do
+  text ← definition_at bytes at
+  Ok (put key text.0, text.1)
+
 unfoldable pub put_at : List (List ℕ) → List ℕ → ℕ → Result (Part × ℕ) ℕ
 put_at before bytes at = do
   key ← new_key_at before bytes at
-  text ← definition_at bytes key.1
-  Ok (put key.0 text.0, text.1)
+  put_with key.0 bytes key.1
 
 unfoldable pub delete_at : List (List ℕ) → List ℕ → ℕ → Result (Part × ℕ) ℕ
 delete_at before bytes at = do

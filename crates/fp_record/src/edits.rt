@@ -1,110 +1,184 @@
 //! Edits from an offset on, each with the offset behind it.
 
-ghost use Rattle.std.specs.Prelude.{◌≡◌, ◌+◌, ◌≤◌, [], length, map, IfOk};
+ghost use Rattle.std.specs.Prelude.{◌≡◌, ◌+◌, ◌<◌, ◌≤◌, [], ◌∷◌, length, map, IfErr, IfOk};
 ghost use Rattle.fp_base.specs.Answer.{Gives};
-ghost use Rattle.fp_definition.specs.Key.{key_bytes};
-ghost use Rattle.fp_edit.specs.Changes.{is_among};
 ghost use Rattle.fp_edit.specs.Edits.{proposal_of};
 ghost use Rattle.fp_edit.specs.Following.{change_of, changes_of, unconditional};
-ghost use Rattle.fp_edit.specs.Parts.{free, keys_of, parts_of, proposed_of};
+ghost use Rattle.fp_edit.specs.Keys.{AreMet};
+ghost use Rattle.fp_edit.specs.Parts.{delete, free, keys_of, part_key, parts_of, proposed_of};
 ghost use Rattle.fp_record.specs.Fields.{Tells};
 ghost use Rattle.fp_record.specs.Reading.{change_at, changes_at, many_from, new_key_at, next_part};
-ghost use Rattle.fp_record.specs.Reading.{delete_at, part_at, part_count, put_at, set_at};
+ghost use Rattle.fp_record.specs.Reading.{delete_at, part_at, part_count, put_at, put_with};
+ghost use Rattle.fp_record.specs.Reading.{set_at};
+ghost use Rattle.fp_record.specs.declared.fault.RecordFault.TheVariants.{Memory};
 
 use crate::batch::{DELETE_KIND, PUT_KIND, SET_KIND};
 use crate::fault::RecordFault;
 use crate::fields::{definition_from, key_of, key_text_at, u8_at, u16_at};
-use fp_definition::FlagKey;
-use fp_edit::{Change, Changes, Edit, Expect, MOST_CHANGES};
+use fp_definition::LONGEST_KEY;
+use fp_edit::{Change, Changes, Edit, Expect, LONGEST_EDIT, MOST_CHANGES, MetKeys};
 use std::alloc::Global;
 
-// Whether one of these changes is of the key of that text.
-fn is_of(text: &str, changes: &[Change]) -> bool
-    ensures { result ≡ is_among text.now (keys_of changes.now) }
-{
-    changes.iter().any(|change| text == change.key().as_str())
-}
-
-// A key that none of these changes is of, and the place behind it.
+// The text of a key that was not met before, and the place behind it. It is met then.
 #[tactic(auto, unfolding(crate::specs::Reading::new_key_at))]
-fn new_key_from(
-    alloc: Global,
-    bytes: &[u8],
-    before: &[Change],
+fn new_key_from<'a>(
+    bytes: &'a [u8],
+    met: &mut MetKeys<'a>,
     at: usize,
-) -> Result<(FlagKey, usize), RecordFault>
+) -> Result<(&'a str, usize), RecordFault>
     requires { at ≤ length bytes.now }
-    ensures value { Gives (λ x. (key_bytes x.0, x.1)) Tells result
-        (new_key_at (keys_of before.now) bytes.now at) }
+    ensures value { Gives (λ x. (x.0.now, x.1)) Tells result
+        (new_key_at met.old bytes.now at) }
+    ensures met { IfOk result (λ x. AreMet met.new (x.0.now ∷ met.old)) }
     ensures within { IfOk result (λ x. x.1 ≤ length bytes.now) }
+    ensures short { IfOk result (λ x. (0 < length x.0.now) × (length x.0.now ≤ LONGEST_KEY)) }
 {
     let (text, next) = key_text_at(bytes, at)?;
-    if is_of(text, before) {
+    if !met.meet(text)? {
         return Err(RecordFault::BadRecord { at: at + 2 });
     }
-    Ok((key_of(alloc, text)?, next))
+    Ok((text, next))
 }
 
-// What stands behind the kind of a put.
-#[tactic(auto, unfolding(crate::specs::Reading::put_at))]
-fn put_from(
+// The put of this key with the definition that is there, and the place behind it.
+fn put_with(
     alloc: Global,
     bytes: &[u8],
-    before: &[Change],
+    key: &str,
     at: usize,
 ) -> Result<(Change, usize), RecordFault>
-    requires { at ≤ length bytes.now }
+    requires within { at ≤ length bytes.now }
+    requires short { (0 < length key.now) × (length key.now ≤ LONGEST_KEY) }
     ensures free { IfOk result (λ x. proposed_of x.0 ≡ free (proposed_of x.0).part) }
     ensures value { Gives (λ x. ((proposed_of x.0).part, x.1)) Tells result
-        (put_at (keys_of before.now) bytes.now at) }
+        (put_with key.now bytes.now at) }
     ensures within { IfOk result (λ x. x.1 ≤ length bytes.now) }
 {
-    let (key, next) = new_key_from(alloc, bytes, before, at)?;
-    let (flag, next) = definition_from(alloc, bytes, next)?;
+    let key = key_of(alloc, key)?;
+    let (flag, next) = definition_from(alloc, bytes, at)?;
     let expect = Expect::Any;
     Ok((Change::Put { key, flag, expect }, next))
 }
 
-// What stands behind that of a deletion.
-#[tactic(auto, unfolding(crate::specs::Reading::delete_at))]
-fn delete_from(
-    alloc: Global,
-    bytes: &[u8],
-    before: &[Change],
-    at: usize,
-) -> Result<(Change, usize), RecordFault>
-    requires { at ≤ length bytes.now }
-    ensures free { IfOk result (λ x. proposed_of x.0 ≡ free (proposed_of x.0).part) }
-    ensures value { Gives (λ x. ((proposed_of x.0).part, x.1)) Tells result
-        (delete_at (keys_of before.now) bytes.now at) }
-    ensures within { IfOk result (λ x. x.1 ≤ length bytes.now) }
+// The deletion of that key.
+fn delete_of(alloc: Global, key: &str) -> Result<Change, RecordFault>
+    requires { (0 < length key.now) × (length key.now ≤ LONGEST_KEY) }
+    ensures free { IfOk result (λ c. proposed_of c ≡ free (proposed_of c).part) }
+    ensures part { IfOk result (λ c. (proposed_of c).part ≡ delete key.now) }
+    ensures memory { IfErr result (λ e. e ≡ Memory) }
 {
-    let (key, next) = new_key_from(alloc, bytes, before, at)?;
+    let key = key_of(alloc, key)?;
     let expect = Expect::Any;
-    Ok((Change::Delete { key, expect }, next))
+    Ok(Change::Delete { key, expect })
 }
 
-// The change to one flag at this place, by an editor that expects nothing, whose key is none of
-// these, and the place behind it.
-#[tactic(auto, unfolding(crate::specs::Reading::part_at))]
-fn part_from(
+// What stands behind the kind of a put in a set.
+#[tactic(auto, unfolding(crate::specs::Reading::put_at))]
+fn put_from<'a>(
     alloc: Global,
-    bytes: &[u8],
-    before: &[Change],
+    bytes: &'a [u8],
+    met: &mut MetKeys<'a>,
     at: usize,
 ) -> Result<(Change, usize), RecordFault>
     requires { at ≤ length bytes.now }
     ensures free { IfOk result (λ x. proposed_of x.0 ≡ free (proposed_of x.0).part) }
     ensures value { Gives (λ x. ((proposed_of x.0).part, x.1)) Tells result
-        (part_at (keys_of before.now) bytes.now at) }
+        (put_at met.old bytes.now at) }
+    ensures met { IfOk result (λ x. AreMet met.new (part_key (proposed_of x.0).part ∷ met.old)) }
+    ensures within { IfOk result (λ x. x.1 ≤ length bytes.now) }
+{
+    let (key, next) = new_key_from(bytes, met, at)?;
+    put_with(alloc, bytes, key, next)
+}
+
+// What stands behind that of a deletion.
+#[tactic(auto, unfolding(crate::specs::Reading::delete_at))]
+fn delete_from<'a>(
+    alloc: Global,
+    bytes: &'a [u8],
+    met: &mut MetKeys<'a>,
+    at: usize,
+) -> Result<(Change, usize), RecordFault>
+    requires { at ≤ length bytes.now }
+    ensures free { IfOk result (λ x. proposed_of x.0 ≡ free (proposed_of x.0).part) }
+    ensures value { Gives (λ x. ((proposed_of x.0).part, x.1)) Tells result
+        (delete_at met.old bytes.now at) }
+    ensures met { IfOk result (λ x. AreMet met.new (part_key (proposed_of x.0).part ∷ met.old)) }
+    ensures within { IfOk result (λ x. x.1 ≤ length bytes.now) }
+{
+    let (key, next) = new_key_from(bytes, met, at)?;
+    Ok((delete_of(alloc, key)?, next))
+}
+
+// The part of a set at this place, by an editor that expects nothing, whose key was not met before,
+// and the place behind it.
+#[tactic(auto, unfolding(crate::specs::Reading::part_at))]
+fn part_from<'a>(
+    alloc: Global,
+    bytes: &'a [u8],
+    met: &mut MetKeys<'a>,
+    at: usize,
+) -> Result<(Change, usize), RecordFault>
+    requires { at ≤ length bytes.now }
+    ensures free { IfOk result (λ x. proposed_of x.0 ≡ free (proposed_of x.0).part) }
+    ensures value { Gives (λ x. ((proposed_of x.0).part, x.1)) Tells result
+        (part_at met.old bytes.now at) }
+    ensures met { IfOk result (λ x. AreMet met.new (part_key (proposed_of x.0).part ∷ met.old)) }
     ensures within { IfOk result (λ x. x.1 ≤ length bytes.now) }
 {
     let (kind, next) = u8_at(bytes, at)?;
     match kind {
-        PUT_KIND => put_from(alloc, bytes, before, next),
-        DELETE_KIND => delete_from(alloc, bytes, before, next),
+        PUT_KIND => put_from(alloc, bytes, met, next),
+        DELETE_KIND => delete_from(alloc, bytes, met, next),
         _ => Err(RecordFault::BadRecord { at }),
     }
+}
+
+// The change to one flag at this place, of whatever key, and the place behind it.
+#[tactic(auto, unfolding(crate::specs::Reading::part_at))]
+fn single_from(alloc: Global, bytes: &[u8], at: usize) -> Result<(Change, usize), RecordFault>
+    requires { at ≤ length bytes.now }
+    ensures free { IfOk result (λ x. proposed_of x.0 ≡ free (proposed_of x.0).part) }
+    ensures value { Gives (λ x. ((proposed_of x.0).part, x.1)) Tells result
+        (part_at [] bytes.now at) }
+    ensures within { IfOk result (λ x. x.1 ≤ length bytes.now) }
+{
+    let (kind, next) = u8_at(bytes, at)?;
+    match kind {
+        PUT_KIND => single_put_from(alloc, bytes, next),
+        DELETE_KIND => single_delete_from(alloc, bytes, next),
+        _ => Err(RecordFault::BadRecord { at }),
+    }
+}
+
+// What stands behind the kind of its put.
+#[tactic(auto, unfolding(crate::specs::Reading::new_key_at, crate::specs::Reading::put_at))]
+fn single_put_from(alloc: Global, bytes: &[u8], at: usize) -> Result<(Change, usize), RecordFault>
+    requires { at ≤ length bytes.now }
+    ensures free { IfOk result (λ x. proposed_of x.0 ≡ free (proposed_of x.0).part) }
+    ensures value { Gives (λ x. ((proposed_of x.0).part, x.1)) Tells result
+        (put_at [] bytes.now at) }
+    ensures within { IfOk result (λ x. x.1 ≤ length bytes.now) }
+{
+    let (key, next) = key_text_at(bytes, at)?;
+    put_with(alloc, bytes, key, next)
+}
+
+// What stands behind that of its deletion.
+#[tactic(auto, unfolding(crate::specs::Reading::new_key_at, crate::specs::Reading::delete_at))]
+fn single_delete_from(
+    alloc: Global,
+    bytes: &[u8],
+    at: usize,
+) -> Result<(Change, usize), RecordFault>
+    requires { at ≤ length bytes.now }
+    ensures free { IfOk result (λ x. proposed_of x.0 ≡ free (proposed_of x.0).part) }
+    ensures value { Gives (λ x. ((proposed_of x.0).part, x.1)) Tells result
+        (delete_at [] bytes.now at) }
+    ensures within { IfOk result (λ x. x.1 ≤ length bytes.now) }
+{
+    let (key, next) = key_text_at(bytes, at)?;
+    Ok((delete_of(alloc, key)?, next))
 }
 
 // How many parts a set has, and the place of the first.
@@ -136,10 +210,11 @@ fn parts_from(
         Tells result (many_from (next_part bytes.now) count ([], at)) }
     ensures within { IfOk result (λ x. x.1 ≤ length bytes.now) }
 {
+    let mut met = MetKeys::new(alloc);
     let mut parts = Vec::new(alloc);
     let mut place = at;
     for _ in 0..count {
-        let (part, next) = part_from(alloc, bytes, &parts, place)?;
+        let (part, next) = part_from(alloc, bytes, &mut met, place)?;
         parts.push(part)?;
         place = next;
     }
@@ -162,11 +237,11 @@ fn set_from(
 {
     let (count, next) = part_count_from(bytes, at)?;
     let (parts, next) = parts_from(alloc, bytes, count, next)?;
-    match Changes::new(parts) {
-        Ok(changes) => Ok((Edit::Set(changes), next)),
-        // Their number and their keys were tested, so they are too long.
-        Err(_) => Err(RecordFault::BadRecord { at: kind }),
+    if next > kind + LONGEST_EDIT {
+        return Err(RecordFault::BadRecord { at: kind });
     }
+    // Their number and their keys were tested as they were read.
+    Ok((Edit::Set(Changes::of_lawful(parts)), next))
 }
 
 /// The edit at this place, by an editor that expects nothing, and the place behind it.
@@ -181,7 +256,7 @@ pub fn edit_from(alloc: Global, bytes: &[u8], at: usize) -> Result<(Edit, usize)
     if kind == SET_KIND {
         return set_from(alloc, bytes, at, next);
     }
-    let (change, next) = part_from(alloc, bytes, &[], at)?;
+    let (change, next) = single_from(alloc, bytes, at)?;
     Ok((Edit::from(change), next))
 }
 
