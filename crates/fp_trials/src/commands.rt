@@ -49,7 +49,8 @@ pub enum How {
     Unflushed,
 }
 
-fn how_of(rest: &str) -> Option<How> {
+/// What these words say of it.
+pub fn how_of(rest: &str) -> Option<How> {
     match rest {
         "" => Some(How::Well),
         "terminal" => Some(How::Terminal),
@@ -61,21 +62,46 @@ fn how_of(rest: &str) -> Option<How> {
     }
 }
 
+/// The calls of a command's streams, in order, and what was written.
+#[derive(Drop)]
+pub struct Turns {
+    pub calls: Text,
+    pub written: Vec<u8>,
+}
+
+impl Turns {
+    /// No call yet.
+    pub fn new(alloc: Global) -> Turns {
+        Turns {
+            calls: Text::new(alloc),
+            written: Vec::new(alloc),
+        }
+    }
+}
+
 // Tells of a call of a stream.
-fn note(turns: &RefCell<Text>, what: &str) {
+fn note(turns: &RefCell<Turns>, what: &str) {
     if let Ok(mut turns) = turns.try_borrow_mut() {
-        turns.part();
-        turns.push(what);
+        turns.calls.part();
+        turns.calls.push(what);
+    }
+}
+
+// Keeps what is written.
+fn keep(turns: &RefCell<Turns>, bytes: &[u8]) -> io::Result<()> {
+    match turns.try_borrow_mut() {
+        Ok(mut turns) => Ok(turns.written.extend_from_slice(bytes)?),
+        Err(_) => Err(ErrorKind::Other.into()),
     }
 }
 
 /// Gives these bytes, and then ends or fails.
 #[derive(Drop)]
-struct Source<'a> {
+pub struct Source<'a> {
     bytes: &'a [u8],
     how: How,
     interruptions: u32,
-    turns: &'a RefCell<Text>,
+    turns: &'a RefCell<Turns>,
 }
 
 impl Source<'_> {
@@ -125,11 +151,10 @@ impl<'a> Read for Source<'a> {
 
 /// Takes so many bytes, and then fails.
 #[derive(Drop)]
-struct Sink<'a> {
-    bytes: Vec<u8>,
+pub struct Sink<'a> {
     room: usize,
     how: How,
-    turns: &'a RefCell<Text>,
+    turns: &'a RefCell<Turns>,
 }
 
 impl io::Write for Sink<'_> {
@@ -139,7 +164,7 @@ impl io::Write for Sink<'_> {
         if count == 0 && !buf.is_empty() {
             return Err(ErrorKind::StorageFull.into());
         }
-        self.bytes.extend_from_slice(&buf[..count])?;
+        keep(self.turns, &buf[..count])?;
         self.room -= count;
         Ok(count)
     }
@@ -151,6 +176,25 @@ impl io::Write for Sink<'_> {
             _ => Ok(()),
         }
     }
+}
+
+/// The streams of a command, whose input are these bytes.
+pub fn streams_of<'a>(
+    how: How,
+    input: &'a [u8],
+    turns: &'a RefCell<Turns>,
+) -> (Source<'a>, Sink<'a>) {
+    let source = Source {
+        bytes: input,
+        how,
+        interruptions: 2,
+        turns,
+    };
+    let room = match how {
+        How::Full(room) => room as usize,
+        _ => usize::MAX,
+    };
+    (source, Sink { room, how, turns })
 }
 
 /// `init`, `apply`, `import`, `shown`; behind each of them what becomes of the streams: `terminal`,
@@ -178,28 +222,22 @@ pub fn ran<D: Disk + Drop>(
     how: How,
     disk: D,
 ) -> (D, Result<bool, CommandFault>) {
-    let turns = RefCell::new(Text::new(trial.alloc));
-    let mut writer = FailureCounted::new(Sink {
-        bytes: Vec::new(trial.alloc),
-        room: match how {
-            How::Full(room) => room as usize,
-            _ => usize::MAX,
-        },
-        how,
-        turns: &turns,
-    });
+    let turns = RefCell::new(Turns::new(trial.alloc));
     let input = trial.take_input();
-    let source = Source {
-        bytes: &input,
-        how,
-        interruptions: 2,
-        turns: &turns,
-    };
+    let (source, sink) = streams_of(how, &input, &turns);
+    let mut writer = FailureCounted::new(sink);
     let ran = run_on(trial.alloc, word, source, &mut writer, disk);
-    trial.text.bytes(&writer.into_inner().bytes);
-    trial.turns = turns.into_inner();
+    drop(writer);
+    tell_turns(trial, turns.into_inner());
     trial.told = told_in(trial.text.as_str(), trial.told);
     ran
+}
+
+/// What was written stands in the trial, and so do the calls.
+pub fn tell_turns(trial: &mut Trial, turns: Turns) {
+    let Turns { calls, written } = turns;
+    trial.text.bytes(&written);
+    trial.turns = calls;
 }
 
 fn run_on<D: Disk>(

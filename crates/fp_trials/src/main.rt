@@ -10,6 +10,7 @@ mod eval;
 mod event;
 mod held;
 mod journal;
+mod logged;
 mod noted;
 mod parts;
 mod run;

@@ -6,7 +6,9 @@ use crate::text::bytes_of;
 use crate::trial::{Answer, Fault, Trial, tell_fault};
 use fp_commands::CommandFault;
 use fp_disk::{Disk, DiskFault, FileDisk};
+use fp_log::{Reported, Source};
 use fp_transcript::{Args, Text};
+use log::Log;
 use std::alloc::{AllocGlobal, Global};
 use std::cell::RefCell;
 use std::fmt::Display;
@@ -111,38 +113,54 @@ impl<F: OpenFile + Drop> OpenFile for NotedFile<'_, F> {
     }
 }
 
-// The disk on such a file.
-type NotedDisk<'a, F> = FileDisk<NotedFile<'a, F>>;
-
 // Where the file is made.
 const NAME: &str = "noted.fp";
 
 /// `noted PASSING init`, `noted PASSING apply`, `noted PASSING on CALL / CALL ..`: over a file with
 /// the disk's bytes, of which so many calls pass before one fails, or `all`. Answers its calls, and
 /// then what was written or read, and the fault. The disk then has the file's bytes.
-pub fn on_noted<R: Files + AllocGlobal>(rt: &R, trial: &mut Trial, args: &mut Args<'_>) -> Answer {
+pub fn on_noted<R: Files + AllocGlobal + Log + Copy + Drop>(
+    rt: &R,
+    trial: &mut Trial,
+    args: &mut Args<'_>,
+) -> Answer {
+    let left = noted(rt, trial, args);
+    held_on(trial, left)
+}
+
+/// The bytes that the file is left with; none where memory was wanting.
+pub fn noted<R: Files + AllocGlobal + Log + Copy + Drop>(
+    rt: &R,
+    trial: &mut Trial,
+    args: &mut Args<'_>,
+) -> Option<io::Result<Vec<u8>>> {
     let passing = match args.word() {
         "all" => u64::MAX,
         word => args.number_of(word),
     };
-    let Some(bytes) = trial.bytes() else {
-        return Answer::NoMemory;
-    };
-    match in_file(rt, trial, &bytes, passing, args) {
-        Ok(Answer::Done) => Answer::Text,
-        Ok(answer) => answer,
-        Err(_) => Answer::Word("no file"),
+    let bytes = trial.bytes()?;
+    Some(in_file(rt, trial, &bytes, passing, args))
+}
+
+/// Goes on with the bytes that the file was left with.
+pub fn held_on(trial: &mut Trial, left: Option<io::Result<Vec<u8>>>) -> Answer {
+    match left {
+        Some(Ok(bytes)) => match trial.hold(bytes) {
+            Answer::Done => Answer::Text,
+            answer => answer,
+        },
+        Some(Err(_)) => Answer::Word("no file"),
+        None => Answer::NoMemory,
     }
 }
 
-// Goes on with the bytes that the file has then.
-fn in_file<R: Files + AllocGlobal>(
+fn in_file<R: Files + AllocGlobal + Log + Copy + Drop>(
     rt: &R,
     trial: &mut Trial,
     bytes: &[u8],
     passing: u64,
     args: &mut Args<'_>,
-) -> io::Result<Answer> {
+) -> io::Result<Vec<u8>> {
     fs::write(rt, NAME, bytes)?;
     let mut how = OpenOptions::new();
     how.read(true).write(true);
@@ -151,18 +169,16 @@ fn in_file<R: Files + AllocGlobal>(
         text: Text::new(trial.alloc),
         passing,
     });
-    on_disk(
-        trial,
-        FileDisk::over(NotedFile {
-            file,
-            calls: &calls,
-        }),
-        args,
-    );
+    let noted = NotedFile {
+        file,
+        calls: &calls,
+    };
+    let disk = FileDisk::over(Reported::new(*rt, Source::File, noted));
+    on_disk(trial, disk, args);
     tell_first(trial, calls.into_inner().text);
     let bytes = fs::read(rt, NAME)?;
     fs::remove_file(rt, NAME)?;
-    Ok(trial.hold(bytes))
+    Ok(bytes)
 }
 
 // The calls stand in front of what was told.
@@ -175,7 +191,7 @@ fn tell_first(trial: &mut Trial, calls: Text) {
 // What is told of it stands in the trial.
 fn on_disk<F: Read + Write + Seek + OpenFile + Drop>(
     trial: &mut Trial,
-    disk: NotedDisk<'_, F>,
+    disk: FileDisk<F>,
     args: &mut Args<'_>,
 ) {
     match args.word() {
@@ -199,7 +215,7 @@ fn on_disk<F: Read + Write + Seek + OpenFile + Drop>(
 
 // `CALL / CALL ..`.
 fn calls_of<F: Read + Write + Seek + OpenFile + Drop>(
-    disk: &mut NotedDisk<'_, F>,
+    disk: &mut FileDisk<F>,
     args: &Args<'_>,
     out: &mut Text,
 ) -> Result<(), DiskFault> {
@@ -212,7 +228,7 @@ fn calls_of<F: Read + Write + Seek + OpenFile + Drop>(
 // `write AT BYTES`, `read AT` of four bytes, `len`, `sync`.
 fn one_call<F: Read + Write + Seek + OpenFile + Drop>(
     alloc: Global,
-    disk: &mut NotedDisk<'_, F>,
+    disk: &mut FileDisk<F>,
     call: &str,
     out: &mut Text,
 ) -> Result<(), DiskFault> {

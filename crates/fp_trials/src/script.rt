@@ -1,6 +1,7 @@
 //! A file of trials: its lines in order, its blocks, and the program's commands over files.
 
 use crate::held::{HeldFile, on_held};
+use crate::logged::on_logged;
 use crate::noted::on_noted;
 use crate::run::{repeat, step};
 use crate::seeded::{on_listed, on_seeds};
@@ -21,7 +22,7 @@ use std::{fs, mem};
 
 /// What answers the lines of a file: what they work on; the world, the file that is held and the
 /// block that are open, if there are any.
-pub struct Script<'a, R: Files<File = File> + AllocGlobal + Log + Wait> {
+pub struct Script<'a, R: Files<File = File> + AllocGlobal + Log + Wait + Copy + Drop> {
     rt: &'a R,
     trial: Trial,
     world: Option<Whole>,
@@ -36,7 +37,7 @@ struct Block {
     lines: Vec<String>,
 }
 
-impl<'a, R: Files<File = File> + AllocGlobal + Log + Wait> Script<'a, R> {
+impl<'a, R: Files<File = File> + AllocGlobal + Log + Wait + Copy + Drop> Script<'a, R> {
     /// Over an empty disk.
     pub fn new(rt: &'a R) -> Script<'a, R> {
         let alloc = rt.alloc();
@@ -71,7 +72,7 @@ fn end_world<R: Wait>(rt: &R, world: Option<Whole>) {
     }
 }
 
-impl<'a, R: Files<File = File> + AllocGlobal + Log + Wait> Answers for Script<'a, R> {
+impl<'a, R: Files<File = File> + AllocGlobal + Log + Wait + Copy + Drop> Answers for Script<'a, R> {
     /// Appends the answer to a line. Those between one that ends in `{` and a `}` are a block, for
     /// which the latter answers.
     fn answer(&mut self, line: &str, out: &mut Text) {
@@ -125,12 +126,12 @@ fn run_block<R: Wait>(rt: &R, trial: &mut Trial, block: &mut Block, out: &mut Te
 }
 
 // The words of commands that can't stand in a block.
-const OVER_FILES: [&str; 5] = ["$", "load", "save", "noted", "held"];
+const OVER_FILES: [&str; 6] = ["$", "logged", "load", "save", "noted", "held"];
 
 const OF_SEEDS: [&str; 2] = ["worlds", "stops"];
 
 // What works on a world, what can't stand in a block, and any other line.
-fn alone<'a, R: Files<File = File> + AllocGlobal + Log + Wait>(
+fn alone<'a, R: Files<File = File> + AllocGlobal + Log + Wait + Copy + Drop>(
     rt: &'a R,
     trial: &mut Trial,
     world: &mut Option<Whole>,
@@ -156,8 +157,8 @@ fn alone<'a, R: Files<File = File> + AllocGlobal + Log + Wait>(
     }
 }
 
-// `$ WORD ..`, `load NAME`, `save NAME`, `noted ..`, `held ..`.
-fn over_files<'a, R: Files<File = File> + AllocGlobal + Log>(
+// `$ WORD ..`, `logged ..`, `load NAME`, `save NAME`, `noted ..`, `held ..`.
+fn over_files<'a, R: Files<File = File> + AllocGlobal + Log + Copy + Drop>(
     rt: &'a R,
     trial: &mut Trial,
     held: &mut Option<HeldFile<'a, R>>,
@@ -166,6 +167,7 @@ fn over_files<'a, R: Files<File = File> + AllocGlobal + Log>(
 ) -> Answer {
     match word {
         "$" => program(rt, trial, args),
+        "logged" => on_logged(rt, trial, args),
         "load" => load(rt, trial, args.rest),
         "save" => save(rt, trial, args.rest),
         "held" => on_held(rt, held, args),
@@ -173,7 +175,8 @@ fn over_files<'a, R: Files<File = File> + AllocGlobal + Log>(
     }
 }
 
-fn words_of(args: &Args<'_>, out: &mut Text) -> Vec<String> {
+/// The words of a command, of which `''` is the empty one.
+pub fn words_of(args: &Args<'_>, out: &mut Text) -> Vec<String> {
     let mut words = Vec::new(args.alloc);
     for word in args.rest.split_whitespace() {
         let word = if word == "''" { "" } else { word };
@@ -195,6 +198,11 @@ fn program<R: Files<File = File> + AllocGlobal + Log>(
     let words = words_of(args, &mut trial.text);
     let input = trial.take_input();
     let status = run(rt, &words, &input, &mut trial.text);
+    ended(trial, status)
+}
+
+/// The answer of a command that ended so, behind what it wrote and told.
+pub fn ended(trial: &mut Trial, status: u8) -> Answer {
     if tells_of_memory(trial.text.as_str()) {
         return Answer::NoMemory;
     }
