@@ -5,7 +5,7 @@ use Rattle.std.specs.Net.Grammar.{IsSocketV4Text, Parses}
 use Rattle.std.specs.declared.net.socket_addr.SocketAddrV4.{SocketAddrV4}
 use Rattle.std.specs.Result.{result_ok}
 use Rattle.fp_server.specs.Tasks.{AsksFor}
-use Rattle.fp_server.specs.declared.serving.Addresses.{Addresses}
+use Rattle.fp_server.specs.declared.services.Addresses.{Addresses}
 use Rattle.fp_server.specs.declared.task.Task.{Task}
 use Rattle.fp_server.specs.declared.task.Task.TheVariants.{Serve, Watch}
 use Rattle.fp_base.proofs.Turns.{drop-here}

@@ -2,7 +2,7 @@
 use Rattle.std.specs.Prelude.{◌≡◌, ℕ, List, [], ◌∷◌, codes}
 use Rattle.std.specs.Net.Grammar.{IsSocketV4Text}
 use Rattle.std.specs.declared.net.socket_addr.SocketAddrV4.{SocketAddrV4}
-use Rattle.fp_server.specs.declared.serving.Addresses.{Addresses}
+use Rattle.fp_server.specs.declared.services.Addresses.{Addresses}
 use Rattle.fp_server.specs.declared.task.Task.{Task}
 use Rattle.fp_server.specs.declared.task.Task.TheVariants.{Serve, Watch}
 

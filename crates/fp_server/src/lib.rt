@@ -9,12 +9,14 @@ mod listening;
 mod noted;
 mod probing;
 mod roles;
+mod services;
 mod serving;
 mod task;
 mod watching;
 
 pub use fp_http::TimeLimits;
 pub use host::Host;
-pub use serving::{Addresses, moment, serve};
+pub use services::Addresses;
+pub use serving::{moment, serve};
 pub use task::{Task, task_of};
 pub use watching::watch;

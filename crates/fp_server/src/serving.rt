@@ -2,43 +2,30 @@
 
 ghost use Rattle.std.specs.Prelude.{◌≡◌, ◌+◌, ◌<◌, ◌^◌, ◌++◌, ◌∷◌, [], IfOk, IfErr, OnOk, codes};
 ghost use Rattle.std.specs.FinMap as map;
-ghost use Rattle.std.specs.Io.KnownBytes.{Appends};
 ghost use Rattle.fp_commands.specs.declared.fault.CommandFault.TheVariants.{StoreFailed};
 ghost use Rattle.fp_files.specs.Openings.{KeepsOthers};
 ghost use Rattle.fp_files.specs.declared.openings.Purpose.TheVariants.{Writing};
 ghost use Rattle.fp_group_commit.specs.Store.{IsAtRest};
 ghost use Rattle.fp_log.specs.Events.{name_of, opening_text, text_of};
-ghost use Rattle.fp_streams.specs.Failures.{CountsFailures};
-ghost use Rattle.fp_server.specs.Ends.{EndsBadly, EndsWell, IsAttendingFault, IsServingFault};
-ghost use Rattle.fp_server.specs.Ends.{SaysWhere, where_text};
+ghost use Rattle.fp_server.specs.Ends.{EndsBadly, EndsWell, IsServingFault, SaysWhere};
 
 use crate::host::Host;
-use crate::listening::Listening;
-use crate::probing::probe_peers;
-use crate::roles::Role;
+use crate::services::{Addresses, Listeners, Services, fault_of};
 use fp_commands::CommandFault;
 use fp_disk::Disk;
 use fp_files::DiskFiles;
 use fp_group_commit::{Opening, Store};
 use fp_http::TimeLimits;
-use fp_log::{Event, Port, tell, tell_failure};
+use fp_log::{Event, tell};
 use fp_plane::{Naming, OwnStore, Plane, flusher};
-use fp_publish::{MOST_EVALUATORS, MOST_SEATS};
-use fp_streams::{FailureCounted, StreamFault};
-use std::io::{ErrorKind, Read, Write};
+use fp_streams::FailureCounted;
+use std::io::{Read, Write};
 use std::marker::Brand;
-use std::net::{Shutdown, SocketAddrV4, TcpListener};
-use std::time::{Clock, Duration, Instant, SystemTime, UNIX_EPOCH};
-use std::{io, thread};
-
-/// How many editors there may be at once.
-pub const MOST_EDITORS: usize = 32;
+use std::thread;
+use std::time::{Clock, Instant, SystemTime, UNIX_EPOCH};
 
 // The last moment that a reply knows.
 const LAST_MOMENT: u64 = 0x7fff_ffff_ffff_ffff;
-
-// How many seconds the connections of a port have to take their last replies, and then to end.
-const GRACE: u64 = 2;
 
 /// The seconds since 1970, and 0 before it or without a clock.
 pub fn moment<R: Clock>(rt: &R) -> u64
@@ -51,162 +38,6 @@ pub fn moment<R: Clock>(rt: &R) -> u64
         Ok(since) => since.as_secs().min(LAST_MOMENT),
         Err(_) => 0,
     }
-}
-
-/// Where a service listens.
-#[derive(Debug, Drop, Clone, Copy, PartialEq, Eq)]
-pub struct Addresses {
-    /// For evaluations by OFREP.
-    pub ofrep: SocketAddrV4,
-    /// For edits.
-    pub edit: SocketAddrV4,
-    /// For snapshots.
-    pub stream: SocketAddrV4,
-}
-
-#[derive(Drop)]
-struct Listeners {
-    ofrep: TcpListener,
-    edit: TcpListener,
-    stream: TcpListener,
-    limits: TimeLimits,
-}
-
-impl Listeners {
-    fn bind<R: Host>(rt: &R, addresses: &Addresses, limits: TimeLimits) -> io::Result<Listeners> {
-        Ok(Listeners {
-            ofrep: bind(rt, Port::Ofrep, addresses.ofrep)?,
-            edit: bind(rt, Port::Edit, addresses.edit)?,
-            stream: bind(rt, Port::Stream, addresses.stream)?,
-            limits,
-        })
-    }
-}
-
-// Binds an address, whose connections' peers are probed. One that can't be bound is told.
-fn bind<R: Host>(rt: &R, port: Port, address: SocketAddrV4) -> io::Result<TcpListener> {
-    match TcpListener::bind(rt, address) {
-        Ok(listener) => {
-            probe_peers(&listener);
-            Ok(listener)
-        }
-        Err(reason) => {
-            tell_failure(rt, &Event::NotBound { port, address }, &reason);
-            Err(reason)
-        }
-    }
-}
-
-#[derive(Drop)]
-struct Services<R: Host> {
-    ofrep: Listening<R>,
-    edit: Listening<R>,
-    stream: Listening<R>,
-}
-
-impl<R: Host> Services<R> {
-    fn of(rt: &R, listeners: &Listeners) -> io::Result<Services<R>> {
-        let limits = listeners.limits;
-        Ok(Services {
-            ofrep: Listening::of(rt, &listeners.ofrep, MOST_EVALUATORS, limits)?,
-            edit: Listening::of(rt, &listeners.edit, MOST_EDITORS, limits)?,
-            stream: Listening::of(rt, &listeners.stream, MOST_SEATS, limits)?,
-        })
-    }
-
-    fn start<K, D>(&self, listeners: Listeners, plane: &Plane<K, D, R>) -> io::Result<()>
-    where
-        K: Naming + Send + Sync + 'static,
-        D: Disk + Drop + Send + 'static,
-    {
-        let Listeners {
-            ofrep,
-            edit,
-            stream,
-            limits: _,
-        } = listeners;
-        self.ofrep.start(ofrep, Role::Evaluations, plane)?;
-        self.edit.start(edit, Role::Edits, plane)?;
-        self.stream.start(stream, Role::Snapshots, plane)
-    }
-
-    // Lets connections in, says where, and waits for the input's end.
-    fn attend<K, D, I, O>(
-        &self,
-        rt: &R,
-        listeners: Listeners,
-        plane: &Plane<K, D, R>,
-        r: &mut FailureCounted<I>,
-        w: &mut FailureCounted<O>,
-    ) -> Result<(), CommandFault>
-    where
-        K: Naming + Send + Sync + 'static,
-        D: Disk + Drop + Send + 'static,
-        I: Read,
-        O: Write,
-        ensures said { OnOk result (SaysWhere (O.contents w.old.inner) (O.contents w.new.inner)) }
-        ensures fault { IfErr result IsAttendingFault }
-        ensures calm { OnOk result (r.new.failures + w.new.failures
-            ≡ r.old.failures + w.old.failures) }
-    {
-        if let Err(fault) = self.start(listeners, plane) {
-            return Err(fault_of(&fault));
-        }
-        self.say_where(w)?;
-        self.tell_where(rt);
-        await_end(r)?;
-        Ok(())
-    }
-
-    // The same to who reads the log.
-    fn tell_where(&self, rt: &R) {
-        for (port, address) in [
-            (Port::Ofrep, self.ofrep.bound()),
-            (Port::Edit, self.edit.bound()),
-            (Port::Stream, self.stream.bound()),
-        ] {
-            tell(rt, &Event::Bound { port, address });
-        }
-    }
-
-    // Says where connections are let in.
-    fn say_where<O: Write>(&self, w: &mut FailureCounted<O>) -> Result<(), StreamFault>
-        ensures said { OnOk result (Appends (O.contents w.old.inner) (O.contents w.new.inner)
-            (where_text self.now.ofrep.bound self.now.edit.bound self.now.stream.bound)) }
-        ensures counted { CountsFailures w.old.failures w.new.failures result }
-    {
-        w.say(&format_args!("ofrep {}", self.ofrep.bound()))?;
-        w.say(&format_args!("edit {}", self.edit.bound()))?;
-        w.say(&format_args!("stream {}", self.stream.bound()))?;
-        Ok(())
-    }
-
-    // Ends all connections. What is under way may be taken before.
-    fn end(self) {
-        let grace = Duration::from_secs(GRACE);
-        let services = [&self.edit, &self.stream, &self.ofrep];
-        for how in [Shutdown::Read, Shutdown::Both] {
-            for service in services {
-                service.close(how);
-            }
-            for service in services {
-                service.wait(grace);
-            }
-        }
-    }
-}
-
-// Reads an input to its end.
-fn await_end<I: Read>(r: &mut FailureCounted<I>) -> Result<(), StreamFault>
-    ensures counted { CountsFailures r.old.failures r.new.failures result }
-{
-    let mut bytes = [0; 512];
-    for _ in 0..u64::MAX {
-        if r.read(&mut bytes)? == 0 {
-            break;
-        }
-    }
-    Ok(())
 }
 
 /// Serves the file at this path to editors, evaluators and subscribers, each of whom has so much
@@ -286,16 +117,6 @@ fn opened<'e>(path: &'e str, opening: &Opening, milliseconds: u64) -> Event<'e>
 fn milliseconds_since<R: Host>(rt: &R, begun: Option<Instant>) -> u64 {
     let passed = begun.and_then(|begun| begun.elapsed(rt).ok());
     passed.map_or(0, |passed| passed.as_millis().min(u64::MAX as u128) as u64)
-}
-
-// A fault of the system, as the program tells it.
-fn fault_of(fault: &io::Error) -> CommandFault
-    ensures { IsAttendingFault result }
-{
-    match fault.kind() {
-        ErrorKind::OutOfMemory => CommandFault::Memory,
-        _ => CommandFault::Device,
-    }
 }
 
 /// A store that isn't served any more, and why where that was by a fault.
@@ -407,7 +228,7 @@ where
         Err(fault) => return Err((fault_of(&fault), stopped(last))),
     };
     let attended = services.attend(rt, listeners, plane, r, w);
-    services.edit.close(Shutdown::Read);
+    services.stop_reading();
     let store = last.stop();
     services.end();
     match (attended, store) {

@@ -4,7 +4,7 @@ ghost use Rattle.std.specs.Prelude.{MatchOption, map, string_bytes};
 ghost use Rattle.fp_server.specs.Tasks.{AsksFor};
 ghost use Rattle.fp_server.specs.declared.task.Task.{Task};
 
-use crate::serving::Addresses;
+use crate::services::Addresses;
 use std::net::SocketAddrV4;
 
 /// What is asked of the service.

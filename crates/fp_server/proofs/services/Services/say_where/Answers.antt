@@ -1,5 +1,5 @@
 use Rattle.fp_server.proofs.EndsLemmas.{says_where}
-use Rattle.fp_server.proofs.serving.Services.say_where.Goals as goal
+use Rattle.fp_server.proofs.services.Services.say_where.Goals as goal
 
 pub returns-clause-said : goal.returns-clause-said
 returns-clause-said g c =

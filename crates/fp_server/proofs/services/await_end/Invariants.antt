@@ -1,5 +1,5 @@
 use Rattle.std.proofs.Common.{◌≡◌}
-use Rattle.fp_server.proofs.serving.await_end.Given as goal
+use Rattle.fp_server.proofs.services.await_end.Given as goal
 
 -- no read failed
 abbrev pub invariant-loop : goal.invariant-loop

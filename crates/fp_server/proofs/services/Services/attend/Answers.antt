@@ -1,4 +1,4 @@
-use Rattle.fp_server.proofs.serving.Services.attend.Goals as goal
+use Rattle.fp_server.proofs.services.Services.attend.Goals as goal
 
 pub returns-clause-said : goal.returns-clause-said
 returns-clause-said g c =
