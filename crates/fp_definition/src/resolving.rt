@@ -183,10 +183,10 @@ impl Definition {
         if self.is_disabled() {
             return Err(EvalFault::Disabled);
         }
-        match self.rule() {
-            None => self.default_of(Reason::Static),
-            Some(rule) => self.by_rule(alloc, rule, data),
-        }
+        let Some(rule) = self.rule() else {
+            return self.default_of(Reason::Static);
+        };
+        self.by_rule(alloc, rule, data)
     }
 
     /// Exactly one outcome, whatever the key, the context and the moment, which `resolve` answers

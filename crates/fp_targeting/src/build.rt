@@ -7,7 +7,7 @@ ghost use Rattle.fp_base.specs.Ordered.{IsOrdered, AreOrdered};
 ghost use Rattle.fp_base.specs.TreeView.{tree_view, tree_items};
 ghost use Rattle.fp_targeting.specs.Compiles.{Compiles, CompileAll, Applies, IsCompiled, NoRule};
 ghost use Rattle.fp_targeting.specs.Compiles.{is_array};
-ghost use Rattle.fp_targeting.specs.Emits.{Adds, KeepsOne, Keeps, Decides, Finds, IsSound};
+ghost use Rattle.fp_targeting.specs.Emits.{Adds, Decides, Finds, IsSound};
 ghost use Rattle.fp_targeting.specs.Operators.{takes};
 ghost use Rattle.fp_targeting.specs.Reading.{rule_of_code};
 ghost use Rattle.fp_targeting.specs.Rule.{apply, rule};
@@ -45,54 +45,6 @@ impl Code {
         }
         code.shrink();
         Ok(Some(code))
-    }
-
-    // Code of an argument, whose result is kept above so many.
-    #[cycle(build)]
-    fn one_kept(
-        &mut self,
-        alloc: Global,
-        argument: &Json<'_>,
-        height: usize,
-    ) -> Result<bool, AllocError>
-        requires { IsOrdered (tree_view argument.now) }
-        ensures { IfOk result (λ done. Compiles done
-            (λ r. KeepsOne height r self.old self.new) (tree_view argument.now)) }
-    {
-        let above = above(height, 1)?;
-        match self.operand(alloc, argument)? {
-            Some(operand) => {
-                self.keep(Step::KeepOf(operand), above)?;
-                Ok(true)
-            }
-            None => {
-                self.keep(Step::Keep, above)?;
-                Ok(self.compute(alloc, argument, height)?)
-            }
-        }
-    }
-
-    // Code of arguments, one after the other, each of whose results is kept.
-    #[cycle(build)]
-    fn each_kept(
-        &mut self,
-        alloc: Global,
-        arguments: &[Json<'_>],
-        height: usize,
-    ) -> Result<bool, AllocError>
-        requires { AreOrdered (tree_items arguments.now) }
-        ensures { IfOk result (λ done. CompileAll done
-            (λ rs. Keeps height rs self.old self.new) (tree_items arguments.now)) }
-    {
-        let mut left = arguments.len();
-        'arguments: while left > 0 {
-            left -= 1;
-            let below = above(height, left)?;
-            if !self.one_kept(alloc, &arguments[left], below)? {
-                return Ok(false);
-            }
-        }
-        Ok(true)
     }
 
     // Code of the arguments of `and` and `or`: each but the last one may decide.

@@ -1,11 +1,11 @@
-//! Code of operators that look at the results of all their one to three arguments.
+//! Code of operators that look at the results of all their arguments, and of what is kept.
 
 ghost use Rattle.std.specs.Prelude.{◌≡◌, true, IfOk, length};
 ghost use Rattle.serde_json.specs.Data.{no_items, item};
 ghost use Rattle.fp_base.specs.Ordered.{IsOrdered, AreOrdered};
 ghost use Rattle.fp_base.specs.TreeView.{tree_view, tree_items};
-ghost use Rattle.fp_targeting.specs.Compiles.{CompileAll};
-ghost use Rattle.fp_targeting.specs.Emits.{Adds, AddsAlone};
+ghost use Rattle.fp_targeting.specs.Compiles.{CompileAll, Compiles};
+ghost use Rattle.fp_targeting.specs.Emits.{Adds, AddsAlone, Keeps, KeepsOne};
 ghost use Rattle.fp_targeting.specs.Operators.{takes};
 ghost use Rattle.fp_targeting.specs.Rule.{apply};
 ghost use Rattle.fp_targeting.specs.Strict.{is_strict};
@@ -172,6 +172,54 @@ impl Code {
         }
         self.keep(Step::Keep, one)?;
         Ok(self.compute(alloc, a, height)?)
+    }
+
+    // Code of an argument, whose result is kept above so many.
+    #[cycle(build)]
+    fn one_kept(
+        &mut self,
+        alloc: Global,
+        argument: &Json<'_>,
+        height: usize,
+    ) -> Result<bool, AllocError>
+        requires { IsOrdered (tree_view argument.now) }
+        ensures { IfOk result (λ done. Compiles done
+            (λ r. KeepsOne height r self.old self.new) (tree_view argument.now)) }
+    {
+        let above = above(height, 1)?;
+        match self.operand(alloc, argument)? {
+            Some(operand) => {
+                self.keep(Step::KeepOf(operand), above)?;
+                Ok(true)
+            }
+            None => {
+                self.keep(Step::Keep, above)?;
+                Ok(self.compute(alloc, argument, height)?)
+            }
+        }
+    }
+
+    /// Code of arguments, one after the other, each of whose results is kept.
+    #[cycle(build)]
+    pub fn each_kept(
+        &mut self,
+        alloc: Global,
+        arguments: &[Json<'_>],
+        height: usize,
+    ) -> Result<bool, AllocError>
+        requires { AreOrdered (tree_items arguments.now) }
+        ensures { IfOk result (λ done. CompileAll done
+            (λ rs. Keeps height rs self.old self.new) (tree_items arguments.now)) }
+    {
+        let mut left = arguments.len();
+        'arguments: while left > 0 {
+            left -= 1;
+            let below = above(height, left)?;
+            if !self.one_kept(alloc, &arguments[left], below)? {
+                return Ok(false);
+            }
+        }
+        Ok(true)
     }
 
     /// Code of an operator that looks at the results of all its arguments.
