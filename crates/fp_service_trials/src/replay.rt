@@ -1,6 +1,7 @@
 //! The commands of a file, and their answers, one behind the other: what a command starts in a
 //! thread rests on bounds of a function, and in a method of a trait none holds in another thread.
 
+use crate::log_file::LogFile;
 use crate::script::Script;
 use fp_server::Host;
 use fp_transcript::{Answers, Text, transcript};
@@ -36,13 +37,13 @@ impl Answers for Given {
     }
 }
 
-/// The answers to the commands of a file.
-pub fn answered<R: Host>(rt: &R, file: &str) -> Result<Given, AllocError> {
+/// The answers to the commands of a file, over a runtime with this log.
+pub fn answered<R: Host>(rt: &R, log: LogFile, file: &str) -> Result<Given, AllocError> {
     let alloc = rt.alloc();
     let lines = Vec::new(alloc);
     let mut commands = Commands { lines };
     let _copy = transcript(alloc, file, &mut commands)?;
-    let answers = run(rt, &commands.lines);
+    let answers = run(rt, log, &commands.lines);
     if answers.len() == commands.lines.len() {
         Ok(Given { answers })
     } else {
@@ -51,9 +52,9 @@ pub fn answered<R: Host>(rt: &R, file: &str) -> Result<Given, AllocError> {
 }
 
 // The answers, as many as there was memory for.
-fn run<R: Host>(rt: &R, commands: &[String]) -> VecDeque<Text> {
+fn run<R: Host>(rt: &R, log: LogFile, commands: &[String]) -> VecDeque<Text> {
     let mut answers = VecDeque::new(rt.alloc());
-    let mut script = Script::new(*rt);
+    let mut script = Script::new(*rt, log);
     for command in commands {
         let mut answer = Text::new(rt.alloc());
         script.answer(command.as_str(), &mut answer);

@@ -73,9 +73,9 @@ struct Pipes {
 }
 
 // Two of them, each the other end of the other one.
-fn both_ends<R: Host>(rt: &R) -> Option<(Pipes, Pipes)> {
-    let (input, their_input) = UnixStream::pair(rt).ok()?;
-    let (output, their_output) = UnixStream::pair(rt).ok()?;
+fn both_ends(rt: HostRuntime) -> Option<(Pipes, Pipes)> {
+    let (input, their_input) = UnixStream::pair(&rt).ok()?;
+    let (output, their_output) = UnixStream::pair(&rt).ok()?;
     let theirs = Pipes {
         input: their_input,
         output: their_output,
@@ -220,9 +220,9 @@ fn spawned<R: Host>(
 
 impl<R: Host> Running<R> {
     /// Starts a service over a new disk with no flags on it, and waits until it tells where it is
-    /// reached.
-    pub fn start(rt: &R, plan: Plan) -> Option<Running<R>> {
-        let (mut own, theirs) = both_ends(rt)?;
+    /// reached. The plain runtime has pairs of sockets.
+    pub fn start(rt: &R, plain: HostRuntime, plan: Plan) -> Option<Running<R>> {
+        let (mut own, theirs) = both_ends(plain)?;
         let gate = Arc::new(rt.alloc(), Gate::new(*rt)).ok()?;
         let thread = spawned(rt, Arc::try_clone(&gate).ok()?, plan, theirs)?;
         let ports = Ports::heard(rt.alloc(), &mut own.output)?;

@@ -7,6 +7,7 @@ use crate::courses::{
 };
 use crate::crowd::{comes_in, enter, found, is_refused, see};
 use crate::held::Hold;
+use crate::log_file::LogFile;
 use crate::running::{DiskPlan, Ended, LEAST_SLOT, Plan, Running};
 use fp_server::{Host, TimeLimits};
 use fp_transcript::{Args, Text, Texts, expanded};
@@ -16,11 +17,12 @@ use std::net::{SocketAddr, TcpStream};
 use std::thread;
 use std::time::Duration;
 
-/// What answers the lines of a file: the texts that are named, the service that runs and what the
-/// last one left, and who is connected to it.
+/// What answers the lines of a file: the log of what runs, the texts that are named, the service
+/// that runs and what the last one left, and who is connected to it.
 #[derive(Drop)]
 pub struct Script<R: Host> {
     rt: R,
+    log: LogFile,
     texts: Texts,
     service: Option<Running<R>>,
     left: String,
@@ -31,10 +33,11 @@ pub struct Script<R: Host> {
 
 impl<R: Host> Script<R> {
     /// No service, and nobody.
-    pub fn new(rt: R) -> Script<R> {
+    pub fn new(rt: R, log: LogFile) -> Script<R> {
         let alloc = rt.alloc();
         Script {
             rt,
+            log,
             texts: BTreeMap::new(alloc),
             service: None,
             left: String::new(alloc),
@@ -67,8 +70,8 @@ impl<R: Host> Script<R> {
 }
 
 // The words of `on_service`.
-const OF_SERVICE: [&str; 8] = [
-    "serve", "hold", "held", "let-go", "end", "stop", "left", "pause",
+const OF_SERVICE: [&str; 10] = [
+    "serve", "hold", "held", "let-go", "end", "stop", "left", "log", "logs", "pause",
 ];
 
 // The words of `on_peer`.
@@ -113,7 +116,7 @@ impl<R: Host> Script<R> {
 
     // `serve`, `serve failing CALL`, `serve slots SIZE`, `serve old`,
     // `serve within IDLE REQUEST REPLY SIZE`, `hold behind COUNT`, `hold from PLACE`, `held`,
-    // `let-go`, `end`, `stop`, `left`, `pause MILLISECONDS`.
+    // `let-go`, `end`, `stop`, `left`, `log`, `logs TEXT`, `pause MILLISECONDS`.
     fn on_service(&mut self, word: &str, args: &mut Args<'_>, out: &mut Text) {
         match word {
             "serve" => self.serve(args, out),
@@ -126,6 +129,8 @@ impl<R: Host> Script<R> {
                 out.yes(is_at(said.as_str(), self.left.as_str()) == Some(true));
             }
             "left" => out.push(first_line(self.left.as_str())),
+            "log" => self.log.tell(out),
+            "logs" => out.yes(self.log.comes_to(args.rest)),
             "pause" => thread::sleep(&self.rt, Duration::from_millis(args.number())),
             _ => self.on_gate(word, args, out),
         }
@@ -148,9 +153,13 @@ impl<R: Host> Script<R> {
             }
             _ => (),
         }
-        self.service = Running::start(&self.rt, Plan { disk, limits });
+        self.log.clear();
+        self.service = Running::start(&self.rt, self.log.0, Plan { disk, limits });
         if self.service.is_none() {
             out.push("no service");
+        } else {
+            // It was said before.
+            let _ = self.log.comes_to("port=stream");
         }
     }
 
