@@ -9,7 +9,7 @@ use Rattle.fp_operators.specs.View.{view}
 use Rattle.fp_targeting.specs.Compiles.{IsCompiled}
 use Rattle.fp_targeting.specs.Emits.{Has, Grows, Pushed, Raised, IsOperand, Adds, AddsAlone, KeepsOne, Keeps}
 use Rattle.fp_targeting.specs.Frugal.{IsFrugal}
-use Rattle.fp_targeting.specs.Machine.{Env, Turn, run, look, list_of}
+use Rattle.fp_targeting.specs.Machine.{Env, Turn, run, look, left_by, list_of}
 use Rattle.fp_targeting.specs.Meaning.{meaning, meanings}
 use Rattle.fp_targeting.specs.Memory.{are_literals}
 use Rattle.fp_targeting.specs.Places.{places}
@@ -130,10 +130,10 @@ adds-later {o = o} {rs = rs} y z k = let r = tree.apply o (rules_of rs) in let x
 
 -- ---- what is kept
 
-keep_if : (b : Bool) (env : Env) (root d : Data) (cs : List Step) (s : List Data) → b ≡ true
-    → option_and_then (λ (t : Turn). run env root cs t.0 t.1 t.2) (if b then Some (0, null, d ∷ s) else None) ≡ run env root cs 0 null (d ∷ s)
-keep_if true env root d cs s e = refl
-keep_if false env root d cs s e = absurd (cc)
+keep_if : (b : Bool) (env : Env) (root w d : Data) (cs : List Step) (s : List Data) → b ≡ true
+    → option_and_then (λ (t : Turn). run env root cs t.0 t.1 t.2) (if b then Some (0, w, d ∷ s) else None) ≡ run env root cs 0 w (d ∷ s)
+keep_if true env root w d cs s e = refl
+keep_if false env root w d cs s e = absurd (cc)
 
 module _ {a b : Code} {c : Step} {m : ℕ} (k : Raised c m a b) where
   pub raised-has : (env : Env) → Has env b → Has env a
@@ -164,7 +164,7 @@ module _ {a b : Code} {c : Step} {m : ℕ} (k : Raised c m a b) where
 pub raised-run : {a b : Code} {m : ℕ} (k : Raised Keep m a b) (env : Env) → Has env b → (root v : Data) (s : List Data) → m ≡ length s + 1
     → run env root (in_order b) 0 v s ≡ run env root (in_order a) 0 null (v ∷ s)
 raised-run {a = a} k env e root v s l =
-    ap (λ cs. run env root cs 0 v s) (raised-order k) ∙ keep_if (nat_lt (length s) env.room) env root v (in_order a) s (raised-place k env e s l)
+    ap (λ cs. run env root cs 0 v s) (raised-order k) ∙ keep_if (nat_lt (length s) env.room) env root null v (in_order a) s (raised-place k env e s l)
 
 -- where nothing was done, what is kept begins there
 pub raised-there : {c : Step} {m : ℕ} {a b d : Code} → b ≡ a → Raised c m b d → Raised c m a d
@@ -176,11 +176,11 @@ kept-operand {o = o} {r = r} {a = a} {b = b} up i k = record {
   grows = grows-trans i.grows (raised-grows k);
   few = omega (arith, i.few, raised-few k, one-place r);
   runs = λ env e root v s l. (
-    null,
+    left_by o v,
     ap (λ cs. run env root cs 0 v s) (raised-order k)
-        ∙ keep_if (nat_lt (length s) env.room) env root (look env root v o) (in_order b) s (raised-place k env e s (omega (arith, up, l)))
-        ∙ ap (λ cs. run env root cs 0 null (look env root v o ∷ s)) (operand-order i)
-        ∙ ap (λ w. run env root (in_order a) 0 null (w ∷ s)) (i.looks env (raised-has k env e) root v),
+        ∙ keep_if (nat_lt (length s) env.room) env root (left_by o v) (look env root v o) (in_order b) s (raised-place k env e s (omega (arith, up, l)))
+        ∙ ap (λ cs. run env root cs 0 (left_by o v) (look env root v o ∷ s)) (operand-order i)
+        ∙ ap (λ w. run env root (in_order a) 0 (left_by o v) (w ∷ s)) (i.looks env (raised-has k env e) root v),
   );
   reads = λ env e t.
       raised-read k env t ∙ ap (λ cs. read env cs (reads env (KeepOf o) t)) (operand-order i)

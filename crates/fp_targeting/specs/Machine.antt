@@ -74,17 +74,24 @@ list_of ds = values.list (items_of ds)
 abbrev pub share_of_key : Rules → Option (List ℕ) → Data
 share_of_key pairs key = found_or null (option_and_then (chosen pairs) key)
 
--- one more result is kept
-abbrev pub kept : Env → Data → List Data → Option Turn
-kept env d s = if nat_lt (length s) env.room then Some (0, null, d ∷ s) else None
+-- what is at hand where what the operand is was taken
+abbrev pub left_by : Operand → Data → Data
+left_by (Constant n) v = v
+left_by (Variable n) v = v
+left_by All v = v
+left_by AtHand v = null
+
+-- one more result is kept, and another one is at hand next
+abbrev pub kept : Env → Data → Data → List Data → Option Turn
+kept env next d s = if nat_lt (length s) env.room then Some (0, next, d ∷ s) else None
 
 -- what one instruction does; none where an operand is missing, or the stack is full
 abbrev pub act : Env → Data → Step → Data → List Data → Option Turn
 act env root (Load o) v s = Some (0, look env root v o, s)
 act env root LoadNull v s = Some (0, null, s)
 act env root (LoadWhole z) v s = Some (0, whole z, s)
-act env root Keep v s = kept env v s
-act env root (KeepOf o) v s = kept env (look env root v o) s
+act env root Keep v s = kept env null v s
+act env root (KeepOf o) v s = kept env (left_by o v) (look env root v o) s
 act env root (Skip n) v s = Some (n, v, s)
 act env root (SkipIfFalse n) v s = Some (if truth v then 0 else n, v, s)
 act env root (SkipIfTrue n) v s = Some (if truth v then n else 0, v, s)

@@ -13,7 +13,7 @@ ghost use Rattle.fp_targeting.specs.Emits.{IsSound};
 ghost use Rattle.fp_targeting.specs.Found.{found_view, stack_view};
 ghost use Rattle.fp_targeting.specs.Frugal.{asks, is_sem_ver};
 ghost use Rattle.fp_targeting.specs.Kept.{kept_items, kept_room};
-ghost use Rattle.fp_targeting.specs.Machine.{act, look, path_at, of_kept, text_bytes, found_at};
+ghost use Rattle.fp_targeting.specs.Machine.{act, left_by, look, path_at, of_kept, text_bytes, found_at};
 ghost use Rattle.fp_targeting.specs.Machine.{second, third, list_of};
 ghost use Rattle.fp_targeting.specs.Meaning.{meaning};
 ghost use Rattle.fp_targeting.specs.Memory.{needs_memory};
@@ -149,18 +149,20 @@ impl Code {
         }
     }
 
-    // What an operand is, which is no longer at hand.
+    // What an operand is, which is no longer at hand. Most are constants.
     fn take_operand<'d>(
         &'d self,
         operand: &Operand,
         root: &'d Datum,
         at_hand: &mut Found<'d>,
     ) -> Found<'d>
-        ensures { found_view result
+        ensures is { found_view result
             ≡ look (env_of self.now) (view root.now) (found_view at_hand.old) operand.now }
+        ensures left { found_view at_hand.new ≡ left_by operand.now (found_view at_hand.old) }
     {
         match operand {
             Operand::AtHand => take(at_hand),
+            Operand::Constant(place) => Found::or_null(self.pool.get(*place as usize)),
             _ => Found::or_null(self.lent(operand, root)),
         }
     }
@@ -199,7 +201,6 @@ impl Code {
             }
             Step::KeepOf(operand) => {
                 kept.push(self.take_operand(operand, root, at_hand));
-                *at_hand = Found::default();
                 Ok(0)
             }
             Step::Skip(count) => Ok(*count),
