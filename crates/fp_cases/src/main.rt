@@ -10,7 +10,10 @@ mod operators;
 mod records;
 mod requests;
 mod rules;
+mod seeded;
+mod seeds;
 mod session;
+mod shapes;
 mod streams;
 mod values;
 

@@ -5,8 +5,9 @@ ghost use Rattle.fp_base.specs.TreeView.{tree_view};
 
 use crate::data::put_datum;
 use crate::requests::Asking;
+use crate::shapes::{Shapes, add_shape};
 use crate::streams::Subscriber;
-use crate::{definitions, edits, imports, operators, records, rules, values};
+use crate::{definitions, edits, imports, operators, records, rules, seeded, values};
 use fp_base::{Tree, read_json, read_tree};
 use fp_definition::{DefFault, Definition, FlagKey, KeyFault};
 use fp_edit::FlagSet;
@@ -82,8 +83,9 @@ const ON_SUBSCRIBER: [&str; 8] = [
 /// What the commands of a file share.
 #[derive(Drop)]
 pub struct Session {
-    /// The texts that are named.
+    /// The texts that are named, and the shapes that inputs are drawn from.
     texts: Texts,
+    shapes: Shapes,
     /// What rules and operators read, and the key and the moment that rules are told.
     data: Value,
     key: FlagKey,
@@ -110,6 +112,7 @@ impl Session {
         let key = first_key(alloc)?;
         Ok(Session {
             texts: BTreeMap::new(alloc),
+            shapes: BTreeMap::new(alloc),
             data: Value::Null,
             key,
             now: 0,
@@ -122,9 +125,23 @@ impl Session {
 }
 
 impl Answers for Session {
-    /// A command is its word, for some words a name or a number, and the operand, which is all
-    /// that is left of the line.
     fn answer(&mut self, command: &str, out: &mut Text) {
+        let (word, rest) = split(command);
+        if word == "shape" {
+            let added = add_shape(out.alloc, &mut self.shapes, rest);
+            let _ = out.got(added);
+        } else if word == "seeded" {
+            seeded::tried(&self.shapes, rest, out);
+        } else {
+            self.command(command, out);
+        }
+    }
+}
+
+impl Session {
+    /// Answers a command that isn't one of shapes. It is its word, for some words a name or a
+    /// number, and the operand, which is all that is left of the line.
+    pub fn command(&mut self, command: &str, out: &mut Text) {
         let (word, rest) = split(command);
         let (first, rest) = if HAVE_FIRST.contains(&word) {
             split(rest)
@@ -135,9 +152,7 @@ impl Answers for Session {
             self.run(word, first, operand, out);
         }
     }
-}
 
-impl Session {
     fn run(&mut self, word: &str, first: &str, operand: Vec<u8>, out: &mut Text) {
         if word == "let" {
             self.name_text(first, operand, out);
