@@ -1,12 +1,12 @@
 -- Operators at arguments that were compiled.
-use Rattle.std.proofs.Common.{◌≡◌, ◌≤◌, ℕ, List, length, Bool, true, false, ◌⊎◌, inl, inr, Option, Some, None, is_some, option_map, option_and_then, refl, sym, ap, ◌∙◌, if◌then◌else◌}
+use Rattle.std.proofs.Common.{◌≡◌, ◌≤◌, ℕ, List, [], ◌∷◌, length, Bool, true, false, ◌⊎◌, inl, inr, Option, Some, None, is_some, option_map, option_and_then, refl, sym, ap, ◌∙◌, if◌then◌else◌}
 use Rattle.std.proofs.lemmas.Bool.{leb-true}
 use Rattle.std.proofs.lemmas.Option.{none-some}
 use Rattle.serde_json.specs.Data as json
 use Rattle.serde_json.specs.Data.{Items, no_items, item}
 use Rattle.fp_base.specs.TreeView.{tree_items}
 use Rattle.fp_base.specs.declared.tree.Tree.{Tree}
-use Rattle.fp_targeting.specs.Compile.{first_unknown, items_unknown, operator_rule, rules_from, arguments_of}
+use Rattle.fp_targeting.specs.Compile.{first_unknown, items_unknown, one_more, operator_rule, rules_from, arguments_of}
 use Rattle.fp_targeting.specs.Constant.{all_literal}
 use Rattle.fp_targeting.specs.Compiles.{NoRule, Compiles, CompileAll, Applies}
 use Rattle.fp_targeting.specs.Emits.{Pushed, Adds, Keeps, Decides}
@@ -20,12 +20,12 @@ use Rattle.fp_targeting.specs.declared.operator.BinaryOperator.{BinaryOperator}
 use Rattle.fp_targeting.specs.declared.operator.ChainOperator.{ChainOperator}
 use Rattle.fp_targeting.specs.declared.operator.Operator.{Operator}
 use Rattle.fp_targeting.specs.declared.operator.UnaryOperator.{UnaryOperator}
-use Rattle.fp_targeting.specs.declared.code.Step.TheVariants.{Join, Collect, End}
+use Rattle.fp_targeting.specs.declared.code.Step.TheVariants.{Join, Collect, Wrap, End}
 use Rattle.fp_targeting.specs.declared.operator.Operator.TheVariants.{If, And, Or, Var, Cat, SemVer, Fractional, Unary, Binary, Chain}
 use Rattle.fp_targeting.proofs.Written.{literals-written}
 use Rattle.fp_targeting.proofs.Deciding.{added-decided}
-use Rattle.fp_targeting.proofs.Emitting.{added-join, added-collect}
-use Rattle.fp_targeting.proofs.Parts.{all-made-into, rules_from-length, count_of-rules_of}
+use Rattle.fp_targeting.proofs.Emitting.{added-join, added-collect, added-wrap}
+use Rattle.fp_targeting.proofs.Parts.{made-into, all-made-into, compile-one, rules_from-length, count_of-rules_of}
 use Rattle.fp_targeting.proofs.Trees.{unknown-named, unknown-unnamed, rule_of-operator}
 
 -- ---- what operators take
@@ -108,15 +108,30 @@ pub joined_all : {n : ℕ} {a c : Code} (h : ℕ) (d : Code) (b : Bool) (xs : Li
     → CompileAll b (λ rs. Keeps h rs c d) (tree_items xs) → CompileAll b (λ rs. Adds h (apply Cat (rules_of rs)) a d) (tree_items xs)
 joined_all h d b xs p same x = all-made-into (tree_items xs) b x (λ rs e y. added-join p y (same ∙ sym (rules_from-length xs rs e)))
 
-pub collected_all : {n : ℕ} {a c : Code} (h : ℕ) (d : Code) (b : Bool) (xs : List Tree) → Pushed (Collect n) a c → n ≡ length xs
-    → all_literal (tree_items xs) ≡ false → CompileAll b (λ rs. Keeps h rs c d) (tree_items xs) → Compiles b (λ r. Adds h r a d) (json.array (tree_items xs))
-collected_all h d true xs p same other x = record {
+-- ---- lists
+
+listed : (P : Rule → Type 0) (ds : Items) (b : Bool) → CompileAll b (λ rs. P (tree.list (rules_of rs))) ds → Compiles b P (json.array ds)
+listed P ds true x = record {
   rule = tree.list (rules_of x.rules);
   is_rule = ap (option_map (λ rs. tree.list (rules_of rs))) x.are_rules;
   known = x.known;
-  made = added-collect p x.made (same ∙ sym (rules_from-length xs x.rules x.are_rules)) (literals-written (tree_items xs) x.rules x.are_rules ∙ other);
+  made = x.made;
 }
-collected_all h d false xs p same other none = λ u. ap (option_map (λ rs. tree.list (rules_of rs))) (none u)
+listed P ds false none = λ u. ap (option_map (λ rs. tree.list (rules_of rs))) (none u)
+
+pub collected_all : {n : ℕ} {a c : Code} (h : ℕ) (d : Code) (b : Bool) (xs : List Tree) → Pushed (Collect n) a c → n ≡ length xs
+    → all_literal (tree_items xs) ≡ false → CompileAll b (λ rs. Keeps h rs c d) (tree_items xs)
+    → Compiles b (λ r. Adds h r a d) (json.array (tree_items xs))
+collected_all {a = a} h d b xs p same other x =
+    listed (λ r. Adds h r a d) (tree_items xs) b (all-made-into (tree_items xs) b x
+    (λ rs e y. added-collect p y (same ∙ sym (rules_from-length xs rs e)) (literals-written (tree_items xs) rs e ∙ other)))
+
+-- an only item's result is wrapped where it is
+pub wrapped : {a c : Code} (h : ℕ) (d : Code) (b : Bool) (e : json.Data) → Pushed Wrap a c → all_literal (item e no_items) ≡ false
+    → Compiles b (λ r. Adds h r c d) e → Compiles b (λ r. Adds h r a d) (json.array (item e no_items))
+wrapped {a = a} h d b e p other x =
+    listed (λ r. Adds h r a d) (item e no_items) b (compile-one _ e b (made-into e b x
+    (λ r is m. added-wrap p m (literals-written (item e no_items) (r ∷ []) (ap (λ o. one_more o (Some [])) is) ∙ other))))
 
 -- ---- which operator it is, by the arms of a match
 

@@ -17,6 +17,14 @@ use Rattle.fp_targeting.specs.contracts.table.Share as share
 use Rattle.fp_targeting.specs.contracts.table.Table as table
 use Rattle.fp_targeting.specs.contracts.table.Table.TheInside as table_inside
 
+infixr 5 ◌and◌
+-- what is known of one, and of the others
+◌and◌ : {A B : Type 0} → A → B → A × B
+a and b = (a, b)
+
+one : {A : Type 0} → A → A × Unit {0}
+one a = (a, tt)
+
 datum_sent : IsSend (datum.the_field).row
 datum_sent = search (sendable, crosses, maps.crosses, datum_knot.both_send-Datum) depth 30
 
@@ -60,7 +68,17 @@ table_field_sent : IsSend (table.the_field).row
 table_field_sent = search (sendable, table_sent) depth 10
 
 step_sent : IsSend step.the_row
-step_sent = recorded_send _ _ _ (step.the_type).to_one (enum_send (enums.shape step.the_type) ((operand.the_field_send, tt), (tt, ((wide_sent, tt), (tt, ((operand.the_field_send, tt), ((number_sent, tt), ((number_sent, tt), ((number_sent, tt), ((number_sent, tt), ((place_sent, (number_sent, tt)), ((operator.the_field_send, (operand.the_field_send, tt)), ((operator.the_field_send, (operand.the_field_send, (operand.the_field_send, tt))), ((operator.the_field_send, (operand.the_field_send, (operand.the_field_send, tt))), ((operator.the_field_send, tt), ((operator.the_field_send, tt), ((number_sent, tt), ((number_sent, tt), ((operand.the_field_send, (table_field_sent, tt)), ((table_field_sent, tt), ((operator.the_field_send, (number_sent, tt)), tt)))))))))))))))))))))
+step_sent =
+    recorded_send _ _ _ (step.the_type).to_one (enum_send (enums.shape step.the_type) (
+    one operand.the_field_send and tt and one wide_sent and tt and one operand.the_field_send
+    and one number_sent and one number_sent and one number_sent and one number_sent and (place_sent and one number_sent)
+    and (operator.the_field_send and one operand.the_field_send)
+    and (operator.the_field_send and operand.the_field_send and one operand.the_field_send)
+    and (operator.the_field_send and operand.the_field_send and one operand.the_field_send)
+    and one operator.the_field_send and one operator.the_field_send and one number_sent and one number_sent and tt
+    and (operand.the_field_send and one table_field_sent) and one table_field_sent
+    and (operator.the_field_send and one number_sent) and tt
+    ))
 
 code_sent : IsSend (code.the_field).row
 code_sent = struct_send (shape code.the_type) (Vec-send _ step_sent, (Vec-send _ datum_row_sent, (search sendable, tt)))
@@ -81,7 +99,17 @@ table_field_shared : IsSync (table.the_field).row
 table_field_shared = search (sendable, table_shared) depth 10
 
 step_shared : IsSync step.the_row
-step_shared = recorded_sync _ _ _ (step.the_type).to_one (enum_sync (enums.shape step.the_type) ((operand.the_field_sync, tt), (tt, ((wide_shared, tt), (tt, ((operand.the_field_sync, tt), ((number_shared, tt), ((number_shared, tt), ((number_shared, tt), ((number_shared, tt), ((place_shared, (number_shared, tt)), ((operator.the_field_sync, (operand.the_field_sync, tt)), ((operator.the_field_sync, (operand.the_field_sync, (operand.the_field_sync, tt))), ((operator.the_field_sync, (operand.the_field_sync, (operand.the_field_sync, tt))), ((operator.the_field_sync, tt), ((operator.the_field_sync, tt), ((number_shared, tt), ((number_shared, tt), ((operand.the_field_sync, (table_field_shared, tt)), ((table_field_shared, tt), ((operator.the_field_sync, (number_shared, tt)), tt)))))))))))))))))))))
+step_shared =
+    recorded_sync _ _ _ (step.the_type).to_one (enum_sync (enums.shape step.the_type) (
+    one operand.the_field_sync and tt and one wide_shared and tt and one operand.the_field_sync
+    and one number_shared and one number_shared and one number_shared and one number_shared and (place_shared and one number_shared)
+    and (operator.the_field_sync and one operand.the_field_sync)
+    and (operator.the_field_sync and operand.the_field_sync and one operand.the_field_sync)
+    and (operator.the_field_sync and operand.the_field_sync and one operand.the_field_sync)
+    and one operator.the_field_sync and one operator.the_field_sync and one number_shared and one number_shared and tt
+    and (operand.the_field_sync and one table_field_shared) and one table_field_shared
+    and (operator.the_field_sync and one number_shared) and tt
+    ))
 
 code_shared : IsSync (code.the_field).row
 code_shared = struct_sync (shape code.the_type) (Vec-sync _ step_shared, (Vec-sync _ datum_row_shared, (search sendable, tt)))

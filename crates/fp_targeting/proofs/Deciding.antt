@@ -5,7 +5,6 @@ use Rattle.fp_operators.specs.Path.{found_or, named_by}
 use Rattle.fp_operators.specs.Truth.{truth}
 use Rattle.fp_targeting.specs.Emits.{Pushed, Adds, Decides, Finds}
 use Rattle.fp_targeting.specs.Machine.{Env, run, found_at}
-use Rattle.fp_targeting.specs.Memory.{needs_memory}
 use Rattle.fp_targeting.specs.Meaning.{meaning, meanings, value_at, value_of_operator, value_behind_true, first_false, first_true}
 use Rattle.fp_targeting.specs.Reading.{read, in_order}
 use Rattle.fp_targeting.specs.Rule as tree

@@ -21,7 +21,7 @@ use Rattle.fp_targeting.specs.View.{rules_of}
 use Rattle.fp_targeting.specs.declared.code.Code.{Code}
 use Rattle.fp_targeting.specs.declared.code.Operand.{Operand}
 use Rattle.fp_targeting.specs.declared.code.Step.{Step}
-use Rattle.fp_targeting.specs.declared.code.Step.TheVariants.{Load, Keep, KeepOf, Join, Collect}
+use Rattle.fp_targeting.specs.declared.code.Step.TheVariants.{Load, Keep, KeepOf, Join, Collect, Wrap}
 use Rattle.fp_targeting.specs.declared.operator.Operator.{Operator}
 use Rattle.fp_targeting.specs.declared.operator.Operator.TheVariants.{Cat}
 use Rattle.fp_targeting.proofs.Frugal.{pushed-frugal, operand-frugal, not-false, true-false}
@@ -243,4 +243,15 @@ added-collect {n = n} {rs = rs} {a = a} p k same other = record {
       ∙ ap (option_and_then (λ t. run env root (in_order a) t.0 t.1 t.2)) (of_all list_of n (meanings root (rules_of rs)) s (same ∙ sym (length-meanings_of root rs)));
   reads = λ env e t. k.reads env e t ∙ pushed-read p env (onto rs t) ∙ ap (read env (in_order a)) (all-last (λ qs. tree.list (rules_of qs)) n rs t same);
   frugal = λ none deep f. absurd (true-false (not-false (are_literals (rules_of rs)) none) other);
+}
+
+-- what is at hand is wrapped, and nothing waits for it
+pub added-wrap : {h : ℕ} {r : Rule} {a b d : Code} → Pushed Wrap a b → Adds h r b d → are_literals (rule r no_rules) ≡ false
+    → Adds h (tree.list (rule r no_rules)) a d
+added-wrap {r = r} p x other = record {
+  grows = grows-trans (pushed-grows p) x.grows;
+  few = omega (arith, pushed-few p, x.few);
+  runs = λ env e root v s l. x.runs env e root v s l ∙ pushed-run p env root (meaning root r) s;
+  reads = λ env e t. x.reads env e t ∙ pushed-read p env (r ∷ t);
+  frugal = λ none deep f. absurd (true-false (not-false (are_literals (rule r no_rules)) none) other);
 }

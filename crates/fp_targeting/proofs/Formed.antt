@@ -25,7 +25,7 @@ use Rattle.fp_targeting.specs.declared.operator.Operator.{Operator}
 use Rattle.fp_targeting.specs.declared.code.Code.{Code}
 use Rattle.fp_targeting.specs.declared.code.Step.{Step}
 use Rattle.fp_operators.specs.declared.datum.Datum.{Datum}
-use Rattle.fp_targeting.specs.declared.rule.TheConstants.{DEEPEST_RULE, MOST_RULE_VALUES}
+use Rattle.fp_targeting.specs.Numbers.{DEEPEST_RULE, MOST_RULE_VALUES}
 use Rattle.fp_targeting.proofs.Nested.{rule_of-nesting}
 use Rattle.fp_targeting.proofs.Placing.{rule_of-places}
 

@@ -3,7 +3,7 @@ use Rattle.std.proofs.Common.{◌≡◌, ◌<◌, ◌≤◌, ◌+◌, ℕ, zero,
 use Rattle.fp_targeting.specs.Emits.{Pushed, Raised, IsOperand}
 use Rattle.fp_targeting.specs.Frugal.{asks, any_asks, is_sem_ver, IsFrugal}
 use Rattle.fp_targeting.specs.Memory.{needs_memory, any_needs, itself_needs}
-use Rattle.fp_targeting.specs.Nesting.{nesting, nesting_in, most_nesting}
+use Rattle.fp_targeting.specs.Nesting.{nesting}
 use Rattle.fp_targeting.specs.Rule.{Rule, Rules, apply, no_rules, rule}
 use Rattle.fp_targeting.specs.Strict.{is_strict}
 use Rattle.fp_targeting.specs.declared.code.Code.{Code}
@@ -12,7 +12,7 @@ use Rattle.fp_targeting.specs.declared.code.Step.{Step}
 use Rattle.fp_targeting.specs.declared.code.Step.TheVariants.{Keep}
 use Rattle.fp_targeting.specs.declared.operator.Operator.{Operator}
 use Rattle.fp_targeting.specs.declared.operator.Operator.TheVariants.{If, And, Or, Var, Cat, SemVer, Fractional, Unary, Binary, Chain}
-use Rattle.fp_targeting.specs.declared.rule.TheConstants.{DEEPEST_RULE}
+use Rattle.fp_targeting.specs.Numbers.{DEEPEST_RULE}
 
 pub neither : (a b : Bool) → (a || b) ≡ false → (a ≡ false) × (b ≡ false)
 neither true b h = absurd (cc)
@@ -24,9 +24,6 @@ not-false false h = absurd (cc)
 
 pub true-false : {b : Bool} → b ≡ true → b ≡ false → ⊥
 true-false h g = cc
-
-pub either-true : (a b : Bool) → a ≡ true → (a || b) ≡ true
-either-true a b h = rw h refl
 
 pub any-err : {A B : Type 0} {P : Type 0} (r : Result A B) → P → IfErr r (λ e. P)
 any-err (Ok x) p = tt

@@ -19,7 +19,7 @@ use Rattle.fp_targeting.specs.declared.operator.Operator.{Operator}
 use Rattle.fp_targeting.specs.declared.code.Operand.TheVariants.{AtHand}
 use Rattle.fp_targeting.specs.declared.code.Step.TheVariants.{Keep, One, Two, Three, Second, Third}
 use Rattle.fp_targeting.specs.declared.operator.Operator.TheVariants.{If, And, Or, Var, Cat, SemVer, Fractional, Unary, Binary, Chain}
-use Rattle.fp_targeting.specs.declared.rule.TheConstants.{DEEPEST_RULE}
+use Rattle.fp_targeting.specs.Numbers.{DEEPEST_RULE}
 use Rattle.fp_targeting.proofs.Frugal.{pushed-frugal, raised-frugal, operand-frugal, itself-none, all-none, first-none, others-none, first-deep, strict-asks}
 use Rattle.fp_targeting.proofs.Emitting.{one-place, grows-trans, pushed-has, pushed-few, pushed-grows, pushed-run, pushed-read, operand-order, raised-has, raised-few, raised-grows, raised-run, raised-read}
 

@@ -17,7 +17,7 @@ use Rattle.fp_targeting.specs.Split.{Share, weight_in, name_of, weight_of, share
 use Rattle.fp_targeting.specs.Table.{Written, name_written, weight_written, pair_of_items, pair_written, pair_rule, share_rule}
 use Rattle.fp_targeting.specs.View.{rules_of}
 use Rattle.fp_targeting.specs.declared.operator.Operator.{Operator}
-use Rattle.fp_targeting.specs.declared.table.TheConstants.{GREATEST_WEIGHT}
+use Rattle.fp_targeting.specs.Numbers.{GREATEST_WEIGHT}
 use Rattle.fp_operators.proofs.Variants.{view-Text}
 use Rattle.fp_targeting.proofs.Trees.{rule_of-operator}
 

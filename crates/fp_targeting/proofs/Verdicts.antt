@@ -11,7 +11,7 @@ use Rattle.fp_targeting.specs.Compiles.{NoRule}
 use Rattle.fp_targeting.specs.Rule.{Rule}
 use Rattle.fp_targeting.specs.declared.rule.RuleFault.{RuleFault}
 use Rattle.fp_targeting.specs.declared.rule.RuleFault.TheVariants.{TooDeep, UnsupportedOperator, BadRule, Memory}
-use Rattle.fp_targeting.specs.declared.rule.TheConstants.{DEEPEST_RULE, MOST_RULE_VALUES}
+use Rattle.fp_targeting.specs.Numbers.{DEEPEST_RULE, MOST_RULE_VALUES}
 
 verdict-flat : (d : Data) → depth d ≤ DEEPEST_RULE → verdict d ≡ verdict_known d (first_unknown d)
 verdict-flat d flat = ap (λ b. if b then verdict_known d (first_unknown d) else Err too_deep) (le-leb (depth d) DEEPEST_RULE flat)

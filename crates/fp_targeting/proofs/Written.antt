@@ -1,27 +1,16 @@
 -- What values write: operators at arguments, literals, lists and texts.
-use Rattle.std.proofs.Common.{◌≡◌, ◌≢◌, ◌≤◌, ℕ, List, [], ◌∷◌, length, Bool, true, false, not, ◌&&◌, ◌||◌, get_or, codes, Option, Some, None, is_some, option_map, option_and_then, refl, sym, ap, ap₂, ◌∙◌, arith, if◌then◌else◌}
-use Rattle.std.specs.Prelude.{bytes_eq}
+use Rattle.std.proofs.Common.{◌≡◌, ℕ, List, [], ◌∷◌, Bool, true, false, ◌&&◌, Option, Some, None, is_some, option_map, option_and_then, refl, sym, ap, ap₂, ◌∙◌, if◌then◌else◌}
 use Rattle.serde_json.specs.Data as json
 use Rattle.serde_json.specs.Find.{as_str}
-use Rattle.fp_base.specs.TreeView.{tree_view, tree_items}
-use Rattle.fp_base.specs.declared.tree.Tree.{Tree}
-use Rattle.fp_operators.specs.FromJson.{whole_or_null}
 use Rattle.fp_targeting.specs.Compile.{one_more, rule_of, rules_from, arguments_of}
 use Rattle.fp_targeting.specs.Constant.{is_literal, all_literal}
 use Rattle.fp_targeting.specs.Memory.{are_literals}
-use Rattle.fp_targeting.specs.Operators.{operator_of, comparison_of, allows}
+use Rattle.fp_targeting.specs.Operators.{operator_of, allows}
 use Rattle.fp_targeting.specs.Rule as tree
 use Rattle.fp_targeting.specs.Rule.{Rule, Rules, no_rules, rule}
 use Rattle.fp_targeting.specs.Split.{literal_in}
 use Rattle.fp_targeting.specs.View.{rules_of}
-use Rattle.fp_targeting.specs.declared.operator.BinaryOperator.TheVariants.{StrictlyEqual, StrictlyUnequal, LooselyEqual, LooselyUnequal, Greater, GreaterOrEqual, In, Remainder, StartsWith, EndsWith}
-use Rattle.fp_targeting.specs.declared.operator.ChainOperator.TheVariants.{Less, LessOrEqual}
 use Rattle.fp_targeting.specs.declared.operator.Operator.{Operator}
-use Rattle.fp_targeting.specs.declared.operator.Operator.TheVariants.{If, And, Or, Var, Cat, SemVer, Fractional, Unary, Binary, Chain}
-use Rattle.fp_targeting.specs.declared.operator.UnaryOperator.TheVariants.{Not, Truth}
-use Rattle.std.proofs.lemmas.Option.{none-some}
-use Rattle.fp_targeting.proofs.Frugal.{true-false}
-use Rattle.fp_targeting.proofs.Parts.{last-item, rules_from-length}
 use Rattle.fp_targeting.proofs.Trees.{rule_of-operator}
 
 -- ---- the rule of an operator's object

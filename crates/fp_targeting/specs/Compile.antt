@@ -10,7 +10,7 @@ use Rattle.fp_targeting.specs.Rule as tree
 use Rattle.fp_targeting.specs.Rule.{Rule}
 use Rattle.fp_targeting.specs.Operators.{operator_of, allows, well_formed, all_well_formed}
 use Rattle.fp_targeting.specs.View.{rules_of}
-use Rattle.fp_targeting.specs.declared.rule.TheConstants.{DEEPEST_RULE, MOST_RULE_VALUES}
+use Rattle.fp_targeting.specs.Numbers.{DEEPEST_RULE, MOST_RULE_VALUES}
 
 abbrev pub first_of : Option (List ℕ) → Option (List ℕ) → Option (List ℕ)
 first_of None other = other

@@ -20,7 +20,7 @@ use Rattle.fp_targeting.specs.declared.operator.Operator.{Operator}
 use Rattle.fp_targeting.specs.declared.code.Code.{Code}
 use Rattle.fp_targeting.specs.declared.code.Operand.{Operand}
 use Rattle.fp_targeting.specs.declared.code.Step.{Step}
-use Rattle.fp_targeting.specs.declared.rule.TheConstants.{DEEPEST_RULE}
+use Rattle.fp_targeting.specs.Numbers.{DEEPEST_RULE}
 
 -- the code, or what it becomes, has this pool, of which each place has its number of 16 bits, and
 -- this room

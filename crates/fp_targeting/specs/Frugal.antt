@@ -6,10 +6,10 @@ use Rattle.fp_targeting.specs.declared.code.Step.TheVariants.{Load, LoadNull, Lo
 use Rattle.fp_targeting.specs.declared.code.Step.TheVariants.{Skip, SkipIfFalse, SkipIfTrue, Find}
 use Rattle.fp_targeting.specs.declared.code.Step.TheVariants.{FindVariable, One, Two, Three}
 use Rattle.fp_targeting.specs.declared.code.Step.TheVariants.{Second, Third, Join, Collect, Split}
-use Rattle.fp_targeting.specs.declared.code.Step.TheVariants.{SplitByOwnKey, End}
+use Rattle.fp_targeting.specs.declared.code.Step.TheVariants.{SplitByOwnKey, Wrap, End}
 use Rattle.fp_targeting.specs.declared.operator.Operator.{Operator}
 use Rattle.fp_targeting.specs.declared.operator.Operator.TheVariants.{SemVer}
-use Rattle.fp_targeting.specs.declared.rule.TheConstants.{DEEPEST_RULE}
+use Rattle.fp_targeting.specs.Numbers.{DEEPEST_RULE}
 
 abbrev pub is_sem_ver : Operator → Bool
 is_sem_ver SemVer = true
@@ -34,6 +34,7 @@ asks (Second o) = false
 asks (Third o) = is_sem_ver o
 asks (Join n) = true
 asks (Collect n) = true
+asks Wrap = true
 asks (Split a pairs) = false
 asks (SplitByOwnKey pairs) = false
 asks (End o n) = false

@@ -1,3 +1,4 @@
+pub mod Numbers
 pub mod Operators
 pub mod Rule
 pub mod Split

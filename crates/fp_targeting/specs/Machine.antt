@@ -20,7 +20,7 @@ use Rattle.fp_targeting.specs.declared.code.Step.TheVariants.{Load, LoadNull, Lo
 use Rattle.fp_targeting.specs.declared.code.Step.TheVariants.{Skip, SkipIfFalse, SkipIfTrue, Find}
 use Rattle.fp_targeting.specs.declared.code.Step.TheVariants.{FindVariable, One, Two, Three}
 use Rattle.fp_targeting.specs.declared.code.Step.TheVariants.{Second, Third, Join, Collect, Split}
-use Rattle.fp_targeting.specs.declared.code.Step.TheVariants.{SplitByOwnKey, End}
+use Rattle.fp_targeting.specs.declared.code.Step.TheVariants.{SplitByOwnKey, Wrap, End}
 
 -- what instructions name, and how many results may be kept at once
 pub record Env : Type 0 where
@@ -106,6 +106,7 @@ act env root (Second o) v s = second o v s
 act env root (Third o) v s = third o v s
 act env root (Join n) v s = of_kept concatenation n s
 act env root (Collect n) v s = of_kept list_of n s
+act env root Wrap v s = Some (0, list_of (v ∷ []), s)
 act env root (Split a pairs) v s =
     Some (0, share_of_key pairs (text_in (look env root v a)), s)
 act env root (SplitByOwnKey pairs) v s = Some (0, share_of_key pairs (own_key root), s)

@@ -16,7 +16,7 @@ use Rattle.fp_targeting.specs.declared.code.Step.TheVariants.{Load, LoadNull, Lo
 use Rattle.fp_targeting.specs.declared.code.Step.TheVariants.{Skip, SkipIfFalse, SkipIfTrue, Find}
 use Rattle.fp_targeting.specs.declared.code.Step.TheVariants.{FindVariable, One, Two, Three}
 use Rattle.fp_targeting.specs.declared.code.Step.TheVariants.{Second, Third, Join, Collect, Split}
-use Rattle.fp_targeting.specs.declared.code.Step.TheVariants.{SplitByOwnKey, End}
+use Rattle.fp_targeting.specs.declared.code.Step.TheVariants.{SplitByOwnKey, Wrap, End}
 
 abbrev pub path_rule : Env → ℕ → Rule
 path_rule env n = literal (text (path_at env n))
@@ -58,6 +58,7 @@ reads env (Second o) s = with_last (λ rs. apply o (rules_of rs)) 2 s
 reads env (Third o) s = with_last (λ rs. apply o (rules_of rs)) 3 s
 reads env (Join n) s = with_last (λ rs. apply Cat (rules_of rs)) n s
 reads env (Collect n) s = with_last (λ rs. list (rules_of rs)) n s
+reads env Wrap s = with_last (λ rs. list (rules_of rs)) 1 s
 reads env (Split a pairs) s =
     let x = operand_rule env a s in apply Fractional (rule x.0 pairs) ∷ x.1
 reads env (SplitByOwnKey pairs) s = apply Fractional pairs ∷ s

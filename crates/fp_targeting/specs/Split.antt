@@ -7,7 +7,7 @@ use Rattle.fp_operators.specs.Path.{step_to, found_or}
 use Rattle.fp_operators.specs.Share.{place_among}
 use Rattle.fp_targeting.specs.Rule as tree
 use Rattle.fp_targeting.specs.Rule.{Rule, Rules, no_rules, rule}
-use Rattle.fp_targeting.specs.declared.table.TheConstants.{GREATEST_WEIGHT}
+use Rattle.fp_targeting.specs.Numbers.{GREATEST_WEIGHT}
 
 abbrev pub text_in : Data → Option (List ℕ)
 text_in null = None

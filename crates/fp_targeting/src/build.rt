@@ -15,7 +15,7 @@ ghost use Rattle.fp_targeting.specs.Strict.{stops, skip_past, looks_at_results};
 ghost use Rattle.fp_targeting.specs.View.{rules_of};
 ghost use Rattle.fp_targeting.specs.declared.code.Code.{Code};
 ghost use Rattle.fp_targeting.specs.declared.operator.Operator.TheVariants.{If, Var, Fractional};
-ghost use Rattle.fp_targeting.specs.declared.rule.TheConstants.{DEEPEST_RULE, MOST_RULE_VALUES};
+ghost use Rattle.fp_targeting.specs.Numbers.{DEEPEST_RULE, MOST_RULE_VALUES};
 
 use crate::code::{Code, Operand, Step};
 use crate::json::{are_literals, arguments, is_array, text_of};
@@ -344,9 +344,7 @@ impl Code {
                     self.load_constant(alloc, json)?;
                     return Ok(true);
                 }
-                let count = short(items.len())?;
-                self.push(Step::Collect(count))?;
-                Ok(self.each_kept(alloc, items.as_slice(), height)?)
+                Ok(self.list(alloc, items.as_slice(), height)?)
             }
             Json::Object(members) => {
                 if members.len() != 1 {

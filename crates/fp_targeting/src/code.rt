@@ -56,6 +56,8 @@ pub enum Step {
     Join(u32),
     /// A list of so many kept results.
     Collect(u32),
+    /// A list of what is at hand alone.
+    Wrap,
     /// The name whose share the operand falls to.
     Split(Operand, Table),
     /// The name whose share the flag's key followed by the targeting key falls to.

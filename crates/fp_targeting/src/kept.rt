@@ -4,7 +4,7 @@ ghost use Rattle.std.specs.Prelude.{◌≡◌, ◌<◌, ◌≤◌, ◌++◌, ◌
 ghost use Rattle.std.specs.Prelude.{take};
 ghost use Rattle.std.specs.Option.{option_to_list};
 ghost use Rattle.fp_targeting.specs.Kept.{kept_items, kept_room};
-ghost use Rattle.fp_targeting.specs.declared.rule.TheConstants.{DEEPEST_RULE};
+ghost use Rattle.fp_targeting.specs.Numbers.{DEEPEST_RULE};
 
 use crate::machine::Found;
 use arrayvec::ArrayVec;

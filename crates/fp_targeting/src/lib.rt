@@ -12,6 +12,7 @@ mod machine;
 mod names;
 mod operands;
 mod operator;
+mod results;
 mod rule;
 mod strict;
 mod table;

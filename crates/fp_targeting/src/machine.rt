@@ -1,31 +1,29 @@
 //! What code gives for data.
 
-ghost use Rattle.std.specs.Prelude.{◌≡◌, ◌≤◌, Some, List, map, drop, get_or, IfOk};
-ghost use Rattle.std.specs.Prelude.{OnErr, IsSome, true, []};
-ghost use Rattle.std.specs.Prelude.{◌≢◌, option_map, length, if◌then◌else◌};
+ghost use Rattle.std.specs.Prelude.{◌≡◌, ◌≢◌, ◌≤◌, true, Some, IsSome, option_map, if◌then◌else◌};
+ghost use Rattle.std.specs.Prelude.{List, [], ◌∷◌, map, get_or, IfOk, OnOk, OnErr};
 ghost use Rattle.fp_operators.specs.Data as values;
 ghost use Rattle.fp_operators.specs.Data.{null as null_data};
 ghost use Rattle.fp_operators.specs.Memory.{takes_memory};
 ghost use Rattle.fp_operators.specs.Path.{at_text as at_text_of, found_or};
-ghost use Rattle.fp_operators.specs.Text.{concatenation};
 ghost use Rattle.fp_operators.specs.View.{view};
 ghost use Rattle.fp_targeting.specs.Emits.{IsSound};
 ghost use Rattle.fp_targeting.specs.Found.{found_view, stack_view};
 ghost use Rattle.fp_targeting.specs.Frugal.{asks, is_sem_ver};
-ghost use Rattle.fp_targeting.specs.Kept.{kept_items, kept_room};
-ghost use Rattle.fp_targeting.specs.Machine.{act, left_by, look, path_at, of_kept, text_bytes, found_at};
-ghost use Rattle.fp_targeting.specs.Machine.{second, third, list_of};
+ghost use Rattle.fp_targeting.specs.Kept.{kept_room};
+ghost use Rattle.fp_targeting.specs.Machine.{act, few, left_by, look, path_at, text_bytes};
+ghost use Rattle.fp_targeting.specs.Machine.{found_at};
 ghost use Rattle.fp_targeting.specs.Meaning.{meaning};
 ghost use Rattle.fp_targeting.specs.Memory.{needs_memory};
 ghost use Rattle.fp_targeting.specs.Reading.{env_of, rule_of_code};
-ghost use Rattle.fp_targeting.specs.Stack.{off, onto};
 ghost use Rattle.fp_targeting.specs.declared.code.Operand.TheVariants.{AtHand};
 
 use crate::code::{Code, Operand, Step};
 use crate::few::{of_one, of_three, of_two};
 use crate::kept::Kept;
 use crate::operator::Operator;
-use fp_operators::{Datum, append_text, at_text, is_falsy, is_truthy, named};
+use crate::results::{collect, join, second, third, wrap};
+use fp_operators::{Datum, at_text, is_falsy, is_truthy, named};
 use std::alloc::{AllocError, Global};
 use std::mem::take;
 
@@ -167,6 +165,70 @@ impl Code {
         }
     }
 
+    // An operator's result for an operand is at hand next.
+    fn do_one(
+        &self,
+        operator: Operator,
+        a: &Operand,
+        root: &Datum,
+        null: &Datum,
+        at_hand: &mut Found<'_>,
+    ) -> u32
+        requires { view null.now ≡ null_data }
+        ensures at_hand { found_view at_hand.new ≡ few operator
+            (look (env_of self.now) (view root.now) (found_view at_hand.old) a.now ∷ []) }
+        ensures skipped { result ≡ 0 }
+    {
+        *at_hand = Found::Made(of_one(operator, self.look(a, at_hand, root, null)));
+        0
+    }
+
+    // The same of two.
+    fn do_two(
+        &self,
+        operator: Operator,
+        a: &Operand,
+        b: &Operand,
+        root: &Datum,
+        null: &Datum,
+        at_hand: &mut Found<'_>,
+    ) -> u32
+        requires { view null.now ≡ null_data }
+        ensures at_hand { let v = found_view at_hand.old in found_view at_hand.new ≡ few operator
+            (look (env_of self.now) (view root.now) v a.now
+            ∷ look (env_of self.now) (view root.now) v b.now ∷ []) }
+        ensures skipped { result ≡ 0 }
+    {
+        let b = self.look(b, at_hand, root, null);
+        *at_hand = Found::Made(of_two(operator, self.look(a, at_hand, root, null), b));
+        0
+    }
+
+    // The same of two and what is at hand.
+    fn do_three(
+        &self,
+        alloc: Global,
+        operator: Operator,
+        a: &Operand,
+        b: &Operand,
+        root: &Datum,
+        null: &Datum,
+        at_hand: &mut Found<'_>,
+    ) -> Result<u32, AllocError>
+        requires { view null.now ≡ null_data }
+        ensures at_hand { let v = found_view at_hand.old in OnOk result
+            (found_view at_hand.new ≡ few operator
+            (look (env_of self.now) (view root.now) v a.now
+            ∷ look (env_of self.now) (view root.now) v b.now ∷ v ∷ [])) }
+        ensures skipped { IfOk result (λ n. n ≡ 0) }
+        ensures memory { OnErr result (is_sem_ver operator ≡ true) }
+    {
+        let b = self.look(b, at_hand, root, null);
+        let a = self.look(a, at_hand, root, null);
+        *at_hand = Found::Made(of_three(alloc, operator, a, b, at_hand.datum())?);
+        Ok(0)
+    }
+
     // Does one instruction, and answers how many are skipped next.
     fn act<'d>(
         &'d self,
@@ -206,38 +268,20 @@ impl Code {
             Step::Skip(count) => Ok(*count),
             Step::SkipIfFalse(count) => Ok(count_if(is_falsy(at_hand.datum()), *count)),
             Step::SkipIfTrue(count) => Ok(count_if(is_truthy(at_hand.datum()), *count)),
-            Step::Find(count) => {
-                let found = named(root, at_hand.datum());
-                Ok(find(found, *count, at_hand))
-            }
+            Step::Find(count) => Ok(find(named(root, at_hand.datum()), *count, at_hand)),
             Step::FindVariable { path, skip } => {
                 Ok(find(self.variable(root, *path), *skip, at_hand))
             }
-            Step::One(operator, a) => {
-                *at_hand = Found::Made(of_one(*operator, self.look(a, at_hand, root, null)));
-                Ok(0)
-            }
-            Step::Two(operator, a, b) => {
-                let b = self.look(b, at_hand, root, null);
-                *at_hand = Found::Made(of_two(*operator, self.look(a, at_hand, root, null), b));
-                Ok(0)
-            }
+            Step::One(operator, a) => Ok(self.do_one(*operator, a, root, null, at_hand)),
+            Step::Two(operator, a, b) => Ok(self.do_two(*operator, a, b, root, null, at_hand)),
             Step::Three(operator, a, b) => {
-                let b = self.look(b, at_hand, root, null);
-                let a = self.look(a, at_hand, root, null);
-                *at_hand = Found::Made(of_three(alloc, *operator, a, b, at_hand.datum())?);
-                Ok(0)
+                Ok(self.do_three(alloc, *operator, a, b, root, null, at_hand)?)
             }
             Step::Second(operator) => Ok(second(*operator, at_hand, kept)),
             Step::Third(operator) => Ok(third(alloc, *operator, at_hand, kept)?),
-            Step::Join(count) => {
-                *at_hand = Found::Made(join(alloc, kept, *count)?);
-                Ok(0)
-            }
-            Step::Collect(count) => {
-                *at_hand = Found::Made(collect(alloc, kept, *count)?);
-                Ok(0)
-            }
+            Step::Join(count) => Ok(join(alloc, *count, at_hand, kept)?),
+            Step::Collect(count) => Ok(collect(alloc, *count, at_hand, kept)?),
+            Step::Wrap => Ok(wrap(alloc, at_hand)?),
             Step::Split(operand, table) => {
                 let key = self.look(operand, at_hand, root, null);
                 Ok(lend(table.chosen_by(key), at_hand))
@@ -322,104 +366,4 @@ fn find<'d>(found: Option<&'d Datum>, count: u32, at_hand: &mut Found<'d>) -> u3
     let skipped = if found.is_some() { count } else { 0 };
     *at_hand = Found::or_null(found);
     skipped
-}
-
-// An operator's result for the last kept result and the one at hand is at hand next.
-fn second(operator: Operator, at_hand: &mut Found<'_>, kept: &mut Kept<'_>) -> u32
-    requires { IsSome (second operator (found_view at_hand.old) (stack_view kept.old)) }
-    ensures does { second operator (found_view at_hand.old) (stack_view kept.old)
-        ≡ Some (result, found_view at_hand.new, stack_view kept.new) }
-    ensures room { kept_room kept.new ≡ kept_room kept.old }
-{
-    if let Some(first) = kept.pop() {
-        *at_hand = Found::Made(of_two(operator, first.datum(), at_hand.datum()));
-    }
-    0
-}
-
-// An operator's result for the last two kept results and the one at hand is at hand next.
-fn third(
-    alloc: Global,
-    operator: Operator,
-    at_hand: &mut Found<'_>,
-    kept: &mut Kept<'_>,
-) -> Result<u32, AllocError>
-    requires { IsSome (third operator (found_view at_hand.old) (stack_view kept.old)) }
-    ensures does { IfOk result (λ n. third operator (found_view at_hand.old)
-        (stack_view kept.old)
-        ≡ Some (n, found_view at_hand.new, stack_view kept.new)) }
-    ensures room { kept_room kept.new ≡ kept_room kept.old }
-    ensures memory { OnErr result (is_sem_ver operator ≡ true) }
-{
-    if let Some(second) = kept.pop() {
-        if let Some(first) = kept.pop() {
-            let last = at_hand.datum();
-            let made = of_three(alloc, operator, first.datum(), second.datum(), last)?;
-            *at_hand = Found::Made(made);
-        }
-    }
-    Ok(0)
-}
-
-// The texts of the last kept results, so many, joined: they are kept no longer.
-fn join(alloc: Global, kept: &mut Kept<'_>, count: u32) -> Result<Datum, AllocError>
-    requires { count ≤ length (kept_items kept.old) }
-    ensures does { IfOk result (λ d. of_kept concatenation count (stack_view kept.old)
-        ≡ Some (0, view d, stack_view kept.new)) }
-    ensures room { kept_room kept.new ≡ kept_room kept.old }
-{
-    let from = kept.as_slice().len() - count as usize;
-    let joined = joined(alloc, behind(kept, from))?;
-    kept.truncate(from);
-    Ok(joined)
-}
-
-fn behind<'k, 'd>(kept: &'k Kept<'d>, from: usize) -> &'k [Found<'d>]
-    requires { from ≤ length (kept_items kept.now) }
-    ensures { result.now ≡ drop from (kept_items kept.now) }
-{
-    &kept.as_slice()[from..]
-}
-
-fn joined(alloc: Global, parts: &[Found<'_>]) -> Result<Datum, AllocError>
-    ensures { IfOk result (λ d. view d ≡ concatenation (map found_view parts.now)) }
-{
-    let mut text = String::new(alloc);
-    for part in parts {
-        if !append_text(&mut text, part.datum())? {
-            return Ok(Datum::Null);
-        }
-    }
-    Ok(Datum::Text(text))
-}
-
-// A list of the last kept results, so many: they are taken off, and copied where they are only lent.
-fn collect(alloc: Global, kept: &mut Kept<'_>, count: u32) -> Result<Datum, AllocError>
-    requires { count ≤ length (kept_items kept.old) }
-    ensures does { IfOk result (λ d.
-        of_kept list_of count (stack_view kept.old)
-        ≡ Some (0, view d, stack_view kept.new)) }
-    ensures room { kept_room kept.new ≡ kept_room kept.old }
-{
-    let mut list = taken_off(alloc, kept, count)?;
-    list.reverse();
-    Ok(Datum::List(list))
-}
-
-// The last kept results, so many, the last one first.
-fn taken_off(alloc: Global, kept: &mut Kept<'_>, count: u32) -> Result<Vec<Datum>, AllocError>
-    requires { count ≤ length (kept_items kept.old) }
-    ensures taken { IfOk result (λ v. off count (stack_view kept.old) []
-        ≡ (onto (map view v.items) [], stack_view kept.new)) }
-    ensures room { kept_room kept.new ≡ kept_room kept.old }
-{
-    let mut items = Vec::with_capacity(alloc, count as usize)?;
-    let mut left = count;
-    'results: while left > 0 {
-        left -= 1;
-        if let Some(result) = kept.pop() {
-            items.push(result.into_datum(alloc)?)?;
-        }
-    }
-    Ok(items)
 }

@@ -1,10 +1,11 @@
-//! Code of operators that look at the results of all their arguments, and of what is kept.
+//! Code of operators that look at all their arguments' results, of lists, and of what is kept.
 
-ghost use Rattle.std.specs.Prelude.{◌≡◌, true, IfOk, length};
-ghost use Rattle.serde_json.specs.Data.{no_items, item};
+ghost use Rattle.std.specs.Prelude.{◌≡◌, true, false, IfOk, length};
+ghost use Rattle.serde_json.specs.Data.{no_items, item, array};
 ghost use Rattle.fp_base.specs.Ordered.{IsOrdered, AreOrdered};
 ghost use Rattle.fp_base.specs.TreeView.{tree_view, tree_items};
 ghost use Rattle.fp_targeting.specs.Compiles.{CompileAll, Compiles};
+ghost use Rattle.fp_targeting.specs.Constant.{all_literal};
 ghost use Rattle.fp_targeting.specs.Emits.{Adds, AddsAlone, Keeps, KeepsOne};
 ghost use Rattle.fp_targeting.specs.Operators.{takes};
 ghost use Rattle.fp_targeting.specs.Rule.{apply};
@@ -14,6 +15,7 @@ ghost use Rattle.fp_targeting.specs.View.{rules_of};
 use crate::build::above;
 use crate::code::{Code, Operand, Step};
 use crate::json::is_lent;
+use crate::operands::short;
 use crate::operator::Operator;
 use fp_base::Tree as Json;
 use std::alloc::{AllocError, Global};
@@ -220,6 +222,28 @@ impl Code {
             }
         }
         Ok(true)
+    }
+
+    /// Code of a list. The result of an only item is wrapped where it is, and not kept.
+    #[cycle(build)]
+    pub fn list(
+        &mut self,
+        alloc: Global,
+        items: &[Json<'_>],
+        height: usize,
+    ) -> Result<bool, AllocError>
+        requires other { all_literal (tree_items items.now) ≡ false }
+        requires ordered { AreOrdered (tree_items items.now) }
+        ensures { IfOk result (λ done. Compiles done
+            (λ r. Adds height r self.old self.new) (array (tree_items items.now))) }
+    {
+        if let [only] = items {
+            self.push(Step::Wrap)?;
+            return Ok(self.compute(alloc, only, height)?);
+        }
+        let count = short(items.len())?;
+        self.push(Step::Collect(count))?;
+        Ok(self.each_kept(alloc, items, height)?)
     }
 
     /// Code of an operator that looks at the results of all its arguments.

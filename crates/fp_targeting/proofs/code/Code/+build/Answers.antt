@@ -1,4 +1,4 @@
-use Rattle.std.proofs.Common.{arith, sym, ap, ◌∙◌, refl, subst, drop, take, ◌≢◌, ◌≡◌, ◌≤◌, ◌+◌, true, length, ◌-◌, ◌*◌, ◌<◌, ◌/◌}
+use Rattle.std.proofs.Common.{arith, sym, ap, ◌∙◌, refl, subst, drop, take, [], ◌∷◌, ◌≢◌, ◌≡◌, ◌≤◌, ◌+◌, true, false, length, ◌-◌, ◌*◌, ◌<◌, ◌/◌}
 use Rattle.std.proofs.lemmas.Bool.{leb-true}
 use Rattle.std.proofs.lemmas.List.{take_rest, length-drop}
 use Rattle.serde_json.specs.Data.{no_items, item, array}
@@ -9,18 +9,19 @@ use Rattle.fp_base.proofs.Counted.{count_some}
 use Rattle.fp_base.proofs.Views.{view-Array, view-Object}
 use Rattle.fp_operators.specs.Data.{text}
 use Rattle.fp_targeting.specs.Compiles.{Compiles, CompileAll, IsCompiled, AreCompiled, NoRule, is_plain, NoRules}
-use Rattle.fp_targeting.specs.Emits.{Pushed, Adds, AddsAlone, Decides, Finds}
+use Rattle.fp_targeting.specs.Constant.{all_literal}
+use Rattle.fp_targeting.specs.Emits.{Pushed, Adds, Decides, Finds}
 use Rattle.fp_targeting.specs.Operators.{takes}
 use Rattle.fp_targeting.specs.Rule.{apply, literal}
 use Rattle.fp_targeting.specs.View.{rules_of}
 use Rattle.fp_targeting.specs.declared.code.Step.TheVariants.{End}
 use Rattle.fp_targeting.specs.declared.operator.Operator.TheVariants.{If}
-use Rattle.fp_targeting.proofs.Compiling.{stops-either, stops-any, strict-either, unnamed, applies, refuses, looks-other, operation, decided, joined_all, collected_all}
+use Rattle.fp_targeting.proofs.Compiling.{stops-either, stops-any, strict-either, unnamed, applies, refuses, looks-other, operation, decided, joined_all, collected_all, wrapped}
 use Rattle.fp_targeting.proofs.Deciding.{finds-computed, found-alone, found-default, last-decides, more-decides, if-none, if-last, if-more}
 use Rattle.fp_targeting.proofs.Emitting.{added-load, pushed-there, operand-there, stays, adds-later, raised-there, kept-operand, kept-computed, kept-at, keeps-none, keeps-more}
 use Rattle.fp_targeting.proofs.Leaves.{others-plain}
 use Rattle.fp_targeting.proofs.Loops.{no-rules-drop, compiled-end, compiled-any, no-rules-at, compiled-more, compiled-pair}
-use Rattle.fp_targeting.proofs.Parts.{parted, no-first, no-others, compiles-true, compiles-false, all-false, made-into, all-made-into, same-items, both-compiled, in-front, alone, compile-before, compile-behind, compile-one, two-items, three-items, compile-last}
+use Rattle.fp_targeting.proofs.Parts.{parted, no-first, no-others, compiles-true, compiles-false, all-false, made-into, all-made-into, same-items, both-compiled, in-front, alone, compile-before, compile-behind, compile-one, last-item, two-items, three-items, compile-last}
 use Rattle.fp_targeting.proofs.Sizes.{drop-count, drop-ordered, at-count, at-ordered, two-counted, three-counted}
 use Rattle.fp_targeting.proofs.Splitting.{split-lent, split-computed, split_alone, split_none, split_bad, split_behind, is_list-array}
 use Rattle.fp_targeting.proofs.Strictly.{few-taken, added-one, added-one-computed, added-two, added-two-second, added-two-first, added-three, added-second, added-third}
@@ -60,17 +61,30 @@ branches-compute-requires-in-pairs t c =
     let many = at-count (2 * (c.pairs.pairs - 1)) xs c.index-arguments-pairs-in-pairs.result within c.index-arguments-pairs-in-pairs.is in
     (omega (arith, c.decreases, many), at-ordered (2 * (c.pairs.pairs - 1)) xs c.index-arguments-pairs-in-pairs.result within c.index-arguments-pairs-in-pairs.is c.requires.ordered)
 
-pub compute-each_kept-requires : goal.compute-each_kept-requires
-compute-each_kept-requires t c =
+pub compute-list-requires : goal.compute-list-requires
+compute-list-requires t c =
     let v = c.in-Array.items in
     let shape : tree_view c.args.json.now ≡ array (tree_items v.items) = ap tree_view c.in-Array.is ∙ view-Array v in
-    let counted : count (tree_view c.args.json.now) ≡ 1 + items_count (tree_items c.as_slice.result.now) = ap count shape ∙ ap (λ xs. 1 + items_count (tree_items xs)) (sym c.as_slice.ensures.value) in
-    (omega (arith, c.decreases, counted), subst (λ xs. AreOrdered (tree_items xs)) (sym c.as_slice.ensures.value) (subst IsOrdered shape c.requires))
+    let same = sym c.as_slice.ensures.value in
+    let counted : count (tree_view c.args.json.now) ≡ 1 + items_count (tree_items c.as_slice.result.now) =
+    ap count shape ∙ ap (λ xs. 1 + items_count (tree_items xs)) same in
+    let other = subst (λ xs. all_literal (tree_items xs) ≡ false) same (sym c.are_literals.ensures ∙ c.if-are_literals.false) in
+    (omega (arith, c.decreases, counted), (other, subst (λ xs. AreOrdered (tree_items xs)) same (subst IsOrdered shape c.requires)))
+
+pub list-each_kept-requires : goal.list-each_kept-requires
+list-each_kept-requires t c = (omega (arith, c.decreases), c.requires.ordered)
+
+pub list-compute-requires : goal.list-compute-requires
+list-compute-requires t c =
+    let xs = c.args.items.now in
+    let within : 0 < length xs = omega (arith, c.in-len1.len_at_least) in
+    let many = at-count 0 xs c.only-item.result within c.only-item.is in
+    (omega (arith, c.decreases, many), at-ordered 0 xs c.only-item.result within c.only-item.is c.requires.ordered)
 
 pub compute-load_constant-requires-then-len-ne1-clause-plain : goal.compute-load_constant-requires-then-len-ne1-clause-plain
 compute-load_constant-requires-then-len-ne1-clause-plain t c =
     let v = c.in-Object.members in
-    let others : length v.items ≢ 1 = grind (arith, v.ok, c.len-in-Object.ensures, c.if-len-ne1.true) in
+    let others : length v.items ≢ 1 = grind (arith, v.ok, c.len.ensures, c.if-len-ne1.true) in
     ap is_plain (ap tree_view c.in-Object.is ∙ view-Object v) ∙ others-plain v.items others
 
 pub conditions-compute-requires : goal.conditions-compute-requires
@@ -283,15 +297,28 @@ branches-returns t c =
     let none : 2 * c.pairs.pairs ≡ 0 = omega (arith, c.pairs-test.false) in
     subst (λ n. AreCompiled (λ rs. Decides If c.args.height rs c.args.self.now c.pairs.self) (tree_items (drop n xs))) none c.pairs.invariant.made
 
-pub compute-returns-in_ok-each_kept-in-Array : goal.compute-returns-in_ok-each_kept-in-Array
-compute-returns-in_ok-each_kept-in-Array t c =
+pub compute-returns-in_ok-list-in-Array : goal.compute-returns-in_ok-list-in-Array
+compute-returns-in_ok-list-in-Array t c =
     let v = c.in-Array.items in
-    let b = c.in_ok-each_kept-in-Array.field-0 in
-    let shape : tree_view c.args.json.now ≡ array (tree_items v.items) = ap tree_view c.in-Array.is ∙ view-Array v in
-    let same : c.in_ok-count-in-Array.count ≡ length v.items = grind (arith, v.ok, c.len.ensures, c.in_ok-count-in-Array.ensures) in
-    let kept = same-items _ b (ap tree_items c.as_slice.ensures.value) c.in_ok-each_kept-in-Array.ensures in
-    subst (Compiles b (λ r. Adds c.args.height r c.args.self.now c.each_kept.new.self)) (sym shape)
-    (collected_all _ _ b v.items c.in_ok-push-in-Array.ensures same (sym c.are_literals.ensures ∙ c.if-are_literals.false) kept)
+    let b = c.in_ok-list-in-Array.field-0 in
+    let shape : array (tree_items c.as_slice.result.now) ≡ tree_view c.args.json.now =
+    ap (λ xs. array (tree_items xs)) c.as_slice.ensures.value ∙ sym (ap tree_view c.in-Array.is ∙ view-Array v) in
+    subst (Compiles b (λ r. Adds c.args.height r c.args.self.now c.list.new.self)) shape c.in_ok-list-in-Array.ensures
+
+pub list-returns : goal.list-returns
+list-returns t c =
+    let xs = c.args.items.now in
+    collected_all _ _ c.in_ok-each_kept.field-0 xs c.in_ok-push-2.ensures c.in_ok-count.ensures c.requires.other c.in_ok-each_kept.ensures
+
+pub list-returns-in-len1 : goal.list-returns-in-len1
+list-returns-in-len1 t c =
+    let b = c.in_ok-compute.field-0 in
+    let x = c.only-item.result in
+    let one : length c.args.items.now ≡ 1 = omega (arith, c.in-len1.len_at_least, c.in-len1.len_below) in
+    let same : c.args.items.now ≡ x ∷ [] = last-item c.args.items.now 0 x one c.only-item.is in
+    let other = subst (λ xs. all_literal (tree_items xs) ≡ false) same c.requires.other in
+    subst (λ xs. Compiles b (λ r. Adds c.args.height r c.args.self.now c.compute.new.self) (array (tree_items xs))) (sym same)
+    (wrapped c.args.height c.compute.new.self b (tree_view x) c.in_ok-push.ensures other c.in_ok-compute.ensures)
 
 pub conditions-returns-then-not-branch : goal.conditions-returns-then-not-branch
 conditions-returns-then-not-branch t c =
@@ -548,7 +575,7 @@ pub compute-apply-requires : goal.compute-apply-requires
 compute-apply-requires t c =
     let v = c.in-Object.members in
     let m = c.index-only.result.now in
-    let one : length v.items ≡ 1 = grind (arith, v.ok, c.len-in-Object.ensures, c.if-len-ne1.false) in
+    let one : length v.items ≡ 1 = grind (arith, v.ok, c.len.ensures, c.if-len-ne1.false) in
     let shape = ap tree_view c.in-Object.is ∙ only-Object v m one c.index-only.ensures in
     let counted = ap count shape in
     (omega (arith, c.decreases, counted, c.arguments.ensures.few), c.arguments.ensures.ordered)
@@ -558,7 +585,7 @@ compute-returns-in_ok-apply-in-Some t c =
     let v = c.in-Object.members in
     let m = c.index-only.result.now in
     let b = c.in_ok-apply-in-Some.field-0 in
-    let one : length v.items ≡ 1 = grind (arith, v.ok, c.len-in-Object.ensures, c.if-len-ne1.false) in
+    let one : length v.items ≡ 1 = grind (arith, v.ok, c.len.ensures, c.if-len-ne1.false) in
     let shape = ap tree_view c.in-Object.is ∙ only-Object v m one c.index-only.ensures in
     subst (Compiles b (λ r. Adds c.args.height r c.args.self.now c.apply.new.self)) (sym shape)
     (operation b m.0.now c.in-Some.operator (tree_view m.1) (tree_items c.arguments.result.now) (λ r. Adds c.args.height r c.args.self.now c.apply.new.self) (sym c.named.ensures ∙ c.in-Some.is) c.arguments.ensures.rules c.arguments.ensures.unknown c.in_ok-apply-in-Some.ensures)
@@ -567,7 +594,7 @@ pub compute-returns-in-None : goal.compute-returns-in-None
 compute-returns-in-None t c =
     let v = c.in-Object.members in
     let m = c.index-only.result.now in
-    let one : length v.items ≡ 1 = grind (arith, v.ok, c.len-in-Object.ensures, c.if-len-ne1.false) in
+    let one : length v.items ≡ 1 = grind (arith, v.ok, c.len.ensures, c.if-len-ne1.false) in
     let shape = ap tree_view c.in-Object.is ∙ only-Object v m one c.index-only.ensures in
     subst NoRule (sym shape) (unnamed m.0.now (tree_view m.1) (sym c.named.ensures ∙ c.in-None.is))
 

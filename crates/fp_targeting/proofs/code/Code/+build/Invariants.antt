@@ -44,6 +44,9 @@ decreases-compute l = 16 * count (tree_view l.json.now)
 abbrev pub decreases-each_kept : goal.decreases-each_kept
 decreases-each_kept l = 16 * items_count (tree_items l.arguments.now) + 2
 
+abbrev pub decreases-list : goal.decreases-list
+decreases-list l = 16 * items_count (tree_items l.items.now) + 4
+
 abbrev pub decreases-one_kept : goal.decreases-one_kept
 decreases-one_kept l = 16 * count (tree_view l.argument.now) + 1
 
