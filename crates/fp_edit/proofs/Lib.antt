@@ -1,6 +1,7 @@
+pub mod Asking
 pub mod Bounding
 pub mod Changed
-pub mod Filling
+pub mod Making
 pub mod Followed
 pub mod Refusing
 pub mod Tallying

@@ -92,7 +92,7 @@ edit_of_part d ms is one =
 -- ---- sets of changes
 
 -- the number of items decides whether they are looked at
-item_count : (ts : List Tree) → items_len (tree_items ts) ≡ length ts
+pub item_count : (ts : List Tree) → items_len (tree_items ts) ≡ length ts
 item_count [] = refl
 item_count (t ∷ ts) = ap suc (item_count ts)
 

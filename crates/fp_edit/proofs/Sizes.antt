@@ -40,7 +40,7 @@ back : (b : Bool) (x : Option Flag) (f : Flag) → (b ≡ true → x ≡ Some f)
 back true x f h = sym (h refl)
 back false x f h = refl
 
-at_key : (m : Flags) (k q : List ℕ) → eq_by_cmp bytes_cmp q k ≡ true → fin.get m q ≡ fin.get m k
+pub at_key : (m : Flags) (k q : List ℕ) → eq_by_cmp bytes_cmp q k ≡ true → fin.get m q ≡ fin.get m k
 at_key m k q e = sym (fin.get_tied nat_list_cmp_total m q k ((Equal-is (bytes_cmp q k)).0 e))
 
 -- a removal of nothing

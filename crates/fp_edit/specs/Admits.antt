@@ -7,8 +7,8 @@ use Rattle.fp_base.specs.Tests.{first_failed}
 use Rattle.fp_edit.specs.Parts.{Part, put, delete, part_key, any_put, ProposedPart}
 use Rattle.fp_edit.specs.Edits.{Change, parts, Proposal, single, joint, change_in}
 use Rattle.fp_edit.specs.Flags.{Flags, State, size}
-use Rattle.fp_edit.specs.declared.edit.TheConstants.{REVISIONS_END}
-use Rattle.fp_edit.specs.declared.flag_set.TheConstants.{MOST_FLAGS}
+use Rattle.fp_edit.specs.Numbers.{REVISIONS_END}
+use Rattle.fp_edit.specs.Numbers.{MOST_FLAGS}
 use Rattle.fp_edit.specs.declared.edit.Expect.{Expect}
 use Rattle.fp_edit.specs.declared.edit.Expect.TheVariants.{Any, Absent, At}
 use Rattle.fp_edit.specs.declared.edit.EditFault.{EditFault}

@@ -4,8 +4,8 @@ use Rattle.std.specs.Prelude.{◌||◌, nat_le, bytes_eq, Option}
 use Rattle.std.specs.List.{sum_by}
 use Rattle.fp_base.specs.Tests.{first_failed}
 use Rattle.fp_edit.specs.Parts.{Part, put, delete, part_key}
-use Rattle.fp_edit.specs.declared.changes.TheConstants.{MOST_CHANGES, LONGEST_EDIT}
-use Rattle.fp_edit.specs.declared.changes.TheConstants.{PUT_FRAME, DELETE_FRAME, SET_FRAME}
+use Rattle.fp_edit.specs.Numbers.{MOST_CHANGES, LONGEST_EDIT}
+use Rattle.fp_edit.specs.Numbers.{PUT_FRAME, DELETE_FRAME, SET_FRAME}
 use Rattle.fp_edit.specs.declared.changes.SetFault.{SetFault}
 use Rattle.fp_edit.specs.declared.changes.SetFault.TheVariants.{BadCount, RepeatedKey, TooLong}
 

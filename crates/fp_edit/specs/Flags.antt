@@ -4,10 +4,10 @@ use Rattle.std.specs.Prelude.{Some, None, refl}
 use Rattle.std.specs.Coded.{Coded, coded×, coded_ℕ, coded_list, code_by}
 use Rattle.std.specs.FinMap as map
 use Rattle.fp_base.specs.Bytes.{bytes_cmp}
-use Rattle.fp_edit.specs.declared.edit.TheConstants.{REVISIONS_END}
-use Rattle.fp_edit.specs.declared.flag_set.TheConstants.{MOST_FLAGS}
+use Rattle.fp_edit.specs.Numbers.{REVISIONS_END}
+use Rattle.fp_edit.specs.Numbers.{MOST_FLAGS}
 use Rattle.fp_edit.specs.declared.flags.Flag.{Flag}
-use Rattle.fp_edit.specs.declared.flags.TheConstants.{FLAG_FRAME, IMAGE_HEAD}
+use Rattle.fp_edit.specs.Numbers.{FLAG_FRAME, IMAGE_HEAD}
 
 -- from the bytes of a key to its flag, whose definition is seen as its canonical text
 abbrev pub Flags : Type 0

@@ -1,9 +1,10 @@
+pub mod Numbers
 pub mod Admits
+pub mod Asks
 pub mod Changes
 pub mod Document
 pub mod Edits
 pub mod Entries
-pub mod Filled
 pub mod Flags
 pub mod Following
 pub mod Keys
@@ -13,4 +14,5 @@ pub mod Log
 pub mod Noted
 pub mod Outline
 pub mod Parts
+pub mod Puts
 pub mod Spelled

@@ -15,8 +15,8 @@ use Rattle.fp_definition.specs.Valid.{first_fault}
 use Rattle.fp_edit.specs.Changes.{is_count, set_fault}
 use Rattle.fp_edit.specs.Parts.{put, delete, ProposedPart, parts_of}
 use Rattle.fp_edit.specs.Edits.{Proposal, single, joint}
-use Rattle.fp_edit.specs.declared.edit.TheConstants.{REVISIONS_END}
-use Rattle.fp_edit.specs.declared.line.TheConstants.{LONGEST_LINE}
+use Rattle.fp_edit.specs.Numbers.{REVISIONS_END}
+use Rattle.fp_edit.specs.Numbers.{LONGEST_LINE}
 use Rattle.fp_edit.specs.declared.edit.Expect.{Expect}
 use Rattle.fp_edit.specs.declared.edit.Expect.TheVariants.{Any, Absent, At}
 use Rattle.fp_edit.specs.declared.line.Op.{Op}

@@ -1,7 +1,7 @@
 //! Changes that are made together, under one revision.
 
 ghost use Rattle.std.specs.Prelude.{◌≡◌, ◌+◌, ◌≤◌, [], None, Some, length, map, nat_le, true};
-ghost use Rattle.std.specs.Prelude.{IfOk, IfErr};
+ghost use Rattle.std.specs.Prelude.{◌<◌, IfOk, IfErr, OnErr};
 ghost use Rattle.fp_definition.specs.Key.{key_bytes};
 ghost use Rattle.fp_edit.specs.Changes.{are_distinct, is_among, is_count, part_len, set_fault};
 ghost use Rattle.fp_edit.specs.Changes.{set_len};
@@ -252,6 +252,7 @@ fn meet_all<'a>(met: &mut MetKeys<'a>, changes: &'a [Change]) -> Result<bool, Al
     requires { met.old ≡ [] }
     ensures distinct { IfOk result (λ all. all ≡ are_distinct (keys_of changes.now)) }
     ensures met { IfOk result (λ all. all ≡ true → AreMet met.new (keys_of changes.now)) }
+    ensures memory { OnErr result (0 < length changes.now) }
 {
     let Some((change, rest)) = changes.split_first() else {
         return Ok(true);

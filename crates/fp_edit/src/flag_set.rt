@@ -20,9 +20,8 @@ ghost use Rattle.fp_edit.specs.declared.flags.TheConstants.{IMAGE_HEAD};
 use crate::changes::Changes;
 use crate::document::{Document, document_after, document_of};
 use crate::edit::{Edit, EditFault, REVISIONS_END};
-use crate::flags::{
-    Flag, IMAGE_HEAD, add_new, copy_of, cost_at, cost_of, count, find, replace_all, store, take,
-};
+use crate::flags::{Flag, IMAGE_HEAD, copy_of, cost_at, cost_of, count, find, store, take};
+use crate::walks::{make_deletes, make_puts};
 use fp_definition::{Definition, FlagKey};
 use std::alloc::{AllocError, AllocFailed, Global};
 use std::collections::BTreeMap;
@@ -276,8 +275,8 @@ impl FlagSet {
         }
     }
 
-    // Makes all changes of a set, or none. Whatever takes memory comes first: each new key gets its
-    // flag.
+    // Makes all changes of a set, or none. Its keys are all others, so that what may lack memory can
+    // come first.
     fn make_all(&mut self, changes: Changes) -> Result<(), Changes>
         requires { refusal self.old (joint changes) ≡ None }
         ensures made { OnOk result (self.new ≡ next self.old (set (parts_of changes))) }
@@ -286,13 +285,13 @@ impl FlagSet {
         ensures unchanged { OnErr result (self.new ≡ self.old) }
     {
         let revision = self.revision + 1;
-        let marks_one = changes.as_slice().len() == 1;
-        let Ok((added, are_made)) = add_new(&mut self.flags, changes.as_slice(), revision) else {
-            return Err(changes);
+        let mut changes = changes.into_changes();
+        let marks_one = changes.len() == 1;
+        let Ok(shift) = make_puts(&mut self.flags, changes.as_mut_slice(), revision) else {
+            return Err(Changes::of_lawful(changes));
         };
-        let changes = changes.into_changes();
-        let (come, gone) = replace_all(&mut self.flags, changes, revision, are_made);
-        self.size = (self.size as u128 + added + come - gone) as u64;
+        let gone = shift.gone + make_deletes(&mut self.flags, changes.as_slice());
+        self.size = (self.size as u128 + shift.come - gone) as u64;
         self.revision = revision;
         self.marks_one = marks_one;
         Ok(())
@@ -389,8 +388,7 @@ impl FlagSet {
         requires { has_revision self.old ≡ true }
         ensures { self.new ≡ next self.old (one (delete (key_bytes key.now))) }
     {
-        let gone = cost_at(&self.flags, key) as u64;
-        take(&mut self.flags, key);
+        let gone = take(&mut self.flags, key) as u64;
         self.size -= gone;
         self.revision += 1;
         self.marks_one = true;

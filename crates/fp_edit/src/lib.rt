@@ -13,7 +13,9 @@ mod judging;
 mod keys;
 mod laws;
 mod line;
+mod one_flag;
 mod tally;
+mod walks;
 
 pub use changes::{
     Changes, DELETE_FRAME, LONGEST_EDIT, MOST_CHANGES, PUT_FRAME, SET_FRAME, SetFault, delete_len,

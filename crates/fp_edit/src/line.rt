@@ -1,21 +1,23 @@
 //! Lines that spell edits.
 
-ghost use Rattle.std.specs.Prelude.{◌≡◌, List, Some, Result, Ok, Err, codes, map, option_map};
+ghost use Rattle.std.specs.Prelude.{◌≡◌, List, Some, Result, Ok, Err, IfErr, map, option_map, true};
 ghost use Rattle.serde_json.specs.Data.{array, object};
-ghost use Rattle.serde_json.specs.Find.{get};
 ghost use Rattle.fp_base.specs.Answer.{Gives};
 ghost use Rattle.fp_base.specs.Ordered.{IsOrdered, AreOrdered};
 ghost use Rattle.fp_base.specs.TreeView.{tree_view, tree_items, tree_members};
-ghost use Rattle.fp_definition.specs.Key.{key_bytes};
 ghost use Rattle.fp_edit.specs.Edits.{proposal_of};
 ghost use Rattle.fp_edit.specs.Parts.{ProposedPart, proposed_of};
 ghost use Rattle.fp_edit.specs.Line as says;
 ghost use Rattle.fp_edit.specs.Spelled.{Tells, TellsPart};
+ghost use Rattle.fp_edit.specs.Asks.{edit_asks, list_asks, part_asks, set_asks};
+ghost use Rattle.fp_edit.specs.declared.line.PartFault.TheVariants as part;
+ghost use Rattle.fp_edit.specs.declared.line.LineFault.TheVariants.{BadSet, Memory};
 
 use crate::changes::{Changes, is_count};
-use crate::edit::{Change, Edit, Expect, REVISIONS_END};
+use crate::edit::{Change, Edit};
+use crate::one_flag::change_in;
 use fp_base::{Tree, read_tree};
-use fp_definition::{DefFault, Definition, FlagKey, KeyFault, LONGEST_KEY};
+use fp_definition::{DefFault, LONGEST_KEY};
 use json::Scratch;
 use std::alloc::{AllocError, Global};
 use thiserror::Error;
@@ -102,7 +104,7 @@ impl From<AllocError> for LineFault {
 }
 
 #[derive(Debug, Clone, Copy)]
-enum Op {
+pub(crate) enum Op {
     Put,
     Delete,
 }
@@ -124,7 +126,8 @@ pub fn parse_line(alloc: Global, line: &[u8]) -> Result<Edit, LineFault>
 
 fn edit_in(alloc: Global, tree: &Tree<'_>) -> Result<Edit, LineFault>
     requires { IsOrdered (tree_view tree.now) }
-    ensures { Gives proposal_of Tells result (says.edit_in (tree_view tree.now)) }
+    ensures value { Gives proposal_of Tells result (says.edit_in (tree_view tree.now)) }
+    ensures memory { IfErr result (λ e. e ≡ Memory → edit_asks (tree_view tree.now) ≡ true) }
 {
     let Tree::Object(members) = tree else {
         return Err(LineFault::NotObject);
@@ -141,8 +144,9 @@ fn edit_in(alloc: Global, tree: &Tree<'_>) -> Result<Edit, LineFault>
 
 // The fault of a line whose edit of one flag has this one.
 fn line_fault(fault: PartFault) -> LineFault
-    ensures { (said : Result ProposedPart says.Fault) → TellsPart fault (λ f. said ≡ Err f)
+    ensures told { (said : Result ProposedPart says.Fault) → TellsPart fault (λ f. said ≡ Err f)
         → Tells result (λ f. said ≡ Err f) }
+    ensures memory { result ≡ Memory → fault ≡ part.Memory }
 {
     match fault {
         PartFault::NotObject => LineFault::NotObject,
@@ -168,7 +172,8 @@ fn is_set(op: Option<&Tree<'_>>) -> bool
 fn set_in(alloc: Global, tree: &Tree<'_>, members: &[(&str, Tree<'_>)]) -> Result<Edit, LineFault>
     requires ordered { IsOrdered (tree_view tree.now) }
     requires same { tree_view tree.now ≡ object (tree_members members.now) }
-    ensures { Gives proposal_of Tells result (says.set_in (tree_members members.now)) }
+    ensures value { Gives proposal_of Tells result (says.set_in (tree_members members.now)) }
+    ensures memory { IfErr result (λ e. e ≡ Memory → set_asks (tree_members members.now) ≡ true) }
 {
     if !all_known_in_set(members) {
         return Err(LineFault::BadMember);
@@ -194,7 +199,9 @@ fn all_known_in_set(members: &[(&str, Tree<'_>)]) -> bool
 #[tactic(auto, unfolding(crate::specs::Line::set_of))]
 fn set_of(alloc: Global, edits: &Tree<'_>) -> Result<Edit, LineFault>
     requires { IsOrdered (tree_view edits.now) }
-    ensures { Gives proposal_of Tells result (says.set_of (Some (tree_view edits.now))) }
+    ensures value { Gives proposal_of Tells result (says.set_of (Some (tree_view edits.now))) }
+    ensures memory { IfErr result (λ e. e ≡ Memory
+        → list_asks (Some (tree_view edits.now)) ≡ true) }
 {
     match edits {
         Tree::Array(items) => set_of_items(alloc, items),
@@ -205,12 +212,22 @@ fn set_of(alloc: Global, edits: &Tree<'_>) -> Result<Edit, LineFault>
 // The set of the changes that these are.
 fn set_of_items(alloc: Global, items: &[Tree<'_>]) -> Result<Edit, LineFault>
     requires { AreOrdered (tree_items items.now) }
-    ensures { Gives proposal_of Tells result (says.set_of (Some (array (tree_items items.now)))) }
+    ensures value { Gives proposal_of Tells result
+        (says.set_of (Some (array (tree_items items.now)))) }
+    ensures memory { IfErr result (λ e. e ≡ Memory
+        → list_asks (Some (array (tree_items items.now))) ≡ true) }
 {
     if !is_count(items.len()) {
         return Err(LineFault::BadSet);
     }
-    let changes = changes_in(alloc, items)?;
+    joined(changes_in(alloc, items)?)
+}
+
+// The set of changes that were read. This asks for no memory.
+fn joined(changes: Vec<Change>) -> Result<Edit, LineFault>
+    ensures value { Gives proposal_of Tells result (says.joined (map proposed_of changes.items)) }
+    ensures fault { IfErr result (λ e. e ≡ BadSet) }
+{
     match Changes::new(changes) {
         Ok(changes) => Ok(Edit::Set(changes)),
         Err(_) => Err(LineFault::BadSet),
@@ -246,154 +263,12 @@ fn fault_in_set(at: usize, fault: PartFault) -> LineFault
 
 fn change_inside(alloc: Global, tree: &Tree<'_>) -> Result<Change, PartFault>
     requires { IsOrdered (tree_view tree.now) }
-    ensures { Gives proposed_of TellsPart result (says.part_inside (tree_view tree.now)) }
+    ensures value { Gives proposed_of TellsPart result (says.part_inside (tree_view tree.now)) }
+    ensures memory { IfErr result (λ e. e ≡ part.Memory → part_asks (tree_view tree.now) ≡ true) }
 {
     let op = tree.get("op");
     if is_set(op) {
         return Err(PartFault::BadOp);
     }
     change_in(alloc, tree, op)
-}
-
-// ---- edits of one flag
-
-// The change to one flag that an object with this `op` is.
-fn change_in(alloc: Global, tree: &Tree<'_>, op: Option<&Tree<'_>>) -> Result<Change, PartFault>
-    requires ordered { IsOrdered (tree_view tree.now) }
-    requires op { option_map (λ t. tree_view t.now) op ≡ get (codes "op") (tree_view tree.now) }
-    ensures { Gives proposed_of TellsPart result (says.part_in (tree_view tree.now)) }
-{
-    let Tree::Object(members) = tree else {
-        return Err(PartFault::NotObject);
-    };
-    if !all_known(members) {
-        return Err(PartFault::BadMember);
-    }
-    change_with(alloc, tree, op)
-}
-
-fn all_known(members: &[(&str, Tree<'_>)]) -> bool
-    ensures { result ≡ says.all_known (tree_members members.now) }
-{
-    for member in members {
-        if !is_known(member.0) {
-            return false;
-        }
-    }
-    true
-}
-
-fn is_known(name: &str) -> bool
-    ensures { result ≡ says.is_known name.now }
-{
-    name == "flag" || name == "if" || name == "key" || name == "op"
-}
-
-// The change that known members make, with this `op`.
-#[tactic(auto, unfolding(crate::specs::Line::part_of))]
-fn change_with(alloc: Global, tree: &Tree<'_>, op: Option<&Tree<'_>>) -> Result<Change, PartFault>
-    requires ordered { IsOrdered (tree_view tree.now) }
-    requires op { option_map (λ t. tree_view t.now) op ≡ get (codes "op") (tree_view tree.now) }
-    ensures { Gives proposed_of TellsPart result (says.part_of (tree_view tree.now)) }
-{
-    let op = op_of(op)?;
-    let key = key_of(alloc, tree)?;
-    let expect = expect_of(tree)?;
-    match op {
-        Op::Delete => Ok(Change::Delete { key, expect }),
-        Op::Put => {
-            let flag = flag_of(alloc, tree)?;
-            Ok(Change::Put { key, flag, expect })
-        }
-    }
-}
-
-fn op_of(op: Option<&Tree<'_>>) -> Result<Op, PartFault>
-    ensures { Gives (λ op. op) TellsPart result
-        (says.op_of (option_map (λ t. tree_view t.now) op.entry)) }
-{
-    match op {
-        Some(Tree::String(text)) => op_by_name(text),
-        _ => Err(PartFault::BadOp),
-    }
-}
-
-fn op_by_name(text: &str) -> Result<Op, PartFault>
-    ensures { Gives (λ op. op) TellsPart result (says.op_by_name text.now) }
-{
-    match text {
-        "put" => Ok(Op::Put),
-        "delete" => Ok(Op::Delete),
-        _ => Err(PartFault::BadOp),
-    }
-}
-
-fn key_of(alloc: Global, tree: &Tree<'_>) -> Result<FlagKey, PartFault>
-    ensures { Gives key_bytes TellsPart result (says.key_of (get (codes "key") (tree_view tree.now))) }
-{
-    match tree.get("key") {
-        Some(Tree::String(text)) => match FlagKey::new(alloc, text) {
-            Ok(key) => Ok(key),
-            Err(KeyFault::BadKey) => Err(PartFault::BadKey),
-            Err(KeyFault::Memory) => Err(PartFault::Memory),
-        },
-        _ => Err(PartFault::BadKey),
-    }
-}
-
-fn expect_of(tree: &Tree<'_>) -> Result<Expect, PartFault>
-    ensures { Gives (λ expect. expect) TellsPart result
-        (says.expect_of (get (codes "if") (tree_view tree.now))) }
-{
-    match tree.get("if") {
-        None | Some(Tree::Null) => Ok(Expect::Any),
-        Some(Tree::String(text)) => expect_by_name(text),
-        Some(Tree::Number(number)) => expect_at(number.as_u64()),
-        Some(_) => Err(PartFault::BadIf),
-    }
-}
-
-fn expect_by_name(text: &str) -> Result<Expect, PartFault>
-    ensures { Gives (λ expect. expect) TellsPart result (says.expect_by_name text.now) }
-{
-    match text {
-        "any" => Ok(Expect::Any),
-        "absent" => Ok(Expect::Absent),
-        _ => Err(PartFault::BadIf),
-    }
-}
-
-fn expect_at(revision: Option<u64>) -> Result<Expect, PartFault>
-    ensures { Gives (λ expect. expect) TellsPart result (says.expect_at revision) }
-{
-    match revision {
-        Some(n) if 0 < n && n < REVISIONS_END => Ok(Expect::At(n)),
-        _ => Err(PartFault::BadIf),
-    }
-}
-
-#[tactic(auto, using(fp_base::proofs::Inside::ordered_get), unfolding(crate::specs::Line::flag_of))]
-fn flag_of(alloc: Global, tree: &Tree<'_>) -> Result<Definition, PartFault>
-    requires { IsOrdered (tree_view tree.now) }
-    ensures { Gives (λ definition. definition) TellsPart result
-        (says.flag_of (get (codes "flag") (tree_view tree.now))) }
-{
-    match tree.get("flag") {
-        None => Err(PartFault::BadFlag(DefFault::NotObject)),
-        Some(flag) => definition_in(alloc, flag),
-    }
-}
-
-// The definition that the member `flag` is.
-#[tactic(auto, unfolding(crate::specs::Line::flag_of))]
-fn definition_in(alloc: Global, flag: &Tree<'_>) -> Result<Definition, PartFault>
-    requires { IsOrdered (tree_view flag.now) }
-    ensures { Gives (λ definition. definition) TellsPart result
-        (says.flag_of (Some (tree_view flag.now))) }
-{
-    match Definition::from_tree(alloc, flag) {
-        Ok(definition) => Ok(definition),
-        Err(DefFault::Memory) => Err(PartFault::Memory),
-        Err(fault) => Err(PartFault::BadFlag(fault)),
-    }
 }

@@ -19,13 +19,13 @@ push_reserved-requires c = let i = c.loop-at.invariant in let lt = c.loop-at-tes
 pub returns-in-Err : goal.returns-in-Err
 returns-in-Err c =
     let breaks = breaks_off _ _ _ c.index-items-at.result c.loop-at-test.true c.index-items-at.is c.loop-at.invariant.0 in
-    c.fault_in_set.ensures (says.parts_from 0 (tree_items c.args.items.now)) (told_more c.in-Err.fault _ _ breaks c.in-Err.ensures)
+    c.fault_in_set.ensures (says.parts_from 0 (tree_items c.args.items.now)) (told_more c.in-Err.fault _ _ breaks c.in-Err.ensures.value)
 
 pub loop-at-preserved : goal.loop-at-preserved
 loop-at-preserved c =
     let i = c.loop-at.invariant in
     let p = c.push_reserved.ensures in
-    let on = reads_on _ _ _ c.index-items-at.result c.loop-at-test.true c.index-items-at.is i.0 c.in-Ok.change c.in-Ok.ensures in
+    let on = reads_on _ _ _ c.index-items-at.result c.loop-at-test.true c.index-items-at.is i.0 c.in-Ok.change c.in-Ok.ensures.value in
     (subst (IsReading _ _) (sym p.items) on, omega (arith, i, p), omega (arith, i, p))
 
 pub returns : goal.returns
