@@ -3,7 +3,7 @@ use Rattle.std.specs.Prelude.{ℕ, List, length, Bool, ◌&&◌, nat_le, string_
 use Rattle.std.specs.declared.cmp.Ordering.{Ordering}
 use Rattle.fp_base.specs.Bytes.{bytes_cmp}
 use Rattle.fp_definition.specs.declared.key.FlagKey.{FlagKey}
-use Rattle.fp_definition.specs.declared.key.TheConstants.{LONGEST_KEY}
+use Rattle.fp_definition.specs.Numbers.{LONGEST_KEY}
 
 -- the bytes that a key is
 abbrev pub key_bytes : FlagKey → List ℕ

@@ -13,9 +13,9 @@ use Rattle.fp_targeting.specs.Compile as rules
 use Rattle.fp_targeting.specs.Compile.{verdict}
 use Rattle.fp_targeting.specs.Rule.{Rule}
 use Rattle.fp_definition.specs.Kinds.{one_kind, all_scalars}
-use Rattle.fp_definition.specs.declared.definition.TheConstants.{DEEPEST_DEFINITION}
-use Rattle.fp_definition.specs.declared.definition.TheConstants.{LONGEST_DEFINITION}
-use Rattle.fp_definition.specs.declared.members.TheConstants.{MOST_VARIANTS, MOST_METADATA}
+use Rattle.fp_definition.specs.Numbers.{DEEPEST_DEFINITION}
+use Rattle.fp_definition.specs.Numbers.{LONGEST_DEFINITION}
+use Rattle.fp_definition.specs.Numbers.{MOST_VARIANTS, MOST_METADATA}
 
 -- what is wrong with data that are no definition
 pub data Fault : Type 0 where

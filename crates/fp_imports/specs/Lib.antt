@@ -1,3 +1,4 @@
+pub mod Numbers
 pub mod Document
 pub mod Faults
 pub mod Places

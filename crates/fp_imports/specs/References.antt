@@ -5,8 +5,8 @@ use Rattle.serde_json.specs.Data.{Data, null, boolean, number, string, array, ob
 use Rattle.serde_json.specs.Data.{no_items, item, Members, no_members, member}
 use Rattle.serde_json.specs.Find.{get_member}
 use Rattle.serde_json.specs.View.{items_of}
-use Rattle.fp_imports.specs.declared.references.TheConstants.{MOST_REPLACEMENTS}
-use Rattle.fp_imports.specs.declared.references.TheConstants.{MOST_EXPANDED_VALUES}
+use Rattle.fp_imports.specs.Numbers.{MOST_REPLACEMENTS}
+use Rattle.fp_imports.specs.Numbers.{MOST_EXPANDED_VALUES}
 
 -- why references aren't replaced
 pub data Broken : Type 0 where

@@ -6,7 +6,7 @@ use Rattle.fp_edit.specs.Parts.{Part, put, delete}
 use Rattle.fp_edit.specs.Edits.{Change, one, set}
 use Rattle.fp_edit.specs.declared.flags.Flag.{Flag}
 use Rattle.fp_record.specs.Group.{Group}
-use Rattle.fp_record.specs.declared.batch.TheConstants.{BATCH_HEAD, PUT_KIND, DELETE_KIND, SET_KIND}
+use Rattle.fp_record.specs.Numbers.{BATCH_HEAD, PUT_KIND, DELETE_KIND, SET_KIND}
 
 -- a key behind its length
 unfoldable pub encoding_of_key : List ℕ → List ℕ

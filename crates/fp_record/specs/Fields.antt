@@ -6,8 +6,8 @@ use Rattle.std.specs.Int.{Width, w16, w32, byte_len, from_be_bytes}
 use Rattle.std.specs.Str.{is_utf8}
 use Rattle.fp_base.specs.Steps.{◌>>=◌}
 use Rattle.fp_definition.specs.Valid.{is_definition_text}
-use Rattle.fp_definition.specs.declared.definition.TheConstants.{LONGEST_DEFINITION}
-use Rattle.fp_definition.specs.declared.key.TheConstants.{LONGEST_KEY}
+use Rattle.fp_definition.specs.Numbers.{LONGEST_DEFINITION}
+use Rattle.fp_definition.specs.Numbers.{LONGEST_KEY}
 use Rattle.fp_record.specs.declared.fault.RecordFault.{RecordFault}
 use Rattle.fp_record.specs.declared.fault.RecordFault.TheVariants as fault
 

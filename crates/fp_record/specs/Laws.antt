@@ -5,7 +5,7 @@ use Rattle.std.specs.FinMap as map
 use Rattle.fp_edit.specs.Flags.{Flags, size}
 use Rattle.fp_edit.specs.declared.flags.Flag.{Flag}
 use Rattle.fp_record.specs.Group.{Group}
-use Rattle.fp_record.specs.declared.batch.TheConstants.{BATCH_HEAD}
+use Rattle.fp_record.specs.Numbers.{BATCH_HEAD}
 use Rattle.fp_record.specs.WellFormed.{IsBatch, IsImage}
 use Rattle.fp_record.specs.Encoding.{encoding_of_change, encoding_of_batch, encoding_of_image}
 

@@ -1,3 +1,4 @@
+pub mod Numbers
 pub mod Group
 pub mod Fields
 pub mod WellFormed

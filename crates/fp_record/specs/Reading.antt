@@ -8,13 +8,13 @@ use Rattle.fp_base.specs.Steps.{◌>>=◌}
 use Rattle.fp_edit.specs.Changes.{is_among, is_count}
 use Rattle.fp_edit.specs.Parts.{Part, put, delete, part_key}
 use Rattle.fp_edit.specs.Edits.{Change, one, set}
-use Rattle.fp_edit.specs.declared.changes.TheConstants.{LONGEST_EDIT}
-use Rattle.fp_edit.specs.declared.edit.TheConstants.{REVISIONS_END}
-use Rattle.fp_edit.specs.declared.flag_set.TheConstants.{MOST_FLAGS}
+use Rattle.fp_edit.specs.Numbers.{LONGEST_EDIT}
+use Rattle.fp_edit.specs.Numbers.{REVISIONS_END}
+use Rattle.fp_edit.specs.Numbers.{MOST_FLAGS}
 use Rattle.fp_edit.specs.declared.flags.Flag.{Flag}
 use Rattle.fp_record.specs.Group.{Group}
-use Rattle.fp_record.specs.declared.batch.TheConstants.{MOST_EDITS}
-use Rattle.fp_record.specs.declared.batch.TheConstants.{PUT_KIND, DELETE_KIND, SET_KIND}
+use Rattle.fp_record.specs.Numbers.{MOST_EDITS}
+use Rattle.fp_record.specs.Numbers.{PUT_KIND, DELETE_KIND, SET_KIND}
 use Rattle.fp_record.specs.Fields.{number_at, key_at, definition_at}
 
 -- a key that none of these is; one that is, is wrong at its first byte, which is behind the two of

@@ -9,11 +9,11 @@ use Rattle.fp_definition.specs.Valid.{is_definition_text}
 use Rattle.fp_edit.specs.Changes.{set_fault}
 use Rattle.fp_edit.specs.Parts.{Part, put, delete}
 use Rattle.fp_edit.specs.Edits.{Change, one, set}
-use Rattle.fp_edit.specs.declared.edit.TheConstants.{REVISIONS_END}
-use Rattle.fp_edit.specs.declared.flag_set.TheConstants.{MOST_FLAGS}
+use Rattle.fp_edit.specs.Numbers.{REVISIONS_END}
+use Rattle.fp_edit.specs.Numbers.{MOST_FLAGS}
 use Rattle.fp_edit.specs.declared.flags.Flag.{Flag}
 use Rattle.fp_record.specs.Group.{Group}
-use Rattle.fp_record.specs.declared.batch.TheConstants.{MOST_EDITS}
+use Rattle.fp_record.specs.Numbers.{MOST_EDITS}
 
 -- a flag's key
 pub record IsKey (key : List ℕ) : Type 0 where

@@ -1,6 +1,6 @@
 //! Edits from an offset on, each with the offset behind it.
 
-ghost use Rattle.std.specs.Prelude.{◌≡◌, ◌+◌, ◌<◌, ◌≤◌, [], ◌∷◌, length, map, IfErr, IfOk};
+ghost use Rattle.std.specs.Prelude.{◌≡◌, ◌≢◌, ◌+◌, ◌<◌, ◌≤◌, [], ◌∷◌, length, map, IfErr, IfOk};
 ghost use Rattle.fp_base.specs.Answer.{Gives};
 ghost use Rattle.fp_edit.specs.Edits.{proposal_of};
 ghost use Rattle.fp_edit.specs.Following.{change_of, changes_of, unconditional};
@@ -187,6 +187,7 @@ fn part_count_from(bytes: &[u8], at: usize) -> Result<(u16, usize), RecordFault>
     requires { at ≤ length bytes.now }
     ensures value { Gives (λ x. x) Tells result (part_count bytes.now at) }
     ensures within { IfOk result (λ x. x.1 ≤ length bytes.now) }
+    ensures no_memory { IfErr result (λ e. e ≢ Memory) }
 {
     let (count, next) = u16_at(bytes, at)?;
     if count == 0 || count as usize > MOST_CHANGES {

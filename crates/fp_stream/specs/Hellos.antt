@@ -7,12 +7,11 @@ use Rattle.fp_stream.specs.declared.hello.Hello.{Hello}
 use Rattle.fp_stream.specs.declared.hello.Hello.TheVariants.{Nothing, Has}
 use Rattle.fp_stream.specs.declared.hello.HelloFault.{HelloFault}
 use Rattle.fp_stream.specs.declared.hello.HelloFault.TheVariants.{Cut, BadHello, Device}
-use Rattle.fp_stream.specs.declared.hello.TheConstants.{HAS, HELLO, NOTHING}
 
--- the nine bytes of a hello
+-- the nine bytes of a hello: a 0 and eight of it for who has nothing, a 1 and the revision for who has one
 abbrev pub hello_bytes : Hello → List ℕ
-hello_bytes Nothing = NOTHING ∷ to_be_bytes w64 0
-hello_bytes (Has revision) = HAS ∷ to_be_bytes w64 revision
+hello_bytes Nothing = 0 ∷ to_be_bytes w64 0
+hello_bytes (Has revision) = 1 ∷ to_be_bytes w64 revision
 
 -- a revision has eight bytes
 abbrev pub IsHello : Hello → Type 0
@@ -31,14 +30,14 @@ IsSpelled bytes None = IsNoHello bytes
 -- nine bytes were taken that are no hello
 pub record TakesNoHello (old new : Option (List ℕ)) : Type 0 where
   pub bytes : List ℕ
-  pub long : length bytes ≡ HELLO
+  pub long : length bytes ≡ 9
   pub takes : Consumes old new bytes
   pub none : IsNoHello bytes
 
 -- all was taken, and it was less than nine bytes
 pub record TakesAll (old new : Option (List ℕ)) : Type 0 where
   pub bytes : List ℕ
-  pub short : length bytes < HELLO
+  pub short : length bytes < 9
   pub takes : Consumes old new bytes
   pub end : IsAtEnd new
 

@@ -2,7 +2,6 @@
 use Rattle.std.specs.Prelude.{◌≡◌, ℕ, ◌<◌, List, ◌++◌, length, Option, Some, None, ◌⊎◌}
 use Rattle.fp_stream.specs.declared.hello.Hello.{Hello}
 use Rattle.fp_stream.specs.declared.fault.FrameFault.{FrameFault}
-use Rattle.fp_stream.specs.declared.head.TheConstants.{HEAD}
 use Rattle.fp_stream.specs.Heads.{head, IsHead, HasFault}
 use Rattle.fp_stream.specs.Frames.{Snapshot, stream_of, AreNews, has_after}
 
@@ -20,12 +19,12 @@ pub record FaultStands (has : Hello) (rest : List ℕ) (fault : FrameFault) : Ty
   pub front : List ℕ
   pub behind : List ℕ
   pub is : rest ≡ front ++ behind
-  pub long : length front ≡ HEAD
+  pub long : length front ≡ 16
   pub wrong : HasFault has front fault
 
 -- why no further frame stands there: it hasn't come in whole, or there is a fault
 abbrev pub Stops : Hello → List ℕ → Option FrameFault → Type 0
-Stops has rest None = (length rest < HEAD) ⊎ LacksBody has rest
+Stops has rest None = (length rest < 16) ⊎ LacksBody has rest
 Stops has rest (Some fault) = FaultStands has rest fault
 
 -- who has this reads these frames at the front of the bytes, and there stops:

@@ -3,7 +3,6 @@ use Rattle.std.specs.Prelude.{◌≡◌, ℕ, ◌<◌, ◌≤◌, List, ◌++◌
 use Rattle.fp_stream.specs.declared.hello.Hello.{Hello}
 use Rattle.fp_stream.specs.declared.frame.Frame.{Frame}
 use Rattle.fp_stream.specs.declared.head.Head.{Head}
-use Rattle.fp_stream.specs.declared.head.TheConstants.{HEAD}
 use Rattle.fp_stream.specs.Heads.{head, IsHead}
 use Rattle.fp_stream.specs.Frames.{Snapshot, stream_of, AreNews, has_after, snapshots_of}
 use Rattle.fp_stream.specs.Decoding.{Reader, DecodesTo}
@@ -15,7 +14,7 @@ held_of (Some h) held = head h.revision h.size ++ held
 
 -- how many bytes a head has, or the body behind one that was read
 abbrev pub wanted_by : Option Head → ℕ
-wanted_by None = HEAD
+wanted_by None = 16
 wanted_by (Some h) = h.size
 
 -- a head that was read is lawful
