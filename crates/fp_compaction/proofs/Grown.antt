@@ -30,14 +30,14 @@ use Rattle.fp_compaction.proofs.Kept as kept
 -- ---- a call of a batch
 module _ {D T : Type 0} (disk : Ghosts D) (old new : SlotsState D) {P : List ℕ → Type 0} {r : Result T DiskFault} (w : KeepsCompaction disk old new P r) where
   leaves_as : (size : ℕ) (s : State) (k : IsKeptIn (disk.unsynced old.journal.disk) old size s) (Q : List ℕ → Type 0) → ((c : List ℕ) → Holds c 0 k.1.header → P c → Q c) → disk.honest old.journal.disk → LeavesOnly disk.moment disk.crash_states_since old.journal.disk new.journal.disk Q
-  leaves_as size s k Q shows h = kept.leaves_stands (disk.unsynced old.journal.disk) old size k.0 s k.1 disk.moment disk.crash_states_since disk.unsynced old.journal.disk new.journal.disk refl (w.apart h) P Q shows (w.any_moment h)
+  leaves_as size s k Q shows h = kept.leaves_stands (disk.unsynced old.journal.disk) old size k.0 s k.1 disk.moment disk.crash_states_since disk.unsynced old.journal.disk new.journal.disk refl (w.call.apart h) P Q shows (w.call.word.any_moment h)
 
   pub kept_batch : new.journal.sealed ≡ old.journal.sealed → GoesOnKept disk old new
-  kept_batch sealed h size s k = (k.0, kept.kept_beside (disk.unsynced old.journal.disk) old size k.0 s k.1 disk.moment disk.crash_states_since disk.unsynced old.journal.disk new.journal.disk refl (w.apart h) new w.same sealed)
+  kept_batch sealed h size s k = (k.0, kept.kept_beside (disk.unsynced old.journal.disk) old size k.0 s k.1 disk.moment disk.crash_states_since disk.unsynced old.journal.disk new.journal.disk refl (w.call.apart h) new w.same sealed)
 
   pub moves_batch : {kind : CallKind} {to : Phase} {opens : Bool} → disk.calls new.journal.disk ≡ disk.calls old.journal.disk ++ kind ∷ [] → new.journal.sealed ≡ old.journal.sealed → OnOk r (new.journal.phase ≡ to) × OnErr r (new.journal.phase ≡ Failed) → new.journal.begun ≡ opens → MovesBatch disk kind to opens old new r
   moves_batch called sealed phase begun = record {
-    call = record { honest = w.honest; called = called; cause = w.cause };
+    call = record { honest = w.call.word.honest; called = called; cause = w.call.cause };
     kept = kept_batch sealed;
     same = w.same;
     sealed = sealed;

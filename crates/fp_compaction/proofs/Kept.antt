@@ -12,7 +12,7 @@ use Rattle.fp_edit.specs.Flags.{State}
 use Rattle.fp_journal.specs.Holds.{Holds, IsSynced}
 use Rattle.fp_journal.specs.Chain.{Ends, spell}
 use Rattle.fp_journal.specs.Moments.{KeepsFirm}
-use Rattle.fp_journal.specs.State.{HasAmong, HasChain, JournalState, Outside, has_begun}
+use Rattle.fp_journal.specs.State.{HasAmong, HasChain, JournalState, Outside, has_begun, room}
 use Rattle.fp_journal.proofs.Holds.{firm_settled, held_range}
 use Rattle.fp_journal.specs.declared.slot.Slot.{Slot}
 use Rattle.fp_journal.proofs.Gates.{text-more}
@@ -87,7 +87,7 @@ module _ {D : Type 0} (u : PendingState) (slots : SlotsState D) (size : ℕ) (si
       (λ t. flipped side slots.text c h planned.0 (moved slots.other slots.journal.slot (slot_of size (other_side side)) (slot_of size side) slots.text c k.its k.mine t)) p
 
   -- a slot that has no room has none in what a crash leaves, and is of the generation that it is of
-  pub sealed_full : IsFrontOf slots.version slots.generation slots.journal.front → slots.generation < 2 ^ 64 → (group : Group) → HasNoRoom slots group → (c : List ℕ) → Holds c 0 k.header → Rules slots.journal.slot.start slots.other.start c → HasChain slots.journal.slot slots.journal.front slots.journal.sealed c → IsFullFor c s group slots.generation
+  pub sealed_full : IsFrontOf slots.version slots.generation slots.journal.front → slots.generation < 2 ^ 64 → (group : Group) → HasNoRoom slots.journal.slot.most (room slots.journal) slots.version group → (c : List ℕ) → Holds c 0 k.header → Rules slots.journal.slot.start slots.other.start c → HasChain slots.journal.slot slots.journal.front slots.journal.sealed c → IsFullFor c s group slots.generation
   sealed_full front small group none c h rules ends =
       let same : k.sealed.generation ≡ slots.generation = spelled_generation size slots.version slots.generation slots.journal.front (spell slots.journal.sealed) s small front k.sealed in
       let tells = moved slots.journal.slot slots.other (slot_of size side) (slot_of size (other_side side)) (sealed_text slots.journal) c k.mine k.its (record { rules = rules; ends = ends }) in record {

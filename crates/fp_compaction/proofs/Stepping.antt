@@ -3,7 +3,6 @@ use Rattle.std.proofs.Common.{refl, ◌≡◌, ◌≢◌, ◌<◌, ◌≤◌, �
 use Rattle.std.specs.Prelude.{OnOk, OnErr, nat_lt}
 use Rattle.std.proofs.lemmas.List.{append-nil}
 use borrow.Author.Tests.{ltb-true, leb-false}
-use Rattle.fp_disk.specs.Crashes.{AtAnyMoment}
 use Rattle.fp_disk.specs.Moments.{leaves_map, leaves_still}
 use Rattle.fp_disk.specs.Outcomes.{IsOutcome, LeavesOnly}
 use Rattle.fp_disk.specs.declared.disk.Disk.{Ghosts}
@@ -17,7 +16,7 @@ use Rattle.fp_journal.specs.declared.journal.Phase.TheVariants.{GateOpened}
 use Rattle.fp_journal.proofs.Holds.{firm_outcome}
 use Rattle.fp_edit.specs.Flags.{State}
 use Rattle.fp_recovery.specs.Stands.{StandsFor}
-use Rattle.fp_slots.specs.Calls.{KeepsSlots}
+use Rattle.fp_slots.specs.Calls.{KeepsOutside, KeepsSlots}
 use Rattle.fp_slots.specs.Rules.{Rules}
 use Rattle.fp_slots.specs.State.{IsEarly, IsFrontOf, Keeps, KeepsEither, Leaves, OutsideBoth, SameSlots}
 use Rattle.fp_slots.specs.declared.places.TheConstants.{PART}
@@ -43,9 +42,9 @@ slots_kept disk old new apart same h size s k = let u = disk.unsynced old.journa
 -- a step while the slot that rules is the same in every crash state
 pub early_step : {D T : Type 0} (disk : Ghosts D) (old new : SlotsState D) {p : Step} {r : Result T DiskFault} → old.step ≡ p → KeepsSlots disk old new (Keeps old) r → disk.calls new.journal.disk ≡ disk.calls old.journal.disk ++ calls_of p old.may_open → TakesStep disk old new
 early_step disk old new is w made = let u = disk.unsynced old.journal.disk in record {
-  stands = λ h size s t k taken late. leaves_stands u old size k.0 s k.1 disk.moment disk.crash_states_since disk.unsynced old.journal.disk new.journal.disk refl (w.apart h) (Keeps old) (LeavesSet old.journal s t) (keeps_stands u old size k.0 s k.1 t taken) (w.any_moment h);
-  kept = λ h size s k late. slots_kept disk old new w.apart w.same h size s k;
-  honest = w.honest;
+  stands = λ h size s t k taken late. leaves_stands u old size k.0 s k.1 disk.moment disk.crash_states_since disk.unsynced old.journal.disk new.journal.disk refl (w.call.apart h) (Keeps old) (LeavesSet old.journal s t) (keeps_stands u old size k.0 s k.1 t taken) (w.call.word.any_moment h);
+  kept = λ h size s k late. slots_kept disk old new w.call.apart w.same h size s k;
+  honest = w.call.word.honest;
   called = called_at disk.calls old new is made;
 }
 
@@ -75,7 +74,7 @@ steps_on disk old new (Ok x) is other taken w step left = record {
   left = subst (λ (q : Step). new.left ≡ next_left q old.left) (sym is) left.0;
   stays = λ off. record { slots = w.same; phase = w.phase.0 };
   turned = λ at. absurd (other (sym is ∙ at));
-  no_failure = w.cause.well refl;
+  no_failure = w.call.cause.well refl;
   broken = tt;
 }
 steps_on disk old new (Err e) is other taken w step left = record {
@@ -85,7 +84,7 @@ steps_on disk old new (Err e) is other taken w step left = record {
   stays = tt;
   turned = tt;
   no_failure = tt;
-  broken = record { slots = w.same; left = left.1; failed = w.phase.1; cause = w.cause.ill refl };
+  broken = record { slots = w.same; left = left.1; failed = w.phase.1; cause = w.call.cause.ill refl };
 }
 
 pub early_on : {D T : Type 0} (disk : Ghosts D) (old new : SlotsState D) (r : Result T DiskFault) {p : Step} → old.step ≡ p → p ≢ SyncOpen → KeepsSlots disk old new (Keeps old) r → disk.calls new.journal.disk ≡ disk.calls old.journal.disk ++ calls_of p old.may_open → OnOk r (new.step ≡ next_step p old.left) × OnErr r (new.step ≡ p)
@@ -93,9 +92,9 @@ pub early_on : {D T : Type 0} (disk : Ghosts D) (old new : SlotsState D) (r : Re
 early_on disk old new r is other w made step left = steps_on disk old new r is other (early_step disk old new is w made) w step left
 
 -- a call in which either slot may come to rule
-pub either_leaves : {D : Type 0} (disk : Ghosts D) (old new : SlotsState D) → AtAnyMoment disk old.journal.disk new.journal.disk (KeepsEither old) → KeepsSynced disk old.journal.disk new.journal.disk (OutsideBoth old) → LeavesEither disk old new
-either_leaves disk old new any_moment apart = let u = disk.unsynced old.journal.disk in
-    λ h size s k planned. leaves_stands u old size k.0 s k.1 disk.moment disk.crash_states_since disk.unsynced old.journal.disk new.journal.disk refl (apart h) (KeepsEither old) (λ o. StandsFor o s) (either_stands u old size k.0 s k.1 planned) (any_moment h)
+pub either_leaves : {D T : Type 0} (disk : Ghosts D) (old new : SlotsState D) {r : Result T DiskFault} → KeepsOutside disk old new (KeepsEither old) r → LeavesEither disk old new
+either_leaves disk old new w = let u = disk.unsynced old.journal.disk in
+    λ h size s k planned. leaves_stands u old size k.0 s k.1 disk.moment disk.crash_states_since disk.unsynced old.journal.disk new.journal.disk refl (w.apart h) (KeepsEither old) (λ o. StandsFor o s) (either_stands u old size k.0 s k.1 planned) (w.word.any_moment h)
 
 pub late_leaves : {D : Type 0} (disk : Ghosts D) (old new : SlotsState D) {p : Step} → old.step ≡ p → IsLate p → LeavesEither disk old new → LeavesStep disk old new
 late_leaves disk old new is late either = λ h size s t k taken planned.

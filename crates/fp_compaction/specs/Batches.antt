@@ -3,10 +3,10 @@ use Rattle.std.specs.Prelude.{◌≡◌, ◌⊎◌, ◌<◌, ◌≤◌, ◌+◌,
 use Rattle.fp_disk.specs.Outcomes.{LeavesOnly}
 use Rattle.fp_disk.specs.declared.disk.Disk.{Ghosts}
 use Rattle.fp_edit.specs.Flags.{State}
-use Rattle.fp_gate.specs.declared.gate.TheConstants.{OPEN}
+use Rattle.fp_gate.specs.Numbers.{OPEN}
 use Rattle.fp_journal.specs.Chain.{with_length, with_gate}
 use Rattle.fp_journal.specs.State.{room}
-use Rattle.fp_journal.specs.declared.framed.TheConstants.{FRAME}
+use Rattle.fp_journal.specs.Numbers.{FRAME}
 use Rattle.fp_layout.specs.Size.{most_in}
 use Rattle.fp_recovery.specs.Stands.{StandsFor, TakesBatch}
 use Rattle.fp_slots.specs.State.{SlotsState, HasBegun, IsEarly, IsGrowing}

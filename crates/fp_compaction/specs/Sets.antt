@@ -6,12 +6,12 @@ use Rattle.fp_edit.specs.Flags.{State}
 use Rattle.fp_journal.specs.Holds.{Holds, IsSynced}
 use Rattle.fp_journal.specs.State.{JournalState, has_begun}
 use Rattle.fp_layout.specs.Layout.{IsHeader}
-use Rattle.fp_layout.specs.declared.header.TheConstants.{HEADER}
+use Rattle.fp_layout.specs.Numbers.{HEADER}
 use Rattle.fp_layout.specs.Size.{IsSlotSize, Side, most_in, other_side, slot_of}
 use Rattle.fp_layout.specs.declared.opening.Place.{Place}
 use Rattle.fp_recovery.specs.Stands.{Spells, StandsFor, TakesBatch}
 use Rattle.fp_slots.specs.State.{SlotsState, sealed_text}
-use Rattle.fp_slots.specs.declared.places.TheConstants.{VERSION}
+use Rattle.fp_slots.specs.Numbers.{VERSION}
 
 -- The slots are those of a disk whose header no crash takes away, and what is sealed in the one
 -- that rules spells the set, as of the version of that slot

@@ -8,14 +8,14 @@ use Rattle.fp_disk.specs.declared.disk.DiskFault.{DiskFault}
 use Rattle.fp_disk.specs.declared.history.CallKind.{CallKind}
 use Rattle.fp_disk.specs.declared.history.CallKind.TheVariants.{Sync, Write}
 use Rattle.fp_edit.specs.Flags.{State}
-use Rattle.fp_edit.specs.declared.flags.TheConstants.{IMAGE_HEAD}
+use Rattle.fp_edit.specs.Numbers.{IMAGE_HEAD}
 use Rattle.fp_journal.specs.Chain.{with_gate}
 use Rattle.fp_journal.specs.State.{IsOnWay, has_begun, room}
 use Rattle.fp_journal.specs.declared.journal.Phase.TheVariants.{Idle, GateOpened, Failed}
 use Rattle.fp_recovery.specs.Room.{HasNoRoom, IsFull}
 use Rattle.fp_recovery.specs.Stands.{StandsFor}
 use Rattle.fp_slots.specs.State.{SlotsState, SameSlots}
-use Rattle.fp_slots.specs.declared.places.TheConstants.{IMAGE_PLACE, PART, VERSION}
+use Rattle.fp_slots.specs.Numbers.{IMAGE_PLACE, PART, VERSION}
 use Rattle.fp_record.specs.Group.{Group}
 use Rattle.fp_slots.specs.declared.slots.Step.{Step}
 use Rattle.fp_slots.specs.declared.slots.Step.TheVariants.{Begin, Close, SyncClose, Part, Tail}
@@ -175,5 +175,5 @@ abbrev pub IsFullNow : {D : Type 0} → Ghosts D → SlotsState D → Type 0
 IsFullNow disk slots = disk.honest slots.journal.disk → slots.step ≡ Begin
     → has_begun slots.journal.phase slots.journal.begun ≡ false → (size : ℕ) (s : State)
     → IsKeptIn (disk.unsynced slots.journal.disk) slots size s → (group : Group)
-    → HasNoRoom slots group
+    → HasNoRoom slots.journal.slot.most (room slots.journal) slots.version group
     → IsFull (disk.unsynced slots.journal.disk) s group slots.generation

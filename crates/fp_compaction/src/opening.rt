@@ -1,15 +1,12 @@
 //! A disk that is there, opened as two slots and the set that they keep.
 
-ghost use Rattle.fp_disk.specs.Crashes.{SameHonesty};
-ghost use Rattle.std.specs.Prelude.{◌≡◌, ◌<◌, ◌↔◌, [], ◌∷◌, ℕ, IfOk, IfErr, IsTrue, MatchResult};
+ghost use Rattle.std.specs.Prelude.{◌≡◌, ◌↔◌, ℕ, IfOk, IfErr, IsTrue};
 ghost use Rattle.std.specs.Prelude.{slice_index};
-ghost use Rattle.fp_disk.specs.declared.history.CallKind.TheVariants.{Length, Sync};
-ghost use Rattle.fp_disk.specs.Outcomes.{IsOutcome, LeavesOnly, all_synced};
+ghost use Rattle.fp_disk.specs.Outcomes.{all_synced};
 ghost use Rattle.fp_gate.specs.declared.gate.TheConstants.{OPEN};
-ghost use Rattle.fp_journal.specs.Pieces.{ThenReads, ThenSomeReads};
 ghost use Rattle.fp_journal.specs.declared.journal.Phase.TheVariants.{Idle};
-ghost use Rattle.fp_layout.specs.declared.fault.OpenFault.TheVariants.{Device, Memory};
 ghost use Rattle.fp_layout.specs.Layout.{HasSlots};
+ghost use Rattle.fp_layout.specs.Opens.{OpensDisk};
 ghost use Rattle.fp_recovery.specs.Recovered.{StandsAt};
 ghost use Rattle.fp_recovery.specs.Refusals.{RefusesBytes};
 ghost use Rattle.fp_recovery.specs.Stands.{StandsFor};
@@ -40,20 +37,7 @@ pub fn open<D: Disk>(alloc: Global, disk: D) -> Result<(Slots<D>, FlagSet), (Ope
     ensures fault { D.honest disk → IfErr result (λ e. RefusesBytes (D.bytes disk) e.0) }
     ensures all_synced { D.honest disk →
         IfOk result (λ r. D.unsynced r.0.journal.disk ≡ all_synced (D.bytes disk)) }
-    ensures same { D.honest disk → MatchResult result
-        (λ r. D.bytes r.0.journal.disk ≡ D.bytes disk) (λ e. D.bytes e.1 ≡ D.bytes disk) }
-    ensures any_moment { D.honest disk → MatchResult result
-        (λ r. LeavesOnly D.moment D.crash_states_since disk r.0.journal.disk
-        (IsOutcome (D.unsynced disk)))
-        (λ e. LeavesOnly D.moment D.crash_states_since disk e.1 (IsOutcome (D.unsynced disk))) }
-    ensures called { MatchResult result
-        (λ r. ThenReads (Sync ∷ Length ∷ []) (D.calls disk) (D.calls r.0.journal.disk))
-        (λ e. ThenSomeReads (Sync ∷ Length ∷ []) (D.calls disk) (D.calls e.1)) }
-    ensures no_failure { IfOk result (λ r. D.faults r.0.journal.disk ≡ D.faults disk) }
-    ensures cause { IfErr result (λ e. e.0 ≡ Device → D.faults disk < D.faults e.1) }
-    ensures memory { IfErr result (λ e. e.0 ≡ Memory → D.faults e.1 ≡ D.faults disk) }
-    ensures honest { MatchResult result (λ r. SameHonesty D.Disk disk r.0.journal.disk)
-        (λ e. SameHonesty D.Disk disk e.1) }
+    ensures opens { OpensDisk D.Disk (λ r. r.0.journal.disk) disk result }
 {
     let mut restoring = Replayer::new(alloc);
     let slots = fp_layout::open(alloc, disk, &mut restoring)?;

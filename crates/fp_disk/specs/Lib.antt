@@ -7,3 +7,4 @@ pub mod Crash
 pub mod Checked
 pub mod Moments
 pub mod Crashes
+pub mod Word

@@ -7,7 +7,7 @@ use Rattle.fp_disk.specs.declared.call.Progress.TheVariants.{Whole}
 use Rattle.fp_disk.specs.MemoryLaws.{written_changes}
 use Rattle.fp_disk.specs.Outcomes.{ChangesWithin, PendingState, IsOutcome, IsByte, Elapses, LeavesOnly, Written, with_write}
 use Rattle.fp_disk.specs.Writes.{overwritten_inside}
-use Rattle.fp_disk.specs.Moments.{leaves_call, leaves_map, leaves_then}
+use Rattle.fp_disk.specs.Moments.{leaves_call, leaves_map}
 use Rattle.fp_gate.specs.Gates.{Gated, IsShut, StaysAsRead, Guards, HasBehind, IsButFor}
 
 -- an outcome after a write of one byte that was there is one from before, but for that byte
@@ -63,15 +63,6 @@ module _ {D : Type 0} (honest : D → Type 0) (bytes : D → List ℕ) (unsynced
 
   pub guards : (g.at < g.from) ⊎ (g.to ≤ g.at) → StaysAsRead (unsynced old) (bytes old) g.from g.to → LeavesOnly moment crash_states_since old new (Guards g (bytes old))
   guards apart firm = leaves_map moment crash_states_since old new (IsButFor (unsynced old) g.at) (Guards g (bytes old)) (λ c b. but_for_guards g (unsynced old) (bytes old) c apart shut firm b) each
-
-module _ {D : Type 0} (honest : D → Type 0) (unsynced : D → PendingState) (moment : D → ℕ) (crash_states_since : D → ℕ → List ℕ → Type 0)
-    (counts_now : (d : D) (t : ℕ) (c : List ℕ) → honest d → t ≤ moment d → IsOutcome (unsynced d) c → crash_states_since d t c)
-    (only_now : (d : D) (c : List ℕ) → honest d → crash_states_since d (moment d) c → IsOutcome (unsynced d) c)
-    (old between new : D) (h : honest between) where
-  -- a call that adds no outcome
-  pub leaves_still : (P : List ℕ → Type 0) → LeavesOnly moment crash_states_since old between P → Elapses (moment between) (moment new) (crash_states_since between) (crash_states_since new) (IsOutcome (unsynced between)) → LeavesOnly moment crash_states_since old new P
-  leaves_still P leaves time = let all : (c : List ℕ) → IsOutcome (unsynced between) c → P c = λ c out. leaves.each c (counts_now between (moment old) c h leaves.later out) in
-      leaves_then moment crash_states_since old between new P leaves (leaves_call moment crash_states_since between new (IsOutcome (unsynced between)) (IsOutcome (unsynced between)) P time (λ c left. only_now between c h left) all all)
 
 -- where the gate guards what was written, it stands behind the gate
 pub guards_behind : (gate at : ℕ) (old more bytes c : List ℕ) → Written old at more bytes → Guards (record { at = gate; from = at; to = at + length more }) bytes c → HasBehind gate at more c

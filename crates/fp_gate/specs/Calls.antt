@@ -9,12 +9,11 @@ use Rattle.fp_disk.specs.declared.disk.DiskFault.{DiskFault}
 use Rattle.fp_disk.specs.declared.history.CallKind.{CallKind}
 use Rattle.fp_disk.specs.declared.history.CallKind.TheVariants.{Write}
 
--- A step makes these calls and keeps the disk's name and its word;
+-- A step makes these calls and keeps the disk's name;
 -- it answers a fault exactly where the device failed
 pub record MakesCalls {D T : Type 0} (disk : Ghosts D) (kinds : List CallKind)
     (old new : Named D) (result : Result T DiskFault) : Type 0 where
   pub name : new.name ≡ old.name
-  pub honest : SameHonesty disk old.disk new.disk
   pub called : Makes kinds (disk.calls old.disk) (disk.calls new.disk) result
   pub cause : CountsFaults (disk.faults old.disk) (disk.faults new.disk) result
 

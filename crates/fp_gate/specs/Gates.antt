@@ -2,7 +2,7 @@
 use Rattle.std.specs.Prelude.{◌≡◌, ◌≢◌, ◌<◌, ◌≤◌, ◌+◌, ℕ, List, length, slice_index}
 use Rattle.fp_disk.specs.Outcomes.{PendingState, IsOutcome, Covers}
 use Rattle.fp_disk.specs.Checked.{Mark}
-use Rattle.fp_gate.specs.declared.gate.TheConstants.{OPEN}
+use Rattle.fp_gate.specs.Numbers.{OPEN}
 
 -- the place of a gate, and the first that it guards and the one behind the last
 pub record Gated : Type 0 where

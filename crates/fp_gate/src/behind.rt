@@ -1,8 +1,8 @@
 //! Bytes behind a gate, in four calls.
 
-ghost use Rattle.fp_disk.specs.Crashes.{AtAnyMoment};
 ghost use Rattle.std.specs.Prelude.{◌≡◌, ◌≢◌, ◌⊎◌, ◌≤◌, ◌<◌, ◌+◌, ◌^◌, ℕ, List, [], ◌∷◌};
 ghost use Rattle.std.specs.Prelude.{length, slice_index, IfOk, OnOk};
+ghost use Rattle.fp_disk.specs.Word.{KeepsWord};
 ghost use Rattle.fp_disk.specs.Outcomes.{ChangesWithin, Written as HasWritten, all_synced};
 ghost use Rattle.fp_disk.specs.declared.history.CallKind.TheVariants.{Sync, Write};
 ghost use Rattle.fp_gate.specs.Calls.{MakesCalls};
@@ -23,14 +23,14 @@ fn write_and_sync<D: Disk>(
     requires closed { D.honest disk.old.disk → IsClosedAt (D.unsynced disk.old.disk) gate.now.at }
     ensures token { IfOk result
         (λ s. (s.disk ≡ disk.new.name) × (s.moment ≡ D.moment disk.new.disk)) }
-    ensures each { AtAnyMoment D.Disk disk.old.disk disk.new.disk
-        (λ c. (gate.now.at < length c) × (slice_index c gate.now.at ≢ OPEN)) }
     ensures written { D.honest disk.old.disk →
         OnOk result (HasWritten (D.bytes disk.old.disk) at from.now (D.bytes disk.new.disk)) }
     ensures all_synced { D.honest disk.old.disk →
         OnOk result (D.unsynced disk.new.disk ≡ all_synced (D.bytes disk.new.disk)) }
     ensures within { D.honest disk.old.disk →
         ChangesWithin (D.bytes disk.old.disk) at (length from.now) (D.bytes disk.new.disk) }
+    ensures word { KeepsWord D.Disk disk.old.disk disk.new.disk
+        (λ c. (gate.now.at < length c) × (slice_index c gate.now.at ≢ OPEN)) }
     ensures calls { MakesCalls D.Disk (Write ∷ Sync ∷ []) disk.old disk.new result }
 {
     let _ = gate;
@@ -49,12 +49,12 @@ fn open_and_seal<D: Disk>(
         StaysAsRead (D.unsynced disk.old.disk) (D.bytes disk.old.disk) gate.from gate.to }
     requires token { IsSyncOf D.honest D.moment disk.old.disk disk.old.name synced }
     ensures gate { IfOk result (λ g. g ≡ gate) }
-    ensures each { AtAnyMoment D.Disk disk.old.disk disk.new.disk
-        (Guards gate (D.bytes disk.old.disk)) }
     ensures open { D.honest disk.old.disk →
         OnOk result (IsOpen (D.unsynced disk.new.disk) gate.at) }
     ensures within { D.honest disk.old.disk →
         ChangesWithin (D.bytes disk.old.disk) gate.at 1 (D.bytes disk.new.disk) }
+    ensures word { KeepsWord D.Disk disk.old.disk disk.new.disk
+        (Guards gate (D.bytes disk.old.disk)) }
     ensures calls { MakesCalls D.Disk (Write ∷ Sync ∷ []) disk.old disk.new result }
 {
     let gate = gate.open(disk, synced)?;
@@ -75,8 +75,6 @@ pub fn write_behind<D: Disk>(
     requires closed { D.honest disk.old.disk → IsClosedAt (D.unsynced disk.old.disk) gate.at }
     ensures gate { IfOk result
         (λ g. g ≡ record { at = gate.at; from = at; to = at + length from.now }) }
-    ensures each { AtAnyMoment D.Disk disk.old.disk disk.new.disk
-        (HasBehind gate.at at from.now) }
     ensures open { D.honest disk.old.disk →
         OnOk result (IsOpen (D.unsynced disk.new.disk) gate.at) }
 
@@ -84,6 +82,8 @@ pub fn write_behind<D: Disk>(
     ensures within { D.honest disk.old.disk → (put : List ℕ)
         × ChangesWithin (D.bytes disk.old.disk) at (length from.now) put
         × ChangesWithin put gate.at 1 (D.bytes disk.new.disk) }
+    ensures word { KeepsWord D.Disk disk.old.disk disk.new.disk
+        (HasBehind gate.at at from.now) }
     ensures calls { MakesCalls D.Disk (Write ∷ Sync ∷ Write ∷ Sync ∷ []) disk.old disk.new result }
 {
     let synced = write_and_sync(disk, &gate, at, from)?;

@@ -4,8 +4,8 @@ use Rattle.std.specs.Prelude.{slice_range}
 use Rattle.std.proofs.lemmas.Grind.{common_steps}
 use Rattle.std.proofs.lemmas.List.{append-nil}
 use Rattle.fp_disk.specs.Crashes.{SameHonesty}
-use Rattle.fp_disk.specs.Moments.{leaves_call, leaves_then, leaves_still}
-use Rattle.fp_disk.specs.Outcomes.{PendingState, Elapses, IsOutcome, LeavesOnly}
+use Rattle.fp_disk.specs.Outcomes.{PendingState, IsOutcome}
+use Rattle.fp_disk.specs.Word.{Adds, OnlyNow, word_call, word_map, word_still, word_then}
 use Rattle.fp_disk.specs.declared.disk.Disk.{Ghosts}
 use Rattle.fp_disk.specs.declared.history.CallKind.{CallKind}
 use Rattle.fp_disk.specs.declared.history.CallKind.TheVariants.{Read}
@@ -38,29 +38,24 @@ reads_behind kinds old middle new p q = (
 module _ {D : Type 0} (disk : Ghosts D) where
   pub only_then : (a b c : D) → OnlyReads disk a b → OnlyReads disk b c → OnlyReads disk a c
   only_then a b c p q = record {
-    same = λ h. let x = p.same h in let y = q.same (p.honest.0 h) in (y.0 ∙ x.0, y.1 ∙ x.1);
-    any_moment = λ h. leaves_then disk.moment disk.crash_states_since a b c (IsOutcome (disk.unsynced a)) (p.any_moment h)
-        (subst (λ (u : PendingState). LeavesOnly disk.moment disk.crash_states_since b c (IsOutcome u)) (p.same h).1 (q.any_moment (p.honest.0 h)));
-    honest = (λ h. q.honest.0 (p.honest.0 h), λ h. p.honest.1 (q.honest.1 h));
+    same = λ h. let x = p.same h in let y = q.same (p.word.honest.0 h) in (y.0 ∙ x.0, y.1 ∙ x.1);
+    word = word_then p.word (word_map (λ h o out. subst (λ (u : PendingState). IsOutcome u o) (p.same (p.word.honest.1 h)).1 out) q.word);
     called = reads_behind [] (disk.calls a) (disk.calls b) (disk.calls c) p.called q.called;
   }
 
-  pub only_none : ((d : D) (c : List ℕ) → disk.honest d → disk.crash_states_since d (disk.moment d) c → IsOutcome (disk.unsynced d) c) → (a : D) → OnlyReads disk a a
+  pub only_none : OnlyNow disk → (a : D) → OnlyReads disk a a
   only_none only_now a = record {
     same = λ h. (refl, refl);
-    any_moment = λ h. leaves_still disk.moment disk.crash_states_since a (IsOutcome (disk.unsynced a)) (λ c left. only_now a c h left);
-    honest = (λ h. h, λ h. h);
+    word = word_still disk only_now (λ h c out. out);
     called = reads_none (disk.calls a);
   }
 
-  pub only_one : ((d : D) (c : List ℕ) → disk.honest d → disk.crash_states_since d (disk.moment d) c → IsOutcome (disk.unsynced d) c) → (a b : D) → SameHonesty disk a b
+  pub only_one : OnlyNow disk → (a b : D) → SameHonesty disk a b
       → (disk.honest a → (disk.bytes b ≡ disk.bytes a) × (disk.unsynced b ≡ disk.unsynced a))
-      → (disk.honest a → Elapses (disk.moment a) (disk.moment b) (disk.crash_states_since a) (disk.crash_states_since b) (IsOutcome (disk.unsynced a)))
-      → disk.calls b ≡ disk.calls a ++ Read ∷ [] → OnlyReads disk a b
+      → Adds disk a b (disk.unsynced a) → disk.calls b ≡ disk.calls a ++ Read ∷ [] → OnlyReads disk a b
   only_one only_now a b honest same time called = record {
     same = same;
-    any_moment = λ h. leaves_call disk.moment disk.crash_states_since a b (IsOutcome (disk.unsynced a)) (IsOutcome (disk.unsynced a)) (IsOutcome (disk.unsynced a)) (time h) (λ c left. only_now a c h left) (λ c out. out) (λ c out. out);
-    honest = honest;
+    word = word_call disk only_now honest time (λ h c out. out) (λ h c out. out);
     called = reads_one (disk.calls a) (disk.calls b) called;
   }
 

@@ -4,10 +4,11 @@ use Rattle.std.specs.List.{AllByRecursion}
 use Rattle.std.specs.Prelude.{Result, slice_index}
 use Rattle.std.proofs.lemmas.List.{append_assoc, take_at}
 use Rattle.fp_disk.specs.Outcomes.{ChangesWithin, CountsFaults, Elapses, IsOutcome, LeavesOnly, PendingState, Written, all_synced, with_write}
-use Rattle.fp_disk.specs.Crashes.{AtAnyMoment, SameHonesty}
+use Rattle.fp_disk.specs.Crashes.{SameHonesty}
 use Rattle.fp_disk.specs.declared.disk.DiskFault.{DiskFault}
 use Rattle.fp_journal.specs.Calls.{KeepsAround}
-use Rattle.fp_disk.specs.Moments.{leaves_map, leaves_then}
+use Rattle.fp_disk.specs.Moments.{leaves_then}
+use Rattle.fp_disk.specs.Word.{KeepsWord, word_call, word_map, word_then}
 use Rattle.fp_disk.specs.declared.disk.Disk.{Ghosts}
 use Rattle.fp_journal.specs.declared.slot.Slot.{Slot}
 use Rattle.fp_journal.specs.declared.journal.Phase.{Phase}
@@ -172,9 +173,6 @@ module _ {D : Type 0} (disk : Ghosts D) (present : (d : D) → disk.honest d →
     pub sync_apart : (Out : ℕ → ℕ → Type 0) → (disk.honest k.disk → Time new (disk.unsynced k.disk)) → (disk.honest k.disk → (disk.unsynced new ≡ disk.unsynced k.disk) ⊎ (disk.unsynced new ≡ all_synced (disk.bytes k.disk))) → disk.honest k.disk → KeepsFirm disk.moment disk.crash_states_since disk.unsynced k.disk new Out
     sync_apart Out time is h = calls.frame_sync disk.honest disk.bytes disk.unsynced disk.moment disk.crash_states_since present only_now k.disk new h Out (time h) (is h)
 
-    pub sync_leaves : (disk.honest k.disk → Time new (disk.unsynced k.disk)) → disk.honest k.disk → Leaves new (CrashStates k)
-    sync_leaves time h = calls.goes disk.honest disk.bytes disk.unsynced disk.moment disk.crash_states_since present only_now k.disk new h (disk.unsynced k.disk) (CrashStates k) (time h) (outcomes h) (outcomes h)
-
     pub sync_failed : (begun : Bool) → has_begun k.phase k.begun ≡ begun → (disk.honest new → disk.honest k.disk) → (disk.honest k.disk → disk.unsynced new ≡ disk.unsynced k.disk) → Kept new k.staged Failed begun in_flight
     sync_failed begun is back same = subst (λ (b : Bool). Kept new k.staged Failed b in_flight) is (goes_on new k.staged Failed (has_begun k.phase k.begun) in_flight tt
         (λ h. let h0 = back h in subst (λ (u : PendingState). IsLeft (has_begun k.phase k.begun) u k.slot.start k.slot.stop text (with_length k.staged)) (sym (same h0)) (stays.left_at k.slot.start k.slot.stop text (with_length k.staged) (next k.staged) (disk.bytes k.disk) (disk.unsynced k.disk) k.phase k.begun (kept.state h0))))
@@ -208,18 +206,19 @@ module _ {D : Type 0} (disk : Ghosts D) (present : (d : D) → disk.honest d →
   -- ---- what a call keeps, however it ended
   module _ {S : Type 0} {l : JournalState D} {r : Result S DiskFault} (same : SameSlot k l) (back : SameHonesty disk k.disk l.disk) (cause : CountsFaults (disk.faults k.disk) (disk.faults l.disk) r) where
     pub sync_kept : (disk.honest k.disk → Time l.disk (disk.unsynced k.disk)) → (disk.honest k.disk → (disk.unsynced l.disk ≡ disk.unsynced k.disk) ⊎ (disk.unsynced l.disk ≡ all_synced (disk.bytes k.disk))) → (disk.honest k.disk → disk.bytes l.disk ≡ disk.bytes k.disk) → KeepsAround disk k l (CrashStates k) (λ at n. Unit {0}) r
-    sync_kept time is read = record { same = same; any_moment = sync_leaves l.disk time; apart = sync_apart l.disk (λ at n. Unit {0}) time is; beside = λ h at t out p. subst (λ (b : List ℕ). Holds b at t) (sym (read h)) p; honest = back; cause = cause }
+    sync_kept time is read = record { same = same; call = record { word = word_call disk only_now back time outcomes outcomes; apart = sync_apart l.disk (λ at n. Unit {0}) time is; cause = cause }; beside = λ h at t out p. subst (λ (b : List ℕ). Holds b at t) (sym (read h)) p }
 
     module _ (from : ℕ) (piece : List ℕ) (time : disk.honest k.disk → Time l.disk (with_write (disk.unsynced k.disk) from (length piece))) (failed : disk.honest k.disk → (disk.unsynced l.disk ≡ disk.unsynced k.disk) ⊎ (disk.unsynced l.disk ≡ with_write (disk.unsynced k.disk) from (length piece)))
         (changes : disk.honest k.disk → ChangesWithin (disk.bytes k.disk) from (length piece) (disk.bytes l.disk)) where
       written_kept : (P : List ℕ → Type 0) (Out : ℕ → ℕ → Type 0) → (disk.honest k.disk → Leaves l.disk P) → ((at m : ℕ) → Out at m → Apart from (length piece) at m) → KeepsAround disk k l P Out r
       written_kept P Out leaves apart = record {
         same = same;
-        any_moment = leaves;
-        apart = λ h. calls.frame_write disk.honest disk.bytes disk.unsynced disk.moment disk.crash_states_since present only_now k.disk l.disk h from (length piece) Out apart (time h) (failed h);
+        call = record {
+          word = record { any_moment = leaves; honest = back };
+          apart = λ h. calls.frame_write disk.honest disk.bytes disk.unsynced disk.moment disk.crash_states_since present only_now k.disk l.disk h from (length piece) Out apart (time h) (failed h);
+          cause = cause;
+        };
         beside = λ h at t out p. holds_within (disk.bytes k.disk) (disk.bytes l.disk) t from (length piece) at (changes h) (apart at (length t) out) p;
-        honest = back;
-        cause = cause;
       }
 
       pub outside_kept : Outside k.slot from (length piece) → KeepsAround disk k l (CrashStates k) (Apart from (length piece)) r
@@ -261,24 +260,22 @@ pub record IsSealing {D : Type 0} (disk : Ghosts D) (first : JournalState D) (bo
   pub same : SameSlot first k
   pub sealed : k.sealed ≡ first.sealed
   pub staged : k.staged ≡ body
-  pub any_moment : AtAnyMoment disk first.disk k.disk (HasChainOrNext first.slot first.front first.sealed body)
+  pub word : KeepsWord disk first.disk k.disk (HasChainOrNext first.slot first.front first.sealed body)
   pub apart : KeepsSynced disk first.disk k.disk (Outside first.slot)
   pub beside : KeepsRead disk first.disk k.disk (Outside first.slot)
-  pub honest : SameHonesty disk first.disk k.disk
 
 among_next : (begun : Bool) (slot : Slot) (front : List ℕ) (bodies : List (List ℕ)) (b c : List ℕ) → HasAmong begun slot front bodies b c → HasChainOrNext slot front bodies b c
 among_next false slot front bodies b c is = inl is
 among_next true slot front bodies b c is = is
 
 pub sealing_first : {D S : Type 0} {disk : Ghosts D} {first k : JournalState D} {body : List ℕ} {r : Result S DiskFault} → KeepsAround disk first k (HasChain first.slot first.front first.sealed) (Outside first.slot) r → (k.sealed ≡ first.sealed) × (k.staged ≡ body) → IsSealing disk first body k
-sealing_first {disk = disk} {first = first} {k = k} {body = body} w bodies = record {
+sealing_first w bodies = record {
   same = w.same;
   sealed = bodies.0;
   staged = bodies.1;
-  any_moment = λ h. leaves_map disk.moment disk.crash_states_since first.disk k.disk (HasChain first.slot first.front first.sealed) (HasChainOrNext first.slot first.front first.sealed body) (λ c p. inl p) (w.any_moment h);
-  apart = w.apart;
+  word = word_map (λ h c p. inl p) w.call.word;
+  apart = w.call.apart;
   beside = w.beside;
-  honest = w.honest;
 }
 
 module _ {D : Type 0} {disk : Ghosts D} {first : JournalState D} {body : List ℕ} {k : JournalState D} (s : IsSealing disk first body k) where
@@ -299,11 +296,10 @@ module _ {D : Type 0} {disk : Ghosts D} {first : JournalState D} {body : List �
       same = same_on l w.same;
       sealed = bodies.0 ∙ s.sealed;
       staged = bodies.1 ∙ s.staged;
-      any_moment = λ h. leaves_then disk.moment disk.crash_states_since first.disk k.disk l.disk Sealing (s.any_moment h) (leaves_map disk.moment disk.crash_states_since k.disk l.disk P Sealing (λ c p. claim c (claims c p)) (w.any_moment (s.honest.0 h)));
-      apart = λ h at text out f. let a = s.apart h at text out f in let b = w.apart (s.honest.0 h) at text (reach at (length text) (subst (λ (x : Slot). Outside x at (length text)) (sym s.same.1) out)) a.0 in
+      word = word_then s.word (word_map (λ h c p. claim c (claims c p)) w.call.word);
+      apart = λ h at text out f. let a = s.apart h at text out f in let b = w.call.apart (s.word.honest.0 h) at text (reach at (length text) (subst (λ (x : Slot). Outside x at (length text)) (sym s.same.1) out)) a.0 in
           (b.0, leaves_then disk.moment disk.crash_states_since first.disk k.disk l.disk (λ c. Holds c at text) a.1 b.1);
-      beside = λ h at text out p. w.beside (s.honest.0 h) at text (reach at (length text) (subst (λ (x : Slot). Outside x at (length text)) (sym s.same.1) out)) (s.beside h at text out p);
-      honest = (λ h. w.honest.0 (s.honest.0 h), λ h. s.honest.1 (w.honest.1 h));
+      beside = λ h at text out p. w.beside (s.word.honest.0 h) at text (reach at (length text) (subst (λ (x : Slot). Outside x at (length text)) (sym s.same.1) out)) (s.beside h at text out p);
     }
 
     pub sealing_sync : {S : Type 0} {r : Result S DiskFault} → KeepsAround disk k l (CrashStates k) (λ at n. Unit {0}) r → IsSealing disk first body l
@@ -313,8 +309,8 @@ module _ {D : Type 0} {disk : Ghosts D} {first : JournalState D} {body : List �
     sealing_gate w = sealing_more (HasChainOrNext k.slot k.front k.sealed k.staged) (Outside k.slot) (λ c p. p) (λ at n out. out) w
 
     pub sealing_still : SameSlot k l → l.disk ≡ k.disk → IsSealing disk first body l
-    sealing_still same e = record { same = same_on l same; sealed = bodies.0 ∙ s.sealed; staged = bodies.1 ∙ s.staged; any_moment = rw e s.any_moment; apart = rw e s.apart; beside = rw e s.beside; honest = rw e s.honest }
+    sealing_still same e = record { same = same_on l same; sealed = bodies.0 ∙ s.sealed; staged = bodies.1 ∙ s.staged; word = rw e s.word; apart = rw e s.apart; beside = rw e s.beside }
 
   -- what was kept, however it ends
   pub sealing_kept : (l : JournalState D) → SameSlot k l → l.disk ≡ k.disk → {T : Type 0} {x : Result T DiskFault} → CountsFaults (disk.faults first.disk) (disk.faults l.disk) x → KeepsAround disk first l (HasChainOrNext first.slot first.front first.sealed body) (Outside first.slot) x
-  sealing_kept l same e cause = record { same = same_on l same; any_moment = rw e s.any_moment; apart = rw e s.apart; beside = rw e s.beside; honest = rw e s.honest; cause = cause }
+  sealing_kept l same e cause = record { same = same_on l same; call = record { word = rw e s.word; apart = rw e s.apart; cause = cause }; beside = rw e s.beside }

@@ -2,8 +2,8 @@
 use Rattle.std.specs.Prelude.{◌≢◌, ◌<◌, ◌+◌, ◌-◌, ℕ, List, [], ◌∷◌, ◌++◌, length, slice_range}
 use Rattle.std.specs.Int.{w32, to_be_bytes}
 use Rattle.fp_journal.specs.Holds.{Holds}
-use Rattle.fp_gate.specs.declared.gate.TheConstants.{OPEN}
-use Rattle.fp_journal.specs.declared.framed.TheConstants.{LENGTH_FIELD}
+use Rattle.fp_gate.specs.Numbers.{OPEN}
+use Rattle.fp_journal.specs.Numbers.{LENGTH_FIELD}
 
 -- a body behind its length
 abbrev pub with_length : List ℕ → List ℕ

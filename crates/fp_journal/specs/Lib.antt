@@ -1,3 +1,4 @@
+pub mod Numbers
 pub mod Holds
 pub mod Chain
 pub mod Moments

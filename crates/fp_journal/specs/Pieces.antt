@@ -1,8 +1,8 @@
 -- Reading a disk in pieces.
 use Rattle.std.specs.Prelude.{◌≡◌, ◌⊎◌, List, [], ◌∷◌, ◌++◌, Result, Ok, Err}
-use Rattle.fp_disk.specs.Crashes.{AtAnyMoment, SameHonesty}
 use Rattle.fp_disk.specs.History.{MakesSome}
 use Rattle.fp_disk.specs.Outcomes.{IsOutcome}
+use Rattle.fp_disk.specs.Word.{KeepsWord}
 use Rattle.fp_disk.specs.declared.disk.Disk.{Ghosts}
 use Rattle.fp_disk.specs.declared.history.CallKind.{CallKind}
 use Rattle.fp_disk.specs.declared.history.CallKind.TheVariants.{Read}
@@ -31,6 +31,5 @@ MakesThenReads kinds old new (Err e) = ThenSomeReads kinds old new
 pub record OnlyReads {D : Type 0} (disk : Ghosts D) (old new : D) : Type 0 where
   pub same : disk.honest old → (disk.bytes new ≡ disk.bytes old)
       × (disk.unsynced new ≡ disk.unsynced old)
-  pub any_moment : AtAnyMoment disk old new (IsOutcome (disk.unsynced old))
-  pub honest : SameHonesty disk old new
+  pub word : KeepsWord disk old new (IsOutcome (disk.unsynced old))
   pub called : ThenReads [] (disk.calls old) (disk.calls new)

@@ -11,8 +11,8 @@ use Rattle.fp_journal.specs.declared.chain.ChainFault.TheVariants as chain_fault
 use Rattle.fp_journal.specs.Holds.{Holds}
 use Rattle.fp_journal.specs.Chain.{Ends, with_length, spell}
 use Rattle.fp_journal.specs.State.{AllShort}
-use Rattle.fp_journal.specs.declared.framed.TheConstants.{BODY_PLACE}
-use Rattle.fp_gate.specs.declared.gate.TheConstants.{OPEN}
+use Rattle.fp_journal.specs.Numbers.{BODY_PLACE}
+use Rattle.fp_gate.specs.Numbers.{OPEN}
 
 -- the bodies stand there, each behind an open gate and its length,
 -- and a closed gate before this stop behind the last

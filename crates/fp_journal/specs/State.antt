@@ -12,8 +12,8 @@ use Rattle.fp_journal.specs.declared.journal.Phase.TheVariants.{Idle, Staged, Bo
 use Rattle.fp_journal.specs.declared.journal.Phase.TheVariants.{GateOpened, Failed}
 use Rattle.fp_journal.specs.Holds.{Holds, IsSynced}
 use Rattle.fp_journal.specs.Chain.{Ends, with_length, with_gate, spell}
-use Rattle.fp_journal.specs.declared.framed.TheConstants.{FRAME}
-use Rattle.fp_gate.specs.declared.gate.TheConstants.{OPEN}
+use Rattle.fp_journal.specs.Numbers.{FRAME}
+use Rattle.fp_gate.specs.Numbers.{OPEN}
 
 -- what a journal had sealed, and which one it was
 pub record SealedBodies : Type 0 where

@@ -8,7 +8,7 @@ use Rattle.fp_disk.specs.declared.history.CallKind.{CallKind}
 use Rattle.fp_journal.specs.Pieces.{ThenReads, ThenSomeReads}
 
 -- ---- some first ones of a list
-none_made : (kinds : List CallKind) (old new : List CallKind) → new ≡ old → MakesSome kinds old new
+pub none_made : (kinds : List CallKind) (old new : List CallKind) → new ≡ old → MakesSome kinds old new
 none_made [] old new is = is
 none_made (kind ∷ kinds) old new is = inl is
 

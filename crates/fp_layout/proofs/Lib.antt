@@ -6,5 +6,6 @@ pub mod Headers
 pub mod Choosing
 pub mod Found
 pub mod Settled
+pub mod Opens
 pub mod Both
 pub mod Making

@@ -9,7 +9,8 @@ use Rattle.fp_journal.specs.declared.journal.Phase.{Phase}
 use Rattle.fp_journal.specs.declared.journal.Phase.TheVariants.{Failed, Idle}
 use Rattle.fp_journal.specs.declared.slot.Slot.{Slot}
 use Rattle.fp_layout.specs.Size.{IsSlotSize, first, first_slot, second_slot}
-use Rattle.fp_disk.specs.Crashes.{AtAnyMoment, IsUntouched, SameHonesty}
+use Rattle.fp_disk.specs.Crashes.{IsUntouched, SameHonesty}
+use Rattle.fp_disk.specs.Word.{Adds, KeepsWord, word_call, word_map, word_then}
 use Rattle.fp_disk.specs.declared.disk.DiskFault.{DiskFault}
 use Rattle.fp_disk.specs.declared.history.CallKind.{CallKind}
 use Rattle.fp_disk.specs.declared.history.CallKind.TheVariants.{Sync, Write}
@@ -18,7 +19,7 @@ use Rattle.fp_disk.specs.Outcomes.{CountsFaults, Elapses, IsOutcome, LeavesOnly,
 use Rattle.fp_journal.specs.Holds.{Holds, IsSynced}
 use Rattle.fp_journal.proofs.Holds.{holds_append, holds_front, holds_back, holds_byte, byte_held, holds_written, holds_apart, written_after, written_gap, written_long, firm_outcome, firm_touched, firm_settled}
 use Rattle.fp_disk.specs.declared.disk.Disk.{Ghosts}
-use Rattle.fp_disk.specs.Moments.{leaves_call, leaves_then, leaves_map}
+use Rattle.fp_disk.specs.Moments.{leaves_call, leaves_map}
 use Rattle.fp_slots.specs.State as slots
 use Rattle.fp_layout.specs.Layout.{magic, IsFormatted, IsHeader, IsHead, IsActive}
 use Rattle.fp_slots.specs.Head.{IsVersion, slot_text}
@@ -127,16 +128,18 @@ new_written size b new m w = let n = written_long b (OPEN ∷ []) new 0 w in let
 
 -- ---- the calls in turn
 module _ {D : Type 0} (disk : Ghosts D) (present : (d : D) → disk.honest d → IsOutcome (disk.unsynced d) (disk.bytes d)) (only_now : (d : D) (c : List ℕ) → disk.honest d → disk.crash_states_since d (disk.moment d) c → IsOutcome (disk.unsynced d) c) (size : ℕ) (start : D) where
-  -- since the start a crash left none or a new disk
-  abbrev pub LeavesNone : D → Type 0
-  LeavesNone d = disk.honest start → disk.unsynced start ≡ all_synced [] → LeavesOnly disk.moment disk.crash_states_since start d (IsNewOrNone size)
+  -- of an empty disk none or a new one
+  abbrev pub IsOfEmpty : List ℕ → Type 0
+  IsOfEmpty c = disk.unsynced start ≡ all_synced [] → IsNewOrNone size c
+
+  pub empty_only : {d : D} → KeepsWord disk start d IsOfEmpty → disk.honest start → disk.unsynced start ≡ all_synced [] → LeavesOnly disk.moment disk.crash_states_since start d (IsNewOrNone size)
+  empty_only {d} word h is = leaves_map disk.moment disk.crash_states_since start d IsOfEmpty (IsNewOrNone size) (λ c p. p is) (word.any_moment h)
 
   -- none of these calls failed, and now the header's gate is closed for sure
   pub record SoFar (d : D) (done : List CallKind) : Type 0 where
-    pub honest : SameHonesty disk start d
+    pub word : KeepsWord disk start d IsOfEmpty
     pub called : disk.calls d ≡ disk.calls start ++ done
     pub faults : disk.faults d ≡ disk.faults start
-    pub leaves : LeavesNone d
     pub firm : disk.honest start → IsSynced (disk.unsynced d) 0 (0 ∷ [])
 
   pub empty_bytes : disk.honest start → disk.unsynced start ≡ all_synced [] → disk.bytes start ≡ []
@@ -148,64 +151,56 @@ module _ {D : Type 0} (disk : Ghosts D) (present : (d : D) → disk.honest d →
       none : (c : List ℕ) → IsOutcome (disk.unsynced start) c → IsNewOrNone size c
       none c o = let p : IsOutcome (all_synced []) c = subst (λ (u : PendingState). IsOutcome u c) is o in let high = p.no_longer in inl (none_short c (omega (arith, high)))
 
-  module _ (d : D) (moments : AtAnyMoment disk start d (IsOutcome (with_write (disk.unsynced start) 0 1))) where
-    pub first_leaves : LeavesNone d
-    first_leaves h is = leaves_map disk.moment disk.crash_states_since start d (IsOutcome (with_write (disk.unsynced start) 0 1)) (IsNewOrNone size) (λ c o. first_none size c (subst (λ (u : PendingState). IsOutcome (with_write u 0 1) c) is o)) (moments h)
+  module _ {d : D} (word : KeepsWord disk start d (IsOutcome (with_write (disk.unsynced start) 0 1))) where
+    pub first_word : KeepsWord disk start d IsOfEmpty
+    first_word = word_map (λ h c o is. first_none size c (subst (λ (u : PendingState). IsOutcome (with_write u 0 1) c) is o)) word
 
-    pub first_step : {S : Type 0} {x : S} → SameHonesty disk start d → disk.calls d ≡ disk.calls start ++ Write ∷ Sync ∷ [] → CountsFaults (disk.faults start) (disk.faults d) (Ok x) → (disk.honest start → Written (disk.bytes start) 0 (0 ∷ []) (disk.bytes d)) → (disk.honest start → disk.unsynced d ≡ all_synced (disk.bytes d)) → SoFar d (Write ∷ Sync ∷ [])
-    first_step honest called cause written sure = record {
-      honest = honest;
+    pub first_step : {S : Type 0} {x : S} → disk.calls d ≡ disk.calls start ++ Write ∷ Sync ∷ [] → CountsFaults (disk.faults start) (disk.faults d) (Ok x) → (disk.honest start → Written (disk.bytes start) 0 (0 ∷ []) (disk.bytes d)) → (disk.honest start → disk.unsynced d ≡ all_synced (disk.bytes d)) → SoFar d (Write ∷ Sync ∷ [])
+    first_step called cause written sure = record {
+      word = first_word;
       called = called;
       faults = cause.well refl;
-      leaves = first_leaves;
       firm = λ h. subst (λ (u : PendingState). IsSynced u 0 (0 ∷ [])) (sym (sure h)) (firm_settled (disk.bytes d) 0 (0 ∷ []) (holds_written (disk.bytes start) (0 ∷ []) (disk.bytes d) 0 (written h)));
     }
 
-  module _ (d e : D) {done : List CallKind} (s : SoFar d done) (honest : SameHonesty disk d e) where
-    pub honest_on : SameHonesty disk start e
-    honest_on = (λ h. honest.0 (s.honest.0 h), λ h. s.honest.1 (honest.1 h))
-
-    pub cause_on : {r : Result Unit DiskFault} → CountsFaults (disk.faults d) (disk.faults e) r → CountsFaults (disk.faults start) (disk.faults e) r
-    cause_on {r} cause = subst (λ (k : ℕ). CountsFaults k (disk.faults e) r) s.faults cause
+  module _ {d : D} {done : List CallKind} (s : SoFar d done) where
+    pub cause_on : {e : D} {r : Result Unit DiskFault} → CountsFaults (disk.faults d) (disk.faults e) r → CountsFaults (disk.faults start) (disk.faults e) r
+    cause_on {e} {r} cause = subst (λ (k : ℕ). CountsFaults k (disk.faults e) r) s.faults cause
 
     -- a write behind the closed gate of the header
     module _ (from n : ℕ) (behind : 1 ≤ from) where
       all_none : disk.honest start → (c : List ℕ) → IsOutcome (with_write (disk.unsynced d) from n) c → IsNewOrNone size c
       all_none h c o = shut_none size (disk.unsynced d) from n c behind (s.firm h) o
 
-      module _ (time : disk.honest d → Elapses (disk.moment d) (disk.moment e) (disk.crash_states_since d) (disk.crash_states_since e) (IsOutcome (with_write (disk.unsynced d) from n))) where
-        pub write_leaves : LeavesNone e
-        write_leaves h is = leaves_then disk.moment disk.crash_states_since start d e (IsNewOrNone size) (s.leaves h is) (leaves_call disk.moment disk.crash_states_since d e (IsOutcome (disk.unsynced d)) (IsOutcome (with_write (disk.unsynced d) from n)) (IsNewOrNone size) (time (s.honest.0 h))
-            (λ c left. only_now d c (s.honest.0 h) left) (λ c o. inl (none_shut c (firm_outcome (disk.unsynced d) 0 (0 ∷ []) c (s.firm h) o))) (all_none h))
+      module _ {e : D} (honest : SameHonesty disk d e) (time : Adds disk d e (with_write (disk.unsynced d) from n)) where
+        pub write_word : KeepsWord disk start e IsOfEmpty
+        write_word = word_then s.word (word_call disk only_now honest time (λ h c o is. inl (none_shut c (firm_outcome (disk.unsynced d) 0 (0 ∷ []) c (s.firm (s.word.honest.1 h)) o))) (λ h c o is. all_none (s.word.honest.1 h) c o))
 
         pub write_step : disk.calls e ≡ disk.calls d ++ Write ∷ [] → {S : Type 0} {x : S} → CountsFaults (disk.faults d) (disk.faults e) (Ok x) → (disk.honest d → disk.unsynced e ≡ with_write (disk.unsynced d) from n) → SoFar e (done ++ Write ∷ [])
         write_step called cause touch = record {
-          honest = honest_on;
+          word = write_word;
           called = calls_joined done (Write ∷ []) (disk.calls start) (disk.calls d) (disk.calls e) s.called called;
           faults = cause.well refl ∙ s.faults;
-          leaves = write_leaves;
-          firm = λ h. subst (λ (u : PendingState). IsSynced u 0 (0 ∷ [])) (sym (touch (s.honest.0 h))) (firm_touched (disk.unsynced d) 0 from n (0 ∷ []) (inr (omega (arith, behind))) (s.firm h));
+          firm = λ h. subst (λ (u : PendingState). IsSynced u 0 (0 ∷ [])) (sym (touch (s.word.honest.0 h))) (firm_touched (disk.unsynced d) 0 from n (0 ∷ []) (inr (omega (arith, behind))) (s.firm h));
         }
 
       -- and a sync
-      module _ (moments : AtAnyMoment disk d e (IsOutcome (with_write (disk.unsynced d) from n))) where
-        pub sync_leaves : LeavesNone e
-        sync_leaves h is = leaves_then disk.moment disk.crash_states_since start d e (IsNewOrNone size) (s.leaves h is) (leaves_map disk.moment disk.crash_states_since d e (IsOutcome (with_write (disk.unsynced d) from n)) (IsNewOrNone size) (all_none h) (moments (s.honest.0 h)))
+      module _ {e : D} (word : KeepsWord disk d e (IsOutcome (with_write (disk.unsynced d) from n))) where
+        pub sync_word : KeepsWord disk start e IsOfEmpty
+        sync_word = word_then s.word (word_map (λ h c o is. all_none (s.word.honest.1 h) c o) word)
 
         pub sync_step : disk.calls e ≡ disk.calls d ++ Write ∷ Sync ∷ [] → {S : Type 0} {x : S} → CountsFaults (disk.faults d) (disk.faults e) (Ok x) → (piece : List ℕ) → (disk.honest d → Written (disk.bytes d) from piece (disk.bytes e)) → (disk.honest d → disk.unsynced e ≡ all_synced (disk.bytes e)) → SoFar e (done ++ Write ∷ Sync ∷ [])
         sync_step called cause piece written sure = record {
-          honest = honest_on;
+          word = sync_word;
           called = calls_joined done (Write ∷ Sync ∷ []) (disk.calls start) (disk.calls d) (disk.calls e) s.called called;
           faults = cause.well refl ∙ s.faults;
-          leaves = sync_leaves;
-          firm = λ h. let h1 = s.honest.0 h in subst (λ (u : PendingState). IsSynced u 0 (0 ∷ [])) (sym (sure h1))
+          firm = λ h. let h1 = s.word.honest.0 h in subst (λ (u : PendingState). IsSynced u 0 (0 ∷ [])) (sym (sure h1))
               (firm_settled (disk.bytes e) 0 (0 ∷ []) (holds_apart (disk.bytes d) piece (disk.bytes e) (0 ∷ []) from 0 (written h1) (inr (omega (arith, behind))) (firm_outcome (disk.unsynced d) 0 (0 ∷ []) (disk.bytes d) (s.firm h) (present d h1))));
         }
 
     -- the last one
-    pub last_leaves : (disk.honest start → disk.bytes start ≡ [] → IsMade size (disk.bytes d)) → (disk.honest start → disk.unsynced d ≡ all_synced (disk.bytes d)) → AtAnyMoment disk d e (IsOutcome (with_write (disk.unsynced d) 0 1)) → LeavesNone e
-    last_leaves made sure moments h is = leaves_then disk.moment disk.crash_states_since start d e (IsNewOrNone size) (s.leaves h is)
-        (leaves_map disk.moment disk.crash_states_since d e (IsOutcome (with_write (disk.unsynced d) 0 1)) (IsNewOrNone size) (λ c o. last_new size (disk.bytes d) c (made h (empty_bytes h is)) (subst (λ (u : PendingState). IsOutcome (with_write u 0 1) c) (sure h) o)) (moments (s.honest.0 h)))
+    pub last_word : {e : D} → (disk.honest start → disk.bytes start ≡ [] → IsMade size (disk.bytes d)) → (disk.honest start → disk.unsynced d ≡ all_synced (disk.bytes d)) → KeepsWord disk d e (IsOutcome (with_write (disk.unsynced d) 0 1)) → KeepsWord disk start e IsOfEmpty
+    last_word made sure word = word_then s.word (word_map (λ h c o is. let h0 = s.word.honest.1 h in last_new size (disk.bytes d) c (made h0 (empty_bytes h0 is)) (subst (λ (u : PendingState). IsOutcome (with_write u 0 1) c) (sure h0) o)) word)
 
 -- ---- what a new disk stands for
 written_known : IsVersion VERSION

@@ -9,13 +9,13 @@ use Rattle.fp_journal.specs.declared.pieces.BytesFault.TheVariants as bytes_faul
 use Rattle.fp_layout.specs.Size.{IsSlotSize}
 use Rattle.fp_slots.specs.declared.choosing.SlotFault.{SlotFault}
 use Rattle.fp_slots.specs.declared.choosing.SlotFault.TheVariants as slot_fault
-use Rattle.fp_slots.specs.declared.places.TheConstants.{GENERATION_PLACE, VERSION_PLACE, BASE_PLACE}
-use Rattle.fp_slots.specs.declared.places.TheConstants.{LENGTH_PLACE, IMAGE_PLACE}
+use Rattle.fp_slots.specs.Numbers.{GENERATION_PLACE, VERSION_PLACE, BASE_PLACE}
+use Rattle.fp_slots.specs.Numbers.{LENGTH_PLACE, IMAGE_PLACE}
 use Rattle.fp_layout.specs.Layout.{IsFormatted, IsFirstOther, AreZeros, HasVersion, HasBase}
 use Rattle.fp_layout.specs.Layout.{HasLength}
-use Rattle.fp_layout.specs.declared.header.TheConstants.{HEADER, HEADER_VERSION}
-use Rattle.fp_layout.specs.declared.header.TheConstants.{HEADER_VERSION_PLACE}
-use Rattle.fp_layout.specs.declared.header.TheConstants.{SIZE_PLACE, ZEROS_PLACE}
+use Rattle.fp_layout.specs.Numbers.{HEADER, HEADER_VERSION}
+use Rattle.fp_layout.specs.Numbers.{HEADER_VERSION_PLACE}
+use Rattle.fp_layout.specs.Numbers.{SIZE_PLACE, ZEROS_PLACE}
 use Rattle.fp_layout.specs.declared.fault.OpenFault.{OpenFault}
 use Rattle.fp_layout.specs.declared.fault.OpenFault.TheVariants.{Unformatted, UnknownVersion}
 use Rattle.fp_layout.specs.declared.fault.OpenFault.TheVariants.{Damaged, Device, Memory}

@@ -1,15 +1,15 @@
 -- What was read of a disk's slots, as far as the batches of the one that rules.
 use Rattle.std.specs.Prelude.{◌≡◌, ◌↔◌, ◌<◌, ◌≤◌, ◌+◌, ◌/◌, ◌^◌, ℕ, IsTrue, List, length}
 use Rattle.std.specs.Prelude.{slice_index}
-use Rattle.fp_gate.specs.declared.gate.TheConstants.{OPEN}
+use Rattle.fp_gate.specs.Numbers.{OPEN}
 use Rattle.fp_journal.specs.Holds.{Holds}
 use Rattle.fp_slots.specs.Head.{IsVersion}
 use Rattle.fp_slots.specs.Rules.{IsRuling}
-use Rattle.fp_slots.specs.declared.places.TheConstants.{IMAGE_PLACE}
+use Rattle.fp_slots.specs.Numbers.{IMAGE_PLACE}
 use Rattle.fp_layout.specs.Size.{IsSlotSize, Side, other_side, slot_of}
 use Rattle.fp_layout.specs.Layout.{HasSlots, front_text}
 use Rattle.fp_layout.specs.Opening.{FoundFront, ReadsImage}
-use Rattle.fp_layout.specs.declared.head.TheConstants.{BASES_END}
+use Rattle.fp_layout.specs.Numbers.{BASES_END}
 use Rattle.fp_layout.specs.declared.opening.Ruling.{Ruling}
 use Rattle.fp_layout.specs.declared.opening.Front.{Front}
 

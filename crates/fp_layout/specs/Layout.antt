@@ -6,14 +6,14 @@ use Rattle.fp_journal.specs.Holds.{Holds}
 use Rattle.fp_journal.specs.declared.slot.Slot.{Slot}
 use Rattle.fp_slots.specs.Head.{IsVersion}
 use Rattle.fp_slots.specs.Rules.{HasGeneration, Rules}
-use Rattle.fp_slots.specs.declared.places.TheConstants.{VERSION_PLACE, BASE_PLACE, LENGTH_PLACE}
-use Rattle.fp_slots.specs.declared.places.TheConstants.{IMAGE_PLACE}
-use Rattle.fp_layout.specs.declared.head.TheConstants.{BASES_END}
-use Rattle.fp_layout.specs.declared.header.TheConstants.{HEADER, HEADER_VERSION}
-use Rattle.fp_layout.specs.declared.header.TheConstants.{HEADER_VERSION_PLACE}
-use Rattle.fp_layout.specs.declared.header.TheConstants.{SIZE_PLACE, ZEROS_PLACE}
+use Rattle.fp_slots.specs.Numbers.{VERSION_PLACE, BASE_PLACE, LENGTH_PLACE}
+use Rattle.fp_slots.specs.Numbers.{IMAGE_PLACE}
+use Rattle.fp_layout.specs.Numbers.{BASES_END}
+use Rattle.fp_layout.specs.Numbers.{HEADER, HEADER_VERSION}
+use Rattle.fp_layout.specs.Numbers.{HEADER_VERSION_PLACE}
+use Rattle.fp_layout.specs.Numbers.{SIZE_PLACE, ZEROS_PLACE}
 use Rattle.fp_layout.specs.Size.{IsSlotSize, Side, other_side, slot_of}
-use Rattle.fp_gate.specs.declared.gate.TheConstants.{OPEN}
+use Rattle.fp_gate.specs.Numbers.{OPEN}
 
 abbrev pub magic : List ℕ
 magic = codes "FLAGPLN1"

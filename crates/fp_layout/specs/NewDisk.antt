@@ -6,11 +6,11 @@ use Rattle.fp_disk.specs.declared.history.CallKind.{CallKind}
 use Rattle.fp_disk.specs.declared.history.CallKind.TheVariants.{Sync, Write}
 use Rattle.fp_journal.specs.Holds.{Holds}
 use Rattle.fp_layout.specs.Layout.{magic, AreZeros, IsFormatted}
-use Rattle.fp_layout.specs.declared.format.TheConstants.{FIRST_GATE}
-use Rattle.fp_layout.specs.declared.header.TheConstants.{HEADER, HEADER_VERSION, ZEROS}
+use Rattle.fp_layout.specs.Numbers.{FIRST_GATE}
+use Rattle.fp_layout.specs.Numbers.{HEADER, HEADER_VERSION, ZEROS}
 use Rattle.fp_slots.specs.Head.{head_text, slot_text}
-use Rattle.fp_slots.specs.declared.places.TheConstants.{VERSION}
-use Rattle.fp_gate.specs.declared.gate.TheConstants.{OPEN}
+use Rattle.fp_slots.specs.Numbers.{VERSION}
+use Rattle.fp_gate.specs.Numbers.{OPEN}
 
 -- ---- the text behind the header's gate
 abbrev pub header_text : ℕ → List ℕ

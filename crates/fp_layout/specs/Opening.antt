@@ -6,11 +6,11 @@ use Rattle.fp_journal.specs.declared.slot.Slot.{Slot}
 use Rattle.fp_journal.specs.Reading.{FoundChain, Reads, StopsAt}
 use Rattle.fp_slots.specs.Head.{IsVersion, head_text}
 use Rattle.fp_slots.specs.Rules.{RulesNeither}
-use Rattle.fp_slots.specs.declared.places.TheConstants.{IMAGE_PLACE}
+use Rattle.fp_slots.specs.Numbers.{IMAGE_PLACE}
 use Rattle.fp_layout.specs.Size.{IsSlotSize, Side, other_side, slot_of, first_slot, second_slot}
 use Rattle.fp_layout.specs.Layout.{IsHeader, IsHead, IsActive}
 use Rattle.fp_layout.specs.Faults.{RefusesHeader, BreaksHead}
-use Rattle.fp_layout.specs.declared.head.TheConstants.{BASES_END}
+use Rattle.fp_layout.specs.Numbers.{BASES_END}
 use Rattle.fp_layout.specs.declared.fault.OpenFault.{OpenFault}
 use Rattle.fp_layout.specs.declared.fault.OpenFault.TheVariants.{Unformatted, UnknownVersion}
 use Rattle.fp_layout.specs.declared.fault.OpenFault.TheVariants.{Damaged, Device, Memory}

@@ -2,9 +2,9 @@
 use Rattle.std.specs.Prelude.{◌≤◌, ◌+◌, ◌-◌, ◌/◌, ℕ, IsTrue}
 use Rattle.std.specs.Int.{is_power_of_two}
 use Rattle.fp_journal.specs.declared.slot.Slot.{Slot}
-use Rattle.fp_journal.specs.declared.framed.TheConstants.{FRAME}
-use Rattle.fp_layout.specs.declared.header.TheConstants.{HEADER}
-use Rattle.fp_layout.specs.declared.size.TheConstants.{LARGEST_SLOT, SMALLEST_SLOT}
+use Rattle.fp_journal.specs.Numbers.{FRAME}
+use Rattle.fp_layout.specs.Numbers.{HEADER}
+use Rattle.fp_layout.specs.Numbers.{LARGEST_SLOT, SMALLEST_SLOT}
 
 pub record IsSlotSize (bytes : ℕ) : Type 0 where
   pub power : IsTrue (is_power_of_two bytes)

@@ -1,12 +1,13 @@
 //! A new disk.
 
-ghost use Rattle.fp_disk.specs.Crashes.{AtAnyMoment, IsUntouched, SameHonesty};
+ghost use Rattle.fp_disk.specs.Crashes.{IsUntouched, SameHonesty};
 ghost use Rattle.std.specs.Prelude.{◌≡◌, ◌≢◌, ◌⊎◌, ◌<◌, ◌+◌, ◌∷◌, ◌++◌, [], length, IfOk};
 ghost use Rattle.std.specs.Prelude.{false, IfErr, OnOk, IsOk, MatchResult};
 ghost use Rattle.fp_disk.specs.History.{Makes, MakesSome};
 ghost use Rattle.fp_disk.specs.declared.history.CallKind.TheVariants.{Length, Sync, Write};
 ghost use Rattle.fp_disk.specs.Outcomes.{CountsFaults, IsOutcome, LeavesOnly, Written, all_synced};
 ghost use Rattle.fp_disk.specs.Outcomes.{with_write};
+ghost use Rattle.fp_disk.specs.Word.{KeepsWord};
 ghost use Rattle.fp_journal.specs.declared.journal.Phase.TheVariants.{Idle};
 ghost use Rattle.fp_layout.specs.Size.{first_slot, second_slot};
 ghost use Rattle.fp_layout.specs.Layout.{IsHeader, IsHead, IsActive};
@@ -69,9 +70,8 @@ fn write_synced<D: Disk>(disk: &mut D, at: u64, from: &[u8]) -> Result<(), DiskF
         (D.bytes disk.new)) }
     ensures all_synced { D.honest disk.old → OnOk result (D.unsynced disk.new
         ≡ all_synced (D.bytes disk.new)) }
-    ensures any_moment { AtAnyMoment D.Disk disk.old disk.new
+    ensures word { KeepsWord D.Disk disk.old disk.new
         (IsOutcome (with_write (D.unsynced disk.old) at (length from.now))) }
-    ensures honest { SameHonesty D.Disk disk.old disk.new }
     ensures called { Makes (Write ∷ Sync ∷ []) (D.calls disk.old) (D.calls disk.new) result }
     ensures cause { CountsFaults (D.faults disk.old) (D.faults disk.new) result }
 {
@@ -87,9 +87,8 @@ fn format<D: Disk>(disk: &mut D, size: SlotSize, closed: &[u8]) -> Result<(), Di
         → OnOk result (IsNewDisk size (D.bytes disk.new)) }
     ensures all_synced { D.honest disk.old → OnOk result (D.unsynced disk.new
         ≡ all_synced (D.bytes disk.new)) }
-    ensures any_moment { D.honest disk.old → D.unsynced disk.old ≡ all_synced []
-        → LeavesOnly D.moment D.crash_states_since disk.old disk.new (IsNewOrNone size) }
-    ensures honest { SameHonesty D.Disk disk.old disk.new }
+    ensures word { KeepsWord D.Disk disk.old disk.new
+        (λ c. D.unsynced disk.old ≡ all_synced [] → IsNewOrNone size c) }
     ensures called { Makes format_calls (D.calls disk.old) (D.calls disk.new) result }
     ensures cause { CountsFaults (D.faults disk.old) (D.faults disk.new) result }
 {

@@ -2,12 +2,11 @@
 
 ghost use Rattle.std.specs.Prelude.{◌≡◌, ◌≢◌, ◌≤◌, ◌<◌, ◌+◌, ◌-◌, [], ◌∷◌, List, ℕ, length, min};
 ghost use Rattle.std.specs.Prelude.{◌↔◌, slice_index, slice_range, IfOk, IfErr, IsTrue, OnOk};
-ghost use Rattle.std.specs.Prelude.{MatchResult, IsErrOf};
-ghost use Rattle.fp_disk.specs.Crashes.{AtAnyMoment, SameHonesty};
+ghost use Rattle.std.specs.Prelude.{IsErrOf};
 ghost use Rattle.fp_gate.specs.declared.gate.TheConstants.{OPEN};
 ghost use Rattle.fp_disk.specs.declared.history.CallKind.TheVariants.{Length, Sync};
-ghost use Rattle.fp_disk.specs.Outcomes.{IsOutcome, LeavesOnly, all_synced};
-ghost use Rattle.fp_journal.specs.Pieces.{MakesThenReads, OnlyReads, ThenReads, ThenSomeReads};
+ghost use Rattle.fp_disk.specs.Outcomes.{all_synced};
+ghost use Rattle.fp_journal.specs.Pieces.{OnlyReads};
 ghost use Rattle.fp_journal.specs.Reading.{IsWrong};
 ghost use Rattle.fp_journal.specs.declared.journal.Phase.TheVariants.{Idle};
 ghost use Rattle.fp_slots.specs.Rules.{HasLeads};
@@ -19,6 +18,7 @@ ghost use Rattle.fp_layout.specs.Fronts.{FoundIn, IsFrontOn, IsHeadOn, StandsIn}
 ghost use Rattle.fp_layout.specs.Layout.{HasSlots, IsHeader};
 ghost use Rattle.fp_layout.specs.Opening.{BreaksRuling, FoundDisk, ReadsSlot};
 ghost use Rattle.fp_layout.specs.Opening.{RefusesFront, RefusesDisk};
+ghost use Rattle.fp_layout.specs.Opens.{Opens, OpensDisk};
 ghost use Rattle.fp_layout.specs.declared.fault.OpenFault.TheVariants.{Device, Memory};
 ghost use Rattle.fp_layout.specs.declared.header.TheConstants.{HEADER};
 
@@ -225,14 +225,8 @@ fn read_front<D: Disk, R: SlotReader>(
         FoundIn R.begins reader.old reader.new p (D.bytes disk.old)) }
     ensures fault { D.honest disk.old →
         IfErr result (RefusesFront R.rejects (D.bytes disk.old) reader.old) }
-    ensures same { D.honest disk.old → (D.bytes disk.new ≡ D.bytes disk.old)
-        × (D.unsynced disk.new ≡ D.unsynced disk.old) }
-    ensures any_moment { AtAnyMoment D.Disk disk.old disk.new (IsOutcome (D.unsynced disk.old)) }
-    ensures honest { SameHonesty D.Disk disk.old disk.new }
-    ensures called { MakesThenReads (Length ∷ []) (D.calls disk.old) (D.calls disk.new) result }
-    ensures no_failure { OnOk result (D.faults disk.new ≡ D.faults disk.old) }
-    ensures cause { IsErrOf result Device → D.faults disk.old < D.faults disk.new }
-    ensures memory { IsErrOf result Memory → D.faults disk.new ≡ D.faults disk.old }
+    ensures unsynced { D.honest disk.old → D.unsynced disk.new ≡ D.unsynced disk.old }
+    ensures kept { Opens D.Disk (Length ∷ []) disk.old disk.new result }
 {
     let len = disk.len()?;
     let front = read_fronts(alloc, disk, len, reader)?;
@@ -253,14 +247,7 @@ fn sync_front<D: Disk, R: SlotReader>(
         IfErr result (RefusesFront R.rejects (D.bytes disk.old) reader.old) }
     ensures all_synced { D.honest disk.old →
         OnOk result (D.unsynced disk.new ≡ all_synced (D.bytes disk.old)) }
-    ensures same { D.honest disk.old → D.bytes disk.new ≡ D.bytes disk.old }
-    ensures any_moment { AtAnyMoment D.Disk disk.old disk.new (IsOutcome (D.unsynced disk.old)) }
-    ensures honest { SameHonesty D.Disk disk.old disk.new }
-    ensures called { MakesThenReads (Sync ∷ Length ∷ []) (D.calls disk.old)
-        (D.calls disk.new) result }
-    ensures no_failure { OnOk result (D.faults disk.new ≡ D.faults disk.old) }
-    ensures cause { IsErrOf result Device → D.faults disk.old < D.faults disk.new }
-    ensures memory { IsErrOf result Memory → D.faults disk.new ≡ D.faults disk.old }
+    ensures kept { Opens D.Disk (Sync ∷ Length ∷ []) disk.old disk.new result }
 {
     disk.sync()?;
     let front = read_front(alloc, disk, reader)?;
@@ -289,14 +276,8 @@ pub fn read_disk<D: Disk, R: SlotReader>(
         p.gate ≡ p.slot.start + length (slice_range (D.bytes disk.old) p.slot.start p.gate)) }
     ensures fault { D.honest disk.old → IfErr result
         (RefusesDisk R.begins R.rejects R.takes R.refuses (D.bytes disk.old) reader.old) }
-    ensures same { D.honest disk.old → (D.bytes disk.new ≡ D.bytes disk.old)
-        × (D.unsynced disk.new ≡ D.unsynced disk.old) }
-    ensures any_moment { AtAnyMoment D.Disk disk.old disk.new (IsOutcome (D.unsynced disk.old)) }
-    ensures honest { SameHonesty D.Disk disk.old disk.new }
-    ensures called { MakesThenReads (Length ∷ []) (D.calls disk.old) (D.calls disk.new) result }
-    ensures no_failure { OnOk result (D.faults disk.new ≡ D.faults disk.old) }
-    ensures cause { IsErrOf result Device → D.faults disk.old < D.faults disk.new }
-    ensures memory { IsErrOf result Memory → D.faults disk.new ≡ D.faults disk.old }
+    ensures unsynced { D.honest disk.old → D.unsynced disk.new ≡ D.unsynced disk.old }
+    ensures kept { Opens D.Disk (Length ∷ []) disk.old disk.new result }
 {
     let Front {
         slot,
@@ -332,22 +313,9 @@ pub fn open<D: Disk, R: SlotReader>(
         s.journal.slot s.other s.version s.generation s.journal.front) }
     ensures fault { D.honest disk → IfErr result (λ e.
         RefusesDisk R.begins R.rejects R.takes R.refuses (D.bytes disk) reader.old e.0) }
-    ensures same { D.honest disk → MatchResult result (λ s. D.bytes s.journal.disk
-        ≡ D.bytes disk) (λ e. D.bytes e.1 ≡ D.bytes disk) }
     ensures all_synced { D.honest disk → IfOk result (λ s. D.unsynced s.journal.disk
         ≡ all_synced (D.bytes disk)) }
-    ensures any_moment { D.honest disk → MatchResult result
-        (λ s. LeavesOnly D.moment D.crash_states_since disk s.journal.disk (IsOutcome
-        (D.unsynced disk))) (λ e. LeavesOnly D.moment D.crash_states_since disk e.1 (IsOutcome
-        (D.unsynced disk))) }
-    ensures honest { MatchResult result (λ s. SameHonesty D.Disk disk s.journal.disk)
-        (λ e. SameHonesty D.Disk disk e.1) }
-    ensures called { MatchResult result
-        (λ s. ThenReads (Sync ∷ Length ∷ []) (D.calls disk) (D.calls s.journal.disk))
-        (λ e. ThenSomeReads (Sync ∷ Length ∷ []) (D.calls disk) (D.calls e.1)) }
-    ensures no_failure { IfOk result (λ s. D.faults s.journal.disk ≡ D.faults disk) }
-    ensures cause { IfErr result (λ e. e.0 ≡ Device → D.faults disk < D.faults e.1) }
-    ensures memory { IfErr result (λ e. e.0 ≡ Memory → D.faults e.1 ≡ D.faults disk) }
+    ensures kept { OpensDisk D.Disk (λ s. s.journal.disk) disk result }
 {
     let front = match sync_front(alloc, &mut disk, reader) {
         Ok(front) => front,

@@ -11,13 +11,13 @@ use Rattle.fp_edit.specs.Flags.{State}
 use Rattle.fp_edit.specs.declared.edit.EditFault.{EditFault}
 use Rattle.fp_edit.specs.declared.edit.EditFault.TheVariants.{Conflict, ConflictIn, SetTooLarge}
 use Rattle.fp_edit.specs.declared.edit.EditFault.TheVariants.{RevisionsUsed, Memory}
-use Rattle.fp_edit.specs.declared.edit.TheConstants.{REVISIONS_END}
+use Rattle.fp_edit.specs.Numbers.{REVISIONS_END}
 use Rattle.fp_edit.specs.declared.flags.Flag.{Flag}
 use Rattle.fp_record.specs.Fields.{number_at}
 use Rattle.fp_record.specs.Reading.{change_at, count_at, image_in, whole}
-use Rattle.fp_record.specs.declared.batch.TheConstants.{SET_KIND}
+use Rattle.fp_record.specs.Numbers.{SET_KIND}
 use Rattle.fp_edit.specs.Following.{unconditional}
-use Rattle.fp_slots.specs.declared.places.TheConstants.{FIRST_VERSION}
+use Rattle.fp_slots.specs.Numbers.{FIRST_VERSION}
 
 -- the flags of an image of this revision, none of them newer; the image is no longer than the limit
 unfoldable pub image_under : ℕ → ℕ → List ℕ → Result (List (List ℕ × Flag)) ℕ

@@ -12,7 +12,7 @@ use Rattle.fp_layout.specs.declared.fault.OpenFault.TheVariants.{Damaged, Device
 use Rattle.fp_record.specs.declared.fault.RecordFault.{RecordFault}
 use Rattle.fp_record.specs.declared.fault.RecordFault.TheVariants as record_fault
 use Rattle.fp_recovery.specs.Reading.{image_under, batch_onto}
-use Rattle.fp_slots.specs.declared.places.TheConstants.{FIRST_VERSION}
+use Rattle.fp_slots.specs.Numbers.{FIRST_VERSION}
 use Rattle.fp_recovery.specs.Stands.{IsImageOf, TakesBatch, StandsFor}
 
 -- what was read so far: the slot's version, and the set

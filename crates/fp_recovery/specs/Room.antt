@@ -3,20 +3,18 @@ use Rattle.std.specs.Prelude.{◌≡◌, ◌⊎◌, ◌<◌, ◌+◌, ℕ, List}
 use Rattle.std.specs.List.{AllByRecursion}
 use Rattle.fp_disk.specs.Outcomes.{PendingState, IsOutcome}
 use Rattle.fp_edit.specs.Flags.{State}
-use Rattle.fp_journal.specs.State.{room}
-use Rattle.fp_journal.specs.declared.framed.TheConstants.{FRAME}
+use Rattle.fp_journal.specs.Numbers.{FRAME}
 use Rattle.fp_layout.specs.Size.{slot_of}
 use Rattle.fp_record.specs.Encoding.{batch_len}
 use Rattle.fp_record.specs.Group.{Group}
 use Rattle.fp_recovery.specs.Stands.{IsAllowed, StandsFor, gate_of}
-use Rattle.fp_slots.specs.State.{SlotsState}
 
--- the slot that rules has no room for the batch, which with its gate, the number of its length and
--- the gate behind it takes six bytes more; or is of a version in which a change of it has no place
-abbrev pub HasNoRoom : {D : Type 0} → SlotsState D → Group → Type 0
-HasNoRoom slots group = (slots.journal.slot.most < batch_len group)
-    ⊎ (room slots.journal < FRAME + batch_len group)
-    ⊎ (AllByRecursion (IsAllowed slots.version) group.changes → ⊥)
+-- A slot of this version, which takes bodies of so many bytes at most and has so many left, has no
+-- room for the batch, which with its gate, the number of its length and the gate behind it takes six
+-- bytes more; or a change of it has no place in one of that version
+abbrev pub HasNoRoom : ℕ → ℕ → ℕ → Group → Type 0
+HasNoRoom most left version group = (most < batch_len group) ⊎ (left < FRAME + batch_len group)
+    ⊎ (AllByRecursion (IsAllowed version) group.changes → ⊥)
 
 -- the bytes stand for the set in that generation, and the batch is longer than their slot takes, or
 -- would reach past its end, or has a change that has no place in it

@@ -4,10 +4,10 @@ use Rattle.std.specs.List.{AllByRecursion}
 use Rattle.std.specs.FinMap as map
 use Rattle.fp_edit.specs.Flags.{State, total_cost}
 use Rattle.fp_edit.specs.declared.flags.Flag.{Flag}
-use Rattle.fp_edit.specs.declared.flags.TheConstants.{IMAGE_HEAD}
+use Rattle.fp_edit.specs.Numbers.{IMAGE_HEAD}
 use Rattle.fp_edit.specs.Edits.{Change, one, set}
 use Rattle.fp_edit.specs.Admits.{Admits, accepted}
-use Rattle.fp_edit.specs.declared.edit.TheConstants.{REVISIONS_END}
+use Rattle.fp_edit.specs.Numbers.{REVISIONS_END}
 use Rattle.fp_edit.specs.Following.{unconditional}
 use Rattle.fp_journal.specs.Chain.{spell}
 use Rattle.fp_journal.specs.Reading.{Reads}
@@ -15,7 +15,7 @@ use Rattle.fp_journal.specs.State.{AllShort}
 use Rattle.fp_layout.specs.Size.{Side, most_in, other_side, slot_of}
 use Rattle.fp_layout.specs.Layout.{IsHeader}
 use Rattle.fp_slots.specs.Head.{IsVersion, head_text}
-use Rattle.fp_slots.specs.declared.places.TheConstants.{FIRST_VERSION}
+use Rattle.fp_slots.specs.Numbers.{FIRST_VERSION}
 use Rattle.fp_slots.specs.Rules.{RulesWith}
 use Rattle.fp_record.specs.Group.{Group}
 use Rattle.fp_record.specs.WellFormed.{IsBatch, IsImage}

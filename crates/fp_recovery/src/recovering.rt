@@ -1,11 +1,8 @@
 //! What a disk stands for, read and left as it is.
 
-ghost use Rattle.fp_disk.specs.Crashes.{AtAnyMoment, SameHonesty};
-ghost use Rattle.std.specs.Prelude.{◌≡◌, ◌<◌, [], ◌∷◌, IfOk, IfErr, OnOk, IsErrOf};
+ghost use Rattle.std.specs.Prelude.{◌≡◌, [], ◌∷◌, IfOk, IfErr};
 ghost use Rattle.fp_disk.specs.declared.history.CallKind.TheVariants.{Length};
-ghost use Rattle.fp_disk.specs.Outcomes.{IsOutcome};
-ghost use Rattle.fp_journal.specs.Pieces.{MakesThenReads};
-ghost use Rattle.fp_layout.specs.declared.fault.OpenFault.TheVariants.{Device, Memory};
+ghost use Rattle.fp_layout.specs.Opens.{Opens};
 ghost use Rattle.fp_recovery.specs.Refusals.{RefusesBytes};
 ghost use Rattle.fp_recovery.specs.Recovered.{FindsEach, StandsAt, TellsEach};
 
@@ -26,14 +23,8 @@ pub fn recover<D: Disk>(alloc: Global, disk: &mut D) -> Result<(FlagSet, Place),
     // unless the device or memory was wanting.
     ensures found { D.honest disk.old → FindsEach (D.bytes disk.old) result }
     ensures told { D.honest disk.old → TellsEach (D.bytes disk.old) result }
-    ensures same { D.honest disk.old → (D.bytes disk.new ≡ D.bytes disk.old)
-        × (D.unsynced disk.new ≡ D.unsynced disk.old) }
-    ensures any_moment { AtAnyMoment D.Disk disk.old disk.new (IsOutcome (D.unsynced disk.old)) }
-    ensures honest { SameHonesty D.Disk disk.old disk.new }
-    ensures called { MakesThenReads (Length ∷ []) (D.calls disk.old) (D.calls disk.new) result }
-    ensures no_failure { OnOk result (D.faults disk.new ≡ D.faults disk.old) }
-    ensures cause { IsErrOf result Device → D.faults disk.old < D.faults disk.new }
-    ensures memory { IsErrOf result Memory → D.faults disk.new ≡ D.faults disk.old }
+    ensures unsynced { D.honest disk.old → D.unsynced disk.new ≡ D.unsynced disk.old }
+    ensures kept { Opens D.Disk (Length ∷ []) disk.old disk.new result }
 {
     let mut restoring = Replayer::new(alloc);
     let place = read_disk(alloc, disk, &mut restoring)?;

@@ -5,9 +5,10 @@ use Rattle.std.specs.Int.{w64, to_be_bytes}
 use Rattle.fp_disk.specs.Crashes.{EachCrash}
 use Rattle.fp_disk.specs.Outcomes.{IsOutcome, LeavesOnly, PendingState, Written, all_synced}
 use Rattle.fp_disk.specs.Moments.{leaves_both, leaves_map, leaves_still}
+use Rattle.fp_disk.specs.Word.{OnlyNow, word_now, word_still}
 use Rattle.fp_disk.specs.declared.disk.Disk.{Ghosts}
 use Rattle.fp_disk.specs.declared.disk.DiskFault.{DiskFault}
-use Rattle.fp_journal.specs.Calls.{KeepsAround}
+use Rattle.fp_journal.specs.Calls.{KeepsApart, KeepsAround}
 use Rattle.fp_journal.specs.Holds.{Holds, IsSynced, Apart}
 use Rattle.fp_journal.specs.Moments.{KeepsFirm, KeepsSynced}
 use Rattle.fp_journal.specs.State.{JournalState, ClaimsAt, CrashStates, HasAmong, Outside, EndsClosed, SameSlot, has_begun}
@@ -26,7 +27,7 @@ use Rattle.fp_slots.specs.declared.places.TheConstants.{VERSION}
 use Rattle.fp_slots.specs.declared.slots.Step.{Step}
 use Rattle.fp_slots.specs.declared.slots.Step.TheVariants.{Begin, Close, SyncClose, Part, Tail, SyncBody, Open, SyncOpen}
 use Rattle.fp_slots.specs.State.{SlotsState, Keeps, KeepsEither, Leaves, IsShut, IsOlder, IsBeaten, IsCopied, IsPlan, IsPart, OutsideBoth, sealed_text, IsPlanned, IsBeside, IsFrontOf, IsStill, IsEarly, HasBegun, IsGrowing, IsHeld, IsKept, step_of}
-use Rattle.fp_slots.proofs.Exits.{answers_err, answers_ok, answers_still}
+use Rattle.fp_slots.proofs.Exits.{answers_still, keeps_err, keeps_ok}
 use Rattle.fp_slots.proofs.Ruling.{claims_front, front_generation, rules_shut, rules_older}
 use Rattle.fp_slots.proofs.Beside.{copied_none, copied_more, copied_all, plan_long, plan_within, either_tells, opened_ends}
 
@@ -231,24 +232,24 @@ pub record Called {D S : Type 0} (disk : Ghosts D) (s : SlotsState D) (may_open 
   pub begun : j.begun ≡ s.journal.begun
 
 -- what a crash leaves at each moment of it, and that text outside both slots stays firm
-pub record Moves {D : Type 0} (disk : Ghosts D) (s : SlotsState D) (j : JournalState D) (P : List ℕ → Type 0) : Type 0 where
-  pub leaves : disk.honest s.journal.disk → LeavesOnly disk.moment disk.crash_states_since s.journal.disk j.disk P
-  pub frame : KeepsSynced disk s.journal.disk j.disk (OutsideBoth s)
+abbrev pub Moves : {D S : Type 0} → Ghosts D → SlotsState D → JournalState D → (List ℕ → Type 0) → Result S DiskFault → Type 0
+Moves disk s j P r = KeepsApart disk s.journal.disk j.disk P (OutsideBoth s) r
 
 abbrev pub Always : ℕ → ℕ → Type 0
 Always at n = Unit {0}
 
 -- where no call is made
-pub still : {D : Type 0} {disk : Ghosts D} {s : SlotsState D} {may_open : Bool} {planned : List ℕ} {done : ℕ} {p : Step} → AtStep disk s may_open planned done p → ((d : D) (c : List ℕ) → disk.honest d → disk.crash_states_since d (disk.moment d) c → IsOutcome (disk.unsynced d) c) → EachCrash disk s.journal.disk (CrashStates s.journal) → Called {S = ℕ} disk s may_open planned done p s.journal Always (Ok 0)
+pub still : {D : Type 0} {disk : Ghosts D} {s : SlotsState D} {may_open : Bool} {planned : List ℕ} {done : ℕ} {p : Step} → AtStep disk s may_open planned done p → OnlyNow disk → EachCrash disk s.journal.disk (CrashStates s.journal) → Called {S = ℕ} disk s may_open planned done p s.journal Always (Ok 0)
 still {disk = disk} {s = s} at only_now now = record {
   at = at;
   kept = record {
     same = same_slot s.journal;
-    any_moment = λ h. leaves_still disk.moment disk.crash_states_since s.journal.disk (CrashStates s.journal) (λ c left. now h c (only_now s.journal.disk c h left));
-    apart = λ h at t out firm. (firm, leaves_still disk.moment disk.crash_states_since s.journal.disk (λ c. Holds c at t) (λ c left. firm_outcome (disk.unsynced s.journal.disk) at t c firm (only_now s.journal.disk c h left)));
+    call = record {
+      word = word_still disk only_now now;
+      apart = λ h at t out firm. (firm, leaves_still disk.moment disk.crash_states_since s.journal.disk (λ c. Holds c at t) (λ c left. firm_outcome (disk.unsynced s.journal.disk) at t c firm (only_now s.journal.disk c h left)));
+      cause = answers_still;
+    };
     beside = λ h at t out there. there;
-    honest = (λ h. h, λ h. h);
-    cause = answers_still;
   };
   bodies = (refl, refl);
   phase = (refl, tt);
@@ -268,16 +269,15 @@ module _ {D S : Type 0} {disk : Ghosts D} {s : SlotsState D} {may_open : Bool} {
   module _ {j : JournalState D} {Out : ℕ → ℕ → Type 0} where
     -- one that failed
     module _ {e : DiskFault} (t : Called {S = S} disk s may_open planned done p j Out (Err e)) where
-      pub broke : Moves disk s j (Leaves p s) → Kept disk (record s { journal = j }) may_open planned done
+      pub broke : Moves {S = S} disk s j (Leaves p s) (Err e) → Kept disk (record s { journal = j }) may_open planned done
       broke m = moved t.at j t.kept.same (let failed = t.phase.1 in rw failed refl) s.step done s.left (by_step (λ q. IsStill q j.phase) tt tt tt tt tt (inr t.phase.1) (inr t.phase.1) (inr t.phase.1) s.step) t.at.kept.plan (λ h no. absurd (no t.phase.1))
-          (λ h no c o. let l = m.leaves (t.kept.honest.1 h) in subst (λ (q : Step). Leaves q (record s { journal = j }) c) (sym t.at.is)
-          (leaves_broken s j t.kept.same t.bodies t.at.kept.told t.begun t.phase.1 c p (l.each c (t.at.counts_now j.disk (disk.moment s.journal.disk) c h l.later o))))
+          (λ h no c o. subst (λ (q : Step). Leaves q (record s { journal = j }) c) (sym t.at.is) (leaves_broken s j t.kept.same t.bodies t.at.kept.told t.begun t.phase.1 c p (word_now disk t.at.counts_now m.word h c o)))
 
-      pub broke_at : Moves disk s j (Leaves p s) → Kept disk (record s { journal = j; step = p }) may_open planned done
+      pub broke_at : Moves {S = S} disk s j (Leaves p s) (Err e) → Kept disk (record s { journal = j; step = p }) may_open planned done
       broke_at m = subst (λ (q : Step). Kept disk (record s { journal = j; step = q }) may_open planned done) t.at.is (broke m)
 
-      pub kept_err : {T : Type 0} {f : DiskFault} {P : List ℕ → Type 0} {step : Step} → Moves disk s j P → KeepsSlots {T = T} disk s (record s { journal = j; step = step }) P (Err f)
-      kept_err m = record { same = (t.kept.same, t.bodies.0, t.bodies.1, refl, refl, refl, refl, refl, refl, refl, t.begun); phase = (tt, t.phase.1); any_moment = m.leaves; apart = m.frame; honest = t.kept.honest; cause = answers_err t.kept.cause }
+      pub kept_err : {T : Type 0} {f : DiskFault} {P : List ℕ → Type 0} {step : Step} → Moves {S = S} disk s j P (Err e) → KeepsSlots {T = T} disk s (record s { journal = j; step = step }) P (Err f)
+      kept_err m = record { same = (t.kept.same, t.bodies.0, t.bodies.1, refl, refl, refl, refl, refl, refl, refl, t.begun); phase = (tt, t.phase.1); call = keeps_err m }
 
     -- one that succeeded
     module _ {x : S} (t : Called {S = S} disk s may_open planned done p j Out (Ok x)) where
@@ -285,60 +285,64 @@ module _ {D S : Type 0} {disk : Ghosts D} {s : SlotsState D} {may_open : Bool} {
           → (disk.honest j.disk → IsBeside step s.other.start s.generation may_open planned to (disk.unsynced j.disk) (disk.bytes j.disk)) → Kept disk (record s { journal = j; step = step; left = left }) may_open planned to
       went step to left fits plan beside = moved t.at j t.kept.same (let ok = t.phase.0 in let begun = t.begun in rw (ok, begun) t.at.kept.told) step to left (fits t.phase.0) plan (λ h _. beside h) (λ h is. absurd (t.at.alive (sym t.phase.0 ∙ is)))
 
-      pub kept_ok : {T : Type 0} {y : T} {P : List ℕ → Type 0} {step : Step} {left : ℕ} → Moves disk s j P → KeepsSlots {T = T} disk s (record s { journal = j; step = step; left = left }) P (Ok y)
-      kept_ok m = record { same = (t.kept.same, t.bodies.0, t.bodies.1, refl, refl, refl, refl, refl, refl, refl, t.begun); phase = (t.phase.0, tt); any_moment = m.leaves; apart = m.frame; honest = t.kept.honest; cause = answers_ok t.kept.cause }
+      pub kept_ok : {T : Type 0} {y : T} {P : List ℕ → Type 0} {step : Step} {left : ℕ} → Moves {S = S} disk s j P (Ok x) → KeepsSlots {T = T} disk s (record s { journal = j; step = step; left = left }) P (Ok y)
+      kept_ok m = record { same = (t.kept.same, t.bodies.0, t.bodies.1, refl, refl, refl, refl, refl, refl, refl, t.begun); phase = (t.phase.0, tt); call = keeps_ok m }
 
 -- ---- what each step leaves at each moment
 module _ {D S : Type 0} {disk : Ghosts D} {s : SlotsState D} {may_open : Bool} {planned : List ℕ} {done : ℕ} {j : JournalState D} {r : Result S DiskFault} where
   -- the other's gate is closed all the time, or its generation stands there
   module _ {p : Step} {Out : ℕ → ℕ → Type 0} (t : Called disk s may_open planned done p j Out r) where
     shut_leaves : Out s.other.start 1 → (disk.honest s.journal.disk → IsShut s.other.start (disk.unsynced s.journal.disk)) → disk.honest s.journal.disk → Leave t.at j t.kept.same (Keeps s)
-    shut_leaves out x h = shut_rules t.at j t.kept.same Out (t.kept.apart h) (CrashStates s.journal) (front_of t.at) (t.kept.any_moment h) out (x h)
+    shut_leaves out x h = shut_rules t.at j t.kept.same Out (t.kept.call.apart h) (CrashStates s.journal) (front_of t.at) (t.kept.call.word.any_moment h) out (x h)
 
     older_leaves : Out (s.other.start + 1) 8 → (disk.honest s.journal.disk → IsOlder s.other.start s.generation (disk.unsynced s.journal.disk)) → disk.honest s.journal.disk → Leave t.at j t.kept.same (Keeps s)
-    older_leaves out x h = older_rules t.at j t.kept.same Out (t.kept.apart h) (CrashStates s.journal) (front_of t.at) (t.kept.any_moment h) out (x h)
+    older_leaves out x h = older_rules t.at j t.kept.same Out (t.kept.call.apart h) (CrashStates s.journal) (front_of t.at) (t.kept.call.word.any_moment h) out (x h)
 
     -- all behind the gate stands there all the time, and no batch is on its way
     open_leaves : s.journal.phase ≡ Idle → IsPlan s.other s.generation s.text planned → Out (s.other.start + 1) (length (drop 1 planned)) → (disk.honest s.journal.disk → IsSynced (disk.unsynced s.journal.disk) (s.other.start + 1) (drop 1 planned)) → disk.honest s.journal.disk → Leave t.at j t.kept.same (KeepsEither s)
     open_leaves idle plan out x h =
-        let Text : List ℕ → Type 0 = λ c. Holds c (s.other.start + 1) (drop 1 planned) in let f = t.kept.apart h (s.other.start + 1) (drop 1 planned) out (x h) in
+        let Text : List ℕ → Type 0 = λ c. Holds c (s.other.start + 1) (drop 1 planned) in let f = t.kept.call.apart h (s.other.start + 1) (drop 1 planned) out (x h) in
         leaves_map disk.moment disk.crash_states_since s.journal.disk j.disk (λ c. CrashStates s.journal c × Text c) (KeepsEither s)
         (λ c q. either_tells s.other s.generation s.text planned plan s.journal.slot s.journal.front (sealed_text s.journal) c t.at.kept.front t.at.kept.small (front_of t.at c q.0)
         (subst (λ (w : Phase). ClaimsAt w s.journal.begun s.journal.slot s.journal.front s.journal.sealed s.journal.staged c) idle q.0) q.1)
-        (leaves_both disk.moment disk.crash_states_since s.journal.disk j.disk (CrashStates s.journal) Text (t.kept.any_moment h) f.1)
+        (leaves_both disk.moment disk.crash_states_since s.journal.disk j.disk (CrashStates s.journal) Text (t.kept.call.word.any_moment h) f.1)
+
+    -- the word and the cause are those of the journal's call
+    moves : {P : List ℕ → Type 0} → (disk.honest s.journal.disk → Leave t.at j t.kept.same P) → KeepsSynced disk s.journal.disk j.disk (OutsideBoth s) → Moves disk s j P r
+    moves leaves frame = record { word = record { any_moment = leaves; honest = t.kept.call.word.honest }; apart = frame; cause = t.kept.call.cause }
 
   -- a sync
   sync_frame : {p : Step} → Called disk s may_open planned done p j Always r → KeepsSynced disk s.journal.disk j.disk (OutsideBoth s)
-  sync_frame t h at text out firm = t.kept.apart h at text tt firm
+  sync_frame t h at text out firm = t.kept.call.apart h at text tt firm
 
-  pub shutting : Called disk s may_open planned done SyncClose j Always r → Moves disk s j (Keeps s)
-  shutting t = record { leaves = λ h. ⊎_elim (λ shut. shut_leaves t tt (λ _. shut) h) (λ older. older_leaves t tt (λ _. older.0) h) (beside_is t.at h); frame = sync_frame t }
+  pub shutting : Called disk s may_open planned done SyncClose j Always r → Moves disk s j (Keeps s) r
+  shutting t = moves t (λ h. ⊎_elim (λ shut. shut_leaves t tt (λ _. shut) h) (λ older. older_leaves t tt (λ _. older.0) h) (beside_is t.at h)) (sync_frame t)
 
-  pub filled : Called disk s may_open planned done SyncBody j Always r → Moves disk s j (Keeps s)
-  filled t = record { leaves = shut_leaves t tt (λ h. (beside_is t.at h).0); frame = sync_frame t }
+  pub filled : Called disk s may_open planned done SyncBody j Always r → Moves disk s j (Keeps s) r
+  filled t = moves t (shut_leaves t tt (λ h. (beside_is t.at h).0)) (sync_frame t)
 
-  pub switching : Called disk s may_open planned done SyncOpen j Always r → Moves disk s j (KeepsEither s)
-  switching t = record { leaves = open_leaves t (idle_is t.at (λ x. x)) (plan_is t.at) tt (λ h. (beside_is t.at h).0); frame = sync_frame t }
+  pub switching : Called disk s may_open planned done SyncOpen j Always r → Moves disk s j (KeepsEither s) r
+  switching t = moves t (open_leaves t (idle_is t.at (λ x. x)) (plan_is t.at) tt (λ h. (beside_is t.at h).0)) (sync_frame t)
 
   -- the write of the gate, closed or open
   gate_frame : {p : Step} → Called disk s may_open planned done p j (Apart s.other.start 1) r → KeepsSynced disk s.journal.disk j.disk (OutsideBoth s)
-  gate_frame t h at text out firm = let w = t.at.kept.wide in t.kept.apart h at text (⊎_elim (λ before. inr (omega (arith, before))) (λ behind. inl (omega (arith, behind, w))) out.1) firm
+  gate_frame t h at text out firm = let w = t.at.kept.wide in t.kept.call.apart h at text (⊎_elim (λ before. inr (omega (arith, before))) (λ behind. inl (omega (arith, behind, w))) out.1) firm
 
   older : {Out : ℕ → ℕ → Type 0} → Called disk s may_open planned done Close j Out r → may_open ≡ true → disk.honest s.journal.disk → IsOlder s.other.start s.generation (disk.unsynced s.journal.disk)
   older t may h = subst (λ (b : Bool). IsBeaten b s.other.start s.generation (disk.unsynced s.journal.disk)) may (beside_is t.at h)
 
-  pub closing : Called disk s may_open planned done Close j (Apart s.other.start 1) r → may_open ≡ true → Moves disk s j (Keeps s)
-  closing t may = record { leaves = older_leaves t (inl (omega arith)) (older t may); frame = gate_frame t }
+  pub closing : Called disk s may_open planned done Close j (Apart s.other.start 1) r → may_open ≡ true → Moves disk s j (Keeps s) r
+  closing t may = moves t (older_leaves t (inl (omega arith)) (older t may)) (gate_frame t)
 
-  pub opening : Called disk s may_open planned done Open j (Apart s.other.start 1) r → Moves disk s j (KeepsEither s)
-  opening t = record { leaves = open_leaves t (idle_is t.at (λ x. x)) (plan_is t.at) (inl (omega arith)) (λ h. (beside_is t.at h).1); frame = gate_frame t }
+  pub opening : Called disk s may_open planned done Open j (Apart s.other.start 1) r → Moves disk s j (KeepsEither s) r
+  opening t = moves t (open_leaves t (idle_is t.at (λ x. x)) (plan_is t.at) (inl (omega arith)) (λ h. (beside_is t.at h).1)) (gate_frame t)
 
   -- a gate that is closed already, where nothing is done
   still_shut : {Out : ℕ → ℕ → Type 0} → Called disk s may_open planned done Close j Out r → may_open ≡ false → disk.honest s.journal.disk → IsShut s.other.start (disk.unsynced s.journal.disk)
   still_shut t not h = subst (λ (b : Bool). IsBeaten b s.other.start s.generation (disk.unsynced s.journal.disk)) not (beside_is t.at h)
 
-  pub resting : Called disk s may_open planned done Close j Always r → may_open ≡ false → Moves disk s j (Keeps s)
-  resting t not = record { leaves = shut_leaves t tt (still_shut t not); frame = sync_frame t }
+  pub resting : Called disk s may_open planned done Close j Always r → may_open ≡ false → Moves disk s j (Keeps s) r
+  resting t not = moves t (shut_leaves t tt (still_shut t not)) (sync_frame t)
 
   -- ---- a part, or the last one
   module _ {p : Step} (n : ℕ) (t : Called disk s may_open planned done p j (Apart (s.other.start + done) n) r) (plan : IsPlan s.other s.generation s.text planned × IsPart planned done)
@@ -346,19 +350,17 @@ module _ {D S : Type 0} {disk : Ghosts D} {s : SlotsState D} {may_open : Bool} {
     apart_gate : Apart (s.other.start + done) n s.other.start 1
     apart_gate = let some = plan.1.some in inr (omega (arith, some))
 
-    part : n + done ≤ length planned → Moves disk s j (Keeps s)
-    part within = let w = plan_within s.other s.generation s.text planned plan.0 s.other.start refl in record {
-      leaves = shut_leaves t apart_gate (λ h. (now h).0);
-      frame = λ h at text out firm. t.kept.apart h at text (⊎_elim (λ before. inr (omega (arith, before))) (λ behind. inl (omega (arith, behind, within, w))) out.1) firm;
-    }
+    part : n + done ≤ length planned → Moves disk s j (Keeps s) r
+    part within = let w = plan_within s.other s.generation s.text planned plan.0 s.other.start refl in moves t (shut_leaves t apart_gate (λ h. (now h).0))
+        (λ h at text out firm. t.kept.call.apart h at text (⊎_elim (λ before. inr (omega (arith, before))) (λ behind. inl (omega (arith, behind, within, w))) out.1) firm)
 
     part_done : (to : ℕ) → done ≤ to → to ≤ length planned → (disk.honest s.journal.disk → Written (disk.bytes s.journal.disk) (s.other.start + done) (slice_range planned done to) (disk.bytes j.disk)) → disk.honest j.disk → IsShut s.other.start (disk.unsynced j.disk) × IsCopied s.other.start planned to (disk.bytes j.disk)
-    part_done to le within written h1 = let h = t.kept.honest.1 h1 in (shut_on t.at j t.kept.same (Apart (s.other.start + done) n) (t.kept.apart h) apart_gate (now h).0, copied_more s.other.start planned (disk.bytes s.journal.disk) (disk.bytes j.disk) done to le within (now h).1 (written h))
+    part_done to le within written h1 = let h = t.kept.call.word.honest.1 h1 in (shut_on t.at j t.kept.same (Apart (s.other.start + done) n) (t.kept.call.apart h) apart_gate (now h).0, copied_more s.other.start planned (disk.bytes s.journal.disk) (disk.bytes j.disk) done to le within (now h).1 (written h))
 
-  pub next_part : (n : ℕ) → Called disk s may_open planned done Part j (Apart (s.other.start + done) n) r → n + done ≤ length planned → Moves disk s j (Keeps s)
+  pub next_part : (n : ℕ) → Called disk s may_open planned done Part j (Apart (s.other.start + done) n) r → n + done ≤ length planned → Moves disk s j (Keeps s) r
   next_part n t = part n t (plan_is t.at) (beside_is t.at)
 
-  pub tail : (n : ℕ) → Called disk s may_open planned done Tail j (Apart (s.other.start + done) n) r → n + done ≤ length planned → Moves disk s j (Keeps s)
+  pub tail : (n : ℕ) → Called disk s may_open planned done Tail j (Apart (s.other.start + done) n) r → n + done ≤ length planned → Moves disk s j (Keeps s) r
   tail n t = part n t (plan_is t.at) (beside_is t.at)
 
 pub part_outside : {D : Type 0} {disk : Ghosts D} {s : SlotsState D} {may_open : Bool} {planned : List ℕ} {done : ℕ} {p : Step} → AtStep disk s may_open planned done p → IsPlan s.other s.generation s.text planned → (n : ℕ) → n + done ≤ length planned → Outside s.journal.slot (s.other.start + done) n
@@ -367,16 +369,16 @@ part_outside {s = s} {planned = planned} {done = done} a plan n within = let w =
 -- ---- the invariant after each step
 module _ {D S : Type 0} {disk : Ghosts D} {s : SlotsState D} {may_open : Bool} {planned : List ℕ} {done : ℕ} {j : JournalState D} {x : S} where
   pub closed : (t : Called disk s may_open planned done Close j (Apart s.other.start 1) (Ok x)) → may_open ≡ true → (disk.honest s.journal.disk → Written (disk.bytes s.journal.disk) s.other.start (0 ∷ []) (disk.bytes j.disk)) → Kept disk (record s { journal = j; step = SyncClose }) may_open planned done
-  closed t may written = went t SyncClose done s.left (λ _. tt) (plan_is t.at) (λ h1. let h = t.kept.honest.1 h1 in
-      inr (older_on t.at j t.kept.same (Apart s.other.start 1) (t.kept.apart h) (inl (omega arith)) (older t may h), holds_written (disk.bytes s.journal.disk) (0 ∷ []) (disk.bytes j.disk) s.other.start (written h)))
+  closed t may written = went t SyncClose done s.left (λ _. tt) (plan_is t.at) (λ h1. let h = t.kept.call.word.honest.1 h1 in
+      inr (older_on t.at j t.kept.same (Apart s.other.start 1) (t.kept.call.apart h) (inl (omega arith)) (older t may h), holds_written (disk.bytes s.journal.disk) (0 ∷ []) (disk.bytes j.disk) s.other.start (written h)))
 
   pub rested : (t : Called disk s may_open planned done Close j Always (Ok x)) → may_open ≡ false → Kept disk (record s { journal = j; step = SyncClose }) may_open planned done
-  rested t not = went t SyncClose done s.left (λ _. tt) (plan_is t.at) (λ h1. let h = t.kept.honest.1 h1 in inl (shut_on t.at j t.kept.same Always (t.kept.apart h) tt (still_shut t not h)))
+  rested t not = went t SyncClose done s.left (λ _. tt) (plan_is t.at) (λ h1. let h = t.kept.call.word.honest.1 h1 in inl (shut_on t.at j t.kept.same Always (t.kept.call.apart h) tt (still_shut t not h)))
 
   -- the write of the gate, open
   pub opened : (t : Called disk s may_open planned done Open j (Apart s.other.start 1) (Ok x)) → (disk.honest s.journal.disk → Written (disk.bytes s.journal.disk) s.other.start (OPEN ∷ []) (disk.bytes j.disk)) → Kept disk (record s { journal = j; step = SyncOpen }) may_open planned done
-  opened t written = went t SyncOpen done s.left (λ e. inl (e ∙ idle_is t.at (λ x. x))) (plan_is t.at) (λ h1. let h = t.kept.honest.1 h1 in
-      ((t.kept.apart h (s.other.start + 1) (drop 1 planned) (inl (omega arith)) (beside_is t.at h).1).0, holds_written (disk.bytes s.journal.disk) (OPEN ∷ []) (disk.bytes j.disk) s.other.start (written h)))
+  opened t written = went t SyncOpen done s.left (λ e. inl (e ∙ idle_is t.at (λ x. x))) (plan_is t.at) (λ h1. let h = t.kept.call.word.honest.1 h1 in
+      ((t.kept.call.apart h (s.other.start + 1) (drop 1 planned) (inl (omega arith)) (beside_is t.at h).1).0, holds_written (disk.bytes s.journal.disk) (OPEN ∷ []) (disk.bytes j.disk) s.other.start (written h)))
 
   -- a part, and the last one
   module _ (n to : ℕ) (le : done ≤ to) (within : to ≤ length planned) (written : disk.honest s.journal.disk → Written (disk.bytes s.journal.disk) (s.other.start + done) (slice_range planned done to) (disk.bytes j.disk)) where
@@ -398,29 +400,29 @@ module _ {D S : Type 0} {disk : Ghosts D} {s : SlotsState D} {may_open : Bool} {
 
   pub close_synced : (t : Called disk s may_open planned done SyncClose j Always (Ok x)) → (disk.honest s.journal.disk → (disk.bytes j.disk ≡ disk.bytes s.journal.disk) × (disk.unsynced j.disk ≡ all_synced (disk.bytes s.journal.disk))) → Kept disk (record s { journal = j; step = Part }) may_open planned done
   close_synced t durable = let plan = (plan_is t.at).0 in let one = (plan_is t.at).1 in let l = plan_long s.other s.generation s.text planned plan in let more = l.0 in let some = l.1 in
-      went t Part done s.left (λ _. tt) (plan, record { some = omega (arith, one); part = omega (arith, more, some, one) }) (λ h1. let h = t.kept.honest.1 h1 in
-      let shut : IsShut s.other.start (disk.unsynced j.disk) = ⊎_elim (shut_on t.at j t.kept.same Always (t.kept.apart h) tt) (λ y. record { gate = 0; shut = λ e. omega (arith, e); firm = sure t durable h s.other.start (0 ∷ []) y.1 }) (beside_is t.at h) in
+      went t Part done s.left (λ _. tt) (plan, record { some = omega (arith, one); part = omega (arith, more, some, one) }) (λ h1. let h = t.kept.call.word.honest.1 h1 in
+      let shut : IsShut s.other.start (disk.unsynced j.disk) = ⊎_elim (shut_on t.at j t.kept.same Always (t.kept.call.apart h) tt) (λ y. record { gate = 0; shut = λ e. omega (arith, e); firm = sure t durable h s.other.start (0 ∷ []) y.1 }) (beside_is t.at h) in
       (shut, subst (λ (k : ℕ). IsCopied s.other.start planned k (disk.bytes j.disk)) (sym one) (copied_none s.other.start planned (disk.bytes j.disk) (disk.unsynced j.disk) shut (t.at.present j.disk h1))))
 
   pub body_synced : (t : Called disk s may_open planned done SyncBody j Always (Ok x)) → (disk.honest s.journal.disk → (disk.bytes j.disk ≡ disk.bytes s.journal.disk) × (disk.unsynced j.disk ≡ all_synced (disk.bytes s.journal.disk))) → Kept disk (record s { journal = j; step = Open }) may_open planned done
-  body_synced t durable = went t Open done s.left (λ e. inl (e ∙ idle_is t.at (λ x. x))) (plan_is t.at) (λ h1. let h = t.kept.honest.1 h1 in let y = beside_is t.at h in
-      (shut_on t.at j t.kept.same Always (t.kept.apart h) tt y.0, sure t durable h (s.other.start + 1) (drop 1 planned) y.1))
+  body_synced t durable = went t Open done s.left (λ e. inl (e ∙ idle_is t.at (λ x. x))) (plan_is t.at) (λ h1. let h = t.kept.call.word.honest.1 h1 in let y = beside_is t.at h in
+      (shut_on t.at j t.kept.same Always (t.kept.call.apart h) tt y.0, sure t durable h (s.other.start + 1) (drop 1 planned) y.1))
 
   -- the new slot is quiet, and the old one older
   module _ (t : Called disk s may_open planned done SyncOpen j Always (Ok x)) (durable : disk.honest s.journal.disk → (disk.bytes j.disk ≡ disk.bytes s.journal.disk) × (disk.unsynced j.disk ≡ all_synced (disk.bytes s.journal.disk))) where
     pub new_quiet : disk.honest j.disk → EndsClosed s.other.start s.other.stop s.text (disk.unsynced j.disk)
     new_quiet h1 =
-        let h = t.kept.honest.1 h1 in let y = beside_is t.at h in let b : List ℕ = disk.bytes s.journal.disk in
+        let h = t.kept.call.word.honest.1 h1 in let y = beside_is t.at h in let b : List ℕ = disk.bytes s.journal.disk in
         let e = opened_ends s.other s.generation s.text planned (plan_is t.at) b (byte_held b s.other.start OPEN [] y.1) (firm_outcome (disk.unsynced s.journal.disk) (s.other.start + 1) (drop 1 planned) b y.0 (t.at.present s.journal.disk h)) in
         record { gate = e.gate; shut = e.shut; firm = sure t durable h s.other.start (s.text ++ e.gate ∷ []) e.holds; within = e.within }
 
     pub gate_sure : disk.honest j.disk → IsSynced (disk.unsynced j.disk) s.other.start (OPEN ∷ [])
-    gate_sure h1 = let h = t.kept.honest.1 h1 in sure t durable h s.other.start (OPEN ∷ []) (beside_is t.at h).1
+    gate_sure h1 = let h = t.kept.call.word.honest.1 h1 in sure t durable h s.other.start (OPEN ∷ []) (beside_is t.at h).1
 
     old_older : disk.honest j.disk → IsOlder s.journal.slot.start (s.generation + 1) (disk.unsynced j.disk)
     old_older h1 =
-        let h = t.kept.honest.1 h1 in let l = t.kept.any_moment h in
-        let says = l.each (disk.bytes j.disk) (t.at.counts_now j.disk (disk.moment s.journal.disk) (disk.bytes j.disk) h1 l.later (t.at.present j.disk h1)) in
+        let h = t.kept.call.word.honest.1 h1 in
+        let says = word_now disk t.at.counts_now t.kept.call.word h1 (disk.bytes j.disk) (t.at.present j.disk h1) in
         let there = (front_generation s.journal.slot.start s.generation s.journal.front (disk.bytes j.disk) t.at.kept.front (front_of t.at (disk.bytes j.disk) says) t.at.kept.small).text in
         record { its = s.generation; small = t.at.kept.small; less = omega arith; firm = sure t durable h (s.journal.slot.start + 1) (to_be_bytes w64 s.generation) (subst (λ (b : List ℕ). Holds b (s.journal.slot.start + 1) (to_be_bytes w64 s.generation)) (durable h).0 there) }
 

@@ -1,8 +1,8 @@
 -- What stands in front of a slot's batches.
 use Rattle.std.specs.Prelude.{◌≤◌, ℕ, List, ◌∷◌, ◌++◌, length}
 use Rattle.std.specs.Int.{w32, w64, to_be_bytes}
-use Rattle.fp_gate.specs.declared.gate.TheConstants.{OPEN}
-use Rattle.fp_slots.specs.declared.places.TheConstants.{FIRST_VERSION, VERSION}
+use Rattle.fp_gate.specs.Numbers.{OPEN}
+use Rattle.fp_slots.specs.Numbers.{FIRST_VERSION, VERSION}
 
 -- a version that is read
 pub record IsVersion (version : ℕ) : Type 0 where

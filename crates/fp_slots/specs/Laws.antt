@@ -1,7 +1,7 @@
 -- What follows from the definitions.
 use Rattle.std.specs.Prelude.{◌<◌, ◌≤◌, ◌+◌, ℕ, List, [], ◌∷◌, ◌++◌, length}
 use Rattle.fp_journal.specs.Chain.{with_length}
-use Rattle.fp_gate.specs.declared.gate.TheConstants.{OPEN}
+use Rattle.fp_gate.specs.Numbers.{OPEN}
 use Rattle.fp_journal.specs.declared.slot.Slot.{Slot}
 use Rattle.fp_slots.specs.State.{IsCopied, IsPlan}
 use Rattle.fp_slots.specs.Rules.{Rules, RulesNeither}

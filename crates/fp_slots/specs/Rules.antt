@@ -6,11 +6,11 @@ use Rattle.fp_journal.specs.Holds.{Holds}
 use Rattle.fp_journal.specs.Firsts.{AreFirst}
 use Rattle.fp_journal.specs.Chain.{Ends}
 use Rattle.fp_journal.specs.declared.slot.Slot.{Slot}
-use Rattle.fp_gate.specs.declared.gate.TheConstants.{OPEN}
+use Rattle.fp_gate.specs.Numbers.{OPEN}
 use Rattle.fp_slots.specs.declared.choosing.SlotFault.{SlotFault}
 use Rattle.fp_slots.specs.declared.choosing.SlotFault.TheVariants.{Damaged}
-use Rattle.fp_slots.specs.declared.places.TheConstants.{GENERATION_PLACE, VERSION_PLACE}
-use Rattle.fp_slots.specs.declared.places.TheConstants.{IMAGE_PLACE}
+use Rattle.fp_slots.specs.Numbers.{GENERATION_PLACE, VERSION_PLACE}
+use Rattle.fp_slots.specs.Numbers.{IMAGE_PLACE}
 
 -- behind the gate of the slot that begins at this place stands this generation, whole
 pub record HasGeneration (slot n : ℕ) (c : List ℕ) : Type 0 where

@@ -12,10 +12,10 @@ use Rattle.fp_journal.specs.declared.slot.Slot.{Slot}
 use Rattle.fp_journal.specs.declared.journal.Phase.{Phase}
 use Rattle.fp_journal.specs.declared.journal.Phase.TheVariants.{Idle, Failed}
 use Rattle.fp_gate.specs.Gates.{IsSyncOf}
-use Rattle.fp_gate.specs.declared.gate.TheConstants.{OPEN}
+use Rattle.fp_gate.specs.Numbers.{OPEN}
 use Rattle.fp_slots.specs.declared.held.Held.{Held}
 use Rattle.fp_slots.specs.declared.held.Held.TheVariants as held
-use Rattle.fp_slots.specs.declared.places.TheConstants.{GENERATION_PLACE, VERSION_PLACE, VERSION}
+use Rattle.fp_slots.specs.Numbers.{GENERATION_PLACE, VERSION_PLACE, VERSION}
 use Rattle.fp_slots.specs.declared.slots.Step.{Step}
 use Rattle.fp_slots.specs.declared.slots.Step.TheVariants.{Begin, Close, SyncClose, Part, Tail}
 use Rattle.fp_slots.specs.declared.slots.Step.TheVariants.{SyncBody, Open, SyncOpen}

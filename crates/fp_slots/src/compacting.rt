@@ -1,14 +1,11 @@
 //! A compaction: the other slot is closed, filled, and opened, by one call of the disk a step.
 
-ghost use Rattle.fp_disk.specs.Crashes.{AtAnyMoment, SameHonesty};
-ghost use Rattle.fp_disk.specs.Outcomes.{CountsFaults};
 ghost use Rattle.fp_disk.specs.declared.history.CallKind.TheVariants.{Sync, Write};
 ghost use Rattle.std.specs.Prelude.{◌≡◌, ◌≢◌, ◌<◌, ◌≤◌, ◌+◌, ◌-◌, [], ◌∷◌, ◌++◌, if◌then◌else◌};
 ghost use Rattle.std.specs.Prelude.{true, false, OnOk, OnErr};
-ghost use Rattle.fp_journal.specs.Moments.{KeepsSynced};
 ghost use Rattle.fp_journal.specs.declared.journal.Phase.TheVariants.{Idle, Failed};
-ghost use Rattle.fp_slots.specs.Calls.{KeepsSlots, WritesPart};
-ghost use Rattle.fp_slots.specs.State.{Keeps, KeepsEither, OutsideBoth, SameSlots};
+ghost use Rattle.fp_slots.specs.Calls.{KeepsOutside, KeepsSlots, WritesPart};
+ghost use Rattle.fp_slots.specs.State.{Keeps, KeepsEither, SameSlots};
 ghost use Rattle.fp_slots.specs.declared.places.TheConstants.{PART, VERSION};
 ghost use Rattle.fp_slots.specs.declared.slots.Step.TheVariants.{Begin, Close, SyncClose, Part};
 ghost use Rattle.fp_slots.specs.declared.slots.Step.TheVariants.{Tail, SyncBody, Open, SyncOpen};
@@ -164,15 +161,9 @@ impl<D: Disk> Slots<D> {
             × (self.new.step ≡ SyncOpen)
             × (self.new.journal.phase ≡ Failed)) }
         ensures left { self.new.left ≡ self.old.left }
-        ensures any_moment { AtAnyMoment D.Disk self.old.journal.disk self.new.journal.disk
-            (KeepsEither self.old) }
-        ensures apart { KeepsSynced D.Disk self.old.journal.disk self.new.journal.disk
-            (OutsideBoth self.old) }
-        ensures honest { SameHonesty D.Disk self.old.journal.disk self.new.journal.disk }
+        ensures call { KeepsOutside D.Disk self.old self.new (KeepsEither self.old) result }
         ensures called { D.calls self.new.journal.disk
             ≡ D.calls self.old.journal.disk ++ Sync ∷ [] }
-        ensures cause { CountsFaults (D.faults self.old.journal.disk)
-            (D.faults self.new.journal.disk) result }
     {
         let synced = self.journal.sync()?;
         let Held::SyncOpen(gate) = mem::replace(&mut self.held, Held::Begin) else {

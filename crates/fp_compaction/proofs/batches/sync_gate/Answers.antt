@@ -40,7 +40,7 @@ returns-clause-next g c =
     λ h size s t k leads. (
       k.0,
       subst (λ (d : g.row.D.Denot). IsKeptOn (D.unsynced d) new size k.0 t) (sym disk)
-          (kept.kept_next (D.unsynced old.journal.disk) old size k.0 s k.1 D.moment D.crash_states_since D.unsynced old.journal.disk mid.journal.disk refl (w.kept.apart h) new t leads slot front (j.1 ∙ w.kept.same.1) (j.3 ∙ w.kept.same.3) sealed),
+          (kept.kept_next (D.unsynced old.journal.disk) old size k.0 s k.1 D.moment D.crash_states_since D.unsynced old.journal.disk mid.journal.disk refl (w.kept.call.apart h) new t leads slot front (j.1 ∙ w.kept.same.1) (j.3 ∙ w.kept.same.3) sealed),
     )
 
 pub returns-clause-planned : goal.returns-clause-planned

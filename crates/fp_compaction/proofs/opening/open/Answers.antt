@@ -1,7 +1,9 @@
 use Rattle.std.proofs.Common.{◌≡◌, ◌+◌, ◌++◌, ℕ, List, length, sym, ap, subst, ◌∙◌}
 use Rattle.fp_edit.specs.Flags.{State}
+use Rattle.fp_layout.proofs.Opens.{opens_as, refuses_as}
 use Rattle.fp_recovery.specs.Stands.{StandsFor}
 use Rattle.std.proofs.lemmas.List.{append-nil}
+use Rattle.std.proofs.lemmas.Result.{err_from_is_err_and}
 use Rattle.fp_journal.specs.Chain.{spell}
 use Rattle.fp_slots.specs.State.{sealed_text}
 use Rattle.fp_recovery.specs.Recovered.{StandsAt}
@@ -36,3 +38,9 @@ returns-clause-kept g c =
       subst (λ (s : State). IsPlaced i.size slots s.limit) (sym c.into_set-set.ensures) (placed slots before after e.read),
       λ h. subst (λ (s : State). IsKeptIn (D.unsynced j.disk) slots i.size s) (sym c.into_set-set.ensures) (found_kept (D.unsynced j.disk) slots (D.bytes c.args.disk) before after (e.found h) e.begins.0 (e.all_synced h) (e.slots h).version_is i.size i.side i.slot_is i.other_is),
     )
+
+pub returns-clause-opens : goal.returns-clause-opens
+returns-clause-opens g c = opens_as c.in_ok-slots.ensures.kept
+
+pub returns-in_err-slots-clause-opens : goal.returns-in_err-slots-clause-opens
+returns-in_err-slots-clause-opens g c = let p = err_from_is_err_and c.from_residual.result c.from_residual.ensures.1 in rw (p.1, p.2) (refuses_as c.in_err-slots.ensures.kept)

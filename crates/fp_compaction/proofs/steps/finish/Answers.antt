@@ -11,11 +11,11 @@ use Rattle.fp_compaction.proofs.steps.finish.Goals as goal
 
 pub returns-in_err-switch-clause-stands : goal.returns-in_err-switch-clause-stands
 returns-in_err-switch-clause-stands g c =
-    let w = c.switch.ensures in steps.either_leaves g.D.Disk c.args.slots.now c.switch.new.self w.any_moment w.apart
+    let w = c.switch.ensures in steps.either_leaves g.D.Disk c.args.slots.now c.switch.new.self w.call
 
 pub returns-clause-stands : goal.returns-clause-stands
 returns-clause-stands g c =
-    let w = c.switch.ensures in steps.either_leaves g.D.Disk c.args.slots.now c.switch.new.self w.any_moment w.apart
+    let w = c.switch.ensures in steps.either_leaves g.D.Disk c.args.slots.now c.switch.new.self w.call
 
 pub returns-in_err-switch-clause-on : goal.returns-in_err-switch-clause-on
 returns-in_err-switch-clause-on g c =
@@ -23,9 +23,9 @@ returns-in_err-switch-clause-on g c =
     let D = g.D.Disk in let old = c.args.slots.now in let w = c.switch.ensures in let new = c.switch.new.self in let broken = c.in_err-switch.ensures.broken in
     rw p.1 (record {
       taken = record {
-        stands = steps.late_leaves D old new c.requires.step tt (steps.either_leaves D old new w.any_moment w.apart);
-        kept = λ h size s k late. steps.slots_kept D old new w.apart broken.0 h size s k;
-        honest = w.honest;
+        stands = steps.late_leaves D old new c.requires.step tt (steps.either_leaves D old new w.call);
+        kept = λ h size s k late. steps.slots_kept D old new w.call.apart broken.0 h size s k;
+        honest = w.call.word.honest;
         called = steps.called_at D.calls old new c.requires.step w.called;
       };
       step = (tt, broken.1 ∙ sym c.requires.step);
@@ -33,19 +33,19 @@ returns-in_err-switch-clause-on g c =
       stays = tt;
       turned = tt;
       no_failure = tt;
-      broken = record { slots = broken.0; left = w.left; failed = broken.2; cause = c.in_err-switch.ensures.cause.ill refl };
+      broken = record { slots = broken.0; left = w.left; failed = broken.2; cause = c.in_err-switch.ensures.call.cause.ill refl };
     })
 
 pub returns-clause-on : goal.returns-clause-on
 returns-clause-on g c =
     let D = g.D.Disk in let old = c.args.slots.now in let w = c.switch.ensures in let new = c.switch.new.self in let ok = c.in_ok-switch.ensures in record {
       taken = record {
-        stands = steps.late_leaves D old new c.requires.step tt (steps.either_leaves D old new w.any_moment w.apart);
+        stands = steps.late_leaves D old new c.requires.step tt (steps.either_leaves D old new w.call);
         kept = λ h size s k late. (
           other_side k.0,
-          kept.turned (D.unsynced old.journal.disk) old size k.0 s k.1 D.moment D.crash_states_since D.unsynced old.journal.disk new.journal.disk refl (w.apart h) new (late (steps.is_late old.step SyncOpen c.requires.step tt)) ok.switched.0 ok.switched.1 ok.switched.2 ok.turned.0 ok.turned.2,
+          kept.turned (D.unsynced old.journal.disk) old size k.0 s k.1 D.moment D.crash_states_since D.unsynced old.journal.disk new.journal.disk refl (w.call.apart h) new (late (steps.is_late old.step SyncOpen c.requires.step tt)) ok.switched.0 ok.switched.1 ok.switched.2 ok.turned.0 ok.turned.2,
         );
-        honest = w.honest;
+        honest = w.call.word.honest;
         called = steps.called_at D.calls old new c.requires.step w.called;
       };
       step = (ok.turned.4 ∙ sym (ap (λ (q : Step). next_step q old.left) c.requires.step), tt);
@@ -62,6 +62,6 @@ returns-clause-on g c =
         begun = ok.begun;
         room = steps.room_turned old new ok.switched.0 ok.switched.1 ok.switched.2;
       };
-      no_failure = ok.cause.well refl;
+      no_failure = ok.call.cause.well refl;
       broken = tt;
     }

@@ -1,16 +1,16 @@
 use Rattle.std.proofs.Common.{[], ◌∷◌}
-use Rattle.fp_gate.specs.Gates.{Guards}
+use Rattle.fp_disk.specs.Word.{word_quiet}
 use Rattle.fp_gate.specs.declared.gate.TheConstants.{OPEN}
-use Rattle.fp_gate.proofs.Opening.{leaves_still, then_same, written_within}
+use Rattle.fp_gate.proofs.Opening.{then_same, written_within}
 use Rattle.fp_gate.proofs.behind.open_and_seal.Goals as goal
 
-pub returns-in_err-synced-clause-each : goal.returns-in_err-synced-clause-each
-returns-in_err-synced-clause-each g c = let D = g.D.Disk in let m = g.met.D.Disk in let old = c.args.disk.now.disk in let between = c.open.new.disk.disk in
-    λ h. let h' = c.open.ensures.wrote.honest.0 h in leaves_still D.honest D.unsynced D.moment D.crash_states_since m.counts_now m.only_now old between c.sync.new.self.disk h' (Guards c.args.gate (D.bytes old)) (c.open.ensures.guards h) (c.sync.ensures.time h')
+pub returns-in_err-synced-clause-word : goal.returns-in_err-synced-clause-word
+returns-in_err-synced-clause-word g c = let m = g.met.D.Disk in let w = c.open.ensures in let s = c.sync.ensures in
+    word_quiet g.D.Disk m.only_now m.counts_now (record { any_moment = w.guards; honest = w.wrote.honest }) s.honest s.time
 
-pub returns-clause-each : goal.returns-clause-each
-returns-clause-each g c = let D = g.D.Disk in let m = g.met.D.Disk in let old = c.args.disk.now.disk in let between = c.open.new.disk.disk in
-    λ h. let h' = c.open.ensures.wrote.honest.0 h in leaves_still D.honest D.unsynced D.moment D.crash_states_since m.counts_now m.only_now old between c.sync.new.self.disk h' (Guards c.args.gate (D.bytes old)) (c.open.ensures.guards h) (c.sync.ensures.time h')
+pub returns-clause-word : goal.returns-clause-word
+returns-clause-word g c = let m = g.met.D.Disk in let w = c.open.ensures in let s = c.sync.ensures in
+    word_quiet g.D.Disk m.only_now m.counts_now (record { any_moment = w.guards; honest = w.wrote.honest }) s.honest s.time
 
 pub returns-in_err-synced-clause-within : goal.returns-in_err-synced-clause-within
 returns-in_err-synced-clause-within g c = let D = g.D.Disk in let old = D.bytes c.args.disk.now.disk in let put = D.bytes c.open.new.disk.disk in let at = c.args.gate.at in

@@ -23,7 +23,7 @@ returns-clause-stands g c = λ h.
     let D = g.D.Disk in let bytes = D.bytes c.args.disk.now in let at = c.args.at in
     let w = c.reach.new.self in let v = c.reach-2.new.self in
     let there : Holds bytes w.at w.bytes.items = c.in_ok-reach.ensures.stands h in
-    let back : Holds (D.bytes c.reach.new.disk) v.at v.bytes.items = c.in_ok-reach-2.ensures.stands (c.reach.ensures.kept.honest.0 h) in
+    let back : Holds (D.bytes c.reach.new.disk) v.at v.bytes.items = c.in_ok-reach-2.ensures.stands (c.reach.ensures.kept.word.honest.0 h) in
     let still : Holds bytes v.at v.bytes.items = subst (λ (b : List ℕ). Holds b v.at v.bytes.items) (c.reach.ensures.kept.same h).0 back in
     let place = c.in_ok-reach.ensures.place.0 in
     let front = part_from bytes w.at at w.bytes.items c.from.result.now there place.from place.to c.from.ensures in

@@ -30,8 +30,8 @@ returns g c =
       stands = λ h. (making.new_header s (D.bytes d2) allowed (new h), making.new_active s (D.bytes d2) allowed (new h), making.new_head s (D.bytes d2) allowed (new h));
       not_empty = λ h. tt;
       empty = λ h ok. empty h;
-      any_moment = λ h is. leaves_then D.moment D.crash_states_since d0 d1 d2 (IsNewOrNone s) (making.empty_leaves D m.present m.only_now s d0 d1 h is (x.time h)) (y.any_moment (x.honest.0 h) ((x.same h).1 ∙ is));
-      honest = (λ h. y.honest.0 (x.honest.0 h), λ h. x.honest.1 (y.honest.1 h));
+      any_moment = λ h is. leaves_then D.moment D.crash_states_since d0 d1 d2 (IsNewOrNone s) (making.empty_leaves D m.present m.only_now s d0 d1 h is (x.time h)) (making.empty_only D m.present m.only_now s d1 y.word (x.honest.0 h) ((x.same h).1 ∙ is));
+      honest = (λ h. y.word.honest.0 (x.honest.0 h), λ h. x.honest.1 (y.word.honest.1 h));
       called = calls_joined (Length ∷ []) format_calls (D.calls d0) (D.calls d1) (D.calls d2) x.called y.called;
       untouched = tt;
       kept = λ h. tt;
@@ -44,7 +44,7 @@ pub adopt-journal-requires-clause-quiet : goal.adopt-journal-requires-clause-qui
 adopt-journal-requires-clause-quiet g c =
     let D = g.D.Disk in let s = c.args.size in let d = c.format.new.disk in
     let items : c.in-Ok-closed.bytes.items ≡ closed_bytes s = c.in-Ok-closed.ensures in
-    let new : D.honest d → IsNewDisk s (D.bytes d) = λ h. let h1 = c.format.ensures.honest.1 h in let h0 = c.len.ensures.honest.1 h1 in c.in-Ok-format.ensures.made h1 ((c.len.ensures.same h0).0 ∙ making.no_bytes (D.bytes c.args.disk) (sym (c.in-Ok-eq0.ensures.answer h0) ∙ c.in-Ok-eq0.field-0-test)) in
+    let new : D.honest d → IsNewDisk s (D.bytes d) = λ h. let h1 = c.format.ensures.word.honest.1 h in let h0 = c.len.ensures.honest.1 h1 in c.in-Ok-format.ensures.made h1 ((c.len.ensures.same h0).0 ∙ making.no_bytes (D.bytes c.args.disk) (sym (c.in-Ok-eq0.ensures.answer h0) ∙ c.in-Ok-eq0.field-0-test)) in
     let sure : D.honest d → D.unsynced d ≡ all_synced (D.bytes d) = search rules in
     rw (c.first_slot.ensures.slot, items) (λ h. subst (λ (u : PendingState). EndsClosed 64 (64 + s) new_front u) (sym (sure h)) (quiet_settled 64 (64 + s) new_front (D.bytes d) (making.new_ends s (D.bytes d) c.first_slot.ensures.allowed (new h))))
 
@@ -52,12 +52,12 @@ pub returns-in_default-format-clause-any_moment : goal.returns-in_default-format
 returns-in_default-format-clause-any_moment g c =
     let D = g.D.Disk in let m = g.met.D.Disk in let s = c.args.size in let d0 = c.args.disk in let d1 = c.len.new.self in let d2 = c.format.new.disk in
     λ h is. let same : D.unsynced d1 ≡ all_synced [] = (c.len.ensures.same h).1 ∙ is in
-    leaves_then D.moment D.crash_states_since d0 d1 d2 (IsNewOrNone s) (making.empty_leaves D m.present m.only_now s d0 d1 h is (c.len.ensures.time h)) (c.format.ensures.any_moment (c.len.ensures.honest.0 h) same)
+    leaves_then D.moment D.crash_states_since d0 d1 d2 (IsNewOrNone s) (making.empty_leaves D m.present m.only_now s d0 d1 h is (c.len.ensures.time h)) (making.empty_only D m.present m.only_now s d1 c.format.ensures.word (c.len.ensures.honest.0 h) same)
 
 pub new-requires-clause-beaten : goal.new-requires-clause-beaten
 new-requires-clause-beaten g c =
     let D = g.D.Disk in let s = c.args.size in let d = c.format.new.disk in
-    let new : D.honest d → IsNewDisk s (D.bytes d) = λ h. let h1 = c.format.ensures.honest.1 h in let h0 = c.len.ensures.honest.1 h1 in c.in-Ok-format.ensures.made h1 ((c.len.ensures.same h0).0 ∙ making.no_bytes (D.bytes c.args.disk) (sym (c.in-Ok-eq0.ensures.answer h0) ∙ c.in-Ok-eq0.field-0-test)) in
+    let new : D.honest d → IsNewDisk s (D.bytes d) = λ h. let h1 = c.format.ensures.word.honest.1 h in let h0 = c.len.ensures.honest.1 h1 in c.in-Ok-format.ensures.made h1 ((c.len.ensures.same h0).0 ∙ making.no_bytes (D.bytes c.args.disk) (sym (c.in-Ok-eq0.ensures.answer h0) ∙ c.in-Ok-eq0.field-0-test)) in
     let sure : D.honest d → D.unsynced d ≡ all_synced (D.bytes d) = search rules in
     rw (c.adopt-journal.ensures.disk, c.second_slot.ensures.slot) (λ h. making.new_shut s (D.bytes d) c.first_slot.ensures.allowed (new h) (D.unsynced d) (sure h))
 
@@ -140,7 +140,7 @@ returns-in_default-format-clause-called g c =
 
 pub returns-in_default-format-clause-honest : goal.returns-in_default-format-clause-honest
 returns-in_default-format-clause-honest g c =
-    let x = c.len.ensures.honest in let y = c.format.ensures.honest in (λ h. y.0 (x.0 h), λ h. x.1 (y.1 h))
+    let x = c.len.ensures.honest in let y = c.format.ensures.word.honest in (λ h. y.0 (x.0 h), λ h. x.1 (y.1 h))
 
 pub returns-in_default-format-clause-cause : goal.returns-in_default-format-clause-cause
 returns-in_default-format-clause-cause g c = λ e.

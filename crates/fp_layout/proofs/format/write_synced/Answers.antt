@@ -4,7 +4,7 @@ use Rattle.fp_disk.specs.Outcomes.{CountsFaults, Written, all_synced}
 use Rattle.fp_disk.specs.declared.history.CallKind.TheVariants.{Sync, Write}
 use Rattle.fp_slots.proofs.Exits.{answers_err}
 use Rattle.fp_layout.proofs.Calls.{all_makes, calls_joined, on_ok_always}
-use Rattle.fp_layout.proofs.Settled.{write_leaves, written_leaves}
+use Rattle.fp_layout.proofs.Settled.{write_word, written_word}
 use Rattle.fp_layout.proofs.format.write_synced.Goals as goal
 
 pub returns-in_err-write_at : goal.returns-in_err-write_at
@@ -13,8 +13,7 @@ returns-in_err-write_at g c =
     rw p.1 (record {
       written = λ h. tt;
       all_synced = λ h. tt;
-      any_moment = λ h. write_leaves g.D.Disk g.met.D.Disk.only_now c.args.disk.now c.write_at.new.self h c.args.at (length c.args.from.now) (w.time h);
-      honest = w.honest;
+      word = write_word g.D.Disk g.met.D.Disk.only_now w.honest w.time;
       called = inr (inl w.called);
       cause = answers_err w.cause;
     })
@@ -25,8 +24,7 @@ returns g c =
     record {
       written = λ h. on_ok_always c.sync.result (Written (D.bytes d0) c.args.at c.args.from.now (D.bytes d2)) (v.same (w.honest.0 h) ∙ w.written h);
       all_synced = λ h. on_ok_weaker c.sync.result (λ e. e ∙ ap (λ (b : List ℕ). all_synced b) (sym (v.same (w.honest.0 h)))) (v.durable (w.honest.0 h));
-      any_moment = λ h. written_leaves D g.met.D.Disk.only_now d0 d1 h c.args.at (length c.args.from.now) (w.time h) (w.honest.0 h) d2 (w.unsynced h) (v.time (w.honest.0 h));
-      honest = (λ h. v.honest.0 (w.honest.0 h), λ h. w.honest.1 (v.honest.1 h));
+      word = written_word D g.met.D.Disk.only_now w.honest w.time w.unsynced v.honest v.time;
       called = all_makes c.sync.result (Write ∷ Sync ∷ []) (D.calls d0) (D.calls d2) (calls_joined (Write ∷ []) (Sync ∷ []) (D.calls d0) (D.calls d1) (D.calls d2) w.called v.called);
       cause = subst (λ (k : ℕ). CountsFaults k (D.faults d2) c.sync.result) (w.cause.well (refl {a = true})) v.cause;
     }

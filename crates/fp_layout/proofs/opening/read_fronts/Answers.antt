@@ -10,7 +10,7 @@ pub returns-in_err-ruling-clause-fault : goal.returns-in_err-ruling-clause-fault
 returns-in_err-ruling-clause-fault g c = λ h.
     let p = err_from_is_err_and c.from_residual-in_err-ruling.result c.from_residual-in_err-ruling.ensures.1 in
     let b = g.D.Disk.bytes c.args.disk.now in let size = c.in_ok-size.size in let f = c.in_err-ruling.field-0.0 in let kept = c.read_size.ensures.kept in
-    let broken : UnlessWanting (IsDamage (BreaksRuling b size)) f = subst (λ (x : List ℕ). UnlessWanting (IsDamage (BreaksRuling x size)) f) (kept.same h).0 (c.in_err-ruling.ensures.fault (kept.honest.0 h)) in
+    let broken : UnlessWanting (IsDamage (BreaksRuling b size)) f = subst (λ (x : List ℕ). UnlessWanting (IsDamage (BreaksRuling x size)) f) (kept.same h).0 (c.in_err-ruling.ensures.fault (kept.word.honest.0 h)) in
     rw (p.1, p.2) (ruling_refuses g.R.SlotReader.rejects b c.args.reader.now size f (c.in_ok-size.ensures.found h) broken)
 
 pub returns-in_err-ruling-clause-kept : goal.returns-in_err-ruling-clause-kept

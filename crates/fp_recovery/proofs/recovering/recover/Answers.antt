@@ -3,6 +3,7 @@ use Rattle.std.proofs.lemmas.Result.{err_from_is_err_and}
 use Rattle.std.specs.Prelude.{slice_range}
 use Rattle.fp_edit.specs.Flags.{State}
 use Rattle.fp_layout.specs.Opening.{FoundDisk}
+use Rattle.fp_layout.proofs.Opens.{opens_as, refuses_as}
 use Rattle.fp_recovery.specs.Recovered.{StandsAt}
 use Rattle.fp_recovery.specs.Refusals.{BeginsWith, RefusesBytes, TakesBody}
 use Rattle.fp_recovery.proofs.Kept.{found_at, found_stands}
@@ -45,3 +46,9 @@ returns-clause-found g c = λ h s stands. stands_one (g.D.Disk.bytes c.args.disk
 
 pub returns-clause-told : goal.returns-clause-told
 returns-clause-told g c = λ h f of its. standing_has_no_fault (g.D.Disk.bytes c.args.disk.now) f c.into_set.result of its (returns-clause-stands g c h).stands
+
+pub returns-in_err-place-clause-kept : goal.returns-in_err-place-clause-kept
+returns-in_err-place-clause-kept g c = let p = err_from_is_err_and c.from_residual.result c.from_residual.ensures.1 in rw (p.1, p.2) (refuses_as c.in_err-place.ensures.kept)
+
+pub returns-clause-kept : goal.returns-clause-kept
+returns-clause-kept g c = opens_as c.in_ok-place.ensures.kept

@@ -4,6 +4,7 @@ use Rattle.fp_gate.specs.Gates.{IsOpen}
 use Rattle.fp_slots.specs.declared.held.Held.{Held}
 use Rattle.fp_slots.specs.State.{IsHeld}
 use Rattle.fp_slots.specs.declared.slots.Step.TheVariants.{SyncOpen}
+use Rattle.fp_slots.proofs.Exits.{keeps_ok}
 use Rattle.fp_slots.proofs.Fronts.{front_long}
 use Rattle.fp_slots.proofs.Steps as steps
 use Rattle.fp_slots.proofs.slots.Slots.switch.Goals as goal
@@ -19,7 +20,7 @@ returns-in_err-synced g c =
     let D = g.D.Disk in let m = g.met.D.Disk in let w = c.in_err-synced.ensures in let a = steps.at_step D m.counts_now m.present c.self.view_is c.self.invariant.0 c.requires.live c.requires.step in
     let t = steps.called a w.kept w.bodies w.phase w.begun in let p = err_from_is_err_and c.from_residual.result c.from_residual.ensures.1 in
     let k = steps.kept_err t {step = SyncOpen} (steps.switching t) in
-    rw (p.1, ← c.self.view_is) (record { switched = tt; begun = tt; turned = tt; broken = (k.same, a.is, w.phase.1); left = refl; any_moment = k.any_moment; apart = k.apart; honest = k.honest; called = w.called; cause = k.cause })
+    rw (p.1, ← c.self.view_is) (record { switched = tt; begun = tt; turned = tt; broken = (k.same, a.is, w.phase.1); left = refl; call = k.call; called = w.called })
 
 pub switch-requires-clause-quiet : goal.switch-requires-clause-quiet
 switch-requires-clause-quiet g c =
@@ -31,15 +32,10 @@ invariant_of-self-2 g c =
     let D = g.D.Disk in let m = g.met.D.Disk in let w = c.in_ok-synced.ensures in let a = steps.at_step D m.counts_now m.present c.self.view_is c.self.invariant.0 c.requires.live c.requires.step in
     rw c.replace.ensures.after (steps.switched (steps.called a w.kept w.bodies w.phase w.begun) (λ h. (w.same_bytes h, w.durable h)) c.switch.new.self c.slot-old.result (c.slot-old.ensures.slot ∙ w.kept.same.1) c.switch.ensures.slot.0 (search rules) (c.switch.ensures.begins.1, c.switch.ensures.begins.2) c.switch.ensures.disk.0, tt, c.self.invariant.2)
 
-pub returns-clause-any_moment : goal.returns-clause-any_moment
-returns-clause-any_moment g c =
+pub returns-clause-call : goal.returns-clause-call
+returns-clause-call g c =
     let D = g.D.Disk in let m = g.met.D.Disk in let w = c.in_ok-synced.ensures in let a = steps.at_step D m.counts_now m.present c.self.view_is c.self.invariant.0 c.requires.live c.requires.step in
-    let moves = steps.switching (steps.called a w.kept w.bodies w.phase w.begun) in rw (← c.self.view_is, c.switch.ensures.disk.0) moves.leaves
-
-pub returns-clause-apart : goal.returns-clause-apart
-returns-clause-apart g c =
-    let D = g.D.Disk in let m = g.met.D.Disk in let w = c.in_ok-synced.ensures in let a = steps.at_step D m.counts_now m.present c.self.view_is c.self.invariant.0 c.requires.live c.requires.step in
-    let moves = steps.switching (steps.called a w.kept w.bodies w.phase w.begun) in rw (← c.self.view_is, c.switch.ensures.disk.0) moves.frame
+    rw (← c.self.view_is, c.switch.ensures.disk.0) (keeps_ok (steps.switching (steps.called a w.kept w.bodies w.phase w.begun)))
 
 pub seal_outside-gate-requires-clause-open : goal.seal_outside-gate-requires-clause-open
 seal_outside-gate-requires-clause-open g c =
