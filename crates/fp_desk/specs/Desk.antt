@@ -5,12 +5,12 @@ use Rattle.fp_edit.specs.Admits.{Admits, accepted, refusal}
 use Rattle.fp_edit.specs.Edits.{Change, Proposal, change_in}
 use Rattle.fp_edit.specs.Flags.{State}
 use Rattle.fp_edit.specs.Log.{after_all}
-use Rattle.fp_edit.specs.declared.edit.TheConstants.{REVISIONS_END}
+use Rattle.fp_edit.specs.Numbers.{REVISIONS_END}
 use Rattle.fp_record.specs.Group.{Group}
-use Rattle.fp_edit.specs.declared.changes.TheConstants.{LONGEST_EDIT}
+use Rattle.fp_edit.specs.Numbers.{LONGEST_EDIT}
 use Rattle.fp_record.specs.Encoding.{batch_len}
-use Rattle.fp_record.specs.declared.batch.TheConstants.{BATCH_HEAD, MOST_EDITS}
-use Rattle.fp_desk.specs.declared.desk.TheConstants.{MOST_QUEUED}
+use Rattle.fp_record.specs.Numbers.{BATCH_HEAD, MOST_EDITS}
+use Rattle.fp_desk.specs.Numbers.{MOST_QUEUED}
 use Rattle.fp_edit.specs.Following.{Follows}
 use Rattle.fp_group_commit.specs.Changes.{GoesOn}
 use Rattle.fp_group_commit.specs.Tokens.{FrontState, Identity, ReceiptState}
@@ -18,7 +18,7 @@ use Rattle.fp_desk.specs.declared.fault.SubmitFault.{SubmitFault}
 use Rattle.fp_desk.specs.declared.fault.SubmitFault.TheVariants as submit
 use Rattle.fp_desk.specs.declared.fault.SettleFault.{SettleFault}
 use Rattle.fp_desk.specs.declared.fault.SettleFault.TheVariants as settle
-use Rattle.fp_journal.specs.declared.framed.TheConstants.{FRAME}
+use Rattle.fp_journal.specs.Numbers.{FRAME}
 
 -- What is settled, drawn and waits, in commit order; whether no edit is taken any more; and the batch
 -- that was settled last

@@ -10,8 +10,8 @@ use Rattle.fp_edit.specs.Following.{Follows}
 use Rattle.fp_edit.specs.Log.{after_all}
 use Rattle.fp_edit.proofs.Followed.{limit-after_all}
 use Rattle.fp_gate.specs.declared.gate.TheConstants.{OPEN}
-use Rattle.fp_journal.specs.declared.journal.Phase.{Phase}
-use Rattle.fp_journal.specs.declared.journal.Phase.TheVariants.{Idle, Failed}
+use Rattle.fp_journal.specs.declared.journal.Phase as journal_phases
+use Rattle.fp_journal.specs.declared.journal.Phase.TheVariants.{Failed}
 use Rattle.fp_journal.specs.declared.slot.Slot.{Slot}
 use Rattle.fp_journal.specs.Chain.{with_length, with_gate}
 use Rattle.fp_journal.specs.State.{IsOnWay, JournalState, room}
@@ -26,24 +26,26 @@ use Rattle.fp_slots.specs.declared.slots.Step.TheVariants.{Begin, Close, SyncOpe
 use Rattle.fp_compaction.specs.Batches.{tail_of}
 use Rattle.fp_compaction.specs.Sets.{IsKeptIn, IsPlannedFor, LeavesSet}
 use Rattle.fp_compaction.specs.Steps.{StartsImage, BreaksOff, HasImageRoom, MayStep, Stays, TakesStep, Turns, next_left, next_step}
+use Rattle.fp_group_commit.specs.declared.phase.Phase.TheVariants.{Idle}
 use Rattle.fp_group_commit.specs.Calls.{Breaks, Compacts, PlansImage}
+use Rattle.fp_group_commit.specs.Inside.{Inside, is_failed, journal_phase, seen}
 use Rattle.fp_group_commit.specs.Store.{MayCompact, StoreState, Leaves, sealed_set, coming}
 use Rattle.fp_group_commit.specs.Sound.{IsFlight, IsPlan, IsSound}
-use Rattle.fp_group_commit.proofs.Steps.{begun_stays, begun_unless, breaks, by_place, early_next, fits_other, goes, late, leaves_of, most_of, placed_as, placed_turned, room_same, still, taken, wide_of}
+use Rattle.fp_group_commit.proofs.Steps.{begun_stays, begun_unless, breaks, by_place, early_next, fits_other, goes, is_well, late, leaves_of, most_of, placed_as, placed_turned, room_same, taken, way_at, wide_of}
 use Rattle.fp_group_commit.proofs.BatchSteps.{Moved}
 use Rattle.fp_group_commit.proofs.Sizes.{halves}
 
 -- ---- a step of a compaction
 -- a store whose set has caught up where a compaction begins, as a step may be taken
-pub record MayStepOn {D : Type 0} (disk : Ghosts D) (s : StoreState D) (set : State) (first : ℕ) (ahead copies : List Change) : Type 0 where
+pub record MayStepOn {D : Type 0} (disk : Ghosts D) (s : Inside D) (set : State) (first : ℕ) (ahead copies : List Change) : Type 0 where
   pub sound : IsSound disk.honest disk.unsynced s set first ahead copies
-  pub begin : s.slots.step ≡ Begin → set ≡ sealed_set s
-  pub may : MayCompact s
+  pub begin : s.slots.step ≡ Begin → set ≡ sealed_set (seen s)
+  pub may : MayCompact (seen s)
   pub well : s.slots.journal.phase ≢ Failed
 
-module _ {D : Type 0} (disk : Ghosts D) {s : StoreState D} {set : State} {first : ℕ} {ahead copies : List Change} (i : IsSound disk.honest disk.unsynced s set first ahead copies) where
+module _ {D : Type 0} (disk : Ghosts D) {s : Inside D} {set : State} {first : ℕ} {ahead copies : List Change} (i : IsSound disk.honest disk.unsynced s set first ahead copies) where
   -- the set has caught up, where no batch is on its way
-  pub caught : (later : State) (left : List Change) → after_all later left ≡ after_all set ahead → Follows later left → ((s.step ≡ Idle → ⊥) → left ≡ ahead) → IsSound disk.honest disk.unsynced s later first left copies
+  pub caught : (later : State) (left : List Change) → after_all later left ≡ after_all set ahead → Follows later left → ((s.phase ≡ Idle → ⊥) → left ≡ ahead) → IsSound disk.honest disk.unsynced s later first left copies
   caught later left keeps follows still = record {
     set_is = keeps ∙ i.set_is;
     follows = follows;
@@ -55,11 +57,11 @@ module _ {D : Type 0} (disk : Ghosts D) {s : StoreState D} {set : State} {first 
     planned = i.planned;
   }
     where
-      flight : ((s.step ≡ Idle) × (s.slots.journal.begun ≡ false)) ⊎ IsFlight s first ahead copies → ((s.step ≡ Idle) × (s.slots.journal.begun ≡ false)) ⊎ IsFlight s first left copies
+      flight : ((s.phase ≡ Idle) × (s.slots.journal.begun ≡ false)) ⊎ IsFlight s first ahead copies → ((s.phase ≡ Idle) × (s.slots.journal.begun ≡ false)) ⊎ IsFlight s first left copies
       flight (inl rest) = inl rest
       flight (inr f) = inr (record {
         on_way = f.on_way;
-        none = still (λ e. subst (λ (p : Phase). IsOnWay p) e f.on_way) ∙ f.none;
+        none = still f.on_way ∙ f.none;
         copied = f.copied;
         follows = f.follows;
         place = f.place;
@@ -73,37 +75,37 @@ module _ {D : Type 0} (disk : Ghosts D) {s : StoreState D} {set : State} {first 
         beside = f.beside;
       })
 
-  caught_all : (s.step ≡ Idle → ahead ≡ []) → set ≡ sealed_set s
+  caught_all : (s.phase ≡ Idle → ahead ≡ []) → set ≡ sealed_set (seen s)
   caught_all done = ap (λ (l : List Change). after_all set l) (sym (none i.flight)) ∙ i.set_is
     where
-      none : ((s.step ≡ Idle) × (s.slots.journal.begun ≡ false)) ⊎ IsFlight s first ahead copies → ahead ≡ []
+      none : ((s.phase ≡ Idle) × (s.slots.journal.begun ≡ false)) ⊎ IsFlight s first ahead copies → ahead ≡ []
       none (inl rest) = done rest.0
       none (inr f) = f.none
 
-  pub may_step : MayCompact s → s.slots.journal.phase ≢ Failed → MayStep s.slots
+  pub may_step : MayCompact (seen s) → s.slots.journal.phase ≢ Failed → MayStep s.slots
   may_step may well = record {
     next = may.next;
-    still = λ tail way. subst (λ (p : Phase). IsOnWay p) (goes s.slots.journal.phase s.step well i.going ∙ may.still tail) way;
+    still = λ tail way. subst (λ (p : journal_phases.Phase). IsOnWay p) (goes s.slots.journal.phase (journal_phase s.phase) well i.going ∙ ap journal_phase (may.still tail)) way;
   }
 
-  pub has_place : set ≡ sealed_set s → HasImageRoom s.slots set
+  pub has_place : set ≡ sealed_set (seen s) → HasImageRoom s.slots set
   has_place is =
       let limit : set.limit ≡ s.store.start.limit = ap (λ (t : State). t.limit) is ∙ limit-after_all s.store.start s.sealed in
       let half = i.placed.half in let least = i.placed.allowed.least in let most = i.placed.allowed.greatest in let wide = wide_of i.size (other_side i.placed.side) s.slots.other i.placed.its in
       record { least = omega (arith, limit, half, least); short = omega (arith, limit, half, most); wide = omega (arith, limit, half, wide, least) }
 
   module _ (t : SlotsState D) (taken_step : TakesStep disk s.slots t) where
-    abbrev Now : StoreState D
-    Now = Moved s s.step t
+    abbrev Now : Inside D
+    Now = Moved s s.phase t
 
-    kept_step : disk.honest t.journal.disk → IsKeptIn (disk.unsynced t.journal.disk) t i.size (sealed_set s)
-    kept_step h = let back = taken_step.honest.1 h in taken_step.kept back i.size (sealed_set s) (i.kept_is back) (late disk i)
+    kept_step : disk.honest t.journal.disk → IsKeptIn (disk.unsynced t.journal.disk) t i.size (sealed_set (seen s))
+    kept_step h = let back = taken_step.honest.1 h in taken_step.kept back i.size (sealed_set (seen s)) (i.kept_is back) (late disk i)
 
-    pub step_leaves : disk.honest s.slots.journal.disk → LeavesOnly disk.moment disk.crash_states_since s.slots.journal.disk t.journal.disk (Leaves s)
-    step_leaves h = leaves_map disk.moment disk.crash_states_since s.slots.journal.disk t.journal.disk (LeavesSet s.slots.journal (sealed_set s) (coming s)) (Leaves s) (leaves_of disk i)
-        (taken_step.stands h i.size (sealed_set s) (coming s) (i.kept_is h) (taken disk i) (late disk i))
+    pub step_leaves : disk.honest s.slots.journal.disk → LeavesOnly disk.moment disk.crash_states_since s.slots.journal.disk t.journal.disk (Leaves (seen s))
+    step_leaves h = leaves_map disk.moment disk.crash_states_since s.slots.journal.disk t.journal.disk (LeavesSet s.slots.journal (sealed_set (seen s)) (coming (seen s))) (Leaves (seen s)) (leaves_of disk i)
+        (taken_step.stands h i.size (sealed_set (seen s)) (coming (seen s)) (i.kept_is h) (taken disk i) (late disk i))
 
-    module _ (same : SameSlots s.slots t) (going : (t.journal.phase ≡ s.step) ⊎ (t.journal.phase ≡ Failed)) (begun : HasBegun t.step → HasBegun s.slots.step) (early : IsFlight s first ahead copies → IsEarly t.step) where
+    module _ (same : SameSlots s.slots t) (going : (t.journal.phase ≡ journal_phase s.phase) ⊎ (t.journal.phase ≡ Failed)) (begun : HasBegun t.step → HasBegun s.slots.step) (early : IsFlight s first ahead copies → IsEarly t.step) where
       same_flight : IsFlight s first ahead copies → IsFlight Now first ahead copies
       same_flight f = record {
         on_way = f.on_way;
@@ -113,7 +115,7 @@ module _ {D : Type 0} (disk : Ghosts D) {s : StoreState D} {set : State} {first 
         place = f.place;
         lawful = f.lawful;
         short = subst (λ (b : List ℕ). length b ≤ t.journal.slot.most) (sym same.2) (subst (λ (x : Slot). length s.slots.journal.staged ≤ x.most) (sym same.0.1) f.short);
-        takes = subst (λ (v : ℕ). TakesBatch v (sealed_set s) t.journal.staged (coming s)) (sym same.5) (subst (λ (b : List ℕ). TakesBatch s.slots.version (sealed_set s) b (coming s)) (sym same.2) f.takes);
+        takes = subst (λ (v : ℕ). TakesBatch v (sealed_set (seen s)) t.journal.staged (coming (seen s))) (sym same.5) (subst (λ (b : List ℕ). TakesBatch s.slots.version (sealed_set (seen s)) b (coming (seen s))) (sym same.2) f.takes);
         len = ap length same.2 ∙ f.len;
         fits = (let left = room_same s.slots.journal t.journal same.0.1 same.0.2 same.1 in let l = ap length same.2 in let fits = f.fits in omega (arith, left, l, fits));
         early = early f;
@@ -124,7 +126,7 @@ module _ {D : Type 0} (disk : Ghosts D) {s : StoreState D} {set : State} {first 
             (subst (λ (x : List ℕ). s.slots.other.start + length (s.slots.text ++ OPEN ∷ with_length x) < s.slots.other.stop) (sym same.2) fits)));
       }
 
-      same_or : ((s.step ≡ Idle) × (s.slots.journal.begun ≡ false)) ⊎ IsFlight s first ahead copies → ((s.step ≡ Idle) × (t.journal.begun ≡ false)) ⊎ IsFlight Now first ahead copies
+      same_or : ((s.phase ≡ Idle) × (s.slots.journal.begun ≡ false)) ⊎ IsFlight s first ahead copies → ((s.phase ≡ Idle) × (t.journal.begun ≡ false)) ⊎ IsFlight Now first ahead copies
       same_or (inl rest) = inl (rest.0, same.10 ∙ rest.1)
       same_or (inr f) = inr (same_flight f)
 
@@ -138,14 +140,14 @@ module _ {D : Type 0} (disk : Ghosts D) {s : StoreState D} {set : State} {first 
         placed = placed_as i.size s.store.start.limit s.slots t i.placed same.0.1 same.3;
         kept_is = kept_step;
         planned = λ runs. (let q = i.planned (begun runs) in let head = q.head in let front = q.front in let text = ap length same.7 in let at = same.8 in record {
-          spells = subst (λ (x : List ℕ). (p : Spells i.size x (sealed_set s)) × (p.version ≡ VERSION)) (sym same.7) q.spells;
+          spells = subst (λ (x : List ℕ). (p : Spells i.size x (sealed_set (seen s))) × (p.version ≡ VERSION)) (sym same.7) q.spells;
           head = omega (arith, head, at);
           front = omega (arith, front, text, at);
         });
       }
 
     -- as it begins
-    module _ (is : set ≡ sealed_set s) (b : StartsImage (flags.size set.flags) set.limit s.slots t) (next : t.step ≡ Close) (planned : (size : ℕ) → set.limit ≡ size / 2 → IsPlannedFor t size set) (well : s.slots.journal.phase ≢ Failed) where
+    module _ (is : set ≡ sealed_set (seen s)) (b : StartsImage (flags.size set.flags) set.limit s.slots t) (next : t.step ≡ Close) (planned : (size : ℕ) → set.limit ≡ size / 2 → IsPlannedFor t size set) (well : s.slots.journal.phase ≢ Failed) where
       half : set.limit ≡ i.size / 2
       half = ap (λ (x : State). x.limit) is ∙ limit-after_all s.store.start s.sealed ∙ i.placed.half
 
@@ -159,7 +161,7 @@ module _ {D : Type 0} (disk : Ghosts D) {s : StoreState D} {set : State} {first 
       begins_flight : IsFlight s first ahead copies → IsFlight Now first ahead copies
       begins_flight f =
           let staged : t.journal.staged ≡ s.slots.journal.staged = ap (λ (j : JournalState D). j.staged) b.journal in
-          let way : IsOnWay s.slots.journal.phase = subst (λ (p : Phase). IsOnWay p) (sym (goes s.slots.journal.phase s.step well i.going)) f.on_way in record {
+          let way : IsOnWay s.slots.journal.phase = subst (λ (p : journal_phases.Phase). IsOnWay p) (sym (goes s.slots.journal.phase (journal_phase s.phase) well i.going)) (way_at s.phase f.on_way) in record {
             on_way = f.on_way;
             none = f.none;
             copied = f.copied;
@@ -167,7 +169,7 @@ module _ {D : Type 0} (disk : Ghosts D) {s : StoreState D} {set : State} {first 
             place = f.place;
             lawful = f.lawful;
             short = subst (λ (j : JournalState D). length j.staged ≤ j.slot.most) (sym b.journal) f.short;
-            takes = subst (λ (v : ℕ). TakesBatch v (sealed_set s) t.journal.staged (coming s)) (sym b.version) (subst (λ (l : List ℕ). TakesBatch s.slots.version (sealed_set s) l (coming s)) (sym staged) f.takes);
+            takes = subst (λ (v : ℕ). TakesBatch v (sealed_set (seen s)) t.journal.staged (coming (seen s))) (sym b.version) (subst (λ (l : List ℕ). TakesBatch s.slots.version (sealed_set (seen s)) l (coming (seen s))) (sym staged) f.takes);
             len = ap length staged ∙ f.len;
             fits = subst (λ (j : JournalState D). length j.staged + 6 ≤ room j) (sym b.journal) f.fits;
             early = subst (λ (x : Step). IsEarly x) (sym next) tt;
@@ -178,7 +180,7 @@ module _ {D : Type 0} (disk : Ghosts D) {s : StoreState D} {set : State} {first 
                 fits_other i.size (other_side i.placed.side) t.other t.text t.journal.staged its large (omega (arith, most, short, l, large, text, head)));
           }
 
-      begins_or : ((s.step ≡ Idle) × (s.slots.journal.begun ≡ false)) ⊎ IsFlight s first ahead copies → ((s.step ≡ Idle) × (t.journal.begun ≡ false)) ⊎ IsFlight Now first ahead copies
+      begins_or : ((s.phase ≡ Idle) × (s.slots.journal.begun ≡ false)) ⊎ IsFlight s first ahead copies → ((s.phase ≡ Idle) × (t.journal.begun ≡ false)) ⊎ IsFlight Now first ahead copies
       begins_or (inl rest) = inl (rest.0, ap (λ (j : JournalState D). j.begun) b.journal ∙ rest.1)
       begins_or (inr f) = inr (begins_flight f)
 
@@ -186,7 +188,7 @@ module _ {D : Type 0} (disk : Ghosts D) {s : StoreState D} {set : State} {first 
       sound_begun = record {
         set_is = i.set_is;
         follows = i.follows;
-        going = subst (λ (j : JournalState D). (j.phase ≡ s.step) ⊎ (j.phase ≡ Failed)) (sym b.journal) i.going;
+        going = subst (λ (j : JournalState D). (j.phase ≡ journal_phase s.phase) ⊎ (j.phase ≡ Failed)) (sym b.journal) i.going;
         flight = begins_or i.flight;
         size = i.size;
         placed = placed_as i.size s.store.start.limit s.slots t i.placed (ap (λ (j : JournalState D). j.slot) b.journal) b.other;
@@ -200,7 +202,7 @@ module _ {D : Type 0} (disk : Ghosts D) {s : StoreState D} {set : State} {first 
         let rest = at_rest i.flight in record {
           set_is = i.set_is;
           follows = i.follows;
-          going = inl (turn.phase ∙ sym rest);
+          going = inl (turn.phase ∙ sym (ap journal_phase rest));
           flight = inl (rest, turn.begun);
           size = i.size;
           placed = placed_turned i.size s.store.start.limit s.slots t i.placed turn.mine turn.its;
@@ -208,7 +210,7 @@ module _ {D : Type 0} (disk : Ghosts D) {s : StoreState D} {set : State} {first 
           planned = λ runs. absurd (subst (λ (x : Step). HasBegun x) next runs);
         }
       where
-        at_rest : ((s.step ≡ Idle) × (s.slots.journal.begun ≡ false)) ⊎ IsFlight s first ahead copies → s.step ≡ Idle
+        at_rest : ((s.phase ≡ Idle) × (s.slots.journal.begun ≡ false)) ⊎ IsFlight s first ahead copies → s.phase ≡ Idle
         at_rest (inl r) = r.0
         at_rest (inr f) = absurd (subst (λ (x : Step). IsEarly x) at f.early)
 
@@ -216,14 +218,14 @@ module _ {D : Type 0} (disk : Ghosts D) {s : StoreState D} {set : State} {first 
   module _ (t : SlotsState D) (taken_step : TakesStep disk s.slots t) (k : MayStepOn disk s set first ahead copies) (order : t.step ≡ next_step s.slots.step s.slots.left)
       (begun : s.slots.step ≡ Begin → StartsImage (flags.size set.flags) set.limit s.slots t) (planned : s.slots.step ≡ Begin → (size : ℕ) → set.limit ≡ size / 2 → IsPlannedFor t size set)
       (stays : s.slots.step ≢ Begin → s.slots.step ≢ SyncOpen → Stays s.slots t) (turned : s.slots.step ≡ SyncOpen → Turns s.slots t) where
-    abbrev pub Then : StoreState D
-    Then = Moved s s.step t
+    abbrev pub Then : Inside D
+    Then = Moved s s.phase t
 
-    phase_is : s.slots.journal.phase ≡ s.step
-    phase_is = goes s.slots.journal.phase s.step k.well i.going
+    phase_is : s.slots.journal.phase ≡ journal_phase s.phase
+    phase_is = goes s.slots.journal.phase (journal_phase s.phase) k.well i.going
 
     early_then : IsFlight s first ahead copies → IsEarly t.step
-    early_then f = subst (λ (x : Step). IsEarly x) (sym order) (early_next s.slots.step s.slots.left f.early (λ tail. subst (λ (p : Phase). IsOnWay p) (k.may.still tail) f.on_way))
+    early_then f = subst (λ (x : Step). IsEarly x) (sym order) (early_next s.slots.step s.slots.left f.early (λ tail. f.on_way (k.may.still tail)))
 
     by_stays : Stays s.slots t → HasBegun s.slots.step → IsSound disk.honest disk.unsynced Then set first ahead copies
     by_stays st runs = sound_same t taken_step st.slots (inl (st.phase ∙ phase_is)) (λ later. runs) early_then
@@ -262,10 +264,10 @@ module _ {D : Type 0} (disk : Ghosts D) {s : StoreState D} {set : State} {first 
     pub begun_now : journal.has_begun t.journal.phase t.journal.begun ≡ journal.has_begun s.slots.journal.phase s.slots.journal.begun
     begun_now = by_place s.slots.step _
         (λ at. ap (λ (j : JournalState D). journal.has_begun j.phase j.begun) (begun at).journal)
-        (λ off on. ap (λ (p : Phase). journal.has_begun p t.journal.begun) (stays off on).phase ∙ ap (journal.has_begun s.slots.journal.phase) (stays off on).slots.10)
-        (λ at. let turn = turned at in ap (λ (p : Phase). journal.has_begun p t.journal.begun) turn.phase ∙ sym (ap (λ (p : Phase). journal.has_begun p s.slots.journal.begun) turn.still))
+        (λ off on. ap (λ (p : journal_phases.Phase). journal.has_begun p t.journal.begun) (stays off on).phase ∙ ap (journal.has_begun s.slots.journal.phase) (stays off on).slots.10)
+        (λ at. let turn = turned at in ap (λ (p : journal_phases.Phase). journal.has_begun p t.journal.begun) turn.phase ∙ sym (ap (λ (p : journal_phases.Phase). journal.has_begun p s.slots.journal.begun) turn.still))
 
-    pub leaves_then : (c : List ℕ) → Leaves s c → Leaves Then c
+    pub leaves_then : (c : List ℕ) → Leaves (seen s) c → Leaves (seen Then) c
     leaves_then c (inl stands) = inl stands
     leaves_then c (inr both) = inr (both.0, begun_now ∙ both.1, both.2)
 
@@ -289,24 +291,24 @@ module _ {D : Type 0} (disk : Ghosts D) {s : StoreState D} {set : State} {first 
         let half = i.placed.half in let even = halves i.size i.placed.allowed in
         omega (arith, room, wide, front, half, even)
 
-    plans_now : s.slots.step ≡ Begin → PlansImage s Then
+    plans_now : s.slots.step ≡ Begin → PlansImage (seen s) (seen Then)
     plans_now at =
-        let b = begun at in let text = b.text in let short = b.short in let own : set ≡ sealed_set s = k.begin at in
+        let b = begun at in let text = b.text in let short = b.short in let own : set ≡ sealed_set (seen s) = k.begin at in
         let limit : set.limit ≡ s.store.start.limit = ap (λ (x : State). x.limit) own ∙ limit-after_all s.store.start s.sealed in
-        let sizes : flags.size set.flags ≡ flags.size (sealed_set s).flags = ap (λ (x : State). flags.size x.flags) own in
+        let sizes : flags.size set.flags ≡ flags.size (sealed_set (seen s)).flags = ap (λ (x : State). flags.size x.flags) own in
         record {
           head = b.head ∙ ap (λ (n : ℕ). IMAGE_PLACE + n) sizes;
           small = omega (arith, short, limit, sizes);
           left = b.left;
-          text = text;
+          tail = omega (arith, text);
         }
 
-    pub compacts : (faults : D → ℕ) → faults t.journal.disk ≡ faults s.slots.journal.disk → (s.slots.step ≢ Begin → t.left ≡ next_left s.slots.step s.slots.left) → t.generation < 2 ^ 64 → Compacts faults s Then
+    pub compacts : (faults : D → ℕ) → faults t.journal.disk ≡ faults s.slots.journal.disk → (s.slots.step ≢ Begin → t.left ≡ next_left s.slots.step s.slots.left) → t.generation < 2 ^ 64 → Compacts faults (seen s) (seen Then)
     compacts faults no_failure left numbered = record {
       next = order;
       left = left;
-      well_before = k.well;
-      well_now = λ e. k.well (sym phase_now ∙ e);
+      well_before = is_well s.slots.journal.phase k.well;
+      well_now = ap is_failed phase_now ∙ is_well s.slots.journal.phase k.well;
       no_failure = no_failure;
       most = most_now;
       begun = plans_now;
@@ -321,22 +323,22 @@ module _ {D : Type 0} (disk : Ghosts D) {s : StoreState D} {set : State} {first 
 
   -- ---- the device failed in a step
   module _ (t : SlotsState D) (taken_step : TakesStep disk s.slots t) (order : t.step ≡ s.slots.step) (off : BreaksOff disk.faults s.slots t) where
-    pub sound_broken : IsSound disk.honest disk.unsynced (Moved s s.step t) set first ahead copies
+    pub sound_broken : IsSound disk.honest disk.unsynced (Moved s s.phase t) set first ahead copies
     sound_broken = sound_same t taken_step off.slots (inr off.failed) (λ runs. subst (λ (x : Step). HasBegun x) order runs) (λ f. subst (λ (x : Step). IsEarly x) (sym order) f.early)
 
     pub begun_broken : journal.has_begun s.slots.journal.phase s.slots.journal.begun ≡ s.slots.journal.begun → journal.has_begun t.journal.phase t.journal.begun ≡ journal.has_begun s.slots.journal.phase s.slots.journal.begun
     begun_broken told = begun_stays s.slots.journal.phase t.journal.phase s.slots.journal.begun t.journal.begun told off.slots.10 off.failed
 
-    pub leaves_broken : journal.has_begun s.slots.journal.phase s.slots.journal.begun ≡ s.slots.journal.begun → (c : List ℕ) → Leaves s c → Leaves (Moved s s.step t) c
+    pub leaves_broken : journal.has_begun s.slots.journal.phase s.slots.journal.begun ≡ s.slots.journal.begun → (c : List ℕ) → Leaves (seen s) c → Leaves (seen (Moved s s.phase t)) c
     leaves_broken told c (inl stands) = inl stands
     leaves_broken told c (inr both) = inr (both.0, begun_broken told ∙ both.1, both.2)
 
-    pub breaks_step : (left : t.left ≡ s.slots.left) → s.slots.journal.phase ≢ Failed → Breaks disk.faults s (Moved s s.step t)
-    breaks_step left well = breaks disk.faults s (Moved s s.step t) well off.failed off.cause refl
+    pub breaks_step : (left : t.left ≡ s.slots.left) → s.slots.journal.phase ≢ Failed → Breaks disk.faults (seen s) (seen (Moved s s.phase t))
+    breaks_step left well = breaks disk.faults s (Moved s s.phase t) well off.failed off.cause refl
         (off.slots.0, off.slots.3, off.slots.4, off.slots.5, off.slots.6, order, off.slots.7, off.slots.8, left) off.slots.1
 
 -- the set is made to catch up first
-pub caught_up : {D : Type 0} (disk : Ghosts D) {s v : StoreState D} {set : State} {first : ℕ} {ahead copies : List Change} → IsSound disk.honest disk.unsynced s set first ahead copies → s ≡ v → MayCompact v → s.slots.journal.phase ≢ Failed
-    → (later : State) (left : List Change) → after_all later left ≡ after_all set ahead → Follows later left → ((s.step ≡ Idle → ⊥) → left ≡ ahead) → (s.slots.step ≡ Begin → s.step ≡ Idle → left ≡ []) → MayStepOn disk s later first left copies
+pub caught_up : {D : Type 0} (disk : Ghosts D) {s : Inside D} {v : StoreState D} {set : State} {first : ℕ} {ahead copies : List Change} → IsSound disk.honest disk.unsynced s set first ahead copies → seen s ≡ v → MayCompact v → s.slots.journal.phase ≢ Failed
+    → (later : State) (left : List Change) → after_all later left ≡ after_all set ahead → Follows later left → ((s.phase ≡ Idle → ⊥) → left ≡ ahead) → (s.slots.step ≡ Begin → s.phase ≡ Idle → left ≡ []) → MayStepOn disk s later first left copies
 caught_up {D} disk i view may well later left keeps follows still done =
     let now = caught disk i later left keeps follows still in record { sound = now; begin = λ at. caught_all disk now (done at); may = subst (λ (k : StoreState D). MayCompact k) (sym view) may; well = well }

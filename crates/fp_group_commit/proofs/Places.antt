@@ -1,7 +1,6 @@
 -- Which edits have a place in a slot.
-use Rattle.std.proofs.Common.{◌≡◌, ◌<◌, ◌≤◌, ℕ, zero, suc, List, [], ◌∷◌, length, sym, subst, arith, slice_index_or}
+use Rattle.std.proofs.Common.{◌<◌, ℕ, zero, suc, List, [], ◌∷◌, length, arith, slice_index_or}
 use Rattle.std.specs.List.{AllByRecursion}
-use Rattle.fp_edit.specs.Edits.{Change}
 use Rattle.fp_edit.specs.Following.{change_of, changes_of}
 use Rattle.fp_edit.specs.declared.edit.Edit.{Edit}
 use Rattle.fp_recovery.specs.Stands.{IsAllowed}

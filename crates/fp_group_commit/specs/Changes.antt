@@ -1,25 +1,38 @@
 -- Changes in a batch: whether there is room for it, and the code of a change.
-use Rattle.std.specs.Prelude.{◌≡◌, ◌+◌, ◌<◌, ◌≤◌, ℕ, List, [], ◌∷◌, length, Bool, true, false, refl}
+use Rattle.std.specs.Prelude.{◌≡◌, ◌+◌, ◌/◌, ◌<◌, ◌≤◌, ℕ, List, [], ◌∷◌, length, Bool, true}
+use Rattle.std.specs.Prelude.{false, refl}
 use Rattle.std.specs.Coded.{Coded, coded×, coded_ℕ, coded_list, coded_bool, code_by}
 use Rattle.std.specs.List.{AllByRecursion}
 use Rattle.fp_edit.specs.Parts.{Part, put, delete}
 use Rattle.fp_edit.specs.Edits.{Change, one, set}
 use Rattle.fp_edit.specs.Flags.{State}
 use Rattle.fp_edit.specs.Following.{Follows}
-use Rattle.fp_compaction.specs.Batches.{HasRoomFor}
+use Rattle.fp_journal.specs.Numbers.{FRAME}
 use Rattle.fp_record.specs.Group.{Group}
-use Rattle.fp_record.specs.declared.batch.TheConstants.{MOST_EDITS}
-use Rattle.fp_slots.specs.State.{SlotsState}
+use Rattle.fp_record.specs.Numbers.{MOST_EDITS}
+use Rattle.fp_slots.specs.State.{HasBegun, IsEarly}
 use Rattle.fp_record.specs.Encoding.{batch_len}
+use Rattle.fp_recovery.specs.Room as slot
 use Rattle.fp_recovery.specs.Stands.{IsAllowed}
+use Rattle.fp_group_commit.specs.Store.{StoreState}
 
--- as many changes as a batch has, room for the batch's body beside a compaction, where one runs, and
--- none that has no place in the slot that rules
-pub record HasRoom {D : Type 0} (slots : SlotsState D) (group : Group) : Type 0 where
+-- As many changes as a batch has, its body as short as its slot takes, and room for that with its
+-- gate, its length and the gate behind it. While a compaction runs its tail isn't written yet, and
+-- with this batch and a last gate it takes half of what a set may take at most, which is a quarter
+-- of a slot. Each change has a place in a slot of the version that rules
+pub record HasRoom {D : Type 0} (s : StoreState D) (group : Group) : Type 0 where
   pub some : 0 < length group.changes
   pub few : length group.changes ≤ MOST_EDITS
-  pub room : HasRoomFor slots (batch_len group)
-  pub allowed : AllByRecursion (IsAllowed slots.version) group.changes
+  pub short : batch_len group ≤ s.most
+  pub fits : batch_len group + FRAME ≤ s.room
+  pub early : IsEarly s.compaction.next
+  pub tail : HasBegun s.compaction.next
+      → s.compaction.tail + batch_len group + FRAME ≤ s.store.start.limit / 2
+  pub allowed : AllByRecursion (IsAllowed s.compaction.version) group.changes
+
+-- the slot that rules has no room for the batch, or is of a version in which a change has no place
+abbrev pub HasNoRoom : {D : Type 0} → StoreState D → Group → Type 0
+HasNoRoom s group = slot.HasNoRoom s.most s.room s.compaction.version group
 
 -- the group's first revision is the next one, and its changes are accepted one after another
 abbrev pub GoesOn : State → Group → Type 0

@@ -2,19 +2,20 @@
 
 ghost use Rattle.fp_edit.specs.Following.{Follows, changes_of};
 ghost use Rattle.fp_edit.specs.Log.{after_all};
-ghost use Rattle.fp_journal.specs.declared.journal.Phase.TheVariants.{Idle};
 ghost use Rattle.std.specs.Prelude.{◌≡◌, length, IfOk, IfErr, OnOk, OnErr};
 ghost use Rattle.fp_compaction.specs.Steps.{calls_of};
 ghost use Rattle.fp_slots.specs.declared.slots.Step.TheVariants.{Begin};
 ghost use Rattle.fp_group_commit.specs.Calls.{CallsDisk, Compacts, SameStore, StopsBy};
-ghost use Rattle.fp_group_commit.specs.Store.{Leaves, MayCompact, has_begun};
+ghost use Rattle.fp_group_commit.specs.Store.{Leaves, MayCompact};
+ghost use Rattle.fp_group_commit.specs.declared.phase.Phase.TheVariants.{Idle};
 
 use crate::fault::StoreFault;
+use crate::phase::Phase;
 use crate::store::Store;
 use fp_compaction::{StepFault, phase, take_step};
 use fp_disk::Disk;
 use fp_edit::{Edit, FlagSet};
-use fp_journal::Phase;
+use fp_journal::Phase as JournalPhase;
 use fp_slots::Step;
 use std::alloc::AllocError;
 use std::collections::VecDeque;
@@ -23,7 +24,7 @@ use std::collections::VecDeque;
 // its way nothing is.
 fn catch_up(
     next: Step,
-    step: Phase,
+    phase: Phase,
     set: &mut FlagSet,
     ahead: &mut VecDeque<Edit>,
 ) -> Result<(), AllocError>
@@ -31,16 +32,16 @@ fn catch_up(
     ensures same { after_all set.new (changes_of ahead.new.items)
         ≡ after_all set.old (changes_of ahead.old.items) }
     ensures follows { Follows set.new (changes_of ahead.new.items) }
-    ensures done { OnOk result (next ≡ Begin → step ≡ Idle → length ahead.new.items ≡ 0) }
+    ensures done { OnOk result (next ≡ Begin → phase ≡ Idle → length ahead.new.items ≡ 0) }
     ensures begins { OnErr result (next ≡ Begin) }
-    ensures still { (step ≡ Idle → ⊥) → changes_of ahead.new.items ≡ changes_of ahead.old.items }
+    ensures still { (phase ≡ Idle → ⊥) → changes_of ahead.new.items ≡ changes_of ahead.old.items }
 {
     if !matches!(next, Step::Begin) {
         return Ok(());
     }
-    match step {
+    match phase {
         Phase::Idle => set.catch_up(ahead),
-        Phase::Staged | Phase::BodySynced | Phase::GateOpened | Phase::Failed => Ok(()),
+        Phase::Staged | Phase::BodySynced | Phase::GateOpened => Ok(()),
     }
 }
 
@@ -51,19 +52,19 @@ impl<D: Disk> Store<D> {
     pub fn compact_step(&mut self) -> Result<Step, StoreFault>
         requires { MayCompact self.old }
         ensures same { SameStore self.old self.new }
-        ensures phase { self.new.step ≡ self.old.step }
-        ensures begun { has_begun self.new ≡ has_begun self.old }
+        ensures phase { self.new.phase ≡ self.old.phase }
+        ensures begun { self.new.begun ≡ self.old.begun }
         ensures ok { OnOk result (Compacts D.faults self.old self.new) }
-        ensures next { IfOk result (λ next. next ≡ self.new.slots.step) }
+        ensures next { IfOk result (λ next. next ≡ self.new.compaction.next) }
         ensures fault { IfErr result (StopsBy D.faults self.old self.new) }
-        ensures disk { CallsDisk D.Disk (calls_of self.old.slots.step self.old.slots.may_open)
+        ensures disk { CallsDisk D.Disk (calls_of self.old.compaction.next self.old.may_open)
             self.old self.new (Leaves self.old) result }
     {
-        if let Phase::Failed = phase(&self.slots) {
+        if let JournalPhase::Failed = phase(&self.slots) {
             return Err(StoreFault::Failed);
         }
         let next = self.slots.step();
-        let Ok(()) = catch_up(next, self.step, &mut self.set, &mut self.ahead) else {
+        let Ok(()) = catch_up(next, self.phase, &mut self.set, &mut self.ahead) else {
             return Err(StoreFault::Memory);
         };
         let Err(fault) = take_step(self.alloc, &mut self.slots, &self.set) else {

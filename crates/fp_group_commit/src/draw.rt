@@ -10,7 +10,8 @@ ghost use Rattle.fp_record.specs.WellFormed.{IsBatch};
 ghost use Rattle.fp_record.specs.Encoding.{batch_len, encoding_of_batch};
 ghost use Rattle.fp_recovery.specs.Stands.{IsAllowed};
 ghost use Rattle.fp_group_commit.specs.Calls.{IsStrange};
-ghost use Rattle.fp_group_commit.specs.Changes.{GoesOn, HasRoom};
+ghost use Rattle.fp_group_commit.specs.Changes.{GoesOn};
+ghost use Rattle.fp_group_commit.specs.Inside.{HasPlace};
 
 use crate::fault::StoreFault;
 use crate::part::Applied;
@@ -91,7 +92,7 @@ pub fn spelled_sum(edits: &[Edit]) -> u64
 
 // Whether the slots take the draw as the next batch.
 pub(crate) fn has_room<D: Disk>(slots: &Slots<D>, draw: &Draw) -> bool
-    ensures { IsTrue result ↔ HasRoom slots.now draw.now }
+    ensures { IsTrue result ↔ HasPlace slots.now draw.now }
 {
     if draw.edits.len() == 0 || draw.edits.len() > MOST_EDITS {
         return false;

@@ -15,7 +15,6 @@ ghost use Rattle.fp_layout.specs.Layout.{HasSlots};
 ghost use Rattle.fp_layout.specs.Size.{IsSlotSize, first_slot, second_slot};
 ghost use Rattle.fp_layout.specs.declared.fault.OpenFault.TheVariants as opening;
 ghost use Rattle.fp_layout.specs.declared.format.TheConstants.{FIRST_GATE};
-ghost use Rattle.fp_compaction.specs.Sets.{place_of};
 ghost use Rattle.fp_recovery.specs.Durable.{IsNewSetOrNone, IsDurable};
 ghost use Rattle.fp_recovery.specs.Recovered.{StandsAt};
 ghost use Rattle.fp_recovery.specs.Refusals.{IsUnlessWanting, RefusesBytes};
@@ -61,21 +60,20 @@ impl<D: Disk> Store<D> {
         ensures empty { D.honest disk → IsOk result → D.bytes disk ≡ [] }
         ensures fresh { IfOk result (λ r. IsFresh r.0 (new_set size)) }
         ensures opening { IfOk result (λ r. r.1 ≡ r.0.store) }
-        ensures slots { IfOk result (λ r. (r.0.slots.journal.slot ≡ first_slot size)
-            × (r.0.slots.other ≡ second_slot size)) }
-        ensures gate { IfOk result (λ r. (place_of r.0.slots.journal).gate ≡ FIRST_GATE) }
-        ensures version { IfOk result (λ r. r.0.slots.version ≡ VERSION) }
-        ensures other_gate { IfOk result (λ r. r.0.slots.may_open ≡ false) }
-        ensures made { D.honest disk →
-            IfOk result (λ r. IsNewDisk size (D.bytes r.0.slots.journal.disk)) }
+        ensures slots { IfOk result (λ r. (r.0.place.slot ≡ first_slot size)
+            × (r.0.other ≡ second_slot size)) }
+        ensures gate { IfOk result (λ r. r.0.place.gate ≡ FIRST_GATE) }
+        ensures version { IfOk result (λ r. r.0.compaction.version ≡ VERSION) }
+        ensures other_gate { IfOk result (λ r. r.0.may_open ≡ false) }
+        ensures made { D.honest disk → IfOk result (λ r. IsNewDisk size (D.bytes r.0.disk)) }
         ensures sure { D.honest disk →
-            IfOk result (λ r. IsDurable (D.unsynced r.0.slots.journal.disk) (new_set size)) }
+            IfOk result (λ r. IsDurable (D.unsynced r.0.disk) (new_set size)) }
 
         ensures not_empty { D.honest disk →
             IfErr result (λ e. e.0 ≡ NotEmpty → D.bytes disk ≢ []) }
         ensures bad_size { D.honest disk → IfErr result (λ e. e.0 ≡ BadSize → D.bytes disk ≡ []) }
         ensures no_size { IfErr result (λ e. e.0 ≡ BadSize → IsSlotSize size → ⊥) }
-        ensures no_failure { IfOk result (λ r. D.faults r.0.slots.journal.disk ≡ D.faults disk) }
+        ensures no_failure { IfOk result (λ r. D.faults r.0.disk ≡ D.faults disk) }
         ensures cause { IfErr result (λ e. e.0 ≡ Device → D.faults disk < D.faults e.1) }
         ensures unfailed { IfErr result (λ e. e.0 ≢ Device → D.faults e.1 ≡ D.faults disk) }
         // Memory is taken only for a disk of a size that may be.
@@ -87,15 +85,15 @@ impl<D: Disk> Store<D> {
 
         // A crash at any moment leaves what opening calls no disk, or one that stands for no flags.
         ensures any_moment { D.honest disk → D.unsynced disk ≡ all_synced [] → MatchResult result
-            (λ r. LeavesOnly D.moment D.crash_states_since disk r.0.slots.journal.disk
+            (λ r. LeavesOnly D.moment D.crash_states_since disk r.0.disk
             (IsNewSetOrNone size))
             (λ e. LeavesOnly D.moment D.crash_states_since disk e.1 (IsNewSetOrNone size)) }
         ensures called { MatchResult result
-            (λ r. D.calls r.0.slots.journal.disk ≡ D.calls disk ++ Length ∷ format_calls)
+            (λ r. D.calls r.0.disk ≡ D.calls disk ++ Length ∷ format_calls)
             (λ e. MakesSome (Length ∷ format_calls) (D.calls disk) (D.calls e.1)) }
         ensures untouched { IfErr result (λ e. (e.0 ≡ Device)
             ⊎ (D.calls e.1 ≡ D.calls disk ++ Length ∷ [])) }
-        ensures honest { MatchResult result (λ r. SameHonesty D.Disk disk r.0.slots.journal.disk)
+        ensures honest { MatchResult result (λ r. SameHonesty D.Disk disk r.0.disk)
             (λ e. SameHonesty D.Disk disk e.1) }
     {
         let Some(size) = SlotSize::new(size) else {
@@ -118,35 +116,35 @@ impl<D: Disk> Store<D> {
             IfOk result (λ r. StandsFor (D.bytes disk) r.0.store.start) }
         // What a batch may take and what is left are those of the disk's slot, behind what it holds.
         ensures place { D.honest disk → IfOk result (λ r.
-            StandsAt (D.bytes disk) r.0.store.start (place_of r.0.slots.journal)) }
+            StandsAt (D.bytes disk) r.0.store.start r.0.place) }
         ensures slots { D.honest disk → IfOk result (λ r. HasSlots (D.bytes disk)
-            r.0.slots.journal.slot r.0.slots.other r.0.slots.version r.0.slots.generation) }
+            r.0.place.slot r.0.other r.0.compaction.version r.0.compaction.generation) }
         ensures only { D.honest disk → IfOk result (λ r. (other : State) →
             StandsFor (D.bytes disk) other → other ≡ r.0.store.start) }
         ensures fresh { IfOk result (λ r. IsFresh r.0 r.0.store.start) }
         ensures opening { IfOk result (λ r. r.1 ≡ r.0.store) }
-        ensures other_gate { D.honest disk → IfOk result (λ r. IsTrue r.0.slots.may_open
-            ↔ (slice_index (D.bytes disk) r.0.slots.other.start ≡ OPEN)) }
+        ensures other_gate { D.honest disk → IfOk result (λ r. IsTrue r.0.may_open
+            ↔ (slice_index (D.bytes disk) r.0.other.start ≡ OPEN)) }
 
         // Bytes that no sync made sure of are none to open: each outcome stands for the set now.
         ensures sure { D.honest disk →
-            IfOk result (λ r. IsDurable (D.unsynced r.0.slots.journal.disk) r.0.store.start) }
+            IfOk result (λ r. IsDurable (D.unsynced r.0.disk) r.0.store.start) }
 
         ensures fault { D.honest disk → IfErr result (λ e. RefusesBytes (D.bytes disk) e.0) }
         ensures refused { D.honest disk → IfErr result (λ e. IsUnlessWanting (D.bytes disk) e.0) }
-        ensures no_failure { IfOk result (λ r. D.faults r.0.slots.journal.disk ≡ D.faults disk) }
+        ensures no_failure { IfOk result (λ r. D.faults r.0.disk ≡ D.faults disk) }
         ensures cause { IfErr result (λ e. e.0 ≡ opening.Device → D.faults disk < D.faults e.1) }
         ensures memory { IfErr result (λ e. e.0 ≡ opening.Memory → D.faults e.1 ≡ D.faults disk) }
         ensures called { MatchResult result
-            (λ r. ThenReads (Sync ∷ Length ∷ []) (D.calls disk) (D.calls r.0.slots.journal.disk))
+            (λ r. ThenReads (Sync ∷ Length ∷ []) (D.calls disk) (D.calls r.0.disk))
             (λ e. ThenSomeReads (Sync ∷ Length ∷ []) (D.calls disk) (D.calls e.1)) }
         ensures same { D.honest disk → MatchResult result
-            (λ r. D.bytes r.0.slots.journal.disk ≡ D.bytes disk) (λ e. D.bytes e.1 ≡ D.bytes disk) }
+            (λ r. D.bytes r.0.disk ≡ D.bytes disk) (λ e. D.bytes e.1 ≡ D.bytes disk) }
         ensures any_moment { D.honest disk → MatchResult result
-            (λ r. LeavesOnly D.moment D.crash_states_since disk r.0.slots.journal.disk
+            (λ r. LeavesOnly D.moment D.crash_states_since disk r.0.disk
             (IsOutcome (D.unsynced disk)))
             (λ e. LeavesOnly D.moment D.crash_states_since disk e.1 (IsOutcome (D.unsynced disk))) }
-        ensures honest { MatchResult result (λ r. SameHonesty D.Disk disk r.0.slots.journal.disk)
+        ensures honest { MatchResult result (λ r. SameHonesty D.Disk disk r.0.disk)
             (λ e. SameHonesty D.Disk disk e.1) }
     {
         let (slots, set) = match fp_compaction::open(alloc, disk) {

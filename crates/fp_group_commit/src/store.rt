@@ -1,30 +1,31 @@
 //! A store of edits on a disk.
 
 ghost use Rattle.fp_disk.specs.Crashes.{EachCrash};
-ghost use Rattle.std.specs.Prelude.{◌≡◌, ◌≢◌, ◌<◌, ◌+◌, ◌-◌, ◌/◌, ◌↔◌, ℕ, length};
+ghost use Rattle.std.specs.Prelude.{◌≡◌, ◌<◌, ◌+◌, ◌-◌, ◌/◌, ◌↔◌, ℕ, length};
 ghost use Rattle.std.specs.Prelude.{IsTrue, false};
 ghost use mathlib.Core.List.{IsPrefix};
-ghost use Rattle.fp_journal.specs.declared.journal.Phase.TheVariants.{Idle, Failed};
-ghost use Rattle.fp_journal.specs.State.{has_begun as begins_at, room};
+ghost use Rattle.fp_journal.specs.declared.journal.Phase.TheVariants as journal;
 ghost use Rattle.fp_compaction.specs.Sets.{IsKeptIn, IsPlaced};
 ghost use Rattle.fp_recovery.specs.Stands.{StandsFor};
 ghost use Rattle.fp_slots.specs.declared.slots.Step.TheVariants.{Begin};
-ghost use Rattle.fp_recovery.specs.Room.{HasNoRoom, IsFullFor};
-ghost use Rattle.fp_group_commit.specs.Changes.{HasRoom};
+ghost use Rattle.fp_recovery.specs.Room.{IsFullFor};
+ghost use Rattle.fp_group_commit.specs.Changes.{HasNoRoom, HasRoom};
+ghost use Rattle.fp_group_commit.specs.Inside.{IsOver};
 ghost use Rattle.fp_slots.specs.Head.{IsVersion};
 ghost use Rattle.fp_group_commit.specs.Store.{IsAtRest, IsFresh, Leaves, MayCompact, sealed_set};
-ghost use Rattle.fp_group_commit.specs.Store.{has_begun, readable_set};
+ghost use Rattle.fp_group_commit.specs.Store.{is_opened, readable_set};
 
 use crate::draw::{Draw, has_room};
 use crate::opening::Opening;
 use crate::part::{Applied, Origin, Part};
+use crate::phase::Phase;
 use crate::receipt::Receipt;
 use crate::settled::Told;
 use fp_compaction::phase;
 use fp_disk::Disk;
 use fp_edit::{Edit, FlagSet};
 use fp_fronts::Growing;
-use fp_journal::Phase;
+use fp_journal::Phase as JournalPhase;
 use fp_slots::{Slots, Step};
 use std::alloc::Global;
 use std::collections::VecDeque;
@@ -40,7 +41,7 @@ pub struct Store<D: Disk> {
     // The edits of the batch on its way once more.
     pub(crate) copies: VecDeque<Edit>,
     pub(crate) batch: Draw,
-    pub(crate) step: Phase,
+    pub(crate) phase: Phase,
     pub(crate) sealed: Growing<Applied>,
     pub(crate) origin: Origin,
     pub(crate) alloc: Global,
@@ -51,6 +52,7 @@ impl<D: Disk> Model for Store<D> {
     ghost use Rattle.fp_edit.specs.Flags.{coded_state};
     ghost use Rattle.fp_edit.specs.Following.{changes_of};
     ghost use Rattle.fp_group_commit.specs.Changes.{coded_change};
+    ghost use Rattle.fp_group_commit.specs.Inside.{seen};
     ghost use Rattle.fp_group_commit.specs.Sound.{IsSound};
     ghost use Rattle.fp_group_commit.specs.Store.{StoreState};
 
@@ -58,19 +60,19 @@ impl<D: Disk> Model for Store<D> {
 
     ghost coded = { Prim.hlevel (codes, coded_state, coded_change) };
 
-    ghost view = { λ s. record {
+    ghost view = { λ s. seen (record {
       store = record { name = s.sealed.name; start = s.origin };
       sealed = s.sealed.log;
       staged = s.batch.changes;
-      step = s.step;
+      phase = s.phase;
       slots = s.slots;
-    } };
+    }) };
 
     ghost invariant = { λ s. IsSound D.honest D.unsynced (record {
       store = record { name = s.sealed.name; start = s.origin };
       sealed = s.sealed.log;
       staged = s.batch.changes;
-      step = s.step;
+      phase = s.phase;
       slots = s.slots;
     })
         s.set s.batch.first (changes_of s.ahead.items) (changes_of s.copies.items) };
@@ -86,12 +88,12 @@ impl<D: Disk> Store<D> {
         slots: Slots<D>,
     ) -> (Store<D>, Opening)
         requires same { own ≡ set }
-        requires rest { (slots.journal.phase ≡ Idle) × (slots.step ≡ Begin) }
+        requires rest { (slots.journal.phase ≡ journal.Idle) × (slots.step ≡ Begin) }
         requires kept { (size : ℕ) × IsPlaced size slots set.limit
             × (D.honest slots.journal.disk →
             IsKeptIn (D.unsynced slots.journal.disk) slots size set) }
         ensures fresh { IsFresh result.0 set }
-        ensures slots { result.0.slots ≡ slots }
+        ensures over { IsOver slots result.0 }
         ensures opening { result.1 ≡ result.0.store }
         ensures outcomes { EachCrash D.Disk slots.journal.disk (Leaves result.0) }
     {
@@ -106,7 +108,7 @@ impl<D: Disk> Store<D> {
             ahead: VecDeque::new(alloc),
             copies: VecDeque::new(alloc),
             batch: Draw::new(0, Vec::new(alloc)),
-            step: Phase::Idle,
+            phase: Phase::Idle,
             sealed,
             origin,
             alloc,
@@ -117,19 +119,18 @@ impl<D: Disk> Store<D> {
     /// How far the batch on its way is, so which call comes next.
     /// A call that the device refuses leaves it.
     pub fn phase(&self) -> Phase
-        ensures phase { result ≡ self.now.step }
+        ensures phase { result ≡ self.now.phase }
         // Where no call of the device failed, opening the gate has begun exactly where it is open.
-        ensures begun { self.now.slots.journal.phase ≢ Failed →
-            has_begun self.now ≡ begins_at result false }
-        ensures outcomes { EachCrash D.Disk self.now.slots.journal.disk (Leaves self.now) }
+        ensures begun { self.now.failed ≡ false → self.now.begun ≡ is_opened result }
+        ensures outcomes { EachCrash D.Disk self.now.disk (Leaves self.now) }
     {
         let _ = phase(&self.slots);
-        self.step
+        self.phase
     }
 
     /// What a compaction does next, `Begin` where none runs.
     pub fn step(&self) -> Step
-        ensures { result ≡ self.now.slots.step }
+        ensures { result ≡ self.now.compaction.next }
     {
         let _ = &self.set;
         self.slots.step()
@@ -137,27 +138,26 @@ impl<D: Disk> Store<D> {
 
     /// Whether a call of the device has failed.
     pub fn failed(&self) -> bool
-        ensures { IsTrue result ↔ (self.now.slots.journal.phase ≡ Failed) }
+        ensures { result ≡ self.now.failed }
     {
         let _ = &self.set;
-        matches!(self.slots.journal().phase(), Phase::Failed)
+        matches!(self.slots.journal().phase(), JournalPhase::Failed)
     }
 
     /// Whether the draw is within the limits of a batch, fits beside a compaction, where one runs, and
     /// holds no set of changes where the slot that rules is of the first version.
     pub fn has_room(&self, draw: &Draw) -> bool
-        ensures room { IsTrue result ↔ HasRoom self.now.slots draw.now }
+        ensures room { IsTrue result ↔ HasRoom self.now draw.now }
 
         // Where no compaction runs and the slot that rules has none,
         // nor has whatever a crash leaves, in the same generation.
-        ensures full { IsAtRest self.now → self.now.slots.step ≡ Begin
-            → HasNoRoom self.now.slots draw.now
-            → EachCrash D.Disk self.now.slots.journal.disk
-            (λ c. IsFullFor c (sealed_set self.now) draw.now
-            self.now.slots.generation) }
+        ensures full { IsAtRest self.now → self.now.compaction.next ≡ Begin
+            → HasNoRoom self.now draw.now
+            → EachCrash D.Disk self.now.disk
+            (λ c. IsFullFor c (sealed_set self.now) draw.now self.now.compaction.generation) }
 
         // A quarter of a slot is half of what a set may take.
-        ensures quarter { (self.now.slots.other.stop - self.now.slots.other.start) / 4
+        ensures quarter { (self.now.other.stop - self.now.other.start) / 4
             ≡ self.now.store.start.limit / 2 }
     {
         // What the slots' outcomes are is known only where it is asked.
@@ -173,7 +173,7 @@ impl<D: Disk> Store<D> {
         let _ = &self.set;
         match self.slots.step() {
             Step::Begin => self.slots.generation() < u64::MAX,
-            Step::Tail => matches!(self.step, Phase::Idle),
+            Step::Tail => matches!(self.phase, Phase::Idle),
             _ => true,
         }
     }
@@ -181,7 +181,7 @@ impl<D: Disk> Store<D> {
     /// The version of the slot that rules: 1 or 2. In one of version 1 no set of changes has a place; a
     /// compaction leads to one of version 2.
     pub fn version(&self) -> u8
-        ensures version { result ≡ self.now.slots.version }
+        ensures version { result ≡ self.now.compaction.version }
         ensures known { IsVersion result }
     {
         let _ = &self.set;
@@ -190,7 +190,7 @@ impl<D: Disk> Store<D> {
 
     /// The generation of the slot that rules. Each compaction that ends raises it.
     pub fn generation(&self) -> u64
-        ensures { result ≡ self.now.slots.generation }
+        ensures { result ≡ self.now.compaction.generation }
     {
         let _ = &self.set;
         self.slots.generation()
@@ -198,7 +198,7 @@ impl<D: Disk> Store<D> {
 
     /// How many bytes are left for batches.
     pub fn room(&self) -> u64
-        ensures { result ≡ room self.now.slots.journal }
+        ensures { result ≡ self.now.room }
     {
         let _ = &self.set;
         self.slots.journal().room()
@@ -206,8 +206,7 @@ impl<D: Disk> Store<D> {
 
     /// Whether less than a quarter of a slot is left for batches.
     pub fn is_short(&self) -> bool
-        ensures { IsTrue result ↔ (room self.now.slots.journal
-            < (self.now.slots.other.stop - self.now.slots.other.start) / 4) }
+        ensures { IsTrue result ↔ (self.now.room < self.now.store.start.limit / 2) }
     {
         let _ = &self.set;
         let (size, _) = self.slots.beside();
@@ -223,9 +222,9 @@ impl<D: Disk> Store<D> {
 
     /// Gives the disk back.
     pub fn into_disk(self) -> D
-        ensures disk { result ≡ self.slots.journal.disk }
+        ensures disk { result ≡ self.disk }
         ensures outcomes { EachCrash D.Disk result (Leaves self) }
-        ensures reads { D.honest result → self.slots.journal.phase ≢ Failed →
+        ensures reads { D.honest result → self.failed ≡ false →
             StandsFor (D.bytes result) (readable_set self) }
     {
         // What the slots' outcomes are is known only where it is asked.
@@ -236,7 +235,7 @@ impl<D: Disk> Store<D> {
             ahead: _,
             copies: _,
             batch: _,
-            step: _,
+            phase: _,
             sealed: _,
             origin: _,
             alloc: _,

@@ -9,7 +9,7 @@ use Rattle.http_body_util.specs.declared.limited.LimitedError.TheVariants as lim
 use Rattle.fp_ofrep.specs.Response as reply
 use Rattle.fp_http.specs.Responses.{IsHeadOf}
 use Rattle.fp_http.specs.declared.asked.Asked.{Asked}
-use Rattle.fp_http.specs.declared.service.TheConstants.{LATEST}
+use Rattle.fp_http.specs.Numbers.{LATEST}
 
 -- the replies to a method, a target, the text of `if-none-match`, a body and a moment
 abbrev pub Replies : Type 1

@@ -1,3 +1,4 @@
+pub mod Numbers
 pub mod Responses
 pub mod Asking
 pub mod Answering

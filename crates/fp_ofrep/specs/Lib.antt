@@ -1,3 +1,4 @@
+pub mod Numbers
 pub mod Bodies
 pub mod Bulk
 pub mod Context

@@ -7,7 +7,7 @@ use Rattle.fp_ofrep.specs.Bulk.{bulk_reply}
 use Rattle.fp_ofrep.specs.Response.{Response, empty, not_allowed}
 use Rattle.fp_ofrep.specs.Route.{Route, bulk, single, key, route_of}
 use Rattle.fp_ofrep.specs.Single.{reply_with_key, single_reply}
-use Rattle.fp_ofrep.specs.declared.request.TheConstants.{LONGEST_BODY}
+use Rattle.fp_ofrep.specs.Numbers.{LONGEST_BODY}
 
 abbrev pub reply_to_evaluation : State → Route → Option (List ℕ) → List ℕ → ℕ → Response
 reply_to_evaluation set bulk if_none_match body now = bulk_reply set if_none_match body now

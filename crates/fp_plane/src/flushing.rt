@@ -2,7 +2,7 @@
 
 ghost use Rattle.std.specs.Prelude.{◌≡◌, ◌<◌, ◌≤◌, ◌++◌, length, IfSome, OnOk};
 ghost use Rattle.fp_disk.specs.Crashes.{AtAnyMoment, EachCrash, SameHonesty};
-ghost use Rattle.fp_journal.specs.declared.journal.Phase.TheVariants.{Idle};
+ghost use Rattle.fp_group_commit.specs.declared.phase.Phase.TheVariants.{Idle};
 ghost use Rattle.fp_record.specs.declared.batch.TheConstants.{MOST_EDITS};
 ghost use Rattle.fp_recovery.specs.Stands.{StandsFor};
 ghost use Rattle.fp_group_commit.specs.Store.{IsAtRest, sealed_set};
@@ -71,17 +71,17 @@ where
     D: Disk + Drop,
     R: Wait + Clock + Log + Drop,
     requires ours { store.old.store ≡ K.store }
-    requires idle { store.old.step ≡ Idle }
+    requires idle { store.old.phase ≡ Idle }
     requires some { 0 < length draw.changes }
     requires few { length draw.changes ≤ MOST_EDITS }
     ensures same { store.new.store ≡ store.old.store }
     ensures sealed { OnOk result (store.new.sealed ≡ store.old.sealed ++ draw.changes) }
     ensures rest { OnOk result (IsAtRest store.new) }
-    ensures any_moment { AtAnyMoment D.Disk store.old.slots.journal.disk
-        store.new.slots.journal.disk (KeepsOrGains store.old draw.changes) }
-    ensures keeps { OnOk result (EachCrash D.Disk store.new.slots.journal.disk
+    ensures any_moment { AtAnyMoment D.Disk store.old.disk
+        store.new.disk (KeepsOrGains store.old draw.changes) }
+    ensures keeps { OnOk result (EachCrash D.Disk store.new.disk
         (λ c. StandsFor c (sealed_set store.new))) }
-    ensures honest { SameHonesty D.Disk store.old.slots.journal.disk store.new.slots.journal.disk }
+    ensures honest { SameHonesty D.Disk store.old.disk store.new.disk }
 {
     let before = Seen::of(store);
     let receipt = seal(&plane.shared.rt, store, draw)?;

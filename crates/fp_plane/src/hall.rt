@@ -335,6 +335,7 @@ impl<K: Naming, D: Disk + Drop, R: Wait + Drop> Hall<K, D, R> {
             × (had_by seat.new ≡ Has (front_revision self.old.shown)))) }
         ensures ours { IfOk result (λ o. IfSome o (λ h. h.store ≡ K.store)) }
         ensures unchanged { OnErr result (seat.new ≡ seat.old) }
+        ensures turn { OnErr result (IsNews (had_by seat.old) self.old.shown) }
         ensures last { (self.new.handed ≡ self.old.handed)
             ⊎ (self.new.handed ≡ Some self.old.shown) }
         ensures rest { self.new ≡ record self.old { handed = self.new.handed } }

@@ -1,9 +1,9 @@
 //! Batches, sealed by a store, and the steps of a compaction between them, as a session takes them
 //! too. Where memory is wanting it is tried again.
 
-ghost use Rattle.std.specs.Prelude.{◌≡◌, ◌≢◌, ◌<◌, ◌≤◌, ◌+◌, ◌++◌, length, IfOk, OnOk};
+ghost use Rattle.std.specs.Prelude.{◌≡◌, ◌<◌, ◌≤◌, ◌+◌, ◌++◌, false, length, IfOk, OnOk};
 ghost use Rattle.fp_disk.specs.Crashes.{AtAnyMoment, EachCrash, SameHonesty};
-ghost use Rattle.fp_journal.specs.declared.journal.Phase.TheVariants.{Failed, Idle, Staged};
+ghost use Rattle.fp_group_commit.specs.declared.phase.Phase.TheVariants.{Idle, Staged};
 ghost use Rattle.fp_record.specs.declared.batch.TheConstants.{MOST_EDITS};
 ghost use Rattle.fp_recovery.specs.Stands.{StandsFor};
 ghost use Rattle.fp_group_commit.specs.Changes.{HasRoom};
@@ -32,13 +32,12 @@ fn make_room<D: Disk, R: Wait + Clock>(
     store: &mut Store<D>,
     draw: &Draw,
 ) -> Result<(), Broken>
-    requires idle { store.old.step ≡ Idle }
-    requires keeps { EachCrash D.Disk store.old.slots.journal.disk
-        (λ c. StandsFor c (sealed_set store.old)) }
+    requires idle { store.old.phase ≡ Idle }
+    requires keeps { EachCrash D.Disk store.old.disk (λ c. StandsFor c (sealed_set store.old)) }
     requires some { 0 < length draw.now.changes }
     requires few { length draw.now.changes ≤ MOST_EDITS }
     ensures keeps { KeepsAll D.Disk store.old store.new }
-    ensures room { OnOk result (HasRoom store.new.slots draw.now) }
+    ensures room { OnOk result (HasRoom store.new draw.now) }
 {
     for _ in rt.forever() {
         if store.failed() {
@@ -55,14 +54,13 @@ fn make_room<D: Disk, R: Wait + Clock>(
 
 // Writes the batch.
 fn stage<D: Disk, R: Wait + Clock>(rt: &R, store: &mut Store<D>, draw: Draw) -> Result<(), Broken>
-    requires idle { store.old.step ≡ Idle }
-    requires room { HasRoom store.old.slots draw }
+    requires idle { store.old.phase ≡ Idle }
+    requires room { HasRoom store.old draw }
     ensures same { (store.new.store ≡ store.old.store) × (store.new.sealed ≡ store.old.sealed) }
-    ensures staged { OnOk result ((store.new.step ≡ Staged) × (store.new.staged ≡ draw.changes)
-        × (store.new.slots.journal.phase ≢ Failed)) }
-    ensures any_moment { AtAnyMoment D.Disk store.old.slots.journal.disk
-        store.new.slots.journal.disk (Leaves store.old) }
-    ensures honest { SameHonesty D.Disk store.old.slots.journal.disk store.new.slots.journal.disk }
+    ensures staged { OnOk result ((store.new.phase ≡ Staged) × (store.new.staged ≡ draw.changes)
+        × (store.new.failed ≡ false)) }
+    ensures any_moment { AtAnyMoment D.Disk store.old.disk store.new.disk (Leaves store.old) }
+    ensures honest { SameHonesty D.Disk store.old.disk store.new.disk }
 {
     let mut draw = draw;
     for _ in rt.forever() {
@@ -85,7 +83,7 @@ pub fn seal<D: Disk, R: Wait + Clock>(
     store: &mut Store<D>,
     draw: Draw,
 ) -> Result<Receipt, Broken>
-    requires idle { store.old.step ≡ Idle }
+    requires idle { store.old.phase ≡ Idle }
     requires some { 0 < length draw.changes }
     requires few { length draw.changes ≤ MOST_EDITS }
     ensures same { store.new.store ≡ store.old.store }
@@ -95,11 +93,11 @@ pub fn seal<D: Disk, R: Wait + Clock>(
         × (r.edits ≡ store.new.sealed)) }
     ensures batch { IfOk result (λ r. (r.batch.changes ≡ draw.changes)
         × (r.batch.first ≡ (sealed_set store.old).revision + 1)) }
-    ensures any_moment { AtAnyMoment D.Disk store.old.slots.journal.disk
-        store.new.slots.journal.disk (KeepsOrGains store.old draw.changes) }
-    ensures keeps { OnOk result (EachCrash D.Disk store.new.slots.journal.disk
+    ensures any_moment { AtAnyMoment D.Disk store.old.disk
+        store.new.disk (KeepsOrGains store.old draw.changes) }
+    ensures keeps { OnOk result (EachCrash D.Disk store.new.disk
         (λ c. StandsFor c (sealed_set store.new))) }
-    ensures honest { SameHonesty D.Disk store.old.slots.journal.disk store.new.slots.journal.disk }
+    ensures honest { SameHonesty D.Disk store.old.disk store.new.disk }
 {
     // What a crash leaves is known only where it is asked.
     let _ = store.phase();
@@ -115,8 +113,7 @@ pub fn seal<D: Disk, R: Wait + Clock>(
 /// for batches and one may begin. Where memory is wanting for it, none is taken.
 pub fn compact_on<D: Disk>(store: &mut Store<D>) -> Result<(), Broken>
     requires rest { IsAtRest store.old }
-    requires keeps { EachCrash D.Disk store.old.slots.journal.disk
-        (λ c. StandsFor c (sealed_set store.old)) }
+    requires keeps { EachCrash D.Disk store.old.disk (λ c. StandsFor c (sealed_set store.old)) }
     ensures keeps { KeepsAll D.Disk store.old store.new }
     ensures rest { OnOk result (IsAtRest store.new) }
 {

@@ -22,8 +22,8 @@ pub struct Seen {
 impl Seen {
     /// What is seen of them now.
     pub fn of<D: Disk>(store: &Store<D>) -> Seen
-        ensures generation { result.generation ≡ store.now.slots.generation }
-        ensures runs { IsTrue result.runs ↔ (store.now.slots.step ≢ Begin) }
+        ensures generation { result.generation ≡ store.now.compaction.generation }
+        ensures runs { IsTrue result.runs ↔ (store.now.compaction.next ≢ Begin) }
     {
         Seen {
             generation: store.generation(),

@@ -173,6 +173,8 @@ impl Seats {
             (λ h. IsNews (had_by seat.old) view.now × (h ≡ view.now)
             × (had_by seat.new ≡ Has (front_revision view.now)))) }
         ensures unchanged { OnErr result (seat.new ≡ seat.old) }
+        // Memory is wanting only where there is something to hand.
+        ensures turn { OnErr result (IsNews (had_by seat.old) view.now) }
         ensures last { (self.new.last ≡ self.old.last) ⊎ (self.new.last ≡ Some view.now) }
         ensures store { IsOfStore self.new.last view.now }
         ensures taken { self.new.taken ≡ self.old.taken }

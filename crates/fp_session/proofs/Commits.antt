@@ -8,10 +8,10 @@ use Rattle.fp_disk.specs.declared.disk.Disk.{Ghosts}
 use Rattle.fp_edit.specs.Edits.{Change}
 use Rattle.fp_edit.specs.Flags.{State}
 use Rattle.fp_edit.specs.Log.{after_all}
-use Rattle.fp_journal.specs.declared.journal.Phase.TheVariants.{Idle}
+use Rattle.fp_group_commit.specs.declared.phase.Phase.TheVariants.{Idle}
 use Rattle.fp_recovery.specs.Stands.{StandsFor}
 use Rattle.fp_group_commit.specs.Store.{StoreState, Leaves, sealed_set}
-use Rattle.fp_slots.specs.State.{HasBegun, IsEarly, SlotsState}
+use Rattle.fp_slots.specs.State.{HasBegun, IsEarly}
 use Rattle.fp_slots.specs.declared.slots.Step.{Step}
 use Rattle.fp_slots.specs.declared.slots.Step.TheVariants.{Begin}
 use Rattle.fp_group_commit.specs.Tokens.{Identity}
@@ -26,11 +26,10 @@ use Rattle.std.specs.Prelude.{◌↔◌, Bool, IsTrue, nat_le}
 use borrow.Author.Tests.{leb-true, leb-false}
 use Rattle.fp_edit.proofs.Followed.{after-append}
 use Rattle.fp_edit.proofs.Runs.{revision-after_all}
-use Rattle.fp_journal.specs.State.{room}
 use Rattle.fp_record.specs.Group.{Group}
-use Rattle.fp_recovery.specs.Room.{HasNoRoom, IsFullFor}
+use Rattle.fp_recovery.specs.Room.{IsFullFor}
 use Rattle.fp_record.specs.Encoding.{batch_len}
-use Rattle.fp_group_commit.specs.Changes.{HasRoom}
+use Rattle.fp_group_commit.specs.Changes.{HasNoRoom, HasRoom}
 use Rattle.fp_group_commit.specs.Tokens.{ReceiptState}
 use Rattle.fp_desk.specs.Desk.{IsDrawn, IsNewDraw}
 
@@ -46,7 +45,7 @@ module _ {D : Type 0} (disk : Ghosts D) where
   pub honest_on : (a b c : D) → SameHonesty disk a b → SameHonesty disk b c → SameHonesty disk a c
   honest_on a b c h k = (λ x. k.0 (h.0 x), λ x. h.1 (k.1 x))
 
-pub idle_keeps : {D : Type 0} (s : StoreState D) → s.step ≡ Idle → (c : List ℕ) → Leaves s c → StandsFor c (sealed_set s)
+pub idle_keeps : {D : Type 0} (s : StoreState D) → s.phase ≡ Idle → (c : List ℕ) → Leaves s c → StandsFor c (sealed_set s)
 idle_keeps s idle c (inl stands) = stands
 idle_keeps s idle c (inr both) = absurd (both.0 idle)
 
@@ -59,27 +58,27 @@ gains_as a b x y store sealed same c (inr stands) =
     (ap (λ (i : Identity). after_all i.start (b.sealed ++ y)) store ∙ ap (λ (l : List Change). after_all a.store.start (l ++ y)) sealed ∙ ap (λ (l : List Change). after_all a.store.start (a.sealed ++ l)) same) stands)
 
 -- a store on the way to this batch leaves what was kept, or that and the batch
-pub leaves_either : {D : Type 0} (old s : StoreState D) (batch : List Change) → s.store ≡ old.store → s.sealed ≡ old.sealed → (s.step ≡ Idle) ⊎ (s.staged ≡ batch) → (c : List ℕ) → Leaves s c → KeepsOrGains old batch c
+pub leaves_either : {D : Type 0} (old s : StoreState D) (batch : List Change) → s.store ≡ old.store → s.sealed ≡ old.sealed → (s.phase ≡ Idle) ⊎ (s.staged ≡ batch) → (c : List ℕ) → Leaves s c → KeepsOrGains old batch c
 leaves_either old s batch store sealed going c (inl stands) = gains_as old s batch batch store sealed refl c (inl stands)
 leaves_either old s batch store sealed (inl idle) c (inr both) = absurd (both.0 idle)
 leaves_either old s batch store sealed (inr staged) c (inr both) = gains_as old s batch s.staged store sealed staged c (inr both.2)
 
 -- one call more
-pub call_more : {D : Type 0} (disk : Ghosts D) (old s : StoreState D) (batch : List Change) (first a b : D) → s.store ≡ old.store → s.sealed ≡ old.sealed → (s.step ≡ Idle) ⊎ (s.staged ≡ batch)
+pub call_more : {D : Type 0} (disk : Ghosts D) (old s : StoreState D) (batch : List Change) (first a b : D) → s.store ≡ old.store → s.sealed ≡ old.sealed → (s.phase ≡ Idle) ⊎ (s.staged ≡ batch)
     → SameHonesty disk first a → AtAnyMoment disk first a (KeepsOrGains old batch) → AtAnyMoment disk a b (Leaves s) → AtAnyMoment disk first b (KeepsOrGains old batch)
 call_more disk old s batch first a b store sealed going same before call =
     next_moment disk first a b (KeepsOrGains old batch) same before (weaker disk a b (Leaves s) (KeepsOrGains old batch) (leaves_either old s batch store sealed going) call)
 
 -- the batch is written
-pub staged_moment : {D : Type 0} (disk : Ghosts D) (a s : StoreState D) (batch : List Change) → a.step ≡ Idle → AtAnyMoment disk a.slots.journal.disk s.slots.journal.disk (Leaves a) → AtAnyMoment disk a.slots.journal.disk s.slots.journal.disk (KeepsOrGains a batch)
-staged_moment disk a s batch idle moment = weaker disk a.slots.journal.disk s.slots.journal.disk (Leaves a) (KeepsOrGains a batch) (leaves_either a a batch refl refl (inl idle)) moment
+pub staged_moment : {D : Type 0} (disk : Ghosts D) (a s : StoreState D) (batch : List Change) → a.phase ≡ Idle → AtAnyMoment disk a.disk s.disk (Leaves a) → AtAnyMoment disk a.disk s.disk (KeepsOrGains a batch)
+staged_moment disk a s batch idle moment = weaker disk a.disk s.disk (Leaves a) (KeepsOrGains a batch) (leaves_either a a batch refl refl (inl idle)) moment
 
 -- and sealed, or broken off
-pub sealed_moment : {D : Type 0} (disk : Ghosts D) (a s t : StoreState D) (batch : List Change) → a.step ≡ Idle → (s.store ≡ a.store) × (s.sealed ≡ a.sealed) → s.staged ≡ batch → SameHonesty disk a.slots.journal.disk s.slots.journal.disk
-    → AtAnyMoment disk a.slots.journal.disk s.slots.journal.disk (Leaves a) → AtAnyMoment disk s.slots.journal.disk t.slots.journal.disk (KeepsOrGains s s.staged) → AtAnyMoment disk a.slots.journal.disk t.slots.journal.disk (KeepsOrGains a batch)
+pub sealed_moment : {D : Type 0} (disk : Ghosts D) (a s t : StoreState D) (batch : List Change) → a.phase ≡ Idle → (s.store ≡ a.store) × (s.sealed ≡ a.sealed) → s.staged ≡ batch → SameHonesty disk a.disk s.disk
+    → AtAnyMoment disk a.disk s.disk (Leaves a) → AtAnyMoment disk s.disk t.disk (KeepsOrGains s s.staged) → AtAnyMoment disk a.disk t.disk (KeepsOrGains a batch)
 sealed_moment disk a s t batch idle same staged honest first second =
-    next_moment disk a.slots.journal.disk s.slots.journal.disk t.slots.journal.disk (KeepsOrGains a batch) honest (staged_moment disk a s batch idle first)
-    (weaker disk s.slots.journal.disk t.slots.journal.disk (KeepsOrGains s s.staged) (KeepsOrGains a batch) (gains_as a s batch s.staged same.0 same.1 staged) second)
+    next_moment disk a.disk s.disk t.disk (KeepsOrGains a batch) honest (staged_moment disk a s batch idle first)
+    (weaker disk s.disk t.disk (KeepsOrGains s s.staged) (KeepsOrGains a batch) (gains_as a s batch s.staged same.0 same.1 staged) second)
 
 -- ---- and of its desk
 ahead_at : (d : DeskState) (xs rest : List Change) → log d ≡ xs ++ rest → length d.settled ≤ length xs → IsAhead d (after_all d.store.start xs)
@@ -124,16 +123,16 @@ module _ {D : Type 0} (s : StoreState D) (d : DeskState) (same : d.store ≡ s.s
 
 module _ {D : Type 0} (disk : Ghosts D) (s : StoreState D) (d : DeskState) (i : IsInStep disk s d) where
   -- nothing is done
-  pub still_ahead : ((x : D) (c : List ℕ) → disk.honest x → disk.crash_states_since x (disk.moment x) c → IsOutcome (disk.unsynced x) c) → AtAnyMoment disk s.slots.journal.disk s.slots.journal.disk (StandsAhead d)
-  still_ahead only_now = λ h. leaves_still disk.moment disk.crash_states_since s.slots.journal.disk (StandsAhead d)
-      (λ c left. stands_ahead s d i.same i.settled i.none_drawn [] d.waiting refl c (inl (i.keeps h c (only_now s.slots.journal.disk c h left))))
+  pub still_ahead : ((x : D) (c : List ℕ) → disk.honest x → disk.crash_states_since x (disk.moment x) c → IsOutcome (disk.unsynced x) c) → AtAnyMoment disk s.disk s.disk (StandsAhead d)
+  still_ahead only_now = λ h. leaves_still disk.moment disk.crash_states_since s.disk (StandsAhead d)
+      (λ c left. stands_ahead s d i.same i.settled i.none_drawn [] d.waiting refl c (inl (i.keeps h c (only_now s.disk c h left))))
 
   -- a batch that is sealed
-  pub sealed_ahead : (new : D) (batch rest : List Change) → d.waiting ≡ batch ++ rest → AtAnyMoment disk s.slots.journal.disk new (KeepsOrGains s batch) → AtAnyMoment disk s.slots.journal.disk new (StandsAhead d)
-  sealed_ahead new batch rest parts l = weaker disk s.slots.journal.disk new (KeepsOrGains s batch) (StandsAhead d) (stands_ahead s d i.same i.settled i.none_drawn batch rest parts) l
+  pub sealed_ahead : (new : D) (batch rest : List Change) → d.waiting ≡ batch ++ rest → AtAnyMoment disk s.disk new (KeepsOrGains s batch) → AtAnyMoment disk s.disk new (StandsAhead d)
+  sealed_ahead new batch rest parts l = weaker disk s.disk new (KeepsOrGains s batch) (StandsAhead d) (stands_ahead s d i.same i.settled i.none_drawn batch rest parts) l
 
   -- a first part of what waits that has no room
-  pub lacks_part : (group : Group) (rest : List Change) → d.waiting ≡ group.changes ++ rest → 0 < length group.changes → (generation : ℕ) → 2 ^ 64 ≤ generation + 1 → EachCrash disk s.slots.journal.disk (λ c. IsFullFor c (sealed_set s) group generation) → LacksRoomFor disk d s.slots.journal.disk
+  pub lacks_part : (group : Group) (rest : List Change) → d.waiting ≡ group.changes ++ rest → 0 < length group.changes → (generation : ℕ) → 2 ^ 64 ≤ generation + 1 → EachCrash disk s.disk (λ c. IsFullFor c (sealed_set s) group generation) → LacksRoomFor disk d s.disk
   lacks_part group rest parts some generation last full =
       let batch : List Change = group.changes in
       let same_kept : sealed_set s ≡ after_all d.store.start d.settled = ap (λ (x : Identity). after_all x.start s.sealed) (sym i.same) ∙ ap (λ (l : List Change). after_all d.store.start l) i.settled in
@@ -151,7 +150,7 @@ module _ {D : Type 0} (disk : Ghosts D) (s : StoreState D) (d : DeskState) (i : 
       }
 
   -- what is kept is ahead of nothing
-  pub now_ahead : EachCrash disk s.slots.journal.disk (StandsAhead d)
+  pub now_ahead : EachCrash disk s.disk (StandsAhead d)
   now_ahead = λ h c o. stands_ahead s d i.same i.settled i.none_drawn [] d.waiting refl c (inl (i.keeps h c o))
 
   -- the receipt for it is for what is drawn
@@ -170,7 +169,7 @@ module _ {D : Type 0} (disk : Ghosts D) (s : StoreState D) (d : DeskState) (i : 
 pub in_step_on : {D : Type 0} (disk : Ghosts D) (s m : StoreState D) (d : DeskState) → IsInStep disk s d → Proceeds disk s m → IsInStep disk m d
 in_step_on disk s m d i p = record {
   same = i.same ∙ sym p.keeps.store;
-  rest = (p.keeps.step ∙ i.rest.0, p.well);
+  rest = (p.keeps.phase ∙ i.rest.0, p.well);
   settled = p.keeps.sealed ∙ i.settled;
   none_drawn = i.none_drawn;
   accepts = i.accepts;
@@ -178,15 +177,15 @@ in_step_on disk s m d i p = record {
 }
 
 -- while steps are taken the desk's edits are ahead
-pub kept_ahead : {D : Type 0} (disk : Ghosts D) (s m : StoreState D) (d : DeskState) → IsInStep disk s d → KeepsAll disk s m → AtAnyMoment disk s.slots.journal.disk m.slots.journal.disk (StandsAhead d)
-kept_ahead disk s m d i k = weaker disk s.slots.journal.disk m.slots.journal.disk (λ c. StandsFor c (sealed_set s)) (StandsAhead d) (λ c stands. stands_ahead s d i.same i.settled i.none_drawn [] d.waiting refl c (inl stands)) k.any_moment
+pub kept_ahead : {D : Type 0} (disk : Ghosts D) (s m : StoreState D) (d : DeskState) → IsInStep disk s d → KeepsAll disk s m → AtAnyMoment disk s.disk m.disk (StandsAhead d)
+kept_ahead disk s m d i k = weaker disk s.disk m.disk (λ c. StandsFor c (sealed_set s)) (StandsAhead d) (λ c stands. stands_ahead s d i.same i.settled i.none_drawn [] d.waiting refl c (inl stands)) k.any_moment
 
 -- ---- a batch that was drawn, and sealed behind steps of a compaction
 module _ {D : Type 0} (disk : Ghosts D) (s m t : StoreState D) (d mid : DeskState) (i : IsInStep disk s d) (p : Proceeds disk s m) (group : Group) (draw : IsNewDraw d mid group) where
   -- at each moment of it
-  pub drawn_ahead : AtAnyMoment disk m.slots.journal.disk t.slots.journal.disk (KeepsOrGains m group.changes) → AtAnyMoment disk s.slots.journal.disk t.slots.journal.disk (StandsAhead d)
-  drawn_ahead moment = next_moment disk s.slots.journal.disk m.slots.journal.disk t.slots.journal.disk (StandsAhead d) p.keeps.honest (kept_ahead disk s m d i p.keeps)
-      (sealed_ahead disk m d (in_step_on disk s m d i p) t.slots.journal.disk group.changes mid.waiting draw.longest.parts moment)
+  pub drawn_ahead : AtAnyMoment disk m.disk t.disk (KeepsOrGains m group.changes) → AtAnyMoment disk s.disk t.disk (StandsAhead d)
+  drawn_ahead moment = next_moment disk s.disk m.disk t.disk (StandsAhead d) p.keeps.honest (kept_ahead disk s m d i p.keeps)
+      (sealed_ahead disk m d (in_step_on disk s m d i p) t.disk group.changes mid.waiting draw.longest.parts moment)
 
   -- it is on its way still
   pub same_log_drawn : (e : DeskState) → e ≡ mid → (e.store ≡ d.store) × (log e ≡ log d)
@@ -199,11 +198,11 @@ module _ {D : Type 0} (disk : Ghosts D) (s m t : StoreState D) (d mid : DeskStat
   pub same_log : (e : DeskState) → e ≡ record mid { settled = mid.settled ++ mid.drawn; drawn = []; last = mid.drawn } → (e.store ≡ d.store) × (log e ≡ log d)
   same_log e is = let none = draw.none_out in let parts = draw.longest.parts in let new = draw.new_is in grind (arith, none, parts, new, is, append_assoc)
 
-  module _ (sealed : IsSealed disk.faults group.changes m t) (store : t.store ≡ m.store) (calls : disk.calls t.slots.journal.disk ≡ disk.calls m.slots.journal.disk ++ batch_calls) where
+  module _ (sealed : IsSealed disk.faults group.changes m t) (store : t.store ≡ m.store) (calls : disk.calls t.disk ≡ disk.calls m.disk ++ batch_calls) where
     pub works_sealed : Works disk s t
     works_sealed = works_on disk s m t p.works (record { works = whole_batch ∷ []; lead = (sealed.early, sealed.course); calls = calls })
 
-    pub committed : EachCrash disk t.slots.journal.disk (λ c. StandsFor c (sealed_set t)) → (e : DeskState) → e ≡ record mid { settled = mid.settled ++ mid.drawn; drawn = []; last = mid.drawn } → Commits disk s t d e
+    pub committed : EachCrash disk t.disk (λ c. StandsFor c (sealed_set t)) → (e : DeskState) → e ≡ record mid { settled = mid.settled ++ mid.drawn; drawn = []; last = mid.drawn } → Commits disk s t d e
     committed keeps e is =
         let now = settled_is e is in record {
           batch = group.changes;
@@ -224,14 +223,14 @@ module _ {D : Type 0} (disk : Ghosts D) (s m t : StoreState D) (d mid : DeskStat
         }
 
 -- where a batch that was drawn broke off
-pub broken_batch : {D : Type 0} (disk : Ghosts D) (m t : StoreState D) → IsEarly m.slots.step → MakesSome batch_calls (disk.calls m.slots.journal.disk) (disk.calls t.slots.journal.disk) → BreaksOff disk m t
+pub broken_batch : {D : Type 0} (disk : Ghosts D) (m t : StoreState D) → IsEarly m.compaction.next → MakesSome batch_calls (disk.calls m.disk) (disk.calls t.disk) → BreaksOff disk m t
 broken_batch disk m t early calls = record {
   works = [];
-  next = m.slots.step;
+  next = m.compaction.next;
   last = whole_batch;
   lead = refl;
   may = early;
-  calls = subst (λ (l : List CallKind). MakesSome batch_calls l (disk.calls t.slots.journal.disk)) (sym (append-nil (disk.calls m.slots.journal.disk))) calls;
+  calls = subst (λ (l : List CallKind). MakesSome batch_calls l (disk.calls t.disk)) (sym (append-nil (disk.calls m.disk))) calls;
 }
 
 pub ok_more : {A E : Type 0} (r : Result A E) (P Q : Type 0) → (P → Q) → OnOk r P → OnOk r Q
@@ -250,14 +249,14 @@ present_ahead disk old new d e counts_now same store all more moment = λ h c o.
     let l = moment (same.1 h) in stands_on d e store all more c (l.each c (counts_now new (disk.moment old) c h l.later o))
 
 -- ---- room
-pub no_room : {D : Type 0} (slots : SlotsState D) (group : Group) (b : Bool) → (IsTrue b ↔ HasRoom slots group) → b ≡ false → slots.step ≡ Begin → 0 < length group.changes → length group.changes ≤ 64 → HasNoRoom slots group
-no_room slots group b says not begins some few =
-    elim (nat_le (batch_len group) slots.journal.slot.most) as (λ t. nat_le (batch_len group) slots.journal.slot.most ≡ t → HasNoRoom slots group) [
+pub no_room : {D : Type 0} (s : StoreState D) (group : Group) (b : Bool) → (IsTrue b ↔ HasRoom s group) → b ≡ false → s.compaction.next ≡ Begin → 0 < length group.changes → length group.changes ≤ 64 → HasNoRoom s group
+no_room s group b says not begins some few =
+    elim (nat_le (batch_len group) s.most) as (λ t. nat_le (batch_len group) s.most ≡ t → HasNoRoom s group) [
       | false ↦ λ e. inl (leb-false _ _ e)
-      | true ↦ λ e. elim (nat_le (batch_len group + 6) (room slots.journal)) as (λ t. nat_le (batch_len group + 6) (room slots.journal) ≡ t → HasNoRoom slots group) [
+      | true ↦ λ e. elim (nat_le (batch_len group + 6) s.room) as (λ t. nat_le (batch_len group + 6) s.room ≡ t → HasNoRoom s group) [
         | false ↦ λ f. let narrow = leb-false _ _ f in inr (inl (omega (arith, narrow)))
         | true ↦ λ f. inr (inr (λ allowed.
-            let both : false ≡ true = sym not ∙ says.1 (record { some = some; few = few; room = record { short = leb-true _ _ e; fits = leb-true _ _ f; early = subst (λ (x : Step). IsEarly x) (sym begins) tt; tail = λ runs. absurd (subst (λ (x : Step). HasBegun x) begins runs) }; allowed = allowed }) in absurd cc))
+            let both : false ≡ true = sym not ∙ says.1 (record { some = some; few = few; short = leb-true _ _ e; fits = leb-true _ _ f; early = subst (λ (x : Step). IsEarly x) (sym begins) tt; tail = λ runs. absurd (subst (λ (x : Step). HasBegun x) begins runs); allowed = allowed }) in absurd cc))
       ] refl
     ] refl
 

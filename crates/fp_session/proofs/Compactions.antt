@@ -10,7 +10,7 @@ use Rattle.fp_disk.specs.Outcomes.{IsOutcome}
 use Rattle.fp_disk.specs.declared.disk.Disk.{Ghosts}
 use Rattle.fp_edit.specs.Flags.{State}
 use Rattle.fp_edit.specs.Log.{after_all}
-use Rattle.fp_journal.specs.declared.journal.Phase.TheVariants.{Idle}
+use Rattle.fp_group_commit.specs.declared.phase.Phase.TheVariants.{Idle}
 use Rattle.fp_recovery.specs.Stands.{StandsFor}
 use Rattle.fp_slots.specs.declared.places.TheConstants.{IMAGE_PLACE}
 use Rattle.fp_slots.specs.declared.slots.Step.{Step}
@@ -31,24 +31,24 @@ module _ {D : Type 0} (disk : Ghosts D) where
   kept_as a b store sealed = ap (λ (x : Identity). after_all x.start b.sealed) store ∙ ap (λ l. after_all a.store.start l) sealed
 
   -- a call that leaves what a store at rest leaves
-  pub keeps_all : (a b : StoreState D) → b.store ≡ a.store → b.sealed ≡ a.sealed → b.step ≡ a.step → a.step ≡ Idle
-      → AtAnyMoment disk a.slots.journal.disk b.slots.journal.disk (Leaves a) → EachCrash disk b.slots.journal.disk (Leaves b) → SameHonesty disk a.slots.journal.disk b.slots.journal.disk → KeepsAll disk a b
+  pub keeps_all : (a b : StoreState D) → b.store ≡ a.store → b.sealed ≡ a.sealed → b.phase ≡ a.phase → a.phase ≡ Idle
+      → AtAnyMoment disk a.disk b.disk (Leaves a) → EachCrash disk b.disk (Leaves b) → SameHonesty disk a.disk b.disk → KeepsAll disk a b
   keeps_all a b store sealed step idle moment exit same = record {
     store = store;
     sealed = sealed;
-    step = step;
-    any_moment = weaker disk a.slots.journal.disk b.slots.journal.disk (Leaves a) (λ c. StandsFor c (sealed_set a)) (idle_keeps a idle) moment;
+    phase = step;
+    any_moment = weaker disk a.disk b.disk (Leaves a) (λ c. StandsFor c (sealed_set a)) (idle_keeps a idle) moment;
     now = λ h c o. idle_keeps b (step ∙ idle) c (exit h c o);
     honest = same;
   }
 
   pub keeps_none : ((x : D) (c : _) → disk.honest x → disk.crash_states_since x (disk.moment x) c → IsOutcome (disk.unsynced x) c)
-      → (a : StoreState D) → EachCrash disk a.slots.journal.disk (λ c. StandsFor c (sealed_set a)) → KeepsAll disk a a
+      → (a : StoreState D) → EachCrash disk a.disk (λ c. StandsFor c (sealed_set a)) → KeepsAll disk a a
   keeps_none only_now a keeps = record {
     store = refl;
     sealed = refl;
-    step = refl;
-    any_moment = λ h. leaves_still disk.moment disk.crash_states_since a.slots.journal.disk (λ c. StandsFor c (sealed_set a)) (λ c left. keeps h c (only_now a.slots.journal.disk c h left));
+    phase = refl;
+    any_moment = λ h. leaves_still disk.moment disk.crash_states_since a.disk (λ c. StandsFor c (sealed_set a)) (λ c left. keeps h c (only_now a.disk c h left));
     now = keeps;
     honest = (λ h. h, λ h. h);
   }
@@ -58,11 +58,11 @@ module _ {D : Type 0} (disk : Ghosts D) where
       let same : sealed_set b ≡ sealed_set a = kept_as a b h.store h.sealed in record {
         store = k.store ∙ h.store;
         sealed = k.sealed ∙ h.sealed;
-        step = k.step ∙ h.step;
-        any_moment = next_moment disk a.slots.journal.disk b.slots.journal.disk c.slots.journal.disk (λ o. StandsFor o (sealed_set a)) h.honest h.any_moment
-            (weaker disk b.slots.journal.disk c.slots.journal.disk (λ o. StandsFor o (sealed_set b)) (λ o. StandsFor o (sealed_set a)) (λ o stands. subst (λ (s : State). StandsFor o s) same stands) k.any_moment);
+        phase = k.phase ∙ h.phase;
+        any_moment = next_moment disk a.disk b.disk c.disk (λ o. StandsFor o (sealed_set a)) h.honest h.any_moment
+            (weaker disk b.disk c.disk (λ o. StandsFor o (sealed_set b)) (λ o. StandsFor o (sealed_set a)) (λ o stands. subst (λ (s : State). StandsFor o s) same stands) k.any_moment);
         now = k.now;
-        honest = honest_on disk a.slots.journal.disk b.slots.journal.disk c.slots.journal.disk h.honest k.honest;
+        honest = honest_on disk a.disk b.disk c.disk h.honest k.honest;
       }
 
   pub proceeds_then : (a b c : StoreState D) → Proceeds disk a b → Proceeds disk b c → Proceeds disk a c
@@ -81,23 +81,23 @@ module _ {D : Type 0} (disk : Ghosts D) where
   }
 
   -- one step
-  pub works_step : (a b : StoreState D) → b.slots.step ≡ next_step a.slots.step a.slots.left
-      → disk.calls b.slots.journal.disk ≡ disk.calls a.slots.journal.disk ++ calls_of a.slots.step a.slots.may_open → Works disk a b
+  pub works_step : (a b : StoreState D) → b.compaction.next ≡ next_step a.compaction.next a.compaction.left
+      → disk.calls b.disk ≡ disk.calls a.disk ++ calls_of a.compaction.next a.may_open → Works disk a b
   works_step a b next calls = record {
-    works = compaction_step a.slots.step a.slots.may_open ∷ [];
-    lead = (refl, a.slots.left, next);
-    calls = calls ∙ ap (λ l. disk.calls a.slots.journal.disk ++ l) (sym (append-nil (calls_of a.slots.step a.slots.may_open)));
+    works = compaction_step a.compaction.next a.may_open ∷ [];
+    lead = (refl, a.compaction.left, next);
+    calls = calls ∙ ap (λ l. disk.calls a.disk ++ l) (sym (append-nil (calls_of a.compaction.next a.may_open)));
   }
 
   -- and one that broke off
-  pub breaks_step : (a b : StoreState D) → MakesSome (calls_of a.slots.step a.slots.may_open) (disk.calls a.slots.journal.disk) (disk.calls b.slots.journal.disk) → BreaksOff disk a b
+  pub breaks_step : (a b : StoreState D) → MakesSome (calls_of a.compaction.next a.may_open) (disk.calls a.disk) (disk.calls b.disk) → BreaksOff disk a b
   breaks_step a b calls = record {
     works = [];
-    next = a.slots.step;
-    last = compaction_step a.slots.step a.slots.may_open;
+    next = a.compaction.next;
+    last = compaction_step a.compaction.next a.may_open;
     lead = refl;
     may = refl;
-    calls = subst (λ l. MakesSome (calls_of a.slots.step a.slots.may_open) l (disk.calls b.slots.journal.disk)) (sym (append-nil (disk.calls a.slots.journal.disk))) calls;
+    calls = subst (λ l. MakesSome (calls_of a.compaction.next a.may_open) l (disk.calls b.disk)) (sym (append-nil (disk.calls a.disk))) calls;
   }
 
 -- ---- how many are left
@@ -114,8 +114,8 @@ steps_left SyncOpen left most = 1
 
 -- and before the last generation is used up
 abbrev pub work_left : {D : Type 0} → StoreState D → ℕ
-work_left s = (2 ^ 64 - s.slots.generation) * (IMAGE_PLACE + s.store.start.limit + 9)
-    + steps_left s.slots.step s.slots.left (IMAGE_PLACE + s.store.start.limit)
+work_left s = (2 ^ 64 - s.compaction.generation) * (IMAGE_PLACE + s.store.start.limit + 9)
+    + steps_left s.compaction.next s.compaction.left (IMAGE_PLACE + s.store.start.limit)
 
 -- a generation more is worth all steps of a compaction
 worth : (r most : ℕ) → r * (most + 9) + (most + 8) < suc r * (most + 9) + 1
@@ -129,25 +129,25 @@ pub falls : {D : Type 0} (faults : D → ℕ) (a b : StoreState D) → b.store �
 falls faults a b store c =
     let most : ℕ = IMAGE_PLACE + a.store.start.limit in
     let limit = ap (λ (x : Identity). IMAGE_PLACE + x.start.limit) store in
-    let fell = falls_at a.slots.step a.slots.left b.slots.left a.slots.generation b.slots.generation most c.left
+    let fell = falls_at a.compaction.next a.compaction.left b.compaction.left a.compaction.generation b.compaction.generation most c.left
     (λ at. let p = c.begun at in let head = p.head in let small = p.small in let left = p.left in omega (arith, head, small, left))
     (λ on. (c.slots_stay on).1) (λ at. (c.slots_turn at).1) c.numbered in
-    subst (λ (q : Step). (2 ^ 64 - b.slots.generation) * (IMAGE_PLACE + b.store.start.limit + 9) + steps_left q b.slots.left (IMAGE_PLACE + b.store.start.limit) < work_left a) (sym c.next)
-    (subst (λ (m : ℕ). (2 ^ 64 - b.slots.generation) * (m + 9) + steps_left (next_step a.slots.step a.slots.left) b.slots.left m < work_left a) (sym limit) fell)
+    subst (λ (q : Step). (2 ^ 64 - b.compaction.generation) * (IMAGE_PLACE + b.store.start.limit + 9) + steps_left q b.compaction.left (IMAGE_PLACE + b.store.start.limit) < work_left a) (sym c.next)
+    (subst (λ (m : ℕ). (2 ^ 64 - b.compaction.generation) * (m + 9) + steps_left (next_step a.compaction.next a.compaction.left) b.compaction.left m < work_left a) (sym limit) fell)
 
 -- ---- where a step may not be taken
 -- none runs, and no generation is left
-pub used_up : {D : Type 0} (s : StoreState D) → s.step ≡ Idle → (MayCompact s → ⊥) → (s.slots.step ≡ Begin) × (2 ^ 64 ≤ s.slots.generation + 1)
+pub used_up : {D : Type 0} (s : StoreState D) → s.phase ≡ Idle → (MayCompact s → ⊥) → (s.compaction.next ≡ Begin) × (2 ^ 64 ≤ s.compaction.generation + 1)
 used_up s idle never = (begins, large)
   where
     nothing_else : (p : Step) → ((p ≡ Begin → ⊥) → ⊥) → p ≡ Begin
     nothing_else p not = grind arith
 
-    begins : s.slots.step ≡ Begin
-    begins = nothing_else s.slots.step (λ not. never (record { next = λ b. absurd (not b); still = λ t. idle }))
+    begins : s.compaction.next ≡ Begin
+    begins = nothing_else s.compaction.next (λ not. never (record { next = λ b. absurd (not b); still = λ t. idle }))
 
-    large : 2 ^ 64 ≤ s.slots.generation + 1
-    large = elim (nat_lt (s.slots.generation + 1) (2 ^ 64)) as (λ t. nat_lt (s.slots.generation + 1) (2 ^ 64) ≡ t → 2 ^ 64 ≤ s.slots.generation + 1) [
+    large : 2 ^ 64 ≤ s.compaction.generation + 1
+    large = elim (nat_lt (s.compaction.generation + 1) (2 ^ 64)) as (λ t. nat_lt (s.compaction.generation + 1) (2 ^ 64) ≡ t → 2 ^ 64 ≤ s.compaction.generation + 1) [
       | true ↦ λ e. absurd (never (record { next = λ _. leb-true _ _ e; still = λ t. idle }))
       | false ↦ λ e. (let no = leb-false _ _ e in omega (arith, no))
     ] refl

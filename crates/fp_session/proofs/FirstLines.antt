@@ -1,9 +1,9 @@
 -- The first line of an input, as it comes in.
-use Rattle.std.proofs.Common.{◌≡◌, ◌+◌, ℕ, List, [], ◌∷◌, ◌++◌, take, drop, position, ◌==◌, Bool, true, false, Option, Some, refl, sym, ap, subst, ◌∙◌, append_assoc, append-nil}
+use Rattle.std.proofs.Common.{◌≡◌, ◌+◌, ℕ, List, [], ◌∷◌, ◌++◌, take, drop, Bool, true, false, Option, Some, refl, sym, ap, subst, ◌∙◌, append_assoc, append-nil}
 use Rattle.std.specs.Prelude.{IfSome}
 use Rattle.std.specs.Io.KnownBytes.{Consumes, IsAtEnd}
 use Rattle.fp_base.proofs.Known.{Consumes-some, IfSome-each}
-use Rattle.fp_session.specs.Asks.{Ask, asked_by_input}
+use Rattle.fp_session.specs.Asks.{asked_by_input}
 use Rattle.fp_session.specs.Lines.{line_up_to_limit, lines}
 use Rattle.fp_session.specs.Requests.{first_line, first_of, is_left, is_request_line}
 use Rattle.fp_session.specs.Sources.{AskLines}

@@ -1,5 +1,5 @@
 -- What is left of the version.
-use Rattle.std.proofs.Common.{◌≡◌, ◌≤◌, ◌<◌, ◌+◌, ◌==◌, ◌&&◌, ℕ, List, [], ◌∷◌, length, drop, get_or, Bool, true, false, sym, ap, ◌∙◌}
+use Rattle.std.proofs.Common.{◌≡◌, ◌≤◌, ◌<◌, ◌+◌, ◌==◌, ◌&&◌, ℕ, List, [], ◌∷◌, length, drop, get_or, ap}
 use Rattle.std.proofs.lemmas.List.{at_drop_more, drop_all}
 use Rattle.fp_session.specs.Requests.{is_version, version}
 

@@ -16,7 +16,6 @@ use Rattle.fp_edit.specs.Flags.{State}
 use Rattle.fp_edit.specs.Log.{after_all}
 use Rattle.fp_edit.proofs.Runs.{revision-after_all}
 use Rattle.fp_group_commit.specs.Store.{IsFresh, Leaves, StoreState}
-use Rattle.fp_journal.specs.declared.journal.Phase.TheVariants.{Failed, Idle}
 use Rattle.fp_group_commit.specs.Tokens.{Identity}
 use Rattle.fp_desk.specs.Desk.{DeskState, head, IsAccepted, log}
 use Rattle.fp_session.specs.Session.{disk_of, IsAhead, IsInStep, Keeps, LeavesFlags, SessionState, StandsAhead}
@@ -89,13 +88,13 @@ module _ {D : Type 0} (disk : Ghosts D) (s a : SessionState D) (is : s ≡ a) wh
 
   module _ (m : StoreState D) (going : IsInStep disk s.store s.desk) (k : KeepsAll disk s.store m) where
     -- the desk's edits are ahead of what is kept
-    pub beside_ahead : EachCrash disk m.slots.journal.disk (StandsAhead s.desk)
+    pub beside_ahead : EachCrash disk m.disk (StandsAhead s.desk)
     beside_ahead = λ h c o. stands_ahead s.store s.desk going.same going.settled going.none_drawn [] s.desk.waiting refl c
         (inl (subst (λ (x : State). StandsFor c x) (kept_as disk s.store m k.store k.sealed) (k.now h c o)))
 
     pub beside_leaves : (b : SessionState D) → b.store ≡ m → LeavesFlags disk a b (IsAhead a.desk)
     beside_leaves b at = subst (λ (x : SessionState D). LeavesFlags disk x b (IsAhead x.desk)) is
-        (subst (λ (x : StoreState D). SameHonesty disk (disk_of s) x.slots.journal.disk × AtAnyMoment disk (disk_of s) x.slots.journal.disk (StandsAhead s.desk)) (sym at) (k.honest, kept_ahead disk s.store m s.desk going k))
+        (subst (λ (x : StoreState D). SameHonesty disk (disk_of s) x.disk × AtAnyMoment disk (disk_of s) x.disk (StandsAhead s.desk)) (sym at) (k.honest, kept_ahead disk s.store m s.desk going k))
 
 -- ---- refusals
 never_memory : (a b c : Bool) (k : Option ℕ) → first_failed ((a, fault.Conflict k) ∷ (b, fault.SetTooLarge) ∷ (c, fault.RevisionsUsed) ∷ []) ≡ Some fault.Memory → ⊥
@@ -122,13 +121,13 @@ refused_known s p fault.RevisionsUsed h = h
 refused_known s p fault.Memory h = absurd (never_wanting s p h)
 
 -- ---- at first
-pub new_in_step : {D : Type 0} (disk : Ghosts D) (s : StoreState D) (opening : Identity) (d : DeskState) → opening ≡ s.store → IsFresh s s.store.start → EachCrash disk s.slots.journal.disk (Leaves s)
+pub new_in_step : {D : Type 0} (disk : Ghosts D) (s : StoreState D) (opening : Identity) (d : DeskState) → opening ≡ s.store → IsFresh s s.store.start → EachCrash disk s.disk (Leaves s)
     → d ≡ record { store = opening; settled = []; drawn = []; waiting = []; stopped = false; last = [] } → IsInStep disk s d
 new_in_step disk s opening d same fresh leaves made = record {
   same = ap (λ (x : DeskState). x.store) made ∙ same;
-  rest = (fresh.step, λ failed. let both : Idle ≡ Failed = sym fresh.phase ∙ failed in absurd cc);
+  rest = (fresh.phase, fresh.well);
   settled = fresh.sealed ∙ sym (ap (λ (x : DeskState). x.settled) made);
   none_drawn = ap (λ (x : DeskState). x.drawn) made;
   accepts = ap (λ (x : DeskState). x.stopped) made;
-  keeps = λ h c o. idle_keeps s fresh.step c (leaves h c o);
+  keeps = λ h c o. idle_keeps s fresh.phase c (leaves h c o);
 }

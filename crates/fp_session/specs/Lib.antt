@@ -1,3 +1,4 @@
+pub mod Numbers
 pub mod Lines
 pub mod Sources
 pub mod Asks

@@ -2,7 +2,7 @@
 use Rattle.std.specs.Prelude.{ℕ, List, [], ◌∷◌, length, Bool, ◌&&◌, ◌||◌, ◌==◌, not, nat_le}
 use Rattle.std.specs.Prelude.{if◌then◌else◌, filter, take, ◌+◌}
 use Rattle.std.specs.List.{list_all}
-use Rattle.fp_edit.specs.declared.line.TheConstants.{LONGEST_LINE}
+use Rattle.fp_edit.specs.Numbers.{LONGEST_LINE}
 
 abbrev pub onto_first : ℕ → List (List ℕ) → List (List ℕ)
 onto_first b [] = (b ∷ []) ∷ []

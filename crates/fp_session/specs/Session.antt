@@ -1,5 +1,5 @@
 -- A session of edits over a store and a desk: what a crash may leave of it, and what it calls.
-use Rattle.std.specs.Prelude.{◌≡◌, ◌≢◌, ◌⊎◌, ◌<◌, ◌≤◌, ◌+◌, ◌^◌, ℕ, Bool, false, List, [], ◌∷◌}
+use Rattle.std.specs.Prelude.{◌≡◌, ◌⊎◌, ◌<◌, ◌≤◌, ◌+◌, ◌^◌, ℕ, Bool, false, List, [], ◌∷◌}
 use Rattle.std.specs.Prelude.{◌++◌, length, take}
 use Rattle.fp_disk.specs.Crashes.{AtAnyMoment, EachCrash, SameHonesty}
 use Rattle.fp_disk.specs.History.{MakesSome}
@@ -9,7 +9,6 @@ use Rattle.fp_disk.specs.declared.history.CallKind.TheVariants.{Sync, Write}
 use Rattle.fp_edit.specs.Edits.{Change}
 use Rattle.fp_edit.specs.Flags.{State}
 use Rattle.fp_edit.specs.Log.{after_all}
-use Rattle.fp_journal.specs.declared.journal.Phase.TheVariants.{Failed}
 use Rattle.fp_recovery.specs.Room.{IsFullFor}
 use Rattle.fp_slots.specs.State.{IsEarly}
 use Rattle.fp_slots.specs.declared.slots.Step.{Step}
@@ -26,7 +25,7 @@ pub record SessionState (D : Type 0) : Type 0 where
   pub stopped : Bool
 
 abbrev pub disk_of : {D : Type 0} → SessionState D → D
-disk_of s = s.store.slots.journal.disk
+disk_of s = s.store.disk
 
 -- the flags with all edits that were taken
 abbrev pub flags_of : {D : Type 0} → SessionState D → State
@@ -49,16 +48,16 @@ pub record IsInStep {D : Type 0} (disk : Ghosts D) (s : StoreState D) (d : DeskS
   pub settled : s.sealed ≡ d.settled
   pub none_drawn : d.drawn ≡ []
   pub accepts : d.stopped ≡ false
-  pub keeps : EachCrash disk s.slots.journal.disk (λ c. StandsFor c (sealed_set s))
+  pub keeps : EachCrash disk s.disk (λ c. StandsFor c (sealed_set s))
 
 -- the batch was sealed, and no call of the device failed
 pub record IsSealed {D : Type 0} (faults : D → ℕ) (batch : List Change)
     (s t : StoreState D) : Type 0 where
   pub sealed : t.sealed ≡ s.sealed ++ batch
   pub rest : IsAtRest t
-  pub early : IsEarly s.slots.step
-  pub course : t.slots.step ≡ s.slots.step
-  pub no_failure : faults t.slots.journal.disk ≡ faults s.slots.journal.disk
+  pub early : IsEarly s.compaction.next
+  pub course : t.compaction.next ≡ s.compaction.next
+  pub no_failure : faults t.disk ≡ faults s.disk
 
 -- the bytes stand for what is kept, or for that and the batch
 abbrev pub KeepsOrGains : {D : Type 0} → StoreState D → List Change → List ℕ → Type 0
@@ -101,18 +100,17 @@ Leads next (compaction_step p may_open ∷ works) last = MayCome next (compactio
 -- the calls from one to the other were those of such works
 pub record Works {D : Type 0} (disk : Ghosts D) (a b : StoreState D) : Type 0 where
   pub works : List Work
-  pub lead : Leads a.slots.step works b.slots.step
-  pub calls : disk.calls b.slots.journal.disk ≡ disk.calls a.slots.journal.disk ++ calls_of works
+  pub lead : Leads a.compaction.next works b.compaction.next
+  pub calls : disk.calls b.disk ≡ disk.calls a.disk ++ calls_of works
 
 -- and then some first ones of a work that may come behind them
 pub record BreaksOff {D : Type 0} (disk : Ghosts D) (a b : StoreState D) : Type 0 where
   pub works : List Work
   pub next : Step
   pub last : Work
-  pub lead : Leads a.slots.step works next
+  pub lead : Leads a.compaction.next works next
   pub may : MayCome next last
-  pub calls : MakesSome (work_calls last) (disk.calls a.slots.journal.disk ++ calls_of works)
-      (disk.calls b.slots.journal.disk)
+  pub calls : MakesSome (work_calls last) (disk.calls a.disk ++ calls_of works) (disk.calls b.disk)
 
 -- the first part of what waits was sealed and settled, and no call of the device failed
 pub record Commits {D : Type 0} (disk : Ghosts D) (s t : StoreState D)
@@ -124,7 +122,7 @@ pub record Commits {D : Type 0} (disk : Ghosts D) (s t : StoreState D)
   pub desk : e ≡ record d { settled = d.settled ++ batch; waiting = rest; last = batch }
   pub in_step : IsInStep disk t e
   pub works : Works disk s t
-  pub no_failure : disk.faults t.slots.journal.disk ≡ disk.faults s.slots.journal.disk
+  pub no_failure : disk.faults t.disk ≡ disk.faults s.disk
 
 -- flags on the way, and edits that wait behind them, for which whatever a crash leaves of the disk
 -- has no room, in a generation that none follows
@@ -145,17 +143,16 @@ pub record LacksRoomFor {D : Type 0} (disk : Ghosts D) (d : DeskState) (now : D)
 pub record KeepsAll {D : Type 0} (disk : Ghosts D) (a b : StoreState D) : Type 0 where
   pub store : b.store ≡ a.store
   pub sealed : b.sealed ≡ a.sealed
-  pub step : b.step ≡ a.step
-  pub any_moment : AtAnyMoment disk a.slots.journal.disk b.slots.journal.disk
-      (λ c. StandsFor c (sealed_set a))
-  pub now : EachCrash disk b.slots.journal.disk (λ c. StandsFor c (sealed_set b))
-  pub honest : SameHonesty disk a.slots.journal.disk b.slots.journal.disk
+  pub phase : b.phase ≡ a.phase
+  pub any_moment : AtAnyMoment disk a.disk b.disk (λ c. StandsFor c (sealed_set a))
+  pub now : EachCrash disk b.disk (λ c. StandsFor c (sealed_set b))
+  pub honest : SameHonesty disk a.disk b.disk
 
 -- and the device hasn't failed
 pub record Proceeds {D : Type 0} (disk : Ghosts D) (a b : StoreState D) : Type 0 where
   pub keeps : KeepsAll disk a b
-  pub well : b.slots.journal.phase ≢ Failed
-  pub no_failure : disk.faults b.slots.journal.disk ≡ disk.faults a.slots.journal.disk
+  pub well : b.failed ≡ false
+  pub no_failure : disk.faults b.disk ≡ disk.faults a.disk
   pub works : Works disk a b
 
 -- a step wasn't taken, and the device failed, or memory was wanting
@@ -163,7 +160,7 @@ pub record Halts {D : Type 0} (disk : Ghosts D) (a b : StoreState D)
     (f : CommitFault) : Type 0 where
   pub keeps : KeepsAll disk a b
   pub works : BreaksOff disk a b
-  pub cause : f ≡ StoreFailed → disk.faults a.slots.journal.disk < disk.faults b.slots.journal.disk
+  pub cause : f ≡ StoreFailed → disk.faults a.disk < disk.faults b.disk
 
 -- ---- sessions
 -- it takes edits

@@ -32,29 +32,29 @@ leads_more p q r (compaction_step x may_open ∷ xs) ys h k =
 module _ {D : Type 0} (disk : Ghosts D) where
   pub no_works : (a : StoreState D) → Works disk a a
   no_works a =
-      record { works = []; lead = refl; calls = sym (append-nil (disk.calls a.slots.journal.disk)) }
+      record { works = []; lead = refl; calls = sym (append-nil (disk.calls a.disk)) }
 
   pub works_on : (a b c : StoreState D) → Works disk a b → Works disk b c → Works disk a c
   works_on a b c h k = record {
     works = h.works ++ k.works;
-    lead = leads_more a.slots.step b.slots.step c.slots.step h.works k.works h.lead k.lead;
+    lead = leads_more a.compaction.next b.compaction.next c.compaction.next h.works k.works h.lead k.lead;
     calls = k.calls ∙ ap (λ (l : List CallKind). l ++ calls_of k.works) h.calls
-        ∙ append_assoc (disk.calls a.slots.journal.disk) (calls_of h.works) (calls_of k.works)
-        ∙ ap (λ (l : List CallKind). disk.calls a.slots.journal.disk ++ l)
+        ∙ append_assoc (disk.calls a.disk) (calls_of h.works) (calls_of k.works)
+        ∙ ap (λ (l : List CallKind). disk.calls a.disk ++ l)
         (sym (calls_more h.works k.works));
   }
 
   pub breaks_on : (a b c : StoreState D) → Works disk a b → BreaksOff disk b c → BreaksOff disk a c
   breaks_on a b c h k =
-      let first : List CallKind = disk.calls a.slots.journal.disk in record {
+      let first : List CallKind = disk.calls a.disk in record {
         works = h.works ++ k.works;
         next = k.next;
         last = k.last;
-        lead = leads_more a.slots.step b.slots.step k.next h.works k.works h.lead k.lead;
+        lead = leads_more a.compaction.next b.compaction.next k.next h.works k.works h.lead k.lead;
         may = k.may;
         calls = subst
             (λ (l : List CallKind).
-            MakesSome (work_calls k.last) l (disk.calls c.slots.journal.disk))
+            MakesSome (work_calls k.last) l (disk.calls c.disk))
             (ap (λ (l : List CallKind). l ++ calls_of k.works) h.calls
             ∙ append_assoc first (calls_of h.works) (calls_of k.works)
             ∙ ap (λ (l : List CallKind). first ++ l) (sym (calls_more h.works k.works))) k.calls;
@@ -64,13 +64,13 @@ module _ {D : Type 0} (disk : Ghosts D) where
   pub works_break : (a b : StoreState D) → Works disk a b → BreaksOff disk a b
   works_break a b h = record {
     works = h.works;
-    next = b.slots.step;
-    last = compaction_step b.slots.step false;
+    next = b.compaction.next;
+    last = compaction_step b.compaction.next false;
     lead = h.lead;
     may = refl;
-    calls = none (work_calls (compaction_step b.slots.step false))
-        (disk.calls a.slots.journal.disk ++ calls_of h.works)
-        (disk.calls b.slots.journal.disk) h.calls;
+    calls = none (work_calls (compaction_step b.compaction.next false))
+        (disk.calls a.disk ++ calls_of h.works)
+        (disk.calls b.disk) h.calls;
   }
     where
       none : (kinds old new : List CallKind) → new ≡ old → MakesSome kinds old new

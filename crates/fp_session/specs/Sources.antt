@@ -8,7 +8,7 @@ use Rattle.fp_session.specs.Lines.{line_up_to_limit, lines}
 use Rattle.fp_session.specs.Progress.{AsksFor}
 use Rattle.fp_session.specs.declared.batching.Batching.{Batching}
 use Rattle.fp_session.specs.declared.batching.Batching.TheVariants.{Single, Full}
-use Rattle.fp_session.specs.declared.replies.TheConstants.{MOST_WAITING}
+use Rattle.fp_session.specs.Numbers.{MOST_WAITING}
 
 -- whatever the source asked in all at first, these were asked so far, and it asks what is left
 abbrev pub HasAsked : {A S : Type 0} → (A → S → List Ask → Type 0) → A → S → A → S → List Ask

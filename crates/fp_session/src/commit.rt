@@ -1,11 +1,11 @@
 //! Batches of a desk's edits, sealed by its store and settled.
 
 ghost use Rattle.std.specs.Prelude.{◌≡◌, ◌≢◌, ◌⊎◌, ◌<◌, ◌≤◌, ◌+◌, ◌++◌, [], ◌∷◌, length};
-ghost use Rattle.std.specs.Prelude.{IfOk, IfErr, MatchResult, OnOk, OnErr};
+ghost use Rattle.std.specs.Prelude.{IfOk, IfErr, MatchResult, OnOk, OnErr, false};
 ghost use Rattle.fp_disk.specs.Crashes.{AtAnyMoment, EachCrash, SameHonesty};
 ghost use Rattle.fp_disk.specs.History.{Makes};
 ghost use Rattle.fp_disk.specs.declared.history.CallKind.TheVariants.{Sync, Write};
-ghost use Rattle.fp_journal.specs.declared.journal.Phase.TheVariants.{Failed, Staged};
+ghost use Rattle.fp_group_commit.specs.declared.phase.Phase.TheVariants.{Staged};
 ghost use Rattle.fp_recovery.specs.Stands.{StandsFor};
 ghost use Rattle.fp_group_commit.specs.Calls.{MovesTo};
 ghost use Rattle.fp_group_commit.specs.Changes.{GoesOn, HasRoom};
@@ -33,19 +33,17 @@ pub enum CommitFault {
 // Writes the batch.
 fn stage<D: Disk>(store: &mut Store<D>, draw: Draw) -> Result<(), CommitFault>
     requires rest { IsAtRest store.old }
-    requires room { HasRoom store.old.slots draw }
+    requires room { HasRoom store.old draw }
     requires goes_on { GoesOn (sealed_set store.old) draw }
     ensures same { (store.new.store ≡ store.old.store) × (store.new.sealed ≡ store.old.sealed)
-        × (store.new.slots.step ≡ store.old.slots.step) × IsEarly store.old.slots.step }
+        × (store.new.compaction.next ≡ store.old.compaction.next) × IsEarly store.old.compaction.next }
     ensures staged { OnOk result (MovesTo D.faults Staged store.old store.new
         × (store.new.staged ≡ draw.changes)) }
     ensures cause { IfErr result (λ f. f ≡ StoreFailed
-        → D.faults store.old.slots.journal.disk < D.faults store.new.slots.journal.disk) }
-    ensures any_moment { AtAnyMoment D.Disk store.old.slots.journal.disk
-        store.new.slots.journal.disk (Leaves store.old) }
-    ensures called { Makes (Write ∷ []) (D.calls store.old.slots.journal.disk)
-        (D.calls store.new.slots.journal.disk) result }
-    ensures honest { SameHonesty D.Disk store.old.slots.journal.disk store.new.slots.journal.disk }
+        → D.faults store.old.disk < D.faults store.new.disk) }
+    ensures any_moment { AtAnyMoment D.Disk store.old.disk store.new.disk (Leaves store.old) }
+    ensures called { Makes (Write ∷ []) (D.calls store.old.disk) (D.calls store.new.disk) result }
+    ensures honest { SameHonesty D.Disk store.old.disk store.new.disk }
 {
     match store.stage(draw) {
         Ok(()) => Ok(()),
@@ -59,7 +57,7 @@ fn stage<D: Disk>(store: &mut Store<D>, draw: Draw) -> Result<(), CommitFault>
 // Seals the batch, by a call of the disk each.
 fn seal<D: Disk>(store: &mut Store<D>, draw: Draw) -> Result<Receipt, CommitFault>
     requires rest { IsAtRest store.old }
-    requires room { HasRoom store.old.slots draw }
+    requires room { HasRoom store.old draw }
     requires goes_on { GoesOn (sealed_set store.old) draw }
     ensures same { store.new.store ≡ store.old.store }
     ensures sealed { OnOk result (IsSealed D.faults draw.changes store.old store.new) }
@@ -67,14 +65,13 @@ fn seal<D: Disk>(store: &mut Store<D>, draw: Draw) -> Result<Receipt, CommitFaul
         × (r.batch.changes ≡ draw.changes)
         × (r.batch.first ≡ (sealed_set store.old).revision + 1)) }
     ensures cause { IfErr result (λ f. f ≡ StoreFailed
-        → D.faults store.old.slots.journal.disk < D.faults store.new.slots.journal.disk) }
-    ensures any_moment { AtAnyMoment D.Disk store.old.slots.journal.disk
-        store.new.slots.journal.disk (KeepsOrGains store.old draw.changes) }
-    ensures called { Makes batch_calls (D.calls store.old.slots.journal.disk)
-        (D.calls store.new.slots.journal.disk) result }
-    ensures keeps { OnOk result (EachCrash D.Disk store.new.slots.journal.disk
+        → D.faults store.old.disk < D.faults store.new.disk) }
+    ensures any_moment { AtAnyMoment D.Disk store.old.disk
+        store.new.disk (KeepsOrGains store.old draw.changes) }
+    ensures called { Makes batch_calls (D.calls store.old.disk) (D.calls store.new.disk) result }
+    ensures keeps { OnOk result (EachCrash D.Disk store.new.disk
         (λ c. StandsFor c (sealed_set store.new))) }
-    ensures honest { SameHonesty D.Disk store.old.slots.journal.disk store.new.slots.journal.disk }
+    ensures honest { SameHonesty D.Disk store.old.disk store.new.disk }
 {
     if let Err(fault) = stage(store, draw) {
         return Err(fault);
@@ -87,24 +84,24 @@ fn seal<D: Disk>(store: &mut Store<D>, draw: Draw) -> Result<Receipt, CommitFaul
 
 /// Seals the batch that was written, by a call of the disk each.
 pub fn seal_staged<D: Disk>(store: &mut Store<D>) -> Result<Receipt, CommitFault>
-    requires staged { store.old.step ≡ Staged }
-    requires well { store.old.slots.journal.phase ≢ Failed }
+    requires staged { store.old.phase ≡ Staged }
+    requires well { store.old.failed ≡ false }
     ensures same { store.new.store ≡ store.old.store }
     ensures sealed { OnOk result ((store.new.sealed ≡ store.old.sealed ++ store.old.staged)
-        × IsAtRest store.new × (store.new.slots.step ≡ store.old.slots.step)
-        × (D.faults store.new.slots.journal.disk ≡ D.faults store.old.slots.journal.disk)) }
+        × IsAtRest store.new × (store.new.compaction.next ≡ store.old.compaction.next)
+        × (D.faults store.new.disk ≡ D.faults store.old.disk)) }
     ensures receipt { IfOk result (λ r. (r.store ≡ store.new.store) × (r.edits ≡ store.new.sealed)
         × (r.batch.changes ≡ store.old.staged)
         × (r.batch.first ≡ (sealed_set store.old).revision + 1)) }
     ensures cause { IfErr result (λ f. (f ≡ StoreFailed)
-        × (D.faults store.old.slots.journal.disk < D.faults store.new.slots.journal.disk)) }
-    ensures any_moment { AtAnyMoment D.Disk store.old.slots.journal.disk
-        store.new.slots.journal.disk (KeepsOrGains store.old store.old.staged) }
-    ensures called { Makes (Sync ∷ Write ∷ Sync ∷ []) (D.calls store.old.slots.journal.disk)
-        (D.calls store.new.slots.journal.disk) result }
-    ensures keeps { OnOk result (EachCrash D.Disk store.new.slots.journal.disk
+        × (D.faults store.old.disk < D.faults store.new.disk)) }
+    ensures any_moment { AtAnyMoment D.Disk store.old.disk
+        store.new.disk (KeepsOrGains store.old store.old.staged) }
+    ensures called { Makes (Sync ∷ Write ∷ Sync ∷ []) (D.calls store.old.disk)
+        (D.calls store.new.disk) result }
+    ensures keeps { OnOk result (EachCrash D.Disk store.new.disk
         (λ c. StandsFor c (sealed_set store.new))) }
-    ensures honest { SameHonesty D.Disk store.old.slots.journal.disk store.new.slots.journal.disk }
+    ensures honest { SameHonesty D.Disk store.old.disk store.new.disk }
 {
     let Ok(()) = store.sync_body() else {
         return Err(CommitFault::StoreFailed);
@@ -151,13 +148,12 @@ fn commit<D: Disk>(store: &mut Store<D>, desk: &mut Desk) -> Result<(), CommitFa
     ensures committed { OnOk result (Commits D.Disk store.old store.new desk.old desk.new) }
     ensures log { (desk.new.store ≡ desk.old.store) × (log desk.new ≡ log desk.old) }
     ensures cause { IfErr result (λ f. f ≡ StoreFailed
-        → LacksRoomFor D.Disk desk.old store.new.slots.journal.disk
-        ⊎ (D.faults store.old.slots.journal.disk < D.faults store.new.slots.journal.disk)) }
-    ensures any_moment { AtAnyMoment D.Disk store.old.slots.journal.disk
-        store.new.slots.journal.disk (StandsAhead desk.old) }
+        → LacksRoomFor D.Disk desk.old store.new.disk
+        ⊎ (D.faults store.old.disk < D.faults store.new.disk)) }
+    ensures any_moment { AtAnyMoment D.Disk store.old.disk store.new.disk (StandsAhead desk.old) }
     ensures settled { OnErr result (desk.new.settled ≡ desk.old.settled) }
     ensures called { IfErr result (λ _. BreaksOff D.Disk store.old store.new) }
-    ensures honest { SameHonesty D.Disk store.old.slots.journal.disk store.new.slots.journal.disk }
+    ensures honest { SameHonesty D.Disk store.old.disk store.new.disk }
 {
     let Ok(drawn) = desk.draw() else {
         return Err(CommitFault::Memory);
@@ -174,18 +170,17 @@ fn commit<D: Disk>(store: &mut Store<D>, desk: &mut Desk) -> Result<(), CommitFa
 pub fn commit_all<D: Disk>(store: &mut Store<D>, desk: &mut Desk) -> Result<(), CommitFault>
     requires in_step { IsInStep D.Disk store.old desk.old }
     ensures committed { OnOk result (IsInStep D.Disk store.new desk.new × (desk.new.waiting ≡ [])
-        × (D.faults store.new.slots.journal.disk ≡ D.faults store.old.slots.journal.disk)) }
+        × (D.faults store.new.disk ≡ D.faults store.old.disk)) }
     ensures log { (desk.new.store ≡ desk.old.store) × (log desk.new ≡ log desk.old) }
     ensures settled { length desk.old.settled ≤ length desk.new.settled }
     ensures cause { IfErr result (λ f. f ≡ StoreFailed
-        → LacksRoomFor D.Disk desk.old store.new.slots.journal.disk
-        ⊎ (D.faults store.old.slots.journal.disk < D.faults store.new.slots.journal.disk)) }
-    ensures any_moment { AtAnyMoment D.Disk store.old.slots.journal.disk
-        store.new.slots.journal.disk (StandsAhead desk.old) }
-    ensures now { EachCrash D.Disk store.new.slots.journal.disk (StandsAhead desk.new) }
+        → LacksRoomFor D.Disk desk.old store.new.disk
+        ⊎ (D.faults store.old.disk < D.faults store.new.disk)) }
+    ensures any_moment { AtAnyMoment D.Disk store.old.disk store.new.disk (StandsAhead desk.old) }
+    ensures now { EachCrash D.Disk store.new.disk (StandsAhead desk.new) }
     ensures called { MatchResult result (λ _. Works D.Disk store.old store.new)
         (λ _. BreaksOff D.Disk store.old store.new) }
-    ensures honest { SameHonesty D.Disk store.old.slots.journal.disk store.new.slots.journal.disk }
+    ensures honest { SameHonesty D.Disk store.old.disk store.new.disk }
 {
     // What a crash leaves is known only where it is asked.
     let _ = store.phase();

@@ -37,18 +37,17 @@ fn take_step<D: Disk>(store: &mut Store<D>) -> Result<(), CommitFault>
 /// Takes steps until there is room for the draw. Where no generation is left for them it gives up.
 pub fn make_room<D: Disk>(store: &mut Store<D>, draw: &Draw) -> Result<(), CommitFault>
     requires rest { IsAtRest store.old }
-    requires keeps { EachCrash D.Disk store.old.slots.journal.disk
-        (λ c. StandsFor c (sealed_set store.old)) }
+    requires keeps { EachCrash D.Disk store.old.disk (λ c. StandsFor c (sealed_set store.old)) }
     requires some { 0 < length draw.now.changes }
     requires few { length draw.now.changes ≤ MOST_EDITS }
-    ensures room { OnOk result (HasRoom store.new.slots draw.now) }
+    ensures room { OnOk result (HasRoom store.new draw.now) }
     ensures proceeds { OnOk result (Proceeds D.Disk store.old store.new) }
     ensures halts { IfErr result (λ f. Halts D.Disk store.old store.new f
         ⊎ ((f ≡ StoreFailed) × Proceeds D.Disk store.old store.new
-        × (2 ^ 64 ≤ store.new.slots.generation + 1)
-        × EachCrash D.Disk store.new.slots.journal.disk
+        × (2 ^ 64 ≤ store.new.compaction.generation + 1)
+        × EachCrash D.Disk store.new.disk
         (λ c. IsFullFor c (sealed_set store.new) draw.now
-        store.new.slots.generation))) }
+        store.new.compaction.generation))) }
 {
     while !store.has_room(draw) {
         if !store.may_compact() {
@@ -63,8 +62,7 @@ pub fn make_room<D: Disk>(store: &mut Store<D>, draw: &Draw) -> Result<(), Commi
 /// left, or the slot is older than all that is written.
 pub fn go_on<D: Disk>(store: &mut Store<D>) -> Result<(), CommitFault>
     requires rest { IsAtRest store.old }
-    requires keeps { EachCrash D.Disk store.old.slots.journal.disk
-        (λ c. StandsFor c (sealed_set store.old)) }
+    requires keeps { EachCrash D.Disk store.old.disk (λ c. StandsFor c (sealed_set store.old)) }
     ensures proceeds { OnOk result (Proceeds D.Disk store.old store.new) }
     ensures halts { IfErr result (Halts D.Disk store.old store.new) }
 {
@@ -81,9 +79,8 @@ pub fn go_on<D: Disk>(store: &mut Store<D>) -> Result<(), CommitFault>
 /// Takes the steps of a compaction that runs, to its end.
 pub fn finish<D: Disk>(store: &mut Store<D>) -> Result<(), CommitFault>
     requires rest { IsAtRest store.old }
-    requires keeps { EachCrash D.Disk store.old.slots.journal.disk
-        (λ c. StandsFor c (sealed_set store.old)) }
-    ensures none_runs { OnOk result (store.new.slots.step ≡ Begin) }
+    requires keeps { EachCrash D.Disk store.old.disk (λ c. StandsFor c (sealed_set store.old)) }
+    ensures none_runs { OnOk result (store.new.compaction.next ≡ Begin) }
     ensures proceeds { OnOk result (Proceeds D.Disk store.old store.new) }
     ensures halts { IfErr result (Halts D.Disk store.old store.new) }
 {

@@ -54,7 +54,7 @@ impl<D: Disk> Model for DiskSession<D> {
 
     ghost view = { λ s. record { store = s.store; desk = s.desk; stopped = s.is_stopped } };
 
-    ghost invariant = { λ s. EachCrash D.Disk s.store.slots.journal.disk (StandsAhead s.desk)
+    ghost invariant = { λ s. EachCrash D.Disk s.store.disk (StandsAhead s.desk)
         × (s.is_stopped ≡ false → IsInStep D.Disk s.store s.desk) };
 }
 
@@ -64,7 +64,7 @@ impl<D: Disk> DiskSession<D> {
         requires opening { opening ≡ store.store }
         requires fresh { IsFresh store store.store.start }
         ensures made { IfOk result (λ s. (s.store ≡ store) × IsReady D.Disk s) }
-        ensures rests { IfOk result (λ s. s.store.slots.step ≡ Begin) }
+        ensures rests { IfOk result (λ s. s.store.compaction.next ≡ Begin) }
         ensures kept { IfOk result (λ s. (flags : State) → IsAhead s.desk flags
             → flags ≡ flags_of s) }
         ensures flags { IfOk result (λ s. flags_of s ≡ store.store.start) }
@@ -89,7 +89,7 @@ impl<D: Disk> DiskSession<D> {
         ensures only { D.honest disk → IfOk result (λ s. (other : State) →
             StandsFor (D.bytes disk) other → other ≡ flags_of s) }
         ensures ready { IfOk result (λ s. IsReady D.Disk s) }
-        ensures rests { IfOk result (λ s. s.store.slots.step ≡ Begin) }
+        ensures rests { IfOk result (λ s. s.store.compaction.next ≡ Begin) }
         ensures kept { IfOk result (λ s. (flags : State) → IsAhead s.desk flags
             → flags ≡ flags_of s) }
         ensures fault { D.honest disk → IfErr result (λ e. RefusesBytes (D.bytes disk) e.0) }
@@ -153,7 +153,7 @@ impl<D: Disk> EditStore for DiskSession<D> {
 
     ghost leaves = { λ a b P. LeavesFlags D.Disk a b P };
 
-    ghost rests = { λ s. s.store.slots.step ≡ Begin };
+    ghost rests = { λ s. s.store.compaction.next ≡ Begin };
 
     ghost leads_to_itself = { λ s. keeps_itself D.Disk s };
 

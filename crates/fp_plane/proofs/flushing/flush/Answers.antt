@@ -9,7 +9,7 @@ returns-in_err-compact_on-clause-any_moment g c =
 
 pub returns-in_err-compact_on-clause-honest : goal.returns-in_err-compact_on-clause-honest
 returns-in_err-compact_on-clause-honest g c =
-    honest_on g.D.Disk c.args.store.now.slots.journal.disk c.seal.new.store.slots.journal.disk c.compact_on.new.store.slots.journal.disk c.seal.ensures.honest c.compact_on.ensures.keeps.honest
+    honest_on g.D.Disk c.args.store.now.disk c.seal.new.store.disk c.compact_on.new.store.disk c.seal.ensures.honest c.compact_on.ensures.keeps.honest
 
 pub returns-clause-any_moment : goal.returns-clause-any_moment
 returns-clause-any_moment g c =
@@ -18,4 +18,4 @@ returns-clause-any_moment g c =
 
 pub returns-clause-honest : goal.returns-clause-honest
 returns-clause-honest g c =
-    honest_on g.D.Disk c.args.store.now.slots.journal.disk c.seal.new.store.slots.journal.disk c.compact_on.new.store.slots.journal.disk c.seal.ensures.honest c.compact_on.ensures.keeps.honest
+    honest_on g.D.Disk c.args.store.now.disk c.seal.new.store.disk c.compact_on.new.store.disk c.seal.ensures.honest c.compact_on.ensures.keeps.honest

@@ -19,7 +19,7 @@ returns-in_err-make_room-clause-cause g c =
     let p = err_from_is_err_and c.from_residual.result c.from_residual.ensures.1 in let m = c.make_room.new.store in
     let draw : IsNewDraw c.args.desk.now c.draw.new.self c.in-Some.draw = rw c.in-Some.is at c.in-Ok.ensures.drawn in
     rw (p.1, p.2) (λ is. ⊎_elim (λ halts. inr (halts.cause is))
-    (λ full. inl (lacks_part g.D.Disk m c.args.desk.now (in_step_on g.D.Disk c.args.store.now m c.args.desk.now c.requires.in_step full.1) c.in-Some.draw c.draw.new.self.waiting draw.longest.parts draw.longest.some m.slots.generation full.2 full.3))
+    (λ full. inl (lacks_part g.D.Disk m c.args.desk.now (in_step_on g.D.Disk c.args.store.now m c.args.desk.now c.requires.in_step full.1) c.in-Some.draw c.draw.new.self.waiting draw.longest.parts draw.longest.some m.compaction.generation full.2 full.3))
     c.in_err-make_room.ensures.halts)
 
 pub returns-in_err-make_room-clause-any_moment : goal.returns-in_err-make_room-clause-any_moment
@@ -75,4 +75,4 @@ returns-in-Err-clause-any_moment g c =
 pub returns-in-Err-clause-called : goal.returns-in-Err-clause-called
 returns-in-Err-clause-called g c =
     let s = c.args.store.now in let m = c.make_room.new.store in let t = c.seal.new.store in
-    breaks_on g.D.Disk s m t c.in_ok-make_room.ensures.proceeds.works (broken_batch g.D.Disk m t c.in_ok-make_room.ensures.room.room.early c.in-Err.ensures.called)
+    breaks_on g.D.Disk s m t c.in_ok-make_room.ensures.proceeds.works (broken_batch g.D.Disk m t c.in_ok-make_room.ensures.room.early c.in-Err.ensures.called)

@@ -20,7 +20,7 @@ loop-store-init g c = record {
 pub loop-store-preserved : goal.loop-store-preserved
 loop-store-preserved g c =
     let D = g.D.Disk in let inv = c.loop-store.invariant in let did = c.in_ok-commit.ensures.committed in let w = c.commit.ensures in
-    let first = c.args.store.now.slots.journal.disk in let mid = c.loop-store.store.slots.journal.disk in let last = c.commit.new.store.slots.journal.disk in
+    let first = c.args.store.now.disk in let mid = c.loop-store.store.disk in let last = c.commit.new.store.disk in
     let d0 = c.args.desk.now in let d1 = c.loop-store.desk in
     let settled = ap (λ (x : DeskState). length x.settled) did.desk in let more = length-append d1.settled did.batch in let was = inv.settled in
     record {
@@ -38,12 +38,12 @@ pub returns-in_err-commit-clause-cause : goal.returns-in_err-commit-clause-cause
 returns-in_err-commit-clause-cause g c =
     let p = err_from_is_err_and c.from_residual.result c.from_residual.ensures.1 in
     let D = g.D.Disk in let inv = c.loop-store.invariant in let same = inv.no_failure in
-    rw (p.1, p.2) (λ is. ⊎_elim (λ lacks. inl (lacks_on D c.commit.new.store.slots.journal.disk c.args.desk.now c.loop-store.desk inv.log.0 inv.log.1 inv.settled lacks)) (λ more. inr (omega (arith, more, same))) (c.in_err-commit.ensures.cause is))
+    rw (p.1, p.2) (λ is. ⊎_elim (λ lacks. inl (lacks_on D c.commit.new.store.disk c.args.desk.now c.loop-store.desk inv.log.0 inv.log.1 inv.settled lacks)) (λ more. inr (omega (arith, more, same))) (c.in_err-commit.ensures.cause is))
 
 pub returns-in_err-commit-clause-any_moment : goal.returns-in_err-commit-clause-any_moment
 returns-in_err-commit-clause-any_moment g c =
     let D = g.D.Disk in let inv = c.loop-store.invariant in
-    let first = c.args.store.now.slots.journal.disk in let mid = c.loop-store.store.slots.journal.disk in let last = c.commit.new.store.slots.journal.disk in
+    let first = c.args.store.now.disk in let mid = c.loop-store.store.disk in let last = c.commit.new.store.disk in
     let d0 = c.args.desk.now in let d1 = c.loop-store.desk in
     next_moment D first mid last (StandsAhead d0) inv.honest inv.any_moment
     (weaker D mid last (StandsAhead d1) (StandsAhead d0) (stands_on d0 d1 inv.log.0 inv.log.1 inv.settled) c.commit.ensures.any_moment)
@@ -51,7 +51,7 @@ returns-in_err-commit-clause-any_moment g c =
 pub returns-in_err-commit-clause-now : goal.returns-in_err-commit-clause-now
 returns-in_err-commit-clause-now g c =
     let w = c.commit.ensures in let settled = ap length c.in_err-commit.ensures.settled in
-    present_ahead g.D.Disk c.loop-store.store.slots.journal.disk c.commit.new.store.slots.journal.disk c.commit.new.desk c.loop-store.desk g.met.D.Disk.counts_now w.honest
+    present_ahead g.D.Disk c.loop-store.store.disk c.commit.new.store.disk c.commit.new.desk c.loop-store.desk g.met.D.Disk.counts_now w.honest
     (sym w.log.0) (sym w.log.1) (omega (arith, settled)) w.any_moment
 
 pub returns-clause-committed : goal.returns-clause-committed

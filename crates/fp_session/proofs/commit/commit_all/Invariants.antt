@@ -10,10 +10,10 @@ invariant-loop-store g l = record {
   in_step : IsInStep g.D.Disk l.store l.desk;
   log : (l.desk.store ≡ l.initial.desk.store) × (log l.desk ≡ log l.initial.desk);
   settled : length l.initial.desk.settled ≤ length l.desk.settled;
-  no_failure : g.D.Disk.faults l.store.slots.journal.disk ≡ g.D.Disk.faults l.initial.store.slots.journal.disk;
-  any_moment : AtAnyMoment g.D.Disk l.initial.store.slots.journal.disk l.store.slots.journal.disk (StandsAhead l.initial.desk);
+  no_failure : g.D.Disk.faults l.store.disk ≡ g.D.Disk.faults l.initial.store.disk;
+  any_moment : AtAnyMoment g.D.Disk l.initial.store.disk l.store.disk (StandsAhead l.initial.desk);
   works : Works g.D.Disk l.initial.store l.store;
-  honest : SameHonesty g.D.Disk l.initial.store.slots.journal.disk l.store.slots.journal.disk;
+  honest : SameHonesty g.D.Disk l.initial.store.disk l.store.disk;
 }
 
 abbrev pub decreases-loop-store : goal.decreases-loop-store

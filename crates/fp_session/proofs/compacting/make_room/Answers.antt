@@ -7,10 +7,10 @@ use Rattle.fp_session.proofs.compacting.make_room.Goals as goal
 
 pub returns-then-not-may_compact-clause-halts : goal.returns-then-not-may_compact-clause-halts
 returns-then-not-may_compact-clause-halts g c =
-    let s = c.loop-store.store in let inv = c.loop-store.invariant in let idle = inv.keeps.step ∙ c.requires.rest.0 in
+    let s = c.loop-store.store in let inv = c.loop-store.invariant in let idle = inv.keeps.phase ∙ c.requires.rest.0 in
     let never : MayCompact s → ⊥ = λ may. (let both : false ≡ true = sym c.if-not-may_compact.true ∙ c.may_compact.ensures.1 may in absurd cc) in
     let up = used_up s idle never in
-    let none = no_room s.slots c.args.draw.now c.has_room.result c.has_room.ensures.room c.loop-store-test.true up.0 c.requires.some c.requires.few in
+    let none = no_room s c.args.draw.now c.has_room.result c.has_room.ensures.room c.loop-store-test.true up.0 c.requires.some c.requires.few in
     inr (refl, inv, up.1, λ h o left. c.has_room.ensures.full (idle, inv.well) up.0 none h o left)
 
 pub loop-store-preserved : goal.loop-store-preserved

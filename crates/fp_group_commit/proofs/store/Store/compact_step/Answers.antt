@@ -22,7 +22,7 @@ returns-in_default-catch_up g c =
       begun = refl;
       ok = tt;
       next = tt;
-      fault = (λ e. c.in_default.not-Failed (c.phase.ensures.phase ∙ e), sym c.step-next.ensures.step ∙ c.in_default-catch_up.ensures.begins, refl);
+      fault = (steps.is_well _ (λ e. c.in_default.not-Failed (c.phase.ensures.phase ∙ e)), sym c.step-next.ensures.step ∙ c.in_default-catch_up.ensures.begins, refl);
       disk = steps.calls_none g.D.Disk c.self.invariant g.met.D.Disk.only_now c.phase.ensures.outcomes;
     })
 
@@ -65,7 +65,7 @@ returns-in-Memory g c =
       begun = refl;
       ok = tt;
       next = tt;
-      fault = (λ e. c.in_default.not-Failed (c.phase.ensures.phase ∙ e), memory.0, refl);
+      fault = (steps.is_well _ (λ e. c.in_default.not-Failed (c.phase.ensures.phase ∙ e)), memory.0, refl);
       disk = steps.calls_none g.D.Disk c.self.invariant g.met.D.Disk.only_now c.phase.ensures.outcomes;
     })
 

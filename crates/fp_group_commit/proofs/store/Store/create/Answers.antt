@@ -32,22 +32,22 @@ adopt-requires-clause-kept g c =
 pub returns-clause-slots : goal.returns-clause-slots
 returns-clause-slots g c =
     let e = c.in-Ok.ensures in
-    rw (c.adopt.ensures.slots, ← c.in-Some.ensures.value) (e.journal.0, e.beside.0)
+    rw (c.adopt.ensures.over.place, c.adopt.ensures.over.other, ← c.in-Some.ensures.value) (e.journal.0, e.beside.0)
 
 pub returns-clause-gate : goal.returns-clause-gate
 returns-clause-gate g c =
     let e = c.in-Ok.ensures in
-    rw (c.adopt.ensures.slots, e.journal.0, e.journal.1, e.journal.2) refl
+    rw (c.adopt.ensures.over.place, e.journal.0, e.journal.1, e.journal.2) refl
 
 pub returns-clause-sure : goal.returns-clause-sure
 returns-clause-sure g c = λ h.
     let D = g.D.Disk in let e = c.in-Ok.ensures in let j = c.in-Ok.slots.journal in let size = c.in-Some.size in let stands = e.stands h in
-    rw (c.adopt.ensures.slots, ← c.in-Some.ensures.value)
+    rw (c.adopt.ensures.over.disk, ← c.in-Some.ensures.value)
     (settled_sure (D.unsynced j.disk) (D.bytes j.disk) (new_set size) (e.all_synced h) (new_stands size (D.bytes j.disk) stands.0.allowed (e.made h) stands.0 stands.1 stands.2))
 
 pub returns-clause-any_moment : goal.returns-clause-any_moment
 returns-clause-any_moment g c = λ h is.
-    rw c.adopt.ensures.slots (new_left g.D.Disk c.args.disk c.in-Ok.slots.journal.disk c.in-Some.ensures.value (c.in-Some.ensures.allowed.0 refl) (c.in-Ok.ensures.any_moment h is))
+    rw c.adopt.ensures.over.disk (new_left g.D.Disk c.args.disk c.in-Ok.slots.journal.disk c.in-Some.ensures.value (c.in-Some.ensures.allowed.0 refl) (c.in-Ok.ensures.any_moment h is))
 
 pub returns-clause-made : goal.returns-clause-made
-returns-clause-made g c = λ h. rw (c.adopt.ensures.slots, ← c.in-Some.ensures.value) (c.in-Ok.ensures.made h)
+returns-clause-made g c = λ h. rw (c.adopt.ensures.over.disk, ← c.in-Some.ensures.value) (c.in-Ok.ensures.made h)

@@ -28,14 +28,14 @@ returns-in-Ok-clause-goes_on g c =
 
 pub invariant_of-self-in-Err-Edit-default : goal.invariant_of-self-in-Err-Edit-default
 invariant_of-self-in-Err-Edit-default g c =
-    subst (λ (d : DeskState). EachCrash g.D.Disk c.self.inside.store.slots.journal.disk (StandsAhead d) × (c.self.inside.is_stopped ≡ false → IsInStep g.D.Disk c.self.inside.store d)) (sym c.in-Err-Edit-default.ensures.unchanged) c.self.invariant
+    subst (λ (d : DeskState). EachCrash g.D.Disk c.self.inside.store.disk (StandsAhead d) × (c.self.inside.is_stopped ≡ false → IsInStep g.D.Disk c.self.inside.store d)) (sym c.in-Err-Edit-default.ensures.unchanged) c.self.invariant
 
 pub returns-in-Err-Edit-default-clause-any_moment : goal.returns-in-Err-Edit-default-clause-any_moment
 returns-in-Err-Edit-default-clause-any_moment g c = still_leaves g.D.Disk _ _ (record { store = c.self.inside.store; desk = c.submit.new.self; stopped = c.self.inside.is_stopped }) c.self.view_is g.met.D.Disk.only_now refl c.self.invariant.0
 
 pub invariant_of-self-in-Err-Memory-default : goal.invariant_of-self-in-Err-Memory-default
 invariant_of-self-in-Err-Memory-default g c =
-    subst (λ (d : DeskState). EachCrash g.D.Disk c.self.inside.store.slots.journal.disk (StandsAhead d) × (c.self.inside.is_stopped ≡ false → IsInStep g.D.Disk c.self.inside.store d)) (sym c.in-Err-Memory-default.ensures.unchanged) c.self.invariant
+    subst (λ (d : DeskState). EachCrash g.D.Disk c.self.inside.store.disk (StandsAhead d) × (c.self.inside.is_stopped ≡ false → IsInStep g.D.Disk c.self.inside.store d)) (sym c.in-Err-Memory-default.ensures.unchanged) c.self.invariant
 
 pub returns-in-Err-Memory-default-clause-any_moment : goal.returns-in-Err-Memory-default-clause-any_moment
 returns-in-Err-Memory-default-clause-any_moment g c = still_leaves g.D.Disk _ _ (record { store = c.self.inside.store; desk = c.submit.new.self; stopped = c.self.inside.is_stopped }) c.self.view_is g.met.D.Disk.only_now refl c.self.invariant.0

@@ -1,0 +1,14 @@
+//! How far a batch is on its way.
+
+/// How far a batch is on its way, so which call comes next.
+#[derive(Clone, Copy, Debug, PartialEq, Eq)]
+pub enum Phase {
+    /// None is.
+    Idle,
+    /// It was written behind the closed gate.
+    Staged,
+    /// It is synced.
+    BodySynced,
+    /// The gate in front of it was written open.
+    GateOpened,
+}
