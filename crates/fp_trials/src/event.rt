@@ -1,8 +1,9 @@
-//! The world's events, one at a time and in courses.
+//! A committer's events, one at a time and in courses.
 
 use crate::text::edit_of;
 use crate::trial::{Answer, Fault, Held, Trial};
 use crate::world::open;
+use fp_committer::{Committer, Event};
 use fp_desk::SubmitFault;
 use fp_disk::MemoryDisk;
 use fp_edit::{Edit, EditFault};
@@ -10,7 +11,7 @@ use fp_group_commit::StoreFault;
 use fp_ofrep::Reply as Evaluation;
 use fp_slots::Step;
 use fp_transcript::{Args, Text};
-use fp_world::{Answer as Reply, Committer, Event};
+use fp_world::Answer as Reply;
 
 /// `draw`, `stage`, `sync-body`, `open-gate`, `sync-gate`, `settle`, `compact`, `ack REVISION`.
 pub fn on_events(trial: &mut Trial, word: &str, args: &mut Args<'_>) -> Answer {
@@ -133,7 +134,7 @@ fn say_reply(reply: &Evaluation, out: &mut Text) -> Answer {
 }
 
 fn stepped(world: &mut Committer<MemoryDisk>, event: &Event, out: &mut Text) -> Became {
-    let reply = world.step(event);
+    let reply = world.step(event).into();
     became_of(&reply, out)
 }
 

@@ -1,8 +1,8 @@
 //! A store and a desk without a world, for what no list of events leads to.
 
 ghost use Rattle.std.specs.Prelude.{◌≡◌, IfOk, IfSome, OnOk, IsTrue};
-ghost use Rattle.fp_journal.specs.declared.journal.Phase.TheVariants.{Staged, BodySynced};
-ghost use Rattle.fp_journal.specs.declared.journal.Phase.TheVariants.{GateOpened};
+ghost use Rattle.fp_group_commit.specs.declared.phase.Phase.TheVariants.{Staged, BodySynced};
+ghost use Rattle.fp_group_commit.specs.declared.phase.Phase.TheVariants.{GateOpened};
 
 use crate::confirm::confirm;
 use crate::event::{not_done, refused};
@@ -12,8 +12,7 @@ use crate::world::found;
 use fp_desk::{Desk, SettleFault};
 use fp_disk::MemoryDisk;
 use fp_edit::Edit;
-use fp_group_commit::{Draw, Opening, Receipt, Store, StoreFault};
-use fp_journal::Phase;
+use fp_group_commit::{Draw, Opening, Phase, Receipt, Store, StoreFault};
 use fp_transcript::{Args, Text};
 use std::alloc::Global;
 
@@ -134,7 +133,7 @@ pub fn batch_of(first: u64, args: &mut Args<'_>) -> Option<Draw> {
 /// Stages a batch that no desk drew, where there is room for it.
 pub fn staged(store: &mut Store<MemoryDisk>, draw: Draw) -> Result<bool, StoreFault>
     ensures store { store.new.store ≡ store.old.store }
-    ensures step { IfOk result (λ is_staged. IsTrue is_staged → store.new.step ≡ Staged) }
+    ensures step { IfOk result (λ is_staged. IsTrue is_staged → store.new.phase ≡ Staged) }
 {
     let Phase::Idle = store.phase() else {
         return Ok(false);
@@ -166,23 +165,23 @@ fn stage_stray(trial: &Trial, store: &mut Store<MemoryDisk>, draw: Draw) -> Answ
 }
 
 fn body_synced(store: &mut Store<MemoryDisk>) -> Result<(), StoreFault>
-    requires { store.old.step ≡ Staged }
+    requires { store.old.phase ≡ Staged }
     ensures store { store.new.store ≡ store.old.store }
-    ensures step { OnOk result (store.new.step ≡ BodySynced) }
+    ensures step { OnOk result (store.new.phase ≡ BodySynced) }
 {
     store.sync_body()
 }
 
 fn gate_opened(store: &mut Store<MemoryDisk>) -> Result<(), StoreFault>
-    requires { store.old.step ≡ BodySynced }
+    requires { store.old.phase ≡ BodySynced }
     ensures store { store.new.store ≡ store.old.store }
-    ensures step { OnOk result (store.new.step ≡ GateOpened) }
+    ensures step { OnOk result (store.new.phase ≡ GateOpened) }
 {
     store.open_gate()
 }
 
 fn gate_synced(store: &mut Store<MemoryDisk>) -> Result<Receipt, StoreFault>
-    requires { store.old.step ≡ GateOpened }
+    requires { store.old.phase ≡ GateOpened }
     ensures store { store.new.store ≡ store.old.store }
     ensures own { IfOk result (λ receipt. receipt.store ≡ store.new.store) }
 {
@@ -191,7 +190,7 @@ fn gate_synced(store: &mut Store<MemoryDisk>) -> Result<Receipt, StoreFault>
 
 /// The receipt for a staged batch.
 pub fn sealed(store: &mut Store<MemoryDisk>) -> Result<Receipt, StoreFault>
-    requires { store.old.step ≡ Staged }
+    requires { store.old.phase ≡ Staged }
     ensures store { store.new.store ≡ store.old.store }
     ensures own { IfOk result (λ receipt. receipt.store ≡ store.new.store) }
 {
@@ -288,7 +287,7 @@ fn sealed_and_settled(
 
 fn answer_to_staged(trial: &Trial, store: &mut Store<MemoryDisk>, desk: &mut Desk) -> Answer
     requires one { desk.old.store ≡ store.old.store }
-    requires staged { store.old.step ≡ Staged }
+    requires staged { store.old.phase ≡ Staged }
     ensures store { (store.new.store ≡ store.old.store) × (desk.new.store ≡ desk.old.store) }
 {
     match sealed(store) {

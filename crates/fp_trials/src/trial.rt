@@ -1,12 +1,12 @@
 //! What commands work on, and what comes of them.
 
 use fp_commands::CommandFault;
+use fp_committer::Committer;
 use fp_disk::{Disk, FailedWrite, Failing, MemoryDisk};
 use fp_edit::{Edit, EditFault};
 use fp_journal::{BytesFault, read_bytes};
 use fp_layout::OpenFault;
 use fp_transcript::Text;
-use fp_world::Committer;
 use std::alloc::Global;
 use std::collections::VecDeque;
 use std::mem;

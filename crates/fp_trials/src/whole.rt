@@ -10,6 +10,7 @@ use crate::run::ON_EVENTS;
 use crate::text::edit_of;
 use crate::trial::{Answer, Fault, Trial};
 use crate::world::found;
+use fp_committer::Event as Commit;
 use fp_disk::MemoryDisk;
 use fp_publish::{MOST_EVALUATORS, MOST_SEATS};
 use fp_stream::Hello;
@@ -166,7 +167,22 @@ pub fn asked(trial: &mut Trial, word: &str, args: &mut Args<'_>) -> Option<Event
         "evaluate" => evaluation(trial, args),
         // There is a world already.
         "world" => None,
-        word => Some(event_of(word, args)),
+        word => Some(of_committer(event_of(word, args))),
+    }
+}
+
+// An event of a committer, as a world has it.
+fn of_committer(event: Commit) -> Event {
+    match event {
+        Commit::Submit(edit) => Event::Submit(edit),
+        Commit::Draw => Event::Draw,
+        Commit::Stage => Event::Stage,
+        Commit::SyncBody => Event::SyncBody,
+        Commit::OpenGate => Event::OpenGate,
+        Commit::SyncGate => Event::SyncGate,
+        Commit::Settle => Event::Settle,
+        Commit::Ack(revision) => Event::Ack(revision),
+        Commit::Compact => Event::Compact,
     }
 }
 

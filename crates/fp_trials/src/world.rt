@@ -5,13 +5,13 @@ ghost use Rattle.std.specs.Prelude.{◌≡◌, IfOk};
 ghost use Rattle.fp_group_commit.specs.Store.{IsFresh};
 
 use crate::trial::{Answer, Fault, Held, OpenWorld, Trial};
+use fp_committer::Committer;
 use fp_disk::MemoryDisk;
 use fp_edit::FlagSet;
 use fp_group_commit::{CreateFault, Opening, Store};
 use fp_layout::Place;
 use fp_recovery::recover;
 use fp_transcript::{Args, Text};
-use fp_world::Committer;
 use std::alloc::Global;
 
 /// A store as it was made or opened, and its opening.

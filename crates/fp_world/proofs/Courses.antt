@@ -7,17 +7,33 @@ use Rattle.fp_disk.specs.Moments.{leaves_map, leaves_still, leaves_then}
 use Rattle.fp_disk.specs.declared.disk.Disk.{Ghosts}
 use Rattle.fp_edit.specs.Edits.{Change}
 use Rattle.fp_desk.specs.Desk.{DeskState, log}
-use Rattle.fp_world.specs.Commits.{accepted_by}
-use Rattle.fp_world.specs.Committer.{KeptFrom}
+use Rattle.fp_committer.specs.Kept.{KeptFrom}
+use Rattle.fp_committer.proofs.Keeps.{kept_low, kept_more}
+use Rattle.fp_world.specs.Events.{accepted_by, told_after}
 use Rattle.fp_world.specs.Machine.{Run, accepted_edits, told_by}
 use Rattle.fp_world.specs.World.{Course, StepsTo, WorldState, desk_of, disk_of, machine, told_of}
 use Rattle.fp_world.specs.declared.event.Answer.{Answer}
 use Rattle.fp_world.specs.declared.event.Event.{Event}
-use Rattle.fp_world.proofs.Goes.{told_rises}
-use Rattle.fp_world.proofs.Keeps.{kept_more}
+use Rattle.fp_world.specs.declared.event.Answer.TheVariants as answer
 
-kept_low : (d : DeskState) (high low : ℕ) (c : List ℕ) → low ≤ high → KeptFrom d high c → KeptFrom d low c
-kept_low d high low c le k = let at = k.1 in (k.0, omega (arith, le, at), k.2, k.3)
+-- what is told never falls
+pub told_rises : (told : ℕ) (a : Answer) → told ≤ told_after told a
+told_rises told answer.NotNow = omega arith
+told_rises told answer.Memory = omega arith
+told_rises told (answer.Refused f) = omega arith
+told_rises told (answer.Fault f) = omega arith
+told_rises told (answer.Ticket n) = omega arith
+told_rises told (answer.Drawn n) = omega arith
+told_rises told answer.Done = omega arith
+told_rises told (answer.Sealed n) = omega arith
+told_rises told (answer.Settled n) = omega arith
+told_rises told (answer.Acked n) = omega arith
+told_rises told answer.Waiting = omega arith
+told_rises told (answer.Phase n) = omega arith
+told_rises told (answer.Published n) = omega arith
+told_rises told (answer.Handed h) = omega arith
+told_rises told answer.Nothing = omega arith
+told_rises told (answer.Reply n r) = omega arith
 
 module _ {D : Type 0} (disk : Ghosts D) where
   -- one event more
@@ -66,7 +82,7 @@ module _ {D : Type 0} (disk : Ghosts D) where
       let mid = r.0 in let first = r.1 in let on = first.honest in let told = first.told in let rises = told_rises (told_of old) b in let grows = course_log mid new events answers r.2 in
       leaves_then disk.moment disk.crash_states_since (disk_of old) (disk_of mid) (disk_of new) (KeptFrom (desk_of new) (told_of old))
       (leaves_map disk.moment disk.crash_states_since (disk_of old) (disk_of mid) (KeptFrom (desk_of mid) (told_of old)) (KeptFrom (desk_of new) (told_of old)) (λ c k. kept_more (desk_of mid) (desk_of new) (accepted_edits events answers) (told_of old) c grows.1 grows.0 k) (first.any_moment h))
-      (leaves_map disk.moment disk.crash_states_since (disk_of mid) (disk_of new) (KeptFrom (desk_of new) (told_of mid)) (KeptFrom (desk_of new) (told_of old)) (λ c k. kept_low (desk_of new) (told_of mid) (told_of old) c (omega (arith, told, rises)) k) (course_leaves only_now mid new events answers first.exit r.2 (on.0 h)))
+      (leaves_map disk.moment disk.crash_states_since (disk_of mid) (disk_of new) (KeptFrom (desk_of new) (told_of mid)) (KeptFrom (desk_of new) (told_of old)) (λ c k. kept_low (desk_of new).store.start (log (desk_of new)) (told_of mid) (told_of old) c (omega (arith, told, rises)) k) (course_leaves only_now mid new events answers first.exit r.2 (on.0 h)))
 
   pub course_exit : (old new : WorldState D) (events : List Event) (answers : List Answer) → EachCrash disk (disk_of old) (KeptFrom (desk_of old) (told_of old)) → Course disk old events answers new → EachCrash disk (disk_of new) (KeptFrom (desk_of new) (told_of new))
   course_exit old new [] [] now r = subst (λ (w : WorldState D). EachCrash disk (disk_of w) (KeptFrom (desk_of w) (told_of w))) (sym r) now

@@ -1,6 +1,6 @@
 -- What subscribers have, as one of them is handed what is shown.
 use Rattle.std.proofs.Common.{◌≡◌, ◌<◌, ℕ, zero, suc, List, [], ◌∷◌, Option, Some, None, length, map, get_or, set, refl, sym, ap, ◌∙◌, arith}
-use Rattle.std.specs.Prelude.{Result, Ok, Err, IfOk, MatchOption, slice_get, slice_set}
+use Rattle.std.specs.Prelude.{Result, Ok, Err, IfOk, OnErr, MatchOption, slice_get, slice_set}
 use Rattle.std.proofs.lemmas.List.{map-set}
 use Rattle.fp_group_commit.specs.Tokens.{FrontState, front_revision}
 use Rattle.fp_publish.specs.Seats.{IsNews, had_by}
@@ -35,3 +35,8 @@ module _ (board : FrontState) (readers : ℕ) (places : List Seat) (seat : ℕ) 
   hands (Ok (Some h)) now then handed =
       ((had_by before, had_at places seat before lt is, handed.0), handed.1, ap (λ (l : List Hello). record Old { seats = l }) (ap (λ (l : List Seat). map had_by l) then ∙ map-set had_by places seat after ∙ ap (λ (x : Hello). set (map had_by places) seat x) handed.2))
   hands (Err e) now then handed = tt
+
+  -- and where memory was wanting
+  pub asked : {T E : Type 0} (r : Result T E) → OnErr r (IsNews (had_by before) board) → OnErr r (HasNews Old seat)
+  asked (Ok h) news = tt
+  asked (Err e) news = (had_by before, had_at places seat before lt is, news)

@@ -11,7 +11,8 @@ use Rattle.fp_stream.specs.declared.hello.Hello.TheVariants.{Has}
 use Rattle.fp_ofrep.specs.Reply.{reply}
 use Rattle.fp_ofrep.specs.Response.{Response}
 use Rattle.fp_ofrep.specs.Seen.{response_seen}
-use Rattle.fp_world.specs.Commits.{Commits, CommitStep, accepted_by, told_after}
+use Rattle.fp_committer.specs.Commits.{Commits, CommitStep}
+use Rattle.fp_world.specs.Events.{ByCommitter, IsAnsweredBy, accepted_by, told_after}
 use Rattle.fp_world.specs.declared.event.Answer.{Answer}
 use Rattle.fp_world.specs.declared.event.Answer.TheVariants as answer
 use Rattle.fp_world.specs.declared.event.Event.{Event}
@@ -64,7 +65,7 @@ HandsOver seat old (answer.Handed handed) new = IsNewsAt seat old × (handed ≡
       seats = slice_set old.seats seat (Has old.published);
     })
 HandsOver seat old answer.Nothing new = IsNoNewsAt seat old × (new ≡ old)
-HandsOver seat old answer.Memory new = (seat < length old.seats) × (new ≡ old)
+HandsOver seat old answer.Memory new = IsNewsAt seat old × (new ≡ old)
 HandsOver seat old answer.NotNow new = (length old.seats ≤ seat) × (new ≡ old)
 HandsOver seat old _ new = ⊥
 
@@ -83,13 +84,17 @@ Evaluates reader request now old answer.Memory new = (reader < old.readers) × (
 Evaluates reader request now old answer.NotNow new = (old.readers ≤ reader) × (new ≡ old)
 Evaluates reader request now old _ new = ⊥
 
+-- what the committer answers
+abbrev pub DoesCommit : Event → Machine → Answer → Machine → Type 0
+DoesCommit e old a new = ByCommitter e (λ c. IsAnsweredBy a (λ said.
+    CommitStep old.commits c said new.commits)) ⊥ × (new ≡ record old { commits = new.commits })
+
 -- any other event is one of the edits' way
 abbrev pub Step : Machine → Event → Answer → Machine → Type 0
 Step old event.Publish a new = Publishes old a new
 Step old (event.Hand seat) a new = HandsOver seat old a new
 Step old (event.Evaluate reader request now) a new = Evaluates reader request now old a new
-Step old e a new =
-    CommitStep old.commits e a new.commits × (new ≡ record old { commits = new.commits })
+Step old e a new = DoesCommit e old a new
 
 -- the machine may give these answers to these events, one step after another
 abbrev pub Run : Machine → List Event → List Answer → Machine → Type 0

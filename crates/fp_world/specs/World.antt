@@ -13,14 +13,14 @@ use Rattle.fp_group_commit.specs.Store.{StoreState}
 use Rattle.fp_group_commit.specs.Tokens.{Identity, front_revision}
 use Rattle.fp_desk.specs.Desk.{DeskState, log}
 use Rattle.fp_stream.specs.declared.hello.Hello.{Hello}
-use Rattle.fp_world.specs.Commits.{accepted_by, last_revision, told_after}
-use Rattle.fp_world.specs.Committer.{CommitterState, IsNewCommitter, KeptFrom, MakesItsCall}
-use Rattle.fp_world.specs.Committer.{RisesFor, commits_of}
+use Rattle.fp_committer.specs.Commits.{last_revision}
+use Rattle.fp_committer.specs.Committer.{CommitterState, IsNewCommitter, commits_of}
+use Rattle.fp_committer.specs.Kept.{KeptFrom}
+use Rattle.fp_world.specs.Events.{MakesItsCall, RisesFor, accepted_by, told_after}
 use Rattle.fp_world.specs.Machine.{Machine, Step}
 use Rattle.fp_world.specs.Views.{ViewsState}
 use Rattle.fp_world.specs.declared.event.Answer.{Answer}
 use Rattle.fp_world.specs.declared.event.Event.{Event}
-use Rattle.fp_world.specs.declared.event.Event.TheVariants as event
 
 pub record WorldState (D : Type 0) : Type 0 where
   pub committer : CommitterState D
@@ -36,7 +36,7 @@ machine w = record {
 }
 
 abbrev pub disk_of : {D : Type 0} → WorldState D → D
-disk_of w = w.committer.store.slots.journal.disk
+disk_of w = w.committer.store.disk
 
 abbrev pub desk_of : {D : Type 0} → WorldState D → DeskState
 desk_of w = w.committer.desk
@@ -69,13 +69,6 @@ Course {D} disk old (e ∷ events) (a ∷ answers) new =
 Course {D} disk old [] (a ∷ answers) new = ⊥
 Course {D} disk old (e ∷ events) [] new = ⊥
 
--- events of the edits' way, which the committer does
-abbrev pub IsOfEdits : Event → Type 0
-IsOfEdits event.Publish = ⊥
-IsOfEdits (event.Hand seat) = ⊥
-IsOfEdits (event.Evaluate reader request now) = ⊥
-IsOfEdits e = Unit {0}
-
 -- the set is the one after some first n edits of the desk's log, n at least `low`
 abbrev pub IsAfterFirst : DeskState → ℕ → State → Type 0
 IsAfterFirst d low set = (n : ℕ) × (low ≤ n) × (n ≤ last_revision d)
@@ -84,7 +77,7 @@ IsAfterFirst d low set = (n : ℕ) × (low ≤ n) × (n ≤ last_revision d)
 -- ---- opening a disk
 -- the disk then, in the store or beside the fault
 abbrev pub disk_after : {D : Type 0} → Result (StoreState D × Identity) (OpenFault × D) → D
-disk_after (Ok r) = r.0.slots.journal.disk
+disk_after (Ok r) = r.0.disk
 disk_after (Err e) = e.1
 
 -- What it leaves of the disk. The bytes stay, and a crash leaves what one could leave before; its
@@ -97,7 +90,7 @@ pub record Opens {D : Type 0} (disk : Ghosts D) (old : D)
   pub honest : SameHonesty disk old (disk_after result)
   pub called : MakesThenReads (Sync ∷ Length ∷ []) (disk.calls old)
       (disk.calls (disk_after result)) result
-  pub no_failure : IfOk result (λ r. disk.faults r.0.slots.journal.disk ≡ disk.faults old)
+  pub no_failure : IfOk result (λ r. disk.faults r.0.disk ≡ disk.faults old)
   pub cause : IfErr result (λ e. e.0 ≡ Device → disk.faults old < disk.faults e.1)
   pub memory : IfErr result (λ e. e.0 ≡ Memory → disk.faults e.1 ≡ disk.faults old)
 

@@ -1,10 +1,13 @@
 //! What a world is asked, and what it answers.
 
+ghost use Rattle.std.specs.Prelude.{◌≡◌};
+
 use crate::request::{Moment, Request};
+use fp_committer::Answer as Committed;
 use fp_desk::SubmitFault;
 use fp_edit::Edit;
 use fp_group_commit::StoreFault;
-use fp_ofrep::Reply;
+use fp_ofrep::Reply as Evaluation;
 use fp_publish::Handed;
 use fp_slots::Step;
 
@@ -71,5 +74,28 @@ pub enum Answer {
     /// The subscriber has it already.
     Nothing,
     /// The reply over what is published, which is at this revision.
-    Reply(u64, Reply),
+    Reply(u64, Evaluation),
+}
+
+impl From<Committed> for Answer {
+    ghost use Rattle.fp_world.specs.Events.{answer_by};
+
+    ghost from_gives = { λ said a. a ≡ answer_by said };
+
+    fn from(said: Committed) -> Answer {
+        match said {
+            Committed::NotNow => Answer::NotNow,
+            Committed::Memory => Answer::Memory,
+            Committed::Refused(fault) => Answer::Refused(fault),
+            Committed::Fault(fault) => Answer::Fault(fault),
+            Committed::Ticket(revision) => Answer::Ticket(revision),
+            Committed::Drawn(count) => Answer::Drawn(count),
+            Committed::Done => Answer::Done,
+            Committed::Sealed(revision) => Answer::Sealed(revision),
+            Committed::Settled(revision) => Answer::Settled(revision),
+            Committed::Acked(revision) => Answer::Acked(revision),
+            Committed::Waiting => Answer::Waiting,
+            Committed::Phase(step) => Answer::Phase(step),
+        }
+    }
 }

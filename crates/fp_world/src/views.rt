@@ -210,6 +210,7 @@ impl Views {
               seats = slice_set self.old.seats seat (Has (front_revision self.old.board));
             }))) }
         ensures unchanged { OnErr result (self.new ≡ self.old) }
+        ensures turn { OnErr result (HasNews self.old seat) }
     {
         let _ = &self.shown;
         let place = &mut self.places[seat];

@@ -9,16 +9,17 @@ ghost use Rattle.fp_recovery.specs.Stands.{StandsFor};
 ghost use Rattle.fp_publish.specs.declared.board.TheConstants.{MOST_EVALUATORS};
 ghost use Rattle.fp_publish.specs.declared.seats.TheConstants.{MOST_SEATS};
 ghost use Rattle.fp_world.specs.declared.event.Event.TheVariants as asked;
-ghost use Rattle.fp_world.specs.Commits.{accepted_by, opened_set, told_after};
-ghost use Rattle.fp_world.specs.Committer.{KeptFrom, MakesItsCall, RisesFor};
+ghost use Rattle.fp_committer.specs.Commits.{opened_set};
+ghost use Rattle.fp_committer.specs.Kept.{KeptFrom};
+ghost use Rattle.fp_world.specs.Events.{MakesItsCall, RisesFor, accepted_by, told_after};
 ghost use Rattle.fp_world.specs.Machine.{Run, Step, accepted_edits, told_by};
-ghost use Rattle.fp_world.specs.World.{Course, IsAfterFirst, IsNewWorld, IsOfEdits, Opens, StepsTo};
+ghost use Rattle.fp_world.specs.World.{Course, IsAfterFirst, IsNewWorld, Opens, StepsTo};
 ghost use Rattle.fp_world.specs.World.{desk_of, disk_of, machine, told_of};
 
-use crate::committer::Committer;
 use crate::event::{Answer, Event};
 use crate::request::{Moment, Request};
 use crate::views::Views;
+use fp_committer::Committer;
 use fp_disk::Disk;
 use fp_group_commit::{Opening, Store};
 use fp_layout::OpenFault;
@@ -78,14 +79,6 @@ impl<D: Disk> World<D> {
         }
     }
 
-    // Does what the event asks of the edits.
-    fn commit(&mut self, event: &Event) -> Answer
-        requires { IsOfEdits event.now }
-        ensures { StepsTo D.Disk self.old event.now result self.new }
-    {
-        self.committer.step(event)
-    }
-
     // Publishes what is settled, where it isn't published.
     fn publish<R: Wait>(&mut self, rt: &R) -> Answer
         ensures { StepsTo D.Disk self.old asked.Publish result self.new }
@@ -143,7 +136,15 @@ impl<D: Disk> World<D> {
             Event::Publish => self.publish(rt),
             Event::Hand(seat) => self.hand(*seat),
             Event::Evaluate(reader, request, now) => self.evaluate(*reader, request, now),
-            _ => self.commit(event),
+            Event::Submit(edit) => self.committer.submit(edit).into(),
+            Event::Draw => self.committer.draw().into(),
+            Event::Stage => self.committer.stage().into(),
+            Event::SyncBody => self.committer.sync_body().into(),
+            Event::OpenGate => self.committer.open_gate().into(),
+            Event::SyncGate => self.committer.sync_gate().into(),
+            Event::Settle => self.committer.settle().into(),
+            Event::Ack(revision) => self.committer.ack(*revision).into(),
+            Event::Compact => self.committer.compact().into(),
         }
     }
 

@@ -15,9 +15,9 @@ returns-then-seat-seats g c =
 
 pub returns-in-Err : goal.returns-in-Err
 returns-in-Err g c =
-    let m = c.self.inside.committer in let few = c.if-seat-seats.false in let count = c.seats.ensures in
+    let m = c.self.inside.committer in
     rw (← c.self.view_is) (turns.told_step g.D.Disk g.met.D.Disk.only_now _ _ (event.Hand c.args.seat) answer.Memory m.told refl (omega arith) refl refl (λ x. refl) (λ n. refl)
-    (omega (arith, few, count), ap (λ (x : ViewsState). machine (turns.World m x)) c.in-Err.ensures.unchanged) c.rest.ensures.exit)
+    (c.in-Err.ensures.turn, ap (λ (x : ViewsState). machine (turns.World m x)) c.in-Err.ensures.unchanged) c.rest.ensures.exit)
 
 pub returns-in-Ok-None : goal.returns-in-Ok-None
 returns-in-Ok-None g c =

@@ -1,0 +1,4 @@
+pub mod Keeps
+pub mod Out
+pub mod Sound
+pub mod Ways

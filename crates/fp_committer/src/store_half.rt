@@ -1,0 +1,112 @@
+//! The store's half of a committer.
+
+ghost use Rattle.std.specs.Prelude.{◌≡◌, ◌++◌, [], false};
+ghost use Rattle.fp_disk.specs.Crashes.{EachCrash};
+ghost use Rattle.fp_recovery.specs.Stands.{StandsFor};
+ghost use Rattle.fp_edit.specs.Log.{after_all};
+ghost use Rattle.fp_group_commit.specs.Store.{IsFresh, readable_set};
+ghost use Rattle.fp_committer.specs.StoreHalf.{KeptBy, new_half, taken_by};
+ghost use Rattle.fp_committer.specs.StoreHalf.{way_by};
+ghost use Rattle.fp_committer.specs.Way.{read_edits};
+
+use crate::half::Half;
+use crate::held::{Held, end};
+use fp_disk::Disk;
+use fp_group_commit::Store;
+use std::marker::Model;
+
+/// The store, and the batch that was drawn for it. Whoever holds it by value calls the disk; the
+/// desk's half may be held elsewhere, under a lock say.
+/// It isn't `Drop`, so that the store comes back by `into_store`.
+pub struct StoreHalf<D: Disk> {
+    pub(crate) store: Store<D>,
+    pub(crate) held: Held,
+    pub(crate) half: Half,
+}
+
+impl<D: Disk> Model for StoreHalf<D> {
+    ghost use Rattle.std.specs.Coded.{codes};
+    ghost use Rattle.fp_edit.specs.Flags.{coded_state};
+    ghost use Rattle.fp_group_commit.specs.Changes.{coded_change};
+    ghost use Rattle.fp_committer.specs.StoreHalf.{IsStoreHalf, StoreHalfState, changes_held};
+    ghost use Rattle.fp_committer.specs.StoreHalf.{progress_of};
+
+    ghost Value = { StoreHalfState D };
+
+    ghost coded = { Prim.hlevel (codes, coded_state, coded_change) };
+
+    ghost view = { λ h. record {
+      store = h.store;
+      progress = progress_of h.held h.store.phase;
+      drawn = changes_held h.held h.store;
+      half = h.half;
+    } };
+
+    ghost invariant = { λ h. IsStoreHalf D.honest D.unsynced h.held h.store h.half };
+}
+
+impl<D: Disk> StoreHalf<D> {
+    // A store as it was made or opened, of which nothing was drawn.
+    pub(crate) fn new(store: Store<D>, half: Half) -> StoreHalf<D>
+        requires fresh { IsFresh store store.store.start }
+        requires none { (half.all ≡ []) × (half.settled ≡ []) }
+        ensures { result ≡ new_half store half }
+    {
+        let _ = store.phase();
+        StoreHalf {
+            store,
+            held: Held::Nothing,
+            half,
+        }
+    }
+
+    /// Lends the store.
+    pub fn store(&self) -> &Store<D>
+        ensures store { result.now ≡ self.now.store }
+    {
+        let _ = &self.held;
+        &self.store
+    }
+
+    /// Shows what a crash leaves now: all that is settled, and perhaps what is drawn. Does nothing
+    /// when it runs.
+    pub fn rest(&self)
+        ensures whole { self.now.half.all ≡ self.now.half.settled ++ self.now.drawn }
+        ensures exit { EachCrash D.Disk self.now.store.disk (KeptBy self.now) }
+    {
+        let _ = &self.held;
+    }
+
+    /// Gives the store back. What is drawn and isn't settled is told to nobody.
+    pub fn into_store(self) -> Store<D>
+        ensures store { result ≡ self.store }
+    {
+        let StoreHalf {
+            store,
+            held,
+            half: _,
+        } = self;
+        end(held);
+        store
+    }
+
+    /// Gives the disk back.
+    pub fn into_disk(self) -> D
+        ensures disk { result ≡ self.store.disk }
+        ensures outcomes { EachCrash D.Disk result (KeptBy self) }
+        ensures reads { D.honest result → self.store.failed ≡ false →
+            StandsFor (D.bytes result) (readable_set self.store) }
+        // Where no call of it failed: what is settled, and what is drawn once its gate was opened.
+        ensures stands { D.honest result → self.store.failed ≡ false →
+            StandsFor (D.bytes result)
+            (after_all self.store.store.start (read_edits (taken_by self) (way_by self))) }
+    {
+        let StoreHalf {
+            store,
+            held,
+            half: _,
+        } = self;
+        end(held);
+        store.into_disk()
+    }
+}
