@@ -4,12 +4,11 @@
 use fp_commands::command;
 use fp_files::SystemFiles;
 use fp_log::{Reported, Source, Stamped};
-use fp_server::{Host, Task, TimeLimits, moment, serve, task_of, watch};
+use fp_server::{Host, attend, moment};
 use fp_streams::FailureCounted;
 use log::{Level, LevelFilter, Logged};
 use std::alloc::AllocGlobal;
 use std::env;
-use std::fmt::Display;
 use std::fs::File;
 use std::io::{Read, Write};
 use std::net::{TcpListener, TcpStream};
@@ -24,45 +23,6 @@ fn words(rt: &HostRuntime) -> Option<Vec<String>> {
     Some(words)
 }
 
-// Tells what ended a task, and gives the program's status.
-fn status<E: Write + Drop, F: Display + Drop>(errors: E, outcome: Result<(), F>) -> u8 {
-    let Err(fault) = outcome else {
-        return 0;
-    };
-    let _ = FailureCounted::new(errors).say(&format_args!("flagplane: {fault}"));
-    1
-}
-
-// Does what the words ask of the service. `None` where they ask nothing of it.
-fn attend<R, I, O, E>(rt: &R, words: &[String], input: I, output: O, errors: E) -> Option<u8>
-where
-    R: Host + Files<File = File>,
-    I: Read + Drop,
-    O: Write + Drop,
-    E: Write + Drop,
-{
-    let mut input = FailureCounted::new(Reported::new(*rt, Source::Input, input));
-    let mut output = FailureCounted::new(Reported::new(*rt, Source::Output, output));
-    match task_of(words) {
-        Some(Task::Serve(path, addresses)) => {
-            let mut files = SystemFiles::of(*rt);
-            let limits = TimeLimits::usual();
-            let served = serve(
-                rt,
-                &mut files,
-                path,
-                &addresses,
-                limits,
-                &mut input,
-                &mut output,
-            );
-            Some(status(errors, served))
-        }
-        Some(Task::Watch(address)) => Some(status(errors, watch(rt, address, &mut output))),
-        None => None,
-    }
-}
-
 // The runtime, with a log on standard error.
 type LoggedRuntime = Logged<HostRuntime, Stamped<HostRuntime>>;
 
@@ -75,22 +35,26 @@ fn logged(rt: HostRuntime) -> LoggedRuntime {
     Logged::new(rt, level, Stamped(rt))
 }
 
-// Runs a command on a file or in memory.
-fn run(rt: &LoggedRuntime, words: &[String]) -> u8 {
-    let host = rt.inner();
-    let mut input = FailureCounted::new(Reported::new(*rt, Source::Input, host.reader()));
-    let mut output = FailureCounted::new(Reported::new(*rt, Source::Output, host.stdout()));
-    let mut errors = FailureCounted::new(host.stderr());
+// Does what the words ask of the service, or runs the command that they name, over the files of the
+// runtime. A task waits, which a runtime may where its type is a parameter.
+fn run<R, I, O, E>(rt: &R, words: &[String], input: I, output: O, errors: E) -> u8
+where
+    R: Host + Files<File = File>,
+    I: Read + Drop,
+    O: Write + Drop,
+    E: Write + Drop,
+{
     let mut files = SystemFiles::of(*rt);
-    command(
-        rt.alloc(),
-        &mut files,
-        words,
-        &mut input,
-        &mut output,
-        &mut errors,
-        moment(rt),
-    )
+    let mut r = FailureCounted::new(Reported::new(*rt, Source::Input, input));
+    let mut w = FailureCounted::new(Reported::new(*rt, Source::Output, output));
+    let mut e = FailureCounted::new(errors);
+    match attend(rt, &mut files, words, &mut r, &mut w, &mut e) {
+        Some(status) => status,
+        None => {
+            let now = moment(rt);
+            command(rt.alloc(), &mut files, words, &mut r, &mut w, &mut e, now)
+        }
+    }
 }
 
 fn main(rt: HostRuntime) -> ExitCode {
@@ -103,9 +67,5 @@ fn main(rt: HostRuntime) -> ExitCode {
         None => &[],
     };
     let logged = logged(rt);
-    let attended = attend(&logged, words, rt.reader(), rt.stdout(), rt.stderr());
-    ExitCode::from(match attended {
-        Some(status) => status,
-        None => run(&logged, words),
-    })
+    ExitCode::from(run(&logged, words, rt.reader(), rt.stdout(), rt.stderr()))
 }

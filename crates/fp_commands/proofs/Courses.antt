@@ -27,7 +27,7 @@ use Rattle.fp_session.specs.declared.fault.ApplyFault.TheVariants.{Device, Store
 use Rattle.fp_session.proofs.RunLemmas.{written-flags, written-script}
 use Rattle.fp_commands.specs.Disks.{Asked, BlamesRun, CallsSomeWorks, IsLeftOnDisk, IsOnlyRead, IsStreamFault, LacksRoom, opening_calls}
 use Rattle.fp_commands.specs.Faults.{of_run}
-use Rattle.fp_commands.specs.Files.{Environment, failures, RunsOnDisk}
+use Rattle.fp_commands.specs.Files.{Streams, failures, RunsOnDisk}
 use Rattle.fp_commands.specs.declared.fault.CommandFault.{CommandFault}
 use Rattle.fp_commands.specs.declared.fault.CommandFault.TheVariants as command
 use Rattle.fp_commands.proofs.Told.{file_refused-run, refused-run}
@@ -65,7 +65,7 @@ session_store disk = record {
   state = λ s. flags_of s;
   may_stand = λ s flags. IsAhead s.desk flags;
   has_place = λ s change. HasPlace s change;
-  rests = λ s. s.store.slots.step ≡ Begin;
+  rests = λ s. s.store.compaction.next ≡ Begin;
   continues_to = λ a b. Keeps disk a b;
   fails_on = λ f a b. Fails disk f a b;
   leaves = λ a b P. LeavesFlags disk a b P;
@@ -76,9 +76,9 @@ session_store disk = record {
 }
 
 -- A run over a session that was opened on a disk and gave it back, over streams: it was asked what was read, as `asked` says
-module _ {D F R W : Type 0} (disk : Ghosts D) (remaining : R → Option (List ℕ)) (contents : W → Option (List ℕ)) (Reads : List ℕ → List Ask → Type 0) (most : ℕ) (MayEnd : Type 0 → List ℕ → Option (List ℕ) → CommandFault → Type 0) (old new : Environment F R W)
+module _ {D R W : Type 0} (disk : Ghosts D) (remaining : R → Option (List ℕ)) (contents : W → Option (List ℕ)) (Reads : List ℕ → List Ask → Type 0) (most : ℕ) (MayEnd : Type 0 → List ℕ → Option (List ℕ) → CommandFault → Type 0) (old new : Streams R W)
     (d0 d1 : D) (s k : SessionState D) (stands : disk.honest d0 → StandsFor (disk.bytes d0) (flags_of s)) (only : disk.honest d0 → (other : State) → StandsFor (disk.bytes d0) other → other ≡ flags_of s)
-    (ready : IsReady disk s) (begins : s.store.slots.step ≡ Begin) (well : disk.faults (disk_of s) ≡ disk.faults d0) (opened : ThenReads opening_calls (disk.calls d0) (disk.calls (disk_of s))) (read : AtAnyMoment disk d0 (disk_of s) (IsOutcome (disk.unsynced d0)))
+    (ready : IsReady disk s) (begins : s.store.compaction.next ≡ Begin) (well : disk.faults (disk_of s) ≡ disk.faults d0) (opened : ThenReads opening_calls (disk.calls d0) (disk.calls (disk_of s))) (read : AtAnyMoment disk d0 (disk_of s) (IsOutcome (disk.unsynced d0)))
     (honest : SameHonesty disk d0 (disk_of s)) (here : d1 ≡ disk_of k) (keeps : EachCrash disk d1 (StandsAhead k.desk)) (Of : (List Ask → Type 0) → Type 0) (asked : (P : List Ask → Type 0) → Of P → Asked (remaining old.reader.inner) Reads P)
     (both : (P Q : List Ask → Type 0) → Of P → Of Q → Of (λ xs. P xs × Q xs)) (may_end : (f : ApplyFault) → MayEnd (disk.honest d0) (disk.bytes d0) (remaining old.reader.inner) (of_run f))
     (counts_now : (x : D) (t : ℕ) (c : List ℕ) → disk.honest x → t ≤ disk.moment x → IsOutcome (disk.unsynced x) c → disk.crash_states_since x t c) (present : (x : D) → disk.honest x → IsOutcome (disk.unsynced x) (disk.bytes x)) where
@@ -196,7 +196,7 @@ module _ {D F R W : Type 0} (disk : Ghosts D) (remaining : R → Option (List �
       begun = disk.calls (disk_of s);
       opened = opened;
       works = p.course.called.works;
-      lead = subst (λ (x : Step). Leads x p.course.called.works Begin) begins (subst (λ (x : Step). Leads s.store.slots.step p.course.called.works x) p.rests p.course.called.lead);
+      lead = subst (λ (x : Step). Leads x p.course.called.works Begin) begins (subst (λ (x : Step). Leads s.store.compaction.next p.course.called.works x) p.rests p.course.called.lead);
       calls = ap disk.calls here ∙ p.course.called.calls;
     };
     left = ran-left p.any_moment;

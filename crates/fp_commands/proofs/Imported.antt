@@ -12,7 +12,7 @@ use Rattle.fp_recovery.specs.Refusals.{RefusesBytes, IsUnlessWanting}
 use Rattle.fp_recovery.specs.Stands.{StandsFor}
 use Rattle.fp_commands.specs.declared.fault.CommandFault.{CommandFault}
 use Rattle.fp_commands.specs.Documents.{import_of, IsDocumentFault}
-use Rattle.fp_commands.specs.Disks.{IsImportingFault}
+use Rattle.fp_commands.specs.Disks.{IfFileRefused, IsImportingFault}
 use Rattle.fp_commands.specs.Faults.{of_import, of_open, of_run}
 
 -- ---- what was read
@@ -39,3 +39,7 @@ importing-run is_honest c left f = grind arith
 
 pub importing-document : (is_honest : Type 0) (c : List ℕ) (left : Option (List ℕ)) (f : CommandFault) → (is_honest → (s : State) × StandsFor c s) → IsDocumentFault left f → IsImportingFault is_honest c left f
 importing-document is_honest c left f stands h = grind arith
+
+-- no document refuses a file
+pub document-no-file : (P : Type 0) (left : Option (List ℕ)) (f : CommandFault) → IsDocumentFault left f → IfFileRefused P f
+document-no-file P left f h = grind arith

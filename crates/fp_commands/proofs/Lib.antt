@@ -1,6 +1,5 @@
 pub mod Blamed
 pub mod Courses
-pub mod Ended
 pub mod Imported
 pub mod Opened
 pub mod Told

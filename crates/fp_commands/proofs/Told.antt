@@ -47,6 +47,9 @@ some_both o P Q p q = grind arith
 pub if_refused : (P : Type 0) (f : CommandFault) → P → IfRefused P f
 if_refused P f p = grind arith
 
+pub if_file_refused : (P : Type 0) (f : CommandFault) → P → IfFileRefused P f
+if_file_refused P f p = grind arith
+
 -- a run refuses neither bytes nor what was read
 pub refused-run : (P : Type 0) (f : ApplyFault) → IfRefused P (of_run f)
 refused-run P f = grind arith

@@ -10,7 +10,7 @@ use Rattle.fp_files.specs.Lending.{IsLentOnce, IsNotOpened, IsThere, IsThereOrNe
 use Rattle.fp_files.specs.declared.files.DiskFiles.{Ghosts as FileGhosts}
 use Rattle.fp_files.specs.declared.openings.Purpose.{Purpose}
 use Rattle.fp_files.specs.declared.openings.Purpose.TheVariants.{Making, Writing, Reading}
-use Rattle.fp_layout.specs.declared.size.TheConstants.{STANDARD_SLOT}
+use Rattle.fp_layout.specs.Numbers.{STANDARD_SLOT}
 use Rattle.fp_layout.specs.NewDisk.{IsNewDisk, format_calls}
 use Rattle.fp_recovery.specs.Durable.{IsNewSetOrNone, IsDurable}
 use Rattle.fp_recovery.specs.Refusals.{StandsForNone}
@@ -18,7 +18,7 @@ use Rattle.fp_edit.specs.Flags.{State}
 use Rattle.fp_session.specs.Asks.{Ask, asked_by_input}
 use Rattle.fp_session.specs.Run.{IsRunWritten, IsToldBy}
 use Rattle.fp_session.specs.declared.fault.ApplyFault.{ApplyFault}
-use Rattle.fp_session.specs.declared.replies.TheConstants.{MOST_WAITING}
+use Rattle.fp_session.specs.Numbers.{MOST_WAITING}
 use Rattle.fp_streams.specs.Failures.{Stream}
 use Rattle.fp_commands.specs.Disks.{AskedByDocument, AskedByLines, Blames, BlamesRun, CallsOfRun}
 use Rattle.fp_commands.specs.Disks.{IfFileRefused, IfRefused, IsApplyingFault, IsImportingFault}
@@ -35,15 +35,23 @@ use Rattle.fp_commands.specs.declared.program.Task.{Task}
 use Rattle.fp_commands.specs.declared.program.Task.TheVariants.{Apply, InitFile, ApplyFile}
 use Rattle.fp_commands.specs.declared.program.Task.TheVariants.{ShowFile, ImportFile, EvalFile}
 
--- what a command reads from, writes to and opens, at a moment
+-- what a command reads from and writes to, at a moment
+pub record Streams (R W : Type 0) : Type 0 where
+  pub reader : Stream R
+  pub writer : Stream W
+
+-- how often they have failed
+abbrev pub failures : {R W : Type 0} → Streams R W → ℕ
+failures s = s.reader.failures + s.writer.failures
+
+-- and the files that it opens
 pub record Environment (F R W : Type 0) : Type 0 where
   pub files : F
   pub reader : Stream R
   pub writer : Stream W
 
--- how often its streams have failed
-abbrev pub failures : {F R W : Type 0} → Environment F R W → ℕ
-failures o = o.reader.failures + o.writer.failures
+abbrev pub streams_of : {F R W : Type 0} → Environment F R W → Streams R W
+streams_of o = record { reader = o.reader; writer = o.writer }
 
 -- over memory: what a run from no flags writes, or that memory ran out or a stream failed, and
 -- that all was told by then, unless the writer failed: of one line at most no revision
@@ -64,7 +72,7 @@ AppliesInMemory remaining contents r0 r w0 w (Err f) = IsStreamFault f
 -- `apply_disk` and `import_disk` promise it
 
 -- a disk of no flags was made of an empty one
-pub record MakesDisk {F R W D : Type 0} (disk : DiskGhosts D) (old new : Environment F R W)
+pub record MakesDisk {R W D : Type 0} (disk : DiskGhosts D) (old new : Streams R W)
     (before after : D) (outcome : Result (Unit {0}) CommandFault) : Type 0 where
   pub unread : new.reader ≡ old.reader
   pub nothing_written : new.writer ≡ old.writer
@@ -85,8 +93,8 @@ pub record MakesDisk {F R W D : Type 0} (disk : DiskGhosts D) (old new : Environ
   pub honest : SameHonesty disk before after
 
 -- the line of what the disk stands for was written, and nothing on the disk
-pub record ShowsDisk {F R W D : Type 0} (disk : DiskGhosts D) (contents : W → Option (List ℕ))
-    (old new : Environment F R W) (before after : D) (outcome : Result
+pub record ShowsDisk {R W D : Type 0} (disk : DiskGhosts D) (contents : W → Option (List ℕ))
+    (old new : Streams R W) (before after : D) (outcome : Result
     (Unit {0}) CommandFault) : Type 0 where
   pub unread : new.reader ≡ old.reader
   pub shown : OnOk outcome (IsShown (disk.honest before) (disk.bytes before)
@@ -105,21 +113,25 @@ pub record ShowsDisk {F R W D : Type 0} (disk : DiskGhosts D) (contents : W → 
 
 -- what is asked of it, read from the reader in this way, was answered, and led what the disk stood
 -- for to what it stands for; so much of it may be on its way at once
-pub record RunsOnDisk {F R W D : Type 0} (disk : DiskGhosts D) (remaining : R
+pub record RunsOnDisk {R W D : Type 0} (disk : DiskGhosts D) (remaining : R
     → Option (List ℕ)) (contents : W → Option (List ℕ))
     (Reads : List ℕ → List Ask → Type 0) (most : ℕ) (MayEnd : Type 0 → List ℕ → Option (List ℕ)
     → CommandFault → Type 0)
-    (old new : Environment F R W) (before after : D) (outcome : Result Bool CommandFault)
+    (old new : Streams R W) (before after : D) (outcome : Result Bool CommandFault)
     : Type 0 where
   pub run : IfOk outcome (λ told. IsRunOnDisk (disk.honest before) (disk.bytes before)
       (disk.unsynced after)
       (remaining old.reader.inner) Reads told (contents old.writer.inner)
       (contents new.writer.inner))
   pub called : CallsOfRun (disk.calls before) (disk.calls after) outcome
+  -- whatever comes back, the disk stands for what some first of it leaves, and so does whatever a
+  -- crash leaves at any moment, but for what one might have left before
   pub left : disk.honest before →
       IsLeftOnDisk (disk.bytes before) (disk.bytes after) (remaining old.reader.inner) Reads
   pub any_moment : AtAnyMoment disk before after (λ c. IsOutcome (disk.unsynced before) c
       ⊎ IsLeftOnDisk (disk.bytes before) c (remaining old.reader.inner) Reads)
+  -- At a fault no run had begun, or all its replies were written, unless the writer failed: to what
+  -- flags hold that each crash then leaves, and to what isn't known to be kept
   pub told : disk.honest before → IfErr outcome (λ f. new.writer.failures ≡ old.writer.failures
       → IsUnbegun disk f before after old.writer new.writer
       ⊎ EachCrash disk after (λ c. IsToldOnDisk (disk.bytes before) c
@@ -128,14 +140,22 @@ pub record RunsOnDisk {F R W D : Type 0} (disk : DiskGhosts D) (remaining : R
   pub fault : IfErr outcome (MayEnd (disk.honest before) (disk.bytes before)
       (remaining old.reader.inner))
   pub nothing_written : IfErr outcome (IfRefused (new.writer ≡ old.writer))
+  -- where the bytes stand for nothing, the disk was only read and no stream was used, whatever is
+  -- answered
   pub nothing_stood : disk.honest before → StandsForNone (disk.bytes before)
       → IsOnlyRead disk before after × (new.reader ≡ old.reader) × (new.writer ≡ old.writer)
+  -- where the bytes or what was read is refused, the disk was only read, and a file is refused
+  -- before anything is read
   pub only_read : IfErr outcome (IfRefused (IsOnlyRead disk before after))
   pub unread : IfErr outcome (IfFileRefused (new.reader ≡ old.reader))
+  -- the store fails where the disk does, or has no room for edits that are asked for and no
+  -- generation to make it
   pub cause : IfErr outcome (λ f. f ≡ StoreFailed → LacksRoom (disk.honest before)
       (disk.bytes before)
       (disk.unsynced after) (remaining old.reader.inner) Reads
       ⊎ (disk.faults before < disk.faults after))
+  -- `Device` comes only where the disk, the reader or the writer failed, and a good end only where
+  -- none did; no other fault is told in place of a reader's
   pub device : BlamesRun (disk.faults before + failures old) (disk.faults after + failures new)
       outcome
   pub read : IfErr outcome (λ f. f ≢ Device → new.reader.failures ≡ old.reader.failures)
@@ -143,24 +163,24 @@ pub record RunsOnDisk {F R W D : Type 0} (disk : DiskGhosts D) (remaining : R
   pub honest : SameHonesty disk before after
 
 -- the lines that were read, and the puts of the document that was
-abbrev pub AppliesToDisk : {F R W D : Type 0} → DiskGhosts D → (R → Option (List ℕ)) → (W
+abbrev pub AppliesToDisk : {R W D : Type 0} → DiskGhosts D → (R → Option (List ℕ)) → (W
     → Option (List ℕ))
-    → Environment F R W → Environment F R W → D → D → Result Bool CommandFault → Type 0
+    → Streams R W → Streams R W → D → D → Result Bool CommandFault → Type 0
 AppliesToDisk disk remaining contents old new before after outcome =
     RunsOnDisk disk remaining contents AskedByLines 1
     (λ is_honest c left. IsApplyingFault is_honest c) old new before after outcome
 
-abbrev pub ImportsToDisk : {F R W D : Type 0} → DiskGhosts D → (R → Option (List ℕ)) → (W
+abbrev pub ImportsToDisk : {R W D : Type 0} → DiskGhosts D → (R → Option (List ℕ)) → (W
     → Option (List ℕ))
-    → Environment F R W → Environment F R W → D → D → Result Bool CommandFault → Type 0
+    → Streams R W → Streams R W → D → D → Result Bool CommandFault → Type 0
 ImportsToDisk disk remaining contents old new before after outcome =
     RunsOnDisk disk remaining contents AskedByDocument MOST_WAITING IsImportingFault old new before
     after outcome
 
 -- the reply for a flag of what the disk stands for was written, and nothing on the disk
-pub record EvaluatesOnDisk {F R W D : Type 0} (disk : DiskGhosts D) (remaining : R
+pub record EvaluatesOnDisk {R W D : Type 0} (disk : DiskGhosts D) (remaining : R
     → Option (List ℕ))
-    (contents : W → Option (List ℕ)) (old new : Environment F R W) (key : List ℕ) (now : ℕ)
+    (contents : W → Option (List ℕ)) (old new : Streams R W) (key : List ℕ) (now : ℕ)
     (before after : D) (outcome : Result (Unit {0}) CommandFault) : Type 0 where
   pub evaluated : OnOk outcome (IsEvaluated (disk.honest before) (disk.bytes before) key now
       (remaining old.reader.inner) (contents old.writer.inner) (contents new.writer.inner))
@@ -221,16 +241,16 @@ Performs files disk remaining contents old new Apply path key now outcome = (new
     × AppliesInMemory remaining contents old.reader new.reader old.writer new.writer outcome
 Performs files disk remaining contents old new InitFile path key now outcome =
     OnFile files disk old new path Making (IsThereOrNew files disk old.files path)
-    (MakesDisk disk old new) outcome
+    (MakesDisk disk (streams_of old) (streams_of new)) outcome
 Performs files disk remaining contents old new ShowFile path key now outcome =
     OnFile files disk old new path Reading (IsThere files old.files path)
-    (ShowsDisk disk contents old new) outcome
+    (ShowsDisk disk contents (streams_of old) (streams_of new)) outcome
 Performs files disk remaining contents old new ApplyFile path key now outcome =
     OnFile files disk old new path Writing (IsThere files old.files path)
-    (AppliesToDisk disk remaining contents old new) outcome
+    (AppliesToDisk disk remaining contents (streams_of old) (streams_of new)) outcome
 Performs files disk remaining contents old new ImportFile path key now outcome =
     OnFile files disk old new path Writing (IsThere files old.files path)
-    (ImportsToDisk disk remaining contents old new) outcome
+    (ImportsToDisk disk remaining contents (streams_of old) (streams_of new)) outcome
 Performs files disk remaining contents old new EvalFile path key now outcome =
     OnFile files disk old new path Reading (IsThere files old.files path)
-    (EvaluatesOnDisk disk remaining contents old new key now) outcome
+    (EvaluatesOnDisk disk remaining contents (streams_of old) (streams_of new) key now) outcome

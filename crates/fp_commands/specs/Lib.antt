@@ -1,3 +1,4 @@
+pub mod Numbers
 pub mod Faults
 pub mod Documents
 pub mod Disks

@@ -1,13 +1,13 @@
 -- What the program's words ask for, and how it ends.
 use Rattle.std.specs.Prelude.{◌≡◌, ◌≤◌, ℕ, ◌+◌, List, [], ◌∷◌, ◌++◌, codes, bytes_eq, Option}
-use Rattle.std.specs.Prelude.{Some, None, if◌then◌else◌}
+use Rattle.std.specs.Prelude.{Some, None, IfSome, Result, Ok, Err, if◌then◌else◌}
 use Rattle.std.specs.FinMap as fin
 use Rattle.fp_edit.specs.Flags.{State}
 use Rattle.fp_streams.specs.Failures.{Stream}
 use Rattle.fp_streams.specs.Said.{AppendsLine}
 use Rattle.fp_commands.specs.Faults.{fault_text}
 use Rattle.fp_commands.specs.declared.fault.CommandFault.{CommandFault}
-use Rattle.fp_commands.specs.declared.program.TheConstants.{IMAGE_LIMIT}
+use Rattle.fp_commands.specs.Numbers.{IMAGE_LIMIT}
 use Rattle.fp_commands.specs.declared.program.Task.{Task}
 use Rattle.fp_commands.specs.declared.program.Task.TheVariants.{Apply, InitFile, ApplyFile}
 use Rattle.fp_commands.specs.declared.program.Task.TheVariants.{ShowFile, ImportFile, EvalFile}
@@ -60,8 +60,20 @@ abbrev pub usage : List ℕ
 usage = codes
     "usage: flagplane init FILE | apply [FILE] | show FILE | eval FILE KEY | import FILE | serve FILE OFREP EDIT STREAM | watch ADDR"
 
+-- the line of a fault of this text
+abbrev pub fault_line : List ℕ → List ℕ
+fault_line text = codes "flagplane: " ++ text
+
 -- a fault that may have ended the task, by its own text
 abbrev pub TellsFault : {E : Type 0} → (E → Option (List ℕ)) → Stream E → Stream E → (CommandFault
     → Type 0) → Type 0
 TellsFault contents old new MayEnd = (f : CommandFault) × MayEnd f
-    × WritesLine contents old new (codes "flagplane: " ++ fault_text f)
+    × WritesLine contents old new (fault_line (fault_text f))
+
+-- The status of what ended so, and what is told of it: 0 and nothing where it ended well, and else
+-- 1 and the line of its fault, by the fault's own text
+abbrev pub IsStatusOf : {E F : Type 0} → (F → Option (List ℕ)) → (E → Option (List ℕ)) → Stream E
+    → Stream E → Result (Unit {0}) F → ℕ → Type 0
+IsStatusOf text contents old new (Ok x) status = (status ≡ 0) × (new ≡ old)
+IsStatusOf text contents old new (Err f) status = (status ≡ 1)
+    × IfSome (text f) (λ t. WritesLine contents old new (fault_line t))

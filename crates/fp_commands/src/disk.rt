@@ -1,7 +1,7 @@
 //! The commands over a disk. Each gives the disk back.
 
 ghost use Rattle.fp_disk.specs.Crashes.{AtAnyMoment, EachCrash, IsUntouched, SameHonesty};
-ghost use Rattle.std.specs.Prelude.{◌≡◌, ◌≢◌, ◌⊎◌, ◌<◌, ◌+◌, ◌++◌, [], ◌∷◌, Ok, Err, IfOk, IfErr};
+ghost use Rattle.std.specs.Prelude.{◌≡◌, ◌≢◌, ◌⊎◌, ◌<◌, ◌+◌, ◌++◌, [], ◌∷◌, Ok, Err, IfErr};
 ghost use Rattle.std.specs.Prelude.{MatchResult, OnOk};
 ghost use Rattle.std.specs.Io.KnownBytes.{Appends};
 ghost use Rattle.fp_disk.specs.History.{Makes};
@@ -12,19 +12,14 @@ ghost use Rattle.fp_layout.specs.declared.size.TheConstants.{STANDARD_SLOT};
 ghost use Rattle.fp_layout.specs.NewDisk.{IsNewDisk, format_calls};
 ghost use Rattle.fp_session.specs.Run.{show_line};
 ghost use Rattle.fp_session.specs.Session.{StandsAhead, disk_of};
-ghost use Rattle.fp_session.specs.declared.replies.TheConstants.{MOST_WAITING};
 ghost use Rattle.fp_recovery.specs.Durable.{IsNewSetOrNone, IsDurable};
 ghost use Rattle.fp_recovery.specs.Refusals.{StandsForNone};
-ghost use Rattle.fp_commands.specs.Disks.{AskedByDocument, AskedByLines, Blames, BlamesRun};
-ghost use Rattle.fp_commands.specs.Disks.{CallsOfRun, IfFileRefused, IfRefused, IsApplyingFault};
-ghost use Rattle.fp_commands.specs.Disks.{IsImportingFault, IsLeftOnDisk, IsMakingFault};
-ghost use Rattle.fp_commands.specs.Disks.{IsOnlyRead, IsRunOnDisk, IsShowingFault, IsShown};
-ghost use Rattle.fp_commands.specs.Disks.{IsStreamFault, IsToldOnDisk, IsUnbegun, LacksRoom};
-ghost use Rattle.fp_commands.specs.Disks.{opening_calls};
+ghost use Rattle.fp_commands.specs.Disks.{Blames, IfRefused, IsMakingFault, IsShowingFault};
+ghost use Rattle.fp_commands.specs.Disks.{IsShown, IsStreamFault, opening_calls};
 ghost use Rattle.fp_commands.specs.Faults.{of_run};
+ghost use Rattle.fp_commands.specs.Files.{AppliesToDisk, ImportsToDisk};
 ghost use Rattle.fp_commands.specs.Task.{no_flags};
 ghost use Rattle.fp_commands.specs.declared.fault.CommandFault.TheVariants.{Device, NotEmpty};
-ghost use Rattle.fp_commands.specs.declared.fault.CommandFault.TheVariants.{StoreFailed};
 
 use crate::document::read_document;
 use crate::fault::CommandFault;
@@ -111,53 +106,9 @@ pub fn apply_disk<D: Disk, R: Read, W: Write>(
     w: &mut FailureCounted<W>,
     disk: D,
 ) -> (D, Result<bool, CommandFault>)
-    ensures run { IfOk result.1 (λ told. IsRunOnDisk (D.honest disk) (D.bytes disk)
-        (D.unsynced result.0) (R.remaining r.old.inner) AskedByLines told
-        (W.contents w.old.inner) (W.contents w.new.inner)) }
-    ensures called { CallsOfRun (D.calls disk) (D.calls result.0) result.1 }
-
-    // Whatever comes back, the disk stands for what some first lines leave, and so does whatever a
-    // crash leaves at any moment, but for what one might have left before.
-    ensures left { D.honest disk →
-        IsLeftOnDisk (D.bytes disk) (D.bytes result.0) (R.remaining r.old.inner) AskedByLines }
-    ensures any_moment { AtAnyMoment D.Disk disk result.0 (λ c. IsOutcome (D.unsynced disk) c
-        ⊎ IsLeftOnDisk (D.bytes disk) c (R.remaining r.old.inner) AskedByLines) }
-
-    // At a fault no run had begun, or all its replies were written, unless the writer failed: to
-    // what flags hold that each crash then leaves, and to what isn't known to be kept.
-    ensures told { D.honest disk → IfErr result.1 (λ f. w.new.failures ≡ w.old.failures
-        → IsUnbegun D.Disk f disk result.0 w.old w.new
-        ⊎ EachCrash D.Disk result.0 (λ c. IsToldOnDisk (D.bytes disk) c
-        (R.remaining r.old.inner) AskedByLines 1 f
-        (W.contents w.old.inner) (W.contents w.new.inner))) }
-    ensures fault { IfErr result.1 (IsApplyingFault (D.honest disk) (D.bytes disk)) }
-    ensures nothing_written { IfErr result.1 (IfRefused (w.new ≡ w.old)) }
-
-    // The store fails where the disk does, or has no room for edits
-    // that are asked for and no generation to make it.
-    ensures cause { IfErr result.1 (λ f. f ≡ StoreFailed
-        → LacksRoom (D.honest disk) (D.bytes disk) (D.unsynced result.0)
-        (R.remaining r.old.inner) AskedByLines ⊎ (D.faults disk < D.faults result.0)) }
-
-    // Where the bytes stand for nothing, the disk was only read and no stream was used,
-    // whatever is answered.
-    ensures nothing_stood { D.honest disk → StandsForNone (D.bytes disk)
-        → IsOnlyRead D.Disk disk result.0 × (r.new ≡ r.old) × (w.new ≡ w.old) }
-
-    // Where the bytes or what was read is refused, the disk was only read,
-    // and a file is refused before anything is read.
-    ensures only_read { IfErr result.1 (IfRefused (IsOnlyRead D.Disk disk result.0)) }
-    ensures unread { IfErr result.1 (IfFileRefused (r.new ≡ r.old)) }
-
-    // `Device` comes only where the disk, the reader or the writer failed,
-    // and a good end only where none did.
-    ensures device { BlamesRun (D.faults disk + (r.old.failures + w.old.failures))
-        (D.faults result.0 + (r.new.failures + w.new.failures)) result.1 }
-
-    // No other fault is told in place of a reader's.
-    ensures read { IfErr result.1 (λ f. f ≢ Device → r.new.failures ≡ r.old.failures) }
-    ensures no_failure { OnOk result.1 (D.faults result.0 ≡ D.faults disk) }
-    ensures honest { SameHonesty D.Disk disk result.0 }
+    ensures { AppliesToDisk D.Disk R.remaining W.contents
+        (record { reader = r.old; writer = w.old }) (record { reader = r.new; writer = w.new })
+        disk result.0 result.1 }
 {
     let session = match DiskSession::open(alloc, disk) {
         Ok(session) => session,
@@ -177,54 +128,9 @@ pub fn import_disk<D: Disk, R: Read, W: Write>(
     w: &mut FailureCounted<W>,
     disk: D,
 ) -> (D, Result<bool, CommandFault>)
-    ensures run { IfOk result.1 (λ told. IsRunOnDisk (D.honest disk) (D.bytes disk)
-        (D.unsynced result.0) (R.remaining r.old.inner) AskedByDocument told
-        (W.contents w.old.inner) (W.contents w.new.inner)) }
-    ensures called { CallsOfRun (D.calls disk) (D.calls result.0) result.1 }
-
-    // Whatever comes back, the disk stands for what some first puts leave, and so does whatever a
-    // crash leaves at any moment, but for what one might have left before.
-    ensures left { D.honest disk →
-        IsLeftOnDisk (D.bytes disk) (D.bytes result.0) (R.remaining r.old.inner) AskedByDocument }
-    ensures any_moment { AtAnyMoment D.Disk disk result.0 (λ c. IsOutcome (D.unsynced disk) c
-        ⊎ IsLeftOnDisk (D.bytes disk) c (R.remaining r.old.inner) AskedByDocument) }
-
-    // At a fault no run had begun, or all its replies were written, unless the writer failed: to
-    // what flags hold that each crash then leaves, and to what isn't known to be kept.
-    ensures told { D.honest disk → IfErr result.1 (λ f. w.new.failures ≡ w.old.failures
-        → IsUnbegun D.Disk f disk result.0 w.old w.new
-        ⊎ EachCrash D.Disk result.0 (λ c. IsToldOnDisk (D.bytes disk) c
-        (R.remaining r.old.inner) AskedByDocument MOST_WAITING f
-        (W.contents w.old.inner) (W.contents w.new.inner))) }
-    ensures fault { IfErr result.1
-        (IsImportingFault (D.honest disk) (D.bytes disk) (R.remaining r.old.inner)) }
-    ensures nothing_written { IfErr result.1 (IfRefused (w.new ≡ w.old)) }
-
-    // The store fails where the disk does, or has no room for edits
-    // that are asked for and no generation to make it.
-    ensures cause { IfErr result.1 (λ f. f ≡ StoreFailed
-        → LacksRoom (D.honest disk) (D.bytes disk) (D.unsynced result.0)
-        (R.remaining r.old.inner) AskedByDocument ⊎ (D.faults disk < D.faults result.0)) }
-
-    // Where the bytes stand for nothing, the disk was only read and no stream was used,
-    // whatever is answered.
-    ensures nothing_stood { D.honest disk → StandsForNone (D.bytes disk)
-        → IsOnlyRead D.Disk disk result.0 × (r.new ≡ r.old) × (w.new ≡ w.old) }
-
-    // Where the bytes or what was read is refused, the disk was only read,
-    // and a file is refused before anything is read.
-    ensures only_read { IfErr result.1 (IfRefused (IsOnlyRead D.Disk disk result.0)) }
-    ensures unread { IfErr result.1 (IfFileRefused (r.new ≡ r.old)) }
-
-    // `Device` comes only where the disk, the reader or the writer failed,
-    // and a good end only where none did.
-    ensures device { BlamesRun (D.faults disk + (r.old.failures + w.old.failures))
-        (D.faults result.0 + (r.new.failures + w.new.failures)) result.1 }
-
-    // No other fault is told in place of a reader's.
-    ensures read { IfErr result.1 (λ f. f ≢ Device → r.new.failures ≡ r.old.failures) }
-    ensures no_failure { OnOk result.1 (D.faults result.0 ≡ D.faults disk) }
-    ensures honest { SameHonesty D.Disk disk result.0 }
+    ensures { ImportsToDisk D.Disk R.remaining W.contents
+        (record { reader = r.old; writer = w.old }) (record { reader = r.new; writer = w.new })
+        disk result.0 result.1 }
 {
     let session = match DiskSession::open(alloc, disk) {
         Ok(session) => session,

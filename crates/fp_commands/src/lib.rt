@@ -3,11 +3,13 @@
 
 mod disk;
 mod document;
+mod ending;
 mod eval;
 mod fault;
 mod program;
 
 pub use disk::{apply_disk, import_disk, init_disk, show_disk};
+pub use ending::status_of;
 pub use eval::eval_disk;
 pub use fault::CommandFault;
 pub use program::command;

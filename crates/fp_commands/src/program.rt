@@ -12,6 +12,7 @@ ghost use Rattle.fp_commands.specs.declared.program.Task.TheVariants.{ImportFile
 ghost use Rattle.fp_commands.specs.declared.program.Task.TheVariants.{ShowFile};
 
 use crate::disk::{apply_disk, import_disk, init_disk, show_disk};
+use crate::ending::status_of;
 use crate::eval::eval_disk;
 use crate::fault::CommandFault;
 use fp_edit::FlagSet;
@@ -81,13 +82,8 @@ where
         let _ = e.say(&USAGE);
         return 2;
     };
-    match perform(alloc, files, task, path, key, now, r, w) {
-        Ok(()) => 0,
-        Err(fault) => {
-            let _ = e.say(&format_args!("flagplane: {fault}"));
-            1
-        }
-    }
+    let outcome = perform(alloc, files, task, path, key, now, r, w);
+    status_of(e, outcome)
 }
 
 fn task_of(words: &[String]) -> Option<(Task, &str, &str)>

@@ -1,21 +1,26 @@
 -- How a service ends, of what its store is.
-use Rattle.std.proofs.Common.{◌≡◌, ◌⊎◌, ◌+◌, ℕ, List, ◌++◌, length, Result, Ok, Err, IfErr, inl, inr, ap, subst, ◌∙◌}
+use Rattle.std.proofs.Common.{◌≡◌, ◌≢◌, ◌⊎◌, ◌+◌, ℕ, List, [], ◌∷◌, ◌++◌, length, Ok, Err, inl, inr, sym, ap, subst, ◌∙◌}
 use Rattle.std.specs.Prelude.{Option, Some, codes, decimal}
 use Rattle.std.specs.Net.Text.{socket_text}
 use Rattle.std.specs.declared.net.socket_addr.SocketAddr.{SocketAddr}
 use Rattle.std.specs.Io.KnownBytes.{Appends}
 use Rattle.fp_base.proofs.Known.{Appends-more}
+use Rattle.fp_commands.specs.Files.{Environment, failures, streams_of}
 use Rattle.fp_commands.specs.declared.fault.CommandFault.{CommandFault}
+use Rattle.fp_commands.specs.declared.fault.CommandFault.TheVariants.{Device, StoreFailed, Memory}
 use Rattle.fp_disk.specs.Crashes.{EachCrash}
 use Rattle.fp_disk.specs.declared.disk.Disk.{Ghosts as DiskGhosts}
 use Rattle.fp_edit.specs.Log.{after_all}
+use Rattle.fp_files.specs.Openings.{KeepsOthers}
 use Rattle.fp_files.specs.declared.files.DiskFiles.{Ghosts as FileGhosts}
+use Rattle.fp_files.specs.declared.openings.Purpose.TheVariants.{Writing}
 use Rattle.fp_group_commit.specs.Store.{Leaves, StoreState, coming, sealed_set}
 use Rattle.fp_group_commit.specs.Tokens.{Identity}
-use Rattle.fp_journal.specs.declared.journal.Phase.TheVariants.{Idle}
+use Rattle.fp_group_commit.specs.declared.phase.Phase.TheVariants.{Idle}
 use Rattle.fp_recovery.specs.Stands.{StandsFor}
 use Rattle.fp_streams.specs.Said.{AppendsLine}
-use Rattle.fp_server.specs.Ends.{BreaksOff, EndsBadly, EndsWell, IsBack, IsServingFault, SaysAll, SaysWhere, broken_off, line, where_text}
+use Rattle.fp_server.specs.Attends.{Serves}
+use Rattle.fp_server.specs.Ends.{BreaksOff, EndsBadly, EndsWell, IsAttendingFault, IsBack, IsServingFault, SaysAll, SaysWhere, broken_off, line, where_text}
 
 pub says_where : (a b c d : Option (List ℕ)) (x y z : SocketAddr) → AppendsLine a b (codes "ofrep " ++ socket_text x) → AppendsLine b c (codes "edit " ++ socket_text y) → AppendsLine c d (codes "stream " ++ socket_text z) → Appends a d (where_text x y z)
 says_where a b c d x y z p q r =
@@ -33,7 +38,7 @@ says_all revision before held after p q = record {
 }
 
 -- with nothing on its way, what a crash leaves is what is kept
-kept_alone : {D : Type 0} (s : StoreState D) (c : List ℕ) → s.step ≡ Idle → Leaves s c → StandsFor c (sealed_set s)
+kept_alone : {D : Type 0} (s : StoreState D) (c : List ℕ) → s.phase ≡ Idle → Leaves s c → StandsFor c (sealed_set s)
 kept_alone s c idle (inl stands) = stands
 kept_alone s c idle (inr begun) = absurd (begun.0 idle)
 
@@ -45,7 +50,7 @@ either s c (inr begun) = inr begun.2
 module _ {F D : Type 0} (files : FileGhosts F D) (disk : DiskGhosts D) (old new : F) (path : List ℕ) (before after : D) (t s : StoreState D)
     (found : files.at old path ≡ Some before) (stands : disk.honest before → StandsFor (disk.bytes before) t.store.start) (same : s.store ≡ t.store)
     (leaves : EachCrash disk after (Leaves s)) (back : IsBack files disk new path after) where
-  pub ends_well : (said held : Option (List ℕ)) → s.step ≡ Idle → (revision : ℕ) → revision ≡ s.store.start.revision + length s.sealed → SaysAll revision said held → EndsWell files disk old new path said held
+  pub ends_well : (said held : Option (List ℕ)) → s.phase ≡ Idle → (revision : ℕ) → revision ≡ s.store.start.revision + length s.sealed → SaysAll revision said held → EndsWell files disk old new path said held
   ends_well said held idle revision is told = record {
     start = t.store.start;
     edits = s.sealed;
@@ -69,3 +74,17 @@ module _ {F D : Type 0} (files : FileGhosts F D) (disk : DiskGhosts D) (old new 
 
   pub ends_broken : (f : CommandFault) → IsServingFault f → EndsBadly files disk old new path f
   ends_broken f is = broken_off is breaks_off
+
+-- no store failed where connections weren't let in
+pub attending_calm : (f : CommandFault) → IsAttendingFault f → f ≢ StoreFailed
+attending_calm f (inl device) is = let both : Device ≡ StoreFailed = sym device ∙ is in absurd cc
+attending_calm f (inr memory) is = let both : Memory ≡ StoreFailed = sym memory ∙ is in absurd cc
+
+-- what a service comes to, whose disk was opened at this path alone
+module _ {F D R W : Type 0} (files : FileGhosts F D) (disk : DiskGhosts D) (contents : W → Option (List ℕ)) (old new : Environment F R W) (path : List ℕ)
+    (asked : files.asked new.files ≡ files.asked old.files ++ (path, Writing) ∷ []) (others : KeepsOthers files.at old.files new.files path) where
+  pub serves_well : EndsWell files disk old.files new.files path (contents old.writer.inner) (contents new.writer.inner) → Serves files disk contents old new path (Ok tt)
+  serves_well ends = record { well = ends; badly = tt; calm = tt; asked = asked; others = others }
+
+  pub serves_badly : (f : CommandFault) → EndsBadly files disk old.files new.files path f → (f ≡ StoreFailed → failures (streams_of new) ≡ failures (streams_of old)) → Serves files disk contents old new path (Err f)
+  serves_badly f ends calm = record { well = tt; badly = ends; calm = calm; asked = asked; others = others }

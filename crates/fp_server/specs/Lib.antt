@@ -1,2 +1,3 @@
+pub mod Attends
 pub mod Ends
 pub mod Tasks

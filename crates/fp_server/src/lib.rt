@@ -1,6 +1,7 @@
 //! The service: a store over sockets, for editors, evaluators and subscribers at once.
 #![tactic(auto)]
 
+mod attending;
 mod connections;
 mod ended;
 mod evaluations;
@@ -14,6 +15,7 @@ mod serving;
 mod task;
 mod watching;
 
+pub use attending::attend;
 pub use fp_http::TimeLimits;
 pub use host::Host;
 pub use services::Addresses;

@@ -5,55 +5,61 @@ ghost use Rattle.std.specs.Prelude.{◌≡◌};
 use crate::connections::{Connections, Place};
 use crate::ended::Ended;
 use crate::host::Host;
+use crate::probing::probe_peers;
 use crate::roles::{Role, converse};
 use fp_disk::Disk;
 use fp_http::TimeLimits;
-use fp_log::{Event, tell_failure};
+use fp_log::{Event, Port, tell, tell_failure};
 use fp_plane::{Naming, Plane};
 use std::alloc::AllocError;
-use std::net::{IpAddr, Ipv4Addr, Shutdown, SocketAddr, TcpListener, TcpStream};
+use std::net::{IpAddr, Ipv4Addr, Shutdown, SocketAddr, SocketAddrV4, TcpListener, TcpStream};
 use std::time::Duration;
 use std::{io, thread};
 
-/// Where a listener was bound, and its connections.
+/// What lets connections of a role in: where it was bound, and who came.
 #[derive(Drop)]
 pub struct Listening<R: Drop> {
     rt: R,
+    role: Role,
     pub(crate) bound: SocketAddr,
     limits: TimeLimits,
+    // Until the thread that accepts has it.
+    listener: Option<TcpListener>,
     connections: Connections<R>,
 }
 
 impl<R: Host> Listening<R> {
-    /// Of no connection yet, and at most so many at once.
-    pub fn of(
+    /// At this address; nobody is let in yet. Its connections have so much time.
+    pub fn bind(
         rt: &R,
-        listener: &TcpListener,
-        most: usize,
+        role: Role,
+        address: SocketAddrV4,
         limits: TimeLimits,
     ) -> io::Result<Listening<R>> {
+        let listener = bind(rt, role.port(), address)?;
         Ok(Listening {
             rt: *rt,
+            role,
             bound: listener.local_addr()?,
             limits,
-            connections: Connections::new(*rt, rt.alloc(), most)?,
+            listener: Some(listener),
+            connections: Connections::new(*rt, rt.alloc(), role.limit())?,
         })
     }
 
     /// Accepts connections in a thread of its own, and serves each in one more.
-    pub fn start<K, D>(
-        &self,
-        listener: TcpListener,
-        role: Role,
-        plane: &Plane<K, D, R>,
-    ) -> io::Result<()>
+    pub fn start<K, D>(&mut self, plane: &Plane<K, D, R>) -> io::Result<()>
     where
         K: Naming + Send + Sync + 'static,
         D: Disk + Drop + Send + 'static,
     {
+        let Some(listener) = self.listener.take() else {
+            return Ok(());
+        };
         let connections = self.connections.try_copy()?;
         let plane = plane.try_copy()?;
         let own = self.rt;
+        let role = self.role;
         let limits = self.limits;
         let started = thread::spawn(&self.rt, move || {
             accept(&own, &listener, role, limits, &connections, &plane);
@@ -67,6 +73,12 @@ impl<R: Host> Listening<R> {
                 Err(reason)
             }
         }
+    }
+
+    /// Tells where it was bound to who reads the log.
+    pub fn tell_where(&self) {
+        let (port, address) = (self.role.port(), self.bound);
+        tell(&self.rt, &Event::Bound { port, address });
     }
 
     /// Where it was bound.
@@ -86,6 +98,20 @@ impl<R: Host> Listening<R> {
     /// Waits until no connection is open, for no longer than this.
     pub fn wait(&self, most: Duration) {
         self.connections.wait(most);
+    }
+}
+
+// Binds an address, whose connections' peers are probed. One that can't be bound is told.
+fn bind<R: Host>(rt: &R, port: Port, address: SocketAddrV4) -> io::Result<TcpListener> {
+    match TcpListener::bind(rt, address) {
+        Ok(listener) => {
+            probe_peers(&listener);
+            Ok(listener)
+        }
+        Err(reason) => {
+            tell_failure(rt, &Event::NotBound { port, address }, &reason);
+            Err(reason)
+        }
     }
 }
 

@@ -9,6 +9,7 @@ use fp_disk::Disk;
 use fp_http::{Blocking, TimeLimits, serve_ofrep};
 use fp_log::Port;
 use fp_plane::{EditorEnd, Naming, Plane, SubscriberFault, editor_loop, subscriber_loop};
+use fp_publish::{MOST_EVALUATORS, MOST_SEATS};
 use fp_stream::HelloFault;
 use fp_streams::{FailureCounted, StreamFault};
 use std::cell::Cell;
@@ -16,6 +17,9 @@ use std::io::{BufWriter, ErrorKind};
 use std::net::TcpStream;
 use std::rc::Rc;
 use std::time::Duration;
+
+/// How many editors there may be at once.
+pub const MOST_EDITORS: usize = 32;
 
 /// What the connections of a listener are for.
 #[derive(Debug, Drop, Clone, Copy, PartialEq, Eq)]
@@ -30,11 +34,20 @@ pub enum Role {
 
 impl Role {
     /// The port of such connections, as it is told.
-    pub fn port(&self) -> Port {
+    pub fn port(self) -> Port {
         match self {
             Role::Evaluations => Port::Ofrep,
             Role::Edits => Port::Edit,
             Role::Snapshots => Port::Stream,
+        }
+    }
+
+    /// How many of them there may be at once.
+    pub fn limit(self) -> usize {
+        match self {
+            Role::Evaluations => MOST_EVALUATORS,
+            Role::Edits => MOST_EDITORS,
+            Role::Snapshots => MOST_SEATS,
         }
     }
 }

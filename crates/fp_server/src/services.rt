@@ -7,22 +7,16 @@ ghost use Rattle.fp_server.specs.Ends.{IsAttendingFault, SaysWhere, where_text};
 
 use crate::host::Host;
 use crate::listening::Listening;
-use crate::probing::probe_peers;
 use crate::roles::Role;
 use fp_commands::CommandFault;
 use fp_disk::Disk;
 use fp_http::TimeLimits;
-use fp_log::{Event, Port, tell, tell_failure};
 use fp_plane::{Naming, Plane};
-use fp_publish::{MOST_EVALUATORS, MOST_SEATS};
 use fp_streams::{FailureCounted, StreamFault};
 use std::io;
 use std::io::{ErrorKind, Read, Write};
-use std::net::{Shutdown, SocketAddrV4, TcpListener};
+use std::net::{Shutdown, SocketAddrV4};
 use std::time::Duration;
-
-/// How many editors there may be at once.
-pub const MOST_EDITORS: usize = 32;
 
 // How many seconds the connections of a port have to take their last replies, and then to end.
 const GRACE: u64 = 2;
@@ -38,46 +32,7 @@ pub struct Addresses {
     pub stream: SocketAddrV4,
 }
 
-/// The listeners, and how much time their connections have.
-#[derive(Drop)]
-pub struct Listeners {
-    ofrep: TcpListener,
-    edit: TcpListener,
-    stream: TcpListener,
-    limits: TimeLimits,
-}
-
-impl Listeners {
-    /// At these addresses.
-    pub fn bind<R: Host>(
-        rt: &R,
-        addresses: &Addresses,
-        limits: TimeLimits,
-    ) -> io::Result<Listeners> {
-        Ok(Listeners {
-            ofrep: bind(rt, Port::Ofrep, addresses.ofrep)?,
-            edit: bind(rt, Port::Edit, addresses.edit)?,
-            stream: bind(rt, Port::Stream, addresses.stream)?,
-            limits,
-        })
-    }
-}
-
-// Binds an address, whose connections' peers are probed. One that can't be bound is told.
-fn bind<R: Host>(rt: &R, port: Port, address: SocketAddrV4) -> io::Result<TcpListener> {
-    match TcpListener::bind(rt, address) {
-        Ok(listener) => {
-            probe_peers(&listener);
-            Ok(listener)
-        }
-        Err(reason) => {
-            tell_failure(rt, &Event::NotBound { port, address }, &reason);
-            Err(reason)
-        }
-    }
-}
-
-/// What lets connections in, a service a port.
+/// What lets connections in, a service a role.
 #[derive(Drop)]
 pub struct Services<R: Host> {
     ofrep: Listening<R>,
@@ -86,37 +41,28 @@ pub struct Services<R: Host> {
 }
 
 impl<R: Host> Services<R> {
-    /// Over these listeners; nobody is let in yet.
-    pub fn of(rt: &R, listeners: &Listeners) -> io::Result<Services<R>> {
-        let limits = listeners.limits;
+    /// At these addresses; nobody is let in yet. Their connections have so much time.
+    pub fn bind(rt: &R, addresses: &Addresses, limits: TimeLimits) -> io::Result<Services<R>> {
         Ok(Services {
-            ofrep: Listening::of(rt, &listeners.ofrep, MOST_EVALUATORS, limits)?,
-            edit: Listening::of(rt, &listeners.edit, MOST_EDITORS, limits)?,
-            stream: Listening::of(rt, &listeners.stream, MOST_SEATS, limits)?,
+            ofrep: Listening::bind(rt, Role::Evaluations, addresses.ofrep, limits)?,
+            edit: Listening::bind(rt, Role::Edits, addresses.edit, limits)?,
+            stream: Listening::bind(rt, Role::Snapshots, addresses.stream, limits)?,
         })
     }
 
-    fn start<K, D>(&self, listeners: Listeners, plane: &Plane<K, D, R>) -> io::Result<()>
+    fn start<K, D>(&mut self, plane: &Plane<K, D, R>) -> io::Result<()>
     where
         K: Naming + Send + Sync + 'static,
         D: Disk + Drop + Send + 'static,
     {
-        let Listeners {
-            ofrep,
-            edit,
-            stream,
-            limits: _,
-        } = listeners;
-        self.ofrep.start(ofrep, Role::Evaluations, plane)?;
-        self.edit.start(edit, Role::Edits, plane)?;
-        self.stream.start(stream, Role::Snapshots, plane)
+        self.ofrep.start(plane)?;
+        self.edit.start(plane)?;
+        self.stream.start(plane)
     }
 
     /// Lets connections in, says where, and waits for the input's end.
     pub fn attend<K, D, I, O>(
-        &self,
-        rt: &R,
-        listeners: Listeners,
+        &mut self,
         plane: &Plane<K, D, R>,
         r: &mut FailureCounted<I>,
         w: &mut FailureCounted<O>,
@@ -131,23 +77,19 @@ impl<R: Host> Services<R> {
         ensures calm { OnOk result (r.new.failures + w.new.failures
             ≡ r.old.failures + w.old.failures) }
     {
-        if let Err(fault) = self.start(listeners, plane) {
+        if let Err(fault) = self.start(plane) {
             return Err(fault_of(&fault));
         }
         self.say_where(w)?;
-        self.tell_where(rt);
+        self.tell_where();
         await_end(r)?;
         Ok(())
     }
 
     // The same to who reads the log.
-    fn tell_where(&self, rt: &R) {
-        for (port, address) in [
-            (Port::Ofrep, self.ofrep.bound()),
-            (Port::Edit, self.edit.bound()),
-            (Port::Stream, self.stream.bound()),
-        ] {
-            tell(rt, &Event::Bound { port, address });
+    fn tell_where(&self) {
+        for service in [&self.ofrep, &self.edit, &self.stream] {
+            service.tell_where();
         }
     }
 

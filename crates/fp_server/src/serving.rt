@@ -1,16 +1,15 @@
 //! A store over sockets, from its opening to its end.
 
-ghost use Rattle.std.specs.Prelude.{◌≡◌, ◌+◌, ◌<◌, ◌^◌, ◌++◌, ◌∷◌, [], IfOk, IfErr, OnOk, codes};
+ghost use Rattle.std.specs.Prelude.{◌≡◌, ◌+◌, ◌<◌, ◌^◌, IfOk, IfErr, OnOk, codes};
 ghost use Rattle.std.specs.FinMap as map;
 ghost use Rattle.fp_commands.specs.declared.fault.CommandFault.TheVariants.{StoreFailed};
-ghost use Rattle.fp_files.specs.Openings.{KeepsOthers};
-ghost use Rattle.fp_files.specs.declared.openings.Purpose.TheVariants.{Writing};
 ghost use Rattle.fp_group_commit.specs.Store.{IsAtRest};
 ghost use Rattle.fp_log.specs.Events.{name_of, opening_text, text_of};
-ghost use Rattle.fp_server.specs.Ends.{EndsBadly, EndsWell, IsServingFault, SaysWhere};
+ghost use Rattle.fp_server.specs.Attends.{Serves};
+ghost use Rattle.fp_server.specs.Ends.{IsServingFault, SaysWhere};
 
 use crate::host::Host;
-use crate::services::{Addresses, Listeners, Services, fault_of};
+use crate::services::{Addresses, Services, fault_of};
 use fp_commands::CommandFault;
 use fp_disk::Disk;
 use fp_files::DiskFiles;
@@ -58,14 +57,9 @@ where
     F::Disk: Drop + Send + 'static,
     I: Read,
     O: Write,
-    ensures ok { OnOk result (EndsWell F.DiskFiles F.Disk.Disk files.old files.new path.now
-        (O.contents w.old.inner) (O.contents w.new.inner)) }
-    ensures err { IfErr result (EndsBadly F.DiskFiles F.Disk.Disk files.old files.new path.now) }
-    // A store that failed is told only where neither the reader nor the writer did.
-    ensures calm { IfErr result (λ f. f ≡ StoreFailed → r.new.failures + w.new.failures
-        ≡ r.old.failures + w.old.failures) }
-    ensures asked { F.asked files.new ≡ F.asked files.old ++ (path.now, Writing) ∷ [] }
-    ensures others { KeepsOthers F.at files.old files.new path.now }
+    ensures { Serves F.DiskFiles F.Disk.Disk O.contents
+        (record { files = files.old; reader = r.old; writer = w.old })
+        (record { files = files.new; reader = r.new; writer = w.new }) path.now result }
 {
     let begun = Instant::now(rt).ok();
     let disk = files.open(path)?;
@@ -77,14 +71,14 @@ where
         }
     };
     tell(rt, &opened(path, &opening, milliseconds_since(rt, begun)));
-    let listeners = match Listeners::bind(rt, addresses, limits) {
-        Ok(listeners) => listeners,
+    let services = match Services::bind(rt, addresses, limits) {
+        Ok(services) => services,
         Err(fault) => {
             files.close(path, store.into_disk());
             return Err(fault_of(&fault));
         }
     };
-    match serve_store(rt, store, opening, listeners, r, w) {
+    match serve_store(rt, store, opening, services, r, w) {
         Ok(store) => {
             let revision = store.revision();
             files.close(path, store.into_disk());
@@ -127,7 +121,7 @@ fn serve_store<D, R, I, O>(
     rt: &R,
     store: Store<D>,
     opening: Opening,
-    listeners: Listeners,
+    services: Services<R>,
     r: &mut FailureCounted<I>,
     w: &mut FailureCounted<O>,
 ) -> Given<D>
@@ -146,7 +140,7 @@ where
     ensures calm { IfErr result (λ e. e.0 ≡ StoreFailed → r.new.failures + w.new.failures
         ≡ r.old.failures + w.old.failures) }
 {
-    serve_named::<Brand, D, R, I, O>(rt, store, opening, listeners, r, w)
+    serve_named::<Brand, D, R, I, O>(rt, store, opening, services, r, w)
 }
 
 // Serves a store over the plane of its name.
@@ -154,7 +148,7 @@ fn serve_named<K, D, R, I, O>(
     rt: &R,
     store: Store<D>,
     opening: Opening,
-    listeners: Listeners,
+    services: Services<R>,
     r: &mut FailureCounted<I>,
     w: &mut FailureCounted<O>,
 ) -> Given<D>
@@ -188,7 +182,7 @@ where
         flusher(&flushed, own);
     };
     match thread::spawn(rt, flush) {
-        Ok(_thread) => serve_plane(rt, &plane, last, listeners, r, w),
+        Ok(_thread) => serve_plane(&plane, last, services, r, w),
         Err(refused) => {
             // What the thread was to do is done here: with nothing to seal it leaves the store.
             tell(rt, &Event::NotStarted { thread: "flusher" });
@@ -202,10 +196,9 @@ where
 
 // Serves a plane, whose flusher runs, until the input ends. `last` is a handle to stop it by.
 fn serve_plane<K, D, R, I, O>(
-    rt: &R,
     plane: &Plane<K, D, R>,
     last: Plane<K, D, R>,
-    listeners: Listeners,
+    services: Services<R>,
     r: &mut FailureCounted<I>,
     w: &mut FailureCounted<O>,
 ) -> Given<D>
@@ -223,11 +216,8 @@ where
     ensures calm { IfErr result (λ e. e.0 ≡ StoreFailed → r.new.failures + w.new.failures
         ≡ r.old.failures + w.old.failures) }
 {
-    let services = match Services::of(rt, &listeners) {
-        Ok(services) => services,
-        Err(fault) => return Err((fault_of(&fault), stopped(last))),
-    };
-    let attended = services.attend(rt, listeners, plane, r, w);
+    let mut services = services;
+    let attended = services.attend(plane, r, w);
     services.stop_reading();
     let store = last.stop();
     services.end();

@@ -5,6 +5,7 @@ ghost use Rattle.std.specs.Io.KnownBytes.{Appends};
 ghost use Rattle.fp_stream.specs.Hellos.{hello_bytes};
 ghost use Rattle.fp_stream.specs.Watching.{BlamesStreams, Watches};
 ghost use Rattle.fp_stream.specs.declared.hello.Hello.TheVariants.{Nothing};
+ghost use Rattle.fp_server.specs.Attends.{BlamesWriter, ShowsFrames};
 
 use crate::host::Host;
 use fp_log::{Event, Reported, Source, tell_failure};
@@ -24,6 +25,10 @@ pub fn watch<R, O>(
 where
     R: Host,
     O: Write,
+    // However it ended, all frames in what came were shown, and nothing else, unless `w` failed.
+    ensures shown { w.new.failures ≡ w.old.failures
+        → ShowsFrames (O.contents w.old.inner) (O.contents w.new.inner) result }
+    ensures device { BlamesWriter w.old.failures w.new.failures result }
 {
     let stream = match TcpStream::connect(rt, address) {
         Ok(stream) => stream,
@@ -58,6 +63,8 @@ where
         → w.new.failures ≡ w.old.failures
         → Watches Nothing (I.remaining r.old.inner) (I.remaining r.new.inner)
         (O.contents w.old.inner) (O.contents w.new.inner) result }
+    ensures shown { w.new.failures ≡ w.old.failures
+        → ShowsFrames (O.contents w.old.inner) (O.contents w.new.inner) result }
     ensures device { BlamesStreams
         (service.old.failures + (r.old.failures + w.old.failures))
         (service.new.failures + (r.new.failures + w.new.failures)) result }

@@ -51,7 +51,8 @@ impl LogFile {
     }
 }
 
-fn put_line(line: &str, out: &mut Text) {
+/// A line, but for ports and durations.
+pub fn put_line(line: &str, out: &mut Text) {
     for (at, word) in line.split(' ').enumerate() {
         if at > 0 {
             out.push(" ");

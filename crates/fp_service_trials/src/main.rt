@@ -8,6 +8,7 @@ mod courses;
 mod crowd;
 mod held;
 mod log_file;
+mod program;
 mod replay;
 mod running;
 mod script;

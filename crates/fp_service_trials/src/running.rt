@@ -20,8 +20,8 @@ use std::thread::JoinHandle;
 /// The least size of a slot.
 pub const LEAST_SLOT: u64 = 262_144;
 
-// The path that the disk is at.
-const PATH: &str = "flags";
+/// The path that the disk is at.
+pub const PATH: &str = "flags";
 
 /// A gate that the disk and the script share.
 pub type SharedGate<R> = Arc<Gate<R>, Global>;
@@ -115,11 +115,22 @@ pub struct Plan {
     pub limits: TimeLimits,
 }
 
+impl DiskPlan {
+    /// Of the fewest bytes, of today's version, whose calls don't fail.
+    pub fn plain() -> DiskPlan {
+        DiskPlan {
+            slot: LEAST_SLOT,
+            is_old: false,
+            failing: None,
+        }
+    }
+}
+
 // Where the version of the first slot is.
 const VERSION_AT: u64 = 73;
 
-// A disk in memory with no flags on it.
-fn new_disk(alloc: Global, plan: DiskPlan) -> Option<MemoryDisk> {
+/// A disk in memory with no flags on it.
+pub fn new_disk(alloc: Global, plan: DiskPlan) -> Option<MemoryDisk> {
     let (store, _) = Store::create(alloc, MemoryDisk::new(alloc), plan.slot).ok()?;
     let mut disk = store.into_disk();
     if plan.is_old {

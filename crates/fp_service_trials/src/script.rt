@@ -8,7 +8,8 @@ use crate::courses::{
 use crate::crowd::{comes_in, enter, found, is_refused, see};
 use crate::held::Hold;
 use crate::log_file::LogFile;
-use crate::running::{DiskPlan, Ended, LEAST_SLOT, Plan, Running};
+use crate::program::attended;
+use crate::running::{DiskPlan, Ended, Plan, Running};
 use fp_server::{Host, TimeLimits};
 use fp_transcript::{Args, Text, Texts, expanded};
 use std::alloc::AllocGlobal;
@@ -70,8 +71,8 @@ impl<R: Host> Script<R> {
 }
 
 // The words of `on_service`.
-const OF_SERVICE: [&str; 10] = [
-    "serve", "hold", "held", "let-go", "end", "stop", "left", "log", "logs", "pause",
+const OF_SERVICE: [&str; 11] = [
+    "serve", "attend", "hold", "held", "let-go", "end", "stop", "left", "log", "logs", "pause",
 ];
 
 // The words of `on_peer`.
@@ -108,18 +109,24 @@ impl<R: Host> Script<R> {
 
     // Where the next word's port is reached.
     fn port(&self, args: &mut Args<'_>) -> Option<SocketAddr> {
-        let word = args.word();
-        let port = self.service.as_ref()?.ports.port(word);
+        let port = self.address_of(args.word());
         args.is_bad = port.is_none();
         port
     }
 
+    // The address of the port of this name, where a service runs.
+    fn address_of(&self, name: &str) -> Option<SocketAddr> {
+        self.service.as_ref()?.ports.port(name)
+    }
+
     // `serve`, `serve failing CALL`, `serve slots SIZE`, `serve old`,
-    // `serve within IDLE REQUEST REPLY SIZE`, `hold behind COUNT`, `hold from PLACE`, `held`,
-    // `let-go`, `end`, `stop`, `left`, `log`, `logs TEXT`, `pause MILLISECONDS`.
+    // `serve within IDLE REQUEST REPLY SIZE`, `attend WORD ..`, `hold behind COUNT`,
+    // `hold from PLACE`, `held`, `let-go`, `end`, `stop`, `left`, `log`, `logs TEXT`,
+    // `pause MILLISECONDS`.
     fn on_service(&mut self, word: &str, args: &mut Args<'_>, out: &mut Text) {
         match word {
             "serve" => self.serve(args, out),
+            "attend" => attended(&self.rt, &self.words(args), out),
             "end" => {
                 let said = self.ended();
                 out.push(said.as_str());
@@ -137,11 +144,7 @@ impl<R: Host> Script<R> {
     }
 
     fn serve(&mut self, args: &mut Args<'_>, out: &mut Text) {
-        let mut disk = DiskPlan {
-            slot: LEAST_SLOT,
-            is_old: false,
-            failing: None,
-        };
+        let mut disk = DiskPlan::plain();
         let mut limits = TimeLimits::usual();
         match args.word() {
             "failing" => disk.failing = Some(args.number()),
@@ -161,6 +164,21 @@ impl<R: Host> Script<R> {
             // It was said before.
             let _ = self.log.comes_to("port=stream");
         }
+    }
+
+    // The words that are left, in which a port's name stands for its address.
+    fn words(&self, args: &mut Args<'_>) -> Vec<String> {
+        let mut words = Vec::new(args.alloc);
+        let mut word = Text::new(args.alloc);
+        for name in args.rest.split_whitespace() {
+            word.clear();
+            match self.address_of(name) {
+                Some(at) => word.shown(&at),
+                None => word.push(name),
+            }
+            args.is_short = args.is_short || !word.push_copy(word.as_str(), &mut words);
+        }
+        words
     }
 
     fn on_gate(&mut self, word: &str, args: &mut Args<'_>, out: &mut Text) {
