@@ -17,8 +17,15 @@ use Rattle.fp_session.specs.RunPromise.{RunPromise}
 use Rattle.fp_disk.specs.History.{MakesSome}
 use Rattle.fp_slots.specs.declared.slots.Step.{Step}
 use Rattle.fp_slots.specs.declared.slots.Step.TheVariants.{Begin}
-use Rattle.fp_session.specs.Session.{BreaksOff, Leads, calls_of, disk_of, work_calls, Fails, flags_of, HasPlace, IsAhead, IsReady, Keeps, LacksRoomFor, LeavesFlags, SessionState, StandsAhead}
-use Rattle.fp_session.specs.SessionLaws.{breaks_on, flags_as, flags_on, keeps_itself, keeps_on, works_break}
+use Rattle.fp_desk.specs.Desk.{settled_revision}
+use Rattle.fp_committer.specs.Kept.{IsAfterFirst}
+use Rattle.fp_committer.specs.Works.{BreaksOff, Leads, calls_of, work_calls}
+use Rattle.fp_committer.specs.WorksLaws.{breaks_on, works_break}
+use Rattle.fp_session.specs.Session.{Begins, disk_of, Fails, flags_of, HasPlace, IsReady, Keeps, LacksRoomFor, LeavesFlags, SessionState, StandsAhead}
+use Rattle.fp_committer.specs.Course as committer
+use Rattle.fp_committer.specs.CourseLaws.{course_then}
+use Rattle.fp_committer.proofs.Courses.{course_keeps, half_through, runs}
+use Rattle.fp_session.specs.SessionLaws.{flags_as, flags_on, keeps_itself, keeps_on}
 use Rattle.fp_session.specs.StoreRun.{StoreRun}
 use Rattle.fp_session.specs.Streams as plane
 use Rattle.fp_session.specs.declared.edit_store.EditStore.{Ghosts as StoreGhosts}
@@ -63,9 +70,9 @@ set-course A P a b CommitMemory h = absurd h.failed
 abbrev pub session_store : {D : Type 0} → Ghosts D → StoreGhosts (SessionState D)
 session_store disk = record {
   state = λ s. flags_of s;
-  may_stand = λ s flags. IsAhead s.desk flags;
+  may_stand = λ s flags. IsAfterFirst s.desk (settled_revision s.desk) flags;
   has_place = λ s change. HasPlace s change;
-  rests = λ s. s.store.compaction.next ≡ Begin;
+  rests = λ s. s.half.store.compaction.next ≡ Begin;
   continues_to = λ a b. Keeps disk a b;
   fails_on = λ f a b. Fails disk f a b;
   leaves = λ a b P. LeavesFlags disk a b P;
@@ -78,10 +85,10 @@ session_store disk = record {
 -- A run over a session that was opened on a disk and gave it back, over streams: it was asked what was read, as `asked` says
 module _ {D R W : Type 0} (disk : Ghosts D) (remaining : R → Option (List ℕ)) (contents : W → Option (List ℕ)) (Reads : List ℕ → List Ask → Type 0) (most : ℕ) (MayEnd : Type 0 → List ℕ → Option (List ℕ) → CommandFault → Type 0) (old new : Streams R W)
     (d0 d1 : D) (s k : SessionState D) (stands : disk.honest d0 → StandsFor (disk.bytes d0) (flags_of s)) (only : disk.honest d0 → (other : State) → StandsFor (disk.bytes d0) other → other ≡ flags_of s)
-    (ready : IsReady disk s) (begins : s.store.compaction.next ≡ Begin) (well : disk.faults (disk_of s) ≡ disk.faults d0) (opened : ThenReads opening_calls (disk.calls d0) (disk.calls (disk_of s))) (read : AtAnyMoment disk d0 (disk_of s) (IsOutcome (disk.unsynced d0)))
+    (ready : IsReady disk s) (first : Begins disk s) (begins : s.half.store.compaction.next ≡ Begin) (well : disk.faults (disk_of s) ≡ disk.faults d0) (opened : ThenReads opening_calls (disk.calls d0) (disk.calls (disk_of s))) (read : AtAnyMoment disk d0 (disk_of s) (IsOutcome (disk.unsynced d0)))
     (honest : SameHonesty disk d0 (disk_of s)) (here : d1 ≡ disk_of k) (keeps : EachCrash disk d1 (StandsAhead k.desk)) (Of : (List Ask → Type 0) → Type 0) (asked : (P : List Ask → Type 0) → Of P → Asked (remaining old.reader.inner) Reads P)
     (both : (P Q : List Ask → Type 0) → Of P → Of Q → Of (λ xs. P xs × Q xs)) (may_end : (f : ApplyFault) → MayEnd (disk.honest d0) (disk.bytes d0) (remaining old.reader.inner) (of_run f))
-    (counts_now : (x : D) (t : ℕ) (c : List ℕ) → disk.honest x → t ≤ disk.moment x → IsOutcome (disk.unsynced x) c → disk.crash_states_since x t c) (present : (x : D) → disk.honest x → IsOutcome (disk.unsynced x) (disk.bytes x)) where
+    (only_now : (x : D) (c : List ℕ) → disk.honest x → disk.crash_states_since x (disk.moment x) c → IsOutcome (disk.unsynced x) c) (counts_now : (x : D) (t : ℕ) (c : List ℕ) → disk.honest x → t ≤ disk.moment x → IsOutcome (disk.unsynced x) c → disk.crash_states_since x t c) (present : (x : D) → disk.honest x → IsOutcome (disk.unsynced x) (disk.bytes x)) where
   abbrev start : State
   start = flags_of s
 
@@ -125,7 +132,8 @@ module _ {D R W : Type 0} (disk : Ghosts D) (remaining : R → Option (List ℕ)
         (leads h (disk.bytes (disk_of k)) (l.each (disk.bytes (disk_of k)) (counts_now (disk_of k) (disk.moment (disk_of s)) (disk.bytes (disk_of k)) there l.later (present (disk_of k) there))))
 
     -- why the store failed
-    lacks : (x : SessionState D) → Keeps disk s x → ((u : State) → IsAhead x.desk u → LedTo u) → LacksRoomFor disk x.desk (disk_of k) ⊎ (disk.faults (disk_of x) < disk.faults (disk_of k)) → Lacks
+    lacks : (x : SessionState D) → Keeps disk s x → ((u : State) → IsAfterFirst x.desk (settled_revision x.desk) u → LedTo u)
+        → LacksRoomFor disk x.desk (disk_of k) ⊎ (disk.faults (disk_of x) < disk.faults (disk_of k)) → Lacks
     lacks x led there (inl l) = inl (record {
       start = start;
       flags = l.flags;
@@ -147,7 +155,7 @@ module _ {D R W : Type 0} (disk : Ghosts D) (remaining : R → Option (List ℕ)
     ran-cause CommitMemory c is = absurd cc
 
   -- its calls, where it broke off
-  broke : BreaksOff disk s.store k.store → CallsSomeWorks (disk.calls d0) (disk.calls d1)
+  broke : BreaksOff disk s.half.store k.half.store → CallsSomeWorks (disk.calls d0) (disk.calls d1)
   broke off = record {
     begun = disk.calls (disk_of s);
     opened = opened;
@@ -160,10 +168,25 @@ module _ {D R W : Type 0} (disk : Ghosts D) (remaining : R → Option (List ℕ)
   }
 
   ran-broke : (f : ApplyFault) → Course f → CallsSomeWorks (disk.calls d0) (disk.calls d1)
-  ran-broke Device went = broke (works_break disk s.store k.store went.called)
-  ran-broke Memory went = broke (works_break disk s.store k.store went.called)
-  ran-broke StoreFailed failed = broke (breaks_on disk s.store failed.before.store k.store failed.led.called failed.failed.called)
-  ran-broke CommitMemory failed = broke (breaks_on disk s.store failed.before.store k.store failed.led.called failed.failed.called)
+  ran-broke Device went = broke (works_break disk s.half.store k.half.store went.called)
+  ran-broke Memory went = broke (works_break disk s.half.store k.half.store went.called)
+  ran-broke StoreFailed failed = broke (breaks_on disk s.half.store failed.before.half.store k.half.store failed.led.called failed.failed.called)
+  ran-broke CommitMemory failed = broke (breaks_on disk s.half.store failed.before.half.store k.half.store failed.led.called failed.failed.called)
+
+  -- by the course of a committer
+  ran-course : (f : ApplyFault) → Course f → committer.Course disk s.half k.half
+  ran-course Device went = went.course
+  ran-course Memory went = went.course
+  ran-course StoreFailed c = course_then disk s.half c.before.half k.half c.led.course c.failed.course
+  ran-course CommitMemory c = course_then disk s.half c.before.half k.half c.led.course c.failed.course
+
+  ran-committed : committer.Course disk s.half k.half → (from : State) × (disk.honest d0 → StandsFor (disk.bytes d0) from) × committer.RunsCommitter disk d0 d1 from
+  ran-committed course = (
+    s.half.store.store.start,
+    λ h. subst (λ (u : State). StandsFor (disk.bytes d0) u) first.start (stands h),
+    runs disk d0 d1 s.half.store k.half.store read honest here
+        (half_through disk s.half k.half first.none.0 first.none.1 course (course_keeps disk only_now s.half k.half first.exit course) k.half.store refl),
+  )
 
   -- what failed
   ran-blamed : (f : ApplyFault) → Course f → plane.Blames {A = Bool} (failures old) (failures new) (Err f) → BlamesRun {A = Bool} (disk.faults d0 + failures old) (disk.faults d1 + failures new) (Err (of_run f))
@@ -196,11 +219,12 @@ module _ {D R W : Type 0} (disk : Ghosts D) (remaining : R → Option (List ℕ)
       begun = disk.calls (disk_of s);
       opened = opened;
       works = p.course.called.works;
-      lead = subst (λ (x : Step). Leads x p.course.called.works Begin) begins (subst (λ (x : Step). Leads s.store.compaction.next p.course.called.works x) p.rests p.course.called.lead);
+      lead = subst (λ (x : Step). Leads x p.course.called.works Begin) begins (subst (λ (x : Step). Leads s.half.store.compaction.next p.course.called.works x) p.rests p.course.called.lead);
       calls = ap disk.calls here ∙ p.course.called.calls;
     };
     left = ran-left p.any_moment;
     any_moment = ran-any_moment p.any_moment;
+    committed = inr (ran-committed p.course.course);
     told = λ h. tt;
     fault = tt;
     nothing_written = tt;
@@ -218,6 +242,7 @@ module _ {D R W : Type 0} (disk : Ghosts D) (remaining : R → Option (List ℕ)
     called = inr (ran-broke f p.course);
     left = ran-left p.any_moment;
     any_moment = ran-any_moment p.any_moment;
+    committed = inr (ran-committed (ran-course f p.course));
     told = λ h same. inr (λ h1 c o. let t = keeps h1 c o in λ at there. (
       t.0,
       flags_of k,

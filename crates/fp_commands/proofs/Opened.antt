@@ -36,6 +36,7 @@ unbegun disk remaining contents Reads most MayEnd old new d0 d1 f only honest no
       any_moment = λ h.
           let Q : List ℕ → Type 0 = λ c. IsOutcome (disk.unsynced d0) c ⊎ IsLeftOnDisk (disk.bytes d0) c left Reads in
           leaves_map disk.moment disk.crash_states_since d0 d1 (IsOutcome (disk.unsynced d0)) Q (λ c out. inl out) ((only.kept h).any_moment);
+      committed = inl only;
       told = λ h same. inl (not, unwritten, only);
       fault = ends;
       nothing_written = if_refused (new.writer ≡ old.writer) f unwritten;

@@ -16,7 +16,7 @@ use Rattle.fp_edit.specs.Edits.{Change}
 use Rattle.fp_edit.specs.Log.{after_all}
 use Rattle.fp_session.specs.Asks.{Ask, asked_by_flags, asked_by_input}
 use Rattle.fp_session.specs.Run.{after, IsAfterPrefix, IsRunWritten, IsToldBy, script, show_line}
-use Rattle.fp_session.specs.Session.{Leads, MayCome, Work, calls_of, work_calls}
+use Rattle.fp_committer.specs.Works.{Leads, MayCome, Work, calls_of, work_calls}
 use Rattle.fp_slots.specs.declared.slots.Step.{Step}
 use Rattle.fp_slots.specs.declared.slots.Step.TheVariants.{Begin}
 use Rattle.fp_session.specs.declared.fault.ApplyFault.{ApplyFault}

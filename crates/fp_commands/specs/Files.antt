@@ -14,6 +14,8 @@ use Rattle.fp_layout.specs.Numbers.{STANDARD_SLOT}
 use Rattle.fp_layout.specs.NewDisk.{IsNewDisk, format_calls}
 use Rattle.fp_recovery.specs.Durable.{IsNewSetOrNone, IsDurable}
 use Rattle.fp_recovery.specs.Refusals.{StandsForNone}
+use Rattle.fp_recovery.specs.Stands.{StandsFor}
+use Rattle.fp_committer.specs.Course.{RunsCommitter}
 use Rattle.fp_edit.specs.Flags.{State}
 use Rattle.fp_session.specs.Asks.{Ask, asked_by_input}
 use Rattle.fp_session.specs.Run.{IsRunWritten, IsToldBy}
@@ -130,6 +132,10 @@ pub record RunsOnDisk {R W D : Type 0} (disk : DiskGhosts D) (remaining : R
       IsLeftOnDisk (disk.bytes before) (disk.bytes after) (remaining old.reader.inner) Reads
   pub any_moment : AtAnyMoment disk before after (λ c. IsOutcome (disk.unsynced before) c
       ⊎ IsLeftOnDisk (disk.bytes before) c (remaining old.reader.inner) Reads)
+  -- From its opening on the disk was called by a committer alone, or it was only read
+  pub committed : IsOnlyRead disk before after ⊎ ((start : State)
+      × (disk.honest before → StandsFor (disk.bytes before) start)
+      × RunsCommitter disk before after start)
   -- At a fault no run had begun, or all its replies were written, unless the writer failed: to what
   -- flags hold that each crash then leaves, and to what isn't known to be kept
   pub told : disk.honest before → IfErr outcome (λ f. new.writer.failures ≡ old.writer.failures

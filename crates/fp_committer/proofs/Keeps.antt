@@ -4,7 +4,7 @@ use Rattle.std.proofs.lemmas.List.{append-nil, append_cancel_left, take_at}
 use mathlib.Core.List.{IsPrefix}
 use Rattle.fp_disk.specs.Crashes.{AtAnyMoment, EachCrash, SameHonesty}
 use Rattle.fp_disk.specs.Moments.{leaves_map, leaves_still}
-use Rattle.fp_disk.specs.Outcomes.{PendingState, IsOutcome, LeavesOnly}
+use Rattle.fp_disk.specs.Outcomes.{IsOutcome, LeavesOnly}
 use Rattle.fp_disk.specs.declared.disk.Disk.{Ghosts}
 use Rattle.fp_edit.specs.Edits.{Change}
 use Rattle.fp_edit.specs.Flags.{State}
@@ -16,7 +16,7 @@ use Rattle.fp_group_commit.specs.Tokens.{Identity}
 use Rattle.fp_group_commit.proofs.Steps.{exit_has}
 use Rattle.fp_desk.specs.Desk.{DeskState, TicketState, log, settled_revision}
 use Rattle.fp_committer.specs.Commits.{GoesOnBy, taken_from, told_after}
-use Rattle.fp_committer.specs.Committer.{Agree, AreHalves, CommitterState, DeskHalfState, IsCommitter, IsListed, KeepsTold, commits_of}
+use Rattle.fp_committer.specs.Committer.{CommitterState, DeskHalfState, IsCommitter, IsListed, KeepsTold, commits_of}
 use Rattle.fp_committer.specs.Halves.{ArePair, HalfState}
 use Rattle.fp_committer.specs.Kept.{KeptFrom, KeptOf}
 use Rattle.fp_committer.specs.StoreHalf.{IsOut, IsSilent, IsStoreHalf, KeepsHalf, KeptBy, RisesFor, StoreHalfState, changes_held, taken_by, way_by}

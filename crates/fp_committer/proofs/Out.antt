@@ -29,7 +29,7 @@ pub out_still : {D : Type 0} (s n : StoreState D) (l : List Change) (h : Held) �
 out_still s n l held.Nothing o step store sealed staged = (step ∙ o.0, sealed ∙ o.1)
 out_still s n l (held.Drawn group) o step store sealed staged =
     let set : sealed_set n ≡ sealed_set s = ap (λ (x : Identity). after_all x.start n.sealed) store ∙ ap (λ (k : List Change). after_all s.store.start k) sealed in
-    (step ∙ o.0, sealed ∙ o.1, o.2, subst (λ (t : State). GoesOn t group) (sym set) o.3)
+    (step ∙ o.0, sealed ∙ o.1, o.2, subst (λ (t : State). GoesOn t group) (sym set) o.3, o.4)
 out_still s n l held.InFlight o step store sealed staged = (ap is_in_flight step ∙ o.0, sealed ∙ o.1, λ e. o.2 (sym staged ∙ e))
 out_still s n l (held.Sealed receipt) o step store sealed staged = (step ∙ o.0, sealed ∙ o.1, o.2, o.3 ∙ sym store, o.4 ∙ ap (λ (x : Identity). x.start.revision + length l + 1) (sym store))
 
@@ -37,7 +37,7 @@ out_still s n l (held.Sealed receipt) o step store sealed staged = (step ∙ o.0
 pub out_put : {D : Type 0} (s n : StoreState D) (l : List Change) (g g2 : Group) → IsOut (held.Drawn g) s l → g2 ≡ g → n.phase ≡ s.phase → n.store ≡ s.store → n.sealed ≡ s.sealed → IsOut (held.Drawn g2) n l
 out_put s n l g g2 o same phase store sealed =
     let set : sealed_set n ≡ sealed_set s = ap (λ (x : Identity). after_all x.start n.sealed) store ∙ ap (λ (k : List Change). after_all s.store.start k) sealed in
-    subst (λ (x : Group). IsOut (held.Drawn x) n l) (sym same) (phase ∙ o.0, sealed ∙ o.1, o.2, subst (λ (t : State). GoesOn t g) (sym set) o.3)
+    subst (λ (x : Group). IsOut (held.Drawn x) n l) (sym same) (phase ∙ o.0, sealed ∙ o.1, o.2, subst (λ (t : State). GoesOn t g) (sym set) o.3, o.4)
 
 pub held_same : {D : Type 0} (s n : StoreState D) (h : Held) → n.staged ≡ s.staged → changes_held h n ≡ changes_held h s
 held_same s n held.Nothing staged = refl
@@ -84,7 +84,7 @@ module _ {D : Type 0} (honest : D → Type 0) (unsynced : D → PendingState) {h
       let set : sealed_set s ≡ settled_set d = ap (λ (x : Identity). after_all x.start s.sealed) same ∙ ap (λ (l : List Change). after_all d.store.start l) (o.1 ∙ agree.0) in
       let drawn_is : n.drawn ≡ group.changes = ap (λ (x : DeskState). x.drawn) draws.new_is in
       record {
-        out = (o.0, o.1, some, subst (λ (t : State). GoesOn t group) (sym set) draws.goes_on);
+        out = (o.0, o.1, some, subst (λ (t : State). GoesOn t group) (sym set) draws.goes_on, draws.longest.few);
         whole = ap (λ (l : List Change). l ++ n.drawn) (w.whole ∙ ap (λ (l : List Change). half.settled ++ l) none ∙ append-nil half.settled) ∙ ap (λ (l : List Change). half.settled ++ l) drawn_is;
         now = w.now;
       }

@@ -1,8 +1,7 @@
 -- A store as the plain machine has it, from call to call.
-use Rattle.std.proofs.Common.{◌≡◌, ◌≢◌, ◌<◌, ◌≤◌, ◌+◌, ◌-◌, ◌*◌, ◌/◌, ℕ, Bool, true, false, List, [], ◌∷◌, ◌++◌, length, refl, sym, ap, subst, ◌∙◌, inl, inr, arith, length-append}
+use Rattle.std.proofs.Common.{◌≡◌, ◌≢◌, ◌<◌, ◌≤◌, ◌+◌, ℕ, Bool, true, false, List, [], ◌∷◌, ◌++◌, length, refl, sym, ap, ◌∙◌, inl, inr, arith, length-append}
 use Rattle.std.proofs.lemmas.List.{append-nil}
-use Rattle.std.specs.List.{AllByRecursion}
-use Rattle.std.specs.Prelude.{if◌then◌else◌, IsTrue, ◌↔◌}
+use Rattle.std.specs.Prelude.{if◌then◌else◌}
 use Rattle.fp_disk.specs.History.{MakesSome}
 use Rattle.fp_disk.specs.declared.history.CallKind.{CallKind}
 use Rattle.fp_edit.specs.Edits.{Change}
@@ -10,7 +9,6 @@ use Rattle.fp_edit.specs.Flags.{State, size}
 use Rattle.fp_edit.specs.Log.{after_all}
 use Rattle.fp_record.specs.Encoding.{batch_len}
 use Rattle.fp_record.specs.Group.{Group}
-use Rattle.fp_recovery.specs.Stands.{IsAllowed}
 use Rattle.fp_slots.specs.declared.slots.Step.{Step}
 use Rattle.fp_slots.specs.declared.slots.Step.TheVariants.{Begin, Close, SyncClose, Part, Tail, SyncBody, Open, SyncOpen}
 use Rattle.fp_compaction.specs.Steps.{calls_of}
@@ -26,7 +24,6 @@ use Rattle.fp_group_commit.specs.declared.fault.StoreFault.TheVariants as fault
 use Rattle.fp_committer.specs.StoreHalf.{IsOut, MakesNoMore, MakesOfCompaction, MakesOne, RisesFor, changes_held, in_flight_at, is_in_flight, progress_of, way_at}
 use Rattle.fp_committer.specs.Way.{Advances, CanStage, IsAt, MayStep, Progress, Seals, Stages, StepsOn, Taken, Way, is_flying, is_read, is_sealed, read_edits, sealed_edits}
 use Rattle.fp_committer.specs.Way.{batch_staged, body_synced, gate_opened, batch_sealed}
-use Rattle.fp_committer.specs.declared.event.Answer.{Answer}
 use Rattle.fp_committer.specs.declared.event.Answer.TheVariants as answer
 use Rattle.fp_committer.specs.declared.held.Held.{Held}
 use Rattle.fp_committer.specs.declared.held.Held.TheVariants as held

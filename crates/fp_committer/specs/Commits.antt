@@ -1,6 +1,6 @@
 -- The plain machine of the edits, from where they are handed in to where they are settled and told:
 -- a desk, and how far its drawn edits are. It has no disk.
-use Rattle.std.specs.Prelude.{◌≡◌, ◌≢◌, ◌⊎◌, ◌<◌, ◌≤◌, ◌+◌, ℕ, max, Bool, false, List, [], ◌∷◌}
+use Rattle.std.specs.Prelude.{◌≡◌, ◌≢◌, ◌⊎◌, ◌<◌, ◌≤◌, ◌+◌, ℕ, max, Bool, List, [], ◌∷◌}
 use Rattle.std.specs.Prelude.{◌++◌, length}
 use Rattle.fp_edit.specs.Edits.{Change, Proposal, proposal_of}
 use Rattle.fp_edit.specs.Flags.{State}

@@ -4,3 +4,8 @@ pub mod Halves
 pub mod Kept
 pub mod StoreHalf
 pub mod Way
+pub mod Course
+pub mod Room
+pub mod Works
+pub mod WorksLaws
+pub mod CourseLaws

@@ -1,12 +1,13 @@
 -- The store's half of a committer: the store, and the batch that was drawn for it.
-use Rattle.std.specs.Prelude.{◌≡◌, ◌≢◌, ◌⊎◌, ◌<◌, ◌+◌, ℕ, Bool, true, false, List, [], ◌∷◌, ◌++◌}
-use Rattle.std.specs.Prelude.{length}
+use Rattle.std.specs.Prelude.{◌≡◌, ◌≢◌, ◌⊎◌, ◌<◌, ◌≤◌, ◌+◌, ℕ, Bool, true, false, List, [], ◌∷◌}
+use Rattle.std.specs.Prelude.{◌++◌, length}
 use Rattle.fp_disk.specs.Crashes.{AtAnyMoment, EachCrash, SameHonesty}
 use Rattle.fp_disk.specs.History.{MakesSome}
 use Rattle.fp_disk.specs.Outcomes.{PendingState, IsOutcome}
 use Rattle.fp_disk.specs.declared.disk.Disk.{Ghosts}
 use Rattle.fp_disk.specs.declared.history.CallKind.{CallKind}
 use Rattle.fp_edit.specs.Edits.{Change}
+use Rattle.fp_record.specs.Numbers.{MOST_EDITS}
 use Rattle.fp_group_commit.specs.Changes.{GoesOn}
 use Rattle.fp_group_commit.specs.Store.{Leaves, StoreState, sealed_set}
 use Rattle.fp_group_commit.specs.declared.phase.Phase.{Phase}
@@ -126,7 +127,7 @@ pub record KeepsHalf {D : Type 0} (disk : Ghosts D) (old : StoreHalfState D) (an
 abbrev pub IsOut : {D : Type 0} → Held → StoreState D → List Change → Type 0
 IsOut held.Nothing s settled = (s.phase ≡ Idle) × (s.sealed ≡ settled)
 IsOut (held.Drawn group) s settled = (s.phase ≡ Idle) × (s.sealed ≡ settled)
-    × (group.changes ≢ []) × GoesOn (sealed_set s) group
+    × (group.changes ≢ []) × GoesOn (sealed_set s) group × (length group.changes ≤ MOST_EDITS)
 IsOut held.InFlight s settled = (is_in_flight s.phase ≡ true) × (s.sealed ≡ settled)
     × (s.staged ≢ [])
 IsOut (held.Sealed receipt) s settled = (s.phase ≡ Idle)

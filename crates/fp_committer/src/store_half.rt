@@ -7,7 +7,8 @@ ghost use Rattle.fp_edit.specs.Log.{after_all};
 ghost use Rattle.fp_group_commit.specs.Store.{IsFresh, readable_set};
 ghost use Rattle.fp_committer.specs.StoreHalf.{KeptBy, new_half, taken_by};
 ghost use Rattle.fp_committer.specs.StoreHalf.{way_by};
-ghost use Rattle.fp_committer.specs.Way.{read_edits};
+ghost use Rattle.fp_committer.specs.Way.{nothing_drawn, read_edits};
+ghost use Rattle.fp_group_commit.specs.declared.phase.Phase.TheVariants.{Idle};
 
 use crate::half::Half;
 use crate::held::{Held, end};
@@ -73,6 +74,8 @@ impl<D: Disk> StoreHalf<D> {
     pub fn rest(&self)
         ensures whole { self.now.half.all ≡ self.now.half.settled ++ self.now.drawn }
         ensures exit { EachCrash D.Disk self.now.store.disk (KeptBy self.now) }
+        ensures idle { self.now.progress ≡ nothing_drawn → (self.now.store.phase ≡ Idle)
+            × (self.now.drawn ≡ []) × (self.now.store.sealed ≡ self.now.half.settled) }
     {
         let _ = &self.held;
     }

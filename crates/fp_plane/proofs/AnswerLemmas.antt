@@ -1,11 +1,5 @@
 -- Answers as they are said.
-use Rattle.std.proofs.Common.{◌≡◌, ℕ, List, Option, None, Some, true, refl, inl, inr}
-use Rattle.fp_definition.specs.Faults.{tells}
-use Rattle.fp_definition.specs.Valid as flag
-use Rattle.fp_edit.specs.declared.edit.EditFault.{EditFault}
-use Rattle.fp_edit.specs.declared.edit.EditFault.TheVariants as edit
-use Rattle.fp_edit.specs.declared.line.LineFault.{LineFault}
-use Rattle.fp_edit.specs.declared.line.LineFault.TheVariants.{TooLong, NotJson, NotObject, BadMember, BadOp, BadKey, BadIf, BadFlag, Memory}
+use Rattle.std.proofs.Common.{◌≡◌, ℕ, List, Option, true, refl, inl, inr}
 use Rattle.fp_session.specs.Reply as flags
 use Rattle.fp_session.specs.Reply.{bad_flag_or_memory, fault_of, refusal_of}
 use Rattle.fp_streams.specs.Said.{AppendsLine}

@@ -1,9 +1,15 @@
--- Sets of flags, edits and desks may cross threads.
+-- Sets of flags, edits, desks and the desk's half of a committer may cross threads.
 use denote.Param.Send.{IsSend, IsSync, sendable, view_send, view_sync, recorded_send, recorded_sync, struct_send, struct_sync, enum_send}
 use denote.Struct.Declared.{shape}
 use denote.Enum.Declared as enums
-use Rattle.std.proofs.Crossing.{crosses, Arc-send, Arc-sync, Deque-send, Vec-send, Vec-sync}
+use Rattle.std.proofs.Crossing.{crosses, Deque-send, Vec-send}
 use Rattle.std.proofs.MapsCrossing as maps
+use Rattle.fp_committer.specs.contracts.desk_half.DeskHalf as desk_half
+use Rattle.fp_committer.specs.contracts.desk_half.DeskHalf.TheInside as desk_half_inside
+use Rattle.fp_committer.specs.contracts.half.Half as half
+use Rattle.fp_committer.specs.contracts.half.Half.TheInside as half_inside
+use Rattle.fp_fronts.proofs.growing.Front.TheSendSync as front
+use Rattle.fp_fronts.proofs.growing.Growing.TheSendSync as growing
 use Rattle.fp_definition.proofs.Crossing.{definition_sent, definition_shared}
 use Rattle.fp_definition.proofs.key.FlagKey.TheSendSync as key
 use Rattle.fp_edit.specs.contracts.edit.Edit as edit
@@ -48,3 +54,9 @@ settled_sent = view_send _ _ _ _ _ (recorded_send _ _ _ (settled_inside.the_type
 
 pub desk_sent : IsSend desk.the_row
 desk_sent = view_send _ _ _ _ _ (recorded_send _ _ _ (desk_inside.the_type).to_one (struct_send (shape desk_inside.the_type) (flags_sent, (flags_sent, (Deque-send _ edit_sent, (Deque-send _ edit_sent, (Deque-send _ edit_sent, (settled_sent, (search sendable, (search (sendable, crosses), tt))))))))))
+
+pub half_sent : IsSend half.the_row
+half_sent = view_send _ _ _ _ _ (recorded_send _ _ _ (half_inside.the_type).to_one (struct_send (shape half_inside.the_type) (search (sendable, growing.the_send, front.the_send) depth 20)))
+
+pub desk_half_sent : IsSend desk_half.the_row
+desk_half_sent = view_send _ _ _ _ _ (recorded_send _ _ _ (desk_half_inside.the_type).to_one (struct_send (shape desk_half_inside.the_type) (desk_sent, (half_sent, tt))))

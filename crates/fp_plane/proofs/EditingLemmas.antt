@@ -7,7 +7,7 @@ use Rattle.fp_group_commit.specs.Tokens.{FrontState, Identity, front_revision}
 use Rattle.fp_session.specs.Asks.{Ask}
 use Rattle.fp_session.specs.Sources.{HasAsked}
 use Rattle.fp_plane.specs.Answers.{Answer, AreAnswersTo, IsAnswerTo, IsShownAs, IsWithin, revision_in, answer_text, texts_of, says_no_edit}
-use Rattle.fp_plane.specs.Editing.{IsNoLess, IsServed, IsServedFirst}
+use Rattle.fp_plane.specs.Editing.{IsNoLess, IsServed}
 
 -- ---- answers, one behind the other
 

@@ -3,7 +3,7 @@ pub mod Crossing
 mod EditingLemmas
 pub mod PlaneCrossing
 pub mod PublishCrossing
-mod SealingLemmas
 mod SendingLemmas
 pub mod Spawning
 pub mod StoreCrossing
+mod Halls

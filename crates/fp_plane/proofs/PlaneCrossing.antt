@@ -5,19 +5,19 @@ use denote.Struct.Declared.{shape}
 use Rattle.std.proofs.Crossing.{crosses, Arc-send, Vec-send}
 use Rattle.std.proofs.alloc.Global.TheSendSync as heap
 use Rattle.std.proofs.marker.PhantomData.TheSendSync as phantom
-use Rattle.std.proofs.option.Option.TheSendSync as option
 use Rattle.std.proofs.sync.Condvar.TheSendSync as condvar
 use Rattle.fp_disk.specs.declared.disk.Disk as disk
-use Rattle.fp_plane.proofs.Crossing.{desk_sent}
+use Rattle.fp_plane.proofs.Crossing.{desk_half_sent}
 use Rattle.fp_plane.proofs.bells.Bells.TheSendSync as bells
 use Rattle.fp_plane.proofs.PublishCrossing.{board_sent, evaluator_sent, seats_sent}
-use Rattle.fp_plane.proofs.StoreCrossing.{store_sent}
+use Rattle.fp_plane.proofs.StoreCrossing.{store_half_sent}
 use Rattle.fp_plane.specs.contracts.hall.Hall as hall
 use Rattle.fp_plane.specs.contracts.hall.Hall.TheInside as hall_inside
 use Rattle.fp_plane.specs.contracts.owned.OwnBoard as own_board
 use Rattle.fp_plane.specs.contracts.owned.OwnBoard.TheInside as own_board_inside
-use Rattle.fp_plane.specs.contracts.owned.OwnStore as own_store
-use Rattle.fp_plane.specs.contracts.owned.OwnStore.TheInside as own_store_inside
+use Rattle.fp_plane.specs.contracts.owned.OwnHalf as own_half
+use Rattle.fp_plane.specs.contracts.owned.OwnHalf.TheInside as own_half_inside
+use Rattle.fp_plane.specs.contracts.flushing.Flushed as flushed
 use Rattle.fp_plane.specs.contracts.plane.Plane as plane
 use Rattle.fp_plane.specs.contracts.plane.Shared as shared
 use Rattle.fp_plane.specs.declared.naming.Naming as naming
@@ -26,41 +26,41 @@ own_board_sent : (R : RattleType) → IsSend R → IsSend (own_board.the_row R)
 own_board_sent R sr = let T = own_board_inside.the_type R in
     view_send _ _ _ _ _ (recorded_send _ _ _ T.to_one (struct_send (shape T) (board_sent, search (sendable, sr) depth 20)))
 
-pub own_store_sent : (D : RattleType) (d : disk.Ghosts D.Denot) → IsSend D → IsSend (own_store.the_row D d)
-own_store_sent D d sd = let T = own_store_inside.the_type D d in
-    view_send _ _ _ _ _ (recorded_send _ _ _ T.to_one (struct_send (shape T) (store_sent D d sd, tt)))
+pub own_half_sent : (D : RattleType) (d : disk.Ghosts D.Denot) → IsSend D → IsSend (own_half.the_row D d)
+own_half_sent D d sd = let T = own_half_inside.the_type D d in
+    view_send _ _ _ _ _ (recorded_send _ _ _ T.to_one (struct_send (shape T) (store_half_sent D d sd, tt)))
 
-module _ (K D R : RattleType) (k : naming.Ghosts K.Denot) (d : disk.Ghosts D.Denot) (sd : IsSend D) (sr : IsSend R) where
-  hall_sent : IsSend (hall.the_row K D R k d)
-  hall_sent = let T = hall_inside.the_type K D R k d in
-      let own = own_store_sent D d sd in
+pub flushed_sent : (D : RattleType) (d : disk.Ghosts D.Denot) → IsSend D → IsSend (flushed.the_row D d)
+flushed_sent D d sd = let T = flushed.the_type D d in
+    recorded_send _ _ _ T.to_one (struct_send (shape T) (own_half_sent D d sd, search sendable depth 20))
+
+module _ (K R : RattleType) (k : naming.Ghosts K.Denot) (sr : IsSend R) where
+  hall_sent : IsSend (hall.the_row K R k)
+  hall_sent = let T = hall_inside.the_type K R k in
       view_send _ _ _ _ _ (recorded_send _ _ _ T.to_one (struct_send (shape T) (
-        desk_sent,
+        desk_half_sent,
         (
           own_board_sent R sr,
           (
             Vec-send _ evaluator_sent,
             (
               seats_sent,
-              (
-                option.the_field_send _ own,
-                (search sendable, (search sendable, (search sendable, (search sendable, (heap.the_field_send, (phantom.the_field_send K, tt)))))),
-              ),
+              (search sendable, (search sendable, (search sendable, (search sendable, (heap.the_field_send, (phantom.the_field_send K, tt)))))),
             ),
           ),
         ),
       )))
 
-  shared_sent : IsSend (shared.the_row K D R k d)
-  shared_sent = let T = shared.the_type K D R k d in
+  shared_sent : IsSend (shared.the_row K R k)
+  shared_sent = let T = shared.the_type K R k in
       recorded_send _ _ _ T.to_one (struct_send (shape T)
       (search (sendable, sr) depth 5, (search (sendable, crosses, hall_sent) depth 10, (condvar.the_field_send, (bells.the_field_send, (condvar.the_field_send, tt))))))
 
-  shared_shared : IsSync R → IsSync (shared.the_row K D R k d)
-  shared_shared yr = let T = shared.the_type K D R k d in
+  shared_shared : IsSync R → IsSync (shared.the_row K R k)
+  shared_shared yr = let T = shared.the_type K R k in
       recorded_sync _ _ _ T.to_one (struct_sync (shape T)
       (search (sendable, yr) depth 5, (search (sendable, crosses, hall_sent) depth 10, (condvar.the_field_sync, (bells.the_field_sync, (condvar.the_field_sync, tt))))))
 
-  pub plane_sent : IsSync R → IsSend (plane.the_row K D R k d)
-  plane_sent yr = let T = plane.the_type K D R k d in
+  pub plane_sent : IsSync R → IsSend (plane.the_row K R k)
+  plane_sent yr = let T = plane.the_type K R k in
       recorded_send _ _ _ T.to_one (struct_send (shape T) (Arc-send _ shared_sent (shared_shared yr), tt))

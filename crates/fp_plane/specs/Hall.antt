@@ -1,15 +1,18 @@
--- What a plane's lock keeps.
-use Rattle.std.specs.Prelude.{◌≡◌, ℕ, Bool, false, List, [], Option, None, IfSome, All}
+-- What a plane's lock keeps, and whose committer's halves there are.
+use Rattle.std.specs.Prelude.{◌≡◌, ℕ, Bool, true, false, List, [], Option, None, All}
+use Rattle.fp_committer.specs.Committer.{DeskHalfState}
+use Rattle.fp_committer.specs.Halves.{HalfState, Names}
+use Rattle.fp_committer.specs.StoreHalf.{StoreHalfState}
 use Rattle.fp_desk.specs.Desk.{DeskState, settled_front}
-use Rattle.fp_group_commit.specs.Store as stores
-use Rattle.fp_group_commit.specs.Store.{StoreState}
 use Rattle.fp_group_commit.specs.Tokens.{FrontState, Identity}
 use Rattle.fp_publish.specs.Evaluator.{EvaluatorState}
 use Rattle.fp_publish.specs.Fronts.{Begins}
 use Rattle.fp_publish.specs.Seats.{IsOfStore}
 
-pub record HallState (D : Type 0) : Type 0 where
+pub record HallState : Type 0 where
   pub desk : DeskState
+  -- what the desk's half lists
+  pub half : HalfState
   -- the front that evaluators take
   pub shown : FrontState
   -- the evaluators that nobody has
@@ -21,37 +24,65 @@ pub record HallState (D : Type 0) : Type 0 where
   pub failed : Bool
   pub closing : Bool
   pub ended : Bool
-  -- the store, once no batch is drawn any more
-  pub left : Option (StoreState D)
 
+abbrev pub desk_of : HallState → DeskHalfState
+desk_of h = record { desk = h.desk; half = h.half }
+
+-- ---- halves by name
+-- a half whose own lists and whose counterpart's are called so
+abbrev pub IsNamed : Names → Names → HalfState → Type 0
+IsNamed own there half = (half.own ≡ own) × (half.there ≡ there)
+
+-- the desk's half of the committer of this store, whose halves' lists are called so
+pub record IsDeskOf (store : Identity) (desk_lists store_lists : Names)
+    (d : DeskHalfState) : Type 0 where
+  pub ours : d.desk.store ≡ store
+  pub named : IsNamed desk_lists store_lists d.half
+
+-- and the store's
+pub record IsStoreOf {D : Type 0} (store : Identity) (desk_lists store_lists : Names)
+    (h : StoreHalfState D) : Type 0 where
+  pub ours : h.store.store ≡ store
+  pub named : IsNamed store_lists desk_lists h.half
+
+-- ---- halls
 -- an evaluator that knows a front of this store, and is lent nothing
 abbrev pub IsAtRest : Identity → EvaluatorState → Type 0
 IsAtRest store e = (e.known.store ≡ store) × (e.lent ≡ None)
 
--- What holds whenever the lock is free: all in it is of one store, what is shown begins what is
--- settled, and a store that was left is at rest, unless sealing broke off
-pub record IsOrderly {D : Type 0} (store : Identity) (h : HallState D) : Type 0 where
-  pub ours : h.desk.store ≡ store
+-- no edit was handed in yet
+pub record IsNewDesk (d : DeskState) : Type 0 where
+  pub settled : d.settled ≡ []
+  pub drawn : d.drawn ≡ []
+  pub waiting : d.waiting ≡ []
+  pub open_desk : d.stopped ≡ false
+  pub last : d.last ≡ []
+
+-- all that was taken is settled, and no edit is taken any more
+pub record IsAllSettled (d : DeskState) : Type 0 where
+  pub drawn : d.drawn ≡ []
+  pub waiting : d.waiting ≡ []
+  pub stopped : d.stopped ≡ true
+
+-- What holds whenever the lock is free: all in it is of one store, and what is shown begins what is
+-- settled; where the plane is to stop no edit is taken any more; and where no batch is drawn any
+-- more, all that was taken is settled, unless sealing broke off
+pub record IsOrderly (store : Identity) (desk_lists store_lists : Names) (h : HallState)
+    : Type 0 where
+  pub ours : IsDeskOf store desk_lists store_lists (desk_of h)
   pub shown : Begins h.shown (settled_front h.desk)
   pub idle : All (IsAtRest store) h.idle
   pub handed : IsOfStore h.handed h.shown
-  pub left : IfSome h.left (λ s. s.store ≡ store)
-  pub rest : h.failed ≡ false → IfSome h.left stores.IsAtRest
+  pub closed : h.closing ≡ true → h.desk.stopped ≡ true
+  pub over : h.ended ≡ true → h.failed ≡ false → IsAllSettled h.desk
 
--- a hall in which nothing was done yet, with so many evaluators
-pub record IsNew {D : Type 0} (store : Identity) (h : HallState D) : Type 0 where
-  pub desk : h.desk ≡ record {
-    store = store;
-    settled = [];
-    drawn = [];
-    waiting = [];
-    stopped = false;
-    last = [];
-  }
+-- a hall in which nothing was done yet
+pub record IsNew (store : Identity) (h : HallState) : Type 0 where
+  pub store_is : h.desk.store ≡ store
+  pub desk : IsNewDesk h.desk
   pub shown : h.shown ≡ record { store = store; edits = [] }
   pub taken : h.taken ≡ 0
   pub handed : h.handed ≡ None
   pub failed : h.failed ≡ false
   pub closing : h.closing ≡ false
   pub ended : h.ended ≡ false
-  pub left : h.left ≡ None

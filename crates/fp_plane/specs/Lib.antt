@@ -3,3 +3,4 @@ pub mod Answers
 pub mod Editing
 pub mod Sending
 pub mod Telling
+pub mod Flushing

@@ -32,15 +32,15 @@ impl Bells {
         &self.bells[(revision % BELLS as u64) as usize]
     }
 
-    /// Wakes who waits for one of so many revisions, from the first on.
-    pub fn ring(&self, first: u64, count: usize) {
-        for n in 0..count.min(BELLS) {
-            self.of(first.wrapping_add(n as u64)).notify_all();
+    /// Wakes who waits for one of the revisions behind one, up to the last.
+    pub fn ring(&self, behind: u64, last: u64) {
+        for n in 0..last.saturating_sub(behind).min(BELLS as u64) {
+            self.of(last.wrapping_sub(n)).notify_all();
         }
     }
 
     /// Wakes all who wait.
     pub fn ring_all(&self) {
-        self.ring(0, BELLS);
+        self.ring(0, BELLS as u64);
     }
 }

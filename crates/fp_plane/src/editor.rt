@@ -18,7 +18,6 @@ use crate::answer::{Answer, send_answer};
 use crate::naming::Naming;
 use crate::plane::Plane;
 use fp_desk::{SubmitFault, Ticket};
-use fp_disk::Disk;
 use fp_edit::{Edit, EditFault, LineFault};
 use fp_group_commit::Told;
 use fp_session::{EditSource, InputLines, Reply};
@@ -42,15 +41,14 @@ pub enum EditorEnd {
 ///
 /// With the end, or the fault, comes the most that was told: no revision that it wrote is greater.
 /// Want of memory ends it where a line comes in; of an edit that was taken it always tells.
-pub fn editor_loop<K, D, R, I, O>(
-    plane: &Plane<K, D, R>,
+pub fn editor_loop<K, R, I, O>(
+    plane: &Plane<K, R>,
     alloc: Global,
     r: &mut FailureCounted<I>,
     w: &mut FailureCounted<O>,
 ) -> Result<EditorEnd, (StreamFault, Option<Told>)>
 where
     K: Naming,
-    D: Disk + Drop,
     R: Wait + Drop,
     I: Read,
     O: Write,
@@ -88,8 +86,8 @@ where
 }
 
 // Answers all that a source asks, in order, and gives the most that was told.
-fn serve_source<K, D, R, S, A, O>(
-    plane: &Plane<K, D, R>,
+fn serve_source<K, R, S, A, O>(
+    plane: &Plane<K, R>,
     alloc: Global,
     source: &mut A,
     stream: &mut S,
@@ -97,7 +95,6 @@ fn serve_source<K, D, R, S, A, O>(
 ) -> Result<Option<Told>, (StreamFault, Option<Told>)>
 where
     K: Naming,
-    D: Disk + Drop,
     R: Wait + Drop,
     A: EditSource<S>,
     O: Write,
@@ -118,8 +115,8 @@ where
 }
 
 // Answers all that a source asks, in order, and keeps the most that was told.
-fn answer_all<K, D, R, S, A, O>(
-    plane: &Plane<K, D, R>,
+fn answer_all<K, R, S, A, O>(
+    plane: &Plane<K, R>,
     alloc: Global,
     source: &mut A,
     stream: &mut S,
@@ -128,7 +125,6 @@ fn answer_all<K, D, R, S, A, O>(
 ) -> Result<(), StreamFault>
 where
     K: Naming,
-    D: Disk + Drop,
     R: Wait + Drop,
     A: EditSource<S>,
     O: Write,
@@ -160,8 +156,8 @@ where
 }
 
 // Answers what a line asks.
-fn answer<K, D, R, O>(
-    plane: &Plane<K, D, R>,
+fn answer<K, R, O>(
+    plane: &Plane<K, R>,
     alloc: Global,
     asked: Result<Edit, LineFault>,
     told: &mut Option<Told>,
@@ -169,7 +165,6 @@ fn answer<K, D, R, O>(
 ) -> Result<(), StreamFault>
 where
     K: Naming,
-    D: Disk + Drop,
     R: Wait + Drop,
     O: Write,
     ensures answered { OnOk result ((x : Ask) (all : List Ask) (before : Option (List ℕ))
@@ -187,13 +182,9 @@ where
 }
 
 // The answer to what a line asks, and what was told of its edit.
-fn answer_to<K, D, R>(
-    plane: &Plane<K, D, R>,
-    asked: Result<Edit, LineFault>,
-) -> (Answer, Option<Told>)
+fn answer_to<K, R>(plane: &Plane<K, R>, asked: Result<Edit, LineFault>) -> (Answer, Option<Told>)
 where
     K: Naming,
-    D: Disk + Drop,
     R: Wait + Drop,
     ensures answer { (x : Ask) → AsksFor asked x → IsAnswerTo x (answer_of_code result.0) }
     ensures within { IsWithin result.1 (answer_of_code result.0) }
@@ -206,10 +197,9 @@ where
 }
 
 // The answer to an edit, once it is settled and shown, or isn't taken.
-fn answer_to_edit<K, D, R>(plane: &Plane<K, D, R>, edit: Edit) -> (Answer, Option<Told>)
+fn answer_to_edit<K, R>(plane: &Plane<K, R>, edit: Edit) -> (Answer, Option<Told>)
 where
     K: Naming,
-    D: Disk + Drop,
     R: Wait + Drop,
     ensures answer { says_no_edit (answer_of_code result.0) ≡ false }
     ensures within { IsWithin result.1 (answer_of_code result.0) }
@@ -222,10 +212,9 @@ where
 }
 
 // The answer to an edit that was taken, once it is settled and shown: its own revision.
-fn answer_to_taken<K, D, R>(plane: &Plane<K, D, R>, ticket: Ticket) -> (Answer, Option<Told>)
+fn answer_to_taken<K, R>(plane: &Plane<K, R>, ticket: Ticket) -> (Answer, Option<Told>)
 where
     K: Naming,
-    D: Disk + Drop,
     R: Wait + Drop,
     ensures answer { IsAnswerToTaken ticket.revision (answer_of_code result.0) }
     ensures within { IsWithin result.1 (answer_of_code result.0) }

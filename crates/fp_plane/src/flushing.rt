@@ -1,108 +1,167 @@
 //! The flusher: it draws and settles under the plane's lock, and calls the disk without it.
 
-ghost use Rattle.std.specs.Prelude.{◌≡◌, ◌<◌, ◌≤◌, ◌++◌, length, IfSome, OnOk};
-ghost use Rattle.fp_disk.specs.Crashes.{AtAnyMoment, EachCrash, SameHonesty};
-ghost use Rattle.fp_group_commit.specs.declared.phase.Phase.TheVariants.{Idle};
-ghost use Rattle.fp_record.specs.declared.batch.TheConstants.{MOST_EDITS};
-ghost use Rattle.fp_recovery.specs.Stands.{StandsFor};
-ghost use Rattle.fp_group_commit.specs.Store.{IsAtRest, sealed_set};
-ghost use Rattle.fp_session.specs.Session.{KeepsOrGains};
+ghost use Rattle.std.specs.Prelude.{◌≡◌, ◌⊎◌, ◌<◌, true, false, OnErr, OnOk};
+ghost use Rattle.fp_committer.specs.Course.{Course, LacksRoom, ListsOn};
+ghost use Rattle.fp_committer.specs.Way.{batch_drawn, batch_sealed, nothing_drawn};
+ghost use Rattle.fp_plane.specs.Flushing.{Flushes, IsResting};
+ghost use Rattle.fp_plane.specs.Hall.{IsStoreOf};
 
 use crate::naming::Naming;
-use crate::owned::OwnStore;
+use crate::owned::OwnHalf;
+use crate::pausing::pause;
 use crate::plane::Plane;
-use crate::sealing::{Broken, compact_on, pause, seal};
 use crate::telling::Seen;
-use fp_desk::SettleFault;
+use fp_committer::{CommitFault, StoreHalf};
 use fp_disk::Disk;
-use fp_group_commit::{Draw, Receipt, Store};
 use fp_log::{Event, tell};
 use log::Log;
 use std::sync::Wait;
 use std::time::Clock;
 
-/// Seals what is handed in, batch after batch, settles and shows it, and tells all who
-/// wait, until the plane is to stop and nothing waits, or sealing broke off. Then it leaves the
-/// store in the plane. Compactions and a failure are told to who asked for it, once those who wait
-/// for the batch were told.
-pub fn flusher<K, D, R>(plane: &Plane<K, D, R>, store: OwnStore<D>)
+/// The device failed, or there is no room for what was drawn and no generation to make it.
+#[derive(Debug, Drop, Clone, Copy, PartialEq, Eq)]
+pub struct Broken;
+
+/// What a flusher gives back: the store's half, and whether sealing broke off.
+#[derive(Drop)]
+pub struct Flushed<D: Disk + Drop> {
+    pub half: OwnHalf<D>,
+    pub ended: Result<(), Broken>,
+}
+
+/// Seals what is handed in, batch after batch, settles and shows it, and tells all who wait, until
+/// the plane is to stop and nothing waits, or sealing broke off. Compactions and a failure are told
+/// to who asked for it, once those who wait for the batch were told.
+pub fn flusher<K, D, R>(plane: &Plane<K, R>, half: OwnHalf<D>) -> Flushed<D>
 where
     K: Naming,
     D: Disk + Drop,
     R: Wait + Clock + Log + Drop,
-    requires ours { store.store ≡ K.store }
-    requires rest { IsAtRest store }
+    requires ours { IsStoreOf K.store K.desk_lists K.store_lists half }
+    requires rest { IsResting half }
+    ensures { Flushes D.Disk half result.half result.ended }
 {
-    let mut store = store.into_store();
-    let ended = flush_all(plane, &mut store);
-    let revision = store.revision();
-    let failed = ended.is_err();
-    plane.leave(OwnStore::new(store), ended);
-    if failed {
+    let mut half = half.into_half();
+    let ended = flush_all(plane, &mut half);
+    let revision = half.store().revision();
+    if ended.is_err() {
+        plane.break_off();
+    }
+    plane.tell_all();
+    if ended.is_err() {
         tell(&plane.shared.rt, &Event::StoreFailed { revision });
+    }
+    Flushed {
+        half: OwnHalf::new(half),
+        ended,
     }
 }
 
 // Seals, settles and shows all that is drawn, until the plane is to stop and nothing waits.
-fn flush_all<K, D, R>(plane: &Plane<K, D, R>, store: &mut Store<D>) -> Result<(), Broken>
+fn flush_all<K, D, R>(plane: &Plane<K, R>, half: &mut StoreHalf<D>) -> Result<(), Broken>
 where
     K: Naming,
-    D: Disk + Drop,
+    D: Disk,
     R: Wait + Clock + Log + Drop,
-    requires ours { store.old.store ≡ K.store }
-    requires rest { IsAtRest store.old }
-    ensures same { store.new.store ≡ store.old.store }
-    ensures rest { OnOk result (IsAtRest store.new) }
+    requires ours { IsStoreOf K.store K.desk_lists K.store_lists half.old }
+    requires rest { IsResting half.old }
+    ensures { Flushes D.Disk half.old half.new result }
 {
+    half.rest();
     for _ in plane.shared.rt.forever() {
-        let Some(draw) = plane.drawn() else {
+        if !plane.draw(half) {
             return Ok(());
-        };
-        flush(plane, store, draw)?;
+        }
+        flush(plane, half)?;
     }
     unreachable!()
 }
 
 // Seals, settles and shows what is drawn, and then takes a step of a compaction where one is due.
-// Whatever a crash leaves at any moment stands for what was kept, or that with what is drawn.
-fn flush<K, D, R>(plane: &Plane<K, D, R>, store: &mut Store<D>, draw: Draw) -> Result<(), Broken>
+fn flush<K, D, R>(plane: &Plane<K, R>, half: &mut StoreHalf<D>) -> Result<(), Broken>
 where
     K: Naming,
-    D: Disk + Drop,
+    D: Disk,
     R: Wait + Clock + Log + Drop,
-    requires ours { store.old.store ≡ K.store }
-    requires idle { store.old.phase ≡ Idle }
-    requires some { 0 < length draw.changes }
-    requires few { length draw.changes ≤ MOST_EDITS }
-    ensures same { store.new.store ≡ store.old.store }
-    ensures sealed { OnOk result (store.new.sealed ≡ store.old.sealed ++ draw.changes) }
-    ensures rest { OnOk result (IsAtRest store.new) }
-    ensures any_moment { AtAnyMoment D.Disk store.old.disk
-        store.new.disk (KeepsOrGains store.old draw.changes) }
-    ensures keeps { OnOk result (EachCrash D.Disk store.new.disk
-        (λ c. StandsFor c (sealed_set store.new))) }
-    ensures honest { SameHonesty D.Disk store.old.disk store.new.disk }
+    requires ours { IsStoreOf K.store K.desk_lists K.store_lists half.old }
+    requires drawn { half.old.progress ≡ batch_drawn }
+    requires well { half.old.store.failed ≡ false }
+    ensures course { Course D.Disk half.old half.new }
+    ensures rest { OnOk result (IsResting half.new) }
+    ensures no_failure { OnOk result
+        (D.faults half.new.store.disk ≡ D.faults half.old.store.disk) }
+    ensures cause { OnErr result ((D.faults half.old.store.disk < D.faults half.new.store.disk)
+        ⊎ LacksRoom D.Disk half.new) }
 {
-    let before = Seen::of(store);
-    let receipt = seal(&plane.shared.rt, store, draw)?;
-    plane.settle(receipt)?;
-    compact_on(store)?;
-    before.tell_since(&plane.shared.rt, store);
+    let before = Seen::of(half.store());
+    seal(&plane.shared.rt, half)?;
+    plane.settle(half);
+    compact_on(half)?;
+    before.tell_since(&plane.shared.rt, half.store());
     Ok(())
 }
 
-impl<K: Naming, D: Disk + Drop, R: Wait + Clock + Drop> Plane<K, D, R> {
-    // Waits until edits wait, and draws them. `None` where the plane is to stop and none does.
-    fn drawn(&self) -> Option<Draw>
-        ensures some { IfSome result (λ d. 0 < length d.changes) }
-        ensures few { IfSome result (λ d. length d.changes ≤ MOST_EDITS) }
+// Seals what is drawn. Where memory is wanting it is tried again.
+fn seal<D: Disk, R: Wait + Clock>(rt: &R, half: &mut StoreHalf<D>) -> Result<(), Broken>
+    requires drawn { half.old.progress ≡ batch_drawn }
+    requires well { half.old.store.failed ≡ false }
+    ensures course { Course D.Disk half.old half.new }
+    ensures sealed { OnOk result ((half.new.progress ≡ batch_sealed)
+        × (half.new.store.failed ≡ false)) }
+    ensures no_failure { OnOk result
+        (D.faults half.new.store.disk ≡ D.faults half.old.store.disk) }
+    ensures cause { OnErr result ((D.faults half.old.store.disk < D.faults half.new.store.disk)
+        ⊎ LacksRoom D.Disk half.new) }
+{
+    for _ in rt.forever() {
+        match half.seal() {
+            Ok(()) => return Ok(()),
+            Err(CommitFault::Memory) => pause(rt),
+            Err(CommitFault::StoreFailed) => return Err(Broken),
+        }
+    }
+    unreachable!()
+}
+
+// Takes a step of a compaction, where one is due. Where memory is wanting for it, none is taken.
+fn compact_on<D: Disk>(half: &mut StoreHalf<D>) -> Result<(), Broken>
+    requires rest { IsResting half.old }
+    ensures course { Course D.Disk half.old half.new }
+    ensures rest { OnOk result (IsResting half.new) }
+    ensures no_failure { OnOk result
+        (D.faults half.new.store.disk ≡ D.faults half.old.store.disk) }
+    ensures cause { OnErr result (D.faults half.old.store.disk < D.faults half.new.store.disk) }
+{
+    match half.go_on() {
+        Ok(()) => Ok(()),
+        Err(CommitFault::Memory) => Ok(()),
+        Err(CommitFault::StoreFailed) => Err(Broken),
+    }
+}
+
+impl<K: Naming, R: Wait + Clock + Drop> Plane<K, R> {
+    // Waits until edits wait, and draws them. `false` where the plane is to stop and none does: from
+    // the same lock on no batch is drawn any more.
+    fn draw<D: Disk>(&self, half: &mut StoreHalf<D>) -> bool
+        requires ours { IsStoreOf K.store K.desk_lists K.store_lists half.old }
+        requires none { half.old.progress ≡ nothing_drawn }
+        ensures drawn { result ≡ true → (half.new.progress ≡ batch_drawn)
+            × ListsOn D.Disk half.old half.new }
+        ensures none { result ≡ false → half.new ≡ half.old }
     {
         let shared = &self.shared;
+        half.rest();
         let mut hall = shared.hall.lock(&shared.rt);
         for _ in shared.rt.forever() {
-            match hall.draw() {
-                Ok(Some(draw)) => return Some(draw),
-                Ok(None) if hall.is_stopped() => return None,
+            match hall.draw(half) {
+                Ok(Some(_)) => {
+                    half.rest();
+                    return true;
+                }
+                Ok(None) if hall.is_closing() => {
+                    hall.end();
+                    return false;
+                }
                 Ok(None) => hall = shared.work.wait(&shared.rt, hall),
                 Err(_) => {
                     drop(hall);
@@ -114,33 +173,28 @@ impl<K: Naming, D: Disk + Drop, R: Wait + Clock + Drop> Plane<K, D, R> {
         unreachable!()
     }
 
-    // Settles a batch, shows it and tells those whose edits it has, and the subscribers.
-    fn settle(&self, receipt: Receipt) -> Result<(), Broken>
-        requires { receipt.store ≡ K.store }
+    // Settles what is sealed, shows it and tells those whose edits it has, and the subscribers.
+    fn settle<D: Disk>(&self, half: &mut StoreHalf<D>)
+        requires ours { IsStoreOf K.store K.desk_lists K.store_lists half.old }
+        requires sealed { half.old.progress ≡ batch_sealed }
+        ensures settled { ListsOn D.Disk half.old half.new }
+        ensures none { half.new.progress ≡ nothing_drawn }
     {
         let shared = &self.shared;
-        let mut receipt = receipt;
-        let first = receipt.batch().first();
-        let count = receipt.batch().edits().len();
         for _ in shared.rt.forever() {
             let mut hall = shared.hall.lock(&shared.rt);
-            match hall.settle(receipt) {
-                Ok(()) => {
-                    let shown = hall.publish();
+            let before = hall.settled_revision();
+            if let Ok(settled) = hall.settle(half) {
+                let shown = hall.publish();
 
-                    // Who is woken wants the lock.
-                    drop(hall);
-                    match shown {
-                        Ok(()) => self.tell(first, count),
-                        Err(_) => self.publish(),
-                    }
-                    return Ok(());
+                // Who is woken wants the lock.
+                drop(hall);
+                half.rest();
+                match (settled, shown) {
+                    (Some(last), Ok(())) => self.tell(before, last),
+                    _ => self.publish(),
                 }
-                Err((SettleFault::Memory, given_back)) => receipt = given_back,
-                Err((SettleFault::Stranger, given_back)) => {
-                    given_back.forgo();
-                    return Err(Broken);
-                }
+                return;
             }
             drop(hall);
             pause(&shared.rt);
@@ -148,9 +202,9 @@ impl<K: Naming, D: Disk + Drop, R: Wait + Clock + Drop> Plane<K, D, R> {
         unreachable!()
     }
 
-    // Wakes the editors of so many revisions, from the first on, and the subscribers.
-    fn tell(&self, first: u64, count: usize) {
-        self.shared.bells.ring(first, count);
+    // Wakes the editors of the revisions behind one, up to the last, and the subscribers.
+    fn tell(&self, behind: u64, last: u64) {
+        self.shared.bells.ring(behind, last);
         self.shared.news.notify_all();
     }
 
@@ -173,12 +227,8 @@ impl<K: Naming, D: Disk + Drop, R: Wait + Clock + Drop> Plane<K, D, R> {
         }
     }
 
-    // Leaves the store, and tells all who wait.
-    fn leave(&self, store: OwnStore<D>, ended: Result<(), Broken>)
-        requires ours { store.store ≡ K.store }
-        requires rest { OnOk ended (IsAtRest store) }
-    {
-        self.shared.hall.lock(&self.shared.rt).leave(store, ended);
-        self.tell_all();
+    // No batch is drawn any more, since sealing broke off.
+    fn break_off(&self) {
+        self.shared.hall.lock(&self.shared.rt).break_off();
     }
 }

@@ -1,13 +1,13 @@
 //! What a plane's lock keeps.
 
 ghost use Rattle.std.specs.Prelude.{◌≡◌, ◌⊎◌, ◌<◌, ◌≤◌, ◌+◌, ◌++◌, [], ◌∷◌, true, None, Some};
-ghost use Rattle.std.specs.Prelude.{false, length, IfOk, IfErr, IfSome, OnOk, OnErr};
+ghost use Rattle.std.specs.Prelude.{◌≢◌, length, IfOk, IfErr, IfNone, IfSome, OnOk, OnErr};
 ghost use Rattle.std.specs.Prelude.{MatchOption, MatchResult, All, vec_len, ◌||◌, ◌&&◌, ◌-◌};
 ghost use Rattle.fp_edit.specs.Edits.{proposal_of};
-ghost use Rattle.fp_desk.specs.Desk.{IsAccepted, IsDrawn, Draws, Refuses, SettlesNot, log};
+ghost use Rattle.fp_desk.specs.Desk.{IsAccepted, Refuses, log};
 ghost use Rattle.fp_desk.specs.Desk.{settled_front, settled_revision};
-ghost use Rattle.fp_record.specs.declared.batch.TheConstants.{MOST_EDITS};
-ghost use Rattle.fp_group_commit.specs.Store as stores;
+ghost use Rattle.fp_committer.specs.Committer.{Agree, HaveDrawn, HaveSettled};
+ghost use Rattle.fp_committer.specs.Way.{batch_sealed};
 ghost use Rattle.fp_group_commit.specs.Tokens.{front_revision};
 ghost use Rattle.fp_publish.specs.Fronts.{Begins};
 ghost use Rattle.fp_publish.specs.Seats.{IsNews, had_by};
@@ -15,15 +15,15 @@ ghost use Rattle.fp_publish.specs.declared.board.TheConstants.{MOST_EVALUATORS};
 ghost use Rattle.fp_publish.specs.declared.seats.TheConstants.{MOST_SEATS};
 ghost use Rattle.fp_stream.specs.declared.hello.Hello.TheVariants.{Has};
 ghost use Rattle.std.specs.Vec.{vec_capacity};
-ghost use Rattle.fp_plane.specs.Hall.{IsAtRest, IsNew};
+ghost use Rattle.fp_plane.specs.Hall.{IsAtRest, IsDeskOf, IsNew, IsNewDesk, IsStoreOf, desk_of};
 
 use crate::naming::Naming;
-use crate::owned::{OwnBoard, OwnStore};
-use crate::sealing::Broken;
-use fp_desk::{Desk, SettleFault, SubmitFault, Ticket};
+use crate::owned::OwnBoard;
+use fp_committer::{DeskHalf, StoreHalf};
+use fp_desk::{SubmitFault, Ticket};
 use fp_disk::Disk;
 use fp_edit::Edit;
-use fp_group_commit::{Draw, Opening, Receipt, Told};
+use fp_group_commit::Told;
 use fp_publish::{Evaluator, Handed, MOST_EVALUATORS, Seat, Seats, SeatsUsed, Shown};
 use fp_stream::Hello;
 use std::alloc::{AllocError, Global};
@@ -36,12 +36,11 @@ pub struct EvaluatorsUsed;
 
 /// The desk and the board of one store, and what is lent of them.
 #[derive(Drop)]
-pub struct Hall<K: Naming, D: Disk + Drop, R: Wait + Drop> {
-    desk: Desk,
+pub struct Hall<K: Naming, R: Wait + Drop> {
+    desk: DeskHalf,
     board: OwnBoard<R>,
     idle: Vec<Evaluator>,
     seats: Seats,
-    left: Option<OwnStore<D>>,
     has_failed: bool,
     is_closing: bool,
     has_ended: bool,
@@ -50,7 +49,7 @@ pub struct Hall<K: Naming, D: Disk + Drop, R: Wait + Drop> {
     of: PhantomData<K>,
 }
 
-impl<K: Naming, D: Disk + Drop, R: Wait + Drop> Model for Hall<K, D, R> {
+impl<K: Naming, R: Wait + Drop> Model for Hall<K, R> {
     ghost use Rattle.std.specs.Coded.{codes};
     ghost use Rattle.std.specs.Prelude.{◌≤◌};
     ghost use Rattle.std.specs.Vec.{vec_capacity};
@@ -59,12 +58,13 @@ impl<K: Naming, D: Disk + Drop, R: Wait + Drop> Model for Hall<K, D, R> {
     ghost use Rattle.fp_publish.specs.declared.board.TheConstants.{MOST_EVALUATORS};
     ghost use Rattle.fp_plane.specs.Hall.{HallState, IsOrderly};
 
-    ghost Value = { HallState D };
+    ghost Value = { HallState };
 
     ghost coded = { Prim.hlevel (codes, coded_state, coded_change) };
 
     ghost view = { λ h. record {
-      desk = h.desk;
+      desk = h.desk.desk;
+      half = h.desk.half;
       shown = h.board;
       idle = h.idle.items;
       taken = h.seats.taken;
@@ -72,11 +72,11 @@ impl<K: Naming, D: Disk + Drop, R: Wait + Drop> Model for Hall<K, D, R> {
       failed = h.has_failed;
       closing = h.is_closing;
       ended = h.has_ended;
-      left = h.left;
     } };
 
-    ghost invariant = { λ h. IsOrderly K.store (record {
-      desk = h.desk;
+    ghost invariant = { λ h. IsOrderly K.store K.desk_lists K.store_lists (record {
+      desk = h.desk.desk;
+      half = h.desk.half;
       shown = h.board;
       idle = h.idle.items;
       taken = h.seats.taken;
@@ -84,7 +84,6 @@ impl<K: Naming, D: Disk + Drop, R: Wait + Drop> Model for Hall<K, D, R> {
       failed = h.has_failed;
       closing = h.is_closing;
       ended = h.has_ended;
-      left = h.left;
     }) × (MOST_EVALUATORS ≤ vec_capacity h.idle) };
 }
 
@@ -105,34 +104,21 @@ fn evaluators<R: Wait + Drop>(
     Ok(evaluators)
 }
 
-impl<K: Naming, D: Disk + Drop, R: Wait + Drop> Hall<K, D, R> {
-    /// Over the opening of the store that it is of. Nothing was accepted yet.
-    pub fn new(
-        rt: R,
-        alloc: Global,
-        opening: Opening,
-    ) -> Result<Hall<K, D, R>, (AllocError, Opening)>
-        requires { opening ≡ K.store }
+impl<K: Naming, R: Wait + Drop> Hall<K, R> {
+    /// Over the desk's half of the committer that it is of. Nothing was accepted yet.
+    pub fn new(rt: R, alloc: Global, desk: DeskHalf) -> Result<Hall<K, R>, AllocError>
+        requires ours { IsDeskOf K.store K.desk_lists K.store_lists desk }
+        requires fresh { IsNewDesk desk.desk }
         ensures new { IfOk result (IsNew K.store) }
         ensures all { IfOk result (λ h. length h.idle ≡ MOST_EVALUATORS) }
-        ensures given_back { IfErr result (λ e. e.1 ≡ opening) }
     {
-        let desk = match Desk::new(alloc, opening) {
-            Ok(desk) => desk,
-            Err(refused) => return Err(refused),
-        };
-        let Ok(mut board) = OwnBoard::new(rt, alloc, &desk) else {
-            return Err((AllocError, desk.into_opening()));
-        };
-        let Ok(idle) = evaluators(alloc, &mut board) else {
-            return Err((AllocError, desk.into_opening()));
-        };
+        let mut board = OwnBoard::new(rt, alloc, desk.desk())?;
+        let idle = evaluators(alloc, &mut board)?;
         Ok(Hall {
             desk,
             board,
             idle,
             seats: Seats::new(),
-            left: None,
             has_failed: false,
             is_closing: false,
             has_ended: false,
@@ -169,7 +155,7 @@ impl<K: Naming, D: Disk + Drop, R: Wait + Drop> Hall<K, D, R> {
             ⊎ (front_revision self.now.shown < settled_revision self.now.desk))
             (λ p. (p.0 ≡ settled_front self.now.desk) × (p.1 ≡ self.now.shown)) }
     {
-        let told = self.desk.ack(ticket)?;
+        let told = self.desk.desk().ack(ticket)?;
         let shown = self.board.shown(&told)?;
         Some((told, shown))
     }
@@ -183,39 +169,50 @@ impl<K: Naming, D: Disk + Drop, R: Wait + Drop> Hall<K, D, R> {
 
     // ---- the flusher
 
-    /// Draws what makes the longest batch, where nothing is out.
-    pub fn draw(&mut self) -> Result<Option<Draw>, AllocError>
-        ensures drawn { IfOk result (Draws self.old.desk self.new.desk) }
-        ensures some { IfOk result (λ o. IfSome o (λ d. 0 < length d.changes)) }
-        ensures few { IfOk result (λ o. IfSome o (λ d. length d.changes ≤ MOST_EDITS)) }
-        ensures unchanged { OnErr result (self.new ≡ self.old) }
-        ensures rest { self.new ≡ record self.old { desk = self.new.desk } }
+    /// Draws what makes the longest batch for the store's half, where nothing is out, and answers
+    /// how many edits it has.
+    pub fn draw<D: Disk>(&mut self, store: &mut StoreHalf<D>) -> Result<Option<usize>, AllocError>
+        requires ours { IsStoreOf K.store K.desk_lists K.store_lists store.old }
+        ensures ours { IsStoreOf K.store K.desk_lists K.store_lists store.new }
+        ensures drawn { IfOk result (λ o. MatchOption o
+            ((self.old.desk.drawn ≢ []) ⊎ (self.old.desk.waiting ≡ []))
+            (λ count. HaveDrawn (desk_of self.old) (desk_of self.new) store.old store.new count)) }
+        ensures none { IfOk result (λ o. IfNone o
+            ((self.new ≡ self.old) × (store.new ≡ store.old))) }
+        ensures agree { Agree (desk_of self.new) store.new }
+        ensures unchanged { OnErr result ((self.new ≡ self.old) × (store.new ≡ store.old)) }
+        ensures rest { self.new
+            ≡ record self.old { desk = self.new.desk; half = self.new.half } }
     {
-        self.desk.draw()
+        self.desk.draw(store)
     }
 
     /// Whether the flusher is to end where nothing waits.
-    pub fn is_stopped(&self) -> bool
-        ensures { result ≡ (self.now.closing || self.now.failed) }
+    pub fn is_closing(&self) -> bool
+        ensures { result ≡ self.now.closing }
     {
-        self.is_closing || self.has_failed
+        self.is_closing
     }
 
-    /// Spends a receipt for what is drawn.
-    pub fn settle(&mut self, receipt: Receipt) -> Result<(), (SettleFault, Receipt)>
-        requires { receipt.store ≡ K.store }
-        ensures drawn { OnOk result (IsDrawn self.old.desk receipt) }
-        ensures settled { OnOk result (self.new.desk ≡ record self.old.desk {
-          settled = self.old.desk.settled ++ self.old.desk.drawn;
-          drawn = [];
-          last = self.old.desk.drawn;
-        }) }
-        ensures refused { IfErr result (λ e. SettlesNot self.old.desk receipt e.0) }
-        ensures given_back { IfErr result (λ e. e.1 ≡ receipt) }
-        ensures unchanged { OnErr result (self.new ≡ self.old) }
-        ensures rest { self.new ≡ record self.old { desk = self.new.desk } }
+    /// The last revision that is settled.
+    pub fn settled_revision(&self) -> u64
+        ensures { result ≡ settled_revision self.now.desk }
     {
-        self.desk.settle(receipt)
+        self.desk.desk().settled_revision()
+    }
+
+    /// Settles what is sealed of the store's half, and answers the last revision that is settled.
+    pub fn settle<D: Disk>(&mut self, store: &mut StoreHalf<D>) -> Result<Option<u64>, AllocError>
+        requires ours { IsStoreOf K.store K.desk_lists K.store_lists store.old }
+        ensures ours { IsStoreOf K.store K.desk_lists K.store_lists store.new }
+        ensures settled { IfOk result (λ o. MatchOption o (store.old.progress ≢ batch_sealed)
+            (λ revision. HaveSettled (desk_of self.old) (desk_of self.new)
+            store.old store.new revision)) }
+        ensures unchanged { OnErr result ((self.new ≡ self.old) × (store.new ≡ store.old)) }
+        ensures rest { self.new
+            ≡ record self.old { desk = self.new.desk; half = self.new.half } }
+    {
+        self.desk.settle(store)
     }
 
     /// Shows what is settled.
@@ -224,7 +221,7 @@ impl<K: Naming, D: Disk + Drop, R: Wait + Drop> Hall<K, D, R> {
             ≡ record self.old { shown = settled_front self.old.desk }) }
         ensures unchanged { OnErr result (self.new ≡ self.old) }
     {
-        self.board.publish(&self.desk)
+        self.board.publish(self.desk.desk())
     }
 
     /// Whether sealing broke off.
@@ -245,36 +242,26 @@ impl<K: Naming, D: Disk + Drop, R: Wait + Drop> Hall<K, D, R> {
         self.is_closing = true;
     }
 
-    /// The flusher has ended, and leaves its store. Where sealing broke off no edit is taken any
-    /// more, and none is settled.
-    pub fn leave(&mut self, store: OwnStore<D>, ended: Result<(), Broken>)
-        requires ours { store.store ≡ K.store }
-        requires rest { OnOk ended (stores.IsAtRest store) }
-        ensures well { OnOk ended
-            (self.new ≡ record self.old { ended = true; left = Some store }) }
-        ensures broken { OnErr ended (self.new ≡ record self.old {
-          desk = record self.old.desk { stopped = true };
-          failed = true;
-          ended = true;
-          left = Some store;
-        }) }
+    /// No batch is drawn any more, since nothing waits.
+    pub fn end(&mut self)
+        requires closing { self.old.closing ≡ true }
+        requires settled { (self.old.desk.drawn ≡ []) × (self.old.desk.waiting ≡ []) }
+        ensures { self.new ≡ record self.old { ended = true } }
     {
-        if ended.is_err() {
-            self.desk.stop();
-            self.has_failed = true;
-        }
-        self.left = Some(store);
         self.has_ended = true;
     }
 
-    /// Takes the store that the flusher left.
-    pub fn take_store(&mut self) -> Option<OwnStore<D>>
-        ensures ours { IfSome result (λ s. s.store ≡ K.store) }
-        ensures taken { result ≡ self.old.left }
-        ensures at_rest { self.old.failed ≡ false → IfSome result stores.IsAtRest }
-        ensures rest { self.new ≡ record self.old { left = None } }
+    /// No batch is drawn any more, since sealing broke off. No edit is taken any more.
+    pub fn break_off(&mut self)
+        ensures { self.new ≡ record self.old {
+          desk = record self.old.desk { stopped = true };
+          failed = true;
+          ended = true;
+        } }
     {
-        self.left.take()
+        self.desk.stop();
+        self.has_failed = true;
+        self.has_ended = true;
     }
 
     // ---- evaluators

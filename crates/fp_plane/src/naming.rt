@@ -1,15 +1,26 @@
-//! Which store a plane is of.
+//! Which committer a plane is of.
 
+ghost use Rattle.fp_committer.specs.Halves.{Names};
 ghost use Rattle.fp_group_commit.specs.Tokens.{Identity, first_of};
 ghost use Rattle.std.specs.Prelude.{[]};
 
 use std::marker::Brand;
 
-/// Which store a plane is of. Contracts alone read it; who made the store picks it.
+/// Which committer a plane is of: its store, and what the lists of its two halves are called.
+/// Contracts alone read it; who made the halves picks it.
 pub trait Naming {
     ghost store: { Identity };
+
+    // The lists of the desk's half, and those of the store's.
+    ghost desk_lists: { Names };
+
+    ghost store_lists: { Names };
 }
 
 impl Naming for Brand {
     ghost store = { record { name = 0; start = first_of [] } };
+
+    ghost desk_lists = { record { all = 0; settled = 0 } };
+
+    ghost store_lists = { record { all = 0; settled = 0 } };
 }

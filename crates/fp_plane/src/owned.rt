@@ -5,9 +5,10 @@ ghost use Rattle.fp_desk.specs.Desk.{settled_front};
 ghost use Rattle.fp_group_commit.specs.Tokens.{FrontState, front_revision};
 ghost use Rattle.fp_publish.specs.Fronts.{Begins};
 
+use fp_committer::StoreHalf;
 use fp_desk::Desk;
 use fp_disk::Disk;
-use fp_group_commit::{Store, Told};
+use fp_group_commit::Told;
 use fp_publish::{Board, Evaluator, MOST_EVALUATORS, Shown, View};
 use std::alloc::{AllocError, Global};
 use std::marker::Model;
@@ -83,43 +84,43 @@ impl<R: Wait + Drop> OwnBoard<R> {
     }
 }
 
-/// A store whose disk is let go of where it is let go of, so that a thread may be handed one.
-pub struct OwnStore<D: Disk + Drop> {
-    store: Store<D>,
+/// A store's half whose disk is let go of where it is let go of, so that a thread may be handed one.
+pub struct OwnHalf<D: Disk + Drop> {
+    half: StoreHalf<D>,
 }
 
-impl<D: Disk + Drop> Model for OwnStore<D> {
+impl<D: Disk + Drop> Model for OwnHalf<D> {
     ghost use Rattle.std.specs.Coded.{codes};
     ghost use Rattle.fp_edit.specs.Flags.{coded_state};
     ghost use Rattle.fp_group_commit.specs.Changes.{coded_change};
-    ghost use Rattle.fp_group_commit.specs.Store.{StoreState};
+    ghost use Rattle.fp_committer.specs.StoreHalf.{StoreHalfState};
 
-    ghost Value = { StoreState D };
+    ghost Value = { StoreHalfState D };
 
     ghost coded = { Prim.hlevel (codes, coded_state, coded_change) };
 
-    ghost view = { λ s. s.store };
+    ghost view = { λ h. h.half };
 }
 
-impl<D: Disk + Drop> Drop for OwnStore<D> {
+impl<D: Disk + Drop> Drop for OwnHalf<D> {
     fn drop(self) {
-        drop(self.into_store().into_disk());
+        drop(self.into_half().into_disk());
     }
 }
 
-impl<D: Disk + Drop> OwnStore<D> {
-    /// Owns the store.
-    pub fn new(store: Store<D>) -> OwnStore<D>
-        ensures { result ≡ store }
+impl<D: Disk + Drop> OwnHalf<D> {
+    /// Owns the half.
+    pub fn new(half: StoreHalf<D>) -> OwnHalf<D>
+        ensures { result ≡ half }
     {
-        OwnStore { store }
+        OwnHalf { half }
     }
 
-    /// Gives the store back.
-    pub fn into_store(self) -> Store<D>
+    /// Gives the half back.
+    pub fn into_half(self) -> StoreHalf<D>
         ensures { result ≡ self }
     {
-        let Self { store } = self;
-        store
+        let Self { half } = self;
+        half
     }
 }

@@ -1,20 +1,19 @@
 //! The plane: what threads share.
 
-ghost use Rattle.std.specs.Prelude.{◌≡◌, ◌≤◌, true, None, IfOk, IfErr, IfSome, MatchResult};
+ghost use Rattle.std.specs.Prelude.{◌≡◌, ◌≤◌, true, None, IfOk, IfErr, IfSome};
 ghost use Rattle.fp_edit.specs.Edits.{proposal_of};
-ghost use Rattle.fp_group_commit.specs.Store as stores;
 ghost use Rattle.fp_group_commit.specs.Tokens.{front_revision};
 ghost use Rattle.fp_publish.specs.Fronts.{Begins};
 ghost use Rattle.fp_publish.specs.Seats.{had_by};
+ghost use Rattle.fp_plane.specs.Hall.{IsDeskOf, IsNewDesk};
 
 use crate::bells::Bells;
 use crate::hall::{EvaluatorsUsed, Hall};
 use crate::naming::Naming;
-use crate::sealing::Broken;
+use fp_committer::DeskHalf;
 use fp_desk::{SubmitFault, Ticket};
-use fp_disk::Disk;
 use fp_edit::Edit;
-use fp_group_commit::{Opening, Store, Told};
+use fp_group_commit::Told;
 use fp_publish::{Evaluator, Seat, SeatsUsed, Shown};
 use fp_stream::Hello;
 use std::alloc::{AllocError, Global};
@@ -22,9 +21,9 @@ use std::sync::{Arc, Condvar, Mutex, MutexGuard, Wait};
 
 // What the handles of a plane share.
 #[derive(Drop)]
-pub(crate) struct Shared<K: Naming, D: Disk + Drop, R: Wait + Drop> {
+pub(crate) struct Shared<K: Naming, R: Wait + Drop> {
     pub(crate) rt: R,
-    pub(crate) hall: Mutex<Hall<K, D, R>>,
+    pub(crate) hall: Mutex<Hall<K, R>>,
     // For the flusher: an edit waits, or the plane is to stop.
     pub(crate) work: Condvar,
     // For editors: the edit of a revision was settled and shown, or the plane is over.
@@ -33,26 +32,21 @@ pub(crate) struct Shared<K: Naming, D: Disk + Drop, R: Wait + Drop> {
     pub(crate) news: Condvar,
 }
 
-/// The store of a plane that was stopped; an error where sealing broke off before, by a failure of
-/// the device, or since the generations are used up.
-pub type Stopped<D> = Result<Store<D>, (Broken, Store<D>)>;
-
 /// A handle of a plane: one desk and one board under a lock, which editors, evaluators, subscribers
 /// and a flusher share. A plane is over the store that `K` names.
 #[derive(Drop)]
-pub struct Plane<K: Naming, D: Disk + Drop, R: Wait + Drop> {
-    pub(crate) shared: Arc<Shared<K, D, R>, Global>,
+pub struct Plane<K: Naming, R: Wait + Drop> {
+    pub(crate) shared: Arc<Shared<K, R>, Global>,
 }
 
-impl<K: Naming, D: Disk + Drop, R: Wait + Copy + Drop> Plane<K, D, R> {
-    /// Over the opening of the store that the plane is of. Where memory is wanting the opening is
+impl<K: Naming, R: Wait + Copy + Drop> Plane<K, R> {
+    /// Over the desk's half of the committer that the plane is of. Where memory is wanting the half is
     /// lost, and the store's disk is to be opened again.
-    pub fn new(rt: R, alloc: Global, opening: Opening) -> Result<Plane<K, D, R>, AllocError>
-        requires { opening ≡ K.store }
+    pub fn new(rt: R, alloc: Global, desk: DeskHalf) -> Result<Plane<K, R>, AllocError>
+        requires ours { IsDeskOf K.store K.desk_lists K.store_lists desk }
+        requires fresh { IsNewDesk desk.desk }
     {
-        let Ok(hall) = Hall::new(rt, alloc, opening) else {
-            return Err(AllocError);
-        };
+        let hall = Hall::new(rt, alloc, desk)?;
         let shared = Shared {
             rt,
             hall: Mutex::new(hall),
@@ -66,9 +60,9 @@ impl<K: Naming, D: Disk + Drop, R: Wait + Copy + Drop> Plane<K, D, R> {
     }
 }
 
-impl<K: Naming, D: Disk + Drop, R: Wait + Drop> Plane<K, D, R> {
+impl<K: Naming, R: Wait + Drop> Plane<K, R> {
     /// One handle more.
-    pub fn try_copy(&self) -> Result<Plane<K, D, R>, AllocError> {
+    pub fn try_copy(&self) -> Result<Plane<K, R>, AllocError> {
         Ok(Plane {
             shared: Arc::try_clone(&self.shared)?,
         })
@@ -153,17 +147,8 @@ impl<K: Naming, D: Disk + Drop, R: Wait + Drop> Plane<K, D, R> {
         self.tell_closed(self.closed());
     }
 
-    /// No edit is taken any more. Waits until what was taken is settled and the flusher has ended,
-    /// and gives its store back.
-    pub fn stop(self) -> Stopped<D>
-        ensures ours { MatchResult result (λ s. s.store ≡ K.store) (λ e. e.1.store ≡ K.store) }
-        ensures rest { IfOk result stores.IsAtRest }
-    {
-        self.store_left(self.closed())
-    }
-
     // The lock, under which the hall is closed.
-    fn closed(&self) -> MutexGuard<'_, Hall<K, D, R>>
+    fn closed(&self) -> MutexGuard<'_, Hall<K, R>>
         ensures stopped { result.value.desk.stopped ≡ true }
         ensures closing { result.value.closing ≡ true }
     {
@@ -173,35 +158,11 @@ impl<K: Naming, D: Disk + Drop, R: Wait + Drop> Plane<K, D, R> {
     }
 
     // Lets go of the lock of a hall that was closed, and wakes the flusher.
-    fn tell_closed(&self, hall: MutexGuard<'_, Hall<K, D, R>>)
+    fn tell_closed(&self, hall: MutexGuard<'_, Hall<K, R>>)
         requires stopped { hall.value.desk.stopped ≡ true }
         requires closing { hall.value.closing ≡ true }
     {
         drop(hall);
         self.shared.work.notify_all();
-    }
-
-    // Waits for the flusher's end under the lock that was closed, and takes its store.
-    fn store_left(&self, hall: MutexGuard<'_, Hall<K, D, R>>) -> Stopped<D>
-        requires stopped { hall.value.desk.stopped ≡ true }
-        requires closing { hall.value.closing ≡ true }
-        ensures ours { MatchResult result (λ s. s.store ≡ K.store) (λ e. e.1.store ≡ K.store) }
-        ensures rest { IfOk result stores.IsAtRest }
-    {
-        let shared = &self.shared;
-        let mut hall = hall;
-        shared.work.notify_all();
-        for _ in shared.rt.forever() {
-            if let Some(store) = hall.take_store() {
-                let store = store.into_store();
-                return if hall.has_failed() {
-                    Err((Broken, store))
-                } else {
-                    Ok(store)
-                };
-            }
-            hall = shared.news.wait(&shared.rt, hall);
-        }
-        unreachable!()
     }
 }

@@ -12,9 +12,8 @@ ghost use Rattle.fp_plane.specs.Sending.{IsSent, Serves};
 ghost use Rattle.fp_plane.specs.declared.subscriber.SubscriberFault.TheVariants as fault;
 
 use crate::naming::Naming;
+use crate::pausing::pause;
 use crate::plane::Plane;
-use crate::sealing::pause;
-use fp_disk::Disk;
 use fp_publish::{Handed, Seat};
 use fp_stream::{HelloFault, MOST_BODY, read_hello, write_frame};
 use fp_streams::{FailureCounted, StreamFault};
@@ -38,15 +37,14 @@ pub enum SubscriberFault {
 /// until the plane is stopped, the writer fails, or it has left, which is asked each second in
 /// which nothing new is shown, and where the plane looks who has left. One that is slow gets the
 /// newest.
-pub fn subscriber_loop<K, D, R, I, O, G>(
-    plane: &Plane<K, D, R>,
+pub fn subscriber_loop<K, R, I, O, G>(
+    plane: &Plane<K, R>,
     r: &mut FailureCounted<I>,
     w: &mut FailureCounted<O>,
     has_left: G,
 ) -> Result<(), SubscriberFault>
 where
     K: Naming,
-    D: Disk + Drop,
     R: Wait + Clock + Drop,
     I: Read,
     O: Write,
@@ -72,15 +70,14 @@ where
 }
 
 // Sends each document that is handed to the seat.
-fn serve_seat<K, D, R, O, G>(
-    plane: &Plane<K, D, R>,
+fn serve_seat<K, R, O, G>(
+    plane: &Plane<K, R>,
     seat: &mut Seat,
     w: &mut FailureCounted<O>,
     has_left: &G,
 ) -> Result<(), StreamFault>
 where
     K: Naming,
-    D: Disk + Drop,
     R: Wait + Clock + Drop,
     O: Write,
     G: Fn() -> bool,
@@ -103,7 +100,7 @@ where
     unreachable!()
 }
 
-impl<K: Naming, D: Disk + Drop, R: Wait + Clock + Drop> Plane<K, D, R> {
+impl<K: Naming, R: Wait + Clock + Drop> Plane<K, R> {
     // Waits until something is shown that the seat's subscriber hasn't got. `None` where the plane
     // was stopped or it has left.
     fn handed<G: Fn() -> bool>(&self, seat: &mut Seat, has_left: &G) -> Option<Handed>

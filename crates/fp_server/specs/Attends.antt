@@ -1,6 +1,6 @@
 -- What a task of the service comes to: what it leaves, its status and what is told of its end.
 use Rattle.std.specs.Prelude.{◌≡◌, ◌≤◌, ◌⊎◌, ◌++◌, ℕ, List, [], ◌∷◌, Option, Some, Result, Err, OnOk, IfErr}
-use Rattle.std.specs.Io.KnownBytes.{Appends}
+use Rattle.std.specs.Io.KnownBytes.{Appends, IsAtEnd}
 use Rattle.fp_commands.specs.Faults.{fault_text}
 use Rattle.fp_commands.specs.Files.{Environment, failures, streams_of}
 use Rattle.fp_commands.specs.Task.{IsStatusOf}
@@ -23,13 +23,14 @@ use Rattle.fp_server.specs.declared.task.Task.TheVariants.{Serve, Watch}
 
 -- ---- a service at a path
 
--- how it ended; that path alone was opened, once, to be written, and a store that failed is told
+-- how it ended, which is well only where its input has ended; that path alone was opened, once, to be written, and a store that failed is told
 -- only where no stream failed
 pub record Serves {F D R W : Type 0} (files : FileGhosts F D) (disk : DiskGhosts D)
-    (contents : W → Option (List ℕ)) (old new : Environment F R W) (path : List ℕ)
-    (outcome : Result (Unit {0}) CommandFault) : Type 0 where
+    (remaining : R → Option (List ℕ)) (contents : W → Option (List ℕ)) (old new : Environment F R W)
+    (path : List ℕ) (outcome : Result (Unit {0}) CommandFault) : Type 0 where
   pub well : OnOk outcome (EndsWell files disk old.files new.files path
       (contents old.writer.inner) (contents new.writer.inner))
+  pub ended : OnOk outcome (IsAtEnd (remaining new.reader.inner))
   pub badly : IfErr outcome (EndsBadly files disk old.files new.files path)
   pub calm : IfErr outcome (λ f. f ≡ StoreFailed
       → failures (streams_of new) ≡ failures (streams_of old))
@@ -64,13 +65,13 @@ pub record ShowsService {F R W : Type 0} (contents : W → Option (List ℕ))
 -- ---- a task
 
 -- it ended somehow, and this is what it then leaves, its status, and what the error stream is told
-abbrev pub Attends : {F D R W E : Type 0} → FileGhosts F D → DiskGhosts D → (W → Option (List ℕ))
+abbrev pub Attends : {F D R W E : Type 0} → FileGhosts F D → DiskGhosts D → (R → Option (List ℕ)) → (W → Option (List ℕ))
     → (E → Option (List ℕ)) → Environment F R W → Environment F R W → Stream E → Stream E → Task
     → ℕ → Type 0
-Attends files disk contents told old new e0 e (Serve path addresses) status =
+Attends files disk remaining contents told old new e0 e (Serve path addresses) status =
     (outcome : Result (Unit {0}) CommandFault)
-    × Serves files disk contents old new path.now outcome
+    × Serves files disk remaining contents old new path.now outcome
     × IsStatusOf (λ f. Some (fault_text f)) told e0 e outcome status
-Attends files disk contents told old new e0 e (Watch address) status =
+Attends files disk remaining contents told old new e0 e (Watch address) status =
     (outcome : Result (Unit {0}) WatchFault) × ShowsService contents old new outcome
     × IsStatusOf (λ f. Some (text_of f)) told e0 e outcome status

@@ -1,6 +1,6 @@
 -- How a service leaves its file, and what it says.
-use Rattle.std.specs.Prelude.{◌≡◌, ◌⊎◌, ◌+◌, ℕ, List, [], ◌∷◌, ◌++◌, length, codes, decimal}
-use Rattle.std.specs.Prelude.{Option, Some}
+use Rattle.std.specs.Prelude.{◌≡◌, ◌⊎◌, ◌<◌, ◌+◌, ℕ, List, [], ◌∷◌, ◌++◌, length, codes, decimal}
+use Rattle.std.specs.Prelude.{Option, Result, Some}
 use Rattle.std.specs.Io.KnownBytes.{Appends}
 use Rattle.std.specs.Net.Text.{socket_text}
 use Rattle.std.specs.declared.net.socket_addr.SocketAddr.{SocketAddr}
@@ -15,6 +15,11 @@ use Rattle.fp_commands.specs.Disks.{IsOnlyRead, IsShowingFault}
 use Rattle.fp_files.specs.Openings.{KeepsAll}
 use Rattle.fp_files.specs.declared.files.DiskFiles.{Ghosts as FileGhosts}
 use Rattle.fp_recovery.specs.Stands.{StandsFor}
+use Rattle.fp_group_commit.specs.Store.{StoreState}
+use Rattle.fp_committer.specs.Course.{GoesThrough, LacksRoom, RunsCommitter}
+use Rattle.fp_plane.specs.Flushing.{Flushes}
+use Rattle.fp_plane.specs.declared.flushing.Broken.{Broken}
+use Rattle.fp_committer.specs.StoreHalf.{StoreHalfState}
 
 -- ---- what it says
 
@@ -53,6 +58,36 @@ pub record Opens {F D : Type 0} (files : FileGhosts F D) (disk : DiskGhosts D) (
 abbrev pub IsBack : {F D : Type 0} → FileGhosts F D → DiskGhosts D → F → List ℕ → D → Type 0
 IsBack files disk new path after = disk.honest after → files.at new path ≡ Some after
 
+-- ---- the course of its disk
+
+-- why a store that is served failed: the device did, or there is no room for what was drawn
+abbrev pub HasBroken : {D : Type 0} → DiskGhosts D → (before after : D) → StoreHalfState D → Type 0
+HasBroken disk before after last =
+    (disk.faults before < disk.faults after) ⊎ LacksRoom disk last
+
+-- all that was drawn is settled, and so sealed
+pub record IsServedStore {D : Type 0} (disk : DiskGhosts D) (s t : StoreState D) : Type 0 where
+  pub run : GoesThrough disk s t
+  pub same : t.store ≡ s.store
+  pub settled : (run.last.half.all ≡ t.sealed) × (run.last.half.settled ≡ t.sealed)
+
+-- where a flusher ended, however it did, and the service by this fault: the store failed only where
+-- the flusher broke off
+pub record IsBrokenOff {D : Type 0} (disk : DiskGhosts D) (first last : StoreHalfState D)
+    (f : CommandFault) : Type 0 where
+  pub ended : Result (Unit {0}) Broken
+  pub flushed : Flushes disk first last ended
+  pub cause : f ≡ StoreFailed → HasBroken disk first.store.disk last.store.disk last
+
+-- the same of its store
+pub record IsBrokenStore {D : Type 0} (disk : DiskGhosts D) (s t : StoreState D) (f : CommandFault)
+    : Type 0 where
+  pub run : GoesThrough disk s t
+  pub same : t.store ≡ s.store
+  pub cause : f ≡ StoreFailed → HasBroken disk s.disk t.disk run.last
+
+-- ---- how it ends
+
 -- It ended well: whatever a crash leaves of the disk at the path stands for the flags that it held
 -- and some edits, and the revision that these make was told
 pub record EndsWell {F D : Type 0} (files : FileGhosts F D) (disk : DiskGhosts D) (old new : F)
@@ -62,6 +97,8 @@ pub record EndsWell {F D : Type 0} (files : FileGhosts F D) (disk : DiskGhosts D
   pub after : D
   pub opened : Opens files disk old path start
   pub back : IsBack files disk new path after
+  pub run : RunsCommitter disk opened.before after start
+  pub settled : run.run.last.half.settled ≡ edits
   pub keeps : EachCrash disk after (λ c. StandsFor c (after_all start edits))
   pub told : SaysAll (start.revision + length edits) before held
 
@@ -74,6 +111,7 @@ pub record BreaksOff {F D : Type 0} (files : FileGhosts F D) (disk : DiskGhosts 
   pub after : D
   pub opened : Opens files disk old path start
   pub back : IsBack files disk new path after
+  pub run : RunsCommitter disk opened.before after start
   pub keeps : EachCrash disk after (λ c. StandsFor c (after_all start edits)
       ⊎ StandsFor c (after_all start (edits ++ last)))
 
@@ -100,5 +138,6 @@ pub data EndsBadly {F D : Type 0} (files : FileGhosts F D) (disk : DiskGhosts D)
     (path : List ℕ) (f : CommandFault) : Type 0 where
   not_opened : f ≡ Device → KeepsAll files.at old new → EndsBadly files disk old new path f
   unserved : IsUnserved files disk old new path f → EndsBadly files disk old new path f
-  broken_off : IsServingFault f → BreaksOff files disk old new path
+  broken_off : IsServingFault f → (b : BreaksOff files disk old new path)
+      → (f ≡ StoreFailed → HasBroken disk b.opened.before b.after b.run.run.last)
       → EndsBadly files disk old new path f

@@ -37,7 +37,7 @@ where
     ensures attended { MatchOption result
         ((task : Task) → ¬ AsksFor (map string_bytes words.now) task)
         (λ status. (task : Task) × AsksFor (map string_bytes words.now) task
-        × Attends F.DiskFiles F.Disk.Disk O.contents E.contents
+        × Attends F.DiskFiles F.Disk.Disk I.remaining O.contents E.contents
         (record { files = files.old; reader = r.old; writer = w.old })
         (record { files = files.new; reader = r.new; writer = w.new }) e.old e.new task status) }
     ensures untouched { IfNone result ((files.new ≡ files.old) × (r.new ≡ r.old)

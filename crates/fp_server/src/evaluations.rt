@@ -9,7 +9,6 @@ ghost use Rattle.fp_ofrep.specs.Reply.{reply};
 ghost use Rattle.fp_publish.specs.Fronts.{Begins};
 ghost use Rattle.fp_ofrep.specs.Seen.{body_seen, response_seen};
 
-use fp_disk::Disk;
 use fp_http::{Evaluator as Answers, NoReply};
 use fp_ofrep::{Body, Reply};
 use fp_plane::{EvaluatorsUsed, Naming, Plane};
@@ -40,29 +39,29 @@ impl From<EvaluatorsUsed> for LoanFault {
 }
 
 /// An evaluator of a plane, which is given back where this is let go of.
-pub struct LentEvaluator<K: Naming, D: Disk + Drop, R: Wait + Copy + Drop> {
-    plane: Plane<K, D, R>,
+pub struct LentEvaluator<K: Naming, R: Wait + Copy + Drop> {
+    plane: Plane<K, R>,
     evaluator: Evaluator,
     ghost ours: { evaluator.known.store ≡ K.store } by { Prim.hlevel (codes, coded_state) },
 }
 
-impl<K: Naming, D: Disk + Drop, R: Wait + Copy + Drop> LentEvaluator<K, D, R> {
+impl<K: Naming, R: Wait + Copy + Drop> LentEvaluator<K, R> {
     /// One that nobody has.
-    pub fn of(plane: &Plane<K, D, R>) -> Result<LentEvaluator<K, D, R>, LoanFault> {
+    pub fn of(plane: &Plane<K, R>) -> Result<LentEvaluator<K, R>, LoanFault> {
         let plane = plane.try_copy()?;
         let evaluator = plane.evaluator()?;
         Ok(LentEvaluator { plane, evaluator })
     }
 }
 
-impl<K: Naming, D: Disk + Drop, R: Wait + Copy + Drop> Drop for LentEvaluator<K, D, R> {
+impl<K: Naming, R: Wait + Copy + Drop> Drop for LentEvaluator<K, R> {
     fn drop(self) {
         let Self { plane, evaluator } = self;
         plane.give_back(evaluator);
     }
 }
 
-impl<K: Naming, D: Disk + Drop, R: Wait + Copy + Drop> Answers for LentEvaluator<K, D, R> {
+impl<K: Naming, R: Wait + Copy + Drop> Answers for LentEvaluator<K, R> {
     // The reply over the flags of one front of the plane's store.
     ghost replies = { λ method target tags body now said. (front : FrontState)
         × (front.store ≡ K.store) × (said ≡ reply (front_set front) method target tags body now) };

@@ -7,7 +7,6 @@ use crate::ended::Ended;
 use crate::host::Host;
 use crate::probing::probe_peers;
 use crate::roles::{Role, converse};
-use fp_disk::Disk;
 use fp_http::TimeLimits;
 use fp_log::{Event, Port, tell, tell_failure};
 use fp_plane::{Naming, Plane};
@@ -48,10 +47,9 @@ impl<R: Host> Listening<R> {
     }
 
     /// Accepts connections in a thread of its own, and serves each in one more.
-    pub fn start<K, D>(&mut self, plane: &Plane<K, D, R>) -> io::Result<()>
+    pub fn start<K>(&mut self, plane: &Plane<K, R>) -> io::Result<()>
     where
         K: Naming + Send + Sync + 'static,
-        D: Disk + Drop + Send + 'static,
     {
         let Some(listener) = self.listener.take() else {
             return Ok(());
@@ -126,17 +124,16 @@ fn reached(bound: SocketAddr) -> SocketAddr {
 }
 
 // Lets connections in until they are closed.
-fn accept<K, D, R>(
+fn accept<K, R>(
     rt: &R,
     listener: &TcpListener,
     role: Role,
     limits: TimeLimits,
     connections: &Connections<R>,
-    plane: &Plane<K, D, R>,
+    plane: &Plane<K, R>,
 )
 where
     K: Naming + Send + Sync + 'static,
-    D: Disk + Drop + Send + 'static,
     R: Host,
 {
     for _ in rt.forever() {
@@ -159,15 +156,14 @@ where
 const PATIENCE: u64 = 250;
 
 // A place for a connection, which one that was left makes free.
-fn place_for<K, D, R>(
+fn place_for<K, R>(
     stream: &TcpStream,
     role: Role,
     connections: &Connections<R>,
-    plane: &Plane<K, D, R>,
+    plane: &Plane<K, R>,
 ) -> Option<Place<R>>
 where
     K: Naming,
-    D: Disk + Drop,
     R: Host,
 {
     if let Some(place) = connections.admit(stream) {
@@ -180,18 +176,17 @@ where
 }
 
 // Serves a connection in a thread of its own. Where there is no place for it, it is closed.
-fn begin<K, D, R>(
+fn begin<K, R>(
     rt: &R,
     stream: TcpStream,
     peer: SocketAddr,
     role: Role,
     limits: TimeLimits,
     connections: &Connections<R>,
-    plane: &Plane<K, D, R>,
+    plane: &Plane<K, R>,
 ) -> Result<(), AllocError>
 where
     K: Naming + Send + Sync + 'static,
-    D: Disk + Drop + Send + 'static,
     R: Host,
 {
     let port = role.port();

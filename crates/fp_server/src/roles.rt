@@ -5,7 +5,6 @@ use crate::evaluations::{LentEvaluator, LoanFault};
 use crate::host::Host;
 use crate::noted::Noted;
 use crate::serving::moment;
-use fp_disk::Disk;
 use fp_http::{Blocking, TimeLimits, serve_ofrep};
 use fp_log::Port;
 use fp_plane::{EditorEnd, Naming, Plane, SubscriberFault, editor_loop, subscriber_loop};
@@ -53,16 +52,15 @@ impl Role {
 }
 
 /// Serves a connection to its end, and tells why it ended. A fault of it ends it alone.
-pub fn converse<K, D, R>(
+pub fn converse<K, R>(
     rt: &R,
     role: Role,
     limits: TimeLimits,
-    plane: &Plane<K, D, R>,
+    plane: &Plane<K, R>,
     stream: TcpStream,
 ) -> Ended
 where
     K: Naming,
-    D: Disk + Drop,
     R: Host,
 {
     // A reply is small, and waits for nothing behind it.
@@ -75,10 +73,9 @@ where
     }
 }
 
-fn evaluate<K, D, R>(rt: &R, limits: TimeLimits, plane: &Plane<K, D, R>, stream: TcpStream) -> Ended
+fn evaluate<K, R>(rt: &R, limits: TimeLimits, plane: &Plane<K, R>, stream: TcpStream) -> Ended
 where
     K: Naming,
-    D: Disk + Drop,
     R: Host,
 {
     let evaluator = match LentEvaluator::of(plane) {
@@ -102,10 +99,9 @@ where
     }
 }
 
-fn edit<K, D, R>(rt: &R, plane: &Plane<K, D, R>, stream: &TcpStream) -> Ended
+fn edit<K, R>(rt: &R, plane: &Plane<K, R>, stream: &TcpStream) -> Ended
 where
     K: Naming,
-    D: Disk + Drop,
     R: Host,
 {
     // A reply goes in one packet.
@@ -124,10 +120,9 @@ where
     }
 }
 
-fn subscribe<K, D, R>(plane: &Plane<K, D, R>, stream: &TcpStream) -> Ended
+fn subscribe<K, R>(plane: &Plane<K, R>, stream: &TcpStream) -> Ended
 where
     K: Naming,
-    D: Disk + Drop,
     R: Host,
 {
     let mut r = FailureCounted::new(Noted::new(stream));

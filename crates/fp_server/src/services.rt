@@ -1,7 +1,7 @@
 //! The three services of a store: where they listen, and who is let in until the input ends.
 
 ghost use Rattle.std.specs.Prelude.{◌≡◌, ◌+◌, IfErr, OnOk};
-ghost use Rattle.std.specs.Io.KnownBytes.{Appends};
+ghost use Rattle.std.specs.Io.KnownBytes.{Appends, IsAtEnd};
 ghost use Rattle.fp_streams.specs.Failures.{CountsFailures};
 ghost use Rattle.fp_server.specs.Ends.{IsAttendingFault, SaysWhere, where_text};
 
@@ -9,7 +9,6 @@ use crate::host::Host;
 use crate::listening::Listening;
 use crate::roles::Role;
 use fp_commands::CommandFault;
-use fp_disk::Disk;
 use fp_http::TimeLimits;
 use fp_plane::{Naming, Plane};
 use fp_streams::{FailureCounted, StreamFault};
@@ -50,10 +49,9 @@ impl<R: Host> Services<R> {
         })
     }
 
-    fn start<K, D>(&mut self, plane: &Plane<K, D, R>) -> io::Result<()>
+    fn start<K>(&mut self, plane: &Plane<K, R>) -> io::Result<()>
     where
         K: Naming + Send + Sync + 'static,
-        D: Disk + Drop + Send + 'static,
     {
         self.ofrep.start(plane)?;
         self.edit.start(plane)?;
@@ -61,18 +59,18 @@ impl<R: Host> Services<R> {
     }
 
     /// Lets connections in, says where, and waits for the input's end.
-    pub fn attend<K, D, I, O>(
+    pub fn attend<K, I, O>(
         &mut self,
-        plane: &Plane<K, D, R>,
+        plane: &Plane<K, R>,
         r: &mut FailureCounted<I>,
         w: &mut FailureCounted<O>,
     ) -> Result<(), CommandFault>
     where
         K: Naming + Send + Sync + 'static,
-        D: Disk + Drop + Send + 'static,
         I: Read,
         O: Write,
         ensures said { OnOk result (SaysWhere (O.contents w.old.inner) (O.contents w.new.inner)) }
+        ensures ended { OnOk result (IsAtEnd (I.remaining r.new.inner)) }
         ensures fault { IfErr result IsAttendingFault }
         ensures calm { OnOk result (r.new.failures + w.new.failures
             ≡ r.old.failures + w.old.failures) }
@@ -127,15 +125,15 @@ impl<R: Host> Services<R> {
 
 // Reads an input to its end.
 fn await_end<I: Read>(r: &mut FailureCounted<I>) -> Result<(), StreamFault>
+    ensures ended { OnOk result (IsAtEnd (I.remaining r.new.inner)) }
     ensures counted { CountsFailures r.old.failures r.new.failures result }
 {
     let mut bytes = [0; 512];
-    for _ in 0..u64::MAX {
+    loop {
         if r.read(&mut bytes)? == 0 {
-            break;
+            return Ok(());
         }
     }
-    Ok(())
 }
 
 /// A fault of the system, as the program tells it.

@@ -1,26 +1,34 @@
 //! A store over sockets, from its opening to its end.
 
-ghost use Rattle.std.specs.Prelude.{◌≡◌, ◌+◌, ◌<◌, ◌^◌, IfOk, IfErr, OnOk, codes};
+ghost use Rattle.std.specs.Prelude.{◌≡◌, ◌+◌, ◌<◌, ◌^◌, IfOk, IfErr, Ok, OnOk, codes};
 ghost use Rattle.std.specs.FinMap as map;
+ghost use Rattle.std.specs.Io.KnownBytes.{IsAtEnd};
 ghost use Rattle.fp_commands.specs.declared.fault.CommandFault.TheVariants.{StoreFailed};
-ghost use Rattle.fp_group_commit.specs.Store.{IsAtRest};
+ghost use Rattle.fp_committer.specs.Course.{GoesThrough};
+ghost use Rattle.fp_group_commit.specs.Store.{IsAtRest, IsFresh};
+ghost use Rattle.fp_plane.specs.Flushing.{Flushes, IsResting};
+ghost use Rattle.fp_plane.specs.Hall.{IsDeskOf, IsNewDesk, IsStoreOf};
 ghost use Rattle.fp_log.specs.Events.{name_of, opening_text, text_of};
 ghost use Rattle.fp_server.specs.Attends.{Serves};
+ghost use Rattle.fp_server.specs.Ends.{IsBrokenOff, IsBrokenStore, IsServedStore};
 ghost use Rattle.fp_server.specs.Ends.{IsServingFault, SaysWhere};
 
 use crate::host::Host;
 use crate::services::{Addresses, Services, fault_of};
 use fp_commands::CommandFault;
+use fp_committer::{DeskHalf, StoreHalf};
 use fp_disk::Disk;
 use fp_files::DiskFiles;
 use fp_group_commit::{Opening, Store};
 use fp_http::TimeLimits;
 use fp_log::{Event, tell};
-use fp_plane::{Naming, OwnStore, Plane, flusher};
+use fp_plane::{Flushed, Naming, OwnHalf, Plane, flusher};
 use fp_streams::FailureCounted;
 use std::io::{Read, Write};
 use std::marker::Brand;
+use std::snapshot::Snapshot;
 use std::thread;
+use std::thread::{Promise, PromisedHandle};
 use std::time::{Clock, Instant, SystemTime, UNIX_EPOCH};
 
 // The last moment that a reply knows.
@@ -57,7 +65,7 @@ where
     F::Disk: Drop + Send + 'static,
     I: Read,
     O: Write,
-    ensures { Serves F.DiskFiles F.Disk.Disk O.contents
+    ensures { Serves F.DiskFiles F.Disk.Disk I.remaining O.contents
         (record { files = files.old; reader = r.old; writer = w.old })
         (record { files = files.new; reader = r.new; writer = w.new }) path.now result }
 {
@@ -70,6 +78,7 @@ where
             return Err(fault.into());
         }
     };
+    untouched(&store);
     tell(rt, &opened(path, &opening, milliseconds_since(rt, begun)));
     let services = match Services::bind(rt, addresses, limits) {
         Ok(services) => services,
@@ -116,7 +125,7 @@ fn milliseconds_since<R: Host>(rt: &R, begun: Option<Instant>) -> u64 {
 /// A store that isn't served any more, and why where that was by a fault.
 type Given<D> = Result<Store<D>, (CommandFault, Store<D>)>;
 
-// Names the store, and serves it.
+// Serves a store by a committer over it.
 fn serve_store<D, R, I, O>(
     rt: &R,
     store: Store<D>,
@@ -131,110 +140,146 @@ where
     I: Read,
     O: Write,
     requires ours { opening ≡ store.store }
-    requires rest { IsAtRest store }
-    ensures same { IfOk result (λ s. s.store ≡ store.store) }
-    ensures rest { IfOk result IsAtRest }
-    ensures given_back { IfErr result (λ e. e.1.store ≡ store.store) }
+    requires fresh { IsFresh store store.store.start }
+    ensures well { IfOk result (λ s. IsServedStore D.Disk store s × IsAtRest s) }
+    ensures broken { IfErr result (λ e. IsBrokenStore D.Disk store e.1 e.0) }
     ensures fault { IfErr result (λ e. IsServingFault e.0) }
     ensures said { OnOk result (SaysWhere (O.contents w.old.inner) (O.contents w.new.inner)) }
+    ensures ended { OnOk result (IsAtEnd (I.remaining r.new.inner)) }
     ensures calm { IfErr result (λ e. e.0 ≡ StoreFailed → r.new.failures + w.new.failures
         ≡ r.old.failures + w.old.failures) }
 {
-    serve_named::<Brand, D, R, I, O>(rt, store, opening, services, r, w)
+    untouched(&store);
+    let (desk, half) = match DeskHalf::pair(rt.alloc(), store, opening) {
+        Ok(halves) => halves,
+        Err((fault, store, _)) => return Err((fault.into(), store)),
+    };
+    half.rest();
+    match serve_named::<Brand, D, R, I, O>(rt, desk, half, services, r, w) {
+        Ok(half) => {
+            half.rest();
+            Ok(half.into_store())
+        }
+        Err((fault, half)) => Err((fault, half.into_store())),
+    }
 }
 
-// Serves a store over the plane of its name.
+// Shows that a store with which nothing was done is one that a committer may leave. Does nothing when
+// it runs.
+fn untouched<D: Disk>(store: &Store<D>)
+    requires { IsFresh store.now store.now.store.start }
+    ensures { GoesThrough D.Disk store.now store.now }
+{
+    // What a crash leaves is known only where it is asked.
+    let _ = store.phase();
+}
+
+// The same of a half.
+fn still<D: Disk>(half: &StoreHalf<D>)
+    requires { IsResting half.now }
+    ensures { Flushes D.Disk half.now half.now (Ok tt) }
+{
+    half.rest();
+}
+
+/// A store's half that isn't served any more, and why where that was by a fault.
+type GivenHalf<D> = Result<StoreHalf<D>, (CommandFault, StoreHalf<D>)>;
+
+// Serves a committer over the plane of its name.
 fn serve_named<K, D, R, I, O>(
     rt: &R,
-    store: Store<D>,
-    opening: Opening,
+    desk: DeskHalf,
+    half: StoreHalf<D>,
     services: Services<R>,
     r: &mut FailureCounted<I>,
     w: &mut FailureCounted<O>,
-) -> Given<D>
+) -> GivenHalf<D>
 where
     K: Naming + Send + Sync + 'static,
     D: Disk + Drop + Send + 'static,
     R: Host,
     I: Read,
     O: Write,
-    requires ours { store.store ≡ K.store }
-    requires opening { opening ≡ K.store }
-    requires rest { IsAtRest store }
-    ensures same { IfOk result (λ s. s.store ≡ K.store) }
-    ensures rest { IfOk result IsAtRest }
-    ensures given_back { IfErr result (λ e. e.1.store ≡ K.store) }
+    requires desk { IsDeskOf K.store K.desk_lists K.store_lists desk }
+    requires fresh { IsNewDesk desk.desk }
+    requires half { IsStoreOf K.store K.desk_lists K.store_lists half }
+    requires rest { IsResting half }
+    ensures well { IfOk result (λ h. Flushes D.Disk half h (Ok tt)) }
+    ensures broken { IfErr result (λ e. IsBrokenOff D.Disk half e.1 e.0) }
     ensures fault { IfErr result (λ e. IsServingFault e.0) }
     ensures said { OnOk result (SaysWhere (O.contents w.old.inner) (O.contents w.new.inner)) }
+    ensures ended { OnOk result (IsAtEnd (I.remaining r.new.inner)) }
     ensures calm { IfErr result (λ e. e.0 ≡ StoreFailed → r.new.failures + w.new.failures
         ≡ r.old.failures + w.old.failures) }
 {
-    let plane: Plane<K, D, R> = match Plane::new(*rt, rt.alloc(), opening) {
+    still(&half);
+    let plane: Plane<K, R> = match Plane::new(*rt, rt.alloc(), desk) {
         Ok(plane) => plane,
-        Err(fault) => return Err((fault.into(), store)),
+        Err(fault) => return Err((fault.into(), half)),
     };
-    let (Ok(flushed), Ok(last)) = (plane.try_copy(), plane.try_copy()) else {
-        return Err((CommandFault::Memory, store));
+    let Ok(flushed) = plane.try_copy() else {
+        return Err((CommandFault::Memory, half));
     };
-    let own = OwnStore::new(store);
+    let own = OwnHalf::new(half);
+    let promise = FlushesFrom(Snapshot::of(&own));
     let flush = move || {
         let own = own;
-        flusher(&flushed, own);
+        flusher(&flushed, own)
     };
-    match thread::spawn(rt, flush) {
-        Ok(_thread) => serve_plane(&plane, last, services, r, w),
+    match thread::spawn_with(rt, promise, flush) {
+        Ok(flusher) => serve_plane(rt, &plane, flusher, services, r, w),
         Err(refused) => {
-            // What the thread was to do is done here: with nothing to seal it leaves the store.
+            // What the thread was to do is done here: with nothing to seal it gives the half back.
             tell(rt, &Event::NotStarted { thread: "flusher" });
             plane.close();
             let flush = refused.value;
-            flush();
-            Err((CommandFault::Device, stopped(last)))
+            Err((CommandFault::Device, flush().half.into_half()))
         }
     }
 }
 
-// Serves a plane, whose flusher runs, until the input ends. `last` is a handle to stop it by.
+/// What a flusher that began with this half promises.
+#[derive(Drop)]
+struct FlushesFrom<D: Disk + Drop>(Snapshot<OwnHalf<D>>);
+
+impl<D: Disk + Drop> Promise<Flushed<D>> for FlushesFrom<D> {
+    ghost use Rattle.fp_plane.specs.Flushing.{Flushes};
+
+    ghost kept_by = { λ p r. Flushes D.Disk p.0.value r.half r.ended };
+}
+
+// Serves a plane, whose flusher runs, until the input ends.
 fn serve_plane<K, D, R, I, O>(
-    plane: &Plane<K, D, R>,
-    last: Plane<K, D, R>,
+    rt: &R,
+    plane: &Plane<K, R>,
+    flusher: PromisedHandle<Flushed<D>, FlushesFrom<D>>,
     services: Services<R>,
     r: &mut FailureCounted<I>,
     w: &mut FailureCounted<O>,
-) -> Given<D>
+) -> GivenHalf<D>
 where
     K: Naming + Send + Sync + 'static,
     D: Disk + Drop + Send + 'static,
     R: Host,
     I: Read,
     O: Write,
-    ensures same { IfOk result (λ s. s.store ≡ K.store) }
-    ensures rest { IfOk result IsAtRest }
-    ensures given_back { IfErr result (λ e. e.1.store ≡ K.store) }
+    ensures well { IfOk result (λ h. Flushes D.Disk flusher.promise.0.value h (Ok tt)) }
+    ensures broken { IfErr result (λ e. IsBrokenOff D.Disk flusher.promise.0.value e.1 e.0) }
     ensures fault { IfErr result (λ e. IsServingFault e.0) }
     ensures said { OnOk result (SaysWhere (O.contents w.old.inner) (O.contents w.new.inner)) }
+    ensures ended { OnOk result (IsAtEnd (I.remaining r.new.inner)) }
     ensures calm { IfErr result (λ e. e.0 ≡ StoreFailed → r.new.failures + w.new.failures
         ≡ r.old.failures + w.old.failures) }
 {
     let mut services = services;
     let attended = services.attend(plane, r, w);
     services.stop_reading();
-    let store = last.stop();
+    plane.close();
+    let Flushed { half, ended } = flusher.join(rt);
     services.end();
-    match (attended, store) {
-        (Ok(()), Ok(store)) => Ok(store),
-        (Ok(()), Err((_, store))) => Err((CommandFault::StoreFailed, store)),
-        (Err(fault), Ok(store)) => Err((fault, store)),
-        (Err(fault), Err((_, store))) => Err((fault, store)),
-    }
-}
-
-// The store of a plane, which is stopped.
-fn stopped<K: Naming, D: Disk + Drop, R: Host>(plane: Plane<K, D, R>) -> Store<D>
-    ensures { result.store ≡ K.store }
-{
-    match plane.stop() {
-        Ok(store) => store,
-        Err((_, store)) => store,
+    match (attended, ended) {
+        (Ok(()), Ok(())) => Ok(half.into_half()),
+        (Ok(()), Err(_)) => Err((CommandFault::StoreFailed, half.into_half())),
+        (Err(fault), _) => Err((fault, half.into_half())),
     }
 }

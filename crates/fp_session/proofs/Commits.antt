@@ -1,100 +1,59 @@
--- What a crash may leave while a batch is sealed.
-use Rattle.std.proofs.Common.{◌≡◌, ◌≢◌, ◌⊎◌, ◌<◌, ◌≤◌, ◌+◌, ◌^◌, ℕ, true, false, List, [], ◌∷◌, ◌++◌, length, refl, sym, ap, subst, ◌∙◌, inl, inr, arith, append_assoc, append-nil, length-append}
+-- The halves of a committer while what waits is kept.
+use Rattle.std.proofs.Common.{◌≡◌, ◌≢◌, ◌<◌, ◌≤◌, ◌+◌, ◌-◌, ℕ, true, false, List, [], ◌∷◌, ◌++◌, length, take, refl, sym, ap, subst}
+use Rattle.std.proofs.Common.{◌∙◌, inl, inr, arith, append_assoc, append-nil, length-append}
+use Rattle.std.specs.Prelude.{◌⊎◌, ◌↔◌, Bool, IsTrue, OnOk, Result}
 use Rattle.std.proofs.lemmas.List.{take_at}
 use Rattle.fp_disk.specs.Crashes.{AtAnyMoment, EachCrash, SameHonesty}
-use Rattle.fp_disk.specs.Moments.{leaves_map, leaves_still, leaves_then}
+use Rattle.fp_disk.specs.Moments.{leaves_still}
 use Rattle.fp_disk.specs.Outcomes.{IsOutcome}
 use Rattle.fp_disk.specs.declared.disk.Disk.{Ghosts}
 use Rattle.fp_edit.specs.Edits.{Change}
 use Rattle.fp_edit.specs.Flags.{State}
-use Rattle.fp_edit.specs.Log.{after_all}
+use Rattle.fp_edit.specs.Log.{after, after_all}
+use Rattle.fp_edit.proofs.Followed.{after-append}
+use Rattle.fp_group_commit.specs.Store.{StoreState, sealed_set}
+use Rattle.fp_group_commit.specs.Tokens.{Identity}
 use Rattle.fp_group_commit.specs.declared.phase.Phase.TheVariants.{Idle}
 use Rattle.fp_recovery.specs.Stands.{StandsFor}
-use Rattle.fp_group_commit.specs.Store.{StoreState, Leaves, sealed_set}
-use Rattle.fp_slots.specs.State.{HasBegun, IsEarly}
-use Rattle.fp_slots.specs.declared.slots.Step.{Step}
-use Rattle.fp_slots.specs.declared.slots.Step.TheVariants.{Begin}
-use Rattle.fp_group_commit.specs.Tokens.{Identity}
-use Rattle.fp_desk.specs.Desk.{DeskState, log}
-use Rattle.fp_disk.specs.History.{MakesSome}
-use Rattle.fp_disk.specs.declared.history.CallKind.{CallKind}
-use Rattle.std.specs.Prelude.{Result, IfErr, OnErr, OnOk}
-use Rattle.fp_session.specs.Session.{BreaksOff, Commits, IsAhead, IsInStep, IsSealed, KeepsAll, KeepsOrGains, LacksRoomFor, Proceeds, StandsAhead, Works, batch_calls}
-use Rattle.fp_session.specs.Session.{whole_batch}
-use Rattle.fp_session.specs.SessionLaws.{works_on}
-use Rattle.std.specs.Prelude.{◌↔◌, Bool, IsTrue, nat_le}
-use borrow.Author.Tests.{leb-true, leb-false}
-use Rattle.fp_edit.proofs.Followed.{after-append}
-use Rattle.fp_edit.proofs.Runs.{revision-after_all}
-use Rattle.fp_record.specs.Group.{Group}
-use Rattle.fp_recovery.specs.Room.{IsFullFor}
-use Rattle.fp_record.specs.Encoding.{batch_len}
-use Rattle.fp_group_commit.specs.Changes.{HasNoRoom, HasRoom}
-use Rattle.fp_group_commit.specs.Tokens.{ReceiptState}
-use Rattle.fp_desk.specs.Desk.{IsDrawn, IsNewDraw}
+use Rattle.fp_desk.specs.Desk.{DeskState, log, settled_revision}
+use Rattle.fp_committer.specs.Committer.{Agree, AreHalves, DeskHalfState, HaveDrawn, HaveSettled}
+use Rattle.fp_committer.specs.CourseLaws.{course_still, course_then}
+use Rattle.fp_committer.specs.Course.{CallsOn, Course, FailsBy, GoesWell, HasCause, LacksRoom}
+use Rattle.fp_committer.specs.Halves.{ArePair, HalfState}
+use Rattle.fp_committer.specs.Kept.{IsAfterFirst}
+use Rattle.fp_committer.specs.StoreHalf.{KeptBy, StoreHalfState}
+use Rattle.fp_committer.specs.Works.{BreaksOff}
+use Rattle.fp_committer.specs.WorksLaws.{works_break}
+use Rattle.fp_committer.specs.declared.fault.CommitFault.{CommitFault}
+use Rattle.fp_committer.specs.declared.fault.CommitFault.TheVariants.{StoreFailed}
+use Rattle.fp_committer.proofs.Courses.{course_calls, course_lists, drawn_lists, settled_lists}
+use Rattle.fp_committer.proofs.Keeps.{told_kept}
+use Rattle.fp_committer.proofs.Moments.{honest_on, next_moment, weaker}
+use Rattle.fp_session.specs.Session.{AreAtRest, AreOne, IsInStep, LacksRoomFor, StandsAhead, StaysAhead}
 
-module _ {D : Type 0} (disk : Ghosts D) where
-  -- what has P has Q
-  pub weaker : (a b : D) (P Q : List ℕ → Type 0) → ((c : List ℕ) → P c → Q c) → AtAnyMoment disk a b P → AtAnyMoment disk a b Q
-  weaker a b P Q f l = λ h. leaves_map disk.moment disk.crash_states_since a b P Q f (l h)
-
-  -- one stretch of time and the next
-  pub next_moment : (a b c : D) (P : List ℕ → Type 0) → SameHonesty disk a b → AtAnyMoment disk a b P → AtAnyMoment disk b c P → AtAnyMoment disk a c P
-  next_moment a b c P same first second = λ h. leaves_then disk.moment disk.crash_states_since a b c P (first h) (second (same.0 h))
-
-  pub honest_on : (a b c : D) → SameHonesty disk a b → SameHonesty disk b c → SameHonesty disk a c
-  honest_on a b c h k = (λ x. k.0 (h.0 x), λ x. h.1 (k.1 x))
-
-pub idle_keeps : {D : Type 0} (s : StoreState D) → s.phase ≡ Idle → (c : List ℕ) → Leaves s c → StandsFor c (sealed_set s)
-idle_keeps s idle c (inl stands) = stands
-idle_keeps s idle c (inr both) = absurd (both.0 idle)
-
--- a store that keeps the same on the way to the same batch
-pub gains_as : {D : Type 0} (a b : StoreState D) (x y : List Change) → b.store ≡ a.store → b.sealed ≡ a.sealed → y ≡ x → (c : List ℕ) → KeepsOrGains b y c → KeepsOrGains a x c
-gains_as a b x y store sealed same c (inl stands) =
-    inl (subst (λ (u : State). StandsFor c u) (ap (λ (i : Identity). after_all i.start b.sealed) store ∙ ap (λ (l : List Change). after_all a.store.start l) sealed) stands)
-gains_as a b x y store sealed same c (inr stands) =
-    inr (subst (λ (u : State). StandsFor c u)
-    (ap (λ (i : Identity). after_all i.start (b.sealed ++ y)) store ∙ ap (λ (l : List Change). after_all a.store.start (l ++ y)) sealed ∙ ap (λ (l : List Change). after_all a.store.start (a.sealed ++ l)) same) stands)
-
--- a store on the way to this batch leaves what was kept, or that and the batch
-pub leaves_either : {D : Type 0} (old s : StoreState D) (batch : List Change) → s.store ≡ old.store → s.sealed ≡ old.sealed → (s.phase ≡ Idle) ⊎ (s.staged ≡ batch) → (c : List ℕ) → Leaves s c → KeepsOrGains old batch c
-leaves_either old s batch store sealed going c (inl stands) = gains_as old s batch batch store sealed refl c (inl stands)
-leaves_either old s batch store sealed (inl idle) c (inr both) = absurd (both.0 idle)
-leaves_either old s batch store sealed (inr staged) c (inr both) = gains_as old s batch s.staged store sealed staged c (inr both.2)
-
--- one call more
-pub call_more : {D : Type 0} (disk : Ghosts D) (old s : StoreState D) (batch : List Change) (first a b : D) → s.store ≡ old.store → s.sealed ≡ old.sealed → (s.phase ≡ Idle) ⊎ (s.staged ≡ batch)
-    → SameHonesty disk first a → AtAnyMoment disk first a (KeepsOrGains old batch) → AtAnyMoment disk a b (Leaves s) → AtAnyMoment disk first b (KeepsOrGains old batch)
-call_more disk old s batch first a b store sealed going same before call =
-    next_moment disk first a b (KeepsOrGains old batch) same before (weaker disk a b (Leaves s) (KeepsOrGains old batch) (leaves_either old s batch store sealed going) call)
-
--- the batch is written
-pub staged_moment : {D : Type 0} (disk : Ghosts D) (a s : StoreState D) (batch : List Change) → a.phase ≡ Idle → AtAnyMoment disk a.disk s.disk (Leaves a) → AtAnyMoment disk a.disk s.disk (KeepsOrGains a batch)
-staged_moment disk a s batch idle moment = weaker disk a.disk s.disk (Leaves a) (KeepsOrGains a batch) (leaves_either a a batch refl refl (inl idle)) moment
-
--- and sealed, or broken off
-pub sealed_moment : {D : Type 0} (disk : Ghosts D) (a s t : StoreState D) (batch : List Change) → a.phase ≡ Idle → (s.store ≡ a.store) × (s.sealed ≡ a.sealed) → s.staged ≡ batch → SameHonesty disk a.disk s.disk
-    → AtAnyMoment disk a.disk s.disk (Leaves a) → AtAnyMoment disk s.disk t.disk (KeepsOrGains s s.staged) → AtAnyMoment disk a.disk t.disk (KeepsOrGains a batch)
-sealed_moment disk a s t batch idle same staged honest first second =
-    next_moment disk a.disk s.disk t.disk (KeepsOrGains a batch) honest (staged_moment disk a s batch idle first)
-    (weaker disk s.disk t.disk (KeepsOrGains s s.staged) (KeepsOrGains a batch) (gains_as a s batch s.staged same.0 same.1 staged) second)
-
--- ---- and of its desk
-ahead_at : (d : DeskState) (xs rest : List Change) → log d ≡ xs ++ rest → length d.settled ≤ length xs → IsAhead d (after_all d.store.start xs)
-ahead_at d xs rest is le = (length xs, le, grind (arith, length-append), grind (arith, take_at))
-
-front_ahead : (d : DeskState) (xs rest : List Change) (c : List ℕ) → log d ≡ xs ++ rest → length d.settled ≤ length xs → StandsFor c (after_all d.store.start xs) → StandsAhead d c
-front_ahead d xs rest c is le stands = (after_all d.store.start xs, ahead_at d xs rest is le, stands)
+-- ---- a desk
+-- a front of the log is ahead of what is settled
+front_ahead : (d : DeskState) (xs rest : List Change) → log d ≡ xs ++ rest → length d.settled ≤ length xs
+    → IsAfterFirst d (settled_revision d) (after_all d.store.start xs)
+front_ahead d xs rest is le =
+    let r = d.store.start.revision in
+    let count : length xs ≡ (r + length xs) - r = omega arith in
+    let cut : take ((r + length xs) - r) (log d) ≡ xs =
+    ap (λ (l : List Change). take ((r + length xs) - r) l) is ∙ take_at xs rest ((r + length xs) - r) count in
+    let len = ap length is in let more = length-append xs rest in
+    (r + length xs, omega (arith, le), omega (arith, len, more), ap (λ (l : List Change). after_all d.store.start l) (sym cut))
 
 -- what is ahead of a desk was ahead of it when less was settled
-pub ahead_on : (d e : DeskState) → e.store ≡ d.store → log e ≡ log d → length d.settled ≤ length e.settled → (u : State) → IsAhead e u → IsAhead d u
+pub ahead_on : (d e : DeskState) → e.store ≡ d.store → log e ≡ log d → length d.settled ≤ length e.settled → (u : State)
+    → IsAfterFirst e (settled_revision e) u → IsAfterFirst d (settled_revision d) u
 ahead_on d e store all more u a = grind arith
 
-pub stands_on : (d e : DeskState) → e.store ≡ d.store → log e ≡ log d → length d.settled ≤ length e.settled → (c : List ℕ) → StandsAhead e c → StandsAhead d c
+stands_on : (d e : DeskState) → e.store ≡ d.store → log e ≡ log d → length d.settled ≤ length e.settled → (c : List ℕ)
+    → StandsAhead e c → StandsAhead d c
 stands_on d e store all more c s = (s.0, ahead_on d e store all more s.0 s.1, s.2)
 
-pub lacks_on : {D : Type 0} (disk : Ghosts D) (now : D) (d e : DeskState) → e.store ≡ d.store → log e ≡ log d → length d.settled ≤ length e.settled → LacksRoomFor disk e now → LacksRoomFor disk d now
+pub lacks_on : {D : Type 0} (disk : Ghosts D) (now : D) (d e : DeskState) → e.store ≡ d.store → log e ≡ log d
+    → length d.settled ≤ length e.settled → LacksRoomFor disk e now → LacksRoomFor disk d now
 lacks_on disk now d e store all more l = record {
   flags = l.flags;
   batch = l.batch;
@@ -106,161 +65,185 @@ lacks_on disk now d e store all more l = record {
   full = l.full;
 }
 
-module _ {D : Type 0} (s : StoreState D) (d : DeskState) (same : d.store ≡ s.store) (settled : s.sealed ≡ d.settled) (none_drawn : d.drawn ≡ []) where
-  pub log_parts : (batch rest : List Change) → d.waiting ≡ batch ++ rest → log d ≡ (d.settled ++ batch) ++ rest
-  log_parts batch rest parts =
-      ap (λ (l : List Change). d.settled ++ (l ++ d.waiting)) none_drawn ∙ ap (λ (l : List Change). d.settled ++ l) parts ∙ sym (append_assoc d.settled batch rest)
+-- ---- both halves
+-- what the store's half keeps is ahead of the desk
+pub kept_ahead : {D : Type 0} (a : DeskHalfState) (b : StoreHalfState D) → AreOne a b → (c : List ℕ) → KeptBy b c → StandsAhead a.desk c
+kept_ahead a b one c k =
+    let kept = told_kept a.desk b (settled_revision a.desk) one.halves.same one.agree.0 one.agree.1 one.whole (omega arith) c k in
+    (after a.desk.store.start (log a.desk) kept.0, (kept.0, kept.1, kept.2, refl), kept.3)
 
-  -- a first part of what waits is ahead of what is settled
-  pub stands_ahead : (batch rest : List Change) → d.waiting ≡ batch ++ rest → (c : List ℕ) → KeepsOrGains s batch c → StandsAhead d c
-  stands_ahead batch rest parts c (inl stands) =
-      front_ahead d d.settled (batch ++ rest) c (log_parts batch rest parts ∙ append_assoc d.settled batch rest) (omega arith)
-      (subst (λ (u : State). StandsFor c u) (ap (λ (x : Identity). after_all x.start s.sealed) (sym same) ∙ ap (λ (l : List Change). after_all d.store.start l) settled) stands)
-  stands_ahead batch rest parts c (inr stands) =
-      let all = length-append d.settled batch in
-      front_ahead d (d.settled ++ batch) rest c (log_parts batch rest parts) (omega (arith, all))
-      (subst (λ (u : State). StandsFor c u) (ap (λ (x : Identity). after_all x.start (s.sealed ++ batch)) (sym same) ∙ ap (λ (l : List Change). after_all d.store.start (l ++ batch)) settled) stands)
+module _ {D : Type 0} (a : DeskHalfState) (b : StoreHalfState D) (one : AreOne a b) where
+  -- where nothing is drawn it is what is sealed
+  only_sealed : b.drawn ≡ [] → b.store.sealed ≡ b.half.settled → (c : List ℕ) → KeptBy b c → StandsFor c (sealed_set b.store)
+  only_sealed none sealed c k =
+      let r = b.store.store.start.revision in let low = k.1 in let high = k.2 in
+      let whole : b.half.all ≡ b.half.settled ++ [] = one.whole ∙ ap (λ (l : List Change). b.half.settled ++ l) none in
+      let len = ap length whole in let same = ap length (append-nil b.half.settled) in
+      let count : length b.half.settled ≡ k.0 - r = omega (arith, low, high, len, same) in
+      let cut : take (k.0 - r) b.half.all ≡ b.store.sealed =
+      ap (λ (l : List Change). take (k.0 - r) l) whole ∙ take_at b.half.settled [] (k.0 - r) count ∙ sym sealed in
+      subst (λ (l : List Change). StandsFor c (after_all b.store.store.start l)) cut k.3
 
-module _ {D : Type 0} (disk : Ghosts D) (s : StoreState D) (d : DeskState) (i : IsInStep disk s d) where
-  -- nothing is done
-  pub still_ahead : ((x : D) (c : List ℕ) → disk.honest x → disk.crash_states_since x (disk.moment x) c → IsOutcome (disk.unsynced x) c) → AtAnyMoment disk s.disk s.disk (StandsAhead d)
-  still_ahead only_now = λ h. leaves_still disk.moment disk.crash_states_since s.disk (StandsAhead d)
-      (λ c left. stands_ahead s d i.same i.settled i.none_drawn [] d.waiting refl c (inl (i.keeps h c (only_now s.disk c h left))))
+  pub in_step : (disk : Ghosts D) → AreAtRest a b → (b.store.phase ≡ Idle) × (b.drawn ≡ []) × (b.store.sealed ≡ b.half.settled)
+      → EachCrash disk b.store.disk (KeptBy b) → IsInStep disk b.store a.desk
+  in_step disk rest idle exit = record {
+    same = sym one.halves.same;
+    rest = (idle.0, rest.1);
+    settled = idle.2 ∙ one.agree.0;
+    none_drawn = sym one.agree.1 ∙ idle.1;
+    accepts = rest.2;
+    keeps = λ h c o. only_sealed idle.1 idle.2 c (exit h c o);
+  }
 
-  -- a batch that is sealed
-  pub sealed_ahead : (new : D) (batch rest : List Change) → d.waiting ≡ batch ++ rest → AtAnyMoment disk s.disk new (KeepsOrGains s batch) → AtAnyMoment disk s.disk new (StandsAhead d)
-  sealed_ahead new batch rest parts l = weaker disk s.disk new (KeepsOrGains s batch) (StandsAhead d) (stands_ahead s d i.same i.settled i.none_drawn batch rest parts) l
-
-  -- a first part of what waits that has no room
-  pub lacks_part : (group : Group) (rest : List Change) → d.waiting ≡ group.changes ++ rest → 0 < length group.changes → (generation : ℕ) → 2 ^ 64 ≤ generation + 1 → EachCrash disk s.disk (λ c. IsFullFor c (sealed_set s) group generation) → LacksRoomFor disk d s.disk
-  lacks_part group rest parts some generation last full =
-      let batch : List Change = group.changes in
-      let same_kept : sealed_set s ≡ after_all d.store.start d.settled = ap (λ (x : Identity). after_all x.start s.sealed) (sym i.same) ∙ ap (λ (l : List Change). after_all d.store.start l) i.settled in
-      let whole = log_parts s d i.same i.settled i.none_drawn batch rest parts in
-      let more = length-append d.settled batch in
+  -- no room for what is drawn is none for edits on their way
+  pub lacks_drawn : (disk : Ghosts D) → 0 < length a.desk.drawn → LacksRoom disk b → LacksRoomFor disk a.desk b.store.disk
+  lacks_drawn disk some l =
+      let d = a.desk in let start = d.store.start in
+      let set : after_all b.store.store.start b.half.settled ≡ after_all start d.settled =
+      ap (λ (x : Identity). after_all x.start b.half.settled) one.halves.same ∙ ap (λ (x : List Change). after_all start x) one.agree.0 in
+      let len = ap length one.agree.1 in let more = length-append d.settled d.drawn in
+      let then : after_all start (d.settled ++ d.drawn) ≡ after_all (after_all b.store.store.start b.half.settled) b.drawn =
+      after-append start d.settled d.drawn ∙ ap (λ (x : List Change). after_all (after_all start d.settled) x) (sym one.agree.1)
+      ∙ ap (λ (u : State). after_all u b.drawn) (sym set) in
       record {
-        flags = sealed_set s;
-        batch = batch;
-        from = subst (λ (u : State). IsAhead d u) (sym same_kept) (ahead_at d d.settled (batch ++ rest) (whole ∙ append_assoc d.settled batch rest) (omega arith));
-        to = subst (λ (u : State). IsAhead d u) (after-append d.store.start d.settled batch ∙ ap (λ (u : State). after_all u batch) (sym same_kept)) (ahead_at d (d.settled ++ batch) rest whole (omega (arith, more)));
-        some = some;
-        generation = generation;
-        last = last;
-        full = λ h c o. let f = full h c o in record { stands = f.stands; full = f.full; generation_is = f.generation_is };
+        flags = after_all b.store.store.start b.half.settled;
+        batch = b.drawn;
+        from = subst (λ (u : State). IsAfterFirst d (settled_revision d) u) (sym set)
+            (front_ahead d d.settled (d.drawn ++ d.waiting) refl (omega arith));
+        to = subst (λ (u : State). IsAfterFirst d (settled_revision d) u) then
+            (front_ahead d (d.settled ++ d.drawn) d.waiting (sym (append_assoc d.settled d.drawn d.waiting)) (omega (arith, more)));
+        some = omega (arith, some, len);
+        generation = b.store.compaction.generation;
+        last = l.last;
+        full = λ h c o. let f = l.full h c o in record { stands = f.stands; full = f.full; generation_is = f.generation_is };
       }
 
-  -- what is kept is ahead of nothing
-  pub now_ahead : EachCrash disk s.disk (StandsAhead d)
-  now_ahead = λ h c o. stands_ahead s d i.same i.settled i.none_drawn [] d.waiting refl c (inl (i.keeps h c o))
+  module _ (disk : Ghosts D) where
+    -- the store's half calls the disk
+    module _ (n : StoreHalfState D) (k : CallsOn disk b n) where
+      pub one_on : AreOne a n
+      one_on = record {
+        halves = record {
+          pair = subst (λ (x : HalfState). ArePair a.half x) (sym k.same.0) one.halves.pair;
+          same = k.same.2 ∙ one.halves.same;
+        };
+        agree = (ap (λ (x : HalfState). x.settled) k.same.0 ∙ one.agree.0, k.same.1 ∙ one.agree.1);
+        whole = ap (λ (x : HalfState). x.all) k.same.0 ∙ one.whole ∙ ap (λ (x : HalfState). x.settled ++ b.drawn) (sym k.same.0)
+            ∙ ap (λ (l : List Change). n.half.settled ++ l) (sym k.same.1);
+      }
 
-  -- the receipt for it is for what is drawn
-  pub receipt_drawn : (group : Group) (new : DeskState) (r : ReceiptState) → IsNewDraw d new group → r.batch.changes ≡ group.changes → r.batch.first ≡ (sealed_set s).revision + 1 → IsDrawn new r
-  receipt_drawn group new r draw changes first =
-      let some = draw.longest.some in
-      let drawn : new.drawn ≡ group.changes = ap (λ (x : DeskState). x.drawn) draw.new_is in
-      let settled = ap (λ (x : DeskState). x.settled) draw.new_is in
-      let store = ap (λ (x : DeskState). x.store.start.revision) draw.new_is in
-      let same = ap (λ (x : Identity). x.start.revision) i.same in
-      let len = ap length settled in let sealed = ap length i.settled in
-      let all = revision-after_all s.store.start s.sealed in
-      (λ none. let empty = ap length (sym drawn ∙ none) in omega (arith, some, empty), omega (arith, first, all, store, same, len, sealed), changes ∙ sym drawn)
+      pub calls_stay : StaysAhead disk a b a n
+      calls_stay = record {
+        one = one_on;
+        log = (refl, refl);
+        settled = omega arith;
+        course = course_calls disk b n k;
+        any_moment = weaker disk b.store.disk n.store.disk (KeptBy n) (StandsAhead a.desk) (kept_ahead a n one_on) k.any_moment;
+        honest = k.honest;
+      }
 
--- at the store as a compaction left it
-pub in_step_on : {D : Type 0} (disk : Ghosts D) (s m : StoreState D) (d : DeskState) → IsInStep disk s d → Proceeds disk s m → IsInStep disk m d
-in_step_on disk s m d i p = record {
-  same = i.same ∙ sym p.keeps.store;
-  rest = (p.keeps.phase ∙ i.rest.0, p.well);
-  settled = p.keeps.sealed ∙ i.settled;
-  none_drawn = i.none_drawn;
-  accepts = i.accepts;
-  keeps = p.keeps.now;
-}
+    module _ (only_now : (x : D) (c : List ℕ) → disk.honest x → disk.crash_states_since x (disk.moment x) c → IsOutcome (disk.unsynced x) c)
+        (exit : EachCrash disk b.store.disk (KeptBy b)) where
+      -- nothing is done
+      pub still : AtAnyMoment disk b.store.disk b.store.disk (StandsAhead a.desk)
+      still = λ h. leaves_still disk.moment disk.crash_states_since b.store.disk (StandsAhead a.desk)
+          (λ c left. kept_ahead a b one c (exit h c (only_now b.store.disk c h left)))
 
--- while steps are taken the desk's edits are ahead
-pub kept_ahead : {D : Type 0} (disk : Ghosts D) (s m : StoreState D) (d : DeskState) → IsInStep disk s d → KeepsAll disk s m → AtAnyMoment disk s.disk m.disk (StandsAhead d)
-kept_ahead disk s m d i k = weaker disk s.disk m.disk (λ c. StandsFor c (sealed_set s)) (StandsAhead d) (λ c stands. stands_ahead s d i.same i.settled i.none_drawn [] d.waiting refl c (inl stands)) k.any_moment
+      -- the disk is let alone, and the desk goes on with the same edits
+      pub desk_stays : (x : DeskHalfState) (y : StoreHalfState D) → AreOne x y → y.store ≡ b.store → x.desk.store ≡ a.desk.store
+          → log x.desk ≡ log a.desk → length a.desk.settled ≤ length x.desk.settled → Course disk b y → StaysAhead disk a b x y
+      desk_stays x y both store same all more course = record {
+        one = both;
+        log = (same, all);
+        settled = more;
+        course = course;
+        any_moment = subst (λ (s : StoreState D). AtAnyMoment disk b.store.disk s.disk (StandsAhead a.desk)) (sym store) still;
+        honest = subst (λ (s : StoreState D). SameHonesty disk b.store.disk s.disk) (sym store) (λ h. h, λ h. h);
+      }
 
--- ---- a batch that was drawn, and sealed behind steps of a compaction
-module _ {D : Type 0} (disk : Ghosts D) (s m t : StoreState D) (d mid : DeskState) (i : IsInStep disk s d) (p : Proceeds disk s m) (group : Group) (draw : IsNewDraw d mid group) where
-  -- at each moment of it
-  pub drawn_ahead : AtAnyMoment disk m.disk t.disk (KeepsOrGains m group.changes) → AtAnyMoment disk s.disk t.disk (StandsAhead d)
-  drawn_ahead moment = next_moment disk s.disk m.disk t.disk (StandsAhead d) p.keeps.honest (kept_ahead disk s m d i p.keeps)
-      (sealed_ahead disk m d (in_step_on disk s m d i p) t.disk group.changes mid.waiting draw.longest.parts moment)
+      pub stays_itself : StaysAhead disk a b a b
+      stays_itself = desk_stays a b one refl refl refl (omega arith) (course_still disk b)
 
-  -- it is on its way still
-  pub same_log_drawn : (e : DeskState) → e ≡ mid → (e.store ≡ d.store) × (log e ≡ log d)
-  same_log_drawn e is = let none = draw.none_out in let parts = draw.longest.parts in let new = draw.new_is in grind (arith, none, parts, new, is, append_assoc)
+-- one after another
+pub stays_then : {D : Type 0} (disk : Ghosts D) (a : DeskHalfState) (b : StoreHalfState D) (x : DeskHalfState) (y : StoreHalfState D)
+    (z : DeskHalfState) (w : StoreHalfState D) → StaysAhead disk a b x y → StaysAhead disk x y z w → StaysAhead disk a b z w
+stays_then disk a b x y z w h k =
+    let first = h.settled in let second = k.settled in record {
+      one = k.one;
+      log = (k.log.0 ∙ h.log.0, k.log.1 ∙ h.log.1);
+      settled = omega (arith, first, second);
+      course = course_then disk b y w h.course k.course;
+      any_moment = next_moment disk b.store.disk y.store.disk w.store.disk (StandsAhead a.desk) h.honest h.any_moment
+          (weaker disk y.store.disk w.store.disk (StandsAhead x.desk) (StandsAhead a.desk)
+          (stands_on a.desk x.desk h.log.0 h.log.1 h.settled) k.any_moment);
+      honest = honest_on disk b.store.disk y.store.disk w.store.disk h.honest k.honest;
+    }
 
-  settled_is : (e : DeskState) → e ≡ record mid { settled = mid.settled ++ mid.drawn; drawn = []; last = mid.drawn } → e ≡ record d { settled = d.settled ++ group.changes; waiting = mid.waiting; last = group.changes }
-  settled_is e is = let none = draw.none_out in let new = draw.new_is in grind (arith, none, new, is)
+-- ---- a batch
+-- it is drawn
+module _ {D : Type 0} (disk : Ghosts D)
+    (only_now : (x : D) (c : List ℕ) → disk.honest x → disk.crash_states_since x (disk.moment x) c → IsOutcome (disk.unsynced x) c)
+    (a : DeskHalfState) (b : StoreHalfState D) (one : AreOne a b) (exit : EachCrash disk b.store.disk (KeptBy b))
+    (x : DeskHalfState) (y : StoreHalfState D) {count : ℕ} (h : HaveDrawn a x b y count) (both : AreHalves x y × Agree x y) where
+  drawn_one : AreOne x y
+  drawn_one =
+      let none = h.drawn.none_out in let is = h.other in let whole = one.whole in let drawn = one.agree.1 in
+      record { halves = both.0; agree = both.1; whole = grind (arith, none, is, whole, drawn, append-nil) }
 
-  -- or settled
-  pub same_log : (e : DeskState) → e ≡ record mid { settled = mid.settled ++ mid.drawn; drawn = []; last = mid.drawn } → (e.store ≡ d.store) × (log e ≡ log d)
-  same_log e is = let none = draw.none_out in let parts = draw.longest.parts in let new = draw.new_is in grind (arith, none, parts, new, is, append_assoc)
+  drawn_log : (x.desk.store ≡ a.desk.store) × (log x.desk ≡ log a.desk) × (length a.desk.settled ≤ length x.desk.settled)
+  drawn_log =
+      let none = h.drawn.none_out in let parts = h.drawn.longest.parts in let new = h.drawn.new_is in
+      grind (arith, none, parts, new, append_assoc)
 
-  module _ (sealed : IsSealed disk.faults group.changes m t) (store : t.store ≡ m.store) (calls : disk.calls t.disk ≡ disk.calls m.disk ++ batch_calls) where
-    pub works_sealed : Works disk s t
-    works_sealed = works_on disk s m t p.works (record { works = whole_batch ∷ []; lead = (sealed.early, sealed.course); calls = calls })
+  drawn_some : 0 < length x.desk.drawn
+  drawn_some =
+      let some = h.drawn.longest.some in let is = ap (λ (d : DeskState). length d.drawn) h.drawn.new_is in omega (arith, some, is)
 
-    pub committed : EachCrash disk t.disk (λ c. StandsFor c (sealed_set t)) → (e : DeskState) → e ≡ record mid { settled = mid.settled ++ mid.drawn; drawn = []; last = mid.drawn } → Commits disk s t d e
-    committed keeps e is =
-        let now = settled_is e is in record {
-          batch = group.changes;
-          rest = mid.waiting;
-          parts = draw.longest.parts;
-          some = draw.longest.some;
-          desk = now;
-          in_step = record {
-            same = ap (λ (x : DeskState). x.store) now ∙ i.same ∙ sym p.keeps.store ∙ sym store;
-            rest = sealed.rest;
-            settled = sealed.sealed ∙ ap (λ (l : List Change). l ++ group.changes) (p.keeps.sealed ∙ i.settled) ∙ sym (ap (λ (x : DeskState). x.settled) now);
-            none_drawn = ap (λ (x : DeskState). x.drawn) now ∙ i.none_drawn;
-            accepts = ap (λ (x : DeskState). x.stopped) now ∙ i.accepts;
-            keeps = keeps;
-          };
-          works = works_sealed;
-          no_failure = sealed.no_failure ∙ p.no_failure;
-        }
+  store_stays : y.store ≡ b.store
+  store_stays = ap (λ (s : StoreHalfState D). s.store) h.other
 
--- where a batch that was drawn broke off
-pub broken_batch : {D : Type 0} (disk : Ghosts D) (m t : StoreState D) → IsEarly m.compaction.next → MakesSome batch_calls (disk.calls m.disk) (disk.calls t.disk) → BreaksOff disk m t
-broken_batch disk m t early calls = record {
-  works = [];
-  next = m.compaction.next;
-  last = whole_batch;
-  lead = refl;
-  may = early;
-  calls = subst (λ (l : List CallKind). MakesSome batch_calls l (disk.calls t.disk)) (sym (append-nil (disk.calls m.disk))) calls;
-}
+  -- and sealed, or that broke off
+  module _ (drawn_exit : EachCrash disk y.store.disk (KeptBy y)) (n : StoreHalfState D) (k : CallsOn disk y n) where
+    sealed_one : AreOne x n
+    sealed_one = one_on x y drawn_one disk n k
 
-pub ok_more : {A E : Type 0} (r : Result A E) (P Q : Type 0) → (P → Q) → OnOk r P → OnOk r Q
-ok_more r P Q f p = grind arith
+    pub sealed_stays : StaysAhead disk a b x n
+    sealed_stays = stays_then disk a b x y x n
+        (desk_stays a b one disk only_now exit x y drawn_one store_stays drawn_log.0 drawn_log.1 drawn_log.2
+        (course_lists disk b y (drawn_lists disk a x b y count drawn_exit h)))
+        (calls_stay x y drawn_one disk n k)
 
-pub ok_or_err : {A E : Type 0} (r : Result A E) (P Q R : Type 0) → OnOk r P → OnErr r Q → (P → R) → (Q → R) → R
-ok_or_err r P Q R p q f h = grind arith
+    pub sealed_fails : (f : CommitFault) → HasCause disk y n f → f ≡ StoreFailed
+        → LacksRoomFor disk a.desk n.store.disk ⊎ (disk.faults b.store.disk < disk.faults n.store.disk)
+    sealed_fails f (inl fails) is = inr (subst (λ (s : StoreState D). disk.faults s.disk < disk.faults n.store.disk) store_stays
+        (subst (λ (e : CommitFault). FailsBy disk y.store n.store e) is fails))
+    sealed_fails f (inr lacks) is = inl (lacks_on disk n.store.disk a.desk x.desk drawn_log.0 drawn_log.1 drawn_log.2
+        (lacks_drawn x n sealed_one disk drawn_some lacks.1))
 
-pub err_any : {A E : Type 0} (r : Result A E) (P : Type 0) → P → IfErr r (λ _. P)
-err_any r P p = grind arith
+    pub sealed_breaks : GoesWell disk y.store n.store → BreaksOff disk b.store n.store
+    sealed_breaks well = subst (λ (s : StoreState D). BreaksOff disk s n.store) store_stays (works_break disk y.store n.store well.works)
 
--- what is ahead of a desk at each moment of a call is so at its end
-pub present_ahead : {D : Type 0} (disk : Ghosts D) (old new : D) (d e : DeskState) → ((x : D) (t : ℕ) (c : List ℕ) → disk.honest x → t ≤ disk.moment x → IsOutcome (disk.unsynced x) c → disk.crash_states_since x t c)
-    → SameHonesty disk old new → e.store ≡ d.store → log e ≡ log d → length d.settled ≤ length e.settled → AtAnyMoment disk old new (StandsAhead e) → EachCrash disk new (StandsAhead d)
-present_ahead disk old new d e counts_now same store all more moment = λ h c o.
-    let l = moment (same.1 h) in stands_on d e store all more c (l.each c (counts_now new (disk.moment old) c h l.later o))
+    -- and settled
+    module _ (z : DeskHalfState) (w : StoreHalfState D) {revision : ℕ} (s : HaveSettled x z n w revision)
+        (then : AreHalves z w × Agree z w) (settled_exit : EachCrash disk w.store.disk (KeptBy w)) where
+      settled_one : AreOne z w
+      settled_one =
+          let is = s.other in let whole = sealed_one.whole in let drawn = sealed_one.agree.1 in
+          record { halves = then.0; agree = then.1; whole = grind (arith, is, whole, drawn, append-nil) }
 
--- ---- room
-pub no_room : {D : Type 0} (s : StoreState D) (group : Group) (b : Bool) → (IsTrue b ↔ HasRoom s group) → b ≡ false → s.compaction.next ≡ Begin → 0 < length group.changes → length group.changes ≤ 64 → HasNoRoom s group
-no_room s group b says not begins some few =
-    elim (nat_le (batch_len group) s.most) as (λ t. nat_le (batch_len group) s.most ≡ t → HasNoRoom s group) [
-      | false ↦ λ e. inl (leb-false _ _ e)
-      | true ↦ λ e. elim (nat_le (batch_len group + 6) s.room) as (λ t. nat_le (batch_len group + 6) s.room ≡ t → HasNoRoom s group) [
-        | false ↦ λ f. let narrow = leb-false _ _ f in inr (inl (omega (arith, narrow)))
-        | true ↦ λ f. inr (inr (λ allowed.
-            let both : false ≡ true = sym not ∙ says.1 (record { some = some; few = few; short = leb-true _ _ e; fits = leb-true _ _ f; early = subst (λ (x : Step). IsEarly x) (sym begins) tt; tail = λ runs. absurd (subst (λ (x : Step). HasBegun x) begins runs); allowed = allowed }) in absurd cc))
-      ] refl
-    ] refl
+      settled_log : (z.desk.store ≡ x.desk.store) × (log z.desk ≡ log x.desk) × (length x.desk.settled ≤ length z.desk.settled)
+      settled_log = let new = s.settled in grind (arith, new, append_assoc, length-append)
+
+      pub settled_stays : StaysAhead disk a b z w
+      settled_stays = stays_then disk a b x n z w sealed_stays
+          (desk_stays x n sealed_one disk only_now k.exit z w settled_one (ap (λ (t : StoreHalfState D). t.store) s.other)
+          settled_log.0 settled_log.1 settled_log.2
+          (course_lists disk n w (settled_lists disk x z n w revision settled_exit s)))
 
 -- a list that isn't told of having something has nothing
 pub nothing_left : (xs : List Change) (b : Bool) → (IsTrue b ↔ (xs ≢ [])) → b ≡ false → xs ≡ []
 nothing_left [] b says not = refl
 nothing_left (x ∷ xs) b says not = let both : false ≡ true = sym not ∙ says.1 (λ e. cc) in absurd cc
+
+pub ok_more : {A E : Type 0} (r : Result A E) (P Q : Type 0) → (P → Q) → OnOk r P → OnOk r Q
+ok_more r P Q f p = grind arith

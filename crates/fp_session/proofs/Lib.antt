@@ -1,5 +1,4 @@
 pub mod Commits
-pub mod Compactions
 pub mod Sessions
 pub mod LineLemmas
 pub mod RunLemmas

@@ -10,8 +10,8 @@ use Rattle.fp_session.specs.Progress.{At, IsAt, IsBroken, IsEnded, IsToldUpTo, S
 use Rattle.fp_session.specs.Reply.{Reply, is_told, reply_of_code, texts_of, told_if}
 use Rattle.fp_session.specs.Run.{Answers, IsRun, IsAfterPrefix, IsTold, last_replies, most_open, show_line}
 use Rattle.fp_session.specs.StoreRun.{StoreRun}
-use Rattle.fp_session.specs.declared.commit.CommitFault.{CommitFault}
-use Rattle.fp_session.specs.declared.commit.CommitFault.TheVariants as commit
+use Rattle.fp_committer.specs.declared.fault.CommitFault.{CommitFault}
+use Rattle.fp_committer.specs.declared.fault.CommitFault.TheVariants as commit
 use Rattle.fp_session.specs.declared.edit_store.EditStore.{Ghosts}
 use Rattle.fp_session.specs.declared.fault.ApplyFault.{ApplyFault}
 use Rattle.fp_session.specs.declared.fault.ApplyFault.TheVariants.{Device, Memory}

@@ -1,7 +1,7 @@
 -- The faults that end a run.
 use Rattle.std.specs.Prelude.{ℕ, List, codes}
-use Rattle.fp_session.specs.declared.commit.CommitFault.{CommitFault}
-use Rattle.fp_session.specs.declared.commit.CommitFault.TheVariants as commit
+use Rattle.fp_committer.specs.declared.fault.CommitFault.{CommitFault}
+use Rattle.fp_committer.specs.declared.fault.CommitFault.TheVariants as commit
 use Rattle.fp_session.specs.declared.fault.ApplyFault.{ApplyFault}
 use Rattle.fp_session.specs.declared.fault.ApplyFault.TheVariants.{Device, StoreFailed, Memory}
 use Rattle.fp_session.specs.declared.fault.ApplyFault.TheVariants.{CommitMemory}

@@ -1,8 +1,8 @@
 -- What becomes of the store over a run.
 use Rattle.std.specs.Prelude.{Result, Ok, Err}
 use Rattle.fp_edit.specs.Flags.{State}
-use Rattle.fp_session.specs.declared.commit.CommitFault.{CommitFault}
-use Rattle.fp_session.specs.declared.commit.CommitFault.TheVariants as commit
+use Rattle.fp_committer.specs.declared.fault.CommitFault.{CommitFault}
+use Rattle.fp_committer.specs.declared.fault.CommitFault.TheVariants as commit
 use Rattle.fp_session.specs.declared.edit_store.EditStore.{Ghosts}
 use Rattle.fp_session.specs.declared.fault.ApplyFault.{ApplyFault}
 use Rattle.fp_session.specs.declared.fault.ApplyFault.TheVariants.{Device, StoreFailed, Memory}

@@ -1,6 +1,7 @@
-//! Edits that go to a store on a disk, by way of a desk.
+//! Edits that go to a disk, by the halves of a committer.
 
-ghost use Rattle.std.specs.Prelude.{◌≡◌, ◌<◌, [], ◌∷◌, IfOk, IfErr, IsTrue, MatchResult, ◌↔◌};
+ghost use Rattle.std.specs.Prelude.{◌≡◌, ◌<◌, [], ◌∷◌, false, IfOk, IfErr, IsTrue, MatchResult};
+ghost use Rattle.std.specs.Prelude.{◌↔◌};
 ghost use Rattle.fp_disk.specs.Crashes.{EachCrash, SameHonesty};
 ghost use Rattle.fp_disk.specs.Outcomes.{IsOutcome, LeavesOnly};
 ghost use Rattle.fp_disk.specs.declared.history.CallKind.TheVariants.{Length, Sync};
@@ -11,14 +12,16 @@ ghost use Rattle.fp_recovery.specs.Refusals.{IsUnlessWanting, RefusesBytes};
 ghost use Rattle.fp_recovery.specs.Stands.{StandsFor};
 ghost use Rattle.fp_slots.specs.declared.slots.Step.TheVariants.{Begin};
 ghost use Rattle.fp_group_commit.specs.Store.{IsFresh};
-ghost use Rattle.fp_session.specs.Session.{Fails, HasPlace, IsAhead, IsReady, Keeps, LeavesFlags};
+ghost use Rattle.fp_desk.specs.Desk.{settled_revision};
+ghost use Rattle.fp_committer.specs.Kept.{IsAfterFirst};
+ghost use Rattle.fp_session.specs.Session.{Begins, Fails, HasPlace, IsInStep, IsReady, Keeps, LeavesFlags};
 ghost use Rattle.fp_session.specs.Session.{StandsAhead, disk_of, flags_of};
 ghost use Rattle.fp_session.specs.SessionLaws.{flags_as, flags_on, keeps_itself, keeps_on};
 
 use crate::commit::commit_all;
-use crate::compacting::{finish, go_on};
 use crate::{CommitFault, EditStore};
-use fp_desk::{Desk, SubmitFault};
+use fp_committer::{DeskHalf, StoreHalf};
+use fp_desk::SubmitFault;
 use fp_disk::Disk;
 use fp_edit::{Edit, EditFault, FlagSet};
 use fp_group_commit::{Opening, Store};
@@ -32,8 +35,8 @@ use std::marker::Model;
 ///
 /// It isn't `Drop`, so that the disk comes back by `into_disk`.
 pub struct DiskSession<D: Disk> {
-    store: Store<D>,
-    desk: Desk,
+    store: StoreHalf<D>,
+    desk: DeskHalf,
     // Edits weren't kept. No other is taken then.
     is_stopped: bool,
     // Nothing was done yet, or a batch was sealed since a step was taken.
@@ -42,20 +45,23 @@ pub struct DiskSession<D: Disk> {
 
 impl<D: Disk> Model for DiskSession<D> {
     ghost use Rattle.std.specs.Coded.{codes};
-    ghost use Rattle.std.specs.Prelude.{◌≡◌, false, []};
+    ghost use Rattle.std.specs.Prelude.{◌≡◌, false};
     ghost use Rattle.fp_edit.specs.Flags.{coded_state};
     ghost use Rattle.fp_group_commit.specs.Changes.{coded_change};
-    ghost use Rattle.fp_disk.specs.Crashes.{EachCrash};
-    ghost use Rattle.fp_session.specs.Session.{IsInStep, SessionState, StandsAhead};
+    ghost use Rattle.fp_session.specs.Session.{AreAtRest, AreOne, SessionState};
 
     ghost Value = { SessionState D };
 
     ghost coded = { Prim.hlevel (codes, coded_state, coded_change) };
 
-    ghost view = { λ s. record { store = s.store; desk = s.desk; stopped = s.is_stopped } };
+    ghost view = { λ s. record {
+      half = s.store;
+      desk = s.desk.desk;
+      stopped = s.is_stopped;
+    } };
 
-    ghost invariant = { λ s. EachCrash D.Disk s.store.disk (StandsAhead s.desk)
-        × (s.is_stopped ≡ false → IsInStep D.Disk s.store s.desk) };
+    ghost invariant = { λ s. AreOne s.desk s.store
+        × (s.is_stopped ≡ false → AreAtRest s.desk s.store) };
 }
 
 impl<D: Disk> DiskSession<D> {
@@ -63,23 +69,26 @@ impl<D: Disk> DiskSession<D> {
     pub fn new(alloc: Global, store: Store<D>, opening: Opening) -> Result<DiskSession<D>, Store<D>>
         requires opening { opening ≡ store.store }
         requires fresh { IsFresh store store.store.start }
-        ensures made { IfOk result (λ s. (s.store ≡ store) × IsReady D.Disk s) }
-        ensures rests { IfOk result (λ s. s.store.compaction.next ≡ Begin) }
-        ensures kept { IfOk result (λ s. (flags : State) → IsAhead s.desk flags
-            → flags ≡ flags_of s) }
+        ensures made { IfOk result (λ s. (s.half.store ≡ store) × IsReady D.Disk s) }
+        ensures rests { IfOk result (λ s. s.half.store.compaction.next ≡ Begin) }
+        ensures begins { IfOk result (Begins D.Disk) }
+        ensures kept { IfOk result (λ s. (flags : State)
+            → IsAfterFirst s.desk (settled_revision s.desk) flags → flags ≡ flags_of s) }
         ensures flags { IfOk result (λ s. flags_of s ≡ store.store.start) }
         ensures given_back { IfErr result (λ e. e ≡ store) }
     {
-        // What a crash leaves is known only where it is asked.
-        let _ = store.phase();
-        match Desk::new(alloc, opening) {
-            Ok(desk) => Ok(DiskSession {
-                store,
-                desk,
-                is_stopped: false,
-                is_due: true,
-            }),
-            Err(_) => Err(store),
+        match DeskHalf::pair(alloc, store, opening) {
+            Ok((desk, store)) => {
+                // What a crash leaves is known only where it is asked.
+                store.rest();
+                Ok(DiskSession {
+                    store,
+                    desk,
+                    is_stopped: false,
+                    is_due: true,
+                })
+            }
+            Err((_, store, _)) => Err(store),
         }
     }
 
@@ -89,9 +98,10 @@ impl<D: Disk> DiskSession<D> {
         ensures only { D.honest disk → IfOk result (λ s. (other : State) →
             StandsFor (D.bytes disk) other → other ≡ flags_of s) }
         ensures ready { IfOk result (λ s. IsReady D.Disk s) }
-        ensures rests { IfOk result (λ s. s.store.compaction.next ≡ Begin) }
-        ensures kept { IfOk result (λ s. (flags : State) → IsAhead s.desk flags
-            → flags ≡ flags_of s) }
+        ensures rests { IfOk result (λ s. s.half.store.compaction.next ≡ Begin) }
+        ensures begins { IfOk result (Begins D.Disk) }
+        ensures kept { IfOk result (λ s. (flags : State)
+            → IsAfterFirst s.desk (settled_revision s.desk) flags → flags ≡ flags_of s) }
         ensures fault { D.honest disk → IfErr result (λ e. RefusesBytes (D.bytes disk) e.0) }
         ensures refused { D.honest disk → IfErr result (λ e. IsUnlessWanting (D.bytes disk) e.0) }
         ensures no_failure { IfOk result (λ s. D.faults (disk_of s) ≡ D.faults disk) }
@@ -122,7 +132,18 @@ impl<D: Disk> DiskSession<D> {
     pub fn is_ready(&self) -> bool
         ensures { IsTrue result ↔ IsReady D.Disk self.now }
     {
+        self.stays();
         !self.is_stopped
+    }
+
+    // Shows what a crash leaves while nothing is done. Does nothing when it runs.
+    fn stays(&self)
+        ensures still { LeavesFlags D.Disk self.now self.now
+            (IsAfterFirst self.now.desk (settled_revision self.now.desk)) }
+        ensures in_step { self.now.stopped ≡ false
+            → IsInStep D.Disk self.now.half.store self.now.desk }
+    {
+        self.store.rest();
     }
 
     /// Gives the disk back.
@@ -143,7 +164,7 @@ impl<D: Disk> DiskSession<D> {
 impl<D: Disk> EditStore for DiskSession<D> {
     ghost state = { λ s. flags_of s };
 
-    ghost may_stand = { λ s flags. IsAhead s.desk flags };
+    ghost may_stand = { λ s flags. IsAfterFirst s.desk (settled_revision s.desk) flags };
 
     ghost has_place = { λ s change. HasPlace s change };
 
@@ -153,7 +174,7 @@ impl<D: Disk> EditStore for DiskSession<D> {
 
     ghost leaves = { λ a b P. LeavesFlags D.Disk a b P };
 
-    ghost rests = { λ s. s.store.compaction.next ≡ Begin };
+    ghost rests = { λ s. s.half.store.compaction.next ≡ Begin };
 
     ghost leads_to_itself = { λ s. keeps_itself D.Disk s };
 
@@ -164,10 +185,11 @@ impl<D: Disk> EditStore for DiskSession<D> {
     ghost leaves_as = { λ a b P Q f h. flags_as D.Disk a b P Q f h };
 
     fn joins(&self, edit: &Edit) -> bool {
-        self.desk.joins(edit) && !self.is_stopped
+        self.desk.desk().joins(edit) && !self.is_stopped
     }
 
     fn submit(&mut self, edit: Edit) -> Result<u64, EditFault> {
+        self.stays();
         match self.desk.submit(edit) {
             Ok(ticket) => Ok(ticket.revision()),
             Err((SubmitFault::Edit(fault), _)) => Err(fault),
@@ -178,17 +200,19 @@ impl<D: Disk> EditStore for DiskSession<D> {
     }
 
     fn commit(&mut self) -> Result<(), CommitFault> {
+        self.stays();
         if self.is_stopped {
             return Err(CommitFault::StoreFailed);
         }
-        self.is_due = self.is_due || self.desk.is_waiting();
+        self.is_due = self.is_due || self.desk.desk().is_waiting();
         self.is_stopped = true;
-        commit_all(&mut self.store, &mut self.desk)?;
+        commit_all(&mut self.desk, &mut self.store)?;
         self.is_stopped = false;
         Ok(())
     }
 
     fn go_on(&mut self) -> Result<(), CommitFault> {
+        self.stays();
         if self.is_stopped {
             return Err(CommitFault::StoreFailed);
         }
@@ -197,22 +221,26 @@ impl<D: Disk> EditStore for DiskSession<D> {
         }
         self.is_due = false;
         self.is_stopped = true;
-        go_on(&mut self.store)?;
+        self.store.go_on()?;
         self.is_stopped = false;
+        self.stays();
         Ok(())
     }
 
     fn rest(&mut self) -> Result<(), CommitFault> {
+        self.stays();
         if self.is_stopped {
             return Err(CommitFault::StoreFailed);
         }
         self.is_stopped = true;
-        finish(&mut self.store)?;
+        self.store.finish()?;
         self.is_stopped = false;
+        self.stays();
         Ok(())
     }
 
     fn flags(&self) -> &FlagSet {
-        self.desk.head()
+        self.stays();
+        self.desk.desk().head()
     }
 }

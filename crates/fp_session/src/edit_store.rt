@@ -5,7 +5,7 @@ ghost use Rattle.fp_edit.specs.Flags.{State};
 ghost use Rattle.fp_edit.specs.Following.{change_of};
 ghost use Rattle.fp_edit.specs.Edits.{Change, proposal_of};
 ghost use Rattle.fp_edit.specs.Admits.{Admits, IsRefusedOrWanting, accepted};
-ghost use Rattle.fp_session.specs.declared.commit.CommitFault.{CommitFault};
+ghost use Rattle.fp_committer.specs.declared.fault.CommitFault.{CommitFault};
 
 use crate::CommitFault;
 use fp_edit::{Edit, EditFault, FlagSet};

@@ -3,7 +3,9 @@
 ghost use Rattle.std.specs.Prelude.{◌≡◌, ◌⊎◌, ◌<◌, IfOk, IfErr};
 ghost use Rattle.fp_edit.specs.Flags.{State};
 ghost use Rattle.fp_layout.specs.declared.fault.OpenFault.TheVariants.{Device, Memory};
-ghost use Rattle.fp_session.specs.Session.{IsAhead, IsReady, disk_of, flags_of};
+ghost use Rattle.fp_desk.specs.Desk.{settled_revision};
+ghost use Rattle.fp_committer.specs.Kept.{IsAfterFirst};
+ghost use Rattle.fp_session.specs.Session.{IsReady, disk_of, flags_of};
 
 use crate::DiskSession;
 use fp_disk::Disk;
@@ -16,7 +18,9 @@ pub fn closes_and_opens<D: Disk>(
     alloc: Global,
     session: DiskSession<D>,
 ) -> Result<DiskSession<D>, (OpenFault, D)>
-    requires kept { (flags : State) → IsAhead session.desk flags → flags ≡ flags_of session }
+    requires kept { (flags : State)
+        → IsAfterFirst session.desk (settled_revision session.desk) flags
+        → flags ≡ flags_of session }
     ensures same { D.honest (disk_of session) → IfOk result (λ s. flags_of s ≡ flags_of session) }
     ensures ready { IfOk result (λ s. IsReady D.Disk s) }
     ensures refused { D.honest (disk_of session) →

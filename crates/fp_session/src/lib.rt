@@ -4,7 +4,6 @@
 mod batching;
 mod chunk;
 mod commit;
-mod compacting;
 mod disk_session;
 mod edit_store;
 mod fault;
@@ -19,11 +18,10 @@ mod run;
 mod show;
 mod source;
 
-pub use commit::{CommitFault, seal_staged};
-pub use compacting::{go_on, make_room};
 pub use disk_session::DiskSession;
 pub use edit_store::EditStore;
 pub use fault::ApplyFault;
+pub use fp_committer::CommitFault;
 pub use import::import_flags;
 pub use input::{InputLines, apply_lines};
 pub use laws::closes_and_opens;

@@ -5,7 +5,6 @@ use Rattle.fp_disk.specs.Outcomes.{IsOutcome}
 use Rattle.fp_disk.specs.declared.disk.Disk.{Ghosts}
 use Rattle.fp_disk.specs.declared.history.CallKind.TheVariants.{Length, Sync}
 use Rattle.fp_edit.specs.Flags.{State}
-use Rattle.fp_edit.specs.Log.{after}
 use Rattle.fp_journal.specs.Pieces.{MakesThenReads}
 use Rattle.fp_layout.specs.declared.fault.OpenFault.{OpenFault}
 use Rattle.fp_layout.specs.declared.fault.OpenFault.TheVariants.{Device, Memory}
@@ -13,7 +12,6 @@ use Rattle.fp_group_commit.specs.Store.{StoreState}
 use Rattle.fp_group_commit.specs.Tokens.{Identity, front_revision}
 use Rattle.fp_desk.specs.Desk.{DeskState, log}
 use Rattle.fp_stream.specs.declared.hello.Hello.{Hello}
-use Rattle.fp_committer.specs.Commits.{last_revision}
 use Rattle.fp_committer.specs.Committer.{CommitterState, IsNewCommitter, commits_of}
 use Rattle.fp_committer.specs.Kept.{KeptFrom}
 use Rattle.fp_world.specs.Events.{MakesItsCall, RisesFor, accepted_by, told_after}
@@ -68,11 +66,6 @@ Course {D} disk old (e ∷ events) (a ∷ answers) new =
     (mid : WorldState D) × StepsTo disk old e a mid × Course disk mid events answers new
 Course {D} disk old [] (a ∷ answers) new = ⊥
 Course {D} disk old (e ∷ events) [] new = ⊥
-
--- the set is the one after some first n edits of the desk's log, n at least `low`
-abbrev pub IsAfterFirst : DeskState → ℕ → State → Type 0
-IsAfterFirst d low set = (n : ℕ) × (low ≤ n) × (n ≤ last_revision d)
-    × (set ≡ after d.store.start (log d) n)
 
 -- ---- opening a disk
 -- the disk then, in the store or beside the fault

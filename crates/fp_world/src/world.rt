@@ -10,10 +10,10 @@ ghost use Rattle.fp_publish.specs.declared.board.TheConstants.{MOST_EVALUATORS};
 ghost use Rattle.fp_publish.specs.declared.seats.TheConstants.{MOST_SEATS};
 ghost use Rattle.fp_world.specs.declared.event.Event.TheVariants as asked;
 ghost use Rattle.fp_committer.specs.Commits.{opened_set};
-ghost use Rattle.fp_committer.specs.Kept.{KeptFrom};
+ghost use Rattle.fp_committer.specs.Kept.{IsAfterFirst, KeptFrom};
 ghost use Rattle.fp_world.specs.Events.{MakesItsCall, RisesFor, accepted_by, told_after};
 ghost use Rattle.fp_world.specs.Machine.{Run, Step, accepted_edits, told_by};
-ghost use Rattle.fp_world.specs.World.{Course, IsAfterFirst, IsNewWorld, Opens, StepsTo};
+ghost use Rattle.fp_world.specs.World.{Course, IsNewWorld, Opens, StepsTo};
 ghost use Rattle.fp_world.specs.World.{desk_of, disk_of, machine, told_of};
 
 use crate::event::{Answer, Event};

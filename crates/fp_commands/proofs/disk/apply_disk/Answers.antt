@@ -28,7 +28,7 @@ returns g c =
     let D = g.D.Disk in let e = c.in-Ok.ensures in let s = c.in-Ok.session in let l = c.apply_lines-kept in let b = c.end_run.ensures in let left = g.R.Read.remaining c.args.r.now.inner in
     let old : Streams g.row.R.Denot g.row.W.Denot = record { reader = c.args.r.now; writer = c.args.w.now } in
     let new : Streams g.row.R.Denot g.row.W.Denot = record { reader = l.new.r; writer = l.new.w } in
-    ran D g.R.Read.remaining g.W.Write.contents AskedByLines 1 (λ is_honest bytes read. IsApplyingFault is_honest bytes) old new c.args.disk c.end_run.result.0 s l.result.0 e.stands e.only e.ready e.rests e.no_failure e.called e.any_moment e.honest b.disk b.keeps
+    ran D g.R.Read.remaining g.W.Write.contents AskedByLines 1 (λ is_honest bytes read. IsApplyingFault is_honest bytes) old new c.args.disk c.end_run.result.0 s l.result.0 e.stands e.only e.ready e.begins e.rests e.no_failure e.called e.any_moment e.honest b.disk b.keeps
     (λ Holds. IfSome left (λ input. Holds (asked_by_input input))) (λ P h. IfSome_then left h (λ input x. (asked_by_input input, refl, x))) (λ P Q h i. some_both left (λ input. P (asked_by_input input)) (λ input. Q (asked_by_input input)) h i)
-    (applying-run (D.honest c.args.disk) (D.bytes c.args.disk)) g.met.D.Disk.counts_now g.met.D.Disk.present l.result.1 c.end_run.result.1 b.outcome l.ensures.runs l.ensures.device
+    (applying-run (D.honest c.args.disk) (D.bytes c.args.disk)) g.met.D.Disk.only_now g.met.D.Disk.counts_now g.met.D.Disk.present l.result.1 c.end_run.result.1 b.outcome l.ensures.runs l.ensures.device
     (λ f is. subst (λ (o : Result Bool ApplyFault). IfErr o (λ x. x ≢ run.Device → l.new.r.failures ≡ c.args.r.now.failures)) is l.ensures.read)

@@ -44,7 +44,7 @@ returns g c =
     let puts = map flag_bytes c.in-Ok-read_document.flags.items in
     let old : Streams g.row.R.Denot g.row.W.Denot = record { reader = c.args.r.now; writer = c.args.w.now } in
     let new : Streams g.row.R.Denot g.row.W.Denot = record { reader = c.read_document.new.r; writer = l.new.w } in
-    ran D g.R.Read.remaining g.W.Write.contents AskedByDocument MOST_WAITING IsImportingFault old new c.args.disk c.end_run.result.0 s l.result.0 e.stands e.only e.ready e.rests e.no_failure e.called e.any_moment e.honest b.disk b.keeps
+    ran D g.R.Read.remaining g.W.Write.contents AskedByDocument MOST_WAITING IsImportingFault old new c.args.disk c.end_run.result.0 s l.result.0 e.stands e.only e.ready e.begins e.rests e.no_failure e.called e.any_moment e.honest b.disk b.keeps
     (λ Holds. Holds (asked_by_flags puts)) (λ P h. IfSome_then left read.flags (λ input is. (asked_by_flags puts, (puts, is, refl), h))) (λ P Q h i. (h, i))
-    (importing-run (D.honest c.args.disk) (D.bytes c.args.disk) left) g.met.D.Disk.counts_now g.met.D.Disk.present l.result.1 c.end_run.result.1 b.outcome l.ensures.runs
+    (importing-run (D.honest c.args.disk) (D.bytes c.args.disk) left) g.met.D.Disk.only_now g.met.D.Disk.counts_now g.met.D.Disk.present l.result.1 c.end_run.result.1 b.outcome l.ensures.runs
     (blames-beside c.args.r.now.failures new.reader.failures c.args.w.now.failures l.new.w.failures l.result.1 read.device l.ensures.device) (λ f is not. read.device)

@@ -1,21 +1,17 @@
-use Rattle.fp_session.proofs.Commits.{honest_on}
-use Rattle.fp_plane.proofs.SealingLemmas.{gains_on}
+use Rattle.fp_committer.specs.CourseLaws.{course_then}
+use Rattle.fp_committer.proofs.Courses.{course_lists}
+use Rattle.fp_plane.proofs.Halls.{ours_on}
 use Rattle.fp_plane.proofs.flushing.flush.Goals as goal
 
-pub returns-in_err-compact_on-clause-any_moment : goal.returns-in_err-compact_on-clause-any_moment
-returns-in_err-compact_on-clause-any_moment g c =
-    let s = c.seal.ensures in
-    gains_on g.D.Disk c.args.store.now c.seal.new.store c.args.draw.changes c.compact_on.new.store s.same c.in_ok-receipt.ensures.sealed s.honest s.any_moment c.compact_on.ensures.keeps
+pub settle-requires-clause-ours : goal.settle-requires-clause-ours
+settle-requires-clause-ours g c = let k = g.K.Naming in ours_on g.D.Disk k.store k.desk_lists k.store_lists c.args.half.now c.seal.new.half c.seal.ensures.course c.requires.ours
 
-pub returns-in_err-compact_on-clause-honest : goal.returns-in_err-compact_on-clause-honest
-returns-in_err-compact_on-clause-honest g c =
-    honest_on g.D.Disk c.args.store.now.disk c.seal.new.store.disk c.compact_on.new.store.disk c.seal.ensures.honest c.compact_on.ensures.keeps.honest
+pub returns-in_err-compact_on-clause-course : goal.returns-in_err-compact_on-clause-course
+returns-in_err-compact_on-clause-course g c =
+    let D = g.D.Disk in let a = c.args.half.now in let b = c.seal.new.half in let d = c.settle.new.half in
+    course_then D a d c.compact_on.new.half (course_then D a b d c.seal.ensures.course (course_lists D b d c.settle.ensures.settled)) c.compact_on.ensures.course
 
-pub returns-clause-any_moment : goal.returns-clause-any_moment
-returns-clause-any_moment g c =
-    let s = c.seal.ensures in
-    gains_on g.D.Disk c.args.store.now c.seal.new.store c.args.draw.changes c.compact_on.new.store s.same c.in_ok-receipt.ensures.sealed s.honest s.any_moment c.compact_on.ensures.keeps
-
-pub returns-clause-honest : goal.returns-clause-honest
-returns-clause-honest g c =
-    honest_on g.D.Disk c.args.store.now.disk c.seal.new.store.disk c.compact_on.new.store.disk c.seal.ensures.honest c.compact_on.ensures.keeps.honest
+pub returns-clause-course : goal.returns-clause-course
+returns-clause-course g c =
+    let D = g.D.Disk in let a = c.args.half.now in let b = c.seal.new.half in let d = c.settle.new.half in
+    course_then D a d c.compact_on.new.half (course_then D a b d c.seal.ensures.course (course_lists D b d c.settle.ensures.settled)) c.compact_on.ensures.course

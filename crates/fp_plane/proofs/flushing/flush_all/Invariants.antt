@@ -1,7 +1,14 @@
 use Rattle.std.proofs.Common.{◌≡◌}
-use Rattle.fp_group_commit.specs.Store.{IsAtRest}
+use Rattle.fp_committer.specs.Course.{Course}
+use Rattle.fp_plane.specs.Flushing.{IsResting}
+use Rattle.fp_plane.specs.Hall.{IsStoreOf}
 use Rattle.fp_plane.proofs.flushing.flush_all.Given as goal
 
--- the store is the one that it was, and at rest
+-- the half came this far, and is the plane's
 abbrev pub invariant-loop : goal.invariant-loop
-invariant-loop g l = (l.store.store ≡ l.initial.store.store) × IsAtRest l.store
+invariant-loop g l = record {
+  course : Course g.D.Disk l.initial.half l.half;
+  ours : IsStoreOf g.K.Naming.store g.K.Naming.desk_lists g.K.Naming.store_lists l.half;
+  rest : IsResting l.half;
+  no_failure : g.D.Disk.faults l.half.store.disk ≡ g.D.Disk.faults l.initial.half.store.disk;
+}

@@ -12,7 +12,7 @@ use Rattle.fp_server.proofs.listening.begin.Goals as goal
 pub spawn-started-requires-send-F : goal.spawn-started-requires-send-F
 spawn-started-requires-send-F g c κs within =
     let b = c.type_bounds in
-    let R = copied 2 g.row.R in
+    let R = copied 1 g.row.R in
     spawned 1 _ _ (b.send-R and role.the_send and limits.the_send
-    and plane_sent (param 0 g.row.K) (param 1 g.row.D) R g.K.Naming g.D.Disk b.send-D b.send-R b.sync-R
+    and plane_sent (param 0 g.row.K) R g.K.Naming b.send-R b.sync-R
     and stream.the_send and place.the_send R b.send-R b.sync-R and port.the_send and peer.the_send and nothing)

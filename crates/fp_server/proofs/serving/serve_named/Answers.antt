@@ -1,10 +1,39 @@
+use Rattle.std.proofs.Common.{rules, ◌≡◌, ◌≢◌, sym, ◌∙◌}
+use denote.Exit.{no}
 use denote.Param.{copied, param}
-use Rattle.fp_plane.proofs.PlaneCrossing.{own_store_sent, plane_sent}
+use denote.Param.Send.{arg_send, param_send}
+use Rattle.fp_commands.specs.declared.fault.CommandFault.{CommandFault}
+use Rattle.fp_commands.specs.declared.fault.CommandFault.TheVariants.{Device, Memory, StoreFailed}
+use Rattle.fp_plane.specs.Flushing.{Flushes}
+use Rattle.fp_plane.proofs.PlaneCrossing.{flushed_sent, own_half_sent, plane_sent}
 use Rattle.fp_plane.proofs.Spawning.{spawned, ◌and◌, nothing}
+use Rattle.fp_server.proofs.EndsLemmas.{untouched_half}
 use Rattle.fp_server.proofs.serving.serve_named.Goals as goal
 
-pub spawn-requires-send-F : goal.spawn-requires-send-F
-spawn-requires-send-F g c κs within =
+pub spawn_with-requires-send-F : goal.spawn_with-requires-send-F
+spawn_with-requires-send-F g c κs within =
     let b = c.type_bounds in
-    spawned 1 _ _ (own_store_sent (param 1 g.row.D) g.D.Disk b.send-D
-    and plane_sent (param 0 g.row.K) (param 1 g.row.D) (copied 2 g.row.R) g.K.Naming g.D.Disk b.send-D b.send-R b.sync-R and nothing)
+    spawned 2 _ _ (own_half_sent (param 1 g.row.D) g.D.Disk b.send-D
+    and plane_sent (param 0 g.row.K) (copied 2 g.row.R) g.K.Naming b.send-R b.sync-R and nothing)
+
+pub spawn_with-requires-send-T : goal.spawn_with-requires-send-T
+spawn_with-requires-send-T g c κs within = param_send 3 _ (arg_send _ no _ (flushed_sent (param 1 g.row.D) g.D.Disk c.type_bounds.send-D))
+
+never_failed : (f : CommandFault) → f ≡ Memory → f ≢ StoreFailed
+never_failed f is failed = let both : Memory ≡ StoreFailed = sym is ∙ failed in absurd cc
+
+pub returns-in-Err-clause-broken : goal.returns-in-Err-clause-broken
+returns-in-Err-clause-broken g c =
+    untouched_half g.D.Disk c.args.half c.still.ensures c.into.result (never_failed c.into.result c.into.ensures)
+
+pub returns-in_default-clause-broken : goal.returns-in_default-clause-broken
+returns-in_default-clause-broken g c = untouched_half g.D.Disk c.args.half c.still.ensures Memory (λ failed. (let both : Memory ≡ StoreFailed = failed in absurd cc))
+
+pub returns-in-Err-spawn_with-clause-broken : goal.returns-in-Err-spawn_with-clause-broken
+returns-in-Err-spawn_with-clause-broken g c =
+    let flushed : Flushes g.D.Disk c.args.half c.flush.result.half c.flush.result.ended = search rules in
+    rw (c.into_half.ensures) (record {
+      ended = c.flush.result.ended;
+      flushed = flushed;
+      cause = λ failed. (let both : Device ≡ StoreFailed = failed in absurd cc);
+    })

@@ -1,67 +1,51 @@
-use Rattle.std.proofs.Common.{length, refl, sym, ap, ◌∙◌, inl, inr, ⊎_elim, arith, length-append}
+use Rattle.std.proofs.Common.{refl, ◌∙◌, inl, inr, ⊎_elim, arith}
 use Rattle.std.proofs.lemmas.Result.{err_from_is_err_and}
-use Rattle.fp_desk.specs.Desk.{DeskState}
-use Rattle.fp_session.specs.Session.{StandsAhead}
-use Rattle.fp_session.specs.SessionLaws.{breaks_on, no_works, works_on}
-use Rattle.fp_session.proofs.Commits.{honest_on, lacks_on, next_moment, nothing_left, now_ahead, present_ahead, stands_on, still_ahead, weaker}
+use Rattle.fp_committer.specs.WorksLaws.{breaks_on, no_works, works_on}
+use Rattle.fp_session.proofs.Commits.{lacks_on, nothing_left, stays_itself, stays_then}
 use Rattle.fp_session.proofs.commit.commit_all.Goals as goal
 
-pub loop-store-init : goal.loop-store-init
-loop-store-init g c = record {
-  in_step = c.requires.in_step;
-  log = (refl, refl);
-  settled = omega arith;
-  no_failure = refl;
-  any_moment = still_ahead g.D.Disk c.args.store.now c.args.desk.now c.requires.in_step g.met.D.Disk.only_now;
-  works = no_works g.D.Disk c.args.store.now;
-  honest = (λ h. h, λ h. h);
-}
-
-pub loop-store-preserved : goal.loop-store-preserved
-loop-store-preserved g c =
-    let D = g.D.Disk in let inv = c.loop-store.invariant in let did = c.in_ok-commit.ensures.committed in let w = c.commit.ensures in
-    let first = c.args.store.now.disk in let mid = c.loop-store.store.disk in let last = c.commit.new.store.disk in
-    let d0 = c.args.desk.now in let d1 = c.loop-store.desk in
-    let settled = ap (λ (x : DeskState). length x.settled) did.desk in let more = length-append d1.settled did.batch in let was = inv.settled in
-    record {
-      in_step = did.in_step;
-      log = (w.log.0 ∙ inv.log.0, w.log.1 ∙ inv.log.1);
-      settled = omega (arith, settled, more, was);
-      no_failure = did.no_failure ∙ inv.no_failure;
-      any_moment = next_moment D first mid last (StandsAhead d0) inv.honest inv.any_moment
-          (weaker D mid last (StandsAhead d1) (StandsAhead d0) (stands_on d0 d1 inv.log.0 inv.log.1 inv.settled) w.any_moment);
-      works = works_on D c.args.store.now c.loop-store.store c.commit.new.store inv.works did.works;
-      honest = honest_on D first mid last inv.honest w.honest;
+pub loop-desk-init : goal.loop-desk-init
+loop-desk-init g c =
+    let a = c.args.desk.now in let b = c.args.store.now in record {
+      stays = stays_itself a b c.requires.one g.D.Disk g.met.D.Disk.only_now c.rest.ensures.exit;
+      rest = c.requires.rest;
+      well = record { well = c.requires.rest.1; no_failure = refl; works = no_works g.D.Disk b.store };
     }
+
+pub loop-desk-preserved : goal.loop-desk-preserved
+loop-desk-preserved g c =
+    let D = g.D.Disk in let inv = c.loop-desk.invariant in let well = c.in_ok-commit.ensures.well in
+    let a = c.args.desk.now in let b = c.args.store.now in let x = c.loop-desk.desk in let y = c.loop-desk.store in
+    let z = c.commit.new.desk in let w = c.commit.new.store in record {
+      stays = stays_then D a b x y z w inv.stays c.commit.ensures.stays;
+      rest = c.in_ok-commit.ensures.rest;
+      well = record {
+        well = well.well;
+        no_failure = well.no_failure ∙ inv.well.no_failure;
+        works = works_on D b.store y.store w.store inv.well.works well.works;
+      };
+    }
+
+pub returns-in_err-commit-clause-stays : goal.returns-in_err-commit-clause-stays
+returns-in_err-commit-clause-stays g c =
+    stays_then g.D.Disk c.args.desk.now c.args.store.now c.loop-desk.desk c.loop-desk.store c.commit.new.desk c.commit.new.store
+    c.loop-desk.invariant.stays c.commit.ensures.stays
 
 pub returns-in_err-commit-clause-cause : goal.returns-in_err-commit-clause-cause
 returns-in_err-commit-clause-cause g c =
     let p = err_from_is_err_and c.from_residual.result c.from_residual.ensures.1 in
-    let D = g.D.Disk in let inv = c.loop-store.invariant in let same = inv.no_failure in
-    rw (p.1, p.2) (λ is. ⊎_elim (λ lacks. inl (lacks_on D c.commit.new.store.disk c.args.desk.now c.loop-store.desk inv.log.0 inv.log.1 inv.settled lacks)) (λ more. inr (omega (arith, more, same))) (c.in_err-commit.ensures.cause is))
-
-pub returns-in_err-commit-clause-any_moment : goal.returns-in_err-commit-clause-any_moment
-returns-in_err-commit-clause-any_moment g c =
-    let D = g.D.Disk in let inv = c.loop-store.invariant in
-    let first = c.args.store.now.disk in let mid = c.loop-store.store.disk in let last = c.commit.new.store.disk in
-    let d0 = c.args.desk.now in let d1 = c.loop-store.desk in
-    next_moment D first mid last (StandsAhead d0) inv.honest inv.any_moment
-    (weaker D mid last (StandsAhead d1) (StandsAhead d0) (stands_on d0 d1 inv.log.0 inv.log.1 inv.settled) c.commit.ensures.any_moment)
-
-pub returns-in_err-commit-clause-now : goal.returns-in_err-commit-clause-now
-returns-in_err-commit-clause-now g c =
-    let w = c.commit.ensures in let settled = ap length c.in_err-commit.ensures.settled in
-    present_ahead g.D.Disk c.loop-store.store.disk c.commit.new.store.disk c.commit.new.desk c.loop-store.desk g.met.D.Disk.counts_now w.honest
-    (sym w.log.0) (sym w.log.1) (omega (arith, settled)) w.any_moment
-
-pub returns-clause-committed : goal.returns-clause-committed
-returns-clause-committed g c =
-    let inv = c.loop-store.invariant in (inv.in_step, nothing_left c.loop-store.desk.waiting c.is_waiting.result c.is_waiting.ensures c.loop-store-test.false, inv.no_failure)
-
-pub returns-clause-now : goal.returns-clause-now
-returns-clause-now g c = now_ahead g.D.Disk c.loop-store.store c.loop-store.desk c.loop-store.invariant.in_step
+    let d = c.args.desk.now.desk in let e = c.loop-desk.desk.desk in let now = c.commit.new.store.store.disk in
+    let inv = c.loop-desk.invariant in let same = inv.well.no_failure in let l = inv.stays in
+    rw (p.1, p.2) (λ is. ⊎_elim (λ lacks. inl (lacks_on g.D.Disk now d e l.log.0 l.log.1 l.settled lacks))
+    (λ more. inr (omega (arith, more, same))) (c.in_err-commit.ensures.cause is))
 
 pub returns-in_err-commit-clause-called : goal.returns-in_err-commit-clause-called
 returns-in_err-commit-clause-called g c =
     let p = err_from_is_err_and c.from_residual.result c.from_residual.ensures.1 in
-    rw (p.1) (breaks_on g.D.Disk c.args.store.now c.loop-store.store c.commit.new.store c.loop-store.invariant.works c.in_err-commit.ensures.called)
+    rw (p.1) (breaks_on g.D.Disk c.args.store.now.store c.loop-desk.store.store c.commit.new.store.store
+    c.loop-desk.invariant.well.works c.in_err-commit.ensures.called)
+
+pub returns-clause-none : goal.returns-clause-none
+returns-clause-none g c =
+    let says = rw (c.desk.ensures) at c.is_waiting.ensures in
+    nothing_left c.loop-desk.desk.desk.waiting c.is_waiting.result says c.loop-desk-test.false

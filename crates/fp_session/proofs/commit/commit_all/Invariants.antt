@@ -1,20 +1,15 @@
-use Rattle.std.proofs.Common.{◌≡◌, ◌≤◌, length}
-use Rattle.fp_disk.specs.Crashes.{AtAnyMoment, SameHonesty}
-use Rattle.fp_desk.specs.Desk.{log}
-use Rattle.fp_session.specs.Session.{IsInStep, StandsAhead, Works}
+use Rattle.std.proofs.Common.{length}
+use Rattle.fp_committer.specs.Course.{GoesWell}
+use Rattle.fp_session.specs.Session.{AreAtRest, StaysAhead}
 use Rattle.fp_session.proofs.commit.commit_all.Given as goal
 
 -- some first batches of what waited were sealed and settled
-abbrev pub invariant-loop-store : goal.invariant-loop-store
-invariant-loop-store g l = record {
-  in_step : IsInStep g.D.Disk l.store l.desk;
-  log : (l.desk.store ≡ l.initial.desk.store) × (log l.desk ≡ log l.initial.desk);
-  settled : length l.initial.desk.settled ≤ length l.desk.settled;
-  no_failure : g.D.Disk.faults l.store.disk ≡ g.D.Disk.faults l.initial.store.disk;
-  any_moment : AtAnyMoment g.D.Disk l.initial.store.disk l.store.disk (StandsAhead l.initial.desk);
-  works : Works g.D.Disk l.initial.store l.store;
-  honest : SameHonesty g.D.Disk l.initial.store.disk l.store.disk;
+abbrev pub invariant-loop-desk : goal.invariant-loop-desk
+invariant-loop-desk g l = record {
+  stays : StaysAhead g.D.Disk l.initial.desk l.initial.store l.desk l.store;
+  rest : AreAtRest l.desk l.store;
+  well : GoesWell g.D.Disk l.initial.store.store l.store.store;
 }
 
-abbrev pub decreases-loop-store : goal.decreases-loop-store
-decreases-loop-store g l = length l.desk.waiting
+abbrev pub decreases-loop-desk : goal.decreases-loop-desk
+decreases-loop-desk g l = length l.desk.desk.waiting

@@ -1,10 +1,8 @@
-use Rattle.std.proofs.Common.{◌≡◌, ◌++◌, ◌∷◌, [], List, refl, sym, ap, subst, ◌∙◌, arith}
+use Rattle.std.proofs.Common.{◌++◌, ◌∷◌, [], List, refl, sym, ap, subst, ◌∙◌, arith}
 use Rattle.std.proofs.lemmas.List.{append-nil}
-use Rattle.fp_edit.specs.Edits.{Change, Proposal, change_in, proposal_of}
+use Rattle.fp_edit.specs.Edits.{Proposal, change_in, proposal_of}
 use Rattle.fp_desk.specs.Desk.{DeskState, IsAccepted, Refuses, TicketState, log}
-use Rattle.fp_committer.specs.Commits.{Submits}
-use Rattle.fp_committer.specs.Committer.{CommitterState, DeskHalfState, commits_of}
-use Rattle.fp_committer.specs.declared.event.Answer.TheVariants as answer
+use Rattle.fp_committer.specs.Committer.{commits_of}
 use Rattle.fp_committer.proofs.Keeps as keeps
 use Rattle.fp_committer.proofs.Sound as sound
 use Rattle.fp_committer.proofs.committer.Committer.submit.Goals as goal

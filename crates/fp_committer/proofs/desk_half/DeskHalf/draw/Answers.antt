@@ -1,7 +1,7 @@
-use Rattle.std.proofs.Common.{◌≡◌, List, refl, sym, ap, subst, ◌∙◌}
+use Rattle.std.proofs.Common.{◌≡◌, sym, ap, subst, ◌∙◌}
 use Rattle.std.specs.Prelude.{Option, None, Some}
 use Rattle.fp_record.specs.Group.{Group}
-use Rattle.fp_desk.specs.Desk.{DeskState, Draws}
+use Rattle.fp_desk.specs.Desk.{Draws}
 use Rattle.fp_committer.specs.Committer.{AreHalves, DeskHalfState}
 use Rattle.fp_committer.specs.StoreHalf.{StoreHalfState, changes_held}
 use Rattle.fp_committer.proofs.Keeps as keeps

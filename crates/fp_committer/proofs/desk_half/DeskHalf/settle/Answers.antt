@@ -1,4 +1,4 @@
-use Rattle.std.proofs.Common.{◌≡◌, List, refl, sym, ap, subst, ◌∙◌}
+use Rattle.std.proofs.Common.{◌≡◌, refl, sym, ap, subst, ◌∙◌}
 use Rattle.fp_desk.specs.Desk.{SettlesNot}
 use Rattle.fp_desk.specs.declared.fault.SettleFault.{SettleFault}
 use Rattle.fp_committer.specs.Committer.{AreHalves, DeskHalfState}

@@ -1,4 +1,4 @@
-use Rattle.std.proofs.Common.{rules, ◌≡◌, ◌++◌, List, length, refl, sym, ap, subst, ◌∙◌, arith}
+use Rattle.std.proofs.Common.{rules, ◌≡◌, ◌++◌, List, refl, sym, ap, subst, ◌∙◌}
 use Rattle.fp_disk.specs.declared.history.CallKind.TheVariants.{Write}
 use Rattle.fp_edit.specs.Edits.{Change}
 use Rattle.fp_group_commit.specs.Store.{Leaves}

@@ -1,9 +1,8 @@
-use Rattle.std.proofs.Common.{rules, ◌≡◌, ◌++◌, List, [], refl, sym, ap, subst, ◌∙◌}
+use Rattle.std.proofs.Common.{rules, ◌≡◌, refl, sym, ap, subst, ◌∙◌}
 use Rattle.fp_disk.specs.declared.history.CallKind.TheVariants.{Write}
-use Rattle.fp_edit.specs.Edits.{Change}
 use Rattle.fp_record.specs.Group.{Group}
-use Rattle.fp_group_commit.specs.Changes.{GoesOn, HasRoom}
-use Rattle.fp_group_commit.specs.Store.{Leaves, sealed_set}
+use Rattle.fp_group_commit.specs.Changes.{HasRoom}
+use Rattle.fp_group_commit.specs.Store.{Leaves}
 use Rattle.fp_group_commit.specs.declared.phase.Phase.TheVariants.{Staged}
 use Rattle.fp_committer.specs.StoreHalf.{IsOut, StoreHalfState, changes_held, in_flight_at, is_in_flight, taken_by, way_by}
 use Rattle.fp_committer.specs.Way.{CanStage, Stages, batch_staged}

@@ -1,4 +1,4 @@
-use Rattle.std.proofs.Common.{rules, ◌≡◌, ◌++◌, List, length, refl, sym, ap, subst, ◌∙◌, arith}
+use Rattle.std.proofs.Common.{rules, ◌≡◌, refl, sym, ap, subst, ◌∙◌}
 use Rattle.fp_disk.specs.declared.history.CallKind.TheVariants.{Sync}
 use Rattle.fp_group_commit.specs.Store.{Leaves}
 use Rattle.fp_group_commit.specs.declared.phase.Phase.TheVariants.{Staged, BodySynced}

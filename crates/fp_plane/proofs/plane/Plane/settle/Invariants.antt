@@ -1,6 +1,6 @@
 use Rattle.std.proofs.Common.{◌≡◌}
 use Rattle.fp_plane.proofs.plane.Plane.settle.Given as goal
 
--- the receipt is of the plane's store
+-- nothing was settled yet
 abbrev pub invariant-loop : goal.invariant-loop
-invariant-loop g l = l.receipt.store ≡ g.K.Naming.store
+invariant-loop g l = l.half ≡ l.initial.half

@@ -13,5 +13,5 @@ spawn-started-requires-send-F g c κs within =
     let R = copied 0 g.row.R in
     spawned 1 _ _ (b.send-R and listener.the_send and role.the_send and limits.the_send
     and connections.the_send R b.send-R b.sync-R
-    and plane_sent (param 1 g.row.K) (param 2 g.row.D) R g.K.Naming g.D.Disk b.send-D b.send-R b.sync-R
+    and plane_sent (param 1 g.row.K) R g.K.Naming b.send-R b.sync-R
     and nothing)

@@ -1,30 +1,41 @@
-use Rattle.std.proofs.Common.{true, false, refl, sym, ap}
-use Rattle.fp_session.specs.Session.{disk_of}
-use Rattle.fp_session.proofs.Commits.{in_step_on}
-use Rattle.fp_session.proofs.Sessions.{beside_ahead, beside_leaves, still_leaves, stopped_fails}
+use Rattle.std.proofs.Common.{refl}
+use Rattle.std.proofs.lemmas.Result.{err_from_is_err_and}
+use Rattle.fp_committer.proofs.Courses.{course_calls}
+use Rattle.fp_session.proofs.Commits.{calls_stay}
+use Rattle.fp_session.proofs.Sessions.{can_fail, stopped_fails}
 use Rattle.fp_session.proofs.disk_session.DiskSessionEditStore.go_on.Goals as goal
-
-pub returns-then-self-clause-any_moment : goal.returns-then-self-clause-any_moment
-returns-then-self-clause-any_moment g c = still_leaves g.D.Disk _ c.args.self.now c.args.self.now c.self.view_is g.met.D.Disk.only_now (sym (ap disk_of c.self.view_is)) c.self.invariant.0
 
 pub returns-then-self-clause-fate : goal.returns-then-self-clause-fate
 returns-then-self-clause-fate g c = stopped_fails g.D.Disk _ _ c.self.view_is c.if-self.true
 
-pub returns-then-not-self-clause-any_moment : goal.returns-then-not-self-clause-any_moment
-returns-then-not-self-clause-any_moment g c = still_leaves g.D.Disk _ c.args.self.now c.args.self.now c.self.view_is g.met.D.Disk.only_now (sym (ap disk_of c.self.view_is)) c.self.invariant.0
-
-pub invariant_of-self : goal.invariant_of-self
-invariant_of-self g c = (beside_ahead g.D.Disk _ _ c.self.view_is c.go_on.new.store (c.self.invariant.1 c.if-self.false) c.in_err-go_on.ensures.halts.keeps, λ going. absurd cc)
-
 pub returns-in_err-go_on-clause-any_moment : goal.returns-in_err-go_on-clause-any_moment
 returns-in_err-go_on-clause-any_moment g c =
-    beside_leaves g.D.Disk _ _ c.self.view_is c.go_on.new.store (c.self.invariant.1 c.if-self.false) c.in_err-go_on.ensures.halts.keeps (record { store = c.go_on.new.store; desk = c.self.inside.desk; stopped = true }) refl
-
-pub invariant_of-self-2 : goal.invariant_of-self-2
-invariant_of-self-2 g c =
-    let going = c.self.invariant.1 c.if-self.false in let p = c.in_ok-go_on.ensures.proceeds in
-    (beside_ahead g.D.Disk _ _ c.self.view_is c.go_on.new.store going p.keeps, λ _. in_step_on g.D.Disk c.self.inside.store c.go_on.new.store c.self.inside.desk going p)
+    let s = calls_stay c.self.inside.desk c.self.inside.store c.self.invariant.0 g.D.Disk c.go_on.new.self c.go_on.ensures.kept in
+    rw (← c.self.view_is) (s.honest, s.any_moment)
 
 pub returns-clause-any_moment : goal.returns-clause-any_moment
 returns-clause-any_moment g c =
-    beside_leaves g.D.Disk _ _ c.self.view_is c.go_on.new.store (c.self.invariant.1 c.if-self.false) c.in_ok-go_on.ensures.proceeds.keeps (record { store = c.go_on.new.store; desk = c.self.inside.desk; stopped = false }) refl
+    let s = calls_stay c.self.inside.desk c.self.inside.store c.self.invariant.0 g.D.Disk c.go_on.new.self c.go_on.ensures.kept in
+    rw (← c.self.view_is) (s.honest, s.any_moment)
+
+pub returns-in_err-go_on-clause-fate : goal.returns-in_err-go_on-clause-fate
+returns-in_err-go_on-clause-fate g c =
+    let D = g.D.Disk in let p = err_from_is_err_and c.from_residual.result c.from_residual.ensures.1 in
+    let k = c.go_on.ensures.kept in let e = c.in_err-go_on in
+    rw (p.1, p.2, ← c.self.view_is) (record {
+      honest = k.honest;
+      cause = λ ready. can_fail D _ _ e.field-0.0 e.ensures.cause;
+      called = e.ensures.called;
+      course = course_calls D c.self.inside.store c.go_on.new.self k;
+    })
+
+pub returns-clause-fate : goal.returns-clause-fate
+returns-clause-fate g c =
+    let k = c.go_on.ensures.kept in let w = c.in_ok-go_on.ensures.well in
+    rw (← c.self.view_is) (record {
+      honest = k.honest;
+      no_failure = w.no_failure;
+      ready = λ ready. (refl, c.stays-2.ensures.in_step refl);
+      called = w.works;
+      course = course_calls g.D.Disk c.self.inside.store c.go_on.new.self k;
+    })

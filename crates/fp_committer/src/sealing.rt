@@ -1,0 +1,130 @@
+//! A batch, from where it is drawn to where it is sealed, and a compaction beside the batches: what
+//! the store's half does for sessions and for the service.
+
+ghost use Rattle.std.specs.Prelude.{◌≡◌, [], ◌∷◌, false, IfErr, OnErr, OnOk};
+ghost use Rattle.fp_disk.specs.History.{MakesSome};
+ghost use Rattle.fp_disk.specs.declared.history.CallKind.TheVariants.{Sync, Write};
+ghost use Rattle.fp_slots.specs.declared.slots.Step.TheVariants.{Begin};
+ghost use Rattle.fp_committer.specs.Course.{CallsOn, GoesWell, HasCause, FailsBy, Reaches};
+ghost use Rattle.fp_committer.specs.StoreHalf.{taken_by, way_by};
+ghost use Rattle.fp_committer.specs.Way.{CanStage, batch_drawn, batch_staged, batch_sealed};
+ghost use Rattle.fp_committer.specs.Way.{nothing_drawn};
+ghost use Rattle.fp_committer.specs.Works.{BreaksOff};
+ghost use Rattle.fp_committer.specs.declared.fault.CommitFault.TheVariants.{Memory, StoreFailed};
+
+use crate::event::Answer;
+use crate::fault::CommitFault;
+use crate::held::Held;
+use crate::room;
+use crate::store_half::StoreHalf;
+use fp_disk::Disk;
+use fp_group_commit::StoreFault;
+
+impl<D: Disk> StoreHalf<D> {
+    /// Seals what is drawn by the four calls of a batch, behind steps of a compaction where there is
+    /// no room for it yet. Where memory was wanting it is drawn still, and can be sealed later.
+    pub fn seal(&mut self) -> Result<(), CommitFault>
+        requires drawn { self.old.progress ≡ batch_drawn }
+        requires well { self.old.store.failed ≡ false }
+        ensures kept { CallsOn D.Disk self.old self.new }
+        ensures sealed { OnOk result (self.new.progress ≡ batch_sealed) }
+        ensures well { OnOk result (GoesWell D.Disk self.old.store self.new.store) }
+        ensures later { IfErr result (λ f. f ≡ Memory → self.new.progress ≡ batch_drawn) }
+        ensures cause { IfErr result (HasCause D.Disk self.old self.new) }
+        ensures called { OnErr result (BreaksOff D.Disk self.old.store self.new.store) }
+    {
+        self.make_room()?;
+        self.write()?;
+        self.make_sure()
+    }
+
+    // Takes steps of a compaction until there is room for what is drawn.
+    fn make_room(&mut self) -> Result<(), CommitFault>
+        requires drawn { self.old.progress ≡ batch_drawn }
+        requires well { self.old.store.failed ≡ false }
+        ensures kept { CallsOn D.Disk self.old self.new }
+        ensures still { self.new.progress ≡ batch_drawn }
+        ensures room { OnOk result (CanStage (taken_by self.new) (way_by self.new)) }
+        ensures well { OnOk result (GoesWell D.Disk self.old.store self.new.store) }
+        ensures cause { IfErr result (HasCause D.Disk self.old self.new) }
+        ensures called { OnErr result (BreaksOff D.Disk self.old.store self.new.store) }
+    {
+        let Held::Drawn(draw) = &self.held else {
+            unreachable!()
+        };
+        room::make_room(&mut self.store, draw)
+    }
+
+    // Writes what is drawn, where there is room for it.
+    fn write(&mut self) -> Result<(), CommitFault>
+        requires may { CanStage (taken_by self.old) (way_by self.old) }
+        requires well { self.old.store.failed ≡ false }
+        ensures kept { CallsOn D.Disk self.old self.new }
+        ensures staged { OnOk result
+            (Reaches D.Disk (Write ∷ []) batch_staged self.old self.new) }
+        ensures later { IfErr result (λ f. f ≡ Memory → self.new.progress ≡ batch_drawn) }
+        ensures cause { IfErr result (FailsBy D.Disk self.old.store self.new.store) }
+        ensures called { OnErr result (MakesSome (Write ∷ []) (D.calls self.old.store.disk)
+            (D.calls self.new.store.disk)) }
+    {
+        match self.stage() {
+            Answer::Done => Ok(()),
+            Answer::Fault(StoreFault::Memory) => Err(CommitFault::Memory),
+            _ => Err(CommitFault::StoreFailed),
+        }
+    }
+
+    // Makes sure of what was written, opens its gate, and makes sure of that.
+    fn make_sure(&mut self) -> Result<(), CommitFault>
+        requires staged { self.old.progress ≡ batch_staged }
+        requires well { self.old.store.failed ≡ false }
+        ensures kept { CallsOn D.Disk self.old self.new }
+        ensures sealed { OnOk result
+            (Reaches D.Disk (Sync ∷ Write ∷ Sync ∷ []) batch_sealed self.old self.new) }
+        ensures fault { IfErr result (λ f. f ≡ StoreFailed) }
+        ensures cause { IfErr result (FailsBy D.Disk self.old.store self.new.store) }
+        ensures called { OnErr result (MakesSome (Sync ∷ Write ∷ Sync ∷ [])
+            (D.calls self.old.store.disk) (D.calls self.new.store.disk)) }
+    {
+        let Answer::Done = self.sync_body() else {
+            return Err(CommitFault::StoreFailed);
+        };
+        let Answer::Done = self.open_gate() else {
+            return Err(CommitFault::StoreFailed);
+        };
+        let Answer::Sealed(_) = self.sync_gate() else {
+            return Err(CommitFault::StoreFailed);
+        };
+        Ok(())
+    }
+
+    /// Takes a step where a compaction runs, or begins one where less than a quarter of a slot is
+    /// left for batches, or the slot is older than all that is written.
+    pub fn go_on(&mut self) -> Result<(), CommitFault>
+        requires rest { self.old.progress ≡ nothing_drawn }
+        requires well { self.old.store.failed ≡ false }
+        ensures kept { CallsOn D.Disk self.old self.new }
+        ensures still { self.new.progress ≡ nothing_drawn }
+        ensures well { OnOk result (GoesWell D.Disk self.old.store self.new.store) }
+        ensures cause { IfErr result (FailsBy D.Disk self.old.store self.new.store) }
+        ensures called { OnErr result (BreaksOff D.Disk self.old.store self.new.store) }
+    {
+        let _ = &self.held;
+        room::go_on(&mut self.store)
+    }
+
+    /// Takes the steps of a compaction that runs, to its end.
+    pub fn finish(&mut self) -> Result<(), CommitFault>
+        requires rest { self.old.progress ≡ nothing_drawn }
+        requires well { self.old.store.failed ≡ false }
+        ensures kept { CallsOn D.Disk self.old self.new }
+        ensures still { self.new.progress ≡ nothing_drawn }
+        ensures none_runs { OnOk result (self.new.store.compaction.next ≡ Begin) }
+        ensures well { OnOk result (GoesWell D.Disk self.old.store self.new.store) }
+        ensures cause { IfErr result (FailsBy D.Disk self.old.store self.new.store) }
+        ensures called { OnErr result (BreaksOff D.Disk self.old.store self.new.store) }
+    {
+        let _ = &self.held;
+        room::finish(&mut self.store)
+    }
+}

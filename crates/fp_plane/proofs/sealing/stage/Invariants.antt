@@ -1,6 +1,0 @@
-use Rattle.std.proofs.Common.{◌≡◌}
-use Rattle.fp_plane.proofs.sealing.stage.Given as goal
-
--- where memory was wanting nothing changed
-abbrev pub invariant-loop : goal.invariant-loop
-invariant-loop g l = (l.store ≡ l.initial.store) × (l.draw ≡ l.initial.draw)

@@ -1,0 +1,25 @@
+-- What a flusher gives back.
+use Rattle.std.specs.Prelude.{◌≡◌, ◌⊎◌, ◌<◌, false, OnErr, OnOk, Result}
+use Rattle.fp_disk.specs.Crashes.{AtAnyMoment}
+use Rattle.fp_disk.specs.declared.disk.Disk.{Ghosts}
+use Rattle.fp_committer.specs.Course.{Course, KeptThrough, LacksRoom}
+use Rattle.fp_committer.specs.StoreHalf.{StoreHalfState}
+use Rattle.fp_committer.specs.Way.{nothing_drawn}
+use Rattle.fp_plane.specs.declared.flushing.Broken.{Broken}
+
+-- nothing is drawn, and no call of the disk has failed
+abbrev pub IsResting : {D : Type 0} → StoreHalfState D → Type 0
+IsResting h = (h.progress ≡ nothing_drawn) × (h.store.failed ≡ false)
+
+-- It began with one half and ended with the other, by a course of batches, settlements and steps of
+-- compactions between them: whatever a crash leaves at any moment of it stands for some first edits
+-- that were drawn, among them all that were settled by then. It broke off only where the device
+-- failed, or where there is no room for what is drawn and no generation to make it
+pub record Flushes {D : Type 0} (disk : Ghosts D) (first last : StoreHalfState D)
+    (ended : Result (Unit {0}) Broken) : Type 0 where
+  pub course : Course disk first last
+  pub any_moment : AtAnyMoment disk first.store.disk last.store.disk (KeptThrough first last)
+  pub rest : OnOk ended (IsResting last)
+  pub no_failure : OnOk ended (disk.faults last.store.disk ≡ disk.faults first.store.disk)
+  pub cause : OnErr ended ((disk.faults first.store.disk < disk.faults last.store.disk)
+      ⊎ LacksRoom disk last)
