@@ -74,11 +74,6 @@ AreAnswersTo [] (a ∷ bs) = ⊥
 AreAnswersTo (x ∷ xs) [] = ⊥
 AreAnswersTo (x ∷ xs) (a ∷ bs) = IsAnswerTo x a × AreAnswersTo xs bs
 
--- what an edit that was taken under this revision is answered: the revision, or that it isn't known
--- to be kept
-abbrev pub IsAnswerToTaken : ℕ → Answer → Type 0
-IsAnswerToTaken n a = (a ≡ reply (flags.revision n)) ⊎ (a ≡ reply flags.store_failed)
-
 -- what an edit that wasn't taken is answered: why
 abbrev pub answer_to_refusal : SubmitFault → Answer
 answer_to_refusal submit.Stopped = stopped

@@ -1,10 +1,12 @@
 -- What a plane's lock keeps, and whose committer's halves there are.
-use Rattle.std.specs.Prelude.{◌≡◌, ℕ, Bool, true, false, List, [], Option, None, All}
+use Rattle.std.specs.Prelude.{◌≡◌, ◌⊎◌, ◌<◌, ◌||◌, ℕ, Bool, true, false, List, [], Option, None, All}
 use Rattle.fp_committer.specs.Committer.{DeskHalfState}
 use Rattle.fp_committer.specs.Halves.{HalfState, Names}
 use Rattle.fp_committer.specs.StoreHalf.{StoreHalfState}
-use Rattle.fp_desk.specs.Desk.{DeskState, settled_front}
-use Rattle.fp_group_commit.specs.Tokens.{FrontState, Identity}
+use Rattle.fp_desk.specs.Desk.{DeskState, settled_front, settled_revision}
+use Rattle.fp_desk.specs.declared.fault.SubmitFault.{SubmitFault}
+use Rattle.fp_edit.specs.Edits.{Proposal}
+use Rattle.fp_group_commit.specs.Tokens.{FrontState, Identity, front_revision}
 use Rattle.fp_publish.specs.Evaluator.{EvaluatorState}
 use Rattle.fp_publish.specs.Fronts.{Begins}
 use Rattle.fp_publish.specs.Seats.{IsOfStore}
@@ -46,6 +48,20 @@ pub record IsStoreOf {D : Type 0} (store : Identity) (desk_lists store_lists : N
   pub named : IsNamed store_lists desk_lists h.half
 
 -- ---- halls
+-- an edit that wasn't taken, and why
+pub record RefusalState : Type 0 where
+  pub fault : SubmitFault
+  pub edit : Proposal
+
+-- no edit is settled any more: sealing broke off, or no batch is drawn
+abbrev pub IsOver : HallState → Type 0
+IsOver h = (h.failed || h.ended) ≡ true
+
+-- the edit that makes this revision isn't settled, or what is settled isn't shown
+abbrev pub IsUnanswered : HallState → ℕ → Type 0
+IsUnanswered h revision = (settled_revision h.desk < revision)
+    ⊎ (front_revision h.shown < settled_revision h.desk)
+
 -- an evaluator that knows a front of this store, and is lent nothing
 abbrev pub IsAtRest : Identity → EvaluatorState → Type 0
 IsAtRest store e = (e.known.store ≡ store) × (e.lent ≡ None)

@@ -4,3 +4,4 @@ pub mod Editing
 pub mod Sending
 pub mod Telling
 pub mod Flushing
+pub mod Outcomes

@@ -9,12 +9,14 @@ ghost use Rattle.fp_session.specs.Progress.{AsksFor};
 ghost use Rattle.fp_session.specs.Requests.{IsHttpRequest, first_line};
 ghost use Rattle.fp_streams.specs.Failures.{CountsFailures};
 ghost use Rattle.fp_streams.specs.declared.counted.StreamFault.TheVariants.{Device};
-ghost use Rattle.fp_plane.specs.Answers.{IsAnswerTo, IsAnswerToTaken, IsWithin, revision_in};
-ghost use Rattle.fp_plane.specs.Answers.{answer_of_code, answer_to_refusal, says_no_edit};
+ghost use Rattle.fp_edit.specs.Edits.{proposal_of};
+ghost use Rattle.fp_plane.specs.Answers.{IsAnswerTo, IsWithin, answer_of_code, answer_to_refusal};
+ghost use Rattle.fp_plane.specs.Outcomes.{IsOutcomeOf, IsToldBy, answer_to_outcome, told_by};
 ghost use Rattle.fp_plane.specs.Editing.{Ends, IsNoLess, IsServed, IsServedFirst};
 ghost use Rattle.fp_plane.specs.declared.editor.EditorEnd.TheVariants.{HttpRequest};
 
 use crate::answer::{Answer, send_answer};
+use crate::hall::{GivenUp, Refusal};
 use crate::naming::Naming;
 use crate::plane::Plane;
 use fp_desk::{SubmitFault, Ticket};
@@ -191,47 +193,55 @@ where
     ensures ours { IfSome result.1 (λ t. t.store ≡ K.store) }
 {
     match asked {
-        Ok(edit) => answer_to_edit(plane, edit),
+        Ok(edit) => answer_of(outcome_of(plane, edit)),
         Err(fault) => (Answer::Flags(Reply::NoEdit(fault)), None),
     }
 }
 
-// The answer to an edit, once it is settled and shown, or isn't taken.
-fn answer_to_edit<K, R>(plane: &Plane<K, R>, edit: Edit) -> (Answer, Option<Told>)
+// What became of an edit: it is kept, wasn't taken, or isn't known to be kept. Each is of that edit,
+// by what alone could tell it: its ticket, or what a hall makes of its refusal or of its ticket.
+enum Outcome {
+    Kept(Ticket, Told),
+    Refused(Refusal),
+    Unknown(GivenUp),
+}
+
+// Waits for what becomes of an edit.
+fn outcome_of<K, R>(plane: &Plane<K, R>, edit: Edit) -> Outcome
 where
     K: Naming,
     R: Wait + Drop,
-    ensures answer { says_no_edit (answer_of_code result.0) ≡ false }
-    ensures within { IsWithin result.1 (answer_of_code result.0) }
-    ensures ours { IfSome result.1 (λ t. t.store ≡ K.store) }
+    ensures own { IsOutcomeOf (proposal_of edit) result }
+    ensures ours { IsToldBy K.store result }
 {
-    match plane.submit(edit) {
-        Ok(ticket) => answer_to_taken(plane, ticket),
-        Err((fault, _)) => (answer_to_refused(fault), None),
+    let ticket = match plane.submit(edit) {
+        Ok(ticket) => ticket,
+        Err((refusal, _)) => return Outcome::Refused(refusal),
+    };
+    match plane.wait(ticket) {
+        Ok((ticket, told, _)) => Outcome::Kept(ticket, told),
+        Err(given_up) => Outcome::Unknown(given_up),
     }
 }
 
-// The answer to an edit that was taken, once it is settled and shown: its own revision.
-fn answer_to_taken<K, R>(plane: &Plane<K, R>, ticket: Ticket) -> (Answer, Option<Told>)
-where
-    K: Naming,
-    R: Wait + Drop,
-    ensures answer { IsAnswerToTaken ticket.revision (answer_of_code result.0) }
-    ensures within { IsWithin result.1 (answer_of_code result.0) }
-    ensures ours { IfSome result.1 (λ t. t.store ≡ K.store) }
+// The answer to an edit of which this became, and what was told.
+fn answer_of(outcome: Outcome) -> (Answer, Option<Told>)
+    ensures answer { answer_of_code result.0 ≡ answer_to_outcome outcome }
+    ensures told { result.1 ≡ told_by outcome }
 {
-    let revision = ticket.revision();
-    match plane.wait(ticket) {
-        Some((told, _)) => (Answer::Flags(Reply::Revision(revision)), Some(told)),
-        None => (Answer::Flags(Reply::StoreFailed), None),
+    match outcome {
+        Outcome::Kept(ticket, told) => {
+            let reply = Reply::Revision(ticket.revision());
+            (Answer::Flags(reply), Some(told))
+        }
+        Outcome::Refused(refusal) => (answer_to_refused(refusal.fault()), None),
+        Outcome::Unknown(_) => (Answer::Flags(Reply::StoreFailed), None),
     }
 }
 
 // The answer to an edit that wasn't taken: why.
 fn answer_to_refused(fault: SubmitFault) -> Answer
-    ensures same { answer_of_code result ≡ answer_to_refusal fault }
-    ensures answer { says_no_edit (answer_of_code result) ≡ false }
-    ensures none { revision_in (answer_of_code result) ≡ None }
+    ensures { answer_of_code result ≡ answer_to_refusal fault }
 {
     match fault {
         SubmitFault::Stopped => Answer::Stopped,

@@ -15,7 +15,10 @@ ghost use Rattle.fp_publish.specs.declared.board.TheConstants.{MOST_EVALUATORS};
 ghost use Rattle.fp_publish.specs.declared.seats.TheConstants.{MOST_SEATS};
 ghost use Rattle.fp_stream.specs.declared.hello.Hello.TheVariants.{Has};
 ghost use Rattle.std.specs.Vec.{vec_capacity};
-ghost use Rattle.fp_plane.specs.Hall.{IsAtRest, IsDeskOf, IsNew, IsNewDesk, IsStoreOf, desk_of};
+ghost use Rattle.fp_plane.specs.Hall.{IsAtRest, IsDeskOf, IsNew, IsNewDesk, IsOver, IsStoreOf};
+ghost use Rattle.fp_plane.specs.Hall.{IsUnanswered, desk_of};
+
+mod tokens;
 
 use crate::naming::Naming;
 use crate::owned::OwnBoard;
@@ -28,7 +31,9 @@ use fp_publish::{Evaluator, Handed, MOST_EVALUATORS, Seat, Seats, SeatsUsed, Sho
 use fp_stream::Hello;
 use std::alloc::{AllocError, Global};
 use std::marker::{Model, PhantomData};
+use std::snapshot::Snapshot;
 use std::sync::Wait;
+pub use tokens::{GivenUp, Refusal};
 
 /// Somebody has each evaluator.
 #[derive(Debug, Drop, Clone, Copy, PartialEq, Eq)]
@@ -131,17 +136,22 @@ impl<K: Naming, R: Wait + Drop> Hall<K, R> {
     // ---- editors
 
     /// Puts an edit behind those that wait. The ticket names the store and the edit.
-    pub fn submit(&mut self, edit: Edit) -> Result<Ticket, (SubmitFault, Edit)>
+    pub fn submit(&mut self, edit: Edit) -> Result<Ticket, (Refusal, Edit)>
         ensures accepted { OnOk result (IsAccepted self.old.desk self.new.desk (proposal_of edit)) }
         ensures ticket { IfOk result (λ t. (t.store ≡ K.store) × (t.edit ≡ proposal_of edit)) }
         ensures revision { IfOk result (λ t.
             t.revision ≡ K.store.start.revision + length (log self.new.desk)) }
-        ensures refused { IfErr result (λ e. Refuses self.old.desk (proposal_of edit) e.0) }
+        ensures refused { IfErr result (λ e. (e.0.edit ≡ proposal_of edit)
+            × Refuses self.old.desk (proposal_of edit) e.0.fault) }
         ensures given_back { IfErr result (λ e. e.1 ≡ edit) }
         ensures unchanged { OnErr result (self.new ≡ self.old) }
         ensures rest { self.new ≡ record self.old { desk = self.new.desk } }
     {
-        self.desk.submit(edit)
+        let shown = Snapshot::of(&edit);
+        match self.desk.submit(edit) {
+            Ok(ticket) => Ok(ticket),
+            Err((fault, edit)) => Err((Refusal { fault, edit: shown }, edit)),
+        }
     }
 
     /// What is told of a ticket: `Some` exactly where its edit is settled, and all
@@ -158,6 +168,21 @@ impl<K: Naming, R: Wait + Drop> Hall<K, R> {
         let told = self.desk.desk().ack(ticket)?;
         let shown = self.board.shown(&told)?;
         Some((told, shown))
+    }
+
+    /// Gives a ticket up, exactly where no edit is settled any more and its own isn't settled and
+    /// shown.
+    pub fn give_up(&self, ticket: Ticket) -> Result<GivenUp, Ticket>
+        ensures given_up { OnOk result (IsOver self.now × IsUnanswered self.now ticket.revision) }
+        ensures waits { OnErr result
+            ((IsOver self.now → ⊥) ⊎ (IsUnanswered self.now ticket.revision → ⊥)) }
+        ensures same { MatchResult result (λ g. g ≡ ticket) (λ t. t ≡ ticket) }
+    {
+        if self.is_over() && self.answer(&ticket).is_none() {
+            Ok(GivenUp { ticket })
+        } else {
+            Err(ticket)
+        }
     }
 
     /// Whether no edit is settled any more: sealing broke off, or the flusher has ended.

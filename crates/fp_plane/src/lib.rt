@@ -15,7 +15,7 @@ mod telling;
 
 pub use editor::{EditorEnd, editor_loop};
 pub use flushing::{Broken, Flushed, flusher};
-pub use hall::{EvaluatorsUsed, Hall};
+pub use hall::{EvaluatorsUsed, GivenUp, Hall, Refusal};
 pub use naming::Naming;
 pub use owned::OwnHalf;
 pub use plane::Plane;

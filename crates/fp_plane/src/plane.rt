@@ -1,6 +1,6 @@
 //! The plane: what threads share.
 
-ghost use Rattle.std.specs.Prelude.{◌≡◌, ◌≤◌, true, None, IfOk, IfErr, IfSome};
+ghost use Rattle.std.specs.Prelude.{◌≡◌, ◌≤◌, true, None, IfOk, IfErr, MatchResult};
 ghost use Rattle.fp_edit.specs.Edits.{proposal_of};
 ghost use Rattle.fp_group_commit.specs.Tokens.{front_revision};
 ghost use Rattle.fp_publish.specs.Fronts.{Begins};
@@ -8,10 +8,10 @@ ghost use Rattle.fp_publish.specs.Seats.{had_by};
 ghost use Rattle.fp_plane.specs.Hall.{IsDeskOf, IsNewDesk};
 
 use crate::bells::Bells;
-use crate::hall::{EvaluatorsUsed, Hall};
+use crate::hall::{EvaluatorsUsed, GivenUp, Hall, Refusal};
 use crate::naming::Naming;
 use fp_committer::DeskHalf;
-use fp_desk::{SubmitFault, Ticket};
+use fp_desk::Ticket;
 use fp_edit::Edit;
 use fp_group_commit::Told;
 use fp_publish::{Evaluator, Seat, SeatsUsed, Shown};
@@ -71,7 +71,8 @@ impl<K: Naming, R: Wait + Drop> Plane<K, R> {
     // ---- editors
 
     /// Hands an edit in. The ticket names the plane's store and the edit.
-    pub fn submit(&self, edit: Edit) -> Result<Ticket, (SubmitFault, Edit)>
+    pub fn submit(&self, edit: Edit) -> Result<Ticket, (Refusal, Edit)>
+        ensures refused { IfErr result (λ e. e.0.edit ≡ proposal_of edit) }
         ensures ticket { IfOk result (λ t. (t.store ≡ K.store) × (t.edit ≡ proposal_of edit)) }
         ensures given_back { IfErr result (λ e. e.1 ≡ edit) }
     {
@@ -81,23 +82,26 @@ impl<K: Naming, R: Wait + Drop> Plane<K, R> {
         submitted
     }
 
-    /// Waits until the ticket's edit is settled and shown. `None` where the store failed, or
-    /// the flusher ended, before.
-    pub fn wait(&self, ticket: Ticket) -> Option<(Told, Shown)>
-        ensures told { IfSome result (λ p.
-            (p.0.store ≡ K.store) × (ticket.revision ≤ front_revision p.0)) }
-        ensures shown { IfSome result (λ p. Begins p.0 p.1) }
+    /// Waits until the ticket's edit is settled and shown, and gives the ticket back with what is
+    /// told of it; or gives it up, where no edit is settled any more.
+    pub fn wait(&self, ticket: Ticket) -> Result<(Ticket, Told, Shown), GivenUp>
+        ensures same { MatchResult result (λ p. p.0 ≡ ticket) (λ g. g ≡ ticket) }
+        ensures told { IfOk result (λ p.
+            (p.1.store ≡ K.store) × (ticket.revision ≤ front_revision p.1)) }
+        ensures shown { IfOk result (λ p. Begins p.1 p.2) }
     {
         let shared = &self.shared;
         let bell = shared.bells.of(ticket.revision());
+        let mut ticket = ticket;
         let mut hall = shared.hall.lock(&shared.rt);
         for _ in shared.rt.forever() {
-            if let Some(told) = hall.answer(&ticket) {
-                return Some(told);
+            if let Some((told, shown)) = hall.answer(&ticket) {
+                return Ok((ticket, told, shown));
             }
-            if hall.is_over() {
-                return None;
-            }
+            ticket = match hall.give_up(ticket) {
+                Ok(given_up) => return Err(given_up),
+                Err(ticket) => ticket,
+            };
             hall = bell.wait(&shared.rt, hall);
         }
         unreachable!()

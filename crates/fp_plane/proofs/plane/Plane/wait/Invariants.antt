@@ -1,0 +1,6 @@
+use Rattle.std.proofs.Common.{◌≡◌}
+use Rattle.fp_plane.proofs.plane.Plane.wait.Given as goal
+
+-- the ticket came back
+abbrev pub invariant-loop : goal.invariant-loop
+invariant-loop g l = l.ticket ≡ l.initial.ticket

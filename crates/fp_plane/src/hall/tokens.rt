@@ -1,0 +1,53 @@
+//! What a hall alone makes: that an edit wasn't taken, and that one isn't known to be kept.
+
+ghost use Rattle.std.specs.Prelude.{◌≡◌};
+
+use fp_desk::{SubmitFault, Ticket};
+use fp_edit::Edit;
+use std::marker::Model;
+use std::snapshot::Snapshot;
+
+/// That an edit wasn't taken, and why. A hall that refuses it makes one, and nothing else does.
+#[derive(Drop)]
+pub struct Refusal {
+    pub(super) fault: SubmitFault,
+    pub(super) edit: Snapshot<Edit>,
+}
+
+impl Model for Refusal {
+    ghost use Rattle.fp_edit.specs.Edits.{proposal_of};
+    ghost use Rattle.fp_plane.specs.Hall.{RefusalState};
+
+    ghost Value = { RefusalState };
+
+    ghost view = { λ r. record { fault = r.fault; edit = proposal_of r.edit.value } };
+}
+
+impl Refusal {
+    /// Why.
+    pub fn fault(&self) -> SubmitFault
+        ensures { result ≡ self.now.fault }
+    {
+        self.fault
+    }
+}
+
+/// The ticket of an edit that isn't known to be kept: no edit is settled any more, and it isn't. A
+/// hall in which that is so makes one, and nothing else does.
+#[derive(Drop)]
+pub struct GivenUp {
+    pub(super) ticket: Ticket,
+}
+
+impl Model for GivenUp {
+    ghost use Rattle.std.specs.Coded.{codes};
+    ghost use Rattle.fp_desk.specs.Desk.{TicketState};
+    ghost use Rattle.fp_edit.specs.Flags.{coded_state};
+    ghost use Rattle.fp_group_commit.specs.Changes.{coded_change};
+
+    ghost Value = { TicketState };
+
+    ghost coded = { Prim.hlevel (codes, coded_state, coded_change) };
+
+    ghost view = { λ g. g.ticket };
+}
