@@ -132,7 +132,11 @@ pub fn number_behind(line: &[u8], head: &str) -> Option<u64> {
 
 /// The revision that the next reply tells.
 pub fn told_next(alloc: Global, mut stream: &TcpStream) -> Option<u64> {
-    let line = line_of(alloc, &mut stream);
+    revision_in(&line_of(alloc, &mut stream))
+}
+
+/// The revision that a reply tells.
+pub fn revision_in(line: &[u8]) -> Option<u64> {
     number_behind(line.strip_suffix(b"}")?, "{\"revision\":")
 }
 

@@ -1,6 +1,6 @@
 //! Editors, evaluators and subscribers in threads of their own, and what they came to.
 
-use crate::clients::{connect, evaluated, is_mixed, say_put, say_turn, told_next};
+use crate::clients::{connect, evaluated, is_mixed, line_of, revision_in, say_put, say_turn};
 use fp_server::Host;
 use fp_stream::{Hello, watch_loop, write_hello};
 use fp_streams::FailureCounted;
@@ -61,7 +61,8 @@ fn say_edit(alloc: Global, stream: &TcpStream, course: Course, n: u64, key: &str
     };
 }
 
-// Makes the edits until one isn't told a revision: for each that is, a line of its key and revision.
+// Makes the edits until one isn't told a revision: for each that is, a line of its key and revision,
+// and for one that is told that the store failed one of its key and that.
 fn told_of<R: Host>(rt: &R, at: SocketAddr, course: Course) -> String {
     let alloc = rt.alloc();
     let mut told = Text::new(alloc);
@@ -75,7 +76,9 @@ fn told_of<R: Host>(rt: &R, at: SocketAddr, course: Course) -> String {
             if !course.is_at_once {
                 say_edit(alloc, &stream, course, n, key.as_str());
             }
-            let Some(revision) = told_next(alloc, &stream) else {
+            let line = line_of(alloc, &mut &stream);
+            let Some(revision) = revision_in(&line) else {
+                say_failed(&line, key.as_str(), &mut told);
                 break;
             };
             told.named(key.as_str(), revision);
@@ -83,6 +86,14 @@ fn told_of<R: Host>(rt: &R, at: SocketAddr, course: Course) -> String {
         }
     }
     told.text
+}
+
+// Says so of an edit of which this line tells that the store failed.
+fn say_failed(line: &[u8], key: &str, told: &mut Text) {
+    if line == b"{\"error\":\"store-failed\"}".as_slice() {
+        told.push(key);
+        told.push(" store-failed\n");
+    }
 }
 
 fn say_all(alloc: Global, stream: &TcpStream, course: Course, key: &mut Text) {
