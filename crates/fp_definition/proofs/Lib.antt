@@ -4,3 +4,4 @@ pub mod OneOutcome
 pub mod Parted
 pub mod Ruled
 pub mod Told
+pub mod Timeless

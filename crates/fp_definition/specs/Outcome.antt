@@ -1,5 +1,5 @@
 -- The one outcome of a definition, computed: a plain program beside the relation `Resolves`.
-use Rattle.std.specs.Prelude.{ℕ, List, codes, if◌then◌else◌, Option, Some, None, Result, Err}
+use Rattle.std.specs.Prelude.{◌≡◌, ℕ, List, codes, if◌then◌else◌, Option, Some, None, Result, Err}
 use Rattle.serde_json.specs.Data.{Data}
 use Rattle.serde_json.specs.Find.{get}
 use Rattle.fp_operators.specs.Data as value
@@ -19,3 +19,8 @@ by_rule d (Some r) env = by_result d (meaning env r)
 unfoldable pub outcome_of : Data → List ℕ → Data → ℕ → Result Said EvalFault
 outcome_of d key context now = if is_disabled (get (codes "state") d) then Err Disabled
     else by_rule d (rule_in (get (codes "targeting") d)) (rule_data context key now)
+
+-- at any moment it has the outcome that it has at any other
+abbrev pub IsTimeless : Data → Type 0
+IsTimeless d = (key : List ℕ) (context : Data) (now later : ℕ)
+    → outcome_of d key context now ≡ outcome_of d key context later

@@ -1,6 +1,6 @@
 //! What a definition resolves to.
 
-ghost use Rattle.std.specs.Prelude.{◌≡◌, ◌<◌, ◌^◌, ◌↔◌, ℕ, List, Result, true, IfOk, IfErr};
+ghost use Rattle.std.specs.Prelude.{false, ◌≡◌, ◌<◌, ◌^◌, ◌↔◌, ℕ, List, Result, true, IfOk, IfErr};
 ghost use Rattle.std.specs.Prelude.{IfSome, IsSome, codes};
 ghost use Rattle.serde_json.specs.Data.{Data as JsonData};
 ghost use Rattle.serde_json.specs.Find.{as_object, get, get_member};
@@ -11,7 +11,7 @@ ghost use Rattle.fp_base.specs.TreeView.{tree_view};
 ghost use Rattle.fp_base.specs.Whole.{is_whole, members_whole};
 ghost use Rattle.fp_definition.specs.Key.{key_bytes};
 ghost use Rattle.fp_definition.specs.Memory.{HasRule, rule_needs_memory};
-ghost use Rattle.fp_definition.specs.Outcome.{outcome_of};
+ghost use Rattle.fp_definition.specs.Outcome.{outcome_of, IsTimeless};
 ghost use Rattle.fp_definition.specs.Resolving.{Resolves, Said, Tells, TellsItself, said_by};
 ghost use Rattle.fp_definition.specs.Resolving.{by_default, by_result, data_of, is_disabled};
 ghost use Rattle.fp_definition.specs.Resolving.{outcome_of_variant, said_or_none};
@@ -187,6 +187,16 @@ impl Definition {
             return self.default_of(Reason::Static);
         };
         self.by_rule(alloc, rule, data)
+    }
+
+    /// The outcome may depend on the moment. Where not, it is the same at any moment.
+    pub fn reads_moment(&self) -> bool
+        ensures { result ≡ false → IsTimeless (data_of self.now) }
+    {
+        match self.rule() {
+            Some(rule) => rule.reads_moment(),
+            None => false,
+        }
     }
 
     /// Exactly one outcome, whatever the key, the context and the moment, which `resolve` answers

@@ -23,3 +23,4 @@ pub mod Strictly
 pub mod Splitting
 pub mod Loops
 pub mod Crossing
+pub mod Moments

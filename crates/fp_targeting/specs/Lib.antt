@@ -24,3 +24,4 @@ pub mod Places
 pub mod Emits
 pub mod Strict
 pub mod Compiles
+pub mod Moment

@@ -9,6 +9,7 @@ mod json;
 mod kept;
 pub mod laws;
 mod machine;
+mod moment;
 mod names;
 mod operands;
 mod operator;

@@ -86,7 +86,7 @@ fn text(datum: &Datum) -> &str
 }
 
 // The path at a place in the pool.
-fn path_at(pool: &[Datum], place: u16) -> &str
+pub fn path_at(pool: &[Datum], place: u16) -> &str
     ensures { result.now ≡ text_bytes (get_or (map view pool.now) place null_data) }
 {
     match pool.get(place as usize) {

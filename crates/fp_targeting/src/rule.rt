@@ -1,6 +1,6 @@
 //! Compiled rules.
 
-ghost use Rattle.std.specs.Prelude.{◌≡◌, ◌≤◌, ◌↔◌, ◌||◌, true, IfOk, OnErr};
+ghost use Rattle.std.specs.Prelude.{◌≡◌, ◌≤◌, ◌↔◌, ◌||◌, true, false, IfOk, OnErr};
 ghost use Rattle.serde_json.specs.Data.{depth};
 ghost use Rattle.serde_json.specs.View.{view as json_view};
 ghost use Rattle.fp_operators.specs.View.{view};
@@ -16,6 +16,7 @@ ghost use Rattle.fp_targeting.specs.Found.{found_view};
 ghost use Rattle.fp_targeting.specs.Means.{Means};
 ghost use Rattle.fp_targeting.specs.Meaning.{meaning};
 ghost use Rattle.fp_targeting.specs.Memory.{needs_memory};
+ghost use Rattle.fp_targeting.specs.Moment.{IsTimeless};
 
 use crate::code::Code;
 use crate::data::Data;
@@ -141,6 +142,13 @@ impl Rule {
             (needs_memory self.now || takes_memory (meaning «data».now self.now)) ≡ true) }
     {
         self.find(alloc, data)?.into_datum(alloc)
+    }
+
+    /// What the rule gives may depend on the moment. Where not, it is the same at any moment.
+    pub fn reads_moment(&self) -> bool
+        ensures { result ≡ false → IsTimeless self.now }
+    {
+        self.code.reads_moment()
     }
 
     /// Exactly one result: on any data there is one that the rule gives, and only one, which
