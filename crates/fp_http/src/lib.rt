@@ -17,3 +17,4 @@ pub use connection::serve_ofrep;
 pub use evaluator::Evaluator;
 pub use fault::NoReply;
 pub use limits::{Stop, TimeLimits};
+pub use published::Keeping;

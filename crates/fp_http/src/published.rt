@@ -9,40 +9,80 @@ ghost use Rattle.fp_ofrep.specs.Seen.{body_seen, response_seen};
 
 use crate::evaluator::Evaluator;
 use crate::fault::NoReply;
-use fp_ofrep::{Body, Reply, answer};
-use fp_publish::{Evaluator as Reader, View};
+use fp_ofrep::{Body, KeptTags, Reply, answer_keeping};
+use fp_publish::Evaluator as Reader;
 use http::Method;
 use std::alloc::Global;
+use std::marker::Model;
 
-// The reply over what is lent, where something is.
-fn reply_over(
-    alloc: Global,
-    view: Option<View<'_>>,
-    method: &Method,
-    target: &str,
-    if_none_match: Option<&[u8]>,
-    body: Body<'_>,
-    now: u64,
-) -> Result<Reply, NoReply>
-    requires { now < 2 ^ 63 }
-    ensures said { IfOk result (λ r. (front : FrontState) × (response_seen r
-        ≡ reply (front_set front) method.now target.now (option_copied if_none_match.entry)
-        (body_seen body.entry) now)) }
-    ensures over { IfOk result
-        (λ r. (front : FrontState) × (view.entry ≡ Some front) × (response_seen r
-        ≡ reply (front_set front) method.now target.now (option_copied if_none_match.entry)
-        (body_seen body.entry) now)) }
-{
-    let Some(view) = view else {
-        return Err(NoReply);
-    };
-    match answer(alloc, &view, method, target, if_none_match, body, now) {
-        Ok(reply) => Ok(reply),
-        Err(_) => Err(NoReply),
+/// An evaluator of what is published, and the tags of what it replied for all flags.
+#[derive(Drop)]
+pub struct Keeping {
+    reader: Reader,
+    kept: Option<KeptTags>,
+}
+
+impl Model for Keeping {
+    ghost use Rattle.std.specs.Coded.{codes};
+    ghost use Rattle.fp_edit.specs.Flags.{coded_state};
+    ghost use Rattle.fp_group_commit.specs.Changes.{coded_change};
+    ghost use Rattle.fp_publish.specs.Evaluator.{EvaluatorState};
+    ghost use Rattle.fp_ofrep.specs.Kept.{IsKeptOf};
+
+    ghost Value = { EvaluatorState };
+
+    ghost coded = { Prim.hlevel (codes, coded_state, coded_change) };
+
+    ghost view = { λ k. k.reader };
+
+    ghost invariant = { λ k. IsKeptOf k.kept k.reader.known.store };
+}
+
+impl Keeping {
+    /// No tag is kept yet.
+    pub fn new(reader: Reader) -> Keeping
+        ensures { result ≡ reader }
+    {
+        Keeping { reader, kept: None }
+    }
+
+    /// Gives the evaluator back.
+    pub fn into_reader(self) -> Reader
+        ensures { result ≡ self }
+    {
+        let Keeping { reader, kept: _ } = self;
+        reader
+    }
+
+    // The reply over what was taken.
+    fn reply(
+        &mut self,
+        alloc: Global,
+        method: &Method,
+        target: &str,
+        if_none_match: Option<&[u8]>,
+        body: Body<'_>,
+        now: u64,
+    ) -> Result<Reply, NoReply>
+        requires moment { now < 2 ^ 63 }
+        requires entered { self.old.lent ≡ Some self.old.known }
+        ensures over { IfOk result (λ r. response_seen r
+            ≡ reply (front_set self.old.known) method.now target.now
+            (option_copied if_none_match.entry) (body_seen body.entry) now) }
+        ensures same { self.new ≡ self.old }
+    {
+        let Some(view) = self.reader.view() else {
+            return Err(NoReply);
+        };
+        let kept = &mut self.kept;
+        match answer_keeping(alloc, &view, method, target, if_none_match, body, now, kept) {
+            Ok(reply) => Ok(reply),
+            Err(_) => Err(NoReply),
+        }
     }
 }
 
-impl Evaluator for Reader {
+impl Evaluator for Keeping {
     // The reply over the flags of one front.
     ghost replies = { λ method target tags body now said. (front : FrontState)
         × (said ≡ reply (front_set front) method target tags body now) };
@@ -68,11 +108,11 @@ impl Evaluator for Reader {
             (option_copied if_none_match.entry) (body_seen body.entry) now) }
         ensures rested { self.new.lent ≡ None }
     {
-        if self.enter().is_err() {
+        if self.reader.enter().is_err() {
             return Err(NoReply);
         }
-        let reply = reply_over(alloc, self.view(), method, target, if_none_match, body, now);
-        self.rest();
+        let reply = self.reply(alloc, method, target, if_none_match, body, now);
+        self.reader.rest();
         reply
     }
 }

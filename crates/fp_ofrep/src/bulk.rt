@@ -1,6 +1,6 @@
 //! The evaluation of all flags.
 
-ghost use Rattle.std.specs.Prelude.{◌≡◌, ◌++◌, ℕ, ◌<◌, ◌^◌, true, IfOk, IsSome, OnOk};
+ghost use Rattle.std.specs.Prelude.{◌≡◌, ◌++◌, ℕ, ◌<◌, ◌^◌, true, Some, IfOk, IsSome, OnOk};
 ghost use Rattle.std.specs.FinMap as map;
 ghost use Rattle.json.specs.Tree.{items_tokens, json_tokens};
 ghost use Rattle.serde_json.specs.Data.{Data as JsonData, Items};
@@ -14,6 +14,8 @@ ghost use Rattle.fp_definition.specs.Resolving.{data_of};
 ghost use Rattle.fp_targeting.specs.RuleData.{IsOfContext};
 ghost use Rattle.fp_ofrep.specs.Bulk.{bulk_data, bulk_reply, flag_items, with_flag_item};
 ghost use Rattle.std.specs.Option.{option_copied};
+ghost use Rattle.fp_ofrep.specs.Kept.{HasTag};
+ghost use Rattle.fp_ofrep.specs.Response.{not_modified, success_response};
 ghost use Rattle.fp_ofrep.specs.Seen.{response_seen};
 ghost use Rattle.fp_ofrep.specs.Tag.{response_with_tag};
 ghost use Rattle.fp_ofrep.specs.Single.{evaluation_of};
@@ -58,6 +60,35 @@ pub(crate) fn evaluate_bulk(
     }
 }
 
+/// The same where the tag of the body for all flags is known. The body isn't made where the client
+/// has it.
+pub(crate) fn reply_with_tag(
+    alloc: Global,
+    set: &FlagSet,
+    if_none_match: Option<&[u8]>,
+    body: &[u8],
+    now: u64,
+    tag: &[u8],
+) -> Result<Reply, AllocError>
+    requires moment { now < 2 ^ 63 }
+    requires tag { HasTag set.now body.now tag.now now }
+    ensures { IfOk result (λ r. response_seen r
+        ≡ bulk_reply set.now (option_copied if_none_match.entry) body.now now) }
+{
+    let kept = tag.to_vec(alloc)?;
+    if is_known(tag, if_none_match) {
+        return Ok(not_modified(alloc, set.revision(), kept));
+    }
+    let mut scratch = Scratch::new(alloc);
+    match read_context(alloc, body, &mut scratch)? {
+        Ok(context) => {
+            let text = bulk_text(alloc, set, &context, now)?;
+            Ok(all_flags(set.revision(), kept, text))
+        }
+        Err(failure) => failed(alloc, failure, None),
+    }
+}
+
 // The reply with its tag, or without a body where the client has it.
 fn tagged_reply(
     alloc: Global,
@@ -70,18 +101,32 @@ fn tagged_reply(
 {
     let tag = entity_tag(alloc, &body)?;
     if is_known(&tag, if_none_match) {
-        return Ok(Reply {
-            status: StatusCode::NOT_MODIFIED,
-            headers: Headers {
-                allow_post: false,
-                is_json: false,
-                flag_revision: Some(revision),
-                etag: Some(tag),
-            },
-            body: Vec::new(alloc),
-        });
+        return Ok(not_modified(alloc, revision, tag));
     }
-    Ok(Reply {
+    Ok(all_flags(revision, tag, body))
+}
+
+// The client has the body of this tag.
+fn not_modified(alloc: Global, revision: u64, tag: Vec<u8>) -> Reply
+    ensures { response_seen result ≡ not_modified revision tag.items }
+{
+    Reply {
+        status: StatusCode::NOT_MODIFIED,
+        headers: Headers {
+            allow_post: false,
+            is_json: false,
+            flag_revision: Some(revision),
+            etag: Some(tag),
+        },
+        body: Vec::new(alloc),
+    }
+}
+
+// The body for all flags, and its tag.
+fn all_flags(revision: u64, tag: Vec<u8>, body: Vec<u8>) -> Reply
+    ensures { response_seen result ≡ success_response revision (Some tag.items) body.items }
+{
+    Reply {
         status: StatusCode::OK,
         headers: Headers {
             allow_post: false,
@@ -90,7 +135,7 @@ fn tagged_reply(
             etag: Some(tag),
         },
         body,
-    })
+    }
 }
 
 // The body for all flags.

@@ -107,8 +107,8 @@ impl<'a> View<'a> {
         self.page.revision()
     }
 
-    // What is shown of it.
-    pub(crate) fn shown(&self) -> Shown
+    /// That it is shown. It takes no memory.
+    pub fn shown(&self) -> Shown
         ensures { result ≡ self.now }
     {
         self.page.shown()

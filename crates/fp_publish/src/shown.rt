@@ -1,6 +1,6 @@
 //! Tokens of what was shown.
 
-ghost use Rattle.std.specs.Prelude.{◌≡◌, ◌<◌, ◌++◌, length, IsTrue, MatchBool};
+ghost use Rattle.std.specs.Prelude.{◌≡◌, ◌<◌, ◌++◌, ◌↔◌, length, IsTrue, MatchBool};
 ghost use mathlib.Core.List.{IsPrefix};
 ghost use Rattle.fp_edit.specs.Following.{changes_of};
 ghost use Rattle.fp_group_commit.specs.Tokens.{EndsWith, front_revision};
@@ -81,10 +81,10 @@ impl Shown {
         self.revision < other.revision
     }
 
-    // Whether both are of the same edits.
-    pub(crate) fn is_same(&self, other: &Shown) -> bool
+    /// Whether both are of the same edits, of one store.
+    pub fn is_same(&self, other: &Shown) -> bool
         requires { self.now.store ≡ other.now.store }
-        ensures { IsTrue result → self.now ≡ other.now }
+        ensures { IsTrue result ↔ (self.now ≡ other.now) }
     {
         self.front.meets(&other.front);
         self.revision == other.revision

@@ -9,10 +9,9 @@ ghost use Rattle.fp_ofrep.specs.Reply.{reply};
 ghost use Rattle.fp_publish.specs.Fronts.{Begins};
 ghost use Rattle.fp_ofrep.specs.Seen.{body_seen, response_seen};
 
-use fp_http::{Evaluator as Answers, NoReply};
+use fp_http::{Evaluator as Answers, Keeping, NoReply};
 use fp_ofrep::{Body, Reply};
 use fp_plane::{EvaluatorsUsed, Naming, Plane};
-use fp_publish::Evaluator;
 use http::Method;
 use std::alloc::{AllocError, Global};
 use std::sync::Wait;
@@ -38,10 +37,11 @@ impl From<EvaluatorsUsed> for LoanFault {
     }
 }
 
-/// An evaluator of a plane, which is given back where this is let go of.
+/// An evaluator of a plane, which is given back where this is let go of; the tags that it kept
+/// aren't.
 pub struct LentEvaluator<K: Naming, R: Wait + Copy + Drop> {
     plane: Plane<K, R>,
-    evaluator: Evaluator,
+    evaluator: Keeping,
     ghost ours: { evaluator.known.store ≡ K.store } by { Prim.hlevel (codes, coded_state) },
 }
 
@@ -49,7 +49,7 @@ impl<K: Naming, R: Wait + Copy + Drop> LentEvaluator<K, R> {
     /// One that nobody has.
     pub fn of(plane: &Plane<K, R>) -> Result<LentEvaluator<K, R>, LoanFault> {
         let plane = plane.try_copy()?;
-        let evaluator = plane.evaluator()?;
+        let evaluator = Keeping::new(plane.evaluator()?);
         Ok(LentEvaluator { plane, evaluator })
     }
 }
@@ -57,7 +57,7 @@ impl<K: Naming, R: Wait + Copy + Drop> LentEvaluator<K, R> {
 impl<K: Naming, R: Wait + Copy + Drop> Drop for LentEvaluator<K, R> {
     fn drop(self) {
         let Self { plane, evaluator } = self;
-        plane.give_back(evaluator);
+        plane.give_back(evaluator.into_reader());
     }
 }
 

@@ -1,0 +1,113 @@
+-- Tags that are kept: of which requests they are, and that no moment changes them.
+use Rattle.std.proofs.Common.{◌≡◌, ◌≤◌, ℕ, List, [], ◌∷◌, Bool, true, false, refl, sym, ap, ◌∙◌, length, arith}
+use Rattle.std.specs.Prelude.{All, Option, Some, None, Result, Ok, Err, bytes_eq, codes, if◌then◌else◌, unwrap_or}
+use Rattle.std.specs.FinMap as map
+use Rattle.std.specs.Result.{result_unwrap_or}
+use Rattle.std.proofs.lemmas.Bool.{le-ltb}
+use Rattle.std.proofs.lemmas.List.Elements.{All-head, All-tail}
+use Rattle.serde_json.specs.Data.{Data, Items, object, array, member, no_members}
+use Rattle.serde_json.specs.Written.{compact_text}
+use Rattle.fp_definition.specs.Outcome.{IsTimeless}
+use Rattle.fp_definition.specs.Resolving.{data_of}
+use Rattle.fp_edit.specs.Flags.{Flags, State}
+use Rattle.fp_edit.specs.declared.flags.Flag.{Flag}
+use Rattle.fp_ofrep.specs.Bulk.{bulk_data, bulk_in, bulk_reply, flag_items, with_flag_item}
+use Rattle.fp_ofrep.specs.Context.{context_of}
+use Rattle.fp_ofrep.specs.Kept.{AreTimeless, AsksForAll, HasTag, IsTagOf}
+use Rattle.fp_ofrep.specs.Reply.{reply, reply_to_post, reply_to_route}
+use Rattle.fp_ofrep.specs.Response.{Response, empty, not_allowed, not_modified, success_response}
+use Rattle.fp_ofrep.specs.Route.{Route, bulk}
+use Rattle.fp_ofrep.specs.Single.{evaluation_of, value_or_failure}
+use Rattle.fp_ofrep.specs.Tag.{is_known, response_with_tag, tag_of}
+use Rattle.fp_ofrep.specs.declared.failure.Failure.{Failure}
+
+-- ---- moments
+
+flag_items-timeless : (es : List (List ℕ × Flag)) → AreTimeless es → (context : Data) (now later : ℕ)
+    → flag_items es context now ≡ flag_items es context later
+flag_items-timeless [] h context now later = refl
+flag_items-timeless (e ∷ es) h context now later =
+    let d = data_of e.1.definition in
+    let first : IsTimeless d = All-head (λ (x : List ℕ × Flag). IsTimeless (data_of x.1.definition)) e es h in
+    let rest : AreTimeless es = All-tail (λ (x : List ℕ × Flag). IsTimeless (data_of x.1.definition)) e es h in
+    ap (λ o. with_flag_item e.0 (value_or_failure e.0 d o) (flag_items es context now)) (first e.0 context now later)
+    ∙ ap (λ items. with_flag_item e.0 (evaluation_of e.0 d context later) items) (flag_items-timeless es rest context now later)
+
+bulk_data-timeless : (flags : Flags) → AreTimeless (map.entries flags) → (context : Data) (now later : ℕ)
+    → bulk_data flags context now ≡ bulk_data flags context later
+bulk_data-timeless flags h context now later =
+    ap (λ (items : Items). object (member (codes "flags") (array items) no_members)) (flag_items-timeless (map.entries flags) h context now later)
+
+-- a tag at one moment is one at each
+pub at_any_moment : (set : State) (body tag : List ℕ) → AreTimeless (map.entries set.flags) → ((now : ℕ) × HasTag set body tag now)
+    → IsTagOf set body tag
+at_any_moment set body tag h found later = let t = found.1 in record {
+  context = t.context;
+  asked = t.asked;
+  tagged = t.tagged ∙ ap (λ d. tag_of (compact_text d)) (bulk_data-timeless set.flags h t.context found.0 later);
+}
+
+-- ---- what a reply tells of its tag
+
+etag-either : (known : Bool) (revision : ℕ) (tag text : List ℕ)
+    → (if known then not_modified revision tag else success_response revision (Some tag) text).etag ≡ Some tag
+etag-either true revision tag text = refl
+etag-either false revision tag text = refl
+
+told_in : (set : State) (if_none_match : Option (List ℕ)) (asked : Result Data Failure) (body tag : List ℕ) (now : ℕ)
+    → context_of body ≡ asked → (bulk_in set if_none_match asked now).etag ≡ Some tag → HasTag set body tag now
+told_in set if_none_match (Err f) body tag now is h = absurd (cc)
+told_in set if_none_match (Ok context) body tag now is h =
+    let text = compact_text (bulk_data set.flags context now) in record {
+  context = context;
+  asked = is;
+  tagged = ap (λ o. unwrap_or o []) (sym h ∙ etag-either (is_known (tag_of text) if_none_match) set.revision (tag_of text) text);
+}
+
+pub tag_told : (set : State) (if_none_match : Option (List ℕ)) (body tag : List ℕ) (now : ℕ)
+    → (bulk_reply set if_none_match body now).etag ≡ Some tag → HasTag set body tag now
+tag_told set if_none_match body tag now h = told_in set if_none_match (context_of body) body tag now refl h
+
+-- ---- the reply by its tag
+
+-- the reply is that to a client that has the body, or has it not
+by_tag : (set : State) (if_none_match : Option (List ℕ)) (body tag : List ℕ) (now : ℕ) (h : HasTag set body tag now)
+    → bulk_reply set if_none_match body now
+    ≡ (if is_known tag if_none_match then not_modified set.revision tag
+    else success_response set.revision (Some tag) (compact_text (bulk_data set.flags h.context now)))
+by_tag set if_none_match body tag now h =
+    let text = compact_text (bulk_data set.flags h.context now) in
+    ap (λ r. bulk_in set if_none_match r now) h.asked
+    ∙ ap (λ t. if is_known t if_none_match then not_modified set.revision t else success_response set.revision (Some t) text) (sym h.tagged)
+
+pub known_reply : (set : State) (if_none_match : Option (List ℕ)) (body tag : List ℕ) (now : ℕ) → HasTag set body tag now
+    → is_known tag if_none_match ≡ true → not_modified set.revision tag ≡ bulk_reply set if_none_match body now
+known_reply set if_none_match body tag now h known =
+    sym (by_tag set if_none_match body tag now h
+    ∙ ap (λ (b : Bool). if b then not_modified set.revision tag
+    else success_response set.revision (Some tag) (compact_text (bulk_data set.flags h.context now))) known)
+
+ok_is : (a b : Data) → Ok {T = Data} {E = Failure} a ≡ Ok b → a ≡ b
+ok_is a b h = ap (λ (r : Result Data Failure). result_unwrap_or r a) h
+
+pub other_reply : (set : State) (if_none_match : Option (List ℕ)) (body tag text : List ℕ) (now : ℕ) (d : Data) → HasTag set body tag now
+    → Ok d ≡ context_of body → text ≡ compact_text (bulk_data set.flags d now) → is_known tag if_none_match ≡ false
+    → success_response set.revision (Some tag) text ≡ bulk_reply set if_none_match body now
+other_reply set if_none_match body tag text now d h is made unknown =
+    ap (λ t. success_response set.revision (Some tag) t)
+    (made ∙ ap (λ c. compact_text (bulk_data set.flags c now)) (ok_is d h.context (is ∙ h.asked)))
+    ∙ sym (by_tag set if_none_match body tag now h
+    ∙ ap (λ (b : Bool). if b then not_modified set.revision tag
+    else success_response set.revision (Some tag) (compact_text (bulk_data set.flags h.context now))) unknown)
+
+-- ---- who asks for all flags
+
+pub asked_for_all : (method target : List ℕ) (came : Option (List ℕ)) (body : List ℕ) → AsksForAll method target came body
+    → (set : State) (if_none_match : Option (List ℕ)) (now : ℕ)
+    → reply set method target if_none_match came now ≡ bulk_reply set if_none_match body now
+asked_for_all method target came body h set if_none_match now =
+    ap (λ (r : Option Route). reply_to_route set r method if_none_match came now) h.all
+    ∙ ap (λ (m : List ℕ). if bytes_eq m (codes "POST") then reply_to_post set bulk if_none_match came now else not_allowed) h.posted
+    ∙ ap (λ (b : Option (List ℕ)). reply_to_post set bulk if_none_match b now) h.whole
+    ∙ ap (λ (long : Bool). if long then empty 413 else bulk_reply set if_none_match body now)
+    (le-ltb 65536 (length body) (omega (arith, h.short)))

@@ -1,0 +1,224 @@
+//! Tags that are kept for who asks for all flags again.
+
+ghost use Rattle.std.specs.Prelude.{◌≡◌, ◌<◌, ◌≤◌, ◌^◌, ◌⊎◌, ℕ, codes, length, IfOk, IfSome};
+ghost use Rattle.std.specs.Prelude.{Some, None, true};
+ghost use Rattle.std.specs.FinMap as map;
+ghost use Rattle.std.specs.Option.{option_copied};
+ghost use Rattle.fp_group_commit.specs.Tokens.{front_set};
+ghost use Rattle.fp_ofrep.specs.Kept.{AreTimeless, AsksForAll, HasTag, IsKeptOf, IsTagOf};
+ghost use Rattle.fp_ofrep.specs.Reply.{reply};
+ghost use Rattle.fp_ofrep.specs.Seen.{body_seen, response_seen};
+
+use crate::bulk::reply_with_tag;
+use crate::reply::Reply;
+use crate::request::{Body, answer};
+use crate::route::{Route, route_of};
+use fp_edit::FlagSet;
+use fp_publish::{Shown, View};
+use http::Method;
+use std::alloc::{AllocError, Global};
+use std::marker::Model;
+
+/// The most tags that are kept at once: who asks by more contexts in turn is answered as if none were.
+pub const MOST_KEPT_TAGS: usize = 32;
+
+/// The most bytes of a request's body whose tag is kept.
+pub const LONGEST_KEPT_BODY: usize = 2_048;
+
+// The tag of the reply to a request with this body. Bodies are compared whole: that two have one
+// digest doesn't show that they are the same.
+#[derive(Drop)]
+struct KeptTag {
+    body: Vec<u8>,
+    tag: Vec<u8>,
+}
+
+/// Tags of replies for all flags, of one published set. None is kept of a set with a rule that may
+/// read the moment.
+#[derive(Drop)]
+pub struct KeptTags {
+    shown: Shown,
+    is_timeless: bool,
+    tags: Vec<KeptTag>,
+    // Where the next one goes, once there are as many as may be.
+    next: usize,
+}
+
+impl Model for KeptTags {
+    ghost use Rattle.std.specs.Coded.{codes};
+    ghost use Rattle.fp_edit.specs.Flags.{coded_state};
+    ghost use Rattle.fp_group_commit.specs.Changes.{coded_change};
+    ghost use Rattle.fp_group_commit.specs.Tokens.{FrontState};
+    ghost use Rattle.fp_ofrep.specs.Kept.{AreKept};
+
+    ghost Value = { FrontState };
+
+    ghost coded = { Prim.hlevel (codes, coded_state, coded_change) };
+
+    ghost view = { λ k. k.shown };
+
+    ghost invariant = { λ k. AreKept k.shown k.is_timeless k.tags.items };
+}
+
+impl KeptTags {
+    // None yet, of what is lent.
+    fn of(alloc: Global, view: &View<'_>) -> KeptTags
+        ensures { result ≡ view.now }
+    {
+        KeptTags {
+            shown: view.shown(),
+            is_timeless: is_timeless(view.set()),
+            tags: Vec::new(alloc),
+            next: 0,
+        }
+    }
+
+    // Whether they are of what is lent.
+    fn is_of(&self, view: &View<'_>) -> bool
+        requires { self.now.store ≡ view.now.store }
+        ensures { result ≡ true → self.now ≡ view.now }
+    {
+        let _ = self.is_timeless;
+        self.shown.is_same(&view.shown())
+    }
+
+    // The tag of the reply to a request with this body, where it is kept.
+    fn tag(&self, body: &[u8]) -> Option<&[u8]>
+        ensures { IfSome result (λ tag. IsTagOf (front_set self.now) body.now tag.now) }
+    {
+        for kept in self.tags.iter() {
+            if kept.body.as_slice() == body {
+                return Some(kept.tag.as_slice());
+            }
+        }
+        None
+    }
+
+    // Keeps a tag, in the place of the oldest one where there are as many as may be.
+    fn keep(&mut self, alloc: Global, body: &[u8], tag: &[u8]) -> Result<(), AllocError>
+        requires { (now : ℕ) × HasTag (front_set self.old) body.now tag.now now }
+        ensures { self.new ≡ self.old }
+    {
+        if !self.is_timeless || body.len() > LONGEST_KEPT_BODY {
+            return Ok(());
+        }
+        let kept = KeptTag {
+            body: body.to_vec(alloc)?,
+            tag: tag.to_vec(alloc)?,
+        };
+        if self.tags.len() < MOST_KEPT_TAGS {
+            self.tags.push(kept)?;
+        } else if self.next < self.tags.len() {
+            self.tags[self.next] = kept;
+        }
+        self.next = if self.next + 1 < MOST_KEPT_TAGS { self.next + 1 } else { 0 };
+        Ok(())
+    }
+}
+
+// No rule of these flags may read the moment.
+fn is_timeless(set: &FlagSet) -> bool
+    ensures { result ≡ true → AreTimeless (map.entries set.now.flags) }
+{
+    for (_key, flag) in set.iter() {
+        if flag.definition.reads_moment() {
+            return false;
+        }
+    }
+    true
+}
+
+// The body of a request for all flags, where its tag may be kept.
+fn bulk_body<'b>(method: &Method, target: &str, body: Body<'b>) -> Option<&'b [u8]>
+    ensures { IfSome result (λ b. AsksForAll method.now target.now (body_seen body.entry) b.now) }
+{
+    let Body::Whole(bytes) = body else {
+        return None;
+    };
+    if bytes.len() > LONGEST_KEPT_BODY || method.as_str() != "POST" {
+        return None;
+    }
+    match route_of(target.as_bytes()) {
+        Some(Route::Bulk) => Some(bytes),
+        _ => None,
+    }
+}
+
+// The tag of the reply over what is lent to a request with this body, where it is kept.
+fn known_tag<'k>(kept: &'k Option<KeptTags>, view: &View<'_>, body: &[u8]) -> Option<&'k [u8]>
+    requires { IsKeptOf kept.now view.now.store }
+    ensures { IfSome result (λ tag. IsTagOf (front_set view.now) body.now tag.now) }
+{
+    let Some(tags) = kept else {
+        return None;
+    };
+    if !tags.is_of(view) {
+        return None;
+    }
+    tags.tag(body)
+}
+
+// What is kept, where it is of what is lent, or nothing yet.
+fn tags_of(alloc: Global, kept: Option<KeptTags>, view: &View<'_>) -> KeptTags
+    requires { IsKeptOf kept view.now.store }
+    ensures { result ≡ view.now }
+{
+    let Some(tags) = kept else {
+        return KeptTags::of(alloc, view);
+    };
+    if tags.is_of(view) {
+        return tags;
+    }
+    KeptTags::of(alloc, view)
+}
+
+// Keeps the tag of a reply, where there is memory for it.
+fn note(
+    alloc: Global,
+    kept: &mut Option<KeptTags>,
+    view: &View<'_>,
+    body: &[u8],
+    tag: &[u8],
+)
+    requires store { IsKeptOf kept.old view.now.store }
+    requires tag { (now : ℕ) × HasTag (front_set view.now) body.now tag.now now }
+    ensures { kept.new ≡ Some view.now }
+{
+    let mut tags = tags_of(alloc, kept.take(), view);
+    let _ = tags.keep(alloc, body, tag);
+    *kept = Some(tags);
+}
+
+/// As `answer`, by the tags that are kept of replies of the same store: a reply for all flags whose
+/// tag is known isn't hashed, and isn't made where the client has it. What is kept is then of what is
+/// lent, or as it was. Want of memory for it is nobody's fault.
+pub fn answer_keeping(
+    alloc: Global,
+    view: &View<'_>,
+    method: &Method,
+    target: &str,
+    if_none_match: Option<&[u8]>,
+    body: Body<'_>,
+    now: u64,
+    kept: &mut Option<KeptTags>,
+) -> Result<Reply, AllocError>
+    requires moment { now < 2 ^ 63 }
+    requires store { IsKeptOf kept.old view.now.store }
+    ensures said { IfOk result (λ r. response_seen r
+        ≡ reply (front_set view.now) method.now target.now (option_copied if_none_match.entry)
+        (body_seen body.entry) now) }
+    ensures store { IsKeptOf kept.new view.now.store }
+    ensures kept { (kept.new ≡ kept.old) ⊎ (kept.new ≡ Some view.now) }
+{
+    let Some(asked) = bulk_body(method, target, body) else {
+        return answer(alloc, view, method, target, if_none_match, body, now);
+    };
+    if let Some(tag) = known_tag(kept, view, asked) {
+        return reply_with_tag(alloc, view.set(), if_none_match, asked, now, tag);
+    }
+    let reply = answer(alloc, view, method, target, if_none_match, body, now)?;
+    if let Some(tag) = &reply.headers.etag {
+        note(alloc, kept, view, asked, tag);
+    }
+    Ok(reply)
+}
