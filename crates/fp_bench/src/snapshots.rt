@@ -10,7 +10,7 @@ use crate::world::{Plane, compact, hand, plane_over, publish};
 use fp_edit::{Edit, parse_line};
 use fp_publish::Handed;
 use fp_stream::{Decoder, Hello, MOST_BODY, write_frame};
-use fp_streams::FailureCounted;
+use fp_streams::{FailureCounted, WriteGathered};
 use std::alloc::Global;
 use std::io;
 use std::io::{ErrorKind, Write};
@@ -58,6 +58,8 @@ impl Write for Subscriber {
         Ok(())
     }
 }
+
+impl WriteGathered for Subscriber {}
 
 // A connection to a subscriber.
 type Connection = FailureCounted<Subscriber>;

@@ -16,8 +16,8 @@ use crate::pausing::pause;
 use crate::plane::Plane;
 use fp_publish::{Handed, Seat};
 use fp_stream::{HelloFault, MOST_BODY, read_hello, write_frame};
-use fp_streams::{FailureCounted, StreamFault};
-use std::io::{Read, Write};
+use fp_streams::{FailureCounted, StreamFault, WriteGathered};
+use std::io::Read;
 use std::mem;
 use std::sync::{CondvarTimeouts, Wait};
 use std::time::{Clock, Duration};
@@ -47,7 +47,7 @@ where
     K: Naming,
     R: Wait + Clock + Drop,
     I: Read,
-    O: Write,
+    O: WriteGathered,
     G: Fn() -> bool + Drop,
     requires { G.IsAlwaysCallable has_left }
     ensures served { Serves K.store (I.remaining r.old.inner) (I.remaining r.new.inner)
@@ -79,7 +79,7 @@ fn serve_seat<K, R, O, G>(
 where
     K: Naming,
     R: Wait + Clock + Drop,
-    O: Write,
+    O: WriteGathered,
     G: Fn() -> bool,
     requires { G.IsAlwaysCallable has_left.now }
     ensures sent { OnOk result ((had : Hello) (before : Option (List ℕ))

@@ -1,8 +1,9 @@
 //! A connection's stream that keeps why it failed last.
 
 use crate::ended::Ended;
+use fp_streams::WriteGathered;
 use std::io;
-use std::io::{ErrorKind, Read, Write};
+use std::io::{ErrorKind, IoSlice, Read, Write};
 use std::net::TcpStream;
 
 /// One side of a stream, and why it failed last.
@@ -25,6 +26,13 @@ impl Noted<'_> {
     pub fn ended(&self) -> Option<Ended> {
         self.ended
     }
+
+    fn note_of_writer(&mut self, fault: &io::Error) {
+        self.ended = Some(match fault.kind() {
+            ErrorKind::WouldBlock => Ended::SlowReply,
+            kind => Ended::Fault(kind),
+        });
+    }
 }
 
 impl Read for Noted<'_> {
@@ -46,10 +54,7 @@ impl Write for Noted<'_> {
         match stream.write(buf) {
             Ok(count) => Ok(count),
             Err(fault) => {
-                self.ended = Some(match fault.kind() {
-                    ErrorKind::WouldBlock => Ended::SlowReply,
-                    kind => Ended::Fault(kind),
-                });
+                self.note_of_writer(&fault);
                 Err(fault)
             }
         }
@@ -57,5 +62,17 @@ impl Write for Noted<'_> {
 
     fn flush(&mut self) -> io::Result<()> {
         Ok(())
+    }
+}
+
+impl WriteGathered for Noted<'_> {
+    fn write_gathered(&mut self, texts: &[IoSlice<'_>]) -> io::Result<usize> {
+        match TcpStream::write_vectored(self.stream, texts) {
+            Ok(count) => Ok(count),
+            Err(fault) => {
+                self.note_of_writer(&fault);
+                Err(fault)
+            }
+        }
     }
 }

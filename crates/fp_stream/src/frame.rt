@@ -8,8 +8,7 @@ ghost use Rattle.fp_stream.specs.declared.head.TheConstants.{MOST_BODY};
 ghost use Rattle.fp_stream.specs.Frames.{frame};
 
 use crate::head::head_bytes;
-use fp_streams::{FailureCounted, StreamFault};
-use std::io::Write;
+use fp_streams::{FailureCounted, StreamFault, WriteGathered};
 
 /// A snapshot as a frame carries it. The body is not read: whoever wrote it
 /// says that it is a document.
@@ -21,8 +20,9 @@ pub struct Frame {
     pub body: Vec<u8>,
 }
 
-/// Writes the frame of a document. At an error some of it may have been written.
-pub fn write_frame<W: Write>(
+/// Writes the frame of a document, by one call where the writer takes it whole. At an error some
+/// of it may have been written.
+pub fn write_frame<W: WriteGathered>(
     w: &mut FailureCounted<W>,
     revision: u64,
     document: &[u8],
@@ -33,7 +33,6 @@ pub fn write_frame<W: Write>(
     ensures fault { IfErr result (λ f. f ≡ Device) }
     ensures counted { CountsFailures w.old.failures w.new.failures result }
 {
-    w.send(&head_bytes(revision, document.len() as u32))?;
-    w.send(document)?;
+    w.send_both(&head_bytes(revision, document.len() as u32), document)?;
     Ok(())
 }

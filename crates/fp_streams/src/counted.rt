@@ -1,12 +1,13 @@
 //! Readers and writers whose failures are counted.
 
-ghost use Rattle.std.specs.Prelude.{◌≡◌, ◌+◌, ◌-◌, ◌<◌, ◌^◌, IfOk, IfSome, IfErr, OnOk};
+ghost use Rattle.std.specs.Prelude.{◌≡◌, ◌+◌, ◌++◌, ◌-◌, ◌<◌, ◌^◌, IfOk, IfSome, IfErr, OnOk};
 ghost use Rattle.std.specs.Io.{ReadsAtMost};
 ghost use Rattle.std.specs.Io.KnownBytes.{Appends, ReadConsumes};
 ghost use Rattle.fp_streams.specs.Failures.{CountsFailures};
 ghost use Rattle.fp_streams.specs.Said.{AppendsLine};
 ghost use Rattle.fp_streams.specs.declared.counted.StreamFault.TheVariants.{Device};
 
+use crate::gathered::{WriteGathered, write_both_and_flush};
 use fp_fronts::Count;
 use std::alloc::Global;
 use std::fmt::Display;
@@ -121,6 +122,23 @@ impl<R: Read> FailureCounted<R> {
         match self.stream.read_to_end(&mut bytes) {
             Ok(_) => Ok(bytes),
             Err(e) if e.kind() == ErrorKind::OutOfMemory => Err(StreamFault::Memory),
+            Err(_) => Err(self.fault()),
+        }
+    }
+}
+
+impl<W: WriteGathered> FailureCounted<W> {
+    /// Writes both, one behind the other, and flushes them: by one call where the stream takes them
+    /// whole. At an error some of the bytes may have been written.
+    pub fn send_both(&mut self, first: &[u8], second: &[u8]) -> Result<(), StreamFault>
+        ensures bytes { OnOk result (Appends (W.contents self.old.inner)
+            (W.contents self.new.inner) (first.now ++ second.now)) }
+        ensures fault { IfErr result (λ f. f ≡ Device) }
+        ensures counted { CountsFailures self.old.failures self.new.failures result }
+        ensures reads { self.new.reads_left ≡ self.old.reads_left }
+    {
+        match write_both_and_flush(&mut self.stream, first, second) {
+            Ok(()) => Ok(()),
             Err(_) => Err(self.fault()),
         }
     }

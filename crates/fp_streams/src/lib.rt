@@ -2,5 +2,7 @@
 #![tactic(auto)]
 
 mod counted;
+mod gathered;
 
 pub use counted::{FailureCounted, StreamFault};
+pub use gathered::WriteGathered;

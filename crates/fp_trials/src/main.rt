@@ -8,6 +8,7 @@ mod damage;
 mod disk;
 mod eval;
 mod event;
+mod frames;
 mod held;
 mod journal;
 mod logged;

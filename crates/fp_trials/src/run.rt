@@ -2,7 +2,7 @@
 
 use crate::text::judged;
 use crate::trial::{Answer, Trial};
-use crate::{commands, damage, disk, eval, event, journal, parts, world};
+use crate::{commands, damage, disk, eval, event, frames, journal, parts, world};
 use fp_transcript::{Args, Text};
 
 // The words of the modules.
@@ -55,7 +55,7 @@ fn understood(trial: &mut Trial, word: &str, args: &mut Args<'_>) -> Answer {
     }
 }
 
-// Parts of a world, commands of the program, slots, changed bytes.
+// Parts of a world, commands of the program, frames, slots, changed bytes.
 fn composed(trial: &mut Trial, word: &str, args: &mut Args<'_>) -> Answer {
     if ON_INPUT.contains(&word) {
         commands::on_input(trial, word, args)
@@ -63,6 +63,8 @@ fn composed(trial: &mut Trial, word: &str, args: &mut Args<'_>) -> Answer {
         commands::on_commands(trial, word, args.rest)
     } else if word == "eval" {
         eval::on_eval(trial, args)
+    } else if word == "frame" {
+        frames::on_frame(trial, args)
     } else if ON_PARTS.contains(&word) {
         parts::on_parts(trial, word, args)
     } else if ON_SLOTS.contains(&word) {
