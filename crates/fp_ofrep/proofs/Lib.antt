@@ -4,4 +4,4 @@ pub mod Lists
 pub mod Parts
 pub mod Utf8
 pub mod Written
-pub mod Keeping
+pub mod TagLemmas

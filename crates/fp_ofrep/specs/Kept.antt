@@ -1,6 +1,6 @@
 -- Tags of the replies for all flags, as they are kept for who asks again.
-use Rattle.std.specs.Prelude.{◌≡◌, ◌≤◌, ℕ, List, Bool, true, All, Option, Some, IfSome, Ok}
-use Rattle.std.specs.Prelude.{codes, length}
+use Rattle.std.specs.Prelude.{◌≡◌, ◌≤◌, ◌<◌, ◌⊎◌, ◌++◌, ℕ, List, [], ◌∷◌, Bool, true, All, Option, Some}
+use Rattle.std.specs.Prelude.{IfSome, Ok, codes, length, slice_set}
 use Rattle.std.specs.FinMap as map
 use Rattle.serde_json.specs.Data.{Data}
 use Rattle.serde_json.specs.Written.{compact_text}
@@ -40,6 +40,11 @@ pub record AreKept (front : FrontState) (timeless : Bool) (kept : List KeptTag) 
   pub tags : All (λ k. IsTagOf (front_set front) k.body.items k.tag.items) kept
   pub few : length kept ≤ MOST_KEPT_TAGS
   pub short : All (λ k. length k.body.items ≤ LONGEST_KEPT_BODY) kept
+
+-- a tag took the place of one, or came behind all where there were no more than this
+abbrev pub IsPutAt : List KeptTag → ℕ → KeptTag → List KeptTag → Type 0
+IsPutAt before place kept after = ((place < length before) × (after ≡ slice_set before place kept))
+    ⊎ ((length before ≤ place) × (after ≡ before ++ kept ∷ []))
 
 -- a request for all flags, whose body is short
 pub record AsksForAll (method target : List ℕ) (came : Option (List ℕ)) (body : List ℕ)

@@ -1,11 +1,11 @@
 //! Tags that are kept for who asks for all flags again.
 
-ghost use Rattle.std.specs.Prelude.{◌≡◌, ◌<◌, ◌≤◌, ◌^◌, ◌⊎◌, ℕ, codes, length, IfOk, IfSome};
-ghost use Rattle.std.specs.Prelude.{Some, None, true};
+ghost use Rattle.std.specs.Prelude.{◌≡◌, ◌<◌, ◌^◌, ◌⊎◌, ℕ, IfOk, IfSome};
+ghost use Rattle.std.specs.Prelude.{OnErr, OnOk, Some, true};
 ghost use Rattle.std.specs.FinMap as map;
 ghost use Rattle.std.specs.Option.{option_copied};
 ghost use Rattle.fp_group_commit.specs.Tokens.{front_set};
-ghost use Rattle.fp_ofrep.specs.Kept.{AreTimeless, AsksForAll, HasTag, IsKeptOf, IsTagOf};
+ghost use Rattle.fp_ofrep.specs.Kept.{AreTimeless, AsksForAll, HasTag, IsKeptOf, IsPutAt, IsTagOf};
 ghost use Rattle.fp_ofrep.specs.Reply.{reply};
 ghost use Rattle.fp_ofrep.specs.Seen.{body_seen, response_seen};
 
@@ -40,7 +40,7 @@ pub struct KeptTags {
     shown: Shown,
     is_timeless: bool,
     tags: Vec<KeptTag>,
-    // Where the next one goes, once there are as many as may be.
+    // How many were kept so far, up to an overflow: the next one takes the place of the oldest.
     next: usize,
 }
 
@@ -94,7 +94,8 @@ impl KeptTags {
         None
     }
 
-    // Keeps a tag, in the place of the oldest one where there are as many as may be.
+    // Keeps a tag, in the place of the oldest one where there are as many as may be. A long body's
+    // isn't kept.
     fn keep(&mut self, alloc: Global, body: &[u8], tag: &[u8]) -> Result<(), AllocError>
         requires { (now : ℕ) × HasTag (front_set self.old) body.now tag.now now }
         ensures { self.new ≡ self.old }
@@ -106,21 +107,31 @@ impl KeptTags {
             body: body.to_vec(alloc)?,
             tag: tag.to_vec(alloc)?,
         };
-        if self.tags.len() < MOST_KEPT_TAGS {
-            self.tags.push(kept)?;
-        } else if self.next < self.tags.len() {
-            self.tags[self.next] = kept;
-        }
-        self.next = if self.next + 1 < MOST_KEPT_TAGS { self.next + 1 } else { 0 };
+        put_at(&mut self.tags, self.next % MOST_KEPT_TAGS, kept)?;
+        self.next = self.next.wrapping_add(1);
         Ok(())
     }
 }
 
+// Puts a tag into a place, or behind all where there are no more than places in front of it.
+fn put_at(tags: &mut Vec<KeptTag>, place: usize, kept: KeptTag) -> Result<(), AllocError>
+    ensures put { OnOk result (IsPutAt tags.old.items place kept tags.new.items) }
+    ensures unchanged { OnErr result (tags.new.items ≡ tags.old.items) }
+{
+    if place < tags.len() {
+        tags[place] = kept;
+    } else {
+        tags.push(kept)?;
+    }
+    Ok(())
+}
+
 // No rule of these flags may read the moment.
+#[tactic(auto, using(crate::proofs::TagLemmas::timeless_more))]
 fn is_timeless(set: &FlagSet) -> bool
     ensures { result ≡ true → AreTimeless (map.entries set.now.flags) }
 {
-    for (_key, flag) in set.iter() {
+    for (_, flag) in set.iter() {
         if flag.definition.reads_moment() {
             return false;
         }

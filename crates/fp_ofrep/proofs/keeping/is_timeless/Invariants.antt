@@ -4,5 +4,5 @@ use Rattle.fp_ofrep.specs.Kept.{AreTimeless}
 use Rattle.fp_ofrep.proofs.keeping.is_timeless.Given as goal
 
 -- what is left decides for all
-abbrev pub invariant-loop-_key : goal.invariant-loop-_key
-invariant-loop-_key l = AreTimeless (entries_of l._key-iterator) → AreTimeless (map.entries l.set.flags)
+abbrev pub invariant-loop-flag : goal.invariant-loop-flag
+invariant-loop-flag l = AreTimeless (entries_of l.flag-iterator) → AreTimeless (map.entries l.set.flags)

@@ -1,10 +1,11 @@
 -- Tags that are kept: of which requests they are, and that no moment changes them.
-use Rattle.std.proofs.Common.{◌≡◌, ◌≤◌, ℕ, List, [], ◌∷◌, Bool, true, false, refl, sym, ap, ◌∙◌, length, arith}
+use Rattle.std.proofs.Common.{◌≡◌, ◌≤◌, ◌<◌, ℕ, List, [], ◌∷◌, ◌++◌, set, length-append, Bool, true, false, subst, inl, inr, refl, sym, ap, ◌∙◌, length, arith}
 use Rattle.std.specs.Prelude.{All, Option, Some, None, Result, Ok, Err, bytes_eq, codes, if◌then◌else◌, unwrap_or}
 use Rattle.std.specs.FinMap as map
 use Rattle.std.specs.Result.{result_unwrap_or}
 use Rattle.std.proofs.lemmas.Bool.{le-ltb}
-use Rattle.std.proofs.lemmas.List.Elements.{All-head, All-tail}
+use Rattle.std.proofs.lemmas.List.{length-set}
+use Rattle.std.proofs.lemmas.List.Elements.{All-cons, All-head, All-tail, All-push, All-set}
 use Rattle.serde_json.specs.Data.{Data, Items, object, array, member, no_members}
 use Rattle.serde_json.specs.Written.{compact_text}
 use Rattle.fp_definition.specs.Outcome.{IsTimeless}
@@ -13,7 +14,10 @@ use Rattle.fp_edit.specs.Flags.{Flags, State}
 use Rattle.fp_edit.specs.declared.flags.Flag.{Flag}
 use Rattle.fp_ofrep.specs.Bulk.{bulk_data, bulk_in, bulk_reply, flag_items, with_flag_item}
 use Rattle.fp_ofrep.specs.Context.{context_of}
-use Rattle.fp_ofrep.specs.Kept.{AreTimeless, AsksForAll, HasTag, IsTagOf}
+use Rattle.fp_group_commit.specs.Tokens.{FrontState, front_set}
+use Rattle.fp_ofrep.specs.Kept.{AreKept, AreTimeless, AsksForAll, HasTag, IsPutAt, IsTagOf}
+use Rattle.fp_ofrep.specs.Numbers.{LONGEST_KEPT_BODY, MOST_KEPT_TAGS}
+use Rattle.fp_ofrep.specs.declared.keeping.KeptTag.{KeptTag}
 use Rattle.fp_ofrep.specs.Reply.{reply, reply_to_post, reply_to_route}
 use Rattle.fp_ofrep.specs.Response.{Response, empty, not_allowed, not_modified, success_response}
 use Rattle.fp_ofrep.specs.Route.{Route, bulk}
@@ -22,6 +26,9 @@ use Rattle.fp_ofrep.specs.Tag.{is_known, response_with_tag, tag_of}
 use Rattle.fp_ofrep.specs.declared.failure.Failure.{Failure}
 
 -- ---- moments
+
+pub timeless_more : (e : List ℕ × Flag) (es : List (List ℕ × Flag)) → IsTimeless (data_of e.1.definition) → AreTimeless es → AreTimeless (e ∷ es)
+timeless_more e es first rest = All-cons (λ (x : List ℕ × Flag). IsTimeless (data_of x.1.definition)) e es first rest
 
 flag_items-timeless : (es : List (List ℕ × Flag)) → AreTimeless es → (context : Data) (now later : ℕ)
     → flag_items es context now ≡ flag_items es context later
@@ -46,6 +53,39 @@ at_any_moment set body tag h found later = let t = found.1 in record {
   asked = t.asked;
   tagged = t.tagged ∙ ap (λ d. tag_of (compact_text d)) (bulk_data-timeless set.flags h t.context found.0 later);
 }
+
+-- ---- one more
+
+abbrev HasTagOf : FrontState → KeptTag → Type 0
+HasTagOf front k = (now : ℕ) × HasTag (front_set front) k.body.items k.tag.items now
+
+module _ (front : FrontState) (ks : List KeptTag) (k : KeptTag) (were : AreKept front true ks) (tag : HasTagOf front k) (short : length k.body.items ≤ LONGEST_KEPT_BODY) where
+  its : IsTagOf (front_set front) k.body.items k.tag.items
+  its = at_any_moment (front_set front) k.body.items k.tag.items (were.rules refl) tag
+
+  behind : length ks < MOST_KEPT_TAGS → AreKept front true (ks ++ k ∷ [])
+  behind few = record {
+    rules = were.rules;
+    tags = All-push (λ (x : KeptTag). IsTagOf (front_set front) x.body.items x.tag.items) ks k were.tags its;
+    few = omega (arith, few, length-append ks (k ∷ []));
+    short = All-push (λ (x : KeptTag). length x.body.items ≤ LONGEST_KEPT_BODY) ks k were.short short;
+  }
+
+  in_place : (place : ℕ) → AreKept front true (set ks place k)
+  in_place place = record {
+    rules = were.rules;
+    tags = All-set (λ (x : KeptTag). IsTagOf (front_set front) x.body.items x.tag.items) ks place k its were.tags;
+    few = rw (length-set ks place k) were.few;
+    short = All-set (λ (x : KeptTag). length x.body.items ≤ LONGEST_KEPT_BODY) ks place k short were.short;
+  }
+
+-- what a tag was put among is kept as before
+pub put_kept : (front : FrontState) (timeless : Bool) (ks after : List KeptTag) (k : KeptTag) (place : ℕ) → timeless ≡ true → AreKept front timeless ks
+    → HasTagOf front k → length k.body.items ≤ LONGEST_KEPT_BODY → place < MOST_KEPT_TAGS → IsPutAt ks place k after → AreKept front timeless after
+put_kept front false ks after k place h were tag short few put = absurd (cc)
+put_kept front true ks after k place h were tag short few (inl p) = subst (AreKept front true) (sym p.1) (in_place front ks k were tag short place)
+put_kept front true ks after k place h were tag short few (inr p) =
+    subst (AreKept front true) (sym p.1) (behind front ks k were tag short (omega (arith, few, p.0)))
 
 -- ---- what a reply tells of its tag
 
@@ -87,15 +127,15 @@ known_reply set if_none_match body tag now h known =
     ∙ ap (λ (b : Bool). if b then not_modified set.revision tag
     else success_response set.revision (Some tag) (compact_text (bulk_data set.flags h.context now))) known)
 
-ok_is : (a b : Data) → Ok {T = Data} {E = Failure} a ≡ Ok b → a ≡ b
-ok_is a b h = ap (λ (r : Result Data Failure). result_unwrap_or r a) h
+ok_is : (r : Result Data Failure) (a b : Data) → Ok a ≡ r → r ≡ Ok b → a ≡ b
+ok_is r a b is h = ap (λ (x : Result Data Failure). result_unwrap_or x a) (is ∙ h)
 
 pub other_reply : (set : State) (if_none_match : Option (List ℕ)) (body tag text : List ℕ) (now : ℕ) (d : Data) → HasTag set body tag now
     → Ok d ≡ context_of body → text ≡ compact_text (bulk_data set.flags d now) → is_known tag if_none_match ≡ false
     → success_response set.revision (Some tag) text ≡ bulk_reply set if_none_match body now
 other_reply set if_none_match body tag text now d h is made unknown =
     ap (λ t. success_response set.revision (Some tag) t)
-    (made ∙ ap (λ c. compact_text (bulk_data set.flags c now)) (ok_is d h.context (is ∙ h.asked)))
+    (made ∙ ap (λ c. compact_text (bulk_data set.flags c now)) (ok_is (context_of body) d h.context is h.asked))
     ∙ sym (by_tag set if_none_match body tag now h
     ∙ ap (λ (b : Bool). if b then not_modified set.revision tag
     else success_response set.revision (Some tag) (compact_text (bulk_data set.flags h.context now))) unknown)
