@@ -137,7 +137,8 @@ impl Definition {
     }
 
     /// The same over the data of a context at a moment, made once for all flags. Where there is a
-    /// rule the data turn to the flag of this key.
+    /// rule the data turn to the flag of this key. Memory can run out only where the rule makes a list
+    /// or a text, or reads versions: what it names is lent.
     #[tactic(auto, unfolding(crate::specs::Outcome::outcome_of))]
     pub fn resolve_in(
         &self,
@@ -154,7 +155,8 @@ impl Definition {
         ensures context { (context : JsonData) (now : ℕ) → IsOfContext context now «data».old
             → IsOfContext context now «data».new }
         ensures printable { IfOk result (λ r. is_whole (view r.value.now) ≡ true) }
-        ensures memory { IfErr result (λ e. e ≡ Memory → HasRule (data_of self.now)) }
+        ensures memory { IfErr result (λ e. e ≡ Memory
+            → rule_needs_memory (rule_in (get (codes "targeting") (data_of self.now))) ≡ true) }
     {
         if self.is_disabled() {
             return Err(EvalFault::Disabled);
@@ -162,12 +164,11 @@ impl Definition {
         let Some(rule) = self.rule() else {
             return self.default_of(Reason::Static);
         };
-        data.set_flag(alloc, key.as_str())?;
+        key.turn(data);
         self.by_rule(alloc, rule, data)
     }
 
-    /// The same over data that are made for the flag, whose key they have. Memory can run out only
-    /// where the rule makes a list or a text, or reads versions: what it names is lent.
+    /// The same over data that are made for the flag, whose key they have.
     #[tactic(auto, unfolding(crate::specs::Outcome::outcome_of))]
     pub fn resolve_over(&self, alloc: Global, data: &Data) -> Result<Resolved<'_>, EvalFault>
         ensures resolves { (key : List ℕ) (context : JsonData) (now : ℕ)
