@@ -4,6 +4,7 @@ ghost use Rattle.std.specs.Prelude.{◌<◌, ◌≤◌, length, string_bytes};
 ghost use Rattle.fp_definition.specs.declared.key.TheConstants.{LONGEST_KEY};
 
 use crate::faults::KeyFault;
+use fp_targeting::Data;
 use std::alloc::{AllocError, Global};
 
 /// The most bytes that a key has.
@@ -21,6 +22,7 @@ impl FlagKey {
     ghost use Rattle.std.specs.Prelude.{◌≡◌, true, false, Err, IfOk};
     ghost use Rattle.fp_definition.specs.Key.{key_bytes, is_key};
     ghost use Rattle.fp_definition.specs.declared.faults.KeyFault.TheVariants.{BadKey};
+    ghost use Rattle.fp_targeting.specs.RuleData.{TurnsTo};
 
     /// The key that a text spells.
     pub fn new(alloc: Global, text: &str) -> Result<FlagKey, KeyFault>
@@ -40,6 +42,13 @@ impl FlagKey {
         ensures { result.now ≡ key_bytes self.now }
     {
         self.text.as_str()
+    }
+
+    // Turns the data of a context to the flag of this key. Room for a key suffices.
+    pub(crate) fn turn(&self, data: &mut Data)
+        ensures { TurnsTo (key_bytes self.now) «data».old «data».new }
+    {
+        data.set_flag(self.as_str());
     }
 
     /// An equal key.

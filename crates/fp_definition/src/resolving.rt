@@ -1,7 +1,7 @@
 //! What a definition resolves to.
 
 ghost use Rattle.std.specs.Prelude.{false, ◌≡◌, ◌<◌, ◌^◌, ◌↔◌, ℕ, List, Result, true, IfOk, IfErr};
-ghost use Rattle.std.specs.Prelude.{IfSome, IsSome, codes};
+ghost use Rattle.std.specs.Prelude.{IfSome, IsSome, OnErr, codes};
 ghost use Rattle.serde_json.specs.Data.{Data as JsonData};
 ghost use Rattle.serde_json.specs.Find.{as_object, get, get_member};
 ghost use Rattle.serde_json.specs.View.{view, members_view};
@@ -106,7 +106,9 @@ impl Definition {
         }
     }
 
-    /// The same in a context that is a tree. Its data are made where there is a rule.
+    /// The same in a context that is a tree. Its data are made where there is a rule: where memory
+    /// is wanting for them, nothing is evaluated. Past that it can run out only where the rule makes
+    /// a list or a text, or reads versions.
     #[tactic(auto, unfolding(crate::specs::Outcome::outcome_of))]
     pub fn resolve_tree(
         &self,
@@ -114,30 +116,33 @@ impl Definition {
         key: &FlagKey,
         context: &Tree<'_>,
         now: u64,
-    ) -> Result<Resolved<'_>, EvalFault>
+    ) -> Result<Result<Resolved<'_>, EvalFault>, AllocError>
         requires object { IsSome (as_object (tree_view context.now)) }
         requires whole { is_whole (tree_view context.now) ≡ true }
         requires ordered { IsOrdered (tree_view context.now) }
         requires moment { now < 2 ^ 63 }
-        ensures resolves { Answers said_by Tells result
-            (Resolves (data_of self.now) (key_bytes key.now) (tree_view context.now) now) }
-        ensures computed { Gives said_by Tells result
-            (outcome_of (data_of self.now) (key_bytes key.now) (tree_view context.now) now) }
-        ensures printable { IfOk result (λ r. is_whole (view r.value.now) ≡ true) }
-        ensures memory { IfErr result (λ e. e ≡ Memory → HasRule (data_of self.now)) }
+        ensures resolves { IfOk result (λ r. Answers said_by Tells r
+            (Resolves (data_of self.now) (key_bytes key.now) (tree_view context.now) now)) }
+        ensures computed { IfOk result (λ r. Gives said_by Tells r
+            (outcome_of (data_of self.now) (key_bytes key.now) (tree_view context.now) now)) }
+        ensures printable { IfOk result (λ r. IfOk r (λ s. is_whole (view s.value.now) ≡ true)) }
+        ensures memory { IfOk result (λ r. IfErr r (λ e. e ≡ Memory
+            → rule_needs_memory (rule_in (get (codes "targeting") (data_of self.now))) ≡ true)) }
+        ensures no_data { OnErr result (HasRule (data_of self.now)) }
     {
         if self.is_disabled() {
-            return Err(EvalFault::Disabled);
+            return Ok(Err(EvalFault::Disabled));
         }
         let Some(rule) = self.rule() else {
-            return self.default_of(Reason::Static);
+            return Ok(self.default_of(Reason::Static));
         };
         let data = Data::of_tree(alloc, context, key.as_str(), now)?;
-        self.by_rule(alloc, rule, &data)
+        Ok(self.by_rule(alloc, rule, &data))
     }
 
     /// The same over the data of a context at a moment, made once for all flags. Where there is a
-    /// rule the data turn to the flag of this key.
+    /// rule the data turn to the flag of this key. Memory can run out only where the rule makes a list
+    /// or a text, or reads versions: what it names is lent.
     #[tactic(auto, unfolding(crate::specs::Outcome::outcome_of))]
     pub fn resolve_in(
         &self,
@@ -154,7 +159,8 @@ impl Definition {
         ensures context { (context : JsonData) (now : ℕ) → IsOfContext context now «data».old
             → IsOfContext context now «data».new }
         ensures printable { IfOk result (λ r. is_whole (view r.value.now) ≡ true) }
-        ensures memory { IfErr result (λ e. e ≡ Memory → HasRule (data_of self.now)) }
+        ensures memory { IfErr result (λ e. e ≡ Memory
+            → rule_needs_memory (rule_in (get (codes "targeting") (data_of self.now))) ≡ true) }
     {
         if self.is_disabled() {
             return Err(EvalFault::Disabled);
@@ -162,12 +168,11 @@ impl Definition {
         let Some(rule) = self.rule() else {
             return self.default_of(Reason::Static);
         };
-        data.set_flag(alloc, key.as_str())?;
+        key.turn(data);
         self.by_rule(alloc, rule, data)
     }
 
-    /// The same over data that are made for the flag, whose key they have. Memory can run out only
-    /// where the rule makes a list or a text, or reads versions: what it names is lent.
+    /// The same over data that are made for the flag, whose key they have.
     #[tactic(auto, unfolding(crate::specs::Outcome::outcome_of))]
     pub fn resolve_over(&self, alloc: Global, data: &Data) -> Result<Resolved<'_>, EvalFault>
         ensures resolves { (key : List ℕ) (context : JsonData) (now : ℕ)

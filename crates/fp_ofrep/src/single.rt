@@ -149,7 +149,7 @@ fn resolved_reply(
     ensures { IfOk result (λ r. response_seen r ≡ response_of revision (key_bytes key.now)
         (evaluation_of (key_bytes key.now) (data_of definition.now) (tree_view context.now) now)) }
 {
-    match definition.resolve_tree(alloc, key, context, now) {
+    match definition.resolve_tree(alloc, key, context, now)? {
         Ok(said) => said_reply(alloc, revision, key, definition, &said),
         Err(EvalFault::Disabled) => failed(alloc, Failure::FlagDisabled, Some(key.as_str())),
         Err(EvalFault::NoVariant) => failed(alloc, Failure::NamesNoVariant, Some(key.as_str())),

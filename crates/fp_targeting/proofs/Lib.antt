@@ -1,6 +1,7 @@
 pub mod Parts
 pub mod OneResult
 pub mod Turning
+pub mod Rooms
 pub mod MeaningLaws
 pub mod Members
 pub mod Constants

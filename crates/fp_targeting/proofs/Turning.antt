@@ -15,7 +15,7 @@ is_object (whole z) = false
 is_object (text s) = false
 is_object (list ds) = false
 
-abbrev members_in : Data → Members
+abbrev pub members_in : Data → Members
 members_in (object ms) = ms
 members_in d = no_members
 

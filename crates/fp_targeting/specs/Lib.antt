@@ -10,6 +10,7 @@ pub mod Means
 pub mod Meaning
 pub mod Found
 pub mod RuleData
+pub mod Room
 pub mod Codes
 pub mod Kept
 pub mod Laws

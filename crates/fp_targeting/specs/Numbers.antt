@@ -12,3 +12,7 @@ MOST_RULE_VALUES = 1024
 -- a weight of `fractional`, and what all weights of one come to: 2^31 - 1
 abbrev pub GREATEST_WEIGHT : ℕ
 GREATEST_WEIGHT = 2147483647
+
+-- bytes of a flag's key that data have room for
+abbrev pub ROOM_FOR_A_KEY : ℕ
+ROOM_FOR_A_KEY = 256

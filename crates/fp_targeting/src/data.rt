@@ -1,23 +1,24 @@
 //! The data that a rule is evaluated on.
 
-ghost use Rattle.std.specs.Prelude.{◌≡◌, ◌<◌, ◌^◌, ℕ, List, true, IfOk, IsSome, OnOk, OnErr, codes};
+ghost use Rattle.std.specs.Prelude.{◌≡◌, ◌<◌, ◌≤◌, ◌^◌, true, IfOk, IsSome, length};
 ghost use Rattle.serde_json.specs.Find.{as_object};
 ghost use Rattle.serde_json.specs.View.{view as json_view};
 ghost use Rattle.fp_base.specs.Ordered.{IsOrdered};
 ghost use Rattle.fp_base.specs.TreeView.{tree_view};
 ghost use Rattle.fp_base.specs.Whole.{is_whole};
-ghost use Rattle.fp_operators.specs.Data.{Data as Fact, Members, object, put, text};
-ghost use Rattle.fp_operators.specs.FromJson.{data_of};
-ghost use Rattle.fp_operators.specs.View.{view, members_view};
+ghost use Rattle.fp_operators.specs.Data.{text};
+ghost use Rattle.fp_operators.specs.View.{view};
+ghost use Rattle.fp_targeting.specs.Room.{FlagHasRoom, KeyHasRoom, Stands};
 ghost use Rattle.fp_targeting.specs.RuleData.{TurnsTo, rule_data, flag_data, with_member};
+ghost use Rattle.fp_targeting.specs.declared.turn.TheConstants.{ROOM_FOR_A_KEY};
 
+use crate::turn::{ROOM_FOR_A_KEY, turn_to};
 use fp_base::Tree;
 use fp_operators::Datum;
 use serde_json::Value;
 use std::alloc::{AllocError, Global};
 use std::collections::BTreeMap;
 use std::marker::Model;
-use std::mem::replace;
 
 /// What a rule is evaluated on: the context, and which flag is evaluated when.
 #[derive(Drop)]
@@ -29,12 +30,15 @@ impl Model for Data {
     ghost use Rattle.fp_operators.specs.Data as values;
     ghost use Rattle.fp_operators.specs.View.{view as datum_view};
     ghost use Rattle.fp_targeting.specs.Codes.{coded_data};
+    ghost use Rattle.fp_targeting.specs.Room.{HasRoom};
 
     ghost Value = { values.Data };
 
     ghost coded = { coded_data };
 
     ghost view = { λ d. datum_view d.datum };
+
+    ghost invariant = { λ d. HasRoom d.datum };
 }
 
 impl Data {
@@ -51,6 +55,7 @@ impl Data {
     }
 
     /// The same of a tree.
+    #[tactic(auto, using(crate::proofs::Rooms::has_room))]
     pub fn of_tree(
         alloc: Global,
         context: &Tree<'_>,
@@ -69,15 +74,12 @@ impl Data {
     }
 
     /// Turns to the flag of this key: the data are then those that are made for it, in the same
-    /// context at the same moment. What is refused changes nothing.
-    pub fn set_flag(&mut self, alloc: Global, flag_key: &str) -> Result<(), AllocError>
-        ensures turned { OnOk result (TurnsTo flag_key.now self.old self.new) }
-        ensures unchanged { OnErr result (self.new ≡ self.old) }
+    /// context at the same moment. No memory is asked for.
+    pub fn set_flag(&mut self, flag_key: &str)
+        requires { length flag_key.now ≤ ROOM_FOR_A_KEY }
+        ensures { TurnsTo flag_key.now self.old self.new }
     {
-        let key = Datum::Text(String::from_str(alloc, flag_key)?);
-        let before = replace(&mut self.datum, Datum::Null);
-        self.datum = with_flag_key(before, key);
-        Ok(())
+        turn_to(&mut self.datum, flag_key);
     }
 
     /// The data as a datum.
@@ -89,18 +91,32 @@ impl Data {
 }
 
 /// An object of the flag's key and of the moment.
+#[tactic(auto, using(crate::proofs::Rooms::flag_has_room))]
 fn flag_datum(alloc: Global, flag_key: &str, now: u64) -> Result<Datum, AllocError>
     requires { now < 2 ^ 63 }
-    ensures { IfOk result (λ d. view d ≡ flag_data flag_key.now now) }
+    ensures value { IfOk result (λ d. view d ≡ flag_data flag_key.now now) }
+    ensures room { IfOk result FlagHasRoom }
 {
-    let key = Datum::Text(String::from_str(alloc, flag_key)?);
-    let flag = with(alloc, Datum::Object(BTreeMap::new(alloc)), "flagKey", key)?;
-    with(alloc, flag, "timestamp", Datum::Whole(now as i64))
+    let key = key_datum(alloc, flag_key)?;
+    let moment = Datum::Whole(now as i64);
+    let flag = with(alloc, Datum::Object(BTreeMap::new(alloc)), "timestamp", moment)?;
+    with(alloc, flag, "flagKey", key)
+}
+
+/// The text of a flag's key, with room for any other key.
+fn key_datum(alloc: Global, flag_key: &str) -> Result<Datum, AllocError>
+    ensures text { IfOk result (λ d. view d ≡ text flag_key.now) }
+    ensures room { IfOk result KeyHasRoom }
+{
+    let mut key = String::with_capacity(alloc, ROOM_FOR_A_KEY)?;
+    key.push_str(flag_key)?;
+    Ok(Datum::Text(key))
 }
 
 /// An object with a member set. Data of other kinds have no members.
 fn with(alloc: Global, datum: Datum, name: &str, member: Datum) -> Result<Datum, AllocError>
-    ensures { IfOk result (λ d. view d ≡ with_member name.now (view member) (view datum)) }
+    ensures value { IfOk result (λ d. view d ≡ with_member name.now (view member) (view datum)) }
+    ensures member { IfOk result (Stands name.now member) }
 {
     match datum {
         Datum::Object(mut members) => {
@@ -108,59 +124,5 @@ fn with(alloc: Global, datum: Datum, name: &str, member: Datum) -> Result<Datum,
             Ok(Datum::Object(members))
         }
         other => Ok(other),
-    }
-}
-
-// The data of a context, with another key of the flag.
-fn with_flag_key(datum: Datum, key: Datum) -> Datum
-    ensures { (name : List ℕ) → view key ≡ text name → TurnsTo name (view datum) (view result) }
-{
-    match datum {
-        Datum::Object(mut members) => {
-            set_flag_key(&mut members, key);
-            Datum::Object(members)
-        }
-        other => other,
-    }
-}
-
-// Sets the key in the member of the flag.
-fn set_flag_key(members: &mut BTreeMap<String, Datum>, key: Datum)
-    ensures { (k : List ℕ) (of_flag ms : Members) → members_view members.old.entries
-        ≡ put (codes "$flagd") (object (put (codes "flagKey") (text k) of_flag)) ms
-        → members_view members.new.entries
-        ≡ put (codes "$flagd") (object (put (codes "flagKey") (view key) of_flag)) ms }
-{
-    match members.get_mut("$flagd") {
-        Some(flag) => {
-            let before = replace(flag, Datum::Null);
-            drop(replace(flag, with_other(before, "flagKey", key)));
-        }
-        None => drop(key),
-    }
-}
-
-// An object with another member in the place of one that is there.
-fn with_other(datum: Datum, name: &str, member: Datum) -> Datum
-    ensures { (d : Fact) (ms : Members) → view datum ≡ object (put name.now d ms)
-        → view result ≡ object (put name.now (view member) ms) }
-{
-    match datum {
-        Datum::Object(mut members) => {
-            set_other(&mut members, name, member);
-            Datum::Object(members)
-        }
-        other => other,
-    }
-}
-
-// Sets another member in the place of one that is there.
-fn set_other(members: &mut BTreeMap<String, Datum>, name: &str, member: Datum)
-    ensures { (d : Fact) (ms : Members) → members_view members.old.entries ≡ put name.now d ms
-        → members_view members.new.entries ≡ put name.now (view member) ms }
-{
-    match members.get_mut(name) {
-        Some(place) => drop(replace(place, member)),
-        None => drop(member),
     }
 }

@@ -17,9 +17,11 @@ mod results;
 mod rule;
 mod strict;
 mod table;
+mod turn;
 
 pub use data::Data;
 pub use fp_base::whole_numbers;
 pub use machine::Found;
 pub use rule::{DEEPEST_RULE, MOST_RULE_VALUES, Rule, RuleFault};
 pub use table::GREATEST_WEIGHT;
+pub use turn::ROOM_FOR_A_KEY;
