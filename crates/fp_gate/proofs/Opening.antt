@@ -1,14 +1,13 @@
 -- What the byte of a gate adds to what a crash may leave.
-use Rattle.std.proofs.Common.{◌≡◌, ◌⊎◌, ◌≤◌, ◌<◌, ◌+◌, ℕ, List, length, refl, arith, sym, subst, ◌∙◌, ap, inl, inr, slice_index, slice_set}
+use Rattle.std.proofs.Common.{◌≡◌, ◌⊎◌, ◌≤◌, ◌<◌, ℕ, List, length, refl, arith, sym, subst, ◌∙◌, ap, inl, inr, slice_index, slice_set}
 use Rattle.std.proofs.lemmas.Grind.{common_steps}
 use Rattle.std.proofs.lemmas.Bool.{cases_eq}
 use Rattle.std.proofs.lemmas.List.Elements.{All-get_or, All-set}
 use Rattle.fp_disk.specs.declared.call.Progress.TheVariants.{Whole}
 use Rattle.fp_disk.specs.MemoryLaws.{written_changes}
 use Rattle.fp_disk.specs.Outcomes.{ChangesWithin, PendingState, IsOutcome, IsByte, Elapses, LeavesOnly, Written, with_write}
-use Rattle.fp_disk.specs.Writes.{overwritten_inside}
 use Rattle.fp_disk.specs.Moments.{leaves_call, leaves_map}
-use Rattle.fp_gate.specs.Gates.{Gated, IsShut, StaysAsRead, Guards, HasBehind, IsButFor}
+use Rattle.fp_gate.specs.Gates.{Gated, IsShut, StaysAsRead, Guards, IsButFor}
 
 -- an outcome after a write of one byte that was there is one from before, but for that byte
 pub touched_but_for : (u : PendingState) (bytes : List ℕ) (at : ℕ) (c : List ℕ) → IsOutcome u bytes → at < length bytes → IsOutcome (with_write u at 1) c → IsButFor u at c
@@ -64,14 +63,6 @@ module _ {D : Type 0} (honest : D → Type 0) (bytes : D → List ℕ) (unsynced
   pub guards : (g.at < g.from) ⊎ (g.to ≤ g.at) → StaysAsRead (unsynced old) (bytes old) g.from g.to → LeavesOnly moment crash_states_since old new (Guards g (bytes old))
   guards apart firm = leaves_map moment crash_states_since old new (IsButFor (unsynced old) g.at) (Guards g (bytes old)) (λ c b. but_for_guards g (unsynced old) (bytes old) c apart shut firm b) each
 
--- where the gate guards what was written, it stands behind the gate
-pub guards_behind : (gate at : ℕ) (old more bytes c : List ℕ) → Written old at more bytes → Guards (record { at = gate; from = at; to = at + length more }) bytes c → HasBehind gate at more c
-guards_behind gate at old more bytes c put behind = (behind.0, λ is_open k lt. let there = behind.1 is_open (at + k) (omega arith) (omega arith) in (there.0, there.1 ∙ (ap (λ (b : List ℕ). slice_index b (at + k)) put ∙ overwritten_inside old more at k lt)))
-
--- ---- what a write changes
+-- what a write changes
 pub written_within : (old more new : List ℕ) (at : ℕ) → Written old at more new → ChangesWithin old at (length more) new
 written_within old more new at is = subst (λ (b : List ℕ). ChangesWithin old at (length more) b) (sym is) (written_changes Whole old more at)
-
--- and where nothing is changed behind it
-pub then_same : (old new now : List ℕ) (at n : ℕ) → ChangesWithin old at n new → now ≡ new → ChangesWithin old at n now
-then_same old new now at n within same = subst (λ (b : List ℕ). ChangesWithin old at n b) (sym same) within

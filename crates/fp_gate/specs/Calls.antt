@@ -1,21 +1,11 @@
--- What a step over a disk keeps to, and what a write of one byte leaves.
-use Rattle.std.specs.Prelude.{◌≡◌, ◌⊎◌, ℕ, List, [], ◌∷◌, ◌++◌, Result, OnOk, IsErr}
+-- What a write of one byte leaves.
+use Rattle.std.specs.Prelude.{◌≡◌, ◌⊎◌, ℕ, [], ◌∷◌, ◌++◌, Result, OnOk, IsErr}
 use Rattle.fp_disk.specs.Checked.{Named}
 use Rattle.fp_disk.specs.Crashes.{SameHonesty}
-use Rattle.fp_disk.specs.History.{Makes}
 use Rattle.fp_disk.specs.Outcomes.{CountsFaults, ChangesWithin, Elapses, IsOutcome, Written, with_write}
 use Rattle.fp_disk.specs.declared.disk.Disk.{Ghosts}
 use Rattle.fp_disk.specs.declared.disk.DiskFault.{DiskFault}
-use Rattle.fp_disk.specs.declared.history.CallKind.{CallKind}
 use Rattle.fp_disk.specs.declared.history.CallKind.TheVariants.{Write}
-
--- A step makes these calls and keeps the disk's name;
--- it answers a fault exactly where the device failed
-pub record MakesCalls {D T : Type 0} (disk : Ghosts D) (kinds : List CallKind)
-    (old new : Named D) (result : Result T DiskFault) : Type 0 where
-  pub name : new.name ≡ old.name
-  pub called : Makes kinds (disk.calls old.disk) (disk.calls new.disk) result
-  pub cause : CountsFaults (disk.faults old.disk) (disk.faults new.disk) result
 
 -- A call writes this byte at a place, or fails and did so or nothing.
 -- A crash may show it from then on

@@ -1,6 +1,6 @@
 -- What holds at the place of a gate, and at those that it guards, whatever a crash leaves.
-use Rattle.std.specs.Prelude.{◌≡◌, ◌≢◌, ◌<◌, ◌≤◌, ◌+◌, ℕ, List, length, slice_index}
-use Rattle.fp_disk.specs.Outcomes.{PendingState, IsOutcome, Covers}
+use Rattle.std.specs.Prelude.{◌≡◌, ◌≢◌, ◌<◌, ◌≤◌, ℕ, List, length, slice_index}
+use Rattle.fp_disk.specs.Outcomes.{PendingState, IsOutcome}
 use Rattle.fp_disk.specs.Checked.{Mark}
 use Rattle.fp_gate.specs.Numbers.{OPEN}
 
@@ -43,18 +43,3 @@ pub record IsButFor (u : PendingState) (at : ℕ) (c : List ℕ) : Type 0 where
   pub outcome : IsOutcome u before
   pub same_length : length c ≡ length before
   pub elsewhere : (k : ℕ) → (k ≡ at → ⊥) → slice_index c k ≡ slice_index before k
-
--- its byte is synced, closed, and was not written since
-pub record IsClosedAt (u : PendingState) (at : ℕ) : Type 0 where
-  pub there : at < length u.synced
-  pub untouched : Covers u.ranges at → ⊥
-  pub closed : slice_index u.synced at ≢ OPEN
-
--- these bytes stand at a place
-abbrev pub HasAt : ℕ → List ℕ → List ℕ → Type 0
-HasAt at bytes c = (k : ℕ) → k < length bytes → (at + k < length c)
-    × (slice_index c (at + k) ≡ slice_index bytes k)
-
--- where the gate is open, these bytes stand behind it
-abbrev pub HasBehind : ℕ → ℕ → List ℕ → List ℕ → Type 0
-HasBehind gate at bytes c = (gate < length c) × (slice_index c gate ≡ OPEN → HasAt at bytes c)

@@ -2,8 +2,6 @@
 //! opening it costs a sync.
 #![tactic(auto)]
 
-mod behind;
 mod gate;
 
-pub use behind::write_behind;
 pub use gate::{Closed, Gate, OPEN, Open, Written};

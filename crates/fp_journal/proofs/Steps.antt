@@ -2,24 +2,22 @@
 use Rattle.std.proofs.Common.{◌≡◌, ◌⊎◌, ◌≤◌, ◌<◌, ◌+◌, ◌-◌, inl, inr, ⊎_elim, ℕ, Bool, true, false, List, [], ◌∷◌, ◌++◌, length, refl, arith, sym, ◌∙◌, ap, subst, length-append}
 use Rattle.std.specs.List.{AllByRecursion}
 use Rattle.std.specs.Prelude.{Result, slice_index}
-use Rattle.std.proofs.lemmas.List.{append_assoc, take_at}
+use Rattle.std.proofs.lemmas.List.{take_at}
 use Rattle.fp_disk.specs.Outcomes.{ChangesWithin, CountsFaults, Elapses, IsOutcome, LeavesOnly, PendingState, Written, all_synced, with_write}
 use Rattle.fp_disk.specs.Crashes.{SameHonesty}
 use Rattle.fp_disk.specs.declared.disk.DiskFault.{DiskFault}
 use Rattle.fp_journal.specs.Calls.{KeepsAround}
-use Rattle.fp_disk.specs.Moments.{leaves_then}
-use Rattle.fp_disk.specs.Word.{KeepsWord, word_call, word_map, word_then}
+use Rattle.fp_disk.specs.Word.{word_call}
 use Rattle.fp_disk.specs.declared.disk.Disk.{Ghosts}
-use Rattle.fp_journal.specs.declared.slot.Slot.{Slot}
 use Rattle.fp_journal.specs.declared.journal.Phase.{Phase}
 use Rattle.fp_journal.specs.declared.journal.Phase.TheVariants.{Idle, Staged, BodySynced, GateOpened, Failed}
 use Rattle.fp_journal.specs.Holds.{Apart, Holds}
 use Rattle.fp_gate.specs.Gates.{IsOpen, IsShut, StaysAsRead}
 use Rattle.fp_journal.specs.Chain.{Ends, with_length, with_gate, body_of, spell}
-use Rattle.fp_journal.specs.Moments.{KeepsFirm, KeepsRead, KeepsSynced}
+use Rattle.fp_journal.specs.Moments.{KeepsFirm}
 use Rattle.fp_journal.specs.declared.held.Held.{Held}
 use Rattle.fp_journal.specs.declared.held.Held.TheVariants as held
-use Rattle.fp_journal.specs.State.{JournalState, HasAmong, HasChain, HasChainOrNext, HasNext, CrashStates, StatesAfterSync, Outside, EndsClosed, IsAt, IsFrame, IsOnWay, InFlight, AllShort, IsHeld, IsKept, IsLeft, SameSlot, begun_of, has_begun, phase_of, room}
+use Rattle.fp_journal.specs.State.{JournalState, HasChain, HasChainOrNext, HasNext, CrashStates, StatesAfterSync, Outside, EndsClosed, IsAt, IsFrame, IsOnWay, InFlight, AllShort, IsHeld, IsKept, IsLeft, SameSlot, begun_of, has_begun, phase_of, room}
 use Rattle.fp_journal.proofs.Gates.{text-more, ready_written}
 use Rattle.fp_journal.proofs.Calls as calls
 use Rattle.fp_journal.proofs.Firm as firm
@@ -249,68 +247,3 @@ held_stays honest moment old new name end held.Staged back later is = tt
 held_stays honest moment old new name end (held.BodySynced synced) back later is = (is.0, λ h. let h0 = back h in let a = is.1 h0 in let b = later h0 in omega (arith, a, b))
 held_stays honest moment old new name end (held.GateOpened gate) back later is = is
 held_stays honest moment old new name end (held.Failed begun) back later is = tt
-
--- ---- four calls in turn
--- the calls that were made
-pub calls_more : {K : Type 0} (old middle new kinds : List K) (kind : K) → middle ≡ old ++ kinds → new ≡ middle ++ kind ∷ [] → new ≡ old ++ (kinds ++ kind ∷ [])
-calls_more {K} old middle new kinds kind before now = now ∙ ap (λ (l : List K). l ++ kind ∷ []) before ∙ append_assoc old kinds (kind ∷ [])
-
--- a journal with this body on its way, and what was kept since the first call
-pub record IsSealing {D : Type 0} (disk : Ghosts D) (first : JournalState D) (body : List ℕ) (k : JournalState D) : Type 0 where
-  pub same : SameSlot first k
-  pub sealed : k.sealed ≡ first.sealed
-  pub staged : k.staged ≡ body
-  pub word : KeepsWord disk first.disk k.disk (HasChainOrNext first.slot first.front first.sealed body)
-  pub apart : KeepsSynced disk first.disk k.disk (Outside first.slot)
-  pub beside : KeepsRead disk first.disk k.disk (Outside first.slot)
-
-among_next : (begun : Bool) (slot : Slot) (front : List ℕ) (bodies : List (List ℕ)) (b c : List ℕ) → HasAmong begun slot front bodies b c → HasChainOrNext slot front bodies b c
-among_next false slot front bodies b c is = inl is
-among_next true slot front bodies b c is = is
-
-pub sealing_first : {D S : Type 0} {disk : Ghosts D} {first k : JournalState D} {body : List ℕ} {r : Result S DiskFault} → KeepsAround disk first k (HasChain first.slot first.front first.sealed) (Outside first.slot) r → (k.sealed ≡ first.sealed) × (k.staged ≡ body) → IsSealing disk first body k
-sealing_first w bodies = record {
-  same = w.same;
-  sealed = bodies.0;
-  staged = bodies.1;
-  word = word_map (λ h c p. inl p) w.call.word;
-  apart = w.call.apart;
-  beside = w.beside;
-}
-
-module _ {D : Type 0} {disk : Ghosts D} {first : JournalState D} {body : List ℕ} {k : JournalState D} (s : IsSealing disk first body k) where
-  abbrev Sealing : List ℕ → Type 0
-  Sealing c = HasChainOrNext first.slot first.front first.sealed body c
-
-  claim : (c : List ℕ) → HasChainOrNext k.slot k.front k.sealed k.staged c → Sealing c
-  claim c p = subst (λ (x : Slot). HasChainOrNext x first.front first.sealed body c) s.same.1 (subst (λ (x : List ℕ). HasChainOrNext k.slot x first.sealed body c) s.same.2
-      (subst (λ (x : List (List ℕ)). HasChainOrNext k.slot k.front x body c) s.sealed (subst (λ (x : List ℕ). HasChainOrNext k.slot k.front k.sealed x c) s.staged p)))
-
-  same_on : (l : JournalState D) → SameSlot k l → SameSlot first l
-  same_on l same = (same.0 ∙ s.same.0, same.1 ∙ s.same.1, same.2 ∙ s.same.2, same.3 ∙ s.same.3)
-
-  -- one call more, and a step that makes none
-  module _ (l : JournalState D) (bodies : (l.sealed ≡ k.sealed) × (l.staged ≡ k.staged)) where
-    sealing_more : {S : Type 0} {r : Result S DiskFault} (P : List ℕ → Type 0) (Out : ℕ → ℕ → Type 0) → ((c : List ℕ) → P c → HasChainOrNext k.slot k.front k.sealed k.staged c) → ((at n : ℕ) → Outside k.slot at n → Out at n) → KeepsAround disk k l P Out r → IsSealing disk first body l
-    sealing_more P Out claims reach w = record {
-      same = same_on l w.same;
-      sealed = bodies.0 ∙ s.sealed;
-      staged = bodies.1 ∙ s.staged;
-      word = word_then s.word (word_map (λ h c p. claim c (claims c p)) w.call.word);
-      apart = λ h at text out f. let a = s.apart h at text out f in let b = w.call.apart (s.word.honest.0 h) at text (reach at (length text) (subst (λ (x : Slot). Outside x at (length text)) (sym s.same.1) out)) a.0 in
-          (b.0, leaves_then disk.moment disk.crash_states_since first.disk k.disk l.disk (λ c. Holds c at text) a.1 b.1);
-      beside = λ h at text out p. w.beside (s.word.honest.0 h) at text (reach at (length text) (subst (λ (x : Slot). Outside x at (length text)) (sym s.same.1) out)) (s.beside h at text out p);
-    }
-
-    pub sealing_sync : {S : Type 0} {r : Result S DiskFault} → KeepsAround disk k l (CrashStates k) (λ at n. Unit {0}) r → IsSealing disk first body l
-    sealing_sync w = sealing_more (CrashStates k) (λ at n. Unit {0}) (λ c p. among_next (has_begun k.phase k.begun) k.slot k.front k.sealed k.staged c p) (λ at n out. tt) w
-
-    pub sealing_gate : {S : Type 0} {r : Result S DiskFault} → KeepsAround disk k l (HasChainOrNext k.slot k.front k.sealed k.staged) (Outside k.slot) r → IsSealing disk first body l
-    sealing_gate w = sealing_more (HasChainOrNext k.slot k.front k.sealed k.staged) (Outside k.slot) (λ c p. p) (λ at n out. out) w
-
-    pub sealing_still : SameSlot k l → l.disk ≡ k.disk → IsSealing disk first body l
-    sealing_still same e = record { same = same_on l same; sealed = bodies.0 ∙ s.sealed; staged = bodies.1 ∙ s.staged; word = rw e s.word; apart = rw e s.apart; beside = rw e s.beside }
-
-  -- what was kept, however it ends
-  pub sealing_kept : (l : JournalState D) → SameSlot k l → l.disk ≡ k.disk → {T : Type 0} {x : Result T DiskFault} → CountsFaults (disk.faults first.disk) (disk.faults l.disk) x → KeepsAround disk first l (HasChainOrNext first.slot first.front first.sealed body) (Outside first.slot) x
-  sealing_kept l same e cause = record { same = same_on l same; call = record { word = rw e s.word; apart = rw e s.apart; cause = cause }; beside = rw e s.beside }

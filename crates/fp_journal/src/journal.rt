@@ -2,7 +2,6 @@
 
 ghost use Rattle.fp_disk.specs.Crashes.{EachCrash};
 ghost use Rattle.fp_disk.specs.Outcomes.{IsOutcome, all_synced};
-ghost use Rattle.fp_disk.specs.History.{Makes};
 ghost use Rattle.fp_disk.specs.declared.history.CallKind.TheVariants.{Sync, Write};
 ghost use Rattle.fp_gate.specs.Gates.{IsSyncOf};
 ghost use Rattle.std.specs.Prelude.{◌≡◌, ◌<◌, ◌≤◌, ◌+◌, ◌∷◌, [], ◌++◌, List, ℕ, true, false};
@@ -331,32 +330,5 @@ impl<D: Disk> Journal<D> {
             gate,
             self.sealed.lengthen::<Vec<u8>, InFrame>(&self.in_flight),
         )
-    }
-
-    /// Seals a body: four calls of the disk, the body, a sync, its gate, a sync.
-    pub fn seal(&mut self, framed: Framed) -> Result<Sealed, DiskFault>
-        requires idle { self.old.phase ≡ Idle }
-        requires short { length framed ≤ self.old.slot.most }
-        requires room { length framed + FRAME ≤ room self.old }
-        ensures ok { OnOk result ((self.new.sealed ≡ self.old.sealed ++ framed ∷ [])
-            × (self.new.phase ≡ Idle)) }
-        ensures token { IfOk result (λ t. (t.name ≡ self.new.name) × (t.bodies ≡ self.new.sealed)) }
-        ensures err { OnErr result ((self.new.sealed ≡ self.old.sealed) × (self.new.staged ≡ framed)
-            × (self.new.phase ≡ Failed)) }
-        ensures kept { KeepsAround D.Disk self.old self.new
-            (HasChainOrNext self.old.slot self.old.front self.old.sealed framed)
-            (Outside self.old.slot) result }
-        ensures exit { D.honest self.new.disk →
-            OnOk result ((c : List ℕ) → IsOutcome (D.unsynced self.new.disk) c →
-            HasChain self.new.slot self.new.front self.new.sealed c) }
-        ensures called { Makes (Write ∷ Sync ∷ Write ∷ Sync ∷ []) (D.calls self.old.disk)
-            (D.calls self.new.disk) result }
-    {
-        self.stage(framed)?;
-        let body = self.sync()?;
-        self.body_synced(body);
-        self.open_gate()?;
-        let gate = self.sync()?;
-        Ok(self.gate_synced(gate))
     }
 }

@@ -1,4 +1,4 @@
-//! Chains and journals in slots of a few bytes, and a gate alone.
+//! Chains and journals in slots of a few bytes.
 
 ghost use Rattle.std.specs.Prelude.{◌≡◌, ◌≤◌, ◌<◌, ◌+◌, ◌^◌, length, IfOk, OnOk};
 ghost use Rattle.fp_disk.specs.Crashes.{SameHonesty};
@@ -8,8 +8,7 @@ ghost use Rattle.fp_journal.specs.declared.journal.Phase.TheVariants.{Idle};
 
 use crate::text::bytes_of;
 use crate::trial::{Answer, Fault, Trial};
-use fp_disk::{Checked, Disk, DiskFault, FailedWrite, Failing, MemoryDisk};
-use fp_gate::{Gate, write_behind};
+use fp_disk::{Disk, DiskFault, MemoryDisk};
 use fp_journal::{
     BodyFault, ChainFault, Framed, Journal, Phase, Reader, Slot, Text, read_bytes, read_chain,
     resume,
@@ -17,35 +16,12 @@ use fp_journal::{
 use fp_transcript::Args;
 use std::alloc::{AllocError, Global};
 
-/// `chain STOP MOST BYTES`, `slot START STOP MOST AT [BODY]`, `behind CALL`.
+/// `chain STOP MOST BYTES`, `slot START STOP MOST AT [BODY]`.
 pub fn on_slots(trial: &mut Trial, word: &str, args: &mut Args<'_>) -> Answer {
     match word {
         "chain" => chain(trial.alloc, args),
-        "slot" => in_slot(trial, args),
-        _ => behind(trial, args.number()),
+        _ => in_slot(trial, args),
     }
-}
-
-// `behind CALL`: another disk, with a closed gate at 1, of which the calls from this one on fail;
-// three bytes are written behind the gate.
-fn behind(trial: &mut Trial, call: u64) -> Answer {
-    match written_behind(trial.alloc, call) {
-        Some((disk, is_open)) => {
-            trial.put_disk(disk);
-            Answer::Word(if is_open { "gate open" } else { "not open" })
-        }
-        None => Answer::NoMemory,
-    }
-}
-
-fn written_behind(alloc: Global, call: u64) -> Option<(MemoryDisk, bool)> {
-    let bytes = b"-\x37--".to_vec(alloc).ok()?;
-    let mut disk = MemoryDisk::holding(alloc, bytes).ok()?;
-    disk.set_failing(Failing::From(call), FailedWrite::Nothing);
-    let mut disk = Checked::new(disk);
-    let gate = Gate::adopt(&disk, 1);
-    let is_open = write_behind(gate, &mut disk, 2, b"abc").is_ok();
-    Some((disk.into_disk(), is_open))
 }
 
 // Seals a body by four calls, or as many of them as the disk does.

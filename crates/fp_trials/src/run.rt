@@ -35,7 +35,7 @@ const ON_INPUT: [&str; 4] = ["input", "last", "raw", "turns"];
 
 const ON_COMMANDS: [&str; 4] = ["init", "apply", "import", "shown"];
 
-const ON_SLOTS: [&str; 3] = ["chain", "slot", "behind"];
+const ON_SLOTS: [&str; 2] = ["chain", "slot"];
 
 const ON_DAMAGE: [&str; 2] = ["flips", "seeds"];
 
