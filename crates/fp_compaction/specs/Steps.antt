@@ -8,7 +8,7 @@ use Rattle.fp_disk.specs.declared.disk.DiskFault.{DiskFault}
 use Rattle.fp_disk.specs.declared.history.CallKind.{CallKind}
 use Rattle.fp_disk.specs.declared.history.CallKind.TheVariants.{Sync, Write}
 use Rattle.fp_edit.specs.Flags.{State}
-use Rattle.fp_edit.specs.Numbers.{IMAGE_HEAD}
+use Rattle.fp_documents.specs.Numbers.{IMAGE_HEAD}
 use Rattle.fp_journal.specs.Chain.{with_gate}
 use Rattle.fp_journal.specs.State.{IsOnWay, has_begun, room}
 use Rattle.fp_journal.specs.declared.journal.Phase.TheVariants.{Idle, GateOpened, Failed}

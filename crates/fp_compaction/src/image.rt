@@ -2,7 +2,7 @@
 
 ghost use Rattle.std.specs.Prelude.{◌≡◌, ◌≤◌, length, IfOk};
 ghost use Rattle.fp_edit.specs.Flags.{size as size_of};
-ghost use Rattle.fp_edit.specs.declared.flags.TheConstants.{IMAGE_HEAD};
+ghost use Rattle.fp_documents.specs.declared.flags.TheConstants.{IMAGE_HEAD};
 ghost use Rattle.fp_recovery.specs.Stands.{IsImageOf};
 
 use fp_edit::FlagSet;

@@ -7,7 +7,7 @@ ghost use Rattle.fp_slots.specs.declared.places.TheConstants.{IMAGE_PLACE};
 ghost use Rattle.fp_slots.specs.declared.slots.Step.TheVariants.{Begin, Close, SyncClose, Part};
 ghost use Rattle.fp_slots.specs.declared.slots.Step.TheVariants.{Tail, SyncBody, Open, SyncOpen};
 ghost use Rattle.fp_edit.specs.Flags.{size as size_of};
-ghost use Rattle.fp_edit.specs.declared.flags.TheConstants.{IMAGE_HEAD};
+ghost use Rattle.fp_documents.specs.declared.flags.TheConstants.{IMAGE_HEAD};
 ghost use Rattle.fp_compaction.specs.Steps.{StartsImage, StepsOn, TakesStep};
 ghost use Rattle.fp_compaction.specs.Sets.{GoesOnKept, IsPlannedFor, LeavesEither};
 

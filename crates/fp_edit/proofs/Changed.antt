@@ -7,7 +7,7 @@ use Rattle.fp_base.specs.Bytes.{bytes_cmp}
 use Rattle.fp_edit.specs.Admits.{parts_after}
 use Rattle.fp_edit.specs.Flags.{Flags, IsChangedBy}
 use Rattle.fp_edit.specs.Parts.{Part, put, delete}
-use Rattle.fp_edit.specs.declared.flags.Flag.{Flag}
+use Rattle.fp_documents.specs.declared.flags.Flag.{Flag}
 
 abbrev pub AreChangedBy : ℕ → Flags → Type 0
 AreChangedBy r m = (k : List ℕ) (f : Flag) → fin.get m k ≡ Some f → IsChangedBy r f

@@ -9,10 +9,10 @@ use Rattle.fp_edit.specs.Flags.{Flags, State, IsChangedBy, IsTallied, size}
 use Rattle.fp_edit.specs.Parts.{Part, put, delete, any_put}
 use Rattle.fp_edit.specs.declared.edit.TheConstants.{REVISIONS_END}
 use Rattle.fp_edit.specs.declared.flag_set.TheConstants.{MOST_FLAGS}
-use Rattle.fp_edit.specs.declared.flags.Flag.{Flag}
-use Rattle.fp_edit.specs.declared.flags.TheConstants.{IMAGE_HEAD}
+use Rattle.fp_documents.specs.declared.flags.Flag.{Flag}
+use Rattle.fp_documents.specs.declared.flags.TheConstants.{IMAGE_HEAD}
 use Rattle.fp_edit.proofs.Changed.{changed-empty, changed-insert, changed-later, changed-parts}
-use Rattle.fp_edit.proofs.Sizes.{size-empty, size-remove, count-remove}
+use Rattle.fp_documents.proofs.Sizes.{size-empty, size-remove, count-remove}
 
 pub kept-insert : (m : Flags) (r s limit kept : ℕ) (k : List ℕ) (f : Flag) → IsTallied m r limit kept → r ≤ s → s < REVISIONS_END → IsChangedBy s f → is_within (fin.insert m k f) limit ≡ true
     → IsTallied (fin.insert m k f) s limit (size (fin.insert m k f))

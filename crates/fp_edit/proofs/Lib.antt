@@ -6,15 +6,11 @@ pub mod Followed
 pub mod Refusing
 pub mod Tallying
 pub mod Kept
-pub mod Maps
 pub mod Meeting
 pub mod Noting
 pub mod Outlined
 pub mod Parts
-pub mod Patched
 pub mod Runs
 pub mod Since
-pub mod Sizes
-pub mod Texts
 pub mod Lines
 pub mod SetTests

@@ -14,9 +14,9 @@ use Rattle.fp_edit.specs.Changes.{are_distinct, is_among}
 use Rattle.fp_edit.specs.Puts.{any_new, deletes_of, puts_of, with_flag, definition_or, definition_before}
 use Rattle.fp_edit.specs.Flags.{Flags}
 use Rattle.fp_edit.specs.Parts.{Part, any_put, put, delete, part_key}
-use Rattle.fp_edit.specs.declared.flags.Flag.{Flag}
+use Rattle.fp_documents.specs.declared.flags.Flag.{Flag}
 use Rattle.fp_edit.proofs.Parts.{apart, get-part, left_at, other_key, same_key}
-use Rattle.fp_edit.proofs.Sizes.{at_key, removed_none}
+use Rattle.fp_documents.proofs.Sizes.{at_key, removed_none}
 
 -- ---- one part, and back
 -- a flag that was put in the place of another one, and the other one put back

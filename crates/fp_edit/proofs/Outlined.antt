@@ -6,17 +6,17 @@ use Rattle.std.specs.FinMap as fin
 use Rattle.serde_json.proofs.OnLiterals.{serde_json_on_literals}
 use Rattle.fp_definition.specs.Key.{flag_cmp}
 use Rattle.fp_definition.specs.declared.key.FlagKey.{FlagKey}
-use Rattle.fp_edit.specs.Document.{document}
-use Rattle.fp_edit.specs.Entries.{entries_of, flags_of}
+use Rattle.fp_documents.specs.Document.{document}
+use Rattle.fp_documents.specs.Entries.{entries_of, flags_of}
 use Rattle.fp_edit.specs.Edits.{Change}
 use Rattle.fp_edit.specs.Flags.{Flags, State}
 use Rattle.fp_edit.specs.Log.{after_all}
-use Rattle.fp_edit.specs.Outline.{Outlines, IsAlike, IsDocumentOf, HasAsMany, whole_text}
-use Rattle.fp_edit.specs.declared.document.Document.{Document}
-use Rattle.fp_edit.specs.declared.flags.Flag.{Flag}
+use Rattle.fp_documents.specs.Outline.{Outlines, IsAlike, IsDocumentOf, HasAsMany, whole_text}
+use Rattle.fp_documents.specs.declared.document.Document.{Document}
+use Rattle.fp_documents.specs.declared.flags.Flag.{Flag}
 use Rattle.fp_edit.proofs.Changed.{AreChangedBy}
-use Rattle.fp_edit.proofs.Maps.{entries-flags_of}
-use Rattle.fp_edit.proofs.Patched.{length-part_lengths}
+use Rattle.fp_documents.proofs.Maps.{entries-flags_of}
+use Rattle.fp_documents.proofs.Patched.{length-part_lengths}
 use Rattle.fp_edit.proofs.Since.{none_after, as_many_before}
 
 whole_is_document : (flags : Flags) → whole_text (fin.entries flags) ≡ document flags

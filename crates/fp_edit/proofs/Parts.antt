@@ -19,8 +19,8 @@ use Rattle.fp_edit.specs.Changes.{are_distinct, is_among}
 use Rattle.fp_edit.specs.Flags.{Flags, cost_found, one_found, size}
 use Rattle.fp_edit.specs.Parts.{Part, put, delete, free, part_key, parts_of, proposed_of}
 use Rattle.fp_edit.specs.declared.edit.Change as code
-use Rattle.fp_edit.specs.declared.flags.Flag.{Flag}
-use Rattle.fp_edit.proofs.Sizes.{size-insert, size-remove, count-insert, count-remove}
+use Rattle.fp_documents.specs.declared.flags.Flag.{Flag}
+use Rattle.fp_documents.proofs.Sizes.{size-insert, size-remove, count-insert, count-remove}
 
 -- ---- keys
 pub same_key : (k : List ℕ) → eq_by_cmp bytes_cmp k k ≡ true

@@ -12,11 +12,12 @@ use Rattle.fp_edit.specs.Admits.{next, part_after, parts_after}
 use Rattle.fp_edit.specs.Edits.{Change, parts}
 use Rattle.fp_edit.specs.Flags.{Flags, State}
 use Rattle.fp_edit.specs.Log.{after_all}
-use Rattle.fp_edit.specs.Outline.{changed_after, KeepsKeys, SameButChanged, HasAsMany, MarksOne}
+use Rattle.fp_documents.specs.Outline.{changed_after, KeepsKeys, SameButChanged, HasAsMany}
+use Rattle.fp_edit.specs.Outline.{MarksOne}
 use Rattle.fp_edit.specs.Parts.{Part, put, delete}
-use Rattle.fp_edit.specs.declared.flags.Flag.{Flag}
+use Rattle.fp_documents.specs.declared.flags.Flag.{Flag}
 use Rattle.fp_edit.proofs.Changed.{AreChangedBy, changed-empty}
-use Rattle.fp_edit.proofs.Sizes.{first, second, less, find_below, sum-insert, sum-remove}
+use Rattle.fp_documents.proofs.Sizes.{first, second, less, find_below, sum-insert, sum-remove}
 
 abbrev Entry : Type 0
 Entry = List ℕ × Flag

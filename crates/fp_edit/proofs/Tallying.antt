@@ -13,11 +13,11 @@ use Rattle.fp_edit.specs.Flags.{Flags, State, cost_found, one_found, size}
 use Rattle.fp_edit.specs.Following.{IsTallyOf, Tallies, unconditional}
 use Rattle.fp_edit.specs.Parts.{Part, any_put, delete, free, is_put, keys_of, part_key, proposed_of, put}
 use Rattle.fp_edit.specs.declared.edit.Change as code
-use Rattle.fp_edit.specs.declared.flags.Flag.{Flag}
+use Rattle.fp_documents.specs.declared.flags.Flag.{Flag}
 use Rattle.fp_edit.specs.declared.tally.Tally.{Tally}
 use Rattle.fp_edit.proofs.Followed.{AreExpected, as_expected, change-unconditional, from_all_expected, from_expected, met, passes}
 use Rattle.fp_edit.proofs.Parts.{count-part, get-apart, get-other, get-own, is_among-append, left_at, part_is, part_within, parts_after-more, parts_in, size-part}
-use Rattle.fp_edit.proofs.Sizes.{found_counts, found_some, found_within, none_counts}
+use Rattle.fp_documents.proofs.Sizes.{found_counts, found_some, found_within, none_counts}
 
 -- ---- a key's flag after several parts
 -- a key that isn't that of the part at a place either

@@ -2,9 +2,7 @@ pub mod Numbers
 pub mod Admits
 pub mod Asks
 pub mod Changes
-pub mod Document
 pub mod Edits
-pub mod Entries
 pub mod Flags
 pub mod Following
 pub mod Keys

@@ -9,14 +9,6 @@ REVISIONS_END = 2 ^ 63
 abbrev pub MOST_FLAGS : ℕ
 MOST_FLAGS = 4096
 
--- bytes of a set's image: those in front of its flags
-abbrev pub IMAGE_HEAD : ℕ
-IMAGE_HEAD = 4
-
--- and what a flag takes beside its key and its definition
-abbrev pub FLAG_FRAME : ℕ
-FLAG_FRAME = 14
-
 -- changes that are made together
 abbrev pub MOST_CHANGES : ℕ
 MOST_CHANGES = 64

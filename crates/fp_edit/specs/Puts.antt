@@ -4,7 +4,7 @@ use Rattle.std.specs.Prelude.{◌||◌, is_some, is_none}
 use Rattle.std.specs.FinMap as map
 use Rattle.fp_edit.specs.Flags.{Flags}
 use Rattle.fp_edit.specs.Parts.{Part, ProposedPart, put, delete}
-use Rattle.fp_edit.specs.declared.flags.Flag.{Flag}
+use Rattle.fp_documents.specs.declared.flags.Flag.{Flag}
 
 -- the parts that put a flag
 abbrev pub puts_of : List Part → List Part

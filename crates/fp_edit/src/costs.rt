@@ -9,8 +9,8 @@ ghost use Rattle.fp_edit.specs.Noted.{AreNoted, IsNoted, noted_at};
 ghost use Rattle.fp_edit.specs.Parts.{parts_of, proposed_of};
 
 use crate::edit::{Change, Edit};
-use crate::flags::cost_of;
 use fp_definition::FlagKey;
+use fp_documents::cost_of;
 use std::alloc::{AllocError, Global};
 use std::collections::BTreeMap;
 

@@ -7,22 +7,25 @@ ghost use Rattle.std.specs.FinMap as map;
 ghost use Rattle.fp_definition.specs.Key.{key_bytes};
 ghost use Rattle.fp_edit.specs.Admits.{Admits, accepted, IsRefused, has_revision, has_room};
 ghost use Rattle.fp_edit.specs.Admits.{is_within, next, refusal};
-ghost use Rattle.fp_edit.specs.Document.{document};
-ghost use Rattle.fp_edit.specs.Entries.{entries_of};
-ghost use Rattle.fp_edit.specs.Outline.{IsDocumentOf, LeadsTo, Outlines, HasAsMany, changed_after};
+ghost use Rattle.fp_documents.specs.Document.{document};
+ghost use Rattle.fp_documents.specs.Entries.{entries_of};
+ghost use Rattle.fp_documents.specs.Outline.{IsDocumentOf, Outlines, HasAsMany, changed_after};
+ghost use Rattle.fp_edit.specs.Outline.{LeadsTo};
 ghost use Rattle.fp_edit.specs.Edits.{joint, one, parts, proposal_of, set};
 ghost use Rattle.fp_edit.specs.Parts.{any_put, delete, parts_of, put};
 ghost use Rattle.fp_edit.specs.Following.{change_of};
 ghost use Rattle.fp_edit.specs.Flags.{State, IsChangedBy, cost_found, size as size_of};
-ghost use Rattle.fp_edit.specs.declared.flags.Flag.{Flag};
-ghost use Rattle.fp_edit.specs.declared.flags.TheConstants.{IMAGE_HEAD};
+ghost use Rattle.fp_documents.specs.declared.flags.Flag.{Flag};
+ghost use Rattle.fp_documents.specs.declared.flags.TheConstants.{IMAGE_HEAD};
 
 use crate::changes::Changes;
-use crate::document::{Document, document_after, document_of};
 use crate::edit::{Edit, EditFault, REVISIONS_END};
-use crate::flags::{Flag, IMAGE_HEAD, copy_of, cost_at, cost_of, count, find, store, take};
 use crate::walks::{make_deletes, make_puts};
 use fp_definition::{Definition, FlagKey};
+use fp_documents::{
+    Document, Flag, IMAGE_HEAD, copy_of, cost_at, cost_of, count, document_after, document_of,
+    find, store, take,
+};
 use std::alloc::{AllocError, AllocFailed, Global};
 use std::collections::BTreeMap;
 use std::collections::btree_map::Iter;
@@ -46,7 +49,7 @@ pub struct FlagSet {
 
 impl Model for FlagSet {
     ghost use Rattle.fp_edit.specs.Flags.{State, coded_state, IsTallied, size as size_of};
-    ghost use Rattle.fp_edit.specs.Entries.{flags_of};
+    ghost use Rattle.fp_documents.specs.Entries.{flags_of};
     ghost use Rattle.fp_edit.specs.Outline.{MarksOne};
 
     ghost Value = { State };

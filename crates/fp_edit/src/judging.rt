@@ -10,14 +10,14 @@ ghost use Rattle.fp_edit.specs.Changes.{set_fault};
 ghost use Rattle.fp_edit.specs.Edits.{joint, proposal_of, set, single};
 ghost use Rattle.fp_edit.specs.Parts.{any_put, delete, parts_of, proposed_of, put};
 ghost use Rattle.fp_edit.specs.Flags.{one_found, size as size_of};
-ghost use Rattle.fp_edit.specs.declared.flags.Flag.{Flag};
+ghost use Rattle.fp_documents.specs.declared.flags.Flag.{Flag};
 
 use crate::changes::MOST_CHANGES;
 use crate::edit::{Change, Edit, EditFault, Expect, REVISIONS_END};
 use crate::flag_set::{FlagSet, MOST_FLAGS};
-use crate::flags::cost_of;
 use crate::tally::{Sums, sums_after};
 use fp_definition::{Definition, FlagKey};
+use fp_documents::cost_of;
 
 impl FlagSet {
     /// Whether the set keeps within its limits with a definition under a key, whatever is there

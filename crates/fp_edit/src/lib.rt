@@ -1,13 +1,10 @@
-//! Sets of flags, the edits that they admit, the lines that spell edits, and the documents that
-//! show sets.
+//! Sets of flags, the edits that they admit, and the lines that spell edits.
 #![tactic(auto)]
 
 mod changes;
 mod costs;
-mod document;
 mod edit;
 mod flag_set;
-mod flags;
 mod following;
 mod judging;
 mod keys;
@@ -21,11 +18,10 @@ pub use changes::{
     Changes, DELETE_FRAME, LONGEST_EDIT, MOST_CHANGES, PUT_FRAME, SET_FRAME, SetFault, delete_len,
     put_len,
 };
-pub use document::Document;
 pub use edit::{Change, Edit, EditFault, Expect, REVISIONS_END};
 pub use flag_set::{FlagSet, MOST_FLAGS};
-pub use flags::{FLAG_FRAME, Flag, IMAGE_HEAD};
 pub use following::copies_of;
+pub use fp_documents::{Document, FLAG_FRAME, Flag, IMAGE_HEAD};
 pub use keys::MetKeys;
 pub use laws::{
     one_outcome, refusals_leave_no_trace, revisions_count_edits, sets_keep_their_limit,

@@ -19,8 +19,8 @@ ghost use Rattle.fp_edit.specs.Following.{IsTallyAbove, IsTallyOf, change_of, un
 use crate::changes::MOST_CHANGES;
 use crate::edit::{Change, Edit, REVISIONS_END};
 use crate::flag_set::MOST_FLAGS;
-use crate::flags::cost_of;
 use fp_definition::{Definition, FlagKey};
+use fp_documents::cost_of;
 
 // These numbers.
 #[derive(Clone, Copy)]

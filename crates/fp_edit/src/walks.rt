@@ -6,7 +6,7 @@ ghost use Rattle.std.specs.BTreeMap.{IsOrdered};
 ghost use Rattle.std.specs.FinMap as map;
 ghost use Rattle.fp_definition.specs.Key.{key_bytes, flag_cmp};
 ghost use Rattle.fp_edit.specs.Admits.{parts_after};
-ghost use Rattle.fp_edit.specs.Entries.{flags_of};
+ghost use Rattle.fp_documents.specs.Entries.{flags_of};
 ghost use Rattle.fp_edit.specs.Flags.{cost_found, size as size_of};
 ghost use Rattle.fp_edit.specs.Parts.{parts_of, proposed_of};
 ghost use Rattle.fp_edit.specs.Puts.{HasPut, any_new, change_before, definition_before};
@@ -14,8 +14,8 @@ ghost use Rattle.fp_edit.specs.Puts.{deletes_of, flags_before, puts_of, replaced
 
 use crate::changes::MOST_CHANGES;
 use crate::edit::Change;
-use crate::flags::{Flag, cost_of, store, take};
 use fp_definition::{Definition, FlagKey};
+use fp_documents::{Flag, cost_of, store, take};
 use std::alloc::AllocError;
 use std::collections::BTreeMap;
 use std::mem;

@@ -19,7 +19,7 @@ use Rattle.fp_definition.specs.Resolving.{Said, data_of}
 use Rattle.fp_definition.specs.declared.resolving.EvalFault.{EvalFault}
 use Rattle.fp_definition.specs.declared.resolving.EvalFault.TheVariants.{Disabled, NoVariant, Memory}
 use Rattle.fp_edit.specs.Flags.{Flags, State}
-use Rattle.fp_edit.specs.declared.flags.Flag.{Flag}
+use Rattle.fp_documents.specs.declared.flags.Flag.{Flag}
 use Rattle.serde_json.specs.Written.{compact_text}
 use Rattle.fp_ofrep.specs.Bulk.{bulk_data, bulk_in, flag_items, with_flag_item}
 use Rattle.fp_ofrep.specs.Context.{context_of}

@@ -5,7 +5,7 @@ use Rattle.serde_json.specs.Data.{Data, object, array, Items, no_items, item, no
 use Rattle.serde_json.specs.Written.{compact_text}
 use Rattle.fp_definition.specs.Resolving.{data_of}
 use Rattle.fp_edit.specs.Flags.{Flags, State}
-use Rattle.fp_edit.specs.declared.flags.Flag.{Flag}
+use Rattle.fp_documents.specs.declared.flags.Flag.{Flag}
 use Rattle.fp_ofrep.specs.Bodies.{failure}
 use Rattle.fp_ofrep.specs.Context.{context_of}
 use Rattle.fp_ofrep.specs.Response.{Response, failure_response}

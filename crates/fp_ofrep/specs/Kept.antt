@@ -7,7 +7,7 @@ use Rattle.serde_json.specs.Written.{compact_text}
 use Rattle.fp_definition.specs.Outcome.{IsTimeless}
 use Rattle.fp_definition.specs.Resolving.{data_of}
 use Rattle.fp_edit.specs.Flags.{State}
-use Rattle.fp_edit.specs.declared.flags.Flag.{Flag}
+use Rattle.fp_documents.specs.declared.flags.Flag.{Flag}
 use Rattle.fp_group_commit.specs.Tokens.{FrontState, Identity, front_set}
 use Rattle.fp_ofrep.specs.Bulk.{bulk_data}
 use Rattle.fp_ofrep.specs.Context.{context_of}

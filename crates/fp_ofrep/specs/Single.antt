@@ -13,7 +13,7 @@ use Rattle.fp_definition.specs.Resolving.{Said, data_of}
 use Rattle.fp_definition.specs.declared.resolving.EvalFault.{EvalFault}
 use Rattle.fp_definition.specs.declared.resolving.EvalFault.TheVariants.{Disabled}
 use Rattle.fp_edit.specs.Flags.{Flags, State}
-use Rattle.fp_edit.specs.declared.flags.Flag.{Flag}
+use Rattle.fp_documents.specs.declared.flags.Flag.{Flag}
 use Rattle.fp_ofrep.specs.Bodies.{success}
 use Rattle.fp_ofrep.specs.Context.{context_of}
 use Rattle.fp_ofrep.specs.Response.{Response, failure_response, success_response}

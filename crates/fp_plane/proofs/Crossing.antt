@@ -16,7 +16,7 @@ use Rattle.fp_edit.specs.contracts.edit.Edit as edit
 use Rattle.fp_edit.specs.contracts.edit.Change as change
 use Rattle.fp_edit.specs.contracts.changes.Changes as changes
 use Rattle.fp_edit.specs.contracts.changes.Changes.TheInside as changes_inside
-use Rattle.fp_edit.specs.contracts.flags.Flag as flag
+use Rattle.fp_documents.specs.contracts.flags.Flag as flag
 use Rattle.fp_edit.specs.contracts.flag_set.FlagSet as flags
 use Rattle.fp_edit.specs.contracts.flag_set.FlagSet.TheInside as inside
 use Rattle.fp_group_commit.proofs.part.Part.TheSendSync as part

@@ -4,7 +4,7 @@ use Rattle.std.proofs.lemmas.List.{map-append}
 use Rattle.std.proofs.lemmas.List.Elements.{All-push}
 use Rattle.std.specs.Io.KnownBytes.{Appends}
 use Rattle.fp_base.proofs.Known.{Appends-nil, Appends-more}
-use Rattle.fp_edit.specs.Document.{document}
+use Rattle.fp_documents.specs.Document.{document}
 use Rattle.fp_group_commit.specs.Tokens.{FrontState, Identity, front_revision, front_set}
 use Rattle.fp_stream.specs.Frames.{AreNews, frame, has_after, stream_of}
 use Rattle.fp_stream.specs.Heads.{IsNewer}

@@ -1,7 +1,7 @@
 -- What a subscriber is sent.
 use Rattle.std.specs.Prelude.{◌≡◌, ◌<◌, ℕ, List, Option, All, map, Result, Ok, Err}
 use Rattle.std.specs.Io.KnownBytes.{Appends, Consumes}
-use Rattle.fp_edit.specs.Document.{document}
+use Rattle.fp_documents.specs.Document.{document}
 use Rattle.fp_group_commit.specs.Tokens.{FrontState, Identity, front_revision, front_set}
 use Rattle.fp_stream.specs.Frames.{AreNews, Snapshot, has_after, stream_of}
 use Rattle.fp_stream.specs.Hellos.{Hears, hello_bytes}

@@ -6,8 +6,9 @@ use mathlib.Core.List.{IsPrefix}
 use Rattle.fp_edit.specs.Edits.{Change}
 use Rattle.fp_edit.specs.Log.{after_all}
 use Rattle.fp_edit.specs.Flags.{State}
-use Rattle.fp_edit.specs.Outline.{IsDocumentOf, LeadsTo}
-use Rattle.fp_edit.specs.declared.document.Document.{Document}
+use Rattle.fp_documents.specs.Outline.{IsDocumentOf}
+use Rattle.fp_edit.specs.Outline.{LeadsTo}
+use Rattle.fp_documents.specs.declared.document.Document.{Document}
 use Rattle.fp_edit.proofs.Followed.{after-append}
 use Rattle.fp_group_commit.specs.Tokens.{FrontState, Identity, front_set}
 

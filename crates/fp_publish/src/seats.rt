@@ -2,7 +2,7 @@
 
 ghost use Rattle.std.specs.Prelude.{◌≡◌, ◌<◌, ◌≤◌, ◌+◌, ◌-◌, ◌⊎◌, None, Some, IfOk, OnOk, OnErr};
 ghost use Rattle.std.specs.Prelude.{MatchOption, MatchResult};
-ghost use Rattle.fp_edit.specs.Document.{document};
+ghost use Rattle.fp_documents.specs.Document.{document};
 ghost use Rattle.fp_group_commit.specs.Tokens.{front_revision, front_set};
 ghost use Rattle.fp_publish.specs.Seats.{IsOfStore, IsNews, had_by};
 ghost use Rattle.fp_stream.specs.declared.hello.Hello.TheVariants.{Has};
@@ -32,7 +32,7 @@ impl Model for Handed {
     ghost use Rattle.std.specs.Coded.{codes};
     ghost use Rattle.std.specs.Prelude.{◌≡◌};
     ghost use Rattle.fp_edit.specs.Flags.{coded_state};
-    ghost use Rattle.fp_edit.specs.Outline.{IsDocumentOf};
+    ghost use Rattle.fp_documents.specs.Outline.{IsDocumentOf};
     ghost use Rattle.fp_group_commit.specs.Changes.{coded_change};
     ghost use Rattle.fp_group_commit.specs.Tokens.{FrontState, front_set};
 

@@ -11,7 +11,7 @@ use Rattle.std.proofs.lemmas.Cmp.{nat_list_cmp_total}
 use Rattle.std.proofs.lemmas.List.{append-nil}
 use Rattle.fp_base.specs.Bytes.{bytes_cmp}
 use Rattle.fp_definition.specs.Key.{is_key}
-use Rattle.fp_edit.specs.declared.flags.Flag.{Flag}
+use Rattle.fp_documents.specs.declared.flags.Flag.{Flag}
 use Rattle.fp_base.specs.Steps.{◌>>=◌}
 use Rattle.fp_record.specs.Fields.{number_at, key_at, definition_at}
 use Rattle.fp_record.specs.WellFormed.{IsKey, IsFlag, IsImage, IsOrdered}

@@ -15,7 +15,7 @@ use Rattle.fp_edit.specs.Edits.{one, set}
 use Rattle.fp_edit.specs.Parts.{Part, put, delete, part_key}
 use Rattle.fp_edit.specs.declared.changes.TheConstants.{LONGEST_EDIT}
 use Rattle.fp_edit.specs.declared.flag_set.TheConstants.{MOST_FLAGS}
-use Rattle.fp_edit.specs.declared.flags.Flag.{Flag}
+use Rattle.fp_documents.specs.declared.flags.Flag.{Flag}
 use Rattle.fp_record.specs.Fields.{number_at, bytes_at, key_at, definition_at}
 use Rattle.fp_record.specs.Reading.{new_key_at, put_at, delete_at, part_at, next_part, part_count, set_at, change_at, many_from, can_count, count_at, key_above_at, changed_at, flag_at, flags_at, flag_count, image_at, image_in, whole}
 use Rattle.fp_record.specs.declared.batch.TheConstants.{PUT_KIND, DELETE_KIND, SET_KIND}

@@ -9,7 +9,7 @@ use Rattle.fp_edit.specs.Changes.{part_len, set_len}
 use Rattle.fp_edit.specs.Edits.{one, set}
 use Rattle.fp_edit.specs.Flags.{total_cost}
 use Rattle.fp_edit.specs.Parts.{Part, put, delete}
-use Rattle.fp_edit.specs.declared.flags.Flag.{Flag}
+use Rattle.fp_documents.specs.declared.flags.Flag.{Flag}
 use Rattle.fp_record.specs.Group.{Group}
 use Rattle.fp_record.specs.Encoding.{encoding_of_key, encoding_of_definition, encoding_of_part, encoding_of_change, encoding_of_batch, encoding_of_flag, encoding_of_image}
 

@@ -3,10 +3,10 @@ use Rattle.std.proofs.Common.{◌≡◌, ℕ, suc, ◌<◌, ◌≤◌, List, [],
 use Rattle.std.specs.List.{AllByRecursion}
 use Rattle.std.specs.FinMap as fin
 use Rattle.fp_definition.specs.declared.key.FlagKey.{FlagKey}
-use Rattle.fp_edit.specs.Entries.{entries_of}
+use Rattle.fp_documents.specs.Entries.{entries_of}
 use Rattle.fp_edit.specs.Flags.{Flags, IsChangedBy}
-use Rattle.fp_edit.specs.declared.flags.Flag.{Flag}
-use Rattle.fp_edit.proofs.Maps.{sorted_keys}
+use Rattle.fp_documents.specs.declared.flags.Flag.{Flag}
+use Rattle.fp_documents.proofs.Maps.{sorted_keys}
 use Rattle.fp_record.specs.WellFormed.{IsOrdered}
 use Rattle.fp_edit.specs.declared.flag_set.TheConstants.{MOST_FLAGS}
 

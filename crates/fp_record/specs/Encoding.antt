@@ -4,7 +4,7 @@ use Rattle.std.specs.List.{flat_map, sum_by}
 use Rattle.std.specs.Int.{w16, w32, w64, to_be_bytes}
 use Rattle.fp_edit.specs.Parts.{Part, put, delete}
 use Rattle.fp_edit.specs.Edits.{Change, one, set}
-use Rattle.fp_edit.specs.declared.flags.Flag.{Flag}
+use Rattle.fp_documents.specs.declared.flags.Flag.{Flag}
 use Rattle.fp_record.specs.Group.{Group}
 use Rattle.fp_record.specs.Numbers.{BATCH_HEAD, PUT_KIND, DELETE_KIND, SET_KIND}
 

@@ -3,7 +3,7 @@ use Rattle.std.specs.Prelude.{◌≡◌, ℕ, ◌+◌, ◌++◌, List, length}
 use Rattle.std.specs.List.{sum_by}
 use Rattle.std.specs.FinMap as map
 use Rattle.fp_edit.specs.Flags.{Flags, size}
-use Rattle.fp_edit.specs.declared.flags.Flag.{Flag}
+use Rattle.fp_documents.specs.declared.flags.Flag.{Flag}
 use Rattle.fp_record.specs.Group.{Group}
 use Rattle.fp_record.specs.Numbers.{BATCH_HEAD}
 use Rattle.fp_record.specs.WellFormed.{IsBatch, IsImage}

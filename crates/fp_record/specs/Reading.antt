@@ -11,7 +11,7 @@ use Rattle.fp_edit.specs.Edits.{Change, one, set}
 use Rattle.fp_edit.specs.Numbers.{LONGEST_EDIT}
 use Rattle.fp_edit.specs.Numbers.{REVISIONS_END}
 use Rattle.fp_edit.specs.Numbers.{MOST_FLAGS}
-use Rattle.fp_edit.specs.declared.flags.Flag.{Flag}
+use Rattle.fp_documents.specs.declared.flags.Flag.{Flag}
 use Rattle.fp_record.specs.Group.{Group}
 use Rattle.fp_record.specs.Numbers.{MOST_EDITS}
 use Rattle.fp_record.specs.Numbers.{PUT_KIND, DELETE_KIND, SET_KIND}

@@ -7,8 +7,8 @@ ghost use Rattle.std.specs.FinMap.{entries as map_entries};
 ghost use Rattle.fp_base.specs.Answer.{Gives};
 ghost use Rattle.fp_base.specs.Bytes.{bytes_cmp};
 ghost use Rattle.fp_definition.specs.Key.{key_bytes};
-ghost use Rattle.fp_edit.specs.Entries.{entry_of, entries_of};
-ghost use Rattle.fp_edit.specs.declared.flags.Flag.{Flag};
+ghost use Rattle.fp_documents.specs.Entries.{entry_of, entries_of};
+ghost use Rattle.fp_documents.specs.declared.flags.Flag.{Flag};
 ghost use Rattle.fp_record.specs.declared.fault.RecordFault.TheVariants.{Memory};
 ghost use Rattle.fp_record.specs.Fields.{Tells};
 ghost use Rattle.fp_record.specs.WellFormed.{IsFlag, IsImage, IsOrdered};
@@ -33,9 +33,9 @@ pub struct Image {
 impl Model for Image {
     ghost use Rattle.std.specs.Prelude.{List, ℕ};
     ghost use Rattle.std.specs.Coded.{coded×, coded_ℕ, coded_list};
-    ghost use Rattle.fp_edit.specs.Entries.{entries_of};
+    ghost use Rattle.fp_documents.specs.Entries.{entries_of};
     ghost use Rattle.fp_edit.specs.Flags.{coded_flag};
-    ghost use Rattle.fp_edit.specs.declared.flags.Flag.{Flag};
+    ghost use Rattle.fp_documents.specs.declared.flags.Flag.{Flag};
     ghost use Rattle.fp_record.specs.WellFormed.{IsOrdered};
 
     ghost Value = { List (List ℕ × Flag) };

@@ -10,7 +10,7 @@ use Rattle.std.proofs.lemmas.Nat.{from_be_bytes-to_be_bytes_4}
 use Rattle.fp_base.specs.Bytes.{bytes_cmp}
 use Rattle.fp_disk.specs.Outcomes.{AreBytes, IsByte}
 use Rattle.fp_edit.specs.Flags.{State}
-use Rattle.fp_edit.specs.declared.flags.Flag.{Flag}
+use Rattle.fp_documents.specs.declared.flags.Flag.{Flag}
 use Rattle.fp_gate.specs.declared.gate.TheConstants.{OPEN}
 use Rattle.fp_journal.specs.Holds.{Holds}
 use Rattle.fp_journal.specs.Reading.{Breaks, FoundChain, IsChain, IsClosed, IsNext, Reads, StopsAt, no_gate, no_length, too_long, no_body, length_at}

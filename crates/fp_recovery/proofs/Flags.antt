@@ -6,7 +6,7 @@ use Rattle.std.specs.FinMap as fin
 use Rattle.std.proofs.lemmas.List.{length-append}
 use Rattle.fp_edit.specs.Admits.{is_within}
 use Rattle.fp_edit.specs.Flags.{Flags, IsChangedBy, total_cost}
-use Rattle.fp_edit.specs.declared.flags.Flag.{Flag}
+use Rattle.fp_documents.specs.declared.flags.Flag.{Flag}
 use Rattle.fp_record.specs.Encoding.{encoding_of_flag}
 use Rattle.fp_record.specs.Reading.{many_from, flag_at, flags_at, flag_count, image_at}
 use Rattle.fp_record.specs.WellFormed.{IsFlag}

@@ -6,8 +6,8 @@ use Rattle.std.specs.FinMap as fin
 use Rattle.std.specs.FinMap.Entries.{by_order, put, below_all, is_sorted}
 use Rattle.fp_base.specs.Bytes.{bytes_cmp}
 use Rattle.fp_edit.specs.Flags.{Flags}
-use Rattle.fp_edit.specs.declared.flags.Flag.{Flag}
-use Rattle.fp_edit.proofs.Sizes.{first, second, less}
+use Rattle.fp_documents.specs.declared.flags.Flag.{Flag}
+use Rattle.fp_documents.proofs.Sizes.{first, second, less}
 
 below_inside : (x : List ℕ) (es : List (List ℕ × Flag)) (k : List ℕ) (f : Flag) (rest : List (List ℕ × Flag)) → T (below_all bytes_cmp x (es ++ (k, f) ∷ rest)) → bytes_cmp x k ≡ Less
 below_inside x [] k f rest h = less _ (first _ _ h)

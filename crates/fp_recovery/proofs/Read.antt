@@ -9,7 +9,7 @@ use Rattle.fp_edit.specs.Admits.{refusal, next}
 use Rattle.fp_edit.specs.Edits.{Change}
 use Rattle.fp_edit.specs.Flags.{State}
 use Rattle.fp_edit.specs.declared.edit.TheConstants.{REVISIONS_END}
-use Rattle.fp_edit.specs.declared.flags.Flag.{Flag}
+use Rattle.fp_documents.specs.declared.flags.Flag.{Flag}
 use Rattle.fp_edit.proofs.Followed.{change-unconditional}
 use Rattle.fp_journal.specs.Reading.{IsWrong}
 use Rattle.fp_record.specs.Encoding.{encoding_of_image}

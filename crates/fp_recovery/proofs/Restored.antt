@@ -12,7 +12,7 @@ use Rattle.fp_record.specs.Encoding.{encoding_of_image}
 use Rattle.fp_record.proofs.Lengths.{length-encoding_of_image}
 use Rattle.fp_edit.specs.Flags.{State, Flags, size}
 use Rattle.fp_edit.specs.declared.flag_set.TheConstants.{MOST_FLAGS}
-use Rattle.fp_edit.specs.declared.flags.Flag.{Flag}
+use Rattle.fp_documents.specs.declared.flags.Flag.{Flag}
 use Rattle.fp_edit.specs.Edits.{Change}
 use Rattle.fp_edit.specs.Admits.{is_within}
 use Rattle.fp_journal.specs.Reading.{Reads}

@@ -12,7 +12,7 @@ use Rattle.fp_edit.specs.declared.edit.EditFault.{EditFault}
 use Rattle.fp_edit.specs.declared.edit.EditFault.TheVariants.{Conflict, ConflictIn, SetTooLarge}
 use Rattle.fp_edit.specs.declared.edit.EditFault.TheVariants.{RevisionsUsed, Memory}
 use Rattle.fp_edit.specs.Numbers.{REVISIONS_END}
-use Rattle.fp_edit.specs.declared.flags.Flag.{Flag}
+use Rattle.fp_documents.specs.declared.flags.Flag.{Flag}
 use Rattle.fp_record.specs.Fields.{number_at}
 use Rattle.fp_record.specs.Reading.{change_at, count_at, image_in, whole}
 use Rattle.fp_record.specs.Numbers.{SET_KIND}

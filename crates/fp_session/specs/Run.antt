@@ -4,7 +4,7 @@ use Rattle.std.specs.Prelude.{false, Option, None, Some, Ok, Err}
 use Rattle.std.specs.List.{list_all}
 use Rattle.std.specs.Io.KnownBytes.{Appends}
 use Rattle.fp_edit.specs.Admits.{refusal, next}
-use Rattle.fp_edit.specs.Document.{document}
+use Rattle.fp_documents.specs.Document.{document}
 use Rattle.fp_edit.specs.Edits.{Proposal, change_in}
 use Rattle.fp_edit.specs.Flags.{State}
 use Rattle.fp_edit.specs.declared.edit.EditFault.{EditFault}

@@ -1,7 +1,7 @@
 use Rattle.std.proofs.Common.{◌≤◌, ◌<◌, ℕ, List, length, ap, subst, ◌∙◌}
 use Rattle.std.specs.FinMap as fin
 use Rattle.fp_edit.specs.Flags.{size}
-use Rattle.fp_edit.specs.declared.flags.Flag.{Flag}
+use Rattle.fp_documents.specs.declared.flags.Flag.{Flag}
 use Rattle.fp_record.specs.Encoding.{encoding_of_image}
 use Rattle.fp_record.specs.WellFormed.{IsImage}
 use Rattle.fp_record.proofs.Lengths.{length-encoding_of_image}

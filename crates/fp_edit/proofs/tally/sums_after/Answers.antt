@@ -6,7 +6,7 @@ use Rattle.fp_edit.specs.Admits.{part_after}
 use Rattle.fp_edit.specs.Flags.{Flags, cost_found, one_found, size}
 use Rattle.fp_edit.specs.Parts.{Part, delete, part_key, proposed_of, put}
 use Rattle.fp_edit.specs.declared.edit.Change as code
-use Rattle.fp_edit.specs.declared.flags.Flag.{Flag}
+use Rattle.fp_documents.specs.declared.flags.Flag.{Flag}
 use Rattle.fp_edit.proofs.Parts.{count-part, left_at, size-part}
 use Rattle.fp_edit.proofs.tally.sums_after.Goals as goal
 

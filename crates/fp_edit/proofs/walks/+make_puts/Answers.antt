@@ -1,7 +1,7 @@
 use Rattle.std.proofs.Common.{◌≡◌, ◌<◌, ◌-◌, true, List, [], ◌∷◌, length, take, drop, set, get_or, sym, subst, ap, ◌∙◌}
 use Rattle.std.proofs.Common.{arith, tests, rules}
 use Rattle.std.proofs.lemmas.Grind.{common_steps}
-use Rattle.fp_edit.specs.Entries.{flags_of}
+use Rattle.fp_documents.specs.Entries.{flags_of}
 use Rattle.fp_edit.specs.Flags.{Flags}
 use Rattle.fp_edit.specs.Parts.{proposed_of}
 use Rattle.fp_edit.specs.Puts.{any_new}

@@ -1,9 +1,9 @@
 use Rattle.std.proofs.Common.{◌≡◌, ap, arith}
 use Rattle.std.specs.FinMap as map
-use Rattle.fp_edit.specs.Entries.{flags_of}
+use Rattle.fp_documents.specs.Entries.{flags_of}
 use Rattle.fp_edit.specs.Flags.{cost_found, size}
 use Rattle.fp_definition.specs.Key.{key_bytes}
-use Rattle.fp_edit.proofs.Sizes.{size-remove}
+use Rattle.fp_documents.proofs.Sizes.{size-remove}
 use Rattle.fp_edit.proofs.walks.make_delete.Goals as goal
 
 pub returns-in-Delete-clause-size : goal.returns-in-Delete-clause-size

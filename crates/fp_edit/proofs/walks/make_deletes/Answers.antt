@@ -1,6 +1,6 @@
 use Rattle.std.proofs.Common.{◌+◌, List, drop, sym, ap, ◌∙◌, arith}
 use Rattle.fp_edit.specs.Admits.{parts_after}
-use Rattle.fp_edit.specs.Entries.{flags_of}
+use Rattle.fp_documents.specs.Entries.{flags_of}
 use Rattle.fp_edit.specs.Flags.{Flags}
 use Rattle.fp_edit.specs.Parts.{proposed_of}
 use Rattle.fp_edit.specs.Puts.{deletes_of}

@@ -1,7 +1,7 @@
 use Rattle.std.proofs.Common.{◌≡◌, ◌+◌, ◌*◌, ◌≤◌, ◌^◌, ℕ, drop}
 use Rattle.std.specs.BTreeMap.{IsOrdered}
 use Rattle.fp_edit.specs.Admits.{parts_after}
-use Rattle.fp_edit.specs.Entries.{flags_of}
+use Rattle.fp_documents.specs.Entries.{flags_of}
 use Rattle.fp_edit.specs.Puts.{deletes_of}
 use Rattle.fp_edit.specs.Flags.{size}
 use Rattle.fp_definition.specs.Key.{flag_cmp}

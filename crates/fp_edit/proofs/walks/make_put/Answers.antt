@@ -1,13 +1,13 @@
 use Rattle.std.proofs.Common.{is_some, sym, ap, ◌∙◌, arith}
 use Rattle.std.specs.FinMap as map
-use Rattle.fp_edit.specs.Entries.{flags_of}
+use Rattle.fp_documents.specs.Entries.{flags_of}
 use Rattle.fp_edit.specs.Flags.{Flags, cost_found, size}
 use Rattle.fp_definition.specs.Key.{key_bytes}
 use Rattle.fp_edit.specs.Parts.{put, proposed_of}
 use Rattle.fp_edit.specs.Puts.{replaced, with_flag}
-use Rattle.fp_edit.specs.declared.flags.Flag.{Flag}
+use Rattle.fp_documents.specs.declared.flags.Flag.{Flag}
 use Rattle.fp_edit.proofs.Making.{get-put, definition_put, put_undone}
-use Rattle.fp_edit.proofs.Sizes.{size-insert}
+use Rattle.fp_documents.proofs.Sizes.{size-insert}
 use Rattle.fp_edit.proofs.walks.make_put.Goals as goal
 
 pub returns-clause-size : goal.returns-clause-size

@@ -2,10 +2,10 @@ use Rattle.std.proofs.Common.{◌≡◌, Some, is_some, sym, ap, ap₂, ◌∙�
 use Rattle.std.proofs.lemmas.Result.{err_from_is_err_and}
 use Rattle.std.specs.Option.{option_copied_mut}
 use Rattle.std.specs.FinMap as map
-use Rattle.fp_edit.specs.Entries.{flags_of}
+use Rattle.fp_documents.specs.Entries.{flags_of}
 use Rattle.fp_definition.specs.Key.{key_bytes}
-use Rattle.fp_edit.specs.declared.flags.Flag.{Flag}
-use Rattle.fp_edit.proofs.Maps.{flags_of-set, get-flags_of}
+use Rattle.fp_documents.specs.declared.flags.Flag.{Flag}
+use Rattle.fp_documents.proofs.Maps.{flags_of-set, get-flags_of}
 use Rattle.fp_edit.proofs.walks.put.Goals as goal
 use Rattle.fp_edit.proofs.walks.put.Goals.{After-replace}
 

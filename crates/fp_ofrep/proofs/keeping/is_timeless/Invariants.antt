@@ -1,5 +1,5 @@
 use Rattle.std.specs.FinMap as map
-use Rattle.fp_edit.specs.Entries.{entries_of}
+use Rattle.fp_documents.specs.Entries.{entries_of}
 use Rattle.fp_ofrep.specs.Kept.{AreTimeless}
 use Rattle.fp_ofrep.proofs.keeping.is_timeless.Given as goal
 

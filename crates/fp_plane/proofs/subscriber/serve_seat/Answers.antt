@@ -1,6 +1,6 @@
 use Rattle.std.proofs.Common.{◌≤◌, ◌<◌, ◌^◌, ℕ, List, length, sym, subst, ◌∙◌, rules}
 use Rattle.std.specs.Io.KnownBytes.{Appends}
-use Rattle.fp_edit.specs.Document.{document}
+use Rattle.fp_documents.specs.Document.{document}
 use Rattle.fp_group_commit.specs.Tokens.{front_revision, front_set}
 use Rattle.fp_publish.specs.Seats.{had_by}
 use Rattle.fp_stream.specs.Frames.{frame}

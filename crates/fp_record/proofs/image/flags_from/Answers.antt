@@ -1,8 +1,8 @@
 use Rattle.std.proofs.Common.{◌≡◌, ◌+◌, ◌++◌, ◌∷◌, [], ℕ, List, length, arith, Ok}
 use Rattle.std.proofs.lemmas.Result.{err_from_is_err_and}
 use Rattle.std.proofs.lemmas.List.{map_push, length-append}
-use Rattle.fp_edit.specs.Entries.{entry_of, entries_of}
-use Rattle.fp_edit.specs.declared.flags.Flag.{Flag}
+use Rattle.fp_documents.specs.Entries.{entry_of, entries_of}
+use Rattle.fp_documents.specs.declared.flags.Flag.{Flag}
 use Rattle.fp_record.specs.Reading.{flag_at, many_from, flags_at}
 use Rattle.fp_record.proofs.Loop.{ends, fails_on}
 use Rattle.fp_record.proofs.Many.{one_more}

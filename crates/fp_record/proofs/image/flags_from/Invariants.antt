@@ -1,5 +1,5 @@
 use Rattle.std.proofs.Common.{◌≡◌, ◌≤◌, [], Ok, length}
-use Rattle.fp_edit.specs.Entries.{entries_of}
+use Rattle.fp_documents.specs.Entries.{entries_of}
 use Rattle.fp_record.specs.Reading.{flag_at, many_from}
 use Rattle.fp_record.proofs.image.flags_from.Given as goal
 

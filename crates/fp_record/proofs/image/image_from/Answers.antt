@@ -1,5 +1,5 @@
 use Rattle.std.proofs.Common.{arith}
-use Rattle.fp_edit.specs.Entries.{entries_of}
+use Rattle.fp_documents.specs.Entries.{entries_of}
 use Rattle.fp_record.specs.Reading.{any_revision}
 use Rattle.fp_record.proofs.Images.{read_in_order}
 use Rattle.fp_record.proofs.image.image_from.Goals as goal

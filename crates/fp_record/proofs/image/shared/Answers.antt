@@ -1,7 +1,7 @@
 use Rattle.std.proofs.Common.{◌≡◌, ◌≤◌, rules, sym, subst, List, ℕ}
 use Rattle.std.specs.FinMap.{entries, len}
-use Rattle.fp_edit.specs.Entries.{entries_of}
-use Rattle.fp_edit.specs.declared.flags.Flag.{Flag}
+use Rattle.fp_documents.specs.Entries.{entries_of}
+use Rattle.fp_documents.specs.declared.flags.Flag.{Flag}
 use Rattle.fp_record.specs.WellFormed.{IsOrdered}
 use Rattle.fp_record.proofs.Sets.{set_in_order}
 use Rattle.fp_edit.specs.declared.flag_set.TheConstants.{MOST_FLAGS}

@@ -1,6 +1,6 @@
 use Rattle.std.proofs.Common.{◌≡◌, ◌++◌}
 use Rattle.std.specs.FinMap.{entries}
-use Rattle.fp_edit.specs.Entries.{entries_of}
+use Rattle.fp_documents.specs.Entries.{entries_of}
 use Rattle.fp_record.proofs.image.shared.Given as goal
 
 abbrev pub invariant-loop-key : goal.invariant-loop-key

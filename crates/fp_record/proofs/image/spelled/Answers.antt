@@ -3,8 +3,8 @@ use Rattle.std.specs.Int.{w32, to_be_bytes}
 use Rattle.std.specs.List.{flat_map}
 use Rattle.std.proofs.lemmas.List.{take_all, length-map}
 use Rattle.fp_definition.specs.declared.key.FlagKey.{FlagKey}
-use Rattle.fp_edit.specs.Entries.{entry_of, entries_of}
-use Rattle.fp_edit.specs.declared.flags.Flag.{Flag}
+use Rattle.fp_documents.specs.Entries.{entry_of, entries_of}
+use Rattle.fp_documents.specs.declared.flags.Flag.{Flag}
 use Rattle.fp_record.specs.Encoding.{encoding_of_flag, encoding_of_image}
 use Rattle.fp_record.proofs.image.spelled.Goals as goal
 

@@ -1,8 +1,8 @@
 use Rattle.std.proofs.Common.{true, sym, subst}
 use Rattle.fp_edit.specs.Flags.{IsTallied}
-use Rattle.fp_edit.specs.Entries.{flags_of}
+use Rattle.fp_documents.specs.Entries.{flags_of}
 use Rattle.fp_edit.specs.Outline.{MarksOne}
-use Rattle.fp_edit.specs.declared.flags.TheConstants.{IMAGE_HEAD}
+use Rattle.fp_documents.specs.declared.flags.TheConstants.{IMAGE_HEAD}
 use Rattle.fp_edit.proofs.Kept.{kept-empty}
 use Rattle.fp_edit.proofs.Since.{marks_one-empty}
 use Rattle.fp_edit.proofs.flag_set.FlagSet.at_revision.Goals as goal

@@ -1,6 +1,6 @@
 use Rattle.std.proofs.Common.{arith}
 use Rattle.fp_definition.specs.Key.{key_bytes}
-use Rattle.fp_edit.proofs.Sizes.{count-insert}
+use Rattle.fp_documents.proofs.Sizes.{count-insert}
 use Rattle.fp_edit.proofs.flag_set.FlagSet.count_with.Goals as goal
 
 pub returns : goal.returns

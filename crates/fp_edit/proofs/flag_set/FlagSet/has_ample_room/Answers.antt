@@ -4,8 +4,8 @@ use Rattle.fp_definition.specs.Key.{key_bytes}
 use Rattle.fp_edit.specs.Admits.{is_within}
 use Rattle.fp_edit.specs.Flags.{Flags, size}
 use Rattle.fp_edit.specs.declared.flag_set.TheConstants.{MOST_FLAGS}
-use Rattle.fp_edit.specs.declared.flags.Flag.{Flag}
-use Rattle.fp_edit.proofs.Sizes.{count-insert, size-insert}
+use Rattle.fp_documents.specs.declared.flags.Flag.{Flag}
+use Rattle.fp_documents.proofs.Sizes.{count-insert, size-insert}
 use Rattle.fp_edit.proofs.flag_set.FlagSet.has_ample_room.Goals as goal
 
 within : (m : Flags) (limit : ℕ) → fin.len m ≤ MOST_FLAGS → size m ≤ limit → is_within m limit ≡ true

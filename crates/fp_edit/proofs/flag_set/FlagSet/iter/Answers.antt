@@ -1,10 +1,10 @@
 use Rattle.std.proofs.Common.{List, get_or, All, sym, ap, subst, ◌∙◌}
 use Rattle.fp_definition.specs.Key.{key_bytes}
 use Rattle.fp_definition.specs.declared.key.FlagKey.{FlagKey}
-use Rattle.fp_edit.specs.Entries.{entries_of}
+use Rattle.fp_documents.specs.Entries.{entries_of}
 use Rattle.fp_edit.specs.Flags.{IsChangedBy}
-use Rattle.fp_edit.specs.declared.flags.Flag.{Flag}
-use Rattle.fp_edit.proofs.Maps.{entries-flags_of, get-flags_of}
+use Rattle.fp_documents.specs.declared.flags.Flag.{Flag}
+use Rattle.fp_documents.proofs.Maps.{entries-flags_of, get-flags_of}
 use Rattle.fp_edit.proofs.flag_set.FlagSet.iter.Goals as goal
 
 pub returns-clause-entries : goal.returns-clause-entries

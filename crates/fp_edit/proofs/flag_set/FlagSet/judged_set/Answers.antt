@@ -11,7 +11,7 @@ use Rattle.fp_edit.specs.declared.edit.Change as code
 use Rattle.fp_edit.proofs.Followed.{all_expected, met}
 use Rattle.fp_edit.proofs.Parts.{get-before, length-parts_in, part_is, part_within, parts_in}
 use Rattle.fp_edit.proofs.SetTests.{set-distinct}
-use Rattle.fp_edit.proofs.Sizes.{found_some, found_within}
+use Rattle.fp_documents.proofs.Sizes.{found_some, found_within}
 use Rattle.fp_edit.proofs.Tallying.{bound_all, can_be, cannot_be, count_all, free_at, goes_on, judged_all, size_all}
 use Rattle.fp_edit.proofs.flag_set.FlagSet.judged_set.Goals as goal
 use Rattle.fp_edit.proofs.flag_set.FlagSet.judged_set.Goals.{After-found_behind-found, After-sums_after-sums, in-Put, in-Delete+else-found-eq0}

@@ -4,7 +4,7 @@ use Rattle.std.proofs.lemmas.Bool.{eqb-true}
 use Rattle.std.proofs.lemmas.List.{length-map, take_at}
 use Rattle.fp_edit.specs.Admits.{flags_after, parts_after, refusal}
 use Rattle.fp_edit.specs.Edits.{joint, set}
-use Rattle.fp_edit.specs.Entries.{flags_of}
+use Rattle.fp_documents.specs.Entries.{flags_of}
 use Rattle.fp_edit.specs.Flags.{State, Flags, IsTallied, size}
 use Rattle.fp_edit.specs.Outline.{MarksOne}
 use Rattle.fp_edit.specs.Parts.{ProposedPart, any_put, parts_of, proposed_of}

@@ -1,8 +1,8 @@
 use Rattle.std.proofs.Common.{◌≡◌, ap, sym, ◌∙◌}
 use Rattle.std.specs.FinMap as fin
-use Rattle.fp_edit.specs.Entries.{entries_of}
+use Rattle.fp_documents.specs.Entries.{entries_of}
 use Rattle.fp_edit.specs.Flags.{State}
-use Rattle.fp_edit.proofs.Maps.{entries-flags_of}
+use Rattle.fp_documents.proofs.Maps.{entries-flags_of}
 use Rattle.fp_edit.proofs.Outlined.{is_document_of}
 use Rattle.fp_edit.proofs.flag_set.FlagSet.outlined_after.Goals as goal
 

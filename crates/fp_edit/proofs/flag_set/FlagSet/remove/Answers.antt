@@ -2,12 +2,12 @@ use Rattle.std.proofs.Common.{◌≡◌, ◌+◌, ◌-◌, true, sym, subst, ref
 use Rattle.fp_definition.specs.Key.{key_bytes}
 use Rattle.fp_edit.specs.Admits.{has_revision, flags_after}
 use Rattle.fp_edit.specs.Edits.{one}
-use Rattle.fp_edit.specs.Entries.{flags_of}
+use Rattle.fp_documents.specs.Entries.{flags_of}
 use Rattle.fp_edit.specs.Flags.{State, Flags, IsTallied, size}
 use Rattle.fp_edit.specs.Outline.{MarksOne}
 use Rattle.fp_edit.specs.Parts.{delete}
 use Rattle.fp_edit.proofs.Kept.{kept-after}
-use Rattle.fp_edit.proofs.Sizes.{size-remove}
+use Rattle.fp_documents.proofs.Sizes.{size-remove}
 use Rattle.fp_edit.proofs.Since.{marks_one-remove}
 use Rattle.fp_edit.proofs.flag_set.FlagSet.remove.Goals as goal
 

@@ -1,7 +1,7 @@
 use Rattle.std.proofs.Common.{arith}
 use Rattle.fp_definition.specs.Key.{key_bytes}
-use Rattle.fp_edit.specs.declared.flags.Flag.{Flag}
-use Rattle.fp_edit.proofs.Sizes.{resized}
+use Rattle.fp_documents.specs.declared.flags.Flag.{Flag}
+use Rattle.fp_documents.proofs.Sizes.{resized}
 use Rattle.fp_edit.proofs.flag_set.FlagSet.size_with.Goals as goal
 
 pub overflow_sub-result : goal.overflow_sub-result

@@ -4,12 +4,12 @@ use Rattle.std.specs.FinMap as fin
 use Rattle.std.proofs.lemmas.Bool.{ltb-true}
 use Rattle.fp_definition.specs.Key.{key_bytes}
 use Rattle.fp_edit.specs.Admits.{is_within}
-use Rattle.fp_edit.specs.Entries.{flags_of}
+use Rattle.fp_documents.specs.Entries.{flags_of}
 use Rattle.fp_edit.specs.Flags.{State, Flags, IsTallied, size}
 use Rattle.fp_edit.specs.Outline.{MarksOne}
 use Rattle.fp_edit.proofs.Kept.{kept-insert}
 use Rattle.fp_edit.proofs.Since.{marks_one-insert}
-use Rattle.fp_edit.proofs.Sizes.{resized}
+use Rattle.fp_documents.proofs.Sizes.{resized}
 use Rattle.fp_edit.proofs.flag_set.FlagSet.store_at.Goals as goal
 
 pub overflow_sub-self : goal.overflow_sub-self

@@ -5,7 +5,7 @@ use Rattle.fp_edit.specs.Flags.{Flags, cost_found, size}
 use Rattle.fp_edit.specs.Parts.{part_key, proposed_of}
 use Rattle.fp_edit.proofs.Parts.{get-before, part_is, part_within, parts_after-more, parts_in}
 use Rattle.fp_edit.proofs.SetTests.{set-distinct}
-use Rattle.fp_edit.proofs.Sizes.{found_some, found_within}
+use Rattle.fp_documents.proofs.Sizes.{found_some, found_within}
 use Rattle.fp_edit.proofs.flag_set.FlagSet.sums_behind.Goals as goal
 use Rattle.fp_edit.proofs.flag_set.FlagSet.sums_behind.Goals.{After-cost_at}
 

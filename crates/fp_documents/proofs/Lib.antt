@@ -1,0 +1,4 @@
+pub mod Maps
+pub mod Patched
+pub mod Sizes
+pub mod Texts

@@ -1,0 +1,5 @@
+pub mod Numbers
+pub mod Document
+pub mod Entries
+pub mod Flags
+pub mod Outline

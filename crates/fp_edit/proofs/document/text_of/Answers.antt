@@ -1,6 +1,0 @@
-use Rattle.std.proofs.Common.{sym, ◌∙◌}
-use Rattle.fp_edit.proofs.Texts.{canonical_again}
-use Rattle.fp_edit.proofs.document.text_of.Goals as goal
-
-pub returns : goal.returns
-returns c = c.text.ensures.text ∙ sym (canonical_again c.args.definition.now c.text.ensures.canonical)
