@@ -99,10 +99,10 @@ told_in : (set : State) (if_none_match : Option (List ℕ)) (asked : Result Data
 told_in set if_none_match (Err f) body tag now is h = absurd (cc)
 told_in set if_none_match (Ok context) body tag now is h =
     let text = compact_text (bulk_data set.flags context now) in record {
-  context = context;
-  asked = is;
-  tagged = ap (λ o. unwrap_or o []) (sym h ∙ etag-either (is_known (tag_of text) if_none_match) set.revision (tag_of text) text);
-}
+      context = context;
+      asked = is;
+      tagged = ap (λ o. unwrap_or o []) (sym h ∙ etag-either (is_known (tag_of text) if_none_match) set.revision (tag_of text) text);
+    }
 
 pub tag_told : (set : State) (if_none_match : Option (List ℕ)) (body tag : List ℕ) (now : ℕ)
     → (bulk_reply set if_none_match body now).etag ≡ Some tag → HasTag set body tag now

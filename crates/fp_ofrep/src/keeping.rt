@@ -184,13 +184,7 @@ fn tags_of(alloc: Global, kept: Option<KeptTags>, view: &View<'_>) -> KeptTags
 }
 
 // Keeps the tag of a reply, where there is memory for it.
-fn note(
-    alloc: Global,
-    kept: &mut Option<KeptTags>,
-    view: &View<'_>,
-    body: &[u8],
-    tag: &[u8],
-)
+fn note(alloc: Global, kept: &mut Option<KeptTags>, view: &View<'_>, body: &[u8], tag: &[u8])
     requires store { IsKeptOf kept.old view.now.store }
     requires tag { (now : ℕ) × HasTag (front_set view.now) body.now tag.now now }
     ensures { kept.new ≡ Some view.now }

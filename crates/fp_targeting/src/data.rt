@@ -99,7 +99,12 @@ fn flag_datum(alloc: Global, flag_key: &str, now: u64) -> Result<Datum, AllocErr
 {
     let key = key_datum(alloc, flag_key)?;
     let moment = Datum::Whole(now as i64);
-    let flag = with(alloc, Datum::Object(BTreeMap::new(alloc)), "timestamp", moment)?;
+    let flag = with(
+        alloc,
+        Datum::Object(BTreeMap::new(alloc)),
+        "timestamp",
+        moment,
+    )?;
     with(alloc, flag, "flagKey", key)
 }
 

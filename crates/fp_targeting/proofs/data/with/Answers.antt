@@ -18,8 +18,8 @@ returns-in_ok-insert-in-Object-clause-value c =
     let named : string_bytes c.in_ok-from_str-in-Object.field-0 ≡ c.args.name.now = c.in_ok-from_str-in-Object.ensures.ok in
     view-Object c.insert.new.self
     ∙ ap object (ap members_view c.in_ok-insert-in-Object.ensures.entries
-        ∙ members_view-insert_entry c.in-Object.members.entries c.in_ok-from_str-in-Object.field-0 c.args.member
-        ∙ ap (λ k. put k d ms) named)
+    ∙ members_view-insert_entry c.in-Object.members.entries c.in_ok-from_str-in-Object.field-0 c.args.member
+    ∙ ap (λ k. put k d ms) named)
     ∙ sym (ap (with_member c.args.name.now d) whole)
 
 pub returns-in_ok-insert-in-Object-clause-member : goal.returns-in_ok-insert-in-Object-clause-member
