@@ -181,6 +181,13 @@ impl Desk {
         !self.waiting.is_empty()
     }
 
+    /// How many edits wait to be drawn.
+    pub fn waiting_count(&self) -> usize
+        ensures { result ≡ length self.now.waiting }
+    {
+        self.waiting.len()
+    }
+
     /// Whether the edit would be drawn together with all that wait before it.
     pub fn joins(&self, edit: &Edit) -> bool
         ensures { IsTrue result ↔ FitsBehind (most_of self.now.store.start.limit)

@@ -6,6 +6,7 @@ ghost use Rattle.fp_committer.specs.Way.{batch_drawn, batch_sealed, nothing_draw
 ghost use Rattle.fp_plane.specs.Flushing.{Flushes, IsResting};
 ghost use Rattle.fp_plane.specs.Hall.{IsStoreOf};
 
+use crate::gathering::{Gathering, Sealing};
 use crate::naming::Naming;
 use crate::owned::OwnHalf;
 use crate::pausing::pause;
@@ -68,17 +69,23 @@ where
     ensures { Flushes D.Disk half.old half.new result }
 {
     half.rest();
+    let mut gathering = Gathering::new();
     for _ in plane.shared.rt.forever() {
+        plane.gather(&mut gathering);
         if !plane.draw(half) {
             return Ok(());
         }
-        flush(plane, half)?;
+        flush(plane, half, &mut gathering)?;
     }
     unreachable!()
 }
 
 // Seals, settles and shows what is drawn, and then takes a step of a compaction where one is due.
-fn flush<K, D, R>(plane: &Plane<K, R>, half: &mut StoreHalf<D>) -> Result<(), Broken>
+fn flush<K, D, R>(
+    plane: &Plane<K, R>,
+    half: &mut StoreHalf<D>,
+    gathering: &mut Gathering,
+) -> Result<(), Broken>
 where
     K: Naming,
     D: Disk,
@@ -94,8 +101,12 @@ where
         ⊎ LacksRoom D.Disk half.new) }
 {
     let before = Seen::of(half.store());
+    let sealing = Sealing::begin(&plane.shared.rt, half.store());
     seal(&plane.shared.rt, half)?;
-    plane.settle(half);
+    let told = sealing.edits(half.store());
+    let taken = sealing.taken(&plane.shared.rt);
+    let waiting = plane.settle(half);
+    gathering.note_told(told, waiting, taken);
     compact_on(half)?;
     before.tell_since(&plane.shared.rt, half.store());
     Ok(())
@@ -174,7 +185,8 @@ impl<K: Naming, R: Wait + Clock + Drop> Plane<K, R> {
     }
 
     // Settles what is sealed, shows it and tells those whose edits it has, and the subscribers.
-    fn settle<D: Disk>(&self, half: &mut StoreHalf<D>)
+    // Answers how many edits waited then.
+    fn settle<D: Disk>(&self, half: &mut StoreHalf<D>) -> usize
         requires ours { IsStoreOf K.store K.desk_lists K.store_lists half.old }
         requires sealed { half.old.progress ≡ batch_sealed }
         ensures settled { ListsOn D.Disk half.old half.new }
@@ -186,6 +198,7 @@ impl<K: Naming, R: Wait + Clock + Drop> Plane<K, R> {
             let before = hall.settled_revision();
             if let Ok(settled) = hall.settle(half) {
                 let shown = hall.publish();
+                let waiting = hall.waiting_count();
 
                 // Who is woken wants the lock.
                 drop(hall);
@@ -194,7 +207,7 @@ impl<K: Naming, R: Wait + Clock + Drop> Plane<K, R> {
                     (Some(last), Ok(())) => self.tell(before, last),
                     _ => self.publish(),
                 }
-                return;
+                return waiting;
             }
             drop(hall);
             pause(&shared.rt);

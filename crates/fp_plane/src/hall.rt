@@ -219,6 +219,13 @@ impl<K: Naming, R: Wait + Drop> Hall<K, R> {
         self.is_closing
     }
 
+    /// How many edits wait to be drawn.
+    pub fn waiting_count(&self) -> usize
+        ensures { result ≡ length self.now.desk.waiting }
+    {
+        self.desk.desk().waiting_count()
+    }
+
     /// The last revision that is settled.
     pub fn settled_revision(&self) -> u64
         ensures { result ≡ settled_revision self.now.desk }

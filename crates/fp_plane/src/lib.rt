@@ -5,6 +5,7 @@ mod answer;
 mod bells;
 mod editor;
 mod flushing;
+mod gathering;
 mod hall;
 mod naming;
 mod owned;

@@ -1,0 +1,161 @@
+//! How a flusher lets those whom it has just told come back before it draws again.
+
+ghost use Rattle.std.specs.Prelude.{◌≡◌, ◌<◌, ◌≤◌, ◌+◌, ◌-◌, ◌/◌, length, true, false};
+ghost use Rattle.std.specs.Duration.{as_nanos};
+ghost use Rattle.fp_plane.specs.declared.gathering.TheConstants.{MOST_AWAITED};
+
+use crate::naming::Naming;
+use crate::plane::Plane;
+use fp_disk::Disk;
+use fp_group_commit::Store;
+use std::sync::Wait;
+use std::thread;
+use std::time::{Clock, Duration, Instant};
+
+/// The most edits of a batch behind which its editors are waited for, and the most that wait already.
+pub const MOST_AWAITED: usize = 4;
+
+// How often a flusher looks at most whether they came.
+const MOST_LOOKS: u32 = 1_000;
+
+// Before so many draws at most nobody is waited for, since somebody didn't come.
+const MOST_SKIPPED: u32 = 64;
+
+/// For how many edits a flusher waits before it draws, and for how long.
+#[derive(Debug, Drop, Clone, Copy, PartialEq, Eq)]
+pub struct Gathering {
+    wanted: usize,
+    most: Duration,
+    // Before so many draws nobody is waited for; and before how many, where somebody doesn't come again.
+    skipped: u32,
+    next: u32,
+}
+
+/// A batch that is sealed: behind which revision, and since when.
+#[derive(Debug, Drop, Clone, Copy, PartialEq, Eq)]
+pub struct Sealing {
+    behind: u64,
+    begun: Option<Instant>,
+}
+
+impl Sealing {
+    /// Begins now, behind what the store has.
+    pub fn begin<R: Clock, D: Disk>(rt: &R, store: &Store<D>) -> Sealing
+        ensures { result.behind ≡ store.now.store.start.revision + length store.now.sealed }
+    {
+        Sealing {
+            behind: store.revision(),
+            begun: Instant::now(rt).ok(),
+        }
+    }
+
+    /// How many edits the store has now behind that revision.
+    pub fn edits<D: Disk>(&self, store: &Store<D>) -> usize
+        ensures { result ≡ (store.now.store.start.revision + length store.now.sealed)
+            - self.now.behind }
+    {
+        store.revision().saturating_sub(self.behind) as usize
+    }
+
+    /// How long it took, or nothing without a clock.
+    pub fn taken<R: Clock>(&self, rt: &R) -> Duration {
+        let taken = self.begun.and_then(|begun| begun.elapsed(rt).ok());
+        taken.unwrap_or(Duration::ZERO)
+    }
+}
+
+impl Gathering {
+    /// Nobody was told yet.
+    pub fn new() -> Gathering
+        ensures { result.wanted ≡ 0 }
+    {
+        Gathering {
+            wanted: 0,
+            most: Duration::ZERO,
+            skipped: 0,
+            next: 1,
+        }
+    }
+
+    /// So many were told while so many others waited, and to seal their batch took so long. Who is
+    /// alone has nobody to wait for, and a large batch is worth no wait.
+    pub fn note_told(&mut self, told: usize, waiting: usize, taken: Duration)
+        ensures few { told ≤ MOST_AWAITED → waiting ≤ MOST_AWAITED → 1 < told + waiting →
+            self.new.wanted ≡ told + waiting }
+        ensures large { MOST_AWAITED < told → self.new.wanted ≡ 0 }
+        ensures busy { MOST_AWAITED < waiting → self.new.wanted ≡ 0 }
+        ensures alone { told + waiting ≤ 1 → self.new.wanted ≡ 0 }
+        ensures half { as_nanos self.new.most ≡ as_nanos taken / 2 }
+        ensures rest { self.new.skipped ≡ self.old.skipped }
+    {
+        self.most = taken / 2;
+        self.wanted = 0;
+        if told > MOST_AWAITED || waiting > MOST_AWAITED {
+            return;
+        }
+        let all = told + waiting;
+        if all > 1 {
+            self.wanted = all;
+        }
+    }
+
+    /// For how many edits is waited before this draw.
+    pub fn wanted(&mut self) -> usize
+        ensures skipped { 0 < self.old.skipped → result ≡ 0 }
+        ensures wanted { self.old.skipped ≡ 0 → result ≡ self.old.wanted }
+    {
+        if self.skipped > 0 {
+            self.skipped -= 1;
+            return 0;
+        }
+        self.wanted
+    }
+
+    /// Notes whether they came. Where they didn't, the next draws wait for nobody.
+    pub fn note(&mut self, came: bool)
+        ensures came { came ≡ true → self.new.skipped ≡ self.old.skipped }
+        ensures missed { came ≡ false → 0 < self.new.skipped }
+    {
+        if came {
+            self.next = 1;
+        } else {
+            self.skipped = self.next.max(1);
+            self.next = self.next.saturating_mul(2).min(MOST_SKIPPED);
+        }
+    }
+}
+
+impl<K: Naming, R: Wait + Clock + Drop> Plane<K, R> {
+    /// Lets those who were told just now come back, where they are few.
+    pub(crate) fn gather(&self, gathering: &mut Gathering) {
+        let wanted = gathering.wanted();
+        if wanted > 0 {
+            let came = self.come_within(wanted, gathering.most);
+            gathering.note(came);
+        }
+    }
+
+    // Whether so many edits wait before this time has passed, or the plane is to stop.
+    fn come_within(&self, wanted: usize, most: Duration) -> bool {
+        let shared = &self.shared;
+        let Ok(begun) = Instant::now(&shared.rt) else {
+            return false;
+        };
+        for _ in 0..MOST_LOOKS {
+            if self.has_come(wanted) {
+                return true;
+            }
+            match begun.elapsed(&shared.rt) {
+                Ok(passed) if passed < most => thread::yield_now(),
+                _ => return false,
+            }
+        }
+        false
+    }
+
+    // Whether so many edits wait, or the plane is to stop.
+    fn has_come(&self, wanted: usize) -> bool {
+        let hall = self.shared.hall.lock(&self.shared.rt);
+        hall.is_closing() || hall.waiting_count() >= wanted
+    }
+}
