@@ -1,7 +1,6 @@
 //! How a flusher lets those whom it has just told come back before it draws again.
 
-ghost use Rattle.std.specs.Prelude.{◌≡◌, ◌<◌, ◌≤◌, ◌+◌, ◌-◌, ◌/◌, length, true, false};
-ghost use Rattle.std.specs.Duration.{as_nanos};
+ghost use Rattle.std.specs.Prelude.{◌≡◌, ◌<◌, ◌≤◌, ◌+◌, ◌-◌, length, true, false};
 ghost use Rattle.fp_plane.specs.declared.gathering.TheConstants.{MOST_AWAITED};
 
 use crate::naming::Naming;
@@ -85,10 +84,10 @@ impl Gathering {
         ensures large { MOST_AWAITED < told → self.new.wanted ≡ 0 }
         ensures busy { MOST_AWAITED < waiting → self.new.wanted ≡ 0 }
         ensures alone { told + waiting ≤ 1 → self.new.wanted ≡ 0 }
-        ensures half { as_nanos self.new.most ≡ as_nanos taken / 2 }
+        ensures most { self.new.most ≡ taken }
         ensures rest { self.new.skipped ≡ self.old.skipped }
     {
-        self.most = taken / 2;
+        self.most = taken;
         self.wanted = 0;
         if told > MOST_AWAITED || waiting > MOST_AWAITED {
             return;
