@@ -19,4 +19,3 @@ pub use texts::{canonical_text, canonical_text_within, put_quoted, read_json};
 pub use tree::Tree;
 pub use tree_reading::read_tree;
 pub use walks::{nests_within, values_left, whole_numbers};
-pub use writing::write_value;

@@ -4,7 +4,6 @@ ghost use Rattle.std.specs.Prelude.{◌≡◌, ◌≤◌, ◌++◌, true, Some, 
 ghost use Rattle.json.specs.Tree.{json_tokens};
 ghost use Rattle.serde_json.specs.Data.{depth};
 ghost use Rattle.serde_json.specs.Read.{max_depth};
-ghost use Rattle.serde_json.specs.View.{view};
 ghost use Rattle.serde_json.specs.Written.{compact_text, outline};
 ghost use Rattle.fp_base.specs.Json.{json_of};
 ghost use Rattle.fp_base.specs.Ordered.{IsOrdered};
@@ -12,20 +11,10 @@ ghost use Rattle.fp_base.specs.TreeView.{tree_view};
 ghost use Rattle.fp_base.specs.Whole.{is_whole};
 
 use crate::levels::{Json, Level};
+use crate::texts::put_quoted;
 use crate::tree::Tree;
 use json::Writer;
-use serde_json::Value;
 use std::alloc::{AllocError, Global};
-
-/// Writes a value whose numbers are whole.
-pub fn write_value(out: &mut Writer, value: &Value) -> Result<(), AllocError>
-    requires { is_whole (view value.now) ≡ true }
-    ensures tokens { OnOk result (out.new.tokens
-        ≡ out.old.tokens ++ json_tokens (outline (view value.now))) }
-    ensures before { OnOk result (out.new.before ≡ out.old.before) }
-{
-    write_json(out, value)
-}
 
 impl<'a> Tree<'a> {
     /// The text without spaces, begun with room for so many bytes.
@@ -39,6 +28,25 @@ impl<'a> Tree<'a> {
         let mut out = Writer::new(Vec::with_capacity(alloc, room)?);
         write_json(&mut out, self)?;
         Ok(out.into_inner())
+    }
+
+    /// Puts the text without spaces behind what is there.
+    pub fn put_text(&self, alloc: Global, out: Vec<u8>) -> Result<Vec<u8>, AllocError>
+        requires { is_whole (tree_view self.now) ≡ true }
+        ensures { IfOk result (λ t. t.items ≡ out.items ++ compact_text (tree_view self.now)) }
+    {
+        match self {
+            Tree::String(text) => {
+                let mut out = out;
+                put_quoted(alloc, &mut out, text)?;
+                Ok(out)
+            }
+            _ => {
+                let mut out = Writer::new(out);
+                write_json(&mut out, self)?;
+                Ok(out.into_inner())
+            }
+        }
     }
 }
 

@@ -10,23 +10,27 @@ ghost use Rattle.fp_definition.specs.Choice.{IsChoice, MeetsTests};
 ghost use Rattle.fp_definition.specs.Resolving.{is_disabled};
 ghost use Rattle.fp_definition.specs.Valid.{are_variants, is_metadata, names_variant};
 
-use crate::object::Members;
+use crate::variants::Variants;
 use fp_base::Tree;
 use std::alloc::{AllocError, Global};
 
-// Whether a definition is disabled, the name of its default variant, its variants and metadata.
-// What else it has is in its text and its rule alone.
+// The text of metadata is begun with this room.
+const USUAL_METADATA: usize = 64;
+
+// Whether a definition is disabled, the name of its default variant, its variants, and the text of
+// its metadata. What else it has is in its text and its rule alone.
 #[derive(Drop)]
 pub(crate) struct Choice {
     pub(crate) is_disabled: bool,
     pub(crate) default: String,
-    pub(crate) variants: Members,
-    pub(crate) metadata: Option<Members>,
+    pub(crate) variants: Variants,
+    pub(crate) metadata: Option<Vec<u8>>,
 }
 
 // The choice of a tree that meets the tests of its members.
 pub(crate) fn chosen(alloc: Global, tree: &Tree<'_>) -> Result<Choice, AllocError>
     requires tested { MeetsTests (tree_view tree.now) }
+    requires whole { is_whole (tree_view tree.now) ≡ true }
     requires ordered { IsOrdered (tree_view tree.now) }
     ensures { IfOk result (IsChoice (tree_view tree.now)) }
 {
@@ -59,28 +63,30 @@ fn default_of(alloc: Global, tree: &Tree<'_>) -> Result<String, AllocError>
     String::from_str(alloc, name)
 }
 
-#[tactic(auto, using(fp_base::proofs::Inside::ordered_get))]
-fn variants_of(alloc: Global, tree: &Tree<'_>) -> Result<Members, AllocError>
+// The variants, in order and with their values' texts.
+fn variants_of(alloc: Global, tree: &Tree<'_>) -> Result<Variants, AllocError>
     requires tested { are_variants (get (codes "variants") (tree_view tree.now)) ≡ true }
+    requires whole { is_whole (tree_view tree.now) ≡ true }
     requires ordered { IsOrdered (tree_view tree.now) }
-    ensures { IfOk result (λ m. get (codes "variants") (tree_view tree.now)
-        ≡ Some (object (members_view m))) }
+    ensures { IfOk result (AreVariants (get (codes "variants") (tree_view tree.now))) }
 {
     let Some(Tree::Object(variants)) = tree.get("variants") else {
         unreachable!()
     };
-    Members::of_tree(alloc, variants)
+    Variants::of_tree(alloc, variants)
 }
 
-#[tactic(auto, using(fp_base::proofs::Inside::ordered_get))]
-fn metadata_of(alloc: Global, tree: &Tree<'_>) -> Result<Option<Members>, AllocError>
-    requires tested { is_metadata (get (codes "metadata") (tree_view tree.now)) ≡ true }
-    requires ordered { IsOrdered (tree_view tree.now) }
-    ensures { IfOk result (λ m. option_map (λ ms. object (members_view ms)) m
-        ≡ get (codes "metadata") (tree_view tree.now)) }
+fn metadata_of(alloc: Global, tree: &Tree<'_>) -> Result<Option<Vec<u8>>, AllocError>
+    requires whole { is_whole (tree_view tree.now) ≡ true }
+    ensures { IfOk result (λ m. option_map (λ t. t.items) m
+        ≡ option_map compact_text (get (codes "metadata") (tree_view tree.now))) }
 {
     match tree.get("metadata") {
-        Some(Tree::Object(metadata)) => Ok(Some(Members::of_tree(alloc, metadata)?)),
-        _ => Ok(None),
+        Some(metadata) => {
+            let mut text = metadata.put_text(alloc, Vec::with_capacity(alloc, USUAL_METADATA)?)?;
+            text.shrink_to_fit();
+            Ok(Some(text))
+        }
+        None => Ok(None),
     }
 }

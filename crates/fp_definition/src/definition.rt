@@ -22,7 +22,6 @@ ghost use Rattle.fp_definition.specs.Valid.{definition_in, is_text_of};
 use crate::choice::{Choice, chosen};
 use crate::faults::DefFault;
 use crate::members::tested_members;
-use crate::object::Members;
 use crate::text::{fitted, text_of};
 use fp_base::{Tree, read_tree};
 use fp_targeting::Rule;
@@ -111,14 +110,13 @@ impl Definition {
         self.share.text.as_slice()
     }
 
-    /// The members of the member `metadata`.
-    pub fn metadata(&self) -> Option<&Members>
-        ensures value { option_map (λ m. object (members_view m.now)) result
-            ≡ get (codes "metadata") (data_of self.now) }
-        ensures whole { IfSome result (λ m. members_whole (members_view m.now) ≡ true) }
+    /// The canonical text of the member `metadata`.
+    pub fn metadata(&self) -> Option<&[u8]>
+        ensures { option_map (λ t. t.now) result
+            ≡ option_map compact_text (get (codes "metadata") (data_of self.now)) }
     {
         match &self.choice().metadata {
-            Some(metadata) => Some(metadata),
+            Some(text) => Some(text.as_slice()),
             None => None,
         }
     }

@@ -26,7 +26,7 @@ ghost use Rattle.fp_targeting.specs.RuleData.{IsOfContext, rule_data};
 
 use crate::definition::Definition;
 use crate::key::FlagKey;
-use crate::object::Members;
+use crate::variants::Variants;
 use fp_base::Tree;
 use fp_operators::Datum;
 use fp_targeting::{Data, Rule};
@@ -69,7 +69,8 @@ impl From<AllocError> for EvalFault {
 #[derive(Drop)]
 pub struct Resolved<'d> {
     pub variant: &'d str,
-    pub value: &'d Value,
+    /// The value's canonical text.
+    pub value: &'d [u8],
     pub reason: Reason,
 }
 
@@ -278,7 +279,7 @@ fn rule_has_one_result(rule: &Option<Rule>)
 }
 
 fn variant_among<'d>(
-    variants: &'d Members,
+    variants: &'d Variants,
     name: &str,
     reason: Reason,
 ) -> Result<Resolved<'d>, EvalFault>

@@ -21,8 +21,8 @@ ghost use Rattle.fp_definition.specs.Resolving.{data_of, said_by};
 
 use crate::context::read_context;
 use crate::failure::Failure;
-use crate::reply::{Headers, Reply, failed};
-use crate::write::success_text;
+use crate::reply::{Headers, Reply, USUAL_ROOM, failed};
+use crate::write::put_success;
 use fp_base::Tree;
 use fp_definition::{Definition, EvalFault, FlagKey, KeyFault, Resolved};
 use fp_edit::{Flag, FlagSet};
@@ -164,12 +164,12 @@ fn said_reply(
     definition: &Definition,
     said: &Resolved<'_>,
 ) -> Result<Reply, AllocError>
-    requires { is_whole (view said.now.value.now) ≡ true }
-    ensures { IfOk result (λ r. response_seen r
+    ensures { (s : Said) → spelled_by said.now ≡ spelling s → IfOk result (λ r. response_seen r
         ≡ success_response revision None (compact_text (success (key_bytes key.now)
-        (get (codes "metadata") (data_of definition.now)) (said_by said.now)))) }
+        (get (codes "metadata") (data_of definition.now)) s))) }
 {
-    let body = success_text(alloc, key.as_str(), definition.metadata(), said)?;
+    let mut body = Vec::with_capacity(alloc, USUAL_ROOM)?;
+    put_success(alloc, &mut body, key.as_str(), definition.metadata(), said)?;
     Ok(Reply {
         status: StatusCode::OK,
         headers: Headers {

@@ -1,0 +1,118 @@
+//! The variants of a definition as it keeps them: their names, and their values as replies spell
+//! them.
+
+ghost use Rattle.std.specs.Prelude.{◌≡◌, true, IfOk, IfSome, option_map, slice_range, string_bytes};
+ghost use Rattle.std.specs.Str.{bytes_eq};
+ghost use Rattle.serde_json.specs.Data.{no_members, string};
+ghost use Rattle.serde_json.specs.Find.{get_member};
+ghost use Rattle.fp_base.specs.Sorted.{IsSorted};
+ghost use Rattle.fp_base.specs.TreeView.{tree_members};
+ghost use Rattle.fp_base.specs.Whole.{members_whole};
+ghost use Rattle.fp_definition.specs.Spelled.{AreWithin, IsWithin, spelled, texts};
+
+use fp_base::Tree;
+use std::alloc::{AllocError, Global};
+
+// So many variants are looked through one by one. Of more, half are left out at a time.
+const FEW: usize = 8;
+
+// The values' texts are begun with this room.
+const USUAL_VALUES: usize = 64;
+
+// A variant's name, and where the text of its value stands among those of all.
+#[derive(Drop)]
+pub(crate) struct Variant {
+    pub(crate) name: String,
+    pub(crate) start: usize,
+    pub(crate) end: usize,
+}
+
+// The variants in ascending order of their names, and behind one another the canonical texts of
+// their values.
+#[derive(Drop)]
+pub(crate) struct Variants {
+    pub(crate) entries: Vec<Variant>,
+    pub(crate) values: Vec<u8>,
+}
+
+impl Variants {
+    // The members of a tree that is an object.
+    pub(crate) fn of_tree(
+        alloc: Global,
+        members: &[(&str, Tree<'_>)],
+    ) -> Result<Variants, AllocError>
+        requires { members_whole (tree_members members.now) ≡ true }
+        ensures spelled { IfOk result (λ v. spelled v.values.items v.entries.items no_members
+            ≡ texts (tree_members members.now)) }
+        ensures within { IfOk result (λ v. AreWithin v.values.items v.entries.items) }
+    {
+        let mut entries = Vec::with_capacity(alloc, members.len())?;
+        let mut values = Vec::with_capacity(alloc, USUAL_VALUES)?;
+        for member in members {
+            let name = String::from_str(alloc, member.0)?;
+            let start = values.len();
+            values = member.1.put_text(alloc, values)?;
+            let end = values.len();
+            entries.push(Variant { name, start, end })?;
+        }
+        values.shrink_to_fit();
+        Ok(Variants { entries, values })
+    }
+
+    // The variant of that name: the name as it is kept, and the text of the value.
+    pub(crate) fn get(&self, name: &str) -> Option<(&str, &[u8])>
+        requires sorted { IsSorted (spelled self.now.values.items self.now.entries.items no_members) }
+        requires within { AreWithin self.now.values.items self.now.entries.items }
+        ensures named { IfSome result (λ m. m.0.now ≡ name.now) }
+        ensures value { option_map (λ m. string m.1.now) result ≡ get_member name.now
+            (spelled self.now.values.items self.now.entries.items no_members) }
+    {
+        let few = narrowed(&self.values, &self.entries, name);
+        let found = variant_named(&self.values, few, name)?;
+        Some((found.name.as_str(), &self.values[found.start..found.end]))
+    }
+}
+
+// A few variants, among which is the one of that name if it is among all.
+fn narrowed<'v>(values: &[u8], variants: &'v [Variant], name: &str) -> &'v [Variant]
+    requires sorted { IsSorted (spelled values.now variants.now no_members) }
+    requires within { AreWithin values.now variants.now }
+    ensures found { get_member name.now (spelled values.now result.now no_members)
+        ≡ get_member name.now (spelled values.now variants.now no_members) }
+    ensures within { AreWithin values.now result.now }
+{
+    let mut left = variants;
+    while left.len() > FEW {
+        let (front, behind) = left.split_at(left.len() / 2);
+        if behind[0].name.as_str().cmp(name).is_gt() {
+            left = front;
+        } else {
+            left = behind;
+        }
+    }
+    left
+}
+
+// The first variant of that name.
+fn variant_named<'v>(values: &[u8], variants: &'v [Variant], name: &str) -> Option<&'v Variant>
+    requires { AreWithin values.now variants.now }
+    ensures named { IfSome result (λ v. string_bytes v.now.name ≡ name.now) }
+    ensures within { IfSome result (λ v. IsWithin values.now v.now) }
+    ensures value { option_map (λ v. string (slice_range values.now v.now.start v.now.end)) result
+        ≡ get_member name.now (spelled values.now variants.now no_members) }
+{
+    for variant in variants {
+        if is_same(variant.name.as_str(), name) {
+            return Some(variant);
+        }
+    }
+    None
+}
+
+// Whether two names are the same. Most names that are looked through differ in length already.
+#[inline(always)]
+fn is_same(name: &str, other: &str) -> bool
+    ensures { result ≡ bytes_eq name.now other.now }
+{
+    name.len() == other.len() && name == other
+}
