@@ -22,6 +22,7 @@ ghost use Rattle.fp_definition.specs.Valid.{definition_in, is_text_of};
 use crate::choice::{Choice, chosen};
 use crate::faults::DefFault;
 use crate::members::tested_members;
+use crate::spelling::Spelled;
 use crate::text::{fitted, text_of};
 use fp_base::{Tree, read_tree};
 use fp_targeting::Rule;
@@ -115,8 +116,8 @@ impl Definition {
         ensures { option_map (λ t. t.now) result
             ≡ option_map compact_text (get (codes "metadata") (data_of self.now)) }
     {
-        match &self.choice().metadata {
-            Some(text) => Some(text.as_slice()),
+        match &self.share.choice.metadata {
+            Some(place) => Some(&self.share.text[place.0..place.1]),
             None => None,
         }
     }
@@ -153,9 +154,11 @@ fn made(alloc: Global, tree: &Tree<'_>, room: usize) -> Result<Definition, DefFa
     ensures reads { IfOk result (λ d. json_of d ≡ Some (tree_view tree.now)) }
     ensures refused { IfErr result (IsFirst Tells (first_fault (tree_view tree.now))) }
 {
-    let text = text_of(alloc, tree, room)?;
+    let spelled = text_of(alloc, tree, room)?;
     let rule = tested_members(alloc, tree)?;
-    let choice = chosen(alloc, tree)?;
+    let Spelled { text, variants, metadata } = spelled;
+    let Some(variants) = variants else { unreachable!() };
+    let choice = chosen(alloc, tree, variants, metadata)?;
     let text = fitted(text);
     let share = Arc::new(alloc, Kept { text, choice, rule })?;
     Ok(Definition { share })

@@ -9,6 +9,7 @@ mod kind;
 mod members;
 mod resolving;
 mod rules;
+mod spelling;
 mod text;
 mod variants;
 

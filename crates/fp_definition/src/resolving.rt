@@ -26,7 +26,7 @@ ghost use Rattle.fp_targeting.specs.RuleData.{IsOfContext, rule_data};
 
 use crate::definition::Definition;
 use crate::key::FlagKey;
-use crate::variants::Variants;
+use crate::variants::{Variant, variant_among};
 use fp_base::Tree;
 use fp_operators::Datum;
 use fp_targeting::{Data, Rule};
@@ -265,7 +265,7 @@ impl Definition {
         ensures printable { IfOk result (λ r. is_whole (view r.value.now) ≡ true) }
         ensures refused { IfErr result (λ e. e ≡ NoVariant) }
     {
-        variant_among(&self.choice().variants, name, reason)
+        resolved_among(self.text(), &self.choice().variants, name, reason)
     }
 }
 
@@ -278,18 +278,8 @@ fn rule_has_one_result(rule: &Option<Rule>)
     }
 }
 
-fn variant_among<'d>(
-    variants: &'d Variants,
-    name: &str,
-    reason: Reason,
-) -> Result<Resolved<'d>, EvalFault>
-    ensures resolves { Gives said_by TellsItself result
-        (said_or_none name.now reason (get_member name.now (members_view variants.now))) }
-    ensures printable { members_whole (members_view variants.now) ≡ true → IfOk result (λ r.
-        is_whole (view r.value.now) ≡ true) }
-    ensures refused { IfErr result (λ e. e ≡ NoVariant) }
-{
-    match variants.get(name) {
+fn resolved_among<'d>(text: &'d [u8], variants: &'d [Variant], name: &str, reason: Reason) -> Result<Resolved<'d>, EvalFault> {
+    match variant_among(text, variants, name) {
         Some((variant, value)) => Ok(Resolved {
             variant,
             value,

@@ -13,23 +13,24 @@ ghost use Rattle.fp_definition.specs.Valid.{first_fault};
 
 use crate::definition::{DEEPEST_DEFINITION, LONGEST_DEFINITION};
 use crate::faults::DefFault;
+use crate::spelling::{Spelled, spelled};
 use fp_base::Tree;
 use std::alloc::Global;
 
 // The canonical text of a tree that meets the tests of its size. It is begun with room for so many
 // bytes.
-pub(crate) fn text_of(alloc: Global, tree: &Tree<'_>, room: usize) -> Result<Vec<u8>, DefFault>
+pub(crate) fn text_of(alloc: Global, tree: &Tree<'_>, room: usize) -> Result<Spelled, DefFault>
     requires { IsOrdered (tree_view tree.now) }
     ensures whole { IfOk result (λ _. is_whole (tree_view tree.now) ≡ true) }
     ensures flat { IfOk result (λ _. depth (tree_view tree.now) ≤ DEEPEST_DEFINITION) }
-    ensures short { IfOk result (λ text. length text.items ≤ LONGEST_DEFINITION) }
-    ensures text { IfOk result (λ text. text.items ≡ compact_text (tree_view tree.now)) }
-    ensures reads { IfOk result (λ text. json_of text.items ≡ Some (tree_view tree.now)) }
+    ensures short { IfOk result (λ text. length text.text.items ≤ LONGEST_DEFINITION) }
+    ensures text { IfOk result (λ text. text.text.items ≡ compact_text (tree_view tree.now)) }
+    ensures reads { IfOk result (λ text. json_of text.text.items ≡ Some (tree_view tree.now)) }
     ensures refused { IfErr result (IsFirst Tells (first_fault (tree_view tree.now))) }
 {
     tested_size(tree)?;
-    let text = tree.to_text(alloc, room)?;
-    if text.len() > LONGEST_DEFINITION {
+    let text = spelled(alloc, tree, room)?;
+    if text.text.len() > LONGEST_DEFINITION {
         return Err(DefFault::TooLarge);
     }
     Ok(text)

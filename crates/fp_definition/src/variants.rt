@@ -10,14 +10,9 @@ ghost use Rattle.fp_base.specs.TreeView.{tree_members};
 ghost use Rattle.fp_base.specs.Whole.{members_whole};
 ghost use Rattle.fp_definition.specs.Spelled.{AreWithin, IsWithin, spelled, texts};
 
-use fp_base::Tree;
-use std::alloc::{AllocError, Global};
 
 // So many variants are looked through one by one. Of more, half are left out at a time.
 const FEW: usize = 8;
-
-// The values' texts are begun with this room.
-const USUAL_VALUES: usize = 64;
 
 // A variant's name, and where the text of its value stands among those of all.
 #[derive(Drop)]
@@ -27,50 +22,17 @@ pub(crate) struct Variant {
     pub(crate) end: usize,
 }
 
-// The variants in ascending order of their names, and behind one another the canonical texts of
-// their values.
-#[derive(Drop)]
-pub(crate) struct Variants {
-    pub(crate) entries: Vec<Variant>,
-    pub(crate) values: Vec<u8>,
-}
-
-impl Variants {
-    // The members of a tree that is an object.
-    pub(crate) fn of_tree(
-        alloc: Global,
-        members: &[(&str, Tree<'_>)],
-    ) -> Result<Variants, AllocError>
-        requires { members_whole (tree_members members.now) ≡ true }
-        ensures spelled { IfOk result (λ v. spelled v.values.items v.entries.items no_members
-            ≡ texts (tree_members members.now)) }
-        ensures within { IfOk result (λ v. AreWithin v.values.items v.entries.items) }
-    {
-        let mut entries = Vec::with_capacity(alloc, members.len())?;
-        let mut values = Vec::with_capacity(alloc, USUAL_VALUES)?;
-        for member in members {
-            let name = String::from_str(alloc, member.0)?;
-            let start = values.len();
-            values = member.1.put_text(alloc, values)?;
-            let end = values.len();
-            entries.push(Variant { name, start, end })?;
-        }
-        values.shrink_to_fit();
-        Ok(Variants { entries, values })
-    }
-
-    // The variant of that name: the name as it is kept, and the text of the value.
-    pub(crate) fn get(&self, name: &str) -> Option<(&str, &[u8])>
-        requires sorted { IsSorted (spelled self.now.values.items self.now.entries.items no_members) }
-        requires within { AreWithin self.now.values.items self.now.entries.items }
+// The variant of that name: the name as it is kept, and the text of the value.
+pub(crate) fn variant_among<'d>(text: &'d [u8], variants: &'d [Variant], name: &str) -> Option<(&'d str, &'d [u8])>
+        requires sorted { IsSorted (spelled text.now variants.now no_members) }
+        requires within { AreWithin text.now variants.now }
         ensures named { IfSome result (λ m. m.0.now ≡ name.now) }
         ensures value { option_map (λ m. string m.1.now) result ≡ get_member name.now
-            (spelled self.now.values.items self.now.entries.items no_members) }
-    {
-        let few = narrowed(&self.values, &self.entries, name);
-        let found = variant_named(&self.values, few, name)?;
-        Some((found.name.as_str(), &self.values[found.start..found.end]))
-    }
+            (spelled text.now variants.now no_members) }
+{
+    let few = narrowed(text, variants, name);
+    let found = variant_named(text, few, name)?;
+    Some((found.name.as_str(), &text[found.start..found.end]))
 }
 
 // A few variants, among which is the one of that name if it is among all.
