@@ -5,3 +5,4 @@ pub mod Parted
 pub mod Ruled
 pub mod Told
 pub mod Timeless
+pub mod Spelled

@@ -1,17 +1,15 @@
 //! A flag's definition.
 
-ghost use Rattle.std.specs.Prelude.{◌≡◌, true, Some, None, IfOk, IfErr, IfSome};
+ghost use Rattle.std.specs.Prelude.{◌≡◌, true, Some, None, IfOk, IfErr};
 ghost use Rattle.std.specs.Prelude.{if◌then◌else◌};
 ghost use Rattle.std.specs.Prelude.{codes, option_map};
-ghost use Rattle.serde_json.specs.Data.{object};
 ghost use Rattle.serde_json.specs.Find.{get};
-ghost use Rattle.serde_json.specs.View.{view, members_view};
+ghost use Rattle.serde_json.specs.View.{view};
 ghost use Rattle.serde_json.specs.Written.{compact_text};
 ghost use Rattle.fp_base.specs.Answer.{IsFirst};
 ghost use Rattle.fp_base.specs.Json.{json_of};
 ghost use Rattle.fp_base.specs.Ordered.{IsOrdered};
 ghost use Rattle.fp_base.specs.TreeView.{tree_view};
-ghost use Rattle.fp_base.specs.Whole.{is_whole, members_whole};
 ghost use Rattle.fp_definition.specs.Choice.{IsChoice};
 ghost use Rattle.fp_definition.specs.Faults.{Tells};
 ghost use Rattle.fp_definition.specs.Resolving.{data_of};
@@ -116,16 +114,15 @@ impl Definition {
         ensures { option_map (λ t. t.now) result
             ≡ option_map compact_text (get (codes "metadata") (data_of self.now)) }
     {
-        match &self.share.choice.metadata {
-            Some(place) => Some(&self.share.text[place.0..place.1]),
+        match self.choice().metadata {
+            Some(place) => Some(&self.text()[place.start..place.end]),
             None => None,
         }
     }
 
     // What it chooses from.
     pub(crate) fn choice(&self) -> &Choice
-        ensures choice { IsChoice (data_of self.now) result.now }
-        ensures whole { is_whole (data_of self.now) ≡ true }
+        ensures { IsChoice (data_of self.now) self.now result.now }
     {
         &self.share.choice
     }
@@ -156,9 +153,12 @@ fn made(alloc: Global, tree: &Tree<'_>, room: usize) -> Result<Definition, DefFa
 {
     let spelled = text_of(alloc, tree, room)?;
     let rule = tested_members(alloc, tree)?;
-    let Spelled { text, variants, metadata } = spelled;
-    let Some(variants) = variants else { unreachable!() };
-    let choice = chosen(alloc, tree, variants, metadata)?;
+    let Spelled {
+        text,
+        variants,
+        metadata,
+    } = spelled;
+    let choice = chosen(alloc, tree, &text, variants, metadata)?;
     let text = fitted(text);
     let share = Arc::new(alloc, Kept { text, choice, rule })?;
     Ok(Definition { share })

@@ -1,47 +1,40 @@
-//! The variants of a definition as it keeps them: their names, and their values as replies spell
-//! them.
+//! The variants of a definition, looked up by their names.
 
-ghost use Rattle.std.specs.Prelude.{◌≡◌, true, IfOk, IfSome, option_map, slice_range, string_bytes};
+ghost use Rattle.std.specs.Prelude.{◌≡◌, IfSome, option_map, string_bytes};
 ghost use Rattle.std.specs.Str.{bytes_eq};
 ghost use Rattle.serde_json.specs.Data.{no_members, string};
 ghost use Rattle.serde_json.specs.Find.{get_member};
 ghost use Rattle.fp_base.specs.Sorted.{IsSorted};
-ghost use Rattle.fp_base.specs.TreeView.{tree_members};
-ghost use Rattle.fp_base.specs.Whole.{members_whole};
-ghost use Rattle.fp_definition.specs.Spelled.{AreWithin, IsWithin, spelled, texts};
+ghost use Rattle.fp_definition.specs.Spelled.{AreWithin, IsWithin, at, spelled};
 
+use crate::spelling::Variant;
 
 // So many variants are looked through one by one. Of more, half are left out at a time.
 const FEW: usize = 8;
 
-// A variant's name, and where the text of its value stands among those of all.
-#[derive(Drop)]
-pub(crate) struct Variant {
-    pub(crate) name: String,
-    pub(crate) start: usize,
-    pub(crate) end: usize,
-}
-
-// The variant of that name: the name as it is kept, and the text of the value.
-pub(crate) fn variant_among<'d>(text: &'d [u8], variants: &'d [Variant], name: &str) -> Option<(&'d str, &'d [u8])>
-        requires sorted { IsSorted (spelled text.now variants.now no_members) }
-        requires within { AreWithin text.now variants.now }
-        ensures named { IfSome result (λ m. m.0.now ≡ name.now) }
-        ensures value { option_map (λ m. string m.1.now) result ≡ get_member name.now
-            (spelled text.now variants.now no_members) }
+// The variant of that name: the name as it is kept, and what stands at the place of its value.
+pub(crate) fn variant_named<'d>(
+    text: &'d [u8],
+    variants: &'d [Variant],
+    name: &str,
+) -> Option<(&'d str, &'d [u8])>
+    requires sorted { IsSorted (spelled text.now variants.now no_members) }
+    requires within { AreWithin text.now variants.now }
+    ensures named { IfSome result (λ m. m.0.now ≡ name.now) }
+    ensures value { option_map (λ m. string m.1.now) result
+        ≡ get_member name.now (spelled text.now variants.now no_members) }
 {
-    let few = narrowed(text, variants, name);
-    let found = variant_named(text, few, name)?;
-    Some((found.name.as_str(), &text[found.start..found.end]))
+    let found = variant_among(text, narrowed(text, variants, name), name)?;
+    Some((found.name.as_str(), &text[found.value.start..found.value.end]))
 }
 
 // A few variants, among which is the one of that name if it is among all.
-fn narrowed<'v>(values: &[u8], variants: &'v [Variant], name: &str) -> &'v [Variant]
-    requires sorted { IsSorted (spelled values.now variants.now no_members) }
-    requires within { AreWithin values.now variants.now }
-    ensures found { get_member name.now (spelled values.now result.now no_members)
-        ≡ get_member name.now (spelled values.now variants.now no_members) }
-    ensures within { AreWithin values.now result.now }
+fn narrowed<'d>(text: &[u8], variants: &'d [Variant], name: &str) -> &'d [Variant]
+    requires sorted { IsSorted (spelled text.now variants.now no_members) }
+    requires within { AreWithin text.now variants.now }
+    ensures found { get_member name.now (spelled text.now result.now no_members)
+        ≡ get_member name.now (spelled text.now variants.now no_members) }
+    ensures within { AreWithin text.now result.now }
 {
     let mut left = variants;
     while left.len() > FEW {
@@ -56,12 +49,12 @@ fn narrowed<'v>(values: &[u8], variants: &'v [Variant], name: &str) -> &'v [Vari
 }
 
 // The first variant of that name.
-fn variant_named<'v>(values: &[u8], variants: &'v [Variant], name: &str) -> Option<&'v Variant>
-    requires { AreWithin values.now variants.now }
+fn variant_among<'d>(text: &[u8], variants: &'d [Variant], name: &str) -> Option<&'d Variant>
+    requires { AreWithin text.now variants.now }
     ensures named { IfSome result (λ v. string_bytes v.now.name ≡ name.now) }
-    ensures within { IfSome result (λ v. IsWithin values.now v.now) }
-    ensures value { option_map (λ v. string (slice_range values.now v.now.start v.now.end)) result
-        ≡ get_member name.now (spelled values.now variants.now no_members) }
+    ensures within { IfSome result (λ v. IsWithin text.now v.now.value) }
+    ensures value { option_map (λ v. string (at text.now v.now.value)) result
+        ≡ get_member name.now (spelled text.now variants.now no_members) }
 {
     for variant in variants {
         if is_same(variant.name.as_str(), name) {
