@@ -6,3 +6,4 @@ pub mod Ruled
 pub mod Told
 pub mod Timeless
 pub mod Spelled
+pub mod Said
