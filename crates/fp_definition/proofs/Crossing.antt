@@ -11,10 +11,10 @@ use Rattle.fp_definition.specs.contracts.definition.Kept as kept
 use Rattle.fp_definition.specs.contracts.spelling.Variant as variant
 
 variant_sent : IsSend (variant.the_field).row
-variant_sent = struct_send (shape variant.the_type) (search (sendable, maps.String-send) depth 20, (search sendable depth 10, tt))
+variant_sent = struct_send (shape variant.the_type) (search (sendable, crosses, maps.String-send) depth 20, (search sendable depth 10, tt))
 
 variant_shared : IsSync (variant.the_field).row
-variant_shared = struct_sync (shape variant.the_type) (search (sendable, maps.String-sync) depth 20, (search sendable depth 10, tt))
+variant_shared = struct_sync (shape variant.the_type) (search (sendable, crosses, maps.String-sync) depth 20, (search sendable depth 10, tt))
 
 choice_sent : IsSend (choice.the_field).row
 choice_sent = struct_send (shape choice.the_type) (search sendable, (search (sendable, crosses) depth 20, (search (sendable, crosses, variant_sent) depth 20, (search sendable depth 20, tt))))

@@ -1,11 +1,10 @@
 //! The evaluation of all flags.
 
-ghost use Rattle.std.specs.Prelude.{◌≡◌, ◌++◌, ℕ, ◌<◌, ◌^◌, true, Some, IfOk, IsSome, OnOk};
+ghost use Rattle.std.specs.Prelude.{◌≡◌, ◌++◌, ◌∷◌, [], ℕ, ◌<◌, ◌^◌, true, false, Some, IfOk, IsSome, OnOk};
 ghost use Rattle.std.specs.FinMap as map;
-ghost use Rattle.json.specs.Tree.{items_tokens, json_tokens};
 ghost use Rattle.serde_json.specs.Data.{Data as JsonData, Items};
 ghost use Rattle.serde_json.specs.Find.{as_object};
-ghost use Rattle.serde_json.specs.Written.{compact_text, items_outline, outline};
+ghost use Rattle.serde_json.specs.Written.{comma_if, compact_text, items_text};
 ghost use Rattle.fp_base.specs.Ordered.{IsOrdered};
 ghost use Rattle.fp_base.specs.TreeView.{tree_view};
 ghost use Rattle.fp_base.specs.Whole.{is_whole};
@@ -189,9 +188,9 @@ fn put_flag(
     definition: &Definition,
     data: &mut Data,
 ) -> Result<bool, AllocError>
-    ensures text { IfOk result (λ later. (context : JsonData) (now : ℕ) (rest : Items)
+    ensures text { IfOk result (λ after. (context : JsonData) (now : ℕ) (rest : Items)
         → IsOfContext context now «data».old
-        → out.new.items ++ items_text later rest ≡ out.old.items ++ items_text «later»
+        → out.new.items ++ items_text after rest ≡ out.old.items ++ items_text later
         (with_flag_item (key_bytes key.now)
         (evaluation_of (key_bytes key.now) (data_of definition.now) context now) rest)) }
     ensures context { OnOk result ((context : JsonData) (now : ℕ)

@@ -1,18 +1,20 @@
-//! Bodies, written straight as JSON.
+//! Bodies, put straight as JSON behind what is there.
 
-ghost use Rattle.std.specs.Prelude.{◌≡◌, ◌++◌, IfOk, OnOk, Option, option_map};
+ghost use Rattle.std.specs.Prelude.{◌≡◌, ◌++◌, ◌∷◌, [], true, OnOk, Option, codes, option_map};
 ghost use Rattle.std.specs.Option.{option_copied};
-ghost use Rattle.serde_json.specs.Data.{Data};
-ghost use Rattle.serde_json.specs.Written.{compact_text};
+ghost use Rattle.json.specs.Print.{quoted};
+ghost use Rattle.serde_json.specs.Data.{Data, Members as JsonMembers};
+ghost use Rattle.serde_json.specs.Written.{compact_text, members_text};
 ghost use Rattle.fp_definition.specs.Resolving.{Said, spelled_by, spelling};
-ghost use Rattle.fp_ofrep.specs.Bodies.{failure as failure_data, success};
+ghost use Rattle.fp_ofrep.specs.Bodies.{failure as failure_data, reason_text, said_members};
+ghost use Rattle.fp_ofrep.specs.Bodies.{success, with_key, with_metadata};
 
 use crate::failure::Failure;
 use fp_base::put_quoted;
 use fp_definition::{Reason, Resolved};
 use std::alloc::{AllocError, Global};
 
-/// Puts a failure behind what is there.
+/// Puts a failure.
 pub(crate) fn put_failure(
     alloc: Global,
     out: &mut Vec<u8>,
@@ -22,19 +24,37 @@ pub(crate) fn put_failure(
     ensures { OnOk result (out.new.items ≡ out.old.items
         ++ compact_text (failure_data failure (option_copied key.entry))) }
 {
-    out.extend_from_slice(b"{\"errorCode\":")?;
-    put_quoted(alloc, out, failure.code())?;
-    out.extend_from_slice(b",\"errorDetails\":")?;
-    put_quoted(alloc, out, failure.details())?;
+    put_text(alloc, out, b"{\"errorCode\":", failure.code())?;
+    put_text(alloc, out, b",\"errorDetails\":", failure.details())?;
+    end_failure(alloc, out, key)
+}
+
+// Puts the key, if there is one, and the end of the object.
+fn end_failure(alloc: Global, out: &mut Vec<u8>, key: Option<&str>) -> Result<(), AllocError>
+    ensures { OnOk result (out.new.items
+        ≡ out.old.items ++ members_text true (with_key (option_copied key.entry))) }
+{
     if let Some(key) = key {
-        out.extend_from_slice(b",\"key\":")?;
-        put_quoted(alloc, out, key)?;
+        put_text(alloc, out, b",\"key\":", key)?;
     }
     out.push(b'}')?;
     Ok(())
 }
 
-/// Puts what a flag resolved to behind what is there, with the text of its metadata.
+// Puts these bytes, and a text in quotes.
+fn put_text(
+    alloc: Global,
+    out: &mut Vec<u8>,
+    before: &[u8],
+    text: &str,
+) -> Result<(), AllocError>
+    ensures { OnOk result (out.new.items ≡ out.old.items ++ (before.now ++ quoted text.now)) }
+{
+    out.extend_from_slice(before)?;
+    put_quoted(alloc, out, text)
+}
+
+/// Puts what a flag resolved to, with the text of its metadata.
 pub(crate) fn put_success(
     alloc: Global,
     out: &mut Vec<u8>,
@@ -42,27 +62,53 @@ pub(crate) fn put_success(
     metadata: Option<&[u8]>,
     said: &Resolved<'_>,
 ) -> Result<(), AllocError>
-    ensures { (m : Option Data) (s : Said)
+    ensures { OnOk result ((m : Option Data) (s : Said)
         → option_map (λ t. t.now) metadata.entry ≡ option_map compact_text m
         → spelled_by said.now ≡ spelling s
-        → OnOk result (out.new.items ≡ out.old.items ++ compact_text (success key.now m s)) }
+        → out.new.items ≡ out.old.items ++ compact_text (success key.now m s)) }
 {
-    out.extend_from_slice(b"{\"key\":")?;
-    put_quoted(alloc, out, key)?;
-    if let Some(metadata) = metadata {
+    put_text(alloc, out, b"{\"key\":", key)?;
+    put_metadata(out, metadata)?;
+    end_success(alloc, out, said)
+}
+
+// Puts the member `metadata`, if there is one. Whatever members come after it, they are then what is
+// left to put.
+fn put_metadata(out: &mut Vec<u8>, metadata: Option<&[u8]>) -> Result<(), AllocError>
+    ensures { OnOk result ((m : Option Data) (ms : JsonMembers)
+        → option_map (λ t. t.now) metadata.entry ≡ option_map compact_text m
+        → out.new.items ++ members_text true ms
+        ≡ out.old.items ++ members_text true (with_metadata m ms)) }
+{
+    if let Some(text) = metadata {
         out.extend_from_slice(b",\"metadata\":")?;
-        out.extend_from_slice(metadata)?;
+        out.extend_from_slice(text)?;
     }
-    out.extend_from_slice(behind_metadata(said.reason))?;
+    Ok(())
+}
+
+// Puts reason, value and variant, and the end of the object.
+fn end_success(
+    alloc: Global,
+    out: &mut Vec<u8>,
+    said: &Resolved<'_>,
+) -> Result<(), AllocError>
+    ensures { OnOk result ((s : Said) → spelled_by said.now ≡ spelling s
+        → out.new.items ≡ out.old.items ++ members_text true (said_members s)) }
+{
+    out.extend_from_slice(before_value(said.reason))?;
     out.extend_from_slice(said.value)?;
-    out.extend_from_slice(b",\"variant\":")?;
-    put_quoted(alloc, out, said.variant)?;
+    put_text(alloc, out, b",\"variant\":", said.variant)?;
     out.push(b'}')?;
     Ok(())
 }
 
-// The member `reason`, and the name of the next.
-fn behind_metadata(reason: Reason) -> &'static [u8] {
+// The member `reason`, and the name of the one behind it.
+#[tactic(auto, unfolding(json::specs::Print::escape_byte))]
+fn before_value(reason: Reason) -> &'static [u8]
+    ensures { result.now ≡ 44 ∷ (quoted (codes "reason") ++ 58 ∷ (quoted (reason_text reason)
+        ++ 44 ∷ (quoted (codes "value") ++ 58 ∷ []))) }
+{
     match reason {
         Reason::Static => b",\"reason\":\"STATIC\",\"value\":",
         Reason::Default => b",\"reason\":\"DEFAULT\",\"value\":",
