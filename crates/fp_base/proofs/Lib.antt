@@ -18,3 +18,4 @@ pub mod Numerals
 pub mod Views
 pub mod Inside
 pub mod Counted
+pub mod Printed

@@ -14,3 +14,4 @@ pub mod TreeView
 pub mod Ordered
 pub mod Places
 pub mod Gathered
+pub mod Printed

@@ -1,6 +1,7 @@
 //! From bytes to a JSON value, and from a value to its one canonical text.
 
 ghost use Rattle.std.specs.Prelude.{◌≡◌, ◌≤◌, ◌∷◌, ◌++◌, [], true, Some, IfOk, OnOk, IfSome, option_map};
+ghost use Rattle.std.specs.Str.{IsUtf8};
 ghost use Rattle.json.specs.Print.{escape, escape_byte};
 ghost use Rattle.serde_json.specs.Data.{depth, string};
 ghost use Rattle.serde_json.specs.Read.{max_depth};
@@ -50,7 +51,9 @@ pub fn canonical_text_within(
 
 /// Puts a text as JSON writes it, in quotes and with what it needs escaped, behind what is there.
 pub fn put_quoted(alloc: Global, out: &mut Vec<u8>, text: &str) -> Result<(), AllocError>
-    ensures { OnOk result (out.new.items ≡ out.old.items ++ compact_text (string text.now)) }
+    ensures text { OnOk result (out.new.items
+        ≡ out.old.items ++ compact_text (string text.now)) }
+    ensures utf8 { IsUtf8 (compact_text (string text.now)) }
 {
     if is_plain(text.as_bytes()) {
         put_between_quotes(out, text.as_bytes())

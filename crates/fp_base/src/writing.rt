@@ -1,31 +1,24 @@
-//! JSON, written straight behind what a writer has.
+//! JSON, put straight behind what is there.
 
-ghost use Rattle.std.specs.Prelude.{◌≡◌, ◌≤◌, ◌++◌, true, Some, IfOk, OnOk};
-ghost use Rattle.json.specs.Tree.{json_tokens};
-ghost use Rattle.serde_json.specs.Data.{depth};
+ghost use Rattle.std.specs.Prelude.{◌≡◌, ◌≤◌, ◌++◌, ◌∷◌, [], true, false, Some, IfOk, OnOk, is_some};
+ghost use Rattle.std.specs.Str.{IsUtf8};
+ghost use Rattle.json.specs.Print.{quoted};
+ghost use Rattle.serde_json.specs.Data.{array, depth, number as numeral, object};
+ghost use Rattle.serde_json.specs.Find.{as_i64};
 ghost use Rattle.serde_json.specs.Read.{max_depth};
-ghost use Rattle.serde_json.specs.View.{view};
-ghost use Rattle.serde_json.specs.Written.{compact_text, outline};
+ghost use Rattle.serde_json.specs.View.{number_view};
+ghost use Rattle.serde_json.specs.Written.{compact_text, number_text, comma_if};
+ghost use Rattle.serde_json.specs.Written.{items_text, members_text};
 ghost use Rattle.fp_base.specs.Json.{json_of};
 ghost use Rattle.fp_base.specs.Ordered.{IsOrdered};
-ghost use Rattle.fp_base.specs.TreeView.{tree_view};
-ghost use Rattle.fp_base.specs.Whole.{is_whole};
+ghost use Rattle.fp_base.specs.Printed.{IsPrinted};
+ghost use Rattle.fp_base.specs.TreeView.{tree_view, tree_items, tree_members};
+ghost use Rattle.fp_base.specs.Whole.{is_whole, items_whole, members_whole};
 
-use crate::levels::{Json, Level};
+use crate::texts::put_quoted;
 use crate::tree::Tree;
-use json::Writer;
-use serde_json::Value;
+use serde_json::Number;
 use std::alloc::{AllocError, Global};
-
-/// Writes a value whose numbers are whole.
-pub fn write_value(out: &mut Writer, value: &Value) -> Result<(), AllocError>
-    requires { is_whole (view value.now) ≡ true }
-    ensures tokens { OnOk result (out.new.tokens
-        ≡ out.old.tokens ++ json_tokens (outline (view value.now))) }
-    ensures before { OnOk result (out.new.before ≡ out.old.before) }
-{
-    write_json(out, value)
-}
 
 impl<'a> Tree<'a> {
     /// The text without spaces, begun with room for so many bytes.
@@ -36,41 +29,117 @@ impl<'a> Tree<'a> {
         ensures text { IfOk result (λ t. t.items ≡ compact_text (tree_view self.now)) }
         ensures reads { IfOk result (λ t. json_of t.items ≡ Some (tree_view self.now)) }
     {
-        let mut out = Writer::new(Vec::with_capacity(alloc, room)?);
-        write_json(&mut out, self)?;
-        Ok(out.into_inner())
+        let mut out = Vec::with_capacity(alloc, room)?;
+        self.put_text(alloc, &mut out)?;
+        Ok(out)
+    }
+
+    /// Puts the text without spaces behind what is there.
+    pub fn put_text(&self, alloc: Global, out: &mut Vec<u8>) -> Result<(), AllocError>
+        requires { is_whole (tree_view self.now) ≡ true }
+        ensures text { OnOk result (out.new.items
+            ≡ out.old.items ++ compact_text (tree_view self.now)) }
+        ensures printed { OnOk result (IsPrinted (tree_view self.now)) }
+    {
+        put_tree(alloc, out, self)
     }
 }
 
-// Writes JSON whose numbers are whole.
-fn write_json<J: Json>(out: &mut Writer, json: J) -> Result<(), AllocError>
-    requires { is_whole (J.seen json) ≡ true }
-    ensures tokens { OnOk result (out.new.tokens
-        ≡ out.old.tokens ++ json_tokens (outline (J.seen json))) }
-    ensures before { OnOk result (out.new.before ≡ out.old.before) }
+#[cycle(puts)]
+fn put_tree(alloc: Global, out: &mut Vec<u8>, tree: &Tree<'_>) -> Result<(), AllocError>
+    requires { is_whole (tree_view tree.now) ≡ true }
+    ensures text { OnOk result (out.new.items
+        ≡ out.old.items ++ compact_text (tree_view tree.now)) }
+    ensures printed { OnOk result (IsPrinted (tree_view tree.now)) }
 {
-    match json.level() {
-        Level::Null => out.null(),
-        Level::Bool(b) => out.boolean(b),
-        Level::Number(number) => match number.as_i64() {
-            Some(whole) => out.i64(whole),
-            None => Ok(()),
-        },
-        Level::String(text) => out.string(text),
-        Level::Array(mut items) => {
-            out.begin_array()?;
-            while let Some(item) = J::next_item(&mut items) {
-                write_json(out, item)?;
-            }
-            out.end_array()
-        }
-        Level::Object(mut members) => {
-            out.begin_object()?;
-            while let Some((name, member)) = J::next_member(&mut members) {
-                out.key(J::name(&name))?;
-                write_json(out, member)?;
-            }
-            out.end_object()
-        }
+    match tree {
+        Tree::Null => out.extend_from_slice(b"null"),
+        Tree::Bool(true) => out.extend_from_slice(b"true"),
+        Tree::Bool(false) => out.extend_from_slice(b"false"),
+        Tree::Number(number) => put_number(out, number),
+        Tree::String(text) => put_quoted(alloc, out, text),
+        Tree::Array(items) => put_items(alloc, out, items),
+        Tree::Object(members) => put_members(alloc, out, members),
     }
+}
+
+#[cycle(puts)]
+fn put_items(alloc: Global, out: &mut Vec<u8>, items: &Vec<Tree<'_>>) -> Result<(), AllocError>
+    requires { items_whole (tree_items items.now.items) ≡ true }
+    ensures text { OnOk result (out.new.items
+        ≡ out.old.items ++ 91 ∷ items_text false (tree_items items.now.items)) }
+    ensures printed { OnOk result (IsPrinted (array (tree_items items.now.items))) }
+{
+    out.push(b'[')?;
+    let mut later = false;
+    for item in items {
+        put_comma(out, later)?;
+        put_tree(alloc, out, item)?;
+        later = true;
+    }
+    out.push(b']')?;
+    Ok(())
+}
+
+#[cycle(puts)]
+fn put_members(
+    alloc: Global,
+    out: &mut Vec<u8>,
+    members: &Vec<(&str, Tree<'_>)>,
+) -> Result<(), AllocError>
+    requires { members_whole (tree_members members.now.items) ≡ true }
+    ensures text { OnOk result (out.new.items
+        ≡ out.old.items ++ 123 ∷ members_text false (tree_members members.now.items)) }
+    ensures printed { OnOk result (IsPrinted (object (tree_members members.now.items))) }
+{
+    out.push(b'{')?;
+    let mut later = false;
+    for member in members {
+        put_name(alloc, out, later, member.0)?;
+        put_tree(alloc, out, &member.1)?;
+        later = true;
+    }
+    out.push(b'}')?;
+    Ok(())
+}
+
+fn put_number(out: &mut Vec<u8>, number: &Number) -> Result<(), AllocError>
+    requires { is_some (as_i64 (number_view number.now)) ≡ true }
+    ensures text { OnOk result (out.new.items
+        ≡ out.old.items ++ number_text (number_view number.now)) }
+    ensures printed { OnOk result (IsPrinted (numeral (number_view number.now))) }
+{
+    let Some(whole) = number.as_i64() else {
+        unreachable!()
+    };
+    let mut digits = itoa::Buffer::new();
+    out.extend_from_slice(digits.format(whole).as_bytes())?;
+    Ok(())
+}
+
+fn put_comma(out: &mut Vec<u8>, later: bool) -> Result<(), AllocError>
+    ensures { OnOk result (out.new.items ≡ out.old.items ++ comma_if later) }
+{
+    if later {
+        out.push(b',')?;
+    }
+    Ok(())
+}
+
+/// Puts the name of a member and its colon behind what is there, and a comma before them where a
+/// member stands there already.
+pub fn put_name(
+    alloc: Global,
+    out: &mut Vec<u8>,
+    later: bool,
+    name: &str,
+) -> Result<(), AllocError>
+    ensures text { OnOk result (out.new.items
+        ≡ out.old.items ++ (comma_if later ++ (quoted name.now ++ 58 ∷ []))) }
+    ensures utf8 { OnOk result (IsUtf8 (quoted name.now)) }
+{
+    put_comma(out, later)?;
+    put_quoted(alloc, out, name)?;
+    out.push(b':')?;
+    Ok(())
 }

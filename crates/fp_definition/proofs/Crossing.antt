@@ -3,39 +3,24 @@ use denote.Param.Send.{IsSend, IsSync, sendable, view_send, view_sync, recorded_
 use denote.Struct.Declared.{shape}
 use Rattle.std.proofs.Crossing.{crosses, Arc-send, Arc-sync}
 use Rattle.std.proofs.MapsCrossing as maps
-use Rattle.serde_json.proofs.value.Value.TheLaws.TheKnot as value_knot
-use Rattle.serde_json.specs.contracts.value.Value as value
 use Rattle.fp_targeting.proofs.Crossing.{rule_sent, rule_shared}
 use Rattle.fp_definition.specs.contracts.choice.Choice as choice
 use Rattle.fp_definition.specs.contracts.definition.Definition as definition
 use Rattle.fp_definition.specs.contracts.definition.Definition.TheInside as definition_inside
 use Rattle.fp_definition.specs.contracts.definition.Kept as kept
-use Rattle.fp_definition.specs.contracts.object.Members as members
-use Rattle.fp_definition.specs.contracts.object.Members.TheInside as members_inside
+use Rattle.fp_definition.specs.contracts.spelling.Variant as variant
 
-value_sent : IsSend (value.the_field).row
-value_sent = search (sendable, crosses, maps.crosses, value_knot.both_send-Value) depth 30
+variant_sent : IsSend (variant.the_field).row
+variant_sent = struct_send (shape variant.the_type) (search (sendable, crosses, maps.String-send) depth 20, (search sendable depth 10, tt))
 
-value_shared : IsSync (value.the_field).row
-value_shared = search (sendable, crosses, maps.crosses, value_knot.both_sync-Value) depth 30
-
-value_row_sent : IsSend value.the_row
-value_row_sent = search (sendable, value_sent) depth 10
-
-value_row_shared : IsSync value.the_row
-value_row_shared = search (sendable, value_shared) depth 10
-
-members_sent : IsSend members.the_row
-members_sent = view_send _ _ _ _ _ (recorded_send _ _ _ (members_inside.the_type).to_one (struct_send (shape members_inside.the_type) (search (sendable, crosses, maps.String-send, value_row_sent) depth 20, tt)))
-
-members_shared : IsSync members.the_row
-members_shared = view_sync _ _ _ _ _ (recorded_sync _ _ _ (members_inside.the_type).to_one (struct_sync (shape members_inside.the_type) (search (sendable, crosses, maps.String-sync, value_row_shared) depth 20, tt)))
+variant_shared : IsSync (variant.the_field).row
+variant_shared = struct_sync (shape variant.the_type) (search (sendable, crosses, maps.String-sync) depth 20, (search sendable depth 10, tt))
 
 choice_sent : IsSend (choice.the_field).row
-choice_sent = struct_send (shape choice.the_type) (search sendable, (search (sendable, crosses) depth 20, (search (sendable, members_sent) depth 10, (search (sendable, members_sent) depth 10, tt))))
+choice_sent = struct_send (shape choice.the_type) (search sendable, (search (sendable, crosses) depth 20, (search (sendable, crosses, variant_sent) depth 20, (search sendable depth 20, tt))))
 
 choice_shared : IsSync (choice.the_field).row
-choice_shared = struct_sync (shape choice.the_type) (search sendable, (search (sendable, crosses) depth 20, (search (sendable, members_shared) depth 10, (search (sendable, members_shared) depth 10, tt))))
+choice_shared = struct_sync (shape choice.the_type) (search sendable, (search (sendable, crosses) depth 20, (search (sendable, crosses, variant_shared) depth 20, (search sendable depth 20, tt))))
 
 kept_sent : IsSend kept.the_row
 kept_sent = recorded_send _ _ _ (kept.the_type).to_one (struct_send (shape kept.the_type) (search (sendable, crosses) depth 20, (choice_sent, (search (sendable, rule_sent) depth 20, tt))))

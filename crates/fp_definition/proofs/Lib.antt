@@ -5,3 +5,5 @@ pub mod Parted
 pub mod Ruled
 pub mod Told
 pub mod Timeless
+pub mod Spelled
+pub mod Said

@@ -1,18 +1,24 @@
 -- What a definition chooses from.
-use Rattle.std.specs.Prelude.{◌≡◌, codes, true, Some, option_map, is_some, string_bytes}
-use Rattle.serde_json.specs.Data.{Data, object, string}
+use Rattle.std.specs.Prelude.{◌≡◌, ℕ, List, codes, true, None, Some, MatchOption, is_some, string_bytes}
+use Rattle.serde_json.specs.Data.{Data, Members, no_members, object, string}
 use Rattle.serde_json.specs.Find.{as_object, get}
-use Rattle.serde_json.specs.View.{members_view}
+use Rattle.fp_base.specs.Sorted.{IsSorted}
 use Rattle.fp_definition.specs.Resolving.{is_disabled}
+use Rattle.fp_definition.specs.Spelled.{AreAt, IsAt}
 use Rattle.fp_definition.specs.Valid.{is_state, are_variants, names_variant, is_metadata}
 use Rattle.fp_definition.specs.declared.choice.Choice.{Choice}
 
--- whether it is disabled, its default, its variants and its metadata are those of the data
-pub record IsChoice (d : Data) (c : Choice) : Type 0 where
+-- whether it is disabled and its default are those of the data, and its variants and its metadata
+-- stand in their text
+pub record IsChoice (d : Data) (text : List ℕ) (c : Choice) : Type 0 where
   pub disabled : c.is_disabled ≡ is_disabled (get (codes "state") d)
   pub default : get (codes "defaultVariant") d ≡ Some (string (string_bytes c.default))
-  pub variants : get (codes "variants") d ≡ Some (object (members_view c.variants))
-  pub metadata : option_map (λ m. object (members_view m)) c.metadata ≡ get (codes "metadata") d
+  pub members : Members
+  pub variants : get (codes "variants") d ≡ Some (object members)
+  pub sorted : IsSorted members
+  pub values : AreAt text c.variants.items members
+  pub metadata : MatchOption c.metadata (get (codes "metadata") d ≡ None)
+      (λ p. IsAt text p (get (codes "metadata") d))
 
 -- the data meet the tests of their members, but for that of `targeting`
 pub record MeetsTests (d : Data) : Type 0 where

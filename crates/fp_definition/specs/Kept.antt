@@ -15,5 +15,5 @@ pub record IsDefinition (k : Kept) : Type 0 where
   pub reads : json_of k.text.items ≡ Some (data_of k.text.items)
   pub valid : IsValid (data_of k.text.items)
   pub text : k.text.items ≡ compact_text (data_of k.text.items)
-  pub choice : IsChoice (data_of k.text.items) k.choice
+  pub choice : IsChoice (data_of k.text.items) k.text.items k.choice
   pub rule : k.rule ≡ rule_in (get (codes "targeting") (data_of k.text.items))

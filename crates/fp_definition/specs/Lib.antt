@@ -9,3 +9,4 @@ pub mod Targeting
 pub mod Kept
 pub mod Choice
 pub mod Memory
+pub mod Spelled

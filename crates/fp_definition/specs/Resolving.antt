@@ -3,7 +3,7 @@ use Rattle.std.specs.Prelude.{◌≡◌, ℕ, List, codes, Bool, true, false, by
 use Rattle.std.specs.Prelude.{unwrap_or, Result, Ok, Err}
 use Rattle.serde_json.specs.Data.{Data, null, string}
 use Rattle.serde_json.specs.Find.{get}
-use Rattle.serde_json.specs.View.{view}
+use Rattle.serde_json.specs.Written.{compact_text}
 use Rattle.fp_base.specs.Json.{json_of}
 use Rattle.fp_operators.specs.Data as value
 use Rattle.fp_targeting.specs.Rule.{Rule}
@@ -78,8 +78,24 @@ Resolves d key context now outcome =
 
 -- ---- what the code answers
 
-abbrev pub said_by : Resolved → Said
-said_by r = (r.variant.now, view r.value.now, r.reason)
+-- what is said, the value as its canonical text
+abbrev pub Spelling : Type 0
+Spelling = List ℕ × List ℕ × Reason
+
+abbrev pub spelling : Said → Spelling
+spelling said = (said.0, compact_text said.1, said.2)
+
+abbrev pub outcome_spelled : Result Said EvalFault → Result Spelling EvalFault
+outcome_spelled (Ok said) = Ok (spelling said)
+outcome_spelled (Err e) = Err e
+
+-- an outcome of this kind, spelled
+abbrev pub Spells : (Result Said EvalFault → Type 0) → Result Spelling EvalFault → Type 0
+Spells Has (Ok spelled) = (said : Said) × Has (Ok said) × (spelled ≡ spelling said)
+Spells Has (Err e) = Has (Err e)
+
+abbrev pub spelled_by : Resolved → Spelling
+spelled_by r = (r.variant.now, r.value.now, r.reason)
 
 -- what a fault tells; want of memory tells nothing
 abbrev pub Tells : EvalFault → (EvalFault → Type 0) → Type 0

@@ -1,17 +1,15 @@
 //! A flag's definition.
 
-ghost use Rattle.std.specs.Prelude.{◌≡◌, true, Some, None, IfOk, IfErr, IfSome};
+ghost use Rattle.std.specs.Prelude.{◌≡◌, true, Some, None, IfOk, IfErr};
 ghost use Rattle.std.specs.Prelude.{if◌then◌else◌};
 ghost use Rattle.std.specs.Prelude.{codes, option_map};
-ghost use Rattle.serde_json.specs.Data.{object};
 ghost use Rattle.serde_json.specs.Find.{get};
-ghost use Rattle.serde_json.specs.View.{view, members_view};
+ghost use Rattle.serde_json.specs.View.{view};
 ghost use Rattle.serde_json.specs.Written.{compact_text};
 ghost use Rattle.fp_base.specs.Answer.{IsFirst};
 ghost use Rattle.fp_base.specs.Json.{json_of};
 ghost use Rattle.fp_base.specs.Ordered.{IsOrdered};
 ghost use Rattle.fp_base.specs.TreeView.{tree_view};
-ghost use Rattle.fp_base.specs.Whole.{is_whole, members_whole};
 ghost use Rattle.fp_definition.specs.Choice.{IsChoice};
 ghost use Rattle.fp_definition.specs.Faults.{Tells};
 ghost use Rattle.fp_definition.specs.Resolving.{data_of};
@@ -22,7 +20,7 @@ ghost use Rattle.fp_definition.specs.Valid.{definition_in, is_text_of};
 use crate::choice::{Choice, chosen};
 use crate::faults::DefFault;
 use crate::members::tested_members;
-use crate::object::Members;
+use crate::spelling::Spelled;
 use crate::text::{fitted, text_of};
 use fp_base::{Tree, read_tree};
 use fp_targeting::Rule;
@@ -111,22 +109,20 @@ impl Definition {
         self.share.text.as_slice()
     }
 
-    /// The members of the member `metadata`.
-    pub fn metadata(&self) -> Option<&Members>
-        ensures value { option_map (λ m. object (members_view m.now)) result
-            ≡ get (codes "metadata") (data_of self.now) }
-        ensures whole { IfSome result (λ m. members_whole (members_view m.now) ≡ true) }
+    /// The canonical text of the member `metadata`.
+    pub fn metadata(&self) -> Option<&[u8]>
+        ensures { option_map (λ t. t.now) result
+            ≡ option_map compact_text (get (codes "metadata") (data_of self.now)) }
     {
-        match &self.choice().metadata {
-            Some(metadata) => Some(metadata),
+        match self.choice().metadata {
+            Some(place) => Some(&self.text()[place.start..place.end]),
             None => None,
         }
     }
 
     // What it chooses from.
     pub(crate) fn choice(&self) -> &Choice
-        ensures choice { IsChoice (data_of self.now) result.now }
-        ensures whole { is_whole (data_of self.now) ≡ true }
+        ensures { IsChoice (data_of self.now) self.now result.now }
     {
         &self.share.choice
     }
@@ -155,9 +151,14 @@ fn made(alloc: Global, tree: &Tree<'_>, room: usize) -> Result<Definition, DefFa
     ensures reads { IfOk result (λ d. json_of d ≡ Some (tree_view tree.now)) }
     ensures refused { IfErr result (IsFirst Tells (first_fault (tree_view tree.now))) }
 {
-    let text = text_of(alloc, tree, room)?;
+    let spelled = text_of(alloc, tree, room)?;
     let rule = tested_members(alloc, tree)?;
-    let choice = chosen(alloc, tree)?;
+    let Spelled {
+        text,
+        variants,
+        metadata,
+    } = spelled;
+    let choice = chosen(alloc, tree, &text, variants, metadata)?;
     let text = fitted(text);
     let share = Arc::new(alloc, Kept { text, choice, rule })?;
     Ok(Definition { share })

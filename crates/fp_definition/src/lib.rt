@@ -7,14 +7,14 @@ mod faults;
 mod key;
 mod kind;
 mod members;
-mod object;
 mod resolving;
 mod rules;
+mod spelling;
 mod text;
+mod variants;
 
 pub use definition::{DEEPEST_DEFINITION, Definition, LONGEST_DEFINITION};
 pub use faults::{DefFault, KeyFault};
 pub use key::{FlagKey, LONGEST_KEY};
 pub use members::{MOST_METADATA, MOST_VARIANTS};
-pub use object::Members;
 pub use resolving::{EvalFault, Reason, Resolved};

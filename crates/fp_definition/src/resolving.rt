@@ -3,18 +3,18 @@
 ghost use Rattle.std.specs.Prelude.{false, ◌≡◌, ◌<◌, ◌^◌, ◌↔◌, ℕ, List, Result, true, IfOk, IfErr};
 ghost use Rattle.std.specs.Prelude.{IfSome, IsSome, OnErr, codes};
 ghost use Rattle.serde_json.specs.Data.{Data as JsonData};
-ghost use Rattle.serde_json.specs.Find.{as_object, get, get_member};
-ghost use Rattle.serde_json.specs.View.{view, members_view};
+ghost use Rattle.serde_json.specs.Find.{as_object, get};
+ghost use Rattle.serde_json.specs.View.{view};
 ghost use Rattle.fp_base.specs.Answer.{Answers, Gives};
 ghost use Rattle.fp_base.specs.Ordered.{IsOrdered};
 ghost use Rattle.fp_base.specs.TreeView.{tree_view};
-ghost use Rattle.fp_base.specs.Whole.{is_whole, members_whole};
+ghost use Rattle.fp_base.specs.Whole.{is_whole};
 ghost use Rattle.fp_definition.specs.Key.{key_bytes};
 ghost use Rattle.fp_definition.specs.Memory.{HasRule, rule_needs_memory};
 ghost use Rattle.fp_definition.specs.Outcome.{outcome_of, IsTimeless};
-ghost use Rattle.fp_definition.specs.Resolving.{Resolves, Said, Tells, TellsItself, said_by};
+ghost use Rattle.fp_definition.specs.Resolving.{Resolves, Said, Tells, TellsItself};
 ghost use Rattle.fp_definition.specs.Resolving.{by_default, by_result, data_of, is_disabled};
-ghost use Rattle.fp_definition.specs.Resolving.{outcome_of_variant, said_or_none};
+ghost use Rattle.fp_definition.specs.Resolving.{Spells, outcome_of_variant, outcome_spelled, spelled_by};
 ghost use Rattle.fp_definition.specs.Targeting.{rule_in};
 ghost use Rattle.fp_definition.specs.declared.resolving.EvalFault.TheVariants.{Memory, NoVariant};
 ghost use Rattle.fp_operators.specs.Data as values;
@@ -26,7 +26,7 @@ ghost use Rattle.fp_targeting.specs.RuleData.{IsOfContext, rule_data};
 
 use crate::definition::Definition;
 use crate::key::FlagKey;
-use crate::object::Members;
+use crate::variants::variant_named;
 use fp_base::Tree;
 use fp_operators::Datum;
 use fp_targeting::{Data, Rule};
@@ -69,7 +69,8 @@ impl From<AllocError> for EvalFault {
 #[derive(Drop)]
 pub struct Resolved<'d> {
     pub variant: &'d str,
-    pub value: &'d Value,
+    /// The value's canonical text.
+    pub value: &'d [u8],
     pub reason: Reason,
 }
 
@@ -87,11 +88,10 @@ impl Definition {
         requires object { IsSome (as_object (view context.now)) }
         requires whole { is_whole (view context.now) ≡ true }
         requires moment { now < 2 ^ 63 }
-        ensures resolves { Answers said_by Tells result
-            (Resolves (data_of self.now) (key_bytes key.now) (view context.now) now) }
-        ensures computed { Gives said_by Tells result
-            (outcome_of (data_of self.now) (key_bytes key.now) (view context.now) now) }
-        ensures printable { IfOk result (λ r. is_whole (view r.value.now) ≡ true) }
+        ensures resolves { Answers spelled_by Tells result
+            (Spells (Resolves (data_of self.now) (key_bytes key.now) (view context.now) now)) }
+        ensures computed { Gives spelled_by Tells result (outcome_spelled
+            (outcome_of (data_of self.now) (key_bytes key.now) (view context.now) now)) }
         ensures memory { IfErr result (λ e. e ≡ Memory → HasRule (data_of self.now)) }
     {
         if self.is_disabled() {
@@ -121,11 +121,10 @@ impl Definition {
         requires whole { is_whole (tree_view context.now) ≡ true }
         requires ordered { IsOrdered (tree_view context.now) }
         requires moment { now < 2 ^ 63 }
-        ensures resolves { IfOk result (λ r. Answers said_by Tells r
-            (Resolves (data_of self.now) (key_bytes key.now) (tree_view context.now) now)) }
-        ensures computed { IfOk result (λ r. Gives said_by Tells r
-            (outcome_of (data_of self.now) (key_bytes key.now) (tree_view context.now) now)) }
-        ensures printable { IfOk result (λ r. IfOk r (λ s. is_whole (view s.value.now) ≡ true)) }
+        ensures resolves { IfOk result (λ r. Answers spelled_by Tells r
+            (Spells (Resolves (data_of self.now) (key_bytes key.now) (tree_view context.now) now))) }
+        ensures computed { IfOk result (λ r. Gives spelled_by Tells r (outcome_spelled
+            (outcome_of (data_of self.now) (key_bytes key.now) (tree_view context.now) now))) }
         ensures memory { IfOk result (λ r. IfErr r (λ e. e ≡ Memory
             → rule_needs_memory (rule_in (get (codes "targeting") (data_of self.now))) ≡ true)) }
         ensures no_data { OnErr result (HasRule (data_of self.now)) }
@@ -151,14 +150,13 @@ impl Definition {
         data: &mut Data,
     ) -> Result<Resolved<'_>, EvalFault>
         ensures resolves { (context : JsonData) (now : ℕ) → IsOfContext context now «data».old
-            → Answers said_by Tells result
-            (Resolves (data_of self.now) (key_bytes key.now) context now) }
+            → Answers spelled_by Tells result
+            (Spells (Resolves (data_of self.now) (key_bytes key.now) context now)) }
         ensures computed { (context : JsonData) (now : ℕ) → IsOfContext context now «data».old
-            → Gives said_by Tells result
-            (outcome_of (data_of self.now) (key_bytes key.now) context now) }
+            → Gives spelled_by Tells result
+            (outcome_spelled (outcome_of (data_of self.now) (key_bytes key.now) context now)) }
         ensures context { (context : JsonData) (now : ℕ) → IsOfContext context now «data».old
             → IsOfContext context now «data».new }
-        ensures printable { IfOk result (λ r. is_whole (view r.value.now) ≡ true) }
         ensures memory { IfErr result (λ e. e ≡ Memory
             → rule_needs_memory (rule_in (get (codes "targeting") (data_of self.now))) ≡ true) }
     {
@@ -177,11 +175,11 @@ impl Definition {
     pub fn resolve_over(&self, alloc: Global, data: &Data) -> Result<Resolved<'_>, EvalFault>
         ensures resolves { (key : List ℕ) (context : JsonData) (now : ℕ)
             → «data».now ≡ rule_data context key now
-            → Answers said_by Tells result (Resolves (data_of self.now) key context now) }
+            → Answers spelled_by Tells result (Spells (Resolves (data_of self.now) key context now)) }
         ensures computed { (key : List ℕ) (context : JsonData) (now : ℕ)
             → «data».now ≡ rule_data context key now
-            → Gives said_by Tells result (outcome_of (data_of self.now) key context now) }
-        ensures printable { IfOk result (λ r. is_whole (view r.value.now) ≡ true) }
+            → Gives spelled_by Tells result
+            (outcome_spelled (outcome_of (data_of self.now) key context now)) }
         ensures memory { IfErr result (λ e. e ≡ Memory
             → rule_needs_memory (rule_in (get (codes "targeting") (data_of self.now))) ≡ true) }
     {
@@ -221,12 +219,11 @@ impl Definition {
     }
 
     fn by_rule(&self, alloc: Global, rule: &Rule, data: &Data) -> Result<Resolved<'_>, EvalFault>
-        ensures resolves { Answers said_by Tells result (λ outcome.
+        ensures resolves { Answers spelled_by Tells result (Spells (λ outcome.
             (x : values.Data) × Means rule.now «data».now x
-            × (outcome ≡ by_result (data_of self.now) x)) }
-        ensures computed { Gives said_by Tells result
-            (by_result (data_of self.now) (meaning «data».now rule.now)) }
-        ensures printable { IfOk result (λ r. is_whole (view r.value.now) ≡ true) }
+            × (outcome ≡ by_result (data_of self.now) x))) }
+        ensures computed { Gives spelled_by Tells result
+            (outcome_spelled (by_result (data_of self.now) (meaning «data».now rule.now))) }
         ensures memory { IfErr result (λ e. e ≡ Memory → needs_memory rule.now ≡ true) }
     {
         let given = rule.find(alloc, data)?;
@@ -235,9 +232,8 @@ impl Definition {
 
     // The variant that a rule's result names.
     fn named_by(&self, given: &Datum) -> Result<Resolved<'_>, EvalFault>
-        ensures resolves { Gives said_by TellsItself result
-            (by_result (data_of self.now) (datum_view given.now)) }
-        ensures printable { IfOk result (λ r. is_whole (view r.value.now) ≡ true) }
+        ensures resolves { Gives spelled_by TellsItself result
+            (outcome_spelled (by_result (data_of self.now) (datum_view given.now))) }
         ensures refused { IfErr result (λ e. e ≡ NoVariant) }
     {
         match given {
@@ -250,21 +246,26 @@ impl Definition {
     }
 
     fn default_of(&self, reason: Reason) -> Result<Resolved<'_>, EvalFault>
-        ensures resolves { Gives said_by TellsItself result
-            (by_default reason (data_of self.now)) }
-        ensures printable { IfOk result (λ r. is_whole (view r.value.now) ≡ true) }
+        ensures resolves { Gives spelled_by TellsItself result
+            (outcome_spelled (by_default reason (data_of self.now))) }
         ensures refused { IfErr result (λ e. e ≡ NoVariant) }
     {
         self.variant_named(self.choice().default.as_str(), reason)
     }
 
     fn variant_named(&self, name: &str, reason: Reason) -> Result<Resolved<'_>, EvalFault>
-        ensures resolves { Gives said_by TellsItself result
-            (outcome_of_variant name.now reason (get (codes "variants") (data_of self.now))) }
-        ensures printable { IfOk result (λ r. is_whole (view r.value.now) ≡ true) }
+        ensures resolves { Gives spelled_by TellsItself result (outcome_spelled
+            (outcome_of_variant name.now reason (get (codes "variants") (data_of self.now)))) }
         ensures refused { IfErr result (λ e. e ≡ NoVariant) }
     {
-        variant_among(&self.choice().variants, name, reason)
+        match variant_named(self.text(), &self.choice().variants, name) {
+            Some((variant, value)) => Ok(Resolved {
+                variant,
+                value,
+                reason,
+            }),
+            None => Err(EvalFault::NoVariant),
+        }
     }
 }
 
@@ -274,26 +275,5 @@ fn rule_has_one_result(rule: &Option<Rule>)
 {
     if let Some(rule) = rule {
         rule.one_result();
-    }
-}
-
-fn variant_among<'d>(
-    variants: &'d Members,
-    name: &str,
-    reason: Reason,
-) -> Result<Resolved<'d>, EvalFault>
-    ensures resolves { Gives said_by TellsItself result
-        (said_or_none name.now reason (get_member name.now (members_view variants.now))) }
-    ensures printable { members_whole (members_view variants.now) ≡ true → IfOk result (λ r.
-        is_whole (view r.value.now) ≡ true) }
-    ensures refused { IfErr result (λ e. e ≡ NoVariant) }
-{
-    match variants.get(name) {
-        Some((variant, value)) => Ok(Resolved {
-            variant,
-            value,
-            reason,
-        }),
-        None => Err(EvalFault::NoVariant),
     }
 }

@@ -1,7 +1,7 @@
 //! The canonical text of a definition, and the tests of its size.
 
-ghost use Rattle.std.specs.Prelude.{◌≡◌, ◌≤◌, true, length, Some, IfOk, IfErr};
-ghost use Rattle.serde_json.specs.Data.{depth};
+ghost use Rattle.std.specs.Prelude.{◌≡◌, ◌≤◌, true, length, Some, IfOk, IfErr, option_map};
+ghost use Rattle.serde_json.specs.Data.{Members, depth, no_members, object};
 ghost use Rattle.serde_json.specs.Written.{compact_text};
 ghost use Rattle.fp_base.specs.Answer.{IsFirst};
 ghost use Rattle.fp_base.specs.Json.{json_of};
@@ -9,30 +9,34 @@ ghost use Rattle.fp_base.specs.Ordered.{IsOrdered};
 ghost use Rattle.fp_base.specs.TreeView.{tree_view};
 ghost use Rattle.fp_base.specs.Whole.{is_whole};
 ghost use Rattle.fp_definition.specs.Faults.{Tells};
+ghost use Rattle.fp_definition.specs.Spelled.{AreNoted};
 ghost use Rattle.fp_definition.specs.Valid.{first_fault};
 
 use crate::definition::{DEEPEST_DEFINITION, LONGEST_DEFINITION};
 use crate::faults::DefFault;
+use crate::spelling::{Spelled, spell};
 use fp_base::Tree;
 use std::alloc::Global;
 
-// The canonical text of a tree that meets the tests of its size. It is begun with room for so many
+// The canonical text of a tree that meets the tests of its size, with what was noted of it. It is begun with room for so many
 // bytes.
-pub(crate) fn text_of(alloc: Global, tree: &Tree<'_>, room: usize) -> Result<Vec<u8>, DefFault>
+pub(crate) fn text_of(alloc: Global, tree: &Tree<'_>, room: usize) -> Result<Spelled, DefFault>
     requires { IsOrdered (tree_view tree.now) }
     ensures whole { IfOk result (λ _. is_whole (tree_view tree.now) ≡ true) }
     ensures flat { IfOk result (λ _. depth (tree_view tree.now) ≤ DEEPEST_DEFINITION) }
-    ensures short { IfOk result (λ text. length text.items ≤ LONGEST_DEFINITION) }
-    ensures text { IfOk result (λ text. text.items ≡ compact_text (tree_view tree.now)) }
-    ensures reads { IfOk result (λ text. json_of text.items ≡ Some (tree_view tree.now)) }
+    ensures short { IfOk result (λ s. length s.text.items ≤ LONGEST_DEFINITION) }
+    ensures text { IfOk result (λ s. s.text.items ≡ compact_text (tree_view tree.now)) }
+    ensures reads { IfOk result (λ s. json_of s.text.items ≡ Some (tree_view tree.now)) }
+    ensures noted { IfOk result (λ s. (ms : Members) → tree_view tree.now ≡ object ms
+        → AreNoted s.text.items (option_map (λ v. v.items) s.variants) s.metadata no_members ms) }
     ensures refused { IfErr result (IsFirst Tells (first_fault (tree_view tree.now))) }
 {
     tested_size(tree)?;
-    let text = tree.to_text(alloc, room)?;
-    if text.len() > LONGEST_DEFINITION {
+    let spelled = spell(alloc, tree, room)?;
+    if spelled.text.len() > LONGEST_DEFINITION {
         return Err(DefFault::TooLarge);
     }
-    Ok(text)
+    Ok(spelled)
 }
 
 // The fault of the first test of size that a tree surely doesn't meet. Ok leaves open whether its

@@ -1,10 +1,9 @@
--- Flags of the list, as tokens.
-use Rattle.std.proofs.Common.{◌≡◌, ℕ, List, [], ◌∷◌, ◌++◌, Option, Some, Result, Ok, Err, refl, ap, subst, ◌∙◌, codes}
-use Rattle.json.specs.Token.{Token}
-use Rattle.json.specs.Tree.{json_tokens, items_tokens}
-use Rattle.serde_json.specs.Data.{Data, Items}
+-- Flags of the list, as text.
+use Rattle.std.proofs.Common.{◌≡◌, ℕ, List, [], ◌∷◌, ◌++◌, Bool, true, false, Option, Some, Result, Ok, Err, refl, sym, ap, subst, ◌∙◌, codes, append_assoc}
+use Rattle.json.specs.Print.{escape_byte, quoted}
+use Rattle.serde_json.specs.Data.{Data, Items, array, member, no_members, object}
 use Rattle.serde_json.specs.Find.{get}
-use Rattle.serde_json.specs.Written.{outline, items_outline}
+use Rattle.serde_json.specs.Written.{comma_if, compact_text, items_text}
 use Rattle.fp_definition.specs.Resolving.{Said}
 use Rattle.fp_definition.specs.declared.resolving.EvalFault.{EvalFault}
 use Rattle.fp_definition.specs.declared.resolving.EvalFault.TheVariants.{Disabled, NoVariant}
@@ -13,33 +12,38 @@ use Rattle.fp_ofrep.specs.Bulk.{with_flag_item}
 use Rattle.fp_ofrep.specs.Single.{value_or_failure}
 use Rattle.fp_ofrep.specs.declared.failure.Failure.TheVariants.{NamesNoVariant}
 
-assoc : (a b c : List Token) → (a ++ b) ++ c ≡ a ++ (b ++ c)
-assoc [] b c = refl
-assoc (t ∷ a) b c = ap (λ ts. t ∷ ts) (assoc a b c)
+module _ (old : List ℕ) (later : Bool) (key : List ℕ) (d : Data) (o : Result Said EvalFault) (rest : Items) where
+  -- from there on the rest is behind a comma, or not
+  abbrev pub Lists : List ℕ → Bool → Type 0
+  Lists new after = new ++ items_text after rest ≡ old ++ items_text later (with_flag_item key (value_or_failure key d o) rest)
 
-abbrev Lists : List Token → List Token → List ℕ → Data → Items → Result Said EvalFault → Type 0
-Lists old new k d rest o = new ++ items_tokens (items_outline rest) ≡ old ++ items_tokens (items_outline (with_flag_item k (value_or_failure k d o) rest))
+  listed : (x : Data) (one new : List ℕ) → one ≡ old ++ comma_if later → new ≡ one ++ compact_text x → new ++ items_text true rest ≡ old ++ (comma_if later ++ (compact_text x ++ items_text true rest))
+  listed x one new p q =
+      ap (λ xs. xs ++ items_text true rest) (q ∙ ap (λ xs. xs ++ compact_text x) p)
+      ∙ append_assoc (old ++ comma_if later) (compact_text x) (items_text true rest) ∙ append_assoc old (comma_if later) (compact_text x ++ items_text true rest)
 
-pub listed_success : (old new : List Token) (k j : List ℕ) (d : Data) (m : Option Data) (s : Said) (o : Result Said EvalFault) (rest : Items) → new ≡ old ++ json_tokens (outline (success j m s)) → j ≡ k → m ≡ get (codes "metadata") d → Ok s ≡ o → Lists old new k d rest o
-listed_success old new k j d m s o rest e p q r =
-    subst (Lists old new k d rest) r
-    (ap (λ t. t ++ items_tokens (items_outline rest)) (e ∙ ap (λ x. old ++ json_tokens (outline (success x m s))) p ∙ ap (λ x. old ++ json_tokens (outline (success k x s))) q)
-    ∙ assoc old (json_tokens (outline (success k (get (codes "metadata") d) s))) (items_tokens (items_outline rest)))
+  pub listed_success : (one new j : List ℕ) (s : Said) → one ≡ old ++ comma_if later → new ≡ one ++ compact_text (success j (get (codes "metadata") d) s) → j ≡ key → o ≡ Ok s → Lists new true
+  listed_success one new j s p q named is =
+      listed (success j (get (codes "metadata") d) s) one new p q
+      ∙ ap (λ k. old ++ (comma_if later ++ (compact_text (success k (get (codes "metadata") d) s) ++ items_text true rest))) named
+      ∙ ap (λ r. old ++ items_text later (with_flag_item key (value_or_failure key d r) rest)) (sym is)
 
-pub listed_failure : (old new : List Token) (k j : List ℕ) (d : Data) (o : Result Said EvalFault) (rest : Items) → new ≡ old ++ json_tokens (outline (failure NamesNoVariant (Some j))) → j ≡ k → Err NoVariant ≡ o → Lists old new k d rest o
-listed_failure old new k j d o rest e p r =
-    subst (Lists old new k d rest) r
-    (ap (λ t. t ++ items_tokens (items_outline rest)) (e ∙ ap (λ x. old ++ json_tokens (outline (failure NamesNoVariant (Some x)))) p)
-    ∙ assoc old (json_tokens (outline (failure NamesNoVariant (Some k)))) (items_tokens (items_outline rest)))
+  pub listed_failure : (one new j : List ℕ) → one ≡ old ++ comma_if later → new ≡ one ++ compact_text (failure NamesNoVariant (Some j)) → j ≡ key → o ≡ Err NoVariant → Lists new true
+  listed_failure one new j p q named is =
+      listed (failure NamesNoVariant (Some j)) one new p q
+      ∙ ap (λ k. old ++ (comma_if later ++ (compact_text (failure NamesNoVariant (Some k)) ++ items_text true rest))) named
+      ∙ ap (λ r. old ++ items_text later (with_flag_item key (value_or_failure key d r) rest)) (sym is)
 
-pub listed_not : (old : List Token) (k : List ℕ) (d : Data) (o : Result Said EvalFault) (rest : Items) → Err Disabled ≡ o → Lists old old k d rest o
-listed_not old k d o rest r = subst (Lists old old k d rest) r refl
+  pub listed_not : o ≡ Err Disabled → Lists old later
+  listed_not is = ap (λ r. old ++ items_text later (with_flag_item key (value_or_failure key d r) rest)) (sym is)
 
-parts : (start : List Token) (a b c e : Token) (xs : List Token) → ((((start ++ a ∷ []) ++ b ∷ []) ++ c ∷ []) ++ xs) ++ e ∷ [] ≡ start ++ a ∷ b ∷ ((c ∷ xs) ++ e ∷ [])
-parts [] a b c e xs = refl
-parts (t ∷ start) a b c e xs = ap (λ ts. t ∷ ts) (parts start a b c e xs)
+round : (items : Items) → codes "{\"flags\":[" ++ (items_text false items ++ 125 ∷ []) ≡ compact_text (object (member (codes "flags") (array items) no_members))
+unfolding escape_byte
+round items = refl
 
-pub in_order : (start one two three four five : List Token) (a b c e : Token) (xs : List Token) → one ≡ start ++ a ∷ [] → two ≡ one ++ b ∷ [] → three ≡ two ++ c ∷ [] → four ≡ three ++ xs → five ≡ four ++ e ∷ []
-    → five ≡ start ++ a ∷ b ∷ ((c ∷ xs) ++ e ∷ [])
-in_order start one two three four five a b c e xs p q r s t =
-    t ∙ ap (λ l. l ++ e ∷ []) (s ∙ ap (λ l. l ++ xs) (r ∙ ap (λ l. l ++ c ∷ []) (q ∙ ap (λ l. l ++ b ∷ []) p))) ∙ parts start a b c e xs
+-- the flags in their list
+pub flags_put : (items : Items) (none start flags end : List ℕ) → none ≡ [] → start ≡ none ++ codes "{\"flags\":[" → flags ++ 93 ∷ [] ≡ start ++ items_text false items → end ≡ flags ++ codes "]}"
+    → end ≡ compact_text (object (member (codes "flags") (array items) no_members))
+flags_put items none start flags end empty p q r =
+    r ∙ sym (append_assoc flags (93 ∷ []) (125 ∷ [])) ∙ ap (λ xs. xs ++ 125 ∷ []) (q ∙ ap (λ xs. xs ++ items_text false items) (p ∙ ap (λ xs. xs ++ codes "{\"flags\":[") empty))
+    ∙ append_assoc (codes "{\"flags\":[") (items_text false items) (125 ∷ []) ∙ round items

@@ -1,11 +1,10 @@
 //! The evaluation of all flags.
 
-ghost use Rattle.std.specs.Prelude.{◌≡◌, ◌++◌, ℕ, ◌<◌, ◌^◌, true, Some, IfOk, IsSome, OnOk};
+ghost use Rattle.std.specs.Prelude.{◌≡◌, ◌++◌, ◌∷◌, [], ℕ, ◌<◌, ◌^◌, true, false, Some, IfOk, IsSome, OnOk};
 ghost use Rattle.std.specs.FinMap as map;
-ghost use Rattle.json.specs.Tree.{items_tokens, json_tokens};
 ghost use Rattle.serde_json.specs.Data.{Data as JsonData, Items};
 ghost use Rattle.serde_json.specs.Find.{as_object};
-ghost use Rattle.serde_json.specs.Written.{compact_text, items_outline, outline};
+ghost use Rattle.serde_json.specs.Written.{comma_if, compact_text, items_text};
 ghost use Rattle.fp_base.specs.Ordered.{IsOrdered};
 ghost use Rattle.fp_base.specs.TreeView.{tree_view};
 ghost use Rattle.fp_base.specs.Whole.{is_whole};
@@ -24,13 +23,13 @@ use crate::context::read_context;
 use crate::failure::Failure;
 use crate::reply::{Headers, Reply, failed};
 use crate::tag::{entity_tag, is_known};
-use crate::write::{write_failure, write_success};
+use crate::write::{put_failure, put_success};
 use fp_base::Tree;
 use fp_definition::{Definition, EvalFault, FlagKey};
 use fp_edit::FlagSet;
 use fp_targeting::Data;
 use http::StatusCode;
-use json::{Scratch, Writer};
+use json::Scratch;
 use std::alloc::{AllocError, Global};
 
 // A body is begun with room for so many bytes a flag, which suffices for a short key and value.
@@ -153,82 +152,71 @@ fn bulk_text(
         ≡ compact_text (bulk_data set.now.flags (tree_view context.now) now)) }
 {
     let room = ROOM_ROUND_FLAGS + set.len() * ROOM_FOR_A_FLAG;
-    let mut out = Writer::new(Vec::with_capacity(alloc, room)?);
-    write_bulk(alloc, &mut out, set, context, now)?;
-    Ok(out.into_inner())
-}
-
-// Writes all flags.
-fn write_bulk(
-    alloc: Global,
-    out: &mut Writer,
-    set: &FlagSet,
-    context: &Tree<'_>,
-    now: u64,
-) -> Result<(), AllocError>
-    requires object { IsSome (as_object (tree_view context.now)) }
-    requires whole { is_whole (tree_view context.now) ≡ true }
-    requires ordered { IsOrdered (tree_view context.now) }
-    requires moment { now < 2 ^ 63 }
-    ensures tokens { OnOk result (out.new.tokens ≡ out.old.tokens
-        ++ json_tokens (outline (bulk_data set.now.flags (tree_view context.now) now))) }
-    ensures before { OnOk result (out.new.before ≡ out.old.before) }
-{
-    out.begin_object()?;
-    out.key("flags")?;
-    out.begin_array()?;
+    let mut out = Vec::with_capacity(alloc, room)?;
+    out.extend_from_slice(b"{\"flags\":[")?;
     let mut data = Data::of_tree(alloc, context, "", now)?;
-    write_flags(alloc, out, set, &mut data)?;
-    out.end_object()?;
-    Ok(())
+    put_flags(alloc, &mut out, set, &mut data)?;
+    out.extend_from_slice(b"]}")?;
+    Ok(out)
 }
 
-// Writes the flags of the list. The data are made once for all of them.
-fn write_flags(
+// Puts the flags of the list. The data are made once for all of them.
+fn put_flags(
     alloc: Global,
-    out: &mut Writer,
+    out: &mut Vec<u8>,
     set: &FlagSet,
     data: &mut Data,
 ) -> Result<(), AllocError>
-    ensures tokens { OnOk result ((context : JsonData) (now : ℕ)
-        → IsOfContext context now «data».old → out.new.tokens ≡ out.old.tokens ++ items_tokens
-        (items_outline (flag_items (map.entries set.now.flags) context now))) }
-    ensures before { OnOk result (out.new.before ≡ out.old.before) }
+    ensures { OnOk result ((context : JsonData) (now : ℕ)
+        → IsOfContext context now «data».old → out.new.items ++ 93 ∷ [] ≡ out.old.items
+        ++ items_text false (flag_items (map.entries set.now.flags) context now)) }
 {
+    let mut later = false;
     for (key, flag) in set.iter() {
-        write_flag(alloc, out, key, &flag.definition, data)?;
+        later = put_flag(alloc, out, later, key, &flag.definition, data)?;
     }
-    out.end_array()?;
     Ok(())
 }
 
-// Writes a flag of the list. Whatever flags come after it, they are then what is left to write.
-fn write_flag(
+// Puts a flag of the list, and says whether one stands there now. Whatever flags come after it, they
+// are then what is left to put.
+fn put_flag(
     alloc: Global,
-    out: &mut Writer,
+    out: &mut Vec<u8>,
+    later: bool,
     key: &FlagKey,
     definition: &Definition,
     data: &mut Data,
-) -> Result<(), AllocError>
-    ensures tokens { OnOk result ((context : JsonData) (now : ℕ) (rest : Items)
+) -> Result<bool, AllocError>
+    ensures text { IfOk result (λ after. (context : JsonData) (now : ℕ) (rest : Items)
         → IsOfContext context now «data».old
-        → out.new.tokens ++ items_tokens (items_outline rest) ≡ out.old.tokens ++ items_tokens
-        (items_outline (with_flag_item (key_bytes key.now)
-        (evaluation_of (key_bytes key.now) (data_of definition.now) context now) rest))) }
-    ensures before { OnOk result (out.new.before ≡ out.old.before) }
+        → out.new.items ++ items_text after rest ≡ out.old.items ++ items_text later
+        (with_flag_item (key_bytes key.now)
+        (evaluation_of (key_bytes key.now) (data_of definition.now) context now) rest)) }
     ensures context { OnOk result ((context : JsonData) (now : ℕ)
         → IsOfContext context now «data».old → IsOfContext context now «data».new) }
 {
     match definition.resolve_in(alloc, key, data) {
         Ok(said) => {
-            write_success(out, key.as_str(), definition.metadata(), &said)?;
-            Ok(())
+            put_comma(out, later)?;
+            put_success(alloc, out, key.as_str(), definition.metadata(), &said)?;
+            Ok(true)
         }
-        Err(EvalFault::Disabled) => Ok(()),
+        Err(EvalFault::Disabled) => Ok(later),
         Err(EvalFault::NoVariant) => {
-            write_failure(out, Failure::NamesNoVariant, Some(key.as_str()))?;
-            Ok(())
+            put_comma(out, later)?;
+            put_failure(alloc, out, Failure::NamesNoVariant, Some(key.as_str()))?;
+            Ok(true)
         }
         Err(EvalFault::Memory) => Err(AllocError),
     }
+}
+
+fn put_comma(out: &mut Vec<u8>, later: bool) -> Result<(), AllocError>
+    ensures { OnOk result (out.new.items ≡ out.old.items ++ comma_if later) }
+{
+    if later {
+        out.push(b',')?;
+    }
+    Ok(())
 }

@@ -6,9 +6,12 @@ ghost use Rattle.fp_ofrep.specs.Response.{failure_response};
 ghost use Rattle.fp_ofrep.specs.Seen.{response_seen};
 
 use crate::failure::Failure;
-use crate::write::failure_text;
+use crate::write::put_failure;
 use http::StatusCode;
 use std::alloc::{AllocError, Global};
+
+// The body of a reply for one flag is begun with this room.
+pub(crate) const USUAL_ROOM: usize = 128;
 
 /// The headers of a reply.
 #[derive(Drop)]
@@ -40,7 +43,8 @@ pub(crate) fn failed(
     ensures { IfOk result
         (λ r. response_seen r ≡ failure_response failure (option_copied key.entry)) }
 {
-    let body = failure_text(alloc, failure, key)?;
+    let mut body = Vec::with_capacity(alloc, USUAL_ROOM)?;
+    put_failure(alloc, &mut body, failure, key)?;
     Ok(Reply {
         status: failure.status(),
         headers: Headers {

@@ -8,7 +8,6 @@ ghost use Rattle.fp_ofrep.specs.Response.{success_response};
 ghost use Rattle.serde_json.specs.Find.{as_object, get};
 ghost use Rattle.std.specs.Str.Lossy.{utf8_lossy};
 ghost use Rattle.fp_edit.specs.Flags.{State};
-ghost use Rattle.serde_json.specs.View.{view};
 ghost use Rattle.fp_base.specs.Ordered.{IsOrdered};
 ghost use Rattle.fp_base.specs.TreeView.{tree_view};
 ghost use Rattle.fp_base.specs.Whole.{is_whole};
@@ -17,12 +16,12 @@ ghost use Rattle.fp_ofrep.specs.Seen.{response_seen};
 ghost use Rattle.fp_ofrep.specs.Single.{after_body, reply_for_invalid_utf8, reply_for_decoded_key};
 ghost use Rattle.fp_ofrep.specs.Single.{evaluation_at, evaluation_of};
 ghost use Rattle.fp_ofrep.specs.Single.{flag_at, reply_with_key, response_of, single_reply};
-ghost use Rattle.fp_definition.specs.Resolving.{data_of, said_by};
+ghost use Rattle.fp_definition.specs.Resolving.{Said, data_of, spelled_by, spelling};
 
 use crate::context::read_context;
 use crate::failure::Failure;
-use crate::reply::{Headers, Reply, failed};
-use crate::write::success_text;
+use crate::reply::{Headers, Reply, USUAL_ROOM, failed};
+use crate::write::put_success;
 use fp_base::Tree;
 use fp_definition::{Definition, EvalFault, FlagKey, KeyFault, Resolved};
 use fp_edit::{Flag, FlagSet};
@@ -164,12 +163,12 @@ fn said_reply(
     definition: &Definition,
     said: &Resolved<'_>,
 ) -> Result<Reply, AllocError>
-    requires { is_whole (view said.now.value.now) ≡ true }
-    ensures { IfOk result (λ r. response_seen r
-        ≡ success_response revision None (compact_text (success (key_bytes key.now)
-        (get (codes "metadata") (data_of definition.now)) (said_by said.now)))) }
+    ensures { IfOk result (λ r. (s : Said) → spelled_by said.now ≡ spelling s
+        → response_seen r ≡ success_response revision None (compact_text
+        (success (key_bytes key.now) (get (codes "metadata") (data_of definition.now)) s))) }
 {
-    let body = success_text(alloc, key.as_str(), definition.metadata(), said)?;
+    let mut body = Vec::with_capacity(alloc, USUAL_ROOM)?;
+    put_success(alloc, &mut body, key.as_str(), definition.metadata(), said)?;
     Ok(Reply {
         status: StatusCode::OK,
         headers: Headers {

@@ -1,174 +1,117 @@
-//! Bodies, written straight as JSON.
+//! Bodies, put straight as JSON behind what is there.
 
-ghost use Rattle.std.specs.Prelude.{◌≡◌, ◌++◌, ◌∷◌, [], true, IfOk, IfSome, OnOk, option_map};
+ghost use Rattle.std.specs.Prelude.{◌≡◌, ◌++◌, ◌∷◌, [], true, OnOk, Option, codes, option_map};
 ghost use Rattle.std.specs.Option.{option_copied};
-ghost use Rattle.json.specs.Token.{key as key_token, string as string_token};
-ghost use Rattle.json.specs.Tree.{json_tokens, items_tokens, members_tokens};
-ghost use Rattle.serde_json.specs.Data.{Members as JsonMembers, object};
-ghost use Rattle.serde_json.specs.View.{view, items_view, members_view};
-ghost use Rattle.serde_json.specs.Written.{compact_text, outline, items_outline, members_outline};
-ghost use Rattle.fp_base.specs.Whole.{is_whole, items_whole, members_whole};
-ghost use Rattle.fp_definition.specs.Resolving.{said_by};
-ghost use Rattle.fp_ofrep.specs.Bodies.{failure as failure_data, success, reason_text};
-ghost use Rattle.fp_ofrep.specs.Bodies.{said_members, with_key, with_metadata};
+ghost use Rattle.json.specs.Print.{quoted};
+ghost use Rattle.serde_json.specs.Data.{Data, Members as JsonMembers};
+ghost use Rattle.serde_json.specs.Written.{compact_text, members_text};
+ghost use Rattle.fp_definition.specs.Resolving.{Said, spelled_by, spelling};
+ghost use Rattle.fp_ofrep.specs.Bodies.{failure as failure_data, reason_text, said_members};
+ghost use Rattle.fp_ofrep.specs.Bodies.{success, with_key, with_metadata};
 
 use crate::failure::Failure;
-use fp_base::write_value;
-use fp_definition::{Members, Reason, Resolved};
-use json::Writer;
+use fp_base::put_quoted;
+use fp_definition::{Reason, Resolved};
 use std::alloc::{AllocError, Global};
 
-/// The text of a failure.
-#[tactic(auto, using(crate::proofs::Written::text_of_tokens))]
-pub(crate) fn failure_text(
+/// Puts a failure.
+pub(crate) fn put_failure(
     alloc: Global,
-    failure: Failure,
-    key: Option<&str>,
-) -> Result<Vec<u8>, AllocError>
-    ensures { IfOk result (λ t.
-        t.items ≡ compact_text (failure_data failure (option_copied key.entry))) }
-{
-    let mut out = Writer::new(Vec::with_capacity(alloc, 128)?);
-    write_failure(&mut out, failure, key)?;
-    Ok(out.into_inner())
-}
-
-/// Writes a failure.
-pub(crate) fn write_failure(
-    out: &mut Writer,
+    out: &mut Vec<u8>,
     failure: Failure,
     key: Option<&str>,
 ) -> Result<(), AllocError>
-    ensures tokens { OnOk result (out.new.tokens ≡ out.old.tokens
-        ++ json_tokens (outline (failure_data failure (option_copied key.entry)))) }
-    ensures before { OnOk result (out.new.before ≡ out.old.before) }
+    ensures { OnOk result (out.new.items ≡ out.old.items
+        ++ compact_text (failure_data failure (option_copied key.entry))) }
 {
-    out.begin_object()?;
-    write_member(out, "errorCode", failure.code())?;
-    write_member(out, "errorDetails", failure.details())?;
-    end_failure(out, key)?;
-    Ok(())
+    put_text(alloc, out, b"{\"errorCode\":", failure.code())?;
+    put_text(alloc, out, b",\"errorDetails\":", failure.details())?;
+    end_failure(alloc, out, key)
 }
 
-// Writes the key, if there is one, and the end of the object.
-fn end_failure(out: &mut Writer, key: Option<&str>) -> Result<(), AllocError>
-    ensures tokens { OnOk result (out.new.tokens ≡ out.old.tokens
-        ++ members_tokens (members_outline (with_key (option_copied key.entry)))) }
-    ensures before { OnOk result (out.new.before ≡ out.old.before) }
+// Puts the key, if there is one, and the end of the object.
+fn end_failure(alloc: Global, out: &mut Vec<u8>, key: Option<&str>) -> Result<(), AllocError>
+    ensures { OnOk result (out.new.items
+        ≡ out.old.items ++ members_text true (with_key (option_copied key.entry))) }
 {
-    match key {
-        Some(key) => {
-            write_member(out, "key", key)?;
-            out.end_object()
-        }
-        None => out.end_object(),
+    if let Some(key) = key {
+        put_text(alloc, out, b",\"key\":", key)?;
     }
-}
-
-// Writes a member that is a text.
-fn write_member(out: &mut Writer, name: &str, text: &str) -> Result<(), AllocError>
-    ensures tokens { OnOk result (out.new.tokens
-        ≡ out.old.tokens ++ key_token name.now ∷ string_token text.now ∷ []) }
-    ensures before { OnOk result (out.new.before ≡ out.old.before) }
-{
-    out.key(name)?;
-    out.string(text)?;
+    out.push(b'}')?;
     Ok(())
 }
 
-fn reason_word(reason: Reason) -> &'static str
-    ensures { result.now ≡ reason_text reason }
+// Puts these bytes, and a text in quotes.
+fn put_text(
+    alloc: Global,
+    out: &mut Vec<u8>,
+    before: &[u8],
+    text: &str,
+) -> Result<(), AllocError>
+    ensures { OnOk result (out.new.items ≡ out.old.items ++ (before.now ++ quoted text.now)) }
+{
+    out.extend_from_slice(before)?;
+    put_quoted(alloc, out, text)
+}
+
+/// Puts what a flag resolved to, with the text of its metadata.
+pub(crate) fn put_success(
+    alloc: Global,
+    out: &mut Vec<u8>,
+    key: &str,
+    metadata: Option<&[u8]>,
+    said: &Resolved<'_>,
+) -> Result<(), AllocError>
+    ensures { OnOk result ((m : Option Data) (s : Said)
+        → option_map (λ t. t.now) metadata.entry ≡ option_map compact_text m
+        → spelled_by said.now ≡ spelling s
+        → out.new.items ≡ out.old.items ++ compact_text (success key.now m s)) }
+{
+    put_text(alloc, out, b"{\"key\":", key)?;
+    put_metadata(out, metadata)?;
+    end_success(alloc, out, said)
+}
+
+// Puts the member `metadata`, if there is one. Whatever members come after it, they are then what is
+// left to put.
+fn put_metadata(out: &mut Vec<u8>, metadata: Option<&[u8]>) -> Result<(), AllocError>
+    ensures { OnOk result ((m : Option Data) (ms : JsonMembers)
+        → option_map (λ t. t.now) metadata.entry ≡ option_map compact_text m
+        → out.new.items ++ members_text true ms
+        ≡ out.old.items ++ members_text true (with_metadata m ms)) }
+{
+    if let Some(text) = metadata {
+        out.extend_from_slice(b",\"metadata\":")?;
+        out.extend_from_slice(text)?;
+    }
+    Ok(())
+}
+
+// Puts reason, value and variant, and the end of the object.
+fn end_success(
+    alloc: Global,
+    out: &mut Vec<u8>,
+    said: &Resolved<'_>,
+) -> Result<(), AllocError>
+    ensures { OnOk result ((s : Said) → spelled_by said.now ≡ spelling s
+        → out.new.items ≡ out.old.items ++ members_text true (said_members s)) }
+{
+    out.extend_from_slice(before_value(said.reason))?;
+    out.extend_from_slice(said.value)?;
+    put_text(alloc, out, b",\"variant\":", said.variant)?;
+    out.push(b'}')?;
+    Ok(())
+}
+
+// The member `reason`, and the name of the one behind it.
+#[tactic(auto, unfolding(json::specs::Print::escape_byte))]
+fn before_value(reason: Reason) -> &'static [u8]
+    ensures { result.now ≡ 44 ∷ (quoted (codes "reason") ++ 58 ∷ (quoted (reason_text reason)
+        ++ 44 ∷ (quoted (codes "value") ++ 58 ∷ []))) }
 {
     match reason {
-        Reason::Static => "STATIC",
-        Reason::Default => "DEFAULT",
-        Reason::TargetingMatch => "TARGETING_MATCH",
+        Reason::Static => b",\"reason\":\"STATIC\",\"value\":",
+        Reason::Default => b",\"reason\":\"DEFAULT\",\"value\":",
+        Reason::TargetingMatch => b",\"reason\":\"TARGETING_MATCH\",\"value\":",
     }
-}
-
-/// The text of what a flag resolved to.
-#[tactic(auto, using(crate::proofs::Written::text_of_tokens))]
-pub(crate) fn success_text(
-    alloc: Global,
-    key: &str,
-    metadata: Option<&Members>,
-    said: &Resolved<'_>,
-) -> Result<Vec<u8>, AllocError>
-    requires value { is_whole (view said.now.value.now) ≡ true }
-    requires metadata { IfSome metadata (λ m. members_whole (members_view m.now) ≡ true) }
-    ensures { IfOk result (λ t. t.items ≡ compact_text
-        (success key.now (option_map (λ m. object (members_view m.now)) metadata.entry) (said_by said.now))) }
-{
-    let mut out = Writer::new(Vec::with_capacity(alloc, 128)?);
-    write_success(&mut out, key, metadata, said)?;
-    Ok(out.into_inner())
-}
-
-/// Writes what a flag resolved to.
-pub(crate) fn write_success(
-    out: &mut Writer,
-    key: &str,
-    metadata: Option<&Members>,
-    said: &Resolved<'_>,
-) -> Result<(), AllocError>
-    requires value { is_whole (view said.now.value.now) ≡ true }
-    requires metadata { IfSome metadata (λ m. members_whole (members_view m.now) ≡ true) }
-    ensures tokens { OnOk result (out.new.tokens ≡ out.old.tokens ++ json_tokens (outline
-        (success key.now (option_map (λ m. object (members_view m.now)) metadata.entry) (said_by said.now)))) }
-    ensures before { OnOk result (out.new.before ≡ out.old.before) }
-{
-    out.begin_object()?;
-    write_member(out, "key", key)?;
-    write_metadata(out, metadata)?;
-    end_success(out, said)?;
-    Ok(())
-}
-
-// Writes the member `metadata`, if there is one. Whatever members come after it, they are then what
-// is left to write.
-fn write_metadata(out: &mut Writer, metadata: Option<&Members>) -> Result<(), AllocError>
-    requires { IfSome metadata (λ m. members_whole (members_view m.now) ≡ true) }
-    ensures tokens { OnOk result ((ms : JsonMembers) → out.new.tokens ++ members_tokens
-        (members_outline ms) ≡ out.old.tokens ++ members_tokens (members_outline
-        (with_metadata (option_map (λ m. object (members_view m.now)) metadata.entry) ms))) }
-    ensures before { OnOk result (out.new.before ≡ out.old.before) }
-{
-    match metadata {
-        Some(members) => {
-            out.key("metadata")?;
-            write_members(out, members)?;
-            Ok(())
-        }
-        None => Ok(()),
-    }
-}
-
-// Writes an object of these members.
-fn write_members(out: &mut Writer, members: &Members) -> Result<(), AllocError>
-    requires { members_whole (members_view members.now) ≡ true }
-    ensures tokens { OnOk result (out.new.tokens
-        ≡ out.old.tokens ++ json_tokens (outline (object (members_view members.now)))) }
-    ensures before { OnOk result (out.new.before ≡ out.old.before) }
-{
-    out.begin_object()?;
-    for (name, value) in members.entries() {
-        out.key(name.as_str())?;
-        write_value(out, value)?;
-    }
-    out.end_object()
-}
-
-// Writes reason, value and variant, and the end of the object.
-fn end_success(out: &mut Writer, said: &Resolved<'_>) -> Result<(), AllocError>
-    requires { is_whole (view said.now.value.now) ≡ true }
-    ensures tokens { OnOk result (out.new.tokens
-        ≡ out.old.tokens ++ members_tokens (members_outline (said_members (said_by said.now)))) }
-    ensures before { OnOk result (out.new.before ≡ out.old.before) }
-{
-    write_member(out, "reason", reason_word(said.reason))?;
-    out.key("value")?;
-    write_value(out, said.value)?;
-    write_member(out, "variant", said.variant)?;
-    out.end_object()?;
-    Ok(())
 }
