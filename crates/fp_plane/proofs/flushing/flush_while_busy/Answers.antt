@@ -4,7 +4,7 @@ use Rattle.fp_committer.specs.CourseLaws.{course_then}
 use Rattle.fp_committer.proofs.Courses.{course_lists}
 use Rattle.fp_group_commit.specs.Store.{StoreState}
 use Rattle.fp_plane.proofs.Halls.{flushes_badly, flushes_well, ours_on}
-use Rattle.fp_plane.proofs.flushing.flush_all.Goals as goal
+use Rattle.fp_plane.proofs.flushing.flush_while_busy.Goals as goal
 
 pub returns-then-not-draw : goal.returns-then-not-draw
 returns-then-not-draw g c =
