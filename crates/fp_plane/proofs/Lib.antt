@@ -7,4 +7,4 @@ mod SendingLemmas
 pub mod Spawning
 pub mod StoreCrossing
 mod Halls
-mod Halves
+mod LyingLemmas

@@ -7,6 +7,7 @@ ghost use Rattle.fp_committer.specs.Course.{Course, LacksRoom, ListsOn};
 ghost use Rattle.fp_committer.specs.Way.{batch_drawn, batch_sealed, nothing_drawn};
 ghost use Rattle.fp_plane.specs.Flushing.{Flushes, IsResting};
 ghost use Rattle.fp_plane.specs.Hall.{IsStoreOf};
+ghost use Rattle.fp_plane.specs.declared.flushing.Lull.TheVariants.{Alone};
 
 use crate::gathering::{Gathering, Sealing};
 use crate::hall::Refusal;
@@ -40,7 +41,7 @@ pub struct Flushed<D: Disk + Drop> {
 /// Why a flusher lets the store's half lie: whoever was told last was alone, or the plane is to stop
 /// and nothing waits.
 #[derive(Debug, Drop, Clone, Copy, PartialEq, Eq)]
-pub(crate) enum Pause {
+pub(crate) enum Lull {
     Alone,
     Over,
 }
@@ -73,7 +74,7 @@ pub(crate) fn flush_while_busy<K, D, R>(
     plane: &Plane<K, R>,
     half: &mut StoreHalf<D>,
     gathering: &mut Gathering,
-) -> Result<Pause, Broken>
+) -> Result<Lull, Broken>
 where
     K: Naming,
     D: Disk,
@@ -91,12 +92,12 @@ where
     for _ in plane.shared.rt.forever() {
         plane.gather(gathering);
         if !plane.draw(half) {
-            return Ok(Pause::Over);
+            return Ok(Lull::Over);
         }
         flush(plane, half, gathering)?;
         take_step(&plane.shared.rt, half)?;
         if gathering.is_alone() {
-            return Ok(Pause::Alone);
+            return Ok(Lull::Alone);
         }
     }
     unreachable!()

@@ -6,7 +6,7 @@ ghost use Rattle.fp_committer.specs.StoreHalf.{StoreHalfState};
 ghost use Rattle.fp_plane.specs.Flushing.{Flushes, IsResting};
 ghost use Rattle.fp_plane.specs.Hall.{IsStoreOf};
 
-use crate::flushing::{Broken, Flushed, Pause, flush_while_busy, submit_and_flush, take_step};
+use crate::flushing::{Broken, Flushed, Lull, flush_while_busy, submit_and_flush, take_step};
 use crate::gathering::Gathering;
 use crate::hall::Refusal;
 use crate::naming::Naming;
@@ -23,9 +23,9 @@ use std::sync::Wait;
 use std::time::Clock;
 
 // A half, as the only element of a list.
-struct Alone;
+struct OnlyHalf;
 
-impl<D: Disk + Drop> Lists<OwnHalf<D>, OwnHalf<D>> for Alone {
+impl<D: Disk + Drop> Lists<OwnHalf<D>, OwnHalf<D>> for OnlyHalf {
     ghost items = { λ h. h ∷ [] };
 }
 
@@ -85,7 +85,7 @@ impl<K: Naming, D: Disk + Drop> Lying<K, D> {
         ensures began { result.1.log ≡ half ∷ [] }
     {
         let mut began = began;
-        let front = began.lengthen::<OwnHalf<D>, Alone>(&half);
+        let front = began.lengthen::<OwnHalf<D>, OnlyHalf>(&half);
         let half = half.into_half();
         half.rest();
         let lying = Lying {
@@ -157,8 +157,8 @@ impl<K: Naming, D: Disk + Drop> Lying<K, D> {
         let paused = flush_while_busy(plane, &mut self.half, &mut self.gathering);
         self.broken = paused.is_err();
         match paused {
-            Ok(Pause::Alone) => false,
-            Ok(Pause::Over) => true,
+            Ok(Lull::Alone) => false,
+            Ok(Lull::Over) => true,
             Err(Broken) => {
                 plane.break_off();
                 true
@@ -181,9 +181,16 @@ impl<K: Naming, D: Disk + Drop> Lying<K, D> {
             began: _began,
             of: _,
         } = self;
+        let half = OwnHalf::new(half);
+        if broken {
+            return Flushed {
+                half,
+                ended: Err(Broken),
+            };
+        }
         Flushed {
-            half: OwnHalf::new(half),
-            ended: if broken { Err(Broken) } else { Ok(()) },
+            half,
+            ended: Ok(()),
         }
     }
 }
