@@ -7,3 +7,4 @@ mod SendingLemmas
 pub mod Spawning
 pub mod StoreCrossing
 mod Halls
+mod LyingLemmas

@@ -7,12 +7,16 @@ use Rattle.std.proofs.alloc.Global.TheSendSync as heap
 use Rattle.std.proofs.marker.PhantomData.TheSendSync as phantom
 use Rattle.std.proofs.sync.Condvar.TheSendSync as condvar
 use Rattle.fp_disk.specs.declared.disk.Disk as disk
+use Rattle.fp_fronts.proofs.growing.Growing.TheSendSync as growing
 use Rattle.fp_plane.proofs.Crossing.{desk_half_sent}
 use Rattle.fp_plane.proofs.bells.Bells.TheSendSync as bells
+use Rattle.fp_plane.proofs.gathering.Gathering.TheSendSync as gathering
 use Rattle.fp_plane.proofs.PublishCrossing.{board_sent, evaluator_sent, seats_sent}
 use Rattle.fp_plane.proofs.StoreCrossing.{store_half_sent}
 use Rattle.fp_plane.specs.contracts.hall.Hall as hall
 use Rattle.fp_plane.specs.contracts.hall.Hall.TheInside as hall_inside
+use Rattle.fp_plane.specs.contracts.leading.Lying as lying
+use Rattle.fp_plane.specs.contracts.leading.Lying.TheInside as lying_inside
 use Rattle.fp_plane.specs.contracts.owned.OwnBoard as own_board
 use Rattle.fp_plane.specs.contracts.owned.OwnBoard.TheInside as own_board_inside
 use Rattle.fp_plane.specs.contracts.owned.OwnHalf as own_half
@@ -20,6 +24,7 @@ use Rattle.fp_plane.specs.contracts.owned.OwnHalf.TheInside as own_half_inside
 use Rattle.fp_plane.specs.contracts.flushing.Flushed as flushed
 use Rattle.fp_plane.specs.contracts.plane.Plane as plane
 use Rattle.fp_plane.specs.contracts.plane.Shared as shared
+use Rattle.fp_plane.specs.contracts.sealing.SealingPlane as sealing_plane
 use Rattle.fp_plane.specs.declared.naming.Naming as naming
 
 own_board_sent : (R : RattleType) → IsSend R → IsSend (own_board.the_row R)
@@ -61,6 +66,20 @@ module _ (K R : RattleType) (k : naming.Ghosts K.Denot) (sr : IsSend R) where
       recorded_sync _ _ _ T.to_one (struct_sync (shape T)
       (search (sendable, yr) depth 5, (search (sendable, crosses, hall_sent) depth 10, (condvar.the_field_sync, (bells.the_field_sync, (condvar.the_field_sync, tt))))))
 
+  pub plane_field_sent : IsSync R → IsSend (plane.the_field K R k).row
+  plane_field_sent yr = struct_send (shape (plane.the_type K R k)) (Arc-send _ shared_sent (shared_shared yr), tt)
+
   pub plane_sent : IsSync R → IsSend (plane.the_row K R k)
-  plane_sent yr = let T = plane.the_type K R k in
-      recorded_send _ _ _ T.to_one (struct_send (shape T) (Arc-send _ shared_sent (shared_shared yr), tt))
+  plane_sent yr = recorded_send _ _ _ (plane.the_type K R k).to_one (plane_field_sent yr)
+
+module _ (K D : RattleType) (k : naming.Ghosts K.Denot) (d : disk.Ghosts D.Denot) (sd : IsSend D) where
+  lying_sent : IsSend (lying.the_row K D k d)
+  lying_sent = let T = lying_inside.the_type K D k d in
+      view_send _ _ _ _ _ (recorded_send _ _ _ T.to_one (struct_send (shape T) (
+        store_half_sent D d sd,
+        (search sendable, (gathering.the_field_send, (search sendable, (search (sendable, growing.the_send) depth 10, (phantom.the_field_send K, tt))))),
+      )))
+
+  pub sealing_plane_sent : (R : RattleType) → IsSend R → IsSync R → IsSend (sealing_plane.the_row K D R k d)
+  sealing_plane_sent R sr yr = let T = sealing_plane.the_type K D R k d in
+      recorded_send _ _ _ T.to_one (struct_send (shape T) (plane_field_sent K R k sr yr, search (sendable, crosses, lying_sent) depth 20))

@@ -5,3 +5,4 @@ pub mod Sending
 pub mod Telling
 pub mod Flushing
 pub mod Outcomes
+pub mod Lying

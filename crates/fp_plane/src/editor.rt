@@ -18,15 +18,18 @@ ghost use Rattle.fp_plane.specs.declared.editor.EditorEnd.TheVariants.{HttpReque
 use crate::answer::{Answer, send_answer};
 use crate::hall::{GivenUp, Refusal};
 use crate::naming::Naming;
-use crate::plane::Plane;
+use crate::sealing::SealingPlane;
 use fp_desk::{SubmitFault, Ticket};
+use fp_disk::Disk;
 use fp_edit::{Edit, EditFault, LineFault};
 use fp_group_commit::Told;
 use fp_session::{EditSource, InputLines, Reply};
 use fp_streams::{FailureCounted, StreamFault};
+use log::Log;
 use std::alloc::Global;
 use std::io::{Read, Write};
 use std::sync::Wait;
+use std::time::Clock;
 
 /// How an editor's connection ended where neither stream failed.
 #[derive(Drop)]
@@ -43,15 +46,16 @@ pub enum EditorEnd {
 ///
 /// With the end, or the fault, comes the most that was told: no revision that it wrote is greater.
 /// Want of memory ends it where a line comes in; of an edit that was taken it always tells.
-pub fn editor_loop<K, R, I, O>(
-    plane: &Plane<K, R>,
+pub fn editor_loop<K, D, R, I, O>(
+    plane: &SealingPlane<K, D, R>,
     alloc: Global,
     r: &mut FailureCounted<I>,
     w: &mut FailureCounted<O>,
 ) -> Result<EditorEnd, (StreamFault, Option<Told>)>
 where
     K: Naming,
-    R: Wait + Drop,
+    D: Disk + Drop,
+    R: Wait + Clock + Log + Drop,
     I: Read,
     O: Write,
     // One line for each line read that gets one, in order, and the most that was told; or else the
@@ -88,8 +92,8 @@ where
 }
 
 // Answers all that a source asks, in order, and gives the most that was told.
-fn serve_source<K, R, S, A, O>(
-    plane: &Plane<K, R>,
+fn serve_source<K, D, R, S, A, O>(
+    plane: &SealingPlane<K, D, R>,
     alloc: Global,
     source: &mut A,
     stream: &mut S,
@@ -97,7 +101,8 @@ fn serve_source<K, R, S, A, O>(
 ) -> Result<Option<Told>, (StreamFault, Option<Told>)>
 where
     K: Naming,
-    R: Wait + Drop,
+    D: Disk + Drop,
+    R: Wait + Clock + Log + Drop,
     A: EditSource<S>,
     O: Write,
     ensures served { IfOk result (λ told. (all : List Ask) → A.asks source.old stream.old all
@@ -117,8 +122,8 @@ where
 }
 
 // Answers all that a source asks, in order, and keeps the most that was told.
-fn answer_all<K, R, S, A, O>(
-    plane: &Plane<K, R>,
+fn answer_all<K, D, R, S, A, O>(
+    plane: &SealingPlane<K, D, R>,
     alloc: Global,
     source: &mut A,
     stream: &mut S,
@@ -127,7 +132,8 @@ fn answer_all<K, R, S, A, O>(
 ) -> Result<(), StreamFault>
 where
     K: Naming,
-    R: Wait + Drop,
+    D: Disk + Drop,
+    R: Wait + Clock + Log + Drop,
     A: EditSource<S>,
     O: Write,
     requires none { told.old ≡ None }
@@ -158,8 +164,8 @@ where
 }
 
 // Answers what a line asks.
-fn answer<K, R, O>(
-    plane: &Plane<K, R>,
+fn answer<K, D, R, O>(
+    plane: &SealingPlane<K, D, R>,
     alloc: Global,
     asked: Result<Edit, LineFault>,
     told: &mut Option<Told>,
@@ -167,7 +173,8 @@ fn answer<K, R, O>(
 ) -> Result<(), StreamFault>
 where
     K: Naming,
-    R: Wait + Drop,
+    D: Disk + Drop,
+    R: Wait + Clock + Log + Drop,
     O: Write,
     ensures answered { OnOk result ((x : Ask) (all : List Ask) (before : Option (List ℕ))
         → AsksFor asked x → IsServed K.store told.old all before (O.contents w.old.inner)
@@ -180,14 +187,19 @@ where
     let (answer, more) = answer_to(plane, asked);
     keep_greater(told, more);
     send_answer(alloc, w, &answer)?;
+    plane.go_on();
     Ok(())
 }
 
 // The answer to what a line asks, and what was told of its edit.
-fn answer_to<K, R>(plane: &Plane<K, R>, asked: Result<Edit, LineFault>) -> (Answer, Option<Told>)
+fn answer_to<K, D, R>(
+    plane: &SealingPlane<K, D, R>,
+    asked: Result<Edit, LineFault>,
+) -> (Answer, Option<Told>)
 where
     K: Naming,
-    R: Wait + Drop,
+    D: Disk + Drop,
+    R: Wait + Clock + Log + Drop,
     ensures answer { (x : Ask) → AsksFor asked x → IsAnswerTo x (answer_of_code result.0) }
     ensures within { IsWithin result.1 (answer_of_code result.0) }
     ensures ours { IfSome result.1 (λ t. t.store ≡ K.store) }
@@ -207,10 +219,11 @@ enum Outcome {
 }
 
 // Waits for what becomes of an edit.
-fn outcome_of<K, R>(plane: &Plane<K, R>, edit: Edit) -> Outcome
+fn outcome_of<K, D, R>(plane: &SealingPlane<K, D, R>, edit: Edit) -> Outcome
 where
     K: Naming,
-    R: Wait + Drop,
+    D: Disk + Drop,
+    R: Wait + Clock + Log + Drop,
     ensures own { IsOutcomeOf (proposal_of edit) result }
     ensures ours { IsToldBy K.store result }
 {
@@ -218,7 +231,7 @@ where
         Ok(ticket) => ticket,
         Err((refusal, _)) => return Outcome::Refused(refusal),
     };
-    match plane.wait(ticket) {
+    match plane.plane().wait(ticket) {
         Ok((ticket, told, _)) => Outcome::Kept(ticket, told),
         Err(given_up) => Outcome::Unknown(given_up),
     }

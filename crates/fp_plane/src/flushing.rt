@@ -1,19 +1,27 @@
-//! The flusher: it draws and settles under the plane's lock, and calls the disk without it.
+//! Who seals draws and settles under the plane's lock, and calls the disk without it.
 
-ghost use Rattle.std.specs.Prelude.{◌≡◌, ◌⊎◌, ◌<◌, true, false, OnErr, OnOk};
+ghost use Rattle.std.specs.Prelude.{◌≡◌, ◌⊎◌, ◌<◌, ◌∷◌, [], true, false, IfErr, IfOk, OnErr, OnOk};
+ghost use Rattle.fp_committer.specs.StoreHalf.{StoreHalfState};
+ghost use Rattle.fp_edit.specs.Edits.{proposal_of};
 ghost use Rattle.fp_committer.specs.Course.{Course, LacksRoom, ListsOn};
 ghost use Rattle.fp_committer.specs.Way.{batch_drawn, batch_sealed, nothing_drawn};
 ghost use Rattle.fp_plane.specs.Flushing.{Flushes, IsResting};
 ghost use Rattle.fp_plane.specs.Hall.{IsStoreOf};
+ghost use Rattle.fp_plane.specs.declared.flushing.Lull.TheVariants.{Alone};
 
 use crate::gathering::{Gathering, Sealing};
+use crate::hall::Refusal;
 use crate::naming::Naming;
 use crate::owned::OwnHalf;
 use crate::pausing::pause;
 use crate::plane::Plane;
+use crate::sealing::SealingPlane;
 use crate::telling::Seen;
 use fp_committer::{CommitFault, StoreHalf};
+use fp_desk::Ticket;
 use fp_disk::Disk;
+use fp_edit::Edit;
+use fp_fronts::Front;
 use fp_log::{Event, tell};
 use log::Log;
 use std::sync::Wait;
@@ -30,57 +38,103 @@ pub struct Flushed<D: Disk + Drop> {
     pub ended: Result<(), Broken>,
 }
 
-/// Seals what is handed in, batch after batch, settles and shows it, and tells all who wait, until
-/// the plane is to stop and nothing waits, or sealing broke off. Compactions and a failure are told
-/// to who asked for it, once those who wait for the batch were told.
-pub fn flusher<K, D, R>(plane: &Plane<K, R>, half: OwnHalf<D>) -> Flushed<D>
+/// Why a flusher lets the store's half lie: whoever was told last was alone, or the plane is to stop
+/// and nothing waits.
+#[derive(Debug, Drop, Clone, Copy, PartialEq, Eq)]
+pub(crate) enum Lull {
+    Alone,
+    Over,
+}
+
+/// Seals what is handed in and no editor seals itself, batch after batch, settles and shows it, and
+/// tells all who wait, until the plane is to stop and nothing waits, or sealing broke off: its own or
+/// an editor's. Compactions and a failure are told to who asked for it, once those who wait for the
+/// batch were told.
+pub fn flusher<K, D, R>(plane: &SealingPlane<K, D, R>, began: Front<OwnHalf<D>>) -> Flushed<D>
 where
     K: Naming,
     D: Disk + Drop,
     R: Wait + Clock + Log + Drop,
-    requires ours { IsStoreOf K.store K.desk_lists K.store_lists half }
-    requires rest { IsResting half }
-    ensures { Flushes D.Disk half result.half result.ended }
+    requires { began.name ≡ K.beginning }
+    ensures { (first : StoreHalfState D) → began.log ≡ first ∷ [] →
+        Flushes D.Disk first result.half result.ended }
 {
-    let mut half = half.into_half();
-    let ended = flush_all(plane, &mut half);
-    let revision = half.store().revision();
-    if ended.is_err() {
-        plane.break_off();
+    let flushed = plane.flush_all(&began);
+    plane.plane().tell_all();
+    if flushed.ended.is_err() {
+        let revision = flushed.half.revision();
+        tell(&plane.plane().shared.rt, &Event::StoreFailed { revision });
     }
-    plane.tell_all();
-    if ended.is_err() {
-        tell(&plane.shared.rt, &Event::StoreFailed { revision });
-    }
-    Flushed {
-        half: OwnHalf::new(half),
-        ended,
-    }
+    flushed
 }
 
-// Seals, settles and shows all that is drawn, until the plane is to stop and nothing waits.
-fn flush_all<K, D, R>(plane: &Plane<K, R>, half: &mut StoreHalf<D>) -> Result<(), Broken>
+/// Seals, settles and shows all that is drawn, until whoever was told last was alone, or the plane is
+/// to stop and nothing waits.
+pub(crate) fn flush_while_busy<K, D, R>(
+    plane: &Plane<K, R>,
+    half: &mut StoreHalf<D>,
+    gathering: &mut Gathering,
+) -> Result<Lull, Broken>
 where
     K: Naming,
     D: Disk,
     R: Wait + Clock + Log + Drop,
     requires ours { IsStoreOf K.store K.desk_lists K.store_lists half.old }
     requires rest { IsResting half.old }
-    ensures { Flushes D.Disk half.old half.new result }
+    ensures course { Course D.Disk half.old half.new }
+    ensures rest { OnOk result (IsResting half.new) }
+    ensures no_failure { OnOk result
+        (D.faults half.new.store.disk ≡ D.faults half.old.store.disk) }
+    ensures cause { OnErr result ((D.faults half.old.store.disk < D.faults half.new.store.disk)
+        ⊎ LacksRoom D.Disk half.new) }
+    ensures alone { IfOk result (λ p. p ≡ Alone → gathering.new.alone ≡ true) }
 {
-    half.rest();
-    let mut gathering = Gathering::new();
     for _ in plane.shared.rt.forever() {
-        plane.gather(&mut gathering);
+        plane.gather(gathering);
         if !plane.draw(half) {
-            return Ok(());
+            return Ok(Lull::Over);
         }
-        flush(plane, half, &mut gathering)?;
+        flush(plane, half, gathering)?;
+        take_step(&plane.shared.rt, half)?;
+        if gathering.is_alone() {
+            return Ok(Lull::Alone);
+        }
     }
     unreachable!()
 }
 
-// Seals, settles and shows what is drawn, and then takes a step of a compaction where one is due.
+/// Hands an edit in, and seals it with all that waits, settles and shows it.
+pub(crate) fn submit_and_flush<K, D, R>(
+    plane: &Plane<K, R>,
+    half: &mut StoreHalf<D>,
+    gathering: &mut Gathering,
+    edit: Edit,
+) -> (Result<Ticket, (Refusal, Edit)>, Result<(), Broken>)
+where
+    K: Naming,
+    D: Disk,
+    R: Wait + Clock + Log + Drop,
+    requires ours { IsStoreOf K.store K.desk_lists K.store_lists half.old }
+    requires rest { IsResting half.old }
+    ensures refused { IfErr result.0 (λ e. e.0.edit ≡ proposal_of edit) }
+    ensures ticket { IfOk result.0 (λ t. (t.store ≡ K.store) × (t.edit ≡ proposal_of edit)) }
+    ensures given_back { IfErr result.0 (λ e. e.1 ≡ edit) }
+    ensures course { Course D.Disk half.old half.new }
+    ensures rest { OnOk result.1 (IsResting half.new) }
+    ensures no_failure { OnOk result.1
+        (D.faults half.new.store.disk ≡ D.faults half.old.store.disk) }
+    ensures cause { OnErr result.1 ((D.faults half.old.store.disk < D.faults half.new.store.disk)
+        ⊎ LacksRoom D.Disk half.new) }
+{
+    let (submitted, drawn) = plane.submit_and_draw(edit, half);
+    if !drawn {
+        return (submitted, Ok(()));
+    }
+    let flushed = flush(plane, half, gathering);
+    (submitted, flushed)
+}
+
+// Seals, settles and shows what is drawn.
 fn flush<K, D, R>(
     plane: &Plane<K, R>,
     half: &mut StoreHalf<D>,
@@ -107,7 +161,6 @@ where
     let taken = sealing.taken(&plane.shared.rt);
     let waiting = plane.settle(half);
     gathering.note_told(told, waiting, taken);
-    compact_on(half)?;
     before.tell_since(&plane.shared.rt, half.store());
     Ok(())
 }
@@ -132,6 +185,24 @@ fn seal<D: Disk, R: Wait + Clock>(rt: &R, half: &mut StoreHalf<D>) -> Result<(),
         }
     }
     unreachable!()
+}
+
+/// Takes a step of a compaction, where one is due, and tells what began or ended by it.
+pub(crate) fn take_step<D, R>(rt: &R, half: &mut StoreHalf<D>) -> Result<(), Broken>
+where
+    D: Disk,
+    R: Log,
+    requires rest { IsResting half.old }
+    ensures course { Course D.Disk half.old half.new }
+    ensures rest { OnOk result (IsResting half.new) }
+    ensures no_failure { OnOk result
+        (D.faults half.new.store.disk ≡ D.faults half.old.store.disk) }
+    ensures cause { OnErr result (D.faults half.old.store.disk < D.faults half.new.store.disk) }
+{
+    let before = Seen::of(half.store());
+    compact_on(half)?;
+    before.tell_since(rt, half.store());
+    Ok(())
 }
 
 // Takes a step of a compaction, where one is due. Where memory is wanting for it, none is taken.
@@ -221,8 +292,8 @@ impl<K: Naming, R: Wait + Clock + Drop> Plane<K, R> {
         self.shared.news.notify_all();
     }
 
-    // Wakes all who wait for the flusher.
-    fn tell_all(&self) {
+    /// Wakes all who wait for what is sealed.
+    pub(crate) fn tell_all(&self) {
         self.shared.bells.ring_all();
         self.shared.news.notify_all();
     }
@@ -240,8 +311,55 @@ impl<K: Naming, R: Wait + Clock + Drop> Plane<K, R> {
         }
     }
 
-    // No batch is drawn any more, since sealing broke off.
-    fn break_off(&self) {
+    /// No batch is drawn any more, since sealing broke off. Wakes all who wait, and the flusher.
+    pub(crate) fn break_off(&self) {
         self.shared.hall.lock(&self.shared.rt).break_off();
+        self.tell_all();
+        self.shared.work.notify_all();
+    }
+
+    /// Waits until an edit waits, the plane is to stop, or sealing broke off.
+    pub(crate) fn await_work(&self) {
+        let shared = &self.shared;
+        let mut hall = shared.hall.lock(&shared.rt);
+        for _ in shared.rt.forever() {
+            if hall.waiting_count() > 0 || hall.is_closing() || hall.is_over() {
+                return;
+            }
+            hall = shared.work.wait(&shared.rt, hall);
+        }
+        unreachable!()
+    }
+
+    // Hands an edit in, and draws it with all that waits. Where memory is wanting for the draw, the
+    // flusher is woken, which tries again.
+    fn submit_and_draw<D: Disk>(
+        &self,
+        edit: Edit,
+        half: &mut StoreHalf<D>,
+    ) -> (Result<Ticket, (Refusal, Edit)>, bool)
+        requires ours { IsStoreOf K.store K.desk_lists K.store_lists half.old }
+        requires none { half.old.progress ≡ nothing_drawn }
+        ensures refused { IfErr result.0 (λ e. e.0.edit ≡ proposal_of edit) }
+        ensures ticket { IfOk result.0 (λ t. (t.store ≡ K.store) × (t.edit ≡ proposal_of edit)) }
+        ensures given_back { IfErr result.0 (λ e. e.1 ≡ edit) }
+        ensures drawn { result.1 ≡ true → (half.new.progress ≡ batch_drawn)
+            × ListsOn D.Disk half.old half.new }
+        ensures none { result.1 ≡ false → half.new ≡ half.old }
+    {
+        let shared = &self.shared;
+        half.rest();
+        let mut hall = shared.hall.lock(&shared.rt);
+        let ticket = match hall.submit(edit) {
+            Ok(ticket) => ticket,
+            Err(refused) => return (Err(refused), false),
+        };
+        if let Ok(Some(_)) = hall.draw(half) {
+            half.rest();
+            return (Ok(ticket), true);
+        }
+        drop(hall);
+        shared.work.notify_one();
+        (Ok(ticket), false)
     }
 }

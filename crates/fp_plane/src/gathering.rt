@@ -1,6 +1,6 @@
 //! How a flusher lets those whom it has just told come back before it draws again.
 
-ghost use Rattle.std.specs.Prelude.{◌≡◌, ◌<◌, ◌≤◌, ◌+◌, ◌-◌, length, true, false};
+ghost use Rattle.std.specs.Prelude.{◌≡◌, ◌⊎◌, ◌<◌, ◌≤◌, ◌+◌, ◌-◌, length, true, false, MatchBool};
 ghost use Rattle.fp_plane.specs.declared.gathering.TheConstants.{MOST_AWAITED};
 
 use crate::naming::Naming;
@@ -24,6 +24,8 @@ const MOST_SKIPPED: u32 = 64;
 #[derive(Debug, Drop, Clone, Copy, PartialEq, Eq)]
 pub struct Gathering {
     wanted: usize,
+    // Whether who was told last was alone.
+    alone: bool,
     most: Duration,
     // Before so many draws nobody is waited for; and before how many, where somebody doesn't come again.
     skipped: u32,
@@ -66,10 +68,12 @@ impl Sealing {
 impl Gathering {
     /// Nobody was told yet.
     pub fn new() -> Gathering
-        ensures { result.wanted ≡ 0 }
+        ensures wanted { result.wanted ≡ 0 }
+        ensures alone { result.alone ≡ true }
     {
         Gathering {
             wanted: 0,
+            alone: true,
             most: Duration::ZERO,
             skipped: 0,
             next: 1,
@@ -84,10 +88,13 @@ impl Gathering {
         ensures large { MOST_AWAITED < told → self.new.wanted ≡ 0 }
         ensures busy { MOST_AWAITED < waiting → self.new.wanted ≡ 0 }
         ensures alone { told + waiting ≤ 1 → self.new.wanted ≡ 0 }
+        ensures by_itself { MatchBool self.new.alone ((told ≤ 1) × (waiting ≡ 0))
+            ((1 < told) ⊎ (0 < waiting)) }
         ensures most { self.new.most ≡ taken }
         ensures rest { self.new.skipped ≡ self.old.skipped }
     {
         self.most = taken;
+        self.alone = told <= 1 && waiting == 0;
         self.wanted = 0;
         if told > MOST_AWAITED || waiting > MOST_AWAITED {
             return;
@@ -96,6 +103,13 @@ impl Gathering {
         if all > 1 {
             self.wanted = all;
         }
+    }
+
+    /// Whether the last batch had one edit alone and nobody waited behind it, or there was none yet.
+    pub fn is_alone(&self) -> bool
+        ensures { result ≡ self.now.alone }
+    {
+        self.alone
     }
 
     /// For how many edits is waited before this draw.

@@ -7,10 +7,12 @@ mod editor;
 mod flushing;
 mod gathering;
 mod hall;
+mod leading;
 mod naming;
 mod owned;
 mod pausing;
 mod plane;
+mod sealing;
 mod subscriber;
 mod telling;
 
@@ -20,4 +22,5 @@ pub use hall::{EvaluatorsUsed, GivenUp, Hall, Refusal};
 pub use naming::Naming;
 pub use owned::OwnHalf;
 pub use plane::Plane;
+pub use sealing::SealingPlane;
 pub use subscriber::{SubscriberFault, subscriber_loop};

@@ -2,7 +2,7 @@
 
 ghost use Rattle.fp_committer.specs.Halves.{Names};
 ghost use Rattle.fp_group_commit.specs.Tokens.{Identity, first_of};
-ghost use Rattle.std.specs.Prelude.{[]};
+ghost use Rattle.std.specs.Prelude.{[], ℕ};
 
 use std::marker::Brand;
 
@@ -15,6 +15,9 @@ pub trait Naming {
     ghost desk_lists: { Names };
 
     ghost store_lists: { Names };
+
+    // The list that has the store's half as the plane began with it.
+    ghost beginning: { ℕ };
 }
 
 impl Naming for Brand {
@@ -23,4 +26,6 @@ impl Naming for Brand {
     ghost desk_lists = { record { all = 0; settled = 0 } };
 
     ghost store_lists = { record { all = 0; settled = 0 } };
+
+    ghost beginning = { 0 };
 }

@@ -116,6 +116,11 @@ impl<D: Disk + Drop> OwnHalf<D> {
         OwnHalf { half }
     }
 
+    /// The last revision that is sealed.
+    pub fn revision(&self) -> u64 {
+        self.half.store().revision()
+    }
+
     /// Gives the half back.
     pub fn into_half(self) -> StoreHalf<D>
         ensures { result ≡ self }

@@ -9,7 +9,8 @@ use crate::probing::probe_peers;
 use crate::roles::{Role, converse};
 use fp_http::TimeLimits;
 use fp_log::{Event, Port, tell, tell_failure};
-use fp_plane::{Naming, Plane};
+use fp_disk::Disk;
+use fp_plane::{Naming, SealingPlane};
 use std::alloc::AllocError;
 use std::net::{IpAddr, Ipv4Addr, Shutdown, SocketAddr, SocketAddrV4, TcpListener, TcpStream};
 use std::time::Duration;
@@ -47,9 +48,10 @@ impl<R: Host> Listening<R> {
     }
 
     /// Accepts connections in a thread of its own, and serves each in one more.
-    pub fn start<K>(&mut self, plane: &Plane<K, R>) -> io::Result<()>
+    pub fn start<K, D>(&mut self, plane: &SealingPlane<K, D, R>) -> io::Result<()>
     where
         K: Naming + Send + Sync + 'static,
+        D: Disk + Drop + Send + 'static,
     {
         let Some(listener) = self.listener.take() else {
             return Ok(());
@@ -124,16 +126,17 @@ fn reached(bound: SocketAddr) -> SocketAddr {
 }
 
 // Lets connections in until they are closed.
-fn accept<K, R>(
+fn accept<K, D, R>(
     rt: &R,
     listener: &TcpListener,
     role: Role,
     limits: TimeLimits,
     connections: &Connections<R>,
-    plane: &Plane<K, R>,
+    plane: &SealingPlane<K, D, R>,
 )
 where
     K: Naming + Send + Sync + 'static,
+    D: Disk + Drop + Send + 'static,
     R: Host,
 {
     for _ in rt.forever() {
@@ -156,37 +159,39 @@ where
 const PATIENCE: u64 = 250;
 
 // A place for a connection, which one that was left makes free.
-fn place_for<K, R>(
+fn place_for<K, D, R>(
     stream: &TcpStream,
     role: Role,
     connections: &Connections<R>,
-    plane: &Plane<K, R>,
+    plane: &SealingPlane<K, D, R>,
 ) -> Option<Place<R>>
 where
     K: Naming,
+    D: Disk + Drop,
     R: Host,
 {
     if let Some(place) = connections.admit(stream) {
         return Some(place);
     }
     if role == Role::Snapshots {
-        plane.look_who_left();
+        plane.plane().look_who_left();
     }
     connections.admit_within(stream, Duration::from_millis(PATIENCE))
 }
 
 // Serves a connection in a thread of its own. Where there is no place for it, it is closed.
-fn begin<K, R>(
+fn begin<K, D, R>(
     rt: &R,
     stream: TcpStream,
     peer: SocketAddr,
     role: Role,
     limits: TimeLimits,
     connections: &Connections<R>,
-    plane: &Plane<K, R>,
+    plane: &SealingPlane<K, D, R>,
 ) -> Result<(), AllocError>
 where
     K: Naming + Send + Sync + 'static,
+    D: Disk + Drop + Send + 'static,
     R: Host,
 {
     let port = role.port();

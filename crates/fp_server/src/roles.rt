@@ -7,7 +7,8 @@ use crate::noted::Noted;
 use crate::serving::moment;
 use fp_http::{Blocking, TimeLimits, serve_ofrep};
 use fp_log::Port;
-use fp_plane::{EditorEnd, Naming, Plane, SubscriberFault, editor_loop, subscriber_loop};
+use fp_disk::Disk;
+use fp_plane::{EditorEnd, Naming, Plane, SealingPlane, SubscriberFault, editor_loop, subscriber_loop};
 use fp_publish::{MOST_EVALUATORS, MOST_SEATS};
 use fp_stream::HelloFault;
 use fp_streams::{FailureCounted, StreamFault};
@@ -52,24 +53,25 @@ impl Role {
 }
 
 /// Serves a connection to its end, and tells why it ended. A fault of it ends it alone.
-pub fn converse<K, R>(
+pub fn converse<K, D, R>(
     rt: &R,
     role: Role,
     limits: TimeLimits,
-    plane: &Plane<K, R>,
+    plane: &SealingPlane<K, D, R>,
     stream: TcpStream,
 ) -> Ended
 where
     K: Naming,
+    D: Disk + Drop,
     R: Host,
 {
     // A reply is small, and waits for nothing behind it.
     let _ = stream.set_nodelay(true);
     let _ = stream.set_write_timeout(Some(limits.reply));
     match role {
-        Role::Evaluations => evaluate(rt, limits, plane, stream),
+        Role::Evaluations => evaluate(rt, limits, plane.plane(), stream),
         Role::Edits => edit(rt, plane, &stream),
-        Role::Snapshots => subscribe(plane, &stream),
+        Role::Snapshots => subscribe(plane.plane(), &stream),
     }
 }
 
@@ -99,9 +101,10 @@ where
     }
 }
 
-fn edit<K, R>(rt: &R, plane: &Plane<K, R>, stream: &TcpStream) -> Ended
+fn edit<K, D, R>(rt: &R, plane: &SealingPlane<K, D, R>, stream: &TcpStream) -> Ended
 where
     K: Naming,
+    D: Disk + Drop,
     R: Host,
 {
     // A reply goes in one packet.

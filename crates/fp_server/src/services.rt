@@ -10,7 +10,8 @@ use crate::listening::Listening;
 use crate::roles::Role;
 use fp_commands::CommandFault;
 use fp_http::TimeLimits;
-use fp_plane::{Naming, Plane};
+use fp_disk::Disk;
+use fp_plane::{Naming, SealingPlane};
 use fp_streams::{FailureCounted, StreamFault};
 use std::io;
 use std::io::{ErrorKind, Read, Write};
@@ -49,9 +50,10 @@ impl<R: Host> Services<R> {
         })
     }
 
-    fn start<K>(&mut self, plane: &Plane<K, R>) -> io::Result<()>
+    fn start<K, D>(&mut self, plane: &SealingPlane<K, D, R>) -> io::Result<()>
     where
         K: Naming + Send + Sync + 'static,
+        D: Disk + Drop + Send + 'static,
     {
         self.ofrep.start(plane)?;
         self.edit.start(plane)?;
@@ -59,14 +61,15 @@ impl<R: Host> Services<R> {
     }
 
     /// Lets connections in, says where, and waits for the input's end.
-    pub fn attend<K, I, O>(
+    pub fn attend<K, D, I, O>(
         &mut self,
-        plane: &Plane<K, R>,
+        plane: &SealingPlane<K, D, R>,
         r: &mut FailureCounted<I>,
         w: &mut FailureCounted<O>,
     ) -> Result<(), CommandFault>
     where
         K: Naming + Send + Sync + 'static,
+        D: Disk + Drop + Send + 'static,
         I: Read,
         O: Write,
         ensures said { OnOk result (SaysWhere (O.contents w.old.inner) (O.contents w.new.inner)) }

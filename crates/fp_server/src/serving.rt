@@ -1,6 +1,6 @@
 //! A store over sockets, from its opening to its end.
 
-ghost use Rattle.std.specs.Prelude.{◌≡◌, ◌+◌, ◌<◌, ◌^◌, IfOk, IfErr, Ok, OnOk, codes};
+ghost use Rattle.std.specs.Prelude.{◌≡◌, ◌+◌, ◌<◌, ◌^◌, [], IfOk, IfErr, Ok, OnOk, codes};
 ghost use Rattle.std.specs.FinMap as map;
 ghost use Rattle.std.specs.Io.KnownBytes.{IsAtEnd};
 ghost use Rattle.fp_commands.specs.declared.fault.CommandFault.TheVariants.{StoreFailed};
@@ -22,7 +22,8 @@ use fp_files::DiskFiles;
 use fp_group_commit::{Opening, Store};
 use fp_http::TimeLimits;
 use fp_log::{Event, tell};
-use fp_plane::{Flushed, Naming, OwnHalf, Plane, flusher};
+use fp_fronts::Growing;
+use fp_plane::{Flushed, Naming, OwnHalf, Plane, SealingPlane, flusher};
 use fp_streams::FailureCounted;
 use std::io::{Read, Write};
 use std::marker::Brand;
@@ -155,7 +156,8 @@ where
         Err((fault, store, _)) => return Err((fault.into(), store)),
     };
     half.rest();
-    match serve_named::<Brand, D, R, I, O>(rt, desk, half, services, r, w) {
+    let (began, _) = Growing::new();
+    match serve_named::<Brand, D, R, I, O>(rt, desk, half, began, services, r, w) {
         Ok(half) => {
             half.rest();
             Ok(half.into_store())
@@ -190,6 +192,7 @@ fn serve_named<K, D, R, I, O>(
     rt: &R,
     desk: DeskHalf,
     half: StoreHalf<D>,
+    began: Growing<OwnHalf<D>>,
     services: Services<R>,
     r: &mut FailureCounted<I>,
     w: &mut FailureCounted<O>,
@@ -204,6 +207,8 @@ where
     requires fresh { IsNewDesk desk.desk }
     requires half { IsStoreOf K.store K.desk_lists K.store_lists half }
     requires rest { IsResting half }
+    requires named { began.name ≡ K.beginning }
+    requires new { began.log ≡ [] }
     ensures well { IfOk result (λ h. Flushes D.Disk half h (Ok tt)) }
     ensures broken { IfErr result (λ e. IsBrokenOff D.Disk half e.1 e.0) }
     ensures fault { IfErr result (λ e. IsServingFault e.0) }
@@ -217,21 +222,26 @@ where
         Ok(plane) => plane,
         Err(fault) => return Err((fault.into(), half)),
     };
+    let plane: SealingPlane<K, D, R> = match SealingPlane::new(rt.alloc(), plane) {
+        Ok(plane) => plane,
+        Err(fault) => return Err((fault.into(), half)),
+    };
     let Ok(flushed) = plane.try_copy() else {
         return Err((CommandFault::Memory, half));
     };
     let own = OwnHalf::new(half);
     let promise = FlushesFrom(Snapshot::of(&own));
+    let began = plane.begin(own, began);
     let flush = move || {
-        let own = own;
-        flusher(&flushed, own)
+        let began = began;
+        flusher(&flushed, began)
     };
     match thread::spawn_with(rt, promise, flush) {
         Ok(flusher) => serve_plane(rt, &plane, flusher, services, r, w),
         Err(refused) => {
             // What the thread was to do is done here: with nothing to seal it gives the half back.
             tell(rt, &Event::NotStarted { thread: "flusher" });
-            plane.close();
+            plane.plane().close();
             let flush = refused.value;
             Err((CommandFault::Device, flush().half.into_half()))
         }
@@ -251,7 +261,7 @@ impl<D: Disk + Drop> Promise<Flushed<D>> for FlushesFrom<D> {
 // Serves a plane, whose flusher runs, until the input ends.
 fn serve_plane<K, D, R, I, O>(
     rt: &R,
-    plane: &Plane<K, R>,
+    plane: &SealingPlane<K, D, R>,
     flusher: PromisedHandle<Flushed<D>, FlushesFrom<D>>,
     services: Services<R>,
     r: &mut FailureCounted<I>,
@@ -274,7 +284,7 @@ where
     let mut services = services;
     let attended = services.attend(plane, r, w);
     services.stop_reading();
-    plane.close();
+    plane.plane().close();
     let Flushed { half, ended } = flusher.join(rt);
     services.end();
     match (attended, ended) {

@@ -6,12 +6,7 @@ use Rattle.fp_plane.proofs.flushing.flush.Goals as goal
 pub settle-waiting-requires-clause-ours : goal.settle-waiting-requires-clause-ours
 settle-waiting-requires-clause-ours g c = let k = g.K.Naming in ours_on g.D.Disk k.store k.desk_lists k.store_lists c.args.half.now c.seal.new.half c.seal.ensures.course c.requires.ours
 
-pub returns-in_err-compact_on-clause-course : goal.returns-in_err-compact_on-clause-course
-returns-in_err-compact_on-clause-course g c =
-    let D = g.D.Disk in let a = c.args.half.now in let b = c.seal.new.half in let d = c.settle-waiting.new.half in
-    course_then D a d c.compact_on.new.half (course_then D a b d c.seal.ensures.course (course_lists D b d c.settle-waiting.ensures.settled)) c.compact_on.ensures.course
-
 pub returns-clause-course : goal.returns-clause-course
 returns-clause-course g c =
     let D = g.D.Disk in let a = c.args.half.now in let b = c.seal.new.half in let d = c.settle-waiting.new.half in
-    course_then D a d c.compact_on.new.half (course_then D a b d c.seal.ensures.course (course_lists D b d c.settle-waiting.ensures.settled)) c.compact_on.ensures.course
+    course_then D a b d c.seal.ensures.course (course_lists D b d c.settle-waiting.ensures.settled)

@@ -5,7 +5,9 @@ use denote.Param.Send.{arg_send, param_send}
 use Rattle.fp_commands.specs.declared.fault.CommandFault.{CommandFault}
 use Rattle.fp_commands.specs.declared.fault.CommandFault.TheVariants.{Device, Memory, StoreFailed}
 use Rattle.fp_plane.specs.Flushing.{Flushes}
-use Rattle.fp_plane.proofs.PlaneCrossing.{flushed_sent, own_half_sent, plane_sent}
+use Rattle.fp_fronts.proofs.growing.Front.TheSendSync as front
+use Rattle.fp_plane.proofs.PlaneCrossing.{flushed_sent, sealing_plane_sent}
+use Rattle.fp_plane.specs.contracts.owned.OwnHalf as own_half
 use Rattle.fp_plane.proofs.Spawning.{spawned, ◌and◌, nothing}
 use Rattle.fp_server.proofs.EndsLemmas.{untouched_half}
 use Rattle.fp_server.proofs.serving.serve_named.Goals as goal
@@ -13,8 +15,9 @@ use Rattle.fp_server.proofs.serving.serve_named.Goals as goal
 pub spawn_with-requires-send-F : goal.spawn_with-requires-send-F
 spawn_with-requires-send-F g c κs within =
     let b = c.type_bounds in
-    spawned 2 _ _ (own_half_sent (param 1 g.row.D) g.D.Disk b.send-D
-    and plane_sent (param 0 g.row.K) (copied 2 g.row.R) g.K.Naming b.send-R b.sync-R and nothing)
+    let D = param 1 g.row.D in
+    spawned 2 _ _ (front.the_send (own_half.the_row D g.D.Disk)
+    and sealing_plane_sent (param 0 g.row.K) D g.K.Naming g.D.Disk b.send-D (copied 2 g.row.R) b.send-R b.sync-R and nothing)
 
 pub spawn_with-requires-send-T : goal.spawn_with-requires-send-T
 spawn_with-requires-send-T g c κs within = param_send 3 _ (arg_send _ no _ (flushed_sent (param 1 g.row.D) g.D.Disk c.type_bounds.send-D))

@@ -1,7 +1,7 @@
 use denote.Param.{copied, param}
 use Rattle.std.proofs.net.tcp.TcpListener.TheSendSync as listener
 use Rattle.fp_http.proofs.limits.TimeLimits.TheSendSync as limits
-use Rattle.fp_plane.proofs.PlaneCrossing.{plane_sent}
+use Rattle.fp_plane.proofs.PlaneCrossing.{sealing_plane_sent}
 use Rattle.fp_plane.proofs.Spawning.{spawned, ◌and◌, nothing}
 use Rattle.fp_server.proofs.connections.Connections.TheSendSync as connections
 use Rattle.fp_server.proofs.roles.Role.TheSendSync as role
@@ -13,5 +13,5 @@ spawn-started-requires-send-F g c κs within =
     let R = copied 0 g.row.R in
     spawned 1 _ _ (b.send-R and listener.the_send and role.the_send and limits.the_send
     and connections.the_send R b.send-R b.sync-R
-    and plane_sent (param 1 g.row.K) R g.K.Naming b.send-R b.sync-R
+    and sealing_plane_sent (param 1 g.row.K) (param 2 g.row.D) g.K.Naming g.D.Disk b.send-D R b.send-R b.sync-R
     and nothing)

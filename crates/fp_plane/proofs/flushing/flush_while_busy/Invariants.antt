@@ -2,7 +2,7 @@ use Rattle.std.proofs.Common.{◌≡◌}
 use Rattle.fp_committer.specs.Course.{Course}
 use Rattle.fp_plane.specs.Flushing.{IsResting}
 use Rattle.fp_plane.specs.Hall.{IsStoreOf}
-use Rattle.fp_plane.proofs.flushing.flush_all.Given as goal
+use Rattle.fp_plane.proofs.flushing.flush_while_busy.Given as goal
 
 -- the half came this far, and is the plane's
 abbrev pub invariant-loop : goal.invariant-loop

@@ -1,0 +1,196 @@
+//! The store's half of a plane where nobody seals, and who seals by it.
+
+ghost use Rattle.std.specs.Prelude.{◌≡◌, ◌∷◌, [], true, false, IfOk, IfErr};
+ghost use Rattle.fp_edit.specs.Edits.{proposal_of};
+ghost use Rattle.fp_committer.specs.StoreHalf.{StoreHalfState};
+ghost use Rattle.fp_plane.specs.Flushing.{Flushes, IsResting};
+ghost use Rattle.fp_plane.specs.Hall.{IsStoreOf};
+
+use crate::flushing::{Broken, Flushed, Lull, flush_while_busy, submit_and_flush, take_step};
+use crate::gathering::Gathering;
+use crate::hall::Refusal;
+use crate::naming::Naming;
+use crate::owned::OwnHalf;
+use crate::plane::Plane;
+use fp_committer::StoreHalf;
+use fp_desk::Ticket;
+use fp_disk::Disk;
+use fp_edit::Edit;
+use fp_fronts::{Front, Growing, Lists};
+use log::Log;
+use std::marker::{Model, PhantomData};
+use std::sync::Wait;
+use std::time::Clock;
+
+// A half, as the only element of a list.
+struct OnlyHalf;
+
+impl<D: Disk + Drop> Lists<OwnHalf<D>, OwnHalf<D>> for OnlyHalf {
+    ghost items = { λ h. h ∷ [] };
+}
+
+/// The store's half of a plane where nobody seals. It lies under a lock of its own, and who takes that
+/// lock seals: the flusher, or an editor that is alone.
+pub(crate) struct Lying<K: Naming, D: Disk + Drop> {
+    half: StoreHalf<D>,
+    broken: bool,
+    gathering: Gathering,
+    // Whether no step of a compaction was taken behind the last batch of an editor.
+    owes_step: bool,
+    // The half that the plane began with, as the one element of its list.
+    began: Growing<OwnHalf<D>>,
+    of: PhantomData<K>,
+}
+
+impl<K: Naming, D: Disk + Drop> Model for Lying<K, D> {
+    ghost use Rattle.std.specs.Coded.{codes};
+    ghost use Rattle.std.specs.Prelude.{◌≡◌};
+    ghost use Rattle.fp_edit.specs.Flags.{coded_state};
+    ghost use Rattle.fp_group_commit.specs.Changes.{coded_change};
+    ghost use Rattle.fp_plane.specs.Lying.{IsLeft, LyingState};
+
+    ghost Value = { LyingState D };
+
+    ghost coded = { Prim.hlevel (codes, coded_state, coded_change) };
+
+    ghost view = { λ l. record { half = l.half; broken = l.broken; alone = l.gathering.alone } };
+
+    ghost invariant = { λ l. (l.began.name ≡ K.beginning)
+        × IsLeft D.Disk K.store K.desk_lists K.store_lists l.half l.broken l.began.log };
+}
+
+impl<K: Naming, D: Disk + Drop> Drop for Lying<K, D> {
+    fn drop(self) {
+        let Self {
+            half,
+            broken: _,
+            gathering: _,
+            owes_step: _,
+            began: _began,
+            of: _,
+        } = self;
+        drop(half.into_disk());
+    }
+}
+
+impl<K: Naming, D: Disk + Drop> Lying<K, D> {
+    /// The half as a plane begins with it. The front names it for good.
+    pub fn new(half: OwnHalf<D>, began: Growing<OwnHalf<D>>) -> (Lying<K, D>, Front<OwnHalf<D>>)
+        requires ours { IsStoreOf K.store K.desk_lists K.store_lists half }
+        requires rest { IsResting half }
+        requires named { began.name ≡ K.beginning }
+        requires fresh { began.log ≡ [] }
+        ensures lies { result.0 ≡ record { half = half; broken = false; alone = true } }
+        ensures named { result.1.name ≡ K.beginning }
+        ensures began { result.1.log ≡ half ∷ [] }
+    {
+        let mut began = began;
+        let front = began.lengthen::<OwnHalf<D>, OnlyHalf>(&half);
+        let half = half.into_half();
+        half.rest();
+        let lying = Lying {
+            half,
+            broken: false,
+            gathering: Gathering::new(),
+            owes_step: false,
+            began,
+            of: PhantomData,
+        };
+        (lying, front)
+    }
+
+    /// Hands an edit in, and seals it with all that waits, where whoever was told last was alone. Where
+    /// sealing broke off, or others are about, it is handed in for the flusher.
+    pub fn lead<R>(&mut self, plane: &Plane<K, R>, edit: Edit) -> Result<Ticket, (Refusal, Edit)>
+    where
+        R: Wait + Clock + Log + Drop,
+        ensures refused { IfErr result (λ e. e.0.edit ≡ proposal_of edit) }
+        ensures ticket { IfOk result (λ t. (t.store ≡ K.store) × (t.edit ≡ proposal_of edit)) }
+        ensures given_back { IfErr result (λ e. e.1 ≡ edit) }
+        ensures others { self.old.alone ≡ false → self.new ≡ self.old }
+        ensures broken { self.old.broken ≡ true → self.new ≡ self.old }
+    {
+        if self.broken || !self.gathering.is_alone() {
+            return plane.submit(edit);
+        }
+        let (submitted, ended) =
+            submit_and_flush(plane, &mut self.half, &mut self.gathering, edit);
+        self.broken = ended.is_err();
+        if self.broken {
+            plane.break_off();
+        }
+        if submitted.is_ok() {
+            self.owes_step = true;
+        }
+        submitted
+    }
+
+    /// Takes the step of a compaction that an editor owes, where one is due.
+    pub fn go_on<R>(&mut self, plane: &Plane<K, R>)
+    where
+        R: Wait + Clock + Log + Drop,
+        ensures broken { self.old.broken ≡ true → self.new ≡ self.old }
+        ensures rest { self.new.alone ≡ self.old.alone }
+    {
+        if self.broken || !self.owes_step {
+            return;
+        }
+        self.owes_step = false;
+        let stepped = take_step(&plane.shared.rt, &mut self.half);
+        self.broken = stepped.is_err();
+        if self.broken {
+            plane.break_off();
+        }
+    }
+
+    /// Seals what waits, for as long as editors are about. `true` where nothing is sealed any more:
+    /// sealing broke off, or the plane is to stop and nothing waits.
+    pub fn flush<R>(&mut self, plane: &Plane<K, R>) -> bool
+    where
+        R: Wait + Clock + Log + Drop,
+        ensures broken { self.new.broken ≡ true → result ≡ true }
+        ensures on { result ≡ false → self.new.alone ≡ true }
+    {
+        if self.broken {
+            return true;
+        }
+        let paused = flush_while_busy(plane, &mut self.half, &mut self.gathering);
+        self.broken = paused.is_err();
+        match paused {
+            Ok(Lull::Alone) => false,
+            Ok(Lull::Over) => true,
+            Err(Broken) => {
+                plane.break_off();
+                true
+            }
+        }
+    }
+
+    /// Gives the half back, which came from the one that the front names.
+    pub fn into_flushed(self, began: &Front<OwnHalf<D>>) -> Flushed<D>
+        requires { began.now.name ≡ K.beginning }
+        ensures { (first : StoreHalfState D) → began.now.log ≡ first ∷ [] →
+            Flushes D.Disk first result.half result.ended }
+    {
+        self.began.confirm(began);
+        let Self {
+            half,
+            broken,
+            gathering: _,
+            owes_step: _,
+            began: _began,
+            of: _,
+        } = self;
+        let half = OwnHalf::new(half);
+        if broken {
+            return Flushed {
+                half,
+                ended: Err(Broken),
+            };
+        }
+        Flushed {
+            half,
+            ended: Ok(()),
+        }
+    }
+}

@@ -1,0 +1,125 @@
+//! A plane, and the place where its store's half lies.
+
+ghost use Rattle.std.specs.Prelude.{◌≡◌, ◌∷◌, [], IfOk, IfErr};
+ghost use Rattle.fp_committer.specs.StoreHalf.{StoreHalfState};
+ghost use Rattle.fp_edit.specs.Edits.{proposal_of};
+ghost use Rattle.fp_plane.specs.Flushing.{Flushes, IsResting};
+ghost use Rattle.fp_plane.specs.Hall.{IsStoreOf};
+
+use crate::flushing::Flushed;
+use crate::hall::Refusal;
+use crate::leading::Lying;
+use crate::naming::Naming;
+use crate::owned::OwnHalf;
+use crate::pausing::pause;
+use crate::plane::Plane;
+use fp_desk::Ticket;
+use fp_disk::Disk;
+use fp_edit::Edit;
+use fp_fronts::{Front, Growing};
+use log::Log;
+use std::alloc::{AllocError, Global};
+use std::sync::{Arc, Mutex, Wait};
+use std::time::Clock;
+
+/// A handle of a plane and of the place where its store's half lies, under a lock of its own: whoever
+/// has that lock seals, and nobody else can. The hall's lock is taken under it, and never before it.
+#[derive(Drop)]
+pub struct SealingPlane<K: Naming, D: Disk + Drop, R: Wait + Drop> {
+    plane: Plane<K, R>,
+    place: Arc<Mutex<Option<Lying<K, D>>>, Global>,
+}
+
+impl<K: Naming, D: Disk + Drop, R: Wait + Drop> SealingPlane<K, D, R> {
+    /// Over a plane, whose store's half isn't there yet.
+    pub fn new(alloc: Global, plane: Plane<K, R>) -> Result<SealingPlane<K, D, R>, AllocError> {
+        let place = Arc::new(alloc, Mutex::new(None))?;
+        Ok(SealingPlane { plane, place })
+    }
+
+    /// One handle more.
+    pub fn try_copy(&self) -> Result<SealingPlane<K, D, R>, AllocError> {
+        Ok(SealingPlane {
+            plane: self.plane.try_copy()?,
+            place: Arc::try_clone(&self.place)?,
+        })
+    }
+
+    /// The plane.
+    pub fn plane(&self) -> &Plane<K, R> {
+        &self.plane
+    }
+
+    /// Puts the half in its place. The front names it for good.
+    pub fn begin(&self, half: OwnHalf<D>, began: Growing<OwnHalf<D>>) -> Front<OwnHalf<D>>
+        requires ours { IsStoreOf K.store K.desk_lists K.store_lists half }
+        requires rest { IsResting half }
+        requires named { began.name ≡ K.beginning }
+        requires fresh { began.log ≡ [] }
+        ensures named { result.name ≡ K.beginning }
+        ensures began { result.log ≡ half ∷ [] }
+    {
+        let (lying, front) = Lying::new(half, began);
+        let mut place = self.place.lock(&self.plane.shared.rt);
+        *place = Some(lying);
+        front
+    }
+}
+
+impl<K: Naming, D: Disk + Drop, R: Wait + Clock + Log + Drop> SealingPlane<K, D, R> {
+    /// Hands an edit in. An editor that is alone seals it too; else the flusher, which is woken, does.
+    /// The ticket names the plane's store and the edit.
+    pub fn submit(&self, edit: Edit) -> Result<Ticket, (Refusal, Edit)>
+        ensures refused { IfErr result (λ e. e.0.edit ≡ proposal_of edit) }
+        ensures ticket { IfOk result (λ t. (t.store ≡ K.store) × (t.edit ≡ proposal_of edit)) }
+        ensures given_back { IfErr result (λ e. e.1 ≡ edit) }
+    {
+        if let Some(mut place) = self.place.try_lock() {
+            if let Some(lying) = &mut *place {
+                return lying.lead(&self.plane, edit);
+            }
+        }
+        self.plane.submit(edit)
+    }
+
+    /// Takes the step of a compaction that an editor owes behind the batch that it sealed. Who was told
+    /// of the batch needn't wait for it, so it comes behind the answer.
+    pub fn go_on(&self) {
+        if let Some(mut place) = self.place.try_lock() {
+            if let Some(lying) = &mut *place {
+                lying.go_on(&self.plane);
+            }
+        }
+    }
+
+    /// Seals what waits and no editor seals, until the plane is to stop and nothing waits, or sealing
+    /// broke off. Then it takes the half out of its place, for good.
+    pub(crate) fn flush_all(&self, began: &Front<OwnHalf<D>>) -> Flushed<D>
+        requires { began.now.name ≡ K.beginning }
+        ensures { (first : StoreHalfState D) → began.now.log ≡ first ∷ [] →
+            Flushes D.Disk first result.half result.ended }
+    {
+        for _ in self.plane.shared.rt.forever() {
+            self.plane.await_work();
+            if let Some(lying) = self.flush() {
+                return lying.into_flushed(began);
+            }
+        }
+        unreachable!()
+    }
+
+    // Seals what waits. Where nothing is sealed any more it takes the half out of its place, under the
+    // same lock: who comes later finds none, and its edit is refused.
+    fn flush(&self) -> Option<Lying<K, D>> {
+        let rt = &self.plane.shared.rt;
+        let mut place = self.place.lock(rt);
+        let is_over = match &mut *place {
+            Some(lying) => lying.flush(&self.plane),
+            None => {
+                pause(rt);
+                false
+            }
+        };
+        if is_over { place.take() } else { None }
+    }
+}
