@@ -1,0 +1,3 @@
+pub mod Scanning
+pub mod Definitions
+pub mod Ends
