@@ -1,3 +1,4 @@
 pub mod Scanning
 pub mod Definitions
 pub mod Ends
+pub mod Names

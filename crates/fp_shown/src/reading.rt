@@ -4,10 +4,13 @@
 ghost use Rattle.std.specs.Prelude.{◌≡◌, ◌+◌, ◌<◌, ◌≤◌, ℕ, List, true, false, Some, Err, IfOk};
 ghost use Rattle.std.specs.Prelude.{OnOk};
 ghost use Rattle.std.specs.FinMap as map;
+ghost use Rattle.std.specs.Option.{option_copied};
 ghost use Rattle.std.specs.Str.{IsUtf8};
 ghost use Rattle.json.specs.Print.{quoted};
 ghost use Rattle.serde_json.specs.Data.{string};
+ghost use Rattle.serde_json.specs.Find.{as_str};
 ghost use Rattle.fp_base.specs.Json.{json_of};
+ghost use Rattle.fp_base.specs.TreeView.{tree_view};
 ghost use Rattle.fp_definition.specs.Key.{is_key, key_bytes};
 ghost use Rattle.fp_documents.specs.Outline.{rest_text};
 ghost use Rattle.fp_edit.specs.Flags.{State, size};
@@ -118,9 +121,21 @@ fn key_in(alloc: Global, name: &[u8]) -> Result<FlagKey, ShownFault>
         return Err(ShownFault::NoSet);
     }
     let mut scratch = Scratch::new(alloc);
-    match read_tree(alloc, name, &mut scratch)? {
-        Some(Tree::String(text)) => key_of(alloc, text),
-        _ => Err(ShownFault::NoSet),
+    let Some(tree) = read_tree(alloc, name, &mut scratch)? else {
+        return Err(ShownFault::NoSet);
+    };
+    let Some(text) = text_of(&tree) else {
+        return Err(ShownFault::NoSet);
+    };
+    key_of(alloc, text)
+}
+
+fn text_of<'a>(tree: &Tree<'a>) -> Option<&'a str>
+    ensures { option_copied result ≡ as_str (tree_view tree.now) }
+{
+    match tree {
+        Tree::String(text) => Some(text),
+        _ => None,
     }
 }
 
