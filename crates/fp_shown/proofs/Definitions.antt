@@ -1,14 +1,14 @@
 -- Texts of definitions: each is an object whose numbers are whole, and short.
 use Rattle.std.proofs.Common.{◌≡◌, ◌≤◌, ℕ, List, ◌∷◌, ◌++◌, length, Bool, true, false, Option, Some, None, refl, sym, ap, subst, ◌∙◌, true≢false, leb, cond}
-use Rattle.std.specs.Prelude.{bytes_eq, is_none}
-use Rattle.std.proofs.lemmas.Bool.{and_parts, leb-true}
+use Rattle.std.specs.Prelude.{bytes_eq, if◌then◌else◌, is_none, is_some, unwrap_or}
+use Rattle.std.proofs.lemmas.Bool.{and_parts, false≢true, leb-true}
 use Rattle.std.proofs.lemmas.Slice.Eq.{bytes_eq-Decides}
 use Rattle.serde_json.specs.Data.{Data, null, boolean, number, string, array, object, Members, depth}
 use Rattle.serde_json.specs.Written.{compact_text}
 use Rattle.fp_base.specs.Json.{json_of}
 use Rattle.fp_base.specs.Tests.{first_failed}
 use Rattle.fp_base.specs.Whole.{is_whole, members_whole}
-use Rattle.fp_definition.specs.Valid.{Fault, member_tests, too_deep, whole_numbers_only, too_large, first_fault, is_text_of, is_text_of_some, is_definition_text}
+use Rattle.fp_definition.specs.Valid.{Fault, member_tests, too_deep, whole_numbers_only, too_large, first_fault, is_text_of, is_text_of_some, definition_in, is_definition_text}
 use Rattle.fp_definition.specs.Numbers.{DEEPEST_DEFINITION, LONGEST_DEFINITION}
 use Rattle.fp_shown.proofs.Scanning.{behind, between_at, behind-object}
 
@@ -56,3 +56,10 @@ pub behind-definition : (text rest : List ℕ) → is_definition_text text ≡ t
 behind-definition text rest e =
     let is = object_text text e in
     ap (λ t. behind (between_at 0) (t ++ rest)) (sym is.spelled) ∙ behind-object is.members is.whole rest
+
+-- what is found where a definition is looked for
+pub definition_found : (text found : List ℕ) → definition_in text ≡ Some found → (is_definition_text text ≡ true) × (found ≡ text)
+definition_found text found is = elim (is_definition_text text) as (λ b. (if b then Some text else None) ≡ Some found → (b ≡ true) × (found ≡ text)) [
+  | true ↦ λ h. (refl, sym (ap (λ o. unwrap_or o text) h))
+  | false ↦ λ h. absurd (false≢true (ap is_some h))
+] is

@@ -2,3 +2,6 @@ pub mod Scanning
 pub mod Definitions
 pub mod Ends
 pub mod Names
+pub mod Rooms
+pub mod Standing
+pub mod Passing

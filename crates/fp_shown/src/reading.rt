@@ -58,7 +58,7 @@ pub(crate) fn set_of(alloc: Global, revision: u64, document: &[u8]) -> Result<Fl
 fn put_flags(alloc: Global, set: &mut FlagSet, text: &[u8]) -> Result<(), ShownFault>
     requires empty { set.old.flags ≡ map.empty }
     requires limit { set.old.limit ≡ SHOWN_LIMIT }
-    ensures revision { set.new.revision ≡ set.old.revision }
+    ensures revision { OnOk result (set.new.revision ≡ set.old.revision) }
     ensures put { OnOk result ((s : State) → IsLawful s → s.revision ≡ set.old.revision
         → text.now ≡ rest_text false (map.entries s.flags) → told set.new.flags ≡ told s.flags) }
     ensures refused { result ≡ Err NoSet → (s : State) → IsLawful s
@@ -77,10 +77,10 @@ fn put_flags(alloc: Global, set: &mut FlagSet, text: &[u8]) -> Result<(), ShownF
         rest = member.rest;
         later = true;
     }
-    if rest != END {
-        return Err(ShownFault::NoSet);
+    if rest == END {
+        return Ok(());
     }
-    Ok(())
+    Err(ShownFault::NoSet)
 }
 
 // Puts a member's flag. What is too long for one isn't read.
@@ -93,7 +93,10 @@ fn put_flag(alloc: Global, set: &mut FlagSet, member: &Member<'_>) -> Result<(),
         → SpellsFlag member.now.name.now member.now.value.now key → ⊥ }
 {
     let revision = set.revision();
-    if revision == 0 || member.value.len() > LONGEST_DEFINITION {
+    if revision == 0 {
+        return Err(ShownFault::NoSet);
+    }
+    if member.value.len() > LONGEST_DEFINITION {
         return Err(ShownFault::NoSet);
     }
     let key = key_in(alloc, member.name)?;

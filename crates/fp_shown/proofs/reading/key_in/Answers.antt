@@ -23,8 +23,8 @@ returns-in_default-text_of-clause-refused c = λ _ key is utf8 named.
     absurd (false≢true (ap is_some (sym (ap option_copied c.in_default-text_of.is) ∙ told)))
 
 pub returns-clause-refused : goal.returns-clause-refused
-returns-clause-refused c = λ no key is utf8 named.
+returns-clause-refused c = λ none key is utf8 named.
     let read = sym (ap (option_map tree_view) c.in-Some.is) ∙ c.in_ok-tree.ensures.value in
     let told = text_read (tree_view c.in-Some.tree) _ c.args.name.now key read c.text_of.ensures utf8 named in
     let same = same_some c.in-Some-text_of.text.now key (sym (ap option_copied c.in-Some-text_of.is) ∙ told) in
-    absurd (true≢false (sym is ∙ ap is_key (sym same) ∙ c.key_of.ensures.refused no))
+    absurd (true≢false (sym is ∙ ap is_key (sym same) ∙ c.key_of.ensures.refused none))
