@@ -5,3 +5,4 @@ pub mod Names
 pub mod Rooms
 pub mod Standing
 pub mod Passing
+pub mod Documents

@@ -123,7 +123,7 @@ one_more s old new later rest n m h next is puts =
     let e = next.flag in
     let key : puts.key ≡ e.0 = same_key m.name.now e.0 puts.key puts.named (ap json_of is.named ∙ quoted-reads e.0 next.lawful.utf8) in
     let sorted : T (is_sorted bytes_cmp ((h.front ++ e ∷ []) ++ next.others)) =
-      subst (λ es. T (is_sorted bytes_cmp es)) (next.whole ∙ sym (append_assoc h.front (e ∷ []) next.others)) (fin.entries_sorted s.flags) in
+    subst (λ es. T (is_sorted bytes_cmp es)) (next.whole ∙ sym (append_assoc h.front (e ∷ []) next.others)) (fin.entries_sorted s.flags) in
     let more = told-more old.flags h.front e flag h.told is.valued (sorted-front (h.front ++ e ∷ []) next.others sorted) in
     let counted = length-append h.front (e ∷ []) in
     let before = h.count in

@@ -80,10 +80,10 @@ told-more flags front e f same is sorted =
     let now = fin.entries flags in
     let last : told_of (e.0, f) ≡ told_of e = ap (λ t. (e.0, t)) is in
     let alike : map told_of (now ++ (e.0, f) ∷ []) ≡ map told_of (front ++ e ∷ []) =
-      map-append told_of now ((e.0, f) ∷ []) ∙ ap (λ ts. ts ++ told_of (e.0, f) ∷ []) same
-      ∙ ap (λ t. map told_of front ++ t ∷ []) last ∙ sym (map-append told_of front (e ∷ [])) in
+    map-append told_of now ((e.0, f) ∷ []) ∙ ap (λ ts. ts ++ told_of (e.0, f) ∷ []) same
+    ∙ ap (λ t. map told_of front ++ t ∷ []) last ∙ sym (map-append told_of front (e ∷ [])) in
     let ordered : is_sorted bytes_cmp (front ++ e ∷ []) ≡ is_sorted bytes_cmp (now ++ (e.0, f) ∷ []) =
-      sym (sorted-told (front ++ e ∷ [])) ∙ ap (λ ts. is_sorted bytes_cmp ts) (sym alike) ∙ sorted-told (now ++ (e.0, f) ∷ []) in
+    sym (sorted-told (front ++ e ∷ [])) ∙ ap (λ ts. is_sorted bytes_cmp ts) (sym alike) ∙ sorted-told (now ++ (e.0, f) ∷ []) in
     ap (map told_of) (fin.entries-insert nat_list_cmp_total flags e.0 f ∙ put-last now e.0 f (subst T ordered sorted)) ∙ alike
 
 -- ---- what was put so far

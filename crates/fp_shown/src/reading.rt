@@ -5,13 +5,14 @@ ghost use Rattle.std.specs.Prelude.{◌≡◌, ◌+◌, ◌<◌, ◌≤◌, ℕ,
 ghost use Rattle.std.specs.Prelude.{OnOk};
 ghost use Rattle.std.specs.FinMap as map;
 ghost use Rattle.std.specs.Option.{option_copied};
-ghost use Rattle.std.specs.Str.{IsUtf8};
+ghost use Rattle.std.specs.Str.{IsUtf8, bytes_eq};
 ghost use Rattle.json.specs.Print.{quoted};
 ghost use Rattle.serde_json.specs.Data.{string};
 ghost use Rattle.serde_json.specs.Find.{as_str};
 ghost use Rattle.fp_base.specs.Json.{json_of};
 ghost use Rattle.fp_base.specs.TreeView.{tree_view};
 ghost use Rattle.fp_definition.specs.Key.{is_key, key_bytes};
+ghost use Rattle.fp_documents.specs.Document.{document as document_of};
 ghost use Rattle.fp_documents.specs.Outline.{rest_text};
 ghost use Rattle.fp_edit.specs.Flags.{State, size};
 ghost use Rattle.fp_shown.specs.Reading.{LONGEST_FLAG, PutsFlag, SpellsFlag, told};
@@ -22,13 +23,14 @@ use crate::fault::ShownFault;
 use crate::members::{Member, member_in};
 use fp_base::{Tree, read_tree};
 use fp_definition::{Definition, FlagKey, KeyFault, LONGEST_DEFINITION, LONGEST_KEY};
-use fp_edit::{Flag, FlagSet, MOST_FLAGS, REVISIONS_END};
+use fp_edit::{FLAG_FRAME, Flag, FlagSet, IMAGE_HEAD, MOST_FLAGS, REVISIONS_END};
 use json::Scratch;
-use std::alloc::Global;
+use std::alloc::{AllocError, Global};
 
 /// The limit of a shown set's image, in bytes: the most flags that a set has, each of the longest
 /// key and definition, fit.
-pub const SHOWN_LIMIT: u64 = 68_214_788;
+pub const SHOWN_LIMIT: u64 = IMAGE_HEAD
+    + MOST_FLAGS as u64 * (FLAG_FRAME as u64 + LONGEST_KEY as u64 + LONGEST_DEFINITION as u64);
 
 // The longest text in quotes that is a key's: each of its bytes is escaped.
 const LONGEST_NAME: usize = 6 * LONGEST_KEY + 2;
@@ -43,15 +45,26 @@ pub(crate) fn set_of(alloc: Global, revision: u64, document: &[u8]) -> Result<Fl
     ensures found { IfOk result (IsSetOf revision document.now) }
     ensures refused { result ≡ Err NoSet → HasNoSet revision document.now }
 {
-    if revision >= REVISIONS_END || !document.starts_with(HEAD) {
+    if revision >= REVISIONS_END {
         return Err(ShownFault::NoSet);
     }
+    let Some(flags) = document.strip_prefix(HEAD) else {
+        return Err(ShownFault::NoSet);
+    };
     let mut set = FlagSet::at_revision(alloc, revision, SHOWN_LIMIT);
-    put_flags(alloc, &mut set, &document[HEAD.len()..])?;
-    if set.document()?.as_slice() != document {
-        return Err(ShownFault::NoSet);
+    put_flags(alloc, &mut set, flags)?;
+    if is_document_of(&set, document)? {
+        return Ok(set);
     }
-    Ok(set)
+    Err(ShownFault::NoSet)
+}
+
+// Whether a set's own document is this one.
+fn is_document_of(set: &FlagSet, document: &[u8]) -> Result<bool, AllocError>
+    ensures { IfOk result (λ b. b ≡ bytes_eq (document_of set.now.flags) document.now) }
+{
+    let text = set.document()?;
+    Ok(text.as_slice() == document)
 }
 
 // Puts the flags of a text into an empty set, up to the document's end.

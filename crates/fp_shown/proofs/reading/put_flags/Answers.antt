@@ -41,7 +41,7 @@ returns-in_err-put_flag-clause-refused c = λ none s lawful at is.
     let next = has_next s c.loop.set.flags c.loop.later c.loop.rest.now c.loop.counter lawful h more in
     let e = next.flag in
     let found = is_found c.member_in.result c.in-Some.member (quoted e.0) e.1.definition (rest_text true next.others) c.in-Some.is
-      (c.member_in.ensures e.0 e.1.definition (rest_text true next.others) next.lawful.definition next.text) in
+    (c.member_in.ensures e.0 e.1.definition (rest_text true next.others) next.lawful.definition next.text) in
     c.in_err-put_flag.ensures.refused (sym (p.1 ∙ ap Err p.2) ∙ none)
     (some_revision s h.front c.loop.later c.loop.rest.now c.loop.set.revision next (at ∙ sym c.loop.invariant.2)) e.0
     (spells s h.front c.loop.later c.loop.rest.now c.in-Some.member next found)
@@ -59,12 +59,12 @@ loop-preserved c =
       more.revision ∙ c.loop.invariant.2,
       more.limit ∙ c.loop.invariant.3,
       λ s lawful at is.
-        let h = c.loop.invariant.4 s lawful at is in
-        let next = has_next s c.loop.set.flags c.loop.later c.loop.rest.now c.loop.counter lawful h (is_more c.loop.rest.now c.eq.result c.eq.ensures c.if-eq.false) in
-        let e = next.flag in
-        let found = is_found c.member_in.result c.in-Some.member (quoted e.0) e.1.definition (rest_text true next.others) c.in-Some.is
+          let h = c.loop.invariant.4 s lawful at is in
+          let next = has_next s c.loop.set.flags c.loop.later c.loop.rest.now c.loop.counter lawful h (is_more c.loop.rest.now c.eq.result c.eq.ensures c.if-eq.false) in
+          let e = next.flag in
+          let found = is_found c.member_in.result c.in-Some.member (quoted e.0) e.1.definition (rest_text true next.others) c.in-Some.is
           (c.member_in.ensures e.0 e.1.definition (rest_text true next.others) next.lawful.definition next.text) in
-        one_more s c.loop.set c.put_flag.new.set c.loop.later c.loop.rest.now c.loop.counter c.in-Some.member h next found puts,
+          one_more s c.loop.set c.put_flag.new.set c.loop.later c.loop.rest.now c.loop.counter c.in-Some.member h next found puts,
     )
 
 pub returns-then-eq-2-clause-put : goal.returns-then-eq-2-clause-put
