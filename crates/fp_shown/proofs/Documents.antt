@@ -1,5 +1,5 @@
 -- Documents: how they begin, and that they tell of keys and definitions alone.
-use Rattle.std.proofs.Common.{◌≡◌, ◌+◌, ℕ, List, [], ◌∷◌, ◌++◌, length, map, take, drop, Bool, true, false, Result, Ok, Err, refl, sym, ap, ◌∙◌}
+use Rattle.std.proofs.Common.{◌≡◌, ℕ, List, [], ◌∷◌, ◌++◌, length, map, take, drop, true, false, Result, Ok, Err, refl, sym, ap, ◌∙◌}
 use Rattle.std.specs.Prelude.{bytes_eq, codes}
 use Rattle.std.specs.FinMap as fin
 use Rattle.std.proofs.lemmas.Slice.Eq.{bytes_eq-Decides}

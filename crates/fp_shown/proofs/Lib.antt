@@ -6,3 +6,4 @@ pub mod Rooms
 pub mod Standing
 pub mod Passing
 pub mod Documents
+pub mod Walked

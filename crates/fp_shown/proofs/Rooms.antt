@@ -1,11 +1,11 @@
 -- A flag more in a set: there is room for it, and how much it takes.
-use Rattle.std.proofs.Common.{◌≡◌, ◌≤◌, ◌<◌, ◌+◌, ℕ, List, length, Bool, true, ap, ◌∙◌, arith}
+use Rattle.std.proofs.Common.{◌≡◌, ◌≤◌, ◌<◌, ◌+◌, ℕ, List, length, true, ap, ◌∙◌, arith}
 use Rattle.std.specs.Prelude.{nat_le}
 use Rattle.std.specs.FinMap as fin
 use Rattle.std.proofs.lemmas.Bool.{and_from, and_parts, le-leb, leb-true}
 use Rattle.fp_base.specs.Bytes.{bytes_cmp}
 use Rattle.fp_definition.specs.Key.{is_key}
-use Rattle.fp_definition.specs.Numbers.{LONGEST_DEFINITION, LONGEST_KEY}
+use Rattle.fp_definition.specs.Numbers.{LONGEST_KEY}
 use Rattle.fp_definition.specs.Valid.{is_definition_text}
 use Rattle.fp_documents.specs.declared.flags.Flag.{Flag}
 use Rattle.fp_documents.proofs.Sizes.{count-insert, size-empty, size-insert}

@@ -1,10 +1,10 @@
 -- Flags of a document, put into a set one after another.
-use Rattle.std.proofs.Common.{◌≡◌, ◌≢◌, ◌≤◌, ◌<◌, ◌+◌, ◌&&◌, T, ℕ, suc, List, [], ◌∷◌, ◌++◌, length, map, Bool, true, false, refl, sym, ap, subst, ◌∙◌, append_assoc, arith, Less, Greater, get_or}
+use Rattle.std.proofs.Common.{◌≡◌, ◌≢◌, ◌&&◌, T, ℕ, List, [], ◌∷◌, ◌++◌, length, map, Bool, true, false, refl, sym, ap, subst, ◌∙◌, append_assoc, arith, Less, Greater, get_or}
 use Rattle.std.specs.Ordering.{ordering_reverse, is_lt}
 use Rattle.std.specs.FinMap as fin
 use Rattle.std.specs.FinMap.Entries.{by_order, put, below_all, is_sorted}
 use Rattle.std.proofs.lemmas.Cmp.{nat_list_cmp_total}
-use Rattle.std.proofs.lemmas.List.{length-append, map-append}
+use Rattle.std.proofs.lemmas.List.{map-append}
 use Rattle.json.specs.Print.{quoted}
 use Rattle.serde_json.specs.Written.{comma_if, compact_text, members_text}
 use Rattle.fp_base.specs.Bytes.{bytes_cmp}

@@ -1,11 +1,7 @@
-use Rattle.std.proofs.Common.{◌≡◌, ◌≤◌, ◌+◌, ◌*◌, Err, true, refl, sym, ap, ◌∙◌, arith}
-use Rattle.std.specs.FinMap as fin
+use Rattle.std.proofs.Common.{Err, true, refl, sym, ap, ◌∙◌, arith}
 use Rattle.std.proofs.lemmas.Result.{err_from_is_err_and}
-use Rattle.fp_documents.proofs.Sizes.{size-empty}
 use Rattle.fp_documents.specs.Outline.{rest_text}
-use Rattle.fp_edit.specs.Flags.{Flags, State, size}
 use Rattle.json.specs.Print.{quoted}
-use Rattle.fp_shown.specs.Reading.{IsMember}
 use Rattle.fp_shown.proofs.Passing.{begins, ended, has_next, is_end, is_found, is_more, not_found, one_more, some_revision, spells, too_many}
 use Rattle.fp_shown.proofs.Rooms.{empty_count, empty_size, grown}
 use Rattle.fp_shown.proofs.reading.put_flags.Goals as goal

@@ -18,5 +18,5 @@ returns-in_err-put_flags-clause-refused c = λ none s lawful is.
 pub returns-clause-refused : goal.returns-clause-refused
 returns-clause-refused c = λ _ s lawful is.
     let same = c.in_ok-put_flags.ensures.put s lawful (is.at ∙ sym (ap (λ (t : State). t.revision) c.at_revision-set.ensures))
-      (c.in-Some.ensures.cases.1 ∙ goes_on_so c.args.revision c.args.document.now s is) in
+    (c.in-Some.ensures.cases.1 ∙ goes_on_so c.args.revision c.args.document.now s is) in
     absurd (true≢false (sym (told_again c.args.revision c.args.document.now s c.put_flags.new.set.flags is same) ∙ sym c.in_ok-is_document_of.ensures ∙ c.if-branch.false))
