@@ -7,3 +7,6 @@ pub mod Standing
 pub mod Passing
 pub mod Documents
 pub mod Walked
+pub mod Crossing
+pub mod SameTold
+pub mod Replies

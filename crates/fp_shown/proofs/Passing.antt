@@ -109,7 +109,7 @@ pub some_revision : (s : State) (front : List Entry) (later : Bool) (rest : List
 some_revision s front later rest revision next at = let from = next.lawful.changed.0 in let to = next.lawful.changed.1 in omega (arith, from, to, at)
 
 -- the key that was put is its key
-same_key : (name key other : List ℕ) → json_of name ≡ Some (string other) → json_of name ≡ Some (string key) → other ≡ key
+pub same_key : (name key other : List ℕ) → json_of name ≡ Some (string other) → json_of name ≡ Some (string key) → other ≡ key
 same_key name key other a b = same_some other key (ap (λ o. text_in o) (sym a ∙ b))
   where
     text_in : Option Data → Option (List ℕ)

@@ -20,6 +20,7 @@ ghost use Rattle.fp_shown.specs.Sets.{HasNoSet, IsLawful, IsSetOf};
 ghost use Rattle.fp_shown.specs.declared.fault.ShownFault.TheVariants.{NoSet};
 
 use crate::fault::ShownFault;
+use crate::lawful::every_set_is_lawful;
 use crate::members::{Member, member_in};
 use fp_base::{Tree, read_tree};
 use fp_definition::{Definition, FlagKey, KeyFault, LONGEST_DEFINITION, LONGEST_KEY};
@@ -43,6 +44,7 @@ const END: &[u8] = b"}}";
 /// of one document.
 pub(crate) fn set_of(alloc: Global, revision: u64, document: &[u8]) -> Result<FlagSet, ShownFault>
     ensures found { IfOk result (IsSetOf revision document.now) }
+    ensures lawful { IfOk result IsLawful }
     ensures refused { result ≡ Err NoSet → HasNoSet revision document.now }
 {
     if revision >= REVISIONS_END {
@@ -54,6 +56,7 @@ pub(crate) fn set_of(alloc: Global, revision: u64, document: &[u8]) -> Result<Fl
     let mut set = FlagSet::at_revision(alloc, revision, SHOWN_LIMIT);
     put_flags(alloc, &mut set, flags)?;
     if is_document_of(&set, document)? {
+        every_set_is_lawful(&set);
         return Ok(set);
     }
     Err(ShownFault::NoSet)
