@@ -1,0 +1,206 @@
+//! One connection for requests, as steps that don't wait.
+
+use crate::counting::Counting;
+use crate::member::Turn;
+use crate::socket::{Socket, is_passing};
+use crate::times::{Limits, Waiting, is_over_time};
+use http_server::{Config, Connection, Reason, Service, State};
+use std::alloc::Global;
+use std::hash::RandomState;
+use std::io::Read;
+use std::mem;
+use std::net::Shutdown;
+
+// How many reads and writes one turn may take, so that a busy connection leaves time for others.
+const ROUNDS: u32 = 16;
+
+// What a connection may hold of past requests and replies while it is quiet, in bytes.
+const KEPT: usize = 2048;
+
+// After how many milliseconds without a request it is quiet.
+const QUIET: u64 = 1000;
+
+/// What connections for requests begin with.
+#[derive(Clone, Copy)]
+pub(crate) struct Beginning {
+    pub(crate) alloc: Global,
+    pub(crate) keys: RandomState,
+    pub(crate) config: Config,
+}
+
+impl Beginning {
+    fn connection(&self) -> Connection {
+        Connection::new(self.alloc, self.keys, self.config)
+    }
+}
+
+/// A connection for requests.
+#[derive(Drop)]
+pub(crate) struct Peer {
+    connection: Connection,
+    pub(crate) socket: Socket,
+    waiting: Waiting,
+    // When it began to wait for that.
+    since: u64,
+    // When some of a request came that isn't whole yet.
+    begun: Option<u64>,
+    // The most bytes that came or waited at once.
+    most: usize,
+}
+
+impl Peer {
+    pub(crate) fn new(beginning: &Beginning, socket: Socket, now: u64) -> Peer {
+        Peer {
+            connection: beginning.connection(),
+            socket,
+            waiting: Waiting::Request,
+            since: now,
+            begun: None,
+            most: 0,
+        }
+    }
+
+    /// Reads, answers and writes, until it would wait or its turn is over.
+    pub(crate) fn turn<S: Service + Drop>(
+        &mut self,
+        service: &mut Counting<S>,
+        now: u64,
+    ) -> Turn {
+        for _ in 0..ROUNDS {
+            if self.waiting == Waiting::Leaving {
+                return self.see_off();
+            }
+            let stepped = if self.connection.wants_write() && self.socket.may_write {
+                self.send(service, now)
+            } else if self.connection.wants_read() && self.socket.may_read {
+                self.receive(service, now)
+            } else {
+                return Turn::Waits;
+            };
+            if stepped == Turn::Over {
+                return Turn::Over;
+            }
+            if self.connection.is_done() && !self.leave(now) {
+                return Turn::Over;
+            }
+        }
+        Turn::Goes
+    }
+
+    // Writes once, and goes on where it paused for the output.
+    fn send<S: Service + Drop>(&mut self, service: &mut Counting<S>, now: u64) -> Turn {
+        let paused = !self.connection.wants_read();
+        self.most = self.most.max(self.connection.output().len());
+        match self.connection.write_to(&mut self.socket) {
+            Ok(0) => return Turn::Over,
+            Ok(_) => {}
+            Err(fault) if is_passing(fault.kind()) => return Turn::Goes,
+            Err(_) => return Turn::Over,
+        }
+        if paused {
+            self.connection.advance(service);
+        }
+        self.wait(Waiting::Request, now);
+        Turn::Goes
+    }
+
+    // Reads once, and answers what came.
+    fn receive<S: Service + Drop>(&mut self, service: &mut Counting<S>, now: u64) -> Turn {
+        match self.connection.read_from(&mut self.socket) {
+            Ok(count) => self.most = self.most.max(count),
+            Err(fault) if is_passing(fault.kind()) => return Turn::Goes,
+            Err(_) => return Turn::Over,
+        }
+        let calls = service.calls;
+        self.connection.advance(service);
+        self.begun = match self.begun {
+            _ if service.calls != calls => None,
+            Some(begun) => Some(begun),
+            None => Some(now),
+        };
+        self.wait(self.waiting, now);
+        Turn::Goes
+    }
+
+    // What it waits for now: that its peer takes what waits to be sent, since it last took some; the
+    // rest of a request, since its beginning; or a request. It waited for something else before.
+    fn wait(&mut self, before: Waiting, now: u64) {
+        let (waiting, since) = if self.connection.wants_write() {
+            match before {
+                Waiting::Taker => (Waiting::Taker, self.since),
+                _ => (Waiting::Taker, now),
+            }
+        } else {
+            match self.begun {
+                Some(begun) => (Waiting::Rest, begun),
+                None => (Waiting::Request, now),
+            }
+        };
+        self.waiting = waiting;
+        self.since = since;
+    }
+
+    // Ends its own side, where the peer may still be talking: else the last reply could be lost to
+    // it. Answers whether the peer is to be waited for.
+    fn leave(&mut self, now: u64) -> bool {
+        match self.connection.state() {
+            State::Closing(Reason::Asked | Reason::Refused(_)) => {
+                self.waiting = Waiting::Leaving;
+                self.since = now;
+                self.socket.stream.shutdown(Shutdown::Write).is_ok()
+            }
+            _ => false,
+        }
+    }
+
+    // Reads what the peer still says, and drops it, until it leaves.
+    fn see_off(&mut self) -> Turn {
+        let mut bytes = [0; 4096];
+        for _ in 0..ROUNDS {
+            if !self.socket.may_read {
+                return Turn::Waits;
+            }
+            match self.socket.read(&mut bytes) {
+                Ok(0) => return Turn::Over,
+                Ok(_) => {}
+                Err(fault) if is_passing(fault.kind()) => {}
+                Err(_) => return Turn::Over,
+            }
+        }
+        Turn::Goes
+    }
+
+    /// Whether it has kept the loop waiting for too long.
+    pub(crate) fn is_over_time(&self, limits: &Limits, now: u64) -> bool {
+        is_over_time(limits, self.waiting, self.since, now)
+    }
+
+    /// Lets go of memory that a long request or reply took, where it has been quiet for a while.
+    /// Answers whether it may go on.
+    pub(crate) fn shrink<S: Service + Drop>(
+        &mut self,
+        beginning: &Beginning,
+        service: &mut Counting<S>,
+        now: u64,
+    ) -> bool {
+        let is_quiet = self.waiting == Waiting::Request && now.saturating_sub(self.since) >= QUIET;
+        if !is_quiet || self.most <= KEPT {
+            return true;
+        }
+        self.most = 0;
+        let fresh = beginning.connection();
+        let old = mem::replace(&mut self.connection, fresh);
+        is_at_rest(old, service)
+    }
+}
+
+// Whether all that came was answered and sent: then its input may end there.
+fn is_at_rest<S: Service + Drop>(connection: Connection, service: &mut Counting<S>) -> bool {
+    let mut connection = connection;
+    let mut end: &[u8] = &[];
+    if connection.read_from(&mut end).is_err() {
+        return false;
+    }
+    connection.advance(service);
+    connection.state() == State::Closing(Reason::EndOfInput) && connection.is_done()
+}
