@@ -14,13 +14,10 @@ use fp_stream::Hello;
 use fp_streams::FailureCounted;
 use std::alloc::{AllocError, Global};
 use std::io;
-use std::net::{SocketAddr, SocketAddrV4, TcpStream};
+use std::net::{SocketAddrV4, TcpStream};
 use std::sync::Arc;
 use std::thread;
 use std::time::Duration;
-
-// How many seconds a connection may take to come about.
-const PATIENCE: u64 = 10;
 
 // How long the head of a frame is.
 const HEAD: u64 = 16;
@@ -103,8 +100,7 @@ fn attend_source<R: Host>(
     last: &mut Hello,
     showing: &mut Showing<R>,
 ) -> io::Result<SourceEnd> {
-    let most = Duration::from_secs(PATIENCE);
-    let stream = TcpStream::connect_timeout(rt, &SocketAddr::V4(address), most)?;
+    let stream = TcpStream::connect(rt, address)?;
     probe_peer(&stream);
     let numbers = Arc::try_clone(&showing.numbers)?;
     numbers.connect(rt, true);
