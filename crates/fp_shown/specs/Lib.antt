@@ -1,0 +1,4 @@
+pub mod Sets
+pub mod Scan
+pub mod Reading
+pub mod Laws

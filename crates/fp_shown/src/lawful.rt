@@ -1,0 +1,17 @@
+//! What every set of flags keeps.
+
+ghost use Rattle.fp_shown.specs.Sets.{IsLawful};
+
+use fp_edit::FlagSet;
+
+/// Every set of flags is lawful. It looks at each flag, and changes nothing.
+pub fn every_set_is_lawful(set: &FlagSet)
+    ensures { IsLawful set.now }
+{
+    let _revision = set.revision();
+    let _count = set.len();
+    for (key, flag) in set.iter() {
+        let _key = key.as_str();
+        let _text = flag.definition.text();
+    }
+}
