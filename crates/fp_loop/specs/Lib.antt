@@ -1,1 +1,4 @@
+pub mod Newest
+pub mod Outgoing
+pub mod Talks
 pub mod Times

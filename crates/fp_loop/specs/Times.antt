@@ -1,5 +1,5 @@
 -- Limits of time.
-use Rattle.std.specs.Prelude.{ℕ, ◌+◌, ◌≤◌, Option, Some, None, ⊥}
+use Rattle.std.specs.Prelude.{ℕ, ◌+◌, ◌≤◌, Option, Some, None}
 use Rattle.fp_loop.specs.declared.times.Limits.{Limits}
 use Rattle.fp_loop.specs.declared.times.Waiting.{Waiting}
 use Rattle.fp_loop.specs.declared.times.Waiting.TheVariants as waiting

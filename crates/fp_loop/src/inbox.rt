@@ -1,6 +1,6 @@
 //! What loops are handed from other threads: connections, news, and that they stop.
 
-use crate::news::News;
+use crate::news::{Newest, News};
 use mio::Waker;
 use std::alloc::{AllocError, Global};
 use std::mem;
@@ -20,7 +20,7 @@ pub enum Role {
 #[derive(Drop)]
 struct Post<N: News + Drop> {
     streams: Vec<(TcpStream, Role)>,
-    news: Option<Arc<N, Global>>,
+    newest: Newest<N>,
     is_stopped: bool,
 }
 
@@ -41,22 +41,11 @@ pub(crate) struct Taken<N: News + Drop> {
 }
 
 impl<N: News + Drop> Post<N> {
-    // Keeps these news, unless those that it has are as new.
-    fn put(&mut self, news: Arc<N, Global>) {
-        let is_newer = match &self.news {
-            Some(before) => before.revision() < news.revision(),
-            None => true,
-        };
-        if is_newer {
-            self.news = Some(news);
-        }
-    }
-
     // All of it. That it is stopped stays.
     fn take(&mut self, alloc: Global) -> Taken<N> {
         Taken {
             streams: mem::replace(&mut self.streams, Vec::new(alloc)),
-            news: mem::replace(&mut self.news, None),
+            news: self.newest.give(),
             is_stopped: self.is_stopped,
         }
     }
@@ -66,7 +55,7 @@ impl<N: News + Drop> Inbox<N> {
     pub(crate) fn new(alloc: Global, waker: Waker) -> Inbox<N> {
         let post = Post {
             streams: Vec::new(alloc),
-            news: None,
+            newest: Newest::new(),
             is_stopped: false,
         };
         Inbox {
@@ -78,7 +67,7 @@ impl<N: News + Drop> Inbox<N> {
 
     /// Hands in news. Older ones that the loop hasn't taken yet are dropped.
     pub fn post_news<R: Wait>(&self, rt: &R, news: Arc<N, Global>) {
-        self.post.lock(rt).put(news);
+        self.post.lock(rt).newest.take(news);
         let _ = self.waker.wake();
     }
 

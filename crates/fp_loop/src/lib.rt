@@ -13,7 +13,9 @@ mod peer;
 mod probing;
 mod socket;
 mod subscriber;
+mod talk;
 mod times;
+mod turn;
 mod turning;
 
 pub use counts::{Counted, Counts};

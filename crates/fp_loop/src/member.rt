@@ -2,24 +2,13 @@
 
 use crate::counting::Counting;
 use crate::inbox::Role;
-use crate::news::News;
+use crate::news::{Newest, News};
 use crate::peer::Peer;
 use crate::socket::Socket;
 use crate::subscriber::Subscriber;
+use crate::turn::Turn;
 use http_server::Service;
 use std::alloc::Global;
-use std::sync::Arc;
-
-/// What a connection's turn came to.
-#[derive(Debug, Drop, Clone, Copy, PartialEq, Eq)]
-pub(crate) enum Turn {
-    /// It waits for its socket, or for news.
-    Waits,
-    /// It could go on, once others had their turns.
-    Goes,
-    /// It has ended.
-    Over,
-}
 
 /// A connection for what it is for.
 #[derive(Drop)]
@@ -55,7 +44,7 @@ impl<N: News + Drop> Member<N> {
     pub(crate) fn turn<S: Service + Drop>(
         &mut self,
         service: &mut Counting<S>,
-        shown: &Option<Arc<N, Global>>,
+        shown: &Newest<N>,
         now: u64,
     ) -> Turn {
         match &mut self.kind {

@@ -1,12 +1,11 @@
 //! One connection for requests, as steps that don't wait.
 
 use crate::counting::Counting;
-use crate::member::Turn;
 use crate::socket::{Socket, is_passing};
+use crate::talk::{Beginning, hear, is_at_rest, say};
 use crate::times::{Limits, Waiting, is_over_time};
-use http_server::{Config, Connection, Reason, Service, State};
-use std::alloc::Global;
-use std::hash::RandomState;
+use crate::turn::Turn;
+use http_server::{Connection, Reason, Service, State};
 use std::io::Read;
 use std::mem;
 use std::net::Shutdown;
@@ -19,20 +18,6 @@ const KEPT: usize = 2048;
 
 // After how many milliseconds without a request it is quiet.
 const QUIET: u64 = 1000;
-
-/// What connections for requests begin with.
-#[derive(Clone, Copy)]
-pub(crate) struct Beginning {
-    pub(crate) alloc: Global,
-    pub(crate) keys: RandomState,
-    pub(crate) config: Config,
-}
-
-impl Beginning {
-    fn connection(&self) -> Connection {
-        Connection::new(self.alloc, self.keys, self.config)
-    }
-}
 
 /// A connection for requests.
 #[derive(Drop)]
@@ -87,37 +72,28 @@ impl Peer {
         Turn::Goes
     }
 
-    // Writes once, and goes on where it paused for the output.
+    // Writes once.
     fn send<S: Service + Drop>(&mut self, service: &mut Counting<S>, now: u64) -> Turn {
-        let paused = !self.connection.wants_read();
         self.most = self.most.max(self.connection.output().len());
-        match self.connection.write_to(&mut self.socket) {
-            Ok(0) => return Turn::Over,
-            Ok(_) => {}
-            Err(fault) if is_passing(fault.kind()) => return Turn::Goes,
-            Err(_) => return Turn::Over,
+        let turn = say(&mut self.connection, service, &mut self.socket);
+        if turn == Turn::Goes {
+            self.wait(Waiting::Request, now);
         }
-        if paused {
-            self.connection.advance(service);
-        }
-        self.wait(Waiting::Request, now);
-        Turn::Goes
+        turn
     }
 
     // Reads once, and answers what came.
     fn receive<S: Service + Drop>(&mut self, service: &mut Counting<S>, now: u64) -> Turn {
-        match self.connection.read_from(&mut self.socket) {
-            Ok(count) => self.most = self.most.max(count),
-            Err(fault) if is_passing(fault.kind()) => return Turn::Goes,
-            Err(_) => return Turn::Over,
-        }
         let calls = service.calls;
-        self.connection.advance(service);
-        self.begun = match self.begun {
-            _ if service.calls != calls => None,
-            Some(begun) => Some(begun),
-            None => Some(now),
-        };
+        match hear(&mut self.connection, service, &mut self.socket) {
+            Ok(count) => self.most = self.most.max(count),
+            Err(turn) => return turn,
+        }
+        if service.calls != calls {
+            self.begun = None;
+        } else if self.begun.is_none() {
+            self.begun = Some(now);
+        }
         self.wait(self.waiting, now);
         Turn::Goes
     }
@@ -192,15 +168,4 @@ impl Peer {
         let old = mem::replace(&mut self.connection, fresh);
         is_at_rest(old, service)
     }
-}
-
-// Whether all that came was answered and sent: then its input may end there.
-fn is_at_rest<S: Service + Drop>(connection: Connection, service: &mut Counting<S>) -> bool {
-    let mut connection = connection;
-    let mut end: &[u8] = &[];
-    if connection.read_from(&mut end).is_err() {
-        return false;
-    }
-    connection.advance(service);
-    connection.state() == State::Closing(Reason::EndOfInput) && connection.is_done()
 }

@@ -1,14 +1,13 @@
 //! One subscriber, as steps that don't wait.
 
 use crate::counts::Tally;
-use crate::member::Turn;
-use crate::news::News;
+use crate::news::{Newest, News};
 use crate::outgoing::Outgoing;
 use crate::socket::{Socket, is_passing};
 use crate::times::{Limits, Waiting, is_over_time};
+use crate::turn::Turn;
 use fp_stream::{Hello, read_hello};
 use fp_streams::FailureCounted;
-use std::alloc::Global;
 use std::io::Read;
 use std::sync::Arc;
 
@@ -53,7 +52,7 @@ impl<N: News + Drop> Subscriber<N> {
     /// Listens, and sends the newest, until it would wait or its turn is over.
     pub(crate) fn turn(
         &mut self,
-        shown: &Option<Arc<N, Global>>,
+        shown: &Newest<N>,
         tally: &mut Tally,
         now: u64,
     ) -> Turn {
@@ -116,14 +115,14 @@ impl<N: News + Drop> Subscriber<N> {
     }
 
     // Whether a frame is being sent, which begins here where there is one to send.
-    fn begin(&mut self, shown: &Option<Arc<N, Global>>, now: u64) -> bool {
+    fn begin(&mut self, shown: &Newest<N>, now: u64) -> bool {
         let Some(outgoing) = &mut self.outgoing else {
             return false;
         };
         if outgoing.is_sending() {
             return true;
         }
-        let Some(news) = shown else {
+        let Some(news) = &shown.news else {
             return false;
         };
         if !outgoing.takes(news.revision()) {

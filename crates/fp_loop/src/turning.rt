@@ -2,13 +2,15 @@
 
 use crate::counting::Counting;
 use crate::counts::{Counts, Tally};
-use crate::inbox::{Inbox, Role};
-use crate::member::{Kind, Member, Turn};
-use crate::news::{Informed, News};
-use crate::peer::{Beginning, Peer};
+use crate::inbox::{Inbox, Role, Taken};
+use crate::member::{Kind, Member};
+use crate::news::{Informed, Newest, News};
+use crate::peer::Peer;
 use crate::socket::Socket;
 use crate::subscriber::Subscriber;
+use crate::talk::Beginning;
 use crate::times::Limits;
+use crate::turn::Turn;
 use http1::Limits as HeadLimits;
 use http_server::Config;
 use mio::event::Event;
@@ -52,7 +54,7 @@ pub struct Loop<S: Drop, N: News + Drop> {
     // The keys of those whose turn comes.
     queue: Vec<usize>,
     service: Counting<S>,
-    shown: Option<Arc<N, Global>>,
+    shown: Newest<N>,
     beginning: Beginning,
     limits: Limits,
     counts: Arc<Counts, Global>,
@@ -97,7 +99,7 @@ where
                 tally: Tally::new(),
                 calls: 0,
             },
-            shown: None,
+            shown: Newest::new(),
             beginning,
             limits,
             counts,
@@ -129,24 +131,34 @@ where
         let is_woken = self.mark();
         self.take_turns(now);
         let is_due = now.saturating_sub(self.swept) >= SWEEP;
-        if is_woken || is_due {
-            let taken = self.inbox.take(rt);
-            if taken.is_stopped {
-                self.end();
-                return false;
-            }
-            if let Some(news) = taken.news {
-                self.show(news);
-            }
-            for (stream, role) in taken.streams {
-                self.begin(stream, role, now);
-            }
+        if (is_woken || is_due) && !self.collect(rt, now) {
+            return false;
         }
         if is_due {
             self.swept = now;
             self.sweep(now);
         }
         self.tell();
+        true
+    }
+
+    // Does what was handed in asks for. Answers whether it goes on.
+    fn collect<R: Wait>(&mut self, rt: &R, now: u64) -> bool {
+        let Taken {
+            streams,
+            news,
+            is_stopped,
+        } = self.inbox.take(rt);
+        if is_stopped {
+            self.end();
+            return false;
+        }
+        if let Some(news) = news {
+            self.show(news);
+        }
+        for (stream, role) in streams {
+            self.begin(stream, role, now);
+        }
         true
     }
 
@@ -209,15 +221,12 @@ where
 
     // From now on shows these news, if they are newer.
     fn show(&mut self, news: Arc<N, Global>) {
-        if let Some(before) = &self.shown
-            && news.revision() <= before.revision()
-        {
-            return;
-        }
         let Ok(told) = Arc::try_clone(&news) else {
             return;
         };
-        self.shown = Some(news);
+        if !self.shown.take(news) {
+            return;
+        }
         self.service.service.inform(told);
         for key in 0..self.members.capacity() {
             if let Some(member) = self.members.get_mut(key)
