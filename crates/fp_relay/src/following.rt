@@ -5,10 +5,10 @@ use crate::events::{Event, tell, tell_failure};
 use crate::host::Host;
 use crate::numbers::Numbers;
 use crate::probing::probe_peer;
-use crate::services::Set;
+use crate::set::Set;
 use crate::shelf::Shelf;
 use crate::source::{Audience, SourceEnd, follow};
-use fp_loop::Loops;
+use fp_loop::{Loops, News};
 use fp_shown::Shown;
 use fp_stream::Hello;
 use fp_streams::FailureCounted;
@@ -37,7 +37,7 @@ pub struct Showing<R: Drop> {
 impl<R: Host> Showing<R> {
     /// Shows a set to the loops.
     pub fn show_set(&mut self, set: &Arc<Set, Global>) -> Result<(), AllocError> {
-        let (revision, flags) = (set.shown.revision(), set.shown.set().len() as u64);
+        let (revision, flags) = (set.revision(), set.shown().set().len() as u64);
         self.loops.post_news(&self.rt, set)?;
         self.numbers.show(revision, flags);
         tell(&self.rt, &Event::Shown { revision, flags });
@@ -59,7 +59,7 @@ impl<R: Host> Audience for Showing<R> {
 
     fn show(&mut self, shown: Shown) -> Result<(), AllocError> {
         let bytes = HEAD + shown.document().len() as u64;
-        let set = Arc::new(self.alloc, Set { shown })?;
+        let set = Arc::new(self.alloc, Set::of(shown))?;
         let kept = Arc::try_clone(&set)?;
         self.show_set(&set)?;
         self.numbers.take(&self.rt, bytes);

@@ -16,6 +16,7 @@ mod probing;
 mod restoring;
 mod running;
 mod services;
+mod set;
 mod shelf;
 mod source;
 mod spelling;

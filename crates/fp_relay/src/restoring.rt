@@ -4,7 +4,7 @@ use crate::events::{Event, tell, tell_failure};
 use crate::following::Showing;
 use crate::host::Host;
 use crate::keeping::KeptFile;
-use crate::services::Set;
+use crate::set::Set;
 use fp_shown::Shown;
 use fp_stream::{Frame, Hello};
 use std::io;
@@ -41,7 +41,7 @@ fn restore<R: Host>(
         return Ok(None);
     };
     let (revision, flags) = (shown.revision(), shown.set().len() as u64);
-    let set = Arc::new(rt.alloc(), Set { shown })?;
+    let set = Arc::new(rt.alloc(), Set::of(shown))?;
     showing.show_set(&set)?;
     let path = file.path();
     tell(

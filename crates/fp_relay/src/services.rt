@@ -3,10 +3,10 @@
 use crate::cross_origin::Origins;
 use crate::evaluating::respond;
 use crate::numbers::Numbers;
+use crate::set::Set;
 use crate::status::answer_status;
 use bytes::Bytes;
-use fp_loop::{Counts, Informed, News};
-use fp_shown::Shown;
+use fp_loop::{Counts, Informed};
 use http::Request;
 use http_server::{Response, Service};
 use std::alloc::{AllocError, Global};
@@ -15,22 +15,6 @@ use std::time::{Clock, SystemTime, UNIX_EPOCH};
 
 // The last moment that a reply knows.
 const LAST_MOMENT: u64 = 0x7fff_ffff_ffff_ffff;
-
-/// What a relay shows, as its loops share it.
-#[derive(Drop)]
-pub struct Set {
-    pub shown: Shown,
-}
-
-impl News for Set {
-    fn revision(&self) -> u64 {
-        self.shown.revision()
-    }
-
-    fn document(&self) -> &[u8] {
-        self.shown.document()
-    }
-}
 
 /// Evaluations, over the newest set that their loop was shown.
 #[derive(Drop)]
@@ -65,7 +49,7 @@ impl<R: Clock + Drop> Service for Evaluations<R> {
 
     fn call(&mut self, request: &Request<Bytes>, response: &mut Response) -> Result<(), AllocError> {
         let shown = match &self.set {
-            Some(set) => Some(&set.shown),
+            Some(set) => Some(set.shown()),
             None => None,
         };
         let now = moment(&self.rt);

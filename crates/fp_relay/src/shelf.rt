@@ -4,7 +4,8 @@ use crate::events::{Event, tell_failure};
 use crate::host::Host;
 use crate::keeping::KeptFile;
 use crate::kept::parts_of;
-use crate::services::Set;
+use crate::set::Set;
+use fp_loop::News;
 use std::alloc::Global;
 use std::sync::{Arc, Condvar, CondvarTimeouts, Mutex};
 use std::time::Duration;
@@ -78,7 +79,7 @@ impl Shelf {
     // Keeps a set, and tries again until a newer one is there.
     fn keep<R: Host>(&self, rt: &R, file: &KeptFile, set: &Set) {
         for _ in rt.forever() {
-            let parts = parts_of(set.shown.revision(), set.shown.document());
+            let parts = parts_of(set.revision(), set.document());
             let Err(reason) = file.keep(rt, &parts) else {
                 return;
             };

@@ -7,7 +7,8 @@ use crate::keeping::KeptFile;
 use crate::numbers::Numbers;
 use crate::ports::{Port, Ports};
 use crate::restoring::restored;
-use crate::services::{Evaluations, Set, StatusPages};
+use crate::services::{Evaluations, StatusPages};
+use crate::set::Set;
 use crate::shelf::Shelf;
 use crate::words::Options;
 use fp_loop::{Counts, Door, Informed, Limits, Loop, Loops, Role};
@@ -43,6 +44,8 @@ pub struct Relaying {
     status: Arc<Loops<Set>, Global>,
     numbers: Arc<Numbers, Global>,
     counts: Arc<Counts, Global>,
+    // Of connections of operators, which nobody asks for.
+    status_counts: Arc<Counts, Global>,
     shelf: Arc<Shelf, Global>,
     // Those that end once they are told to.
     threads: Vec<JoinHandle<()>>,
@@ -57,6 +60,7 @@ impl Relaying {
             status: Arc::new(alloc, Loops::new(alloc))?,
             numbers: Arc::new(alloc, Numbers::new(rt, alloc)?)?,
             counts: Arc::new(alloc, Counts::new())?,
+            status_counts: Arc::new(alloc, Counts::new())?,
             shelf: Arc::new(alloc, Shelf::new())?,
             threads: Vec::new(alloc),
         };
@@ -87,7 +91,8 @@ impl Relaying {
             let origins = Arc::try_clone(&origins)?;
             let numbers = Arc::try_clone(&self.numbers)?;
             let service = Evaluations::new(*rt, alloc, origins, numbers);
-            self.begin_loop(rt, service, &mut loops)?;
+            let counts = Arc::try_clone(&self.counts)?;
+            self.begin_loop(rt, service, counts, &mut loops)?;
         }
         self.loops = Arc::new(alloc, loops)?;
         Ok(())
@@ -100,18 +105,24 @@ impl Relaying {
         let counts = Arc::try_clone(&self.counts)?;
         let service = StatusPages::new(*rt, alloc, numbers, counts);
         let mut loops = Loops::new(alloc);
-        self.begin_loop(rt, service, &mut loops)?;
+        let counts = Arc::try_clone(&self.status_counts)?;
+        self.begin_loop(rt, service, counts, &mut loops)?;
         self.status = Arc::new(alloc, loops)?;
         Ok(())
     }
 
     // A loop over a service, in a thread of its own.
-    fn begin_loop<R, S>(&mut self, rt: &R, service: S, loops: &mut Loops<Set>) -> io::Result<()>
+    fn begin_loop<R, S>(
+        &mut self,
+        rt: &R,
+        service: S,
+        counts: Arc<Counts, Global>,
+        loops: &mut Loops<Set>,
+    ) -> io::Result<()>
     where
         R: Host,
         S: Informed<Set> + Drop + Send + 'static,
     {
-        let counts = Arc::try_clone(&self.counts)?;
         let one: Loop<S, Set> = Loop::new(rt, rt.alloc(), service, LIMITS, counts)?;
         loops.add(one.inbox()?)?;
         let own = *rt;
@@ -166,12 +177,11 @@ impl Relaying {
             self.open(rt, port, Role::Frames, MOST_SUBSCRIBERS)?;
         }
         if let Some(port) = &ports.status {
-            let counts = Arc::new(rt.alloc(), Counts::new())?;
             let door = Door {
                 role: Role::Requests,
                 most: MOST_OPERATORS,
                 loops: Arc::try_clone(&self.status)?,
-                counts,
+                counts: Arc::try_clone(&self.status_counts)?,
             };
             self.attend(rt, port, door)?;
         }
