@@ -8,7 +8,7 @@ use Rattle.fp_edit.specs.Flags.{State}
 use Rattle.fp_ofrep.specs.Reply.{reply}
 use Rattle.fp_ofrep.specs.Response as ofrep
 use Rattle.fp_ofrep.specs.Route.{route_of}
-use Rattle.fp_shown.specs.Sets.{IsLawful, IsSetOf}
+use Rattle.fp_shown.specs.Sets.{IsSetOf}
 use Rattle.fp_stream.specs.Frames.{Snapshot}
 use Rattle.fp_relay.specs.Asking.{Asked}
 use Rattle.fp_relay.specs.CrossOrigin.{Allowed, allowed, and_allowing, and_leave, and_one}
@@ -58,9 +58,13 @@ abbrev pub asks_leave : Asked → Option Allowed → Bool
 asks_leave asked allowance =
     (is_some allowance && bytes_eq asked.method (codes "OPTIONS")) && is_some (route_of asked.target)
 
-abbrev pub answer_over : State → Asked → Option Allowed → ℕ → Answer
-answer_over set asked allowance now = if asks_leave asked allowance then leave
-    else told (reply set asked.method asked.target asked.tags (Some asked.body) now)
+-- the reply of the protocol over a set
+abbrev pub reply_to : State → Asked → ℕ → ofrep.Response
+reply_to set asked now = reply set asked.method asked.target asked.tags (Some asked.body) now
+
+abbrev pub answer_from_set : State → Asked → Option Allowed → ℕ → Answer
+answer_from_set set asked allowance now = if asks_leave asked allowance then leave
+    else told (reply_to set asked now)
 
 -- with the fields that tell a page what is allowed to it
 abbrev pub and_allowed : Answer → Option Allowed → Answer
@@ -70,20 +74,16 @@ and_allowed answer allowance =
 abbrev pub answer_from : Option State → List (List ℕ) → Asked → ℕ → Answer
 answer_from None origins asked now = and_allowed not_yet (allowed origins asked.origin)
 answer_from (Some set) origins asked now =
-    and_allowed (answer_over set asked (allowed origins asked.origin) now)
+    and_allowed (answer_from_set set asked (allowed origins asked.origin) now)
     (allowed origins asked.origin)
 
 -- a response is this answer
 abbrev pub IsSent : Answer → Response → Type 0
 IsSent answer response = IsResponse answer.status answer.fields answer.body response
 
--- a set is what a snapshot shows
-pub record IsShown (snapshot : Snapshot) (set : State) : Type 0 where
-  pub lawful : IsLawful set
-  pub set_of : IsSetOf snapshot.revision snapshot.document set
-
 -- a response to a request where this is shown
 abbrev pub Responds : Option Snapshot → List (List ℕ) → Asked → ℕ → Response → Type 0
 Responds None origins asked now response = IsSent (answer_from None origins asked now) response
-Responds (Some snapshot) origins asked now response = (set : State) × IsShown snapshot set
+Responds (Some snapshot) origins asked now response = (set : State)
+    × IsSetOf snapshot.revision snapshot.document set
     × IsSent (answer_from (Some set) origins asked now) response

@@ -16,22 +16,22 @@ pub record Asked : Type 0 where
   pub body : List ℕ
 
 -- the value of the first field of a name
-abbrev pub first_value : Parts → List ℕ → Option (List ℕ)
-first_value head name = option_map (λ v. v.bytes) (get head.headers name)
+abbrev pub value_of : Parts → List ℕ → Option (List ℕ)
+value_of head name = option_map (λ v. v.bytes) (get head.headers name)
 
 -- a request for no path has none
 abbrev pub target_text : Option (List ℕ) → List ℕ
 target_text None = []
 target_text (Some text) = or_slash text
 
-abbrev pub target_of : Parts → List ℕ
-target_of head = target_text (uri_path_and_query head.uri)
+abbrev pub target_in : Parts → List ℕ
+target_in head = target_text (uri_path_and_query head.uri)
 
 abbrev pub asked_by : Request (List ℕ) → Asked
 asked_by request = record {
   method = (head_of request).method;
-  target = target_of (head_of request);
-  tags = first_value (head_of request) (codes "if-none-match");
-  origin = first_value (head_of request) (codes "origin");
+  target = target_in (head_of request);
+  tags = value_of (head_of request) (codes "if-none-match");
+  origin = value_of (head_of request) (codes "origin");
   body = body_of request;
 }

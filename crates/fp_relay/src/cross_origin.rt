@@ -1,10 +1,12 @@
 //! Web pages of other origins, and what their requests are told.
 
-ghost use Rattle.std.specs.Prelude.{◌≡◌, ◌++◌, ◌↔◌, IsTrue, IfOk, OnOk, option_map};
+ghost use Rattle.std.specs.Prelude.{◌≡◌, OnOk, codes, map, option_map, string_bytes};
 ghost use Rattle.std.specs.Option.{option_copied};
-ghost use Rattle.http_server.specs.Response.{fields_of};
-ghost use Rattle.fp_relay.specs.CrossOrigin.{allowance_of, allowing_fields, preflight_fields};
-ghost use Rattle.fp_relay.specs.Seen.{allowance_seen};
+ghost use Rattle.http_server.specs.Response.{IsResponse, fields_of};
+ghost use Rattle.http_header.specs.FieldValue.{is_visible_text};
+ghost use Rattle.std.specs.Prelude.{IsTrue};
+ghost use Rattle.fp_relay.specs.CrossOrigin.{allowance_seen, allowed, and_allowing};
+ghost use Rattle.fp_relay.specs.CrossOrigin.{and_exposing, and_leave, and_one, lists};
 
 use http::header::{self, HeaderName, HeaderValue};
 use http_server::Response;
@@ -48,9 +50,11 @@ impl Origins {
     /// What is allowed to the origin that a request names.
     pub fn allowance<'o>(&self, origin: Option<&'o [u8]>) -> Option<Allowance<'o>>
         ensures { option_map allowance_seen result
-            ≡ allowance_of self.now (option_copied origin.entry) }
+            ≡ allowed self.now (option_copied origin.entry) }
     {
-        let origin = origin?;
+        let Some(origin) = origin else {
+            return None;
+        };
         if self.lists(EVERY.as_bytes()) {
             Some(Allowance::Every)
         } else if self.lists(origin) {
@@ -62,9 +66,14 @@ impl Origins {
 
     // Whether a text is among these.
     fn lists(&self, text: &[u8]) -> bool
-        ensures { IsTrue result ↔ Contains self.now text.now }
+        ensures { result ≡ lists self.now text.now }
     {
-        self.texts.iter().any(|listed| listed.as_bytes() == text)
+        for listed in &self.texts {
+            if listed.as_bytes() == text {
+                return true;
+            }
+        }
+        false
     }
 }
 
@@ -75,43 +84,65 @@ pub fn add_allowance(
     response: &mut Response,
 ) -> Result<(), AllocError>
     ensures { OnOk result (IsResponse response.old.status
-        (fields_of response.old ++ allowing_fields (option_map allowance_seen allowance))
+        (and_allowing (fields_of response.old) (option_map allowance_seen allowance.entry))
         response.old.body.items response.new) }
 {
-    let Some(allowance) = allowance else {
-        return Ok(());
-    };
     match allowance {
-        Allowance::Every => {
+        None => Ok(()),
+        Some(Allowance::Every) => {
             add(response, header::ACCESS_CONTROL_ALLOW_ORIGIN, EVERY)?;
+            add_exposing(response)
         }
-        Allowance::Only(origin) => {
-            let value = HeaderValue::from_bytes(alloc, origin).map_err(|_| AllocError)?;
-            response.add_header(header::ACCESS_CONTROL_ALLOW_ORIGIN, value)?;
+        Some(Allowance::Only(origin)) => {
+            add_origin(alloc, origin, response)?;
             add(response, header::VARY, "origin")?;
+            add_exposing(response)
         }
     }
-    add(response, header::ACCESS_CONTROL_EXPOSE_HEADERS, "etag, flag-revision")?;
-    Ok(())
+}
+
+// Adds the field that names the origin.
+fn add_origin(alloc: Global, origin: &[u8], response: &mut Response) -> Result<(), AllocError>
+    ensures { OnOk result (IsResponse response.old.status
+        (and_one (fields_of response.old) (codes "access-control-allow-origin") origin.now)
+        response.old.body.items response.new) }
+{
+    // It came as a field's value.
+    match HeaderValue::from_bytes(alloc, origin) {
+        Ok(value) => response.add_header(header::ACCESS_CONTROL_ALLOW_ORIGIN, value),
+        Err(_) => Err(AllocError),
+    }
+}
+
+// Adds the field that says what a page may read of a reply.
+fn add_exposing(response: &mut Response) -> Result<(), AllocError>
+    ensures { OnOk result (IsResponse response.old.status
+        (and_exposing (fields_of response.old)) response.old.body.items response.new) }
+{
+    add(response, header::ACCESS_CONTROL_EXPOSE_HEADERS, "etag, flag-revision")
 }
 
 /// Adds the fields that answer what a page may ask.
-pub fn add_preflight(response: &mut Response) -> Result<(), AllocError>
+pub fn add_leave(response: &mut Response) -> Result<(), AllocError>
     ensures { OnOk result (IsResponse response.old.status
-        (fields_of response.old ++ preflight_fields) response.old.body.items response.new) }
+        (and_leave (fields_of response.old)) response.old.body.items response.new) }
 {
     add(response, header::ACCESS_CONTROL_ALLOW_METHODS, "POST")?;
     let asked = "content-type, if-none-match, authorization";
     add(response, header::ACCESS_CONTROL_ALLOW_HEADERS, asked)?;
-    add(response, header::ACCESS_CONTROL_MAX_AGE, "86400")?;
-    Ok(())
+    add(response, header::ACCESS_CONTROL_MAX_AGE, "86400")
 }
 
-// Adds a field.
-fn add(
+/// Adds a field.
+pub fn add(
     response: &mut Response,
     name: HeaderName,
     value: &'static str,
-) -> Result<(), AllocError> {
+) -> Result<(), AllocError>
+    requires { IsTrue (is_visible_text value.now) }
+    ensures { OnOk result (IsResponse response.old.status
+        (and_one (fields_of response.old) name value.now)
+        response.old.body.items response.new) }
+{
     response.add_header(name, HeaderValue::from_static(value))
 }

@@ -1,5 +1,10 @@
 //! The services of a relay's ports, as its loops ask them.
 
+ghost use Rattle.std.specs.Prelude.{◌≡◌, ◌<◌, ◌^◌, ℕ, Some, option_map};
+ghost use Rattle.std.specs.Arc.{arc_value};
+ghost use Rattle.fp_relay.specs.Answers.{Responds};
+ghost use Rattle.fp_relay.specs.Asking.{asked_by};
+
 use crate::cross_origin::Origins;
 use crate::evaluating::respond;
 use crate::numbers::Numbers;
@@ -45,7 +50,9 @@ impl<R: Clock + Drop> Evaluations<R> {
 }
 
 impl<R: Clock + Drop> Service for Evaluations<R> {
-    ghost answers = { λ _ _ _ _. ⊤ };
+    // By what it is shown, at some moment; and it goes on to be shown that.
+    ghost answers = { λ old request response new. (now : ℕ) × Responds (option_map arc_value old.set)
+        (arc_value old.origins) (asked_by request) now response × (new.set ≡ old.set) };
 
     fn call(&mut self, request: &Request<Bytes>, response: &mut Response) -> Result<(), AllocError> {
         let shown = match &self.set {
@@ -60,7 +67,9 @@ impl<R: Clock + Drop> Service for Evaluations<R> {
 }
 
 impl<R: Clock + Drop> Informed<Set> for Evaluations<R> {
-    fn inform(&mut self, news: Arc<Set, Global>) {
+    fn inform(&mut self, news: Arc<Set, Global>)
+        ensures { self.new.set ≡ Some news }
+    {
         self.set = Some(news);
     }
 }
@@ -92,7 +101,7 @@ impl<R: Clock + Drop> StatusPages<R> {
 }
 
 impl<R: Clock + Drop> Service for StatusPages<R> {
-    ghost answers = { λ _ _ _ _. ⊤ };
+    ghost answers = { λ _ _ _ _. Unit };
 
     fn call(&mut self, request: &Request<Bytes>, response: &mut Response) -> Result<(), AllocError> {
         let mut report = self.numbers.report(&self.rt);
