@@ -31,5 +31,5 @@ pub use host::Host;
 pub use kept::{KeptParts, decode, parts_of};
 pub use running::{RelayFault, relay};
 pub use source::{Audience, SourceEnd, follow};
-pub use status::{Report, STATUSES, answer_status};
+pub use status::{Answered, Report, answer_status};
 pub use words::{Options, WordsFault, options_of};

@@ -1,48 +1,97 @@
 //! The numbers of a running relay, which its threads count together.
 
-use crate::status::{Report, STATUSES};
-use std::alloc::{AllocError, Global};
+use crate::status::{Answered, Report};
 use std::sync::atomic::{AtomicBool, AtomicU64, Ordering};
-use std::time::{Clock, Duration};
+use std::time::Clock;
 
 /// What the threads of a relay count.
 #[derive(Drop)]
 pub struct Numbers {
+    has_set: AtomicBool,
     revision: AtomicU64,
     flags: AtomicU64,
-    has_set: AtomicBool,
     // In milliseconds of the clock.
     frame_at: AtomicU64,
     source_at: AtomicU64,
     is_connected: AtomicBool,
     source_revision: AtomicU64,
-    requests: Vec<AtomicU64>,
-    evaluations: AtomicU64,
+    answered: AnsweredCounts,
     frames: AtomicU64,
     frame_bytes: AtomicU64,
 }
 
+// How many requests were answered with each status.
+#[derive(Drop)]
+struct AnsweredCounts {
+    ok: AtomicU64,
+    no_content: AtomicU64,
+    not_modified: AtomicU64,
+    bad_request: AtomicU64,
+    not_found: AtomicU64,
+    not_allowed: AtomicU64,
+    too_long: AtomicU64,
+    unavailable: AtomicU64,
+}
+
+impl AnsweredCounts {
+    fn new() -> AnsweredCounts {
+        AnsweredCounts {
+            ok: AtomicU64::new(0),
+            no_content: AtomicU64::new(0),
+            not_modified: AtomicU64::new(0),
+            bad_request: AtomicU64::new(0),
+            not_found: AtomicU64::new(0),
+            not_allowed: AtomicU64::new(0),
+            too_long: AtomicU64::new(0),
+            unavailable: AtomicU64::new(0),
+        }
+    }
+
+    // One more of this status; no other is answered with.
+    fn count(&self, status: u16) {
+        let count = match status {
+            200 => &self.ok,
+            204 => &self.no_content,
+            304 => &self.not_modified,
+            400 => &self.bad_request,
+            404 => &self.not_found,
+            405 => &self.not_allowed,
+            413 => &self.too_long,
+            _ => &self.unavailable,
+        };
+        count.fetch_add(1, Ordering::SeqCst);
+    }
+
+    fn now(&self) -> Answered {
+        Answered {
+            ok: read(&self.ok),
+            no_content: read(&self.no_content),
+            not_modified: read(&self.not_modified),
+            bad_request: read(&self.bad_request),
+            not_found: read(&self.not_found),
+            not_allowed: read(&self.not_allowed),
+            too_long: read(&self.too_long),
+            unavailable: read(&self.unavailable),
+        }
+    }
+}
+
 impl Numbers {
     /// Nothing was counted yet.
-    pub fn new<R: Clock>(rt: &R, alloc: Global) -> Result<Numbers, AllocError> {
-        let mut requests = Vec::with_capacity(alloc, STATUSES.len())?;
-        for _ in STATUSES {
-            requests.push(AtomicU64::new(0))?;
-        }
+    pub fn new<R: Clock>(rt: &R) -> Numbers {
         let now = milliseconds(rt);
-        Ok(Numbers {
+        Numbers {
+            has_set: AtomicBool::new(false),
             revision: AtomicU64::new(0),
             flags: AtomicU64::new(0),
-            has_set: AtomicBool::new(false),
             frame_at: AtomicU64::new(now),
             source_at: AtomicU64::new(now),
             is_connected: AtomicBool::new(false),
             source_revision: AtomicU64::new(0),
-            requests,
-            evaluations: AtomicU64::new(0),
+            answered: AnsweredCounts::new(),
             frames: AtomicU64::new(0),
             frame_bytes: AtomicU64::new(0),
-        })
+        }
     }
 
     /// A set is shown.
@@ -72,45 +121,43 @@ impl Numbers {
 
     /// A request was answered with this status.
     pub fn answer(&self, status: u16) {
-        let counted = STATUSES.iter().zip(self.requests.iter());
-        for (of, count) in counted {
-            if *of == status {
-                count.fetch_add(1, Ordering::SeqCst);
-            }
-        }
-        if status == 200 || status == 304 {
-            self.evaluations.fetch_add(1, Ordering::SeqCst);
-        }
+        self.answered.count(status);
     }
 
     /// What an operator is told, but for the connections.
     pub fn report<R: Clock>(&self, rt: &R) -> Report {
         let now = milliseconds(rt);
-        let since = |at: &AtomicU64| now.saturating_sub(at.load(Ordering::SeqCst)) / 1000;
-        let mut requests = [0; 8];
-        for (shown, count) in requests.iter_mut().zip(self.requests.iter()) {
-            *shown = count.load(Ordering::SeqCst);
-        }
+        let since_source = if self.is_connected.load(Ordering::SeqCst) {
+            0
+        } else {
+            seconds_since(&self.source_at, now)
+        };
+        let requests = self.answered.now();
         Report {
             has_set: self.has_set.load(Ordering::SeqCst),
-            revision: self.revision.load(Ordering::SeqCst),
-            flags: self.flags.load(Ordering::SeqCst),
-            since_frame: since(&self.frame_at),
-            since_source: if self.is_connected.load(Ordering::SeqCst) {
-                0
-            } else {
-                since(&self.source_at)
-            },
-            source_revision: self.source_revision.load(Ordering::SeqCst),
+            revision: read(&self.revision),
+            flags: read(&self.flags),
+            since_frame: seconds_since(&self.frame_at, now),
+            since_source,
+            source_revision: read(&self.source_revision),
             connections: 0,
             connections_total: 0,
             refused_total: 0,
             requests,
-            evaluations: self.evaluations.load(Ordering::SeqCst),
-            frames: self.frames.load(Ordering::SeqCst),
-            frame_bytes: self.frame_bytes.load(Ordering::SeqCst),
+            // What the client has was evaluated too.
+            evaluations: requests.ok.saturating_add(requests.not_modified),
+            frames: read(&self.frames),
+            frame_bytes: read(&self.frame_bytes),
         }
     }
+}
+
+fn read(count: &AtomicU64) -> u64 {
+    count.load(Ordering::SeqCst)
+}
+
+fn seconds_since(at: &AtomicU64, now: u64) -> u64 {
+    now.saturating_sub(read(at)) / 1000
 }
 
 // What the clock shows, and 0 without one.

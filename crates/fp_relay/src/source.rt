@@ -1,5 +1,13 @@
 //! One connection to the source: what it sends, and what is shown of it.
 
+ghost use Rattle.std.specs.Prelude.{◌≡◌, ◌≤◌, ◌++◌, ◌∷◌, [], ℕ, List, length, IfErr, OnOk, OnErr};
+ghost use Rattle.fp_stream.specs.Frames.{Snapshot, snapshot_of, snapshots_of};
+ghost use Rattle.fp_stream.specs.Heads.{longest_body};
+ghost use Rattle.fp_relay.specs.Following.{AreShort, Shows, ShowsFront};
+ghost use Rattle.fp_relay.specs.Ends.{IsSetFault, of_frame, of_shown, of_stream};
+ghost use Rattle.fp_relay.specs.Ends.{Follows, end_of};
+ghost use Rattle.fp_relay.specs.declared.source.SourceEnd.TheVariants.{Memory};
+
 use fp_shown::{Shown, ShownFault};
 use fp_stream::{Decoder, Frame, FrameFault, Hello, write_hello};
 use fp_streams::{FailureCounted, StreamFault};
@@ -12,12 +20,19 @@ const CHUNK: usize = 65_536;
 
 /// Who is told what the source sends, and shown what is new.
 pub trait Audience {
+    // What it was shown so far, in turn.
+    ghost seen: { Self → List Snapshot };
+
     /// Notes that a frame of this revision came, where this was shown last. One that isn't newer is
     /// dropped.
-    fn note(&mut self, revision: u64, last: Hello);
+    fn note(&mut self, revision: u64, last: Hello)
+        ensures { seen self.new ≡ seen self.old };
 
     /// Shows a set.
-    fn show(&mut self, shown: Shown) -> Result<(), AllocError>;
+    fn show(&mut self, shown: Shown) -> Result<(), AllocError>
+        requires { length shown.document ≤ longest_body }
+        ensures shown { OnOk result (seen self.new ≡ seen self.old ++ shown ∷ []) }
+        ensures unchanged { OnErr result (seen self.new ≡ seen self.old) };
 }
 
 /// Why nothing more is taken from a connection.
@@ -48,6 +63,8 @@ impl fmt::Display for SourceEnd {
 }
 
 impl From<StreamFault> for SourceEnd {
+    ghost from_gives = { λ f e. e ≡ of_stream f };
+
     fn from(fault: StreamFault) -> SourceEnd {
         match fault {
             StreamFault::Device => SourceEnd::Device,
@@ -57,6 +74,8 @@ impl From<StreamFault> for SourceEnd {
 }
 
 impl From<FrameFault> for SourceEnd {
+    ghost from_gives = { λ f e. e ≡ of_frame f };
+
     fn from(fault: FrameFault) -> SourceEnd {
         match fault {
             FrameFault::Memory => SourceEnd::Memory,
@@ -66,6 +85,8 @@ impl From<FrameFault> for SourceEnd {
 }
 
 impl From<ShownFault> for SourceEnd {
+    ghost from_gives = { λ f e. e ≡ of_shown f };
+
     fn from(fault: ShownFault) -> SourceEnd {
         match fault {
             ShownFault::NoSet => SourceEnd::NoSet,
@@ -75,20 +96,25 @@ impl From<ShownFault> for SourceEnd {
 }
 
 impl From<AllocError> for SourceEnd {
+    ghost from_gives = { λ _ e. e ≡ Memory };
+
     fn from(_fault: AllocError) -> SourceEnd {
         SourceEnd::Memory
     }
 }
 
 /// Says hello with nothing, and shows each set that is newer than `last`, which is what was shown
-/// last, as soon as its frame is whole, until the connection ends.
+/// last, as soon as its frame is whole, until the connection ends. Answers why it ended.
 pub fn follow<S: Write, R: Read, A: Audience>(
     alloc: Global,
     service: &mut FailureCounted<S>,
     r: &mut FailureCounted<R>,
     last: &mut Hello,
     audience: &mut A,
-) -> SourceEnd {
+) -> SourceEnd
+    ensures { Follows (R.remaining r.old.inner) (R.remaining r.new.inner) last.old last.new
+        (A.seen audience.old) (A.seen audience.new) result }
+{
     if let Err(fault) = write_hello(service, Hello::Nothing) {
         return fault.into();
     }
@@ -104,7 +130,10 @@ fn take_frames<R: Read, A: Audience>(
     r: &mut FailureCounted<R>,
     last: &mut Hello,
     audience: &mut A,
-) -> Result<(), SourceEnd> {
+) -> Result<(), SourceEnd>
+    ensures { Follows (R.remaining r.old.inner) (R.remaining r.new.inner) last.old last.new
+        (A.seen audience.old) (A.seen audience.new) (end_of result) }
+{
     let mut decoder = Decoder::new(alloc, Hello::Nothing);
     let mut chunk = [0; CHUNK];
     loop {
@@ -126,7 +155,14 @@ fn show_all<A: Audience>(
     frames: Vec<Frame>,
     last: &mut Hello,
     audience: &mut A,
-) -> Result<(), SourceEnd> {
+) -> Result<(), SourceEnd>
+    requires { AreShort (snapshots_of frames.items) }
+    ensures all { OnOk result (Shows last.old last.new (A.seen audience.old)
+        (A.seen audience.new) (snapshots_of frames.items)) }
+    ensures front { OnErr result (ShowsFront last.old last.new (A.seen audience.old)
+        (A.seen audience.new) (snapshots_of frames.items)) }
+    ensures fault { IfErr result IsSetFault }
+{
     for frame in frames {
         show_newer(alloc, frame, last, audience)?;
     }
@@ -139,7 +175,14 @@ fn show_newer<A: Audience>(
     frame: Frame,
     last: &mut Hello,
     audience: &mut A,
-) -> Result<(), SourceEnd> {
+) -> Result<(), SourceEnd>
+    requires { length frame.body.items ≤ longest_body }
+    ensures shows { OnOk result (Shows last.old last.new (A.seen audience.old)
+        (A.seen audience.new) (snapshot_of frame ∷ [])) }
+    ensures unchanged { OnErr result ((last.new ≡ last.old)
+        × (A.seen audience.new ≡ A.seen audience.old)) }
+    ensures fault { IfErr result IsSetFault }
+{
     let revision = frame.revision;
     audience.note(revision, *last);
     if !last.is_behind(revision) {

@@ -1,14 +1,41 @@
 //! What an operator reads of a relay: whether it answers, and its numbers.
 
+ghost use Rattle.std.specs.Prelude.{OnOk};
+ghost use Rattle.http.specs.Request.{head_of};
+ghost use Rattle.http_server.specs.Response.{IsBlank};
+ghost use Rattle.http_uri.specs.Uri.{uri_path};
+ghost use Rattle.fp_relay.specs.Answers.{IsSent};
+ghost use Rattle.fp_relay.specs.Status.{get_only, health_of, not_get, numbers_of};
+ghost use Rattle.fp_relay.specs.Status.{status_answer};
+
+use crate::cross_origin::add;
 use crate::metrics::metrics_text;
 use bytes::Bytes;
-use http::header::{self, HeaderValue};
+use http::header;
 use http::{Request, StatusCode};
 use http_server::Response;
 use std::alloc::{AllocError, Global};
 
-/// The statuses that a relay answers requests with.
-pub const STATUSES: [u16; 8] = [200, 204, 304, 400, 404, 405, 413, 503];
+/// How many requests were answered with each status.
+#[derive(Debug, Drop, Clone, Copy, PartialEq, Eq)]
+pub struct Answered {
+    /// With 200.
+    pub ok: u64,
+    /// With 204.
+    pub no_content: u64,
+    /// With 304.
+    pub not_modified: u64,
+    /// With 400.
+    pub bad_request: u64,
+    /// With 404.
+    pub not_found: u64,
+    /// With 405.
+    pub not_allowed: u64,
+    /// With 413.
+    pub too_long: u64,
+    /// With 503.
+    pub unavailable: u64,
+}
 
 /// The numbers of a relay.
 #[derive(Debug, Drop, Clone, Copy)]
@@ -31,8 +58,8 @@ pub struct Report {
     pub connections_total: u64,
     /// Connections that were refused.
     pub refused_total: u64,
-    /// How many requests were answered with each of `STATUSES`.
-    pub requests: [u64; 8],
+    /// Requests that were answered.
+    pub requests: Answered,
     /// How many of them were evaluated.
     pub evaluations: u64,
     /// Frames that were taken.
@@ -47,38 +74,67 @@ pub fn answer_status(
     request: &Request<Bytes>,
     report: &Report,
     response: &mut Response,
-) -> Result<(), AllocError> {
+) -> Result<(), AllocError>
+    requires { IsBlank response.old }
+    ensures { OnOk result (IsSent (status_answer report.now (head_of request.now).method
+        (uri_path (head_of request.now).uri)) response.new) }
+{
     let path = request.uri().path();
-    if path != "/healthz" && path != "/metrics" {
-        response.status = StatusCode::NOT_FOUND;
-        return Ok(());
-    }
-    if request.method().as_str() != "GET" {
-        response.status = StatusCode::METHOD_NOT_ALLOWED;
-        return response.add_header(header::ALLOW, HeaderValue::from_static("GET"));
-    }
     if path == "/healthz" {
-        show_health(report, response);
-        return Ok(());
+        return show_health(request, report, response);
     }
-    show_numbers(alloc, report, response)
+    if path == "/metrics" {
+        return show_numbers(alloc, request, report, response);
+    }
+    response.status = StatusCode::NOT_FOUND;
+    Ok(())
 }
 
 // Whether requests are answered.
-fn show_health(report: &Report, response: &mut Response) {
+fn show_health(
+    request: &Request<Bytes>,
+    report: &Report,
+    response: &mut Response,
+) -> Result<(), AllocError>
+    requires { IsBlank response.old }
+    ensures { OnOk result (IsSent (get_only (head_of request.now).method (health_of report.now))
+        response.new) }
+{
+    if request.method().as_str() != "GET" {
+        return refuse(response);
+    }
     if !report.has_set {
         response.status = StatusCode::SERVICE_UNAVAILABLE;
     }
+    Ok(())
 }
 
 fn show_numbers(
     alloc: Global,
+    request: &Request<Bytes>,
     report: &Report,
     response: &mut Response,
-) -> Result<(), AllocError> {
+) -> Result<(), AllocError>
+    requires { IsBlank response.old }
+    ensures { OnOk result (IsSent (get_only (head_of request.now).method (numbers_of report.now))
+        response.new) }
+{
+    if request.method().as_str() != "GET" {
+        return refuse(response);
+    }
     let text = metrics_text(alloc, report)?;
-    let text = Bytes::from_vec(text).map_err(|_| AllocError)?;
-    let kind = HeaderValue::from_static("text/plain; version=0.0.4");
-    response.add_header(header::CONTENT_TYPE, kind)?;
-    response.body.push(text)
+    add(response, header::CONTENT_TYPE, "text/plain; version=0.0.4")?;
+    match Bytes::from_vec(text) {
+        Ok(text) => response.body.push(text),
+        Err(_) => Err(AllocError),
+    }
+}
+
+// No other method is taken.
+fn refuse(response: &mut Response) -> Result<(), AllocError>
+    requires { IsBlank response.old }
+    ensures { OnOk result (IsSent not_get response.new) }
+{
+    response.status = StatusCode::METHOD_NOT_ALLOWED;
+    add(response, header::ALLOW, "GET")
 }

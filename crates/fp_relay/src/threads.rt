@@ -58,7 +58,7 @@ impl Relaying {
         let mut relaying = Relaying {
             loops: Arc::new(alloc, Loops::new(alloc))?,
             status: Arc::new(alloc, Loops::new(alloc))?,
-            numbers: Arc::new(alloc, Numbers::new(rt, alloc)?)?,
+            numbers: Arc::new(alloc, Numbers::new(rt))?,
             counts: Arc::new(alloc, Counts::new())?,
             status_counts: Arc::new(alloc, Counts::new())?,
             shelf: Arc::new(alloc, Shelf::new())?,
