@@ -14,6 +14,7 @@ mod seeded;
 mod seeds;
 mod session;
 mod shapes;
+mod shown;
 mod streams;
 mod values;
 

@@ -6,6 +6,7 @@ ghost use Rattle.fp_base.specs.TreeView.{tree_view};
 use crate::data::put_datum;
 use crate::requests::Asking;
 use crate::shapes::{Shapes, add_shape};
+use crate::shown::shown_set;
 use crate::streams::Subscriber;
 use crate::{definitions, edits, imports, operators, records, rules, seeded, values};
 use fp_base::{Tree, read_json, read_tree};
@@ -23,7 +24,7 @@ use std::collections::BTreeMap;
 use std::mem;
 
 // The words that a name or a number stands behind.
-const HAVE_FIRST: [&str; 16] = [
+const HAVE_FIRST: [&str; 17] = [
     "let",
     "fits",
     "nests",
@@ -40,6 +41,7 @@ const HAVE_FIRST: [&str; 16] = [
     "frame",
     "pieces",
     "waiting",
+    "shown",
 ];
 
 // The words whose operand is JSON.
@@ -63,7 +65,7 @@ const OF_BYTES: [&str; 7] = [
 ];
 
 // The words of `run_on_set`.
-const ON_SET: [&str; 5] = ["edit", "judge", "restore", "key", "set"];
+const ON_SET: [&str; 6] = ["edit", "judge", "restore", "key", "set", "shown"];
 
 // The words of `run_request`.
 const ON_REQUESTS: [&str; 4] = ["method", "if-none-match", "ask", "ask-too-long"];
@@ -274,6 +276,7 @@ impl Session {
             "judge" => edits::judged(&self.set, operand, out),
             "restore" => edits::restored(&mut self.set, number, operand, out),
             "key" => self.set_key(operand, out),
+            "shown" => self.show_set(number, operand, out),
             _ => self.start_set(number, operand, out),
         }
     }
@@ -322,6 +325,13 @@ impl Session {
         }
         self.set = FlagSet::at_revision(out.alloc, revision, limit);
         edits::put_size(&self.set, out);
+    }
+
+    // The set that is shown of a frame.
+    fn show_set(&mut self, revision: u64, document: &[u8], out: &mut Text) {
+        if let Some(set) = shown_set(revision, document, out) {
+            self.set = set;
+        }
     }
 
     // The data of operators and rules, shown as they are copied.

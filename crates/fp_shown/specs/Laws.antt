@@ -4,7 +4,6 @@ use Rattle.fp_documents.specs.Document.{document}
 use Rattle.fp_edit.specs.Flags.{State}
 use Rattle.fp_group_commit.specs.Tokens.{FrontState, front_revision, front_set}
 use Rattle.fp_ofrep.specs.Reply.{reply}
-use Rattle.fp_stream.specs.Frames.{snapshot_of}
 use Rattle.fp_stream.specs.declared.frame.Frame.{Frame}
 use Rattle.fp_shown.specs.Sets.{IsLawful, IsSetOf}
 

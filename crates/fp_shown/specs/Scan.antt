@@ -1,5 +1,5 @@
 -- One pass over a value, byte by byte: whether it is in a text, and how deep.
-use Rattle.std.specs.Prelude.{◌≡◌, ℕ, ◌+◌, ◌-◌, ◌==◌, ◌||◌, ◌&&◌, Bool, true, false, if◌then◌else◌}
+use Rattle.std.specs.Prelude.{ℕ, ◌+◌, ◌-◌, ◌==◌, ◌||◌, ◌&&◌, Bool, true, false, if◌then◌else◌}
 use Rattle.fp_shown.specs.declared.members.Place.{Place}
 use Rattle.fp_shown.specs.declared.members.Place.TheVariants.{Between, Quoted, Escaped}
 use Rattle.fp_shown.specs.declared.members.Scan.{Scan}

@@ -27,6 +27,10 @@ pub record IsLawful (s : State) : Type 0 where
   pub few : map.len s.flags ≤ MOST_FLAGS
   pub flags : All (IsFlag s.revision) (map.entries s.flags)
 
--- no set whatever has this revision and this document
+-- a set has this revision and this document, and keeps what every set keeps
+abbrev pub HasSet : ℕ → List ℕ → Type 0
+HasSet revision bytes = (s : State) × IsLawful s × IsSetOf revision bytes s
+
+-- no set whatever does
 abbrev pub HasNoSet : ℕ → List ℕ → Type 0
 HasNoSet revision bytes = (s : State) → IsLawful s → IsSetOf revision bytes s → ⊥

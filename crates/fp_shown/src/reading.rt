@@ -4,11 +4,15 @@
 ghost use Rattle.std.specs.Prelude.{◌≡◌, ◌+◌, ◌<◌, ◌≤◌, ℕ, List, true, false, Some, Err, IfOk};
 ghost use Rattle.std.specs.Prelude.{OnOk};
 ghost use Rattle.std.specs.FinMap as map;
-ghost use Rattle.std.specs.Str.{IsUtf8};
+ghost use Rattle.std.specs.Option.{option_copied};
+ghost use Rattle.std.specs.Str.{IsUtf8, bytes_eq};
 ghost use Rattle.json.specs.Print.{quoted};
 ghost use Rattle.serde_json.specs.Data.{string};
+ghost use Rattle.serde_json.specs.Find.{as_str};
 ghost use Rattle.fp_base.specs.Json.{json_of};
+ghost use Rattle.fp_base.specs.TreeView.{tree_view};
 ghost use Rattle.fp_definition.specs.Key.{is_key, key_bytes};
+ghost use Rattle.fp_documents.specs.Document.{document as document_of};
 ghost use Rattle.fp_documents.specs.Outline.{rest_text};
 ghost use Rattle.fp_edit.specs.Flags.{State, size};
 ghost use Rattle.fp_shown.specs.Reading.{LONGEST_FLAG, PutsFlag, SpellsFlag, told};
@@ -16,16 +20,18 @@ ghost use Rattle.fp_shown.specs.Sets.{HasNoSet, IsLawful, IsSetOf};
 ghost use Rattle.fp_shown.specs.declared.fault.ShownFault.TheVariants.{NoSet};
 
 use crate::fault::ShownFault;
+use crate::lawful::every_set_is_lawful;
 use crate::members::{Member, member_in};
 use fp_base::{Tree, read_tree};
 use fp_definition::{Definition, FlagKey, KeyFault, LONGEST_DEFINITION, LONGEST_KEY};
-use fp_edit::{Flag, FlagSet, MOST_FLAGS, REVISIONS_END};
+use fp_edit::{FLAG_FRAME, Flag, FlagSet, IMAGE_HEAD, MOST_FLAGS, REVISIONS_END};
 use json::Scratch;
-use std::alloc::Global;
+use std::alloc::{AllocError, Global};
 
 /// The limit of a shown set's image, in bytes: the most flags that a set has, each of the longest
 /// key and definition, fit.
-pub const SHOWN_LIMIT: u64 = 68_214_788;
+pub const SHOWN_LIMIT: u64 = IMAGE_HEAD
+    + MOST_FLAGS as u64 * (FLAG_FRAME as u64 + LONGEST_KEY as u64 + LONGEST_DEFINITION as u64);
 
 // The longest text in quotes that is a key's: each of its bytes is escaped.
 const LONGEST_NAME: usize = 6 * LONGEST_KEY + 2;
@@ -38,24 +44,37 @@ const END: &[u8] = b"}}";
 /// of one document.
 pub(crate) fn set_of(alloc: Global, revision: u64, document: &[u8]) -> Result<FlagSet, ShownFault>
     ensures found { IfOk result (IsSetOf revision document.now) }
+    ensures lawful { IfOk result IsLawful }
     ensures refused { result ≡ Err NoSet → HasNoSet revision document.now }
 {
-    if revision >= REVISIONS_END || !document.starts_with(HEAD) {
+    if revision >= REVISIONS_END {
         return Err(ShownFault::NoSet);
     }
+    let Some(flags) = document.strip_prefix(HEAD) else {
+        return Err(ShownFault::NoSet);
+    };
     let mut set = FlagSet::at_revision(alloc, revision, SHOWN_LIMIT);
-    put_flags(alloc, &mut set, &document[HEAD.len()..])?;
-    if set.document()?.as_slice() != document {
-        return Err(ShownFault::NoSet);
+    put_flags(alloc, &mut set, flags)?;
+    if is_document_of(&set, document)? {
+        every_set_is_lawful(&set);
+        return Ok(set);
     }
-    Ok(set)
+    Err(ShownFault::NoSet)
+}
+
+// Whether a set's own document is this one.
+fn is_document_of(set: &FlagSet, document: &[u8]) -> Result<bool, AllocError>
+    ensures { IfOk result (λ b. b ≡ bytes_eq (document_of set.now.flags) document.now) }
+{
+    let text = set.document()?;
+    Ok(text.as_slice() == document)
 }
 
 // Puts the flags of a text into an empty set, up to the document's end.
 fn put_flags(alloc: Global, set: &mut FlagSet, text: &[u8]) -> Result<(), ShownFault>
     requires empty { set.old.flags ≡ map.empty }
     requires limit { set.old.limit ≡ SHOWN_LIMIT }
-    ensures revision { set.new.revision ≡ set.old.revision }
+    ensures revision { OnOk result (set.new.revision ≡ set.old.revision) }
     ensures put { OnOk result ((s : State) → IsLawful s → s.revision ≡ set.old.revision
         → text.now ≡ rest_text false (map.entries s.flags) → told set.new.flags ≡ told s.flags) }
     ensures refused { result ≡ Err NoSet → (s : State) → IsLawful s
@@ -74,10 +93,10 @@ fn put_flags(alloc: Global, set: &mut FlagSet, text: &[u8]) -> Result<(), ShownF
         rest = member.rest;
         later = true;
     }
-    if rest != END {
-        return Err(ShownFault::NoSet);
+    if rest == END {
+        return Ok(());
     }
-    Ok(())
+    Err(ShownFault::NoSet)
 }
 
 // Puts a member's flag. What is too long for one isn't read.
@@ -90,7 +109,10 @@ fn put_flag(alloc: Global, set: &mut FlagSet, member: &Member<'_>) -> Result<(),
         → SpellsFlag member.now.name.now member.now.value.now key → ⊥ }
 {
     let revision = set.revision();
-    if revision == 0 || member.value.len() > LONGEST_DEFINITION {
+    if revision == 0 {
+        return Err(ShownFault::NoSet);
+    }
+    if member.value.len() > LONGEST_DEFINITION {
         return Err(ShownFault::NoSet);
     }
     let key = key_in(alloc, member.name)?;
@@ -118,9 +140,21 @@ fn key_in(alloc: Global, name: &[u8]) -> Result<FlagKey, ShownFault>
         return Err(ShownFault::NoSet);
     }
     let mut scratch = Scratch::new(alloc);
-    match read_tree(alloc, name, &mut scratch)? {
-        Some(Tree::String(text)) => key_of(alloc, text),
-        _ => Err(ShownFault::NoSet),
+    let Some(tree) = read_tree(alloc, name, &mut scratch)? else {
+        return Err(ShownFault::NoSet);
+    };
+    let Some(text) = text_of(&tree) else {
+        return Err(ShownFault::NoSet);
+    };
+    key_of(alloc, text)
+}
+
+fn text_of<'a>(tree: &Tree<'a>) -> Option<&'a str>
+    ensures { option_copied result ≡ as_str (tree_view tree.now) }
+{
+    match tree {
+        Tree::String(text) => Some(text),
+        _ => None,
     }
 }
 

@@ -2,7 +2,7 @@
 
 ghost use Rattle.std.specs.Prelude.{◌≡◌, Err, IfOk};
 ghost use Rattle.fp_stream.specs.Frames.{snapshot_of};
-ghost use Rattle.fp_shown.specs.Sets.{HasNoSet, IsSetOf};
+ghost use Rattle.fp_shown.specs.Sets.{HasNoSet, HasSet, IsLawful, IsSetOf};
 ghost use Rattle.fp_shown.specs.declared.fault.ShownFault.TheVariants.{NoSet};
 
 use crate::fault::ShownFault;
@@ -20,22 +20,23 @@ pub struct Shown {
 }
 
 impl Model for Shown {
-    ghost use Rattle.fp_documents.specs.Document.{document as document_of};
     ghost use Rattle.fp_stream.specs.Frames.{Snapshot};
-    ghost use Rattle.fp_shown.specs.Sets.{IsSetOf};
+    ghost use Rattle.fp_shown.specs.Sets.{IsLawful, IsSetOf};
 
     ghost Value = { Snapshot };
 
     ghost view = { λ s. record { revision = s.set.revision; document = s.document.items } };
 
-    ghost invariant = { λ s. IsSetOf s.set.revision s.document.items s.set };
+    ghost invariant = { λ s. IsSetOf s.set.revision s.document.items s.set × IsLawful s.set };
 }
 
 impl Shown {
     /// What a frame shows. The set's own document is the frame's, byte for byte, and its revision
-    /// the frame's. No flag of it was changed before this revision, as far as the set tells.
+    /// the frame's. A document doesn't tell when a flag was changed: all are marked with this
+    /// revision. `NoSet` comes exactly where no set whatever has that revision and that document.
     pub fn of_frame(alloc: Global, frame: Frame) -> Result<Shown, ShownFault>
         ensures shown { IfOk result (λ s. s ≡ snapshot_of frame) }
+        ensures set { IfOk result (λ _. HasSet frame.revision frame.body.items) }
         ensures refused { result ≡ Err NoSet → HasNoSet frame.revision frame.body.items }
     {
         let set = set_of(alloc, frame.revision, &frame.body)?;
@@ -63,7 +64,8 @@ impl Shown {
 
     /// The set.
     pub fn set(&self) -> &FlagSet
-        ensures { IsSetOf self.now.revision self.now.document result.now }
+        ensures set { IsSetOf self.now.revision self.now.document result.now }
+        ensures lawful { IsLawful result.now }
     {
         let _ = &self.document;
         &self.set

@@ -1,0 +1,12 @@
+pub mod Scanning
+pub mod Definitions
+pub mod Ends
+pub mod Names
+pub mod Rooms
+pub mod Standing
+pub mod Passing
+pub mod Documents
+pub mod Walked
+pub mod Crossing
+pub mod SameTold
+pub mod Replies
