@@ -1,9 +1,10 @@
 -- A conversation over HTTP, and the service that answers in it.
-use Rattle.std.specs.Prelude.{◌≡◌, ℕ, List, ◌++◌, Option}
+use Rattle.std.specs.Prelude.{◌≡◌, ℕ, List, [], ◌++◌, Option}
 use Rattle.std.specs.Io.KnownBytes.{Appends, Consumes}
 use Rattle.http.specs.declared.request.Request.{Request}
 use Rattle.http_server.specs.declared.response.Response.{Response}
-use Rattle.http_server.specs.Exchange.{Calls}
+use Rattle.http_server.specs.declared.state.Config.{Config}
+use Rattle.http_server.specs.Exchange.{Call, Calls, Serves}
 use Rattle.http_server.specs.History.{History}
 
 -- how a service answers: its states before and after, and between them a request and a response
@@ -36,3 +37,11 @@ pub record Says {S : Type 0} (answers : Answering S) (before after : S) (old new
   pub sent : new.sent ≡ old.sent ++ went
   pub written : Appends held holds went
   pub calls : Calls answers before after old.calls new.calls
+
+-- All that came is the requests of calls, of which the last ones were made by now, and all that went
+-- out is their answers
+pub record Rested {S : Type 0} (answers : Answering S) (before after : S) (config : Config)
+    (h : History) : Type 0 where
+  pub answered : List Call
+  pub calls : Calls answers before after h.calls answered
+  pub serves : Serves config h.received answered h.sent []

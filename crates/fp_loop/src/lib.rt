@@ -4,6 +4,7 @@
 mod counting;
 mod counts;
 mod head;
+mod heard;
 mod inbox;
 mod listening;
 mod member;

@@ -1,9 +1,9 @@
 //! A conversation over HTTP, as single reads and writes.
 
-ghost use Rattle.std.specs.Prelude.{◌≡◌};
+ghost use Rattle.std.specs.Prelude.{◌≡◌, IsTrue};
 ghost use Rattle.http_server.specs.Connection.{config_of, history};
-ghost use Rattle.http_server.specs.History.{Rests};
-ghost use Rattle.fp_loop.specs.Talks.{Hears, Says};
+ghost use Rattle.http_server.specs.History.{Rests, new_history};
+ghost use Rattle.fp_loop.specs.Talks.{Hears, Rested, Says};
 
 use crate::counting::Counting;
 use crate::socket::is_passing;
@@ -85,7 +85,8 @@ pub(crate) fn is_at_rest<S: Service + Drop>(
     connection: Connection,
     service: &mut Counting<S>,
 ) -> bool
-    ensures rest { IsTrue result → HasRested (config_of connection) (history connection) }
+    ensures rested { IsTrue result → Rested S.answers service.old.service service.new.service
+        (config_of connection) (history connection) }
 {
     let mut connection = connection;
     let mut end: &[u8] = &[];
