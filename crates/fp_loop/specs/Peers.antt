@@ -16,5 +16,5 @@ config_of p = connection.config_of p.connection
 abbrev pub Quiets : {S : Type 0} → Answering S → S → S → Peer → Peer → Type 0
 Quiets answers before after old new =
     ((after ≡ before) × (history_of new ≡ history_of old))
-    ⊎ (Rested answers before after (config_of old) (history_of old)
+    ⊎ (∥ Rested answers before after (config_of old) (history_of old) ∥₁
     × (history_of new ≡ new_history))

@@ -195,9 +195,11 @@ impl Peer {
         if !is_quiet || self.most <= KEPT {
             return true;
         }
+        if !is_at_rest(&mut self.connection, service) {
+            return false;
+        }
         self.most = 0;
-        let fresh = beginning.connection();
-        let old = mem::replace(&mut self.connection, fresh);
-        is_at_rest(old, service)
+        drop(mem::replace(&mut self.connection, beginning.connection()));
+        true
     }
 }

@@ -1,8 +1,9 @@
 //! A conversation over HTTP, as single reads and writes.
 
-ghost use Rattle.std.specs.Prelude.{◌≡◌, IsTrue};
+ghost use Rattle.std.specs.Prelude.{◌≡◌, ◌≢◌, IsTrue, OnOk};
 ghost use Rattle.http_server.specs.Connection.{config_of, history};
 ghost use Rattle.http_server.specs.History.{Rests, new_history};
+ghost use Rattle.fp_loop.specs.declared.turn.Turn.TheVariants.{Over};
 ghost use Rattle.fp_loop.specs.Talks.{Hears, Rested, Says};
 
 use crate::counting::Counting;
@@ -40,7 +41,7 @@ pub(crate) fn say<S: Service + Drop, W: Write>(
     ensures said { Says S.answers service.old.service service.new.service
         (history connection.old) (history connection.new)
         (W.contents writer.old) (W.contents writer.new) }
-    ensures rests { Rests (config_of connection.old) (history connection.old)
+    ensures rests { result ≢ Over → Rests (config_of connection.old) (history connection.old)
         → Rests (config_of connection.old) (history connection.new) }
     ensures config { config_of connection.new ≡ config_of connection.old }
 {
@@ -66,8 +67,7 @@ pub(crate) fn hear<S: Service + Drop, R: Read>(
     ensures heard { Hears S.answers service.old.service service.new.service
         (history connection.old) (history connection.new)
         (R.remaining reader.old) (R.remaining reader.new) }
-    ensures rests { Rests (config_of connection.old) (history connection.old)
-        → Rests (config_of connection.old) (history connection.new) }
+    ensures rests { OnOk result (Rests (config_of connection.old) (history connection.new)) }
     ensures config { config_of connection.new ≡ config_of connection.old }
 {
     match connection.read_from(reader) {
@@ -80,19 +80,22 @@ pub(crate) fn hear<S: Service + Drop, R: Read>(
     }
 }
 
-/// Whether all that came was answered and sent: then its input may end there.
+/// Has the input of a connection end there. Answers whether all that came was answered and sent; if
+/// not, it can't go on.
 pub(crate) fn is_at_rest<S: Service + Drop>(
-    connection: Connection,
+    connection: &mut Connection,
     service: &mut Counting<S>,
 ) -> bool
-    ensures rested { IsTrue result → Rested S.answers service.old.service service.new.service
-        (config_of connection) (history connection) }
+    ensures rested { IsTrue result → ∥ Rested S.answers service.old.service service.new.service
+        (config_of connection.old) (history connection.old) ∥₁ }
 {
-    let mut connection = connection;
     let mut end: &[u8] = &[];
-    if connection.read_from(&mut end).is_err() {
+    let Ok(_none) = connection.read_from(&mut end) else {
         return false;
-    }
+    };
     connection.advance(service);
-    connection.state() == State::Closing(Reason::EndOfInput) && connection.is_done()
+    match connection.state() {
+        State::Closing(Reason::EndOfInput) => connection.is_done(),
+        _ => false,
+    }
 }
