@@ -13,6 +13,7 @@ mod outgoing;
 mod peer;
 mod probing;
 mod socket;
+mod starting;
 mod subscriber;
 mod talk;
 mod times;
