@@ -1,8 +1,10 @@
 //! One connection for requests, as steps that don't wait.
 
-ghost use Rattle.std.specs.Prelude.{◌≡◌, IsTrue};
+ghost use Rattle.std.specs.Prelude.{◌≡◌, ◌≢◌, Some, IsTrue};
 ghost use Rattle.http_server.specs.History.{IsServed};
-ghost use Rattle.fp_loop.specs.Peers.{config_of, history_of, Quiets};
+ghost use Rattle.fp_loop.specs.declared.times.Waiting.TheVariants.{Leaving};
+ghost use Rattle.fp_loop.specs.declared.turn.Turn.TheVariants.{Waits};
+ghost use Rattle.fp_loop.specs.Peers.{CanDoNothing, config_of, history_of, Quiets};
 ghost use Rattle.fp_loop.specs.Talks.{Talks};
 
 use crate::counting::Counting;
@@ -55,6 +57,7 @@ impl Peer {
         ensures talks { Talks S.answers service.old.service service.new.service
             (history_of self.old) (history_of self.new) }
         ensures served { ∥ IsServed (config_of self.new) (history_of self.new) ∥₁ }
+        ensures waits { result ≡ Waits → self.new.waiting ≢ Leaving → CanDoNothing self.new }
         ensures config { config_of self.new ≡ config_of self.old }
     {
         for _ in 0..ROUNDS {
@@ -69,6 +72,7 @@ impl Peer {
     fn step<S: Service + Drop>(&mut self, service: &mut Counting<S>, now: u64) -> Option<Turn>
         ensures talks { Talks S.answers service.old.service service.new.service
             (history_of self.old) (history_of self.new) }
+        ensures waits { result ≡ Some Waits → self.new.waiting ≢ Leaving → CanDoNothing self.new }
         ensures config { config_of self.new ≡ config_of self.old }
     {
         if self.waiting == Waiting::Leaving {
@@ -158,7 +162,8 @@ impl Peer {
 
     // Reads what the peer still says, and drops it, until it leaves.
     fn see_off(&mut self) -> Turn
-        ensures { self.new.connection ≡ self.old.connection }
+        ensures connection { self.new.connection ≡ self.old.connection }
+        ensures waiting { self.new.waiting ≡ self.old.waiting }
     {
         let mut bytes = [0; 4096];
         for _ in 0..ROUNDS {

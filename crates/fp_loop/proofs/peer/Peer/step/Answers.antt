@@ -10,7 +10,7 @@ returns-then-eq-clause-talks g c =
     subst
     (λ k. Talks g.S.Service.answers c.args.service.now.service c.args.service.now.service
       (history_of c.args.self.now) (history k))
-    (sym c.see_off.ensures)
+    (sym c.see_off.ensures.connection)
     (talks_none g.S.Service.answers c.args.service.now.service (history_of c.args.self.now))
 
 pub returns-else-wants_read-clause-talks : goal.returns-else-wants_read-clause-talks
