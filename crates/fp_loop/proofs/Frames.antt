@@ -37,10 +37,10 @@ module _ {N : Type 0} {g : Ghosts N} where
       → Tells hello new (went ++ take count (rest_of old)) begun
   tells_sent hello old new went begun count rest same t = record {
     frames =
-      append_assoc went (take count (rest_of old)) (rest_of new)
-      ∙ ap (λ (l : List ℕ). went ++ (take count (rest_of old) ++ l)) rest
-      ∙ ap (λ (l : List ℕ). went ++ l) (take-append-drop count (rest_of old))
-      ∙ t.frames;
+        append_assoc went (take count (rest_of old)) (rest_of new)
+        ∙ ap (λ (l : List ℕ). went ++ (take count (rest_of old) ++ l)) rest
+        ∙ ap (λ (l : List ℕ). went ++ l) (take-append-drop count (rest_of old))
+        ∙ t.frames;
     news = t.news;
     has = t.has ∙ sym same;
   }
@@ -52,13 +52,13 @@ module _ {N : Type 0} {g : Ghosts N} where
       → Tells hello new went (begun ++ s ∷ [])
   tells_begun hello old new went begun s none rest has lawful t = record {
     frames =
-      ap (λ (l : List ℕ). went ++ l) rest
-      ∙ ap (λ (l : List ℕ). l ++ frame s.revision s.document)
+        ap (λ (l : List ℕ). went ++ l) rest
+        ∙ ap (λ (l : List ℕ). l ++ frame s.revision s.document)
         (sym (append-nil went) ∙ ap (λ (l : List ℕ). went ++ l) (sym none) ∙ t.frames)
-      ∙ ap (λ (l : List ℕ). stream_of begun ++ l) (sym (append-nil (frame s.revision s.document)))
-      ∙ sym (stream_of-append begun (s ∷ []));
+        ∙ ap (λ (l : List ℕ). stream_of begun ++ l) (sym (append-nil (frame s.revision s.document)))
+        ∙ sym (stream_of-append begun (s ∷ []));
     news =
-      AreNews-append hello begun (s ∷ []) t.news
-      (subst (λ (h : Hello). IsHead h s.revision (length s.document)) (sym t.has) lawful, tt);
+        AreNews-append hello begun (s ∷ []) t.news
+        (subst (λ (h : Hello). IsHead h s.revision (length s.document)) (sym t.has) lawful, tt);
     has = has_after-append hello begun (s ∷ []) ∙ sym has;
   }

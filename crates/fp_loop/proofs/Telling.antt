@@ -26,7 +26,7 @@ module _ {N : Type 0} {g : Ghosts N} where
   -- a frame began, or nothing changed
   pub offers : (b : Bool) (old new : Outgoing N g) (s : Snapshot)
       → (IsTrue b → (hello : Hello) (went : List ℕ) (begun : List Snapshot) → Tells hello old went begun
-        → Tells hello new went (begun ++ s ∷ []))
+      → Tells hello new went (begun ++ s ∷ []))
       → (IsFalse b → new ≡ old) → GoesOnTelling old new
   offers true old new s told kept = λ hello went begun t.
       ([], s ∷ [], same_bytes hello new went (begun ++ s ∷ []) (told refl hello went begun t))
@@ -35,7 +35,7 @@ module _ {N : Type 0} {g : Ghosts N} where
   -- these bytes went
   pub sends : (old new : Outgoing N g) (more : List ℕ)
       → ((hello : Hello) (went : List ℕ) (begun : List Snapshot) → Tells hello old went begun
-        → Tells hello new (went ++ more) begun)
+      → Tells hello new (went ++ more) begun)
       → GoesOnTelling old new
   sends old new more told hello went begun t =
       (more, [], same_frames hello new (went ++ more) begun (told hello went begun t))
@@ -43,12 +43,11 @@ module _ {N : Type 0} {g : Ghosts N} where
   pub goes_on : (a b c : Outgoing N g) → GoesOnTelling a b → GoesOnTelling b c → GoesOnTelling a c
   goes_on a b c first second hello went begun t =
       let x = first hello went begun t in
-      let y = second hello (went ++ x.0) (begun ++ x.1) x.2 in
-      (
+      let y = second hello (went ++ x.0) (begun ++ x.1) x.2 in (
         x.0 ++ y.0,
         x.1 ++ y.1,
         subst (λ (w : List ℕ). Tells hello c w (begun ++ (x.1 ++ y.1))) (append_assoc went x.0 y.0)
-        (subst (λ (n : List Snapshot). Tells hello c ((went ++ x.0) ++ y.0) n) (append_assoc begun x.1 y.1) y.2),
+            (subst (λ (n : List Snapshot). Tells hello c ((went ++ x.0) ++ y.0) n) (append_assoc begun x.1 y.1) y.2),
       )
 
   pub nothing_told : (o : Option (Outgoing N g)) → TellsOn o o

@@ -54,8 +54,8 @@ impl Peer {
 
     /// Reads, answers and writes, until it would wait or its turn is over.
     pub(crate) fn turn<S: Service + Drop>(&mut self, service: &mut Counting<S>, now: u64) -> Turn
-        ensures talks { Talks S.answers service.old.service service.new.service
-            (history_of self.old) (history_of self.new) }
+        ensures talks { Talks S.answers (config_of self.old)
+            service.old.service service.new.service (history_of self.old) (history_of self.new) }
         ensures served { ∥ IsServed (config_of self.new) (history_of self.new) ∥₁ }
         ensures waits { result ≡ Waits → self.new.waiting ≢ Leaving → CanDoNothing self.new }
         ensures config { config_of self.new ≡ config_of self.old }
@@ -70,8 +70,8 @@ impl Peer {
 
     // Reads or writes once. Gives what the turn came to, where that ends it.
     fn step<S: Service + Drop>(&mut self, service: &mut Counting<S>, now: u64) -> Option<Turn>
-        ensures talks { Talks S.answers service.old.service service.new.service
-            (history_of self.old) (history_of self.new) }
+        ensures talks { Talks S.answers (config_of self.old)
+            service.old.service service.new.service (history_of self.old) (history_of self.new) }
         ensures waits { result ≡ Some Waits → self.new.waiting ≢ Leaving → CanDoNothing self.new }
         ensures config { config_of self.new ≡ config_of self.old }
     {
@@ -93,8 +93,8 @@ impl Peer {
 
     // Writes once.
     fn send<S: Service + Drop>(&mut self, service: &mut Counting<S>, now: u64) -> Turn
-        ensures talks { Talks S.answers service.old.service service.new.service
-            (history_of self.old) (history_of self.new) }
+        ensures talks { Talks S.answers (config_of self.old)
+            service.old.service service.new.service (history_of self.old) (history_of self.new) }
         ensures config { config_of self.new ≡ config_of self.old }
     {
         self.most = self.most.max(self.connection.output().len());
@@ -107,8 +107,8 @@ impl Peer {
 
     // Reads once, and answers what came.
     fn receive<S: Service + Drop>(&mut self, service: &mut Counting<S>, now: u64) -> Turn
-        ensures talks { Talks S.answers service.old.service service.new.service
-            (history_of self.old) (history_of self.new) }
+        ensures talks { Talks S.answers (config_of self.old)
+            service.old.service service.new.service (history_of self.old) (history_of self.new) }
         ensures config { config_of self.new ≡ config_of self.old }
     {
         let calls = service.calls;
@@ -116,13 +116,20 @@ impl Peer {
             Ok(count) => self.most = self.most.max(count),
             Err(turn) => return turn,
         }
-        if service.calls != calls {
+        self.begin(service.calls != calls, now);
+        self.wait(self.waiting, now);
+        Turn::Goes
+    }
+
+    // Some of a request came, by which it was answered, or which isn't all of it.
+    fn begin(&mut self, is_answered: bool, now: u64)
+        ensures { self.new.connection ≡ self.old.connection }
+    {
+        if is_answered {
             self.begun = None;
         } else if self.begun.is_none() {
             self.begun = Some(now);
         }
-        self.wait(self.waiting, now);
-        Turn::Goes
     }
 
     // What it waits for now: that its peer takes what waits to be sent, since it last took some; the

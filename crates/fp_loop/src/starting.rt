@@ -4,11 +4,10 @@ use crate::listening::{Door, Listening};
 use crate::news::{Informed, News};
 use crate::turning::Loop;
 use std::alloc::Global;
-use std::io;
 use std::sync::{Arc, Wait};
-use std::thread;
 use std::thread::{JoinHandle, Threads};
 use std::time::Clock;
+use std::{io, thread};
 
 impl<S, N> Loop<S, N>
 where

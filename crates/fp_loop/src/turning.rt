@@ -15,20 +15,18 @@ use crate::subscriber::Subscriber;
 use crate::talk::Beginning;
 use crate::times::Limits;
 use crate::turn::Turn;
-use http1::Limits as HeadLimits;
 use http_server::Config;
+use http1::Limits as HeadLimits;
 use mio::event::Event;
 use mio::{Events, Interest, Poll, Token, Waker};
 use slab::Slab;
 use std::alloc::{AllocError, Global};
 use std::hash::RandomState;
-use std::io;
-use std::mem;
 use std::net::{Net, TcpStream};
 use std::random::RandomSource;
 use std::sync::{Arc, Wait};
-use std::thread;
 use std::time::{Clock, Duration};
+use std::{io, mem, thread};
 
 // How many events one wait gives.
 const EVENTS: usize = 1024;

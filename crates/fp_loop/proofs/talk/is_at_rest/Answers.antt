@@ -9,13 +9,13 @@ use Rattle.fp_loop.proofs.talk.is_at_rest.Goals as goal
 pub returns-in-Closing-EndOfInput : goal.returns-in-Closing-EndOfInput
 returns-in-Closing-EndOfInput g c = record {
   rested = λ done.
-    let ok = c.in-Ok.ensures.ok in
-    let quiet = c.advance.ensures.quiet in
-    let config = c.advance.ensures.config ∙ c.read_from.ensures.config in
-    let closed =
+      let ok = c.in-Ok.ensures.ok in
+      let quiet = c.advance.ensures.quiet in
+      let config = c.advance.ensures.config ∙ c.read_from.ensures.config in
+      let closed =
       sym c.state.ensures ∙ c.in-Closing-EndOfInput.is ∙ ap Closing c.in-Closing-EndOfInput.field-0-is in
-    ∥∥₁_map c.advance.ensures.served
-    (λ served. rested_of (λ k. k.service) g.S.Service.answers _ _ (config_of c.args.connection.now)
+      ∥∥₁_map c.advance.ensures.served
+      (λ served. rested_of (λ k. k.service) g.S.Service.answers _ _ (config_of c.args.connection.now)
       (history c.args.connection.now) (history c.read_from.new.self) (history c.advance.new.self)
       (Some c.read_from.new.reader.now) ok.0 ok.3 ok.2
       (subst (λ k. IsServed k (history c.advance.new.self)) config served)

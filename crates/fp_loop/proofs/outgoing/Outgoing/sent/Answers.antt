@@ -11,8 +11,8 @@ overflow_add-at g c =
     let all = s.head ++ (g.N.News.shows (arc_value s.news)).document in
     let within = s.within in
     let short : c.args.count ≤ length all - s.at =
-        subst (λ n. c.args.count ≤ n) (length-drop s.at all)
-        (subst (λ o. c.args.count ≤ length (left_of o)) c.in-Some.is c.requires) in
+    subst (λ n. c.args.count ≤ n) (length-drop s.at all)
+    (subst (λ o. c.args.count ≤ length (left_of o)) c.in-Some.is c.requires) in
     omega (arith, within, short, c.len-len.ensures, c.len-len.type_inv)
 
 pub invariant_of-sending : goal.invariant_of-sending
@@ -23,6 +23,6 @@ returns-then-at-len-clause-told g c hello went begun t =
     let s = c.in-Some.sending in
     let all = s.head ++ (g.N.News.shows (arc_value s.news)).document in
     let rest =
-        sym (drop-drop c.args.count s.at all)
-        ∙ ap (λ o. drop c.args.count (left_of o)) (sym c.in-Some.is) in
+    sym (drop-drop c.args.count s.at all)
+    ∙ ap (λ o. drop c.args.count (left_of o)) (sym c.in-Some.is) in
     tells_sent hello c.args.self.now _ went begun c.args.count rest refl t
