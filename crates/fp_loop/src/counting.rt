@@ -18,7 +18,11 @@ pub(crate) struct Counting<S: Drop> {
 impl<S: Service + Drop> Service for Counting<S> {
     ghost answers = { λ old request response new. S.answers old.service request response new.service };
 
-    fn call(&mut self, request: &Request<Bytes>, response: &mut Response) -> Result<(), AllocError> {
+    fn call(
+        &mut self,
+        request: &Request<Bytes>,
+        response: &mut Response,
+    ) -> Result<(), AllocError> {
         self.service.call(request, response)?;
         self.calls = self.calls.wrapping_add(1);
         self.tally.answered(response.status.as_u16());

@@ -4,6 +4,7 @@
 mod counting;
 mod counts;
 mod head;
+mod heard;
 mod inbox;
 mod listening;
 mod member;
@@ -12,6 +13,7 @@ mod outgoing;
 mod peer;
 mod probing;
 mod socket;
+mod starting;
 mod subscriber;
 mod talk;
 mod times;

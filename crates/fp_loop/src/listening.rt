@@ -5,12 +5,11 @@ use crate::inbox::{Loops, Role};
 use crate::news::News;
 use crate::probing::probe_peers;
 use std::alloc::Global;
-use std::io;
 use std::net::{IpAddr, Ipv4Addr, Net, SocketAddr, SocketAddrV4, TcpListener, TcpStream};
 use std::sync::atomic::{AtomicBool, Ordering};
 use std::sync::{Arc, Wait};
-use std::thread;
 use std::time::{Clock, Duration};
+use std::{io, thread};
 
 /// Where the connections of a listener go.
 #[derive(Drop)]
@@ -100,7 +99,11 @@ impl<N: News + Drop> Door<N> {
             return;
         }
         self.counts.came(self.role);
-        if self.loops.post_connection(rt, turn, stream, self.role).is_err() {
+        if self
+            .loops
+            .post_connection(rt, turn, stream, self.role)
+            .is_err()
+        {
             self.counts.left(self.role);
         }
     }

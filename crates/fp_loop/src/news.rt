@@ -49,11 +49,12 @@ impl<N: News + Drop> Newest<N> {
 
     /// Takes these news, if they are newer. Answers whether it did.
     pub(crate) fn take(&mut self, news: Arc<N, Global>) -> bool
-        ensures taken { IsTrue result ↔ IsNewer (had N.shows self.old.news)
+        ensures taken { IsTrue result ↔ IsNewer (had (λ n. N.shows (arc_value n)) self.old.news)
             (N.shows (arc_value news)).revision }
         ensures new { IsTrue result → self.new.news ≡ Some news }
         ensures kept { IsFalse result → self.new ≡ self.old }
-        ensures rises { Rises (had N.shows self.old.news) (had N.shows self.new.news) }
+        ensures rises { Rises (had (λ n. N.shows (arc_value n)) self.old.news)
+            (had (λ n. N.shows (arc_value n)) self.new.news) }
     {
         if !self.is_behind(news.revision()) {
             return false;
@@ -64,7 +65,7 @@ impl<N: News + Drop> Newest<N> {
 
     // Whether this is newer.
     fn is_behind(&self, revision: u64) -> bool
-        ensures { IsTrue result ↔ IsNewer (had N.shows self.now.news) revision }
+        ensures { IsTrue result ↔ IsNewer (had (λ n. N.shows (arc_value n)) self.now.news) revision }
     {
         match &self.news {
             None => true,

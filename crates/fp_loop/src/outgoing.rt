@@ -5,8 +5,9 @@ ghost use Rattle.std.specs.Arc.{arc_value};
 ghost use Rattle.fp_stream.specs.declared.hello.Hello.{Hello};
 ghost use Rattle.fp_stream.specs.declared.hello.Hello.TheVariants.{Has};
 ghost use Rattle.fp_stream.specs.Frames.{Snapshot, frame};
+ghost use Rattle.fp_stream.specs.declared.head.TheConstants.{MOST_BODY};
 ghost use Rattle.fp_stream.specs.Heads.{IsNewer};
-ghost use Rattle.fp_loop.specs.Outgoing.{left_of, rest_of, Tells};
+ghost use Rattle.fp_loop.specs.declared.head.TheConstants.{HEAD};
 
 use crate::head::{HEAD, head_bytes};
 use crate::news::News;
@@ -20,7 +21,7 @@ struct Sending<N: News + Drop> {
     head: [u8; HEAD],
     news: Arc<N, Global>,
     at: usize,
-    ghost within: { at < HEAD + length (N.shows (arc_value news)).document },
+    ghost within: { at < length (head ++ (N.shows (arc_value news)).document) },
 }
 
 /// What goes to a subscriber: a frame at a time, each newer than what it has.
@@ -32,16 +33,18 @@ pub struct Outgoing<N: News + Drop> {
 }
 
 impl<N: News + Drop> Outgoing<N> {
+    ghost use Rattle.fp_loop.specs.Outgoing.{rest_of, Tells};
+
     /// To a subscriber that said this.
     pub fn new(has: Hello) -> Outgoing<N>
-        ensures { Tells N.shows has result [] [] }
+        ensures { Tells has result [] [] }
     {
         Outgoing { has, sending: None }
     }
 
     /// Whether a frame is being sent.
     pub fn is_sending(&self) -> bool
-        ensures { IsTrue result ↔ (rest_of N.shows self.now ≢ []) }
+        ensures { IsTrue result ↔ (rest_of self.now ≢ []) }
     {
         self.sending.is_some()
     }
@@ -49,20 +52,20 @@ impl<N: News + Drop> Outgoing<N> {
     /// Whether a frame of this revision may begin: none is being sent, and the subscriber has none
     /// as new.
     pub fn takes(&self, revision: u64) -> bool
-        ensures { IsTrue result ↔ (rest_of N.shows self.now ≡ []) × IsNewer self.now.has revision }
+        ensures { IsTrue result ↔ (rest_of self.now ≡ []) × IsNewer self.now.has revision }
     {
         self.sending.is_none() && self.has.is_behind(revision)
     }
 
     /// Begins the frame of these news, if it may begin. Answers whether it did.
     pub fn offer(&mut self, news: Arc<N, Global>) -> bool
-        ensures begun { IsTrue result ↔ (rest_of N.shows self.old ≡ [])
+        ensures begun { IsTrue result ↔ (rest_of self.old ≡ [])
             × IsNewer self.old.has (N.shows (arc_value news)).revision }
-        ensures frame { IsTrue result → rest_of N.shows self.new
+        ensures frame { IsTrue result → rest_of self.new
             ≡ frame (N.shows (arc_value news)).revision (N.shows (arc_value news)).document }
         ensures told { IsTrue result → (hello : Hello) (went : List ℕ) (begun : List Snapshot)
-            → Tells N.shows hello self.old went begun
-            → Tells N.shows hello self.new went (begun ++ N.shows (arc_value news) ∷ []) }
+            → Tells hello self.old went begun
+            → Tells hello self.new went (begun ++ N.shows (arc_value news) ∷ []) }
         ensures kept { IsFalse result → self.new ≡ self.old }
     {
         let revision = news.revision();
@@ -75,7 +78,7 @@ impl<N: News + Drop> Outgoing<N> {
 
     /// The bytes to send next: what is left of the head, and of the document behind it.
     pub fn rest(&self) -> (&[u8], &[u8])
-        ensures { result.0.now ++ result.1.now ≡ rest_of N.shows self.now }
+        ensures { result.0.now ++ result.1.now ≡ rest_of self.now }
     {
         match &self.sending {
             None => (&[], &[]),
@@ -85,17 +88,18 @@ impl<N: News + Drop> Outgoing<N> {
 
     /// So many of these bytes were sent. Where it was all, no frame is being sent any more.
     pub fn sent(&mut self, count: usize)
-        requires { count ≤ length (rest_of N.shows self.old) }
-        ensures rest { rest_of N.shows self.new ≡ drop count (rest_of N.shows self.old) }
+        requires { count ≤ length (rest_of self.old) }
+        ensures rest { rest_of self.new ≡ drop count (rest_of self.old) }
         ensures told { (hello : Hello) (went : List ℕ) (begun : List Snapshot)
-            → Tells N.shows hello self.old went begun
-            → Tells N.shows hello self.new (went ++ take count (rest_of N.shows self.old)) begun }
+            → Tells hello self.old went begun
+            → Tells hello self.new (went ++ take count (rest_of self.old)) begun }
     {
         let Some(sending) = &mut self.sending else {
             return;
         };
+        let len = sending.len();
         let at = sending.at + count;
-        if at < sending.len() {
+        if at < len {
             sending.at = at;
             return;
         }
@@ -105,8 +109,9 @@ impl<N: News + Drop> Outgoing<N> {
     // Begins the frame of these news, which have this revision.
     fn begin(&mut self, news: Arc<N, Global>, revision: u64)
         requires { revision ≡ (N.shows (arc_value news)).revision }
-        ensures frame { rest_of N.shows self.new
+        ensures frame { rest_of self.new
             ≡ frame revision (N.shows (arc_value news)).document }
+        ensures short { length (N.shows (arc_value news)).document ≤ MOST_BODY }
         ensures has { self.new.has ≡ Has revision }
     {
         self.sending = Some(Sending::of(news, revision));
@@ -115,11 +120,14 @@ impl<N: News + Drop> Outgoing<N> {
 }
 
 impl<N: News + Drop> Sending<N> {
+    ghost use Rattle.fp_loop.specs.Outgoing.{left_of};
+
     // The frame of these news, which have this revision.
     fn of(news: Arc<N, Global>, revision: u64) -> Sending<N>
         requires { revision ≡ (N.shows (arc_value news)).revision }
-        ensures { left_of N.shows (Some result)
+        ensures frame { left_of (Some result)
             ≡ frame revision (N.shows (arc_value news)).document }
+        ensures short { length (N.shows (arc_value news)).document ≤ MOST_BODY }
     {
         let head = head_bytes(revision, news.document().len() as u32);
         Sending { head, news, at: 0 }
@@ -127,14 +135,14 @@ impl<N: News + Drop> Sending<N> {
 
     // How many bytes it has in all.
     fn len(&self) -> usize
-        ensures { result ≡ HEAD + length (N.shows (arc_value self.now.news)).document }
+        ensures { result ≡ length (self.now.head ++ (N.shows (arc_value self.now.news)).document) }
     {
         HEAD + self.news.document().len()
     }
 
     // What is left of its head, and of the document behind it.
     fn rest(&self) -> (&[u8], &[u8])
-        ensures { result.0.now ++ result.1.now ≡ left_of N.shows (Some self.now) }
+        ensures { result.0.now ++ result.1.now ≡ left_of (Some self.now) }
     {
         let document = self.news.document();
         if self.at < HEAD {

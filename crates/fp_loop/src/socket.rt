@@ -1,5 +1,8 @@
 //! A socket that doesn't wait, with what is known of its readiness.
 
+ghost use Rattle.std.specs.Prelude.{◌++◌};
+ghost use Rattle.std.specs.Io.{WritesAtMost};
+
 use mio::net::TcpStream;
 use std::io;
 use std::io::{ErrorKind, IoSlice, Read, Write};
@@ -34,11 +37,13 @@ impl Socket {
     }
 
     /// Writes both, one behind the other, by one call. It may stop anywhere.
-    pub(crate) fn write_both(&mut self, first: &[u8], second: &[u8]) -> io::Result<usize> {
+    pub(crate) fn write_both(&mut self, first: &[u8], second: &[u8]) -> io::Result<usize>
+        ensures { WritesAtMost result (first.now ++ second.now) }
+    {
         let texts = [IoSlice::new(first), IoSlice::new(second)];
         match self.stream.write_vectored(&texts) {
             Ok(count) => {
-                self.may_write = count == first.len() + second.len();
+                self.may_write = count >= first.len() && count - first.len() == second.len();
                 Ok(count)
             }
             Err(fault) => {

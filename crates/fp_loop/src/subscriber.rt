@@ -1,28 +1,21 @@
 //! One subscriber, as steps that don't wait.
 
+ghost use Rattle.std.specs.Prelude.{◌≡◌};
+ghost use Rattle.fp_loop.specs.Outgoing.{GoesOnTelling};
+ghost use Rattle.fp_loop.specs.Subscribers.{TellsOn};
+
 use crate::counts::Tally;
+use crate::heard::{Heard, hello_of};
 use crate::news::{Newest, News};
 use crate::outgoing::Outgoing;
 use crate::socket::{Socket, is_passing};
 use crate::times::{Limits, Waiting, is_over_time};
 use crate::turn::Turn;
-use fp_stream::{Hello, read_hello};
-use fp_streams::FailureCounted;
 use std::io::Read;
 use std::sync::Arc;
 
 // How many reads or writes one turn may take.
 const ROUNDS: u32 = 16;
-
-// How long a hello is.
-const HELLO: usize = 9;
-
-// A hello as far as it came.
-#[derive(Drop, Clone, Copy)]
-struct Heard {
-    bytes: [u8; HELLO],
-    count: usize,
-}
 
 /// A connection for frames.
 #[derive(Drop)]
@@ -39,10 +32,7 @@ impl<N: News + Drop> Subscriber<N> {
     pub(crate) fn new(socket: Socket, now: u64) -> Subscriber<N> {
         Subscriber {
             socket,
-            heard: Heard {
-                bytes: [0; HELLO],
-                count: 0,
-            },
+            heard: Heard::new(),
             outgoing: None,
             waiting: Waiting::Rest,
             since: now,
@@ -50,22 +40,70 @@ impl<N: News + Drop> Subscriber<N> {
     }
 
     /// Listens, and sends the newest, until it would wait or its turn is over.
-    pub(crate) fn turn(
-        &mut self,
-        shown: &Newest<N>,
-        tally: &mut Tally,
-        now: u64,
-    ) -> Turn {
-        if self.listen(now) == Turn::Over {
-            return Turn::Over;
+    pub(crate) fn turn(&mut self, shown: &Newest<N>, tally: &mut Tally, now: u64) -> Turn
+        ensures { TellsOn self.old.outgoing self.new.outgoing }
+    {
+        match self.listen(now) {
+            Turn::Over => Turn::Over,
+            Turn::Goes => Turn::Goes,
+            Turn::Waits => self.tell(shown, tally, now),
         }
+    }
+
+    // Reads its hello. What it says behind that is dropped, and where it ends, so does this.
+    fn listen(&mut self, now: u64) -> Turn
+        ensures { TellsOn self.old.outgoing self.new.outgoing }
+    {
+        for _ in 0..ROUNDS {
+            if !self.socket.may_read {
+                return Turn::Waits;
+            }
+            if self.hear(now) == Turn::Over {
+                return Turn::Over;
+            }
+        }
+        Turn::Goes
+    }
+
+    // Reads once.
+    fn hear(&mut self, now: u64) -> Turn
+        ensures { TellsOn self.old.outgoing self.new.outgoing }
+    {
+        let mut bytes = [0; 64];
+        let most = if self.outgoing.is_some() { 64 } else { 1 };
+        match self.socket.read(&mut bytes[..most]) {
+            Ok(0) => Turn::Over,
+            Ok(_) => self.take(bytes[0], now),
+            Err(fault) if is_passing(fault.kind()) => Turn::Goes,
+            Err(_) => Turn::Over,
+        }
+    }
+
+    // A byte came, which is one of its hello where that isn't whole.
+    fn take(&mut self, byte: u8, now: u64) -> Turn
+        ensures { TellsOn self.old.outgoing self.new.outgoing }
+    {
+        if self.outgoing.is_some() {
+            return Turn::Goes;
+        }
+        let Some(bytes) = self.heard.put(byte) else {
+            return Turn::Goes;
+        };
+        let Some(hello) = hello_of(&bytes) else {
+            return Turn::Over;
+        };
+        self.outgoing = Some(Outgoing::new(hello));
+        self.wait_for(Waiting::News, now);
+        Turn::Goes
+    }
+
+    // Sends the newest, for as long as its socket takes it.
+    fn tell(&mut self, shown: &Newest<N>, tally: &mut Tally, now: u64) -> Turn
+        ensures { TellsOn self.old.outgoing self.new.outgoing }
+    {
         for _ in 0..ROUNDS {
             if !self.socket.may_write || !self.begin(shown, now) {
-                return if self.socket.may_read {
-                    Turn::Goes
-                } else {
-                    Turn::Waits
-                };
+                return Turn::Waits;
             }
             if self.send(tally, now) == Turn::Over {
                 return Turn::Over;
@@ -74,95 +112,45 @@ impl<N: News + Drop> Subscriber<N> {
         Turn::Goes
     }
 
-    // Reads its hello. What it says behind that is dropped, and where it ends, so does this.
-    fn listen(&mut self, now: u64) -> Turn {
-        for _ in 0..ROUNDS {
-            if !self.socket.may_read {
-                return Turn::Waits;
-            }
-            let heard = match self.outgoing {
-                Some(_) => self.socket.read(&mut [0; 64]),
-                None => self.socket.read(&mut self.heard.bytes[self.heard.count..]),
-            };
-            match heard {
-                Ok(0) => return Turn::Over,
-                Ok(count) => {
-                    if self.outgoing.is_none() && self.hear(count, now) == Turn::Over {
-                        return Turn::Over;
-                    }
-                }
-                Err(fault) if is_passing(fault.kind()) => {}
-                Err(_) => return Turn::Over,
-            }
-        }
-        Turn::Goes
-    }
-
-    // So many more bytes of its hello came.
-    fn hear(&mut self, count: usize, now: u64) -> Turn {
-        self.heard.count += count;
-        if self.heard.count < HELLO {
-            return Turn::Waits;
-        }
-        match self.heard.hello() {
-            Some(hello) => {
-                self.outgoing = Some(Outgoing::new(hello));
-                self.wait_for(Waiting::News, now);
-                Turn::Goes
-            }
-            None => Turn::Over,
-        }
-    }
-
     // Whether a frame is being sent, which begins here where there is one to send.
-    fn begin(&mut self, shown: &Newest<N>, now: u64) -> bool {
+    fn begin(&mut self, shown: &Newest<N>, now: u64) -> bool
+        ensures { TellsOn self.old.outgoing self.new.outgoing }
+    {
         let Some(outgoing) = &mut self.outgoing else {
             return false;
         };
         if outgoing.is_sending() {
             return true;
         }
-        let Some(news) = &shown.news else {
-            return false;
-        };
-        if !outgoing.takes(news.revision()) {
+        if !offered(outgoing, shown) {
             return false;
         }
-        let Ok(news) = Arc::try_clone(news) else {
-            return false;
-        };
-        let begun = outgoing.offer(news);
-        if begun {
-            self.wait_for(Waiting::Taker, now);
-        }
-        begun
+        self.wait_for(Waiting::Taker, now);
+        true
     }
 
     // Sends once of the frame that is being sent.
-    fn send(&mut self, tally: &mut Tally, now: u64) -> Turn {
+    fn send(&mut self, tally: &mut Tally, now: u64) -> Turn
+        ensures { TellsOn self.old.outgoing self.new.outgoing }
+    {
         let Some(outgoing) = &mut self.outgoing else {
             return Turn::Waits;
         };
-        let (head, document) = outgoing.rest();
-        match self.socket.write_both(head, document) {
-            Ok(0) => return Turn::Over,
-            Ok(count) => {
-                outgoing.sent(count);
-                tally.frame_bytes = tally.frame_bytes.saturating_add(count as u64);
-                let waiting = if outgoing.is_sending() {
-                    Waiting::Taker
-                } else {
-                    Waiting::News
-                };
-                self.wait_for(waiting, now);
-                Turn::Goes
-            }
-            Err(fault) if is_passing(fault.kind()) => Turn::Goes,
-            Err(_) => Turn::Over,
+        let turn = sent_once(outgoing, &mut self.socket, tally);
+        if turn == Turn::Goes {
+            let waiting = if outgoing.is_sending() {
+                Waiting::Taker
+            } else {
+                Waiting::News
+            };
+            self.wait_for(waiting, now);
         }
+        turn
     }
 
-    fn wait_for(&mut self, waiting: Waiting, now: u64) {
+    fn wait_for(&mut self, waiting: Waiting, now: u64)
+        ensures { self.new.outgoing ≡ self.old.outgoing }
+    {
         self.waiting = waiting;
         self.since = now;
     }
@@ -173,9 +161,39 @@ impl<N: News + Drop> Subscriber<N> {
     }
 }
 
-impl Heard {
-    // The hello that its bytes are.
-    fn hello(&self) -> Option<Hello> {
-        read_hello(&mut FailureCounted::new(self.bytes.as_slice())).ok()
+// Begins the frame of what is shown, if it may begin. Answers whether it did.
+fn offered<N: News + Drop>(outgoing: &mut Outgoing<N>, shown: &Newest<N>) -> bool
+    ensures { GoesOnTelling outgoing.old outgoing.new }
+{
+    let Some(news) = &shown.news else {
+        return false;
+    };
+    if !outgoing.takes(news.revision()) {
+        return false;
+    }
+    let Ok(news) = Arc::try_clone(news) else {
+        return false;
+    };
+    outgoing.offer(news)
+}
+
+// Sends once of the frame that is being sent.
+fn sent_once<N: News + Drop>(
+    outgoing: &mut Outgoing<N>,
+    socket: &mut Socket,
+    tally: &mut Tally,
+) -> Turn
+    ensures { GoesOnTelling outgoing.old outgoing.new }
+{
+    let (head, document) = outgoing.rest();
+    match socket.write_both(head, document) {
+        Ok(0) => Turn::Over,
+        Ok(count) => {
+            outgoing.sent(count);
+            tally.frame_bytes = tally.frame_bytes.saturating_add(count as u64);
+            Turn::Goes
+        }
+        Err(fault) if is_passing(fault.kind()) => Turn::Waits,
+        Err(_) => Turn::Over,
     }
 }

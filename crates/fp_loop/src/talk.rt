@@ -1,9 +1,9 @@
 //! A conversation over HTTP, as single reads and writes.
 
-ghost use Rattle.std.specs.Prelude.{◌≡◌};
+ghost use Rattle.std.specs.Prelude.{◌≡◌, IsTrue, OnOk};
 ghost use Rattle.http_server.specs.Connection.{config_of, history};
-ghost use Rattle.http_server.specs.History.{Rests};
-ghost use Rattle.fp_loop.specs.Talks.{Hears, Says};
+ghost use Rattle.http_server.specs.History.{Rests, new_history};
+ghost use Rattle.fp_loop.specs.Talks.{Hears, Rested, Says};
 
 use crate::counting::Counting;
 use crate::socket::is_passing;
@@ -37,24 +37,26 @@ pub(crate) fn say<S: Service + Drop, W: Write>(
     service: &mut Counting<S>,
     writer: &mut W,
 ) -> Turn
-    ensures said { Says S.answers service.old.service service.new.service
-        (history connection.old) (history connection.new)
+    ensures said { Says S.answers (config_of connection.old)
+        service.old.service service.new.service (history connection.old) (history connection.new)
         (W.contents writer.old) (W.contents writer.new) }
-    ensures rests { Rests (config_of connection.old) (history connection.old)
-        → Rests (config_of connection.old) (history connection.new) }
     ensures config { config_of connection.new ≡ config_of connection.old }
 {
     let paused = !connection.wants_read();
-    match connection.write_to(writer) {
-        Ok(0) => return Turn::Over,
-        Ok(_) => {}
+    let turn = match connection.write_to(writer) {
+        Ok(count) => after_write(count),
         Err(fault) if is_passing(fault.kind()) => return Turn::Waits,
         Err(_) => return Turn::Over,
-    }
+    };
     if paused {
         connection.advance(service);
     }
-    Turn::Goes
+    turn
+}
+
+// A writer that takes nothing has ended.
+fn after_write(count: usize) -> Turn {
+    if count == 0 { Turn::Over } else { Turn::Goes }
 }
 
 /// Reads once, and answers what came. Gives how many bytes came.
@@ -63,11 +65,10 @@ pub(crate) fn hear<S: Service + Drop, R: Read>(
     service: &mut Counting<S>,
     reader: &mut R,
 ) -> Result<usize, Turn>
-    ensures heard { Hears S.answers service.old.service service.new.service
-        (history connection.old) (history connection.new)
+    ensures heard { Hears S.answers (config_of connection.old)
+        service.old.service service.new.service (history connection.old) (history connection.new)
         (R.remaining reader.old) (R.remaining reader.new) }
-    ensures rests { Rests (config_of connection.old) (history connection.old)
-        → Rests (config_of connection.old) (history connection.new) }
+    ensures rests { OnOk result (Rests (config_of connection.old) (history connection.new)) }
     ensures config { config_of connection.new ≡ config_of connection.old }
 {
     match connection.read_from(reader) {
@@ -80,18 +81,22 @@ pub(crate) fn hear<S: Service + Drop, R: Read>(
     }
 }
 
-/// Whether all that came was answered and sent: then its input may end there.
+/// Has the input of a connection end there. Answers whether all that came was answered and sent; if
+/// not, it can't go on.
 pub(crate) fn is_at_rest<S: Service + Drop>(
-    connection: Connection,
+    connection: &mut Connection,
     service: &mut Counting<S>,
 ) -> bool
-    ensures rest { IsTrue result → HasRested (config_of connection) (history connection) }
+    ensures rested { IsTrue result → ∥ Rested S.answers service.old.service service.new.service
+        (config_of connection.old) (history connection.old) ∥₁ }
 {
-    let mut connection = connection;
     let mut end: &[u8] = &[];
-    if connection.read_from(&mut end).is_err() {
+    let Ok(_none) = connection.read_from(&mut end) else {
         return false;
-    }
+    };
     connection.advance(service);
-    connection.state() == State::Closing(Reason::EndOfInput) && connection.is_done()
+    match connection.state() {
+        State::Closing(Reason::EndOfInput) => connection.is_done(),
+        _ => false,
+    }
 }

@@ -1,5 +1,9 @@
 //! The loop of one thread over its connections.
 
+ghost use Rattle.std.specs.Prelude.{◌≡◌, None};
+ghost use Rattle.std.specs.Arc.{arc_value};
+ghost use Rattle.fp_loop.specs.Newest.{had, Rises};
+
 use crate::counting::Counting;
 use crate::counts::{Counts, Tally};
 use crate::inbox::{Inbox, Role, Taken};
@@ -11,20 +15,18 @@ use crate::subscriber::Subscriber;
 use crate::talk::Beginning;
 use crate::times::Limits;
 use crate::turn::Turn;
-use http1::Limits as HeadLimits;
 use http_server::Config;
+use http1::Limits as HeadLimits;
 use mio::event::Event;
 use mio::{Events, Interest, Poll, Token, Waker};
 use slab::Slab;
 use std::alloc::{AllocError, Global};
 use std::hash::RandomState;
-use std::io;
-use std::mem;
 use std::net::{Net, TcpStream};
 use std::random::RandomSource;
 use std::sync::{Arc, Wait};
-use std::thread;
 use std::time::{Clock, Duration};
+use std::{io, mem, thread};
 
 // How many events one wait gives.
 const EVENTS: usize = 1024;
@@ -113,7 +115,10 @@ where
     }
 
     /// Serves its connections until it is stopped.
-    pub fn run<R: Wait + Clock>(&mut self, rt: &R) {
+    pub fn run<R: Wait + Clock>(&mut self, rt: &R)
+        ensures { Rises (had (λ n. N.shows (arc_value n)) self.old.shown.news)
+            (had (λ n. N.shows (arc_value n)) self.new.shown.news) }
+    {
         for _ in rt.forever() {
             if !self.turn(rt) {
                 return;
@@ -122,7 +127,10 @@ where
     }
 
     // Waits for what is ready, and does what can be done. Answers whether it goes on.
-    fn turn<R: Wait + Clock>(&mut self, rt: &R) -> bool {
+    fn turn<R: Wait + Clock>(&mut self, rt: &R) -> bool
+        ensures { Rises (had (λ n. N.shows (arc_value n)) self.old.shown.news)
+            (had (λ n. N.shows (arc_value n)) self.new.shown.news) }
+    {
         let patience = self.patience();
         if self.poll.poll(&mut self.events, patience).is_err() {
             thread::sleep(rt, Duration::from_millis(10));
@@ -143,7 +151,10 @@ where
     }
 
     // Does what was handed in asks for. Answers whether it goes on.
-    fn collect<R: Wait>(&mut self, rt: &R, now: u64) -> bool {
+    fn collect<R: Wait>(&mut self, rt: &R, now: u64) -> bool
+        ensures { Rises (had (λ n. N.shows (arc_value n)) self.old.shown.news)
+            (had (λ n. N.shows (arc_value n)) self.new.shown.news) }
+    {
         let Taken {
             streams,
             news,
@@ -156,10 +167,17 @@ where
         if let Some(news) = news {
             self.show(news);
         }
+        self.begin_all(streams, now);
+        true
+    }
+
+    // Begins the connections that were handed in.
+    fn begin_all(&mut self, streams: Vec<(TcpStream, Role)>, now: u64)
+        ensures { self.new.shown ≡ self.old.shown }
+    {
         for (stream, role) in streams {
             self.begin(stream, role, now);
         }
-        true
     }
 
     // For how long to wait where nothing is ready.
@@ -174,7 +192,9 @@ where
     }
 
     // Tells each connection what its socket is ready for. Answers whether the inbox has something.
-    fn mark(&mut self) -> bool {
+    fn mark(&mut self) -> bool
+        ensures { self.new.shown ≡ self.old.shown }
+    {
         let mut is_woken = false;
         for event in &self.events {
             let Token(key) = event.token();
@@ -188,14 +208,18 @@ where
     }
 
     // Gives each connection in the queue its turn.
-    fn take_turns(&mut self, now: u64) {
-        let mut kept = 0;
+    fn take_turns(&mut self, now: u64)
+        ensures { self.new.shown ≡ self.old.shown }
+    {
+        let mut kept = 0usize;
         for at in 0..self.queue.len() {
-            let key = self.queue[at];
+            let Some(key) = self.queue.get(at).copied() else {
+                return;
+            };
             match self.take_turn(key, now) {
                 Turn::Goes => {
-                    self.queue[kept] = key;
-                    kept += 1;
+                    put(&mut self.queue, kept, key);
+                    kept = kept.saturating_add(1);
                 }
                 Turn::Waits => {}
                 Turn::Over => self.remove(key),
@@ -204,7 +228,9 @@ where
         self.queue.truncate(kept);
     }
 
-    fn take_turn(&mut self, key: usize, now: u64) -> Turn {
+    fn take_turn(&mut self, key: usize, now: u64) -> Turn
+        ensures { self.new.shown ≡ self.old.shown }
+    {
         let Some(member) = self.members.get_mut(key) else {
             return Turn::Waits;
         };
@@ -213,14 +239,19 @@ where
         turn
     }
 
-    fn remove(&mut self, key: usize) {
+    fn remove(&mut self, key: usize)
+        ensures { self.new.shown ≡ self.old.shown }
+    {
         if let Some(member) = self.members.try_remove(key) {
             self.counts.left(member.role());
         }
     }
 
     // From now on shows these news, if they are newer.
-    fn show(&mut self, news: Arc<N, Global>) {
+    fn show(&mut self, news: Arc<N, Global>)
+        ensures { Rises (had (λ n. N.shows (arc_value n)) self.old.shown.news)
+            (had (λ n. N.shows (arc_value n)) self.new.shown.news) }
+    {
         let Ok(told) = Arc::try_clone(&news) else {
             return;
         };
@@ -228,6 +259,13 @@ where
             return;
         }
         self.service.service.inform(told);
+        self.enqueue_subscribers();
+    }
+
+    // Has each subscriber take its turn.
+    fn enqueue_subscribers(&mut self)
+        ensures { self.new.shown ≡ self.old.shown }
+    {
         for key in 0..self.members.capacity() {
             if let Some(member) = self.members.get_mut(key)
                 && member.role() == Role::Frames
@@ -238,13 +276,17 @@ where
     }
 
     // Begins a connection that was handed in.
-    fn begin(&mut self, stream: TcpStream, role: Role, now: u64) {
+    fn begin(&mut self, stream: TcpStream, role: Role, now: u64)
+        ensures { self.new.shown ≡ self.old.shown }
+    {
         if self.admit(stream, role, now).is_err() {
             self.counts.left(role);
         }
     }
 
-    fn admit(&mut self, stream: TcpStream, role: Role, now: u64) -> io::Result<()> {
+    fn admit(&mut self, stream: TcpStream, role: Role, now: u64) -> io::Result<()>
+        ensures { self.new.shown ≡ self.old.shown }
+    {
         let mut stream = mio::net::TcpStream::from_std(stream);
         let key = self.members.vacant_key();
         let both = Interest::READABLE | Interest::WRITABLE;
@@ -270,7 +312,9 @@ where
 
     // Ends those that kept the loop waiting for too long, and has those that are quiet let go of
     // memory.
-    fn sweep(&mut self, now: u64) {
+    fn sweep(&mut self, now: u64)
+        ensures { self.new.shown ≡ self.old.shown }
+    {
         for key in 0..self.members.capacity() {
             let Some(member) = self.members.get_mut(key) else {
                 continue;
@@ -289,13 +333,17 @@ where
     }
 
     // Adds what happened to what is counted.
-    fn tell(&mut self) {
+    fn tell(&mut self)
+        ensures { self.new.shown ≡ self.old.shown }
+    {
         let tally = mem::replace(&mut self.service.tally, Tally::new());
         self.counts.add(&tally);
     }
 
     // Ends all connections.
-    fn end(&mut self) {
+    fn end(&mut self)
+        ensures { self.new.shown ≡ self.old.shown }
+    {
         for key in 0..self.members.capacity() {
             self.remove(key);
         }
@@ -323,6 +371,13 @@ fn mark_member<N: News + Drop>(
 fn enqueue<N: News + Drop>(queue: &mut Vec<usize>, member: &mut Member<N>, key: usize) {
     if !member.is_queued && queue.push(key).is_ok() {
         member.is_queued = true;
+    }
+}
+
+// Puts a key at this place of the queue.
+fn put(queue: &mut Vec<usize>, at: usize, key: usize) {
+    if let Some(place) = queue.get_mut(at) {
+        *place = key;
     }
 }
 
