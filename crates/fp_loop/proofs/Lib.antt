@@ -1,0 +1,3 @@
+pub mod Frames
+pub mod Talking
+pub mod Telling

@@ -1,0 +1,9 @@
+use Rattle.std.proofs.Common.{rules, ◌≡◌}
+use Rattle.fp_loop.proofs.Frames.{is_not_left}
+use Rattle.fp_loop.proofs.outgoing.Outgoing.takes.Goals as goal
+
+pub returns-else-is_none : goal.returns-else-is_none
+returns-else-is_none g c =
+    let none = is_not_left c.args.self.now.sending in
+    let was = c.is_none.ensures in
+    search (rules, none, was)

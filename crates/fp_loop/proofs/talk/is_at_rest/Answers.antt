@@ -1,0 +1,23 @@
+use Rattle.std.proofs.Common.{◌≡◌, ◌∙◌, ap, sym, subst, Some}
+use Rattle.std.proofs.Math.Logic.{∥∥₁_map}
+use Rattle.http_server.specs.Connection.{config_of, history}
+use Rattle.http_server.specs.History.{IsServed}
+use Rattle.http_server.specs.declared.state.State.TheVariants.{Closing}
+use Rattle.fp_loop.proofs.Talking.{rested_of}
+use Rattle.fp_loop.proofs.talk.is_at_rest.Goals as goal
+
+pub returns-in-Closing-EndOfInput : goal.returns-in-Closing-EndOfInput
+returns-in-Closing-EndOfInput g c = record {
+  rested = λ done.
+      let ok = c.in-Ok.ensures.ok in
+      let quiet = c.advance.ensures.quiet in
+      let config = c.advance.ensures.config ∙ c.read_from.ensures.config in
+      let closed =
+      sym c.state.ensures ∙ c.in-Closing-EndOfInput.is ∙ ap Closing c.in-Closing-EndOfInput.field-0-is in
+      ∥∥₁_map c.advance.ensures.served
+      (λ served. rested_of (λ k. k.service) g.S.Service.answers _ _ (config_of c.args.connection.now)
+      (history c.args.connection.now) (history c.read_from.new.self) (history c.advance.new.self)
+      (Some c.read_from.new.reader.now) ok.0 ok.3 ok.2
+      (subst (λ k. IsServed k (history c.advance.new.self)) config served)
+      closed (c.is_done.ensures.0 done).1 quiet.0 quiet.2 c.advance.ensures.calls);
+}

@@ -1,0 +1,7 @@
+pub mod Hearing
+pub mod Newest
+pub mod Outgoing
+pub mod Peers
+pub mod Subscribers
+pub mod Talks
+pub mod Times

@@ -1,0 +1,153 @@
+//! What happened to connections, as a status page shows it.
+
+use crate::inbox::Role;
+use std::sync::atomic::{AtomicU64, Ordering};
+
+/// What happened to the connections of some loops. All threads add to it.
+#[derive(Drop)]
+pub struct Counts {
+    requesters: AtomicU64,
+    subscribers: AtomicU64,
+    accepted: AtomicU64,
+    refused: AtomicU64,
+    successes: AtomicU64,
+    redirections: AtomicU64,
+    client_faults: AtomicU64,
+    server_faults: AtomicU64,
+    frame_bytes: AtomicU64,
+}
+
+/// What was counted up to some moment. The numbers may be of moments that lie apart.
+#[derive(Debug, Drop, Clone, Copy, PartialEq, Eq)]
+pub struct Counted {
+    /// Connections that are open for requests.
+    pub requesters: u64,
+    /// Connections that are open for frames.
+    pub subscribers: u64,
+    /// Connections that were let in.
+    pub accepted: u64,
+    /// Connections that were closed because there was no place for them.
+    pub refused: u64,
+    /// Requests that were answered by a status of 1xx or 2xx.
+    pub successes: u64,
+    /// By 3xx.
+    pub redirections: u64,
+    /// By 4xx.
+    pub client_faults: u64,
+    /// By 5xx.
+    pub server_faults: u64,
+    /// The bytes of frames that were sent.
+    pub frame_bytes: u64,
+}
+
+/// What happened in one turn of a loop.
+#[derive(Debug, Drop, Clone, Copy, PartialEq, Eq)]
+pub(crate) struct Tally {
+    pub(crate) successes: u64,
+    pub(crate) redirections: u64,
+    pub(crate) client_faults: u64,
+    pub(crate) server_faults: u64,
+    pub(crate) frame_bytes: u64,
+}
+
+impl Tally {
+    pub(crate) fn new() -> Tally {
+        Tally {
+            successes: 0,
+            redirections: 0,
+            client_faults: 0,
+            server_faults: 0,
+            frame_bytes: 0,
+        }
+    }
+
+    /// A request was answered by this status.
+    pub(crate) fn answered(&mut self, status: u16) {
+        let count = match status {
+            0..=299 => &mut self.successes,
+            300..=399 => &mut self.redirections,
+            400..=499 => &mut self.client_faults,
+            _ => &mut self.server_faults,
+        };
+        *count = count.saturating_add(1);
+    }
+}
+
+impl Counts {
+    /// Nothing yet.
+    pub fn new() -> Counts {
+        Counts {
+            requesters: AtomicU64::new(0),
+            subscribers: AtomicU64::new(0),
+            accepted: AtomicU64::new(0),
+            refused: AtomicU64::new(0),
+            successes: AtomicU64::new(0),
+            redirections: AtomicU64::new(0),
+            client_faults: AtomicU64::new(0),
+            server_faults: AtomicU64::new(0),
+            frame_bytes: AtomicU64::new(0),
+        }
+    }
+
+    /// What was counted up to now.
+    pub fn now(&self) -> Counted {
+        Counted {
+            requesters: read(&self.requesters),
+            subscribers: read(&self.subscribers),
+            accepted: read(&self.accepted),
+            refused: read(&self.refused),
+            successes: read(&self.successes),
+            redirections: read(&self.redirections),
+            client_faults: read(&self.client_faults),
+            server_faults: read(&self.server_faults),
+            frame_bytes: read(&self.frame_bytes),
+        }
+    }
+
+    /// How many connections are open for this.
+    pub(crate) fn open(&self, role: Role) -> u64 {
+        read(self.of(role))
+    }
+
+    /// A connection was let in.
+    pub(crate) fn came(&self, role: Role) {
+        add(self.of(role), 1);
+        add(&self.accepted, 1);
+    }
+
+    /// A connection was refused.
+    pub(crate) fn was_refused(&self) {
+        add(&self.refused, 1);
+    }
+
+    /// So many connections that were let in have ended.
+    pub(crate) fn left(&self, role: Role) {
+        self.of(role).fetch_sub(1, Ordering::SeqCst);
+    }
+
+    /// Adds what happened in a turn.
+    pub(crate) fn add(&self, tally: &Tally) {
+        add(&self.successes, tally.successes);
+        add(&self.redirections, tally.redirections);
+        add(&self.client_faults, tally.client_faults);
+        add(&self.server_faults, tally.server_faults);
+        add(&self.frame_bytes, tally.frame_bytes);
+    }
+
+    fn of(&self, role: Role) -> &AtomicU64 {
+        match role {
+            Role::Requests => &self.requesters,
+            Role::Frames => &self.subscribers,
+        }
+    }
+}
+
+fn read(count: &AtomicU64) -> u64 {
+    count.load(Ordering::SeqCst)
+}
+
+fn add(count: &AtomicU64, more: u64) {
+    if more > 0 {
+        count.fetch_add(more, Ordering::SeqCst);
+    }
+}

@@ -1,0 +1,147 @@
+//! What loops are handed from other threads: connections, news, and that they stop.
+
+use crate::news::{Newest, News};
+use mio::Waker;
+use std::alloc::{AllocError, Global};
+use std::mem;
+use std::net::TcpStream;
+use std::sync::{Arc, Mutex, Wait};
+
+/// What a connection is for.
+#[derive(Debug, Drop, Clone, Copy, PartialEq, Eq)]
+pub enum Role {
+    /// Requests over HTTP/1.1.
+    Requests,
+    /// A hello, and frames.
+    Frames,
+}
+
+// What was handed in and not taken yet.
+#[derive(Drop)]
+struct Post<N: News + Drop> {
+    streams: Vec<(TcpStream, Role)>,
+    newest: Newest<N>,
+    is_stopped: bool,
+}
+
+/// Where one loop is handed what concerns it.
+#[derive(Drop)]
+pub struct Inbox<N: News + Drop> {
+    alloc: Global,
+    post: Mutex<Post<N>>,
+    waker: Waker,
+}
+
+/// What a loop took from its inbox.
+#[derive(Drop)]
+pub(crate) struct Taken<N: News + Drop> {
+    pub(crate) streams: Vec<(TcpStream, Role)>,
+    pub(crate) news: Option<Arc<N, Global>>,
+    pub(crate) is_stopped: bool,
+}
+
+impl<N: News + Drop> Post<N> {
+    // All of it. That it is stopped stays.
+    fn take(&mut self, alloc: Global) -> Taken<N> {
+        Taken {
+            streams: mem::replace(&mut self.streams, Vec::new(alloc)),
+            news: self.newest.give(),
+            is_stopped: self.is_stopped,
+        }
+    }
+}
+
+impl<N: News + Drop> Inbox<N> {
+    pub(crate) fn new(alloc: Global, waker: Waker) -> Inbox<N> {
+        let post = Post {
+            streams: Vec::new(alloc),
+            newest: Newest::new(),
+            is_stopped: false,
+        };
+        Inbox {
+            alloc,
+            post: Mutex::new(post),
+            waker,
+        }
+    }
+
+    /// Hands in news. Older ones that the loop hasn't taken yet are dropped.
+    pub fn post_news<R: Wait>(&self, rt: &R, news: Arc<N, Global>) {
+        self.post.lock(rt).newest.take(news);
+        let _ = self.waker.wake();
+    }
+
+    /// Hands in a connection that doesn't wait. Without memory it is closed.
+    pub fn post_connection<R: Wait>(
+        &self,
+        rt: &R,
+        stream: TcpStream,
+        role: Role,
+    ) -> Result<(), AllocError> {
+        self.post.lock(rt).streams.push((stream, role))?;
+        let _ = self.waker.wake();
+        Ok(())
+    }
+
+    /// Has the loop end all of its connections and return.
+    pub fn stop<R: Wait>(&self, rt: &R) {
+        self.post.lock(rt).is_stopped = true;
+        let _ = self.waker.wake();
+    }
+
+    /// What was handed in since the last time.
+    pub(crate) fn take<R: Wait>(&self, rt: &R) -> Taken<N> {
+        self.post.lock(rt).take(self.alloc)
+    }
+}
+
+/// The inboxes of all loops.
+#[derive(Drop)]
+pub struct Loops<N: News + Drop> {
+    inboxes: Vec<Arc<Inbox<N>, Global>>,
+}
+
+impl<N: News + Drop> Loops<N> {
+    /// None yet.
+    pub fn new(alloc: Global) -> Loops<N> {
+        Loops {
+            inboxes: Vec::new(alloc),
+        }
+    }
+
+    /// One loop more.
+    pub fn add(&mut self, inbox: Arc<Inbox<N>, Global>) -> Result<(), AllocError> {
+        Ok(self.inboxes.push(inbox)?)
+    }
+
+    /// Hands news to all.
+    pub fn post_news<R: Wait>(&self, rt: &R, news: &Arc<N, Global>) -> Result<(), AllocError> {
+        for inbox in &self.inboxes {
+            inbox.post_news(rt, Arc::try_clone(news)?);
+        }
+        Ok(())
+    }
+
+    /// Hands a connection to the loop whose turn it is; `turn` is any number that goes on.
+    pub fn post_connection<R: Wait>(
+        &self,
+        rt: &R,
+        turn: u64,
+        stream: TcpStream,
+        role: Role,
+    ) -> Result<(), AllocError> {
+        let count = self.inboxes.len() as u64;
+        if count == 0 {
+            return Err(AllocError);
+        }
+        let at = (turn % count) as usize;
+        self.inboxes[at].post_connection(rt, stream, role)
+    }
+
+    /// Stops all.
+    pub fn stop<R: Wait>(&self, rt: &R) {
+        for inbox in &self.inboxes {
+            inbox.stop(rt);
+        }
+    }
+}

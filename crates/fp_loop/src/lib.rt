@@ -1,0 +1,29 @@
+//! Many connections on few threads: HTTP services and streams of frames over readiness.
+#![tactic(auto)]
+
+mod counting;
+mod counts;
+mod head;
+mod heard;
+mod inbox;
+mod listening;
+mod member;
+mod news;
+mod outgoing;
+mod peer;
+mod probing;
+mod socket;
+mod starting;
+mod subscriber;
+mod talk;
+mod times;
+mod turn;
+mod turning;
+
+pub use counts::{Counted, Counts};
+pub use inbox::{Inbox, Loops, Role};
+pub use listening::{Door, Listening};
+pub use news::{Informed, News};
+pub use outgoing::Outgoing;
+pub use times::{Limits, Waiting, is_over_time};
+pub use turning::{Loop, MOST_REQUEST};

@@ -1,0 +1,120 @@
+//! What lets connections in.
+
+use crate::counts::Counts;
+use crate::inbox::{Loops, Role};
+use crate::news::News;
+use crate::probing::probe_peers;
+use std::alloc::Global;
+use std::net::{IpAddr, Ipv4Addr, Net, SocketAddr, SocketAddrV4, TcpListener, TcpStream};
+use std::sync::atomic::{AtomicBool, Ordering};
+use std::sync::{Arc, Wait};
+use std::time::{Clock, Duration};
+use std::{io, thread};
+
+/// Where the connections of a listener go.
+#[derive(Drop)]
+pub struct Door<N: News + Drop> {
+    /// What they are for.
+    pub role: Role,
+    /// How many of that role there may be at once.
+    pub most: u64,
+    /// The loops, each of which has its turn.
+    pub loops: Arc<Loops<N>, Global>,
+    /// What is counted of them.
+    pub counts: Arc<Counts, Global>,
+}
+
+/// A listener. One thread lets connections in, and another one may end that.
+#[derive(Drop)]
+pub struct Listening {
+    listener: TcpListener,
+    bound: SocketAddr,
+    is_closed: AtomicBool,
+}
+
+impl Listening {
+    /// At this address; nobody is let in yet.
+    pub fn bind<R>(rt: &R, address: SocketAddrV4) -> io::Result<Listening>
+    where
+        R: Net<Listener = TcpListener, Stream = TcpStream>,
+    {
+        let listener = TcpListener::bind(rt, address)?;
+        probe_peers(&listener);
+        let bound = listener.local_addr()?;
+        Ok(Listening {
+            listener,
+            bound,
+            is_closed: AtomicBool::new(false),
+        })
+    }
+
+    /// Where it was bound.
+    pub fn bound(&self) -> SocketAddr {
+        self.bound
+    }
+
+    /// Hands each connection to a loop, until it is closed. Where there are as many as there may
+    /// be, a connection is closed without a byte.
+    pub fn accept<R, N>(&self, rt: &R, door: &Door<N>)
+    where
+        R: Wait + Clock,
+        N: News + Drop,
+    {
+        let mut turn = 0u64;
+        for _ in rt.forever() {
+            let accepted = self.listener.accept();
+            if self.is_closed.load(Ordering::SeqCst) {
+                return;
+            }
+            match accepted {
+                Ok((stream, _peer)) => door.let_in(rt, stream, turn),
+                // What is wanting may be there again soon.
+                Err(_) => thread::sleep(rt, Duration::from_millis(10)),
+            }
+            turn = turn.wrapping_add(1);
+        }
+    }
+
+    /// Lets no connection in any more.
+    pub fn close<R>(&self, rt: &R)
+    where
+        R: Net<Listener = TcpListener, Stream = TcpStream>,
+    {
+        self.is_closed.store(true, Ordering::SeqCst);
+        // The thread that accepts wakes by one more.
+        let _ = TcpStream::connect(rt, reached(self.bound));
+    }
+}
+
+impl<N: News + Drop> Door<N> {
+    // Hands a connection on, or closes it.
+    fn let_in<R: Wait>(&self, rt: &R, stream: TcpStream, turn: u64) {
+        if self.counts.open(self.role) >= self.most {
+            self.counts.was_refused();
+            return;
+        }
+        // A reply is small, and waits for nothing behind it.
+        let _ = stream.set_nodelay(true);
+        if stream.set_nonblocking(true).is_err() {
+            return;
+        }
+        self.counts.came(self.role);
+        if self
+            .loops
+            .post_connection(rt, turn, stream, self.role)
+            .is_err()
+        {
+            self.counts.left(self.role);
+        }
+    }
+}
+
+// Where what is bound to all of this machine's addresses is reached.
+fn reached(bound: SocketAddr) -> SocketAddr {
+    match bound.ip() {
+        IpAddr::V4(ip) if ip.is_unspecified() => {
+            SocketAddr::new(IpAddr::V4(Ipv4Addr::LOCALHOST), bound.port())
+        }
+        _ => bound,
+    }
+}

@@ -1,0 +1,217 @@
+//! One connection for requests, as steps that don't wait.
+
+ghost use Rattle.std.specs.Prelude.{◌≡◌, ◌≢◌, Some, IsTrue};
+ghost use Rattle.http_server.specs.History.{IsServed};
+ghost use Rattle.fp_loop.specs.declared.times.Waiting.TheVariants.{Leaving};
+ghost use Rattle.fp_loop.specs.declared.turn.Turn.TheVariants.{Waits};
+ghost use Rattle.fp_loop.specs.Peers.{CanDoNothing, config_of, history_of, Quiets};
+ghost use Rattle.fp_loop.specs.Talks.{Talks};
+
+use crate::counting::Counting;
+use crate::socket::{Socket, is_passing};
+use crate::talk::{Beginning, hear, is_at_rest, say};
+use crate::times::{Limits, Waiting, is_over_time};
+use crate::turn::Turn;
+use http_server::{Connection, Reason, Service, State};
+use std::io::Read;
+use std::mem;
+use std::net::Shutdown;
+
+// How many reads and writes one turn may take, so that a busy connection leaves time for others.
+const ROUNDS: u32 = 16;
+
+// What a connection may hold of past requests and replies while it is quiet, in bytes.
+const KEPT: usize = 2048;
+
+// After how many milliseconds without a request it is quiet.
+const QUIET: u64 = 1000;
+
+/// A connection for requests.
+#[derive(Drop)]
+pub(crate) struct Peer {
+    connection: Connection,
+    pub(crate) socket: Socket,
+    waiting: Waiting,
+    // When it began to wait for that.
+    since: u64,
+    // When some of a request came that isn't whole yet.
+    begun: Option<u64>,
+    // The most bytes that came or waited at once.
+    most: usize,
+}
+
+impl Peer {
+    pub(crate) fn new(beginning: &Beginning, socket: Socket, now: u64) -> Peer {
+        Peer {
+            connection: beginning.connection(),
+            socket,
+            waiting: Waiting::Request,
+            since: now,
+            begun: None,
+            most: 0,
+        }
+    }
+
+    /// Reads, answers and writes, until it would wait or its turn is over.
+    pub(crate) fn turn<S: Service + Drop>(&mut self, service: &mut Counting<S>, now: u64) -> Turn
+        ensures talks { Talks S.answers (config_of self.old)
+            service.old.service service.new.service (history_of self.old) (history_of self.new) }
+        ensures served { ∥ IsServed (config_of self.new) (history_of self.new) ∥₁ }
+        ensures waits { result ≡ Waits → self.new.waiting ≢ Leaving → CanDoNothing self.new }
+        ensures config { config_of self.new ≡ config_of self.old }
+    {
+        for _ in 0..ROUNDS {
+            if let Some(turn) = self.step(service, now) {
+                return turn;
+            }
+        }
+        Turn::Goes
+    }
+
+    // Reads or writes once. Gives what the turn came to, where that ends it.
+    fn step<S: Service + Drop>(&mut self, service: &mut Counting<S>, now: u64) -> Option<Turn>
+        ensures talks { Talks S.answers (config_of self.old)
+            service.old.service service.new.service (history_of self.old) (history_of self.new) }
+        ensures waits { result ≡ Some Waits → self.new.waiting ≢ Leaving → CanDoNothing self.new }
+        ensures config { config_of self.new ≡ config_of self.old }
+    {
+        if self.waiting == Waiting::Leaving {
+            return Some(self.see_off());
+        }
+        let turn = if self.connection.wants_write() && self.socket.may_write {
+            self.send(service, now)
+        } else if self.connection.wants_read() && self.socket.may_read {
+            self.receive(service, now)
+        } else {
+            return Some(Turn::Waits);
+        };
+        if turn == Turn::Over || (self.connection.is_done() && !self.leave(now)) {
+            return Some(Turn::Over);
+        }
+        None
+    }
+
+    // Writes once.
+    fn send<S: Service + Drop>(&mut self, service: &mut Counting<S>, now: u64) -> Turn
+        ensures talks { Talks S.answers (config_of self.old)
+            service.old.service service.new.service (history_of self.old) (history_of self.new) }
+        ensures config { config_of self.new ≡ config_of self.old }
+    {
+        self.most = self.most.max(self.connection.output().len());
+        let turn = say(&mut self.connection, service, &mut self.socket);
+        if turn == Turn::Goes {
+            self.wait(Waiting::Request, now);
+        }
+        turn
+    }
+
+    // Reads once, and answers what came.
+    fn receive<S: Service + Drop>(&mut self, service: &mut Counting<S>, now: u64) -> Turn
+        ensures talks { Talks S.answers (config_of self.old)
+            service.old.service service.new.service (history_of self.old) (history_of self.new) }
+        ensures config { config_of self.new ≡ config_of self.old }
+    {
+        let calls = service.calls;
+        match hear(&mut self.connection, service, &mut self.socket) {
+            Ok(count) => self.most = self.most.max(count),
+            Err(turn) => return turn,
+        }
+        self.begin(service.calls != calls, now);
+        self.wait(self.waiting, now);
+        Turn::Goes
+    }
+
+    // Some of a request came, by which it was answered, or which isn't all of it.
+    fn begin(&mut self, is_answered: bool, now: u64)
+        ensures { self.new.connection ≡ self.old.connection }
+    {
+        if is_answered {
+            self.begun = None;
+        } else if self.begun.is_none() {
+            self.begun = Some(now);
+        }
+    }
+
+    // What it waits for now: that its peer takes what waits to be sent, since it last took some; the
+    // rest of a request, since its beginning; or a request. It waited for something else before.
+    fn wait(&mut self, before: Waiting, now: u64)
+        ensures { self.new.connection ≡ self.old.connection }
+    {
+        let (waiting, since) = if self.connection.wants_write() {
+            match before {
+                Waiting::Taker => (Waiting::Taker, self.since),
+                _ => (Waiting::Taker, now),
+            }
+        } else {
+            match self.begun {
+                Some(begun) => (Waiting::Rest, begun),
+                None => (Waiting::Request, now),
+            }
+        };
+        self.waiting = waiting;
+        self.since = since;
+    }
+
+    // Ends its own side, where the peer may still be talking: else the last reply could be lost to
+    // it. Answers whether the peer is to be waited for.
+    fn leave(&mut self, now: u64) -> bool
+        ensures { self.new.connection ≡ self.old.connection }
+    {
+        match self.connection.state() {
+            State::Closing(Reason::Asked | Reason::Refused(_)) => {
+                self.waiting = Waiting::Leaving;
+                self.since = now;
+                self.socket.stream.shutdown(Shutdown::Write).is_ok()
+            }
+            _ => false,
+        }
+    }
+
+    // Reads what the peer still says, and drops it, until it leaves.
+    fn see_off(&mut self) -> Turn
+        ensures connection { self.new.connection ≡ self.old.connection }
+        ensures waiting { self.new.waiting ≡ self.old.waiting }
+    {
+        let mut bytes = [0; 4096];
+        for _ in 0..ROUNDS {
+            if !self.socket.may_read {
+                return Turn::Waits;
+            }
+            match self.socket.read(&mut bytes) {
+                Ok(0) => return Turn::Over,
+                Ok(_) => {}
+                Err(fault) if is_passing(fault.kind()) => {}
+                Err(_) => return Turn::Over,
+            }
+        }
+        Turn::Goes
+    }
+
+    /// Whether it has kept the loop waiting for too long.
+    pub(crate) fn is_over_time(&self, limits: &Limits, now: u64) -> bool {
+        is_over_time(limits, self.waiting, self.since, now)
+    }
+
+    /// Lets go of memory that a long request or reply took, where it has been quiet for a while.
+    /// Answers whether it may go on.
+    pub(crate) fn shrink<S: Service + Drop>(
+        &mut self,
+        beginning: &Beginning,
+        service: &mut Counting<S>,
+        now: u64,
+    ) -> bool
+        ensures { IsTrue result → Quiets S.answers service.old.service service.new.service
+            self.old self.new }
+    {
+        let is_quiet = self.waiting == Waiting::Request && now.saturating_sub(self.since) >= QUIET;
+        if !is_quiet || self.most <= KEPT {
+            return true;
+        }
+        if !is_at_rest(&mut self.connection, service) {
+            return false;
+        }
+        self.most = 0;
+        drop(mem::replace(&mut self.connection, beginning.connection()));
+        true
+    }
+}

@@ -1,0 +1,390 @@
+//! The loop of one thread over its connections.
+
+ghost use Rattle.std.specs.Prelude.{◌≡◌, None};
+ghost use Rattle.std.specs.Arc.{arc_value};
+ghost use Rattle.fp_loop.specs.Newest.{had, Rises};
+
+use crate::counting::Counting;
+use crate::counts::{Counts, Tally};
+use crate::inbox::{Inbox, Role, Taken};
+use crate::member::{Kind, Member};
+use crate::news::{Informed, Newest, News};
+use crate::peer::Peer;
+use crate::socket::Socket;
+use crate::subscriber::Subscriber;
+use crate::talk::Beginning;
+use crate::times::Limits;
+use crate::turn::Turn;
+use http_server::Config;
+use http1::Limits as HeadLimits;
+use mio::event::Event;
+use mio::{Events, Interest, Poll, Token, Waker};
+use slab::Slab;
+use std::alloc::{AllocError, Global};
+use std::hash::RandomState;
+use std::net::{Net, TcpStream};
+use std::random::RandomSource;
+use std::sync::{Arc, Wait};
+use std::time::{Clock, Duration};
+use std::{io, mem, thread};
+
+// How many events one wait gives.
+const EVENTS: usize = 1024;
+
+// The token of the waker, which is no connection's.
+const WAKE: usize = usize::MAX;
+
+// Between two looks at the limits of time, in milliseconds.
+const SWEEP: u64 = 1000;
+
+/// The longest body of a request, in bytes. A longer one is refused.
+pub const MOST_REQUEST: usize = 65_536;
+
+// Where more bytes than this wait to be sent, no further request is answered.
+const MOST_PENDING: usize = 4096;
+
+// The least room for a read.
+const READ_SIZE: usize = 1024;
+
+/// A loop over connections, which one thread runs.
+#[derive(Drop)]
+pub struct Loop<S: Drop, N: News + Drop> {
+    poll: Poll,
+    events: Events,
+    inbox: Arc<Inbox<N>, Global>,
+    members: Slab<Member<N>>,
+    // The keys of those whose turn comes.
+    queue: Vec<usize>,
+    service: Counting<S>,
+    shown: Newest<N>,
+    beginning: Beginning,
+    limits: Limits,
+    counts: Arc<Counts, Global>,
+    // When the limits of time were last looked at.
+    swept: u64,
+}
+
+impl<S, N> Loop<S, N>
+where
+    S: Informed<N> + Drop,
+    N: News + Drop,
+{
+    /// With no connection yet, and no news.
+    pub fn new<R: Net + RandomSource>(
+        rt: &R,
+        alloc: Global,
+        service: S,
+        limits: Limits,
+        counts: Arc<Counts, Global>,
+    ) -> io::Result<Loop<S, N>> {
+        let poll = Poll::new(rt)?;
+        let waker = Waker::new(poll.registry(), Token(WAKE))?;
+        let config = Config {
+            limits: HeadLimits::default(),
+            max_body_len: MOST_REQUEST,
+            max_pending: MOST_PENDING,
+            read_size: READ_SIZE,
+        };
+        let beginning = Beginning {
+            alloc,
+            keys: RandomState::new(rt)?,
+            config,
+        };
+        Ok(Loop {
+            poll,
+            events: Events::with_capacity(alloc, EVENTS)?,
+            inbox: Arc::new(alloc, Inbox::new(alloc, waker))?,
+            members: Slab::new(alloc),
+            queue: Vec::new(alloc),
+            service: Counting {
+                service,
+                tally: Tally::new(),
+                calls: 0,
+            },
+            shown: Newest::new(),
+            beginning,
+            limits,
+            counts,
+            swept: 0,
+        })
+    }
+
+    /// Where it is handed what concerns it.
+    pub fn inbox(&self) -> Result<Arc<Inbox<N>, Global>, AllocError> {
+        Arc::try_clone(&self.inbox)
+    }
+
+    /// Serves its connections until it is stopped.
+    pub fn run<R: Wait + Clock>(&mut self, rt: &R)
+        ensures { Rises (had (λ n. N.shows (arc_value n)) self.old.shown.news)
+            (had (λ n. N.shows (arc_value n)) self.new.shown.news) }
+    {
+        for _ in rt.forever() {
+            if !self.turn(rt) {
+                return;
+            }
+        }
+    }
+
+    // Waits for what is ready, and does what can be done. Answers whether it goes on.
+    fn turn<R: Wait + Clock>(&mut self, rt: &R) -> bool
+        ensures { Rises (had (λ n. N.shows (arc_value n)) self.old.shown.news)
+            (had (λ n. N.shows (arc_value n)) self.new.shown.news) }
+    {
+        let patience = self.patience();
+        if self.poll.poll(&mut self.events, patience).is_err() {
+            thread::sleep(rt, Duration::from_millis(10));
+        }
+        let now = milliseconds(rt);
+        let is_woken = self.mark();
+        self.take_turns(now);
+        let is_due = now.saturating_sub(self.swept) >= SWEEP;
+        if (is_woken || is_due) && !self.collect(rt, now) {
+            return false;
+        }
+        if is_due {
+            self.swept = now;
+            self.sweep(now);
+        }
+        self.tell();
+        true
+    }
+
+    // Does what was handed in asks for. Answers whether it goes on.
+    fn collect<R: Wait>(&mut self, rt: &R, now: u64) -> bool
+        ensures { Rises (had (λ n. N.shows (arc_value n)) self.old.shown.news)
+            (had (λ n. N.shows (arc_value n)) self.new.shown.news) }
+    {
+        let Taken {
+            streams,
+            news,
+            is_stopped,
+        } = self.inbox.take(rt);
+        if is_stopped {
+            self.end();
+            return false;
+        }
+        if let Some(news) = news {
+            self.show(news);
+        }
+        self.begin_all(streams, now);
+        true
+    }
+
+    // Begins the connections that were handed in.
+    fn begin_all(&mut self, streams: Vec<(TcpStream, Role)>, now: u64)
+        ensures { self.new.shown ≡ self.old.shown }
+    {
+        for (stream, role) in streams {
+            self.begin(stream, role, now);
+        }
+    }
+
+    // For how long to wait where nothing is ready.
+    fn patience(&self) -> Option<Duration> {
+        if !self.queue.is_empty() {
+            Some(Duration::from_millis(0))
+        } else if self.members.is_empty() {
+            None
+        } else {
+            Some(Duration::from_millis(SWEEP))
+        }
+    }
+
+    // Tells each connection what its socket is ready for. Answers whether the inbox has something.
+    fn mark(&mut self) -> bool
+        ensures { self.new.shown ≡ self.old.shown }
+    {
+        let mut is_woken = false;
+        for event in &self.events {
+            let Token(key) = event.token();
+            if key == WAKE {
+                is_woken = true;
+            } else {
+                mark_member(&mut self.members, &mut self.queue, key, event);
+            }
+        }
+        is_woken
+    }
+
+    // Gives each connection in the queue its turn.
+    fn take_turns(&mut self, now: u64)
+        ensures { self.new.shown ≡ self.old.shown }
+    {
+        let mut kept = 0usize;
+        for at in 0..self.queue.len() {
+            let Some(key) = self.queue.get(at).copied() else {
+                return;
+            };
+            match self.take_turn(key, now) {
+                Turn::Goes => {
+                    put(&mut self.queue, kept, key);
+                    kept = kept.saturating_add(1);
+                }
+                Turn::Waits => {}
+                Turn::Over => self.remove(key),
+            }
+        }
+        self.queue.truncate(kept);
+    }
+
+    fn take_turn(&mut self, key: usize, now: u64) -> Turn
+        ensures { self.new.shown ≡ self.old.shown }
+    {
+        let Some(member) = self.members.get_mut(key) else {
+            return Turn::Waits;
+        };
+        let turn = member.turn(&mut self.service, &self.shown, now);
+        member.is_queued = turn == Turn::Goes;
+        turn
+    }
+
+    fn remove(&mut self, key: usize)
+        ensures { self.new.shown ≡ self.old.shown }
+    {
+        if let Some(member) = self.members.try_remove(key) {
+            self.counts.left(member.role());
+        }
+    }
+
+    // From now on shows these news, if they are newer.
+    fn show(&mut self, news: Arc<N, Global>)
+        ensures { Rises (had (λ n. N.shows (arc_value n)) self.old.shown.news)
+            (had (λ n. N.shows (arc_value n)) self.new.shown.news) }
+    {
+        let Ok(told) = Arc::try_clone(&news) else {
+            return;
+        };
+        if !self.shown.take(news) {
+            return;
+        }
+        self.service.service.inform(told);
+        self.enqueue_subscribers();
+    }
+
+    // Has each subscriber take its turn.
+    fn enqueue_subscribers(&mut self)
+        ensures { self.new.shown ≡ self.old.shown }
+    {
+        for key in 0..self.members.capacity() {
+            if let Some(member) = self.members.get_mut(key)
+                && member.role() == Role::Frames
+            {
+                enqueue(&mut self.queue, member, key);
+            }
+        }
+    }
+
+    // Begins a connection that was handed in.
+    fn begin(&mut self, stream: TcpStream, role: Role, now: u64)
+        ensures { self.new.shown ≡ self.old.shown }
+    {
+        if self.admit(stream, role, now).is_err() {
+            self.counts.left(role);
+        }
+    }
+
+    fn admit(&mut self, stream: TcpStream, role: Role, now: u64) -> io::Result<()>
+        ensures { self.new.shown ≡ self.old.shown }
+    {
+        let mut stream = mio::net::TcpStream::from_std(stream);
+        let key = self.members.vacant_key();
+        let both = Interest::READABLE | Interest::WRITABLE;
+        self.poll
+            .registry()
+            .register(&mut stream, Token(key), both)?;
+        let socket = Socket::new(stream);
+        let alloc = self.beginning.alloc;
+        let kind = match role {
+            Role::Requests => {
+                let peer = Peer::new(&self.beginning, socket, now);
+                Kind::Requests(Box::new(alloc, peer)?)
+            }
+            Role::Frames => Kind::Frames(Box::new(alloc, Subscriber::new(socket, now))?),
+        };
+        let member = Member {
+            kind,
+            is_queued: false,
+        };
+        self.members.insert(member)?;
+        Ok(())
+    }
+
+    // Ends those that kept the loop waiting for too long, and has those that are quiet let go of
+    // memory.
+    fn sweep(&mut self, now: u64)
+        ensures { self.new.shown ≡ self.old.shown }
+    {
+        for key in 0..self.members.capacity() {
+            let Some(member) = self.members.get_mut(key) else {
+                continue;
+            };
+            let stays = match &mut member.kind {
+                Kind::Requests(peer) => {
+                    !peer.is_over_time(&self.limits, now)
+                        && peer.shrink(&self.beginning, &mut self.service, now)
+                }
+                Kind::Frames(subscriber) => !subscriber.is_over_time(&self.limits, now),
+            };
+            if !stays {
+                self.remove(key);
+            }
+        }
+    }
+
+    // Adds what happened to what is counted.
+    fn tell(&mut self)
+        ensures { self.new.shown ≡ self.old.shown }
+    {
+        let tally = mem::replace(&mut self.service.tally, Tally::new());
+        self.counts.add(&tally);
+    }
+
+    // Ends all connections.
+    fn end(&mut self)
+        ensures { self.new.shown ≡ self.old.shown }
+    {
+        for key in 0..self.members.capacity() {
+            self.remove(key);
+        }
+        self.tell();
+    }
+}
+
+// Tells a connection what its socket is ready for, and puts it into the queue.
+fn mark_member<N: News + Drop>(
+    members: &mut Slab<Member<N>>,
+    queue: &mut Vec<usize>,
+    key: usize,
+    event: &Event,
+) {
+    let Some(member) = members.get_mut(key) else {
+        return;
+    };
+    let ends = event.is_read_closed() || event.is_error();
+    let writes = event.is_writable() || event.is_error();
+    member.socket().mark(event.is_readable(), writes, ends);
+    enqueue(queue, member, key);
+}
+
+// Puts a connection into the queue, once.
+fn enqueue<N: News + Drop>(queue: &mut Vec<usize>, member: &mut Member<N>, key: usize) {
+    if !member.is_queued && queue.push(key).is_ok() {
+        member.is_queued = true;
+    }
+}
+
+// Puts a key at this place of the queue.
+fn put(queue: &mut Vec<usize>, at: usize, key: usize) {
+    if let Some(place) = queue.get_mut(at) {
+        *place = key;
+    }
+}
+
+// The milliseconds of the runtime's clock, and 0 without one.
+fn milliseconds<R: Clock>(rt: &R) -> u64 {
+    match rt.monotonic() {
+        Ok(time) => time.as_millis().min(u64::MAX as u128) as u64,
+        Err(_) => 0,
+    }
+}

@@ -1,0 +1,150 @@
+//! The thread that follows the source, for as long as the program runs.
+
+use crate::backoff::delay;
+use crate::events::{Event, tell, tell_failure};
+use crate::host::Host;
+use crate::numbers::Numbers;
+use crate::probing::probe_peer;
+use crate::set::Set;
+use crate::shelf::Shelf;
+use crate::source::{Audience, SourceEnd, follow};
+use fp_loop::{Loops, News};
+use fp_shown::Shown;
+use fp_stream::Hello;
+use fp_streams::FailureCounted;
+use std::alloc::{AllocError, Global};
+use std::io;
+use std::net::{SocketAddrV4, TcpStream};
+use std::sync::Arc;
+use std::thread;
+use std::time::Duration;
+
+// How long the head of a frame is.
+const HEAD: u64 = 16;
+
+/// Where what is new goes: to the loops, to what an operator reads, and to who keeps it.
+#[derive(Drop)]
+pub struct Showing<R: Drop> {
+    pub rt: R,
+    pub alloc: Global,
+    pub loops: Arc<Loops<Set>, Global>,
+    pub numbers: Arc<Numbers, Global>,
+    pub shelf: Option<Arc<Shelf, Global>>,
+    /// Whether the connection that stands gave a frame.
+    pub has_heard: bool,
+}
+
+impl<R: Host> Showing<R> {
+    /// Shows a set to the loops.
+    pub fn show_set(&mut self, set: &Arc<Set, Global>) -> Result<(), AllocError> {
+        let (revision, flags) = (set.revision(), set.shown().set().len() as u64);
+        self.loops.post_news(&self.rt, set)?;
+        self.numbers.show(revision, flags);
+        tell(&self.rt, &Event::Shown { revision, flags });
+        Ok(())
+    }
+}
+
+impl<R: Host> Audience for Showing<R> {
+    fn note(&mut self, revision: u64, last: Hello) {
+        self.numbers.note(revision);
+        if let Hello::Has(shown) = last
+            && revision < shown
+            && !self.has_heard
+        {
+            tell(&self.rt, &Event::SourceBehind { revision, shown });
+        }
+        self.has_heard = true;
+    }
+
+    fn show(&mut self, shown: Shown) -> Result<(), AllocError> {
+        let bytes = HEAD + shown.document().len() as u64;
+        let set = Arc::new(self.alloc, Set::of(shown))?;
+        let kept = Arc::try_clone(&set)?;
+        self.show_set(&set)?;
+        self.numbers.take(&self.rt, bytes);
+        if let Some(shelf) = &self.shelf {
+            shelf.put(&self.rt, kept);
+        }
+        Ok(())
+    }
+}
+
+/// Follows the source at this address, and tries again whenever it is away.
+pub fn follow_source<R: Host>(rt: &R, address: SocketAddrV4, last: Hello, showing: Showing<R>) {
+    let mut showing = showing;
+    let mut last = last;
+    let mut failures = 0u32;
+    for _ in rt.forever() {
+        showing.has_heard = false;
+        let ended = attend_source(rt, address, &mut last, &mut showing);
+        if is_well(&ended) && showing.has_heard {
+            failures = 0;
+        }
+        let wait = delay(failures, random(rt));
+        tell_end(rt, address, &ended, wait);
+        thread::sleep(rt, wait);
+        failures = failures.saturating_add(1);
+    }
+}
+
+// Whether what came was as it should be.
+fn is_well(ended: &io::Result<SourceEnd>) -> bool {
+    !matches!(ended, Ok(SourceEnd::BadFrame(_) | SourceEnd::NoSet))
+}
+
+// One connection to the source, from its beginning to its end.
+fn attend_source<R: Host>(
+    rt: &R,
+    address: SocketAddrV4,
+    last: &mut Hello,
+    showing: &mut Showing<R>,
+) -> io::Result<SourceEnd> {
+    let stream = TcpStream::connect(rt, address)?;
+    probe_peer(&stream);
+    let numbers = Arc::try_clone(&showing.numbers)?;
+    numbers.connect(rt, true);
+    tell(rt, &Event::SourceReached { address });
+    let mut service = FailureCounted::new(&stream);
+    let mut r = FailureCounted::new(&stream);
+    let end = follow(showing.alloc, &mut service, &mut r, last, showing);
+    numbers.connect(rt, false);
+    Ok(end)
+}
+
+// Tells how a connection ended, or that there was none.
+fn tell_end<R: Host>(
+    rt: &R,
+    address: SocketAddrV4,
+    ended: &io::Result<SourceEnd>,
+    wait: Duration,
+) {
+    let milliseconds = wait.as_millis() as u64;
+    match ended {
+        Ok(end) => tell(
+            rt,
+            &Event::SourceLeft {
+                address,
+                milliseconds,
+                end: *end,
+            },
+        ),
+        Err(reason) => tell_failure(
+            rt,
+            &Event::SourceNotReached {
+                address,
+                milliseconds,
+            },
+            reason,
+        ),
+    }
+}
+
+// A random number, and 0 without one.
+fn random<R: Host>(rt: &R) -> u64 {
+    let mut bytes = [0; 8];
+    match rt.fill_bytes(&mut bytes) {
+        Ok(()) => u64::from_le_bytes(bytes),
+        Err(_) => 0,
+    }
+}

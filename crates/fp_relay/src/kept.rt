@@ -1,0 +1,112 @@
+//! The frame that is kept over restarts, as bytes: the frame, and the SHA-256 of its bytes.
+
+ghost use Rattle.std.specs.Prelude.{◌≡◌, ◌≤◌, ◌++◌, ◌<◌, ◌^◌, length, IfOk};
+ghost use Rattle.sha2.specs.Sha256.{sha256};
+ghost use Rattle.fp_stream.specs.Decoding.{HasRead, Reader};
+ghost use Rattle.fp_stream.specs.Frames.{Snapshot, snapshots_of};
+ghost use Rattle.fp_stream.specs.Heads.{head};
+ghost use Rattle.fp_stream.specs.declared.head.TheConstants.{MOST_BODY};
+ghost use Rattle.fp_stream.specs.declared.hello.Hello.TheVariants.{Nothing};
+ghost use Rattle.fp_relay.specs.Kept.{IsFrame, IsKept, frame_of, kept_as};
+
+use fp_stream::{Decoder, Frame, FrameFault, Hello, what_is_written_is_read};
+use sha2::{Digest, Sha256};
+use std::alloc::{AllocError, Global};
+
+/// How long a digest is.
+pub const DIGEST: usize = 32;
+
+/// How long the head of a frame is.
+pub const HEAD: usize = 16;
+
+/// A kept frame in its parts, one behind the other.
+#[derive(Drop, Clone, Copy)]
+pub struct KeptParts<'d> {
+    pub head: [u8; HEAD],
+    pub document: &'d [u8],
+    pub digest: [u8; DIGEST],
+}
+
+/// A snapshot as it is kept.
+pub fn parts_of(revision: u64, document: &[u8]) -> KeptParts<'_>
+    requires { length document.now ≤ MOST_BODY }
+    ensures { result.head ++ (result.document.now ++ result.digest) ≡ kept_as
+        (frame_of (record { revision = revision; document = document.now })) }
+{
+    let head = head_bytes(revision, document.len() as u32);
+    KeptParts {
+        head,
+        document,
+        digest: digest_of(&head, document),
+    }
+}
+
+// The head of a frame.
+fn head_bytes(revision: u64, size: u32) -> [u8; HEAD]
+    ensures { result ≡ head revision size }
+{
+    let r = revision.to_be_bytes();
+    let s = size.to_be_bytes();
+    [
+        b'S', b'N', b'P', b'1', r[0], r[1], r[2], r[3], r[4], r[5], r[6], r[7], s[0], s[1], s[2],
+        s[3],
+    ]
+}
+
+// The digest of a head and a document.
+fn digest_of(head: &[u8], document: &[u8]) -> [u8; DIGEST]
+    ensures { result ≡ sha256 (head.now ++ document.now) }
+{
+    let mut hasher = Sha256::new();
+    hasher.update(head);
+    hasher.update(document);
+    hasher.finalize()
+}
+
+// The digest of a text.
+fn digest_in(text: &[u8]) -> [u8; DIGEST]
+    ensures { result ≡ sha256 text.now }
+{
+    let mut hasher = Sha256::new();
+    hasher.update(text);
+    hasher.finalize()
+}
+
+/// The frame that was kept as these bytes; `None` where they are no kept frame.
+pub fn decode(alloc: Global, bytes: &[u8]) -> Result<Option<Frame>, AllocError>
+    ensures { IfOk result (IsKept bytes.now) }
+{
+    if bytes.len() < DIGEST {
+        return Ok(None);
+    }
+    let (text, digest) = bytes.split_at(bytes.len() - DIGEST);
+    if digest != digest_in(text).as_slice() {
+        return Ok(None);
+    }
+    only_frame(alloc, text)
+}
+
+// The one frame that the bytes are.
+fn only_frame(alloc: Global, text: &[u8]) -> Result<Option<Frame>, AllocError>
+    ensures { IfOk result (IsFrame text.now) }
+{
+    what_is_written_is_read();
+    let mut frames = whole_frames(alloc, text)?;
+    if frames.len() != 1 || frames[0].body.len() + HEAD != text.len() {
+        return Ok(None);
+    }
+    Ok(frames.pop())
+}
+
+// The frames that bytes hold.
+fn whole_frames(alloc: Global, text: &[u8]) -> Result<Vec<Frame>, AllocError>
+    ensures { IfOk result (λ frames. (now : Reader)
+        × HasRead Nothing text.now (snapshots_of frames.items) now) }
+{
+    let mut decoder = Decoder::new(alloc, Hello::Nothing);
+    match decoder.feed(alloc, text) {
+        Ok(frames) => Ok(frames),
+        Err(FrameFault::Memory) => Err(AllocError),
+        Err(_) => Ok(Vec::new(alloc)),
+    }
+}

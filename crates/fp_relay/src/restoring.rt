@@ -1,0 +1,56 @@
+//! What was kept, shown again at a start.
+
+use crate::events::{Event, tell, tell_failure};
+use crate::following::Showing;
+use crate::host::Host;
+use crate::keeping::KeptFile;
+use crate::set::Set;
+use fp_shown::Shown;
+use fp_stream::{Frame, Hello};
+use std::io;
+use std::io::ErrorKind;
+use std::sync::Arc;
+
+/// Shows what the file keeps, and answers what is shown then.
+pub fn restored<R: Host>(rt: &R, file: &KeptFile, showing: &mut Showing<R>) -> Hello {
+    match restore(rt, file, showing) {
+        Ok(Some(revision)) => Hello::Has(revision),
+        Ok(None) => {
+            let path = file.path();
+            tell(rt, &Event::NotRestored { path });
+            Hello::Nothing
+        }
+        Err(reason) => {
+            let path = file.path();
+            tell_failure(rt, &Event::NotRestored { path }, &reason);
+            Hello::Nothing
+        }
+    }
+}
+
+// The revision that is shown; `None` where the file keeps no set.
+fn restore<R: Host>(
+    rt: &R,
+    file: &KeptFile,
+    showing: &mut Showing<R>,
+) -> io::Result<Option<u64>> {
+    let Some(frame) = file.read(rt.alloc(), rt)? else {
+        return Ok(None);
+    };
+    let Ok(shown) = Shown::of_frame(rt.alloc(), frame) else {
+        return Ok(None);
+    };
+    let (revision, flags) = (shown.revision(), shown.set().len() as u64);
+    let set = Arc::new(rt.alloc(), Set::of(shown))?;
+    showing.show_set(&set)?;
+    let path = file.path();
+    tell(
+        rt,
+        &Event::Restored {
+            revision,
+            flags,
+            path,
+        },
+    );
+    Ok(Some(revision))
+}

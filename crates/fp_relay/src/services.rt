@@ -1,0 +1,131 @@
+//! The services of a relay's ports, as its loops ask them.
+
+ghost use Rattle.std.specs.Prelude.{◌≡◌, ◌<◌, ◌^◌, ℕ, Some, option_map};
+ghost use Rattle.std.specs.Arc.{arc_value};
+ghost use Rattle.fp_relay.specs.Answers.{Responds};
+ghost use Rattle.fp_relay.specs.Asking.{asked_by};
+
+use crate::cross_origin::Origins;
+use crate::evaluating::respond;
+use crate::numbers::Numbers;
+use crate::set::Set;
+use crate::status::answer_status;
+use bytes::Bytes;
+use fp_loop::{Counts, Informed};
+use http::Request;
+use http_server::{Response, Service};
+use std::alloc::{AllocError, Global};
+use std::sync::Arc;
+use std::time::{Clock, SystemTime, UNIX_EPOCH};
+
+// The last moment that a reply knows.
+const LAST_MOMENT: u64 = 0x7fff_ffff_ffff_ffff;
+
+/// Evaluations, over the newest set that their loop was shown.
+#[derive(Drop)]
+pub struct Evaluations<R: Drop> {
+    rt: R,
+    alloc: Global,
+    origins: Arc<Origins, Global>,
+    numbers: Arc<Numbers, Global>,
+    set: Option<Arc<Set, Global>>,
+}
+
+impl<R: Clock + Drop> Evaluations<R> {
+    /// Over no set yet.
+    pub fn new(
+        rt: R,
+        alloc: Global,
+        origins: Arc<Origins, Global>,
+        numbers: Arc<Numbers, Global>,
+    ) -> Evaluations<R> {
+        Evaluations {
+            rt,
+            alloc,
+            origins,
+            numbers,
+            set: None,
+        }
+    }
+}
+
+impl<R: Clock + Drop> Service for Evaluations<R> {
+    // By what it is shown, at some moment; and it goes on to be shown that.
+    ghost answers = { λ old request response new. (now : ℕ) × Responds (option_map arc_value old.set)
+        (arc_value old.origins) (asked_by request) now response × (new.set ≡ old.set) };
+
+    fn call(&mut self, request: &Request<Bytes>, response: &mut Response) -> Result<(), AllocError> {
+        let shown = match &self.set {
+            Some(set) => Some(set.shown()),
+            None => None,
+        };
+        let now = moment(&self.rt);
+        respond(self.alloc, shown, &self.origins, request, now, response)?;
+        self.numbers.answer(response.status.as_u16());
+        Ok(())
+    }
+}
+
+impl<R: Clock + Drop> Informed<Set> for Evaluations<R> {
+    fn inform(&mut self, news: Arc<Set, Global>)
+        ensures { self.new.set ≡ Some news }
+    {
+        self.set = Some(news);
+    }
+}
+
+/// What an operator reads.
+#[derive(Drop)]
+pub struct StatusPages<R: Drop> {
+    rt: R,
+    alloc: Global,
+    numbers: Arc<Numbers, Global>,
+    counts: Arc<Counts, Global>,
+}
+
+impl<R: Clock + Drop> StatusPages<R> {
+    /// Of these numbers and counts.
+    pub fn new(
+        rt: R,
+        alloc: Global,
+        numbers: Arc<Numbers, Global>,
+        counts: Arc<Counts, Global>,
+    ) -> StatusPages<R> {
+        StatusPages {
+            rt,
+            alloc,
+            numbers,
+            counts,
+        }
+    }
+}
+
+impl<R: Clock + Drop> Service for StatusPages<R> {
+    ghost answers = { λ _ _ _ _. Unit };
+
+    fn call(&mut self, request: &Request<Bytes>, response: &mut Response) -> Result<(), AllocError> {
+        let mut report = self.numbers.report(&self.rt);
+        let counted = self.counts.now();
+        report.connections = counted.requesters.saturating_add(counted.subscribers);
+        report.connections_total = counted.accepted;
+        report.refused_total = counted.refused;
+        answer_status(self.alloc, request, &report, response)
+    }
+}
+
+impl<R: Clock + Drop> Informed<Set> for StatusPages<R> {
+    fn inform(&mut self, _news: Arc<Set, Global>) {}
+}
+
+/// The seconds since 1970, and 0 before it or without a clock.
+fn moment<R: Clock>(rt: &R) -> u64
+    ensures { result < 2 ^ 63 }
+{
+    let Ok(now) = SystemTime::now(rt) else {
+        return 0;
+    };
+    match now.duration_since(UNIX_EPOCH) {
+        Ok(since) => since.as_secs().min(LAST_MOMENT),
+        Err(_) => 0,
+    }
+}

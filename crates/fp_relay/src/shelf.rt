@@ -1,0 +1,105 @@
+//! The thread that keeps the newest set in a file, beside those that show it.
+
+use crate::events::{Event, tell_failure};
+use crate::host::Host;
+use crate::keeping::KeptFile;
+use crate::kept::parts_of;
+use crate::set::Set;
+use fp_loop::News;
+use std::alloc::Global;
+use std::sync::{Arc, Condvar, CondvarTimeouts, Mutex};
+use std::time::Duration;
+
+// After how many seconds what couldn't be kept is tried again.
+const AGAIN: u64 = 5;
+
+// What waits to be kept.
+#[derive(Drop)]
+struct Waiting {
+    set: Option<Arc<Set, Global>>,
+    is_closed: bool,
+}
+
+/// Where the newest set is put down for the thread that keeps it.
+#[derive(Drop)]
+pub struct Shelf {
+    waiting: Mutex<Waiting>,
+    changed: Condvar,
+}
+
+impl Shelf {
+    /// With nothing on it.
+    pub fn new() -> Shelf {
+        Shelf {
+            waiting: Mutex::new(Waiting {
+                set: None,
+                is_closed: false,
+            }),
+            changed: Condvar::new(),
+        }
+    }
+
+    /// Puts a set down, in place of an older one that wasn't kept yet.
+    pub fn put<R: Host>(&self, rt: &R, set: Arc<Set, Global>) {
+        self.waiting.lock(rt).set = Some(set);
+        self.changed.notify_all();
+    }
+
+    /// Nothing more is put down.
+    pub fn close<R: Host>(&self, rt: &R) {
+        self.waiting.lock(rt).is_closed = true;
+        self.changed.notify_all();
+    }
+
+    /// Keeps what is put down, until it is closed and nothing is left.
+    pub fn keep_all<R: Host>(&self, rt: &R, file: &KeptFile) {
+        for _ in rt.forever() {
+            let Some(set) = self.take(rt) else {
+                return;
+            };
+            self.keep(rt, file, &set);
+        }
+    }
+
+    // The newest, once there is one; `None` where it is closed and there is none.
+    fn take<R: Host>(&self, rt: &R) -> Option<Arc<Set, Global>> {
+        for _ in rt.forever() {
+            let mut waiting = self.waiting.lock(rt);
+            if let Some(set) = waiting.set.take() {
+                return Some(set);
+            }
+            if waiting.is_closed {
+                return None;
+            }
+            let _waiting = self.changed.wait(rt, waiting);
+        }
+        unreachable!()
+    }
+
+    // Keeps a set, and tries again until a newer one is there.
+    fn keep<R: Host>(&self, rt: &R, file: &KeptFile, set: &Set) {
+        for _ in rt.forever() {
+            let parts = parts_of(set.revision(), set.document());
+            let Err(reason) = file.keep(rt, &parts) else {
+                return;
+            };
+            let path = file.path();
+            tell_failure(rt, &Event::NotKept { path }, &reason);
+            if self.is_over(rt) {
+                return;
+            }
+        }
+    }
+
+    // Waits before it tries again; whether there is something newer, or it is closed.
+    fn is_over<R: Host>(&self, rt: &R) -> bool {
+        let waiting = self.waiting.lock(rt);
+        let most = Duration::from_secs(AGAIN);
+        let (waiting, _waited) = self
+            .changed
+            .wait_timeout_while(rt, waiting, most, |waiting| {
+                waiting.set.is_none() && !waiting.is_closed
+            });
+        waiting.set.is_some() || waiting.is_closed
+    }
+}

@@ -1,0 +1,214 @@
+//! The threads of a relay: its loops, who lets connections in, who follows the source, who keeps.
+
+use crate::cross_origin::Origins;
+use crate::following::{Showing, follow_source};
+use crate::host::Host;
+use crate::keeping::KeptFile;
+use crate::numbers::Numbers;
+use crate::ports::{Port, Ports};
+use crate::restoring::restored;
+use crate::services::{Evaluations, StatusPages};
+use crate::set::Set;
+use crate::shelf::Shelf;
+use crate::words::Options;
+use fp_loop::{Counts, Door, Informed, Limits, Loop, Loops, Role};
+use fp_stream::Hello;
+use std::alloc::Global;
+use std::io;
+use std::net::SocketAddrV4;
+use std::sync::Arc;
+use std::thread;
+use std::thread::{JoinHandle, SpawnError};
+
+// The most loops, each of which has a thread.
+const MOST_LOOPS: usize = 64;
+
+// The most subscribers at once.
+const MOST_SUBSCRIBERS: u64 = 4_096;
+
+// The most connections of operators at once.
+const MOST_OPERATORS: u64 = 64;
+
+// How long a connection may keep a loop waiting, in milliseconds.
+const LIMITS: Limits = Limits {
+    idle: 75_000,
+    request: 30_000,
+    reply: 60_000,
+    leaving: 5_000,
+};
+
+/// What the threads of a relay share.
+#[derive(Drop)]
+pub struct Relaying {
+    loops: Arc<Loops<Set>, Global>,
+    status: Arc<Loops<Set>, Global>,
+    numbers: Arc<Numbers, Global>,
+    counts: Arc<Counts, Global>,
+    // Of connections of operators, which nobody asks for.
+    status_counts: Arc<Counts, Global>,
+    shelf: Arc<Shelf, Global>,
+    // Those that end once they are told to.
+    threads: Vec<JoinHandle<()>>,
+}
+
+impl Relaying {
+    /// Begins all of them.
+    pub fn begin<R: Host>(rt: &R, options: Options<'_>, ports: &Ports) -> io::Result<Relaying> {
+        let alloc = rt.alloc();
+        let mut relaying = Relaying {
+            loops: Arc::new(alloc, Loops::new(alloc))?,
+            status: Arc::new(alloc, Loops::new(alloc))?,
+            numbers: Arc::new(alloc, Numbers::new(rt))?,
+            counts: Arc::new(alloc, Counts::new())?,
+            status_counts: Arc::new(alloc, Counts::new())?,
+            shelf: Arc::new(alloc, Shelf::new())?,
+            threads: Vec::new(alloc),
+        };
+        relaying.begin_loops(rt, Arc::new(alloc, options.origins)?)?;
+        relaying.begin_status(rt)?;
+        relaying.begin_source(rt, options.source, options.keep)?;
+        relaying.let_in(rt, ports, options.connections)?;
+        Ok(relaying)
+    }
+
+    /// Ends them.
+    pub fn end<R: Host>(self, rt: &R, ports: &Ports) {
+        ports.close(rt);
+        self.loops.stop(rt);
+        self.status.stop(rt);
+        self.shelf.close(rt);
+        for thread in self.threads {
+            thread.join(rt);
+        }
+    }
+
+    // A loop a processor, for evaluations and for snapshots.
+    fn begin_loops<R: Host>(&mut self, rt: &R, origins: Arc<Origins, Global>) -> io::Result<()> {
+        let alloc = rt.alloc();
+        let processors = thread::available_parallelism(rt).map_or(1, |count| count.get());
+        let mut loops = Loops::new(alloc);
+        for _ in 0..processors.min(MOST_LOOPS) {
+            let origins = Arc::try_clone(&origins)?;
+            let numbers = Arc::try_clone(&self.numbers)?;
+            let service = Evaluations::new(*rt, alloc, origins, numbers);
+            let counts = Arc::try_clone(&self.counts)?;
+            self.begin_loop(rt, service, counts, &mut loops)?;
+        }
+        self.loops = Arc::new(alloc, loops)?;
+        Ok(())
+    }
+
+    // One loop for operators.
+    fn begin_status<R: Host>(&mut self, rt: &R) -> io::Result<()> {
+        let alloc = rt.alloc();
+        let numbers = Arc::try_clone(&self.numbers)?;
+        let counts = Arc::try_clone(&self.counts)?;
+        let service = StatusPages::new(*rt, alloc, numbers, counts);
+        let mut loops = Loops::new(alloc);
+        let counts = Arc::try_clone(&self.status_counts)?;
+        self.begin_loop(rt, service, counts, &mut loops)?;
+        self.status = Arc::new(alloc, loops)?;
+        Ok(())
+    }
+
+    // A loop over a service, in a thread of its own.
+    fn begin_loop<R, S>(
+        &mut self,
+        rt: &R,
+        service: S,
+        counts: Arc<Counts, Global>,
+        loops: &mut Loops<Set>,
+    ) -> io::Result<()>
+    where
+        R: Host,
+        S: Informed<Set> + Drop + Send + 'static,
+    {
+        let one: Loop<S, Set> = Loop::new(rt, rt.alloc(), service, LIMITS, counts)?;
+        loops.add(one.inbox()?)?;
+        let own = *rt;
+        self.keep(thread::spawn(rt, move || {
+            let mut one = one;
+            one.run(&own);
+        }))
+    }
+
+    // Who follows the source, from what was kept on; and who keeps.
+    fn begin_source<R: Host>(
+        &mut self,
+        rt: &R,
+        source: SocketAddrV4,
+        keep: Option<&str>,
+    ) -> io::Result<()> {
+        let alloc = rt.alloc();
+        let mut showing = Showing {
+            rt: *rt,
+            alloc,
+            loops: Arc::try_clone(&self.loops)?,
+            numbers: Arc::try_clone(&self.numbers)?,
+            shelf: None,
+            has_heard: false,
+        };
+        let mut last = Hello::Nothing;
+        if let Some(path) = keep {
+            let file = KeptFile::at(alloc, path)?;
+            last = restored(rt, &file, &mut showing);
+            showing.shelf = Some(Arc::try_clone(&self.shelf)?);
+            self.begin_keeping(rt, file)?;
+        }
+        let own = *rt;
+        let follow = move || follow_source(&own, source, last, showing);
+        // It waits for the source when the program ends, which cuts it off.
+        match thread::spawn(rt, follow) {
+            Ok(_thread) => Ok(()),
+            Err(refused) => Err(io::Error::from(refused)),
+        }
+    }
+
+    fn begin_keeping<R: Host>(&mut self, rt: &R, file: KeptFile) -> io::Result<()> {
+        let own = *rt;
+        let shelf = Arc::try_clone(&self.shelf)?;
+        self.keep(thread::spawn(rt, move || shelf.keep_all(&own, &file)))
+    }
+
+    // Who lets connections in, a thread a port.
+    fn let_in<R: Host>(&mut self, rt: &R, ports: &Ports, most: u32) -> io::Result<()> {
+        self.open(rt, &ports.ofrep, Role::Requests, most as u64)?;
+        if let Some(port) = &ports.stream {
+            self.open(rt, port, Role::Frames, MOST_SUBSCRIBERS)?;
+        }
+        if let Some(port) = &ports.status {
+            let door = Door {
+                role: Role::Requests,
+                most: MOST_OPERATORS,
+                loops: Arc::try_clone(&self.status)?,
+                counts: Arc::try_clone(&self.status_counts)?,
+            };
+            self.attend(rt, port, door)?;
+        }
+        Ok(())
+    }
+
+    fn open<R: Host>(&mut self, rt: &R, port: &Port, role: Role, most: u64) -> io::Result<()> {
+        let door = Door {
+            role,
+            most,
+            loops: Arc::try_clone(&self.loops)?,
+            counts: Arc::try_clone(&self.counts)?,
+        };
+        self.attend(rt, port, door)
+    }
+
+    fn attend<R: Host>(&mut self, rt: &R, port: &Port, door: Door<Set>) -> io::Result<()> {
+        let own = *rt;
+        let port = Arc::try_clone(port)?;
+        self.keep(thread::spawn(rt, move || port.accept(&own, &door)))
+    }
+
+    // Keeps a thread until the end.
+    fn keep<F: Drop>(&mut self, begun: Result<JoinHandle<()>, SpawnError<F>>) -> io::Result<()> {
+        match begun {
+            Ok(thread) => Ok(self.threads.push(thread)?),
+            Err(refused) => Err(io::Error::from(refused)),
+        }
+    }
+}
