@@ -9,6 +9,7 @@ mod crowd;
 mod held;
 mod log_file;
 mod program;
+mod relays;
 mod replay;
 mod running;
 mod script;

@@ -9,8 +9,10 @@ use crate::crowd::{comes_in, enter, found, is_refused, see};
 use crate::held::Hold;
 use crate::log_file::LogFile;
 use crate::program::attended;
+use crate::relays::{Relays, comes, judged};
 use crate::running::{DiskPlan, Ended, Plan, Running};
-use fp_server::{Host, TimeLimits};
+use fp_relay::Host;
+use fp_server::TimeLimits;
 use fp_transcript::{Args, Text, Texts, expanded};
 use std::alloc::AllocGlobal;
 use std::collections::BTreeMap;
@@ -30,6 +32,7 @@ pub struct Script<R: Host> {
     peers: BTreeMap<String, TcpStream>,
     crowd: Vec<TcpStream>,
     courses: Courses,
+    relays: Relays,
 }
 
 impl<R: Host> Script<R> {
@@ -45,12 +48,19 @@ impl<R: Host> Script<R> {
             peers: BTreeMap::new(alloc),
             crowd: Vec::new(alloc),
             courses: Courses::new(alloc),
+            relays: Relays::new(alloc),
         }
     }
 
-    /// Ends the service that still runs.
+    /// Ends the relays and the service that still run.
     pub fn end(self) {
-        let Script { rt, service, .. } = self;
+        let Script {
+            rt,
+            service,
+            relays,
+            ..
+        } = self;
+        relays.end_all(&rt);
         if let Some(service) = service {
             let _ended = service.end(&rt);
         }
@@ -79,6 +89,18 @@ const OF_SERVICE: [&str; 12] = [
 // The words of `on_peer`.
 const OF_PEER: [&str; 7] = ["say", "line", "hear", "puts", "fills", "quiet", "closed"];
 
+// The words of `on_relay`.
+const OF_RELAY: [&str; 8] = [
+    "relay",
+    "relay-ends",
+    "relay-words",
+    "source",
+    "takes",
+    "leaves",
+    "comes",
+    "forget",
+];
+
 // The words of `on_crowd`.
 const OF_CROWD: [&str; 5] = ["enter", "refused", "comes-in", "one-leaves", "all-leave"];
 
@@ -99,6 +121,8 @@ impl<R: Host> Script<R> {
             self.on_service(word, args, out);
         } else if OF_PEER.contains(&word) {
             self.on_peer(word, args, out);
+        } else if OF_RELAY.contains(&word) {
+            self.on_relay(word, args, out);
         } else if OF_CROWD.contains(&word) {
             self.on_crowd(word, args, out);
         } else if OF_COURSE.contains(&word) {
@@ -115,9 +139,12 @@ impl<R: Host> Script<R> {
         port
     }
 
-    // The address of the port of this name, where a service runs.
+    // The address of the port of this name, of the service that runs, a relay or the source.
     fn address_of(&self, name: &str) -> Option<SocketAddr> {
-        self.service.as_ref()?.ports.port(name)
+        match &self.service {
+            Some(service) if !name.contains('.') && name != "source" => service.ports.port(name),
+            _ => self.relays.address_of(name),
+        }
     }
 
     // `serve`, `serve failing CALL`, `serve slots SIZE`, `serve old`,
@@ -279,6 +306,49 @@ impl<R: Host> Script<R> {
             "some told"
         });
         out.named(", lost", lost);
+    }
+
+    // `relay NAME PORT WORD ..`, `relay-ends NAME`, `relay-words WORD ..`, `source`, `takes NAME`,
+    // `leaves NAME`, `forget FILE`, `comes PORT KEY`.
+    fn on_relay(&mut self, word: &str, args: &mut Args<'_>, out: &mut Text) {
+        match word {
+            "relay" => self.relay(args, out),
+            "relay-ends" => match self.relays.end(&self.rt, args.word()) {
+                Some(said) => out.push(said.as_str()),
+                None => args.is_bad = true,
+            },
+            "relay-words" => judged(self.rt.alloc(), &self.words(args), out),
+            "source" if self.relays.play(&self.rt) => (),
+            "source" => out.push("no source"),
+            "takes" => self.take(args, out),
+            "leaves" => drop(self.peers.remove(args.word())),
+            "forget" => self.log.forget(args.word()),
+            _ => match self.port(args) {
+                Some(at) => out.yes(comes(&self.rt, at, args.word())),
+                None => args.is_bad = true,
+            },
+        }
+    }
+
+    fn relay(&mut self, args: &mut Args<'_>, out: &mut Text) {
+        let name = args.word();
+        let words = self.words(args);
+        if !self.relays.start(&self.rt, self.log.0, name, words) {
+            out.push("no relay");
+        }
+    }
+
+    // Who comes to the source next.
+    fn take(&mut self, args: &mut Args<'_>, out: &mut Text) {
+        match (
+            self.relays.take(&self.rt),
+            String::from_str(args.alloc, args.word()),
+        ) {
+            (Some(stream), Ok(name)) => {
+                let _ = self.peers.insert(name, stream);
+            }
+            _ => out.push("nobody"),
+        }
     }
 
     // `enter PORT COUNT BYTES`, `refused PORT`, `comes-in PORT BYTES`, `one-leaves`, `all-leave`.
