@@ -8,6 +8,7 @@ mod courses;
 mod crowd;
 mod held;
 mod log_file;
+mod operands;
 mod program;
 mod relays;
 mod replay;

@@ -1,19 +1,20 @@
 //! The commands of a file of trials of the service.
 
-use crate::clients::{bytes_of, connect, end, fill, is_closed, is_quiet, line_of, put_often, say};
+use crate::clients::{bytes_of, connect, end, is_closed, is_quiet, line_of, put_often, say};
 use crate::courses::{
-    Course, Courses, revisions_in, seen, shown, start_editors, start_evaluators, start_subscribers,
-    told,
+    Courses, seen, shown, start_editors, start_evaluators, start_subscribers, told,
 };
 use crate::crowd::{comes_in, enter, found, is_refused, see};
-use crate::held::Hold;
 use crate::log_file::LogFile;
+use crate::operands::{
+    bytes, course, filled, first_line, hold_of, is_at, limits_of, say_last, say_told,
+};
 use crate::program::attended;
 use crate::relays::{Relays, comes, judged};
 use crate::running::{DiskPlan, Ended, Plan, Running};
 use fp_relay::Host;
 use fp_server::TimeLimits;
-use fp_transcript::{Args, Text, Texts, expanded};
+use fp_transcript::{Args, Text, Texts};
 use std::alloc::AllocGlobal;
 use std::collections::BTreeMap;
 use std::net::{SocketAddr, TcpStream};
@@ -407,82 +408,4 @@ impl<R: Host> Script<R> {
             _ => out.number(found(rt, service.ports.edit, service.ports.ofrep, count)),
         }
     }
-}
-
-// `IDLE REQUEST REPLY`, each in milliseconds.
-fn limits_of(args: &mut Args<'_>) -> TimeLimits {
-    TimeLimits {
-        idle: Duration::from_millis(args.number()),
-        request: Duration::from_millis(args.number()),
-        reply: Duration::from_millis(args.number()),
-    }
-}
-
-fn first_line(text: &str) -> &str {
-    text.lines().next().unwrap_or("")
-}
-
-// `behind COUNT`, `from PLACE`.
-fn hold_of(args: &mut Args<'_>) -> Hold {
-    match args.word() {
-        "behind" => Hold::Behind(args.number()),
-        _ => Hold::WriteFrom(args.number()),
-    }
-}
-
-fn course(word: &str, args: &mut Args<'_>) -> Course {
-    Course {
-        number: 0,
-        count: args.number(),
-        is_at_once: args.word() == "at-once",
-        is_turning: word == "turners",
-    }
-}
-
-// The bytes that are left of the line.
-fn bytes(texts: &Texts, args: &mut Args<'_>) -> Vec<u8> {
-    match expanded(args.alloc, texts, args.rest) {
-        Ok(bytes) => bytes,
-        Err(_) => {
-            args.is_short = true;
-            Vec::new(args.alloc)
-        }
-    }
-}
-
-// Puts so many flags of the definition that the words say.
-fn filled(peer: &TcpStream, texts: &Texts, args: &mut Args<'_>) -> Option<u64> {
-    let count = args.number();
-    let flag = bytes(texts, args);
-    fill(args.alloc, peer, count, str::from_utf8(&flag).ok()?)
-}
-
-// The revision that was told last, if all were in order.
-fn say_last(last: Option<u64>, out: &mut Text) {
-    match last {
-        Some(last) => out.named("one by one, to", last),
-        None => out.push("not one by one"),
-    }
-}
-
-// Whether the service stopped at the revision that its disk is left at.
-fn is_at(said: &str, left: &str) -> Option<bool> {
-    let said = said.trim_end().strip_prefix("stopped at ")?;
-    let (revision, _) = left.split_once(',')?;
-    Some(said == revision)
-}
-
-// How many revisions were told, and whether they are those from 1 on, each once.
-fn say_told(told: &Text, out: &mut Text) {
-    let revisions = revisions_in(told.alloc, told.as_str());
-    let last = revisions.len() as u64;
-    let are_all = revisions.iter().copied().eq(1..=last);
-    out.named(
-        if are_all {
-            "each from 1 to"
-        } else {
-            "others, so many:"
-        },
-        last,
-    );
 }
