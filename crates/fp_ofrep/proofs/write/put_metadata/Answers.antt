@@ -1,4 +1,4 @@
-use Rattle.std.proofs.Common.{◌≡◌, Some, option_map, sym, ap, ◌∙◌}
+use Rattle.std.proofs.Common.{option_map, sym, ap, ◌∙◌}
 use Rattle.fp_ofrep.proofs.Written.{metadata_put}
 use Rattle.fp_ofrep.proofs.write.put_metadata.Goals as goal
 
