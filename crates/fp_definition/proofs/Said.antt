@@ -1,11 +1,11 @@
 -- What is said of a variant, and which outcomes a definition resolves to, as they are spelled.
-use Rattle.std.proofs.Common.{◌≡◌, ℕ, List, [], ◌∷◌, Bool, true, false, true≢false, Option, Some, None, Result, Ok, Err, codes, option_map, refl, sym, ap, ap₂, subst, ◌∙◌}
+use Rattle.std.proofs.Common.{◌≡◌, ℕ, List, ◌∷◌, Bool, true, false, true≢false, Option, Some, None, Result, Ok, Err, codes, option_map, refl, sym, ap, ap₂, subst}
 use Rattle.std.proofs.lemmas.Option.{none-some}
 use Rattle.std.specs.Ordering.{match_ordering, nat_cmp}
 use Rattle.std.specs.Cmp.Lexicographic.{slice_cmp}
 use Rattle.std.specs.declared.cmp.Ordering.{Ordering}
 use Rattle.std.specs.declared.cmp.Ordering.TheVariants.{Less, Equal, Greater}
-use Rattle.std.specs.Prelude.{MatchOption, if◌then◌else◌, is_some}
+use Rattle.std.specs.Prelude.{MatchOption, is_some}
 use Rattle.serde_json.specs.Data.{Data, null, boolean, number, string, array, object, Members, no_members, member}
 use Rattle.serde_json.specs.Find.{as_object, get, get_member}
 use Rattle.serde_json.specs.Written.{compact_text}
@@ -19,7 +19,7 @@ use Rattle.fp_targeting.specs.Rule.{Rule}
 use Rattle.fp_targeting.specs.Means.{Means}
 use Rattle.fp_targeting.specs.RuleData.{rule_data}
 use Rattle.fp_definition.specs.Choice.{MeetsTests}
-use Rattle.fp_definition.specs.Resolving.{Said, Spelling, Resolves, ByRule, ByState, Spells, Tells, TellsItself, by_default, by_result, is_disabled, outcome_spelled, said_or_none, spelled_by, spelling}
+use Rattle.fp_definition.specs.Resolving.{Said, Spelling, Resolves, Spells, Tells, TellsItself, by_default, by_result, is_disabled, outcome_spelled, said_or_none, spelled_by, spelling}
 use Rattle.fp_definition.specs.Spelled.{AreAt, AreNoted, IsAt, texts}
 use Rattle.fp_definition.specs.Targeting.{rule_in}
 use Rattle.fp_definition.specs.Valid.{Fault, not_object, bad_state, bad_variants, bad_default, bad_metadata, are_variants, is_state, is_metadata, member_tests, names_variant, targeting_tests}

@@ -1,15 +1,15 @@
 -- Places in a text that grows.
-use Rattle.std.proofs.Common.{◌≡◌, ◌≤◌, ◌<◌, ◌+◌, ◌-◌, ℕ, List, [], ◌∷◌, ◌++◌, Bool, true, false, Option, Some, None, codes, length, take, take_all, drop, slice_range, string_bytes, refl, sym, ap, ap₂, subst, ◌∙◌, arith, length-append, append_assoc, true≢false, option_map, Vec, Global}
+use Rattle.std.proofs.Common.{◌≡◌, ◌-◌, ℕ, List, [], ◌∷◌, ◌++◌, Bool, true, false, Option, Some, None, codes, length, take, take_all, drop, slice_range, string_bytes, refl, sym, ap, ap₂, subst, ◌∙◌, arith, length-append, append_assoc, true≢false, option_map, Vec, Global}
 use Rattle.std.proofs.Math.Seq.{drop-append_seam}
 use Rattle.std.proofs.lemmas.List.{drop-append-le, length-drop, take-append-le}
 use Rattle.std.proofs.lemmas.Slice.Eq.{bytes_eq-Decides}
 use Rattle.std.specs.Prelude.{◌&&◌, MatchOption, is_some, not}
 use Rattle.std.specs.Str.{bytes_eq}
-use Rattle.serde_json.specs.Data.{Data, string, object, Members, no_members, member}
+use Rattle.serde_json.specs.Data.{Data, string, Members, no_members, member}
 use Rattle.serde_json.specs.Find.{get_member}
 use Rattle.serde_json.specs.Written.{compact_text}
 use Rattle.fp_base.proofs.Named.{found-here, found-later}
-use Rattle.fp_definition.specs.Spelled.{at, AreAt, AreIn, AreNoted, AreWithin, IsAt, IsWithin, spelled, texts}
+use Rattle.fp_definition.specs.Spelled.{at, AreIn, AreNoted, AreWithin, IsAt, IsWithin, spelled}
 use Rattle.fp_definition.specs.declared.spelling.Place.{Place}
 use Rattle.fp_definition.specs.declared.spelling.Variant.{Variant}
 

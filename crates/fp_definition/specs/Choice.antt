@@ -1,6 +1,6 @@
 -- What a definition chooses from.
 use Rattle.std.specs.Prelude.{◌≡◌, ℕ, List, codes, true, None, Some, MatchOption, is_some, string_bytes}
-use Rattle.serde_json.specs.Data.{Data, Members, no_members, object, string}
+use Rattle.serde_json.specs.Data.{Data, Members, object, string}
 use Rattle.serde_json.specs.Find.{as_object, get}
 use Rattle.fp_base.specs.Sorted.{IsSorted}
 use Rattle.fp_definition.specs.Resolving.{is_disabled}

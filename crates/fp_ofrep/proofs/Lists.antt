@@ -1,6 +1,6 @@
 -- Flags of the list, as text.
-use Rattle.std.proofs.Common.{◌≡◌, ℕ, List, [], ◌∷◌, ◌++◌, Bool, true, false, Option, Some, Result, Ok, Err, refl, sym, ap, subst, ◌∙◌, codes, append_assoc}
-use Rattle.json.specs.Print.{escape_byte, quoted}
+use Rattle.std.proofs.Common.{◌≡◌, ℕ, List, [], ◌∷◌, ◌++◌, Bool, true, false, Some, Result, Ok, Err, refl, sym, ap, ◌∙◌, codes, append_assoc}
+use Rattle.json.specs.Print.{escape_byte}
 use Rattle.serde_json.specs.Data.{Data, Items, array, member, no_members, object}
 use Rattle.serde_json.specs.Find.{get}
 use Rattle.serde_json.specs.Written.{comma_if, compact_text, items_text}

@@ -1,6 +1,6 @@
 -- Tags that are kept: of which requests they are, and that no moment changes them.
 use Rattle.std.proofs.Common.{◌≡◌, ◌≤◌, ◌<◌, ℕ, List, [], ◌∷◌, ◌++◌, set, length-append, Bool, true, false, subst, inl, inr, refl, sym, ap, ◌∙◌, length, arith}
-use Rattle.std.specs.Prelude.{All, Option, Some, None, Result, Ok, Err, bytes_eq, codes, if◌then◌else◌, unwrap_or}
+use Rattle.std.specs.Prelude.{Option, Some, Result, Ok, Err, bytes_eq, codes, if◌then◌else◌, unwrap_or}
 use Rattle.std.specs.FinMap as map
 use Rattle.std.specs.Result.{result_unwrap_or}
 use Rattle.std.proofs.lemmas.Bool.{le-ltb}
@@ -19,10 +19,10 @@ use Rattle.fp_ofrep.specs.Kept.{AreKept, AreTimeless, AsksForAll, HasTag, IsPutA
 use Rattle.fp_ofrep.specs.Numbers.{LONGEST_KEPT_BODY, MOST_KEPT_TAGS}
 use Rattle.fp_ofrep.specs.declared.keeping.KeptTag.{KeptTag}
 use Rattle.fp_ofrep.specs.Reply.{reply, reply_to_post, reply_to_route}
-use Rattle.fp_ofrep.specs.Response.{Response, empty, not_allowed, not_modified, success_response}
+use Rattle.fp_ofrep.specs.Response.{empty, not_allowed, not_modified, success_response}
 use Rattle.fp_ofrep.specs.Route.{Route, bulk}
 use Rattle.fp_ofrep.specs.Single.{evaluation_of, value_or_failure}
-use Rattle.fp_ofrep.specs.Tag.{is_known, response_with_tag, tag_of}
+use Rattle.fp_ofrep.specs.Tag.{is_known, tag_of}
 use Rattle.fp_ofrep.specs.declared.failure.Failure.{Failure}
 
 -- ---- moments

@@ -26,7 +26,8 @@ pub(crate) fn put_failure(
 {
     put_text(alloc, out, b"{\"errorCode\":", failure.code())?;
     put_text(alloc, out, b",\"errorDetails\":", failure.details())?;
-    end_failure(alloc, out, key)
+    end_failure(alloc, out, key)?;
+    Ok(())
 }
 
 // Puts the key, if there is one, and the end of the object.
@@ -34,11 +35,17 @@ fn end_failure(alloc: Global, out: &mut Vec<u8>, key: Option<&str>) -> Result<()
     ensures { OnOk result (out.new.items
         ≡ out.old.items ++ members_text true (with_key (option_copied key.entry))) }
 {
-    if let Some(key) = key {
-        put_text(alloc, out, b",\"key\":", key)?;
+    match key {
+        Some(key) => {
+            put_text(alloc, out, b",\"key\":", key)?;
+            out.push(b'}')?;
+            Ok(())
+        }
+        None => {
+            out.push(b'}')?;
+            Ok(())
+        }
     }
-    out.push(b'}')?;
-    Ok(())
 }
 
 // Puts these bytes, and a text in quotes.
@@ -69,7 +76,8 @@ pub(crate) fn put_success(
 {
     put_text(alloc, out, b"{\"key\":", key)?;
     put_metadata(out, metadata)?;
-    end_success(alloc, out, said)
+    end_success(alloc, out, said)?;
+    Ok(())
 }
 
 // Puts the member `metadata`, if there is one. Whatever members come after it, they are then what is
@@ -80,11 +88,14 @@ fn put_metadata(out: &mut Vec<u8>, metadata: Option<&[u8]>) -> Result<(), AllocE
         → out.new.items ++ members_text true ms
         ≡ out.old.items ++ members_text true (with_metadata m ms)) }
 {
-    if let Some(text) = metadata {
-        out.extend_from_slice(b",\"metadata\":")?;
-        out.extend_from_slice(text)?;
+    match metadata {
+        Some(text) => {
+            out.extend_from_slice(b",\"metadata\":")?;
+            out.extend_from_slice(text)?;
+            Ok(())
+        }
+        None => Ok(()),
     }
-    Ok(())
 }
 
 // Puts reason, value and variant, and the end of the object.
@@ -104,7 +115,6 @@ fn end_success(
 }
 
 // The member `reason`, and the name of the one behind it.
-#[tactic(auto, unfolding(json::specs::Print::escape_byte))]
 fn before_value(reason: Reason) -> &'static [u8]
     ensures { result.now ≡ 44 ∷ (quoted (codes "reason") ++ 58 ∷ (quoted (reason_text reason)
         ++ 44 ∷ (quoted (codes "value") ++ 58 ∷ []))) }

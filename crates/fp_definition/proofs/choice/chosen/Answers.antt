@@ -1,5 +1,5 @@
-use Rattle.std.proofs.Common.{◌≡◌, option_map, sym, ap, subst}
-use Rattle.serde_json.specs.Data.{Members, no_members, object}
+use Rattle.std.proofs.Common.{option_map, subst}
+use Rattle.serde_json.specs.Data.{no_members}
 use Rattle.fp_base.specs.TreeView.{tree_view}
 use Rattle.fp_definition.specs.Spelled.{AreNoted}
 use Rattle.fp_definition.proofs.Said.{chosen_is}

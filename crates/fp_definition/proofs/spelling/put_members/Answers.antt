@@ -1,8 +1,8 @@
-use Rattle.std.proofs.Common.{◌≡◌, ◌+◌, ◌∷◌, ◌++◌, [], drop, option_map, sym, ap, subst, ◌∙◌, true, false, arith}
+use Rattle.std.proofs.Common.{◌+◌, ◌∷◌, ◌++◌, [], drop, option_map, sym, ap, subst, ◌∙◌, true, arith}
 use Rattle.std.proofs.lemmas.Bool.{and_parts}
 use Rattle.std.proofs.lemmas.List.{drop_all}
 use Rattle.json.specs.Print.{quoted}
-use Rattle.serde_json.specs.Data.{Members, member, no_members}
+use Rattle.serde_json.specs.Data.{member, no_members}
 use Rattle.serde_json.specs.Written.{comma_if, compact_text, members_text}
 use Rattle.fp_base.specs.Printed.{AreMembersPrinted}
 use Rattle.fp_base.specs.TreeView.{Entry, tree_view, tree_members}

@@ -1,4 +1,4 @@
-use Rattle.std.proofs.Common.{◌≡◌, Some, OnOk, IfOk, sym, ap, subst, ◌∙◌}
+use Rattle.std.proofs.Common.{◌≡◌, Some, OnOk, sym, ap, subst, ◌∙◌}
 use Rattle.std.proofs.lemmas.Result.{IfOk-weaker}
 use Rattle.serde_json.specs.Data.{Members, object}
 use Rattle.fp_base.specs.Printed.{IsPrinted}

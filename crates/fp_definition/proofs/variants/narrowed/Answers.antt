@@ -1,11 +1,11 @@
 use Rattle.std.proofs.Common.{◌≡◌, ◌<◌, List, ◌∷◌, ◌++◌, drop, length, Greater, nat_cmp, string_bytes, sym, ap, subst, ◌∙◌, arith}
 use Rattle.std.specs.Cmp.Lexicographic.{slice_cmp}
-use Rattle.serde_json.specs.Data.{no_members, string}
+use Rattle.serde_json.specs.Data.{no_members}
 use Rattle.serde_json.specs.Find.{get_member}
 use Rattle.fp_base.specs.Sorted.{IsSorted}
 use Rattle.fp_base.proofs.Turns.{drop-here}
 use Rattle.fp_definition.proofs.Parted.{get-behind, get-front, greater, not_greater, sorted-behind, sorted-front, within-behind, within-front}
-use Rattle.fp_definition.specs.Spelled.{at, spelled, AreWithin}
+use Rattle.fp_definition.specs.Spelled.{spelled, AreWithin}
 use Rattle.fp_definition.specs.declared.spelling.Variant.{Variant}
 use Rattle.fp_definition.proofs.variants.narrowed.Goals as goal
 

@@ -1,9 +1,8 @@
 use Rattle.std.proofs.Common.{◌≡◌, length}
-use Rattle.serde_json.specs.Data.{no_members, string}
+use Rattle.serde_json.specs.Data.{no_members}
 use Rattle.serde_json.specs.Find.{get_member}
 use Rattle.fp_base.specs.Sorted.{IsSorted}
-use Rattle.fp_definition.specs.Spelled.{at, spelled, AreWithin}
-use Rattle.fp_definition.specs.declared.spelling.Variant.{Variant}
+use Rattle.fp_definition.specs.Spelled.{spelled, AreWithin}
 use Rattle.fp_definition.proofs.variants.narrowed.Given as goal
 
 -- what is left is in order, and what is found in it is found in all

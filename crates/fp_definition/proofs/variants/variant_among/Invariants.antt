@@ -1,8 +1,7 @@
 use Rattle.std.proofs.Common.{◌≡◌, drop}
-use Rattle.serde_json.specs.Data.{no_members, string}
+use Rattle.serde_json.specs.Data.{no_members}
 use Rattle.serde_json.specs.Find.{get_member}
-use Rattle.fp_definition.specs.Spelled.{at, spelled, AreWithin}
-use Rattle.fp_definition.specs.declared.spelling.Variant.{Variant}
+use Rattle.fp_definition.specs.Spelled.{spelled, AreWithin}
 use Rattle.fp_definition.proofs.variants.variant_among.Given as goal
 
 -- what is found in what is left is found in all

@@ -1,4 +1,4 @@
-use Rattle.std.proofs.Common.{◌≡◌, ap, sym, ◌∙◌, subst}
+use Rattle.std.proofs.Common.{sym, ◌∙◌, subst}
 use Rattle.std.specs.Prelude.{IfSome}
 use Rattle.fp_definition.specs.Resolving.{data_of}
 use Rattle.fp_targeting.specs.Moment.{IsTimeless as RuleIsTimeless}

@@ -1,9 +1,9 @@
-use Rattle.std.proofs.Common.{◌≡◌, codes, option_map, sym, ap, ap₂, subst, ◌∙◌}
-use Rattle.serde_json.specs.Data.{no_members, string}
-use Rattle.serde_json.specs.Find.{get, get_member}
+use Rattle.std.proofs.Common.{sym, ap, ap₂, subst, ◌∙◌}
+use Rattle.serde_json.specs.Data.{no_members}
+use Rattle.serde_json.specs.Find.{get_member}
 use Rattle.fp_base.specs.Sorted.{IsSorted}
-use Rattle.fp_definition.specs.Resolving.{data_of, outcome_of_variant, outcome_spelled}
-use Rattle.fp_definition.specs.Spelled.{spelled, texts}
+use Rattle.fp_definition.specs.Resolving.{outcome_of_variant, outcome_spelled}
+use Rattle.fp_definition.specs.Spelled.{spelled}
 use Rattle.fp_definition.proofs.Said.{get_texts, said_found, said_none, sorted_texts}
 use Rattle.fp_definition.proofs.definition.Definition.variant_named.Goals as goal
 
