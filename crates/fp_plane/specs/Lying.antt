@@ -1,5 +1,5 @@
 -- The store's half of a plane, where nobody seals.
-use Rattle.std.specs.Prelude.{◌≡◌, ◌⊎◌, ◌<◌, ℕ, Bool, true, false, List, [], ◌∷◌}
+use Rattle.std.specs.Prelude.{◌≡◌, ◌⊎◌, ◌<◌, ◌∷◌, [], Bool, true, false, List}
 use Rattle.fp_disk.specs.Crashes.{EachCrash}
 use Rattle.fp_disk.specs.declared.disk.Disk.{Ghosts}
 use Rattle.fp_committer.specs.Course.{Course, LacksRoom}
@@ -9,14 +9,16 @@ use Rattle.fp_group_commit.specs.Tokens.{Identity}
 use Rattle.fp_plane.specs.Flushing.{IsResting}
 use Rattle.fp_plane.specs.Hall.{IsStoreOf}
 
--- who takes its lock finds the half, whether sealing broke off, and whether whoever was told last was alone
+-- what who takes its lock finds: the half, whether sealing broke off, and whether whoever was told
+-- last was alone
 pub record LyingState (D : Type 0) : Type 0 where
   pub half : StoreHalfState D
   pub broken : Bool
   pub alone : Bool
 
--- The half is the plane's, and came by a course from the one half that the list has: nothing of it is drawn and no call of the
--- disk failed since, or sealing broke off, for one of the two reasons for that
+-- The half is the plane's, and came by a course from the one half that the list has: nothing of it
+-- is drawn and no call of the disk failed since, or sealing broke off, for one of the two reasons
+-- for that
 pub record IsLeft {D : Type 0} (disk : Ghosts D) (store : Identity) (desk_lists store_lists : Names)
     (half : StoreHalfState D) (broken : Bool) (began : List (StoreHalfState D)) : Type 0 where
   pub first : StoreHalfState D
@@ -26,5 +28,5 @@ pub record IsLeft {D : Type 0} (disk : Ghosts D) (store : Identity) (desk_lists 
   pub ours : IsStoreOf store desk_lists store_lists half
   pub rest : broken ≡ false → IsResting half
   pub no_failure : broken ≡ false → disk.faults half.store.disk ≡ disk.faults first.store.disk
-  pub cause : broken ≡ true → (disk.faults first.store.disk < disk.faults half.store.disk)
-      ⊎ LacksRoom disk half
+  pub cause : broken ≡ true →
+      (disk.faults first.store.disk < disk.faults half.store.disk) ⊎ LacksRoom disk half

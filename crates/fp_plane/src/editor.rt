@@ -187,6 +187,8 @@ where
     let (answer, more) = answer_to(plane, asked);
     keep_greater(told, more);
     send_answer(alloc, w, &answer)?;
+
+    // What a compaction is owed is no part of its editor's wait.
     plane.go_on();
     Ok(())
 }

@@ -1,9 +1,10 @@
 //! Who seals draws and settles under the plane's lock, and calls the disk without it.
 
-ghost use Rattle.std.specs.Prelude.{◌≡◌, ◌⊎◌, ◌<◌, ◌∷◌, [], true, false, IfErr, IfOk, OnErr, OnOk};
-ghost use Rattle.fp_committer.specs.StoreHalf.{StoreHalfState};
+ghost use Rattle.std.specs.Prelude.{◌≡◌, ◌⊎◌, ◌<◌, ◌∷◌, [], true, false, IfErr, IfOk, OnErr};
+ghost use Rattle.std.specs.Prelude.{OnOk};
 ghost use Rattle.fp_edit.specs.Edits.{proposal_of};
 ghost use Rattle.fp_committer.specs.Course.{Course, LacksRoom, ListsOn};
+ghost use Rattle.fp_committer.specs.StoreHalf.{StoreHalfState};
 ghost use Rattle.fp_committer.specs.Way.{batch_drawn, batch_sealed, nothing_drawn};
 ghost use Rattle.fp_plane.specs.Flushing.{Flushes, IsResting};
 ghost use Rattle.fp_plane.specs.Hall.{IsStoreOf};

@@ -1,6 +1,6 @@
 //! What a plane owns and lets go of with its last handle.
 
-ghost use Rattle.std.specs.Prelude.{◌≡◌, ◌<◌, None, IfOk, OnOk, OnErr, MatchOption};
+ghost use Rattle.std.specs.Prelude.{◌≡◌, ◌<◌, ◌+◌, length, None, IfOk, OnOk, OnErr, MatchOption};
 ghost use Rattle.fp_desk.specs.Desk.{settled_front};
 ghost use Rattle.fp_group_commit.specs.Tokens.{FrontState, front_revision};
 ghost use Rattle.fp_publish.specs.Fronts.{Begins};
@@ -117,7 +117,9 @@ impl<D: Disk + Drop> OwnHalf<D> {
     }
 
     /// The last revision that is sealed.
-    pub fn revision(&self) -> u64 {
+    pub fn revision(&self) -> u64
+        ensures { result ≡ self.now.store.store.start.revision + length self.now.store.sealed }
+    {
         self.half.store().revision()
     }
 

@@ -67,8 +67,8 @@ impl<K: Naming, D: Disk + Drop, R: Wait + Drop> SealingPlane<K, D, R> {
 }
 
 impl<K: Naming, D: Disk + Drop, R: Wait + Clock + Log + Drop> SealingPlane<K, D, R> {
-    /// Hands an edit in. An editor that is alone seals it too; else the flusher, which is woken, does.
-    /// The ticket names the plane's store and the edit.
+    /// Hands an edit in. An editor that is alone seals it too; else the flusher does, which is woken
+    /// behind that. The ticket names the plane's store and the edit.
     pub fn submit(&self, edit: Edit) -> Result<Ticket, (Refusal, Edit)>
         ensures refused { IfErr result (λ e. e.0.edit ≡ proposal_of edit) }
         ensures ticket { IfOk result (λ t. (t.store ≡ K.store) × (t.edit ≡ proposal_of edit)) }
@@ -100,6 +100,7 @@ impl<K: Naming, D: Disk + Drop, R: Wait + Clock + Log + Drop> SealingPlane<K, D,
             Flushes D.Disk first result.half result.ended }
     {
         for _ in self.plane.shared.rt.forever() {
+            // It looks under the hall's lock, so what was handed in since it let the place go is seen.
             self.plane.await_work();
             if let Some(lying) = self.flush() {
                 return lying.into_flushed(began);
