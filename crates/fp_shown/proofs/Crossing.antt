@@ -1,5 +1,6 @@
 -- What is shown may cross threads, and threads may share it.
-use denote.Param.Send.{IsSend, IsSync, sendable, view_send, view_sync, recorded_send, recorded_sync, struct_send, struct_sync}
+use denote.Param.Send.{IsSend, IsSync, sendable, view_send, view_sync, recorded_send, recorded_sync}
+use denote.Param.Send.{struct_send, struct_sync}
 use denote.Struct.Declared.{shape}
 use Rattle.std.proofs.Crossing.{crosses}
 use Rattle.std.proofs.MapsCrossing as maps
@@ -19,18 +20,38 @@ flag_shared = search (sendable, definition_shared) depth 20
 
 flags_sent : IsSend flags.the_row
 flags_sent = let T = flags_inside.the_type in
-    view_send _ _ _ _ _ (recorded_send _ _ _ T.to_one (struct_send (shape T)
-    (search (sendable, maps.BTreeMap-send, key.the_send, flag_sent) depth 5, (search sendable, (search sendable, (search sendable, (search sendable, (search (sendable, crosses), tt))))))))
+    view_send _ _ _ _ _ (recorded_send _ _ _ T.to_one (struct_send (shape T) (
+      search (sendable, maps.BTreeMap-send, key.the_send, flag_sent) depth 5,
+      (
+        search sendable,
+        (
+          search sendable,
+          (search sendable, (search sendable, (search (sendable, crosses), tt))),
+        ),
+      ),
+    )))
 
 flags_shared : IsSync flags.the_row
 flags_shared = let T = flags_inside.the_type in
-    view_sync _ _ _ _ _ (recorded_sync _ _ _ T.to_one (struct_sync (shape T)
-    (search (sendable, maps.BTreeMap-sync, key.the_sync, flag_shared) depth 5, (search sendable, (search sendable, (search sendable, (search sendable, (search (sendable, crosses), tt))))))))
+    view_sync _ _ _ _ _ (recorded_sync _ _ _ T.to_one (struct_sync (shape T) (
+      search (sendable, maps.BTreeMap-sync, key.the_sync, flag_shared) depth 5,
+      (
+        search sendable,
+        (
+          search sendable,
+          (search sendable, (search sendable, (search (sendable, crosses), tt))),
+        ),
+      ),
+    )))
 
 pub shown_sent : IsSend shown.the_row
 shown_sent = let T = shown_inside.the_type in
-    view_send _ _ _ _ _ (recorded_send _ _ _ T.to_one (struct_send (shape T) (flags_sent, (search (sendable, crosses) depth 10, tt))))
+    view_send _ _ _ _ _
+    (recorded_send _ _ _ T.to_one
+    (struct_send (shape T) (flags_sent, (search (sendable, crosses) depth 10, tt))))
 
 pub shown_shared : IsSync shown.the_row
 shown_shared = let T = shown_inside.the_type in
-    view_sync _ _ _ _ _ (recorded_sync _ _ _ T.to_one (struct_sync (shape T) (flags_shared, (search (sendable, crosses) depth 10, tt))))
+    view_sync _ _ _ _ _
+    (recorded_sync _ _ _ T.to_one
+    (struct_sync (shape T) (flags_shared, (search (sendable, crosses) depth 10, tt))))

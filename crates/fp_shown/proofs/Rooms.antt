@@ -16,14 +16,17 @@ use Rattle.fp_shown.specs.Reading.{LONGEST_FLAG, PutsFlag}
 use Rattle.fp_shown.proofs.Definitions.{object_text}
 
 pub key_short : (k : List ℕ) → is_key k ≡ true → length k ≤ LONGEST_KEY
-key_short k is = leb-true (length k) LONGEST_KEY (and_parts (nat_le 1 (length k)) (nat_le (length k) LONGEST_KEY) is).1
+key_short k is =
+    leb-true (length k) LONGEST_KEY
+    (and_parts (nat_le 1 (length k)) (nat_le (length k) LONGEST_KEY) is).1
 
 -- a flag counts as one at most, and takes no more than the longest
 record IsLittle (flags : Flags) (more : Flags) : Type 0 where
   pub count : fin.len more ≤ fin.len flags + 1
   pub size : size more ≤ size flags + LONGEST_FLAG
 
-little : (flags : Flags) (k : List ℕ) (f : Flag) → is_key k ≡ true → is_definition_text f.definition ≡ true → IsLittle flags (fin.insert flags k f)
+little : (flags : Flags) (k : List ℕ) (f : Flag) → is_key k ≡ true
+    → is_definition_text f.definition ≡ true → IsLittle flags (fin.insert flags k f)
 little flags k f key text =
     let counted = count-insert flags k f in
     let sized = size-insert flags k f in
@@ -31,7 +34,8 @@ little flags k f key text =
     let few = (object_text f.definition text).short in
     record { count = omega (arith, counted); size = omega (arith, sized, short, few) }
 
-pub has_room : (flags : Flags) (k : List ℕ) (f : Flag) (limit : ℕ) → fin.len flags < MOST_FLAGS → size flags + LONGEST_FLAG ≤ limit → is_key k ≡ true → is_definition_text f.definition ≡ true
+pub has_room : (flags : Flags) (k : List ℕ) (f : Flag) (limit : ℕ) → fin.len flags < MOST_FLAGS
+    → size flags + LONGEST_FLAG ≤ limit → is_key k ≡ true → is_definition_text f.definition ≡ true
     → is_within (fin.insert flags k f) limit ≡ true
 has_room flags k f limit few room key text =
     let grown = little flags k f key text in

@@ -37,8 +37,7 @@ pub record SpellsFlag (name value key : List ℕ) : Type 0 where
   pub named : name ≡ quoted key
   pub definition : is_definition_text value ≡ true
 
--- a flag was put into a set whose key a name spells and whose definition a value is, as of the set's
--- revision
+-- a flag was put, whose key a name spells and whose definition a value is, as of the set's revision
 pub record PutsFlag (old : State) (name value : List ℕ) (new : State) : Type 0 where
   pub key : List ℕ
   pub named : json_of name ≡ Some (string key)

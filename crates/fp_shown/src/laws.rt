@@ -8,7 +8,7 @@ pub fn same_document_same_reply()
     ensures { law.SameDocumentSameReply }
 {}
 
-/// What is shown of a frame replies as the set does whose front the frame was handed for. So nothing
+/// What is shown of a frame replies as the set of the front that the frame was handed for. So nothing
 /// that is shown is taken back by a crash: subscribers are handed settled fronts alone.
 pub fn shows_what_was_handed()
     ensures { law.ShowsWhatWasHanded }

@@ -14,8 +14,10 @@ pub loop-key-init : goal.loop-key-init
 loop-key-init c =
     let s = c.args.set.now in
     let same = c.into_iter-key-iterator.ensures.into_iter_gives in (
-      λ all. subst (All (IsFlag s.revision)) (ap entries_of same ∙ c.iter-key-items.ensures.entries) all,
-      subst (All (λ (e : FlagKey × Flag). IsChangedBy s.revision e.1)) (sym same) c.iter-key-items.ensures.changed,
+      λ all.
+          subst (All (IsFlag s.revision)) (ap entries_of same ∙ c.iter-key-items.ensures.entries) all,
+      subst (All (λ (e : FlagKey × Flag). IsChangedBy s.revision e.1)) (sym same)
+          c.iter-key-items.ensures.changed,
     )
 
 pub loop-key-preserved : goal.loop-key-preserved
@@ -24,9 +26,14 @@ loop-key-preserved c =
     let left = c.loop-key.key-iterator in
     let next = c.in-Some.ensures.steps in
     let utf8 = subst IsUtf8 c.as_str-key.ensures c.as_str-key.utf8 in
-    let text = c.text-text.ensures.canonical in (
-      decided s.revision (map.entries s.flags) left c.next.new.self c.in-Some.key.now c.in-Some.flag.now next c.loop-key.invariant.0 c.loop-key.invariant.1 utf8 text,
-      changed_behind s.revision left c.next.new.self c.in-Some.key.now c.in-Some.flag.now next c.loop-key.invariant.1,
+    let text = c.text-text.ensures.canonical in
+    let key = c.in-Some.key.now in
+    let flag = c.in-Some.flag.now in
+    let rest = c.next.new.self in
+    let decide = c.loop-key.invariant.0 in
+    let changed = c.loop-key.invariant.1 in (
+      decided s.revision (map.entries s.flags) left rest key flag next decide changed utf8 text,
+      changed_behind s.revision left rest key flag next changed,
     )
 
 pub returns : goal.returns
@@ -36,4 +43,5 @@ returns c =
     let bounded = c.revision-revision.ensures.bounded in
     let len = c.len-count.ensures.len in
     let few = c.len-count.ensures.bounded in
-    none_left s c.loop-key.key-iterator c.in-None.ensures.steps.0 c.loop-key.invariant.0 (omega (arith, revision, bounded)) (omega (arith, len, few))
+    none_left s c.loop-key.key-iterator c.in-None.ensures.steps.0 c.loop-key.invariant.0
+    (omega (arith, revision, bounded)) (omega (arith, len, few))

@@ -8,5 +8,6 @@ use Rattle.fp_shown.proofs.lawful.every_set_is_lawful.Given as goal
 -- the flags that are left decide for all
 abbrev pub invariant-loop-key : goal.invariant-loop-key
 invariant-loop-key l =
-    (All (IsFlag l.set.revision) (entries_of l.key-iterator) → All (IsFlag l.set.revision) (map.entries l.set.flags))
+    (All (IsFlag l.set.revision) (entries_of l.key-iterator)
+    → All (IsFlag l.set.revision) (map.entries l.set.flags))
     × All (λ e. IsChangedBy l.set.revision e.1) l.key-iterator

@@ -10,4 +10,5 @@ pub returns : goal.returns
 returns c = λ handed frame s lawful other carries is method target if_none_match body now.
     let t = front_set handed in
     let revision = is.at ∙ carries.at ∙ sym (revision-after_all handed.store.start handed.edits) in
-    routed-same s t revision (told_alike s t other lawful (is.spelled ∙ carries.spelled)) now (route_of target) method if_none_match body
+    routed-same s t revision (told_alike s t other lawful (is.spelled ∙ carries.spelled)) now
+    (route_of target) method if_none_match body

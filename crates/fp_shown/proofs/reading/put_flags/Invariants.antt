@@ -13,5 +13,6 @@ invariant-loop l =
     × (size l.set.flags ≤ 4 + l.counter * 16654)
     × (l.set.revision ≡ l.initial.set.revision)
     × (l.set.limit ≡ l.initial.set.limit)
-    × ((s : State) → IsLawful s → s.revision ≡ l.initial.set.revision → l.text ≡ rest_text false (fin.entries s.flags)
+    × ((s : State) → IsLawful s → s.revision ≡ l.initial.set.revision
+    → l.text ≡ rest_text false (fin.entries s.flags)
     → Standing s l.set.flags l.later l.rest l.counter)
