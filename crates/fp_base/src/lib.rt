@@ -18,5 +18,5 @@ pub use places::member_in_order;
 pub use texts::{canonical_text, canonical_text_within, put_quoted, read_json};
 pub use tree::Tree;
 pub use tree_reading::read_tree;
-pub use writing::put_name;
 pub use walks::{nests_within, values_left, whole_numbers};
+pub use writing::put_name;

@@ -128,12 +128,7 @@ fn put_comma(out: &mut Vec<u8>, later: bool) -> Result<(), AllocError>
 
 /// Puts the name of a member and its colon behind what is there, and a comma before them where a
 /// member stands there already.
-pub fn put_name(
-    alloc: Global,
-    out: &mut Vec<u8>,
-    later: bool,
-    name: &str,
-) -> Result<(), AllocError>
+pub fn put_name(alloc: Global, out: &mut Vec<u8>, later: bool, name: &str) -> Result<(), AllocError>
     ensures text { OnOk result (out.new.items
         ≡ out.old.items ++ (comma_if later ++ (quoted name.now ++ 58 ∷ []))) }
     ensures utf8 { OnOk result (IsUtf8 (quoted name.now)) }

@@ -59,11 +59,7 @@ pub(crate) fn spell(alloc: Global, tree: &Tree<'_>, room: usize) -> Result<Spell
 }
 
 // Puts a tree. Nothing was noted.
-fn put_definition(
-    alloc: Global,
-    spelled: &mut Spelled,
-    tree: &Tree<'_>,
-) -> Result<(), AllocError>
+fn put_definition(alloc: Global, spelled: &mut Spelled, tree: &Tree<'_>) -> Result<(), AllocError>
     requires { is_whole (tree_view tree.now) ≡ true }
     ensures text { OnOk result (spelled.new.text.items
         ≡ spelled.old.text.items ++ compact_text (tree_view tree.now)) }

@@ -25,7 +25,10 @@ pub(crate) fn variant_named<'d>(
         ≡ get_member name.now (spelled text.now variants.now no_members) }
 {
     let found = variant_among(text, narrowed(text, variants, name), name)?;
-    Some((found.name.as_str(), &text[found.value.start..found.value.end]))
+    Some((
+        found.name.as_str(),
+        &text[found.value.start..found.value.end],
+    ))
 }
 
 // A few variants, among which is the one of that name if it is among all.

@@ -49,12 +49,7 @@ fn end_failure(alloc: Global, out: &mut Vec<u8>, key: Option<&str>) -> Result<()
 }
 
 // Puts these bytes, and a text in quotes.
-fn put_text(
-    alloc: Global,
-    out: &mut Vec<u8>,
-    before: &[u8],
-    text: &str,
-) -> Result<(), AllocError>
+fn put_text(alloc: Global, out: &mut Vec<u8>, before: &[u8], text: &str) -> Result<(), AllocError>
     ensures { OnOk result (out.new.items ≡ out.old.items ++ (before.now ++ quoted text.now)) }
 {
     out.extend_from_slice(before)?;
@@ -99,11 +94,7 @@ fn put_metadata(out: &mut Vec<u8>, metadata: Option<&[u8]>) -> Result<(), AllocE
 }
 
 // Puts reason, value and variant, and the end of the object.
-fn end_success(
-    alloc: Global,
-    out: &mut Vec<u8>,
-    said: &Resolved<'_>,
-) -> Result<(), AllocError>
+fn end_success(alloc: Global, out: &mut Vec<u8>, said: &Resolved<'_>) -> Result<(), AllocError>
     ensures { OnOk result ((s : Said) → spelled_by said.now ≡ spelling s
         → out.new.items ≡ out.old.items ++ members_text true (said_members s)) }
 {

@@ -113,8 +113,7 @@ impl<K: Naming, D: Disk + Drop> Lying<K, D> {
         if self.broken || !self.gathering.is_alone() {
             return plane.submit(edit);
         }
-        let (submitted, ended) =
-            submit_and_flush(plane, &mut self.half, &mut self.gathering, edit);
+        let (submitted, ended) = submit_and_flush(plane, &mut self.half, &mut self.gathering, edit);
         self.broken = ended.is_err();
         if self.broken {
             plane.break_off();

@@ -5,10 +5,12 @@ use crate::evaluations::{LentEvaluator, LoanFault};
 use crate::host::Host;
 use crate::noted::Noted;
 use crate::serving::moment;
+use fp_disk::Disk;
 use fp_http::{Blocking, TimeLimits, serve_ofrep};
 use fp_log::Port;
-use fp_disk::Disk;
-use fp_plane::{EditorEnd, Naming, Plane, SealingPlane, SubscriberFault, editor_loop, subscriber_loop};
+use fp_plane::{
+    EditorEnd, Naming, Plane, SealingPlane, SubscriberFault, editor_loop, subscriber_loop,
+};
 use fp_publish::{MOST_EVALUATORS, MOST_SEATS};
 use fp_stream::HelloFault;
 use fp_streams::{FailureCounted, StreamFault};

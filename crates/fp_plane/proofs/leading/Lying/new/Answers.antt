@@ -9,5 +9,5 @@ invariant_of-lying g c =
     let only = l.ensures.1 ∙ ap (λ (xs : List (StoreHalfState g.row.D.Denot)). xs ++ (h ∷ [])) c.requires.fresh in (
       l.ensures.0 ∙ c.requires.named,
       left_first g.D.Disk k.store k.desk_lists k.store_lists c.into_half-half.result h l.new.self.log c.into_half-half.ensures only
-      c.rest.ensures.exit c.requires.ours c.requires.rest,
+          c.rest.ensures.exit c.requires.ours c.requires.rest,
     )
