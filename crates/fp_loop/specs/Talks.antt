@@ -16,8 +16,8 @@ Answering S = S → Request (List ℕ) → Response → S → Type 0
 abbrev pub Serves : {S : Type 0} → Answering S → S → S → Type 0
 Serves answers before after = (calls : List Call) × Chain answers before calls after
 
--- More bytes may have come, and more may have gone out. The service goes on by its calls. What waited
--- for nothing but input still does
+-- More bytes may have come, and more may have gone out. The service goes on by its calls. What
+-- waited for nothing but input still does
 pub record Talks {S : Type 0} (answers : Answering S) (config : Config) (before after : S)
     (old new : History) : Type 0 where
   pub came : List ℕ
@@ -47,8 +47,8 @@ pub record Says {S : Type 0} (answers : Answering S) (config : Config) (before a
   pub calls : Calls answers before after old.calls new.calls
   pub rests : Rests config old → Rests config new
 
--- All that came is the requests of calls, of which the last ones were made by now, and all that went
--- out is their answers
+-- All that came is the requests of calls, of which the last ones were made by now, and all that
+-- went out is their answers
 pub record Rested {S : Type 0} (answers : Answering S) (before after : S) (config : Config)
     (h : History) : Type 0 where
   pub answered : List Call

@@ -69,7 +69,8 @@ impl<N: News + Drop> Newest<N> {
 
     // Whether this is newer.
     fn is_behind(&self, revision: u64) -> bool
-        ensures { IsTrue result ↔ IsNewer (had (λ n. N.shows (arc_value n)) self.now.news) revision }
+        ensures { IsTrue result
+            ↔ IsNewer (had (λ n. N.shows (arc_value n)) self.now.news) revision }
     {
         match &self.news {
             None => true,

@@ -132,8 +132,8 @@ impl Peer {
         }
     }
 
-    // What it waits for now: that its peer takes what waits to be sent, since it last took some; the
-    // rest of a request, since its beginning; or a request. It waited for something else before.
+    // What it waits for now: that its peer takes what waits to be sent, since it last took some;
+    // the rest of a request, since its beginning; or a request. It waited for this before.
     fn wait(&mut self, before: Waiting, now: u64)
         ensures { self.new.connection ≡ self.old.connection }
     {
