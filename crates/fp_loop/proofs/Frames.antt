@@ -1,12 +1,14 @@
 -- The frame that is being sent to a subscriber.
-use Rattle.std.proofs.Common.{◌≡◌, ◌≢◌, ◌↔◌, ◌<◌, ◌+◌, ◌-◌, ℕ, List, [], ◌∷◌, ◌++◌, length, take, drop, Option, Some, None, IsTrue, refl, sym, ap, ◌∙◌, subst, arith, append_assoc, append-nil}
-use Rattle.std.proofs.lemmas.List.{length-drop, take-append-drop, drop_all, drop-drop}
+use Rattle.std.proofs.Common.{◌≡◌, ◌≢◌, ◌↔◌, ℕ, List, [], ◌∷◌, ◌++◌, length, take, drop, Option}
+use Rattle.std.proofs.Common.{Some, None, IsTrue, refl, sym, ap, ◌∙◌, subst, arith, append_assoc}
+use Rattle.std.proofs.Common.{append-nil}
+use Rattle.std.proofs.lemmas.List.{length-drop, take-append-drop}
 use Rattle.std.specs.Option.{is_some, is_none}
 use Rattle.std.specs.Arc.{arc_value}
 use Rattle.fp_stream.specs.declared.hello.Hello.{Hello}
 use Rattle.fp_stream.specs.declared.hello.Hello.TheVariants.{Has}
 use Rattle.fp_stream.specs.Heads.{IsHead}
-use Rattle.fp_stream.specs.Frames.{Snapshot, frame, stream_of, AreNews, has_after}
+use Rattle.fp_stream.specs.Frames.{Snapshot, frame, stream_of}
 use Rattle.fp_stream.proofs.Streams.{AreNews-append, has_after-append, stream_of-append}
 use Rattle.fp_loop.specs.declared.outgoing.Outgoing.{Outgoing}
 use Rattle.fp_loop.specs.declared.news.News.{Ghosts}

@@ -1,3 +1,4 @@
+pub mod Courses
 pub mod Frames
 pub mod Talking
 pub mod Telling

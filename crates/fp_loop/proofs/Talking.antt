@@ -1,17 +1,17 @@
 -- Conversations over HTTP go on.
-use Rattle.std.proofs.Common.{◌≡◌, ◌≤◌, ◌<◌, ℕ, List, [], ◌∷◌, ◌++◌, length, take, drop, Option, Some, None, IsTrue, IsFalse, refl, sym, ap, subst, ◌∙◌, append_assoc, append-nil, arith}
+use Rattle.std.proofs.Common.{◌≡◌, ℕ, List, [], ◌∷◌, ◌++◌, length, take, Option, Some, None, refl}
+use Rattle.std.proofs.Common.{sym, ap, subst, ◌∙◌, append_assoc, append-nil, arith}
 use Rattle.std.proofs.lemmas.List.{take-append-drop}
 use Rattle.std.specs.Io.KnownBytes.{Keeps, Appends, Consumes}
-use Rattle.http.specs.declared.request.Request.{Request}
-use Rattle.http_server.specs.declared.response.Response.{Response}
 use Rattle.http_server.specs.declared.state.Config.{Config}
-use Rattle.http_server.specs.Exchange.{Call, Calls, Chain, Serves, continue_text}
+use Rattle.http_server.specs.Exchange.{Call, Calls, Chain, continue_text}
+use Rattle.http_server.specs.Exchange as exchange
 use Rattle.http_server.specs.declared.state.State.{State}
 use Rattle.http_server.specs.declared.state.State.TheVariants.{Closing}
 use Rattle.http_server.specs.declared.state.Reason.TheVariants.{EndOfInput}
 use Rattle.http_server.specs.History.{History, IsServed, Stands, Rests, WantsRead, after_read, after_sent, output}
 use Rattle.http_server.proofs.StreamLemmas.{Calls-then, Calls-none}
-use Rattle.fp_loop.specs.Talks.{Answering, Talks, Hears, Says, Rested}
+use Rattle.fp_loop.specs.Talks.{Answering, Serves, Talks, Hears, Says, Rested}
 
 pub consumes_none : (a b : Option (List ℕ)) → Keeps a b → Consumes a b []
 consumes_none None b kept = tt
@@ -44,6 +44,12 @@ pub calls_inside : {C S : Type 0} (inside : C → S) (answers : Answering S) (ol
     → Calls (λ a r x b. answers (inside a) r x (inside b)) old new xs ys
     → Calls answers (inside old) (inside new) xs ys
 calls_inside inside answers old new xs ys x = (x.0, x.1, chain_inside inside answers x.0 old new x.2)
+
+-- it goes on by these calls
+pub calls_serve : {C S : Type 0} (inside : C → S) (answers : Answering S) (old new : C) (xs ys : List Call)
+    → Calls (λ a r x b. answers (inside a) r x (inside b)) old new xs ys
+    → Serves answers (inside old) (inside new)
+calls_serve inside answers old new xs ys x = (x.0, chain_inside inside answers x.0 old new x.2)
 
 -- what waited for nothing but input still does, where room was left and some of the output went
 pub rests_sent : (config : Config) (h : History) (n : ℕ) → Rests config h → WantsRead config h
@@ -143,9 +149,9 @@ module _ {S : Type 0} (answers : Answering S) where
         answered = x.answered;
         calls = subst (λ (l : List Call). Calls answers a b h.calls l) st.0 calls;
         serves =
-            subst (λ (r : List ℕ). Serves config h.received x.answered h.sent r) st.2
-            (subst (λ (t : List ℕ). Serves config h.received x.answered t x.rest) text
-            (subst (λ (r : List ℕ). Serves config r x.answered x.text x.rest) received x.serves));
+            subst (λ (r : List ℕ). exchange.Serves config h.received x.answered h.sent r) st.2
+            (subst (λ (t : List ℕ). exchange.Serves config h.received x.answered t x.rest) text
+            (subst (λ (r : List ℕ). exchange.Serves config r x.answered x.text x.rest) received x.serves));
       }
 
   pub talks_none : (config : Config) (a : S) (h : History) → Talks answers config a a h h

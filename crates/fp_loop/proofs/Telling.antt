@@ -1,5 +1,6 @@
 -- What was told to a subscriber goes on.
-use Rattle.std.proofs.Common.{◌≡◌, ℕ, List, [], ◌∷◌, ◌++◌, Option, Some, None, Bool, true, false, IsTrue, IsFalse, refl, sym, ap, subst, append_assoc, append-nil}
+use Rattle.std.proofs.Common.{◌≡◌, ℕ, List, [], ◌∷◌, ◌++◌, Option, Some, None, Bool, true, false}
+use Rattle.std.proofs.Common.{IsTrue, IsFalse, refl, sym, subst, append_assoc, append-nil}
 use Rattle.fp_stream.specs.declared.hello.Hello.{Hello}
 use Rattle.fp_stream.specs.Frames.{Snapshot}
 use Rattle.fp_loop.specs.declared.news.News.{Ghosts}

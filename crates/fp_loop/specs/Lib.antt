@@ -1,3 +1,4 @@
+pub mod Courses
 pub mod Hearing
 pub mod Newest
 pub mod Outgoing

@@ -1,5 +1,5 @@
 -- News, of which newer replace older.
-use Rattle.std.specs.Prelude.{ℕ, ◌≤◌, Option, Some, None}
+use Rattle.std.specs.Prelude.{◌≤◌, Option, Some, None}
 use Rattle.fp_stream.specs.declared.hello.Hello.{Hello}
 use Rattle.fp_stream.specs.declared.hello.Hello.TheVariants.{Nothing, Has}
 use Rattle.fp_stream.specs.Frames.{Snapshot}

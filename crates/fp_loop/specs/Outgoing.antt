@@ -1,5 +1,5 @@
 -- The frames of a subscriber, as bytes that go piece by piece.
-use Rattle.std.specs.Prelude.{◌≡◌, ℕ, List, [], ◌∷◌, ◌++◌, drop, Option, Some, None}
+use Rattle.std.specs.Prelude.{◌≡◌, ℕ, List, [], ◌++◌, drop, Option, Some, None}
 use Rattle.std.specs.Arc.{arc_value}
 use Rattle.fp_stream.specs.declared.hello.Hello.{Hello}
 use Rattle.fp_stream.specs.Frames.{Snapshot, stream_of, AreNews, has_after}

@@ -4,15 +4,20 @@ use Rattle.std.specs.Io.KnownBytes.{Appends, Consumes}
 use Rattle.http.specs.declared.request.Request.{Request}
 use Rattle.http_server.specs.declared.response.Response.{Response}
 use Rattle.http_server.specs.declared.state.Config.{Config}
-use Rattle.http_server.specs.Exchange.{Call, Calls, Serves}
+use Rattle.http_server.specs.Exchange.{Call, Calls, Chain}
+use Rattle.http_server.specs.Exchange as exchange
 use Rattle.http_server.specs.History.{History, Rests}
 
 -- how a service answers: its states before and after, and between them a request and a response
 abbrev pub Answering : Type 0 → Type 1
 Answering S = S → Request (List ℕ) → Response → S → Type 0
 
--- More bytes may have come, and more may have gone out. The service goes on by its calls. What waited
--- for nothing but input still does
+-- a service goes on by calls alone
+abbrev pub Serves : {S : Type 0} → Answering S → S → S → Type 0
+Serves answers before after = (calls : List Call) × Chain answers before calls after
+
+-- More bytes may have come, and more may have gone out. The service goes on by its calls. What
+-- waited for nothing but input still does
 pub record Talks {S : Type 0} (answers : Answering S) (config : Config) (before after : S)
     (old new : History) : Type 0 where
   pub came : List ℕ
@@ -42,10 +47,10 @@ pub record Says {S : Type 0} (answers : Answering S) (config : Config) (before a
   pub calls : Calls answers before after old.calls new.calls
   pub rests : Rests config old → Rests config new
 
--- All that came is the requests of calls, of which the last ones were made by now, and all that went
--- out is their answers
+-- All that came is the requests of calls, of which the last ones were made by now, and all that
+-- went out is their answers
 pub record Rested {S : Type 0} (answers : Answering S) (before after : S) (config : Config)
     (h : History) : Type 0 where
   pub answered : List Call
   pub calls : Calls answers before after h.calls answered
-  pub serves : Serves config h.received answered h.sent []
+  pub serves : exchange.Serves config h.received answered h.sent []

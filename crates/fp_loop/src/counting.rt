@@ -16,7 +16,8 @@ pub(crate) struct Counting<S: Drop> {
 }
 
 impl<S: Service + Drop> Service for Counting<S> {
-    ghost answers = { λ old request response new. S.answers old.service request response new.service };
+    ghost answers = { λ old request response new.
+        S.answers old.service request response new.service };
 
     fn call(
         &mut self,

@@ -1,11 +1,15 @@
 //! What a loop has a connection as.
 
+ghost use Rattle.fp_loop.specs.Talks.{Serves};
+
 use crate::counting::Counting;
 use crate::inbox::Role;
 use crate::news::{Newest, News};
 use crate::peer::Peer;
 use crate::socket::Socket;
 use crate::subscriber::Subscriber;
+use crate::talk::Beginning;
+use crate::times::Limits;
 use crate::turn::Turn;
 use http_server::Service;
 use std::alloc::Global;
@@ -46,10 +50,35 @@ impl<N: News + Drop> Member<N> {
         service: &mut Counting<S>,
         shown: &Newest<N>,
         now: u64,
-    ) -> Turn {
+    ) -> Turn
+        ensures { Serves S.answers service.old.service service.new.service }
+    {
         match &mut self.kind {
             Kind::Requests(peer) => peer.turn(service, now),
             Kind::Frames(subscriber) => subscriber.turn(shown, &mut service.tally, now),
+        }
+    }
+
+    /// Whether it has kept the loop waiting for too long.
+    pub(crate) fn is_over_time(&self, limits: &Limits, now: u64) -> bool {
+        match &self.kind {
+            Kind::Requests(peer) => peer.is_over_time(limits, now),
+            Kind::Frames(subscriber) => subscriber.is_over_time(limits, now),
+        }
+    }
+
+    /// Lets go of memory that it doesn't need. Answers whether it may go on.
+    pub(crate) fn shrink<S: Service + Drop>(
+        &mut self,
+        beginning: &Beginning,
+        service: &mut Counting<S>,
+        now: u64,
+    ) -> bool
+        ensures { Serves S.answers service.old.service service.new.service }
+    {
+        match &mut self.kind {
+            Kind::Requests(peer) => peer.shrink(beginning, service, now),
+            Kind::Frames(_) => true,
         }
     }
 }

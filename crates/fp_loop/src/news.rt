@@ -1,6 +1,6 @@
 //! What the connections of a loop are shown.
 
-ghost use Rattle.std.specs.Prelude.{◌≡◌, ◌≤◌, ◌↔◌, length, IsTrue, IsFalse, None, Some};
+ghost use Rattle.std.specs.Prelude.{⊤, ◌≡◌, ◌≤◌, ◌↔◌, length, IsTrue, IsFalse, None, Some};
 ghost use Rattle.std.specs.Arc.{arc_value};
 ghost use Rattle.fp_stream.specs.declared.head.TheConstants.{MOST_BODY};
 ghost use Rattle.fp_stream.specs.Frames.{Snapshot};
@@ -29,8 +29,12 @@ pub trait News {
 
 /// A service that answers by the newest news.
 pub trait Informed<N>: Service {
+    // From the first state these news lead to the second.
+    ghost informs: { Self → N → Self → Type 0 } = { λ _ _ _. ⊤ };
+
     /// From now on it answers by these. They are newer than those before.
-    fn inform(&mut self, news: Arc<N, Global>);
+    fn inform(&mut self, news: Arc<N, Global>)
+        ensures { Self.informs self.old (arc_value news) self.new };
 }
 
 /// The newest news that came, if any came.
@@ -65,7 +69,8 @@ impl<N: News + Drop> Newest<N> {
 
     // Whether this is newer.
     fn is_behind(&self, revision: u64) -> bool
-        ensures { IsTrue result ↔ IsNewer (had (λ n. N.shows (arc_value n)) self.now.news) revision }
+        ensures { IsTrue result
+            ↔ IsNewer (had (λ n. N.shows (arc_value n)) self.now.news) revision }
     {
         match &self.news {
             None => true,

@@ -1,13 +1,13 @@
 //! The frames of one subscriber, as bytes that are sent piece by piece.
 
-ghost use Rattle.std.specs.Prelude.{◌≡◌, ◌≢◌, ◌+◌, ◌<◌, ◌≤◌, ◌↔◌, ℕ, List, [], ◌∷◌, ◌++◌, length, take, drop, Some, IsTrue, IsFalse};
+ghost use Rattle.std.specs.Prelude.{◌≡◌, ◌≢◌, ◌+◌, ◌<◌, ◌≤◌, ◌↔◌, ℕ, List, [], ◌∷◌, ◌++◌, length};
+ghost use Rattle.std.specs.Prelude.{take, drop, Some, IsTrue, IsFalse};
 ghost use Rattle.std.specs.Arc.{arc_value};
 ghost use Rattle.fp_stream.specs.declared.hello.Hello.{Hello};
 ghost use Rattle.fp_stream.specs.declared.hello.Hello.TheVariants.{Has};
 ghost use Rattle.fp_stream.specs.Frames.{Snapshot, frame};
 ghost use Rattle.fp_stream.specs.declared.head.TheConstants.{MOST_BODY};
 ghost use Rattle.fp_stream.specs.Heads.{IsNewer};
-ghost use Rattle.fp_loop.specs.declared.head.TheConstants.{HEAD};
 
 use crate::head::{HEAD, head_bytes};
 use crate::news::News;
@@ -135,7 +135,8 @@ impl<N: News + Drop> Sending<N> {
 
     // How many bytes it has in all.
     fn len(&self) -> usize
-        ensures { result ≡ length (self.now.head ++ (N.shows (arc_value self.now.news)).document) }
+        ensures { result
+            ≡ length (self.now.head ++ (N.shows (arc_value self.now.news)).document) }
     {
         HEAD + self.news.document().len()
     }

@@ -5,7 +5,7 @@ ghost use Rattle.http_server.specs.History.{IsServed};
 ghost use Rattle.fp_loop.specs.declared.times.Waiting.TheVariants.{Leaving};
 ghost use Rattle.fp_loop.specs.declared.turn.Turn.TheVariants.{Waits};
 ghost use Rattle.fp_loop.specs.Peers.{CanDoNothing, config_of, history_of, Quiets};
-ghost use Rattle.fp_loop.specs.Talks.{Talks};
+ghost use Rattle.fp_loop.specs.Talks.{Serves, Talks};
 
 use crate::counting::Counting;
 use crate::socket::{Socket, is_passing};
@@ -132,8 +132,8 @@ impl Peer {
         }
     }
 
-    // What it waits for now: that its peer takes what waits to be sent, since it last took some; the
-    // rest of a request, since its beginning; or a request. It waited for something else before.
+    // What it waits for now: that its peer takes what waits to be sent, since it last took some;
+    // the rest of a request, since its beginning; or a request. It waited for this before.
     fn wait(&mut self, before: Waiting, now: u64)
         ensures { self.new.connection ≡ self.old.connection }
     {
@@ -200,7 +200,8 @@ impl Peer {
         service: &mut Counting<S>,
         now: u64,
     ) -> bool
-        ensures { IsTrue result → Quiets S.answers service.old.service service.new.service
+        ensures serves { Serves S.answers service.old.service service.new.service }
+        ensures quiets { IsTrue result → Quiets S.answers service.old.service service.new.service
             self.old self.new }
     {
         let is_quiet = self.waiting == Waiting::Request && now.saturating_sub(self.since) >= QUIET;

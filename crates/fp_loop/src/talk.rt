@@ -3,7 +3,7 @@
 ghost use Rattle.std.specs.Prelude.{◌≡◌, IsTrue, OnOk};
 ghost use Rattle.http_server.specs.Connection.{config_of, history};
 ghost use Rattle.http_server.specs.History.{Rests, new_history};
-ghost use Rattle.fp_loop.specs.Talks.{Hears, Rested, Says};
+ghost use Rattle.fp_loop.specs.Talks.{Serves, Hears, Rested, Says};
 
 use crate::counting::Counting;
 use crate::socket::is_passing;
@@ -87,6 +87,7 @@ pub(crate) fn is_at_rest<S: Service + Drop>(
     connection: &mut Connection,
     service: &mut Counting<S>,
 ) -> bool
+    ensures serves { Serves S.answers service.old.service service.new.service }
     ensures rested { IsTrue result → ∥ Rested S.answers service.old.service service.new.service
         (config_of connection.old) (history connection.old) ∥₁ }
 {

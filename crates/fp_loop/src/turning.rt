@@ -1,9 +1,5 @@
 //! The loop of one thread over its connections.
 
-ghost use Rattle.std.specs.Prelude.{◌≡◌, None};
-ghost use Rattle.std.specs.Arc.{arc_value};
-ghost use Rattle.fp_loop.specs.Newest.{had, Rises};
-
 use crate::counting::Counting;
 use crate::counts::{Counts, Tally};
 use crate::inbox::{Inbox, Role, Taken};
@@ -69,6 +65,8 @@ where
     S: Informed<N> + Drop,
     N: News + Drop,
 {
+    ghost use Rattle.fp_loop.specs.Courses.{KeepsOn, RunsOn};
+
     /// With no connection yet, and no news.
     pub fn new<R: Net + RandomSource>(
         rt: &R,
@@ -116,8 +114,7 @@ where
 
     /// Serves its connections until it is stopped.
     pub fn run<R: Wait + Clock>(&mut self, rt: &R)
-        ensures { Rises (had (λ n. N.shows (arc_value n)) self.old.shown.news)
-            (had (λ n. N.shows (arc_value n)) self.new.shown.news) }
+        ensures { RunsOn S.answers S.informs self.old self.new }
     {
         for _ in rt.forever() {
             if !self.turn(rt) {
@@ -128,32 +125,55 @@ where
 
     // Waits for what is ready, and does what can be done. Answers whether it goes on.
     fn turn<R: Wait + Clock>(&mut self, rt: &R) -> bool
-        ensures { Rises (had (λ n. N.shows (arc_value n)) self.old.shown.news)
-            (had (λ n. N.shows (arc_value n)) self.new.shown.news) }
+        ensures { RunsOn S.answers S.informs self.old self.new }
+    {
+        self.wait(rt);
+        let now = milliseconds(rt);
+        let is_woken = self.mark();
+        self.take_turns(now);
+        let is_due = now.saturating_sub(self.swept) >= SWEEP;
+        if !self.look_in(rt, is_woken || is_due, now) {
+            return false;
+        }
+        self.look_round(is_due, now);
+        self.tell();
+        true
+    }
+
+    // Waits for what is ready.
+    fn wait<R: Clock>(&mut self, rt: &R)
+        ensures { KeepsOn self.old self.new }
     {
         let patience = self.patience();
         if self.poll.poll(&mut self.events, patience).is_err() {
             thread::sleep(rt, Duration::from_millis(10));
         }
-        let now = milliseconds(rt);
-        let is_woken = self.mark();
-        self.take_turns(now);
-        let is_due = now.saturating_sub(self.swept) >= SWEEP;
-        if (is_woken || is_due) && !self.collect(rt, now) {
-            return false;
+    }
+
+    // Does what was handed in asks for, where it is time to look. Answers whether it goes on.
+    fn look_in<R: Wait>(&mut self, rt: &R, is_time: bool, now: u64) -> bool
+        ensures { RunsOn S.answers S.informs self.old self.new }
+    {
+        if !is_time {
+            return true;
         }
-        if is_due {
-            self.swept = now;
-            self.sweep(now);
+        self.collect(rt, now)
+    }
+
+    // Looks at the limits of time, where it is time to.
+    fn look_round(&mut self, is_time: bool, now: u64)
+        ensures { RunsOn S.answers S.informs self.old self.new }
+    {
+        if !is_time {
+            return;
         }
-        self.tell();
-        true
+        self.swept = now;
+        self.sweep(now);
     }
 
     // Does what was handed in asks for. Answers whether it goes on.
     fn collect<R: Wait>(&mut self, rt: &R, now: u64) -> bool
-        ensures { Rises (had (λ n. N.shows (arc_value n)) self.old.shown.news)
-            (had (λ n. N.shows (arc_value n)) self.new.shown.news) }
+        ensures { RunsOn S.answers S.informs self.old self.new }
     {
         let Taken {
             streams,
@@ -173,7 +193,7 @@ where
 
     // Begins the connections that were handed in.
     fn begin_all(&mut self, streams: Vec<(TcpStream, Role)>, now: u64)
-        ensures { self.new.shown ≡ self.old.shown }
+        ensures { KeepsOn self.old self.new }
     {
         for (stream, role) in streams {
             self.begin(stream, role, now);
@@ -193,7 +213,7 @@ where
 
     // Tells each connection what its socket is ready for. Answers whether the inbox has something.
     fn mark(&mut self) -> bool
-        ensures { self.new.shown ≡ self.old.shown }
+        ensures { KeepsOn self.old self.new }
     {
         let mut is_woken = false;
         for event in &self.events {
@@ -207,29 +227,47 @@ where
         is_woken
     }
 
-    // Gives each connection in the queue its turn.
+    // Gives each connection in the queue its turn. Those that could go on stay there.
     fn take_turns(&mut self, now: u64)
-        ensures { self.new.shown ≡ self.old.shown }
+        ensures { RunsOn S.answers S.informs self.old self.new }
     {
         let mut kept = 0usize;
         for at in 0..self.queue.len() {
             let Some(key) = self.queue.get(at).copied() else {
                 return;
             };
-            match self.take_turn(key, now) {
-                Turn::Goes => {
-                    put(&mut self.queue, kept, key);
-                    kept = kept.saturating_add(1);
-                }
-                Turn::Waits => {}
-                Turn::Over => self.remove(key),
-            }
+            let goes = self.take_turn(key, now);
+            kept = self.keep_if(goes, kept, key);
         }
         self.queue.truncate(kept);
     }
 
-    fn take_turn(&mut self, key: usize, now: u64) -> Turn
-        ensures { self.new.shown ≡ self.old.shown }
+    // Puts a key at this place of the queue, where its connection could go on. Gives how many stand
+    // there then.
+    fn keep_if(&mut self, goes: bool, kept: usize, key: usize) -> usize
+        ensures { KeepsOn self.old self.new }
+    {
+        if !goes {
+            return kept;
+        }
+        put(&mut self.queue, kept, key);
+        kept.saturating_add(1)
+    }
+
+    // Gives one its turn. Answers whether it could go on.
+    fn take_turn(&mut self, key: usize, now: u64) -> bool
+        ensures { RunsOn S.answers S.informs self.old self.new }
+    {
+        let turn = self.give_turn(key, now);
+        if turn != Turn::Over {
+            return turn == Turn::Goes;
+        }
+        self.remove(key);
+        false
+    }
+
+    fn give_turn(&mut self, key: usize, now: u64) -> Turn
+        ensures { RunsOn S.answers S.informs self.old self.new }
     {
         let Some(member) = self.members.get_mut(key) else {
             return Turn::Waits;
@@ -240,7 +278,7 @@ where
     }
 
     fn remove(&mut self, key: usize)
-        ensures { self.new.shown ≡ self.old.shown }
+        ensures { KeepsOn self.old self.new }
     {
         if let Some(member) = self.members.try_remove(key) {
             self.counts.left(member.role());
@@ -249,8 +287,7 @@ where
 
     // From now on shows these news, if they are newer.
     fn show(&mut self, news: Arc<N, Global>)
-        ensures { Rises (had (λ n. N.shows (arc_value n)) self.old.shown.news)
-            (had (λ n. N.shows (arc_value n)) self.new.shown.news) }
+        ensures { RunsOn S.answers S.informs self.old self.new }
     {
         let Ok(told) = Arc::try_clone(&news) else {
             return;
@@ -264,7 +301,7 @@ where
 
     // Has each subscriber take its turn.
     fn enqueue_subscribers(&mut self)
-        ensures { self.new.shown ≡ self.old.shown }
+        ensures { KeepsOn self.old self.new }
     {
         for key in 0..self.members.capacity() {
             if let Some(member) = self.members.get_mut(key)
@@ -277,7 +314,7 @@ where
 
     // Begins a connection that was handed in.
     fn begin(&mut self, stream: TcpStream, role: Role, now: u64)
-        ensures { self.new.shown ≡ self.old.shown }
+        ensures { KeepsOn self.old self.new }
     {
         if self.admit(stream, role, now).is_err() {
             self.counts.left(role);
@@ -285,7 +322,7 @@ where
     }
 
     fn admit(&mut self, stream: TcpStream, role: Role, now: u64) -> io::Result<()>
-        ensures { self.new.shown ≡ self.old.shown }
+        ensures { KeepsOn self.old self.new }
     {
         let mut stream = mio::net::TcpStream::from_std(stream);
         let key = self.members.vacant_key();
@@ -313,28 +350,36 @@ where
     // Ends those that kept the loop waiting for too long, and has those that are quiet let go of
     // memory.
     fn sweep(&mut self, now: u64)
-        ensures { self.new.shown ≡ self.old.shown }
+        ensures { RunsOn S.answers S.informs self.old self.new }
     {
         for key in 0..self.members.capacity() {
-            let Some(member) = self.members.get_mut(key) else {
-                continue;
-            };
-            let stays = match &mut member.kind {
-                Kind::Requests(peer) => {
-                    !peer.is_over_time(&self.limits, now)
-                        && peer.shrink(&self.beginning, &mut self.service, now)
-                }
-                Kind::Frames(subscriber) => !subscriber.is_over_time(&self.limits, now),
-            };
-            if !stays {
-                self.remove(key);
-            }
+            self.tend(key, now);
         }
+    }
+
+    fn tend(&mut self, key: usize, now: u64)
+        ensures { RunsOn S.answers S.informs self.old self.new }
+    {
+        if self.look_after(key, now) {
+            return;
+        }
+        self.remove(key);
+    }
+
+    // Answers whether this one may go on.
+    fn look_after(&mut self, key: usize, now: u64) -> bool
+        ensures { RunsOn S.answers S.informs self.old self.new }
+    {
+        let Some(member) = self.members.get_mut(key) else {
+            return true;
+        };
+        !member.is_over_time(&self.limits, now)
+            && member.shrink(&self.beginning, &mut self.service, now)
     }
 
     // Adds what happened to what is counted.
     fn tell(&mut self)
-        ensures { self.new.shown ≡ self.old.shown }
+        ensures { KeepsOn self.old self.new }
     {
         let tally = mem::replace(&mut self.service.tally, Tally::new());
         self.counts.add(&tally);
@@ -342,7 +387,7 @@ where
 
     // Ends all connections.
     fn end(&mut self)
-        ensures { self.new.shown ≡ self.old.shown }
+        ensures { KeepsOn self.old self.new }
     {
         for key in 0..self.members.capacity() {
             self.remove(key);

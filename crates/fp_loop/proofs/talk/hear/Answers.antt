@@ -1,4 +1,4 @@
-use Rattle.std.proofs.Common.{◌≡◌, ◌∙◌, subst}
+use Rattle.std.proofs.Common.{◌∙◌, subst}
 use Rattle.http_server.specs.Connection.{history}
 use Rattle.http_server.specs.History.{Rests}
 use Rattle.fp_loop.proofs.Talking.{hears_of, hears_none}

@@ -1,4 +1,3 @@
-use Rattle.std.proofs.Common.{rules, ◌≡◌}
 use Rattle.fp_loop.proofs.Frames.{is_left}
 use Rattle.fp_loop.proofs.outgoing.Outgoing.is_sending.Goals as goal
 

@@ -1,7 +1,6 @@
-use Rattle.std.proofs.Common.{rules, ◌≡◌, ◌≤◌, ◌<◌, ◌^◌, ◌∷◌, [], IsTrue, refl, sym, ap, subst, List, ℕ, ◌∙◌}
+use Rattle.std.proofs.Common.{rules, ◌≡◌, ◌<◌, ◌^◌, subst}
 use Rattle.fp_stream.specs.Heads.{IsNewer}
 use Rattle.fp_loop.proofs.Frames.{tells_begun}
-use Rattle.fp_loop.specs.Outgoing.{rest_of}
 use Rattle.std.specs.Arc.{arc_value}
 use Rattle.fp_loop.proofs.outgoing.Outgoing.offer.Goals as goal
 

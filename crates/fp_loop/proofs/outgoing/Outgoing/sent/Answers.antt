@@ -1,7 +1,7 @@
-use Rattle.std.proofs.Common.{rules, ◌≡◌, ◌≤◌, ◌+◌, ◌-◌, ◌++◌, ◌∷◌, ◌∙◌, [], IsTrue, refl, sym, ap, subst, List, ℕ, arith, length, drop, Some}
+use Rattle.std.proofs.Common.{◌≤◌, ◌-◌, ◌++◌, ◌∙◌, refl, sym, ap, subst, arith, length, drop}
 use Rattle.std.proofs.lemmas.List.{length-drop, drop-drop}
 use Rattle.std.specs.Arc.{arc_value}
-use Rattle.fp_loop.specs.Outgoing.{left_of, rest_of}
+use Rattle.fp_loop.specs.Outgoing.{left_of}
 use Rattle.fp_loop.proofs.Frames.{tells_sent}
 use Rattle.fp_loop.proofs.outgoing.Outgoing.sent.Goals as goal
 

@@ -1,4 +1,4 @@
-use Rattle.std.proofs.Common.{rules, ◌≡◌}
+use Rattle.std.proofs.Common.{rules}
 use Rattle.fp_loop.proofs.Frames.{is_not_left}
 use Rattle.fp_loop.proofs.outgoing.Outgoing.takes.Goals as goal
 

@@ -1,4 +1,4 @@
-use Rattle.std.proofs.Common.{◌≡◌, sym, subst}
+use Rattle.std.proofs.Common.{sym, subst}
 use Rattle.http_server.specs.Connection.{history}
 use Rattle.fp_loop.specs.Talks.{Talks}
 use Rattle.fp_loop.specs.Peers.{config_of, history_of}

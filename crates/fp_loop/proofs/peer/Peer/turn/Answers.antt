@@ -1,4 +1,4 @@
-use Rattle.std.proofs.Common.{◌≡◌, ◌∙◌, ap, refl, Some}
+use Rattle.std.proofs.Common.{◌∙◌, ap, refl, Some}
 use Rattle.http_server.proofs.Theorems.{always_served}
 use Rattle.fp_loop.specs.Peers.{config_of, history_of}
 use Rattle.fp_loop.proofs.Talking.{talks_none, talks_then}

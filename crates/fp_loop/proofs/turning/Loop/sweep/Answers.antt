@@ -1,0 +1,6 @@
+use Rattle.fp_loop.proofs.Courses.{runs_then}
+use Rattle.fp_loop.proofs.turning.Loop.sweep.Goals as goal
+
+pub loop-key-preserved : goal.loop-key-preserved
+loop-key-preserved g c =
+    runs_then g.S.Service.answers g.S.Informed.informs _ _ _ c.loop-key.invariant c.tend.ensures
