@@ -2,7 +2,7 @@
 
 use crate::clients::{connect, evaluated};
 use crate::running::{Pipes, address, both_ends};
-use fp_relay::{Host, options_of, relay};
+use fp_relay::{Host, SystemFiles, options_of, relay};
 use fp_streams::FailureCounted;
 use fp_transcript::Text;
 use std::alloc::{AllocGlobal, Global};
@@ -140,7 +140,7 @@ fn started<R: Host>(rt: &R, plain: HostRuntime, words: Vec<String>) -> Option<Ru
     let words = full_words(alloc, &words)?;
     let (own, theirs) = both_ends(plain)?;
     let copy = *rt;
-    let thread = thread::spawn(rt, move || run(&copy, &words, theirs)).ok()?;
+    let thread = thread::spawn(rt, move || run(&copy, plain, &words, theirs)).ok()?;
     let mut pipes = own;
     Some(Running {
         ofrep: address(alloc, &mut pipes.output, "ofrep ")?,
@@ -152,7 +152,7 @@ fn started<R: Host>(rt: &R, plain: HostRuntime, words: Vec<String>) -> Option<Ru
 }
 
 // Relays as the words say, and gives the fault that ended it.
-fn run<R: Host>(rt: &R, words: &[String], pipes: Pipes) -> String {
+fn run<R: Host>(rt: &R, plain: HostRuntime, words: &[String], pipes: Pipes) -> String {
     let mut said = Text::new(rt.alloc());
     let mut texts = Vec::new(rt.alloc());
     for word in words {
@@ -163,7 +163,8 @@ fn run<R: Host>(rt: &R, words: &[String], pipes: Pipes) -> String {
     let mut w = FailureCounted::new(output);
     match options_of(rt.alloc(), &texts) {
         Ok(options) => {
-            if let Err(fault) = relay(rt, options, &mut r, &mut w) {
+            let files = SystemFiles::of(plain);
+            if let Err(fault) = relay(rt, files, options, &mut r, &mut w) {
                 said.shown(&fault);
             }
         }
