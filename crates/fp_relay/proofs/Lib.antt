@@ -1,3 +1,4 @@
 pub mod News
 pub mod OneFrame
 pub mod Followed
+pub mod KeptFiles

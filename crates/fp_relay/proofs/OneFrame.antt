@@ -1,6 +1,6 @@
 -- Bytes that are one frame, and what a decoder gives of them.
-use Rattle.std.proofs.Common.{◌≡◌, ◌≢◌, ℕ, ◌+◌, List, [], ◌∷◌, ◌++◌, length, None, Some, refl, sym, ap, subst, ◌∙◌, append-nil, length-append, arith}
-use Rattle.std.proofs.lemmas.List.{nil_from_length}
+use Rattle.std.proofs.Common.{◌≡◌, ◌≢◌, ℕ, ◌+◌, List, [], ◌∷◌, ◌++◌, length, None, Some, refl, sym, ap, subst, ◌∙◌, append-nil, length-append, get_or, arith}
+use Rattle.std.proofs.lemmas.List.{nil_from_length, length-map}
 use Rattle.fp_stream.specs.declared.frame.Frame.{Frame}
 use Rattle.fp_stream.specs.declared.hello.Hello.TheVariants.{Nothing}
 use Rattle.fp_stream.specs.Decoding.{HasRead, Reader}
@@ -33,3 +33,15 @@ pub given : IsReadBack → (text : List ℕ) (frames : List Frame) (now : Reader
 given law text frames now h s lawful is =
     law (s ∷ []) (snapshots_of frames) now (lawful, tt)
     (subst (λ (t : List ℕ). HasRead Nothing t (snapshots_of frames) now) (is ∙ sym (append-nil (frame_of s))) h)
+
+-- where a frame's body stands in the length of all
+first_size : List Snapshot → ℕ
+first_size [] = 0
+first_size (s ∷ ss) = length s.document
+
+pub by_size : (text : List ℕ) (items : List Frame) (s : Snapshot) (d : Frame) → snapshots_of items ≡ s ∷ [] → text ≡ frame_of s → length (get_or items 0 d).body.items + 16 ≡ length text
+by_size text [] s d one is = let n = ap length one in absurd (omega (arith, n))
+by_size text (f ∷ rest) s d one is = let size = ap first_size one in let all = ap length is in omega (arith, size, all, frame-length s)
+
+pub one-length : (items : List Frame) (s : Snapshot) → snapshots_of items ≡ s ∷ [] → length items ≡ 1
+one-length items s one = sym (length-map snapshot_of items) ∙ ap length one

@@ -1,5 +1,9 @@
 //! The file in which the last frame is kept.
 
+ghost use Rattle.std.specs.Prelude.{IfOk, IfSome};
+ghost use Rattle.fp_stream.specs.Frames.{snapshot_of};
+ghost use Rattle.fp_relay.specs.Kept.{IsCarried};
+
 use crate::kept::{KeptParts, decode};
 use fp_stream::Frame;
 use std::alloc::{AllocError, Global};
@@ -40,7 +44,9 @@ impl KeptFile {
     }
 
     /// The frame that is kept; `None` where there is no file, or none of a frame.
-    pub fn read<K: Files>(&self, alloc: Global, files: &K) -> io::Result<Option<Frame>> {
+    pub fn read<K: Files>(&self, alloc: Global, files: &K) -> io::Result<Option<Frame>>
+        ensures { IfOk result (λ found. IfSome found (λ f. IsCarried (snapshot_of f))) }
+    {
         let about = files.metadata(self.path.as_str())?;
         if !about.is_file() || about.len() > LONGEST {
             return Ok(None);
@@ -48,7 +54,8 @@ impl KeptFile {
         let mut file = File::open(files, self.path.as_str())?;
         let mut bytes = Vec::new(alloc);
         file.read_to_end(&mut bytes)?;
-        Ok(decode(alloc, &bytes)?)
+        let kept = decode(alloc, &bytes)?;
+        Ok(kept)
     }
 
     /// Keeps a frame in place of the one before: written beside it and synced, it takes its place.
