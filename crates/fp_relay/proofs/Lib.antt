@@ -1,4 +1,5 @@
 pub mod News
 pub mod OneFrame
 pub mod Followed
-pub mod KeptFiles
+pub mod Digests
+pub mod Crossing

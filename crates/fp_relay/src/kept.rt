@@ -80,10 +80,10 @@ pub fn decode(alloc: Global, bytes: &[u8]) -> Result<Option<Frame>, AllocError>
         return Ok(None);
     }
     let (text, digest) = bytes.split_at(bytes.len() - DIGEST);
-    if !is_digest(digest, text) {
-        return Ok(None);
+    if is_digest(digest, text) {
+        return only_frame(alloc, text);
     }
-    only_frame(alloc, text)
+    Ok(None)
 }
 
 // Whether the first is the digest of the second.

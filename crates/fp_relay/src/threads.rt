@@ -4,6 +4,7 @@ use crate::cross_origin::Origins;
 use crate::following::{Showing, follow_source};
 use crate::host::Host;
 use crate::keeping::KeptFile;
+use crate::kept_files::KeptFiles;
 use crate::numbers::Numbers;
 use crate::ports::{Port, Ports};
 use crate::restoring::restored;
@@ -54,7 +55,12 @@ pub struct Relaying {
 
 impl Relaying {
     /// Begins all of them.
-    pub fn begin<R: Host>(rt: &R, options: Options<'_>, ports: &Ports) -> io::Result<Relaying> {
+    pub fn begin<R: Host, K: KeptFiles + Send + 'static>(
+        rt: &R,
+        files: K,
+        options: Options<'_>,
+        ports: &Ports,
+    ) -> io::Result<Relaying> {
         let alloc = rt.alloc();
         let mut relaying = Relaying {
             loops: Arc::new(alloc, Loops::new(alloc))?,
@@ -67,7 +73,7 @@ impl Relaying {
         };
         relaying.begin_loops(rt, Arc::new(alloc, options.origins)?)?;
         relaying.begin_status(rt)?;
-        relaying.begin_source(rt, options.source, options.keep)?;
+        relaying.begin_source(rt, files, options.source, options.keep)?;
         relaying.let_in(rt, ports, options.connections)?;
         Ok(relaying)
     }
@@ -130,9 +136,10 @@ impl Relaying {
     }
 
     // Who follows the source, from what was kept on; and who keeps.
-    fn begin_source<R: Host>(
+    fn begin_source<R: Host, K: KeptFiles + Send + 'static>(
         &mut self,
         rt: &R,
+        files: K,
         source: SocketAddrV4,
         keep: Option<&str>,
     ) -> io::Result<()> {
@@ -149,9 +156,9 @@ impl Relaying {
         let mut last = Hello::Nothing;
         if let Some(path) = keep {
             let file = KeptFile::at(alloc, path)?;
-            last = restored(rt, &file, &mut showing);
+            last = restored(rt, &files, &file, &showing);
             showing.shelf = Some(Arc::try_clone(&self.shelf)?);
-            self.begin_keeping(rt, file)?;
+            self.begin_keeping(rt, files, file)?;
         }
         let own = *rt;
         let follow = move || follow_source(&own, source, last, showing);
@@ -160,10 +167,15 @@ impl Relaying {
         Ok(())
     }
 
-    fn begin_keeping<R: Host>(&mut self, rt: &R, file: KeptFile) -> io::Result<()> {
+    fn begin_keeping<R: Host, K: KeptFiles + Send + 'static>(
+        &mut self,
+        rt: &R,
+        files: K,
+        file: KeptFile,
+    ) -> io::Result<()> {
         let own = *rt;
         let shelf = Arc::try_clone(&self.shelf)?;
-        let begun = thread::spawn(rt, move || shelf.keep_all(&own, &file));
+        let begun = thread::spawn(rt, move || shelf.keep_all(&own, &files, &file));
         Ok(self.threads.push(begun?)?)
     }
 
