@@ -2,14 +2,16 @@
 #![tactic(auto)]
 
 use fp_log::{Reported, Source, Stamped};
-use fp_relay::{Host, WordsFault, options_of, relay};
+use fp_relay::{Host, SystemFiles, WordsFault, options_of, relay};
 use fp_streams::FailureCounted;
 use log::{LevelFilter, Logged};
 use std::alloc::AllocGlobal;
 use std::env;
+use std::fs::File;
 use std::io::{Read, Write};
 use std::net::{TcpListener, TcpStream};
 use std::process::ExitCode;
+use std::rt::Files;
 
 // The status where the words ask for nothing that can be done, and where a fault ended it.
 const NO_TASK: u8 = 2;
@@ -39,7 +41,7 @@ fn words(rt: &HostRuntime) -> Option<Vec<String>> {
 // Relays as the words say, and answers the program's status.
 fn run<R, I, O, E>(rt: &R, words: &[&str], input: I, output: O, errors: E) -> u8
 where
-    R: Host,
+    R: Host + Files<File = File>,
     I: Read + Drop,
     O: Write + Drop,
     E: Write + Drop,
@@ -58,7 +60,8 @@ where
             return NO_TASK;
         }
     };
-    match relay(rt, options, &mut r, &mut w) {
+    let files = SystemFiles::of(*rt);
+    match relay(rt, files, options, &mut r, &mut w) {
         Ok(()) => 0,
         Err(fault) => {
             let _ = e.say(&format_args!("flagrelay: {fault}"));

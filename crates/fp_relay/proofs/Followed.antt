@@ -1,8 +1,8 @@
 -- What was shown of what a source sent so far.
-use Rattle.std.proofs.Common.{◌≡◌, ℕ, List, [], ◌++◌, Option, Result, Ok, Err, refl, sym, ap, subst, ◌∙◌, append_assoc, append-nil}
+use Rattle.std.proofs.Common.{◌≡◌, ℕ, List, [], ◌++◌, Option, None, Result, Ok, Err, inl, arith, refl, sym, ap, subst, ◌∙◌, append_assoc, append-nil}
 use Rattle.std.specs.Io.KnownBytes.{Consumes}
 use Rattle.std.specs.Global.{Vec}
-use Rattle.std.proofs.KnownBytes.{Consumes-trans}
+use Rattle.std.proofs.KnownBytes.{Consumes-nil, Consumes-trans}
 use Rattle.fp_stream.specs.declared.fault.FrameFault.{FrameFault}
 use Rattle.fp_stream.specs.declared.fault.FrameFault.TheVariants as frame
 use Rattle.fp_stream.specs.declared.frame.Frame.{Frame}
@@ -15,7 +15,7 @@ use Rattle.fp_relay.specs.Following.{AreShort, Shows, ShowsFront}
 use Rattle.fp_relay.specs.Ends.{Follows, IsLeft, IsSetFault, of_frame}
 use Rattle.fp_relay.specs.declared.source.SourceEnd.{SourceEnd}
 use Rattle.fp_relay.specs.declared.source.SourceEnd.TheVariants.{Closed, Device, Memory, BadFrame, NoSet}
-use Rattle.fp_relay.proofs.News.{shows-more, short-behind, short-of_news}
+use Rattle.fp_relay.proofs.News.{shows-more, shows-none, short-behind, short-of_news}
 
 module _ (reads left : Option (List ℕ)) (last now : Hello) (old new : List Snapshot) (bytes : List ℕ) (frames : List Snapshot) (d : Reader) (h : HasRead Nothing bytes frames d)
     (came : Consumes reads left bytes) (shows : Shows last now old new frames) where
@@ -32,6 +32,21 @@ module _ (reads left : Option (List ℕ)) (last now : Hello) (old new : List Sna
     read = subst (λ (l : List Snapshot). Reads Nothing bytes l h.rest h.fault) (sym (append-nil frames)) h.reads;
     shows = shows;
     looked_at = none;
+  }
+
+  -- the source has no more
+  pub followed-end : (now_left : Option (List ℕ)) → Consumes left now_left [] → Follows reads now_left last now old new Closed
+  followed-end now_left step = record {
+    bytes = bytes;
+    lost = [];
+    frames = frames;
+    behind = [];
+    rest = h.rest;
+    fault = h.fault;
+    came = Consumes-trans reads left now_left bytes [] came step;
+    read = subst (λ (l : List Snapshot). Reads Nothing bytes l h.rest h.fault) (sym (append-nil frames)) h.reads;
+    shows = shows;
+    looked_at = refl;
   }
 
   -- a piece was refused
@@ -108,3 +123,18 @@ left-of_frame frame.TooLong = refl
 left-of_frame frame.NotRising = refl
 left-of_frame frame.Memory = tt
 left-of_frame frame.Failed = refl
+
+-- nothing was read
+pub followed-not : (reads : Option (List ℕ)) (last : Hello) (seen : List Snapshot) (end : SourceEnd) → IsLeft end [] → Follows reads reads last last seen seen end
+followed-not reads last seen end none = record {
+  bytes = [];
+  lost = [];
+  frames = [];
+  behind = [];
+  rest = [];
+  fault = None;
+  came = Consumes-nil reads;
+  read = record { whole = refl; news = tt; stops = inl (omega arith) };
+  shows = shows-none last seen;
+  looked_at = none;
+}

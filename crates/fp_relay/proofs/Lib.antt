@@ -1,3 +1,5 @@
 pub mod News
 pub mod OneFrame
 pub mod Followed
+pub mod Digests
+pub mod Crossing

@@ -5,14 +5,17 @@ use Rattle.fp_stream.specs.declared.hello.Hello.TheVariants.{Nothing, Has}
 use Rattle.fp_stream.specs.Frames.{Snapshot, AreNews, has_after}
 use Rattle.fp_relay.specs.Following.{AreShort, Shows, is_news, news}
 
--- who has these news has them in turn
-pub news-append : (last : Hello) (a b : List Snapshot) → news last (a ++ b) ≡ news last a ++ news (has_after last (news last a)) b
+-- the news of two parts are those of the first, and of the second to who has those
+abbrev pub InTurn : List Snapshot → List Snapshot → Hello → Type 0
+InTurn a b last = news last (a ++ b) ≡ news last a ++ news (has_after last (news last a)) b
+
+with_one : (last : Hello) (s : Snapshot) (a b : List Snapshot) (t : Bool) → is_news last s.revision ≡ t → ((l : Hello) → InTurn a b l) → InTurn (s ∷ a) b last
+with_one last s a b true e others = rw e (ap (λ (l : List Snapshot). s ∷ l) (others (Has s.revision)))
+with_one last s a b false e others = rw e (others last)
+
+pub news-append : (last : Hello) (a b : List Snapshot) → InTurn a b last
 news-append last [] b = refl
-news-append last (s ∷ a) b = by_test (is_news last s.revision) refl
-  where
-    by_test : (t : Bool) → is_news last s.revision ≡ t → news last ((s ∷ a) ++ b) ≡ news last (s ∷ a) ++ news (has_after last (news last (s ∷ a))) b
-    by_test true e = rw e (ap (λ (l : List Snapshot). s ∷ l) (news-append (Has s.revision) a b))
-    by_test false e = rw e (news-append last a b)
+news-append last (s ∷ a) b = with_one last s a b (is_news last s.revision) refl (λ l. news-append l a b)
 
 pub has_after-append : (last : Hello) (a b : List Snapshot) → has_after last (a ++ b) ≡ has_after (has_after last a) b
 has_after-append last [] b = refl

@@ -8,7 +8,7 @@ use Rattle.fp_edit.specs.Flags.{State}
 use Rattle.fp_ofrep.specs.Reply.{reply}
 use Rattle.fp_ofrep.specs.Response as ofrep
 use Rattle.fp_ofrep.specs.Route.{route_of}
-use Rattle.fp_shown.specs.Sets.{IsSetOf}
+use Rattle.fp_shown.specs.Sets.{IsLawful, IsSetOf}
 use Rattle.fp_stream.specs.Frames.{Snapshot}
 use Rattle.fp_relay.specs.Asking.{Asked}
 use Rattle.fp_relay.specs.CrossOrigin.{Allowed, allowed, and_allowing, and_leave, and_one}
@@ -84,6 +84,6 @@ IsSent answer response = IsResponse answer.status answer.fields answer.body resp
 -- a response to a request where this is shown
 abbrev pub Responds : Option Snapshot → List (List ℕ) → Asked → ℕ → Response → Type 0
 Responds None origins asked now response = IsSent (answer_from None origins asked now) response
-Responds (Some snapshot) origins asked now response = (set : State)
+Responds (Some snapshot) origins asked now response = (set : State) × IsLawful set
     × IsSetOf snapshot.revision snapshot.document set
     × IsSent (answer_from (Some set) origins asked now) response

@@ -1,5 +1,7 @@
 //! The thread that follows the source, for as long as the program runs.
 
+ghost use Rattle.std.specs.Prelude.{[], ◌∷◌};
+
 use crate::backoff::delay;
 use crate::events::{Event, tell, tell_failure};
 use crate::host::Host;
@@ -8,6 +10,7 @@ use crate::probing::probe_peer;
 use crate::set::Set;
 use crate::shelf::Shelf;
 use crate::source::{Audience, SourceEnd, follow};
+use fp_fronts::{Growing, Lists};
 use fp_loop::{Loops, News};
 use fp_shown::Shown;
 use fp_stream::Hello;
@@ -32,11 +35,20 @@ pub struct Showing<R: Drop> {
     pub shelf: Option<Arc<Shelf, Global>>,
     /// Whether the connection that stands gave a frame.
     pub has_heard: bool,
+    /// What was shown so far, in proofs alone.
+    pub seen: Growing<Set>,
+}
+
+// A set alone, as what is behind others.
+struct OfSet;
+
+impl Lists<Set, Set> for OfSet {
+    ghost items = { λ set. set ∷ [] };
 }
 
 impl<R: Host> Showing<R> {
     /// Shows a set to the loops.
-    pub fn show_set(&mut self, set: &Arc<Set, Global>) -> Result<(), AllocError> {
+    pub fn show_set(&self, set: &Arc<Set, Global>) -> Result<(), AllocError> {
         let (revision, flags) = (set.revision(), set.shown().set().len() as u64);
         self.loops.post_news(&self.rt, set)?;
         self.numbers.show(revision, flags);
@@ -46,6 +58,8 @@ impl<R: Host> Showing<R> {
 }
 
 impl<R: Host> Audience for Showing<R> {
+    ghost seen = { λ s. s.seen.log };
+
     fn note(&mut self, revision: u64, last: Hello) {
         self.numbers.note(revision);
         if let Hello::Has(shown) = last
@@ -66,6 +80,7 @@ impl<R: Host> Audience for Showing<R> {
         if let Some(shelf) = &self.shelf {
             shelf.put(&self.rt, kept);
         }
+        self.seen.lengthen::<Set, OfSet>(&set);
         Ok(())
     }
 }
@@ -119,7 +134,7 @@ fn tell_end<R: Host>(
     ended: &io::Result<SourceEnd>,
     wait: Duration,
 ) {
-    let milliseconds = wait.as_millis() as u64;
+    let milliseconds = wait.as_millis().min(u64::MAX as u128) as u64;
     match ended {
         Ok(end) => tell(
             rt,

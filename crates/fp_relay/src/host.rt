@@ -2,23 +2,20 @@
 
 use log::Log;
 use std::alloc::AllocGlobal;
-use std::fs::File;
 use std::net::{Net, TcpListener, TcpStream};
 use std::random::RandomSource;
-use std::rt::Files;
 use std::sync::Wait;
 use std::thread::Threads;
 use std::time::Clock;
 
-/// A runtime with threads, sockets, files, memory, a clock, random numbers and a log, which each
-/// thread has a copy of.
+/// A runtime with threads, sockets, memory, a clock, random numbers and a log, which each thread
+/// has a copy of.
 pub trait Host: Wait
     + Threads
     + Clock
     + RandomSource
     + AllocGlobal
     + Net<Listener = TcpListener, Stream = TcpStream>
-    + Files<File = File>
     + Log
     + Copy
     + Send
@@ -34,7 +31,6 @@ where
         + RandomSource
         + AllocGlobal
         + Net<Listener = TcpListener, Stream = TcpStream>
-        + Files<File = File>
         + Log
         + Copy
         + Send

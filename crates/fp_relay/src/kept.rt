@@ -1,8 +1,8 @@
 //! The frame that is kept over restarts, as bytes: the frame, and the SHA-256 of its bytes.
 
-ghost use Rattle.std.specs.Prelude.{◌≡◌, ◌≤◌, ◌++◌, ◌<◌, ◌^◌, length, IfOk};
+ghost use Rattle.std.specs.Prelude.{◌≡◌, ◌≤◌, ◌++◌, [], ℕ, List, Err, length, IfOk, IsTrue, ◌↔◌};
 ghost use Rattle.sha2.specs.Sha256.{sha256};
-ghost use Rattle.fp_stream.specs.Decoding.{HasRead, Reader};
+ghost use Rattle.fp_stream.specs.Decoding.{HasRead, Reader, bytes_taken};
 ghost use Rattle.fp_stream.specs.Frames.{Snapshot, snapshots_of};
 ghost use Rattle.fp_stream.specs.Heads.{head};
 ghost use Rattle.fp_stream.specs.declared.head.TheConstants.{MOST_BODY};
@@ -80,10 +80,17 @@ pub fn decode(alloc: Global, bytes: &[u8]) -> Result<Option<Frame>, AllocError>
         return Ok(None);
     }
     let (text, digest) = bytes.split_at(bytes.len() - DIGEST);
-    if digest != digest_in(text).as_slice() {
-        return Ok(None);
+    if is_digest(digest, text) {
+        return only_frame(alloc, text);
     }
-    only_frame(alloc, text)
+    Ok(None)
+}
+
+// Whether the first is the digest of the second.
+fn is_digest(digest: &[u8], text: &[u8]) -> bool
+    ensures { IsTrue result ↔ (digest.now ≡ sha256 text.now) }
+{
+    digest == digest_in(text).as_slice()
 }
 
 // The one frame that the bytes are.
@@ -92,7 +99,10 @@ fn only_frame(alloc: Global, text: &[u8]) -> Result<Option<Frame>, AllocError>
 {
     what_is_written_is_read();
     let mut frames = whole_frames(alloc, text)?;
-    if frames.len() != 1 || frames[0].body.len() + HEAD != text.len() {
+    if frames.len() != 1 {
+        return Ok(None);
+    }
+    if frames[0].body.len() + HEAD != text.len() {
         return Ok(None);
     }
     Ok(frames.pop())
@@ -106,7 +116,20 @@ fn whole_frames(alloc: Global, text: &[u8]) -> Result<Vec<Frame>, AllocError>
     let mut decoder = Decoder::new(alloc, Hello::Nothing);
     match decoder.feed(alloc, text) {
         Ok(frames) => Ok(frames),
-        Err(FrameFault::Memory) => Err(AllocError),
-        Err(_) => Ok(Vec::new(alloc)),
+        Err(fault) => no_frames(alloc, fault),
+    }
+}
+
+// None at all, but where memory was wanting to read them.
+fn no_frames(alloc: Global, fault: FrameFault) -> Result<Vec<Frame>, AllocError>
+    ensures { IfOk result (λ frames. (frames.items ≡ [])
+        × ((text : List ℕ) → bytes_taken (Err fault) text ≡ text)) }
+{
+    match fault {
+        FrameFault::Memory => Err(AllocError),
+        FrameFault::BadMagic => Ok(Vec::new(alloc)),
+        FrameFault::TooLong => Ok(Vec::new(alloc)),
+        FrameFault::NotRising => Ok(Vec::new(alloc)),
+        FrameFault::Failed => Ok(Vec::new(alloc)),
     }
 }

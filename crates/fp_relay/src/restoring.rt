@@ -4,6 +4,7 @@ use crate::events::{Event, tell, tell_failure};
 use crate::following::Showing;
 use crate::host::Host;
 use crate::keeping::KeptFile;
+use crate::kept_files::KeptFiles;
 use crate::set::Set;
 use fp_shown::Shown;
 use fp_stream::{Frame, Hello};
@@ -12,8 +13,13 @@ use std::io::ErrorKind;
 use std::sync::Arc;
 
 /// Shows what the file keeps, and answers what is shown then.
-pub fn restored<R: Host>(rt: &R, file: &KeptFile, showing: &mut Showing<R>) -> Hello {
-    match restore(rt, file, showing) {
+pub fn restored<R: Host, K: KeptFiles>(
+    rt: &R,
+    files: &K,
+    file: &KeptFile,
+    showing: &Showing<R>,
+) -> Hello {
+    match restore(rt, files, file, showing) {
         Ok(Some(revision)) => Hello::Has(revision),
         Ok(None) => {
             let path = file.path();
@@ -29,12 +35,13 @@ pub fn restored<R: Host>(rt: &R, file: &KeptFile, showing: &mut Showing<R>) -> H
 }
 
 // The revision that is shown; `None` where the file keeps no set.
-fn restore<R: Host>(
+fn restore<R: Host, K: KeptFiles>(
     rt: &R,
+    files: &K,
     file: &KeptFile,
-    showing: &mut Showing<R>,
+    showing: &Showing<R>,
 ) -> io::Result<Option<u64>> {
-    let Some(frame) = file.read(rt.alloc(), rt)? else {
+    let Some(frame) = file.read(rt.alloc(), files)? else {
         return Ok(None);
     };
     let Ok(shown) = Shown::of_frame(rt.alloc(), frame) else {

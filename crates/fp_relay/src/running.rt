@@ -1,6 +1,7 @@
 //! A relay over sockets, from its start to its end.
 
 use crate::host::Host;
+use crate::kept_files::KeptFiles;
 use crate::ports::Ports;
 use crate::threads::Relaying;
 use crate::words::Options;
@@ -53,19 +54,21 @@ impl From<StreamFault> for RelayFault {
 }
 
 /// Relays what the source shows, as the options say, until the input ends.
-pub fn relay<R, I, O>(
+pub fn relay<R, K, I, O>(
     rt: &R,
+    files: K,
     options: Options<'_>,
     r: &mut FailureCounted<I>,
     w: &mut FailureCounted<O>,
 ) -> Result<(), RelayFault>
 where
     R: Host,
+    K: KeptFiles + Send + 'static,
     I: Read,
     O: Write,
 {
     let ports = Ports::bind(rt, &options)?;
-    let relaying = Relaying::begin(rt, options, &ports)?;
+    let relaying = Relaying::begin(rt, files, options, &ports)?;
     let served = serve(&ports, r, w);
     relaying.end(rt, &ports);
     served

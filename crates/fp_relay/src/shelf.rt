@@ -4,6 +4,7 @@ use crate::events::{Event, tell_failure};
 use crate::host::Host;
 use crate::keeping::KeptFile;
 use crate::kept::parts_of;
+use crate::kept_files::KeptFiles;
 use crate::set::Set;
 use fp_loop::News;
 use std::alloc::Global;
@@ -52,12 +53,12 @@ impl Shelf {
     }
 
     /// Keeps what is put down, until it is closed and nothing is left.
-    pub fn keep_all<R: Host>(&self, rt: &R, file: &KeptFile) {
+    pub fn keep_all<R: Host, K: KeptFiles>(&self, rt: &R, files: &K, file: &KeptFile) {
         for _ in rt.forever() {
             let Some(set) = self.take(rt) else {
                 return;
             };
-            self.keep(rt, file, &set);
+            self.keep(rt, files, file, &set);
         }
     }
 
@@ -77,10 +78,10 @@ impl Shelf {
     }
 
     // Keeps a set, and tries again until a newer one is there.
-    fn keep<R: Host>(&self, rt: &R, file: &KeptFile, set: &Set) {
+    fn keep<R: Host, K: KeptFiles>(&self, rt: &R, files: &K, file: &KeptFile, set: &Set) {
         for _ in rt.forever() {
             let parts = parts_of(set.revision(), set.document());
-            let Err(reason) = file.keep(rt, &parts) else {
+            let Err(reason) = file.keep(files, &parts) else {
                 return;
             };
             let path = file.path();

@@ -4,6 +4,7 @@ use crate::cross_origin::Origins;
 use crate::following::{Showing, follow_source};
 use crate::host::Host;
 use crate::keeping::KeptFile;
+use crate::kept_files::KeptFiles;
 use crate::numbers::Numbers;
 use crate::ports::{Port, Ports};
 use crate::restoring::restored;
@@ -11,14 +12,15 @@ use crate::services::{Evaluations, StatusPages};
 use crate::set::Set;
 use crate::shelf::Shelf;
 use crate::words::Options;
-use fp_loop::{Counts, Door, Informed, Limits, Loop, Loops, Role};
+use fp_fronts::Growing;
+use fp_loop::{Counts, Door, Informed, Limits, Listening, Loop, Loops, Role};
 use fp_stream::Hello;
 use std::alloc::Global;
 use std::io;
 use std::net::SocketAddrV4;
 use std::sync::Arc;
 use std::thread;
-use std::thread::{JoinHandle, SpawnError};
+use std::thread::JoinHandle;
 
 // The most loops, each of which has a thread.
 const MOST_LOOPS: usize = 64;
@@ -53,7 +55,12 @@ pub struct Relaying {
 
 impl Relaying {
     /// Begins all of them.
-    pub fn begin<R: Host>(rt: &R, options: Options<'_>, ports: &Ports) -> io::Result<Relaying> {
+    pub fn begin<R: Host, K: KeptFiles + Send + 'static>(
+        rt: &R,
+        files: K,
+        options: Options<'_>,
+        ports: &Ports,
+    ) -> io::Result<Relaying> {
         let alloc = rt.alloc();
         let mut relaying = Relaying {
             loops: Arc::new(alloc, Loops::new(alloc))?,
@@ -66,7 +73,7 @@ impl Relaying {
         };
         relaying.begin_loops(rt, Arc::new(alloc, options.origins)?)?;
         relaying.begin_status(rt)?;
-        relaying.begin_source(rt, options.source, options.keep)?;
+        relaying.begin_source(rt, files, options.source, options.keep)?;
         relaying.let_in(rt, ports, options.connections)?;
         Ok(relaying)
     }
@@ -125,17 +132,14 @@ impl Relaying {
     {
         let one: Loop<S, Set> = Loop::new(rt, rt.alloc(), service, LIMITS, counts)?;
         loops.add(one.inbox()?)?;
-        let own = *rt;
-        self.keep(thread::spawn(rt, move || {
-            let mut one = one;
-            one.run(&own);
-        }))
+        Ok(self.threads.push(one.start(rt)?)?)
     }
 
     // Who follows the source, from what was kept on; and who keeps.
-    fn begin_source<R: Host>(
+    fn begin_source<R: Host, K: KeptFiles + Send + 'static>(
         &mut self,
         rt: &R,
+        files: K,
         source: SocketAddrV4,
         keep: Option<&str>,
     ) -> io::Result<()> {
@@ -147,27 +151,32 @@ impl Relaying {
             numbers: Arc::try_clone(&self.numbers)?,
             shelf: None,
             has_heard: false,
+            seen: Growing::new().0,
         };
         let mut last = Hello::Nothing;
         if let Some(path) = keep {
             let file = KeptFile::at(alloc, path)?;
-            last = restored(rt, &file, &mut showing);
+            last = restored(rt, &files, &file, &showing);
             showing.shelf = Some(Arc::try_clone(&self.shelf)?);
-            self.begin_keeping(rt, file)?;
+            self.begin_keeping(rt, files, file)?;
         }
         let own = *rt;
         let follow = move || follow_source(&own, source, last, showing);
         // It waits for the source when the program ends, which cuts it off.
-        match thread::spawn(rt, follow) {
-            Ok(_thread) => Ok(()),
-            Err(refused) => Err(io::Error::from(refused)),
-        }
+        let _following = thread::spawn(rt, follow)?;
+        Ok(())
     }
 
-    fn begin_keeping<R: Host>(&mut self, rt: &R, file: KeptFile) -> io::Result<()> {
+    fn begin_keeping<R: Host, K: KeptFiles + Send + 'static>(
+        &mut self,
+        rt: &R,
+        files: K,
+        file: KeptFile,
+    ) -> io::Result<()> {
         let own = *rt;
         let shelf = Arc::try_clone(&self.shelf)?;
-        self.keep(thread::spawn(rt, move || shelf.keep_all(&own, &file)))
+        let begun = thread::spawn(rt, move || shelf.keep_all(&own, &files, &file));
+        Ok(self.threads.push(begun?)?)
     }
 
     // Who lets connections in, a thread a port.
@@ -199,16 +208,6 @@ impl Relaying {
     }
 
     fn attend<R: Host>(&mut self, rt: &R, port: &Port, door: Door<Set>) -> io::Result<()> {
-        let own = *rt;
-        let port = Arc::try_clone(port)?;
-        self.keep(thread::spawn(rt, move || port.accept(&own, &door)))
-    }
-
-    // Keeps a thread until the end.
-    fn keep<F: Drop>(&mut self, begun: Result<JoinHandle<()>, SpawnError<F>>) -> io::Result<()> {
-        match begun {
-            Ok(thread) => Ok(self.threads.push(thread)?),
-            Err(refused) => Err(io::Error::from(refused)),
-        }
+        Ok(self.threads.push(Listening::start(port, rt, door)?)?)
     }
 }
