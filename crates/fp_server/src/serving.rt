@@ -232,18 +232,18 @@ where
     let own = OwnHalf::new(half);
     let promise = FlushesFrom(Snapshot::of(&own));
     let began = plane.begin(own, began);
+    let here = began.again();
     let flush = move || {
         let began = began;
         flusher(&flushed, began)
     };
     match thread::spawn_with(rt, promise, flush) {
         Ok(flusher) => serve_plane(rt, &plane, flusher, services, r, w),
-        Err(refused) => {
+        Err(_refused) => {
             // What the thread was to do is done here: with nothing to seal it gives the half back.
             tell(rt, &Event::NotStarted { thread: "flusher" });
             plane.plane().close();
-            let flush = refused.value;
-            Err((CommandFault::Device, flush().half.into_half()))
+            Err((CommandFault::Device, flusher(&plane, here).half.into_half()))
         }
     }
 }

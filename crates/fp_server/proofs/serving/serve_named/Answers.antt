@@ -1,10 +1,10 @@
-use Rattle.std.proofs.Common.{rules, ◌≡◌, ◌≢◌, sym, ◌∙◌}
+use Rattle.std.proofs.Common.{rules, ◌≡◌, ◌≢◌, sym, ap, ◌∙◌, ◌∷◌, []}
 use denote.Exit.{no}
 use denote.Param.{copied, param}
 use denote.Param.Send.{arg_send, param_send}
 use Rattle.fp_commands.specs.declared.fault.CommandFault.{CommandFault}
 use Rattle.fp_commands.specs.declared.fault.CommandFault.TheVariants.{Device, Memory, StoreFailed}
-use Rattle.fp_plane.specs.Flushing.{Flushes}
+use Rattle.fp_committer.specs.StoreHalf.{StoreHalfState}
 use Rattle.fp_fronts.proofs.growing.Front.TheSendSync as front
 use Rattle.fp_plane.proofs.PlaneCrossing.{flushed_sent, sealing_plane_sent}
 use Rattle.fp_plane.specs.contracts.owned.OwnHalf as own_half
@@ -34,9 +34,15 @@ returns-in_default-clause-broken g c = untouched_half g.D.Disk c.args.half c.sti
 
 pub returns-in-Err-spawn_with-clause-broken : goal.returns-in-Err-spawn_with-clause-broken
 returns-in-Err-spawn_with-clause-broken g c =
-    let flushed : Flushes g.D.Disk c.args.half c.flush.result.half c.flush.result.ended = search rules in
+    let S = StoreHalfState g.row.D.Denot in
+    let began = c.begin-began.ensures.began ∙ ap (λ (h : S). h ∷ []) c.new-own.ensures in
+    let is : c.again-here.result.log ≡ c.args.half ∷ [] = search (rules, began) in
     rw (c.into_half.ensures) (record {
-      ended = c.flush.result.ended;
-      flushed = flushed;
+      ended = c.flusher.result.ended;
+      flushed = c.flusher.ensures c.args.half is;
       cause = λ failed. (let both : Device ≡ StoreFailed = failed in absurd cc);
     })
+
+pub returns-in-Err-new-clause-broken : goal.returns-in-Err-new-clause-broken
+returns-in-Err-new-clause-broken g c =
+    untouched_half g.D.Disk c.args.half c.still.ensures c.into-in-Err-new.result (never_failed c.into-in-Err-new.result c.into-in-Err-new.ensures)
