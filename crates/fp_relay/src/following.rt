@@ -15,12 +15,13 @@ use fp_loop::{Loops, News};
 use fp_shown::Shown;
 use fp_stream::Hello;
 use fp_streams::FailureCounted;
+use log::Log;
 use std::alloc::{AllocError, Global};
 use std::io;
 use std::net::{SocketAddrV4, TcpStream};
-use std::sync::Arc;
+use std::sync::{Arc, Wait};
 use std::thread;
-use std::time::Duration;
+use std::time::{Clock, Duration};
 
 // How long the head of a frame is.
 const HEAD: u64 = 16;
@@ -46,7 +47,7 @@ impl Lists<Set, Set> for OfSet {
     ghost items = { λ set. set ∷ [] };
 }
 
-impl<R: Host> Showing<R> {
+impl<R: Wait + Log + Drop> Showing<R> {
     /// Shows a set to the loops.
     pub fn show_set(&self, set: &Arc<Set, Global>) -> Result<(), AllocError> {
         let (revision, flags) = (set.revision(), set.shown().set().len() as u64);
@@ -57,7 +58,7 @@ impl<R: Host> Showing<R> {
     }
 }
 
-impl<R: Host> Audience for Showing<R> {
+impl<R: Wait + Clock + Log + Drop> Audience for Showing<R> {
     ghost seen = { λ s. s.seen.log };
 
     fn note(&mut self, revision: u64, last: Hello) {
