@@ -3,3 +3,4 @@ pub mod OneFrame
 pub mod Followed
 pub mod Digests
 pub mod Crossing
+pub mod Spawning

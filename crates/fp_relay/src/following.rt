@@ -15,10 +15,11 @@ use fp_loop::{Loops, News};
 use fp_shown::Shown;
 use fp_stream::Hello;
 use fp_streams::FailureCounted;
+use log::Log;
 use std::alloc::{AllocError, Global};
 use std::net::{SocketAddrV4, TcpStream};
-use std::sync::Arc;
-use std::time::Duration;
+use std::sync::{Arc, Wait};
+use std::time::{Clock, Duration};
 use std::{io, thread};
 
 // How long the head of a frame is.
@@ -45,7 +46,7 @@ impl Lists<Set, Set> for OfSet {
     ghost items = { λ set. set ∷ [] };
 }
 
-impl<R: Host> Showing<R> {
+impl<R: Wait + Log + Drop> Showing<R> {
     /// Shows a set to the loops.
     pub fn show_set(&self, set: &Arc<Set, Global>) -> Result<(), AllocError> {
         let (revision, flags) = (set.revision(), set.shown().set().len() as u64);
@@ -56,7 +57,7 @@ impl<R: Host> Showing<R> {
     }
 }
 
-impl<R: Host> Audience for Showing<R> {
+impl<R: Wait + Clock + Log + Drop> Audience for Showing<R> {
     ghost seen = { λ s. s.seen.log };
 
     fn note(&mut self, revision: u64, last: Hello) {

@@ -8,7 +8,7 @@ use crate::kept_files::KeptFiles;
 use crate::set::Set;
 use fp_loop::News;
 use std::alloc::Global;
-use std::sync::{Arc, Condvar, CondvarTimeouts, Mutex};
+use std::sync::{Arc, Condvar, CondvarTimeouts, Mutex, Wait};
 use std::time::Duration;
 
 // After how many seconds what couldn't be kept is tried again.
@@ -41,13 +41,13 @@ impl Shelf {
     }
 
     /// Puts a set down, in place of an older one that wasn't kept yet.
-    pub fn put<R: Host>(&self, rt: &R, set: Arc<Set, Global>) {
+    pub fn put<R: Wait>(&self, rt: &R, set: Arc<Set, Global>) {
         self.waiting.lock(rt).set = Some(set);
         self.changed.notify_all();
     }
 
     /// Nothing more is put down.
-    pub fn close<R: Host>(&self, rt: &R) {
+    pub fn close<R: Wait>(&self, rt: &R) {
         self.waiting.lock(rt).is_closed = true;
         self.changed.notify_all();
     }
