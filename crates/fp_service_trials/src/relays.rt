@@ -1,6 +1,6 @@
 //! Relays that run beside the service, and a source of frames that a trial plays.
 
-use crate::clients::{connect, evaluated};
+use crate::clients::{bytes_of, connect, evaluated, say};
 use crate::running::{Pipes, address, both_ends};
 use fp_relay::{Host, SystemFiles, options_of, relay};
 use fp_streams::FailureCounted;
@@ -211,4 +211,33 @@ pub fn comes<R: Host>(rt: &R, at: SocketAddr, key: &str) -> bool {
         thread::sleep(rt, Duration::from_millis(10));
     }
     false
+}
+
+/// Whether the page at this path of this port has this line within ten seconds.
+pub fn page_has<R: Host>(rt: &R, at: SocketAddr, path: &str, line: &str) -> bool {
+    for _ in 0..1000 {
+        if let Ok(stream) = connect(rt, at)
+            && has_line(rt.alloc(), &stream, path, line)
+        {
+            return true;
+        }
+        thread::sleep(rt, Duration::from_millis(10));
+    }
+    false
+}
+
+// The most bytes of a page.
+const LONGEST_PAGE: u64 = 65_536;
+
+fn has_line(alloc: Global, mut stream: &TcpStream, path: &str, line: &str) -> bool {
+    let mut request = Text::new(alloc);
+    request.push("GET ");
+    request.push(path);
+    request.push(" HTTP/1.1\r\nhost: h\r\nconnection: close\r\n\r\n");
+    if !say(stream, request.as_str().as_bytes()) {
+        return false;
+    }
+    let page = bytes_of(alloc, &mut stream, LONGEST_PAGE);
+    let text = str::from_utf8(&page).unwrap_or("");
+    text.lines().any(|it| it == line)
 }

@@ -10,7 +10,7 @@ use crate::operands::{
     bytes, course, filled, first_line, hold_of, is_at, limits_of, say_last, say_told,
 };
 use crate::program::attended;
-use crate::relays::{Relays, comes, judged};
+use crate::relays::{Relays, comes, judged, page_has};
 use crate::running::{DiskPlan, Ended, Plan, Running};
 use fp_relay::Host;
 use fp_server::TimeLimits;
@@ -91,7 +91,7 @@ const OF_SERVICE: [&str; 12] = [
 const OF_PEER: [&str; 7] = ["say", "line", "hear", "puts", "fills", "quiet", "closed"];
 
 // The words of `on_relay`.
-const OF_RELAY: [&str; 8] = [
+const OF_RELAY: [&str; 9] = [
     "relay",
     "relay-ends",
     "relay-words",
@@ -99,6 +99,7 @@ const OF_RELAY: [&str; 8] = [
     "takes",
     "leaves",
     "comes",
+    "page",
     "forget",
 ];
 
@@ -310,7 +311,7 @@ impl<R: Host> Script<R> {
     }
 
     // `relay NAME PORT WORD ..`, `relay-ends NAME`, `relay-words WORD ..`, `source`, `takes NAME`,
-    // `leaves NAME`, `forget FILE`, `comes PORT KEY`.
+    // `leaves NAME`, `forget FILE`, `comes PORT KEY`, `page PORT PATH LINE`.
     fn on_relay(&mut self, word: &str, args: &mut Args<'_>, out: &mut Text) {
         match word {
             "relay" => self.relay(args, out),
@@ -325,6 +326,9 @@ impl<R: Host> Script<R> {
             "leaves" => drop(self.peers.remove(args.word())),
             "forget" => self.log.forget(args.word()),
             _ => match self.port(args) {
+                Some(at) if word == "page" => {
+                    out.yes(page_has(&self.rt, at, args.word(), args.rest));
+                }
                 Some(at) => out.yes(comes(&self.rt, at, args.word())),
                 None => args.is_bad = true,
             },
