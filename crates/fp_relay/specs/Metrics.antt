@@ -31,27 +31,27 @@ and_shown text r = and_gauge (and_gauge (and_gauge (and_gauge (and_gauge text
     (codes "flagrelay_revision") (codes "The revision of the set that is shown.") r.revision)
     (codes "flagrelay_flags") (codes "The flags of that set.") r.flags)
     (codes "flagrelay_seconds_since_frame")
-      (codes "Seconds since a set was last taken, or since the start.") r.since_frame)
+    (codes "Seconds since a set was last taken, or since the start.") r.since_frame)
     (codes "flagrelay_seconds_since_source")
-      (codes "Seconds since a connection to the source stood, or since the start.")
-      r.since_source)
+    (codes "Seconds since a connection to the source stood, or since the start.")
+    r.since_source)
     (codes "flagrelay_source_revision")
-      (codes "The revision that the source showed last.") r.source_revision
+    (codes "The revision that the source showed last.") r.source_revision
 
 -- who came
 abbrev pub and_connections : List ℕ → Report → List ℕ
 and_connections text r = and_counter (and_counter (and_gauge text
     (codes "flagrelay_connections") (codes "Connections that are open.") r.connections)
     (codes "flagrelay_connections_total") (codes "Connections that were let in.")
-      r.connections_total)
+    r.connections_total)
     (codes "flagrelay_refused_total") (codes "Connections for which there was no place.")
-      r.refused_total
+    r.refused_total
 
 -- what was answered
 abbrev pub and_requests : List ℕ → Answered → List ℕ
 and_requests text a = and_status (and_status (and_status (and_status (and_status (and_status
     (and_status (and_status (and_head text (codes "flagrelay_requests_total") (codes "counter")
-      (codes "Requests that were answered, by status."))
+    (codes "Requests that were answered, by status."))
     (codes "200") a.ok) (codes "204") a.no_content) (codes "304") a.not_modified)
     (codes "400") a.bad_request) (codes "404") a.not_found) (codes "405") a.not_allowed)
     (codes "413") a.too_long) (codes "503") a.unavailable

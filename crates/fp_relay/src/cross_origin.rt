@@ -119,7 +119,11 @@ fn add_exposing(response: &mut Response) -> Result<(), AllocError>
     ensures { OnOk result (IsResponse response.old.status
         (and_exposing (fields_of response.old)) response.old.body.items response.new) }
 {
-    add(response, header::ACCESS_CONTROL_EXPOSE_HEADERS, "etag, flag-revision")
+    add(
+        response,
+        header::ACCESS_CONTROL_EXPOSE_HEADERS,
+        "etag, flag-revision",
+    )
 }
 
 /// Adds the fields that answer what a page may ask.
@@ -134,11 +138,7 @@ pub fn add_leave(response: &mut Response) -> Result<(), AllocError>
 }
 
 /// Adds a field.
-pub fn add(
-    response: &mut Response,
-    name: HeaderName,
-    value: &'static str,
-) -> Result<(), AllocError>
+pub fn add(response: &mut Response, name: HeaderName, value: &'static str) -> Result<(), AllocError>
     requires { IsTrue (is_visible_text value.now) }
     ensures { OnOk result (IsResponse response.old.status
         (and_one (fields_of response.old) name value.now)

@@ -122,7 +122,15 @@ fn reply_over(
 {
     let tags = first_value(request, header::IF_NONE_MATCH);
     let body = Body::Whole(request.body().as_slice());
-    answer_over(alloc, set, request.method(), target_of(request), tags, body, now)
+    answer_over(
+        alloc,
+        set,
+        request.method(),
+        target_of(request),
+        tags,
+        body,
+        now,
+    )
 }
 
 // The path and the query.

@@ -97,7 +97,10 @@ impl fmt::Display for Event<'_> {
                 address,
                 milliseconds,
                 end,
-            } => write!(f, "address={address} again-in-ms={milliseconds} cause={end}"),
+            } => write!(
+                f,
+                "address={address} again-in-ms={milliseconds} cause={end}"
+            ),
             Event::SourceBehind { revision, shown } => {
                 write!(f, "revision={revision} shown={shown}")
             }

@@ -17,11 +17,10 @@ use fp_stream::Hello;
 use fp_streams::FailureCounted;
 use log::Log;
 use std::alloc::{AllocError, Global};
-use std::io;
 use std::net::{SocketAddrV4, TcpStream};
 use std::sync::{Arc, Wait};
-use std::thread;
 use std::time::{Clock, Duration};
+use std::{io, thread};
 
 // How long the head of a frame is.
 const HEAD: u64 = 16;
@@ -129,12 +128,7 @@ fn attend_source<R: Host>(
 }
 
 // Tells how a connection ended, or that there was none.
-fn tell_end<R: Host>(
-    rt: &R,
-    address: SocketAddrV4,
-    ended: &io::Result<SourceEnd>,
-    wait: Duration,
-) {
+fn tell_end<R: Host>(rt: &R, address: SocketAddrV4, ended: &io::Result<SourceEnd>, wait: Duration) {
     let milliseconds = wait.as_millis().min(u64::MAX as u128) as u64;
     match ended {
         Ok(end) => tell(

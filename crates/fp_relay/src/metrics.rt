@@ -29,11 +29,26 @@ fn add_shown(text: &mut Vec<u8>, report: &Report) -> Result<(), AllocError>
     let help = "The flags of that set.";
     add_gauge(text, "flagrelay_flags", help, report.flags)?;
     let help = "Seconds since a set was last taken, or since the start.";
-    add_gauge(text, "flagrelay_seconds_since_frame", help, report.since_frame)?;
+    add_gauge(
+        text,
+        "flagrelay_seconds_since_frame",
+        help,
+        report.since_frame,
+    )?;
     let help = "Seconds since a connection to the source stood, or since the start.";
-    add_gauge(text, "flagrelay_seconds_since_source", help, report.since_source)?;
+    add_gauge(
+        text,
+        "flagrelay_seconds_since_source",
+        help,
+        report.since_source,
+    )?;
     let help = "The revision that the source showed last.";
-    add_gauge(text, "flagrelay_source_revision", help, report.source_revision)
+    add_gauge(
+        text,
+        "flagrelay_source_revision",
+        help,
+        report.source_revision,
+    )
 }
 
 fn add_connections(text: &mut Vec<u8>, report: &Report) -> Result<(), AllocError>
@@ -42,7 +57,12 @@ fn add_connections(text: &mut Vec<u8>, report: &Report) -> Result<(), AllocError
     let help = "Connections that are open.";
     add_gauge(text, "flagrelay_connections", help, report.connections)?;
     let help = "Connections that were let in.";
-    add_counter(text, "flagrelay_connections_total", help, report.connections_total)?;
+    add_counter(
+        text,
+        "flagrelay_connections_total",
+        help,
+        report.connections_total,
+    )?;
     let help = "Connections for which there was no place.";
     add_counter(text, "flagrelay_refused_total", help, report.refused_total)
 }
@@ -66,11 +86,21 @@ fn add_work(text: &mut Vec<u8>, report: &Report) -> Result<(), AllocError>
     ensures { OnOk result (text.new.items ≡ and_work text.old.items report.now) }
 {
     let help = "Requests that were evaluated.";
-    add_counter(text, "flagrelay_evaluations_total", help, report.evaluations)?;
+    add_counter(
+        text,
+        "flagrelay_evaluations_total",
+        help,
+        report.evaluations,
+    )?;
     let help = "Sets that were taken from the source.";
     add_counter(text, "flagrelay_frames_total", help, report.frames)?;
     let help = "Bytes of their frames.";
-    add_counter(text, "flagrelay_frame_bytes_total", help, report.frame_bytes)
+    add_counter(
+        text,
+        "flagrelay_frame_bytes_total",
+        help,
+        report.frame_bytes,
+    )
 }
 
 // A number that may fall, with its meaning.

@@ -7,9 +7,8 @@ use crate::threads::Relaying;
 use crate::words::Options;
 use fp_streams::{FailureCounted, StreamFault};
 use std::alloc::AllocError;
-use std::fmt;
-use std::io;
 use std::io::{ErrorKind, Read, Write};
+use std::{fmt, io};
 
 /// Why a relay gave up.
 #[derive(Debug, Drop, Clone, Copy, PartialEq, Eq)]

@@ -54,7 +54,11 @@ impl<R: Clock + Drop> Service for Evaluations<R> {
     ghost answers = { λ old request response new. (now : ℕ) × Responds (option_map arc_value old.set)
         (arc_value old.origins) (asked_by request) now response × (new.set ≡ old.set) };
 
-    fn call(&mut self, request: &Request<Bytes>, response: &mut Response) -> Result<(), AllocError> {
+    fn call(
+        &mut self,
+        request: &Request<Bytes>,
+        response: &mut Response,
+    ) -> Result<(), AllocError> {
         let shown = match &self.set {
             Some(set) => Some(set.shown()),
             None => None,
@@ -103,7 +107,11 @@ impl<R: Clock + Drop> StatusPages<R> {
 impl<R: Clock + Drop> Service for StatusPages<R> {
     ghost answers = { λ _ _ _ _. Unit };
 
-    fn call(&mut self, request: &Request<Bytes>, response: &mut Response) -> Result<(), AllocError> {
+    fn call(
+        &mut self,
+        request: &Request<Bytes>,
+        response: &mut Response,
+    ) -> Result<(), AllocError> {
         let mut report = self.numbers.report(&self.rt);
         let counted = self.counts.now();
         report.connections = counted.requesters.saturating_add(counted.subscribers);

@@ -33,17 +33,18 @@ pub fn spell(alloc: Global, reply: Reply, response: &mut Response) -> Result<(),
 }
 
 // Adds the fields of a reply.
-fn spell_headers(
-    alloc: Global,
-    headers: Headers,
-    response: &mut Response,
-) -> Result<(), AllocError>
+fn spell_headers(alloc: Global, headers: Headers, response: &mut Response) -> Result<(), AllocError>
     ensures { OnOk result (IsResponse response.old.status (and_reply (fields_of response.old)
         headers.allow_post headers.is_json headers.flag_revision
         (option_map (λ v. v.items) headers.etag)) response.old.body.items response.new) }
 {
     add_where(headers.allow_post, header::ALLOW, "POST", response)?;
-    add_where(headers.is_json, header::CONTENT_TYPE, "application/json", response)?;
+    add_where(
+        headers.is_json,
+        header::CONTENT_TYPE,
+        "application/json",
+        response,
+    )?;
     add_revision(alloc, headers.flag_revision, response)?;
     add_tag(headers.etag, response)
 }

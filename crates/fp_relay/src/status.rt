@@ -11,8 +11,7 @@ ghost use Rattle.fp_relay.specs.Status.{status_answer};
 use crate::cross_origin::add;
 use crate::metrics::metrics_text;
 use bytes::Bytes;
-use http::header;
-use http::{Request, StatusCode};
+use http::{Request, StatusCode, header};
 use http_server::Response;
 use std::alloc::{AllocError, Global};
 

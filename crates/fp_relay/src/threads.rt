@@ -16,11 +16,10 @@ use fp_fronts::Growing;
 use fp_loop::{Counts, Door, Informed, Limits, Listening, Loop, Loops, Role};
 use fp_stream::Hello;
 use std::alloc::Global;
-use std::io;
 use std::net::SocketAddrV4;
 use std::sync::Arc;
-use std::thread;
 use std::thread::JoinHandle;
+use std::{io, thread};
 
 // The most loops, each of which has a thread.
 const MOST_LOOPS: usize = 64;

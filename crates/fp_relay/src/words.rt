@@ -105,7 +105,9 @@ pub fn options_of<'w>(alloc: Global, words: &'w [&'w str]) -> Result<Options<'w>
         status,
         keep: matches.get_str("keep"),
         origins: origins_of(alloc, &matches)?,
-        connections: matches.get_one::<u32>("connections").unwrap_or(USUAL_CONNECTIONS),
+        connections: matches
+            .get_one::<u32>("connections")
+            .unwrap_or(USUAL_CONNECTIONS),
     })
 }
 
@@ -164,10 +166,7 @@ fn origins_of(alloc: Global, matches: &ArgMatches<'_>) -> Result<Origins, AllocE
 }
 
 // The address that stands for this argument.
-fn address_of<'w>(
-    argument: &'static str,
-    text: &'w str,
-) -> Result<SocketAddrV4, WordsFault<'w>> {
+fn address_of<'w>(argument: &'static str, text: &'w str) -> Result<SocketAddrV4, WordsFault<'w>> {
     match text.parse() {
         Ok(address) => Ok(address),
         Err(_) => Err(WordsFault::NoAddress { argument, text }),

@@ -23,12 +23,12 @@ pub returns : goal.returns
 returns c = λ s lawful is.
     let bytes = c.args.bytes.now in let text = c.split_at.result.0.now in
     let same : c.split_at.result.1.now ≡ sha256 text = c.split_at.ensures.back ∙ digest-of bytes (frame_of s) is
-        ∙ ap sha256 (sym (text-of bytes (frame_of s) is) ∙ sym c.split_at.ensures.front) in
+    ∙ ap sha256 (sym (text-of bytes (frame_of s) is) ∙ sym c.split_at.ensures.front) in
     let both : true ≡ false = sym (c.is_digest.ensures.1 same) ∙ c.if-is_digest.false in absurd cc
 
 pub returns-then-is_digest : goal.returns-then-is_digest
 returns-then-is_digest c =
     let bytes = c.args.bytes.now in let text = c.split_at.result.0.now in
     let parts : bytes ≡ text ++ sha256 text = sym (take-append-drop (length bytes - 32) bytes)
-        ∙ ap₂ (λ (a b : List ℕ). a ++ b) (sym c.split_at.ensures.front) (sym c.split_at.ensures.back ∙ c.is_digest.ensures.0 c.if-is_digest.true) in
+    ∙ ap₂ (λ (a b : List ℕ). a ++ b) (sym c.split_at.ensures.front) (sym c.split_at.ensures.back ∙ c.is_digest.ensures.0 c.if-is_digest.true) in
     whole c.only_frame.result bytes text parts c.only_frame.ensures (λ s same. c.split_at.ensures.front ∙ text-of bytes (frame_of s) same)
