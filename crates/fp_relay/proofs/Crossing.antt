@@ -38,6 +38,13 @@ origins_shared = let T = origins_inside.the_type in view_sync _ _ _ _ _ (recorde
 
 pub evaluations_sent : (R : RattleType) → IsSend R → IsSend (evaluations.the_row R)
 evaluations_sent R sr = let T = evaluations.the_type R in
-    recorded_send _ _ _ T.to_one (struct_send (shape T)
-    (search (sendable, sr) depth 5, (search (sendable, crosses) depth 5, (search (sendable, crosses, origins_sent, origins_shared) depth 10,
-    (Arc-send _ numbers.the_send numbers.the_sync, (search (sendable, crosses, set_sent, set_shared) depth 10, tt))))))
+    recorded_send _ _ _ T.to_one (struct_send (shape T) (
+      search (sendable, sr) depth 5,
+      (
+        search (sendable, crosses) depth 5,
+        (
+          search (sendable, crosses, origins_sent, origins_shared) depth 10,
+          (Arc-send _ numbers.the_send numbers.the_sync, (search (sendable, crosses, set_sent, set_shared) depth 10, tt)),
+        ),
+      ),
+    ))
