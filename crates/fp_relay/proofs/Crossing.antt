@@ -41,7 +41,6 @@ origins_shared = let T = origins_inside.the_type in view_sync _ _ _ _ _ (recorde
 
 pub evaluations_sent : (R : RattleType) → IsSend R → IsSend (evaluations.the_row R)
 evaluations_sent R sr = let T = evaluations.the_type R in
-<<<<<<< HEAD
     recorded_send _ _ _ T.to_one (struct_send (shape T) (
       search (sendable, sr) depth 5,
       (
@@ -52,16 +51,22 @@ evaluations_sent R sr = let T = evaluations.the_type R in
         ),
       ),
     ))
-=======
-    recorded_send _ _ _ T.to_one (struct_send (shape T)
-    (search (sendable, sr) depth 5, (search (sendable, crosses) depth 5, (search (sendable, crosses, origins_sent, origins_shared) depth 10,
-    (Arc-send _ numbers.the_send numbers.the_sync, (search (sendable, crosses, set_sent, set_shared) depth 10, tt))))))
 
 pub showing_sent : (R : RattleType) → IsSend R → IsSend (showing.the_row R)
 showing_sent R sr = let T = showing.the_type R in
-    recorded_send _ _ _ T.to_one (struct_send (shape T)
-    (search (sendable, sr) depth 5, (search (sendable, crosses) depth 5,
-    (search (sendable, crosses, loops.the_send, loops.the_sync, set_sent, set_shared) depth 20,
-    (Arc-send _ numbers.the_send numbers.the_sync, (search (sendable, crosses, shelf_sent, shelf_shared) depth 10,
-    (search sendable, (search (sendable, growing.the_send) depth 5, tt))))))))
->>>>>>> b54ce748423ef73d8ff691feb098768a4a0e578b
+    recorded_send _ _ _ T.to_one (struct_send (shape T) (
+      search (sendable, sr) depth 5,
+      (
+        search (sendable, crosses) depth 5,
+        (
+          search (sendable, crosses, loops.the_send, loops.the_sync, set_sent, set_shared) depth 20,
+          (
+            Arc-send _ numbers.the_send numbers.the_sync,
+            (
+              search (sendable, crosses, shelf_sent, shelf_shared) depth 10,
+              (search sendable, (search (sendable, growing.the_send) depth 5, tt)),
+            ),
+          ),
+        ),
+      ),
+    ))
