@@ -122,7 +122,9 @@ impl<R: Clock + Drop> Service for StatusPages<R> {
 }
 
 impl<R: Clock + Drop> Informed<Set> for StatusPages<R> {
-    fn inform(&mut self, _news: Arc<Set, Global>) {}
+    fn inform(&mut self, _news: Arc<Set, Global>)
+        ensures { self.new ≡ self.old }
+    {}
 }
 
 /// The seconds since 1970, and 0 before it or without a clock.
