@@ -7,11 +7,9 @@ use fp_streams::FailureCounted;
 use log::{LevelFilter, Logged};
 use std::alloc::AllocGlobal;
 use std::env;
-use std::fs::File;
 use std::io::{Read, Write};
 use std::net::{TcpListener, TcpStream};
 use std::process::ExitCode;
-use std::rt::Files;
 
 // The status where the words ask for nothing that can be done, and where a fault ended it.
 const NO_TASK: u8 = 2;
@@ -39,9 +37,16 @@ fn words(rt: &HostRuntime) -> Option<Vec<String>> {
 }
 
 // Relays as the words say, and answers the program's status.
-fn run<R, I, O, E>(rt: &R, words: &[&str], input: I, output: O, errors: E) -> u8
+fn run<R, I, O, E>(
+    rt: &R,
+    files: SystemFiles<HostRuntime>,
+    words: &[&str],
+    input: I,
+    output: O,
+    errors: E,
+) -> u8
 where
-    R: Host + Files<File = File>,
+    R: Host,
     I: Read + Drop,
     O: Write + Drop,
     E: Write + Drop,
@@ -60,7 +65,6 @@ where
             return NO_TASK;
         }
     };
-    let files = SystemFiles::of(*rt);
     match relay(rt, files, options, &mut r, &mut w) {
         Ok(()) => 0,
         Err(fault) => {
@@ -82,6 +86,14 @@ fn main(rt: HostRuntime) -> ExitCode {
         }
     }
     let logged = logged(rt);
-    let status = run(&logged, &texts, rt.reader(), rt.stdout(), rt.stderr());
+    let files = SystemFiles::of(rt);
+    let status = run(
+        &logged,
+        files,
+        &texts,
+        rt.reader(),
+        rt.stdout(),
+        rt.stderr(),
+    );
     ExitCode::from(status)
 }
