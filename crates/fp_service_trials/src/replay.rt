@@ -3,7 +3,7 @@
 
 use crate::log_file::LogFile;
 use crate::script::Script;
-use fp_relay::Host;
+use fp_server::Host;
 use fp_transcript::{Answers, Text, transcript};
 use std::alloc::{AllocError, AllocGlobal};
 use std::collections::VecDeque;
