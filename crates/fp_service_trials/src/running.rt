@@ -245,20 +245,15 @@ impl<R: Host> Running<R> {
         })
     }
 
-    /// Ends its input, and waits for nothing.
-    pub fn close(&self) {
-        let _ = self.pipes.input.shutdown(Shutdown::Both);
-    }
-
     /// Ends its input, and waits for what becomes of it: what it said last, then its fault.
     pub fn end(self, rt: &R) -> Ended {
-        self.close();
         let Running {
             ports: _,
             gate: _,
             mut pipes,
             thread,
         } = self;
+        let _ = pipes.input.shutdown(Shutdown::Both);
         let Ended { said, left } = thread.join(rt);
         let mut last = String::new(rt.alloc());
         let _ = pipes.output.read_to_string(&mut last);

@@ -71,9 +71,8 @@ impl<R: Host> Script<R> {
 }
 
 // The words of `on_service`.
-const OF_SERVICE: [&str; 12] = [
-    "serve", "attend", "hold", "held", "let-go", "closes", "end", "stop", "left", "log", "logs",
-    "pause",
+const OF_SERVICE: [&str; 11] = [
+    "serve", "attend", "hold", "held", "let-go", "end", "stop", "left", "log", "logs", "pause",
 ];
 
 // The words of `on_peer`.
@@ -122,7 +121,7 @@ impl<R: Host> Script<R> {
 
     // `serve`, `serve failing CALL`, `serve slots SIZE`, `serve old`,
     // `serve within IDLE REQUEST REPLY SIZE`, `attend WORD ..`, `hold behind COUNT`,
-    // `hold from PLACE`, `held`, `let-go`, `closes`, `end`, `stop`, `left`, `log`, `logs TEXT`,
+    // `hold from PLACE`, `held`, `let-go`, `end`, `stop`, `left`, `log`, `logs TEXT`,
     // `pause MILLISECONDS`.
     fn on_service(&mut self, word: &str, args: &mut Args<'_>, out: &mut Text) {
         match word {
@@ -191,7 +190,6 @@ impl<R: Host> Script<R> {
             "hold" => service.gate.hold(hold_of(args)),
             "held" if service.gate.comes_to_hold() => out.push("held"),
             "held" => out.push("not held"),
-            "closes" => service.close(),
             _ => service.gate.let_go(),
         }
     }
