@@ -32,7 +32,7 @@ pub fn equality_laws()
     ensures symmetric { LooseIsSymmetric }
 {}
 
-/// Laws of the order of data. Across kinds it isn't transitive: `"10" < "9"`, and `9 < "10"`.
+/// Laws of the order of data. Across kinds it isn't transitive (`"10" < "9"`, and `9 < "10"`).
 pub fn order_laws()
     // The order of two data is the reverse of that of the same turned round.
     ensures reverses { OrderReverses }
@@ -70,9 +70,9 @@ pub fn text_laws()
 
 /// Laws of versions.
 pub fn version_laws()
-    // A version is exactly a text that Semantic Versioning 2.0.0 allows, without one leading `v` and
-    // filled up to three groups; major, minor and patch are below 2^64, numeric identifiers of any
-    // size.
+    // A version is exactly a text that Semantic Versioning 2.0.0 allows, without one leading `v`
+    // and filled up to three groups; major, minor and patch are below 2^64, numeric identifiers of
+    // any size.
     ensures grammar { VersionsFollowTheGrammar }
     // Build metadata changes no comparison.
     ensures build { BuildIsIgnored }
