@@ -68,7 +68,7 @@ impl Model for FlagSet {
 }
 
 impl FlagSet {
-    /// No flags, at revision 0, under a limit of the image in bytes. Below 22 it leaves room for no
+    /// No flags, at revision 0, under a limit of the image in bytes; below 22 it leaves room for no
     /// flag. It takes no memory.
     pub fn new(alloc: Global, limit: u64) -> FlagSet
         ensures { result ≡ record { flags = map.empty; revision = 0; limit = limit } }
@@ -251,9 +251,9 @@ impl FlagSet {
         // `Ok`: that state's revision.
         ensures revision { IfOk result (λ r. r ≡ self.new.revision) }
 
-        // `Err`: the fault of the first test not met: each key as expected, of a change set with
-        // the place of the first that isn't; then room; then a revision left. `Memory` comes only
-        // to an edit that puts a flag and meets them all.
+        // `Err`: the first test not met: each key as expected, of a change set with the place of the
+        // first that isn't; room; a revision left. `Memory` comes only to an edit that puts a flag
+        // and meets all.
         ensures refused { IfErr result (λ p. IsRefused self.old (proposal_of edit) p.0) }
         // An `Err` gives the edit back.
         ensures given_back { IfErr result (λ p. p.1 ≡ edit) }

@@ -34,7 +34,8 @@ pub const DEEPEST_RULE: u32 = 32;
 /// The most JSON values that a rule has, its literals' insides and its operators' objects included.
 pub const MOST_RULE_VALUES: usize = 1_024;
 
-/// A compiled rule.
+/// A compiled rule. Its code, run on any data, wants no operand that isn't there, skips to nowhere
+/// outside and has room for what it keeps: that is the type's invariant.
 #[derive(Drop)]
 pub struct Rule {
     code: Code,
