@@ -251,9 +251,9 @@ impl FlagSet {
         // `Ok`: that state's revision.
         ensures revision { IfOk result (λ r. r ≡ self.new.revision) }
 
-        // `Err`: the first test not met: each key as expected, of a change set with the place of the
-        // first that isn't; room; a revision left. `Memory` comes only to an edit that puts a flag
-        // and meets all.
+        // `Err`: the first test not met: each key as expected, of a change set with the place of
+        // the first that isn't; room; a revision left. `Memory` comes only to an edit that puts a
+        // flag and meets all.
         ensures refused { IfErr result (λ p. IsRefused self.old (proposal_of edit) p.0) }
         // An `Err` gives the edit back.
         ensures given_back { IfErr result (λ p. p.1 ≡ edit) }
