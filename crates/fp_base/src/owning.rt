@@ -12,8 +12,9 @@ use serde_json::{Map, Value};
 use std::alloc::{AllocError, Global};
 
 impl<'a> Tree<'a> {
-    /// The value of the same data.
+    /// The value of the same data, which owns its texts.
     pub fn to_value(&self, alloc: Global) -> Result<Value, AllocError>
+        // The tree is ordered.
         requires { IsOrdered (tree_view self.now) }
         ensures { IfOk result (λ v. view v ≡ tree_view self.now) }
     {
@@ -23,6 +24,7 @@ impl<'a> Tree<'a> {
     /// The tree of the same data, which borrows the value's texts.
     pub fn of_value(alloc: Global, value: &'a Value) -> Result<Tree<'a>, AllocError>
         ensures same { IfOk result (λ t. tree_view t ≡ view value.now) }
+        // `Ok`: it is ordered.
         ensures ordered { IfOk result (λ t. IsOrdered (tree_view t)) }
     {
         lent(alloc, value)

@@ -10,11 +10,12 @@ ghost use Rattle.fp_base.specs.TreeView.{tree_view, tree_members};
 use crate::tree::Tree;
 use std::alloc::AllocError;
 
-/// The member of that name, found by halves.
+/// The member of that name, found by halves; `None` exactly where there is none.
 pub fn member_in_order<'m, 'a>(
     members: &'m [(&'a str, Tree<'a>)],
     name: &str,
 ) -> Option<&'m Tree<'a>>
+    // The members ascend by their names, each name once.
     requires { IsSorted (tree_members members.now) }
     ensures { option_map (λ t. tree_view t.now) result
         ≡ get_member name.now (tree_members members.now) }

@@ -15,28 +15,34 @@ use crate::walks::is_longer;
 use serde_json::Value;
 use std::alloc::{AllocError, Global};
 
-/// The value's text without spaces, its members in ascending order of their names' bytes.
+/// The value's canonical text: no spaces, and the members in ascending order of their names' bytes.
 #[tactic(auto, using(crate::proofs::WholeData::has_float_whole, crate::proofs::Reading::json_of_read))]
 pub fn canonical_text(alloc: Global, value: &Value) -> Result<Vec<u8>, AllocError>
+    // Each number is whole.
     requires whole { is_whole (view value.now) ≡ true }
+    // It is no deeper than JSON is read.
     requires flat { depth (view value.now) ≤ max_depth }
     ensures text { IfOk result (λ t. t.items ≡ compact_text (view value.now)) }
+    // `Ok`: the text is read as the value again.
     ensures reads { IfOk result (λ t. json_of t.items ≡ Some (view value.now)) }
 {
     Ok(value.to_vec(alloc)?)
 }
 
-/// The canonical text, where it has at most `limit` bytes. Of a longer one no more is ever
-/// printed than a small multiple of the limit.
+/// The canonical text where it has at most `limit` bytes. `None` exactly where it is longer. Of a
+/// longer one no more is ever printed than a small multiple of the limit.
 pub fn canonical_text_within(
     alloc: Global,
     value: &Value,
     limit: usize,
 ) -> Result<Option<Vec<u8>>, AllocError>
+    // Each number is whole.
     requires whole { is_whole (view value.now) ≡ true }
+    // It is no deeper than JSON is read.
     requires flat { depth (view value.now) ≤ max_depth }
     ensures text { IfOk result (λ o.
         option_map (λ t. t.items) o ≡ text_within limit (view value.now)) }
+    // `Ok`: a text that is given is read as the value again.
     ensures reads { IfOk result (λ o. IfSome o (λ t. json_of t.items ≡ Some (view value.now))) }
 {
     if is_longer(value, limit) {
@@ -101,7 +107,8 @@ fn put_escaped(alloc: Global, out: &mut Vec<u8>, text: &str) -> Result<(), Alloc
     Ok(())
 }
 
-/// The value that the bytes spell, or `None` where they are no JSON.
+/// The value that the bytes spell, `None` exactly where they are no JSON. A number out of range is
+/// no JSON; of members of one name the last counts.
 #[tactic(auto, using(crate::proofs::Reading::json_of_read, crate::proofs::Reading::json_of_refused))]
 pub fn read_json(alloc: Global, bytes: &[u8]) -> Result<Option<Value>, AllocError>
     ensures { IfOk result (λ o. option_map view o ≡ json_of bytes.now) }

@@ -20,7 +20,8 @@ pub enum Tree<'a> {
 }
 
 impl<'a> Tree<'a> {
-    /// The member of that name, where this is an object.
+    /// The member of that name, looked for from the front; `None` exactly where this is no object
+    /// with such a member.
     pub fn get(&self, name: &str) -> Option<&Tree<'a>>
         ensures { option_map (λ t. tree_view t.now) result ≡ get name.now (tree_view self.now) }
     {

@@ -56,7 +56,8 @@ impl<T: Drop> From<AllocFailed<T>> for Stop {
     }
 }
 
-/// The tree of what the bytes spell, `None` where they are no JSON.
+/// The tree of the data that the bytes spell, which borrows its texts; `None` exactly where they
+/// are no JSON. A number out of range is no JSON; of members of one name the last counts.
 #[tactic(auto, using(crate::proofs::Parsed::whole_texts, crate::proofs::Reading::json_of_refused))]
 pub fn read_tree<'a>(
     alloc: Global,
@@ -64,6 +65,7 @@ pub fn read_tree<'a>(
     scratch: &'a mut Scratch,
 ) -> Result<Option<Tree<'a>>, AllocError>
     ensures value { IfOk result (λ o. option_map tree_view o ≡ json_of bytes.now) }
+    // `Ok`: the tree is ordered.
     ensures ordered { IfOk result (λ o. IfSome o (λ tree. IsOrdered (tree_view tree))) }
 {
     let Ok(text) = simdutf8::compat::from_utf8(bytes) else {

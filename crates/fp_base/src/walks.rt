@@ -29,7 +29,8 @@ pub fn nests_within(value: &Value, limit: u32) -> bool
     nests(value, limit)
 }
 
-/// What remains of a budget of values once this value and all in it are paid for.
+/// What remains of a budget of values once this value and all in it are paid for, `None` exactly
+/// where they are more. Names of members cost nothing.
 pub fn values_left(value: &Value, budget: usize) -> Option<usize>
     ensures { result ≡ spend budget (count (view value.now)) }
 {
@@ -52,30 +53,35 @@ impl<'a> Tree<'a> {
         nests(self, limit)
     }
 
-    /// What remains of a budget of values once this one and all in it are paid for.
+    /// What remains of a budget of values once this one and all in it are paid for, `None` exactly
+    /// where they are more. Names of members cost nothing.
     pub fn values_left(&self, budget: usize) -> Option<usize>
         ensures { result ≡ spend budget (count (tree_view self.now)) }
     {
         count_left(self, budget)
     }
 
-    /// Whether the texts, names, items and members alone make the canonical text longer than the
-    /// limit, found without printing any of it.
+    /// Whether texts and names, with one byte for each item and member, are more bytes than the
+    /// limit: a cheap test by which nothing is printed.
     pub fn is_longer(&self, limit: usize) -> bool
         ensures weighed { result ≡ not (nat_le (weight (tree_view self.now)) limit) }
+        // `true`: the canonical text is longer than the limit too.
         ensures longer { result ≡ true
             → nat_le (length (compact_text (tree_view self.now))) limit ≡ false }
     {
         is_longer(self, limit)
     }
 
-    /// Whether all numbers are whole, the tree nests at most `limit` deep, and its canonical text
-    /// isn't longer than `bytes` by its texts, names, items and members alone: three walks in one.
+    /// Whether all numbers are whole, the tree nests at most `limit` deep, and isn't longer than
+    /// `bytes` by `is_longer`: three tests in one walk.
     #[tactic(auto, using(crate::proofs::TextLengths::not_plain))]
     pub fn is_plain(&self, limit: u32, bytes: usize) -> bool
+        // Exactly where all three are met.
         ensures plain { result ≡ is_some (plain_left limit bytes (tree_view self.now)) }
         ensures whole { result ≡ true → is_whole (tree_view self.now) ≡ true }
         ensures flat { result ≡ true → depth (tree_view self.now) ≤ limit }
+        // `false` of a tree with whole numbers that nests at most `limit` deep: its canonical text
+        // is longer than `bytes`.
         ensures refused { result ≡ false → is_whole (tree_view self.now) ≡ true
             → depth (tree_view self.now) ≤ limit
             → nat_le (length (compact_text (tree_view self.now))) bytes ≡ false }

@@ -21,12 +21,16 @@ use serde_json::Number;
 use std::alloc::{AllocError, Global};
 
 impl<'a> Tree<'a> {
-    /// The text without spaces, begun with room for so many bytes.
+    /// The canonical text, begun with room for so many bytes.
     pub fn to_text(&self, alloc: Global, room: usize) -> Result<Vec<u8>, AllocError>
+        // Each number is whole.
         requires whole { is_whole (tree_view self.now) ≡ true }
+        // It is no deeper than JSON is read.
         requires flat { depth (tree_view self.now) ≤ max_depth }
+        // The tree is ordered.
         requires ordered { IsOrdered (tree_view self.now) }
         ensures text { IfOk result (λ t. t.items ≡ compact_text (tree_view self.now)) }
+        // `Ok`: the text is read as the same data again.
         ensures reads { IfOk result (λ t. json_of t.items ≡ Some (tree_view self.now)) }
     {
         let mut out = Vec::with_capacity(alloc, room)?;
@@ -34,11 +38,14 @@ impl<'a> Tree<'a> {
         Ok(out)
     }
 
-    /// Puts the text without spaces behind what is there.
+    /// Puts the text without spaces behind what is there: the canonical text, where the tree is
+    /// ordered.
     pub fn put_text(&self, alloc: Global, out: &mut Vec<u8>) -> Result<(), AllocError>
+        // Each number is whole.
         requires { is_whole (tree_view self.now) ≡ true }
         ensures text { OnOk result (out.new.items
             ≡ out.old.items ++ compact_text (tree_view self.now)) }
+        // `Ok`: that text is UTF-8, and each number in it is one of JSON.
         ensures printed { OnOk result (IsPrinted (tree_view self.now)) }
     {
         put_tree(alloc, out, self)
@@ -126,11 +133,12 @@ fn put_comma(out: &mut Vec<u8>, later: bool) -> Result<(), AllocError>
     Ok(())
 }
 
-/// Puts the name of a member and its colon behind what is there, and a comma before them where a
+/// Puts the name of a member and its colon behind what is there, with a comma before them where a
 /// member stands there already.
 pub fn put_name(alloc: Global, out: &mut Vec<u8>, later: bool, name: &str) -> Result<(), AllocError>
     ensures text { OnOk result (out.new.items
         ≡ out.old.items ++ (comma_if later ++ (quoted name.now ++ 58 ∷ []))) }
+    // The quoted name is UTF-8.
     ensures utf8 { OnOk result (IsUtf8 (quoted name.now)) }
 {
     put_comma(out, later)?;

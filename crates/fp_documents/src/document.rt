@@ -32,52 +32,61 @@ pub struct Document {
 }
 
 impl Document {
-    /// Its text.
+    /// Its text, which is the canonical document of each set that this is a document of.
     pub fn text(&self) -> &[u8]
         ensures { (s : State) → IsDocumentOf self.now s → result.now ≡ document s.flags }
     {
         self.text.as_slice()
     }
 
+    /// The same text by value.
     pub fn into_text(self) -> Vec<u8>
         ensures { (s : State) → IsDocumentOf self s → result.items ≡ document s.flags }
     {
         self.text
     }
 
-    // How many bytes its text has room for.
+    /// How many bytes its text has room for, which no clause says.
     pub fn room(&self) -> usize {
         self.text.capacity()
     }
 
+    /// How many flags it shows.
     pub fn count(&self) -> usize
         ensures { result ≡ length self.now.lengths.items }
     {
         self.lengths.len()
     }
 
+    /// The revision at which it was made.
     pub fn revision(&self) -> u64
         ensures { result ≡ self.now.revision }
     {
         self.revision
     }
 
-    /// Makes the document of flags out of that of others, of which one at most was changed since:
-    /// its new part takes the place of the old one, and moves what stands behind it. Where the part
-    /// at that place has another key, it answers `false` and changes nothing.
+    /// Makes the document of flags out of that of others, of which one at most was changed since.
+    /// The new part takes the place of the old one and moves what stands behind it: a few steps for
+    /// each flag up to the changed one, and that move.
     pub fn put_changed(
         &mut self,
         alloc: Global,
         flags: &BTreeMap<FlagKey, Flag>,
         revision: u64,
     ) -> Result<bool, AllocError>
+        // It is a document of as many flags, one of which at most was changed after its revision;
+        // where that one has the key that stood at its place, the others are the same.
         requires { (es : List (List ℕ × Flag)) × Outlines self.old es
             × HasAsMany self.old.revision es (entries_of flags.now.entries)
             × changed_after self.old.revision (entries_of flags.now.entries) ≤ 1 }
+        // `Ok(true)`: it has become the document of these flags, at this revision.
         ensures put { IfOk result (λ b. b ≡ true
             → Outlines self.new (entries_of flags.now.entries) × (self.new.revision ≡ revision)) }
+        // `Ok(false)`: the changed flag stands where another key stood, and the document is as
+        // before.
         ensures other { IfOk result (λ b. b ≡ false
             → HasNewKey self.old (entries_of flags.now.entries) × IsAlike self.old self.new) }
+        // An `Err` leaves the document as it was.
         ensures unchanged { OnErr result (IsAlike self.old self.new) }
     {
         if let Some(place) = first_changed(flags, self) {
@@ -97,7 +106,8 @@ impl Document {
     }
 }
 
-/// The document of flags at a revision, begun with room for so many bytes.
+/// The document of flags at a revision, with how long each flag's part of it is; begun with room
+/// for so many bytes. It costs its length.
 pub fn document_of(
     alloc: Global,
     flags: &BTreeMap<FlagKey, Flag>,
@@ -205,8 +215,9 @@ fn text_of(definition: &Definition) -> &[u8]
     definition.text()
 }
 
-/// The document of flags that are those of an earlier document, but for the ones that were changed
-/// since. What stands between these is copied. Where one of them has a new key, there is `None`.
+/// The document of flags, made of that of as many flags, some of which were changed since: what
+/// stands between these is copied. `None` only where a changed flag stands where another key stood.
+/// A few steps a flag, the changed parts, and a copy of the rest.
 pub fn document_after(
     alloc: Global,
     flags: &BTreeMap<FlagKey, Flag>,
@@ -214,6 +225,8 @@ pub fn document_after(
     room: usize,
     before: &Document,
 ) -> Result<Option<Document>, AllocError>
+    // `before` is a document of as many flags, which are the same but for those changed after its
+    // revision, where each of those has the key that stood at its place.
     requires { (es : List (List ℕ × Flag)) × Outlines before.now es
         × HasAsMany before.now.revision es (entries_of flags.now.entries) }
     ensures { IfOk result (λ o. MatchOption o

@@ -30,25 +30,31 @@ pub struct Flag {
     pub changed: u64,
 }
 
+/// The key's flag, `None` exactly where there is none.
 pub fn find<'a>(flags: &'a BTreeMap<FlagKey, Flag>, key: &FlagKey) -> Option<&'a Flag>
     ensures { option_copied result ≡ map.get (flags_of flags.now.entries) (key_bytes key.now) }
 {
     flags.get(key)
 }
 
-/// Stores a flag, and answers what the one before it took of an image, 0 without one.
+/// Stores a flag under a key, and answers what the flag that it replaces took in an image.
 pub fn store(
     flags: &mut BTreeMap<FlagKey, Flag>,
     key: FlagKey,
     flag: Flag,
 ) -> Result<u128, AllocFailed<(FlagKey, Flag)>>
+    // `Ok`: the bytes that the key's flag took before, 0 without one.
     ensures before { IfOk result (λ n. n ≡ cost_found (key_bytes key)
         (map.get (flags_of flags.old.entries) (key_bytes key))) }
+    // `Ok`: the flag stands under the key, and all others stay.
     ensures stored { OnOk result
         (flags_of flags.new.entries
         ≡ map.insert (flags_of flags.old.entries) (key_bytes key) flag) }
+    // An `Err` gives key and flag back.
     ensures given_back { IfErr result (λ e. e.value ≡ (key, flag)) }
+    // An `Err` leaves the flags as they were.
     ensures unchanged { OnErr result (flags_of flags.new.entries ≡ flags_of flags.old.entries) }
+    // The keys ascend.
     ensures ordered { IsOrdered flag_cmp flags.new }
 {
     let len = key.as_str().len();
@@ -59,14 +65,19 @@ pub fn store(
     }
 }
 
-/// Takes a key's flag, and answers what it took of an image, 0 without one.
+/// Takes a key's flag away, and answers what it took in an image.
 pub fn take(flags: &mut BTreeMap<FlagKey, Flag>, key: &FlagKey) -> u128
+    // The keys ascend.
     requires { IsOrdered flag_cmp flags.old }
+    // The bytes that the key's flag took, 0 without one.
     ensures before { result ≡ cost_found (key_bytes key.now)
         (map.get (flags_of flags.old.entries) (key_bytes key.now)) }
+    // They are fewer than 2^66.
     ensures small { result < 2 ^ 66 }
+    // The key has no flag, and all others stay.
     ensures taken { flags_of flags.new.entries
         ≡ map.remove (flags_of flags.old.entries) (key_bytes key.now) }
+    // The keys ascend.
     ensures ordered { IsOrdered flag_cmp flags.new }
 {
     match flags.remove(key) {
@@ -75,24 +86,29 @@ pub fn take(flags: &mut BTreeMap<FlagKey, Flag>, key: &FlagKey) -> u128
     }
 }
 
+/// How many flags there are.
 pub fn count(flags: &BTreeMap<FlagKey, Flag>) -> usize
     ensures { result ≡ map.len (flags_of flags.now.entries) }
 {
     flags.len()
 }
 
-/// The bytes of an image that a key and its definition take.
+/// How many bytes a key and its definition take in an image.
 pub fn cost_of(key: &FlagKey, definition: &Definition) -> u128
+    // `FLAG_FRAME` with the bytes of both.
     ensures cost { result ≡ FLAG_FRAME + length (key_bytes key.now) + length definition.now }
+    // They are fewer than 2^66.
     ensures small { result < 2 ^ 66 }
 {
     FLAG_FRAME + key.as_str().len() as u128 + definition.text().len() as u128
 }
 
-/// The bytes of an image that a key's flag takes, 0 without one.
+/// How many bytes a key's flag takes in an image.
 pub fn cost_at(flags: &BTreeMap<FlagKey, Flag>, key: &FlagKey) -> u128
+    // As of `cost_of`, 0 without a flag.
     ensures cost { result ≡ cost_found (key_bytes key.now)
         (map.get (flags_of flags.now.entries) (key_bytes key.now)) }
+    // They are fewer than 2^66.
     ensures small { result < 2 ^ 66 }
 {
     match find(flags, key) {
@@ -101,13 +117,13 @@ pub fn cost_at(flags: &BTreeMap<FlagKey, Flag>, key: &FlagKey) -> u128
     }
 }
 
-/// Another map of the same keys and shares of the same definitions. It is made at once, of pairs that
-/// are in order already.
+/// Equal flags, which share the definitions.
 pub fn copy_of(
     alloc: Global,
     flags: &BTreeMap<FlagKey, Flag>,
 ) -> Result<BTreeMap<FlagKey, Flag>, AllocError>
     ensures copied { IfOk result (λ copy. flags_of copy.entries ≡ flags_of flags.now.entries) }
+    // `Ok`: the keys ascend.
     ensures ordered { IfOk result (λ copy. IsOrdered flag_cmp copy) }
 {
     let mut pairs = Vec::with_capacity(alloc, flags.len())?;

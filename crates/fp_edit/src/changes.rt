@@ -64,12 +64,17 @@ impl Model for Changes {
 }
 
 impl Changes {
-    /// These changes, in this order. Otherwise they come back, with the first thing that they lack.
+    /// These changes, in this order, as a change set. It's tested that they are 1 to 64, of
+    /// different keys, and at most 32,752 bytes in a batch.
     pub fn new(changes: Vec<Change>) -> Result<Changes, (SetFault, Vec<Change>)>
+        // `Ok`: the set has these changes.
         ensures made { IfOk result (λ c. c ≡ map proposed_of changes.items) }
+        // `Ok`: they lack nothing that a set has to meet.
         ensures lawful { IfOk result (λ c. set_fault (parts_of c) ≡ None) }
+        // `Err`: the first that they lack: `BadCount`, `RepeatedKey` or `TooLong`.
         ensures refused { IfErr result
             (λ e. set_fault (parts_of (map proposed_of changes.items)) ≡ Some e.0) }
+        // An `Err` gives the changes back.
         ensures given_back { IfErr result (λ e. e.1 ≡ changes) }
     {
         match fault_of(*changes.allocator(), &changes) {
@@ -78,8 +83,9 @@ impl Changes {
         }
     }
 
-    /// These changes, in this order, of which it's known that they lack nothing.
+    /// The same of changes known to lack nothing, without a test.
     pub fn of_lawful(changes: Vec<Change>) -> Changes
+        // They lack nothing that a set has to meet.
         requires { set_fault (parts_of (map proposed_of changes.items)) ≡ None }
         ensures { result ≡ map proposed_of changes.items }
     {
@@ -89,22 +95,25 @@ impl Changes {
     /// The changes in their order.
     pub fn as_slice(&self) -> &[Change]
         ensures changes { map proposed_of result.now ≡ self.now }
+        // They lack nothing that a set has to meet.
         ensures lawful { set_fault (parts_of self.now) ≡ None }
     {
         &self.changes
     }
 
-    /// The changes by value.
+    /// The changes by value, in their order.
     pub fn into_changes(self) -> Vec<Change>
         ensures changes { map proposed_of result.items ≡ self }
+        // They lack nothing that a set has to meet.
         ensures lawful { set_fault (parts_of self) ≡ None }
     {
         self.changes
     }
 
-    /// How many bytes they take in a batch.
+    /// How many bytes the set takes in a batch.
     pub fn encoded_len(&self) -> usize
         ensures len { result ≡ set_len (parts_of self.now) }
+        // At most `LONGEST_EDIT`.
         ensures small { result ≤ LONGEST_EDIT }
     {
         let mut len = SET_FRAME;
@@ -148,7 +157,7 @@ impl Change {
         }
     }
 
-    /// How many bytes it takes in a batch.
+    /// How many bytes it takes in a batch, as of `put_len` or `delete_len`.
     pub fn encoded_len(&self) -> usize
         ensures { result ≡ part_len (proposed_of self.now).part }
     {
@@ -186,14 +195,14 @@ impl Change {
     }
 }
 
-/// How many bytes a put takes in a batch.
+/// How many bytes a put takes in a batch: `PUT_FRAME`, and those of its key and its definition.
 pub fn put_len(key: &FlagKey, flag: &Definition) -> usize
     ensures { result ≡ PUT_FRAME + length (key_bytes key.now) + length flag.now }
 {
     PUT_FRAME + key.as_str().len() + flag.text().len()
 }
 
-/// How many bytes a deletion takes in a batch.
+/// How many bytes a deletion takes in a batch: `DELETE_FRAME`, and those of its key.
 pub fn delete_len(key: &FlagKey) -> usize
     ensures { result ≡ DELETE_FRAME + length (key_bytes key.now) }
 {

@@ -68,17 +68,18 @@ impl Model for FlagSet {
 }
 
 impl FlagSet {
-    /// No flags, at revision 0. The limit of the image is in bytes; below 22 it leaves room for no
-    /// flag.
+    /// No flags, at revision 0, under a limit of the image in bytes; below 22 it leaves room for no
+    /// flag. It takes no memory.
     pub fn new(alloc: Global, limit: u64) -> FlagSet
         ensures { result ≡ record { flags = map.empty; revision = 0; limit = limit } }
     {
         FlagSet::at_revision(alloc, 0, limit)
     }
 
-    /// No flags, at a revision that was made before. `restore` brings back the flags of that
-    /// revision.
+    /// No flags, at a revision that was made before, under a limit of the image in bytes. `restore`
+    /// brings back the flags of that revision.
     pub fn at_revision(alloc: Global, revision: u64, limit: u64) -> FlagSet
+        // It is a revision, or 0: below 2^63.
         requires { revision < REVISIONS_END }
         ensures { result ≡ record { flags = map.empty; revision = revision; limit = limit } }
     {
@@ -92,9 +93,10 @@ impl FlagSet {
         }
     }
 
-    /// The number of edits that were accepted so far.
+    /// The set's revision: the number of edits that were accepted so far.
     pub fn revision(&self) -> u64
         ensures revision { result ≡ self.now.revision }
+        // It is below 2^63.
         ensures bounded { result < REVISIONS_END }
     {
         self.revision
@@ -107,9 +109,10 @@ impl FlagSet {
         self.limit
     }
 
-    /// The bytes of the image. It is kept as edits come, and costs nothing to ask for.
+    /// The bytes of the set's image. They are kept as edits come, and cost nothing to ask for.
     pub fn size(&self) -> u64
         ensures size { result ≡ size_of self.now.flags }
+        // A limit of 4 bytes or more is kept.
         ensures within { IMAGE_HEAD ≤ self.now.limit → result ≤ self.now.limit }
     {
         self.size
@@ -118,6 +121,7 @@ impl FlagSet {
     /// The number of flags.
     pub fn len(&self) -> usize
         ensures len { result ≡ map.len self.now.flags }
+        // At most 4,096.
         ensures bounded { result ≤ MOST_FLAGS }
     {
         count(&self.flags)
@@ -130,9 +134,10 @@ impl FlagSet {
         self.len() == 0
     }
 
-    /// A key's flag.
+    /// The key's flag, `None` exactly where there is none.
     pub fn get(&self, key: &FlagKey) -> Option<&Flag>
         ensures flag { option_copied result ≡ map.get self.now.flags (key_bytes key.now) }
+        // Its mark, the revision that changed it last, lies from 1 to the set's revision.
         ensures changed { IfSome result (λ f. IsChangedBy self.now.revision f.now) }
     {
         find(&self.flags, key)
@@ -141,29 +146,32 @@ impl FlagSet {
     /// The flags with their keys, in ascending order of the keys' bytes.
     pub fn iter(&self) -> Iter<'_, FlagKey, Flag>
         ensures entries { entries_of result ≡ map.entries self.now.flags }
+        // The mark of each, the revision that changed it last, lies from 1 to the set's revision.
         ensures changed { All (λ e. IsChangedBy self.now.revision e.1) result }
     {
         self.flags.iter()
     }
 
-    /// The set as canonical JSON: an object whose one member, `flags`, has each definition under
-    /// its key.
+    /// The set's document, as canonical JSON: an object whose one member, `flags`, has each
+    /// definition under its key.
     pub fn document(&self) -> Result<Vec<u8>, AllocError>
         ensures { IfOk result (λ text. text.items ≡ document self.now.flags) }
     {
         Ok(self.outlined()?.into_text())
     }
 
-    /// The same with the places of the flags in it, so that a later document is made of it.
+    /// The set's document with the places of the flags in it, so that a later document is made of
+    /// it.
     pub fn outlined(&self) -> Result<Document, AllocError>
         ensures { IfOk result (λ d. IsDocumentOf d self.now) }
     {
         document_of(self.alloc, &self.flags, self.revision, self.size as usize)
     }
 
-    /// The same, made of the document of an earlier set, from which edits lead to this one. Where
-    /// they put flags in place of flags, what stands between these is copied.
+    /// The same, made of the document of an earlier set. Where the edits since put flags in place
+    /// of flags, what stands between these is copied.
     pub fn outlined_after(&self, before: &Document) -> Result<Document, AllocError>
+        // `before` is a document of a set from which edits lead to this one.
         requires { (s : State) × IsDocumentOf before.now s × LeadsTo s self.now }
         ensures { IfOk result (λ d. IsDocumentOf d self.now) }
     {
@@ -177,12 +185,14 @@ impl FlagSet {
         self.outlined()
     }
 
-    /// Makes the document of an earlier set, from which edits lead to this one, the document of
-    /// this one. Where one edit put a flag in place of another, its part alone is written. An
-    /// `Err` leaves the document as it was.
+    /// Makes the document of an earlier set the document of this one. Where one edit put a flag in
+    /// place of another, its part alone is written.
     pub fn outline_into(&self, document: &mut Document) -> Result<(), AllocError>
+        // It is a document of a set from which edits lead to this one.
         requires { (s : State) × IsDocumentOf document.old s × LeadsTo s self.now }
+        // `Ok`: it has become a document of this set.
         ensures made { OnOk result (IsDocumentOf document.new self.now) }
+        // `Err`: it is still a document of each set that it was one of.
         ensures unchanged { OnErr result
             ((s : State) → IsDocumentOf document.old s → IsDocumentOf document.new s) }
     {
@@ -233,14 +243,21 @@ impl FlagSet {
         })
     }
 
-    /// Makes an edit, and answers the revision that it made. Otherwise the edit comes back with
-    /// what stands against it.
+    /// Makes an edit, and answers the revision that it made. All changes of a change set are made,
+    /// under one revision, or none.
     pub fn admit(&mut self, edit: Edit) -> Result<u64, (EditFault, Edit)>
+        // `Ok`: the edit meets every test, and the set is the state after it.
         ensures admitted { OnOk result (Admits self.old (proposal_of edit) (accepted self.new)) }
+        // `Ok`: that state's revision.
         ensures revision { IfOk result (λ r. r ≡ self.new.revision) }
 
+        // `Err`: the first test not met: each key as expected, of a change set with the place of
+        // the first that isn't; room; a revision left. `Memory` comes only to an edit that puts a
+        // flag and meets all.
         ensures refused { IfErr result (λ p. IsRefused self.old (proposal_of edit) p.0) }
+        // An `Err` gives the edit back.
         ensures given_back { IfErr result (λ p. p.1 ≡ edit) }
+        // An `Err` leaves the set as it was.
         ensures unchanged { OnErr result (self.new ≡ self.old) }
     {
         if let Some(fault) = self.judge(&edit) {
@@ -252,14 +269,21 @@ impl FlagSet {
         }
     }
 
-    /// Makes an edit that nothing stands against, as `judge` tells, and answers the revision that it
-    /// made. Where memory is wanting the edit comes back.
+    /// Makes an edit that nothing stands against, as `judge` tells, and answers the revision that
+    /// it made. An `Err` is want of memory.
     pub fn make(&mut self, edit: Edit) -> Result<u64, Edit>
+        // It meets every test in this set.
         requires { refusal self.old (proposal_of edit) ≡ None }
+        // `Ok`: the set is the state after the edit: all changes of a set are made, under one
+        // revision.
         ensures admitted { OnOk result (Admits self.old (proposal_of edit) (accepted self.new)) }
+        // `Ok`: that state's revision.
         ensures revision { IfOk result (λ r. r ≡ self.new.revision) }
+        // `Err`: the edit puts a flag.
         ensures put { OnErr result (any_put (parts (change_of edit)) ≡ true) }
+        // An `Err` gives the edit back.
         ensures given_back { IfErr result (λ e. e ≡ edit) }
+        // An `Err` leaves the set as it was.
         ensures unchanged { OnErr result (self.new ≡ self.old) }
     {
         match edit {
@@ -303,15 +327,19 @@ impl FlagSet {
     /// Brings back a flag that an image holds, with the revision that changed it last. This is no
     /// edit: the revision stays.
     pub fn restore(&mut self, key: FlagKey, flag: Flag) -> Result<(), AllocError>
+        // That mark lies from 1 to the set's revision.
         requires changed { IsChangedBy self.old.revision flag }
+        // With the flag the set is within its limits.
         requires room { is_within (map.insert self.old.flags (key_bytes key) flag) self.old.limit
             ≡ true }
+        // `Ok`: the flag stands under the key with its mark, at the same revision.
         ensures restored { OnOk result
             (self.new ≡ record {
               flags = map.insert self.old.flags (key_bytes key) flag;
               revision = self.old.revision;
               limit = self.old.limit;
             }) }
+        // An `Err` leaves the set as it was.
         ensures unchanged { OnErr result (self.new ≡ self.old) }
     {
         let revision = self.revision;

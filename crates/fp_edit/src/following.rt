@@ -40,7 +40,7 @@ impl From<Change> for Edit {
 }
 
 impl Edit {
-    /// The same change, whatever its editor expected.
+    /// The same change by an editor that expects nothing.
     pub fn unconditional(self) -> Edit
         ensures { proposal_of result ≡ unconditional (change_of self) }
     {
@@ -52,7 +52,7 @@ impl Edit {
         }
     }
 
-    /// An equal edit, which shares the definition.
+    /// An equal edit, which shares the definitions.
     pub fn try_copy(&self) -> Result<Edit, AllocError>
         ensures { IfOk result (λ copy. proposal_of copy ≡ proposal_of self.now) }
     {
@@ -71,9 +71,11 @@ impl Edit {
     }
 }
 
-/// Equal edits, one by one.
+/// Copies of edits, one by one, which share the definitions.
 pub fn copies_of(alloc: Global, edits: &[Edit]) -> Result<Vec<Edit>, AllocError>
+    // `Ok`: they make the same changes; of what their editors expected nothing is said.
     ensures copied { IfOk result (λ copies. changes_of copies.items ≡ changes_of edits.now) }
+    // `Ok`: as many.
     ensures len { IfOk result (λ copies. vec_len copies ≡ length edits.now) }
 {
     let mut copies = Vec::with_capacity(alloc, edits.len())?;
@@ -112,16 +114,17 @@ fn most_behind(most: Tally, edits: &[Edit]) -> Option<Tally>
 }
 
 impl FlagSet {
-    /// Whether the set accepts the edits one after another, whatever their editors expected. It
-    /// looks at the set only at their keys.
+    /// Whether the set accepts the edits one after another, whatever their editors expected:
+    /// exactly, also where memory runs out for notes. It looks at the set only at their keys.
     pub fn accepts(&self, edits: &[Edit]) -> bool
         ensures { IsTrue result ↔ Follows self.now (changes_of edits.now) }
     {
         self.accepts_behind(&[], edits)
     }
 
-    /// Whether the set accepts the edits behind those that are ahead of it. Where memory is wanting
-    /// it looks back at all of them for each key.
+    /// Whether the set accepts the edits ahead one after another, and then these behind them,
+    /// whatever their editors expected: exactly, too. Where memory is wanting it looks back at all
+    /// of those ahead for each key.
     pub fn accepts_behind<'a>(&self, ahead: &'a [Edit], edits: &'a [Edit]) -> bool
         ensures { IsTrue result ↔ (Follows self.now (changes_of ahead.now)
             × Follows (after_all self.now (changes_of ahead.now)) (changes_of edits.now)) }
@@ -299,13 +302,17 @@ impl FlagSet {
         judged_sums(tally, sums, is_bound)
     }
 
-    /// Takes into the set the edits that are ahead of it. Where memory is wanting it
-    /// stops between two of them.
+    /// Takes into the set the edits that are ahead of it, from the front. Where memory is wanting
+    /// it stops between two of them.
     pub fn catch_up(&mut self, ahead: &mut VecDeque<Edit>) -> Result<(), AllocError>
+        // The set accepts them one after another, whatever their editors expected.
         requires { Follows self.old (changes_of ahead.old.items) }
+        // The set leads, with what is left ahead, where it led before.
         ensures same { after_all self.new (changes_of ahead.new.items)
             ≡ after_all self.old (changes_of ahead.old.items) }
+        // It accepts what is left ahead, one after another.
         ensures follows { Follows self.new (changes_of ahead.new.items) }
+        // `Ok`: nothing is left.
         ensures done { OnOk result (length ahead.new.items ≡ 0) }
     {
         while let Some(edit) = ahead.pop_front() {

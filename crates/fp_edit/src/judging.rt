@@ -20,8 +20,8 @@ use fp_definition::{Definition, FlagKey};
 use fp_documents::cost_of;
 
 impl FlagSet {
-    /// Whether the set keeps within its limits with a definition under a key, whatever is there
-    /// now.
+    /// Whether the set keeps within its limits, of flags and of bytes, with this definition under
+    /// this key, whatever is there now.
     pub fn has_room_for(&self, key: &FlagKey, definition: &Definition) -> bool
         ensures { (changed : ℕ)
             → result ≡ is_within
@@ -45,7 +45,8 @@ impl FlagSet {
             && self.size() as u128 + cost_of(key, definition) <= self.limit() as u128
     }
 
-    /// What stands against an edit, if anything but want of memory does.
+    /// The fault that `admit` would answer, want of memory aside; `None` where the edit meets every
+    /// test.
     pub fn judge(&self, edit: &Edit) -> Option<EditFault>
         ensures { result ≡ refusal self.now (proposal_of edit.now) }
     {

@@ -23,7 +23,7 @@ impl<'a> Model for MetKeys<'a> {
 }
 
 impl<'a> MetKeys<'a> {
-    /// None was met yet. It takes no memory.
+    /// No key was met yet. It takes no memory.
     pub fn new(alloc: Global) -> MetKeys<'a>
         ensures { result ≡ [] }
     {
@@ -32,10 +32,12 @@ impl<'a> MetKeys<'a> {
         }
     }
 
-    /// Meets a key by one look-up, and answers whether it's the first time. Where memory is wanting,
-    /// the first time has not come.
+    /// Meets a key by one look-up, and answers whether it's the first time. Where memory is
+    /// wanting, the first time has not come.
     pub fn meet(&mut self, key: &'a str) -> Result<bool, AllocError>
+        // `Ok`: whether it wasn't met before.
         ensures first { IfOk result (λ first. first ≡ not (is_among key.now self.old)) }
+        // `Ok`: this key was met, and those before it; no other.
         ensures met { OnOk result (AreMet self.new (key.now ∷ self.old)) }
     {
         Ok(self.keys.insert(key)?)

@@ -109,7 +109,8 @@ pub(crate) enum Op {
     Delete,
 }
 
-/// The edit that a line spells. The line comes without its newline.
+/// The edit that a line spells, or its first fault, with the place of the change in a set that it
+/// is of. The line comes without its newline, and a delete's `flag` isn't looked at.
 #[tactic(auto, unfolding(crate::specs::Line::line_of))]
 pub fn parse_line(alloc: Global, line: &[u8]) -> Result<Edit, LineFault>
     ensures { Gives proposal_of Tells result (says.line_of line.now) }

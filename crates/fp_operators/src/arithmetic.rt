@@ -6,7 +6,8 @@ ghost use Rattle.fp_operators.specs.Arithmetic.{remainder_of};
 
 use crate::datum::Datum;
 
-/// `%`: the remainder of two numbers with the dividend's sign, and null for all else.
+/// `%`: the remainder of two numbers with the dividend's sign, where the divisor isn't 0, and null
+/// for all else. -2^63 and -1 leave 0.
 pub fn remainder(dividend: &Datum, divisor: &Datum) -> Datum
     ensures { view result ≡ remainder_of (view dividend.now) (view divisor.now) }
 {

@@ -41,10 +41,10 @@ impl Datum {
         Datum::from_tree(alloc, &tree)
     }
 
-    /// The datum that a tree of JSON writes. A number that isn't whole becomes null, so callers
-    /// refuse such a tree.
+    /// The same of a tree of JSON.
     #[cycle(from_tree)]
     pub fn from_tree(alloc: Global, tree: &Tree<'_>) -> Result<Datum, AllocError>
+        // The tree is ordered.
         requires { IsOrdered (tree_view tree.now) }
         ensures { IfOk result (λ d. view d ≡ data_of (tree_view tree.now)) }
     {
@@ -66,10 +66,11 @@ impl Datum {
         }
     }
 
-    /// An equal datum. Null, a boolean and a number take no memory, so copying them can't fail.
+    /// An equal datum.
     #[cycle(copy)]
     pub fn try_copy(&self, alloc: Global) -> Result<Datum, AllocError>
         ensures copy { IfOk result (λ d. view d ≡ view self.now) }
+        // `Err`: it is a text, a list or an object; copying any other can't fail.
         ensures memory { OnErr result (takes_memory (view self.now) ≡ true) }
     {
         match self {

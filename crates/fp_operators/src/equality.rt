@@ -49,7 +49,8 @@ fn stands_for(datum: &Datum, number: &Datum) -> bool
     }
 }
 
-/// `==`: `===`, or a number beside a text that writes it, or beside a boolean as 1 or 0.
+/// `==`: `===`, or one means the number that the other is: a text that writes it, or true and false
+/// as 1 and 0.
 pub fn loosely_equal(a: &Datum, b: &Datum) -> bool
     ensures { result ≡ loose_equality (view a.now) (view b.now) }
 {

@@ -3,7 +3,8 @@
 ghost use Rattle.std.specs.Prelude.{◌≡◌, ◌∷◌, [], ◌++◌};
 ghost use Rattle.fp_operators.specs.Murmur.{word, scrambled, mixed, absorbed, finished, murmur};
 
-/// The hash of a text that stands in two parts, which are not joined for it.
+/// The hash of a text by MurmurHash3 (x86, 32 bits, seed 0). It stands in two parts, which are not
+/// joined for it.
 pub fn hash_of(front: &str, back: &str) -> u32
     ensures { result ≡ murmur (front.now ++ back.now) }
 {

@@ -21,28 +21,29 @@ fn compare(a: &Datum, b: &Datum) -> Option<Ordering>
     }
 }
 
-/// `<` at two arguments. Data that have no order are not below one another.
+/// `<` at two arguments: numbers by value, texts by bytes, a number and a text that writes one by
+/// value. All else has no order, and isn't below anything.
 pub fn less(a: &Datum, b: &Datum) -> bool
     ensures { result ≡ is_below (view a.now) (view b.now) }
 {
     compare(a, b) == Some(Ordering::Less)
 }
 
-/// `<=` at two arguments.
+/// `<=` at two arguments, in the same order.
 pub fn less_or_equal(a: &Datum, b: &Datum) -> bool
     ensures { result ≡ is_at_most (view a.now) (view b.now) }
 {
     matches!(compare(a, b), Some(Ordering::Less | Ordering::Equal))
 }
 
-/// `>`.
+/// `>`: `less` of the arguments turned round.
 pub fn greater(a: &Datum, b: &Datum) -> bool
     ensures { result ≡ is_below (view b.now) (view a.now) }
 {
     less(b, a)
 }
 
-/// `>=`.
+/// `>=`: `less_or_equal` of the arguments turned round.
 pub fn greater_or_equal(a: &Datum, b: &Datum) -> bool
     ensures { result ≡ is_at_most (view b.now) (view a.now) }
 {

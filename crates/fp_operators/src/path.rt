@@ -17,8 +17,8 @@ use std::collections::BTreeMap;
 // A node of a map holds fewer members than this.
 const FEW: usize = 16;
 
-/// `var`: what the first argument names in the data, else the second argument, else null. With no
-/// argument, all data. Further arguments are not looked at.
+/// `var`: a copy of what the first argument names in the data, else of the second argument, else
+/// null. With no argument, all data; further arguments are not looked at.
 pub fn variable(alloc: Global, root: &Datum, arguments: &[Datum]) -> Result<Datum, AllocError>
     ensures { IfOk result (λ d. view d ≡ variable_of (view root.now) (map view arguments.now)) }
 {
@@ -35,8 +35,8 @@ pub fn variable(alloc: Global, root: &Datum, arguments: &[Datum]) -> Result<Datu
     }
 }
 
-/// What a datum names in the data: a text or a number its path, null all of them. The data are
-/// lent, so that a caller copies no more than it keeps.
+/// What a datum names in the data, lent: a text or a number, by its decimal text, its path; null
+/// all of them. `None` where it names nothing.
 pub fn named<'d>(root: &'d Datum, path: &Datum) -> Option<&'d Datum>
     ensures { option_map (λ d. view d.now) result ≡ named_by (view path.now) (view root.now) }
 {
@@ -51,7 +51,8 @@ pub fn named<'d>(root: &'d Datum, path: &Datum) -> Option<&'d Datum>
     }
 }
 
-/// What the path that a text writes names in the data: the empty one all of them.
+/// What the dotted path that a text writes names in the data, lent; the empty one all of them. It
+/// is walked once, with one look-up a part.
 pub fn at_text<'d>(root: &'d Datum, path: &str) -> Option<&'d Datum>
     ensures { option_map (λ d. view d.now) result ≡ at_text_of path.now (view root.now) }
 {
@@ -74,7 +75,8 @@ fn at_path<'d>(root: &'d Datum, path: &str) -> Option<&'d Datum>
     step(target, rest)
 }
 
-/// What one part of a path names.
+/// What one part of a path names in a datum: an object's member by its name, a list's item by its
+/// place.
 pub fn step<'d>(target: &'d Datum, part: &str) -> Option<&'d Datum>
     ensures { option_map (λ d. view d.now) result ≡ step_to part.now (view target.now) }
 {

@@ -94,14 +94,17 @@ fn joined_text(alloc: Global, parts: &[Datum]) -> Result<Option<String>, AllocEr
     Ok(Some(out))
 }
 
-/// One step of `cat`: writes a datum's text behind another, and tells whether it has one. Lists and
-/// objects have none, and nothing is written for them.
+/// One step of `cat`: puts a datum's text behind what is written, and tells whether it has one.
+/// Lists and objects have none; null's is empty.
 pub fn append_text(out: &mut String, datum: &Datum) -> Result<bool, AllocError>
+    // `Ok(true)`: that text stands behind what was there; `Ok(false)`: the datum has none.
     ensures text { IfOk result (λ wrote.
         (if wrote then Some (string_bytes out.new) else None)
         ≡ option_map (λ t. string_bytes out.old ++ t) (scalar_text (view datum.now))) }
+    // `Ok(false)`: what was there stays.
     ensures none { IfOk result (λ wrote.
         wrote ≡ false → string_bytes out.new ≡ string_bytes out.old) }
+    // An `Err` leaves what was there.
     ensures err { OnErr result (string_bytes out.new ≡ string_bytes out.old) }
 {
     match datum {

@@ -6,7 +6,8 @@ ghost use Rattle.fp_operators.specs.Truth.{truth};
 
 use crate::datum::Datum;
 
-/// `!!`: whether a datum counts as true.
+/// `!!`: whether a datum counts as true: all but null, false, 0, the empty text and the empty list
+/// do.
 pub fn is_truthy(datum: &Datum) -> bool
     ensures { result ≡ truth (view datum.now) }
 {

@@ -15,8 +15,8 @@ use semver::Version;
 use std::alloc::{AllocError, Global};
 use std::cmp::Ordering;
 
-/// `sem_ver`: how the operator, the second argument, compares two versions. What is no version or
-/// no operator gives false.
+/// `sem_ver`: how the operator, the second argument, compares two versions. What is no version, or
+/// no operator, gives false.
 pub fn sem_ver(
     alloc: Global,
     first: &Datum,

@@ -42,11 +42,15 @@ impl Model for Data {
 }
 
 impl Data {
-    /// The context with the member `$flagd`, an object of the flag's key and of the moment in
-    /// seconds since 1970. A member of that name in the context is replaced.
+    /// The context with the member `$flagd`, an object of the flag's key (`flagKey`) and of the
+    /// moment in seconds since 1970 (`timestamp`). A member of that name in the context is
+    /// replaced.
     pub fn new(alloc: Global, context: &Value, flag_key: &str, now: u64) -> Result<Data, AllocError>
+        // The context is an object.
         requires object { IsSome (as_object (json_view context.now)) }
+        // Each number in it is whole.
         requires whole { is_whole (json_view context.now) ≡ true }
+        // The moment is below 2^63.
         requires moment { now < 2 ^ 63 }
         ensures { IfOk result (λ d. d ≡ rule_data (json_view context.now) flag_key.now now) }
     {
@@ -54,7 +58,7 @@ impl Data {
         Data::of_tree(alloc, &tree, flag_key, now)
     }
 
-    /// The same of a tree.
+    /// The same of a context that is a tree.
     #[tactic(auto, using(crate::proofs::Rooms::has_room))]
     pub fn of_tree(
         alloc: Global,
@@ -62,9 +66,13 @@ impl Data {
         flag_key: &str,
         now: u64,
     ) -> Result<Data, AllocError>
+        // The context is an object.
         requires object { IsSome (as_object (tree_view context.now)) }
+        // Each number in it is whole.
         requires whole { is_whole (tree_view context.now) ≡ true }
+        // The tree is ordered.
         requires ordered { IsOrdered (tree_view context.now) }
+        // The moment is below 2^63.
         requires moment { now < 2 ^ 63 }
         ensures { IfOk result (λ d. d ≡ rule_data (tree_view context.now) flag_key.now now) }
     {
@@ -73,16 +81,17 @@ impl Data {
         Ok(Data { datum })
     }
 
-    /// Turns to the flag of this key: the data are then those that are made for it, in the same
-    /// context at the same moment. No memory is asked for.
+    /// Turns to the flag of this key: data made for whatever flag are then those made for this one,
+    /// in the same context at the same moment. It asks for no memory, and can't fail.
     pub fn set_flag(&mut self, flag_key: &str)
+        // The key has at most 256 bytes.
         requires { length flag_key.now ≤ ROOM_FOR_A_KEY }
         ensures { TurnsTo flag_key.now self.old self.new }
     {
         turn_to(&mut self.datum, flag_key);
     }
 
-    /// The data as a datum.
+    /// The data as a datum, lent.
     pub fn datum(&self) -> &Datum
         ensures { view result.now ≡ self.now }
     {

@@ -54,7 +54,7 @@ impl<'d> Found<'d> {
         }
     }
 
-    /// The result, as it is lent or made.
+    /// The result that was found, lent.
     pub fn datum(&self) -> &Datum
         ensures { view result.now ≡ found_view self.now }
     {
@@ -66,7 +66,9 @@ impl<'d> Found<'d> {
 
     /// The result itself, copied where it is only lent.
     pub fn into_datum(self, alloc: Global) -> Result<Datum, AllocError>
+        // `Ok`: an equal datum.
         ensures copy { IfOk result (λ d. view d ≡ found_view self.entry) }
+        // `Err`: it is a text, a list or an object.
         ensures memory { OnErr result (takes_memory (found_view self.entry) ≡ true) }
     {
         match self {

@@ -34,7 +34,8 @@ pub const DEEPEST_RULE: u32 = 32;
 /// The most JSON values that a rule has, its literals' insides and its operators' objects included.
 pub const MOST_RULE_VALUES: usize = 1_024;
 
-/// A compiled rule.
+/// A compiled rule. Its code, run on any data, wants no operand that isn't there, skips to nowhere
+/// outside and has room for what it keeps: that is the type's invariant.
 #[derive(Drop)]
 pub struct Rule {
     code: Code,
@@ -92,7 +93,9 @@ impl<T: Drop> From<AllocFailed<T>> for RuleFault {
 }
 
 impl Rule {
-    /// The rule that a JSON value writes.
+    /// The rule that a JSON value writes, or the first of its faults: `TooDeep`;
+    /// `UnsupportedOperator` with the first such name in reading order; `BadRule`. At any place the
+    /// answer may be `Memory` instead.
     pub fn compile(alloc: Global, value: &Value) -> Result<Rule, RuleFault>
         ensures { Gives (λ rule. rule) Tells result (verdict (json_view value.now)) }
     {
@@ -106,11 +109,14 @@ impl Rule {
         Rule::from_tree(alloc, &json)
     }
 
-    /// The rule that a tree of JSON writes, whose numbers are whole and which nests within the
-    /// limit. Neither is tested again.
+    /// The same of a tree that nests within the limit and has whole numbers; neither is tested
+    /// again.
     pub fn from_tree(alloc: Global, tree: &Json<'_>) -> Result<Rule, RuleFault>
+        // Each number is whole.
         requires whole { is_whole (tree_view tree.now) ≡ true }
+        // It nests at most 32 deep.
         requires flat { depth (tree_view tree.now) ≤ DEEPEST_RULE }
+        // The tree is ordered.
         requires ordered { IsOrdered (tree_view tree.now) }
         ensures { Gives (λ rule. rule) Tells result (verdict (tree_view tree.now)) }
     {
@@ -123,39 +129,48 @@ impl Rule {
         }
     }
 
-    /// What the rule gives for the data, lent where it stands in the rule or in the data. Memory
-    /// can run out only where the rule makes a list or a text, or reads versions.
+    /// What the rule gives for the data, lent where it stands in the rule or in the data.
     pub fn find<'d>(&'d self, alloc: Global, data: &'d Data) -> Result<Found<'d>, AllocError>
+        // `Ok`: a result that the rule means on these data, by the relation.
         ensures means { IfOk result (λ x. Means self.now «data».now (found_view x)) }
+        // `Ok`: it is the one that the plain program computes.
         ensures computed { IfOk result (λ x. found_view x ≡ meaning «data».now self.now) }
+        // `Err`: the rule needs memory by its tree: a `cat` or a `sem_ver` stands in it, or a list
+        // that isn't all literals.
         ensures memory { OnErr result (needs_memory self.now ≡ true) }
     {
         self.code.run(alloc, data.datum())
     }
 
-    /// What the rule gives for the data. Memory can run out only where the rule needs it, or for a
-    /// text, a list or an object that it gives.
+    /// The same by value: a copy, where the result is lent.
     pub fn eval(&self, alloc: Global, data: &Data) -> Result<Datum, AllocError>
+        // `Ok`: a result that the rule means on these data, by the relation.
         ensures means { IfOk result (λ x. Means self.now «data».now (view x)) }
+        // `Ok`: it is the one that the plain program computes.
         ensures computed { IfOk result (λ x. view x ≡ meaning «data».now self.now) }
+        // `Err`: the rule needs memory by its tree, as of `find`, or the result takes memory: it is
+        // a text, a list or an object.
         ensures memory { OnErr result (
             (needs_memory self.now || takes_memory (meaning «data».now self.now)) ≡ true) }
     {
         self.find(alloc, data)?.into_datum(alloc)
     }
 
-    /// What the rule gives may depend on the moment. Where not, it is the same at any moment.
+    /// Whether what the rule gives may depend on the moment. `false`: for whatever flag and context
+    /// it gives at any moment what it gives at any other.
     pub fn reads_moment(&self) -> bool
         ensures { result ≡ false → IsTimeless self.now }
     {
         self.code.reads_moment()
     }
 
-    /// Exactly one result: on any data there is one that the rule gives, and only one, which
-    /// `eval` answers where memory suffices. Does nothing when it runs.
+    /// Law: on given data a rule has exactly one result. It does nothing when it runs.
     pub fn one_result(&self)
+        // On any data there is a result that the rule means.
         ensures exists { (d : values.Data) → (x : values.Data) × Means self.now d x }
+        // There is only one.
         ensures unique { (d x y : values.Data) → Means self.now d x → Means self.now d y → x ≡ y }
+        // It is exactly the one that the plain program computes.
         ensures computed { (d x : values.Data) → Means self.now d x ↔ (x ≡ meaning d self.now) }
     {
         let _code = &self.code;
