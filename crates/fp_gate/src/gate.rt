@@ -54,13 +54,13 @@ impl<S> Gate<S> {
 impl Gate<Closed> {
     /// Writes a closed byte. After the next sync that succeeds a gate may adopt the place.
     pub fn place_closed<D: Disk>(disk: &mut Checked<D>, at: u64) -> Result<(), DiskFault>
-        // The disk is as after a write of one closed byte there:
+        // The disk is as after a write of one closed byte there, done or failed.
         ensures wrote { WritesByte D.Disk disk.old disk.new at CLOSED result }
     {
         disk.write_at(at, &[CLOSED])
     }
 
-    /// The gate at a place whose byte is closed whatever a crash leaves. It guards nothing yet. No
+    /// The gate at a place whose byte is closed whatever a crash leaves; it guards nothing yet. No
     /// call is made.
     pub fn adopt<D: Disk>(disk: &Checked<D>, at: u64) -> Gate<Closed>
         // H: the byte is there and closed in every crash state.
@@ -117,7 +117,7 @@ impl Gate<Closed> {
         ensures guards { AtAnyMoment D.Disk disk.old.disk disk.new.disk
             (Guards self (D.bytes disk.old.disk)) }
 
-        // The disk is as after a write of the open byte there:
+        // The disk is as after a write of the open byte there, done or failed.
         ensures wrote { WritesByte D.Disk disk.old disk.new self.at OPEN result }
         // H: `Ok`: the open byte is read there.
         ensures shown { D.honest disk.old.disk →
