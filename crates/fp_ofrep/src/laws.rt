@@ -8,7 +8,7 @@ pub fn one_flag_is_looked_at()
     // One flag's reply is the same over all sets of one revision that have this flag, whatever
     // others they have.
     ensures others { law.LooksAtOneFlag }
-    // It is the same by a path whose segment decodes to the key as by the key itself.
+    // A `POST` at a path whose segment decodes to a key of UTF-8 has the reply for that key itself.
     ensures key { law.KeyOrSegment }
 {}
 
