@@ -68,29 +68,40 @@ impl Model for Definition {
 }
 
 impl Definition {
-    /// The definition that a value is.
+    /// The definition that a JSON value is: tested, made canonical and compiled once, for all
+    /// shares.
     pub fn from_value(alloc: Global, value: Value) -> Result<Definition, DefFault>
+        // `Ok`: the value is a valid definition.
         ensures valid { IfOk result (λ _. IsValid (view value)) }
+        // `Ok`: the definition is the value's canonical text.
         ensures text { IfOk result (λ d. d ≡ compact_text (view value)) }
+        // `Ok`: that text reads back as the value.
         ensures reads { IfOk result (λ d. json_of d ≡ Some (view value)) }
+        // `Err`: the first fault that the value has, in the order of the tests, or `Memory`.
         ensures refused { IfErr result (IsFirst Tells (first_fault (view value))) }
     {
         let tree = Tree::of_value(alloc, &value)?;
         made(alloc, &tree, USUAL_ROOM)
     }
 
-    /// The definition that a tree of JSON is.
+    /// As `from_value`, of a tree of JSON.
     pub fn from_tree(alloc: Global, tree: &Tree<'_>) -> Result<Definition, DefFault>
+        // The tree is ordered.
         requires { IsOrdered (tree_view tree.now) }
+        // `Ok`: the tree's data are a valid definition.
         ensures valid { IfOk result (λ _. IsValid (tree_view tree.now)) }
+        // `Ok`: the definition is their canonical text.
         ensures text { IfOk result (λ d. d ≡ compact_text (tree_view tree.now)) }
+        // `Ok`: that text reads back as the data.
         ensures reads { IfOk result (λ d. json_of d ≡ Some (tree_view tree.now)) }
+        // `Err`: the first fault that the data have, in the order of the tests, or `Memory`.
         ensures refused { IfErr result (IsFirst Tells (first_fault (tree_view tree.now))) }
     {
         made(alloc, tree, USUAL_ROOM)
     }
 
-    /// The definition whose canonical text the bytes are, or `None` where they are no such text.
+    /// The definition whose canonical text the bytes are, and `None` exactly where they are no such
+    /// text. The bytes are read once.
     pub fn from_text(alloc: Global, text: &[u8]) -> Result<Option<Definition>, AllocError>
         ensures { IfOk result (λ o. o ≡ definition_in text.now) }
     {
@@ -101,15 +112,17 @@ impl Definition {
         }
     }
 
-    /// The canonical text.
+    /// The canonical text, which `from_text` takes.
     pub fn text(&self) -> &[u8]
         ensures text { result.now ≡ self.now }
+        // It is the canonical text of a valid definition.
         ensures canonical { is_definition_text self.now ≡ true }
     {
         self.share.text.as_slice()
     }
 
-    /// The canonical text of the member `metadata`.
+    /// The canonical text of the member `metadata` of the data which the text spells, and `None`
+    /// where there is none. It is lent where it stands in the text.
     pub fn metadata(&self) -> Option<&[u8]>
         ensures { option_map (λ t. t.now) result
             ≡ option_map compact_text (get (codes "metadata") (data_of self.now)) }
@@ -134,7 +147,8 @@ impl Definition {
         &self.share.rule
     }
 
-    /// Another share of the same definition.
+    /// An equal definition, which is another share of the same: nothing is tested, printed or
+    /// compiled again.
     pub fn try_copy(&self) -> Result<Definition, AllocError>
         ensures { IfOk result (λ d. d ≡ self.now) }
     {

@@ -74,7 +74,7 @@ impl<T: Drop> From<AllocFailed<T>> for DefFault {
 impl DefFault {
     ghost use Rattle.fp_definition.specs.Faults.{text_of};
 
-    /// The word by which replies name the fault.
+    /// The word by which replies name the fault. `Display` prints it too.
     pub fn as_str(&self) -> &'static str
         ensures { result.now ≡ text_of self.now }
     {

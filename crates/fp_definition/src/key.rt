@@ -24,10 +24,13 @@ impl FlagKey {
     ghost use Rattle.fp_definition.specs.declared.faults.KeyFault.TheVariants.{BadKey};
     ghost use Rattle.fp_targeting.specs.RuleData.{TurnsTo};
 
-    /// The key that a text spells.
+    /// The key that is this text, by which a flag is named.
     pub fn new(alloc: Global, text: &str) -> Result<FlagKey, KeyFault>
+        // `Ok`: the key is the text.
         ensures key { IfOk result (λ k. key_bytes k ≡ text.now) }
+        // `Ok`: the text has 1 to 256 bytes.
         ensures ok { IfOk result (λ _. is_key text.now ≡ true) }
+        // `BadKey`: it hasn't so many.
         ensures bad_key { result ≡ Err BadKey → is_key text.now ≡ false }
     {
         if text.is_empty() || text.len() > LONGEST_KEY {
@@ -37,7 +40,7 @@ impl FlagKey {
         Ok(FlagKey { text })
     }
 
-    /// The text.
+    /// The key's text.
     pub fn as_str(&self) -> &str
         ensures { result.now ≡ key_bytes self.now }
     {

@@ -75,8 +75,9 @@ pub struct Resolved<'d> {
 }
 
 impl Definition {
-    /// What the flag of this key resolves to in a context, an object of whole numbers, at a moment
-    /// in seconds since 1970.
+    /// What the flag of this key resolves to in a context, at a moment in seconds since 1970: a
+    /// variant, `Disabled` or `NoVariant`. The variant's value is lent as its canonical text, where
+    /// it stands in the definition's.
     #[tactic(auto, unfolding(crate::specs::Outcome::outcome_of))]
     pub fn resolve(
         &self,
@@ -85,13 +86,19 @@ impl Definition {
         context: &Value,
         now: u64,
     ) -> Result<Resolved<'_>, EvalFault>
+        // The context is an object.
         requires object { IsSome (as_object (view context.now)) }
+        // Its numbers are whole.
         requires whole { is_whole (view context.now) ≡ true }
+        // The moment is below 2^63.
         requires moment { now < 2 ^ 63 }
+        // An outcome that the definition has for key, context and moment (`Resolves`), or `Memory`.
         ensures resolves { Answers spelled_by Tells result
             (Spells (Resolves (data_of self.now) (key_bytes key.now) (view context.now) now)) }
+        // The outcome that `outcome_of` computes of these, or `Memory`.
         ensures computed { Gives spelled_by Tells result (outcome_spelled
             (outcome_of (data_of self.now) (key_bytes key.now) (view context.now) now)) }
+        // `Memory`: there is a rule.
         ensures memory { IfErr result (λ e. e ≡ Memory → HasRule (data_of self.now)) }
     {
         if self.is_disabled() {
@@ -106,9 +113,8 @@ impl Definition {
         }
     }
 
-    /// The same in a context that is a tree. Its data are made where there is a rule: where memory
-    /// is wanting for them, nothing is evaluated. Past that it can run out only where the rule makes
-    /// a list or a text, or reads versions.
+    /// As `resolve`, in a context that is a tree. The rule's data are made of it only where there
+    /// is a rule, and where memory is wanting for them (the outer `Err`) nothing is evaluated.
     #[tactic(auto, unfolding(crate::specs::Outcome::outcome_of))]
     pub fn resolve_tree(
         &self,
@@ -117,16 +123,25 @@ impl Definition {
         context: &Tree<'_>,
         now: u64,
     ) -> Result<Result<Resolved<'_>, EvalFault>, AllocError>
+        // The context is an object.
         requires object { IsSome (as_object (tree_view context.now)) }
+        // Its numbers are whole.
         requires whole { is_whole (tree_view context.now) ≡ true }
+        // It is ordered.
         requires ordered { IsOrdered (tree_view context.now) }
+        // The moment is below 2^63.
         requires moment { now < 2 ^ 63 }
+        // `Ok`: an outcome that the definition has for key, context and moment (`Resolves`), or
+        // `Memory`.
         ensures resolves { IfOk result (λ r. Answers spelled_by Tells r
             (Spells (Resolves (data_of self.now) (key_bytes key.now) (tree_view context.now) now))) }
+        // `Ok`: the outcome that `outcome_of` computes of these, or `Memory`.
         ensures computed { IfOk result (λ r. Gives spelled_by Tells r (outcome_spelled
             (outcome_of (data_of self.now) (key_bytes key.now) (tree_view context.now) now))) }
+        // `Memory`: a `cat`, a `sem_ver`, or a list that isn't all literals stands in the rule.
         ensures memory { IfOk result (λ r. IfErr r (λ e. e ≡ Memory
             → rule_needs_memory (rule_in (get (codes "targeting") (data_of self.now))) ≡ true)) }
+        // The outer `Err`: there is a rule.
         ensures no_data { OnErr result (HasRule (data_of self.now)) }
     {
         if self.is_disabled() {
@@ -139,9 +154,9 @@ impl Definition {
         Ok(self.by_rule(alloc, rule, &data))
     }
 
-    /// The same over the data of a context at a moment, made once for all flags. Where there is a
-    /// rule the data turn to the flag of this key. Memory can run out only where the rule makes a list
-    /// or a text, or reads versions: what it names is lent.
+    /// As `resolve`, over the data of a context at a moment, made once for many flags. Where there
+    /// is a rule they turn to the flag of this key, which asks for no memory; what the rule names
+    /// is lent.
     #[tactic(auto, unfolding(crate::specs::Outcome::outcome_of))]
     pub fn resolve_in(
         &self,
@@ -149,14 +164,19 @@ impl Definition {
         key: &FlagKey,
         data: &mut Data,
     ) -> Result<Resolved<'_>, EvalFault>
+        // Over data of whatever context and moment, made for whatever flag: an outcome that the
+        // definition has for this key in that context at that moment (`Resolves`), or `Memory`.
         ensures resolves { (context : JsonData) (now : ℕ) → IsOfContext context now «data».old
             → Answers spelled_by Tells result
             (Spells (Resolves (data_of self.now) (key_bytes key.now) context now)) }
+        // Over these: the outcome that `outcome_of` computes, or `Memory`.
         ensures computed { (context : JsonData) (now : ℕ) → IsOfContext context now «data».old
             → Gives spelled_by Tells result
             (outcome_spelled (outcome_of (data_of self.now) (key_bytes key.now) context now)) }
+        // The data stay of that context and moment.
         ensures context { (context : JsonData) (now : ℕ) → IsOfContext context now «data».old
             → IsOfContext context now «data».new }
+        // `Memory`: a `cat`, a `sem_ver`, or a list that isn't all literals stands in the rule.
         ensures memory { IfErr result (λ e. e ≡ Memory
             → rule_needs_memory (rule_in (get (codes "targeting") (data_of self.now))) ≡ true) }
     {
@@ -170,16 +190,20 @@ impl Definition {
         self.by_rule(alloc, rule, data)
     }
 
-    /// The same over data that are made for the flag, whose key they have.
+    /// As `resolve`, over data that are made for the flag already, whose key they have.
     #[tactic(auto, unfolding(crate::specs::Outcome::outcome_of))]
     pub fn resolve_over(&self, alloc: Global, data: &Data) -> Result<Resolved<'_>, EvalFault>
+        // Over data made of a key, a context and a moment: an outcome that the definition has for
+        // these (`Resolves`), or `Memory`.
         ensures resolves { (key : List ℕ) (context : JsonData) (now : ℕ)
             → «data».now ≡ rule_data context key now
             → Answers spelled_by Tells result (Spells (Resolves (data_of self.now) key context now)) }
+        // Over these: the outcome that `outcome_of` computes, or `Memory`.
         ensures computed { (key : List ℕ) (context : JsonData) (now : ℕ)
             → «data».now ≡ rule_data context key now
             → Gives spelled_by Tells result
             (outcome_spelled (outcome_of (data_of self.now) key context now)) }
+        // `Memory`: a `cat`, a `sem_ver`, or a list that isn't all literals stands in the rule.
         ensures memory { IfErr result (λ e. e ≡ Memory
             → rule_needs_memory (rule_in (get (codes "targeting") (data_of self.now))) ≡ true) }
     {
@@ -192,7 +216,8 @@ impl Definition {
         self.by_rule(alloc, rule, data)
     }
 
-    /// The outcome may depend on the moment. Where not, it is the same at any moment.
+    /// Whether the outcome may depend on the moment. `false`: it is the same at any moment,
+    /// whatever the key and the context.
     pub fn reads_moment(&self) -> bool
         ensures { result ≡ false → IsTimeless (data_of self.now) }
     {
@@ -202,8 +227,8 @@ impl Definition {
         }
     }
 
-    /// Exactly one outcome, whatever the key, the context and the moment, which `resolve` answers
-    /// where memory suffices. Does nothing when it runs.
+    /// Law: for each key, context and moment there is exactly one outcome (`Resolves`), the one
+    /// that `outcome_of` computes. Does nothing when it runs.
     pub fn one_outcome(&self)
         ensures { (key : List ℕ) (context : JsonData) (now : ℕ) (outcome : Result Said EvalFault)
             → Resolves (data_of self.now) key context now outcome

@@ -45,8 +45,12 @@ module _ {S N : Type 0} {news : Ghosts N} where
   -- time of newer news
   pub record RunsOn (answers : Answering S) (informs : Informing S N) (old new : Loop S N news)
       : Type 0 where
+    -- calls and news, in some order
     pub steps : List (Step N)
+    -- by these the service went on, and by nothing else
     pub course : Course answers informs old.service.service steps new.service.service
+    -- each of the news is newer than what was shown before it, and the last is what is shown in the
+    -- end
     pub rise : Rise news.shows (shown_by old) steps (shown_by new)
 
   -- neither its service nor what it shows changed

@@ -21,8 +21,11 @@ module _ {N : Type 0} {g : Ghosts N} where
   -- snapshots, each newer than what it had before
   pub record Tells (hello : Hello) (o : Outgoing N g) (went : List ℕ) (begun : List Snapshot)
       : Type 0 where
+    -- the bytes that went and those that are left are the frames of news, however they were cut
     pub frames : went ++ rest_of o ≡ stream_of begun
+    -- each is newer than the one before, and than the hello
     pub news : AreNews hello begun
+    -- the last of them is what the subscriber has once all is sent
     pub has : has_after hello begun ≡ o.has
 
   -- whatever went to the subscriber before, more of it may have gone, of newer snapshots too

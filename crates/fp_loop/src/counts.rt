@@ -74,7 +74,7 @@ impl Tally {
 }
 
 impl Counts {
-    /// Nothing yet.
+    /// Counts of nothing yet. Loops and doors add to them, which share them by `Arc`.
     pub fn new() -> Counts {
         Counts {
             requesters: AtomicU64::new(0),
@@ -89,7 +89,7 @@ impl Counts {
         }
     }
 
-    /// What was counted up to now.
+    /// What was counted up to now. A loop adds to it once a turn.
     pub fn now(&self) -> Counted {
         Counted {
             requesters: read(&self.requesters),

@@ -65,13 +65,13 @@ impl<N: News + Drop> Inbox<N> {
         }
     }
 
-    /// Hands in news. Older ones that the loop hasn't taken yet are dropped.
+    /// Hands news to the loop. Older ones that it hasn't taken yet are dropped.
     pub fn post_news<R: Wait>(&self, rt: &R, news: Arc<N, Global>) {
         self.post.lock(rt).newest.take(news);
         let _ = self.waker.wake();
     }
 
-    /// Hands in a connection that doesn't wait. Without memory it is closed.
+    /// Hands a connection to the loop, whose socket doesn't wait. Without memory it is closed.
     pub fn post_connection<R: Wait>(
         &self,
         rt: &R,
@@ -102,19 +102,19 @@ pub struct Loops<N: News + Drop> {
 }
 
 impl<N: News + Drop> Loops<N> {
-    /// None yet.
+    /// The inboxes of no loop yet: `add` each, and share them by `Arc` from then on.
     pub fn new(alloc: Global) -> Loops<N> {
         Loops {
             inboxes: Vec::new(alloc),
         }
     }
 
-    /// One loop more.
+    /// Adds the inbox of a loop.
     pub fn add(&mut self, inbox: Arc<Inbox<N>, Global>) -> Result<(), AllocError> {
         Ok(self.inboxes.push(inbox)?)
     }
 
-    /// Hands news to all.
+    /// Hands news to all loops. Each shows them if they are newer than what it shows.
     pub fn post_news<R: Wait>(&self, rt: &R, news: &Arc<N, Global>) -> Result<(), AllocError> {
         for inbox in &self.inboxes {
             inbox.post_news(rt, Arc::try_clone(news)?);
@@ -122,7 +122,8 @@ impl<N: News + Drop> Loops<N> {
         Ok(())
     }
 
-    /// Hands a connection to the loop whose turn it is; `turn` is any number that goes on.
+    /// Hands a connection to the loop whose turn it is; `turn` is any number that goes on. Without
+    /// a loop, or without memory, it is closed.
     pub fn post_connection<R: Wait>(
         &self,
         rt: &R,
@@ -138,7 +139,7 @@ impl<N: News + Drop> Loops<N> {
         self.inboxes[at].post_connection(rt, stream, role)
     }
 
-    /// Stops all.
+    /// Has each loop end its connections and return.
     pub fn stop<R: Wait>(&self, rt: &R) {
         for inbox in &self.inboxes {
             inbox.stop(rt);

@@ -33,7 +33,7 @@ pub struct Listening {
 }
 
 impl Listening {
-    /// At this address; nobody is let in yet.
+    /// A listener at this address. Nobody is let in yet: that is `start`, or `accept`.
     pub fn bind<R>(rt: &R, address: SocketAddrV4) -> io::Result<Listening>
     where
         R: Net<Listener = TcpListener, Stream = TcpStream>,
@@ -48,13 +48,13 @@ impl Listening {
         })
     }
 
-    /// Where it was bound.
+    /// The address where it was bound, with its port.
     pub fn bound(&self) -> SocketAddr {
         self.bound
     }
 
-    /// Hands each connection to a loop, until it is closed. Where there are as many as there may
-    /// be, a connection is closed without a byte.
+    /// Lets connections in by this thread, until the listener is closed: each goes to a loop by its
+    /// door. Where there are as many as there may be, a connection is closed without a byte.
     pub fn accept<R, N>(&self, rt: &R, door: &Door<N>)
     where
         R: Wait + Clock,
@@ -75,7 +75,7 @@ impl Listening {
         }
     }
 
-    /// Lets no connection in any more.
+    /// Lets no connection in any more, and has `accept` return.
     pub fn close<R>(&self, rt: &R)
     where
         R: Net<Listener = TcpListener, Stream = TcpStream>,

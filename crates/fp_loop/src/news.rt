@@ -12,18 +12,20 @@ use std::alloc::Global;
 use std::mem;
 use std::sync::Arc;
 
-/// What is shown, of which newer replaces older. All who show it share one copy.
+/// What is shown, of which newer replaces older. All connections that show it share one copy.
 pub trait News {
     // What it shows.
     ghost shows: { Self → Snapshot };
 
-    /// How new it is.
+    /// How new it is: the revision of what it shows.
     fn revision(&self) -> u64
         ensures { result ≡ (Self.shows self.now).revision };
 
-    /// The body of its frame.
+    /// The body of its frame, which all subscribers are sent from this one copy.
     fn document(&self) -> &[u8]
+        // The document of what it shows.
         ensures bytes { result.now ≡ (Self.shows self.now).document }
+        // It has at most `MOST_BODY` bytes, the most of a frame.
         ensures short { length result.now ≤ MOST_BODY };
 }
 
@@ -32,8 +34,10 @@ pub trait Informed<N>: Service {
     // From the first state these news lead to the second.
     ghost informs: { Self → N → Self → Type 0 } = { λ _ _ _. ⊤ };
 
-    /// From now on it answers by these. They are newer than those before.
+    /// From now on the service answers by these news. A loop calls it for each news that it takes.
     fn inform(&mut self, news: Arc<N, Global>)
+        // These news lead from the state before to the state after, by `informs`; where that is
+        // left out, nothing is said.
         ensures { Self.informs self.old (arc_value news) self.new };
 }
 

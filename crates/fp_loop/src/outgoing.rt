@@ -35,22 +35,23 @@ pub struct Outgoing<N: News + Drop> {
 impl<N: News + Drop> Outgoing<N> {
     ghost use Rattle.fp_loop.specs.Outgoing.{rest_of, Tells};
 
-    /// To a subscriber that said this.
+    /// What goes to a subscriber that said this hello.
     pub fn new(has: Hello) -> Outgoing<N>
+        // Nothing went yet, and no frame was begun.
         ensures { Tells has result [] [] }
     {
         Outgoing { has, sending: None }
     }
 
-    /// Whether a frame is being sent.
+    /// Whether a frame is being sent: some of its bytes are left.
     pub fn is_sending(&self) -> bool
         ensures { IsTrue result ↔ (rest_of self.now ≢ []) }
     {
         self.sending.is_some()
     }
 
-    /// Whether a frame of this revision may begin: none is being sent, and the subscriber has none
-    /// as new.
+    /// Whether a frame of this revision may begin: exactly where none is being sent, and the
+    /// revision is newer than what the subscriber has.
     pub fn takes(&self, revision: u64) -> bool
         ensures { IsTrue result ↔ (rest_of self.now ≡ []) × IsNewer self.now.has revision }
     {
@@ -59,13 +60,19 @@ impl<N: News + Drop> Outgoing<N> {
 
     /// Begins the frame of these news, if it may begin. Answers whether it did.
     pub fn offer(&mut self, news: Arc<N, Global>) -> bool
+        // `true` exactly where none is being sent, and the news are newer than what the subscriber
+        // has.
         ensures begun { IsTrue result ↔ (rest_of self.old ≡ [])
             × IsNewer self.old.has (N.shows (arc_value news)).revision }
+        // `true`: what is left to send is the whole frame of these news.
         ensures frame { IsTrue result → rest_of self.new
             ≡ frame (N.shows (arc_value news)).revision (N.shows (arc_value news)).document }
+        // `true`: with these news as the last, what went and what is left are still frames of news,
+        // each newer than the one before and than the hello.
         ensures told { IsTrue result → (hello : Hello) (went : List ℕ) (begun : List Snapshot)
             → Tells hello self.old went begun
             → Tells hello self.new went (begun ++ N.shows (arc_value news) ∷ []) }
+        // `false`: nothing changed.
         ensures kept { IsFalse result → self.new ≡ self.old }
     {
         let revision = news.revision();
@@ -76,7 +83,8 @@ impl<N: News + Drop> Outgoing<N> {
         true
     }
 
-    /// The bytes to send next: what is left of the head, and of the document behind it.
+    /// The bytes to send next: what is left of the head, and of the document behind it. Together
+    /// they are all that is left of the frame.
     pub fn rest(&self) -> (&[u8], &[u8])
         ensures { result.0.now ++ result.1.now ≡ rest_of self.now }
     {
@@ -88,8 +96,12 @@ impl<N: News + Drop> Outgoing<N> {
 
     /// So many of these bytes were sent. Where it was all, no frame is being sent any more.
     pub fn sent(&mut self, count: usize)
+        // No more than are left.
         requires { count ≤ length (rest_of self.old) }
+        // What is left is what stood behind these bytes.
         ensures rest { rest_of self.new ≡ drop count (rest_of self.old) }
+        // With these bytes behind those that went before, what went and what is left are still
+        // frames of the same news, however they are cut.
         ensures told { (hello : Hello) (went : List ℕ) (begun : List Snapshot)
             → Tells hello self.old went begun
             → Tells hello self.new (went ++ take count (rest_of self.old)) begun }

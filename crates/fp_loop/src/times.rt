@@ -31,7 +31,8 @@ pub enum Waiting {
     News,
 }
 
-/// Whether what began to wait at that moment has waited for too long by now.
+/// Whether what began to wait at that moment has waited for too long by now: exactly where its
+/// limit of time has passed. Who waits for news has none.
 pub fn is_over_time(limits: &Limits, waiting: Waiting, since: u64, now: u64) -> bool
     ensures { IsTrue result ↔ IsOver (limit_of limits.now waiting) since now }
 {

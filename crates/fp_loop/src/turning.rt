@@ -67,7 +67,7 @@ where
 {
     ghost use Rattle.fp_loop.specs.Courses.{KeepsOn, RunsOn};
 
-    /// With no connection yet, and no news.
+    /// A loop with no connection and no news yet. Its service answers requests.
     pub fn new<R: Net + RandomSource>(
         rt: &R,
         alloc: Global,
@@ -107,13 +107,16 @@ where
         })
     }
 
-    /// Where it is handed what concerns it.
+    /// Where the loop is handed connections and news, and told to stop. Take it before the loop is
+    /// started.
     pub fn inbox(&self) -> Result<Arc<Inbox<N>, Global>, AllocError> {
         Arc::try_clone(&self.inbox)
     }
 
-    /// Serves its connections until it is stopped.
+    /// Serves its connections in this thread, until it is stopped.
     pub fn run<R: Wait + Clock>(&mut self, rt: &R)
+        // The service went on by calls, and by just the news that the loop showed, each newer than
+        // those before. So what a loop shows never falls.
         ensures { RunsOn S.answers S.informs self.old self.new }
     {
         for _ in rt.forever() {

@@ -33,8 +33,8 @@ struct KeptTag {
     tag: Vec<u8>,
 }
 
-/// Tags of replies for all flags, of one published set. None is kept of a set with a rule that may
-/// read the moment.
+/// Tags of replies for all flags, of one published set, each with the body that was asked by. None
+/// is kept of a set with a rule that may read the moment (`Definition::reads_moment`).
 #[derive(Drop)]
 pub struct KeptTags {
     shown: Shown,
@@ -194,9 +194,10 @@ fn note(alloc: Global, kept: &mut Option<KeptTags>, view: &View<'_>, body: &[u8]
     *kept = Some(tags);
 }
 
-/// As `answer`, by the tags that are kept of replies of the same store: a reply for all flags whose
-/// tag is known isn't hashed, and isn't made where the client has it. What is kept is then of what is
-/// lent, or as it was. Want of memory for it is nobody's fault.
+/// As `answer`, for less work where all flags are asked for again by the same body: a reply whose
+/// tag is kept isn't hashed, and isn't made where the client has it. Tags of the last
+/// `MOST_KEPT_TAGS` bodies of at most `LONGEST_KEPT_BODY` bytes are kept, where there is memory for
+/// them, and forgotten where another set is lent.
 pub fn answer_keeping(
     alloc: Global,
     view: &View<'_>,
@@ -207,12 +208,17 @@ pub fn answer_keeping(
     now: u64,
     kept: &mut Option<KeptTags>,
 ) -> Result<Reply, AllocError>
+    // The moment is below 2^63.
     requires moment { now < 2 ^ 63 }
+    // What is kept, if anything, is of the view's store.
     requires store { IsKeptOf kept.old view.now.store }
+    // `Ok`: the very reply of `answer`, whatever is kept.
     ensures said { IfOk result (λ r. response_seen r
         ≡ reply (front_set view.now) method.now target.now (option_copied if_none_match.entry)
         (body_seen body.entry) now) }
+    // What is kept stays of that store.
     ensures store { IsKeptOf kept.new view.now.store }
+    // It is as it was, or of what is lent.
     ensures kept { (kept.new ≡ kept.old) ⊎ (kept.new ≡ Some view.now) }
 {
     let Some(asked) = bulk_body(method, target, body) else {

@@ -28,7 +28,8 @@ pub enum Body<'b> {
     TooLong,
 }
 
-/// The reply to a request over what is published, at a moment in seconds since 1970.
+/// The reply to a request over what is published, at a moment in seconds since 1970. At `Err`
+/// memory was refused, and nothing happened.
 pub fn answer(
     alloc: Global,
     view: &View<'_>,
@@ -38,7 +39,10 @@ pub fn answer(
     body: Body<'_>,
     now: u64,
 ) -> Result<Reply, AllocError>
+    // The moment is below 2^63.
     requires { now < 2 ^ 63 }
+    // `Ok`: status, headers and body are the function `reply` of the view's set and revision, the
+    // request and the moment.
     ensures { IfOk result (λ r. response_seen r
         ≡ reply (front_set view.now) method.now target.now (option_copied if_none_match.entry)
         (body_seen body.entry) now) }
@@ -46,7 +50,8 @@ pub fn answer(
     answer_over(alloc, view.set(), method, target, if_none_match, body, now)
 }
 
-/// The same for one flag by its key itself, where there is no path and no method.
+/// As `answer`, for one flag by its key itself, which is no segment of a path. There is no method
+/// either.
 pub fn answer_for(
     alloc: Global,
     view: &View<'_>,
@@ -54,14 +59,17 @@ pub fn answer_for(
     body: Body<'_>,
     now: u64,
 ) -> Result<Reply, AllocError>
+    // The moment is below 2^63.
     requires { now < 2 ^ 63 }
+    // `Ok`: status, headers and body are the function `reply_for` of the view's set and revision,
+    // the key, the body and the moment.
     ensures { IfOk result (λ r. response_seen r
         ≡ reply_for (front_set view.now) key.now (body_seen body.entry) now) }
 {
     posted(alloc, view.set(), Route::Key(key), None, body, now)
 }
 
-/// The same over any set of flags.
+/// As `answer`, over any set of flags.
 pub fn answer_over(
     alloc: Global,
     set: &FlagSet,
@@ -71,7 +79,10 @@ pub fn answer_over(
     body: Body<'_>,
     now: u64,
 ) -> Result<Reply, AllocError>
+    // The moment is below 2^63.
     requires { now < 2 ^ 63 }
+    // `Ok`: status, headers and body are the function `reply` of the set and its revision, the
+    // request and the moment.
     ensures { IfOk result (λ r. response_seen r
         ≡ reply set.now method.now target.now (option_copied if_none_match.entry)
         (body_seen body.entry) now) }

@@ -23,8 +23,12 @@ pub record IsFlag (revision : ℕ) (e : List ℕ × Flag) : Type 0 where
 
 -- what every set of flags keeps
 pub record IsLawful (s : State) : Type 0 where
+  -- the revision is below 2^63
   pub numbered : s.revision < REVISIONS_END
+  -- there are at most 4,096 flags
   pub few : map.len s.flags ≤ MOST_FLAGS
+  -- each flag has a key of 1 to 256 bytes of UTF-8 and the canonical text of a valid definition,
+  -- and was changed by an edit up to the revision
   pub flags : All (IsFlag s.revision) (map.entries s.flags)
 
 -- a set has this revision and this document, and keeps what every set keeps

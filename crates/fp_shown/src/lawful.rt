@@ -4,8 +4,10 @@ ghost use Rattle.fp_shown.specs.Sets.{IsLawful};
 
 use fp_edit::FlagSet;
 
-/// Every set of flags is lawful. It looks at each flag, and changes nothing.
+/// Law: every set of flags is lawful, so a plane's frame is never refused by `NoSet`. It looks at
+/// each flag, and changes nothing.
 pub fn every_set_is_lawful(set: &FlagSet)
+    // The set is lawful.
     ensures { IsLawful set.now }
 {
     let _revision = set.revision();

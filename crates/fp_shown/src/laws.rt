@@ -2,14 +2,16 @@
 
 ghost use Rattle.fp_shown.specs.Laws as law;
 
-/// Sets of one revision and one document reply alike, whatever the request and the moment: a reply
-/// tells of keys and definitions and of the revision, and of nothing else that a set keeps.
+/// Law: lawful sets of one revision and one document give the same reply to each request at each
+/// moment: a reply tells of keys, definitions and the revision, and of nothing else that a set
+/// keeps. Does nothing when it runs.
 pub fn same_document_same_reply()
     ensures { law.SameDocumentSameReply }
 {}
 
-/// What is shown of a frame replies as the set of the front that the frame was handed for. So nothing
-/// that is shown is taken back by a crash: subscribers are handed settled fronts alone.
+/// Law: each reply over what is shown of a frame that carries what was handed of a front is the
+/// reply over the front's set. So no crash takes back what is shown: subscribers are handed settled
+/// fronts alone.
 pub fn shows_what_was_handed()
     ensures { law.ShowsWhatWasHanded }
 {}

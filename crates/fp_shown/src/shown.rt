@@ -31,12 +31,15 @@ impl Model for Shown {
 }
 
 impl Shown {
-    /// What a frame shows. The set's own document is the frame's, byte for byte, and its revision
-    /// the frame's. A document doesn't tell when a flag was changed: all are marked with this
-    /// revision. `NoSet` comes exactly where no set whatever has that revision and that document.
+    /// What a relay shows of a frame: the set of flags that it carries. A document doesn't tell
+    /// when a flag was changed, nor the limit of the set's size: all flags are marked with the
+    /// frame's revision, and the limit is `SHOWN_LIMIT`. Neither is in any reply.
     pub fn of_frame(alloc: Global, frame: Frame) -> Result<Shown, ShownFault>
+        // `Ok`: it is seen as the frame's revision and document.
         ensures shown { IfOk result (λ s. s ≡ snapshot_of frame) }
+        // `Ok`: there is a lawful set with both.
         ensures set { IfOk result (λ _. HasSet frame.revision frame.body.items) }
+        // `NoSet`: no lawful set whatever has both.
         ensures refused { result ≡ Err NoSet → HasNoSet frame.revision frame.body.items }
     {
         let set = set_of(alloc, frame.revision, &frame.body)?;
@@ -46,7 +49,7 @@ impl Shown {
         })
     }
 
-    /// The revision of the set.
+    /// The frame's revision.
     pub fn revision(&self) -> u64
         ensures { result ≡ self.now.revision }
     {
@@ -54,7 +57,7 @@ impl Shown {
         self.set.revision()
     }
 
-    /// The document, byte for byte as it came.
+    /// The frame's document, byte for byte as it came.
     pub fn document(&self) -> &[u8]
         ensures { result.now ≡ self.now.document }
     {
@@ -62,9 +65,11 @@ impl Shown {
         self.document.as_slice()
     }
 
-    /// The set.
+    /// The set that is shown, over which `answer_over` of `fp_ofrep` replies.
     pub fn set(&self) -> &FlagSet
+        // It has this revision and this document.
         ensures set { IsSetOf self.now.revision self.now.document result.now }
+        // It is lawful.
         ensures lawful { IsLawful result.now }
     {
         let _ = &self.document;
