@@ -69,7 +69,7 @@ pub trait EditStore {
         // No flags may stand but those that might before, and those after the edit.
         ensures ahead { (s : State) → may_stand self.new s
             → may_stand self.old s ⊎ (s ≡ state self.new) }
-        // At any moment a crash leaves flags that might stand before.
+        // At any moment a crash leaves flags that might stand before (H for a `DiskSession`).
         ensures any_moment { leaves self.old self.new (may_stand self.old) }
         // What keeps the flags goes on, whatever is answered.
         ensures goes_on { continues_to self.old self.new };
@@ -84,9 +84,10 @@ pub trait EditStore {
         ensures place { OnOk result ((c : Change) → has_place self.new c) }
         // No flags may stand that might not before.
         ensures ahead { (s : State) → may_stand self.new s → may_stand self.old s }
-        // At any moment a crash leaves flags that might stand before.
+        // At any moment a crash leaves flags that might stand before (H for a `DiskSession`).
         ensures any_moment { leaves self.old self.new (may_stand self.old) }
-        // `Ok`: what keeps the flags goes on; `Err`: it fails as it says that it may.
+        // `Ok`: what keeps the flags goes on (a `DiskSession`: `Keeps`); `Err`: it fails for a
+        // reason that it may have (`Fails`).
         ensures fate { MatchResult result (λ _. continues_to self.old self.new)
             (λ f. fails_on f self.old self.new) };
 
@@ -100,9 +101,10 @@ pub trait EditStore {
         ensures place { OnOk result ((c : Change) → has_place self.old c → has_place self.new c) }
         // No flags may stand that might not before.
         ensures ahead { (s : State) → may_stand self.new s → may_stand self.old s }
-        // At any moment a crash leaves flags that might stand before.
+        // At any moment a crash leaves flags that might stand before (H for a `DiskSession`).
         ensures any_moment { leaves self.old self.new (may_stand self.old) }
-        // `Ok`: what keeps the flags goes on; `Err`: it fails as it says that it may.
+        // `Ok`: what keeps the flags goes on (a `DiskSession`: `Keeps`); `Err`: it fails for a
+        // reason that it may have (`Fails`).
         ensures fate { MatchResult result (λ _. continues_to self.old self.new)
             (λ f. fails_on f self.old self.new) };
 
@@ -115,9 +117,10 @@ pub trait EditStore {
         ensures rests { OnOk result (rests self.new) }
         // No flags may stand that might not before.
         ensures ahead { (s : State) → may_stand self.new s → may_stand self.old s }
-        // At any moment a crash leaves flags that might stand before.
+        // At any moment a crash leaves flags that might stand before (H for a `DiskSession`).
         ensures any_moment { leaves self.old self.new (may_stand self.old) }
-        // `Ok`: what keeps the flags goes on; `Err`: it fails as it says that it may.
+        // `Ok`: what keeps the flags goes on (a `DiskSession`: `Keeps`); `Err`: it fails for a
+        // reason that it may have (`Fails`).
         ensures fate { MatchResult result (λ _. continues_to self.old self.new)
             (λ f. fails_on f self.old self.new) };
 
