@@ -38,7 +38,7 @@ pub trait DiskFiles {
         ensures alone { IfOk result (λ d. Self.Disk.honest d → lent self.old path.now → ⊥) }
         // What stands at other paths stays.
         ensures others { KeepsOthers at self.old self.new path.now }
-        // At a fault what stands at this path stays too.
+        // At a fault what stands at each path stays, at this one too.
         ensures failed { OnErr result (KeepsAll at self.old self.new) }
         // The path was noted, with `Making`.
         ensures asked { asked self.new ≡ asked self.old ++ (path.now, Making) ∷ [] }
@@ -56,7 +56,7 @@ pub trait DiskFiles {
         ensures alone { IfOk result (λ d. Self.Disk.honest d → lent self.old path.now → ⊥) }
         // What stands at other paths stays.
         ensures others { KeepsOthers at self.old self.new path.now }
-        // At a fault what stands at this path stays too.
+        // At a fault what stands at each path stays, at this one too.
         ensures failed { OnErr result (KeepsAll at self.old self.new) }
         // The path was noted, with `Writing`.
         ensures asked { asked self.new ≡ asked self.old ++ (path.now, Writing) ∷ [] }
@@ -72,7 +72,7 @@ pub trait DiskFiles {
         ensures lent { OnOk result (lent self.new path.now) }
         // What stands at other paths stays.
         ensures others { KeepsOthers at self.old self.new path.now }
-        // At a fault what stands at this path stays too.
+        // At a fault what stands at each path stays, at this one too.
         ensures failed { OnErr result (KeepsAll at self.old self.new) }
         // The path was noted, with `Reading`.
         ensures asked { asked self.new ≡ asked self.old ++ (path.now, Reading) ∷ [] }
