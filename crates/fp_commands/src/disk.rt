@@ -143,8 +143,9 @@ pub fn apply_disk<D: Disk, R: Read, W: Write>(
 }
 
 /// Puts each flag of the flagd document that the reader gives over what a disk stands for, by
-/// ascending keys and whatever stands there: the record of `apply_disk`, over a put for each flag.
-/// Of a batch of 1,024 puts at most, no revision is told before it is sealed; the disk comes back.
+/// ascending keys and whatever stands there: the record of `apply_disk`, over a put for each flag,
+/// of which 1,024 at most are on their way at once. Each put is sealed on the disk before it is
+/// answered; the disk comes back.
 ///
 /// All of the document is read before the first put. Each put is answered, one that is refused too,
 /// and the flags are shown behind the last reply. A fault of the document is its first one, told

@@ -72,10 +72,9 @@ where
     ensures untouched { result ≡ 2
         → (files.new ≡ files.old) × (r.new ≡ r.old) × (w.new ≡ w.old) }
     // At 0, `apply`: a run over the input from no flags was written, and no file was opened. Over a
-    // file: it alone was opened, once, and the disk found there was made, shown, evaluated, led on
-    // or imported to as `init_disk` and the others promise: by `init`, `apply` and `import` to be
-    // written, which wants its lock, by `show` and `eval` for reading alone. H: that disk stands at
-    // its path now. All other paths are as before.
+    // file: it alone was opened, once, by `init`, `apply` and `import` to be written, which wants
+    // its lock, by `show` and `eval` for reading alone; of the disk found there all holds that its
+    // call promises at `Ok`. H: that disk stands at its path now. All other paths are as before.
     ensures done { result ≡ 0 → IfSome (task_of_words (map string_bytes words.now)) (λ task.
         Performs F.DiskFiles F.Disk.Disk R.remaining W.contents
         (record { files = files.old; reader = r.old; writer = w.old })
@@ -86,12 +85,11 @@ where
     // At 0 nothing was told.
     ensures quiet { result ≡ 0 → e.new ≡ e.old }
     // At 1 a fault is told by its text, unless the error stream failed. `apply`: `Memory`, or
-    // `Device` only where the reader or the writer failed; no file was opened. Unless the writer
-    // failed, what was written is the replies to some first lines, but for one line at most, which
-    // is told no revision, or nothing where memory was wanting. Over a file: it wasn't opened,
-    // which was counted, the fault is `Device`, and nothing was read or written; or it alone was
-    // opened, once, and this fault ended the work on its disk, with all that the calls over a disk
-    // promise then. Either way it was asked for with the same purpose as at 0.
+    // `Device` only where the reader or the writer failed; no file was opened; what was written is
+    // as `told` of `apply_disk` has it. Over a file: it wasn't opened, which was counted, the fault
+    // is `Device`, and nothing was read or written; or it alone was opened, once, and this fault
+    // ended the work on its disk, with all that its call promises then. Either way it was asked for
+    // with the same purpose as at 0.
     ensures ends { result ≡ 1 → IfSome (task_of_words (map string_bytes words.now)) (λ task.
         TellsFault E.contents e.old e.new (λ fault.
         Performs F.DiskFiles F.Disk.Disk R.remaining W.contents

@@ -23,8 +23,8 @@ use Rattle.fp_server.specs.declared.task.Task.TheVariants.{Serve, Watch}
 
 -- ---- a service at a path
 
--- how it ended, which is well only where its input has ended; that path alone was opened, once, to be written, and a store that failed is told
--- only where no stream failed
+-- how it ended, which is well only where its input has ended; that path alone was opened, once, to
+-- be written, and a store that failed is told only where no stream failed
 pub record Serves {F D R W : Type 0} (files : FileGhosts F D) (disk : DiskGhosts D)
     (remaining : R → Option (List ℕ)) (contents : W → Option (List ℕ)) (old new : Environment F R W)
     (path : List ℕ) (outcome : Result (Unit {0}) CommandFault) : Type 0 where

@@ -170,8 +170,8 @@ where
     }
 }
 
-// Shows that a store with which nothing was done is one that a committer may leave. Does nothing when
-// it runs.
+// Shows that a store with which nothing was done is one that a committer may leave. Does nothing
+// when it runs.
 fn untouched<D: Disk>(store: &Store<D>)
     requires { IsFresh store.now store.now.store.start }
     ensures { GoesThrough D.Disk store.now store.now }

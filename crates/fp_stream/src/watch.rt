@@ -85,9 +85,9 @@ pub fn watch_loop<R: Read, W: Write>(
     has: Hello,
 ) -> Result<(), WatchFault>
     // However it ended, unless the writer failed: a line was written for each frame in what the
-    // reader gave, in order, and nothing else. Reading stopped there, at this fault, or at none
-    // before less than a whole frame; `Ok`: the reader is at its end. At `Memory` alone the last
-    // bytes that were read weren't looked at.
+    // reader gave, in order, and nothing else, up to a fault, or up to less than a whole frame.
+    // `Ok`: the reader is at its end. At `Memory` alone the last bytes that were read weren't
+    // looked at.
     ensures watched { w.new.failures ≡ w.old.failures
         → Watches has (R.remaining r.old.inner) (R.remaining r.new.inner)
         (W.contents w.old.inner) (W.contents w.new.inner) result }
