@@ -69,7 +69,7 @@ impl<D: Disk> DiskSession<D> {
     pub fn new(alloc: Global, store: Store<D>, opening: Opening) -> Result<DiskSession<D>, Store<D>>
         // The opening is this store's.
         requires opening { opening ≡ store.store }
-        // Nothing is sealed since, and nothing is on its way.
+        // Nothing is sealed since, nothing is on its way, and no compaction runs.
         requires fresh { IsFresh store store.store.start }
         // `Ok`: it is over this store and takes edits. H: every crash state stands for what is
         // sealed.
