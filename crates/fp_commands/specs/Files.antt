@@ -121,51 +121,70 @@ pub record RunsOnDisk {R W D : Type 0} (disk : DiskGhosts D) (remaining : R
     → CommandFault → Type 0)
     (old new : Streams R W) (before after : D) (outcome : Result Bool CommandFault)
     : Type 0 where
+  -- `Ok`: the input led, as a run, from some flags to others, and what that writes was written. H:
+  -- the bytes stood for the first, every crash state now stands for the last. `Ok(true)`: what was
+  -- written is exactly the script of the input.
   pub run : IfOk outcome (λ told. IsRunOnDisk (disk.honest before) (disk.bytes before)
       (disk.unsynced after)
       (remaining old.reader.inner) Reads told (contents old.writer.inner)
       (contents new.writer.inner))
+  -- Its calls were those of opening, then of batches (write, sync, write, sync) and of steps of
+  -- compactions in their order. `Ok`: of whole batches and compactions; a fault: of some first
+  -- works and a part of one more, or a part of those of opening.
   pub called : CallsOfRun (disk.calls before) (disk.calls after) outcome
-  -- whatever comes back, the disk stands for what some first of it leaves, and so does whatever a
-  -- crash leaves at any moment, but for what one might have left before
+  -- H: whatever comes back, bytes that stood for a set stand for what some first of what is asked
+  -- makes of it.
   pub left : disk.honest before →
       IsLeftOnDisk (disk.bytes before) (disk.bytes after) (remaining old.reader.inner) Reads
+  -- H: so does any crash state at any moment, but for those that the disk had before it was opened.
   pub any_moment : AtAnyMoment disk before after (λ c. IsOutcome (disk.unsynced before) c
       ⊎ IsLeftOnDisk (disk.bytes before) c (remaining old.reader.inner) Reads)
-  -- From its opening on the disk was called by a committer alone, or it was only read
+  -- From its opening to its end the disk was called by a committer alone: H: at any moment all
+  -- edits that were settled by then are kept. Or it was only read.
   pub committed : IsOnlyRead disk before after ⊎ ((start : State)
       × (disk.honest before → StandsFor (disk.bytes before) start)
       × RunsCommitter disk before after start)
-  -- At a fault no run had begun, or all its replies were written, unless the writer failed: to what
-  -- flags hold that each crash then leaves, and to what isn't known to be kept
+  -- H: at a fault, unless the writer failed: no run had begun, which is not so at `StoreFailed`,
+  -- and nothing was written, on the disk neither; or each crash state stands for flags of which all
+  -- was told, but for one batch at most (of `apply_disk` one line): it is told no revision, by
+  -- `store-failed`, or nothing where memory was wanting.
   pub told : disk.honest before → IfErr outcome (λ f. new.writer.failures ≡ old.writer.failures
       → IsUnbegun disk f before after old.writer new.writer
       ⊎ EachCrash disk after (λ c. IsToldOnDisk (disk.bytes before) c
       (remaining old.reader.inner) Reads most f
       (contents old.writer.inner) (contents new.writer.inner)))
+  -- A fault is one of the bytes, `Device`, `StoreFailed` or `Memory`. H: opening refuses the bytes
+  -- so, and they stand for no set. `import_disk` has its document's first fault too. H: that only
+  -- where the bytes stand for a set.
   pub fault : IfErr outcome (MayEnd (disk.honest before) (disk.bytes before)
       (remaining old.reader.inner))
+  -- A fault of the bytes or of the document: nothing was written to the output.
   pub nothing_written : IfErr outcome (IfRefused (new.writer ≡ old.writer))
-  -- where the bytes stand for nothing, the disk was only read and no stream was used, whatever is
-  -- answered
+  -- H: of bytes that stand for no set, whatever comes back: the disk was only read, as `only_read`
+  -- has it, and reader and writer are as they were.
   pub nothing_stood : disk.honest before → StandsForNone (disk.bytes before)
       → IsOnlyRead disk before after × (new.reader ≡ old.reader) × (new.writer ≡ old.writer)
-  -- where the bytes or what was read is refused, the disk was only read, and a file is refused
-  -- before anything is read
+  -- A fault of the bytes or of the document: its calls were some first ones of sync and length, or
+  -- these and reads behind them. H: the bytes stay, and any crash state at any moment is one from
+  -- before.
   pub only_read : IfErr outcome (IfRefused (IsOnlyRead disk before after))
+  -- A fault of the bytes: the reader is as it was.
   pub unread : IfErr outcome (IfFileRefused (new.reader ≡ old.reader))
-  -- the store fails where the disk does, or has no room for edits that are asked for and no
-  -- generation to make it
+  -- `StoreFailed`: the disk failed, or there is no room: some first of what is asked led to flags,
+  -- and a batch of further edits to what more of it leads to. H: every crash state stands for these
+  -- flags, is full for the batch, and of the last generation.
   pub cause : IfErr outcome (λ f. f ≡ StoreFailed → LacksRoom (disk.honest before)
       (disk.bytes before)
       (disk.unsynced after) (remaining old.reader.inner) Reads
       ⊎ (disk.faults before < disk.faults after))
-  -- `Device` comes only where the disk, the reader or the writer failed, and a good end only where
-  -- none did; no other fault is told in place of a reader's
+  -- `Device` only where the disk, the reader or the writer failed, and `Ok` only where none did.
   pub device : BlamesRun (disk.faults before + failures old) (disk.faults after + failures new)
       outcome
+  -- At any fault but `Device` the reader didn't fail.
   pub read : IfErr outcome (λ f. f ≢ Device → new.reader.failures ≡ old.reader.failures)
+  -- `Ok`: no call of the disk failed.
   pub no_failure : OnOk outcome (disk.faults after ≡ disk.faults before)
+  -- The disk is honest exactly if it was before.
   pub honest : SameHonesty disk before after
 
 -- the lines that were read, and the puts of the document that was

@@ -32,26 +32,38 @@ use fp_streams::FailureCounted;
 use std::alloc::Global;
 use std::io::{Read, Write};
 
-/// Makes an empty disk one that stands for no flags at revision 0.
+/// Makes an empty disk one that stands for no flags at revision 0, with slots of 2^24 bytes and a
+/// limit of 2^23 bytes. Gives the disk back.
 pub fn init_disk<D: Disk>(alloc: Global, disk: D) -> (D, Result<(), CommandFault>)
+    // H: at `Ok` the bytes are those of a new disk, with slots of 2^24 bytes.
     ensures made { D.honest disk → OnOk result.1 (IsNewDisk STANDARD_SLOT (D.bytes result.0)) }
+    // H: at `Ok` every crash state stands for no flags at revision 0, under a limit of 2^23 bytes.
     ensures sure { D.honest disk → OnOk result.1 (IsDurable (D.unsynced result.0) no_flags) }
+    // H: at `Ok` the disk had no bytes.
     ensures empty { D.honest disk → OnOk result.1 (D.bytes disk ≡ []) }
+    // H: at `NotEmpty` it had some.
     ensures not_empty { D.honest disk → IfErr result.1 (λ f. f ≡ NotEmpty → D.bytes disk ≢ []) }
-
-    // Where it holds bytes it stays, whatever failed, and else where the device didn't fail.
+    // H: at a fault, of a disk that has bytes, and of any at a fault but `Device`: what is read and
+    // pending stays, and a crash at any moment leaves what one could leave before.
     ensures kept { D.honest disk → IfErr result.1 (λ f. (D.bytes disk ≢ []) ⊎ (f ≢ Device)
         → IsUntouched D.Disk disk result.0) }
-
-    // A crash at any moment of it leaves what is no disk yet, or one of no flags.
+    // H: of an empty disk, all of it synced: any crash state at any moment is no disk yet, or one
+    // of no flags.
     ensures any_moment { D.honest disk → D.unsynced disk ≡ all_synced []
         → LeavesOnly D.moment D.crash_states_since disk result.0 (IsNewSetOrNone STANDARD_SLOT) }
+    // `Ok`: ten calls: length; write, sync; write, write, sync; write, sync; write, sync. A fault:
+    // some first ones of these.
     ensures called { Makes (Length ∷ format_calls) (D.calls disk) (D.calls result.0) result.1 }
+    // Any fault but `Device`: the disk's length was asked for, and nothing else.
     ensures untouched { IfErr result.1 (λ f. (f ≡ Device)
         ⊎ (D.calls result.0 ≡ D.calls disk ++ Length ∷ [])) }
+    // A fault is `NotEmpty`, `Device` or `Memory`.
     ensures fault { IfErr result.1 IsMakingFault }
+    // `Ok`: no call of the disk failed.
     ensures no_failure { OnOk result.1 (D.faults result.0 ≡ D.faults disk) }
+    // `Device` only where the disk's count of failures rose.
     ensures cause { IfErr result.1 (λ f. f ≡ Device → D.faults disk < D.faults result.0) }
+    // The disk is honest exactly if it was before.
     ensures honest { SameHonesty D.Disk disk result.0 }
 {
     match Store::create(alloc, disk, SlotSize::standard().bytes()) {
@@ -63,28 +75,38 @@ pub fn init_disk<D: Disk>(alloc: Global, disk: D) -> (D, Result<(), CommandFault
     }
 }
 
-/// Writes the line of what a disk stands for. Nothing is written on the disk.
+/// Writes the line of what a disk stands for: the revision, a space, the document, a newline.
+/// Nothing is written on the disk, which comes back.
 pub fn show_disk<D: Disk, W: Write>(
     alloc: Global,
     w: &mut FailureCounted<W>,
     disk: D,
 ) -> (D, Result<(), CommandFault>)
+    // `Ok`: the line of some flags was written. H: the bytes stand for these flags.
     ensures shown { OnOk result.1
         (IsShown (D.honest disk) (D.bytes disk) (W.contents w.old.inner) (W.contents w.new.inner)) }
+    // H: the bytes stay.
     ensures same { D.honest disk → D.bytes result.0 ≡ D.bytes disk }
+    // Whatever comes back, its calls were some first ones of sync and length, or these and reads
+    // behind them.
     ensures called { ThenSomeReads opening_calls (D.calls disk) (D.calls result.0) }
+    // A fault is one of the bytes, `Device` or `Memory`. H: opening refuses the bytes so, and they
+    // stand for no set.
     ensures fault { IfErr result.1 (IsShowingFault (D.honest disk) (D.bytes disk)) }
+    // A fault of the bytes: nothing was written to the output.
     ensures nothing_written { IfErr result.1 (IfRefused (w.new ≡ w.old)) }
-
-    // At any fault nothing was written, unless the writer failed.
+    // Any fault: nothing was written to the output, unless the writer failed.
     ensures untold { IfErr result.1 (λ _. w.new.failures ≡ w.old.failures → w.new ≡ w.old) }
-
-    // Where the bytes stand for nothing, the writer isn't used, whatever is answered.
+    // H: of bytes that stand for no set the writer is as it was, whatever comes back.
     ensures nothing_stood { D.honest disk → StandsForNone (D.bytes disk) → w.new ≡ w.old }
+    // `Device` only where the disk or the writer failed; at `Ok` and `Memory` neither did.
     ensures device { Blames (D.faults disk + w.old.failures) (D.faults result.0 + w.new.failures)
         result.1 }
+    // `Ok`: no call of the disk failed.
     ensures no_failure { OnOk result.1 (D.faults result.0 ≡ D.faults disk) }
+    // H: any crash state at any moment is one from before.
     ensures any_moment { AtAnyMoment D.Disk disk result.0 (IsOutcome (D.unsynced disk)) }
+    // The disk is honest exactly if it was before.
     ensures honest { SameHonesty D.Disk disk result.0 }
 {
     match Store::open(alloc, disk) {
@@ -97,9 +119,11 @@ pub fn show_disk<D: Disk, W: Write>(
 }
 
 /// Answers each line of the reader in order over what a disk stands for, and shows the flags behind
-/// the last reply. Each edit is sealed on the disk before it is answered. Where a slot runs short a
-/// compaction goes on beside the edits, and is ended before the flags are shown. `Ok(false)` says
-/// that a reply told of wanting memory.
+/// the last reply: one record, of which at most one line is on its way at a time. Each edit is
+/// sealed on the disk before it is answered; the disk comes back.
+///
+/// Where a slot runs short a compaction goes on beside the edits, and is ended before the flags are
+/// shown. `Ok(false)` says that a reply told of wanting memory.
 pub fn apply_disk<D: Disk, R: Read, W: Write>(
     alloc: Global,
     r: &mut FailureCounted<R>,
@@ -118,10 +142,14 @@ pub fn apply_disk<D: Disk, R: Read, W: Write>(
     end_run(kept, outcome)
 }
 
-/// Puts each flag of the flagd document that the reader gives over what a disk stands for, in
-/// ascending order of the keys and whatever stands there, answers each put, and shows the flags
-/// behind the last reply. Each put is sealed on the disk before it is answered; one that is refused
-/// is an answer. `Ok(false)` says that a reply told of wanting memory.
+/// Puts each flag of the flagd document that the reader gives over what a disk stands for, by
+/// ascending keys and whatever stands there: the record of `apply_disk`, over a put for each flag,
+/// of which 1,024 at most are on their way at once. Each put is sealed on the disk before it is
+/// answered; the disk comes back.
+///
+/// All of the document is read before the first put. Each put is answered, one that is refused too,
+/// and the flags are shown behind the last reply. A fault of the document is its first one, told
+/// only where the disk is opened. `Ok(false)` says that a reply told of wanting memory.
 pub fn import_disk<D: Disk, R: Read, W: Write>(
     alloc: Global,
     r: &mut FailureCounted<R>,

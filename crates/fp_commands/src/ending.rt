@@ -6,8 +6,9 @@ use fp_streams::FailureCounted;
 use std::fmt::Display;
 use std::io::Write;
 
-/// The program's status: 0 where all went well, and 1 where a fault ended it, which `e` is told. It
-/// takes no memory to tell.
+/// The program's status: 0 where all went well, and the error stream is as it was; 1 where a fault
+/// ended it, whose line is told by its own text, unless the error stream failed. It takes no memory
+/// to tell.
 pub fn status_of<E: Write, F: Display + Drop>(
     e: &mut FailureCounted<E>,
     outcome: Result<(), F>,

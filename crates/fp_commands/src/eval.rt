@@ -22,7 +22,10 @@ use std::alloc::{AllocError, Global};
 use std::io::{Read, Write};
 
 /// Writes the reply to the evaluation request that the reader gives, for the flag of this key in
-/// what a disk stands for, at a moment in seconds since 1970. Nothing is written on the disk.
+/// what a disk stands for: the status, a space, the body, a newline. Nothing is written on the
+/// disk, which comes back.
+///
+/// The moment is in seconds since 1970.
 pub fn eval_disk<D: Disk, R: Read, W: Write>(
     alloc: Global,
     r: &mut FailureCounted<R>,
@@ -31,27 +34,37 @@ pub fn eval_disk<D: Disk, R: Read, W: Write>(
     key: &str,
     now: u64,
 ) -> (D, Result<(), CommandFault>)
+    // The moment is below 2^63.
     requires { now < 2 ^ 63 }
+    // `Ok`: the reply to the request for the flag of this key was written, as a function of some
+    // flags and the moment. H: the bytes stand for these flags.
     ensures evaluated { OnOk result.1 (IsEvaluated (D.honest disk) (D.bytes disk) key.now now
         (R.remaining r.old.inner) (W.contents w.old.inner) (W.contents w.new.inner)) }
+    // H: the bytes stay.
     ensures same { D.honest disk → D.bytes result.0 ≡ D.bytes disk }
+    // H: any crash state at any moment is one from before.
     ensures any_moment { AtAnyMoment D.Disk disk result.0 (IsOutcome (D.unsynced disk)) }
+    // Whatever comes back, its calls were some first ones of sync and length, or these and reads
+    // behind them.
     ensures called { ThenSomeReads opening_calls (D.calls disk) (D.calls result.0) }
+    // A fault is one of the bytes, `Device` or `Memory`. H: opening refuses the bytes so, and they
+    // stand for no set.
     ensures fault { IfErr result.1 (IsShowingFault (D.honest disk) (D.bytes disk)) }
-
-    // A disk is refused before anything is read or written.
+    // A fault of the bytes: nothing was read.
     ensures unread { IfErr result.1 (IfFileRefused (r.new ≡ r.old)) }
+    // A fault of the bytes: nothing was written to the output.
     ensures nothing_written { IfErr result.1 (IfRefused (w.new ≡ w.old)) }
-
-    // At any fault nothing was written, unless the writer failed.
+    // Any fault: nothing was written to the output, unless the writer failed.
     ensures untold { IfErr result.1 (λ _. w.new.failures ≡ w.old.failures → w.new ≡ w.old) }
-
-    // Where the bytes stand for nothing, no stream is used, whatever is answered.
+    // H: of bytes that stand for no set reader and writer are as they were, whatever comes back.
     ensures nothing_stood { D.honest disk → StandsForNone (D.bytes disk)
         → (r.new ≡ r.old) × (w.new ≡ w.old) }
+    // `Device` only where the disk, the reader or the writer failed; at `Ok` and `Memory` none did.
     ensures device { Blames (D.faults disk + (r.old.failures + w.old.failures))
         (D.faults result.0 + (r.new.failures + w.new.failures)) result.1 }
+    // `Ok`: no call of the disk failed.
     ensures no_failure { OnOk result.1 (D.faults result.0 ≡ D.faults disk) }
+    // The disk is honest exactly if it was before.
     ensures honest { SameHonesty D.Disk disk result.0 }
 {
     match Store::open(alloc, disk) {

@@ -41,9 +41,13 @@ enum Task {
 
 /// Runs the command that the words name, over files and streams, and answers the program's status:
 /// 0 where it was done, 1 where a fault ended it, which `e` is told, and 2 where the words name no
-/// command, where `e` is told the usage. It takes no memory to tell either. No file is opened but
-/// the one that the words name, and that once: with its lock where it may be changed, and else for
-/// reading alone. The moment is in seconds since 1970.
+/// command, where `e` is told the usage. Over a file it does what `init_disk`, `show_disk`,
+/// `eval_disk`, `apply_disk` and `import_disk` promise, and `apply` without a file answers its
+/// input over no flags in memory.
+///
+/// It takes no memory to tell. Words are looked at first, then the file is opened, then the input
+/// is read. No file is opened but the one that the words name, and that once: with its lock where
+/// it may be changed, and else for reading alone. The moment is in seconds since 1970.
 pub fn command<F, R, W, E>(
     alloc: Global,
     files: &mut F,
@@ -58,24 +62,41 @@ where
     R: Read,
     W: Write,
     E: Write,
+    // The moment is below 2^63.
     requires { now < 2 ^ 63 }
+    // The status is 2 exactly where the words name no command.
     ensures usage { (result ≡ 2) ↔ (task_of_words (map string_bytes words.now) ≡ None) }
+    // At 2 the usage is told, unless the error stream failed.
     ensures helps { result ≡ 2 → WritesLine E.contents e.old e.new usage }
+    // At 2 nothing is opened, read or written.
     ensures untouched { result ≡ 2
         → (files.new ≡ files.old) × (r.new ≡ r.old) × (w.new ≡ w.old) }
+    // At 0, `apply`: a run over the input from no flags was written, and no file was opened. Over a
+    // file: it alone was opened, once, by `init`, `apply` and `import` to be written, which wants
+    // its lock, by `show` and `eval` for reading alone; of the disk found there all holds that its
+    // call promises at `Ok`. H: that disk stands at its path now. All other paths are as before.
     ensures done { result ≡ 0 → IfSome (task_of_words (map string_bytes words.now)) (λ task.
         Performs F.DiskFiles F.Disk.Disk R.remaining W.contents
         (record { files = files.old; reader = r.old; writer = w.old })
         (record { files = files.new; reader = r.new; writer = w.new })
         task.0 task.1 task.2 now (Ok tt)) }
+    // At 0 neither the reader nor the writer failed.
     ensures no_failure { result ≡ 0 → NoneFailed r.old r.new w.old w.new }
+    // At 0 nothing was told.
     ensures quiet { result ≡ 0 → e.new ≡ e.old }
+    // At 1 a fault is told by its text, unless the error stream failed. `apply`: `Memory`, or
+    // `Device` only where the reader or the writer failed; no file was opened; what was written is
+    // as `told` of `apply_disk` has it. Over a file: it wasn't opened, which was counted, the fault
+    // is `Device`, and nothing was read or written; or it alone was opened, once, and this fault
+    // ended the work on its disk, with all that its call promises then. Either way it was asked for
+    // with the same purpose as at 0.
     ensures ends { result ≡ 1 → IfSome (task_of_words (map string_bytes words.now)) (λ task.
         TellsFault E.contents e.old e.new (λ fault.
         Performs F.DiskFiles F.Disk.Disk R.remaining W.contents
         (record { files = files.old; reader = r.old; writer = w.old })
         (record { files = files.new; reader = r.new; writer = w.new })
         task.0 task.1 task.2 now (Err fault))) }
+    // The status is at most 2.
     ensures small { result ≤ 2 }
 {
     let Some((task, path, key)) = task_of(words) else {

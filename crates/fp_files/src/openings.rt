@@ -40,7 +40,7 @@ impl Model for OpeningLog {
 }
 
 impl OpeningLog {
-    /// No path was asked for yet.
+    /// Begins the list of what was asked for: no path yet, and no failure.
     pub fn new() -> OpeningLog
         ensures { result ≡ record { asked = []; faults = 0 } }
     {
@@ -50,7 +50,7 @@ impl OpeningLog {
         }
     }
 
-    /// One path more.
+    /// Notes one path more, with its purpose.
     pub fn ask(&mut self, path: &str, purpose: Purpose)
         ensures { self.new ≡ record {
           asked = self.old.asked ++ (path.now, purpose) ∷ [];
@@ -61,7 +61,7 @@ impl OpeningLog {
             .lengthen::<(&str, Purpose), OfRequest>(&(path, purpose));
     }
 
-    /// One failure more.
+    /// Counts one failure more.
     pub fn fault(&mut self) -> DiskFault
         ensures { self.new ≡ record { asked = self.old.asked; faults = self.old.faults + 1 } }
     {

@@ -31,7 +31,8 @@ impl<D: Drop> Model for SingleFile<D> {
 }
 
 impl<D: Drop> SingleFile<D> {
-    /// The disk at this path.
+    /// This disk at this path, and none at another: one file of which all clauses of `DiskFiles`
+    /// hold, honest where its disk is.
     pub fn new(path: String, disk: D) -> SingleFile<D>
         ensures { result ≡ record {
           path = string_bytes path;
@@ -46,7 +47,7 @@ impl<D: Drop> SingleFile<D> {
         }
     }
 
-    /// The disk, unless it is lent.
+    /// Gives the disk back, unless it is lent.
     pub fn into_disk(self) -> Option<D>
         ensures { result ≡ self.disk }
     {

@@ -34,7 +34,8 @@ impl<R: Drop> Model for SystemFiles<R> {
 }
 
 impl<R: Drop> SystemFiles<R> {
-    /// The files of this runtime.
+    /// The files of this runtime, of which no path was asked for yet. Its calls have the clauses of
+    /// `DiskFiles`, and no more: its disks, a `FileDisk` each, are never honest.
     pub fn of(rt: R) -> SystemFiles<R>
         ensures { result ≡ record { asked = []; faults = 0 } }
     {

@@ -14,7 +14,10 @@ use std::sync::Wait;
 use tokio::io::{AsyncRead, AsyncWrite};
 
 /// Serves the requests of one HTTP/1.1 connection until the peer is done, and gives the evaluator
-/// back where there was memory to begin. `now` gives the moment in seconds since 1970.
+/// back where there was memory to begin. It is safe and total but for the peer's silence, and asks
+/// `hyper` for what that asks of a service.
+///
+/// `now` gives the moment in seconds since 1970.
 pub fn serve_ofrep<R, I, E, N>(
     rt: &R,
     connection: I,
@@ -26,6 +29,7 @@ where
     I: AsyncRead + AsyncWrite,
     E: Evaluator,
     N: Fn() -> u64 + Drop,
+    // `now` may be called always.
     requires { N.IsAlwaysCallable now }
 {
     let alloc = rt.alloc();

@@ -16,7 +16,8 @@ pub trait Evaluator: Drop {
     /// isn't too long, and a moment.
     ghost replies: { List ℕ → List ℕ → Option (List ℕ) → Option (List ℕ) → ℕ → Response → Type 0 };
 
-    /// The reply to a request, at a moment in seconds since 1970.
+    /// The reply to a request, at a moment in seconds since 1970: one of those that `replies` says
+    /// it may give to this method, target, `if-none-match`, body and moment.
     fn answer(
         &mut self,
         alloc: Global,
@@ -26,6 +27,7 @@ pub trait Evaluator: Drop {
         body: Body<'_>,
         now: u64,
     ) -> Result<Reply, NoReply>
+        // The moment is below 2^63.
         requires { now < 2 ^ 63 }
         ensures { IfOk result (λ r. replies method.now target.now
             (option_copied if_none_match.entry) (body_seen body.entry) now (response_seen r)) };

@@ -39,14 +39,14 @@ impl Model for Keeping {
 }
 
 impl Keeping {
-    /// No tag is kept yet.
+    /// An evaluator of what is published, of which no tag is kept yet.
     pub fn new(reader: Reader) -> Keeping
         ensures { result ≡ reader }
     {
         Keeping { reader, kept: None }
     }
 
-    /// Gives the evaluator back.
+    /// Gives the evaluator back, as it is.
     pub fn into_reader(self) -> Reader
         ensures { result ≡ self }
     {
@@ -97,15 +97,19 @@ impl Evaluator for Keeping {
         body: Body<'_>,
         now: u64,
     ) -> Result<Reply, NoReply>
+        // The moment is below 2^63.
         requires { now < 2 ^ 63 }
+        // `Ok`: the reply, by tags that are kept or without, is that over the flags of some front.
         ensures replies { IfOk result (λ r. (front : FrontState) × (response_seen r
             ≡ reply (front_set front) method.now target.now (option_copied if_none_match.entry)
             (body_seen body.entry) now)) }
-        // Over no less than it took or learnt before, and then it holds nothing back.
+        // What it knows then is no less than it took or learnt before.
         ensures goes_on { Begins self.old.known self.new.known }
+        // `Ok`: the reply is that over what it knows now.
         ensures over { IfOk result (λ r. response_seen r
             ≡ reply (front_set self.new.known) method.now target.now
             (option_copied if_none_match.entry) (body_seen body.entry) now) }
+        // It holds back no publication then, whatever is answered.
         ensures rested { self.new.lent ≡ None }
     {
         if self.reader.enter().is_err() {

@@ -24,26 +24,37 @@ use serde_json::Value;
 use std::alloc::Global;
 use std::mem;
 
-/// The flags of a flagd document, in ascending order of their keys. The references in their
-/// targeting are replaced; what the document has beside `flags` and `$evaluators` is dropped.
+/// The flags of a flagd document, by ascending keys, with the references in their targeting
+/// replaced. What the document has beside `flags` and `$evaluators` is dropped.
+///
+/// Flags are looked at by ascending keys, and the first fault is answered; of one flag the key
+/// first, then its references, then its definition with the references replaced.
 pub fn expand_document(
     alloc: Global,
     document: Value,
 ) -> Result<Vec<(FlagKey, Definition)>, ImportFault>
+    // `Ok`: exactly the keys and canonical texts of the flags that the document defines; a fault:
+    // the first one that it has, or `Memory`, which is never told as a flag's.
     ensures flags { Gives (λ v. map seen_flag v.items) Tells result (document_of (view document)) }
+    // `Ok`: the keys ascend strictly.
     ensures ascending { IfOk result (λ v. IsStrictlySortedBy flag_cmp (keys_of v.items)) }
 {
     expand_tree(alloc, Tree::of_value(alloc, &document)?)
 }
 
-/// The flags of a flagd document that was read as a tree, as `expand_document` gives them.
+/// The flags of a flagd document that was read as a tree, as `expand_document` gives them. Texts
+/// are never copied until a definition owns its own.
 pub fn expand_tree(
     alloc: Global,
     document: Tree<'_>,
 ) -> Result<Vec<(FlagKey, Definition)>, ImportFault>
+    // The tree is ordered, as one is that `read_tree` of `fp_base` made.
     requires { IsOrdered (tree_view document) }
+    // `Ok`: exactly the keys and canonical texts of the flags that the document defines; a fault:
+    // the first one that it has, or `Memory`, which is never told as a flag's.
     ensures flags { Gives (λ v. map seen_flag v.items) Tells result
         (document_of (tree_view document.entry)) }
+    // `Ok`: the keys ascend strictly.
     ensures ascending { IfOk result (λ v. IsStrictlySortedBy flag_cmp (keys_of v.items)) }
 {
     let Tree::Object(mut members) = document else {

@@ -19,7 +19,7 @@ pub enum Port {
 }
 
 impl Port {
-    /// Its name, as `serve` says where it listens.
+    /// The word for a port, as `serve` says where it listens.
     pub fn name(&self) -> &'static str
         ensures { result.now ≡ port_name self.now }
     {
@@ -45,7 +45,7 @@ pub enum Source {
 }
 
 impl Source {
-    /// Its name.
+    /// The word for what is read or written.
     pub fn name(&self) -> &'static str
         ensures { result.now ≡ source_name self.now }
     {
@@ -78,7 +78,7 @@ pub enum Cause {
 }
 
 impl Cause {
-    /// Its name.
+    /// The word for why a connection was ended.
     pub fn name(&self) -> &'static str
         ensures { result.now ≡ cause_name self.now }
     {
@@ -157,7 +157,8 @@ pub enum Event<'e> {
 }
 
 impl Event<'_> {
-    /// The name that a program looks for.
+    /// The name of the event, a word that a program looks for. What is shown of the event is its
+    /// fields, each behind its name, and nothing else.
     pub fn name(&self) -> &'static str
         ensures { result.now ≡ name_of self.now }
     {
@@ -223,12 +224,12 @@ impl fmt::Display for Event<'_> {
     }
 }
 
-/// Tells an event, where somebody asked for it.
+/// Tells an event to the runtime's log, where somebody asked for it; else it does nothing.
 pub fn tell<R: Log>(rt: &R, event: &Event<'_>) {
     info!(rt; target: event.name(), "{event}");
 }
 
-/// The same with the system's reason.
+/// Tells an event as `tell` does, with the system's reason behind it.
 pub fn tell_failure<R: Log>(rt: &R, event: &Event<'_>, reason: &io::Error) {
     info!(rt; target: event.name(), "{event} reason={reason}");
 }

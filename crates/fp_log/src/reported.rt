@@ -17,7 +17,8 @@ pub struct Reported<R: Drop, S: Drop> {
 }
 
 impl<R: Log + Drop, S: Drop> Reported<R, S> {
-    /// Over this stream.
+    /// Over this stream: what it reads and writes is what the stream gives and takes. A failure is
+    /// told, and handed on as it came.
     pub fn new(rt: R, source: Source, inner: S) -> Reported<R, S> {
         Reported { rt, source, inner }
     }

@@ -23,18 +23,33 @@ use Rattle.fp_server.specs.declared.task.Task.TheVariants.{Serve, Watch}
 
 -- ---- a service at a path
 
--- how it ended, which is well only where its input has ended; that path alone was opened, once, to be written, and a store that failed is told
--- only where no stream failed
+-- how it ended, which is well only where its input has ended; that path alone was opened, once, to
+-- be written, and a store that failed is told only where no stream failed
 pub record Serves {F D R W : Type 0} (files : FileGhosts F D) (disk : DiskGhosts D)
     (remaining : R → Option (List ℕ)) (contents : W → Option (List ℕ)) (old new : Environment F R W)
     (path : List ℕ) (outcome : Result (Unit {0}) CommandFault) : Type 0 where
+  -- `Ok`: the disk at the path held some flags, and some edits were sealed; what was written is the
+  -- three addresses, each on a line behind its name, and `stopped at revision N` with the revision
+  -- that these edits make. H: the disk is at its path again, and every crash state stands for the
+  -- flags with these edits. From its opening to its end it was called by a committer alone, so that
+  -- H: any crash state at any moment is one that there might have been before, or stands for the
+  -- flags with some first of these edits, all that were settled by then among them.
   pub well : OnOk outcome (EndsWell files disk old.files new.files path
       (contents old.writer.inner) (contents new.writer.inner))
+  -- `Ok`: the input has ended.
   pub ended : OnOk outcome (IsAtEnd (remaining new.reader.inner))
+  -- A fault is one of three. `Device`, and each path has what it had. Or the disk was only read, H:
+  -- is back at its path, and the fault is that of its bytes, `Device` or `Memory`. Or the fault is
+  -- `Device`, `Memory` or `StoreFailed`, this only where the disk failed since, or there is no room
+  -- for what was drawn and no generation to make it. H: the disk is back then, every crash state
+  -- stands for the flags with some edits, or with one batch more, and at any moment as above.
   pub badly : IfErr outcome (EndsBadly files disk old.files new.files path)
+  -- `StoreFailed` only where neither the reader nor the writer failed.
   pub calm : IfErr outcome (λ f. f ≡ StoreFailed
       → failures (streams_of new) ≡ failures (streams_of old))
+  -- This path alone is asked for, once, to be written, which wants its lock.
   pub asked : files.asked new.files ≡ files.asked old.files ++ (path, Writing) ∷ []
+  -- At each other path stays what was there.
   pub others : KeepsOthers files.at old.files new.files path
 
 -- ---- what a service elsewhere sends

@@ -35,7 +35,7 @@ use std::time::{Clock, Instant, SystemTime, UNIX_EPOCH};
 // The last moment that a reply knows.
 const LAST_MOMENT: u64 = 0x7fff_ffff_ffff_ffff;
 
-/// The seconds since 1970, and 0 before it or without a clock.
+/// The seconds since 1970, and 0 before it or without a clock; always below 2^63.
 pub fn moment<R: Clock>(rt: &R) -> u64
     ensures { result < 2 ^ 63 }
 {
@@ -48,9 +48,13 @@ pub fn moment<R: Clock>(rt: &R) -> u64
     }
 }
 
-/// Serves the file at this path to editors, evaluators and subscribers, each of whom has so much
-/// time, until the input ends. Then what was handed in is sealed, those who wait are answered, and `stopped at revision N` is
-/// written. A store that failed is a fault at that end.
+/// Serves the file at this path to editors, evaluators and subscribers, each in a thread of its
+/// own, until the input ends. Then what was handed in is sealed, those who wait are answered, and
+/// `stopped at revision N` is written.
+///
+/// Each connection has so much time as `limits` say. A store that failed is a fault at that end.
+/// Where there is no thread for the flusher, what it was to do is done without one, so that the
+/// disk comes back then too.
 pub fn serve<R, F, I, O>(
     rt: &R,
     files: &mut F,
@@ -166,8 +170,8 @@ where
     }
 }
 
-// Shows that a store with which nothing was done is one that a committer may leave. Does nothing when
-// it runs.
+// Shows that a store with which nothing was done is one that a committer may leave. Does nothing
+// when it runs.
 fn untouched<D: Disk>(store: &Store<D>)
     requires { IsFresh store.now store.now.store.start }
     ensures { GoesThrough D.Disk store.now store.now }

@@ -16,8 +16,9 @@ pub enum Task<'w> {
     Watch(SocketAddrV4),
 }
 
-/// What the words ask of the service; `None` where they ask nothing of it, or an address is no
-/// four numbers and a port.
+/// What the words ask of the service, exactly, be it by `serve`, a path and the texts of three
+/// addresses in their order, or by `watch` and the text of one. `None` where they ask for neither,
+/// or an address is no four numbers and a port.
 pub fn task_of(words: &[String]) -> Option<Task<'_>>
     ensures { MatchOption result ((task : Task) → ¬ AsksFor (map string_bytes words.now) task)
         (AsksFor (map string_bytes words.now)) }

@@ -15,8 +15,8 @@ use std::alloc::Global;
 use std::io::{Read, Write};
 use std::net::{SocketAddrV4, TcpStream};
 
-/// Says hello with nothing to the service at this address, and shows each snapshot that it sends,
-/// until it ends the stream.
+/// Says hello with nothing to the service at this address, and shows each snapshot that it sends on
+/// a line, until it ends the stream.
 pub fn watch<R, O>(
     rt: &R,
     address: SocketAddrV4,
@@ -25,9 +25,12 @@ pub fn watch<R, O>(
 where
     R: Host,
     O: Write,
-    // However it ended, all frames in what came were shown, and nothing else, unless `w` failed.
+    // However it ended, unless the writer failed: some bytes came to who has nothing, and each
+    // frame in them was shown, in order, and nothing else: up to a fault, or up to less than a
+    // whole frame.
     ensures shown { w.new.failures ≡ w.old.failures
         → ShowsFrames (O.contents w.old.inner) (O.contents w.new.inner) result }
+    // The writer failed only where the fault is `Device`.
     ensures device { BlamesWriter w.old.failures w.new.failures result }
 {
     let stream = match TcpStream::connect(rt, address) {

@@ -14,28 +14,32 @@ use Rattle.fp_session.specs.declared.fault.ApplyFault.{ApplyFault}
 pub record RunPromise {E : Type 0} (store : Ghosts E) (Of : (List Ask → Type 0) → Type 0) (most : ℕ)
     (first now : E) (old new : Option (List ℕ)) (f0 f : ℕ) (outcome : Result Bool ApplyFault)
     : Type 0 where
-  -- what is written is the script of what is asked, and the flags are as it leaves them
+  -- `Ok(true)`: what was written is exactly the script of what is asked.
   pub script : IfOk outcome (λ told. told ≡ true
       → Of (λ asks. Appends old new (asked.script (store.state first) asks)))
+  -- `Ok(true)`: the flags that come back are as what is asked leaves them.
   pub flags : IfOk outcome (λ told. told ≡ true
       → Of (λ asks. store.state now ≡ asked.after (store.state first) asks))
-  -- where a reply tells of wanting memory, what it answers changed nothing,
-  -- and all else is as before
+  -- `Ok`: a reply to each thing asked was written, and then the flags; true exactly where no reply
+  -- says `out-of-memory`, which changes nothing.
   pub run : IfOk outcome (λ told.
       Of (λ asks. IsRunWritten (store.state first) asks told old new (store.state now)))
+  -- `Ok`: no other flags may stand.
   pub kept : OnOk outcome ((u : State) → store.may_stand now u → u ≡ store.state now)
-  -- at a fault all replies were written, unless the writer failed: those to what any flags that
-  -- may stand hold, and those to the batch behind that isn't known to be kept, which tell no
-  -- revision, or none where memory was wanting
+  -- At a fault, unless the writer failed: what was written is the replies to some first of what is
+  -- asked, which any flags that may stand hold, and those to one batch at most behind them: no
+  -- revision of it is told, and `store-failed` in its place. Of that batch nothing is told at
+  -- `Memory`, and there is none at `Device`. All edits that were taken are among these.
   pub told : IfErr outcome (λ fault. f ≡ f0 → (u : State) → store.may_stand now u → Of (λ asks.
       IsToldBy (store.state first) asks most fault old new (store.state now) u))
-  -- whatever comes back, the flags are as some first of what is asked leaves them,
-  -- and so is whatever a crash leaves at any moment
+  -- Whatever comes back, the flags are as some first of what is asked leaves them.
   pub left : Of (λ asks. IsAfterPrefix (store.state first) asks (store.state now))
+  -- So are those that a crash leaves at any moment of the run.
   pub any_moment : store.leaves first now
       (λ u. Of (λ asks. IsAfterPrefix (store.state first) asks u))
-  -- at the end nothing goes on beside the edits
+  -- `Ok`: nothing goes on beside the edits.
   pub rests : OnOk outcome (store.rests now)
-  -- what keeps the flags goes on, but where it failed to keep what waited
+  -- What keeps the flags went on; at `StoreFailed`, and where memory was wanting to keep them,
+  -- until it failed to keep edits that had been asked of it.
   pub course : StoreRun store (λ u. Of (λ asks. IsAfterPrefix (store.state first) asks u))
       first now outcome

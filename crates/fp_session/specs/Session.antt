@@ -103,10 +103,16 @@ LeavesFlags disk a b P = SameHonesty disk (disk_of a) (disk_of b)
 -- a session goes on, by a course of its store's half: its disk keeps its word as before and hasn't
 -- failed, and its calls were those of whole works
 pub record Keeps {D : Type 0} (disk : Ghosts D) (a b : SessionState D) : Type 0 where
+  -- The disk is honest exactly if it was before.
   pub honest : SameHonesty disk (disk_of a) (disk_of b)
+  -- No call of the disk failed.
   pub no_failure : disk.faults (disk_of b) ≡ disk.faults (disk_of a)
+  -- A session that takes edits still does.
   pub ready : IsReady disk a → IsReady disk b
+  -- Its calls were those of whole works: batches, each write, sync, write, sync; and steps of
+  -- compactions.
   pub called : Works disk a.half.store b.half.store
+  -- Its store's half went on by a course: at any moment a crash keeps all that was settled by then.
   pub course : Course disk a.half b.half
 
 -- where the store failed, there was no room for what waited, or the device failed
@@ -120,7 +126,12 @@ CanFail disk Memory a b = Unit {0}
 -- and some first of one more
 pub record Fails {D : Type 0} (disk : Ghosts D) (f : CommitFault)
     (a b : SessionState D) : Type 0 where
+  -- The disk is honest exactly if it was before.
   pub honest : SameHonesty disk (disk_of a) (disk_of b)
+  -- `StoreFailed`: the disk failed, or it has no room for edits that waited, and no generation to
+  -- make it.
   pub cause : IsReady disk a → CanFail disk f a b
+  -- Its calls were those of whole works and some first ones of one more.
   pub called : BreaksOff disk a.half.store b.half.store
+  -- Its store's half went on by a course: at any moment a crash keeps all that was settled by then.
   pub course : Course disk a.half b.half

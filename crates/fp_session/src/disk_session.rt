@@ -65,16 +65,25 @@ impl<D: Disk> Model for DiskSession<D> {
 }
 
 impl<D: Disk> DiskSession<D> {
-    /// Over a store as it was made or opened. It takes memory for a copy of the set.
+    /// A session over a store as it was made or opened. It takes memory for a copy of the set.
     pub fn new(alloc: Global, store: Store<D>, opening: Opening) -> Result<DiskSession<D>, Store<D>>
+        // The opening is this store's.
         requires opening { opening ≡ store.store }
+        // Nothing is sealed since, nothing is on its way, and no compaction runs.
         requires fresh { IsFresh store store.store.start }
+        // `Ok`: it is over this store and takes edits. H: every crash state stands for what is
+        // sealed.
         ensures made { IfOk result (λ s. (s.half.store ≡ store) × IsReady D.Disk s) }
+        // `Ok`: no compaction runs.
         ensures rests { IfOk result (λ s. s.half.store.compaction.next ≡ Begin) }
+        // `Ok`: nothing was drawn before, and its flags are those that its store begins with.
         ensures begins { IfOk result (Begins D.Disk) }
+        // `Ok`: nothing waits, so that no flags may stand but its own.
         ensures kept { IfOk result (λ s. (flags : State)
             → IsAfterFirst s.desk (settled_revision s.desk) flags → flags ≡ flags_of s) }
+        // `Ok`: its flags are the store's.
         ensures flags { IfOk result (λ s. flags_of s ≡ store.store.start) }
+        // `Err`: the store comes back as it was.
         ensures given_back { IfErr result (λ e. e ≡ store) }
     {
         match DeskHalf::pair(alloc, store, opening) {
@@ -92,29 +101,45 @@ impl<D: Disk> DiskSession<D> {
         }
     }
 
-    /// Goes on from what a disk stands for. It syncs before it reads, and writes nothing.
+    /// A session over what a disk stands for. It syncs before it reads, and writes nothing.
     pub fn open(alloc: Global, disk: D) -> Result<DiskSession<D>, (OpenFault, D)>
+        // H: at `Ok` the bytes stand for its flags.
         ensures stands { D.honest disk → IfOk result (λ s. StandsFor (D.bytes disk) (flags_of s)) }
+        // H: at `Ok` the bytes stand for no other flags.
         ensures only { D.honest disk → IfOk result (λ s. (other : State) →
             StandsFor (D.bytes disk) other → other ≡ flags_of s) }
+        // `Ok`: it takes edits, and no batch is on its way. H: every crash state stands for what is
+        // sealed.
         ensures ready { IfOk result (λ s. IsReady D.Disk s) }
+        // `Ok`: no compaction runs.
         ensures rests { IfOk result (λ s. s.half.store.compaction.next ≡ Begin) }
+        // `Ok`: nothing was drawn before, and its flags are those that its store begins with.
         ensures begins { IfOk result (Begins D.Disk) }
+        // `Ok`: nothing waits, so that no flags may stand but its own.
         ensures kept { IfOk result (λ s. (flags : State)
             → IsAfterFirst s.desk (settled_revision s.desk) flags → flags ≡ flags_of s) }
+        // H: a fault is one of the bytes, the first in the order of the layout; or `Device`, or
+        // `Memory`.
         ensures fault { D.honest disk → IfErr result (λ e. RefusesBytes (D.bytes disk) e.0) }
+        // H: at a fault of the bytes they stand for no set.
         ensures refused { D.honest disk → IfErr result (λ e. IsUnlessWanting (D.bytes disk) e.0) }
+        // `Ok`: no call of the disk failed.
         ensures no_failure { IfOk result (λ s. D.faults (disk_of s) ≡ D.faults disk) }
+        // `Device` only where the disk's count of failures rose.
         ensures cause { IfErr result (λ e. e.0 ≡ opening.Device → D.faults disk < D.faults e.1) }
+        // `Ok`: its calls were a sync, the length and reads; a fault: some first ones of these.
         ensures called { MatchResult result
             (λ s. ThenReads (Sync ∷ Length ∷ []) (D.calls disk) (D.calls (disk_of s)))
             (λ e. ThenSomeReads (Sync ∷ Length ∷ []) (D.calls disk) (D.calls e.1)) }
+        // H: the bytes stay.
         ensures same { D.honest disk → MatchResult result
             (λ s. D.bytes (disk_of s) ≡ D.bytes disk) (λ e. D.bytes e.1 ≡ D.bytes disk) }
+        // H: any crash state at any moment is one from before.
         ensures any_moment { D.honest disk → MatchResult result
             (λ s. LeavesOnly D.moment D.crash_states_since disk (disk_of s)
             (IsOutcome (D.unsynced disk)))
             (λ e. LeavesOnly D.moment D.crash_states_since disk e.1 (IsOutcome (D.unsynced disk))) }
+        // The disk is honest exactly if it was before.
         ensures honest { MatchResult result (λ s. SameHonesty D.Disk disk (disk_of s))
             (λ e. SameHonesty D.Disk disk e.1) }
     {
@@ -128,7 +153,7 @@ impl<D: Disk> DiskSession<D> {
         }
     }
 
-    /// Whether it takes edits.
+    /// Whether it takes edits: exactly where it hasn't stopped at edits that weren't kept.
     pub fn is_ready(&self) -> bool
         ensures { IsTrue result ↔ IsReady D.Disk self.now }
     {
@@ -148,7 +173,10 @@ impl<D: Disk> DiskSession<D> {
 
     /// Gives the disk back.
     pub fn into_disk(self) -> D
+        // It is the session's.
         ensures disk { result ≡ disk_of self }
+        // H: every crash state stands for what is settled, or for that and some first of the edits
+        // that wait.
         ensures keeps { EachCrash D.Disk result (StandsAhead self.desk) }
     {
         let DiskSession {

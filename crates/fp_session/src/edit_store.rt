@@ -46,54 +46,89 @@ pub trait EditStore {
     ghost leaves_as: { (a b : Self) (P Q : State → Type 0)
         → ((s : State) → P s → Q s) → leaves a b P → leaves a b Q };
 
-    /// Whether an edit may wait together with those that do, which it always may where none does.
+    /// Whether an edit may wait together with those that do, exactly. In a `DiskSession` it may
+    /// where that takes edits and this one makes one batch with those that wait; in a `FlagSet`
+    /// always.
     fn joins(&self, edit: &Edit) -> bool
         ensures { IsTrue result ↔ has_place self.now (change_of edit.now) };
 
-    /// Judges an edit by the flags, and answers the revision that it makes.
+    /// Judges an edit by the flags, and answers the revision that it makes. It waits then until
+    /// `commit` keeps it.
     fn submit(&mut self, edit: Edit) -> Result<u64, EditFault>
+        // The edit may wait together with those that do.
         requires place { has_place self.old (change_of edit) }
+        // `Ok`: the flags accept the edit, and are what it makes of them.
         ensures admitted { OnOk result
             (Admits (state self.old) (proposal_of edit) (accepted (state self.new))) }
+        // `Ok`: the number is the revision that it makes.
         ensures revision { IfOk result (λ r. r ≡ (state self.new).revision) }
+        // `Err`: the first refusal that applies, or `Memory` where none does.
         ensures refused { IfErr result (IsRefusedOrWanting (state self.old) (proposal_of edit)) }
+        // An `Err` changes no flags.
         ensures unchanged { OnErr result (state self.new ≡ state self.old) }
+        // No flags may stand but those that might before, and those after the edit.
         ensures ahead { (s : State) → may_stand self.new s
             → may_stand self.old s ⊎ (s ≡ state self.new) }
+        // At any moment a crash leaves flags that might stand before (H for a `DiskSession`).
         ensures any_moment { leaves self.old self.new (may_stand self.old) }
+        // What keeps the flags goes on, whatever is answered.
         ensures goes_on { continues_to self.old self.new };
 
-    /// Keeps what waits.
+    /// Keeps what waits. A `DiskSession` seals it in batches that are as long as they may be.
     fn commit(&mut self) -> Result<(), CommitFault>
+        // The flags stay, whatever is answered.
         ensures same { state self.new ≡ state self.old }
+        // `Ok`: what waited is kept: no flags may stand but these.
         ensures kept { OnOk result ((s : State) → may_stand self.new s → s ≡ state self.new) }
+        // `Ok`: nothing waits, so that any edit may.
         ensures place { OnOk result ((c : Change) → has_place self.new c) }
+        // No flags may stand that might not before.
         ensures ahead { (s : State) → may_stand self.new s → may_stand self.old s }
+        // At any moment a crash leaves flags that might stand before (H for a `DiskSession`).
         ensures any_moment { leaves self.old self.new (may_stand self.old) }
+        // `Ok`: what keeps the flags goes on (a `DiskSession`: `Keeps`); `Err`: it fails for a
+        // reason that it may have (`Fails`).
         ensures fate { MatchResult result (λ _. continues_to self.old self.new)
             (λ f. fails_on f self.old self.new) };
 
-    /// Goes on with what is done beside the edits, by one step where one is due.
+    /// Goes on with what is done beside the edits, by one step where one is due. A `DiskSession`
+    /// takes steps of a compaction, which it begins where its slot runs short or is of the first
+    /// version.
     fn go_on(&mut self) -> Result<(), CommitFault>
+        // The flags stay, whatever is answered.
         ensures same { state self.new ≡ state self.old }
+        // `Ok`: an edit that might wait may.
         ensures place { OnOk result ((c : Change) → has_place self.old c → has_place self.new c) }
+        // No flags may stand that might not before.
         ensures ahead { (s : State) → may_stand self.new s → may_stand self.old s }
+        // At any moment a crash leaves flags that might stand before (H for a `DiskSession`).
         ensures any_moment { leaves self.old self.new (may_stand self.old) }
+        // `Ok`: what keeps the flags goes on (a `DiskSession`: `Keeps`); `Err`: it fails for a
+        // reason that it may have (`Fails`).
         ensures fate { MatchResult result (λ _. continues_to self.old self.new)
             (λ f. fails_on f self.old self.new) };
 
-    /// Ends what is done beside the edits.
+    /// Ends what is done beside the edits: a `DiskSession` takes the steps of its compaction that
+    /// are left.
     fn rest(&mut self) -> Result<(), CommitFault>
+        // The flags stay, whatever is answered.
         ensures same { state self.new ≡ state self.old }
+        // `Ok`: nothing goes on beside the edits.
         ensures rests { OnOk result (rests self.new) }
+        // No flags may stand that might not before.
         ensures ahead { (s : State) → may_stand self.new s → may_stand self.old s }
+        // At any moment a crash leaves flags that might stand before (H for a `DiskSession`).
         ensures any_moment { leaves self.old self.new (may_stand self.old) }
+        // `Ok`: what keeps the flags goes on (a `DiskSession`: `Keeps`); `Err`: it fails for a
+        // reason that it may have (`Fails`).
         ensures fate { MatchResult result (λ _. continues_to self.old self.new)
             (λ f. fails_on f self.old self.new) };
 
-    /// The flags as they are.
+    /// Lends the flags as they are, with all edits that were taken.
     fn flags(&self) -> &FlagSet
+        // They are those of the store.
         ensures value { result.now ≡ state self.now }
+        // A crash now leaves flags that may stand.
         ensures still { leaves self.now self.now (may_stand self.now) };
 }
 

@@ -24,7 +24,7 @@ pub enum ApplyFault {
 impl ApplyFault {
     ghost use Rattle.fp_session.specs.Fault.{text_of};
 
-    /// The text by which the program names the fault.
+    /// The text by which the program names the fault; `Display` shows the same.
     pub fn as_str(&self) -> &'static str
         ensures { result.now ≡ text_of self.now }
     {

@@ -70,12 +70,12 @@ impl EditSource<()> for FlagPuts {
 }
 
 /// Puts each flag, whatever stands at its key, answers each put by a reply line, and shows the
-/// flags behind the last reply. As many puts as may wait together are kept at once, and then
-/// answered.
+/// flags behind the last reply. As many puts as make one batch, 1,024 at most, are kept at once,
+/// and then answered.
 ///
 /// A put that is refused is answered, and the next ones go on. `Ok(false)` says that a reply told
-/// of wanting memory. Where puts aren't kept their replies are `store-failed`, the last ones.
-/// A writer that fails is `Device`, unless the store failed or memory was wanting just before.
+/// of wanting memory. Where puts aren't kept their replies are `store-failed`, the last ones. A
+/// writer that fails is `Device`, unless the store failed or memory was wanting just before.
 pub fn import_flags<W: Write, E: EditStore>(
     alloc: Global,
     w: &mut FailureCounted<W>,
@@ -84,14 +84,12 @@ pub fn import_flags<W: Write, E: EditStore>(
 ) -> (E, Result<bool, ApplyFault>)
     // Nothing waits to be kept yet.
     requires fresh { (s : State) → E.may_stand edits s → s ≡ E.state edits }
-
-    // As many puts wait as are answered at once.
+    // The promise of a run over a put for each flag, of which 1,024 at most are answered at once.
     ensures runs { RunPromise E.EditStore
         (λ Holds. Holds (asked_by_flags (map flag_bytes flags.items))) MOST_WAITING
         edits result.0 (W.contents w.old.inner) (W.contents w.new.inner)
         w.old.failures w.new.failures result.1 }
-
-    // `Device` comes only where the writer failed, and a run to the end only where it didn't.
+    // `Device` comes only where the writer failed, and `Ok` only where it didn't.
     ensures device { Blames w.old.failures w.new.failures result.1 }
 {
     let mut puts = FlagPuts::new(flags);

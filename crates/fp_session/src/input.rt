@@ -44,7 +44,8 @@ impl Model for InputLines {
 }
 
 impl InputLines {
-    /// Nothing came in yet.
+    /// The lines of an input of which nothing came in yet: a source that asks what they ask, for a
+    /// loop of one's own.
     pub fn new(alloc: Global) -> InputLines
         ensures { result ≡ record { line = []; left = []; ended = false } }
     {
@@ -55,17 +56,22 @@ impl InputLines {
         }
     }
 
-    /// Reads as far as the first line goes, and says whether it is an HTTP request's. What the
-    /// lines ask is asked behind it.
+    /// Reads as far as the first line goes, and says whether it is an HTTP request's, however it is
+    /// cut. What the lines ask is asked behind it.
     pub fn begin_with_request<R: Read>(
         &mut self,
         reader: &mut FailureCounted<R>,
     ) -> Result<bool, StreamFault>
+        // Nothing came in yet.
         requires fresh { self.old ≡ record { line = []; left = []; ended = false } }
+        // `Ok`: true exactly where the first line of what was still to be read is an HTTP
+        // request's.
         ensures told { IfOk result (λ is_request. IfSome (R.remaining reader.old.inner)
             (λ input. is_request ≡ is_request_line (first_line input))) }
+        // `Ok`: from here on it asks what the lines of all of that ask, the first one too.
         ensures asks { OnOk result (IfSome (R.remaining reader.old.inner) (λ input.
             AskLines self.new (R.remaining reader.new.inner) (asked_by_input input))) }
+        // `Device` exactly where the reader's count of failures rose.
         ensures counted { CountsFailures reader.old.failures reader.new.failures result }
     {
         let first = read_first(&mut self.line, &mut self.chunk, reader)?;
@@ -171,13 +177,15 @@ fn next_line(
     Ok(None)
 }
 
-/// Answers each line of the reader in order, and shows the flags behind the last reply. Each edit
-/// is kept before it is answered.
+/// Answers each line of the reader that isn't blank, in order, and shows the flags behind the last
+/// reply. Each edit is kept before it is answered.
 ///
-/// The replies to what was read are sent before the next read, and no more than a chunk of the
-/// input and its replies is held. `Ok(false)` says that a reply told of wanting memory. Where an
-/// edit isn't kept its reply is `store-failed`, the last one. A reader or a writer that fails is
-/// `Device`, unless the store failed or memory was wanting just before.
+/// It reads in chunks of 64 KiB. The replies to a chunk are sent and flushed before the next read,
+/// and sooner where more than 64 KiB of them wait: so no more is held than a chunk, its replies and
+/// 32,769 bytes of a line. `Ok(false)` says that a reply told of wanting memory. Where an edit
+/// isn't kept its reply is `store-failed`, the last one. Replies that were made before a fault are
+/// sent before it is answered; where that fails too the first fault is answered. A reader or a
+/// writer that fails is `Device`, unless the store failed or memory was wanting just before.
 pub fn apply_lines<R: Read, W: Write, E: EditStore>(
     alloc: Global,
     r: &mut FailureCounted<R>,
@@ -186,19 +194,15 @@ pub fn apply_lines<R: Read, W: Write, E: EditStore>(
 ) -> (E, Result<bool, ApplyFault>)
     // Nothing waits to be kept yet.
     requires fresh { (flags : State) → E.may_stand edits flags → flags ≡ E.state edits }
-
-    // What holds of what is asked is said where the input is known, and one edit at most waits.
+    // The promise of a run over what the input's lines ask, of which one is answered at once.
     ensures runs { RunPromise E.EditStore
         (λ Holds. IfSome (R.remaining r.old.inner) (λ input. Holds (asked_by_input input))) 1
         edits result.0 (W.contents w.old.inner) (W.contents w.new.inner)
         w.old.failures w.new.failures result.1 }
-
-    // `Device` comes only where the reader or the writer failed,
-    // and a run to the end only where neither did.
+    // `Device` comes only where the reader or the writer failed, and `Ok` only where neither did.
     ensures device { Blames (r.old.failures + w.old.failures) (r.new.failures + w.new.failures)
         result.1 }
-
-    // No other fault is told in place of a reader's.
+    // At any fault but `Device` the reader didn't fail.
     ensures read { IfErr result.1 (λ f. f ≢ Device → r.new.failures ≡ r.old.failures) }
 {
     let mut lines = InputLines::new(alloc);

@@ -26,7 +26,8 @@ pub enum Reply {
 }
 
 impl Reply {
-    /// The reply as JSON, without the newline that ends its line.
+    /// The reply as JSON, without the newline that ends its line: the text that the table of
+    /// replies has.
     pub fn text(&self, alloc: Global) -> Result<Vec<u8>, AllocError>
         ensures { IfOk result (λ t. t.items ≡ reply_text (reply_of_code self.now)) }
     {
@@ -38,7 +39,7 @@ impl Reply {
         }
     }
 
-    /// Whether the reply tells of a revision.
+    /// Whether the reply tells of a revision: it is one, or a conflict with one.
     pub fn tells_revision(&self) -> bool
         ensures { result ≡ tells_revision (reply_of_code self.now) }
     {

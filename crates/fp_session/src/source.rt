@@ -24,18 +24,25 @@ pub trait EditSource<S> {
 
     ghost failures: { S → ℕ };
 
-    /// The next edit at hand, or what stood in its place.
+    /// The next edit at hand, or what stood in its place; `None` where nothing is at hand.
     fn next(&mut self, alloc: Global) -> Result<Option<Result<Edit, LineFault>>, AllocError>
+        // `Ok`: the first of what it asks, and then it asks the rest; `None`: it asks what it
+        // asked.
         ensures next { IfOk result (AsksNext asks self.old self.new) }
+        // `Ok`: less is at hand, and at `None` nothing is.
         ensures fewer { IfOk result (λ next. MatchOption next (at_hand self.new ≡ 0)
             (λ _. at_hand self.new < at_hand self.old)) };
 
     /// Gets more, where nothing is at hand. `Ok(false)` is the end.
     fn refill(&mut self, stream: &mut S) -> Result<bool, StreamFault>
         requires { at_hand self.old ≡ 0 }
+        // `Ok`: it asks what it asked, and at `false` that is nothing.
         ensures more { IfOk result (λ more. (all : List Ask) → asks self.old stream.old all
             → asks self.new stream.new all × (more ≡ false → all ≡ [])) }
+        // `Ok(true)`: its stream may be asked less often than before, so that a loop ends.
         ensures fewer { IfOk result (λ more. more ≡ true → left stream.new < left stream.old) }
+        // Its one fault is `Device`.
         ensures fault { IfErr result (λ f. f ≡ Device) }
+        // `Device` exactly where its stream failed.
         ensures counted { CountsFailures (failures stream.old) (failures stream.new) result };
 }

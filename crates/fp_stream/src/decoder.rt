@@ -44,9 +44,11 @@ impl Model for Decoder {
 }
 
 impl Decoder {
-    /// Reads for a subscriber that has this. It takes no memory.
+    /// Begins to read for a subscriber that has this. It takes no memory.
     pub fn new(alloc: Global, hello: Hello) -> Decoder
+        // It holds no bytes, and owes no fault.
         ensures start { result ≡ record { has = hello; held = []; owed = None } }
+        // It has read nothing, and given nothing.
         ensures so_far { HasRead hello [] [] result }
     {
         Decoder {
@@ -57,13 +59,23 @@ impl Decoder {
         }
     }
 
-    /// Takes the next piece of the stream, and gives each frame that is whole now. A fault that
-    /// stands behind such frames is answered by the next call, and after a fault other than
-    /// `Memory` each call answers `Failed`.
+    /// Takes the next piece of the stream, and gives each frame that is whole now. A fault behind
+    /// such frames is answered by the next call, and after a fault other than `Memory` each call
+    /// answers `Failed`.
+    ///
+    /// Of a head `BadMagic` comes first, then `TooLong`, then `NotRising`, once its 16 bytes are
+    /// there. A body's bytes are copied once; room is asked for only when bytes came, for eight
+    /// times as many and for no more than the body has. At `Memory` the piece isn't taken, and can
+    /// be fed again.
     pub fn feed(&mut self, alloc: Global, piece: &[u8]) -> Result<Vec<Frame>, FrameFault>
+        // A fault that is owed is answered, whatever the piece is, and from then on `Failed`.
         ensures owed { IfSome self.old.owed (λ fault. (result ≡ Err fault)
             × (self.new ≡ record self.old { owed = Some Failed })) }
+        // Else `Ok`: all frames that what was held and the piece hold, and a fault behind them is
+        // owed. A fault: it stands there with no frame before it. `Memory`: all is as before.
         ensures read { self.old.owed ≡ None → Feeds self.old piece.now result self.new }
+        // What it gave so far are the frames of all bytes that it took so far, however these were
+        // cut.
         ensures so_far { (has : Hello) (bytes : List ℕ) (frames : List Snapshot) →
             HasRead has bytes frames self.old →
             HasRead has (bytes ++ bytes_taken result piece.now) (frames ++ snapshots_given result)
@@ -76,7 +88,7 @@ impl Decoder {
         self.read_on(alloc, piece)
     }
 
-    /// The fault that the next call answers.
+    /// The fault that the next call of `feed` answers, if there is one.
     pub fn owed(&self) -> Option<FrameFault>
         ensures { result ≡ self.now.owed }
     {

@@ -26,7 +26,8 @@ pub enum Hello {
 }
 
 impl Hello {
-    /// Whether a revision is news to who says this.
+    /// Whether a revision is news to who says this: exactly where it is greater than the one that
+    /// it names, if it names one.
     pub fn is_behind(self, revision: u64) -> bool
         ensures { IsTrue result ↔ IsNewer self revision }
     {
@@ -59,11 +60,14 @@ const NOTHING: u8 = 0;
 
 const HAS: u8 = 1;
 
-/// Says hello. At an error some of it may have been said.
+/// Says hello, in nine bytes. At an error some of it may have been said.
 pub fn write_hello<W: Write>(w: &mut FailureCounted<W>, hello: Hello) -> Result<(), StreamFault>
+    // `Ok`: exactly its nine bytes stand behind what the writer held.
     ensures hello { OnOk result (Appends (W.contents w.old.inner) (W.contents w.new.inner)
         (hello_bytes hello)) }
+    // Its one fault is `Device`.
     ensures fault { IfErr result (λ f. f ≡ Device) }
+    // `Device` exactly where the writer's count of failures rose.
     ensures counted { CountsFailures w.old.failures w.new.failures result }
 {
     let (first, revision) = match hello {
@@ -83,8 +87,12 @@ fn bytes_of(first: u8, revision: u64) -> [u8; HELLO]
 
 /// Reads a hello, and not a byte behind it.
 pub fn read_hello<R: Read>(r: &mut FailureCounted<R>) -> Result<Hello, HelloFault>
+    // `Ok`: its nine bytes were taken, and no more; `Cut`: fewer were left, and all were taken;
+    // `BadHello`: nine were taken that no hello has.
     ensures heard { Hears (R.remaining r.old.inner) (R.remaining r.new.inner) result }
+    // `Device` exactly where the reader's count of failures rose.
     ensures counted { CountsHello r.old.failures r.new.failures result }
+    // Where a hello stands it is answered, unless the reader fails.
     ensures only { (hello : Hello) (rest : List ℕ) → IsHello hello →
         R.remaining r.old.inner ≡ Some (hello_bytes hello ++ rest) → IsSaid hello result }
 {

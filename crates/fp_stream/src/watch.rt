@@ -20,7 +20,8 @@ use std::io::{Read, Write};
 
 const CHUNK: usize = 65_536;
 
-/// Why a subscriber is shown nothing more.
+/// Why a subscriber is shown nothing more. Its text is `device fault`, `out of memory`, or `bad
+/// stream` for each fault of a frame.
 #[derive(Debug, Drop, Clone, Copy, PartialEq, Eq)]
 pub enum WatchFault {
     /// The reader or the writer failed.
@@ -74,20 +75,23 @@ impl From<FrameFault> for WatchFault {
     }
 }
 
-/// Shows each frame that the reader gives to a subscriber that has this, as soon as it is
-/// whole: its revision, a space, its document and a newline. It ends well where the reader
-/// does, inside a frame too.
+/// Shows each frame that the reader gives to a subscriber that has this, as soon as it is whole:
+/// its revision, a space, its document and a newline. It ends well where the reader does, inside a
+/// frame too.
 pub fn watch_loop<R: Read, W: Write>(
     alloc: Global,
     r: &mut FailureCounted<R>,
     w: &mut FailureCounted<W>,
     has: Hello,
 ) -> Result<(), WatchFault>
-    // However it ended, all frames in what came were shown, and nothing else,
-    // unless the writer failed.
+    // However it ended, unless the writer failed: a line was written for each frame in what the
+    // reader gave, in order, and nothing else, up to a fault, or up to less than a whole frame.
+    // `Ok`: the reader is at its end. At `Memory` alone the last bytes that were read weren't
+    // looked at.
     ensures watched { w.new.failures ≡ w.old.failures
         → Watches has (R.remaining r.old.inner) (R.remaining r.new.inner)
         (W.contents w.old.inner) (W.contents w.new.inner) result }
+    // `Device` exactly where the reader or the writer failed.
     ensures device { BlamesStreams (r.old.failures + w.old.failures)
         (r.new.failures + w.new.failures) result }
 {

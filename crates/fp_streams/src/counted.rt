@@ -49,7 +49,7 @@ impl<S> Model for FailureCounted<S> {
 }
 
 impl<S> FailureCounted<S> {
-    /// The stream, of no failure yet. It may be read 2^64 - 1 times.
+    /// Begins to count: over this stream, of no failure yet, that may be read 2^64 - 1 times.
     pub fn new(stream: S) -> FailureCounted<S>
         ensures { result ≡ record { inner = stream; failures = 0; reads_left = 2 ^ 64 - 1 } }
     {
@@ -60,7 +60,7 @@ impl<S> FailureCounted<S> {
         }
     }
 
-    /// The stream itself.
+    /// Lends the stream itself.
     pub fn get_ref(&self) -> &S
         ensures { result.now ≡ self.now.inner }
     {
@@ -91,13 +91,17 @@ impl<S> FailureCounted<S> {
 
 impl<R: Read> FailureCounted<R> {
     /// Reads once, and again where it was interrupted. `Ok(0)` is the end, unless there is no room.
-    /// An error consumes nothing.
     pub fn read(&mut self, buf: &mut [u8]) -> Result<usize, StreamFault>
+        // `Ok`: no more bytes than there is room for.
         ensures bound { ReadsAtMost result buf.new }
+        // `Ok`: the next bytes of the stream were taken; an error consumes nothing.
         ensures bytes { ReadConsumes (R.remaining self.old.inner) (R.remaining self.new.inner)
             result buf.new }
+        // Its one fault is `Device`.
         ensures fault { IfErr result (λ f. f ≡ Device) }
+        // A failure is counted exactly where `Device` is answered.
         ensures counted { CountsFailures self.old.failures self.new.failures result }
+        // `Ok`: fewer reads are left, so that a loop to an end that nobody knows ends.
         ensures fewer { OnOk result (self.new.reads_left < self.old.reads_left) }
     {
         while self.reads_left > 0 {
@@ -111,11 +115,14 @@ impl<R: Read> FailureCounted<R> {
         Err(self.fault())
     }
 
-    /// All that is left.
+    /// Reads all that is left. Want of memory is `Memory`, any other error `Device`.
     pub fn read_to_end(&mut self, alloc: Global) -> Result<Vec<u8>, StreamFault>
+        // `Ok`: the bytes are all that was left.
         ensures bytes { IfOk result (λ bytes.
             IfSome (R.remaining self.old.inner) (λ left. bytes.items ≡ left)) }
+        // A failure is counted exactly where `Device` is answered.
         ensures counted { CountsFailures self.old.failures self.new.failures result }
+        // It counts as no read.
         ensures reads { self.new.reads_left ≡ self.old.reads_left }
     {
         let mut bytes = Vec::new(alloc);
@@ -129,12 +136,16 @@ impl<R: Read> FailureCounted<R> {
 
 impl<W: WriteGathered> FailureCounted<W> {
     /// Writes both, one behind the other, and flushes them: by one call where the stream takes them
-    /// whole. At an error some of the bytes may have been written.
+    /// whole, and neither is copied. At an error some of the bytes may have been written.
     pub fn send_both(&mut self, first: &[u8], second: &[u8]) -> Result<(), StreamFault>
+        // `Ok`: the first bytes and then the second ones stand behind what the writer held.
         ensures bytes { OnOk result (Appends (W.contents self.old.inner)
             (W.contents self.new.inner) (first.now ++ second.now)) }
+        // Its one fault is `Device`.
         ensures fault { IfErr result (λ f. f ≡ Device) }
+        // A failure is counted exactly where `Device` is answered.
         ensures counted { CountsFailures self.old.failures self.new.failures result }
+        // It counts as no read.
         ensures reads { self.new.reads_left ≡ self.old.reads_left }
     {
         match write_both_and_flush(&mut self.stream, first, second) {
@@ -147,10 +158,14 @@ impl<W: WriteGathered> FailureCounted<W> {
 impl<W: Write> FailureCounted<W> {
     /// Writes all of the bytes, and flushes them. At an error some of them may have been written.
     pub fn send(&mut self, bytes: &[u8]) -> Result<(), StreamFault>
+        // `Ok`: the bytes stand behind what the writer held.
         ensures bytes { OnOk result
             (Appends (W.contents self.old.inner) (W.contents self.new.inner) bytes.now) }
+        // Its one fault is `Device`.
         ensures fault { IfErr result (λ f. f ≡ Device) }
+        // A failure is counted exactly where `Device` is answered.
         ensures counted { CountsFailures self.old.failures self.new.failures result }
+        // It counts as no read.
         ensures reads { self.new.reads_left ≡ self.old.reads_left }
     {
         match write_and_flush(&mut self.stream, bytes) {
@@ -159,13 +174,17 @@ impl<W: Write> FailureCounted<W> {
         }
     }
 
-    /// Writes the text and a newline, and flushes them. It takes no memory. At an error some of
-    /// it may have been written.
+    /// Writes what the text displays and a newline, and flushes them; it takes no memory. At an
+    /// error some of it may have been written.
     pub fn say<T: Display>(&mut self, text: &T) -> Result<(), StreamFault>
+        // `Ok`: the text and a newline stand behind what the writer held.
         ensures text { OnOk result (IfSome (T.output text.now)
             (AppendsLine (W.contents self.old.inner) (W.contents self.new.inner))) }
+        // Its one fault is `Device`.
         ensures fault { IfErr result (λ f. f ≡ Device) }
+        // A failure is counted exactly where `Device` is answered.
         ensures counted { CountsFailures self.old.failures self.new.failures result }
+        // It counts as no read.
         ensures reads { self.new.reads_left ≡ self.old.reads_left }
     {
         match write_line_and_flush(&mut self.stream, text) {

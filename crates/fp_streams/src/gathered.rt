@@ -11,9 +11,12 @@ use std::io::{ErrorKind, IoSlice, Write};
 /// A writer that may take several texts by one call of its own, as a socket does. The library's
 /// `write_vectored` is final, and takes them one by one.
 pub trait WriteGathered: Write {
-    /// Writes the texts in turn. It may stop anywhere, as `write` may.
+    /// Writes several texts in turn, by one call where the writer has one. It may stop anywhere, as
+    /// `write` may.
     fn write_gathered(&mut self, texts: &[IoSlice<'_>]) -> io::Result<usize>
+        // `Ok`: no more bytes than the texts have.
         ensures bound { WritesAtMost result (io_slices_bytes texts.now) }
+        // `Ok`: so many of their bytes stand behind what the writer held; an error: nothing does.
         ensures bytes { WriteAppends (Self.contents self.old) (Self.contents self.new) result
             (io_slices_bytes texts.now) }
     {

@@ -31,7 +31,7 @@ fn is_command(line: &str) -> bool
     !line.is_empty() && !line.starts_with('#') && !is_answer(line)
 }
 
-/// How many commands a file has.
+/// How many commands a file has: the lines that are neither empty, nor begin with `#` or `=`.
 pub fn cases(file: &str) -> usize
     ensures { result ≡ count_by is_command (lines file.now) }
 {

@@ -37,7 +37,7 @@ fn power_of_two(word: &str) -> Option<u64> {
 }
 
 impl<'a> Args<'a> {
-    /// Of a line.
+    /// The words of a line, none of which was read yet.
     pub fn of(alloc: Global, line: &'a str) -> Args<'a> {
         Args {
             alloc,
@@ -47,14 +47,14 @@ impl<'a> Args<'a> {
         }
     }
 
-    /// The next word.
+    /// The next word. One that isn't there is known at the end.
     pub fn word(&mut self) -> &'a str {
         let (word, rest) = first_word(self.rest);
         self.rest = rest;
         word
     }
 
-    /// The next word, a number.
+    /// The next word, a number. One that is none is known at the end.
     pub fn number(&mut self) -> u64 {
         let word = self.word();
         self.number_of(word)

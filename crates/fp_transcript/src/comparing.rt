@@ -5,8 +5,8 @@ use std::alloc::AllocGlobal;
 use std::rt::Files;
 use std::{fs, io};
 
-/// Says how many commands a file has, or which line is the first that is answered
-/// otherwise than it is written.
+/// Prints how many commands a file has and that they are answered as written, or the first line
+/// that differs, as written and as answered.
 pub fn report<R: Files + AllocGlobal + Print, A: Answers>(
     rt: &R,
     name: &str,
@@ -39,7 +39,7 @@ fn say_first_difference<R: Print>(
     println!(rt; "{name}: more is answered than written")
 }
 
-/// Writes standard input out again with the answers to its commands.
+/// Prints standard input again with the answers to its commands: so a new file is begun.
 pub fn rewrite<R: AllocGlobal + Print + Input, A: Answers>(
     rt: &R,
     answers: &mut A,

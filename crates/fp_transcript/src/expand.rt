@@ -18,7 +18,8 @@ struct Counted {
     digits: usize,
 }
 
-/// The bytes that an operand writes.
+/// The bytes that an operand writes, with its texts by their names. Where memory is wanting the
+/// call ends with that fault.
 pub fn expanded(alloc: Global, texts: &Texts, operand: &str) -> Result<Vec<u8>, AllocError> {
     let mut out = Vec::new(alloc);
     let mut inside = false;

@@ -12,7 +12,7 @@ pub struct Text {
 }
 
 impl Text {
-    /// An empty one.
+    /// An empty text.
     pub fn new(alloc: Global) -> Text {
         Text {
             alloc,
@@ -30,7 +30,7 @@ impl Text {
         }
     }
 
-    /// An empty one beside it.
+    /// An empty text beside it.
     pub fn another(&self) -> Text {
         Text::new(self.alloc)
     }
@@ -51,19 +51,19 @@ impl Text {
         self.text.is_empty()
     }
 
-    /// A text behind what is there.
+    /// Puts a text behind what is there.
     pub fn push(&mut self, text: &str) {
         if self.text.push_str(text).is_err() {
             self.is_short = true;
         }
     }
 
-    /// A number in decimal.
+    /// Puts a number in decimal behind what is there.
     pub fn number(&mut self, number: u64) {
         self.shown(&number);
     }
 
-    /// What is shown as a text.
+    /// Puts what is shown as a text behind what is there.
     pub fn shown<T: fmt::Display>(&mut self, value: &T) {
         if write!(self.text, "{value}").is_err() {
             self.is_short = true;
@@ -81,19 +81,19 @@ impl Text {
         }
     }
 
-    /// `yes` or `no`.
+    /// Puts `yes` or `no` behind what is there.
     pub fn yes(&mut self, is_so: bool) {
         self.push(if is_so { "yes" } else { "no" });
     }
 
-    /// A name and a number.
+    /// Puts a name and a number behind what is there.
     pub fn named(&mut self, name: &str, number: u64) {
         self.push(name);
         self.push(" ");
         self.number(number);
     }
 
-    /// A name, and a text in quotes.
+    /// Puts a name, and a text in quotes, behind what is there.
     pub fn quoted(&mut self, name: &str, text: &str) {
         self.push(name);
         self.push(" \"");
@@ -101,14 +101,14 @@ impl Text {
         self.push("\"");
     }
 
-    /// A comma behind what is there.
+    /// Puts a comma behind what is there.
     pub fn part(&mut self) {
         if !self.text.is_empty() {
             self.push(", ");
         }
     }
 
-    /// The end of a line behind what is there.
+    /// Ends a line behind what is there.
     pub fn end_line(&mut self) {
         if !self.text.is_empty() && !self.text.ends_with('\n') {
             self.push("\n");
@@ -123,19 +123,19 @@ impl Text {
         }
     }
 
-    /// Another text.
+    /// Puts another text behind what is there.
     pub fn put(&mut self, text: &Text) {
         self.push(text.as_str());
         self.is_short = self.is_short || text.is_short;
     }
 
-    /// The lines of another text, as one.
+    /// Puts the lines of another text behind what is there, as one.
     pub fn flat(&mut self, text: &Text) {
         self.replaced(text.as_str().trim_end(), "\n", " ");
         self.is_short = self.is_short || text.is_short;
     }
 
-    /// The text that bytes are.
+    /// Puts the text that bytes are behind what is there.
     pub fn bytes(&mut self, bytes: &[u8]) {
         match String::from_utf8_lossy(self.alloc, bytes) {
             Ok(text) => self.push(text.as_str()),
@@ -143,7 +143,7 @@ impl Text {
         }
     }
 
-    /// The text that bytes are, or that they are none.
+    /// Puts the text that bytes are behind what is there, or that they are none.
     pub fn utf8(&mut self, bytes: &[u8]) {
         match str::from_utf8(bytes) {
             Ok(text) => self.push(text),
@@ -151,7 +151,7 @@ impl Text {
         }
     }
 
-    /// Bytes as an operand may write them.
+    /// Puts bytes behind what is there, as an operand may write them.
     pub fn written(&mut self, bytes: &[u8]) {
         let mut is_inside = false;
         for byte in bytes {
@@ -171,7 +171,7 @@ impl Text {
         }
     }
 
-    /// Bytes in hex digits.
+    /// Puts bytes in hex digits behind what is there.
     pub fn digits(&mut self, bytes: &[u8]) {
         match hex::encode(self.alloc, bytes) {
             Ok(text) => self.push(text.as_str()),
@@ -179,7 +179,7 @@ impl Text {
         }
     }
 
-    /// A text, with another one in the place of a part of it.
+    /// Puts a text behind what is there, with another one in the place of a part of it.
     pub fn replaced(&mut self, text: &str, part: &str, by: &str) {
         match text.replace(self.alloc, part, by) {
             Ok(text) => self.push(text.as_str()),
