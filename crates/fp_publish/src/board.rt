@@ -237,11 +237,12 @@ impl Board {
         View::of(writer.published())
     }
 
-    /// What is shown, where that is no less than what was told: `Some` exactly where its revision
-    /// is at least the told one. It goes on from what was told then.
+    /// A token of what is shown, where that is no less than what was told.
     pub fn shown(&self, told: &Told) -> Option<Shown>
         // What was told is of the board's store.
         requires { told.now.store ≡ self.now.store }
+        // `Some` exactly where the revision that is shown is at least the told one. What is shown
+        // goes on from what was told then.
         ensures { MatchOption result (front_revision self.now < front_revision told.now)
             (λ s. (s ≡ self.now) × Begins told.now s) }
     {

@@ -128,9 +128,9 @@ impl Evaluator {
         Ok(())
     }
 
-    /// Lends what was taken: `Some` exactly between an `enter` that took something and `rest`. It
-    /// waits for nobody and takes no memory.
+    /// Lends what was taken, until the evaluator rests. It waits for nobody and takes no memory.
     pub fn view(&self) -> Option<View<'_>>
+        // `Some` exactly where something was taken and isn't let go of, and it is that.
         ensures { MatchOption result (self.now.lent ≡ None) (λ v. self.now.lent ≡ Some v) }
     {
         let _ = &self.known;
