@@ -146,10 +146,10 @@ pub record Compacts {D : Type 0} (faults : D → ℕ) (old new : StoreState D) :
   -- At the first step the image of the sealed set is to be written behind a head, within what a
   -- set may take, and the tail is empty.
   pub begun : old.compaction.next ≡ Begin → PlansImage old new
-  -- Head and image are as long as the first step made them, until the last step.
+  -- At each step between the first and the last head and image are as long as before,
   pub head_stays : old.compaction.next ≢ Begin → old.compaction.next ≢ SyncOpen
       → new.compaction.head ≡ old.compaction.head
-  -- So is the tail, but for batches that join it.
+  -- and so is the tail, which batches alone lengthen.
   pub tail_stays : old.compaction.next ≢ Begin → old.compaction.next ≢ SyncOpen
       → new.compaction.tail ≡ old.compaction.tail
   -- The generation is below 2^64.
